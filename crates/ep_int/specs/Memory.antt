@@ -1,5 +1,5 @@
 -- The memory of a machine, byte by byte: C11 6.2.6.1 and 6.3.2.1, with this project's rules on undefined bytes and on the bytes of pointers.
-use Rattle.std.specs.Prelude.{ℕ, zero, suc, ◌+◌, ◌-◌, ◌%◌, ℤ, Bool, true, false, ◌&&◌, ◌==◌, not, nat_eq, nat_lt, nat_le, if◌then◌else◌, List, [], ◌∷◌, slice_index_or}
+use Rattle.std.specs.Prelude.{ℕ, zero, suc, ◌+◌, ◌-◌, ◌%◌, ℤ, Bool, true, false, ◌&&◌, ◌==◌, not, nat_eq, nat_lt, nat_le, if◌then◌else◌, List, [], ◌∷◌, slice_index_or, Option, Some, None}
 use Rattle.std.specs.List.{list_any, list_all}
 use Rattle.ep_int.specs.declared.types.Order.{Order}
 use Rattle.ep_int.specs.declared.types.Scalar.{Scalar}
@@ -123,3 +123,8 @@ loaded o size m what b here =
     else if not (here % size_of what == 0) then faults alignment
     else if list_any is_undefined (bytes_from m b here (size_of what)) then faults uninitialised
     else value_of_bytes o what (bytes_from m b here (size_of what))
+
+-- what is wrong with a write in a block of this size, if anything
+abbrev pub store_fault : ℕ → Scalar → ℕ → Option Kind
+store_fault size what here =
+    if nat_lt size (here + size_of what) then Some bounds else if not (here % size_of what == 0) then Some alignment else None
