@@ -25,6 +25,40 @@ pub enum Order {
     Big,
 }
 
+/// An operator on two numbers of one type, or a shift of a number by an amount.
+#[derive(Clone, Copy, Debug, PartialEq, Eq)]
+pub enum BinOp {
+    Add,
+    Sub,
+    Mul,
+    Div,
+    Rem,
+    And,
+    Or,
+    Xor,
+    Shl,
+    Shr,
+}
+
+/// A comparison of two numbers.
+#[derive(Clone, Copy, Debug, PartialEq, Eq)]
+pub enum Cmp {
+    Eq,
+    Ne,
+    Lt,
+    Le,
+    Gt,
+    Ge,
+}
+
+/// Why an operator on two numbers has no answer.
+#[derive(Clone, Copy, Debug, PartialEq, Eq)]
+pub enum Undef {
+    Overflow,
+    Division,
+    Shift,
+}
+
 /// Want of memory.
 #[derive(Clone, Copy, Debug, PartialEq, Eq)]
 pub struct Memory;
