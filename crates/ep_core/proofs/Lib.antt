@@ -1,3 +1,4 @@
 pub mod Rows
 pub mod Longer
 pub mod Runs
+pub mod Typing

@@ -54,13 +54,17 @@ pub record SameRun (x y : Run) : Type 0 where
 
 agrees_forth : (x y : Run) → IsDefined x.ending → IsDefined y.ending → Continues x y → Agrees x y
 agrees_forth x y d e c = record {
-  left = d; right = e; outputs = inl c.outputs;
+  left = d;
+  right = e;
+  outputs = inl c.outputs;
   over = λ o p. (ap (λ (r : Run). r.ending) (sym (c.over o)), ap (λ (r : Run). r.outputs) (sym (c.over o)));
 }
 
 agrees_back : (x y : Run) → IsDefined x.ending → IsDefined y.ending → Continues y x → Agrees x y
 agrees_back x y d e c = record {
-  left = d; right = e; outputs = inr c.outputs;
+  left = d;
+  right = e;
+  outputs = inr c.outputs;
   over = λ o p. (ap (λ (r : Run). r.ending) (c.over p), ap (λ (r : Run). r.outputs) (c.over p));
 }
 

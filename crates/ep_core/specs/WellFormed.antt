@@ -61,9 +61,18 @@ abbrev pub holds_scalar : Option Block → Scalar → Bool
 holds_scalar None what = false
 holds_scalar (Some b) what = is_same_scalar b.ty what
 
--- each block has the size of its type, and all together have at most 65,536 bytes
+-- so far each block holds a number
+abbrev pub is_integer : Scalar → Bool
+is_integer (Int t) = true
+is_integer Pointer = false
+
+-- a block has the size of what it holds
+abbrev pub block_fits : Block → Bool
+block_fits b = is_integer b.ty && nat_eq b.size (size_of b.ty)
+
+-- all blocks together have at most 65,536 bytes
 abbrev pub blocks_fit : List Block → Bool
-blocks_fit bs = list_all (λ (b : Block). nat_eq b.size (size_of b.ty)) bs && nat_le (sum_by (λ (b : Block). b.size) bs) 65536
+blocks_fit bs = list_all block_fits bs && nat_le (sum_by (λ (b : Block). b.size) bs) 65536
 
 abbrev pub is_in_range : IntType → ℤ → Bool
 is_in_range t v = int_le (least_of t) v && int_le v (greatest_of t)
@@ -111,10 +120,6 @@ has_type (Some u) t = is_type u t
 abbrev pub has_bytes : Option Block → ℕ → Bool
 has_bytes None n = false
 has_bytes (Some b) n = nat_le n b.size
-
-abbrev pub is_integer : Scalar → Bool
-is_integer (Int t) = true
-is_integer Pointer = false
 
 -- in a function that sees these blocks
 module _ (bs : List Block) (seen : List ℕ) where

@@ -1,0 +1,113 @@
+-- The memories at the start fit what is known there.
+use Rattle.std.proofs.Common.{◌≡◌, ℕ, zero, suc, ◌+◌, ◌/◌, ◌%◌, ◌^◌, ◌<◌, ◌≤◌, Bool, true, false, ◌&&◌, ◌||◌, nat_eq, if◌then◌else◌, ℤ, pos, List, [], ◌∷◌, map, fold, length, slice_get, slice_index_or, slice_set, refl, sym, ap, ◌∙◌, subst, Option, Some, None, arith, length-set}
+use Rattle.std.specs.List.{list_all, enumerate_from}
+use Rattle.std.proofs.lemmas.List.FromFn.{length-enumerate_from}
+use Rattle.std.proofs.Math.ListN.{length-map}
+use Rattle.std.proofs.lemmas.Bool.{and_parts}
+use Rattle.std.proofs.lemmas.Bool.Decides.{nat_tests}
+use Rattle.ep_int.specs.declared.types.IntType.{IntType}
+use Rattle.ep_int.specs.declared.types.IntType.TheVariants.{I8, U8, I16, U16, I32, U32, I64, U64}
+use Rattle.ep_int.specs.declared.types.Order.{Order}
+use Rattle.ep_int.specs.declared.types.Scalar.{Scalar}
+use Rattle.ep_int.specs.declared.types.Scalar.TheVariants.{Int, Pointer}
+use Rattle.ep_int.specs.Types.{bytes_of, bits_of, InRange, representation}
+use Rattle.ep_int.specs.Encoding.{place, byte_of, encoded}
+use Rattle.ep_int.specs.Memory.{Byte, undefined, number, Memory, int, stored}
+use Rattle.ep_core.specs.Program.{Block, Init, Function, Program}
+use Rattle.ep_core.specs.WellFormed.{is_global, holds_scalar, is_in_range, init_fits}
+use Rattle.ep_core.specs.Agree.{is_result, zeroed, initial}
+use Rattle.ep_core.proofs.Typing.{in_range}
+use Rattle.ep_iterator.specs.Range.{Range, single}
+use Rattle.ep_iterator.specs.Known.{Known, known_of, first_known, entry}
+use Rattle.ep_iterator.proofs.Fits.{NumberIn, single_in, BytesOf, NumberFits, ScalarFits, BlockFits, MemoryFits}
+use Rattle.ep_iterator.proofs.Steps.{memory_put}
+
+zero_in_range : (t : IntType) → InRange t (pos 0)
+zero_in_range t = in_range t (pos 0) (by_type t)
+  where
+    by_type : (t : IntType) → is_in_range t (pos 0) ≡ true
+    by_type I8 = refl
+    by_type U8 = refl
+    by_type I16 = refl
+    by_type U16 = refl
+    by_type I32 = refl
+    by_type U32 = refl
+    by_type I64 = refl
+    by_type U64 = refl
+
+zero_div : (m : ℕ) → 0 / m ≡ 0
+zero_div m = omega arith
+
+zero_mod : (m : ℕ) → 0 % m ≡ 0
+zero_mod m = omega arith
+
+-- each byte of zero is zero
+zero_byte : (o : Order) (t : IntType) (p : ℕ) → encoded o t (pos 0) p ≡ 0
+zero_byte o t p = ap (byte_of (place o (bytes_of t) p)) (zero_mod (2 ^ bits_of t)) ∙ ap (λ x. x % 256) (zero_div (256 ^ place o (bytes_of t) p))
+
+-- what is known of a block at the start
+abbrev pub first_at : Option (ℕ × Scalar) → ℕ → Option Block → Option Range
+first_at r n None = None
+first_at r n (Some b) = first_known r (n, b)
+
+suc_plus : (k x : ℕ) → (k + 1) + x ≡ k + suc x
+suc_plus k x = omega arith
+
+pub first_is : (r : Option (ℕ × Scalar)) (k : ℕ) (bs : List Block) (x : ℕ) → slice_index_or (map (first_known r) (enumerate_from k bs)) x None ≡ first_at r (k + x) (slice_get bs x)
+first_is r k [] x = refl
+first_is r k (b ∷ bs) zero = ap (λ n. first_known r (n, b)) (omega arith)
+first_is r k (b ∷ bs) (suc x) = first_is r (k + 1) bs x ∙ ap (λ n. first_at r n (slice_get bs x)) (suc_plus k x)
+
+module _ (a b : Order) (bs : List Block) (ones : Bool) where
+  first_fits : (t : IntType) (c : Bool) → NumberFits a b bs ones t (if c then Some (single (pos 0)) else None) (λ q. if c then number 0 else undefined) (λ q. if c then number 0 else undefined)
+  first_fits t true = record {
+    v = pos 0;
+    number_in = single_in t ones (pos 0) (zero_in_range t);
+    left = λ p h. ap number (sym (zero_byte a t p));
+    right = λ p h. ap number (sym (zero_byte b t p));
+  }
+  first_fits t false = record { left = λ p h. refl; right = λ p h. refl }
+
+  scalar_fits : (what : Scalar) (c : Bool) → ScalarFits a b bs ones what (if c then Some (single (pos 0)) else None) (λ q. if c then number 0 else undefined) (λ q. if c then number 0 else undefined)
+  scalar_fits (Int t) c = first_fits t c
+  scalar_fits Pointer c = tt
+
+  zeroed_fits : (r : Option (ℕ × Scalar)) → MemoryFits a b bs ones (map (first_known r) (enumerate_from 0 bs)) (zeroed bs r) (zeroed bs r)
+  zeroed_fits r x =
+      subst (λ k. BlockFits a b bs ones (slice_get bs x) k (zeroed bs r x) (zeroed bs r x)) (sym (first_is r 0 bs x ∙ ap (λ n. first_at r n (slice_get bs x)) (omega arith))) (here (slice_get bs x))
+    where
+      here : (o : Option Block) → BlockFits a b bs ones o (first_at r x o) (λ q. if is_global o || is_result r x then number 0 else undefined) (λ q. if is_global o || is_result r x then number 0 else undefined)
+      here None = tt
+      here (Some z) = scalar_fits z.ty (z.global || is_result r x)
+
+  -- what is known, and the memories, after first values are set
+  pub record Begun (s : Known) (m n : Memory) : Type 0 where
+    pub long : length s ≡ length bs
+    pub memory : MemoryFits a b bs ones s m n
+
+  set_init : (s : Known) (m n : Memory) (i : Init) → init_fits bs i ≡ true → Begun s m n
+      → Begun (slice_set s i.block (Some (single i.value))) (stored a m (Int i.t) i.block i.offset (int i.value)) (stored b n (Int i.t) i.block i.offset (int i.value))
+  set_init s m n i h g =
+      let h1 = and_parts ((is_global (slice_get bs i.block) && holds_scalar (slice_get bs i.block) (Int i.t)) && nat_eq i.offset 0) (is_in_range i.t i.value) h in
+      let h2 = and_parts (is_global (slice_get bs i.block) && holds_scalar (slice_get bs i.block) (Int i.t)) (nat_eq i.offset 0) h1.0 in
+      let h3 = and_parts (is_global (slice_get bs i.block)) (holds_scalar (slice_get bs i.block) (Int i.t)) h2.0 in
+      let at_start : i.offset ≡ 0 = equal_zero i.offset h2.1 in
+      record {
+        long = length-set s i.block (Some (single i.value)) ∙ g.long;
+        memory = subst (λ q. MemoryFits a b bs ones (slice_set s i.block (Some (single i.value))) (stored a m (Int i.t) i.block q (int i.value)) (stored b n (Int i.t) i.block q (int i.value))) (sym at_start)
+            (memory_put a b bs ones s m n i.block i.t (single i.value) i.value g.long h3.1 (single_in i.t ones i.value (in_range i.t i.value h1.1)) g.memory);
+      }
+    where
+      equal_zero : (n : ℕ) → nat_eq n 0 ≡ true → n ≡ 0
+      equal_zero n h = grind (arith, nat_tests)
+
+  set_inits : (is : List Init) (s : Known) (m n : Memory) → list_all (init_fits bs) is ≡ true → Begun s m n
+      → Begun (fold (λ (s : Known) (i : Init). slice_set s i.block (Some (single i.value))) s is) (fold (λ (m : Memory) (i : Init). stored a m (Int i.t) i.block i.offset (int i.value)) m is) (fold (λ (m : Memory) (i : Init). stored b m (Int i.t) i.block i.offset (int i.value)) n is)
+  set_inits [] s m n h g = g
+  set_inits (i ∷ is) s m n h g = let p = and_parts (init_fits bs i) (list_all (init_fits bs) is) h in set_inits is _ _ _ p.1 (set_init s m n i p.0 g)
+
+-- at the start of main
+pub begins : (a b : Order) (p : Program) (f : Function) (ones : Bool) → list_all (init_fits p.blocks) p.init ≡ true → Begun a b p.blocks ones (entry p f) (initial a p f) (initial b p f)
+begins a b p f ones h =
+    set_inits a b p.blocks ones p.init (map (first_known f.result) (enumerate_from 0 p.blocks)) (zeroed p.blocks f.result) (zeroed p.blocks f.result) h
+    (record { long = length-map (enumerate_from 0 p.blocks) (first_known f.result) ∙ length-enumerate_from 0 p.blocks; memory = zeroed_fits a b p.blocks ones f.result })

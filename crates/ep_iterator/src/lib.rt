@@ -1,0 +1,2 @@
+//! The analysis of a program for two machines at once.
+#![tactic(auto)]
