@@ -1,14 +1,14 @@
 -- A run of fewer steps is the beginning of a run of more steps.
-use Rattle.std.proofs.Common.{◌≡◌, ℕ, zero, suc, ◌+◌, ◌≤◌, ◌<◌, ◌⊎◌, ℤ, pos, List, [], ◌∷◌, ◌++◌, refl, sym, ap, ◌∙◌, subst, Option, Some, None, arith, append_assoc, nat_lt, if◌then◌else◌, Bool, true, false, slice_get}
+use Rattle.std.proofs.Common.{◌≡◌, ℕ, zero, suc, ◌+◌, ◌≤◌, ℤ, pos, List, [], ◌∷◌, ◌++◌, refl, sym, ap, ◌∙◌, subst, Option, Some, None, arith, append_assoc, nat_lt, if◌then◌else◌, Bool, true, false}
 use Rattle.std.proofs.lemmas.List.{append-nil}
 use Rattle.ep_int.specs.declared.types.IntType.{IntType}
 use Rattle.ep_int.specs.declared.types.IntType.TheVariants.{U8}
 use Rattle.ep_int.specs.declared.types.Scalar.{Scalar}
 use Rattle.ep_int.specs.declared.types.Order.{Order}
 use Rattle.ep_int.specs.Types.{wrapped}
-use Rattle.ep_int.specs.Memory.{Byte, undefined, number, fragment, Value, int, null, pointer, Kind, bounds, Found, has, faults, store_fault, stored}
-use Rattle.ep_core.specs.Program.{Place, block, Expr, Dest, What, assign, input, output, write_bytes, Stmts, stop, more, Block}
-use Rattle.ep_core.specs.Exec.{Output, State, Way, on, broken, continued, returned, Outcome, leaves, running, no_input, undefined_at, given, given_place, unless, step, and_then, put_out, number_out, byte_out, bytes_out, rest_out, converted, taken, size_at, address, value, put_at, put_input, exec, exec_all}
+use Rattle.ep_int.specs.Memory.{Byte, undefined, number, fragment, Value, int, null, pointer, Kind, bounds, Found, has, faults, store_fault}
+use Rattle.ep_core.specs.Program.{Dest, What, assign, input, output, write_bytes, Stmts, stop, more, Block}
+use Rattle.ep_core.specs.Exec.{Output, State, on, broken, continued, returned, Outcome, leaves, running, no_input, undefined_at, given, given_place, unless, step, and_then, put_out, number_out, byte_out, bytes_out, rest_out, converted, taken, size_at, address, value, put_at, put_input, exec, exec_all}
 use Rattle.ep_core.specs.Agree.{Begins}
 
 pub begins_refl : (a : List Output) → Begins a a

@@ -1,14 +1,14 @@
 -- The definitions, tried on small programs.
-use Rattle.std.proofs.Common.{◌≡◌, ℕ, List, [], ◌∷◌, map, refl, Some, None, true, false, pos, ℤ}
+use Rattle.std.proofs.Common.{◌≡◌, ℕ, [], ◌∷◌, refl, Some, true, false, pos}
 use Rattle.ep_int.specs.declared.types.IntType.{IntType}
 use Rattle.ep_int.specs.declared.types.IntType.TheVariants.{U8, I32, U32}
 use Rattle.ep_int.specs.declared.types.Order.TheVariants.{Little, Big}
 use Rattle.ep_int.specs.declared.types.Scalar.TheVariants.{Int}
 use Rattle.ep_int.specs.Memory.{uninitialised}
-use Rattle.ep_core.specs.Program.{Place, block, Expr, const, load, addr_of, convert, What, assign, input, output, write_bytes, Stmts, stop, more, Program}
+use Rattle.ep_core.specs.Program.{block, load, addr_of, convert, input, output, write_bytes, Stmts, stop, more, Program}
 use Rattle.ep_core.specs.WellFormed.{is_well_formed}
 use Rattle.ep_core.specs.Exec.{Output}
-use Rattle.ep_core.specs.Agree.{Run, run, run_of, still_running, ended, wants_input, undefined_on}
+use Rattle.ep_core.specs.Agree.{run, run_of, still_running, ended, wants_input, undefined_on}
 
 -- main with one variable of type uint32_t
 abbrev one_variable : Stmts → Program

@@ -1,11 +1,11 @@
 -- Whole runs: one of fewer steps is the beginning of one of more steps, and two machines agree that make the same run at each number of steps.
-use Rattle.std.proofs.Common.{◌≡◌, ℕ, ◌+◌, ◌-◌, ◌≤◌, ◌<◌, ◌⊎◌, inl, inr, List, [], ◌∷◌, ◌++◌, refl, sym, ap, ◌∙◌, subst, Option, Some, None, arith, slice_get, pos, ℤ}
+use Rattle.std.proofs.Common.{◌≡◌, ℕ, ◌-◌, ◌≤◌, ◌⊎◌, inl, inr, List, refl, sym, ap, subst, Option, Some, None, arith, slice_get}
 use Rattle.ep_int.specs.declared.types.Order.{Order}
 use Rattle.ep_int.specs.declared.types.Scalar.{Scalar}
-use Rattle.ep_int.specs.Memory.{Value, int, null, pointer, Found, has, faults, loaded}
+use Rattle.ep_int.specs.Memory.{int, null, pointer, Found, has, faults, loaded}
 use Rattle.ep_core.specs.Program.{Block, Function, Program}
-use Rattle.ep_core.specs.Exec.{Output, State, Outcome, leaves, running, no_input, undefined_at, size_at, exec_all}
-use Rattle.ep_core.specs.Agree.{Ending, still_running, ended, wants_input, undefined_on, Run, run_of, result_out, main_ends, finished, start, run_from, run, IsDefined, IsOver, Begins, Agrees, AreInputs, Agree, AgreeAlong, steps_of}
+use Rattle.ep_core.specs.Exec.{State, Outcome, leaves, running, no_input, undefined_at, size_at}
+use Rattle.ep_core.specs.Agree.{wants_input, undefined_on, Run, run_of, result_out, main_ends, finished, start, run_from, run, IsDefined, IsOver, Begins, Agrees, AreInputs, Agree, AgreeAlong, steps_of}
 use Rattle.ep_core.proofs.Longer.{begins_refl, begins_trans, begins_more, outputs_in, Longer, all_longer}
 
 -- a run, and what it has become after more steps

@@ -1,5 +1,5 @@
 -- What the tests of well-formedness say.
-use Rattle.std.proofs.Common.{◌≡◌, ℕ, zero, suc, ◌<◌, ◌≤◌, Bool, true, false, ◌&&◌, ◌||◌, nat_eq, nat_le, if◌then◌else◌, ℤ, List, [], ◌∷◌, slice_get, refl, sym, ap, ◌∙◌, subst, Option, Some, None, arith, sum_by}
+use Rattle.std.proofs.Common.{◌≡◌, ℕ, zero, suc, Bool, true, nat_eq, nat_le, if◌then◌else◌, ℤ, List, [], ◌∷◌, slice_get, refl, sym, ap, ◌∙◌, subst, Option, Some, None, arith, sum_by}
 use Rattle.std.specs.List.{list_all}
 use Rattle.std.proofs.lemmas.Int.{ints}
 use Rattle.std.proofs.lemmas.Bool.{and_parts}
@@ -8,9 +8,9 @@ use Rattle.ep_int.specs.declared.types.IntType.{IntType}
 use Rattle.ep_int.specs.declared.types.IntType.TheVariants.{I8, U8, I16, U16, I32, U32, I64, U64}
 use Rattle.ep_int.specs.declared.types.Scalar.{Scalar}
 use Rattle.ep_int.specs.declared.types.Scalar.TheVariants.{Int, Pointer}
-use Rattle.ep_int.specs.Types.{size_of, least_of, greatest_of, InRange}
+use Rattle.ep_int.specs.Types.{size_of, InRange}
 use Rattle.ep_core.specs.Program.{Block}
-use Rattle.ep_core.specs.WellFormed.{number_of_type, is_same_type, is_same_scalar, holds_scalar, is_integer, block_fits, blocks_fit, is_in_range, Ty, number, address, is_type, has_type}
+use Rattle.ep_core.specs.WellFormed.{number_of_type, is_same_type, is_same_scalar, holds_scalar, is_integer, block_fits, blocks_fit, is_in_range, Ty, number, address, has_type}
 
 -- the type of a number: the inverse of number_of_type
 type_at : ℕ → IntType

@@ -1,5 +1,5 @@
 -- A report without alarms means that the two machines agree.
-use Rattle.std.proofs.Common.{◌≡◌, ◌≢◌, ℕ, zero, suc, ◌+◌, ◌<◌, ◌≤◌, ◌⊎◌, inl, inr, Bool, true, false, ◌&&◌, ◌||◌, nat_eq, nat_le, if◌then◌else◌, ℤ, pos, List, [], ◌∷◌, ◌++◌, fold, length, map, slice_get, slice_index_or, slice_set, option_to_list, refl, sym, ap, ◌∙◌, subst, Option, Some, None, arith, get_or-set_same, get_or-set_other}
+use Rattle.std.proofs.Common.{◌≡◌, ◌≢◌, ℕ, zero, suc, ◌<◌, ◌≤◌, Bool, true, false, ◌&&◌, ◌||◌, nat_eq, if◌then◌else◌, ℤ, pos, List, [], ◌∷◌, ◌++◌, fold, length, map, slice_get, slice_set, option_to_list, refl, sym, ap, ◌∙◌, subst, Option, Some, None, arith, get_or-set_same, get_or-set_other}
 use Rattle.std.specs.List.{list_all, flat_map, enumerate_from}
 use Rattle.std.proofs.lemmas.Bool.{and_parts}
 use Rattle.std.proofs.lemmas.Bool.Decides.{nat_tests}
@@ -8,23 +8,22 @@ use Rattle.ep_int.specs.declared.types.IntType.TheVariants.{I32}
 use Rattle.ep_int.specs.declared.types.Order.{Order}
 use Rattle.ep_int.specs.declared.types.Scalar.{Scalar}
 use Rattle.ep_int.specs.declared.types.Scalar.TheVariants.{Int, Pointer}
-use Rattle.ep_int.specs.Types.{bytes_of, size_of}
-use Rattle.ep_int.specs.Memory.{Byte, Memory, Value, int, Found, has, faults, loaded}
+use Rattle.ep_int.specs.Memory.{loaded}
 use Rattle.ep_int.proofs.Memories.{loaded_of}
 use Rattle.ep_alarms.specs.declared.types.Alarm.{Alarm}
 use Rattle.ep_alarms.specs.Alarm.{before, joined}
 use Rattle.ep_alarms.specs.Report.{added, gathered}
-use Rattle.ep_core.specs.Program.{Place, block, Expr, const, load, addr_of, convert, Dest, What, assign, input, output, write_bytes, Stmts, stop, more, Block, Init, Function, Program}
-use Rattle.ep_core.specs.WellFormed.{contains, is_global, holds_scalar, is_integer, is_same_scalar, blocks_fit, inits_fit, init_fits, are_listed, own_blocks, are_held, first_of, is_int, is_main, function_fits, place_has, has_type, type_of_scalar, type_of, dest_fits, what_fits, stmts_fit, is_well_formed, are_different}
-use Rattle.ep_core.specs.Exec.{State, Outcome, leaves, on, running, no_input, undefined_at, put_out, size_at, exec_all}
-use Rattle.ep_core.specs.Agree.{is_result, start, run_of, ended, still_running, wants_input, Run, result_out, main_ends, finished, run_from, run, IsDefined, AreInputs, Agree}
-use Rattle.ep_core.proofs.Typing.{same_scalar, holds_no_pointer, each_passes}
+use Rattle.ep_core.specs.Program.{Place, block, const, load, addr_of, convert, Dest, What, assign, input, output, write_bytes, Stmts, stop, more, Block, Init, Function, Program}
+use Rattle.ep_core.specs.WellFormed.{holds_scalar, is_integer, blocks_fit, inits_fit, init_fits, are_listed, own_blocks, are_held, first_of, is_int, is_main, function_fits, place_has, dest_fits, what_fits, stmts_fit, is_well_formed, are_different}
+use Rattle.ep_core.specs.Exec.{State, Outcome, put_out, size_at}
+use Rattle.ep_core.specs.Agree.{start, run_of, ended, still_running, wants_input, Run, result_out, finished, run, Agree}
+use Rattle.ep_core.proofs.Typing.{same_scalar, each_passes}
 use Rattle.ep_core.proofs.Runs.{SameRun, same_runs_agree}
 use Rattle.ep_iterator.specs.Range.{Range, single, whole}
-use Rattle.ep_iterator.specs.Known.{Known, known_of, first_known, entry, converted_if, range_of}
-use Rattle.ep_iterator.specs.Pass.{Pass, passed, after, go_on, then_pass, with_range, put_known, input_pass, byte_faults, bytes_pass, pass, pass_all, faults_from, report_of}
-use Rattle.ep_iterator.proofs.Fits.{NumberIn, BytesOf, NumberFits, MemoryFits, AreOnes, Fits, block_holds, size_of_block}
-use Rattle.ep_iterator.proofs.Steps.{Beside, Agreeing, both_on, both_running, both_starved}
+use Rattle.ep_iterator.specs.Known.{Known, known_of, first_known, with_first, entry, converted_if, range_of}
+use Rattle.ep_iterator.specs.Pass.{Pass, go_on, with_range, put_known, input_pass, pass, pass_all, faults_from, report_of}
+use Rattle.ep_iterator.proofs.Fits.{NumberFits, AreOnes, Fits, block_holds, size_of_block}
+use Rattle.ep_iterator.proofs.Storing.{Beside, Agreeing, both_on, both_running, both_starved}
 use Rattle.ep_iterator.proofs.Sound.{all_agree}
 use Rattle.ep_iterator.proofs.Start.{begins, first_at, first_is}
 
@@ -152,7 +151,7 @@ first_known_result n what (Some x) h = by_test (x.global || nat_eq n n) (or_true
     by_test true e = tt
     by_test false e = absurd cc
 
-set_all_keep : (is : List Init) (s : Known) (n : ℕ) → IsKnown (known_of s n) → IsKnown (known_of (fold (λ (s : Known) (i : Init). slice_set s i.block (Some (single i.value))) s is) n)
+set_all_keep : (is : List Init) (s : Known) (n : ℕ) → IsKnown (known_of s n) → IsKnown (known_of (fold with_first s is) n)
 set_all_keep [] s n k = k
 set_all_keep (i ∷ is) s n k = set_all_keep is (slice_set s i.block (Some (single i.value))) n (set_keeps s i.block n (single i.value) k)
 

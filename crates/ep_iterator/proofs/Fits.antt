@@ -1,7 +1,6 @@
 -- What two machines' memories are to what the analysis knows, and what expressions come to in them.
-use Rattle.std.proofs.Common.{◌≡◌, ℕ, zero, suc, ◌+◌, ◌<◌, ◌≤◌, ◌⊎◌, inl, inr, Bool, true, false, ◌&&◌, ◌||◌, nat_eq, nat_le, if◌then◌else◌, ℤ, pos, negsuc, List, [], ◌∷◌, length, slice_get, slice_index_or, slice_set, refl, sym, ap, ◌∙◌, subst, Option, Some, None, arith}
+use Rattle.std.proofs.Common.{◌≡◌, ℕ, ◌<◌, ◌≤◌, ◌⊎◌, inl, inr, Bool, true, false, ◌||◌, if◌then◌else◌, ℤ, pos, List, length, slice_get, refl, ap, ◌∙◌, subst, Option, Some, None, arith}
 use Rattle.std.specs.List.{AllByRecursion}
-use Rattle.std.proofs.lemmas.Int.{ints}
 use Rattle.std.proofs.lemmas.Bool.{and_parts}
 use Rattle.ep_int.specs.declared.types.IntType.{IntType}
 use Rattle.ep_int.specs.declared.types.IntType.TheVariants.{I8, U8, I16, U16, I32, U32, I64, U64}
@@ -10,14 +9,14 @@ use Rattle.ep_int.specs.declared.types.Scalar.{Scalar}
 use Rattle.ep_int.specs.declared.types.Scalar.TheVariants.{Int, Pointer}
 use Rattle.ep_int.specs.Types.{bytes_of, size_of, InRange, wrapped}
 use Rattle.ep_int.specs.Encoding.{encoded}
-use Rattle.ep_int.specs.Memory.{Byte, undefined, number, Memory, Value, int, null, pointer, Kind, uninitialised, Found, has, faults, loaded}
+use Rattle.ep_int.specs.Memory.{Byte, undefined, number, Memory, int, uninitialised, Found, has, faults, loaded}
 use Rattle.ep_int.proofs.Wrapping.{wrapped_in_range, wrapped_same}
 use Rattle.ep_int.proofs.Memories.{loaded_of, loaded_undefined}
-use Rattle.ep_core.specs.Program.{Place, block, Expr, const, load, addr_of, convert, Block}
+use Rattle.ep_core.specs.Program.{block, Expr, const, load, addr_of, convert, Block}
 use Rattle.ep_core.specs.WellFormed.{contains, is_global, holds_scalar, blocks_fit, is_in_range, Ty, type_of_scalar, is_number, place_has, type_of}
 use Rattle.ep_core.specs.WellFormed as typing
 use Rattle.ep_core.specs.Exec.{State, with_number, block_size, size_at, value}
-use Rattle.ep_core.proofs.Typing.{IsHeld, held, in_range, size_is}
+use Rattle.ep_core.proofs.Typing.{held, in_range, size_is}
 use Rattle.ep_iterator.specs.Range.{Range, single, converted}
 use Rattle.ep_iterator.specs.Known.{Known, known_of, converted_if, range_of}
 use Rattle.ep_iterator.proofs.Ranges.{Holds, converted_holds, converted_single, single_holds}

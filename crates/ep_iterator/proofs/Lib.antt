@@ -1,7 +1,11 @@
 pub mod Rows
 pub mod Ranges
+pub mod RangeCode
+pub mod EntryCode
+pub mod WalkCode
+pub mod ReportCode
 pub mod Fits
-pub mod Steps
+pub mod Storing
 pub mod Sound
 pub mod Start
 pub mod Final

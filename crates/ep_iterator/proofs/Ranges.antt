@@ -1,5 +1,5 @@
 -- Laws of ranges: what they hold stays in them under conversion and when bytes are taken.
-use Rattle.std.proofs.Common.{◌≡◌, ℕ, zero, suc, ◌+◌, ◌-◌, ◌*◌, ◌/◌, ◌%◌, ◌^◌, ◌<◌, ◌≤◌, Bool, true, false, ◌&&◌, int_le, if◌then◌else◌, ℤ, pos, negsuc, neg_ℤ, ◌+ℤ◌, ◌-ℤ◌, ◌*ℤ◌, ◌≤ℤ◌, ◌<ℤ◌, ◌⊎◌, inl, inr, refl, sym, ap, ◌∙◌, subst, arith}
+use Rattle.std.proofs.Common.{◌≡◌, ℕ, zero, suc, ◌+◌, ◌-◌, ◌*◌, ◌/◌, ◌%◌, ◌^◌, ◌<◌, ◌≤◌, Bool, true, false, if◌then◌else◌, ℤ, pos, negsuc, neg_ℤ, ◌+ℤ◌, ◌-ℤ◌, ◌*ℤ◌, ◌≤ℤ◌, ◌<ℤ◌, refl, sym, ap, ◌∙◌, subst, arith}
 use Rattle.std.proofs.lemmas.Int.{ints, by_lt_z}
 use Rattle.std.proofs.lemmas.Nat.{field_of, pow-add, pow_pos, div-add-mod', le-div, mod-pow-add, mod_low, mod_below, div_below, div-mul-add, mod-mul-add}
 use Rattle.std.proofs.Math.Nat.{mul-le-mul_right}
@@ -7,7 +7,7 @@ use Rattle.std.proofs.Math.IntN.{suc_ℤ, suc_ℤ-*ℤ}
 use Rattle.std.specs.Int.{int_shr}
 use Rattle.ep_int.specs.declared.types.IntType.{IntType}
 use Rattle.ep_int.specs.declared.types.IntType.TheVariants.{I8, U8, I16, U16, I32, U32, I64, U64}
-use Rattle.ep_int.specs.Types.{bytes_of, bits_of, least_of, greatest_of, InRange, residue, representation, wrapped}
+use Rattle.ep_int.specs.Types.{bytes_of, bits_of, InRange, representation, wrapped}
 use Rattle.ep_int.specs.Encoding.{byte_of}
 use Rattle.ep_int.proofs.Encodings.{bytes_pow}
 use Rattle.ep_int.proofs.Wrapping.{wrapped_in_range, wrapped_congruent}

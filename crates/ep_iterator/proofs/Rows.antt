@@ -1,9 +1,8 @@
 -- The definition of the report, tried on small programs.
-use Rattle.std.proofs.Common.{◌≡◌, ℕ, List, [], ◌∷◌, refl, Some, None, pos, false}
-use Rattle.ep_int.specs.declared.types.IntType.TheVariants.{U8, I32, U32}
+use Rattle.std.proofs.Common.{◌≡◌, ℕ, [], ◌∷◌, refl, Some, pos, false}
+use Rattle.ep_int.specs.declared.types.IntType.TheVariants.{I32, U32}
 use Rattle.ep_int.specs.declared.types.Order.TheVariants.{Little, Big}
 use Rattle.ep_int.specs.declared.types.Scalar.TheVariants.{Int}
-use Rattle.ep_alarms.specs.declared.types.AlarmKind.TheVariants.{U4, E1}
 use Rattle.ep_core.specs.Program.{block, const, load, addr_of, convert, assign, input, output, write_bytes, Stmts, stop, more, Program}
 use Rattle.ep_iterator.specs.Pass.{report_of, uninitialised_at, differs_at}
 

@@ -1,5 +1,5 @@
 -- The memories at the start fit what is known there.
-use Rattle.std.proofs.Common.{◌≡◌, ℕ, zero, suc, ◌+◌, ◌/◌, ◌%◌, ◌^◌, ◌<◌, ◌≤◌, Bool, true, false, ◌&&◌, ◌||◌, nat_eq, if◌then◌else◌, ℤ, pos, List, [], ◌∷◌, map, fold, length, slice_get, slice_index_or, slice_set, refl, sym, ap, ◌∙◌, subst, Option, Some, None, arith, length-set}
+use Rattle.std.proofs.Common.{◌≡◌, ℕ, zero, suc, ◌+◌, ◌/◌, ◌%◌, ◌^◌, Bool, true, false, ◌&&◌, ◌||◌, nat_eq, if◌then◌else◌, pos, List, [], ◌∷◌, map, fold, length, slice_get, slice_index_or, slice_set, refl, sym, ap, ◌∙◌, subst, Option, Some, None, arith, length-set}
 use Rattle.std.specs.List.{list_all, enumerate_from}
 use Rattle.std.proofs.lemmas.List.FromFn.{length-enumerate_from}
 use Rattle.std.proofs.Math.ListN.{length-map}
@@ -10,17 +10,17 @@ use Rattle.ep_int.specs.declared.types.IntType.TheVariants.{I8, U8, I16, U16, I3
 use Rattle.ep_int.specs.declared.types.Order.{Order}
 use Rattle.ep_int.specs.declared.types.Scalar.{Scalar}
 use Rattle.ep_int.specs.declared.types.Scalar.TheVariants.{Int, Pointer}
-use Rattle.ep_int.specs.Types.{bytes_of, bits_of, InRange, representation}
+use Rattle.ep_int.specs.Types.{bytes_of, bits_of, InRange}
 use Rattle.ep_int.specs.Encoding.{place, byte_of, encoded}
-use Rattle.ep_int.specs.Memory.{Byte, undefined, number, Memory, int, stored}
+use Rattle.ep_int.specs.Memory.{undefined, number, Memory, int, stored}
 use Rattle.ep_core.specs.Program.{Block, Init, Function, Program}
 use Rattle.ep_core.specs.WellFormed.{is_global, holds_scalar, is_in_range, init_fits}
 use Rattle.ep_core.specs.Agree.{is_result, zeroed, initial}
 use Rattle.ep_core.proofs.Typing.{in_range}
 use Rattle.ep_iterator.specs.Range.{Range, single}
-use Rattle.ep_iterator.specs.Known.{Known, known_of, first_known, entry}
-use Rattle.ep_iterator.proofs.Fits.{NumberIn, single_in, BytesOf, NumberFits, ScalarFits, BlockFits, MemoryFits}
-use Rattle.ep_iterator.proofs.Steps.{memory_put}
+use Rattle.ep_iterator.specs.Known.{Known, first_known, with_first, entry}
+use Rattle.ep_iterator.proofs.Fits.{single_in, NumberFits, ScalarFits, BlockFits, MemoryFits}
+use Rattle.ep_iterator.proofs.Storing.{memory_put}
 
 zero_in_range : (t : IntType) → InRange t (pos 0)
 zero_in_range t = in_range t (pos 0) (by_type t)
@@ -102,7 +102,7 @@ module _ (a b : Order) (bs : List Block) (ones : Bool) where
       equal_zero n h = grind (arith, nat_tests)
 
   set_inits : (is : List Init) (s : Known) (m n : Memory) → list_all (init_fits bs) is ≡ true → Begun s m n
-      → Begun (fold (λ (s : Known) (i : Init). slice_set s i.block (Some (single i.value))) s is) (fold (λ (m : Memory) (i : Init). stored a m (Int i.t) i.block i.offset (int i.value)) m is) (fold (λ (m : Memory) (i : Init). stored b m (Int i.t) i.block i.offset (int i.value)) n is)
+      → Begun (fold with_first s is) (fold (λ (m : Memory) (i : Init). stored a m (Int i.t) i.block i.offset (int i.value)) m is) (fold (λ (m : Memory) (i : Init). stored b m (Int i.t) i.block i.offset (int i.value)) n is)
   set_inits [] s m n h g = g
   set_inits (i ∷ is) s m n h g = let p = and_parts (init_fits bs i) (list_all (init_fits bs) is) h in set_inits is _ _ _ p.1 (set_init s m n i p.0 g)
 

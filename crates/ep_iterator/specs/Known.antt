@@ -1,9 +1,10 @@
 -- What the analysis knows of each variable: nothing, where it may be undefined, or one range that its number lies in on both machines.
-use Rattle.std.specs.Prelude.{ℕ, Bool, true, false, ◌||◌, if◌then◌else◌, nat_eq, pos, List, [], ◌∷◌, map, fold, slice_index_or, slice_set, Option, Some, None}
-use Rattle.std.specs.List.{enumerate_from}
+use Rattle.std.specs.Prelude.{ℕ, Bool, true, ◌||◌, if◌then◌else◌, pos, List, map, fold, slice_index_or, slice_set, Option, Some, None}
+use Rattle.std.specs.List.{enumerate_from, list_all}
 use Rattle.ep_int.specs.declared.types.Scalar.{Scalar}
 use Rattle.ep_int.specs.declared.types.Scalar.TheVariants.{Int, Pointer}
 use Rattle.ep_core.specs.Program.{Place, block, Expr, const, load, addr_of, convert, Block, Init, Function, Program}
+use Rattle.ep_core.specs.WellFormed.{is_in_range}
 use Rattle.ep_core.specs.Agree.{is_result}
 use Rattle.ep_iterator.specs.Range.{Range, single, converted}
 
@@ -18,9 +19,13 @@ known_of s b = slice_index_or s b None
 abbrev pub first_known : Option (ℕ × Scalar) → ℕ × Block → Option Range
 first_known r n = if n.1.global || is_result r n.0 then Some (single (pos 0)) else None
 
--- what is known at the start of main, with the first values of globals
+-- the first value of a global
+abbrev pub with_first : Known → Init → Known
+with_first s i = slice_set s i.block (Some (single i.value))
+
+-- what is known at the start of main
 abbrev pub entry : Program → Function → Known
-entry p f = fold (λ (s : Known) (i : Init). slice_set s i.block (Some (single i.value))) (map (first_known f.result) (enumerate_from 0 p.blocks)) p.init
+entry p f = fold with_first (map (first_known f.result) (enumerate_from 0 p.blocks)) p.init
 
 abbrev pub converted_if : Scalar → Option Range → Option Range
 converted_if (Int t) (Some r) = Some (converted t r)
@@ -36,3 +41,14 @@ range_of (const t v) s = Some (single v)
 range_of (load what a) s = converted_if what (known_at a s)
 range_of (addr_of a) s = None
 range_of (convert t e) s = converted_if (Int t) (range_of e s)
+
+-- each first value is a number of its type, as in a well-formed program
+abbrev pub firsts_fit : List Init → Bool
+firsts_fit is = list_all (λ (i : Init). is_in_range i.t i.value) is
+
+-- each constant is a number of its type, as in a well-formed program
+abbrev pub constants_fit : Expr → Bool
+constants_fit (const t v) = is_in_range t v
+constants_fit (load what a) = true
+constants_fit (addr_of a) = true
+constants_fit (convert t e) = constants_fit e

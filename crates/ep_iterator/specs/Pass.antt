@@ -1,17 +1,16 @@
 -- What the analysis reports: a pass through a program, with one case for each kind of statement.
-use Rattle.std.specs.Prelude.{ℕ, zero, suc, ◌+◌, pos, Bool, true, false, ◌||◌, nat_eq, if◌then◌else◌, List, [], ◌∷◌, ◌++◌, slice_get, slice_set, Option, Some, None}
+use Rattle.std.specs.Prelude.{ℕ, zero, suc, ◌+◌, pos, Bool, true, false, ◌&&◌, ◌||◌, nat_eq, if◌then◌else◌, List, [], ◌∷◌, ◌++◌, slice_get, slice_set, Option, Some, None}
 use Rattle.ep_int.specs.declared.types.IntType.{IntType}
 use Rattle.ep_int.specs.declared.types.Order.{Order}
-use Rattle.ep_int.specs.declared.types.Scalar.{Scalar}
-use Rattle.ep_int.specs.declared.types.Scalar.TheVariants.{Int, Pointer}
 use Rattle.ep_int.specs.Encoding.{place}
 use Rattle.ep_alarms.specs.declared.types.Alarm.{Alarm}
 use Rattle.ep_alarms.specs.declared.types.AlarmKind.TheVariants.{U4, E1}
 use Rattle.ep_alarms.specs.Report.{gathered}
 use Rattle.ep_core.specs.Program.{Place, block, Expr, const, load, addr_of, convert, Dest, What, assign, input, output, write_bytes, Stmts, stop, more, Block, Function, Program}
+use Rattle.ep_core.specs.WellFormed.{has_bytes}
 use Rattle.ep_core.specs.Exec.{size_at}
-use Rattle.ep_iterator.specs.Range.{Range, whole, converted, byte_range, are_one}
-use Rattle.ep_iterator.specs.Known.{Known, known_of, entry, converted_if, range_of}
+use Rattle.ep_iterator.specs.Range.{Range, whole, byte_range, are_one}
+use Rattle.ep_iterator.specs.Known.{Known, known_of, entry, constants_fit, converted_if, range_of}
 
 -- The states in which a pass leaves its statements, one for each way out that is reached, and its faults in the order of their coming.
 pub record Pass (S : Type 0) : Type 0 where
@@ -84,6 +83,26 @@ module _ (a b : Order) (bs : List Block) where
   abbrev pub pass_all : Stmts → Known → Pass Known
   pass_all stop s = passed (Some s) []
   pass_all (more l w rest) s = then_pass (pass w l s) (pass_all rest)
+
+-- ---- what the walk asks of statements, as it is in a well-formed program
+
+abbrev pub can_pass_bytes : List Block → Expr → (count : ℕ) → Bool
+can_pass_bytes bs (const t v) n = false
+can_pass_bytes bs (load what x) n = false
+can_pass_bytes bs (addr_of (block x)) n = has_bytes (slice_get bs x) n
+can_pass_bytes bs (convert t e) n = false
+
+abbrev pub can_pass : List Block → What → Bool
+can_pass bs (assign what x e) = constants_fit e
+can_pass bs (input t d) = true
+can_pass bs (output t e) = constants_fit e
+can_pass bs (write_bytes e n) = can_pass_bytes bs e n
+
+abbrev pub can_pass_all : List Block → Stmts → Bool
+can_pass_all bs stop = true
+can_pass_all bs (more l w rest) = can_pass bs w && can_pass_all bs rest
+
+-- ---- the report
 
 -- The faults of main. Its result is one number on both machines, so nothing is to be compared at its end.
 abbrev pub faults_from : Program → Order → Order → Option Function → List Alarm

@@ -1,5 +1,5 @@
 -- Ranges of numbers: an interval domain with conversions and bytes.
-use Rattle.std.specs.Prelude.{ℕ, ◌*◌, ◌^◌, ℤ, pos, ◌-ℤ◌, ◌≤ℤ◌, Bool, ◌&&◌, int_le, if◌then◌else◌}
+use Rattle.std.specs.Prelude.{ℕ, ◌*◌, ℤ, pos, negsuc, ◌-ℤ◌, ◌≤ℤ◌, Bool, ◌&&◌, int_le, if◌then◌else◌}
 use Rattle.std.specs.Int.{int_shr}
 use Rattle.ep_int.specs.declared.types.IntType.{IntType}
 use Rattle.ep_int.specs.declared.types.IntType.TheVariants.{U8}
@@ -8,6 +8,11 @@ use Rattle.ep_int.specs.Types.{least_of, greatest_of, wrapped}
 -- from the first number to the second
 abbrev pub Range : Type 0
 Range = ℤ × ℤ
+
+-- a number that some type has
+pub record IsShort (v : ℤ) : Type 0 where
+  pub low : negsuc 9223372036854775807 ≤ℤ v
+  pub high : v ≤ℤ pos 18446744073709551615
 
 abbrev pub is_equal : ℤ → ℤ → Bool
 is_equal x y = int_le x y && int_le y x

@@ -1,31 +1,21 @@
 -- Each statement that is passed without a fault does the same on both machines.
-use Rattle.std.proofs.Common.{◌≡◌, ℕ, zero, suc, ◌+◌, ◌-◌, ◌%◌, ◌<◌, ◌≤◌, ◌≢◌, ◌⊎◌, inl, inr, Bool, true, false, ◌&&◌, ◌||◌, ◌==◌, not, nat_eq, nat_lt, nat_le, if◌then◌else◌, ℤ, pos, List, [], ◌∷◌, ◌++◌, length, slice_get, slice_index_or, slice_set, refl, sym, ap, ◌∙◌, subst, Option, Some, None, arith, length-set, get_or-set_same, get_or-set_other}
-use Rattle.std.proofs.lemmas.Int.{ints}
-use Rattle.std.proofs.lemmas.Bool.{and_parts}
+use Rattle.std.proofs.Common.{◌≡◌, ℕ, zero, suc, ◌+◌, ◌%◌, ◌<◌, ◌≤◌, ◌≢◌, ◌⊎◌, inl, inr, Bool, true, false, ◌==◌, not, nat_eq, nat_lt, if◌then◌else◌, ℤ, List, [], ◌∷◌, length, slice_get, slice_set, refl, sym, ◌∙◌, subst, Option, Some, None, arith, get_or-set_same, get_or-set_other}
 use Rattle.std.proofs.lemmas.Bool.Decides.{nat_tests}
 use Rattle.ep_int.specs.declared.types.IntType.{IntType}
 use Rattle.ep_int.specs.declared.types.IntType.TheVariants.{I8, U8, I16, U16, I32, U32, I64, U64}
 use Rattle.ep_int.specs.declared.types.Order.{Order}
 use Rattle.ep_int.specs.declared.types.Scalar.{Scalar}
 use Rattle.ep_int.specs.declared.types.Scalar.TheVariants.{Int, Pointer}
-use Rattle.ep_int.specs.Types.{bytes_of, bits_of, size_of, InRange, representation, wrapped}
-use Rattle.ep_int.specs.Encoding.{place, byte_of, encoded}
-use Rattle.ep_int.specs.Memory.{Byte, undefined, number, Memory, Value, int, null, pointer, Kind, uninitialised, bounds, alignment, Found, has, faults, loaded, stored, store_fault}
-use Rattle.ep_int.proofs.Places.{place_below}
-use Rattle.ep_int.proofs.Wrapping.{wrapped_in_range}
+use Rattle.ep_int.specs.Types.{bytes_of}
+use Rattle.ep_int.specs.Memory.{Byte, Memory, int, bounds, alignment, stored, store_fault}
 use Rattle.ep_int.proofs.Memories.{stored_first, stored_elsewhere}
-use Rattle.ep_core.specs.Program.{Place, block, Expr, const, load, addr_of, convert, Dest, What, assign, input, output, write_bytes, Block}
-use Rattle.ep_core.specs.WellFormed.{contains, is_global, holds_scalar, is_integer, blocks_fit, has_bytes, has_type, type_of_scalar, place_has, type_of, bytes_fit, dest_fits, what_fits}
-use Rattle.ep_core.specs.WellFormed as typing
-use Rattle.ep_core.specs.Exec.{State, Way, on, Outcome, leaves, running, no_input, undefined_at, step, given, given_place, unless, put_out, number_out, byte_out, bytes_out, rest_out, taken, converted, block_size, size_at, value, put_at, put_input, exec}
-use Rattle.ep_core.proofs.Typing.{IsHeld, held, holds_no_pointer, is_of_type}
-use Rattle.ep_alarms.specs.declared.types.Alarm.{Alarm}
-use Rattle.ep_iterator.specs.Range.{Range, whole, are_one, byte_range}
-use Rattle.ep_iterator.specs.Range as range
-use Rattle.ep_iterator.specs.Known.{Known, known_of, converted_if, range_of}
-use Rattle.ep_iterator.specs.Pass.{Pass, passed, with_range, put_known, input_pass, differs_at, byte_fault, byte_faults, bytes_pass, pass}
-use Rattle.ep_iterator.proofs.Ranges.{Holds, byte_holds, held_by_one}
-use Rattle.ep_iterator.proofs.Fits.{NumberIn, converted_in, BytesOf, Unwritten, NumberFits, ScalarFits, BlockFits, MemoryFits, AreOnes, Fits, SameNumber, Reads, block_holds, size_of_block, reads}
+use Rattle.ep_core.specs.Program.{Block}
+use Rattle.ep_core.specs.WellFormed.{holds_scalar}
+use Rattle.ep_core.specs.Exec.{State, on, Outcome, leaves, running, no_input, step}
+use Rattle.ep_core.proofs.Typing.{held}
+use Rattle.ep_iterator.specs.Range.{Range}
+use Rattle.ep_iterator.specs.Known.{Known, known_of}
+use Rattle.ep_iterator.proofs.Fits.{NumberIn, NumberFits, ScalarFits, BlockFits, MemoryFits, Fits}
 
 store_test : (t : IntType) → (0 % bytes_of t == 0) ≡ true
 store_test I8 = refl
