@@ -1,5 +1,5 @@
 -- Counts that rise in one of several calls.
-use Rattle.std.proofs.Common.{◌≤◌, ℕ, arith}
+use Rattle.std.proofs.Common.{ℕ, arith}
 use Rattle.ep_io.specs.Faults.{NeverFalls, Rose}
 
 pub NeverFalls-through : (a b c : ℕ) → NeverFalls a b → NeverFalls b c → NeverFalls a c

@@ -1,5 +1,5 @@
 -- A source and a sink over memory, each call of which is to be known beforehand (this project's rule).
-use Rattle.std.specs.Prelude.{ℕ, ◌-◌, ◌==◌, min, Bool, not, ◌&&◌, ◌||◌, false, if◌then◌else◌, List, [], ◌++◌, length, take, drop, bytes_eq}
+use Rattle.std.specs.Prelude.{ℕ, ◌-◌, ◌==◌, min, Bool, not, ◌&&◌, ◌||◌, if◌then◌else◌, List, [], ◌++◌, length, take, drop, bytes_eq}
 use Rattle.std.specs.List.{list_any}
 use Rattle.ep_io.specs.Faults.{counted}
 

@@ -1,30 +1,13 @@
 // Reading a source to its end, and writing a whole text.
-ghost use Rattle.std.specs.Prelude.{◌≡◌, ◌<◌, ◌≤◌, length, IfSome, IfOk, OnOk, OnErr, IsErrOf, vec_len, is_some};
+ghost use Rattle.std.specs.Prelude.{◌≡◌, ◌<◌, ◌≤◌, length, IfSome, IfOk, OnOk, OnErr, IsErrOf, vec_len};
 ghost use Rattle.ep_io.specs.Faults.{NeverFalls, Rose};
 ghost use Rattle.ep_io.specs.Bytes.{SomeTaken, NoneLeft, Appended, FrontAppended};
-ghost use Rattle.ep_io.specs.declared.outside.ReadStop.TheVariants.{Fault, Memory as WantOfMemory};
 
 use crate::outside::{Failed, ReadStop, Sink, Source};
-use std::alloc::{AllocError, Global};
+use std::alloc::Global;
 
 // How many bytes are read at a time, at most.
-const PIECE: usize = 16384;
-
-impl From<Failed> for ReadStop {
-    ghost from_gives = { λ _ stop. stop ≡ Fault };
-
-    fn from(_failed: Failed) -> ReadStop {
-        ReadStop::Fault
-    }
-}
-
-impl From<AllocError> for ReadStop {
-    ghost from_gives = { λ _ stop. stop ≡ WantOfMemory };
-
-    fn from(_error: AllocError) -> ReadStop {
-        ReadStop::Memory
-    }
-}
+pub(crate) const PIECE: usize = 16384;
 
 /// Reads all bytes left, at most `limit` of them; it stops at the first read that gives one more.
 pub fn read_all<S: Source>(alloc: Global, src: &mut S, limit: u32) -> Result<Vec<u8>, ReadStop>

@@ -3,6 +3,7 @@ ghost use Rattle.std.specs.Prelude.{◌≡◌, ◌+◌, ◌<◌, ◌≤◌, ◌|
 ghost use Rattle.ep_io.specs.Faults.{NeverFalls};
 ghost use Rattle.ep_io.specs.InMemory.{is_to_fail, after_call, bytes_under, after_begin, read_count, after_read, is_refused, write_count, after_write};
 
+use crate::faults::Faults;
 use crate::outside::{Failed, Sink, Source};
 use ep_int::Memory;
 use std::alloc::Global;
@@ -13,7 +14,7 @@ use std::marker::Model;
 struct Calls {
     failing: Vec<u32>,
     number: u64,
-    faults: u64,
+    faults: Faults,
 }
 
 impl Model for Calls {
@@ -31,7 +32,7 @@ impl Calls {
         Calls {
             failing,
             number: 0,
-            faults: 0,
+            faults: Faults::none(),
         }
     }
 
@@ -51,8 +52,7 @@ impl Calls {
         let fails = self.is_next_to_fail() || is_refused;
         self.number = self.number.saturating_add(1);
         if fails {
-            self.faults = self.faults.saturating_add(1);
-            return Err(Failed);
+            return Err(self.faults.raise());
         }
         Ok(())
     }

@@ -2,9 +2,12 @@
 #![tactic(auto)]
 
 mod engines;
+mod faults;
 mod in_memory;
 mod outside;
 mod system;
+#[cfg(test)]
+mod tests;
 
 pub use engines::{read_all, write_all};
 pub use in_memory::{MemSink, MemSource};

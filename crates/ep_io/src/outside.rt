@@ -2,6 +2,9 @@
 ghost use Rattle.std.specs.Prelude.{◌≡◌, ℕ, ◌<◌, ◌≤◌, List, [], length, take, drop, Option, Some, is_some, IfSome, IfOk, OnOk, OnErr};
 ghost use Rattle.ep_io.specs.Faults.{NeverFalls, Rose};
 ghost use Rattle.ep_io.specs.Bytes.{Taken, NoneLeft, Appended};
+ghost use Rattle.ep_io.specs.declared.outside.ReadStop.TheVariants.{Fault, Memory};
+
+use std::alloc::AllocError;
 
 /// A call of a source or a sink failed.
 #[derive(Clone, Copy, Debug, PartialEq, Eq)]
@@ -13,6 +16,22 @@ pub enum ReadStop {
     Fault,
     TooLong,
     Memory,
+}
+
+impl From<Failed> for ReadStop {
+    ghost from_gives = { λ _ stop. stop ≡ Fault };
+
+    fn from(_failed: Failed) -> ReadStop {
+        ReadStop::Fault
+    }
+}
+
+impl From<AllocError> for ReadStop {
+    ghost from_gives = { λ _ stop. stop ≡ Memory };
+
+    fn from(_error: AllocError) -> ReadStop {
+        ReadStop::Memory
+    }
 }
 
 /// Bytes that stand under names, read from their front on. What the clauses say of bytes they say

@@ -1,4 +1,4 @@
-use Rattle.std.proofs.Common.{◌++◌, take, rules}
+use Rattle.std.proofs.Common.{◌++◌, take}
 use Rattle.ep_io.proofs.ByteLemmas.{Taken-more}
 use Rattle.ep_io.proofs.engines.read_all.Goals as goal
 
