@@ -1,13 +1,17 @@
--- A source and a sink over memory, each call of which is to be known beforehand (this project's rule).
+-- A source and a sink over memory, and what each of their calls does (this project's rule).
 use Rattle.std.specs.Prelude.{ℕ, ◌-◌, ◌==◌, min, Bool, not, ◌&&◌, ◌||◌, if◌then◌else◌, List, [], ◌++◌, length, take, drop, bytes_eq}
 use Rattle.std.specs.List.{list_any}
 use Rattle.ep_io.specs.Faults.{counted}
 
--- the numbers of the calls that are to fail, the number of the next call, and the faults so far
+-- the numbers of the calls that are to fail, the number of the next call, and the faults so far;
+-- the number stays at the last value of a count, which is in no list of 32-bit numbers
 pub record Calls : Type 0 where
   pub failing : List ℕ
   pub number : ℕ
   pub faults : ℕ
+
+abbrev pub no_calls : List ℕ → Calls
+no_calls failing = record { failing = failing; number = 0; faults = 0 }
 
 -- the next call is to fail
 abbrev pub is_to_fail : Calls → Bool
@@ -16,7 +20,8 @@ is_to_fail calls = list_any (λ k. k == calls.number) calls.failing
 -- a call was made, and failed or not
 abbrev pub after_call : Calls → Bool → Calls
 after_call calls failed =
-    record calls { number = counted calls.number; faults = if failed then counted calls.faults else calls.faults }
+    record calls
+    { number = counted calls.number; faults = if failed then counted calls.faults else calls.faults }
 
 -- under its name stands its content; `chunk` is the most bytes that one read gives
 pub record SourceInMemory : Type 0 where
@@ -33,7 +38,10 @@ bytes_under own content name = if bytes_eq name own then content else []
 abbrev pub after_begin : SourceInMemory → List ℕ → SourceInMemory
 after_begin source name =
     let fails = is_to_fail source.calls in
-    record source { left = if fails then [] else bytes_under source.name source.content name; calls = after_call source.calls fails }
+    record source {
+      left = if fails then [] else bytes_under source.name source.content name;
+      calls = after_call source.calls fails;
+    }
 
 -- how many bytes the next read gives, with room for so many
 abbrev pub read_count : SourceInMemory → ℕ → ℕ
@@ -42,7 +50,10 @@ read_count source room =
 
 abbrev pub after_read : SourceInMemory → ℕ → SourceInMemory
 after_read source room =
-    record source { left = drop (read_count source room) source.left; calls = after_call source.calls (is_to_fail source.calls) }
+    record source {
+      left = drop (read_count source room) source.left;
+      calls = after_call source.calls (is_to_fail source.calls);
+    }
 
 -- it holds `room` bytes at most, and `chunk` is the most bytes that one write takes
 pub record SinkInMemory : Type 0 where
@@ -63,4 +74,7 @@ write_count sink count =
 
 abbrev pub after_write : SinkInMemory → List ℕ → SinkInMemory
 after_write sink piece =
-    record sink { written = sink.written ++ take (write_count sink (length piece)) piece; calls = after_call sink.calls (is_refused sink (length piece)) }
+    record sink {
+      written = sink.written ++ take (write_count sink (length piece)) piece;
+      calls = after_call sink.calls (is_refused sink (length piece));
+    }

@@ -9,13 +9,15 @@ use std::alloc::Global;
 // How many bytes are read at a time, at most.
 pub(crate) const PIECE: usize = 16384;
 
-/// Reads all bytes left, at most `limit` of them; it stops at the first read that gives one more.
+/// Reads all bytes left. `Fault` comes where a read failed, `TooLong` where more than `limit` bytes
+/// came, `Memory` where there was no room to keep them.
 pub fn read_all<S: Source>(alloc: Global, src: &mut S, limit: u32) -> Result<Vec<u8>, ReadStop>
     ensures standing { S.standing src.new ≡ S.standing src.old }
     ensures bytes { IfOk result (λ text. IfSome (S.left src.old) (λ bytes. text.items ≡ bytes)) }
     ensures end { OnOk result (NoneLeft (S.left src.new)) }
     ensures within { IfOk result (λ text. vec_len text ≤ limit) }
-    ensures too_long { IsErrOf result ReadStop.TooLong → IfSome (S.left src.old) (λ bytes. limit < length bytes) }
+    ensures too_long { IsErrOf result ReadStop.TooLong →
+        IfSome (S.left src.old) (λ bytes. limit < length bytes) }
     ensures taken { SomeTaken (S.left src.old) (S.left src.new) }
     ensures never_falls { NeverFalls (S.faults src.old) (S.faults src.new) }
     ensures fault { IsErrOf result ReadStop.Fault → Rose (S.faults src.old) (S.faults src.new) }

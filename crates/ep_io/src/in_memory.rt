@@ -1,7 +1,7 @@
 // A source and a sink over memory, whose calls fail where they are told to.
 ghost use Rattle.std.specs.Prelude.{◌≡◌, ◌+◌, ◌<◌, ◌≤◌, ◌||◌, [], ◌++◌, length, take, drop, Some, Bool, is_err, IfOk, List, ℕ};
 ghost use Rattle.ep_io.specs.Faults.{NeverFalls};
-ghost use Rattle.ep_io.specs.InMemory.{is_to_fail, after_call, bytes_under, after_begin, read_count, after_read, is_refused, write_count, after_write};
+ghost use Rattle.ep_io.specs.InMemory.{no_calls, is_to_fail, after_call, bytes_under, after_begin, read_count, after_read, is_refused, write_count, after_write};
 
 use crate::faults::Faults;
 use crate::outside::{Failed, Sink, Source};
@@ -22,12 +22,13 @@ impl Model for Calls {
 
     ghost Value = { Calls };
 
-    ghost view = { λ calls. record { failing = calls.failing.items; number = calls.number; faults = calls.faults } };
+    ghost view = { λ calls. record
+        { failing = calls.failing.items; number = calls.number; faults = calls.faults } };
 }
 
 impl Calls {
     fn new(failing: Vec<u32>) -> Self
-        ensures { result ≡ record { failing = failing.items; number = 0; faults = 0 } }
+        ensures { result ≡ no_calls failing.items }
     {
         Calls {
             failing,
@@ -75,7 +76,13 @@ impl Model for MemSource {
 
     ghost Value = { SourceInMemory };
 
-    ghost view = { λ s. record { name = s.name.items; content = s.content.items; chunk = s.chunk; left = drop s.at s.content.items; calls = s.calls } };
+    ghost view = { λ s. record {
+      name = s.name.items;
+      content = s.content.items;
+      chunk = s.chunk;
+      left = drop s.at s.content.items;
+      calls = s.calls;
+    } };
 
     ghost invariant = { λ s. (0 < s.chunk) × (s.at ≤ vec_len s.content) };
 }
@@ -85,7 +92,13 @@ impl MemSource {
     /// `failing` fail. A read gives at most `chunk` bytes.
     pub fn new(name: Vec<u8>, content: Vec<u8>, failing: Vec<u32>, chunk: u32) -> MemSource
         requires { 1 ≤ chunk }
-        ensures { result ≡ record { name = name.items; content = content.items; chunk = chunk; left = []; calls = record { failing = failing.items; number = 0; faults = 0 } } }
+        ensures { result ≡ record {
+          name = name.items;
+          content = content.items;
+          chunk = chunk;
+          left = [];
+          calls = no_calls failing.items;
+        } }
     {
         let at = content.len();
         MemSource {
@@ -121,7 +134,8 @@ impl Source for MemSource {
     fn read(&mut self, buf: &mut [u8]) -> Result<usize, Failed>
         ensures fails { is_err result ≡ is_to_fail self.old.calls }
         ensures count { IfOk result (λ n. n ≡ read_count self.old (length buf.old)) }
-        ensures bytes { let n = read_count self.old (length buf.old) in buf.new ≡ take n self.old.left ++ drop n buf.old }
+        ensures bytes { let n = read_count self.old (length buf.old) in
+            buf.new ≡ take n self.old.left ++ drop n buf.old }
         ensures after { self.new ≡ after_read self.old (length buf.old) }
         ensures end { IfOk result (λ n. n ≡ 0 → 0 < length buf.old → self.new.left ≡ []) }
         ensures never_falls { NeverFalls self.old.calls.faults self.new.calls.faults }
@@ -150,9 +164,11 @@ impl Model for MemSink {
 
     ghost Value = { SinkInMemory };
 
-    ghost view = { λ s. record { written = s.written.items; room = s.room; chunk = s.chunk; calls = s.calls } };
+    ghost view = { λ s. record
+        { written = s.written.items; room = s.room; chunk = s.chunk; calls = s.calls } };
 
-    ghost invariant = { λ s. (0 < s.chunk) × (vec_len s.written ≤ s.room) × (s.room ≤ vec_capacity s.written) };
+    ghost invariant = { λ s. (0 < s.chunk)
+        × (vec_len s.written ≤ s.room) × (s.room ≤ vec_capacity s.written) };
 }
 
 impl MemSink {
@@ -160,7 +176,8 @@ impl MemSink {
     /// whose numbers are in `failing` fail. A write takes at most `chunk` bytes.
     pub fn new(alloc: Global, room: u32, failing: Vec<u32>, chunk: u32) -> Result<MemSink, Memory>
         requires { 1 ≤ chunk }
-        ensures { IfOk result (λ sink. sink ≡ record { written = []; room = room; chunk = chunk; calls = record { failing = failing.items; number = 0; faults = 0 } }) }
+        ensures { IfOk result (λ sink. sink ≡ record
+            { written = []; room = room; chunk = chunk; calls = no_calls failing.items }) }
     {
         let Ok(written) = Vec::with_capacity(alloc, room as usize) else {
             return Err(Memory);

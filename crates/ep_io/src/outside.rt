@@ -34,8 +34,9 @@ impl From<AllocError> for ReadStop {
     }
 }
 
-/// Bytes that stand under names, read from their front on. What the clauses say of bytes they say
-/// where the source tells them, as one over memory does and one over files doesn't.
+/// Bytes that stand under names, read from their front on. Before the first `begin` none are left.
+/// What the clauses say of bytes they say where the source tells them, as one over memory does and
+/// one over files doesn't.
 pub trait Source {
     // For each name the bytes that stand under it.
     ghost standing: { Self → List ℕ → Option (List ℕ) };
@@ -50,7 +51,8 @@ pub trait Source {
     fn begin(&mut self, name: &str) -> Result<(), Failed>
         ensures standing { standing self.new ≡ standing self.old }
         ensures telling { is_some (left self.new) ≡ is_some (left self.old) }
-        ensures begun { OnOk result (IfSome (standing self.old name.now) (λ bytes. left self.new ≡ Some bytes)) }
+        ensures begun { OnOk result
+            (IfSome (standing self.old name.now) (λ bytes. left self.new ≡ Some bytes)) }
         ensures none_left { OnErr result (NoneLeft (left self.new)) }
         ensures never_falls { NeverFalls (faults self.old) (faults self.new) }
         ensures fault { OnErr result (Rose (faults self.old) (faults self.new)) };
@@ -81,7 +83,8 @@ pub trait Sink {
     fn write(&mut self, piece: &[u8]) -> Result<usize, Failed>
         ensures bound { IfOk result (λ n. n ≤ length piece.now) }
         ensures progress { IfOk result (λ n. 0 < length piece.now → 0 < n) }
-        ensures appended { IfOk result (λ n. Appended (written self.old) (take n piece.now) (written self.new)) }
+        ensures appended { IfOk result
+            (λ n. Appended (written self.old) (take n piece.now) (written self.new)) }
         ensures failed { OnErr result (written self.new ≡ written self.old) }
         ensures never_falls { NeverFalls (faults self.old) (faults self.new) }
         ensures fault { OnErr result (Rose (faults self.old) (faults self.new)) };

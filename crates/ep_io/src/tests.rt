@@ -24,13 +24,18 @@ fn copy<S: Source, K: Sink>(
     out: &mut K,
 ) -> Copied
     ensures standing { S.standing src.new ≡ S.standing src.old }
-    ensures whole { result ≡ Copied.Whole → IfSome (S.standing src.old name.now) (λ bytes. Appended (K.written out.old) bytes (K.written out.new)) }
+    ensures whole { result ≡ Copied.Whole → IfSome (S.standing src.old name.now)
+        (λ bytes. Appended (K.written out.old) bytes (K.written out.new)) }
     ensures read_fault { result ≡ Copied.ReadFault → Rose (S.faults src.old) (S.faults src.new) }
-    ensures too_long { result ≡ Copied.TooLong → IfSome (S.standing src.old name.now) (λ bytes. limit < length bytes) }
+    ensures too_long { result ≡ Copied.TooLong →
+        IfSome (S.standing src.old name.now) (λ bytes. limit < length bytes) }
     ensures write_fault { result ≡ Copied.WriteFault → Rose (K.faults out.old) (K.faults out.new) }
-    ensures front { result ≡ Copied.WriteFault → IfSome (S.standing src.old name.now) (λ bytes. FrontAppended (K.written out.old) bytes (K.written out.new)) }
-    ensures nothing { (result ≡ Copied.ReadFault) ⊎ (result ≡ Copied.TooLong) ⊎ (result ≡ Copied.Memory) → K.written out.new ≡ K.written out.old }
-    ensures within { IfSome (S.standing src.old name.now) (λ bytes. limit < length bytes → (Rose (S.faults src.old) (S.faults src.new) → ⊥) → (result ≡ Copied.TooLong) ⊎ (result ≡ Copied.Memory)) }
+    ensures front { result ≡ Copied.WriteFault → IfSome (S.standing src.old name.now)
+        (λ bytes. FrontAppended (K.written out.old) bytes (K.written out.new)) }
+    ensures nothing { (result ≡ Copied.ReadFault) ⊎ (result ≡ Copied.TooLong) ⊎ (result ≡ Copied.Memory)
+        → K.written out.new ≡ K.written out.old }
+    ensures always_too_long { IfSome (S.standing src.old name.now) (λ bytes. limit < length bytes →
+        ¬ Rose (S.faults src.old) (S.faults src.new) → (result ≡ Copied.TooLong) ⊎ (result ≡ Copied.Memory)) }
 {
     if src.begin(name).is_err() {
         return Copied::ReadFault;
