@@ -1,0 +1,99 @@
+// A source over files and a sink over standard output. They tell nothing of the bytes.
+ghost use Rattle.std.specs.Prelude.{◌≡◌, None};
+
+use crate::engines::PIECE;
+use crate::faults::Faults;
+use crate::outside::{Failed, Sink, Source};
+use std::fs;
+use std::io::Read;
+use std::rt::Files;
+
+#[cfg(test)]
+mod tests;
+
+/// A source whose names are the paths of files.
+#[derive(Drop)]
+pub struct FileSource<R: Files> {
+    rt: R,
+    file: Option<R::File>,
+    faults: Faults,
+}
+
+impl<R: Files> FileSource<R> {
+    /// With no file open.
+    pub fn new(rt: R) -> Self
+        ensures { ⟦<FileSource<R> as Source>⟧.faults result ≡ 0 }
+    {
+        FileSource {
+            rt,
+            file: None,
+            faults: Faults::none(),
+        }
+    }
+}
+
+impl<R: Files> Source for FileSource<R> {
+    ghost standing = { λ _ _. None };
+
+    ghost left = { λ _. None };
+
+    ghost faults = { λ source. source.faults };
+
+    fn begin(&mut self, name: &str) -> Result<(), Failed> {
+        self.file = None;
+        match fs::open(&self.rt, name) {
+            Ok(file) => {
+                self.file = Some(file);
+                Ok(())
+            }
+            Err(_) => Err(self.faults.raise()),
+        }
+    }
+
+    // A failed read may leave anything in what it was given, so that is a piece of its own.
+    fn read(&mut self, buf: &mut [u8]) -> Result<usize, Failed> {
+        let Some(file) = &mut self.file else {
+            return Ok(0);
+        };
+        let mut piece = [0; PIECE];
+        let room = buf.len().min(PIECE);
+        let Ok(count) = file.read(&mut piece[..room]) else {
+            return Err(self.faults.raise());
+        };
+        buf[..count].copy_from_slice(&piece[..count]);
+        Ok(count)
+    }
+}
+
+/// A sink that is standard output.
+#[derive(Drop)]
+pub struct StdSink<R: Print> {
+    rt: R,
+    faults: Faults,
+}
+
+impl<R: Print> StdSink<R> {
+    /// With nothing written.
+    pub fn new(rt: R) -> Self
+        ensures { ⟦<StdSink<R> as Sink>⟧.faults result ≡ 0 }
+    {
+        StdSink {
+            rt,
+            faults: Faults::none(),
+        }
+    }
+}
+
+impl<R: Print> Sink for StdSink<R> {
+    ghost written = { λ _. None };
+
+    ghost faults = { λ sink. sink.faults };
+
+    // No byte taken of some is an error too.
+    fn write(&mut self, piece: &[u8]) -> Result<usize, Failed> {
+        match self.rt.write_some(piece) {
+            Ok(count) if count > 0 || piece.is_empty() => Ok(count),
+            _ => Err(self.faults.raise()),
+        }
+    }
+}
