@@ -1,19 +1,21 @@
 -- Laws of arithmetic on numbers of the types.
-use Rattle.std.proofs.Common.{◌≡◌, ℕ, zero, suc, ◌+◌, ◌-◌, ◌*◌, ◌%◌, ◌^◌, ◌<◌, ◌≤◌, ◌↔◌, Bool, true, false, ◌&&◌, if◌then◌else◌, IsTrue, ℤ, pos, negsuc, ◌+ℤ◌, ◌-ℤ◌, ◌*ℤ◌, ◌≤ℤ◌, Result, Ok, Err, FitsSigned, to_z, of_z, bit_and, refl, sym, ◌∙◌, ap, arith}
-use Rattle.std.specs.Int.{w128}
-use Rattle.std.specs.Prelude.{int_lt, int_le, int_div, unsigned_abs}
-use Rattle.std.proofs.lemmas.Bool.{and_parts, cond-false}
+use Rattle.std.proofs.Common.{◌≡◌, ℕ, zero, suc, ◌+◌, ◌-◌, ◌*◌, ◌%◌, ◌^◌, ◌<◌, ◌≤◌, ◌↔◌, ◌/◌, Bool, true, false, ◌&&◌, not, neg_ℤ, if◌then◌else◌, IsTrue, ℤ, pos, negsuc, ◌+ℤ◌, ◌-ℤ◌, ◌*ℤ◌, ◌≤ℤ◌, Result, Ok, Err, FitsSigned, to_z, of_z, bit_and, bit_or, refl, sym, ◌∙◌, ap, subst, arith}
+use Rattle.std.specs.Int.{w128, int_shr}
+use Rattle.std.specs.Prelude.{bit_xor, int_lt, int_le, int_div, int_rem, unsigned_abs}
+use Rattle.std.proofs.lemmas.Bool.{and_from, and_parts, cond-false}
 use Rattle.std.proofs.lemmas.Int.{ints, to_z_pos, fits_signed_mul}
-use Rattle.std.proofs.lemmas.Nat.{and_mask, shl_whole, shl_below}
-use Rattle.std.proofs.Math.Nat.{div-le_self}
+use Rattle.std.proofs.lemmas.Nat.{and_mask, and_le_l, or_lt, xor_lt, shl_whole, shl_below}
+use Rattle.std.proofs.Math.Nat.{div-le_self, mod-le}
 use Rattle.std.proofs.Math.Pow.{pow_mono}
 use Rattle.ep_int.specs.declared.types.IntType.{IntType}
 use Rattle.ep_int.specs.declared.types.IntType.TheVariants.{I8, U8, I16, U16, I32, U32, I64, U64}
-use Rattle.ep_int.specs.Types.{bits_of, is_signed, least_of, greatest_of, InRange, residue, representation, wrapped}
-use Rattle.ep_int.specs.Arith.{is_in_range, IsOfSomeType, int_eq, settled, is_amount, arith_of}
-use Rattle.ep_int.specs.declared.types.BinOp.TheVariants.{Shl}
+use Rattle.ep_int.specs.Types.{bits_of, is_signed, least_of, greatest_of, InRange, residue, representation, represented, wrapped}
+use Rattle.ep_int.specs.Arith.{is_in_range, IsOfSomeType, int_eq, settled, is_divisible, is_amount, arith_of}
+use Rattle.ep_int.specs.declared.types.BinOp.{BinOp}
+use Rattle.ep_int.specs.declared.types.BinOp.TheVariants.{Add, Sub, Mul, Div, Rem, And, Or, Xor, Shl, Shr}
 use Rattle.ep_int.specs.declared.types.Undef.{Undef}
-use Rattle.ep_int.specs.declared.types.Undef.TheVariants.{Shift}
+use Rattle.ep_int.specs.declared.types.Undef.TheVariants.{Overflow, Division, Shift}
+use Rattle.ep_int.proofs.Wrapping.{representation_below, represented_in_range, wrapped_in_range}
 
 pub in_range_some_type : (t : IntType) (v : ℤ) → InRange t v → IsOfSomeType v
 in_range_some_type I8 v h = record { low = omega (arith, ints); high = omega (arith, ints) }
@@ -52,10 +54,18 @@ in_range_test t v b h =
     (λ e. let r : InRange t v = h.0 e in (le_test (least_of t) v r.low, le_test v (greatest_of t) r.high))
     (λ e f. h.1 (record { low = le_fact (least_of t) v e; high = le_fact v (greatest_of t) f }))
 
-pub nonzero_test : (y : ℤ) → (of_z w128 y ≡ 0 → ⊥) → FitsSigned w128 y → int_eq y (pos 0) ≡ false
-nonzero_test (pos zero) h f = absurd (h refl)
-nonzero_test (pos (suc n)) h f = grind (arith, ints)
-nonzero_test (negsuc n) h f = refl
+pub in_range_true : (t : IntType) (v : ℤ) → InRange t v → is_in_range t v ≡ true
+in_range_true t v h = and_from (int_le (least_of t) v) (int_le v (greatest_of t)) (le_test (least_of t) v h.low) (le_test v (greatest_of t) h.high)
+
+pub in_range_from_true : (t : IntType) (v : ℤ) → is_in_range t v ≡ true → InRange t v
+in_range_from_true t v e =
+    let parts = and_parts (int_le (least_of t) v) (int_le v (greatest_of t)) e in
+    record { low = le_fact (least_of t) v parts.0; high = le_fact v (greatest_of t) parts.1 }
+
+pub nonzero_test : (y : ℤ) → (of_z w128 y ≡ 0 → ⊥) → int_eq y (pos 0) ≡ false
+nonzero_test (pos zero) h = absurd (h refl)
+nonzero_test (pos (suc n)) h = grind (arith, ints)
+nonzero_test (negsuc n) h = refl
 
 -- ---- division
 
@@ -159,3 +169,84 @@ shifted_left t x y k r h a e n s =
     let exact = shifted x k h low small ∙ ap (λ j. x *ℤ pos (2 ^ j)) e in
     let tested : int_le (pos 0) x ≡ true = le_test (pos 0) x low in
     s ∙ ap (settled Shift t) exact ∙ rw (a, tested) refl
+
+-- ---- what an operator gives is of the type
+
+zero_in_range : (t : IntType) → InRange t (pos 0)
+zero_in_range I8 = record { low = omega (arith, ints); high = omega (arith, ints) }
+zero_in_range U8 = record { low = omega (arith, ints); high = omega (arith, ints) }
+zero_in_range I16 = record { low = omega (arith, ints); high = omega (arith, ints) }
+zero_in_range U16 = record { low = omega (arith, ints); high = omega (arith, ints) }
+zero_in_range I32 = record { low = omega (arith, ints); high = omega (arith, ints) }
+zero_in_range U32 = record { low = omega (arith, ints); high = omega (arith, ints) }
+zero_in_range I64 = record { low = omega (arith, ints); high = omega (arith, ints) }
+zero_in_range U64 = record { low = omega (arith, ints); high = omega (arith, ints) }
+
+-- from zero, or from a number below it, to this one
+up_to_in_range : (t : IntType) (v n : ℕ) → InRange t (pos v) → n ≤ v → InRange t (pos n)
+up_to_in_range t v n h l =
+    let zero = zero_in_range t in
+    let low = zero.low in
+    let high = h.high in
+    record { low = omega (arith, ints); high = omega (arith, ints) }
+
+down_to_in_range : (t : IntType) (v : ℕ) (z : ℤ) → InRange t (negsuc v) → negsuc v ≤ℤ z → z ≤ℤ pos 0 → InRange t z
+down_to_in_range t v z h l u =
+    let zero = zero_in_range t in
+    let low = h.low in
+    let high = zero.high in
+    record { low = omega (arith, ints); high = omega (arith, ints) }
+
+remainder_in_range : (t : IntType) (x y : ℤ) → InRange t x → InRange t (int_rem x y)
+remainder_in_range t (pos a) y h = up_to_in_range t a (a % unsigned_abs y) h (mod-le a (unsigned_abs y))
+remainder_in_range t (negsuc a) y h =
+    let small = mod-le (suc a) (unsigned_abs y) in
+    down_to_in_range t a (neg_ℤ (pos (suc a % unsigned_abs y))) h (omega (arith, ints)) (omega (arith, ints))
+
+shifted_right_in_range : (t : IntType) (x : ℤ) (k : ℕ) → InRange t x → InRange t (int_shr x k)
+shifted_right_in_range t (pos a) k h = up_to_in_range t a (a / 2 ^ k) h (div-le_self a (2 ^ k))
+shifted_right_in_range t (negsuc a) k h =
+    let small = div-le_self a (2 ^ k) in
+    down_to_in_range t a (negsuc (a / 2 ^ k)) h (omega (arith, ints)) (omega (arith, ints))
+
+-- the value of a test that succeeds
+chosen : (b : Bool) (v z : ℤ) (fault : Undef) → (if b then Ok v else Err fault) ≡ Ok z → (b ≡ true) × (v ≡ z)
+chosen true v z fault e = (refl, cc)
+chosen false v z fault e = cc
+
+pub settled_in_range : (fault : Undef) (t : IntType) (v z : ℤ) → settled fault t v ≡ Ok z → InRange t z
+settled_in_range fault t v z e = cases (is_signed t) e
+  where
+    cases : (b : Bool) → (if b then (if is_in_range t v then Ok v else Err fault) else Ok (wrapped t v)) ≡ Ok z → InRange t z
+    cases true e = let found = chosen (is_in_range t v) v z fault e in subst (InRange t) found.1 (in_range_from_true t v found.0)
+    cases false e = let same : wrapped t v ≡ z = cc in subst (InRange t) same (wrapped_in_range t v)
+
+bits_in_range : (t : IntType) (n : ℕ) (z : ℤ) → n < 2 ^ bits_of t → ◌≡◌ {A = Result ℤ Undef} (Ok (represented t n)) (Ok z) → InRange t z
+bits_in_range t n z h e = let same : represented t n ≡ z = cc in subst (InRange t) same (represented_in_range t n h)
+
+pub arith_in_range : (op : BinOp) (t : IntType) (x y z : ℤ) → InRange t x → arith_of op t x y ≡ Ok z → InRange t z
+arith_in_range Add t x y z h e = settled_in_range Overflow t (x +ℤ y) z e
+arith_in_range Sub t x y z h e = settled_in_range Overflow t (x -ℤ y) z e
+arith_in_range Mul t x y z h e = settled_in_range Overflow t (x *ℤ y) z e
+arith_in_range Div t x y z h e =
+    let found = chosen (is_divisible t x y) (int_div x y) z Division e in
+    let parts = and_parts (not (int_eq y (pos 0))) (is_in_range t (int_div x y)) found.0 in
+    subst (InRange t) found.1 (in_range_from_true t (int_div x y) parts.1)
+arith_in_range Rem t x y z h e =
+    let found = chosen (is_divisible t x y) (int_rem x y) z Division e in
+    subst (InRange t) found.1 (remainder_in_range t x y h)
+arith_in_range And t x y z h e =
+    let left = representation_below t x in
+    bits_in_range t (bit_and (representation t x) (representation t y)) z (omega (arith, and_le_l (representation t x) (representation t y))) e
+arith_in_range Or t x y z h e =
+    bits_in_range t (bit_or (representation t x) (representation t y)) z (or_lt (bits_of t) _ _ (representation_below t x) (representation_below t y)) e
+arith_in_range Xor t x y z h e =
+    bits_in_range t (bit_xor (representation t x) (representation t y)) z (xor_lt (bits_of t) _ _ (representation_below t x) (representation_below t y)) e
+arith_in_range Shl t x y z h e = shift (is_amount t y && int_le (pos 0) x) e
+  where
+    shift : (b : Bool) → (if b then settled Shift t (x *ℤ pos (2 ^ unsigned_abs y)) else Err Shift) ≡ Ok z → InRange t z
+    shift true e = settled_in_range Shift t (x *ℤ pos (2 ^ unsigned_abs y)) z e
+    shift false e = cc
+arith_in_range Shr t x y z h e =
+    let found = chosen (is_amount t y) (int_shr x (unsigned_abs y)) z Shift e in
+    subst (InRange t) found.1 (shifted_right_in_range t x (unsigned_abs y) h)

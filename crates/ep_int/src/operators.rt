@@ -1,5 +1,5 @@
-ghost use Rattle.std.specs.Prelude.{◌≡◌, ◌^◌, ◌<◌, Ok, Err, if◌then◌else◌, int_lt, unsigned_abs};
-ghost use Rattle.ep_int.specs.Types.{bits_of, InRange};
+ghost use Rattle.std.specs.Prelude.{◌≡◌, if◌then◌else◌, unsigned_abs};
+ghost use Rattle.ep_int.specs.Types.{InRange};
 ghost use Rattle.ep_int.specs.Arith.{promoted, common_of, IsRightOperand, settled, is_divisible, is_amount, arith_of};
 
 use crate::numbers::{

@@ -14,4 +14,4 @@ returns-then-y-ne0 c =
     let exact = quot_is w128 x y c.ranges.x c.ranges.y (quotient_fits x y (in_range_some_type t x c.requires.left)) in
     in_range_test t _ c.in_range.result c.in_range.ensures
     ∙ ap (is_in_range t) exact
-    ∙ ap (λ b. not b && is_in_range t (int_div x y)) (sym (nonzero_test y c.if-y-ne0.true c.ranges.y))
+    ∙ ap (λ b. not b && is_in_range t (int_div x y)) (sym (nonzero_test y c.if-y-ne0.true))
