@@ -10,7 +10,7 @@ use Rattle.std.proofs.Math.Pow.{pow_mono}
 use Rattle.ep_int.specs.declared.types.IntType.{IntType}
 use Rattle.ep_int.specs.declared.types.IntType.TheVariants.{I8, U8, I16, U16, I32, U32, I64, U64}
 use Rattle.ep_int.specs.Types.{bits_of, is_signed, least_of, greatest_of, InRange, residue, representation, represented, wrapped}
-use Rattle.ep_int.specs.Arith.{is_in_range, IsOfSomeType, int_eq, settled, is_divisible, is_amount, arith_of}
+use Rattle.ep_int.specs.Arith.{is_in_range, IsOfSomeType, IsRightOperand, int_eq, settled, is_divisible, is_amount, arith_of}
 use Rattle.ep_int.specs.declared.types.BinOp.{BinOp}
 use Rattle.ep_int.specs.declared.types.BinOp.TheVariants.{Add, Sub, Mul, Div, Rem, And, Or, Xor, Shl, Shr}
 use Rattle.ep_int.specs.declared.types.Undef.{Undef}
@@ -26,6 +26,19 @@ in_range_some_type I32 v h = record { low = omega (arith, ints); high = omega (a
 in_range_some_type U32 v h = record { low = omega (arith, ints); high = omega (arith, ints) }
 in_range_some_type I64 v h = record { low = omega (arith, ints); high = omega (arith, ints) }
 in_range_some_type U64 v h = record { low = omega (arith, ints); high = omega (arith, ints) }
+
+-- a number of the operator's type can be its right number
+pub right_operand : (op : BinOp) (t : IntType) (y : ℤ) → InRange t y → IsRightOperand op t y
+right_operand Add t y h = h
+right_operand Sub t y h = h
+right_operand Mul t y h = h
+right_operand Div t y h = h
+right_operand Rem t y h = h
+right_operand And t y h = h
+right_operand Or t y h = h
+right_operand Xor t y h = h
+right_operand Shl t y h = in_range_some_type t y h
+right_operand Shr t y h = in_range_some_type t y h
 
 pub sum_fits : (x y : ℤ) → IsOfSomeType x → IsOfSomeType y → FitsSigned w128 (x +ℤ y)
 sum_fits x y p q = omega (arith, ints)
