@@ -65,7 +65,8 @@ pub fn in_range(t: IntType, v: i128) -> bool
     least(t) <= v && v <= greatest(t)
 }
 
-/// The number of a type that equals `v` modulo 2 to the power of the width: conversion to the type.
+/// The number of type `t` that equals `v` modulo 2 to the power of the width: conversion, by C11 6.3.1.3, to signed types
+/// too.
 pub fn wrap(t: IntType, v: i128) -> i128
     ensures value { result ≡ wrapped t v }
     ensures in_range { InRange t result }
@@ -94,14 +95,14 @@ pub(crate) fn from_representation(t: IntType, n: u128) -> i128
     }
 }
 
-// As many ones as the type has bits.
-fn mask(t: IntType) -> u128
+/// As many ones as the type has bits.
+pub(crate) fn mask(t: IntType) -> u128
     ensures { result ≡ 2 ^ bits_of t - 1 }
 {
     (1 << bits(t)) - 1
 }
 
-fn is_signed(t: IntType) -> bool
+pub(crate) fn is_signed(t: IntType) -> bool
     ensures { result ≡ is_signed t }
 {
     match t {
