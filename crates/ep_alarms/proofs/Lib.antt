@@ -4,3 +4,4 @@ pub mod Ranges
 pub mod Decimals
 pub mod Lines
 pub mod Gathered
+pub mod Others

@@ -1,5 +1,5 @@
 -- The text of a report determines its alarms.
-use Rattle.std.proofs.Common.{◌≡◌, ℕ, ◌+◌, zero, suc, ◌<◌, ◌^◌, Bool, true, false, eqb, if◌then◌else◌, ◌==◌, List, [], ◌∷◌, ◌++◌, ℤ, codes, decimal, get_or, length, flat_map, All, FitsSigned, refl, sym, ap, ◌∙◌, subst, arith, append_assoc, ne_eqb}
+use Rattle.std.proofs.Common.{◌≡◌, ℕ, zero, suc, Bool, if◌then◌else◌, ◌==◌, List, [], ◌∷◌, ◌++◌, ℤ, codes, decimal, get_or, length, flat_map, All, FitsSigned, refl, sym, ap, ◌∙◌, subst, arith, append_assoc, ne_eqb}
 use Rattle.std.specs.Fmt.{signed_decimal}
 use Rattle.std.specs.Int.{w128}
 use Rattle.std.proofs.lemmas.List.{append_cancel_left}

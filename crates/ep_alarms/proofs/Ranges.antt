@@ -1,5 +1,5 @@
 -- A report's numbers stay numbers of their types.
-use Rattle.std.proofs.Common.{◌≡◌, Bool, true, false, cond, List, [], ◌∷◌, All, ℤ, FitsSigned, int_lt, if◌then◌else◌}
+use Rattle.std.proofs.Common.{Bool, true, false, cond, List, [], ◌∷◌, All, ℤ, FitsSigned, int_lt, if◌then◌else◌}
 use Rattle.std.specs.Int.{int_min, int_max, w128}
 use Rattle.std.proofs.lemmas.List.Elements.{All-nil, All-cons, All-head, All-tail}
 use Rattle.ep_alarms.specs.declared.types.Alarm.{Alarm}

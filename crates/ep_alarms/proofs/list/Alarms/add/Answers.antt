@@ -4,6 +4,8 @@ use Rattle.ep_alarms.specs.declared.types.Alarm.{Alarm}
 use Rattle.ep_alarms.specs.Alarm.{before, FitsTypes}
 use Rattle.ep_alarms.specs.Report.{IsPlace, IsReport, added}
 use Rattle.ep_alarms.proofs.Places.{added_widened, added_inserted, IsReport-added, no_place_there}
+use Rattle.std.proofs.lemmas.Result.{on_ok_weaker}
+use Rattle.ep_alarms.proofs.Others.{others_stay_in}
 use Rattle.ep_alarms.proofs.Ranges.{FitsTypes-added}
 use Rattle.ep_alarms.proofs.list.Alarms.add.Goals as goal
 use Rattle.ep_alarms.proofs.list.Alarms.add.Goals.{else-place-len-via-then-place-len+else-not-is_before, else-place-len-via-else-place-len}
@@ -66,3 +68,9 @@ returns-clause-ok c = rw (← c.self.view_is) (on_success c.insert.result c.map_
 
 pub returns-clause-widens : goal.returns-clause-widens
 returns-clause-widens c = rw (← c.self.view_is) (λ h. absurd (true≢false (sym h ∙ no_place_there c.self.inside.alarms.items c.args.a c.place_of-place.result c.self.invariant.0 (found c) (not_there c))))
+
+pub returns-then-not-is_before-clause-others : goal.returns-then-not-is_before-clause-others
+returns-then-not-is_before-clause-others c = others_stay_in c.args.self.now _ c.args.a (returns-then-not-is_before-clause-ok c)
+
+pub returns-clause-others : goal.returns-clause-others
+returns-clause-others c = on_ok_weaker c.map_err.result (others_stay_in c.args.self.now _ c.args.a) (returns-clause-ok c)
