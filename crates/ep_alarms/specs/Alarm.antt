@@ -1,6 +1,6 @@
 -- Alarms one by one: the order of a report, and ranges. This project's rules.
-use Rattle.std.specs.Prelude.{ℕ, ℤ, Bool, ◌&&◌, ◌||◌, ◌==◌, nat_lt, List, codes}
-use Rattle.std.specs.Int.{int_min, int_max}
+use Rattle.std.specs.Prelude.{ℕ, ◌^◌, ◌<◌, ℤ, FitsSigned, Bool, ◌&&◌, ◌||◌, ◌==◌, nat_lt, List, codes}
+use Rattle.std.specs.Int.{int_min, int_max, w128}
 use Rattle.ep_alarms.specs.declared.types.Alarm.{Alarm}
 use Rattle.ep_alarms.specs.declared.types.AlarmKind.{AlarmKind}
 use Rattle.ep_alarms.specs.declared.types.AlarmKind.TheVariants.{U1, U2, U3, U4, U5, U6, U7, U8, U9, U10, E1, E2, E3, E4}
@@ -54,3 +54,11 @@ least_range r s = (int_min r.0 s.0, int_max r.1 s.1)
 -- an alarm with the least ranges that hold its own and those of another
 abbrev pub joined : Alarm → Alarm → Alarm
 joined a b = record a { left = least_range a.left b.left; right = least_range a.right b.right }
+
+-- the numbers of an alarm are numbers of its fields' types
+pub record FitsTypes (a : Alarm) : Type 0 where
+  pub line : a.line < 2 ^ 32
+  pub left_least : FitsSigned w128 a.left.0
+  pub left_greatest : FitsSigned w128 a.left.1
+  pub right_least : FitsSigned w128 a.right.0
+  pub right_greatest : FitsSigned w128 a.right.1

@@ -1,6 +1,7 @@
 // The list of a report, kept in order.
-ghost use Rattle.std.specs.Prelude.{◌≡◌, List, [], IsTrue, OnOk, OnErr, IsOk, length, ◌≤◌};
+ghost use Rattle.std.specs.Prelude.{◌≡◌, List, [], IsTrue, OnOk, OnErr, IsOk, length, ◌≤◌, ◌↔◌, All, Contains, IsFalse};
 ghost use Rattle.ep_alarms.specs.declared.types.Alarm.{Alarm};
+ghost use Rattle.ep_alarms.specs.Alarm.{FitsTypes, stand_together};
 ghost use Rattle.ep_alarms.specs.Report.{IsPlace, IsReport, added, has_place};
 
 use crate::types::Alarm;
@@ -9,7 +10,7 @@ use std::alloc::Global;
 use std::marker::Model;
 
 /// The alarms of a report, in order of line, then kind, at most one for each line and kind.
-#[derive(Drop)]
+#[derive(Debug, Drop)]
 pub struct Alarms {
     alarms: Vec<Alarm>,
 }
@@ -19,7 +20,7 @@ impl Model for Alarms {
 
     ghost view = { λ s. s.alarms.items };
 
-    ghost invariant = { λ s. IsReport s.alarms.items };
+    ghost invariant = { λ s. IsReport s.alarms.items × All FitsTypes s.alarms.items };
 }
 
 impl Alarms {
@@ -32,10 +33,12 @@ impl Alarms {
         }
     }
 
-    /// Puts an alarm in its place. One of its line and kind that is there is widened to hold its ranges.
+    /// Puts an alarm in its place. One of its line and kind that is there is widened to hold its ranges, which takes no memory.
     pub fn add(&mut self, a: Alarm) -> Result<(), Memory>
         ensures ok { OnOk result (self.new ≡ added self.old a) }
         ensures err { OnErr result (self.new ≡ self.old) }
+        // The alarms of every other line and kind stay.
+        ensures others { OnOk result ((b : Alarm) → IsFalse (stand_together b a) → Contains self.new b ↔ Contains self.old b) }
         ensures widens { IsTrue (has_place self.old a) → IsOk result }
     {
         let place = place_of(&self.alarms, &a);
@@ -50,6 +53,7 @@ impl Alarms {
     pub fn list(&self) -> &[Alarm]
         ensures all { result.now ≡ self.now }
         ensures ordered { IsReport self.now }
+        ensures typed { All FitsTypes self.now }
     {
         self.alarms.as_slice()
     }

@@ -1,5 +1,7 @@
 // The text of a report.
-ghost use Rattle.std.specs.Prelude.{◌≡◌, ◌++◌, IfOk, OnOk};
+ghost use Rattle.std.specs.Prelude.{◌≡◌, List, ◌++◌, IfOk, OnOk, All};
+ghost use Rattle.ep_alarms.specs.declared.types.Alarm.{Alarm};
+ghost use Rattle.ep_alarms.specs.Alarm.{FitsTypes};
 ghost use Rattle.ep_alarms.specs.Text.{last_line, line_text, range_text, report_text_of};
 
 use crate::list::Alarms;
@@ -8,9 +10,12 @@ use ep_int::Memory;
 use itoa::Buffer;
 use std::alloc::{AllocError, Global};
 
-/// The text that `check` writes.
+/// The text of a report: a line `LINE: KIND left [a,b] right [c,d]` for each alarm, then `portable` or `N alarms`.
 pub fn report_text(alloc: Global, a: &Alarms) -> Result<Vec<u8>, Memory>
     ensures text { IfOk result (λ v. v.items ≡ report_text_of a.now) }
+
+    // Different lists of alarms have different texts.
+    ensures determines { (other : List Alarm) → All FitsTypes other → report_text_of other ≡ report_text_of a.now → other ≡ a.now }
 {
     text_of(alloc, a.list()).map_err(|_| Memory)
 }
