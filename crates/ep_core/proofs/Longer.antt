@@ -80,6 +80,16 @@ and_then_grows out n (running s) go g h = g
 and_then_grows out n (no_input s) go g h = g
 and_then_grows out n (undefined_at l k s) go g h = g
 
+-- what comes after a statement only adds outputs
+pub then_begins : (x : Outcome) (go : ℕ → State → Outcome) → Growing go → Begins (outputs_in x) (outputs_in (and_then x go))
+then_begins (leaves on left s) go g = grown s.outputs left (go left s) (g left s)
+then_begins (leaves broken left s) go g = begins_refl _
+then_begins (leaves continued left s) go g = begins_refl _
+then_begins (leaves returned left s) go g = begins_refl _
+then_begins (running s) go g = begins_refl _
+then_begins (no_input s) go g = begins_refl _
+then_begins (undefined_at l k s) go g = begins_refl _
+
 number_grows : (t : IntType) (v : Value) (l n : ℕ) (s : State) → Grows s.outputs n (number_out t v l n s)
 number_grows t (int v) l n s = (begins_more _ _, omega arith)
 number_grows t null l n s = begins_refl _
@@ -90,7 +100,7 @@ byte_grows undefined l n s go h = begins_refl _
 byte_grows (number v) l n s go h = grows_trans s.outputs (put_out s U8 (pos v)).outputs n n (go (put_out s U8 (pos v))) (begins_more _ _) (omega arith) (h (put_out s U8 (pos v)))
 byte_grows (fragment b o k) l n s go h = begins_refl _
 
-bytes_grow : (n b here l : ℕ) → Growing (bytes_out n b here l)
+pub bytes_grow : (n b here l : ℕ) → Growing (bytes_out n b here l)
 bytes_grow zero b here l left s = (begins_refl _, omega arith)
 bytes_grow (suc n) b here l left s = step_grows left s _ (λ k. byte_grows (s.memory b here) l k s _ (bytes_grow n b (here + 1) l k))
 
@@ -162,16 +172,7 @@ and_then_longer d (leaves on left s) y go m h g = subst (λ z. Longer d (go left
 and_then_longer d (leaves broken left s) y go m h g = (m.0, m.1, ap (λ z. and_then z go) m.2)
 and_then_longer d (leaves continued left s) y go m h g = (m.0, m.1, ap (λ z. and_then z go) m.2)
 and_then_longer d (leaves returned left s) y go m h g = (m.0, m.1, ap (λ z. and_then z go) m.2)
-and_then_longer d (running s) y go m h g = begins_trans _ _ _ m (goes_on y)
-  where
-    goes_on : (y : Outcome) → Begins (outputs_in y) (outputs_in (and_then y go))
-    goes_on (leaves on left s) = grown s.outputs left (go left s) (g left s)
-    goes_on (leaves broken left s) = begins_refl _
-    goes_on (leaves continued left s) = begins_refl _
-    goes_on (leaves returned left s) = begins_refl _
-    goes_on (running s) = begins_refl _
-    goes_on (no_input s) = begins_refl _
-    goes_on (undefined_at l k s) = begins_refl _
+and_then_longer d (running s) y go m h g = begins_trans _ _ _ m (then_begins y go g)
 and_then_longer d (no_input s) y go m h g = ap (λ z. and_then z go) m
 and_then_longer d (undefined_at l k s) y go m h g = ap (λ z. and_then z go) m
 

@@ -26,7 +26,8 @@ main_begins : (o : Order) (bs : List Block) (r : Option (ℕ × Scalar)) (l : �
 main_begins o bs None l s = begins_refl _
 main_begins o bs (Some r) l s = result_begins (loaded o (size_at o bs r.0) s.memory r.1 r.0 0) l s
 
-finished_begins : (o : Order) (bs : List Block) (f : Function) (x : Outcome) → Begins (outputs_in x) (finished o bs f x).outputs
+-- the outputs so far begin those of the whole run
+pub finished_begins : (o : Order) (bs : List Block) (f : Function) (x : Outcome) → Begins (outputs_in x) (finished o bs f x).outputs
 finished_begins o bs f (leaves w left s) = main_begins o bs f.result f.line s
 finished_begins o bs f (running s) = begins_refl _
 finished_begins o bs f (no_input s) = begins_refl _

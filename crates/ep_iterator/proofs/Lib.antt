@@ -9,3 +9,5 @@ pub mod Storing
 pub mod Sound
 pub mod Start
 pub mod Final
+pub mod Apart
+pub mod Exact

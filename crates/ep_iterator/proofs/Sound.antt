@@ -225,7 +225,7 @@ module _ (a b : Order) (bs : List Block) (ones : Bool) where
     -- ---- statements
 
     module _ (seen : List ℕ) where
-      exec_agrees : (w : What) (l left : ℕ) (s : Known) (x y : State) → what_fits bs seen w ≡ true → Fits a b bs ones s x y → (pass a b bs w l s).faults ≡ []
+      pub exec_agrees : (w : What) (l left : ℕ) (s : Known) (x y : State) → what_fits bs seen w ≡ true → Fits a b bs ones s x y → (pass a b bs w l s).faults ≡ []
           → Agree' (pass a b bs w l s).on (exec a bs w l left x) (exec b bs w l left y)
       exec_agrees (assign (Int t) (block n) e) l left s x y h f q =
           let p = and_parts (place_has bs seen (block n) (Int t)) _ h in

@@ -33,6 +33,7 @@ pub fn analyse<L: Ledger>(
 ) -> Result<Report, Memory>
     ensures exact { IfOk result (λ r. r.alarms ≡ report_of (shown p.now) Little Big) }
     ensures sound { IfOk result (λ r. r.alarms ≡ [] → Agree (shown p.now) Little Big) }
+    ensures complete { IfOk result (λ r. Agree (shown p.now) Little Big → r.alarms ≡ []) }
     ensures interleaved { IfOk result (λ r. r.alarms ≡ [] → AgreeAlong (shown p.now) Little Big) }
     ensures steps { steps.new ≡ steps.old }
 {
