@@ -1,0 +1,3 @@
+//! The straight-line form of a source: declarations, inputs, assignments and outputs, one after another.
+
+mod token;
