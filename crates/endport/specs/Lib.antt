@@ -1,3 +1,6 @@
 pub mod Tokens
 pub mod Words
 pub mod Form
+pub mod Answers
+pub mod Pieces
+pub mod Reading

@@ -1,3 +1,5 @@
 //! The straight-line form of a source: declarations, inputs, assignments and outputs, one after another.
 
+mod look;
 mod token;
+mod words;

@@ -1,6 +1,7 @@
 //! What is answered in place of a result.
 
 ghost use Rattle.std.specs.Prelude.{◌≡◌};
+ghost use Rattle.endport.specs.Answers as answers;
 ghost use Rattle.endport.specs.declared.refusal.Halt.TheVariants as halts;
 
 use std::alloc::{AllocError, AllocFailed};
@@ -42,4 +43,15 @@ impl From<ep_int::Memory> for Halt {
     fn from(_error: ep_int::Memory) -> Halt {
         Halt::Memory
     }
+}
+
+/// The refusal of a source that is of another form than those that are read.
+pub fn not_built() -> Halt
+    ensures { result ≡ halts.Refused answers.not_built }
+{
+    Halt::Refused(Refusal {
+        kind: 50,
+        line: 1,
+        word: 0,
+    })
 }
