@@ -4,3 +4,4 @@ pub mod Form
 pub mod Answers
 pub mod Pieces
 pub mod Reading
+pub mod Phrases

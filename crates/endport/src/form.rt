@@ -1,5 +1,6 @@
 //! The straight-line form of a source: declarations, inputs, assignments and outputs, one after another.
 
 mod look;
+mod phrase;
 mod token;
 mod words;
