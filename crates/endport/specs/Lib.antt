@@ -5,3 +5,5 @@ pub mod Answers
 pub mod Pieces
 pub mod Reading
 pub mod Phrases
+pub mod Listed
+pub mod Objects

@@ -135,9 +135,13 @@ declarator_at ts = do
   n ← name_at ts
   option_map_or (λ us. Some (n.1, true, us)) (mark_at Comma n.2) (mark_at Semicolon n.2 >>= λ us. Some (n.1, false, us))
 
--- the variables with a new one, where it may have the name and there is room for it
-unfoldable pub declaring : List Variable → List ℕ → IntType → Option (List Variable)
-declaring vs x t = if is_free x && is_none (found vs x) && nat_le (bytes_of_all (declared vs x t)) 65532 then Some (declared vs x t) else None
+-- whether a variable may have the name, which is new, and there is room for it
+abbrev pub allows : List Variable → List ℕ → IntType → Bool
+allows vs x t = is_free x && is_none (found vs x) && nat_le (bytes_of_all (declared vs x t)) 65532
+
+-- the variables with a new one
+abbrev pub declaring : List Variable → List ℕ → IntType → Option (List Variable)
+declaring vs x t = if allows vs x t then Some (declared vs x t) else None
 
 -- ---- the body
 

@@ -3,4 +3,5 @@
 mod look;
 mod phrase;
 mod token;
+mod variables;
 mod words;
