@@ -1,6 +1,7 @@
 //! The straight-line form of a source: declarations, inputs, assignments and outputs, one after another.
 
 mod look;
+mod meaning;
 mod phrase;
 mod token;
 mod variables;
