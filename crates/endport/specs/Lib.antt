@@ -7,3 +7,4 @@ pub mod Reading
 pub mod Phrases
 pub mod Listed
 pub mod Objects
+pub mod Items
