@@ -2,3 +2,5 @@ pub mod Cutting
 pub mod Numbers
 pub mod Listing
 pub mod Steps
+pub mod Naming
+pub mod Bodies

@@ -135,7 +135,7 @@ meant vs p q a e h = subst (λ (z : Phrase). meaning vs z ≡ Some a) e h
 le_is : (m n : ℕ) → nat_le m n ≡ true → m ≤ n
 le_is m n h = grind (arith, nat_tests)
 
-both : (a b : Bool) → (a && b) ≡ true → (a ≡ true) × (b ≡ true)
+pub both : (a b : Bool) → (a && b) ≡ true → (a ≡ true) × (b ≡ true)
 both true b e = (refl, e)
 both false b e = absurd (true≢false (sym e))
 

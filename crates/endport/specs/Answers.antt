@@ -14,14 +14,22 @@ IfRefused (Ok x) P = Unit {0}
 IfRefused (Err Memory) P = Unit {0}
 IfRefused (Err (Refused r)) P = P r
 
+-- P holds of nothing, unless memory wants.
+abbrev pub Refuses : {Y : Type 0} → (Y → Type 0) → Halt → Type 0
+Refuses P Memory = Unit {0}
+Refuses {Y} P (Refused r) = ((y : Y) → P y → ⊥) × (r ≡ not_built)
+
 -- What is returned, seen by view, is the one value of which P holds. Where it is refused, P holds of none. Memory may want.
 abbrev pub ReadsAs : {X Y : Type 0} → (X → Y) → (Y → Type 0) → Result X Halt → Type 0
-ReadsAs view P (Ok x) = P (view x) × ((y : _) → P y → y ≡ view x)
-ReadsAs view P (Err Memory) = Unit {0}
-ReadsAs view P (Err (Refused r)) = ((y : _) → P y → ⊥) × (r ≡ not_built)
+ReadsAs {X} {Y} view P (Ok x) = P (view x) × ((y : Y) → P y → y ≡ view x)
+ReadsAs view P (Err e) = Refuses P e
+
+-- There is nothing to read, unless memory wants.
+abbrev pub Fails : {Y : Type 0} → Halt → Option Y → Type 0
+Fails Memory read = Unit {0}
+Fails (Refused r) read = (read ≡ None) × (r ≡ not_built)
 
 -- What is returned, seen by view, is what there is to read. Where it is refused, there is nothing. Memory may want.
 abbrev pub Gives : {X Y : Type 0} → (X → Y) → Result X Halt → Option Y → Type 0
 Gives view (Ok x) read = read ≡ Some (view x)
-Gives view (Err Memory) read = Unit {0}
-Gives view (Err (Refused r)) read = (read ≡ None) × (r ≡ not_built)
+Gives view (Err e) read = Fails e read

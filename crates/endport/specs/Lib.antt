@@ -8,3 +8,5 @@ pub mod Phrases
 pub mod Listed
 pub mod Objects
 pub mod Items
+pub mod Fitting
+pub mod Mains

@@ -1,5 +1,6 @@
 //! The straight-line form of a source: declarations, inputs, assignments and outputs, one after another.
 
+mod body;
 mod item;
 mod look;
 mod meaning;

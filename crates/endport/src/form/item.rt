@@ -14,19 +14,19 @@ use ep_int::IntType;
 
 /// What comes next in the body.
 #[derive(Clone, Copy, Debug)]
-pub enum Item<'t, 'a> {
+pub enum Item<'t> {
     /// The closing brace, with nothing behind it.
     Ends,
     /// A declaration of names of this type, from the first name on.
-    Declares(IntType, Tokens<'t, 'a>),
+    Declares(IntType, Tokens<'t>),
     /// A step at this line, and what comes after it.
-    Step(u32, Phrase<'a>, Tokens<'t, 'a>),
+    Step(u32, Phrase<'t>, Tokens<'t>),
 }
 
 /// A declared name, whether a comma (and no semicolon) stands behind it, and what comes after that.
-type Declarator<'t, 'a> = (&'a [u8], bool, Tokens<'t, 'a>);
+type Declarator<'t> = (&'t [u8], bool, Tokens<'t>);
 
-fn begins_with_name(tokens: Tokens<'_, '_>) -> bool
+fn begins_with_name(tokens: Tokens<'_>) -> bool
     ensures { result ≡ is_some (reading.name_at (map view tokens.now)) }
 {
     name(tokens).is_some()
@@ -34,11 +34,11 @@ fn begins_with_name(tokens: Tokens<'_, '_>) -> bool
 
 /// A declaration or a step, from behind its first token, a name at this line.
 #[tactic(auto, unfolding(crate::specs::Reading::named_item))]
-fn named_item<'t, 'a>(
+fn named_item<'t>(
     line: u32,
-    first: &'a [u8],
-    tokens: Tokens<'t, 'a>,
-) -> Option<Item<'t, 'a>>
+    first: &'t [u8],
+    tokens: Tokens<'t>,
+) -> Option<Item<'t>>
     ensures value { option_map view_item result ≡ reading.named_item line first.now (map view tokens.now) }
     ensures shorter { IfSome result (λ i. length (rest_of i) ≤ length tokens.now) }
 {
@@ -51,7 +51,7 @@ fn named_item<'t, 'a>(
 
 /// What comes next in the body.
 #[tactic(auto, unfolding(crate::specs::Reading::item_at))]
-pub fn next_item<'t, 'a>(tokens: Tokens<'t, 'a>) -> Option<Item<'t, 'a>>
+pub fn next_item<'t>(tokens: Tokens<'t>) -> Option<Item<'t>>
     ensures value { option_map view_item result ≡ reading.item_at (map view tokens.now) }
     ensures shorter { IfSome result (λ i. length (rest_of i) < length tokens.now) }
 {
@@ -67,7 +67,7 @@ pub fn next_item<'t, 'a>(tokens: Tokens<'t, 'a>) -> Option<Item<'t, 'a>>
 
 /// The next name of a declaration.
 #[tactic(auto, unfolding(crate::specs::Reading::declarator_at))]
-pub fn next_declarator<'t, 'a>(tokens: Tokens<'t, 'a>) -> Option<Declarator<'t, 'a>>
+pub fn next_declarator<'t>(tokens: Tokens<'t>) -> Option<Declarator<'t>>
     ensures value { option_map declarator_read result ≡ reading.declarator_at (map view tokens.now) }
     ensures shorter { IfSome result (λ d. length d.2.now < length tokens.now) }
 {
@@ -81,7 +81,7 @@ pub fn next_declarator<'t, 'a>(tokens: Tokens<'t, 'a>) -> Option<Declarator<'t, 
 
 /// Behind `int main(void) {`, and the line of the word main.
 #[tactic(auto, unfolding(crate::specs::Reading::head_at))]
-pub fn head<'t, 'a>(tokens: Tokens<'t, 'a>) -> Option<(u32, Tokens<'t, 'a>)>
+pub fn head<'t>(tokens: Tokens<'t>) -> Option<(u32, Tokens<'t>)>
     ensures { option_map head_read result ≡ reading.head_at (map view tokens.now) }
 {
     let (_, int, rest) = name(tokens)?;

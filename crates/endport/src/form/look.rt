@@ -8,7 +8,7 @@ ghost use Rattle.endport.specs.Reading as reading;
 use crate::form::token::{Mark, Token, TokenKind};
 
 /// Tokens that are left to read.
-pub type Tokens<'t, 'a> = &'t [Token<'a>];
+pub type Tokens<'t> = &'t [Token<'t>];
 
 fn is_same_mark(a: Mark, b: Mark) -> bool
     ensures { result ≡ reading.is_same_mark a b }
@@ -17,7 +17,7 @@ fn is_same_mark(a: Mark, b: Mark) -> bool
 }
 
 /// A name: its line, its text, and what comes after it.
-pub fn name<'t, 'a>(tokens: Tokens<'t, 'a>) -> Option<(u32, &'a [u8], Tokens<'t, 'a>)>
+pub fn name<'t>(tokens: Tokens<'t>) -> Option<(u32, &'t [u8], Tokens<'t>)>
     ensures value { option_map (λ p. (p.0, p.1.now, map view p.2.now)) result ≡ reading.name_at (map view tokens.now) }
     ensures shorter { IfSome result (λ p. length p.2.now < length tokens.now) }
 {
@@ -31,7 +31,7 @@ pub fn name<'t, 'a>(tokens: Tokens<'t, 'a>) -> Option<(u32, &'a [u8], Tokens<'t,
 }
 
 /// A number, and what comes after it.
-pub fn number<'t, 'a>(tokens: Tokens<'t, 'a>) -> Option<(u32, Tokens<'t, 'a>)>
+pub fn number<'t>(tokens: Tokens<'t>) -> Option<(u32, Tokens<'t>)>
     ensures value { option_map (λ p. (p.0, map view p.1.now)) result ≡ reading.number_at (map view tokens.now) }
     ensures shorter { IfSome result (λ p. length p.1.now < length tokens.now) }
 {
@@ -45,7 +45,7 @@ pub fn number<'t, 'a>(tokens: Tokens<'t, 'a>) -> Option<(u32, Tokens<'t, 'a>)>
 }
 
 /// What comes after this mark.
-pub fn mark<'t, 'a>(tokens: Tokens<'t, 'a>, wanted: Mark) -> Option<Tokens<'t, 'a>>
+pub fn mark<'t>(tokens: Tokens<'t>, wanted: Mark) -> Option<Tokens<'t>>
     ensures value { option_map (λ p. map view p.now) result ≡ reading.mark_at wanted (map view tokens.now) }
     ensures shorter { IfSome result (λ p. length p.now < length tokens.now) }
 {

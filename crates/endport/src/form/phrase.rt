@@ -13,24 +13,24 @@ use ep_int::IntType;
 
 /// A step, before its names are looked up. Names lie in the source.
 #[derive(Clone, Copy, Debug)]
-pub enum Phrase<'a> {
+pub enum Phrase<'t> {
     /// `x = ep_in_T();`
-    Takes(&'a [u8], IntType),
+    Takes(&'t [u8], IntType),
     /// `x = y;`
-    Copies(&'a [u8], &'a [u8]),
+    Copies(&'t [u8], &'t [u8]),
     /// `x = 5;`
-    Sets(&'a [u8], u32),
+    Sets(&'t [u8], u32),
     /// `ep_out_T(x);`
-    Puts(IntType, &'a [u8]),
+    Puts(IntType, &'t [u8]),
     /// `ep_write(&x, 4);`
-    Writes(&'a [u8], u32),
+    Writes(&'t [u8], u32),
 }
 
 /// A step, and what comes after it.
-type Read<'t, 'a> = Option<(Phrase<'a>, Tokens<'t, 'a>)>;
+type Read<'t> = Option<(Phrase<'t>, Tokens<'t>)>;
 
 #[tactic(auto, unfolding(crate::specs::Reading::ended))]
-fn ended<'t, 'a>(phrase: Phrase<'a>, tokens: Tokens<'t, 'a>) -> Read<'t, 'a>
+fn ended<'t>(phrase: Phrase<'t>, tokens: Tokens<'t>) -> Read<'t>
     ensures value { option_map phrase_read result ≡ reading.ended (view_phrase phrase.entry) (map view tokens.now) }
     ensures shorter { IfSome result (λ p. length p.1.now < length tokens.now) }
 {
@@ -40,7 +40,7 @@ fn ended<'t, 'a>(phrase: Phrase<'a>, tokens: Tokens<'t, 'a>) -> Read<'t, 'a>
 
 /// Behind `x = word (`.
 #[tactic(auto, unfolding(crate::specs::Reading::taken))]
-fn taken<'t, 'a>(target: &'a [u8], word: &'a [u8], tokens: Tokens<'t, 'a>) -> Read<'t, 'a>
+fn taken<'t>(target: &'t [u8], word: &'t [u8], tokens: Tokens<'t>) -> Read<'t>
     ensures value { option_map phrase_read result ≡ reading.taken target.now word.now (map view tokens.now) }
     ensures shorter { IfSome result (λ p. length p.1.now < length tokens.now) }
 {
@@ -51,7 +51,7 @@ fn taken<'t, 'a>(target: &'a [u8], word: &'a [u8], tokens: Tokens<'t, 'a>) -> Re
 
 /// Behind `x = source`.
 #[tactic(auto, unfolding(crate::specs::Reading::named))]
-fn named<'t, 'a>(target: &'a [u8], source: &'a [u8], tokens: Tokens<'t, 'a>) -> Read<'t, 'a>
+fn named<'t>(target: &'t [u8], source: &'t [u8], tokens: Tokens<'t>) -> Read<'t>
     ensures value { option_map phrase_read result ≡ reading.named target.now source.now (map view tokens.now) }
     ensures shorter { IfSome result (λ p. length p.1.now < length tokens.now) }
 {
@@ -63,7 +63,7 @@ fn named<'t, 'a>(target: &'a [u8], source: &'a [u8], tokens: Tokens<'t, 'a>) -> 
 
 /// Behind `x =`.
 #[tactic(auto, unfolding(crate::specs::Reading::assigned))]
-fn assigned<'t, 'a>(target: &'a [u8], tokens: Tokens<'t, 'a>) -> Read<'t, 'a>
+fn assigned<'t>(target: &'t [u8], tokens: Tokens<'t>) -> Read<'t>
     ensures value { option_map phrase_read result ≡ reading.assigned target.now (map view tokens.now) }
     ensures shorter { IfSome result (λ p. length p.1.now < length tokens.now) }
 {
@@ -76,7 +76,7 @@ fn assigned<'t, 'a>(target: &'a [u8], tokens: Tokens<'t, 'a>) -> Read<'t, 'a>
 
 /// Behind `word ( &`.
 #[tactic(auto, unfolding(crate::specs::Reading::written))]
-fn written<'t, 'a>(word: &'a [u8], tokens: Tokens<'t, 'a>) -> Read<'t, 'a>
+fn written<'t>(word: &'t [u8], tokens: Tokens<'t>) -> Read<'t>
     ensures value { option_map phrase_read result ≡ reading.written word.now (map view tokens.now) }
     ensures shorter { IfSome result (λ p. length p.1.now < length tokens.now) }
 {
@@ -93,7 +93,7 @@ fn written<'t, 'a>(word: &'a [u8], tokens: Tokens<'t, 'a>) -> Read<'t, 'a>
 
 /// Behind `word (`, where no `&` follows.
 #[tactic(auto, unfolding(crate::specs::Reading::put))]
-fn put<'t, 'a>(word: &'a [u8], tokens: Tokens<'t, 'a>) -> Read<'t, 'a>
+fn put<'t>(word: &'t [u8], tokens: Tokens<'t>) -> Read<'t>
     ensures value { option_map phrase_read result ≡ reading.put word.now (map view tokens.now) }
     ensures shorter { IfSome result (λ p. length p.1.now < length tokens.now) }
 {
@@ -105,7 +105,7 @@ fn put<'t, 'a>(word: &'a [u8], tokens: Tokens<'t, 'a>) -> Read<'t, 'a>
 
 /// Behind `word (`.
 #[tactic(auto, unfolding(crate::specs::Reading::called))]
-fn called<'t, 'a>(word: &'a [u8], tokens: Tokens<'t, 'a>) -> Read<'t, 'a>
+fn called<'t>(word: &'t [u8], tokens: Tokens<'t>) -> Read<'t>
     ensures value { option_map phrase_read result ≡ reading.called word.now (map view tokens.now) }
     ensures shorter { IfSome result (λ p. length p.1.now < length tokens.now) }
 {
@@ -117,7 +117,7 @@ fn called<'t, 'a>(word: &'a [u8], tokens: Tokens<'t, 'a>) -> Read<'t, 'a>
 
 /// A step that begins with this name, from what comes after the name.
 #[tactic(auto, unfolding(crate::specs::Reading::phrase_at))]
-pub fn read_phrase<'t, 'a>(first: &'a [u8], tokens: Tokens<'t, 'a>) -> Read<'t, 'a>
+pub fn read_phrase<'t>(first: &'t [u8], tokens: Tokens<'t>) -> Read<'t>
     ensures value { option_map phrase_read result ≡ reading.phrase_at first.now (map view tokens.now) }
     ensures shorter { IfSome result (λ p. length p.1.now < length tokens.now) }
 {
