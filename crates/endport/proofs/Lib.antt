@@ -4,3 +4,4 @@ pub mod Listing
 pub mod Steps
 pub mod Naming
 pub mod Bodies
+pub mod Forming

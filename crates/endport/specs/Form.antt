@@ -88,8 +88,15 @@ pub data Body : List Variable → List Tok → List Variable → Stmts → Type 
 
 -- ---- the program
 
+-- the object of a number of the type, in main
+abbrev pub block_of_type : IntType → Block
+block_of_type t = record { size = bytes_of t; ty = Int t; global = false }
+
+abbrev pub result_block : Block
+result_block = block_of_type I32
+
 abbrev pub block_of : Variable → Block
-block_of v = record { size = bytes_of v.ty; ty = Int v.ty; global = false }
+block_of v = block_of_type v.ty
 
 -- their blocks' numbers, where the first has this one
 abbrev pub blocks_from : ℕ → List Variable → List ℕ
@@ -99,7 +106,7 @@ blocks_from b (v ∷ vs) = b ∷ blocks_from (b + 1) vs
 -- main alone, at this line, with an int as its result, these variables and this body
 abbrev pub program_of : ℕ → List Variable → Stmts → Program
 program_of l vs ss = record {
-  blocks = record { size = 4; ty = Int I32; global = false } ∷ map block_of vs;
+  blocks = result_block ∷ map block_of vs;
   init = [];
   functions = record { name = codes "main"; line = l; params = []; result = Some (0, Int I32); locals = blocks_from 1 vs; body = ss } ∷ [];
   main = 0;

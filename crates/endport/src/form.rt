@@ -5,6 +5,7 @@ mod item;
 mod look;
 mod meaning;
 mod phrase;
+mod program;
 mod token;
 mod variables;
 mod words;
