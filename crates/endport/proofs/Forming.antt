@@ -1,8 +1,10 @@
 -- The program of a source of the straight-line form is well formed.
-use Rattle.std.proofs.Common.{◌≡◌, ℕ, zero, suc, ◌+◌, ◌≤◌, ◌<◌, pos, negsuc, Bool, true, false, true≢false, cond, ◌&&◌, ◌||◌, not, nat_eq, nat_le, List, [], ◌∷◌, ◌++◌, map, length, sum_by, slice_get, Option, Some, None, is_some, IsTrue, refl, sym, ap, ◌∙◌, subst, arith, inl, inr, ◌⊎◌, add-one}
+use Rattle.std.proofs.Common.{◌≡◌, ℕ, zero, suc, ◌+◌, ◌≤◌, ◌<◌, pos, negsuc, Bool, true, false, true≢false, cond, ◌&&◌, ◌||◌, not, nat_eq, nat_le, List, [], ◌∷◌, ◌++◌, map, length, sum_by, fold, slice_get, Option, Some, None, is_some, IsTrue, refl, sym, ap, ◌∙◌, subst, arith, inl, inr, ◌⊎◌, add-one}
 use Rattle.std.proofs.lemmas.List.{append-nil}
 use Rattle.std.proofs.lemmas.Bool.Decides.{nat_tests}
+use Rattle.std.proofs.lemmas.List.Sums.{sum_by-cons}
 use Rattle.std.specs.List.{list_all, list_any}
+use Rattle.std.specs.Str.{bytes_eq}
 use Rattle.ep_int.specs.declared.types.IntType.{IntType}
 use Rattle.ep_int.specs.declared.types.IntType.TheVariants.{I8, U8, I16, U16, I32, U32, I64, U64}
 use Rattle.ep_int.specs.declared.types.Scalar.TheVariants.{Int}
@@ -155,9 +157,98 @@ sizes_fit : (vs : List Variable) → list_all (λ (b : Block). nat_eq b.size (si
 sizes_fit [] = refl
 sizes_fit (v ∷ vs) = let e = same_number (bytes_of v.ty) in rw e (sizes_fit vs)
 
-sum_of_sizes : (vs : List Variable) → sum_by (λ (b : Block). b.size) (map block_of vs) ≡ bytes_of_all vs
-sum_of_sizes [] = refl
-sum_of_sizes (v ∷ vs) = let h = sum_of_sizes vs in ?
+sum_from : (a : ℕ) (vs : List Variable) → fold (λ (n : ℕ) (b : Block). n + b.size) a (map block_of vs) ≡ fold (λ (n : ℕ) (v : Variable). n + bytes_of v.ty) a vs
+sum_from a [] = refl
+sum_from a (v ∷ vs) = sum_from (a + bytes_of v.ty) vs
+
+sum_of_sizes : (vs : List Variable) → sum_by (λ (b : Block). b.size) (all_blocks vs) ≡ 4 + bytes_of_all vs
+sum_of_sizes vs = sum_by-cons (λ (b : Block). b.size) result_block (map block_of vs) ∙ ap (λ (n : ℕ). 4 + n) (sum_from 0 vs)
 
 all_fit : (vs : List Variable) → bytes_of_all vs ≤ 65532 → blocks_fit (all_blocks vs) ≡ true
-all_fit vs h = ?
+all_fit vs h =
+    let s = sum_of_sizes vs in
+    and_true (list_all (λ (b : Block). nat_eq b.size (size_of b.ty)) (all_blocks vs)) (nat_le (sum_by (λ (b : Block). b.size) (all_blocks vs)) 65536)
+    (sizes_fit vs) (at_most (sum_by (λ (b : Block). b.size) (all_blocks vs)) 65536 (omega (arith, s)))
+
+-- ---- steps
+
+-- what is known of the object of a variable, among these blocks
+pub record Placed (vs : List Variable) (o : Object) : Type 0 where
+  pub at : slice_get (all_blocks vs) o.block ≡ Some (block_of_type o.ty)
+  pub own : contains o.block (blocks_from 1 vs) ≡ true
+
+placed_from : (bs : List Block) (b : ℕ) (vs : List Variable) (x : List ℕ) (o : Object) → Stand bs b vs → found_from b vs x ≡ Some o → (slice_get bs o.block ≡ Some (block_of_type o.ty)) × (contains o.block (blocks_from b vs) ≡ true)
+placed_from bs b [] x o s e = absurd cc
+placed_from bs b (v ∷ vs) x o s e = by (bytes_eq x v.name) e (λ f. placed_from bs (b + 1) vs x o s.1 f)
+  where
+    P : Object → Type 0
+    P q = (slice_get bs q.block ≡ Some (block_of_type q.ty)) × ((nat_eq q.block b || contains q.block (blocks_from (b + 1) vs)) ≡ true)
+    by : (t : Bool) → cond t (Some (record { block = b; ty = v.ty })) (found_from (b + 1) vs x) ≡ Some o
+      → (found_from (b + 1) vs x ≡ Some o → (slice_get bs o.block ≡ Some (block_of_type o.ty)) × (contains o.block (blocks_from (b + 1) vs) ≡ true)) → P o
+    by true f rest =
+        let q : ◌≡◌ {A = Object} (record { block = b; ty = v.ty }) o = cc in
+        let e = same_number b in
+        subst P q (s.0, rw e refl)
+    by false f rest = let r = rest f in (r.0, or_true (nat_eq o.block b) (contains o.block (blocks_from (b + 1) vs)) r.1)
+
+placed : (vs : List Variable) (x : List ℕ) (o : Object) → found vs x ≡ Some o → Placed vs o
+placed vs x o e = let r = placed_from (all_blocks vs) 1 vs x o (stand_behind vs) e in record { at = r.0; own = r.1 }
+
+-- a variable that is found stays, whatever is declared after it
+stays_from : (b : ℕ) (vs others : List Variable) (x : List ℕ) (o : Object) → found_from b vs x ≡ Some o → found_from b (vs ++ others) x ≡ Some o
+stays_from b [] others x o e = absurd cc
+stays_from b (v ∷ vs) others x o e = by (bytes_eq x v.name) e (λ f. stays_from (b + 1) vs others x o f)
+  where
+    by : (t : Bool) → cond t (Some (record { block = b; ty = v.ty })) (found_from (b + 1) vs x) ≡ Some o → (found_from (b + 1) vs x ≡ Some o → found_from (b + 1) (vs ++ others) x ≡ Some o)
+      → cond t (Some (record { block = b; ty = v.ty })) (found_from (b + 1) (vs ++ others) x) ≡ Some o
+    by true f rest = f
+    by false f rest = rest f
+
+placed_later : (vs us others : List Variable) (x : List ℕ) (o : Object) → us ≡ vs ++ others → found vs x ≡ Some o → Placed us o
+placed_later vs us others x o g e = placed us x o (rw g (stays_from 1 vs others x o e))
+
+module _ (us : List Variable) where
+  has_place : (o : Object) → Placed us o → place_has (all_blocks us) (blocks_from 1 us) (block o.block) (Int o.ty) ≡ true
+  has_place o p = let a = p.at in let c = p.own in let e = same_number (number_of_type o.ty) in rw (a, c, e) refl
+
+  value_fits : (t : IntType) (o : Object) → Placed us o → has_type (type_of (all_blocks us) (blocks_from 1 us) (value_as t o)) (ty.number t) ≡ true
+  value_fits t o p = by (is_same_type t o.ty) refl
+    where
+      load_fits : is_same_type t o.ty ≡ true → has_type (type_of (all_blocks us) (blocks_from 1 us) (load (Int o.ty) (block o.block))) (ty.number t) ≡ true
+      load_fits s = let h = has_place o p in rw h (number_swaps (number_of_type t) (number_of_type o.ty) s)
+      converted_fits : has_type (type_of (all_blocks us) (blocks_from 1 us) (convert t (load (Int o.ty) (block o.block)))) (ty.number t) ≡ true
+      converted_fits = let h = has_place o p in let e = same_number (number_of_type t) in rw h e
+      by : (b : Bool) → is_same_type t o.ty ≡ b → has_type (type_of (all_blocks us) (blocks_from 1 us) (cond b (load (Int o.ty) (block o.block)) (convert t (load (Int o.ty) (block o.block))))) (ty.number t) ≡ true
+      by true s = load_fits s
+      by false s = converted_fits
+
+  const_fits : (t : IntType) (k : ℕ) → nat_le k 2147483647 ≡ true → has_type (type_of (all_blocks us) (blocks_from 1 us) (convert t (const I32 (pos k)))) (ty.number t) ≡ true
+  const_fits t k h = let e = same_number (number_of_type t) in rw (h, e) refl
+
+  step_fits : {vs : List Variable} {ts rs : List Tok} {l : ℕ} {a : What} (others : List Variable) → us ≡ vs ++ others → are_small ts ≡ true → Step vs ts rs l a → what_fits (all_blocks us) (blocks_from 1 us) a ≡ true
+  step_fits {vs = vs} others g small (form.inputs {x = x} {o = o} f i) = has_place o (placed_later vs us others x o g f)
+  step_fits {vs = vs} others g small (form.copies {x = x} {y = y} {o = o} {s = s} f h) =
+      let p = has_place o (placed_later vs us others x o g f) in rw p (value_fits o.ty s (placed_later vs us others y s g h))
+  step_fits {vs = vs} others g small (form.sets {k = k} {x = x} {o = o} {ts = ts} f) =
+      let p = has_place o (placed_later vs us others x o g f) in rw p (const_fits o.ty k (both (nat_le k 2147483647) (are_small ts) small).0)
+  step_fits {vs = vs} others g small (form.outputs {x = x} {t = t} {o = o} i f) = value_fits t o (placed_later vs us others x o g f)
+  step_fits {vs = vs} others g small (form.writes {k = k} {x = x} {o = o} e f low high) =
+      let p = placed_later vs us others x o g f in
+      let a = p.at in let c = p.own in let b = at_most 1 k low in let d = at_most k (bytes_of o.ty) high in
+      rw (a, c, b, d) refl
+
+body_fits : {vs us : List Variable} {ts : List Tok} {ss : Stmts} → Body vs ts us ss → are_small ts ≡ true → stmts_fit (all_blocks us) (blocks_from 1 us) ss ≡ true
+body_fits form.ends small = refl
+body_fits (form.declares e n d) small = body_fits d (names_small n small)
+body_fits (form.steps {a = a} {us = us} {ss = ss} s d) small =
+    let g = body_grown d in
+    and_true (what_fits (all_blocks us) (blocks_from 1 us) a) (stmts_fit (all_blocks us) (blocks_from 1 us) ss) (step_fits us g.0 g.1 small s) (body_fits d (step_small s small))
+
+program_fits : (l : ℕ) (vs : List Variable) (ss : Stmts) → bytes_of_all vs ≤ 65532 → stmts_fit (all_blocks vs) (blocks_from 1 vs) ss ≡ true → is_well_formed (program_of l vs ss) ≡ true
+program_fits l vs ss h s = let a = all_fit vs h in let b = listed_once vs in rw (a, b, s) refl
+
+form_fits : {ts : List Tok} {p : Program} → are_small ts ≡ true → Form ts p → is_well_formed p ≡ true
+form_fits small (form.form {m = m} {vs = vs} {ts = ts} {ss = ss} e f g d b) = program_fits m vs ss b (body_fits d small)
+
+pub is_formed : (bs : List ℕ) (p : Program) → First bs p → IsTrue (is_well_formed p)
+is_formed bs p f = form_fits (cut_small f.cut) f.form
