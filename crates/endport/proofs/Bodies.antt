@@ -13,11 +13,12 @@ use Rattle.endport.specs.declared.refusal.Halt.TheVariants.{Refused, Memory}
 use Rattle.endport.specs.Answers.{Fails, Refuses}
 use Rattle.endport.specs.Tokens.{Tok, name, number, mark}
 use Rattle.endport.specs.Words.{declared_type}
-use Rattle.endport.specs.Form.{Variable, bytes_of_all, Names, last, next, Step, Body, ends, declares, steps, Form, form, program_of}
+use Rattle.endport.specs.Form.{Variable, bytes_of_all, Names, last, next, Step, Body, ends, declares, steps, Form, form, program_of, First}
 use Rattle.endport.specs.Fitting.{FitNames}
 use Rattle.endport.specs.Reading as reading
 use Rattle.endport.specs.Reading.{name_at, mark_at, ◌>>=◌, Phrase, Item, if_last, phrase_at, named_item, item_at, head_at, meaning}
 use Rattle.endport.proofs.Steps.{some_is, none_some, bound, either, if_some, both, text_is, name_is, name_then, mark_then, IsRead, reads, phrase_makes}
+use Rattle.endport.proofs.Cutting.{tokens_unique}
 use Rattle.endport.proofs.Naming.{grown, fewer_bytes, names_unique}
 
 -- what an item is, and what follows it
@@ -44,12 +45,10 @@ no_name w (name l x ∷ ts) r e = absurd cc
 no_name w (number l k ∷ ts) r e = refl
 no_name w (mark l m ∷ ts) r e = refl
 
-begun_step : {vs us : List Variable} {ts rs : List Tok} {l : ℕ} {a : What} {ss : Stmts} → IsRead vs ts rs l a → Body vs rs us ss → Begun vs ts us (more l a ss)
+-- a step that is read is an item
+item_of_step : {vs : List Variable} {ts rs : List Tok} {l : ℕ} {a : What} (s : IsRead vs ts rs l a) → item_at ts ≡ Some (reading.step l s.phrase rs)
 unfolding item_at named_item
-begun_step {vs} {us} {ts} {rs} {l} {a} {ss} s d =
-    let B : List Tok → Type 0 = λ qs. Begun vs qs us (more l a ss) in
-    let n = no_name s.first s.others (s.phrase, rs) s.read in
-    subst B (sym s.whole) (record { item = reading.step l s.phrase rs; read = rw (n, s.read) refl; after = (a, ss, s.means, refl, d) })
+item_of_step {vs} {ts} {rs} {l} {a} s = let n = no_name s.first s.others (s.phrase, rs) s.read in let r = s.read in rw (s.whole, n, r) refl
 
 -- a body begins with an item that is read
 pub begun : {vs us : List Variable} {ts : List Tok} {ss : Stmts} → Body vs ts us ss → Begun vs ts us ss
@@ -58,7 +57,7 @@ begun (ends {l} {vs}) = record { item = reading.ends; read = refl; after = (refl
 begun (declares {l} {w} {t} {vs} {ws} {us} {ts} {rs} {ss} e n d) =
     let f = name_first n in
     record { item = reading.declares t ts; read = rw (f, e) refl; after = (ws, rs, n, d) }
-begun (steps s d) = begun_step (reads s) d
+begun (steps {l = l} {a = a} {rs = rs} {ss = ss} s d) = let r = reads s in record { item = reading.step l r.phrase rs; read = item_of_step r; after = (a, ss, r.means, refl, d) }
 
 -- and an item that is read begins a body
 joined_named : (vs : List Variable) (l : ℕ) (w : List ℕ) (ts : List Tok) (i : Item) (us : List Variable) (ss : Stmts) → named_item l w ts ≡ Some i → After vs i us ss → Body vs (name l w ∷ ts) us ss
@@ -235,3 +234,28 @@ finished line all vs front ts e b u = (
     let r = u.back p d in
     let a = same_item reading.ends e r.2 in
     r.4 ∙ (λ i. program_of line (a.0 i) (before front (a.1 i))) ∙ ap (λ (z : Stmts). program_of line vs z) (before_stop front))
+
+-- ---- a source has one program
+
+pub body_unique : {vs us : List Variable} {ts : List Tok} {ss : Stmts} → Body vs ts us ss → (ws : List Variable) (rs : Stmts) → Body vs ts ws rs → (ws ≡ us) × (rs ≡ ss)
+unfolding item_at named_item
+body_unique (ends {l} {vs}) ws rs e = same_item reading.ends refl e
+body_unique (declares {t = t} {ts = ts} k n d) ws rs e =
+    let f = name_first n in
+    body_unique d ws rs (moved n (same_item (reading.declares t ts) (rw (f, k) refl) e))
+body_unique (steps {l = l} {a = a} {rs = qs} s d) ws rs e =
+    let r = reads s in
+    let k = stepped l r.phrase qs a r.means (same_item (reading.step l r.phrase qs) (item_of_step r) e) in
+    let q = body_unique d ws k.0 k.2 in
+    (q.0, k.1 ∙ ap (λ (z : Stmts). more l a z) q.1)
+
+form_unique : {ts : List Tok} {p q : Program} → Form ts p → Form ts q → q ≡ p
+form_unique {ts} {p} {q} d e =
+    let h = headed d in let k = headed e in
+    let same : ◌≡◌ {A = ℕ × List Tok} (k.line, k.rest) (h.line, h.rest) = some_is k.read h.read in
+    let B : ℕ × List Tok → Type 0 = λ z. Body [] z.1 k.variables k.actions in
+    let u = body_unique h.body k.variables k.actions (subst B same k.body) in
+    k.is ∙ (λ i. program_of (same i).0 (u.0 i) (u.1 i)) ∙ sym h.is
+
+pub one_program : (bs : List ℕ) (p q : Program) → First bs p → First bs q → q ≡ p
+one_program bs p q f g = form_unique f.form (subst (λ (ts : List Tok). Form ts q) (tokens_unique f.cut g.tokens g.cut) g.form)
