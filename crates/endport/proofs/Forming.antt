@@ -1,0 +1,254 @@
+-- The program of a source of the straight-line form is well formed.
+use Rattle.std.proofs.Common.{◌≡◌, ℕ, zero, suc, ◌+◌, ◌≤◌, ◌<◌, pos, negsuc, Bool, true, false, true≢false, cond, ◌&&◌, ◌||◌, not, nat_eq, nat_le, List, [], ◌∷◌, ◌++◌, map, length, sum_by, fold, slice_get, Option, Some, None, is_some, IsTrue, refl, sym, ap, ◌∙◌, subst, arith, inl, inr, ◌⊎◌, add-one}
+use Rattle.std.proofs.lemmas.List.{append-nil}
+use Rattle.std.proofs.lemmas.Bool.Decides.{nat_tests}
+use Rattle.std.proofs.lemmas.List.Sums.{sum_by-cons}
+use Rattle.std.specs.List.{list_all, list_any}
+use Rattle.std.specs.Str.{bytes_eq}
+use Rattle.ep_int.specs.declared.types.IntType.{IntType}
+use Rattle.ep_int.specs.declared.types.IntType.TheVariants.{I8, U8, I16, U16, I32, U32, I64, U64}
+use Rattle.ep_int.specs.declared.types.Scalar.TheVariants.{Int}
+use Rattle.ep_int.specs.Types.{bytes_of, size_of}
+use Rattle.ep_core.specs.Program.{block, load, convert, const, addr_of, What, assign, input, output, write_bytes, Stmts, stop, more, Block, Program}
+use Rattle.ep_core.specs.WellFormed.{number_of_type, is_same_type, contains, are_different, numbers_below, is_global, holds_scalar, blocks_fit, is_in_range, are_listed, is_number, type_of_scalar, has_type, has_bytes, place_has, type_of, bytes_fit, what_fits, stmts_fit, is_well_formed}
+use Rattle.ep_core.specs.WellFormed as ty
+use Rattle.endport.specs.Tokens as tokens
+use Rattle.endport.specs.Tokens.{Tok, name, number, mark, Cuts}
+use Rattle.endport.specs.Form as form
+use Rattle.endport.specs.Form.{Variable, Object, found_from, found, bytes_of_all, value_as, Step, Names, Body, block_of_type, result_block, block_of, blocks_from, program_of, Form, First}
+use Rattle.endport.proofs.Steps.{both, some_is}
+use Rattle.endport.proofs.Naming.{grown}
+use Rattle.endport.proofs.Bodies.{body_grown}
+
+-- ---- tests
+
+and_true : (a b : Bool) → a ≡ true → b ≡ true → (a && b) ≡ true
+and_true a b p q = rw (p, q) refl
+
+or_true : (a b : Bool) → b ≡ true → (a || b) ≡ true
+or_true true b q = refl
+or_true false b q = q
+
+same_number : (n : ℕ) → nat_eq n n ≡ true
+same_number n = grind (arith, nat_tests)
+
+other_number : (m n : ℕ) → m < n → nat_eq m n ≡ false
+other_number m n h = grind (arith, nat_tests)
+
+number_swaps : (m n : ℕ) → nat_eq m n ≡ true → nat_eq n m ≡ true
+number_swaps m n h = grind (arith, nat_tests)
+
+at_most : (m n : ℕ) → m ≤ n → nat_le m n ≡ true
+at_most m n h = grind (arith, nat_tests)
+
+at_most_is : (m n : ℕ) → nat_le m n ≡ true → m ≤ n
+at_most_is m n h = grind (arith, nat_tests)
+
+all_append : {A : Type 0} (p : A → Bool) (xs ys : List A) → list_all p xs ≡ true → list_all p ys ≡ true → list_all p (xs ++ ys) ≡ true
+all_append p [] ys f g = g
+all_append p (x ∷ xs) ys f g = let h = both (p x) (list_all p xs) f in and_true (p x) (list_all p (xs ++ ys)) h.0 (all_append p xs ys h.1 g)
+
+-- ---- numbers of tokens are numbers of an int
+
+abbrev is_small : Tok → Bool
+is_small (name l x) = true
+is_small (number l n) = nat_le n 2147483647
+is_small (mark l m) = true
+
+abbrev are_small : List Tok → Bool
+are_small ts = list_all is_small ts
+
+cut_small : {l : ℕ} {bs : List ℕ} {ts : List Tok} → Cuts l bs ts → are_small ts ≡ true
+cut_small tokens.ends = refl
+cut_small (tokens.blank h d) = cut_small d
+cut_small (tokens.word h d) = cut_small d
+cut_small (tokens.digits {b = b} {bs = bs} {ts = ts} h n d) =
+    let ds = tokens.run (b ∷ bs) in
+    let p = both (list_all tokens.is_digit ds && not (tokens.has_leading_zero ds)) (nat_le (tokens.decimal ds) 2147483647) n in
+    and_true (nat_le (tokens.decimal ds) 2147483647) (are_small ts) p.1 (cut_small d)
+cut_small (tokens.sign h d) = cut_small d
+
+names_small : {t : IntType} {vs ws : List Variable} {ts rs : List Tok} → Names t vs ts ws rs → are_small ts ≡ true → are_small rs ≡ true
+names_small (form.last f n) h = h
+names_small (form.next f n d) h = names_small d h
+
+step_small : {vs : List Variable} {ts rs : List Tok} {l : ℕ} {a : What} → Step vs ts rs l a → are_small ts ≡ true → are_small rs ≡ true
+step_small (form.inputs f i) h = h
+step_small (form.copies f g) h = h
+step_small (form.sets {k = k} {ts = ts} f) h = (both (nat_le k 2147483647) (are_small ts) h).1
+step_small (form.outputs i f) h = h
+step_small (form.writes {k = k} {ts = ts} e f low high) h = (both (nat_le k 2147483647) (are_small ts) h).1
+
+-- ---- blocks of variables
+
+-- the variables' blocks stand in this list, from this number on
+abbrev Stand : List Block → ℕ → List Variable → Type 0
+Stand bs b [] = Unit {0}
+Stand bs b (v ∷ vs) = (slice_get bs b ≡ Some (block_of v)) × Stand bs (b + 1) vs
+
+later_block : (x : Block) (bs : List Block) (b : ℕ) → slice_get (x ∷ bs) (b + 1) ≡ slice_get bs b
+later_block x bs b = rw add-one refl
+
+shifted : (x : Block) (bs : List Block) (b : ℕ) (vs : List Variable) → Stand bs b vs → Stand (x ∷ bs) (b + 1) vs
+shifted x bs b [] s = tt
+shifted x bs b (v ∷ vs) s = (later_block x bs b ∙ s.0, shifted x bs (b + 1) vs s.1)
+
+all_stand : (vs : List Variable) → Stand (map block_of vs) 0 vs
+all_stand [] = tt
+all_stand (v ∷ vs) = (refl, shifted (block_of v) (map block_of vs) 0 vs (all_stand vs))
+
+abbrev all_blocks : List Variable → List Block
+all_blocks vs = result_block ∷ map block_of vs
+
+stand_behind : (vs : List Variable) → Stand (all_blocks vs) 1 vs
+stand_behind vs = shifted result_block (map block_of vs) 0 vs (all_stand vs)
+
+earlier : (k b : ℕ) (vs : List Variable) → k < b → contains k (blocks_from b vs) ≡ false
+earlier k b [] h = refl
+earlier k b (v ∷ vs) h = let e = other_number k b h in rw e (earlier k (b + 1) vs (omega arith))
+
+blocks_differ : (b : ℕ) (vs : List Variable) → are_different (blocks_from b vs) ≡ true
+blocks_differ b [] = refl
+blocks_differ b (v ∷ vs) = let e = earlier b (b + 1) vs (omega arith) in rw e (blocks_differ (b + 1) vs)
+
+contains_by : (k b : ℕ) (vs : List Variable) (t : Bool) → nat_eq k b ≡ t → (t ≡ false → contains k (blocks_from (b + 1) vs) ≡ true) → (t || contains k (blocks_from (b + 1) vs)) ≡ true
+contains_by k b vs true e f = refl
+contains_by k b vs false e f = f refl
+
+not_there : (k b : ℕ) → nat_eq k b ≡ false → b ≤ k → b + 1 ≤ k
+not_there k b e h = grind (arith, nat_tests)
+
+among : (k b : ℕ) (vs : List Variable) → b ≤ k → k < b + length vs → contains k (blocks_from b vs) ≡ true
+among k b [] low high = absurd (omega arith)
+among k b (v ∷ vs) low high = contains_by k b vs (nat_eq k b) refl (λ e. let l = not_there k b e low in among k (b + 1) vs l (omega arith))
+
+abbrev is_kept : List Block → ℕ → Bool
+is_kept bs b = is_some (slice_get bs b) && not (is_global (slice_get bs b))
+
+all_kept : (bs : List Block) (b : ℕ) (vs : List Variable) → Stand bs b vs → list_all (is_kept bs) (blocks_from b vs) ≡ true
+all_kept bs b [] s = refl
+all_kept bs b (v ∷ vs) s = let e = s.0 in rw e (all_kept bs (b + 1) vs s.1)
+
+all_below : (p : ℕ → Bool) (n : ℕ) → ((k : ℕ) → k < n → p k ≡ true) → list_all p (numbers_below n) ≡ true
+all_below p zero f = refl
+all_below p (suc n) f = all_append p (numbers_below n) (n ∷ []) (all_below p n (λ k h. f k (omega arith))) (and_true (p n) true (f n (omega arith)) refl)
+
+all_own : (vs : List Variable) (k : ℕ) → k < length (all_blocks vs) → contains k (0 ∷ blocks_from 1 vs) ≡ true
+all_own vs zero h = refl
+all_own vs (suc k) h =
+    let n : length (map block_of vs) ≡ length vs = length_map vs in
+    or_true (nat_eq (suc k) 0) (contains (suc k) (blocks_from 1 vs)) (among (suc k) 1 vs (omega arith) (omega arith))
+  where
+    length_map : (vs : List Variable) → length (map block_of vs) ≡ length vs
+    length_map [] = refl
+    length_map (v ∷ vs) = let h = length_map vs in omega arith
+
+listed_once : (vs : List Variable) → are_listed (all_blocks vs) (0 ∷ (blocks_from 1 vs ++ [])) ≡ true
+listed_once vs = rw (append-nil (blocks_from 1 vs)) (
+    let first = earlier 0 1 vs (omega arith) in
+    let different : are_different (0 ∷ blocks_from 1 vs) ≡ true = rw first (blocks_differ 1 vs) in
+    let kept : list_all (is_kept (all_blocks vs)) (0 ∷ blocks_from 1 vs) ≡ true = all_kept (all_blocks vs) 1 vs (stand_behind vs) in
+    let whole = all_below (λ b. is_global (slice_get (all_blocks vs) b) || contains b (0 ∷ blocks_from 1 vs)) (length (all_blocks vs))
+      (λ k h. or_true (is_global (slice_get (all_blocks vs) k)) (contains k (0 ∷ blocks_from 1 vs)) (all_own vs k h)) in
+    and_true (are_different (0 ∷ blocks_from 1 vs) && list_all (is_kept (all_blocks vs)) (0 ∷ blocks_from 1 vs)) _
+    (and_true (are_different (0 ∷ blocks_from 1 vs)) (list_all (is_kept (all_blocks vs)) (0 ∷ blocks_from 1 vs)) different kept) whole)
+
+sizes_fit : (vs : List Variable) → list_all (λ (b : Block). nat_eq b.size (size_of b.ty)) (map block_of vs) ≡ true
+sizes_fit [] = refl
+sizes_fit (v ∷ vs) = let e = same_number (bytes_of v.ty) in rw e (sizes_fit vs)
+
+sum_from : (a : ℕ) (vs : List Variable) → fold (λ (n : ℕ) (b : Block). n + b.size) a (map block_of vs) ≡ fold (λ (n : ℕ) (v : Variable). n + bytes_of v.ty) a vs
+sum_from a [] = refl
+sum_from a (v ∷ vs) = sum_from (a + bytes_of v.ty) vs
+
+sum_of_sizes : (vs : List Variable) → sum_by (λ (b : Block). b.size) (all_blocks vs) ≡ 4 + bytes_of_all vs
+sum_of_sizes vs = sum_by-cons (λ (b : Block). b.size) result_block (map block_of vs) ∙ ap (λ (n : ℕ). 4 + n) (sum_from 0 vs)
+
+all_fit : (vs : List Variable) → bytes_of_all vs ≤ 65532 → blocks_fit (all_blocks vs) ≡ true
+all_fit vs h =
+    let s = sum_of_sizes vs in
+    and_true (list_all (λ (b : Block). nat_eq b.size (size_of b.ty)) (all_blocks vs)) (nat_le (sum_by (λ (b : Block). b.size) (all_blocks vs)) 65536)
+    (sizes_fit vs) (at_most (sum_by (λ (b : Block). b.size) (all_blocks vs)) 65536 (omega (arith, s)))
+
+-- ---- steps
+
+-- what is known of the object of a variable, among these blocks
+pub record Placed (vs : List Variable) (o : Object) : Type 0 where
+  pub at : slice_get (all_blocks vs) o.block ≡ Some (block_of_type o.ty)
+  pub own : contains o.block (blocks_from 1 vs) ≡ true
+
+placed_from : (bs : List Block) (b : ℕ) (vs : List Variable) (x : List ℕ) (o : Object) → Stand bs b vs → found_from b vs x ≡ Some o → (slice_get bs o.block ≡ Some (block_of_type o.ty)) × (contains o.block (blocks_from b vs) ≡ true)
+placed_from bs b [] x o s e = absurd cc
+placed_from bs b (v ∷ vs) x o s e = by (bytes_eq x v.name) e (λ f. placed_from bs (b + 1) vs x o s.1 f)
+  where
+    P : Object → Type 0
+    P q = (slice_get bs q.block ≡ Some (block_of_type q.ty)) × ((nat_eq q.block b || contains q.block (blocks_from (b + 1) vs)) ≡ true)
+    by : (t : Bool) → cond t (Some (record { block = b; ty = v.ty })) (found_from (b + 1) vs x) ≡ Some o
+      → (found_from (b + 1) vs x ≡ Some o → (slice_get bs o.block ≡ Some (block_of_type o.ty)) × (contains o.block (blocks_from (b + 1) vs) ≡ true)) → P o
+    by true f rest =
+        let q : ◌≡◌ {A = Object} (record { block = b; ty = v.ty }) o = cc in
+        let e = same_number b in
+        subst P q (s.0, rw e refl)
+    by false f rest = let r = rest f in (r.0, or_true (nat_eq o.block b) (contains o.block (blocks_from (b + 1) vs)) r.1)
+
+placed : (vs : List Variable) (x : List ℕ) (o : Object) → found vs x ≡ Some o → Placed vs o
+placed vs x o e = let r = placed_from (all_blocks vs) 1 vs x o (stand_behind vs) e in record { at = r.0; own = r.1 }
+
+-- a variable that is found stays, whatever is declared after it
+stays_from : (b : ℕ) (vs others : List Variable) (x : List ℕ) (o : Object) → found_from b vs x ≡ Some o → found_from b (vs ++ others) x ≡ Some o
+stays_from b [] others x o e = absurd cc
+stays_from b (v ∷ vs) others x o e = by (bytes_eq x v.name) e (λ f. stays_from (b + 1) vs others x o f)
+  where
+    by : (t : Bool) → cond t (Some (record { block = b; ty = v.ty })) (found_from (b + 1) vs x) ≡ Some o → (found_from (b + 1) vs x ≡ Some o → found_from (b + 1) (vs ++ others) x ≡ Some o)
+      → cond t (Some (record { block = b; ty = v.ty })) (found_from (b + 1) (vs ++ others) x) ≡ Some o
+    by true f rest = f
+    by false f rest = rest f
+
+placed_later : (vs us others : List Variable) (x : List ℕ) (o : Object) → us ≡ vs ++ others → found vs x ≡ Some o → Placed us o
+placed_later vs us others x o g e = placed us x o (rw g (stays_from 1 vs others x o e))
+
+module _ (us : List Variable) where
+  has_place : (o : Object) → Placed us o → place_has (all_blocks us) (blocks_from 1 us) (block o.block) (Int o.ty) ≡ true
+  has_place o p = let a = p.at in let c = p.own in let e = same_number (number_of_type o.ty) in rw (a, c, e) refl
+
+  value_fits : (t : IntType) (o : Object) → Placed us o → has_type (type_of (all_blocks us) (blocks_from 1 us) (value_as t o)) (ty.number t) ≡ true
+  value_fits t o p = by (is_same_type t o.ty) refl
+    where
+      load_fits : is_same_type t o.ty ≡ true → has_type (type_of (all_blocks us) (blocks_from 1 us) (load (Int o.ty) (block o.block))) (ty.number t) ≡ true
+      load_fits s = let h = has_place o p in rw h (number_swaps (number_of_type t) (number_of_type o.ty) s)
+      converted_fits : has_type (type_of (all_blocks us) (blocks_from 1 us) (convert t (load (Int o.ty) (block o.block)))) (ty.number t) ≡ true
+      converted_fits = let h = has_place o p in let e = same_number (number_of_type t) in rw h e
+      by : (b : Bool) → is_same_type t o.ty ≡ b → has_type (type_of (all_blocks us) (blocks_from 1 us) (cond b (load (Int o.ty) (block o.block)) (convert t (load (Int o.ty) (block o.block))))) (ty.number t) ≡ true
+      by true s = load_fits s
+      by false s = converted_fits
+
+  const_fits : (t : IntType) (k : ℕ) → nat_le k 2147483647 ≡ true → has_type (type_of (all_blocks us) (blocks_from 1 us) (convert t (const I32 (pos k)))) (ty.number t) ≡ true
+  const_fits t k h = let e = same_number (number_of_type t) in rw (h, e) refl
+
+  step_fits : {vs : List Variable} {ts rs : List Tok} {l : ℕ} {a : What} (others : List Variable) → us ≡ vs ++ others → are_small ts ≡ true → Step vs ts rs l a → what_fits (all_blocks us) (blocks_from 1 us) a ≡ true
+  step_fits {vs = vs} others g small (form.inputs {x = x} {o = o} f i) = has_place o (placed_later vs us others x o g f)
+  step_fits {vs = vs} others g small (form.copies {x = x} {y = y} {o = o} {s = s} f h) =
+      let p = has_place o (placed_later vs us others x o g f) in rw p (value_fits o.ty s (placed_later vs us others y s g h))
+  step_fits {vs = vs} others g small (form.sets {k = k} {x = x} {o = o} {ts = ts} f) =
+      let p = has_place o (placed_later vs us others x o g f) in rw p (const_fits o.ty k (both (nat_le k 2147483647) (are_small ts) small).0)
+  step_fits {vs = vs} others g small (form.outputs {x = x} {t = t} {o = o} i f) = value_fits t o (placed_later vs us others x o g f)
+  step_fits {vs = vs} others g small (form.writes {k = k} {x = x} {o = o} e f low high) =
+      let p = placed_later vs us others x o g f in
+      let a = p.at in let c = p.own in let b = at_most 1 k low in let d = at_most k (bytes_of o.ty) high in
+      rw (a, c, b, d) refl
+
+body_fits : {vs us : List Variable} {ts : List Tok} {ss : Stmts} → Body vs ts us ss → are_small ts ≡ true → stmts_fit (all_blocks us) (blocks_from 1 us) ss ≡ true
+body_fits form.ends small = refl
+body_fits (form.declares e n d) small = body_fits d (names_small n small)
+body_fits (form.steps {a = a} {us = us} {ss = ss} s d) small =
+    let g = body_grown d in
+    and_true (what_fits (all_blocks us) (blocks_from 1 us) a) (stmts_fit (all_blocks us) (blocks_from 1 us) ss) (step_fits us g.0 g.1 small s) (body_fits d (step_small s small))
+
+program_fits : (l : ℕ) (vs : List Variable) (ss : Stmts) → bytes_of_all vs ≤ 65532 → stmts_fit (all_blocks vs) (blocks_from 1 vs) ss ≡ true → is_well_formed (program_of l vs ss) ≡ true
+program_fits l vs ss h s = let a = all_fit vs h in let b = listed_once vs in rw (a, b, s) refl
+
+form_fits : {ts : List Tok} {p : Program} → are_small ts ≡ true → Form ts p → is_well_formed p ≡ true
+form_fits small (form.form {m = m} {vs = vs} {ts = ts} {ss = ss} e f g d b) = program_fits m vs ss b (body_fits d small)
+
+pub is_formed : (bs : List ℕ) (p : Program) → First bs p → IsTrue (is_well_formed p)
+is_formed bs p f = form_fits (cut_small f.cut) f.form

@@ -1,0 +1,7 @@
+pub mod Cutting
+pub mod Numbers
+pub mod Listing
+pub mod Steps
+pub mod Naming
+pub mod Bodies
+pub mod Forming

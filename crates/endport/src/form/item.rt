@@ -1,0 +1,98 @@
+//! Declarations and steps, as they are written.
+
+ghost use Rattle.std.specs.Prelude.{◌≡◌, ◌<◌, ◌≤◌, length, map, IfSome, is_some};
+ghost use Rattle.std.specs.Option.{option_map};
+ghost use Rattle.endport.specs.Items.{view_item, rest_of, declarator_read, head_read};
+ghost use Rattle.endport.specs.Pieces.{view};
+ghost use Rattle.endport.specs.Reading as reading;
+
+use crate::form::look::{Tokens, mark, name};
+use crate::form::phrase::{Phrase, read_phrase};
+use crate::form::token::Mark;
+use crate::form::words::declared_type;
+use ep_int::IntType;
+
+/// What comes next in the body.
+#[derive(Clone, Copy, Debug)]
+pub enum Item<'t> {
+    /// The closing brace, with nothing behind it.
+    Ends,
+    /// A declaration of names of this type, from the first name on.
+    Declares(IntType, Tokens<'t>),
+    /// A step at this line, and what comes after it.
+    Step(u32, Phrase<'t>, Tokens<'t>),
+}
+
+/// A declared name, whether a comma (and no semicolon) stands behind it, and what comes after that.
+type Declarator<'t> = (&'t [u8], bool, Tokens<'t>);
+
+fn begins_with_name(tokens: Tokens<'_>) -> bool
+    ensures { result ≡ is_some (reading.name_at (map view tokens.now)) }
+{
+    name(tokens).is_some()
+}
+
+/// A declaration or a step, from behind its first token, a name at this line.
+#[tactic(auto, unfolding(crate::specs::Reading::named_item))]
+fn named_item<'t>(
+    line: u32,
+    first: &'t [u8],
+    tokens: Tokens<'t>,
+) -> Option<Item<'t>>
+    ensures value { option_map view_item result ≡ reading.named_item line first.now (map view tokens.now) }
+    ensures shorter { IfSome result (λ i. length (rest_of i) ≤ length tokens.now) }
+{
+    if begins_with_name(tokens) {
+        return Some(Item::Declares(declared_type(first)?, tokens));
+    }
+    let (phrase, rest) = read_phrase(first, tokens)?;
+    Some(Item::Step(line, phrase, rest))
+}
+
+/// What comes next in the body.
+#[tactic(auto, unfolding(crate::specs::Reading::item_at))]
+pub fn next_item<'t>(tokens: Tokens<'t>) -> Option<Item<'t>>
+    ensures value { option_map view_item result ≡ reading.item_at (map view tokens.now) }
+    ensures shorter { IfSome result (λ i. length (rest_of i) < length tokens.now) }
+{
+    if let Some(rest) = mark(tokens, Mark::BraceClose) {
+        return match rest {
+            [] => Some(Item::Ends),
+            _ => None,
+        };
+    }
+    let (line, first, rest) = name(tokens)?;
+    named_item(line, first, rest)
+}
+
+/// The next name of a declaration.
+#[tactic(auto, unfolding(crate::specs::Reading::declarator_at))]
+pub fn next_declarator<'t>(tokens: Tokens<'t>) -> Option<Declarator<'t>>
+    ensures value { option_map declarator_read result ≡ reading.declarator_at (map view tokens.now) }
+    ensures shorter { IfSome result (λ d. length d.2.now < length tokens.now) }
+{
+    let (_, text, rest) = name(tokens)?;
+    if let Some(rest) = mark(rest, Mark::Comma) {
+        return Some((text, true, rest));
+    }
+    let rest = mark(rest, Mark::Semicolon)?;
+    Some((text, false, rest))
+}
+
+/// Behind `int main(void) {`, and the line of the word main.
+#[tactic(auto, unfolding(crate::specs::Reading::head_at))]
+pub fn head<'t>(tokens: Tokens<'t>) -> Option<(u32, Tokens<'t>)>
+    ensures { option_map head_read result ≡ reading.head_at (map view tokens.now) }
+{
+    let (_, int, rest) = name(tokens)?;
+    let (line, main, rest) = name(rest)?;
+    let rest = mark(rest, Mark::ParenOpen)?;
+    let (_, void, rest) = name(rest)?;
+    let rest = mark(rest, Mark::ParenClose)?;
+    let rest = mark(rest, Mark::BraceOpen)?;
+    if int == b"int".as_slice() && main == b"main".as_slice() && void == b"void".as_slice() {
+        Some((line, rest))
+    } else {
+        None
+    }
+}
