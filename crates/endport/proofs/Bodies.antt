@@ -1,7 +1,6 @@
 -- The rules of the body and of main against reading one item after the other.
-use Rattle.std.proofs.Common.{◌≡◌, ℕ, ◌+◌, ◌≤◌, Bool, true, false, true≢false, cond, ◌&&◌, List, [], ◌∷◌, ◌++◌, append_assoc, Option, Some, None, is_some, codes, refl, sym, ap, ◌∙◌, subst, arith, inl, inr, ◌⊎◌}
+use Rattle.std.proofs.Common.{◌≡◌, ℕ, ◌≤◌, Bool, true, false, cond, ◌&&◌, List, [], ◌∷◌, ◌++◌, append_assoc, Option, Some, None, is_some, codes, refl, sym, ap, ◌∙◌, subst, arith, inl, inr}
 use Rattle.std.proofs.lemmas.List.{append-nil}
-use Rattle.std.specs.Option.{option_map_or}
 use Rattle.std.specs.Str.{bytes_eq}
 use Rattle.ep_int.specs.declared.types.IntType.{IntType}
 use Rattle.ep_core.specs.Program.{What, Stmts, stop, more, Program}
@@ -13,11 +12,11 @@ use Rattle.endport.specs.declared.refusal.Halt.TheVariants.{Refused, Memory}
 use Rattle.endport.specs.Answers.{Fails, Refuses}
 use Rattle.endport.specs.Tokens.{Tok, name, number, mark}
 use Rattle.endport.specs.Words.{declared_type}
-use Rattle.endport.specs.Form.{Variable, bytes_of_all, Names, last, next, Step, Body, ends, declares, steps, Form, form, program_of, First}
+use Rattle.endport.specs.Form.{Variable, bytes_of_all, Names, last, next, Body, ends, declares, steps, Form, form, program_of, First}
 use Rattle.endport.specs.Fitting.{FitNames}
 use Rattle.endport.specs.Reading as reading
 use Rattle.endport.specs.Reading.{name_at, mark_at, ◌>>=◌, Phrase, Item, if_last, phrase_at, named_item, item_at, head_at, meaning}
-use Rattle.endport.proofs.Steps.{some_is, none_some, bound, either, if_some, both, text_is, name_is, name_then, mark_then, IsRead, reads, phrase_makes}
+use Rattle.endport.proofs.Steps.{some_is, none_some, bound, either, if_some, both, text_is, name_then, mark_then, IsRead, reads, phrase_makes}
 use Rattle.endport.proofs.Cutting.{tokens_unique}
 use Rattle.endport.proofs.Naming.{grown, fewer_bytes, names_unique}
 
@@ -66,6 +65,7 @@ joined_named vs l w ts i us ss e a = by (is_some (name_at ts)) e
   where
     A : Item → Type 0
     A j = After vs j us ss → Body vs (name l w ∷ ts) us ss
+
     by : (b : Bool) → cond b (declared_type w >>= λ t. Some (reading.declares t ts)) (phrase_at w ts >>= λ p. Some (reading.step l p.0 p.1)) ≡ Some i → Body vs (name l w ∷ ts) us ss
     by true f =
         let t = bound (declared_type w) (λ t. Some (reading.declares t ts)) i f in
@@ -85,12 +85,12 @@ unfolding item_at
 joined vs ts i us ss e a =
     elim (either if_last (mark_at BraceClose ts) (name_at ts >>= λ n. named_item n.0 n.1 n.2) i e) [
       | inl c ↦
-        let q = last_is c.0 i c.2 in
-        let b : After vs reading.ends us ss = subst (λ (j : Item). After vs j us ss) q.1 a in
-        mark_then BraceClose ts c.0 c.1 (λ rs. Body vs rs us ss) (λ l. rw (q.0, b.0, b.1) (ends {l = l} {vs = vs}))
+          let q = last_is c.0 i c.2 in
+          let b : After vs reading.ends us ss = subst (λ (j : Item). After vs j us ss) q.1 a in
+          mark_then BraceClose ts c.0 c.1 (λ rs. Body vs rs us ss) (λ l. rw (q.0, b.0, b.1) (ends {l = l} {vs = vs}))
       | inr c ↦
-        let n = bound (name_at ts) (λ n. named_item n.0 n.1 n.2) i c.1 in
-        name_then ts n.0 n.1 (λ rs. Body vs rs us ss) (joined_named vs n.0.0 n.0.1 n.0.2 i us ss n.2 a)
+          let n = bound (name_at ts) (λ n. named_item n.0 n.1 n.2) i c.1 in
+          name_then ts n.0 n.1 (λ rs. Body vs rs us ss) (joined_named vs n.0.0 n.0.1 n.0.2 i us ss n.2 a)
     ]
 
 -- ---- variables only become more
@@ -169,10 +169,10 @@ pub begins : (all : List Tok) (line : ℕ) (ts : List Tok) (vs : List Variable) 
 begins all line ts vs front e v f = rw (v, f) (record {
   forth = λ us ss d b. with_head all (line, ts) us ss e d b;
   back = λ p d.
-    let h = headed d in
-    let q : ◌≡◌ {A = ℕ × List Tok} (h.line, h.rest) (line, ts) = some_is h.read e in
-    let G : ℕ × List Tok → Type 0 = λ z. (us : List Variable) × (ss : Stmts) × Body [] z.1 us ss × (bytes_of_all us ≤ 65532) × (p ≡ program_of z.0 us ss) in
-    subst G q (h.variables, h.actions, h.body, h.within, h.is);
+      let h = headed d in
+      let q : ◌≡◌ {A = ℕ × List Tok} (h.line, h.rest) (line, ts) = some_is h.read e in
+      let G : ℕ × List Tok → Type 0 = λ z. (us : List Variable) × (ss : Stmts) × Body [] z.1 us ss × (bytes_of_all us ≤ 65532) × (p ≡ program_of z.0 us ss) in
+      subst G q (h.variables, h.actions, h.body, h.within, h.is);
 })
 
 pub no_head : (all : List Tok) → head_at all ≡ None → (p : Program) → Form all p → ⊥
@@ -199,13 +199,16 @@ declared_on line all vs ws front ts ns rs t e n u = record {
 pub no_names : (line : ℕ) (all : List Tok) (vs : List Variable) (front : List tree.Stmt) (ts ns : List Tok) (t : IntType) (h : Halt) → item_at ts ≡ Some (reading.declares t ns) → Refuses (FitNames t vs ns) h
     → Upto line all vs front ts → Refuses (Form all) h
 no_names line all vs front ts ns t Memory e f u = tt
-no_names line all vs front ts ns t (Refused w) e f u = (λ p d.
-    let r = u.back p d in
-    let a = same_item (reading.declares t ns) e r.2 in
-    let g = body_grown a.3 in
-    let less = fewer_bytes a.0 r.0 g.0 g.1 in
-    let most = r.3 in
-    f.0 (a.0, a.1) (a.2, omega arith), f.1)
+no_names line all vs front ts ns t (Refused w) e f u = (
+  λ p d.
+      let r = u.back p d in
+      let a = same_item (reading.declares t ns) e r.2 in
+      let g = body_grown a.3 in
+      let less = fewer_bytes a.0 r.0 g.0 g.1 in
+      let most = r.3 in
+      f.0 (a.0, a.1) (a.2, omega arith),
+  f.1,
+)
 
 stepped : {vs us : List Variable} {ss : Stmts} (l : ℕ) (p : Phrase) (rs : List Tok) (a : What) → meaning vs p ≡ Some a → After vs (reading.step l p rs) us ss → (others : Stmts) × (ss ≡ more l a others) × Body vs rs us others
 stepped l p rs a e b = let q : b.0 ≡ a = some_is b.2 e in (b.1, b.3 ∙ ap (λ (c : What). more l c b.1) q, b.4)
@@ -215,10 +218,10 @@ pub step_on : (line : ℕ) (all : List Tok) (vs : List Variable) (front : List t
 step_on line all vs front ts rs l p s e same m u = record {
   forth = λ us ss d b. rw before_push (u.forth us (more s.line (shown_what s.what) ss) (rw same (joined vs ts (reading.step l p rs) us (more l (shown_what s.what) ss) e (shown_what s.what, ss, m, refl, d))) b);
   back = λ q f.
-    let r = u.back q f in
-    let k = stepped l p rs (shown_what s.what) m (same_item (reading.step l p rs) e r.2) in
-    let is : r.1 ≡ more s.line (shown_what s.what) k.0 = k.1 ∙ ap (λ (j : ℕ). more j (shown_what s.what) k.0) (sym same) in
-    (r.0, k.0, k.2, r.3, r.4 ∙ ap (λ (z : Stmts). program_of line r.0 z) (ap (before front) is ∙ sym (before_push front s k.0)));
+      let r = u.back q f in
+      let k = stepped l p rs (shown_what s.what) m (same_item (reading.step l p rs) e r.2) in
+      let is : r.1 ≡ more s.line (shown_what s.what) k.0 = k.1 ∙ ap (λ (j : ℕ). more j (shown_what s.what) k.0) (sym same) in
+      (r.0, k.0, k.2, r.3, r.4 ∙ ap (λ (z : Stmts). program_of line r.0 z) (ap (before front) is ∙ sym (before_push front s k.0)));
 }
 
 pub no_meaning : (line : ℕ) (all : List Tok) (vs : List Variable) (front : List tree.Stmt) (ts rs : List Tok) (l : ℕ) (p : Phrase) (h : Halt) → item_at ts ≡ Some (reading.step l p rs) → Fails h (meaning vs p)
@@ -229,11 +232,12 @@ no_meaning line all vs front ts rs l p (Refused w) e f u = (λ q d. let r = u.ba
 pub finished : (line : ℕ) (all : List Tok) (vs : List Variable) (front : List tree.Stmt) (ts : List Tok) → item_at ts ≡ Some reading.ends → bytes_of_all vs ≤ 65532 → Upto line all vs front ts
     → Form all (program_of line vs (shown_stmts front)) × ((p : Program) → Form all p → p ≡ program_of line vs (shown_stmts front))
 finished line all vs front ts e b u = (
-    rw (← before_stop front) (u.forth vs stop (joined vs ts reading.ends vs stop e (refl, refl)) b),
-    λ p d.
-    let r = u.back p d in
-    let a = same_item reading.ends e r.2 in
-    r.4 ∙ (λ i. program_of line (a.0 i) (before front (a.1 i))) ∙ ap (λ (z : Stmts). program_of line vs z) (before_stop front))
+  rw (← before_stop front) (u.forth vs stop (joined vs ts reading.ends vs stop e (refl, refl)) b),
+  λ p d.
+      let r = u.back p d in
+      let a = same_item reading.ends e r.2 in
+      r.4 ∙ (λ i. program_of line (a.0 i) (before front (a.1 i))) ∙ ap (λ (z : Stmts). program_of line vs z) (before_stop front),
+)
 
 -- ---- a source has one program
 

@@ -1,5 +1,5 @@
 -- The rules of tokens against reading a piece: each rule is a piece, and each piece is a rule.
-use Rattle.std.proofs.Common.{◌≡◌, ℕ, ◌+◌, Bool, true, false, cond, List, [], ◌∷◌, ◌++◌, ◌≤◌, ◌<◌, length, append_assoc, Option, Some, None, refl, sym, ap, ◌∙◌, subst, arith, inl, inr, ◌⊎◌}
+use Rattle.std.proofs.Common.{◌≡◌, ℕ, Bool, true, false, cond, List, [], ◌∷◌, ◌++◌, ◌≤◌, ◌<◌, length, append_assoc, Option, Some, None, refl, sym, ap, ◌∙◌, subst, arith, inl, inr, ◌⊎◌}
 use Rattle.std.proofs.lemmas.Bool.Decides.{nat_tests}
 use Rattle.std.proofs.lemmas.List.{append-nil}
 use Rattle.std.specs.Option.{option_map}
@@ -92,9 +92,9 @@ joins l b bs p ts e d =
         | inl c2 ↦ subst Goal (some_is {x = w} {y = p} refl c2.1) (word c2.0) d
         | inr c2 ↦ elim (chosen (is_digit b) n m (Some p) c2.1) [
           | inl c3 ↦
-            let q = mapped_is of_number (number_of (run (b ∷ bs))) p c3.1 in
-            let r = number_is (run (b ∷ bs)) q.0 q.1 in
-            subst Goal (ap of_number r.1 ∙ q.2) (digits c3.0 r.0) d
+              let q = mapped_is of_number (number_of (run (b ∷ bs))) p c3.1 in
+              let r = number_is (run (b ∷ bs)) q.0 q.1 in
+              subst Goal (ap of_number r.1 ∙ q.2) (digits c3.0 r.0) d
           | inr c3 ↦ let q = mapped_is of_mark (mark_of b) p c3.1 in subst Goal q.2 (sign q.1) d
         ]
       ]

@@ -1,23 +1,22 @@
 -- The program of a source of the straight-line form is well formed.
-use Rattle.std.proofs.Common.{◌≡◌, ℕ, zero, suc, ◌+◌, ◌≤◌, ◌<◌, pos, negsuc, Bool, true, false, true≢false, cond, ◌&&◌, ◌||◌, not, nat_eq, nat_le, List, [], ◌∷◌, ◌++◌, map, length, sum_by, fold, slice_get, Option, Some, None, is_some, IsTrue, refl, sym, ap, ◌∙◌, subst, arith, inl, inr, ◌⊎◌, add-one}
+use Rattle.std.proofs.Common.{◌≡◌, ℕ, zero, suc, ◌+◌, ◌≤◌, ◌<◌, pos, Bool, true, false, cond, ◌&&◌, ◌||◌, not, nat_eq, nat_le, List, [], ◌∷◌, ◌++◌, map, length, sum_by, fold, slice_get, Some, is_some, IsTrue, refl, ap, ◌∙◌, subst, arith, add-one}
 use Rattle.std.proofs.lemmas.List.{append-nil}
 use Rattle.std.proofs.lemmas.Bool.Decides.{nat_tests}
 use Rattle.std.proofs.lemmas.List.Sums.{sum_by-cons}
-use Rattle.std.specs.List.{list_all, list_any}
+use Rattle.std.specs.List.{list_all}
 use Rattle.std.specs.Str.{bytes_eq}
 use Rattle.ep_int.specs.declared.types.IntType.{IntType}
-use Rattle.ep_int.specs.declared.types.IntType.TheVariants.{I8, U8, I16, U16, I32, U32, I64, U64}
+use Rattle.ep_int.specs.declared.types.IntType.TheVariants.{I32}
 use Rattle.ep_int.specs.declared.types.Scalar.TheVariants.{Int}
 use Rattle.ep_int.specs.Types.{bytes_of, size_of}
-use Rattle.ep_core.specs.Program.{block, load, convert, const, addr_of, What, assign, input, output, write_bytes, Stmts, stop, more, Block, Program}
+use Rattle.ep_core.specs.Program.{block, load, convert, const, What, Stmts, Block, Program}
 use Rattle.ep_core.specs.WellFormed.{number_of_type, is_same_type, contains, are_different, numbers_below, is_global, holds_scalar, blocks_fit, is_in_range, are_listed, is_number, type_of_scalar, has_type, has_bytes, place_has, type_of, bytes_fit, what_fits, stmts_fit, is_well_formed}
 use Rattle.ep_core.specs.WellFormed as ty
 use Rattle.endport.specs.Tokens as tokens
 use Rattle.endport.specs.Tokens.{Tok, name, number, mark, Cuts}
 use Rattle.endport.specs.Form as form
 use Rattle.endport.specs.Form.{Variable, Object, found_from, found, bytes_of_all, value_as, Step, Names, Body, block_of_type, result_block, block_of, blocks_from, program_of, Form, First}
-use Rattle.endport.proofs.Steps.{both, some_is}
-use Rattle.endport.proofs.Naming.{grown}
+use Rattle.endport.proofs.Steps.{both}
 use Rattle.endport.proofs.Bodies.{body_grown}
 
 -- ---- tests
@@ -149,7 +148,7 @@ listed_once vs = rw (append-nil (blocks_from 1 vs)) (
     let different : are_different (0 ∷ blocks_from 1 vs) ≡ true = rw first (blocks_differ 1 vs) in
     let kept : list_all (is_kept (all_blocks vs)) (0 ∷ blocks_from 1 vs) ≡ true = all_kept (all_blocks vs) 1 vs (stand_behind vs) in
     let whole = all_below (λ b. is_global (slice_get (all_blocks vs) b) || contains b (0 ∷ blocks_from 1 vs)) (length (all_blocks vs))
-      (λ k h. or_true (is_global (slice_get (all_blocks vs) k)) (contains k (0 ∷ blocks_from 1 vs)) (all_own vs k h)) in
+    (λ k h. or_true (is_global (slice_get (all_blocks vs) k)) (contains k (0 ∷ blocks_from 1 vs)) (all_own vs k h)) in
     and_true (are_different (0 ∷ blocks_from 1 vs) && list_all (is_kept (all_blocks vs)) (0 ∷ blocks_from 1 vs)) _
     (and_true (are_different (0 ∷ blocks_from 1 vs)) (list_all (is_kept (all_blocks vs)) (0 ∷ blocks_from 1 vs)) different kept) whole)
 
@@ -183,8 +182,9 @@ placed_from bs b (v ∷ vs) x o s e = by (bytes_eq x v.name) e (λ f. placed_fro
   where
     P : Object → Type 0
     P q = (slice_get bs q.block ≡ Some (block_of_type q.ty)) × ((nat_eq q.block b || contains q.block (blocks_from (b + 1) vs)) ≡ true)
+
     by : (t : Bool) → cond t (Some (record { block = b; ty = v.ty })) (found_from (b + 1) vs x) ≡ Some o
-      → (found_from (b + 1) vs x ≡ Some o → (slice_get bs o.block ≡ Some (block_of_type o.ty)) × (contains o.block (blocks_from (b + 1) vs) ≡ true)) → P o
+        → (found_from (b + 1) vs x ≡ Some o → (slice_get bs o.block ≡ Some (block_of_type o.ty)) × (contains o.block (blocks_from (b + 1) vs) ≡ true)) → P o
     by true f rest =
         let q : ◌≡◌ {A = Object} (record { block = b; ty = v.ty }) o = cc in
         let e = same_number b in
@@ -200,7 +200,7 @@ stays_from b [] others x o e = absurd cc
 stays_from b (v ∷ vs) others x o e = by (bytes_eq x v.name) e (λ f. stays_from (b + 1) vs others x o f)
   where
     by : (t : Bool) → cond t (Some (record { block = b; ty = v.ty })) (found_from (b + 1) vs x) ≡ Some o → (found_from (b + 1) vs x ≡ Some o → found_from (b + 1) (vs ++ others) x ≡ Some o)
-      → cond t (Some (record { block = b; ty = v.ty })) (found_from (b + 1) (vs ++ others) x) ≡ Some o
+        → cond t (Some (record { block = b; ty = v.ty })) (found_from (b + 1) (vs ++ others) x) ≡ Some o
     by true f rest = f
     by false f rest = rest f
 
@@ -216,8 +216,10 @@ module _ (us : List Variable) where
     where
       load_fits : is_same_type t o.ty ≡ true → has_type (type_of (all_blocks us) (blocks_from 1 us) (load (Int o.ty) (block o.block))) (ty.number t) ≡ true
       load_fits s = let h = has_place o p in rw h (number_swaps (number_of_type t) (number_of_type o.ty) s)
+
       converted_fits : has_type (type_of (all_blocks us) (blocks_from 1 us) (convert t (load (Int o.ty) (block o.block)))) (ty.number t) ≡ true
       converted_fits = let h = has_place o p in let e = same_number (number_of_type t) in rw h e
+
       by : (b : Bool) → is_same_type t o.ty ≡ b → has_type (type_of (all_blocks us) (blocks_from 1 us) (cond b (load (Int o.ty) (block o.block)) (convert t (load (Int o.ty) (block o.block))))) (ty.number t) ≡ true
       by true s = load_fits s
       by false s = converted_fits

@@ -1,5 +1,5 @@
 -- The rules of declared names against reading one name after the other.
-use Rattle.std.proofs.Common.{◌≡◌, ℕ, ◌+◌, ◌≤◌, Bool, true, false, true≢false, cond, ◌&&◌, nat_le, is_none, List, [], ◌∷◌, ◌++◌, append_assoc, Option, Some, None, refl, sym, ap, ◌∙◌, subst, arith, inl, inr, ◌⊎◌}
+use Rattle.std.proofs.Common.{◌≡◌, ℕ, ◌≤◌, Bool, true, false, true≢false, ◌&&◌, nat_le, is_none, List, [], ◌∷◌, ◌++◌, append_assoc, Option, Some, None, refl, sym, ap, ◌∙◌, subst, arith, inl, inr}
 use Rattle.std.proofs.lemmas.Bool.Decides.{nat_tests}
 use Rattle.std.proofs.lemmas.List.Sums.{sum_by-append}
 use Rattle.std.specs.Option.{option_map_or}
@@ -9,7 +9,7 @@ use Rattle.endport.specs.declared.form.token.Mark.TheVariants.{Comma, Semicolon}
 use Rattle.endport.specs.declared.refusal.Halt.{Halt}
 use Rattle.endport.specs.declared.refusal.Halt.TheVariants.{Refused, Memory}
 use Rattle.endport.specs.Answers.{Fails, Refuses}
-use Rattle.endport.specs.Tokens.{Tok, name, mark}
+use Rattle.endport.specs.Tokens.{Tok, name}
 use Rattle.endport.specs.Words.{is_free}
 use Rattle.endport.specs.Form.{Variable, found, declared, bytes_of_all, Names, last, next}
 use Rattle.endport.specs.Fitting.{FitNames}
@@ -44,13 +44,13 @@ joined t vs ts d ws rs e f n a =
     let N : List Tok → Type 0 = λ us. Names t vs us ws rs in
     elim (either (λ us. Some (x.0.1, true, us)) (mark_at Comma x.0.2) (mark_at Semicolon x.0.2 >>= λ us. Some (x.0.1, false, us)) d x.2) [
       | inl c ↦
-        let q : (x.0.1, true, c.0) ≡ d = cc in
-        subst G q (λ f n a. name_then ts x.0 x.1 N (mark_then Comma x.0.2 c.0 c.1 (λ us. N (name x.0.0 x.0.1 ∷ us)) (λ m. next f n a))) f n a
+          let q : (x.0.1, true, c.0) ≡ d = cc in
+          subst G q (λ f n a. name_then ts x.0 x.1 N (mark_then Comma x.0.2 c.0 c.1 (λ us. N (name x.0.0 x.0.1 ∷ us)) (λ m. next f n a))) f n a
       | inr c ↦
-        let u = bound (mark_at Semicolon x.0.2) (λ us. Some (x.0.1, false, us)) d c.1 in
-        let q : (x.0.1, false, u.0) ≡ d = cc in
-        subst G q (λ f n a. rw (a.0, a.1) (name_then ts x.0 x.1 (λ us. Names t vs us (declared vs x.0.1 t) u.0)
-        (mark_then Semicolon x.0.2 u.0 u.1 (λ us. Names t vs (name x.0.0 x.0.1 ∷ us) (declared vs x.0.1 t) u.0) (λ m. last f n)))) f n a
+          let u = bound (mark_at Semicolon x.0.2) (λ us. Some (x.0.1, false, us)) d c.1 in
+          let q : (x.0.1, false, u.0) ≡ d = cc in
+          subst G q (λ f n a. rw (a.0, a.1) (name_then ts x.0 x.1 (λ us. Names t vs us (declared vs x.0.1 t) u.0)
+          (mark_then Semicolon x.0.2 u.0 u.1 (λ us. Names t vs (name x.0.0 x.0.1 ∷ us) (declared vs x.0.1 t) u.0) (λ m. last f n)))) f n a
     ]
 
 -- ---- variables only become more
@@ -134,13 +134,16 @@ after_bytes t vs false ts ws rs n = rw n.0 (omega arith)
 
 pub refuses_name : (t : IntType) (vs ws : List Variable) (ts rs qs : List Tok) (x : List ℕ) (b : Bool) (h : Halt) → declarator_at rs ≡ Some (x, b, qs) → Fails h (declaring ws x t) → Upto t vs ts ws rs → Refuses (FitNames t vs ts) h
 refuses_name t vs ws ts rs qs x b Memory e f u = tt
-refuses_name t vs ws ts rs qs x b (Refused r) e f u = (λ p n.
-    let a = begun (u.back p.0 p.1 n.0) in
-    let c : After t (declared ws x t) b qs p.0 p.1 = same_first (x, b, qs) e a in
-    let q : a.first ≡ (x, b, qs) = some_is a.read e in
-    let s : a.first.0 ≡ x = ap (λ (z : List ℕ × Bool × List Tok). z.0) q in
-    let free : is_free x ≡ true = subst (λ (y : List ℕ). is_free y ≡ true) s a.free in
-    let new : found ws x ≡ None = subst (λ (y : List ℕ). found ws y ≡ None) s a.new in
-    let m = after_bytes t (declared ws x t) b qs p.0 p.1 c in
-    let k = n.1 in
-    none_some f.0 (allows_it ws x t free new (omega arith)), f.1)
+refuses_name t vs ws ts rs qs x b (Refused r) e f u = (
+  λ p n.
+      let a = begun (u.back p.0 p.1 n.0) in
+      let c : After t (declared ws x t) b qs p.0 p.1 = same_first (x, b, qs) e a in
+      let q : a.first ≡ (x, b, qs) = some_is a.read e in
+      let s : a.first.0 ≡ x = ap (λ (z : List ℕ × Bool × List Tok). z.0) q in
+      let free : is_free x ≡ true = subst (λ (y : List ℕ). is_free y ≡ true) s a.free in
+      let new : found ws x ≡ None = subst (λ (y : List ℕ). found ws y ≡ None) s a.new in
+      let m = after_bytes t (declared ws x t) b qs p.0 p.1 c in
+      let k = n.1 in
+      none_some f.0 (allows_it ws x t free new (omega arith)),
+  f.1,
+)

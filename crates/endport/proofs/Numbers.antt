@@ -1,8 +1,8 @@
 -- The value that digits write.
-use Rattle.std.proofs.Common.{◌≡◌, ℕ, ◌+◌, ◌-◌, ◌*◌, ◌≤◌, ◌<◌, Bool, true, false, ◌&&◌, not, List, [], ◌∷◌, length, get_or, Some, None, refl, sym, arith}
+use Rattle.std.proofs.Common.{◌≡◌, ℕ, ◌+◌, ◌-◌, ◌*◌, ◌≤◌, ◌<◌, true, false, List, [], ◌∷◌, length, get_or, Some, None, refl, arith}
 use Rattle.std.proofs.lemmas.Bool.Decides.{nat_tests}
 use Rattle.std.specs.List.{list_all}
-use Rattle.endport.specs.Tokens.{is_digit, is_number, decimal, decimal_from, has_leading_zero}
+use Rattle.endport.specs.Tokens.{is_digit, decimal, decimal_from, has_leading_zero}
 use Rattle.endport.specs.Pieces.{number_of}
 
 -- more digits make it no smaller

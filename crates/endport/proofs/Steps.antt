@@ -1,10 +1,9 @@
 -- The rules of steps against reading a step: each rule is read, and what is read is a rule.
-use Rattle.std.proofs.Common.{◌≡◌, ℕ, ◌≤◌, pos, Bool, true, false, true≢false, cond, ◌&&◌, nat_le, List, [], ◌∷◌, Option, Some, None, codes, refl, sym, ap, ◌∙◌, subst, arith, inl, inr, ◌⊎◌}
+use Rattle.std.proofs.Common.{◌≡◌, ℕ, ◌≤◌, pos, Bool, true, false, true≢false, cond, ◌&&◌, nat_le, List, [], ◌∷◌, Option, Some, None, codes, refl, sym, ap, subst, arith, inl, inr, ◌⊎◌}
 use Rattle.std.proofs.lemmas.Bool.Decides.{nat_tests}
 use Rattle.std.proofs.lemmas.Slice.Eq.{bytes_eq-Decides}
 use Rattle.std.specs.Option.{option_map_or}
 use Rattle.std.specs.Str.{bytes_eq}
-use Rattle.ep_int.specs.declared.types.IntType.{IntType}
 use Rattle.ep_int.specs.declared.types.IntType.TheVariants.{I32}
 use Rattle.ep_int.specs.declared.types.Scalar.TheVariants.{Int}
 use Rattle.ep_int.specs.Types.{bytes_of}
@@ -96,22 +95,47 @@ at_least m n h = grind (arith, nat_tests)
 pub reads : {vs : List Variable} {ts rs : List Tok} {l : ℕ} {a : What} → Step vs ts rs l a → IsRead vs ts rs l a
 unfolding phrase_at assigned named taken called written put ended meaning
 reads (form.inputs {l} {m} {n} {p} {q} {r} {x} {w} {t} {o} {ts} f i) = record {
-  first = x; others = mark m Equals ∷ name n w ∷ mark p ParenOpen ∷ mark q ParenClose ∷ mark r Semicolon ∷ ts;
-  whole = refl; phrase = takes x t; read = rw i refl; means = rw f refl }
+  first = x;
+  others = mark m Equals ∷ name n w ∷ mark p ParenOpen ∷ mark q ParenClose ∷ mark r Semicolon ∷ ts;
+  whole = refl;
+  phrase = takes x t;
+  read = rw i refl;
+  means = rw f refl;
+}
 reads (form.copies {l} {m} {n} {p} {x} {y} {o} {s} {ts} f g) = record {
-  first = x; others = mark m Equals ∷ name n y ∷ mark p Semicolon ∷ ts;
-  whole = refl; phrase = copies x y; read = refl; means = rw (f, g) refl }
+  first = x;
+  others = mark m Equals ∷ name n y ∷ mark p Semicolon ∷ ts;
+  whole = refl;
+  phrase = copies x y;
+  read = refl;
+  means = rw (f, g) refl;
+}
 reads (form.sets {l} {m} {n} {p} {k} {x} {o} {ts} f) = record {
-  first = x; others = mark m Equals ∷ number n k ∷ mark p Semicolon ∷ ts;
-  whole = refl; phrase = sets x k; read = refl; means = rw f refl }
+  first = x;
+  others = mark m Equals ∷ number n k ∷ mark p Semicolon ∷ ts;
+  whole = refl;
+  phrase = sets x k;
+  read = refl;
+  means = rw f refl;
+}
 reads (form.outputs {l} {m} {n} {p} {q} {w} {x} {t} {o} {ts} i f) = record {
-  first = w; others = mark m ParenOpen ∷ name n x ∷ mark p ParenClose ∷ mark q Semicolon ∷ ts;
-  whole = refl; phrase = puts t x; read = rw i refl; means = rw f refl }
+  first = w;
+  others = mark m ParenOpen ∷ name n x ∷ mark p ParenClose ∷ mark q Semicolon ∷ ts;
+  whole = refl;
+  phrase = puts t x;
+  read = rw i refl;
+  means = rw f refl;
+}
 reads (form.writes {l} {m} {n} {p} {q} {r} {s} {u} {k} {w} {x} {o} {ts} e f low high) =
     let a = at_least 1 k low in let b = at_least k (bytes_of o.ty) high in let c : bytes_eq w (codes "ep_write") ≡ true = rw e refl in
     record {
-      first = w; others = mark m ParenOpen ∷ mark n Ampersand ∷ name p x ∷ mark q Comma ∷ number r k ∷ mark s ParenClose ∷ mark u Semicolon ∷ ts;
-      whole = refl; phrase = writes x k; read = rw c refl; means = rw (f, a, b) refl }
+      first = w;
+      others = mark m ParenOpen ∷ mark n Ampersand ∷ name p x ∷ mark q Comma ∷ number r k ∷ mark s ParenClose ∷ mark u Semicolon ∷ ts;
+      whole = refl;
+      phrase = writes x k;
+      read = rw c refl;
+      means = rw (f, a, b) refl;
+    }
 
 -- ---- what is read is a rule
 
@@ -150,29 +174,29 @@ taken_makes l m n p x w ts r e =
     let u = bound (mark_at ParenClose ts) (λ us. ended (takes x t.0) us) r t.2 in
     record {
       step = λ vs a h.
-        let o = bound (found vs x) (λ o. Some (input t.0 (Some (record { what = Int o.ty; cast = false; place = block o.block })))) a (meant vs r.0 (takes x t.0) a (ended_phrase (takes x t.0) u.0 r u.2) h) in
-        let is : input t.0 (Some (record { what = Int o.0.ty; cast = false; place = block o.0.block })) ≡ a = cc in
-        let G : List Tok → Type 0 = λ us. Step vs (name l x ∷ mark m Equals ∷ name n w ∷ mark p ParenOpen ∷ us) r.1 l a in
-        mark_then ParenClose ts u.0 u.1 G (λ q. ended_then (takes x t.0) u.0 r u.2 (λ us. G (mark q ParenClose ∷ us)) (λ s. rw (← is) (form.inputs o.1 t.1)));
+          let o = bound (found vs x) (λ o. Some (input t.0 (Some (record { what = Int o.ty; cast = false; place = block o.block })))) a (meant vs r.0 (takes x t.0) a (ended_phrase (takes x t.0) u.0 r u.2) h) in
+          let is : input t.0 (Some (record { what = Int o.0.ty; cast = false; place = block o.0.block })) ≡ a = cc in
+          let G : List Tok → Type 0 = λ us. Step vs (name l x ∷ mark m Equals ∷ name n w ∷ mark p ParenOpen ∷ us) r.1 l a in
+          mark_then ParenClose ts u.0 u.1 G (λ q. ended_then (takes x t.0) u.0 r u.2 (λ us. G (mark q ParenClose ∷ us)) (λ s. rw (← is) (form.inputs o.1 t.1)));
     }
 
 copies_makes : (l m n : ℕ) (x y : List ℕ) (ts : List Tok) (r : Phrase × List Tok) → ended (copies x y) ts ≡ Some r → Makes l (name l x ∷ mark m Equals ∷ name n y ∷ ts) r
 unfolding meaning
 copies_makes l m n x y ts r e = record {
   step = λ vs a h.
-    let o = bound (found vs x) (λ o. found vs y >>= λ s. Some (assign (Int o.ty) (block o.block) (value_as o.ty s))) a (meant vs r.0 (copies x y) a (ended_phrase (copies x y) ts r e) h) in
-    let s = bound (found vs y) (λ s. Some (assign (Int o.0.ty) (block o.0.block) (value_as o.0.ty s))) a o.2 in
-    let is : assign (Int o.0.ty) (block o.0.block) (value_as o.0.ty s.0) ≡ a = cc in
-    ended_then (copies x y) ts r e (λ us. Step vs (name l x ∷ mark m Equals ∷ name n y ∷ us) r.1 l a) (λ p. rw (← is) (form.copies o.1 s.1));
+      let o = bound (found vs x) (λ o. found vs y >>= λ s. Some (assign (Int o.ty) (block o.block) (value_as o.ty s))) a (meant vs r.0 (copies x y) a (ended_phrase (copies x y) ts r e) h) in
+      let s = bound (found vs y) (λ s. Some (assign (Int o.0.ty) (block o.0.block) (value_as o.0.ty s))) a o.2 in
+      let is : assign (Int o.0.ty) (block o.0.block) (value_as o.0.ty s.0) ≡ a = cc in
+      ended_then (copies x y) ts r e (λ us. Step vs (name l x ∷ mark m Equals ∷ name n y ∷ us) r.1 l a) (λ p. rw (← is) (form.copies o.1 s.1));
 }
 
 sets_makes : (l m n k : ℕ) (x : List ℕ) (ts : List Tok) (r : Phrase × List Tok) → ended (sets x k) ts ≡ Some r → Makes l (name l x ∷ mark m Equals ∷ number n k ∷ ts) r
 unfolding meaning
 sets_makes l m n k x ts r e = record {
   step = λ vs a h.
-    let o = bound (found vs x) (λ o. Some (assign (Int o.ty) (block o.block) (convert o.ty (const I32 (pos k))))) a (meant vs r.0 (sets x k) a (ended_phrase (sets x k) ts r e) h) in
-    let is : assign (Int o.0.ty) (block o.0.block) (convert o.0.ty (const I32 (pos k))) ≡ a = cc in
-    ended_then (sets x k) ts r e (λ us. Step vs (name l x ∷ mark m Equals ∷ number n k ∷ us) r.1 l a) (λ p. rw (← is) (form.sets o.1));
+      let o = bound (found vs x) (λ o. Some (assign (Int o.ty) (block o.block) (convert o.ty (const I32 (pos k))))) a (meant vs r.0 (sets x k) a (ended_phrase (sets x k) ts r e) h) in
+      let is : assign (Int o.0.ty) (block o.0.block) (convert o.0.ty (const I32 (pos k))) ≡ a = cc in
+      ended_then (sets x k) ts r e (λ us. Step vs (name l x ∷ mark m Equals ∷ number n k ∷ us) r.1 l a) (λ p. rw (← is) (form.sets o.1));
 }
 
 put_makes : (l m : ℕ) (w : List ℕ) (ts : List Tok) (r : Phrase × List Tok) → put w ts ≡ Some r → Makes l (name l w ∷ mark m ParenOpen ∷ ts) r
@@ -184,11 +208,11 @@ put_makes l m w ts r e =
     let p : Phrase = puts t.0 x.0.1 in
     record {
       step = λ vs a h.
-        let o = bound (found vs x.0.1) (λ o. Some (output t.0 (value_as t.0 o))) a (meant vs r.0 p a (ended_phrase p u.0 r u.2) h) in
-        let is : output t.0 (value_as t.0 o.0) ≡ a = cc in
-        let G : List Tok → Type 0 = λ us. Step vs (name l w ∷ mark m ParenOpen ∷ us) r.1 l a in
-        name_then ts x.0 x.1 G (mark_then ParenClose x.0.2 u.0 u.1 (λ us. G (name x.0.0 x.0.1 ∷ us)) (λ c.
-        ended_then p u.0 r u.2 (λ us. G (name x.0.0 x.0.1 ∷ mark c ParenClose ∷ us)) (λ s. rw (← is) (form.outputs t.1 o.1))));
+          let o = bound (found vs x.0.1) (λ o. Some (output t.0 (value_as t.0 o))) a (meant vs r.0 p a (ended_phrase p u.0 r u.2) h) in
+          let is : output t.0 (value_as t.0 o.0) ≡ a = cc in
+          let G : List Tok → Type 0 = λ us. Step vs (name l w ∷ mark m ParenOpen ∷ us) r.1 l a in
+          name_then ts x.0 x.1 G (mark_then ParenClose x.0.2 u.0 u.1 (λ us. G (name x.0.0 x.0.1 ∷ us)) (λ c.
+          ended_then p u.0 r u.2 (λ us. G (name x.0.0 x.0.1 ∷ mark c ParenClose ∷ us)) (λ s. rw (← is) (form.outputs t.1 o.1))));
     }
 
 written_makes : (l m n : ℕ) (w : List ℕ) (ts : List Tok) (r : Phrase × List Tok) → written w ts ≡ Some r → Makes l (name l w ∷ mark m ParenOpen ∷ mark n Ampersand ∷ ts) r
@@ -203,16 +227,16 @@ written_makes l m n w ts r e =
     let p : Phrase = writes x.0.1 k.0.0 in
     record {
       step = λ vs a h.
-        let o = bound (found vs x.0.1) (λ o. cond (nat_le 1 k.0.0 && nat_le k.0.0 (bytes_of o.ty)) (Some (write_bytes (addr_of (block o.block)) k.0.0)) None) a (meant vs r.0 p a (ended_phrase p v.0 r t.1) h) in
-        let f = if_some (nat_le 1 k.0.0 && nat_le k.0.0 (bytes_of o.0.ty)) (Some (write_bytes (addr_of (block o.0.block)) k.0.0)) a o.2 in
-        let b = both (nat_le 1 k.0.0) (nat_le k.0.0 (bytes_of o.0.ty)) f.0 in
-        let is : write_bytes (addr_of (block o.0.block)) k.0.0 ≡ a = cc in
-        let G : List Tok → Type 0 = λ us. Step vs (name l w ∷ mark m ParenOpen ∷ mark n Ampersand ∷ us) r.1 l a in
-        name_then ts x.0 x.1 G (mark_then Comma x.0.2 u.0 u.1 (λ us. G (name x.0.0 x.0.1 ∷ us)) (λ c.
-        number_then u.0 k.0 k.1 (λ us. G (name x.0.0 x.0.1 ∷ mark c Comma ∷ us)) (λ j.
-        mark_then ParenClose k.0.1 v.0 v.1 (λ us. G (name x.0.0 x.0.1 ∷ mark c Comma ∷ number j k.0.0 ∷ us)) (λ d.
-        ended_then p v.0 r t.1 (λ us. G (name x.0.0 x.0.1 ∷ mark c Comma ∷ number j k.0.0 ∷ mark d ParenClose ∷ us)) (λ s.
-        rw (← is) (form.writes (text_is w (codes "ep_write") t.0) o.1 (le_is 1 k.0.0 b.0) (le_is k.0.0 (bytes_of o.0.ty) b.1)))))));
+          let o = bound (found vs x.0.1) (λ o. cond (nat_le 1 k.0.0 && nat_le k.0.0 (bytes_of o.ty)) (Some (write_bytes (addr_of (block o.block)) k.0.0)) None) a (meant vs r.0 p a (ended_phrase p v.0 r t.1) h) in
+          let f = if_some (nat_le 1 k.0.0 && nat_le k.0.0 (bytes_of o.0.ty)) (Some (write_bytes (addr_of (block o.0.block)) k.0.0)) a o.2 in
+          let b = both (nat_le 1 k.0.0) (nat_le k.0.0 (bytes_of o.0.ty)) f.0 in
+          let is : write_bytes (addr_of (block o.0.block)) k.0.0 ≡ a = cc in
+          let G : List Tok → Type 0 = λ us. Step vs (name l w ∷ mark m ParenOpen ∷ mark n Ampersand ∷ us) r.1 l a in
+          name_then ts x.0 x.1 G (mark_then Comma x.0.2 u.0 u.1 (λ us. G (name x.0.0 x.0.1 ∷ us)) (λ c.
+          number_then u.0 k.0 k.1 (λ us. G (name x.0.0 x.0.1 ∷ mark c Comma ∷ us)) (λ j.
+          mark_then ParenClose k.0.1 v.0 v.1 (λ us. G (name x.0.0 x.0.1 ∷ mark c Comma ∷ number j k.0.0 ∷ us)) (λ d.
+          ended_then p v.0 r t.1 (λ us. G (name x.0.0 x.0.1 ∷ mark c Comma ∷ number j k.0.0 ∷ mark d ParenClose ∷ us)) (λ s.
+          rw (← is) (form.writes (text_is w (codes "ep_write") t.0) o.1 (le_is 1 k.0.0 b.0) (le_is k.0.0 (bytes_of o.0.ty) b.1)))))));
     }
 
 named_makes : (l m n : ℕ) (x y : List ℕ) (ts : List Tok) (r : Phrase × List Tok) → named x y ts ≡ Some r → Makes l (name l x ∷ mark m Equals ∷ name n y ∷ ts) r

@@ -1,5 +1,5 @@
 -- What the reader of the straight-line form answers.
-use Rattle.std.specs.Prelude.{◌≡◌, ℕ, Option, None, Some, Result, Ok, Err}
+use Rattle.std.specs.Prelude.{◌≡◌, Option, None, Some, Result, Ok, Err}
 use Rattle.endport.specs.declared.refusal.Refusal.{Refusal}
 use Rattle.endport.specs.declared.refusal.Halt.{Halt}
 use Rattle.endport.specs.declared.refusal.Halt.TheVariants.{Refused, Memory}

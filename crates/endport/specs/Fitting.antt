@@ -1,5 +1,5 @@
 -- Declarations whose variables fit: all together have at most 65,532 bytes.
-use Rattle.std.specs.Prelude.{ℕ, ◌≤◌, List}
+use Rattle.std.specs.Prelude.{◌≤◌, List}
 use Rattle.ep_int.specs.declared.types.IntType.{IntType}
 use Rattle.endport.specs.Tokens.{Tok}
 use Rattle.endport.specs.Form.{Variable, Names, bytes_of_all}

@@ -2,11 +2,9 @@ pub mod Tokens
 pub mod Words
 pub mod Form
 pub mod Answers
-pub mod Pieces
-pub mod Reading
-pub mod Phrases
-pub mod Listed
-pub mod Objects
-pub mod Items
 pub mod Fitting
+pub mod Reading
+pub mod Views
+pub mod Pieces
+pub mod Listed
 pub mod Mains

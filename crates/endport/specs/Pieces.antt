@@ -1,24 +1,11 @@
 -- Reading one piece of a text: a token, or white space. None where no piece begins the text.
-use Rattle.std.specs.Prelude.{◌≡◌, ℕ, Bool, true, false, if◌then◌else◌, List, [], ◌∷◌, Option, Some, None}
+use Rattle.std.specs.Prelude.{ℕ, if◌then◌else◌, List, [], ◌∷◌, Option, Some, None}
 use Rattle.std.specs.Option.{option_map}
 use denote.Ref.{Bor}
 use Rattle.endport.specs.declared.form.token.Mark.{Mark}
 use Rattle.endport.specs.declared.form.token.Token.{Token}
-use Rattle.endport.specs.declared.form.token.TokenKind.{TokenKind}
-use Rattle.endport.specs.declared.form.token.TokenKind.TheVariants as kinds
 use Rattle.endport.specs.Tokens.{Tok, name, number, mark, is_blank, is_letter, is_digit, line_after, run, after_run, is_number, decimal, mark_of}
-
--- ---- tokens in memory, seen as tokens
-
-abbrev pub view_at : ℕ → TokenKind → Tok
-view_at l (kinds.Name x) = name l x.now
-view_at l (kinds.Number n) = number l n
-view_at l (kinds.Mark m) = mark l m
-
-abbrev pub view : Token → Tok
-view t = view_at t.line t.what
-
--- ---- reading
+use Rattle.endport.specs.Views.{view}
 
 -- a token, unless there is white space; the line of what comes after it, and the bytes there
 abbrev pub Piece : Type 0

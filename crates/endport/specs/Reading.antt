@@ -1,6 +1,6 @@
 -- Reading the straight-line form part by part: each part is what stands at the front of the tokens, and the tokens after it. None where no such part does.
-use Rattle.std.specs.Prelude.{◌≡◌, ℕ, ◌≤◌, pos, Bool, true, false, ◌&&◌, nat_eq, nat_le, is_some, is_none, if◌then◌else◌, List, [], ◌∷◌, Option, Some, None, codes}
-use Rattle.std.specs.Option.{option_map_or, option_and_then}
+use Rattle.std.specs.Prelude.{ℕ, pos, Bool, true, false, ◌&&◌, nat_eq, nat_le, is_some, is_none, if◌then◌else◌, List, [], ◌∷◌, Option, Some, None, codes}
+use Rattle.std.specs.Option.{option_map_or}
 use Rattle.std.specs.Str.{bytes_eq}
 use Rattle.ep_int.specs.declared.types.IntType.{IntType}
 use Rattle.ep_int.specs.declared.types.IntType.TheVariants.{I32}
@@ -11,7 +11,7 @@ use Rattle.endport.specs.declared.form.token.Mark.{Mark}
 use Rattle.endport.specs.declared.form.token.Mark.TheVariants.{ParenOpen, ParenClose, BraceOpen, BraceClose, Comma, Semicolon, Equals, Ampersand}
 use Rattle.endport.specs.Tokens.{Tok, name, number, mark}
 use Rattle.endport.specs.Words.{is_free, declared_type, input_type, output_type}
-use Rattle.endport.specs.Form.{Variable, Object, found, declared, bytes_of_all, value_as}
+use Rattle.endport.specs.Form.{Variable, found, declared, bytes_of_all, value_as}
 
 -- ---- one token
 

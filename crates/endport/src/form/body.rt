@@ -6,7 +6,7 @@ ghost use Rattle.endport.specs.Fitting.{FitNames};
 ghost use Rattle.endport.specs.Form.{Form};
 ghost use Rattle.endport.specs.Listed.{listed};
 ghost use Rattle.endport.specs.Mains.{view_main};
-ghost use Rattle.endport.specs.Pieces.{view};
+ghost use Rattle.endport.specs.Views.{view};
 
 use crate::form::item::{Item, head, next_declarator, next_item};
 use crate::form::look::Tokens;

@@ -2,8 +2,7 @@
 
 ghost use Rattle.std.specs.Prelude.{◌≡◌, ◌<◌, ◌≤◌, length, map, IfSome, is_some};
 ghost use Rattle.std.specs.Option.{option_map};
-ghost use Rattle.endport.specs.Items.{view_item, rest_of, declarator_read, head_read};
-ghost use Rattle.endport.specs.Pieces.{view};
+ghost use Rattle.endport.specs.Views.{view_item, rest_of, declarator_read, head_read, view};
 ghost use Rattle.endport.specs.Reading as reading;
 
 use crate::form::look::{Tokens, mark, name};
@@ -13,7 +12,7 @@ use crate::form::words::declared_type;
 use ep_int::IntType;
 
 /// What comes next in the body.
-#[derive(Clone, Copy, Debug)]
+#[derive(Clone, Copy)]
 pub enum Item<'t> {
     /// The closing brace, with nothing behind it.
     Ends,
@@ -34,11 +33,7 @@ fn begins_with_name(tokens: Tokens<'_>) -> bool
 
 /// A declaration or a step, from behind its first token, a name at this line.
 #[tactic(auto, unfolding(crate::specs::Reading::named_item))]
-fn named_item<'t>(
-    line: u32,
-    first: &'t [u8],
-    tokens: Tokens<'t>,
-) -> Option<Item<'t>>
+fn named_item<'t>(line: u32, first: &'t [u8], tokens: Tokens<'t>) -> Option<Item<'t>>
     ensures value { option_map view_item result ≡ reading.named_item line first.now (map view tokens.now) }
     ensures shorter { IfSome result (λ i. length (rest_of i) ≤ length tokens.now) }
 {

@@ -2,7 +2,7 @@
 
 ghost use Rattle.std.specs.Prelude.{◌≡◌, ◌<◌, length, map, IfSome};
 ghost use Rattle.std.specs.Option.{option_map};
-ghost use Rattle.endport.specs.Pieces.{view};
+ghost use Rattle.endport.specs.Views.{view};
 ghost use Rattle.endport.specs.Reading as reading;
 
 use crate::form::token::{Mark, Token, TokenKind};

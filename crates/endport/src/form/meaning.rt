@@ -6,8 +6,7 @@ ghost use Rattle.ep_core.specs.WellFormed as types;
 ghost use Rattle.endport.specs.Answers.{Gives};
 ghost use Rattle.endport.specs.Form as form;
 ghost use Rattle.endport.specs.Listed.{listed};
-ghost use Rattle.endport.specs.Objects.{view_object};
-ghost use Rattle.endport.specs.Phrases.{view_phrase};
+ghost use Rattle.endport.specs.Views.{view_object, view_phrase};
 ghost use Rattle.endport.specs.Reading as reading;
 
 use crate::form::phrase::Phrase;

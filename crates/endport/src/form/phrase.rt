@@ -2,8 +2,7 @@
 
 ghost use Rattle.std.specs.Prelude.{◌≡◌, ◌<◌, length, map, IfSome};
 ghost use Rattle.std.specs.Option.{option_map};
-ghost use Rattle.endport.specs.Pieces.{view};
-ghost use Rattle.endport.specs.Phrases.{phrase_read, view_phrase};
+ghost use Rattle.endport.specs.Views.{view, phrase_read, view_phrase};
 ghost use Rattle.endport.specs.Reading as reading;
 
 use crate::form::look::{Tokens, mark, name, number};
@@ -12,7 +11,7 @@ use crate::form::words::{input_type, output_type};
 use ep_int::IntType;
 
 /// A step, before its names are looked up. Names lie in the source.
-#[derive(Clone, Copy, Debug)]
+#[derive(Clone, Copy)]
 pub enum Phrase<'t> {
     /// `x = ep_in_T();`
     Takes(&'t [u8], IntType),

@@ -26,10 +26,7 @@ fn number_block(ty: IntType) -> BlockInfo
 }
 
 /// The blocks of main's result and of all variables, and the numbers of the variables' blocks.
-fn blocks_of(
-    alloc: Global,
-    variables: &Variables,
-) -> Result<(Vec<BlockInfo>, Vec<u32>), AllocError>
+fn blocks_of(alloc: Global, variables: &Variables) -> Result<(Vec<BlockInfo>, Vec<u32>), AllocError>
     ensures blocks { IfOk result (λ p. map shown_block p.0.items ≡ result_block ∷ map block_of (listed variables.now.types.entries)) }
     ensures locals { IfOk result (λ p. p.1.items ≡ blocks_from 1 (listed variables.now.types.entries)) }
 {

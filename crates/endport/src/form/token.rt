@@ -5,14 +5,15 @@ ghost use Rattle.std.specs.List.{prefix_len};
 ghost use Rattle.std.specs.Option.{option_map};
 ghost use Rattle.endport.specs.Tokens as tokens;
 ghost use Rattle.endport.specs.Answers.{ReadsAs};
-ghost use Rattle.endport.specs.Pieces.{piece, number_of, view, view_piece, with_token};
+ghost use Rattle.endport.specs.Pieces.{piece, number_of, view_piece, with_token};
+ghost use Rattle.endport.specs.Views.{view};
 ghost use Rattle.endport.specs.declared.refusal.Halt.TheVariants.{Memory};
 
 use crate::refusal::{Halt, not_built};
 use std::alloc::{AllocError, Global};
 
 /// A mark of punctuation.
-#[derive(Clone, Copy, Debug, PartialEq, Eq)]
+#[derive(Clone, Copy, PartialEq, Eq)]
 pub enum Mark {
     ParenOpen,
     ParenClose,
@@ -25,7 +26,7 @@ pub enum Mark {
 }
 
 /// What a token is. A name lies in the source.
-#[derive(Clone, Copy, Debug)]
+#[derive(Clone, Copy)]
 pub enum TokenKind<'a> {
     Name(&'a [u8]),
     Number(u32),
@@ -33,7 +34,7 @@ pub enum TokenKind<'a> {
 }
 
 /// A token, at the line where it begins.
-#[derive(Clone, Copy, Debug)]
+#[derive(Clone, Copy)]
 pub struct Token<'a> {
     pub line: u32,
     pub what: TokenKind<'a>,

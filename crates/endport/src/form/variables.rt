@@ -17,14 +17,14 @@ use std::alloc::Global;
 #[derive(Drop)]
 pub struct Variables {
     pub types: IndexMap<Vec<u8>, IntType>,
-    /// All together.
+    /// How many bytes they have, all together.
     pub bytes: u32,
     ghost counted: { bytes ≡ bytes_of_all (listed types.entries) },
     ghost within: { bytes ≤ 65532 },
 }
 
 /// Where a variable is kept.
-#[derive(Clone, Copy, Debug)]
+#[derive(Clone, Copy)]
 pub struct Object {
     pub block: u32,
     pub ty: IntType,
@@ -46,7 +46,7 @@ pub fn bytes_of(ty: IntType) -> u32
 }
 
 impl Variables {
-    ghost use Rattle.endport.specs.Objects.{view_object};
+    ghost use Rattle.endport.specs.Views.{view_object};
 
     pub fn new(alloc: Global) -> Variables
         ensures { listed result.types.entries ≡ [] }

@@ -1,6 +1,6 @@
-use Rattle.std.proofs.Common.{map, refl}
+use Rattle.std.proofs.Common.{map}
 use Rattle.endport.specs.Mains.{view_main}
-use Rattle.endport.specs.Pieces.{view}
+use Rattle.endport.specs.Views.{view}
 use Rattle.endport.proofs.Forming.{is_formed}
 use Rattle.endport.proofs.form.read_form.Goals as goal
 

@@ -1,10 +1,9 @@
-use Rattle.std.proofs.Common.{◌≡◌, ◌<◌, Bool, List, length, map, Option, Some, None, IfSome, refl, sym, ap, ◌∙◌, arith}
+use Rattle.std.proofs.Common.{◌≡◌, map, Some, None, refl, sym, ap, ◌∙◌, arith}
 use Rattle.std.proofs.lemmas.Option.{IfSome_then}
 use Rattle.std.proofs.lemmas.Result.{err_from_is_err_and}
 use Rattle.std.specs.Option.{option_map}
-use Rattle.endport.specs.Items.{declarator_read}
+use Rattle.endport.specs.Views.{declarator_read, view}
 use Rattle.endport.specs.Listed.{listed}
-use Rattle.endport.specs.Pieces.{view}
 use Rattle.endport.specs.Reading.{declarator_at}
 use Rattle.endport.proofs.Naming.{goes_on, ends, refuses, refuses_name}
 use Rattle.endport.proofs.form.body.declare_names.Goals as goal
@@ -36,9 +35,11 @@ names-preserved c =
     let some : declarator_at left.0 ≡ Some (c.in-Some.name.now, c.in-Some.more, map view c.in-Some.rest.now) = sym left.2 ∙ ap (option_map declarator_read) c.in-Some.is in
     let shorter = rw c.in-Some.is at c.names.invariant.shorter in
     record {
-      left = (map view c.in-Some.rest.now,
+      left = (
+        map view c.in-Some.rest.now,
         goes_on c.args.ty (listed c.args.variables.now.types.entries) (listed c.names.variables.types.entries) (listed c.declare.new.self.types.entries) (map view c.args.tokens.now) left.0 (map view c.in-Some.rest.now)
-          c.in-Some.name.now c.in-Some.more some c.if-not-more.false c.in_ok-declare.ensures left.1,
-        c.next_declarator-next-in-names.ensures.value);
+            c.in-Some.name.now c.in-Some.more some c.if-not-more.false c.in_ok-declare.ensures left.1,
+        c.next_declarator-next-in-names.ensures.value,
+      );
       shorter = IfSome_then c.next_declarator-next-in-names.result c.next_declarator-next-in-names.ensures.shorter (λ d p. omega (arith, shorter, p));
     }

@@ -1,8 +1,7 @@
 use Rattle.std.proofs.Common.{◌≡◌, ◌<◌, ◌+◌, List, length, map, IfSome}
 use Rattle.std.specs.Option.{option_map, option_map_or}
-use Rattle.endport.specs.Items.{declarator_read}
+use Rattle.endport.specs.Views.{declarator_read, view}
 use Rattle.endport.specs.Listed.{listed}
-use Rattle.endport.specs.Pieces.{view}
 use Rattle.endport.specs.Reading.{declarator_at}
 use Rattle.endport.specs.Tokens.{Tok}
 use Rattle.endport.proofs.Naming.{Upto}
@@ -11,7 +10,7 @@ use Rattle.endport.proofs.form.body.declare_names.Given as goal
 abbrev pub invariant-names : goal.invariant-names
 invariant-names l = record {
   left : (rs : List Tok) × Upto l.ty (listed l.fn.variables.types.entries) (map view l.tokens) (listed l.variables.types.entries) rs
-    × (option_map declarator_read l.next ≡ declarator_at rs);
+      × (option_map declarator_read l.next ≡ declarator_at rs);
   shorter : IfSome l.next (λ d. length d.2.now < length l.tokens);
 }
 

@@ -1,14 +1,11 @@
-use Rattle.std.proofs.Common.{◌≡◌, ◌≤◌, ◌++◌, [], ◌∷◌, List, map, Option, Some, None, refl, sym, ap, ◌∙◌, arith}
+use Rattle.std.proofs.Common.{◌≡◌, ◌≤◌, List, map, Some, refl, sym, ap, ◌∙◌, arith}
 use Rattle.std.proofs.lemmas.Result.{err_from_is_err_and}
-use Rattle.ep_core.specs.View.{shown_what}
 use Rattle.ep_core.specs.declared.tree.Stmt as tree
 use Rattle.endport.specs.Tokens.{Tok}
 use Rattle.endport.specs.Form.{bytes_of_all}
-use Rattle.endport.specs.Items.{view_item}
+use Rattle.endport.specs.Views.{view_item, view_phrase, view}
 use Rattle.endport.specs.Listed.{listed}
-use Rattle.endport.specs.Phrases.{view_phrase}
-use Rattle.endport.specs.Pieces.{view}
-use Rattle.endport.specs.Reading.{head_at, item_at, ends, declares, step, meaning}
+use Rattle.endport.specs.Reading.{item_at, ends, declares, step}
 use Rattle.endport.proofs.Bodies.{begins, no_head, no_item, declared_on, no_names, step_on, no_meaning, finished}
 use Rattle.endport.proofs.form.body.read_main.Goals as goal
 

@@ -1,6 +1,6 @@
 use Rattle.std.proofs.Common.{length, map}
 use Rattle.endport.specs.Listed.{listed}
-use Rattle.endport.specs.Pieces.{view}
+use Rattle.endport.specs.Views.{view}
 use Rattle.endport.proofs.Bodies.{Upto}
 use Rattle.endport.proofs.form.body.read_main.Given as goal
 

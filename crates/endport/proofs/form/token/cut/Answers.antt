@@ -1,9 +1,9 @@
-use Rattle.std.proofs.Common.{◌≡◌, ◌+◌, ◌++◌, ◌<◌, ◌≤◌, [], length, map, arith, sym, subst, ◌∙◌, None, Some, refl}
+use Rattle.std.proofs.Common.{◌≡◌, map, arith, sym, None, refl}
 use Rattle.std.proofs.lemmas.Bool.Decides.{nat_tests}
 use Rattle.std.specs.Option.{option_map}
-use Rattle.endport.specs.Answers.{ReadsAs}
-use Rattle.endport.specs.Pieces.{Piece, piece, view, view_piece}
-use Rattle.endport.proofs.Cutting.{Upto, goes_on, refuses, done_at}
+use Rattle.endport.specs.Pieces.{Piece, piece}
+use Rattle.endport.specs.Views.{view}
+use Rattle.endport.proofs.Cutting.{goes_on, refuses, done_at}
 use Rattle.endport.proofs.form.token.cut.Goals as goal
 
 pub returns-in_default : goal.returns-in_default

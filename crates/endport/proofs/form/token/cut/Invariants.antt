@@ -1,5 +1,5 @@
 use Rattle.std.proofs.Common.{◌+◌, ◌≤◌, length, map}
-use Rattle.endport.specs.Pieces.{view}
+use Rattle.endport.specs.Views.{view}
 use Rattle.endport.proofs.Cutting.{Upto}
 use Rattle.endport.proofs.form.token.cut.Given as goal
 

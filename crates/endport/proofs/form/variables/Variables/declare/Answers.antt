@@ -1,7 +1,6 @@
-use Rattle.std.proofs.Common.{◌≡◌, ◌+◌, ◌≤◌, true, ap, ◌∙◌, sym, arith, refl}
-use Rattle.endport.specs.Form.{bytes_of_all, found}
+use Rattle.std.proofs.Common.{◌≡◌, true, ◌∙◌, sym, arith, refl}
 use Rattle.endport.specs.Listed.{listed}
-use Rattle.endport.specs.Reading.{allows, declaring}
+use Rattle.endport.specs.Reading.{allows}
 use Rattle.endport.proofs.Listing.{added}
 use Rattle.endport.proofs.form.variables.Variables.declare.Goals as goal
 
