@@ -10,7 +10,7 @@ use Rattle.ep_int.specs.declared.types.IntType.TheVariants.{I32}
 use Rattle.ep_int.specs.declared.types.Scalar.TheVariants.{Int}
 use Rattle.ep_int.specs.Types.{bytes_of, size_of}
 use Rattle.ep_core.specs.Program.{block, load, convert, const, What, Stmts, Block, Program}
-use Rattle.ep_core.specs.WellFormed.{number_of_type, is_same_type, contains, are_different, numbers_below, is_global, holds_scalar, blocks_fit, is_in_range, are_listed, is_number, type_of_scalar, has_type, has_bytes, place_has, type_of, bytes_fit, what_fits, stmts_fit, is_well_formed}
+use Rattle.ep_core.specs.WellFormed.{number_of_type, is_same_type, contains, are_different, numbers_below, is_global, holds_scalar, block_fits, blocks_fit, is_in_range, are_listed, is_number, type_of_scalar, has_type, has_bytes, place_has, type_of, bytes_fit, what_fits, stmts_fit, is_well_formed}
 use Rattle.ep_core.specs.WellFormed as ty
 use Rattle.endport.specs.Tokens as tokens
 use Rattle.endport.specs.Tokens.{Tok, name, number, mark, Cuts}
@@ -152,7 +152,7 @@ listed_once vs = rw (append-nil (blocks_from 1 vs)) (
     and_true (are_different (0 ∷ blocks_from 1 vs) && list_all (is_kept (all_blocks vs)) (0 ∷ blocks_from 1 vs)) _
     (and_true (are_different (0 ∷ blocks_from 1 vs)) (list_all (is_kept (all_blocks vs)) (0 ∷ blocks_from 1 vs)) different kept) whole)
 
-sizes_fit : (vs : List Variable) → list_all (λ (b : Block). nat_eq b.size (size_of b.ty)) (map block_of vs) ≡ true
+sizes_fit : (vs : List Variable) → list_all block_fits (map block_of vs) ≡ true
 sizes_fit [] = refl
 sizes_fit (v ∷ vs) = let e = same_number (bytes_of v.ty) in rw e (sizes_fit vs)
 
@@ -166,7 +166,7 @@ sum_of_sizes vs = sum_by-cons (λ (b : Block). b.size) result_block (map block_o
 all_fit : (vs : List Variable) → bytes_of_all vs ≤ 65532 → blocks_fit (all_blocks vs) ≡ true
 all_fit vs h =
     let s = sum_of_sizes vs in
-    and_true (list_all (λ (b : Block). nat_eq b.size (size_of b.ty)) (all_blocks vs)) (nat_le (sum_by (λ (b : Block). b.size) (all_blocks vs)) 65536)
+    and_true (list_all block_fits (all_blocks vs)) (nat_le (sum_by (λ (b : Block). b.size) (all_blocks vs)) 65536)
     (sizes_fit vs) (at_most (sum_by (λ (b : Block). b.size) (all_blocks vs)) 65536 (omega (arith, s)))
 
 -- ---- steps

@@ -5,3 +5,4 @@ pub mod Steps
 pub mod Naming
 pub mod Bodies
 pub mod Forming
+pub mod Telling

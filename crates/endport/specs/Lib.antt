@@ -8,3 +8,4 @@ pub mod Views
 pub mod Pieces
 pub mod Listed
 pub mod Mains
+pub mod Top

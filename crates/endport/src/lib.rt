@@ -3,3 +3,11 @@
 
 pub mod form;
 pub mod refusal;
+pub mod status;
+mod top;
+
+mod words;
+
+pub use status::Status;
+pub use top::endport;
+

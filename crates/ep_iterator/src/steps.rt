@@ -1,8 +1,8 @@
 // A count of steps.
-ghost use Rattle.std.specs.Prelude.{◌≡◌, ℕ, ◌+◌, ◌<◌};
+ghost use Rattle.std.specs.Prelude.{◌≡◌, ℕ, ◌<◌};
 
 use std::marker::Model;
-use std::sync::ledger::{Book, Ledger, Share};
+use std::sync::ledger::{Blank, Book, Ledger, Share};
 
 /// How many passes through loop bodies an analysis has made. It takes no bytes, and nothing else changes it.
 #[derive(Drop)]
@@ -17,4 +17,17 @@ impl<L: Ledger> Model for Steps<L> {
     ghost view = { λ s. s.book.total };
 
     ghost invariant = { λ s. 0 < s.share.parts };
+}
+
+impl<L: Ledger> Steps<L> {
+    /// None yet.
+    pub fn new(blank: Blank) -> Steps<L>
+        requires name { blank.name ≡ L.name }
+        requires parts { blank.parts ≡ L.parts }
+        requires some { 0 < blank.parts }
+        ensures { result ≡ 0 }
+    {
+        let (book, share) = blank.open();
+        Steps { book, share }
+    }
 }

@@ -1,0 +1,191 @@
+// The top call.
+ghost use Rattle.std.specs.Prelude.{◌≡◌, ◌++◌, ◌<◌, ◌≤◌, ◌⊎◌, [], None, Some, IfErr, IfOk, IfSome, IsSome, OnOk, codes, decimal, length, map, string_bytes, vec_len};
+ghost use Rattle.endport.specs.Answers.{not_built};
+ghost use Rattle.endport.specs.Top.{IsJob, IsTooLong, StopsSo, TextOf, WasRead, Written, plain_file, refusal_line, report_status, under};
+ghost use Rattle.ep_core.specs.Agree.{Agree, AgreeAlong};
+ghost use Rattle.ep_core.specs.Shown.{shown};
+ghost use Rattle.ep_int.specs.declared.types.Order.TheVariants.{Little, Big};
+ghost use Rattle.ep_io.specs.Bytes.{Appended, FrontAppended, NoneLeft};
+ghost use Rattle.ep_io.specs.Faults.{NeverFalls, Rose};
+ghost use Rattle.ep_iterator.specs.Pass.{report_of};
+
+use crate::form::read_form;
+use crate::refusal::{Halt, Refusal};
+use crate::status::Status;
+use crate::words::plain_file;
+use ep_alarms::{Alarms, report_text};
+use ep_core::program::CoreProgram;
+use ep_int::Memory;
+use ep_io::{ReadStop, Sink, Source, read_all, write_all};
+use ep_iterator::{Report, Steps, analyse};
+use itoa::Buffer;
+use std::alloc::{AllocError, Global};
+use std::marker::Brand;
+use std::sync::ledger::{Blank, Ledger};
+
+/// The most bytes that a source has.
+const LIMIT: u32 = 1_048_576;
+
+/// What is written where the words aren't plain.
+const USAGE: &[u8] = b"usage:\n  endport check FILE\n";
+
+// What the call comes to where the sink doesn't fail: a status, and the whole text.
+#[derive(Drop)]
+struct Job {
+    status: Status,
+    text: Vec<u8>,
+}
+
+/// Checks a file for two machines that differ in byte order alone. The words are the program's name,
+/// `check` and the file's name; `src` has the file, and the report goes to `out`.
+pub fn endport<S: Source, K: Sink>(
+    alloc: Global,
+    words: &Vec<String>,
+    src: &mut S,
+    out: &mut K,
+) -> Status
+    // What is written, and what it says of the bytes under the file.
+    ensures written {
+        let file = plain_file (map string_bytes words.now.items) in
+        Written file (under file (S.standing src.old)) result (K.written out.old) (K.written out.new) }
+
+    // When each status comes.
+    ensures usage { plain_file (map string_bytes words.now.items) ≡ None → (result ≡ Status.Usage) ⊎ (result ≡ Status.WriteFault) }
+    ensures read_fault { result ≡ Status.ReadFault → Rose (S.faults src.old) (S.faults src.new) }
+    ensures write_fault { result ≡ Status.WriteFault → Rose (K.faults out.old) (K.faults out.new) }
+    ensures too_long { result ≡ Status.TooLong → IfSome (under (plain_file (map string_bytes words.now.items)) (S.standing src.old)) IsTooLong }
+    ensures always_too_long { IfSome (under (plain_file (map string_bytes words.now.items)) (S.standing src.old)) (λ bytes.
+        IsTooLong bytes → (result ≡ Status.TooLong) ⊎ (result ≡ Status.Memory) ⊎ Rose (S.faults src.old) (S.faults src.new)) }
+
+    // What becomes of the source and the counts.
+    ensures standing { S.standing src.new ≡ S.standing src.old }
+    ensures unread { plain_file (map string_bytes words.now.items) ≡ None → src.new ≡ src.old }
+    ensures to_its_end { IsSome (plain_file (map string_bytes words.now.items)) → WasRead result → NoneLeft (S.left src.new) }
+    ensures read_faults { NeverFalls (S.faults src.old) (S.faults src.new) }
+    ensures write_faults { NeverFalls (K.faults out.old) (K.faults out.new) }
+{
+    let Some(file) = plain_file(words) else {
+        return put(out, USAGE, Status::Usage);
+    };
+    match read_and_report(alloc, file, src) {
+        Ok(job) => put(out, &job.text, job.status),
+        Err(status) => status,
+    }
+}
+
+// Writes the whole text.
+fn put<K: Sink>(out: &mut K, text: &[u8], status: Status) -> Status
+    ensures written { ((result ≡ status) × Appended (K.written out.old) text.now (K.written out.new)) ⊎
+        ((result ≡ Status.WriteFault) × FrontAppended (K.written out.old) text.now (K.written out.new) × Rose (K.faults out.old) (K.faults out.new)) }
+    ensures never_falls { NeverFalls (K.faults out.old) (K.faults out.new) }
+{
+    match write_all(out, text) {
+        Ok(()) => status,
+        Err(_) => Status::WriteFault,
+    }
+}
+
+// Reads the file, and does what it asks for.
+fn read_and_report<S: Source>(alloc: Global, file: &str, src: &mut S) -> Result<Job, Status>
+    ensures ok { IfOk result (λ j. TextOf (Some file.now) (S.standing src.old file.now) j.status j.text.items) }
+    ensures within { OnOk result (IfSome (S.standing src.old file.now) (λ bytes. length bytes ≤ 1048576)) }
+    ensures end { OnOk result (NoneLeft (S.left src.new)) }
+    ensures stop { IfErr result (λ s. StopsSo (S.standing src.old file.now) (S.faults src.old) (S.faults src.new) s) }
+    ensures standing { S.standing src.new ≡ S.standing src.old }
+    ensures never_falls { NeverFalls (S.faults src.old) (S.faults src.new) }
+{
+    let bytes = read_file(alloc, file, src)?;
+    Ok(report_on(alloc, &bytes)?)
+}
+
+// All bytes that stand under the file.
+fn read_file<S: Source>(alloc: Global, file: &str, src: &mut S) -> Result<Vec<u8>, Status>
+    ensures bytes { IfOk result (λ v. IfSome (S.standing src.old file.now) (λ standing. standing ≡ v.items)) }
+    ensures within { IfOk result (λ v. vec_len v ≤ 1048576) }
+    ensures end { OnOk result (NoneLeft (S.left src.new)) }
+    ensures stop { IfErr result (λ s. StopsSo (S.standing src.old file.now) (S.faults src.old) (S.faults src.new) s) }
+    ensures standing { S.standing src.new ≡ S.standing src.old }
+    ensures never_falls { NeverFalls (S.faults src.old) (S.faults src.new) }
+{
+    if src.begin(file).is_err() {
+        return Err(Status::ReadFault);
+    }
+    match read_all(alloc, src, LIMIT) {
+        Ok(bytes) => Ok(bytes),
+        Err(ReadStop::Fault) => Err(Status::ReadFault),
+        Err(ReadStop::TooLong) => Err(Status::TooLong),
+        Err(ReadStop::Memory) => Err(Status::Memory),
+    }
+}
+
+// The report on a source, or its refusal.
+fn report_on(alloc: Global, bytes: &[u8]) -> Result<Job, Status>
+    requires { length bytes.now ≤ 1048576 }
+    ensures ok { IfOk result (λ j. IsJob bytes.now j.status j.text.items) }
+    ensures memory { IfErr result (λ s. s ≡ Status.Memory) }
+{
+    let program = match read_form(alloc, bytes) {
+        Ok(program) => program,
+        Err(Halt::Refused(refusal)) => return refused(alloc, refusal),
+        Err(Halt::Memory) => return Err(Status::Memory),
+    };
+    let Ok(report) = uncounted::<Brand>(alloc, &program, Blank::new(1)) else {
+        return Err(Status::Memory);
+    };
+    let Ok(text) = report_text(alloc, &report.alarms) else {
+        return Err(Status::Memory);
+    };
+    Ok(Job {
+        status: status_of(&report.alarms),
+        text,
+    })
+}
+
+fn status_of(alarms: &Alarms) -> Status
+    ensures { result ≡ report_status alarms.now }
+{
+    match alarms.list() {
+        [] => Status::Done,
+        _ => Status::Alarms,
+    }
+}
+
+// An analysis whose steps nobody asks for.
+fn uncounted<L: Ledger>(alloc: Global, p: &CoreProgram, blank: Blank) -> Result<Report, Memory>
+    requires name { blank.name ≡ L.name }
+    requires parts { blank.parts ≡ L.parts }
+    requires some { 0 < blank.parts }
+    ensures exact { IfOk result (λ r. r.alarms ≡ report_of (shown p.now) Little Big) }
+    ensures sound { IfOk result (λ r. r.alarms ≡ [] → Agree (shown p.now) Little Big) }
+    ensures complete { IfOk result (λ r. Agree (shown p.now) Little Big → r.alarms ≡ []) }
+    ensures interleaved { IfOk result (λ r. r.alarms ≡ [] → AgreeAlong (shown p.now) Little Big) }
+{
+    let mut steps: Steps<L> = Steps::new(blank);
+    analyse(alloc, p, 0, &mut steps)
+}
+
+// The line of a refusal.
+fn refused(alloc: Global, refusal: Refusal) -> Result<Job, Status>
+    requires { refusal ≡ not_built }
+    ensures ok { IfOk result (λ j. (j.status ≡ Status.Refused) × (j.text.items ≡ refusal_line)) }
+    ensures memory { IfErr result (λ s. s ≡ Status.Memory) }
+{
+    match refusal_text(alloc, refusal) {
+        Ok(text) => Ok(Job {
+            status: Status::Refused,
+            text,
+        }),
+        Err(_) => Err(Status::Memory),
+    }
+}
+
+fn refusal_text(alloc: Global, refusal: Refusal) -> Result<Vec<u8>, AllocError>
+    ensures { IfOk result (λ v. v.items ≡ decimal refusal.line ++ codes ": refused " ++ decimal refusal.kind ++ codes " not-built\n") }
+{
+    let mut number = Buffer::new();
+    let mut text = Vec::from_slice(alloc, number.format(refusal.line).as_bytes())?;
+    text.extend_from_slice(b": refused ")?;
+    text.extend_from_slice(number.format(refusal.kind).as_bytes())?;
+    text.extend_from_slice(b" not-built\n")?;
+    Ok(text)
+}
