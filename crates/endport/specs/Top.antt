@@ -139,3 +139,14 @@ WasRead ReadFault = ⊥
 WasRead WriteFault = Unit {0}
 WasRead Memory = ⊥
 WasRead TooLong = ⊥
+
+-- nothing is written at all
+abbrev pub IsSilent : Status → Type 0
+IsSilent Done = ⊥
+IsSilent Alarms = ⊥
+IsSilent Refused = ⊥
+IsSilent Usage = ⊥
+IsSilent ReadFault = Unit {0}
+IsSilent WriteFault = ⊥
+IsSilent Memory = Unit {0}
+IsSilent TooLong = Unit {0}

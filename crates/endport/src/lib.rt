@@ -5,9 +5,7 @@ pub mod form;
 pub mod refusal;
 pub mod status;
 mod top;
-
 mod words;
 
 pub use status::Status;
 pub use top::endport;
-

@@ -1,7 +1,7 @@
 // The top call.
 ghost use Rattle.std.specs.Prelude.{◌≡◌, ◌++◌, ◌<◌, ◌≤◌, ◌⊎◌, [], None, Some, IfErr, IfOk, IfSome, IsSome, OnOk, codes, decimal, length, map, string_bytes, vec_len};
 ghost use Rattle.endport.specs.Answers.{not_built};
-ghost use Rattle.endport.specs.Top.{IsJob, IsTooLong, StopsSo, TextOf, WasRead, Written, plain_file, refusal_line, report_status, under};
+ghost use Rattle.endport.specs.Top.{IsJob, IsSilent, IsTooLong, StopsSo, TextOf, WasRead, Written, plain_file, refusal_line, report_status, under};
 ghost use Rattle.ep_core.specs.Agree.{Agree, AgreeAlong};
 ghost use Rattle.ep_core.specs.Shown.{shown};
 ghost use Rattle.ep_int.specs.declared.types.Order.TheVariants.{Little, Big};
@@ -22,6 +22,9 @@ use itoa::Buffer;
 use std::alloc::{AllocError, Global};
 use std::marker::Brand;
 use std::sync::ledger::{Blank, Ledger};
+
+#[cfg(test)]
+mod tests;
 
 /// The most bytes that a source has.
 const LIMIT: u32 = 1_048_576;
@@ -48,6 +51,8 @@ pub fn endport<S: Source, K: Sink>(
     ensures written {
         let file = plain_file (map string_bytes words.now.items) in
         Written file (under file (S.standing src.old)) result (K.written out.old) (K.written out.new) }
+
+    ensures silent { IsSilent result → out.new ≡ out.old }
 
     // When each status comes.
     ensures usage { plain_file (map string_bytes words.now.items) ≡ None → (result ≡ Status.Usage) ⊎ (result ≡ Status.WriteFault) }
