@@ -88,10 +88,10 @@ line_of r e = rw e refl
 -- ---- what was written
 
 whole : (file told : Option (List ℕ)) (status : Status) (text : List ℕ) (before after : Option (List ℕ)) → TextOf file told status text → Appended before text after → Written file told status before after
-whole file told Done text before after t a = (text , t , a)
-whole file told Alarms text before after t a = (text , t , a)
-whole file told Refused text before after t a = (text , t , a)
-whole file told Usage text before after t a = (text , t , a)
+whole file told Done text before after t a = (text, t, a)
+whole file told Alarms text before after t a = (text, t, a)
+whole file told Refused text before after t a = (text, t, a)
+whole file told Usage text before after t a = (text, t, a)
 whole file told ReadFault text before after t a = absurd t
 whole file told WriteFault text before after t a = absurd t
 whole file told Memory text before after t a = absurd t
@@ -100,5 +100,5 @@ whole file told TooLong text before after t a = absurd t
 pub written : (file told : Option (List ℕ)) (status result : Status) (text : List ℕ) (before after : Option (List ℕ)) (was now : ℕ) → TextOf file told status text
     → ((result ≡ status) × Appended before text after) ⊎ ((result ≡ WriteFault) × FrontAppended before text after × Rose was now)
     → Written file told result before after
-written file told status result text before after was now t (inl (e , a)) = rw e (whole file told status text before after t a)
-written file told status result text before after was now t (inr (e , f , r)) = rw e (status , text , t , f)
+written file told status result text before after was now t (inl (e, a)) = rw e (whole file told status text before after t a)
+written file told status result text before after was now t (inr (e, f, r)) = rw e (status, text, t, f)

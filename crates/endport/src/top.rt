@@ -48,8 +48,7 @@ pub fn endport<S: Source, K: Sink>(
     out: &mut K,
 ) -> Status
     // What is written, and what it says of the bytes under the file.
-    ensures written {
-        let file = plain_file (map string_bytes words.now.items) in
+    ensures written { let file = plain_file (map string_bytes words.now.items) in
         Written file (under file (S.standing src.old)) result (K.written out.old) (K.written out.new) }
 
     ensures silent { IsSilent result → out.new ≡ out.old }

@@ -7,11 +7,9 @@ use std::test::Fail;
 
 const CHECK: &[&str] = &["endport", "check", "file.c"];
 
-const NUMBER: &str =
-    "int main(void) {\n  uint32_t x;\n  x = ep_in_u32();\n  ep_out_u32(x);\n}\n";
+const NUMBER: &str = "int main(void) {\n  uint32_t x;\n  x = ep_in_u32();\n  ep_out_u32(x);\n}\n";
 
-const BYTES: &str =
-    "int main(void) {\n  uint32_t x;\n  x = ep_in_u32();\n  ep_write(&x, 4);\n}\n";
+const BYTES: &str = "int main(void) {\n  uint32_t x;\n  x = ep_in_u32();\n  ep_write(&x, 4);\n}\n";
 
 const REFUSED: &str = "1: refused 50 not-built\n";
 
@@ -107,11 +105,7 @@ fn sources_and_their_reports(rt: HostRuntime) -> Result<(), Fail> {
             "2: E1 output-differs left [1,2] right [0,0]\n1 alarms\n",
         ),
         ("int main(void){uint32_t a,a;}", Status::Refused, REFUSED),
-        (
-            "int main(void){a=1;uint32_t a;}",
-            Status::Refused,
-            REFUSED,
-        ),
+        ("int main(void){a=1;uint32_t a;}", Status::Refused, REFUSED),
         (
             "int main(void){uint32_t a;a=1;ep_write(&a,0);}",
             Status::Refused,

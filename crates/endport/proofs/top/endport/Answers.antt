@@ -6,4 +6,4 @@ use Rattle.endport.proofs.top.endport.Goals as goal
 
 -- src/top.rt:68:9
 pub returns-in_default-clause-written : goal.returns-in_default-clause-written
-returns-in_default-clause-written g c = written _ _ Usage c.put.result usage_text _ _ _ _ (rw (← c.deref.ensures.value, c.in_default.ensures) (refl , refl)) c.put.ensures.written
+returns-in_default-clause-written g c = written _ _ Usage c.put.result usage_text _ _ _ _ (rw (← c.deref.ensures.value, c.in_default.ensures) (refl, refl)) c.put.ensures.written
