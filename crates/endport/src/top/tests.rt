@@ -42,8 +42,9 @@ fn numbers(alloc: Global, number: Option<u32>) -> Result<Vec<u32>, Fail> {
     })
 }
 
-/// The status of a call and what it wrote, with a sink that takes four bytes at once.
-fn call(alloc: Global, case: &Case) -> Result<(Status, Vec<u8>), Fail> {
+/// The status of a call and what it wrote, with a sink that takes four bytes at once. Where memory runs
+/// out nothing is written, and the test ends so.
+fn call(rt: &impl Abort, alloc: Global, case: &Case) -> Result<(Status, Vec<u8>), Fail> {
     let mut words = Vec::new(alloc);
     for word in case.words.iter() {
         words.push(String::from_str(alloc, word)?)?;
@@ -53,6 +54,10 @@ fn call(alloc: Global, case: &Case) -> Result<(Status, Vec<u8>), Fail> {
     let mut source = MemSource::new(name, content, numbers(alloc, case.failing_read)?, 1000);
     let mut sink = MemSink::new(alloc, 1000, numbers(alloc, case.failing_write)?, 4)?;
     let status = endport(alloc, &words, &mut source, &mut sink);
+    if status == Status::Memory {
+        assert!(rt; sink.bytes().is_empty());
+        return Err("memory")?;
+    }
     Ok((status, Vec::from_slice(alloc, sink.bytes())?))
 }
 
@@ -63,7 +68,7 @@ fn expect(
     status: Status,
     text: &str,
 ) -> Result<(), Fail> {
-    let (ended, written) = call(alloc, case)?;
+    let (ended, written) = call(rt, alloc, case)?;
     assert_eq!(rt; ended, status);
     assert_eq!(rt; written.as_slice(), text.as_bytes());
     Ok(())
