@@ -1,0 +1,5 @@
+pub mod Expression
+pub mod Declaration
+pub mod Statement
+pub mod Token
+pub mod Refusal
