@@ -3,3 +3,5 @@ pub mod Declaration
 pub mod Statement
 pub mod Token
 pub mod Refusal
+pub mod Lexeme
+pub mod Cut

@@ -1,0 +1,11 @@
+//! Cutting a source into its tokens.
+#![tactic(auto)]
+
+mod bytes;
+mod numbers;
+mod things;
+mod tokens;
+mod words;
+
+pub use ep_ast::Literal;
+pub use tokens::{Token, TokenKind, Tokens};
