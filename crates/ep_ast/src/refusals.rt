@@ -1,6 +1,6 @@
 ghost use Rattle.std.specs.Prelude.{◌≡◌, ◌++◌, IfOk, OnOk};
 ghost use Rattle.ep_ast.specs.Refusal as spec;
-ghost use Rattle.ep_ast.specs.declared.refusals.Halt.TheVariants.{Memory as wanting};
+ghost use Rattle.ep_ast.specs.declared.refusals.Halt.TheVariants.{Memory as wanting, Refused as refused};
 
 use ep_int::Memory;
 use itoa::Buffer;
@@ -42,6 +42,14 @@ impl From<Memory> for Halt {
 
     fn from(_e: Memory) -> Halt {
         Halt::Memory
+    }
+}
+
+impl From<Refusal> for Halt {
+    ghost from_gives = { λ r e. e ≡ refused r };
+
+    fn from(r: Refusal) -> Halt {
+        Halt::Refused(r)
     }
 }
 

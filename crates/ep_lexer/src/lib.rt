@@ -2,6 +2,9 @@
 #![tactic(auto)]
 
 mod bytes;
+mod definitions;
+mod directives;
+mod lexer;
 mod numbers;
 mod things;
 mod tokens;

@@ -27,7 +27,8 @@ pub struct Next<'a> {
     pub rest: &'a [u8],
 }
 
-fn refusal(kind: u8, line: u32) -> Refusal
+/// A refusal that names no word.
+pub fn refusal(kind: u8, line: u32) -> Refusal
     ensures { result ≡ at_line kind line }
 {
     Refusal {
@@ -104,7 +105,7 @@ fn sign_at<'a>(line: u32, bytes: &'a [u8]) -> Result<Next<'a>, Refusal>
 }
 
 #[tactic(auto, unfolding(crate::specs::Step::thing_at))]
-fn thing_at<'a>(line: u32, bytes: &'a [u8]) -> Result<Next<'a>, Refusal>
+pub fn thing_at<'a>(line: u32, bytes: &'a [u8]) -> Result<Next<'a>, Refusal>
     ensures value { step.shown step.view_next result ≡ step.thing_at line bytes.now }
     ensures shorter { IfOk result (λ n. length n.rest.now + step.weight n.thing ≤ length bytes.now) }
     ensures same { IfOk result (λ n. n.line ≡ line) }
