@@ -1,5 +1,5 @@
 -- How the bytes of a source cut into tokens, and what offends there: C11 6.4 and 6.10, with this project's directives.
-use Rattle.std.specs.Prelude.{◌≡◌, ℕ, suc, ◌+◌, ◌-◌, Bool, true, false, ◌&&◌, ◌||◌, not, ◌==◌, nat_eq, if◌then◌else◌, List, [], ◌∷◌, ◌++◌, length, drop, codes, Option, Some, None, is_some, is_none}
+use Rattle.std.specs.Prelude.{◌≡◌, ℕ, ◌+◌, Bool, true, false, ◌&&◌, ◌||◌, not, ◌==◌, nat_eq, if◌then◌else◌, List, [], ◌∷◌, ◌++◌, length, drop, codes, Option, Some, None, is_some, is_none}
 use Rattle.std.specs.List.{position_from, starts_with, list_any}
 use Rattle.std.specs.Str.{bytes_eq}
 use Rattle.ep_int.specs.declared.types.Order.{Order}
@@ -191,14 +191,14 @@ abbrev pub shapes : Place → List (List (Thing → Bool))
 shapes p =
     let c = p.constants in
     let plain : List ℕ → Thing → Bool = λ w. is_named (λ t. bytes_eq t w && is_none (constant c t)) in
-    let word : List ℕ → Thing → Bool = λ w. is_named (bytes_eq w) in
+    let word : List ℕ → Thing → Bool = λ w. is_named (λ t. bytes_eq t w) in
     if is_outside p.open_arm then
-        (word (codes "define") ∷ is_named (may_define c) ∷ (λ t. is_some (value c t)) ∷ is_over ∷ [])
-        ∷ (word (codes "include") ∷ [])
-        ∷ (word (codes "if") ∷ plain (codes "__BYTE_ORDER__") ∷ is_mark equals ∷ (λ t. plain (order_name Little) t || plain (order_name Big) t) ∷ is_over ∷ [])
-        ∷ []
+    (word (codes "define") ∷ is_named (may_define c) ∷ (λ t. is_some (value c t)) ∷ is_over ∷ [])
+    ∷ (word (codes "include") ∷ [])
+    ∷ (word (codes "if") ∷ plain (codes "__BYTE_ORDER__") ∷ is_mark equals ∷ (λ t. plain (order_name Little) t || plain (order_name Big) t) ∷ is_over ∷ [])
+    ∷ []
     else
-        (word (codes "endif") ∷ is_over ∷ []) ∷ (if is_first p.open_arm then (word (codes "else") ∷ is_over ∷ []) ∷ [] else [])
+    (word (codes "endif") ∷ is_over ∷ []) ∷ (if is_first p.open_arm then (word (codes "else") ∷ is_over ∷ []) ∷ [] else [])
 
 -- whether the things begin a directive
 abbrev pub may_begin : Place → List Thing → Bool
@@ -207,14 +207,14 @@ may_begin p ts = list_any (λ fs. pass fs ts) (shapes p)
 -- whether they are `include` alone, behind which stands a header name
 abbrev pub is_include : List Thing → Bool
 is_include [] = false
-is_include (t ∷ ts) = is_named (bytes_eq (codes "include")) t
+is_include (t ∷ ts) = is_named (λ w. bytes_eq w (codes "include")) t
 
 -- the kind of a wrong directive that begins with this thing: conditionals 7, includes 6, others 5; inside a conditional 7
 abbrev pub directive_kind : Place → List Thing → ℕ
 directive_kind p [] = 5
 directive_kind p (t ∷ ts) =
     if not (is_outside p.open_arm) || is_named (λ w. list_any (bytes_eq w) (codes "if" ∷ codes "elif" ∷ codes "else" ∷ codes "endif" ∷ [])) t then 7
-    else if is_named (bytes_eq (codes "include")) t then 6
+    else if is_named (λ w. bytes_eq w (codes "include")) t then 6
     else 5
 
 abbrev pub at_line : ℕ → ℕ → Refusal

@@ -1,6 +1,8 @@
 -- The line that says why a source is refused: this project's kinds and their names.
 use Rattle.std.specs.Prelude.{ℕ, ◌-◌, ◌==◌, if◌then◌else◌, List, [], ◌++◌, codes, decimal, slice_index_or}
 use Rattle.ep_ast.specs.declared.refusals.Refusal.{Refusal}
+use Rattle.ep_ast.specs.declared.refusals.Halt.{Halt}
+use Rattle.ep_ast.specs.declared.refusals.Halt.TheVariants as halts
 use Rattle.ep_ast.specs.Token.{reserved_words}
 
 -- each kind with its name
@@ -53,3 +55,8 @@ word_part r = if r.kind == 8 then codes " " ++ reserved_word r.word else []
 abbrev pub refusal_line : Refusal → List ℕ
 refusal_line r =
     decimal r.line ++ codes ": refused " ++ decimal r.kind ++ codes " " ++ kind_name r.kind ++ word_part r ++ codes "\n"
+
+-- what holds of the refusal, where reading did not stop for want of memory
+abbrev pub IfRefused : Halt → (Refusal → Type 0) → Type 0
+IfRefused halts.Memory P = Unit {0}
+IfRefused (halts.Refused r) P = P r

@@ -1,7 +1,7 @@
 -- Blanks and comments, and reading past them.
-use Rattle.std.proofs.Common.{◌≡◌, ℕ, zero, suc, ◌+◌, ◌≤◌, ◌<◌, Bool, true, false, cond, ◌&&◌, ◌==◌, List, [], ◌∷◌, length, drop, slice_index, Option, Some, None, refl, sym, ap, ◌∙◌, subst, arith, inl, inr, ◌⊎◌, length-drop}
+use Rattle.std.proofs.Common.{◌≡◌, ℕ, zero, suc, ◌≤◌, Bool, true, false, cond, ◌&&◌, ◌==◌, List, [], ◌∷◌, length, drop, slice_index, Option, Some, None, refl, sym, ◌∙◌, subst, arith, inl, inr, length-drop}
 use Rattle.ep_ast.specs.Lexeme.{is_blank, opens_comment, opens_remark, line_after, past_comment, to_line_end, Gap, here, blank, remark, comment}
-use Rattle.ep_lexer.specs.Step.{Skipped, stopped, unclosed, skip, plain}
+use Rattle.ep_lexer.specs.Step.{stopped, unclosed, skip, plain}
 use Rattle.ep_lexer.proofs.Skips.{remark_skips, comment_open, comment_over}
 use Rattle.ep_lexer.proofs.Tests.{test_cases, option_cases, is_number}
 
@@ -69,9 +69,9 @@ gap_within (suc n) l (b ∷ bs) k =
           | inl c ↦ elim (option_cases (past_comment l (drop 1 bs))) [
             | inl e ↦ open_at l b bs here c e (comment_open l (b ∷ bs) c e)
             | inr e ↦
-              let s = past_shorter l (drop 1 bs) e.0 e.1 in
-              let d = length-drop 1 bs in
-              under (λ m cs g. comment e.0.0 e.0.1 c e.1 g) (comment_over l (b ∷ bs) e.0 c e.1) (gap_within n e.0.0 e.0.1 (omega (arith, s, d)))
+                let s = past_shorter l (drop 1 bs) e.0 e.1 in
+                let d = length-drop 1 bs in
+                under (λ m cs g. comment e.0.0 e.0.1 c e.1 g) (comment_over l (b ∷ bs) e.0 c e.1) (gap_within n e.0.0 e.0.1 (omega (arith, s, d)))
           ]
           | inr c ↦ over_at l (b ∷ bs) here (h, r, c) (stays l (b ∷ bs) (h, r, c))
         ]

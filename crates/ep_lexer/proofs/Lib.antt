@@ -6,3 +6,7 @@ pub mod Tests
 pub mod Classes
 pub mod Gaps
 pub mod NextLemmas
+pub mod Pieces
+pub mod DirectiveLemmas
+pub mod ArmLemmas
+pub mod Steps

@@ -1,14 +1,11 @@
 -- What stands next on a line, and reading it.
-use Rattle.std.proofs.Common.{◌≡◌, ℕ, suc, ◌+◌, ◌≤◌, ◌<◌, Bool, true, false, cond, ◌&&◌, ◌||◌, ◌==◌, nat_eq, List, [], ◌∷◌, length, drop, Option, Some, None, Result, Ok, Err, refl, sym, ap, ◌∙◌, subst, arith, inl, inr, ◌⊎◌}
-use Rattle.std.specs.List.{list_any}
-use Rattle.ep_ast.specs.declared.expressions.Literal.{Literal}
-use Rattle.ep_ast.specs.declared.refusals.Refusal.{Refusal}
-use Rattle.ep_ast.specs.Lexeme.{is_blank, is_letter, is_digit, is_word, opens_comment, opens_remark, past_comment, word_text, after_word, number_text, after_number, literal, character, of_character, mark_at, mark_len, Thing, over, hash, quote, name, number, mark, Gap, Begins, at_end, at_newline, a_hash, a_quote, a_name, a_number, a_character, a_mark, Spoilt, bad_number, bad_character, bad_byte, Next, Breaks, unclosed as unclosed_comment, spoilt}
+use Rattle.std.proofs.Common.{◌≡◌, ℕ, Bool, true, false, ◌||◌, ◌==◌, List, [], ◌∷◌, drop, Ok, Err, refl, ap, ◌∙◌, inl, inr}
+use Rattle.ep_ast.specs.Lexeme.{is_letter, is_digit, word_text, after_word, number_text, after_number, literal, character, of_character, mark_at, mark_len, Thing, over, hash, quote, name, number, mark, Gap, Begins, at_end, at_newline, a_hash, a_quote, a_name, a_number, a_character, a_mark, Spoilt, bad_number, bad_character, bad_byte, Next, Breaks, unclosed as unclosed_comment, spoilt}
 use Rattle.ep_ast.specs.Cut.{at_line}
-use Rattle.ep_lexer.specs.Step.{Found, Skipped, stopped, unclosed, skip, plain, thing_at, next, next_from}
+use Rattle.ep_lexer.specs.Step.{thing_at, next, next_from}
 use Rattle.ep_lexer.proofs.Tests.{test_cases, option_cases, is_number}
 use Rattle.ep_lexer.proofs.Classes.{letter_word, digit_word, digit_no_letter, word_apart, word_no_blank, word_no_comment, word_no_remark, mark_no_word, no_letter, no_digit, mark_no_newline, mark_no_hash, mark_no_quote, mark_no_tick, mark_no_blank}
-use Rattle.ep_lexer.proofs.Gaps.{Stops, stays, gap_skips, GapIs, over_at, open_at, gap_is}
+use Rattle.ep_lexer.proofs.Gaps.{Stops, stays, gap_skips, over_at, open_at, gap_is}
 use Rattle.ep_lexer.proofs.Skips.{comment_open}
 
 -- where something begins, no blank and no comment stands

@@ -1,8 +1,8 @@
 -- Reading past a comment byte by byte, and at once.
-use Rattle.std.proofs.Common.{◌≡◌, ℕ, ◌+◌, ◌<◌, ◌≤◌, Bool, true, false, cond, ◌&&◌, ◌==◌, List, [], ◌∷◌, length, drop, get_or, slice_index, Option, Some, None, refl, ◌∙◌, arith}
+use Rattle.std.proofs.Common.{◌≡◌, ℕ, ◌<◌, ◌≤◌, Bool, true, false, cond, ◌&&◌, ◌==◌, List, [], ◌∷◌, length, drop, get_or, slice_index, Option, Some, None, refl, arith}
 use Rattle.std.proofs.lemmas.Bool.Decides.{nat_tests}
 use Rattle.ep_ast.specs.Lexeme.{is_blank, opens_comment, opens_remark, line_after, past_comment, to_line_end}
-use Rattle.ep_lexer.specs.Step.{Skipped, stopped, unclosed, skip, plain, opening, inside, closing}
+use Rattle.ep_lexer.specs.Step.{Skipped, stopped, unclosed, skip, plain, inside, closing}
 
 abbrev pub behind : ℕ → Option (ℕ × List ℕ) → Skipped
 behind from None = unclosed from
@@ -22,7 +22,7 @@ unfolding skip
 inside_is from l [] = refl
 inside_is from l (b ∷ bs) =
     cases from (b == 42 && slice_index bs 0 == 47) (l, drop 1 bs) (past_comment (line_after l b) bs) (skip closing l bs) (skip (inside from) (line_after l b) bs) (closes from l bs)
-        (inside_is from (line_after l b) bs)
+    (inside_is from (line_after l b) bs)
 
 pub blank_skips : (l : ℕ) (bs : List ℕ) → 0 < length bs → is_blank (get_or bs 0 0) ≡ true → skip plain l bs ≡ skip plain l (drop 1 bs)
 unfolding skip

@@ -24,4 +24,4 @@ pub added : (k : Vec ℕ) (v : Literal) (es : List (Vec ℕ × Literal)) → con
 added k v [] h = refl
 added k v (e ∷ es) h =
     step (bytes_eq k.items e.0.items) k.items e e.1 (constant (map entry es) k.items) ((e.0, v) ∷ es) (insert_entry (λ p q. bytes_eq p.items q.items) es k v)
-        (map entry es ++ (k.items, v) ∷ []) h (added k v es)
+    (map entry es ++ (k.items, v) ∷ []) h (added k v es)

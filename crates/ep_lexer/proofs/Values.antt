@@ -1,6 +1,6 @@
 -- The value of digits read one by one.
-use Rattle.std.proofs.Common.{◌≡◌, ℕ, ◌+◌, ◌*◌, ◌^◌, ◌≤◌, ◌<◌, List, [], ◌∷◌, fold, arith, refl}
-use Rattle.ep_ast.specs.Lexeme.{digit_value, value_of}
+use Rattle.std.proofs.Common.{ℕ, ◌+◌, ◌*◌, ◌^◌, ◌≤◌, ◌<◌, List, [], ◌∷◌, fold, arith}
+use Rattle.ep_ast.specs.Lexeme.{digit_value}
 
 -- the value of digits behind those of n
 abbrev pub value_from : ℕ → ℕ → List ℕ → ℕ

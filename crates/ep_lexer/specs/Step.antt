@@ -1,6 +1,5 @@
 -- Reading a source from left to right.
-use Rattle.std.specs.Prelude.{◌≡◌, ℕ, ◌+◌, Bool, true, false, ◌&&◌, ◌||◌, ◌==◌, if◌then◌else◌, List, [], ◌∷◌, ◌++◌, drop, take, length, slice_index, Option, Some, None, is_none, map, codes, Result, Ok, Err}
-use Rattle.std.specs.List.{prefix_len}
+use Rattle.std.specs.Prelude.{◌≡◌, ℕ, ◌+◌, Bool, true, false, ◌&&◌, ◌||◌, ◌==◌, if◌then◌else◌, List, [], ◌∷◌, ◌++◌, drop, slice_index, Option, Some, None, is_none, map, codes, Result, Ok, Err}
 use denote.Ref.{Bor}
 use Rattle.ep_ast.specs.declared.expressions.Literal.{Literal}
 use Rattle.ep_ast.specs.declared.refusals.Refusal.{Refusal}
@@ -13,7 +12,7 @@ use Rattle.ep_ast.specs.Token as token
 use Rattle.ep_ast.specs.Token.{Tok}
 use Rattle.ep_ast.specs.declared.refusals.Halt.{Halt}
 use Rattle.ep_ast.specs.declared.refusals.Halt.TheVariants as halts
-use Rattle.ep_lexer.specs.Tokens.{view, view_at}
+use Rattle.ep_lexer.specs.Tokens.{view}
 use Rattle.ep_lexer.specs.declared.lexer.Place as places
 use Rattle.ep_lexer.specs.declared.lexer.Step as steps
 use Rattle.ep_lexer.specs.declared.tokens.Token.{Token}

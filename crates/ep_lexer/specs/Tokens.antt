@@ -1,9 +1,9 @@
 -- Tokens, without where they lie in memory.
-use Rattle.std.specs.Prelude.{ℕ, List}
-use Rattle.std.specs.Global.{Vec}
+use Rattle.std.specs.Prelude.{ℕ, List, map}
 use Rattle.ep_ast.specs.Token as token
 use Rattle.ep_ast.specs.Token.{Tok}
 use Rattle.ep_lexer.specs.declared.tokens.Token.{Token}
+use Rattle.ep_lexer.specs.declared.tokens.Tokens.{Tokens}
 use Rattle.ep_lexer.specs.declared.tokens.TokenKind.{TokenKind}
 use Rattle.ep_lexer.specs.declared.tokens.TokenKind.TheVariants as kinds
 
@@ -19,3 +19,6 @@ view_at l kinds.EndIf = token.end_if l
 
 abbrev pub view : Token → Tok
 view t = view_at t.line t.what
+
+abbrev pub view_all : Tokens → List Tok
+view_all ts = map view ts.list.items

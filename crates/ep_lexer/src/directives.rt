@@ -66,7 +66,12 @@ fn over_at<'a>(kind: u8, hash: u32, line: u32, bytes: &'a [u8]) -> Result<(u32, 
     }
 }
 
-fn name_at<'a>(kind: u8, hash: u32, line: u32, bytes: &'a [u8]) -> Result<(&'a [u8], u32, &'a [u8]), Refusal>
+fn name_at<'a>(
+    kind: u8,
+    hash: u32,
+    line: u32,
+    bytes: &'a [u8],
+) -> Result<(&'a [u8], u32, &'a [u8]), Refusal>
     requires { line + length bytes.now < 2 ^ 32 }
     ensures value { step.shown (λ p. (p.0.now, p.1, p.2.now)) result ≡ step.name_at kind hash line bytes.now }
     ensures within { IfOk result (λ p. p.1 + length p.2.now ≤ line + length bytes.now) }
@@ -89,7 +94,12 @@ fn value(defined: &Definitions, thing: Thing) -> Option<Literal>
     }
 }
 
-fn constant_at<'a>(defined: &Definitions, hash: u32, line: u32, bytes: &'a [u8]) -> Result<(Literal, u32, &'a [u8]), Refusal>
+fn constant_at<'a>(
+    defined: &Definitions,
+    hash: u32,
+    line: u32,
+    bytes: &'a [u8],
+) -> Result<(Literal, u32, &'a [u8]), Refusal>
     requires { line + length bytes.now < 2 ^ 32 }
     ensures value { step.shown (λ p. (p.0, p.1, p.2.now)) result ≡ step.constant_at (step.constants defined.now) hash line bytes.now }
     ensures within { IfOk result (λ p. p.1 + length p.2.now ≤ line + length bytes.now) }
@@ -141,7 +151,12 @@ fn order_of(defined: &Definitions, name: &[u8]) -> Option<Order>
 
 /// Behind `define`: the name, its constant, and the end of the line.
 #[tactic(auto, unfolding(crate::specs::Step::define_at))]
-fn define_at<'a>(defined: &Definitions, hash: u32, line: u32, bytes: &'a [u8]) -> Result<Directive<'a>, Refusal>
+fn define_at<'a>(
+    defined: &Definitions,
+    hash: u32,
+    line: u32,
+    bytes: &'a [u8],
+) -> Result<Directive<'a>, Refusal>
     requires { line + length bytes.now < 2 ^ 32 }
     ensures value { step.shown step.view_done result ≡ step.define_at (step.constants defined.now) hash line bytes.now }
     ensures fresh { IfOk result (λ d. step.IsNew (step.constants defined.now) (step.view_effect d.effect)) }
@@ -163,7 +178,12 @@ fn define_at<'a>(defined: &Definitions, hash: u32, line: u32, bytes: &'a [u8]) -
 
 /// Behind `if`: the condition on the byte order, and the end of the line.
 #[tactic(auto, unfolding(crate::specs::Step::condition_at))]
-fn condition_at<'a>(defined: &Definitions, hash: u32, line: u32, bytes: &'a [u8]) -> Result<Directive<'a>, Refusal>
+fn condition_at<'a>(
+    defined: &Definitions,
+    hash: u32,
+    line: u32,
+    bytes: &'a [u8],
+) -> Result<Directive<'a>, Refusal>
     requires { line + length bytes.now < 2 ^ 32 }
     ensures value { step.shown step.view_done result ≡ step.condition_at (step.constants defined.now) hash line bytes.now }
     ensures fresh { IfOk result (λ d. step.IsNew (step.constants defined.now) (step.view_effect d.effect)) }
@@ -206,7 +226,13 @@ fn after_header(bytes: &[u8]) -> Option<&[u8]>
 }
 
 /// Where the line ends here, a directive with this effect.
-fn ending_at<'a>(effect: Effect<'a>, kind: u8, hash: u32, line: u32, bytes: &'a [u8]) -> Result<Directive<'a>, Refusal>
+fn ending_at<'a>(
+    effect: Effect<'a>,
+    kind: u8,
+    hash: u32,
+    line: u32,
+    bytes: &'a [u8],
+) -> Result<Directive<'a>, Refusal>
     requires { line + length bytes.now < 2 ^ 32 }
     ensures value { step.shown step.view_done result ≡ step.ending_at (step.view_effect effect.entry) kind hash line bytes.now }
     ensures effect { IfOk result (λ d. step.view_effect d.effect ≡ step.view_effect effect.entry) }
@@ -241,10 +267,20 @@ fn include_at<'a>(hash: u32, line: u32, bytes: &'a [u8]) -> Result<Directive<'a>
 fn word_kind(word: &[u8]) -> u8
     ensures { result ≡ step.word_kind word.now }
 {
-    if word == b"elif".as_slice() || word == b"else".as_slice() || word == b"endif".as_slice() { 7 } else { 5 }
+    if word == b"elif".as_slice() || word == b"else".as_slice() || word == b"endif".as_slice() {
+        7
+    } else {
+        5
+    }
 }
 
-fn directive_outside<'a>(defined: &Definitions, hash: u32, word: &[u8], line: u32, bytes: &'a [u8]) -> Result<Directive<'a>, Refusal>
+fn directive_outside<'a>(
+    defined: &Definitions,
+    hash: u32,
+    word: &[u8],
+    line: u32,
+    bytes: &'a [u8],
+) -> Result<Directive<'a>, Refusal>
     requires { line + length bytes.now < 2 ^ 32 }
     ensures value { step.shown step.view_done result ≡ step.directive_outside (step.constants defined.now) hash word.now line bytes.now }
     ensures fresh { IfOk result (λ d. step.IsNew (step.constants defined.now) (step.view_effect d.effect)) }
@@ -262,7 +298,13 @@ fn directive_outside<'a>(defined: &Definitions, hash: u32, word: &[u8], line: u3
     }
 }
 
-fn directive_in_first<'a>(from: u32, hash: u32, word: &[u8], line: u32, bytes: &'a [u8]) -> Result<Directive<'a>, Refusal>
+fn directive_in_first<'a>(
+    from: u32,
+    hash: u32,
+    word: &[u8],
+    line: u32,
+    bytes: &'a [u8],
+) -> Result<Directive<'a>, Refusal>
     requires { line + length bytes.now < 2 ^ 32 }
     ensures value { step.shown step.view_done result ≡ step.directive_in_first from hash word.now line bytes.now }
     ensures fresh { (cs : cut.Constants) → IfOk result (λ d. step.IsNew cs (step.view_effect d.effect)) }
@@ -278,7 +320,12 @@ fn directive_in_first<'a>(from: u32, hash: u32, word: &[u8], line: u32, bytes: &
     }
 }
 
-fn directive_in_second<'a>(hash: u32, word: &[u8], line: u32, bytes: &'a [u8]) -> Result<Directive<'a>, Refusal>
+fn directive_in_second<'a>(
+    hash: u32,
+    word: &[u8],
+    line: u32,
+    bytes: &'a [u8],
+) -> Result<Directive<'a>, Refusal>
     requires { line + length bytes.now < 2 ^ 32 }
     ensures value { step.shown step.view_done result ≡ step.directive_in_second hash word.now line bytes.now }
     ensures fresh { (cs : cut.Constants) → IfOk result (λ d. step.IsNew cs (step.view_effect d.effect)) }
@@ -303,7 +350,12 @@ fn first_kind(arm: Open) -> u8
 
 /// The directive behind a `#` on this line.
 #[tactic(auto, unfolding(crate::specs::Step::directive_at))]
-pub fn directive_at<'a>(arm: Open, defined: &Definitions, hash: u32, bytes: &'a [u8]) -> Result<Directive<'a>, Refusal>
+pub fn directive_at<'a>(
+    arm: Open,
+    defined: &Definitions,
+    hash: u32,
+    bytes: &'a [u8],
+) -> Result<Directive<'a>, Refusal>
     requires { hash + length bytes.now < 2 ^ 32 }
     ensures value { step.shown step.view_done result ≡ step.directive_at (step.view_open arm) (step.constants defined.now) hash bytes.now }
     ensures fresh { IfOk result (λ d. step.IsNew (step.constants defined.now) (step.view_effect d.effect)) }

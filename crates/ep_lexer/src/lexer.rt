@@ -1,13 +1,15 @@
-ghost use Rattle.std.specs.Prelude.{◌≡◌, ◌+◌, ◌-◌, ◌<◌, ◌≤◌, ◌^◌, [], ◌∷◌, ◌++◌, map, length, IfOk, IfSome, OnOk};
+ghost use Rattle.std.specs.Prelude.{◌≡◌, ◌+◌, ◌-◌, ◌<◌, ◌≤◌, ◌^◌, [], ◌∷◌, ◌++◌, List, map, length, IfOk, IfErr, IfSome, OnOk};
 ghost use Rattle.ep_ast.specs.Cut as cut;
 ghost use Rattle.ep_lexer.specs.Step as step;
-ghost use Rattle.ep_lexer.specs.Tokens.{view, view_at};
+ghost use Rattle.ep_lexer.specs.Tokens.{view, view_at, view_all};
+ghost use Rattle.ep_ast.specs.Token.{Tok};
+ghost use Rattle.ep_ast.specs.Refusal.{IfRefused};
 
 use crate::bytes::after;
 use crate::definitions::Definitions;
 use crate::directives::{Effect, Open, directive_at};
 use crate::things::{Thing, next_thing, refusal};
-use crate::tokens::{Token, TokenKind};
+use crate::tokens::{Token, TokenKind, Tokens};
 use crate::words::{accepted, reserved};
 use ep_ast::{Halt, Refusal};
 use ep_int::Order;
@@ -29,7 +31,12 @@ pub struct Step<'a> {
     pub rest: &'a [u8],
 }
 
-fn named(alloc: Global, definitions: &Definitions, line: u32, text: &[u8]) -> Result<TokenKind, Halt>
+fn named(
+    alloc: Global,
+    definitions: &Definitions,
+    line: u32,
+    text: &[u8],
+) -> Result<TokenKind, Halt>
     ensures { step.Gives (λ k. view_at line k) result (step.token_of line text.now (cut.sense (step.constants definitions.now) text.now)) }
 {
     if let Some(word) = accepted(text) {
@@ -49,31 +56,73 @@ fn named(alloc: Global, definitions: &Definitions, line: u32, text: &[u8]) -> Re
 }
 
 /// What a directive leaves that ends on this line and whose `#` stands on line `hash`.
-fn apply(alloc: Global, place: Place, definitions: &mut Definitions, hash: u32, effect: Effect, line: u32) -> Result<(Option<Token>, Place), AllocError>
+fn apply(
+    alloc: Global,
+    place: Place,
+    definitions: &mut Definitions,
+    hash: u32,
+    effect: Effect,
+    line: u32,
+) -> Result<(Option<Token>, Place), AllocError>
     requires { step.IsNew (step.constants definitions.old) (step.view_effect effect) }
     ensures value { IfOk result (λ p. (step.view_token p.0, step.view_place p.1 (step.constants definitions.new)) ≡ step.applied (step.view_place place (step.constants definitions.old)) hash (step.view_effect effect.entry) line) }
     ensures same { IfOk result (λ p. p.1.line ≡ line) }
 {
     match effect {
-        Effect::Nothing => Ok((None, Place { line, fresh: false, arm: place.arm })),
+        Effect::Nothing => Ok((
+            None,
+            Place {
+                line,
+                fresh: false,
+                arm: place.arm,
+            },
+        )),
         Effect::Defines(name, number) => {
             definitions.add(alloc, name, number)?;
-            Ok((None, Place { line, fresh: false, arm: place.arm }))
+            Ok((
+                None,
+                Place {
+                    line,
+                    fresh: false,
+                    arm: place.arm,
+                },
+            ))
         }
         Effect::Opens(order) => {
             let what = match order {
                 Order::Little => TokenKind::IfLittle,
                 Order::Big => TokenKind::IfBig,
             };
-            Ok((Some(Token { line: hash, what }), Place { line, fresh: false, arm: Open::FirstArm(hash) }))
+            Ok((
+                Some(Token { line: hash, what }),
+                Place {
+                    line,
+                    fresh: false,
+                    arm: Open::FirstArm(hash),
+                },
+            ))
         }
         Effect::Turns(from) => Ok((
-            Some(Token { line: hash, what: TokenKind::Other }),
-            Place { line, fresh: false, arm: Open::SecondArm(from) },
+            Some(Token {
+                line: hash,
+                what: TokenKind::Other,
+            }),
+            Place {
+                line,
+                fresh: false,
+                arm: Open::SecondArm(from),
+            },
         )),
         Effect::Closes => Ok((
-            Some(Token { line: hash, what: TokenKind::EndIf }),
-            Place { line, fresh: false, arm: Open::Outside },
+            Some(Token {
+                line: hash,
+                what: TokenKind::EndIf,
+            }),
+            Place {
+                line,
+                fresh: false,
+                arm: Open::Outside,
+            },
         )),
     }
 }
@@ -103,7 +152,13 @@ fn line_end<'a>(place: Place, line: u32, bytes: &'a [u8]) -> Result<Option<Step<
 }
 
 /// Behind a `#` on this line.
-fn directive<'a>(alloc: Global, place: Place, definitions: &mut Definitions, hash: u32, bytes: &'a [u8]) -> Result<Option<Step<'a>>, Halt>
+fn directive<'a>(
+    alloc: Global,
+    place: Place,
+    definitions: &mut Definitions,
+    hash: u32,
+    bytes: &'a [u8],
+) -> Result<Option<Step<'a>>, Halt>
     requires { hash + length bytes.now < 2 ^ 32 }
     ensures value { step.Gives (step.view_step (step.constants definitions.new)) result (step.hash_on (step.view_place place (step.constants definitions.old)) hash bytes.now) }
     ensures within { IfOk result (λ o. IfSome o (λ s. s.place.line + length s.rest.now ≤ hash + length bytes.now)) }
@@ -123,7 +178,12 @@ fn directive<'a>(alloc: Global, place: Place, definitions: &mut Definitions, has
 
 /// The piece with which the bytes begin, or None where the source ends.
 #[tactic(auto, unfolding(crate::specs::Step::step))]
-fn read_piece<'a>(alloc: Global, place: Place, definitions: &mut Definitions, bytes: &'a [u8]) -> Result<Option<Step<'a>>, Halt>
+fn read_piece<'a>(
+    alloc: Global,
+    place: Place,
+    definitions: &mut Definitions,
+    bytes: &'a [u8],
+) -> Result<Option<Step<'a>>, Halt>
     requires { place.line + length bytes.now < 2 ^ 32 }
     ensures value { step.Gives (step.view_step (step.constants definitions.new)) result (step.step (step.view_place place (step.constants definitions.old)) bytes.now) }
     ensures within { IfOk result (λ o. IfSome o (λ s. s.place.line + length s.rest.now ≤ place.line + length bytes.now)) }
@@ -151,4 +211,40 @@ fn read_piece<'a>(alloc: Global, place: Place, definitions: &mut Definitions, by
         place: behind,
         rest: next.rest,
     }))
+}
+
+fn keep(list: &mut Vec<Token>, token: Option<Token>) -> Result<(), AllocError>
+    ensures { OnOk result (map view list.new.items ≡ map view list.old.items ++ step.view_token token) }
+{
+    match token {
+        None => Ok(()),
+        Some(token) => {
+            list.push(token)?;
+            Ok(())
+        }
+    }
+}
+
+/// The tokens of a source, or the first of the refusals 1 to 8.
+pub fn lex(alloc: Global, source: &[u8]) -> Result<Tokens, Halt>
+    requires { length source.now < 2 ^ 24 }
+    ensures spells { IfOk result (λ tokens. cut.Spells source.now (view_all tokens)) }
+    ensures only { IfOk result (λ tokens. (ts : List Tok) → cut.Spells source.now ts → ts ≡ view_all tokens) }
+    ensures offends { IfErr result (λ e. IfRefused e (λ r. cut.Offends cut.start source.now r)) }
+    ensures spells_nothing { IfErr result (λ e. IfRefused e (λ _. (ts : List Tok) → cut.Spells source.now ts → ⊥)) }
+{
+    let mut list = Vec::new(alloc);
+    let mut definitions = Definitions::new(alloc);
+    let mut place = Place {
+        line: 1,
+        fresh: true,
+        arm: Open::Outside,
+    };
+    let mut rest = source;
+    'pieces: while let Some(step) = read_piece(alloc, place, &mut definitions, rest)? {
+        keep(&mut list, step.token)?;
+        place = step.place;
+        rest = step.rest;
+    }
+    Ok(Tokens { list })
 }

@@ -11,4 +11,5 @@ mod tokens;
 mod words;
 
 pub use ep_ast::Literal;
+pub use lexer::lex;
 pub use tokens::{Token, TokenKind, Tokens};

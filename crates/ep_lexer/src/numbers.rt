@@ -9,7 +9,9 @@ use ep_ast::Literal;
 fn goes_on(a: u8, b: u8) -> bool
     ensures { result ≡ spec.goes_on a b }
 {
-    is_word(b) || b == b'.' || ((b == b'+' || b == b'-') && (a == b'e' || a == b'E' || a == b'p' || a == b'P'))
+    is_word(b)
+        || b == b'.'
+        || ((b == b'+' || b == b'-') && (a == b'e' || a == b'E' || a == b'p' || a == b'P'))
 }
 
 /// How many bytes a number goes on behind its first.
@@ -110,7 +112,9 @@ fn suffix(bytes: &[u8]) -> Option<(bool, u8)>
             }
         }
         [a, b, c] => {
-            if (is_unsigned(*a) && is_long(*b) && *b == *c) || (is_long(*a) && *a == *b && is_unsigned(*c)) {
+            if (is_unsigned(*a) && is_long(*b) && *b == *c)
+                || (is_long(*a) && *a == *b && is_unsigned(*c))
+            {
                 Some((true, 2))
             } else {
                 None

@@ -134,7 +134,11 @@ fn mark_text(at: u8) -> &'static [u8]
     ensures value { result.now ≡ slice_index_or marks at [] }
     ensures some { at < 45 → 0 < length result.now }
 {
-    if at < 21 { long_mark(at) } else { short_mark(at - 21) }
+    if at < 21 {
+        long_mark(at)
+    } else {
+        short_mark(at - 21)
+    }
 }
 
 /// An accepted word by its number from 1.

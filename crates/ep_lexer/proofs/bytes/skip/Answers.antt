@@ -1,6 +1,5 @@
-use Rattle.std.proofs.Common.{◌≡◌, ◌+◌, ◌<◌, ◌≤◌, ℕ, List, length, drop, arith, sym, ◌∙◌, length-drop}
+use Rattle.std.proofs.Common.{◌+◌, ◌<◌, ◌≤◌, ℕ, length, drop, arith, sym, ◌∙◌, length-drop}
 use Rattle.std.proofs.lemmas.Bool.Decides.{nat_tests}
-use Rattle.ep_lexer.specs.Step.{stopped}
 use Rattle.ep_lexer.proofs.Skips.{blank_skips, end_stops, comment_over}
 use Rattle.ep_lexer.proofs.bytes.skip.Goals as goal
 

@@ -1,4 +1,4 @@
-use Rattle.std.proofs.Common.{◌≡◌, ◌+◌, ◌<◌, ℕ, List, [], Bool, true, nat_eq, length, slice_index_or, arith, sym, ◌∙◌, rules}
+use Rattle.std.proofs.Common.{◌+◌, ◌<◌, nat_eq, arith, sym, ◌∙◌}
 use Rattle.std.specs.List.{starts_with}
 use Rattle.ep_ast.specs.Token.{marks}
 use Rattle.ep_lexer.proofs.Numbered.{found, passed}

@@ -1,4 +1,4 @@
-use Rattle.std.proofs.Common.{◌≡◌, ◌∙◌, ◌++◌, ◌∷◌, [], ℕ, List, ap, map, sym, None}
+use Rattle.std.proofs.Common.{◌≡◌, ◌∙◌, ◌++◌, ◌∷◌, [], ℕ, List, ap, map, None}
 use Rattle.ep_ast.specs.Cut.{constant}
 use Rattle.ep_lexer.proofs.Tables.{entry, added}
 use Rattle.ep_lexer.proofs.definitions.Definitions.add.Goals as goal
