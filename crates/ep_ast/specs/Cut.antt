@@ -237,10 +237,10 @@ pub data Offence (p : Place) : List ℕ → Refusal → Type 0 where
   reserved_word : {bs rest : List ℕ} (m n : ℕ) (t : List ℕ) → Next p.line bs m (name t) rest → sense p.constants t ≡ is_reserved n
       → Offence p bs (record { kind = 8; line = m; word = n })
   no_end_if : {bs : List ℕ} (m from : ℕ) → Next p.line bs m over [] → opened_at p.open_arm ≡ Some from → Offence p bs (at_line 7 from)
-  broken_inside : {bs cs ds : List ℕ} (l m n k : ℕ) (ts : List Thing) → p.fresh ≡ true → Next p.line bs l hash cs → Stand l cs ts m ds → may_begin p ts ≡ true
+  broken_inside : {bs cs ds : List ℕ} (l m n k : ℕ) (ts : List Thing) → p.fresh ≡ true → Next p.line bs l hash cs → Stand l cs ts m ds → list_any is_over ts ≡ false → may_begin p ts ≡ true
       → Breaks m ds k n → Offence p bs (at_line k n)
-  wrong_inside : {bs cs ds es : List ℕ} (l m n : ℕ) (ts : List Thing) (t : Thing) → p.fresh ≡ true → Next p.line bs l hash cs → Stand l cs ts m ds → may_begin p ts ≡ true
-      → Next m ds n t es → may_begin p (ts ++ t ∷ []) ≡ false → is_include ts ≡ false → Offence p bs (wrong (directive_kind p (ts ++ t ∷ [])) l n t)
+  wrong_inside : {bs cs ds es : List ℕ} (l m n : ℕ) (ts : List Thing) (t : Thing) → p.fresh ≡ true → Next p.line bs l hash cs → Stand l cs ts m ds → list_any is_over ts ≡ false
+      → may_begin p ts ≡ true → Next m ds n t es → may_begin p (ts ++ t ∷ []) ≡ false → is_include ts ≡ false → Offence p bs (wrong (directive_kind p (ts ++ t ∷ [])) l n t)
   no_header : {bs cs ds es fs : List ℕ} (l m n : ℕ) (t : Thing) → p.fresh ≡ true → p.open_arm ≡ outside → Next p.line bs l hash cs
       → Stand l cs (name (codes "include") ∷ []) m ds → Gap m ds n es → Begins es t fs → after headers es ≡ None → Offence p bs (wrong 6 l n t)
   broken_header : {bs cs ds es fs : List ℕ} (l m n k o : ℕ) → p.fresh ≡ true → p.open_arm ≡ outside → Next p.line bs l hash cs

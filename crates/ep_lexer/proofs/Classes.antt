@@ -2,7 +2,7 @@
 use Rattle.std.proofs.Common.{◌≡◌, ℕ, Bool, true, false, ◌||◌, ◌==◌, List, ◌∷◌, Some, None, refl, sym, subst, arith, inl, inr}
 use Rattle.std.proofs.lemmas.Bool.Decides.{nat_tests}
 use Rattle.ep_ast.specs.Lexeme.{is_blank, is_letter, is_digit, is_word, opens_comment, opens_remark, mark_at}
-use Rattle.ep_lexer.proofs.Tests.{test_cases, no_number, none_some}
+use Rattle.ep_lexer.proofs.Cases.{test_cases, no_number, none_some}
 
 -- no mark begins with another byte than these
 mark_none : (b : ℕ) (bs : List ℕ) → 60 == b ≡ false → 62 == b ≡ false → 45 == b ≡ false → 43 == b ≡ false → 61 == b ≡ false → 33 == b ≡ false → 38 == b ≡ false → 124 == b ≡ false → 42 == b ≡ false → 47 == b ≡ false → 37 == b ≡ false → 94 == b ≡ false → 40 == b ≡ false → 41 == b ≡ false → 91 == b ≡ false → 93 == b ≡ false → 123 == b ≡ false → 125 == b ≡ false → 46 == b ≡ false → 126 == b ≡ false → 63 == b ≡ false → 58 == b ≡ false → 59 == b ≡ false → 44 == b ≡ false → mark_at (b ∷ bs) ≡ None

@@ -3,7 +3,7 @@ use Rattle.std.proofs.Common.{◌≡◌, ℕ, zero, suc, ◌≤◌, Bool, true, 
 use Rattle.ep_ast.specs.Lexeme.{is_blank, opens_comment, opens_remark, line_after, past_comment, to_line_end, Gap, here, blank, remark, comment}
 use Rattle.ep_lexer.specs.Step.{stopped, unclosed, skip, plain}
 use Rattle.ep_lexer.proofs.Skips.{remark_skips, comment_open, comment_over}
-use Rattle.ep_lexer.proofs.Tests.{test_cases, option_cases, is_number}
+use Rattle.ep_lexer.proofs.Cases.{test_cases, option_cases, is_number}
 
 -- no blank and no comment stands there
 abbrev pub Stops : List ℕ → Type 0

@@ -3,7 +3,7 @@ use Rattle.std.proofs.Common.{◌≡◌, ℕ, Bool, true, false, ◌||◌, ◌==
 use Rattle.ep_ast.specs.Lexeme.{is_letter, is_digit, word_text, after_word, number_text, after_number, literal, character, of_character, mark_at, mark_len, Thing, over, hash, quote, name, number, mark, Gap, Begins, at_end, at_newline, a_hash, a_quote, a_name, a_number, a_character, a_mark, Spoilt, bad_number, bad_character, bad_byte, Next, Breaks, unclosed as unclosed_comment, spoilt}
 use Rattle.ep_ast.specs.Cut.{at_line}
 use Rattle.ep_lexer.specs.Step.{thing_at, next, next_from}
-use Rattle.ep_lexer.proofs.Tests.{test_cases, option_cases, is_number}
+use Rattle.ep_lexer.proofs.Cases.{test_cases, option_cases, is_number}
 use Rattle.ep_lexer.proofs.Classes.{letter_word, digit_word, digit_no_letter, word_apart, word_no_blank, word_no_comment, word_no_remark, mark_no_word, no_letter, no_digit, mark_no_newline, mark_no_hash, mark_no_quote, mark_no_tick, mark_no_blank}
 use Rattle.ep_lexer.proofs.Gaps.{Stops, stays, gap_skips, over_at, open_at, gap_is}
 use Rattle.ep_lexer.proofs.Skips.{comment_open}

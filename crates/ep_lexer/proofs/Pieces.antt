@@ -5,7 +5,7 @@ use Rattle.ep_ast.specs.Token.{Tok}
 use Rattle.ep_ast.specs.Lexeme.{Gap}
 use Rattle.ep_ast.specs.Cut.{Place, Open, outside, first_arm, second_arm, is_outside, Piece, line_end, word, own_name, defined, literal, sign, include, define, condition, otherwise, end_if, none, more, after, headers}
 use Rattle.ep_lexer.specs.Step.{step, directive_at, define_at, include_at, condition_at, header_at, header_found}
-use Rattle.ep_lexer.proofs.Tests.{none_some, no_number}
+use Rattle.ep_lexer.proofs.Cases.{none_some, no_number}
 use Rattle.ep_lexer.proofs.Gaps.{Stops, stays, gap_skips}
 use Rattle.ep_lexer.proofs.NextLemmas.{next_read}
 
