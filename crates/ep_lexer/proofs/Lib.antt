@@ -10,3 +10,4 @@ pub mod Pieces
 pub mod DirectiveLemmas
 pub mod ArmLemmas
 pub mod Steps
+pub mod OffenceLemmas

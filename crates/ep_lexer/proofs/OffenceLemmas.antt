@@ -1,0 +1,116 @@
+-- Each offence in a directive is what is read.
+use Rattle.std.proofs.Common.{◌≡◌, ℕ, suc, ◌+◌, Bool, true, false, cond, ◌&&◌, ◌||◌, ◌==◌, not, List, [], ◌∷◌, ◌++◌, codes, Option, Some, None, is_some, is_none, Result, Ok, Err, refl, sym, ap, ◌∙◌, subst, inl, inr, ◌⊎◌}
+use Rattle.std.specs.List.{list_any}
+use Rattle.std.specs.Str.{bytes_eq}
+use Rattle.ep_int.specs.declared.types.Order.{Order}
+use Rattle.ep_int.specs.declared.types.Order.TheVariants.{Little, Big}
+use Rattle.ep_ast.specs.declared.expressions.Literal.{Literal}
+use Rattle.ep_ast.specs.declared.refusals.Refusal.{Refusal}
+use Rattle.ep_ast.specs.Lexeme.{Thing, over, hash, quote, name, number, mark, Gap, Begins, Next, Breaks, Spoilt, bad_number, bad_character, bad_byte, spoilt, unclosed}
+use Rattle.ep_ast.specs.Cut.{Constants, constant, value, may_define, pass, Place, Open, outside, first_arm, second_arm, Stand, none, more, after, headers, order_name, equals, may_begin, directive_kind, is_include, is_named, is_over, is_mark, wrong, at_line}
+use Rattle.ep_lexer.specs.Step.{step, directive_at, define_at, condition_at, include_at, header_at, header_found, is_plain, order_of, word_kind}
+use Rattle.ep_lexer.proofs.Cases.{test_cases, option_cases, none_some, true_false, and_parts}
+use Rattle.ep_lexer.proofs.NextLemmas.{next_read, breaks_read}
+use Rattle.ep_lexer.proofs.DirectiveLemmas.{at, name_cases, over_cases, equals_cases, order_cases, plain_parts}
+
+-- What stands behind these things in a directive whose `#` stands on line l and offends: something broken, or a thing with which it is no directive any more.
+pub data Behind (p : Place) (l : ℕ) (ts : List Thing) (m : ℕ) (ds : List ℕ) : Refusal → Type 0 where
+  something_broken : (k n : ℕ) → Breaks m ds k n → Behind p l ts m ds (at_line k n)
+  something_wrong : (n : ℕ) (t : Thing) (es : List ℕ) → Next m ds n t es → may_begin p (ts ++ t ∷ []) ≡ false → is_include ts ≡ false
+      → Behind p l ts m ds (wrong (directive_kind p (ts ++ t ∷ [])) l n t)
+
+or_parts : (x y : Bool) → (x || y) ≡ false → (x ≡ false) × (y ≡ false)
+or_parts true y h = absurd cc
+or_parts false y h = (refl, h)
+
+no_and : (x : Bool) → (x && true) ≡ false → x ≡ false
+no_and true h = absurd cc
+no_and false h = refl
+
+-- ---- `#define`
+
+define_3 : (a : ℕ) (c : Constants) (bs cs ds es fs : List ℕ) (l m n o : ℕ) (t : List ℕ) (v : Thing) (k : Literal) (r : Refusal)
+    → Next a bs l hash cs → Next l cs m (name (codes "define")) ds → Next m ds n (name t) es → may_define c t ≡ true → Next n es o v fs → value c v ≡ Some k
+    → Behind (at a true c outside) l (name (codes "define") ∷ name t ∷ v ∷ []) o fs r → step (at a true c outside) bs ≡ Err r
+unfolding step directive_at define_at
+define_3 a c bs cs ds es fs l m n o t v k r x y z d u e (something_broken j i b) = rw (next_read x, next_read y, next_read z, d, next_read u, e, breaks_read b) refl
+define_3 a c bs cs ds es fs l m n o t v k r x y z d u e (something_wrong i w gs g f h) = elim (over_cases w) [
+  | inl q ↦ absurd (true_false (subst (λ (j : Thing). may_begin (at a true c outside) (name (codes "define") ∷ name t ∷ v ∷ j ∷ []) ≡ true) (sym q) (rw (d, e) refl)) f)
+  | inr q ↦ rw (next_read x, next_read y, next_read z, d, next_read u, e, next_read g, q.1) refl
+]
+
+define_2 : (a : ℕ) (c : Constants) (bs cs ds es : List ℕ) (l m n : ℕ) (t : List ℕ) (r : Refusal)
+    → Next a bs l hash cs → Next l cs m (name (codes "define")) ds → Next m ds n (name t) es → may_define c t ≡ true
+    → Behind (at a true c outside) l (name (codes "define") ∷ name t ∷ []) n es r → step (at a true c outside) bs ≡ Err r
+unfolding step directive_at define_at
+define_2 a c bs cs ds es l m n t r x y z d (something_broken j i b) = rw (next_read x, next_read y, next_read z, d, breaks_read b) refl
+define_2 a c bs cs ds es l m n t r x y z d (something_wrong i w gs g f h) = elim (option_cases (value c w)) [
+  | inl e ↦ rw (next_read x, next_read y, next_read z, d, next_read g, e) refl
+  | inr e ↦
+    let q : may_begin (at a true c outside) (name (codes "define") ∷ name t ∷ w ∷ []) ≡ true = rw (d, e.1) refl in
+    absurd (true_false q f)
+]
+
+define_1 : (a : ℕ) (c : Constants) (bs cs ds : List ℕ) (l m : ℕ) (r : Refusal)
+    → Next a bs l hash cs → Next l cs m (name (codes "define")) ds
+    → Behind (at a true c outside) l (name (codes "define") ∷ []) m ds r → step (at a true c outside) bs ≡ Err r
+unfolding step directive_at define_at
+define_1 a c bs cs ds l m r x y (something_broken j i b) = rw (next_read x, next_read y, breaks_read b) refl
+define_1 a c bs cs ds l m r x y (something_wrong i w gs g f h) = elim (name_cases w) [
+  | inl q ↦
+    let g' = subst (λ (j : Thing). Next m ds i j gs) q.1 g in
+    let f' = subst (λ (j : Thing). may_begin (at a true c outside) (name (codes "define") ∷ j ∷ []) ≡ false) q.1 f in
+    elim (test_cases (may_define c q.0)) [
+      | inl d ↦
+        let k : may_begin (at a true c outside) (name (codes "define") ∷ name q.0 ∷ []) ≡ true = rw d refl in
+        absurd (true_false k f')
+      | inr d ↦ subst (λ (j : Thing). step (at a true c outside) bs ≡ Err (wrong 5 l i j)) (sym q.1) (rw (next_read x, next_read y, next_read g', d) refl)
+    ]
+  | inr q ↦ rw (next_read x, next_read y, next_read g, q.1) refl
+]
+
+or_false : (x : Bool) → (x || false) ≡ true → x ≡ true
+or_false true h = refl
+or_false false h = absurd cc
+
+named_is : (f : List ℕ → Bool) (t : Thing) → is_named f t ≡ true → (w : List ℕ) × (t ≡ name w) × (f w ≡ true)
+named_is f over h = absurd cc
+named_is f hash h = absurd cc
+named_is f quote h = absurd cc
+named_is f (name w) h = (w, refl, h)
+named_is f (number n) h = absurd cc
+named_is f (mark n) h = absurd cc
+
+some_value : {A : Type 0} (o : Option A) → is_some o ≡ true → (x : A) × (o ≡ Some x)
+some_value None h = absurd cc
+some_value (Some x) h = (x, refl)
+
+-- the things behind `define`, the name and its value
+define_ends : (a : ℕ) (c : Constants) (bs cs ds es fs gs : List ℕ) (l m n i j : ℕ) (t : List ℕ) (v : Thing) (k : Literal) (ts : List Thing) (r : Refusal)
+    → Next a bs l hash cs → Next l cs m (name (codes "define")) ds → Next m ds n (name t) es → may_define c t ≡ true → Next n es i v fs → value c v ≡ Some k
+    → Stand i fs ts j gs → list_any is_over ts ≡ false → pass (is_over ∷ []) ts ≡ true
+    → Behind (at a true c outside) l (name (codes "define") ∷ name t ∷ v ∷ ts) j gs r → step (at a true c outside) bs ≡ Err r
+define_ends a c bs cs ds es fs gs l m n i j t v k ts r x y z d u e none o b w = define_3 a c bs cs ds es fs l m n i t v k r x y z d u e w
+define_ends a c bs cs ds es fs gs l m n i j t v k ts r x y z d u e (more {t = q} {ts = us} g s) o b w =
+    absurd (true_false (and_parts (is_over q) (pass [] us) b).0 (or_parts (is_over q) (list_any is_over us) o).0)
+
+define_values : (a : ℕ) (c : Constants) (bs cs ds es gs : List ℕ) (l m n j : ℕ) (t : List ℕ) (ts : List Thing) (r : Refusal)
+    → Next a bs l hash cs → Next l cs m (name (codes "define")) ds → Next m ds n (name t) es → may_define c t ≡ true
+    → Stand n es ts j gs → list_any is_over ts ≡ false → pass ((λ q. is_some (value c q)) ∷ is_over ∷ []) ts ≡ true
+    → Behind (at a true c outside) l (name (codes "define") ∷ name t ∷ ts) j gs r → step (at a true c outside) bs ≡ Err r
+define_values a c bs cs ds es gs l m n j t ts r x y z d none o b w = define_2 a c bs cs ds es l m n t r x y z d w
+define_values a c bs cs ds es gs l m n j t ts r x y z d (more {m = i} {cs = fs} {t = v} {ts = us} g s) o b w =
+    let p = and_parts (is_some (value c v)) (pass (is_over ∷ []) us) b in
+    let k = some_value (value c v) p.0 in
+    define_ends a c bs cs ds es fs gs l m n i j t v k.0 us r x y z d g k.1 s (or_parts (is_over v) (list_any is_over us) o).1 p.1 w
+
+define_things : (a : ℕ) (c : Constants) (bs cs ds gs : List ℕ) (l m j : ℕ) (ts : List Thing) (r : Refusal)
+    → Next a bs l hash cs → Next l cs m (name (codes "define")) ds
+    → Stand m ds ts j gs → list_any is_over ts ≡ false → may_begin (at a true c outside) (name (codes "define") ∷ ts) ≡ true
+    → Behind (at a true c outside) l (name (codes "define") ∷ ts) j gs r → step (at a true c outside) bs ≡ Err r
+define_things a c bs cs ds gs l m j ts r x y none o b w = define_1 a c bs cs ds l m r x y w
+define_things a c bs cs ds gs l m j ts r x y (more {m = n} {cs = es} {t = t} {ts = us} z s) o b w =
+    let p = and_parts (is_named (may_define c) t) (pass ((λ q. is_some (value c q)) ∷ is_over ∷ []) us) (or_false _ b) in
+    let q = named_is (may_define c) t p.0 in
+    define_values a c bs cs ds es gs l m n j q.0 us r x y (subst (λ (k : Thing). Next m ds n k es) q.1 z) q.2 s (or_parts (is_over t) (list_any is_over us) o).1 p.1
+        (subst (λ (k : Thing). Behind (at a true c outside) l (name (codes "define") ∷ k ∷ us) j gs r) q.1 w)
