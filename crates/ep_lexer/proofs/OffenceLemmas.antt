@@ -114,3 +114,144 @@ define_things a c bs cs ds gs l m j ts r x y (more {m = n} {cs = es} {t = t} {ts
     let q = named_is (may_define c) t p.0 in
     define_values a c bs cs ds es gs l m n j q.0 us r x y (subst (λ (k : Thing). Next m ds n k es) q.1 z) q.2 s (or_parts (is_over t) (list_any is_over us) o).1 p.1
         (subst (λ (k : Thing). Behind (at a true c outside) l (name (codes "define") ∷ k ∷ us) j gs r) q.1 w)
+
+-- ---- `#if`
+
+ends_so : (c : Constants) (u : Order) → constant c (codes "__BYTE_ORDER__") ≡ None → constant c (order_name u) ≡ None
+    → may_begin (at 0 true c outside) (name (codes "if") ∷ name (codes "__BYTE_ORDER__") ∷ mark equals ∷ name (order_name u) ∷ over ∷ []) ≡ true
+ends_so c Little e f = rw (e, f) refl
+ends_so c Big e f = rw (e, f) refl
+
+begins_so : (c : Constants) (u : Order) → constant c (codes "__BYTE_ORDER__") ≡ None → constant c (order_name u) ≡ None
+    → may_begin (at 0 true c outside) (name (codes "if") ∷ name (codes "__BYTE_ORDER__") ∷ mark equals ∷ name (order_name u) ∷ []) ≡ true
+begins_so c Little e f = rw (e, f) refl
+begins_so c Big e f = rw (e, f) refl
+
+order_so : (a : ℕ) (c : Constants) (t : List ℕ) (u : Order) → constant c (codes "__BYTE_ORDER__") ≡ None → t ≡ order_name u → constant c (order_name u) ≡ None
+    → may_begin (at a true c outside) (name (codes "if") ∷ name (codes "__BYTE_ORDER__") ∷ mark equals ∷ name t ∷ []) ≡ false → ⊥
+order_so a c t u e k f h =
+    true_false (begins_so c u e f) (subst (λ (w : List ℕ). may_begin (at a true c outside) (name (codes "if") ∷ name (codes "__BYTE_ORDER__") ∷ mark equals ∷ name w ∷ []) ≡ false) k h)
+
+mark_is : (t : Thing) → is_mark equals t ≡ true → t ≡ mark equals
+mark_is t h = elim (equals_cases t) [ inl e ↦ e | inr q ↦ absurd (true_false h q.0) ]
+
+condition_4 : (a : ℕ) (c : Constants) (bs cs ds es fs gs : List ℕ) (l m n o i : ℕ) (u : Order) (r : Refusal)
+    → constant c (codes "__BYTE_ORDER__") ≡ None → constant c (order_name u) ≡ None → order_of c (order_name u) ≡ Some u
+    → Next a bs l hash cs → Next l cs m (name (codes "if")) ds → Next m ds n (name (codes "__BYTE_ORDER__")) es → Next n es o (mark equals) fs → Next o fs i (name (order_name u)) gs
+    → Behind (at a true c outside) l (name (codes "if") ∷ name (codes "__BYTE_ORDER__") ∷ mark equals ∷ name (order_name u) ∷ []) i gs r → step (at a true c outside) bs ≡ Err r
+unfolding step directive_at condition_at
+condition_4 a c bs cs ds es fs gs l m n o i u r e f k x y z v w (something_broken j q b) = rw (next_read x, next_read y, next_read z, e, next_read v, next_read w, k, breaks_read b) refl
+condition_4 a c bs cs ds es fs gs l m n o i u r e f k x y z v w (something_wrong q t hs g h d) = elim (over_cases t) [
+  | inl p ↦
+    absurd (true_false
+        (subst (λ (j : Thing). may_begin (at a true c outside) (name (codes "if") ∷ name (codes "__BYTE_ORDER__") ∷ mark equals ∷ name (order_name u) ∷ j ∷ []) ≡ true) (sym p) (ends_so c u e f)) h)
+  | inr p ↦ rw (next_read x, next_read y, next_read z, e, next_read v, next_read w, k, next_read g, p.1) refl
+]
+
+condition_3 : (a : ℕ) (c : Constants) (bs cs ds es fs : List ℕ) (l m n o : ℕ) (r : Refusal)
+    → constant c (codes "__BYTE_ORDER__") ≡ None
+    → Next a bs l hash cs → Next l cs m (name (codes "if")) ds → Next m ds n (name (codes "__BYTE_ORDER__")) es → Next n es o (mark equals) fs
+    → Behind (at a true c outside) l (name (codes "if") ∷ name (codes "__BYTE_ORDER__") ∷ mark equals ∷ []) o fs r → step (at a true c outside) bs ≡ Err r
+unfolding step directive_at condition_at
+condition_3 a c bs cs ds es fs l m n o r e x y z v (something_broken j q b) = rw (next_read x, next_read y, next_read z, e, next_read v, breaks_read b) refl
+condition_3 a c bs cs ds es fs l m n o r e x y z v (something_wrong i t gs w h d) = elim (name_cases t) [
+  | inl q ↦
+    let w' = subst (λ (j : Thing). Next o fs i j gs) q.1 w in
+    let h' = subst (λ (j : Thing). may_begin (at a true c outside) (name (codes "if") ∷ name (codes "__BYTE_ORDER__") ∷ mark equals ∷ j ∷ []) ≡ false) q.1 h in
+    elim (order_cases c q.0) [
+      | inl k ↦ absurd (order_so a c q.0 k.0 e k.1 k.2 h')
+      | inr k ↦ subst (λ (j : Thing). step (at a true c outside) bs ≡ Err (wrong 7 l i j)) (sym q.1) (rw (next_read x, next_read y, next_read z, e, next_read v, next_read w', k.1) refl)
+    ]
+  | inr q ↦ rw (next_read x, next_read y, next_read z, e, next_read v, next_read w, q.1) refl
+]
+
+condition_2 : (a : ℕ) (c : Constants) (bs cs ds es : List ℕ) (l m n : ℕ) (r : Refusal)
+    → constant c (codes "__BYTE_ORDER__") ≡ None
+    → Next a bs l hash cs → Next l cs m (name (codes "if")) ds → Next m ds n (name (codes "__BYTE_ORDER__")) es
+    → Behind (at a true c outside) l (name (codes "if") ∷ name (codes "__BYTE_ORDER__") ∷ []) n es r → step (at a true c outside) bs ≡ Err r
+unfolding step directive_at condition_at
+condition_2 a c bs cs ds es l m n r e x y z (something_broken j q b) = rw (next_read x, next_read y, next_read z, e, breaks_read b) refl
+condition_2 a c bs cs ds es l m n r e x y z (something_wrong o t fs v h d) = elim (equals_cases t) [
+  | inl q ↦
+    absurd (true_false (subst (λ (j : Thing). may_begin (at a true c outside) (name (codes "if") ∷ name (codes "__BYTE_ORDER__") ∷ j ∷ []) ≡ true) (sym q) (rw e refl)) h)
+  | inr q ↦ rw (next_read x, next_read y, next_read z, e, next_read v, q.1) refl
+]
+
+condition_1 : (a : ℕ) (c : Constants) (bs cs ds : List ℕ) (l m : ℕ) (r : Refusal)
+    → Next a bs l hash cs → Next l cs m (name (codes "if")) ds
+    → Behind (at a true c outside) l (name (codes "if") ∷ []) m ds r → step (at a true c outside) bs ≡ Err r
+unfolding step directive_at condition_at
+condition_1 a c bs cs ds l m r x y (something_broken j q b) = rw (next_read x, next_read y, breaks_read b) refl
+condition_1 a c bs cs ds l m r x y (something_wrong n t es z h d) = elim (name_cases t) [
+  | inl q ↦
+    let z' = subst (λ (j : Thing). Next m ds n j es) q.1 z in
+    let h' = subst (λ (j : Thing). may_begin (at a true c outside) (name (codes "if") ∷ j ∷ []) ≡ false) q.1 h in
+    elim (test_cases (is_plain c (codes "__BYTE_ORDER__") q.0)) [
+      | inl k ↦
+        let f : may_begin (at a true c outside) (name (codes "if") ∷ name q.0 ∷ []) ≡ true = rw k refl in
+        absurd (true_false f h')
+      | inr k ↦ subst (λ (j : Thing). step (at a true c outside) bs ≡ Err (wrong 7 l n j)) (sym q.1) (rw (next_read x, next_read y, next_read z', k) refl)
+    ]
+  | inr q ↦ rw (next_read x, next_read y, next_read z, q.1) refl
+]
+
+-- the things behind the condition
+abbrev order_test : Constants → Thing → Bool
+order_test c t = is_named (λ w. is_plain c (order_name Little) w) t || is_named (λ w. is_plain c (order_name Big) w) t
+
+order_is : (c : Constants) (t : Thing) → order_test c t ≡ true → (u : Order) × (t ≡ name (order_name u)) × (constant c (order_name u) ≡ None) × (order_of c (order_name u) ≡ Some u)
+order_is c over h = absurd cc
+order_is c hash h = absurd cc
+order_is c quote h = absurd cc
+order_is c (name w) h = elim (order_cases c w) [
+  | inl k ↦ (k.0, ap name k.1, k.2, subst (λ (v : List ℕ). order_of c v ≡ Some k.0) k.1 k.3)
+  | inr k ↦ absurd (true_false h k.0)
+]
+order_is c (number n) h = absurd cc
+order_is c (mark n) h = absurd cc
+
+condition_ends : (a : ℕ) (c : Constants) (bs cs ds es fs gs hs : List ℕ) (l m n o i j : ℕ) (u : Order) (ts : List Thing) (r : Refusal)
+    → constant c (codes "__BYTE_ORDER__") ≡ None → constant c (order_name u) ≡ None → order_of c (order_name u) ≡ Some u
+    → Next a bs l hash cs → Next l cs m (name (codes "if")) ds → Next m ds n (name (codes "__BYTE_ORDER__")) es → Next n es o (mark equals) fs → Next o fs i (name (order_name u)) gs
+    → Stand i gs ts j hs → list_any is_over ts ≡ false → pass (is_over ∷ []) ts ≡ true
+    → Behind (at a true c outside) l (name (codes "if") ∷ name (codes "__BYTE_ORDER__") ∷ mark equals ∷ name (order_name u) ∷ ts) j hs r → step (at a true c outside) bs ≡ Err r
+condition_ends a c bs cs ds es fs gs hs l m n o i j u ts r e f k x y z v w none p b q = condition_4 a c bs cs ds es fs gs l m n o i u r e f k x y z v w q
+condition_ends a c bs cs ds es fs gs hs l m n o i j u ts r e f k x y z v w (more {t = t} {ts = us} g s) p b q =
+    absurd (true_false (and_parts (is_over t) (pass [] us) b).0 (or_parts (is_over t) (list_any is_over us) p).0)
+
+condition_orders : (a : ℕ) (c : Constants) (bs cs ds es fs hs : List ℕ) (l m n o j : ℕ) (ts : List Thing) (r : Refusal)
+    → constant c (codes "__BYTE_ORDER__") ≡ None
+    → Next a bs l hash cs → Next l cs m (name (codes "if")) ds → Next m ds n (name (codes "__BYTE_ORDER__")) es → Next n es o (mark equals) fs
+    → Stand o fs ts j hs → list_any is_over ts ≡ false → pass (order_test c ∷ is_over ∷ []) ts ≡ true
+    → Behind (at a true c outside) l (name (codes "if") ∷ name (codes "__BYTE_ORDER__") ∷ mark equals ∷ ts) j hs r → step (at a true c outside) bs ≡ Err r
+condition_orders a c bs cs ds es fs hs l m n o j ts r e x y z v none p b q = condition_3 a c bs cs ds es fs l m n o r e x y z v q
+condition_orders a c bs cs ds es fs hs l m n o j ts r e x y z v (more {m = i} {cs = gs} {t = t} {ts = us} g s) p b q =
+    let b' = and_parts (order_test c t) (pass (is_over ∷ []) us) b in
+    let k = order_is c t b'.0 in
+    condition_ends a c bs cs ds es fs gs hs l m n o i j k.0 us r e k.2 k.3 x y z v (subst (λ (d : Thing). Next o fs i d gs) k.1 g) s (or_parts (is_over t) (list_any is_over us) p).1 b'.1
+        (subst (λ (d : Thing). Behind (at a true c outside) l (name (codes "if") ∷ name (codes "__BYTE_ORDER__") ∷ mark equals ∷ d ∷ us) j hs r) k.1 q)
+
+condition_marks : (a : ℕ) (c : Constants) (bs cs ds es hs : List ℕ) (l m n j : ℕ) (ts : List Thing) (r : Refusal)
+    → constant c (codes "__BYTE_ORDER__") ≡ None
+    → Next a bs l hash cs → Next l cs m (name (codes "if")) ds → Next m ds n (name (codes "__BYTE_ORDER__")) es
+    → Stand n es ts j hs → list_any is_over ts ≡ false → pass (is_mark equals ∷ order_test c ∷ is_over ∷ []) ts ≡ true
+    → Behind (at a true c outside) l (name (codes "if") ∷ name (codes "__BYTE_ORDER__") ∷ ts) j hs r → step (at a true c outside) bs ≡ Err r
+condition_marks a c bs cs ds es hs l m n j ts r e x y z none p b q = condition_2 a c bs cs ds es l m n r e x y z q
+condition_marks a c bs cs ds es hs l m n j ts r e x y z (more {m = o} {cs = fs} {t = t} {ts = us} g s) p b q =
+    let b' = and_parts (is_mark equals t) (pass (order_test c ∷ is_over ∷ []) us) b in
+    let k = mark_is t b'.0 in
+    condition_orders a c bs cs ds es fs hs l m n o j us r e x y z (subst (λ (d : Thing). Next n es o d fs) k g) s (or_parts (is_over t) (list_any is_over us) p).1 b'.1
+        (subst (λ (d : Thing). Behind (at a true c outside) l (name (codes "if") ∷ name (codes "__BYTE_ORDER__") ∷ d ∷ us) j hs r) k q)
+
+condition_things : (a : ℕ) (c : Constants) (bs cs ds hs : List ℕ) (l m j : ℕ) (ts : List Thing) (r : Refusal)
+    → Next a bs l hash cs → Next l cs m (name (codes "if")) ds
+    → Stand m ds ts j hs → list_any is_over ts ≡ false → may_begin (at a true c outside) (name (codes "if") ∷ ts) ≡ true
+    → Behind (at a true c outside) l (name (codes "if") ∷ ts) j hs r → step (at a true c outside) bs ≡ Err r
+condition_things a c bs cs ds hs l m j ts r x y none p b q = condition_1 a c bs cs ds l m r x y q
+condition_things a c bs cs ds hs l m j ts r x y (more {m = n} {cs = es} {t = t} {ts = us} g s) p b q =
+    let b' = and_parts (is_named (λ w. is_plain c (codes "__BYTE_ORDER__") w) t) (pass (is_mark equals ∷ order_test c ∷ is_over ∷ []) us) (or_false _ b) in
+    let w = named_is (λ w. is_plain c (codes "__BYTE_ORDER__") w) t b'.0 in
+    let d = plain_parts c (codes "__BYTE_ORDER__") w.0 w.2 in
+    let k : t ≡ name (codes "__BYTE_ORDER__") = w.1 ∙ ap name d.0 in
+    condition_marks a c bs cs ds es hs l m n j us r d.1 x y (subst (λ (v : Thing). Next m ds n v es) k g) s (or_parts (is_over t) (list_any is_over us) p).1 b'.1
+        (subst (λ (v : Thing). Behind (at a true c outside) l (name (codes "if") ∷ v ∷ us) j hs r) k q)
