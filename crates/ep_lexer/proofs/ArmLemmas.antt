@@ -75,7 +75,7 @@ kinds false true z u v = refl
 kinds false false true u v = refl
 kinds false false false u v = refl
 
-kind_outside : (c : Constants) (w : List ℕ) → bytes_eq w (codes "if") ≡ false → bytes_eq w (codes "include") ≡ false → directive_kind (at 0 true c outside) (name w ∷ []) ≡ word_kind w
+pub kind_outside : (c : Constants) (w : List ℕ) → bytes_eq w (codes "if") ≡ false → bytes_eq w (codes "include") ≡ false → directive_kind (at 0 true c outside) (name w ∷ []) ≡ word_kind w
 kind_outside c w h k = rw (h, k) (kinds (bytes_eq w (codes "elif")) (bytes_eq w (codes "else")) (bytes_eq w (codes "endif")) 7 5)
 
 word_outside : (a : ℕ) (c : Constants) (bs cs ds w : List ℕ) (l m : ℕ) → Next a bs l hash cs → Next l cs m (name w) ds → Outcome (at a true c outside) bs

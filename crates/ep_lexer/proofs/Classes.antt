@@ -11,7 +11,7 @@ mark_none b bs h0 h1 h2 h3 h4 h5 h6 h7 h8 h9 h10 h11 h12 h13 h14 h15 h16 h17 h18
 apart : (b c : ℕ) → is_word b ≡ true → is_word c ≡ false → b == c ≡ false
 apart b c h k = no_number b c (λ e. let f : is_word c ≡ true = subst (λ (x : ℕ). is_word x ≡ true) e h in cc)
 
-from : (b c : ℕ) → is_word b ≡ true → is_word c ≡ false → c == b ≡ false
+pub from : (b c : ℕ) → is_word b ≡ true → is_word c ≡ false → c == b ≡ false
 from b c h k = no_number c b (λ e. let f : is_word c ≡ true = subst (λ (x : ℕ). is_word x ≡ true) (sym e) h in cc)
 
 pub word_no_mark : (b : ℕ) (bs : List ℕ) → is_word b ≡ true → mark_at (b ∷ bs) ≡ None

@@ -245,11 +245,11 @@ include_over a c bs cs ds es fs l m n x y g e (there q t hs z) = elim (over_case
   | inr r ↦ offends (wrong 6 l q t) (behind_header l m n q t refl refl x (more y none) g e z r.0) (rw (next_read x, next_read y, header_read l g e, next_read z, r.1) refl)
 ]
 
-missing_read : {m n : ℕ} {cs ds : List ℕ} (h : ℕ) → Gap m cs n ds → Stops ds → after headers ds ≡ None → include_at h m cs ≡ header_found h n ds None
+pub missing_read : {m n : ℕ} {cs ds : List ℕ} (h : ℕ) → Gap m cs n ds → Stops ds → after headers ds ≡ None → include_at h m cs ≡ header_found h n ds None
 unfolding include_at
 missing_read {m} {n} {cs} {ds} h g s e = ap (header_at h) (gap_skips g ∙ stays n ds s) ∙ ap (header_found h n ds) e
 
-open_read : {n : ℕ} (m : ℕ) (cs : List ℕ) (h : ℕ) → skip plain m cs ≡ unclosed_at n → include_at h m cs ≡ Err (at_line 2 n)
+pub open_read : {n : ℕ} (m : ℕ) (cs : List ℕ) (h : ℕ) → skip plain m cs ≡ unclosed_at n → include_at h m cs ≡ Err (at_line 2 n)
 unfolding include_at
 open_read m cs h e = ap (header_at h) e
 

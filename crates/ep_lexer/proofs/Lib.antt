@@ -11,3 +11,4 @@ pub mod DirectiveLemmas
 pub mod ArmLemmas
 pub mod Steps
 pub mod OffenceLemmas
+pub mod OffenceReads

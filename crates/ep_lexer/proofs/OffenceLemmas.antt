@@ -19,11 +19,11 @@ pub data Behind (p : Place) (l : ℕ) (ts : List Thing) (m : ℕ) (ds : List ℕ
   something_wrong : (n : ℕ) (t : Thing) (es : List ℕ) → Next m ds n t es → may_begin p (ts ++ t ∷ []) ≡ false → is_include ts ≡ false
       → Behind p l ts m ds (wrong (directive_kind p (ts ++ t ∷ [])) l n t)
 
-or_parts : (x y : Bool) → (x || y) ≡ false → (x ≡ false) × (y ≡ false)
+pub or_parts : (x y : Bool) → (x || y) ≡ false → (x ≡ false) × (y ≡ false)
 or_parts true y h = absurd cc
 or_parts false y h = (refl, h)
 
-no_and : (x : Bool) → (x && true) ≡ false → x ≡ false
+pub no_and : (x : Bool) → (x && true) ≡ false → x ≡ false
 no_and true h = absurd cc
 no_and false h = refl
 
@@ -69,7 +69,7 @@ define_1 a c bs cs ds l m r x y (something_wrong i w gs g f h) = elim (name_case
   | inr q ↦ rw (next_read x, next_read y, next_read g, q.1) refl
 ]
 
-or_false : (x : Bool) → (x || false) ≡ true → x ≡ true
+pub or_false : (x : Bool) → (x || false) ≡ true → x ≡ true
 or_false true h = refl
 or_false false h = absurd cc
 
@@ -104,7 +104,7 @@ define_values a c bs cs ds es gs l m n j t ts r x y z d (more {m = i} {cs = fs} 
     let k = some_value (value c v) p.0 in
     define_ends a c bs cs ds es fs gs l m n i j t v k.0 us r x y z d g k.1 s (or_parts (is_over v) (list_any is_over us) o).1 p.1 w
 
-define_things : (a : ℕ) (c : Constants) (bs cs ds gs : List ℕ) (l m j : ℕ) (ts : List Thing) (r : Refusal)
+pub define_things : (a : ℕ) (c : Constants) (bs cs ds gs : List ℕ) (l m j : ℕ) (ts : List Thing) (r : Refusal)
     → Next a bs l hash cs → Next l cs m (name (codes "define")) ds
     → Stand m ds ts j gs → list_any is_over ts ≡ false → may_begin (at a true c outside) (name (codes "define") ∷ ts) ≡ true
     → Behind (at a true c outside) l (name (codes "define") ∷ ts) j gs r → step (at a true c outside) bs ≡ Err r
@@ -243,7 +243,7 @@ condition_marks a c bs cs ds es hs l m n j ts r e x y z (more {m = o} {cs = fs} 
     condition_orders a c bs cs ds es fs hs l m n o j us r e x y z (subst (λ (d : Thing). Next n es o d fs) k g) s (or_parts (is_over t) (list_any is_over us) p).1 b'.1
         (subst (λ (d : Thing). Behind (at a true c outside) l (name (codes "if") ∷ name (codes "__BYTE_ORDER__") ∷ d ∷ us) j hs r) k q)
 
-condition_things : (a : ℕ) (c : Constants) (bs cs ds hs : List ℕ) (l m j : ℕ) (ts : List Thing) (r : Refusal)
+pub condition_things : (a : ℕ) (c : Constants) (bs cs ds hs : List ℕ) (l m j : ℕ) (ts : List Thing) (r : Refusal)
     → Next a bs l hash cs → Next l cs m (name (codes "if")) ds
     → Stand m ds ts j hs → list_any is_over ts ≡ false → may_begin (at a true c outside) (name (codes "if") ∷ ts) ≡ true
     → Behind (at a true c outside) l (name (codes "if") ∷ ts) j hs r → step (at a true c outside) bs ≡ Err r
