@@ -47,8 +47,8 @@ define_2 a c bs cs ds es l m n t r x y z d (something_broken j i b) = rw (next_r
 define_2 a c bs cs ds es l m n t r x y z d (something_wrong i w gs g f h) = elim (option_cases (value c w)) [
   | inl e ↦ rw (next_read x, next_read y, next_read z, d, next_read g, e) refl
   | inr e ↦
-    let q : may_begin (at a true c outside) (name (codes "define") ∷ name t ∷ w ∷ []) ≡ true = rw (d, e.1) refl in
-    absurd (true_false q f)
+      let q : may_begin (at a true c outside) (name (codes "define") ∷ name t ∷ w ∷ []) ≡ true = rw (d, e.1) refl in
+      absurd (true_false q f)
 ]
 
 define_1 : (a : ℕ) (c : Constants) (bs cs ds : List ℕ) (l m : ℕ) (r : Refusal)
@@ -58,14 +58,14 @@ unfolding step directive_at define_at
 define_1 a c bs cs ds l m r x y (something_broken j i b) = rw (next_read x, next_read y, breaks_read b) refl
 define_1 a c bs cs ds l m r x y (something_wrong i w gs g f h) = elim (name_cases w) [
   | inl q ↦
-    let g' = subst (λ (j : Thing). Next m ds i j gs) q.1 g in
-    let f' = subst (λ (j : Thing). may_begin (at a true c outside) (name (codes "define") ∷ j ∷ []) ≡ false) q.1 f in
-    elim (test_cases (may_define c q.0)) [
-      | inl d ↦
-        let k : may_begin (at a true c outside) (name (codes "define") ∷ name q.0 ∷ []) ≡ true = rw d refl in
-        absurd (true_false k f')
-      | inr d ↦ subst (λ (j : Thing). step (at a true c outside) bs ≡ Err (wrong 5 l i j)) (sym q.1) (rw (next_read x, next_read y, next_read g', d) refl)
-    ]
+      let g' = subst (λ (j : Thing). Next m ds i j gs) q.1 g in
+      let f' = subst (λ (j : Thing). may_begin (at a true c outside) (name (codes "define") ∷ j ∷ []) ≡ false) q.1 f in
+      elim (test_cases (may_define c q.0)) [
+        | inl d ↦
+            let k : may_begin (at a true c outside) (name (codes "define") ∷ name q.0 ∷ []) ≡ true = rw d refl in
+            absurd (true_false k f')
+        | inr d ↦ subst (λ (j : Thing). step (at a true c outside) bs ≡ Err (wrong 5 l i j)) (sym q.1) (rw (next_read x, next_read y, next_read g', d) refl)
+      ]
   | inr q ↦ rw (next_read x, next_read y, next_read g, q.1) refl
 ]
 
@@ -113,7 +113,7 @@ define_things a c bs cs ds gs l m j ts r x y (more {m = n} {cs = es} {t = t} {ts
     let p = and_parts (is_named (may_define c) t) (pass ((λ q. is_some (value c q)) ∷ is_over ∷ []) us) (or_false _ b) in
     let q = named_is (may_define c) t p.0 in
     define_values a c bs cs ds es gs l m n j q.0 us r x y (subst (λ (k : Thing). Next m ds n k es) q.1 z) q.2 s (or_parts (is_over t) (list_any is_over us) o).1 p.1
-        (subst (λ (k : Thing). Behind (at a true c outside) l (name (codes "define") ∷ k ∷ us) j gs r) q.1 w)
+    (subst (λ (k : Thing). Behind (at a true c outside) l (name (codes "define") ∷ k ∷ us) j gs r) q.1 w)
 
 -- ---- `#if`
 
@@ -143,8 +143,8 @@ unfolding step directive_at condition_at
 condition_4 a c bs cs ds es fs gs l m n o i u r e f k x y z v w (something_broken j q b) = rw (next_read x, next_read y, next_read z, e, next_read v, next_read w, k, breaks_read b) refl
 condition_4 a c bs cs ds es fs gs l m n o i u r e f k x y z v w (something_wrong q t hs g h d) = elim (over_cases t) [
   | inl p ↦
-    absurd (true_false
-        (subst (λ (j : Thing). may_begin (at a true c outside) (name (codes "if") ∷ name (codes "__BYTE_ORDER__") ∷ mark equals ∷ name (order_name u) ∷ j ∷ []) ≡ true) (sym p) (ends_so c u e f)) h)
+      absurd (true_false
+      (subst (λ (j : Thing). may_begin (at a true c outside) (name (codes "if") ∷ name (codes "__BYTE_ORDER__") ∷ mark equals ∷ name (order_name u) ∷ j ∷ []) ≡ true) (sym p) (ends_so c u e f)) h)
   | inr p ↦ rw (next_read x, next_read y, next_read z, e, next_read v, next_read w, k, next_read g, p.1) refl
 ]
 
@@ -156,12 +156,12 @@ unfolding step directive_at condition_at
 condition_3 a c bs cs ds es fs l m n o r e x y z v (something_broken j q b) = rw (next_read x, next_read y, next_read z, e, next_read v, breaks_read b) refl
 condition_3 a c bs cs ds es fs l m n o r e x y z v (something_wrong i t gs w h d) = elim (name_cases t) [
   | inl q ↦
-    let w' = subst (λ (j : Thing). Next o fs i j gs) q.1 w in
-    let h' = subst (λ (j : Thing). may_begin (at a true c outside) (name (codes "if") ∷ name (codes "__BYTE_ORDER__") ∷ mark equals ∷ j ∷ []) ≡ false) q.1 h in
-    elim (order_cases c q.0) [
-      | inl k ↦ absurd (order_so a c q.0 k.0 e k.1 k.2 h')
-      | inr k ↦ subst (λ (j : Thing). step (at a true c outside) bs ≡ Err (wrong 7 l i j)) (sym q.1) (rw (next_read x, next_read y, next_read z, e, next_read v, next_read w', k.1) refl)
-    ]
+      let w' = subst (λ (j : Thing). Next o fs i j gs) q.1 w in
+      let h' = subst (λ (j : Thing). may_begin (at a true c outside) (name (codes "if") ∷ name (codes "__BYTE_ORDER__") ∷ mark equals ∷ j ∷ []) ≡ false) q.1 h in
+      elim (order_cases c q.0) [
+        | inl k ↦ absurd (order_so a c q.0 k.0 e k.1 k.2 h')
+        | inr k ↦ subst (λ (j : Thing). step (at a true c outside) bs ≡ Err (wrong 7 l i j)) (sym q.1) (rw (next_read x, next_read y, next_read z, e, next_read v, next_read w', k.1) refl)
+      ]
   | inr q ↦ rw (next_read x, next_read y, next_read z, e, next_read v, next_read w, q.1) refl
 ]
 
@@ -173,7 +173,7 @@ unfolding step directive_at condition_at
 condition_2 a c bs cs ds es l m n r e x y z (something_broken j q b) = rw (next_read x, next_read y, next_read z, e, breaks_read b) refl
 condition_2 a c bs cs ds es l m n r e x y z (something_wrong o t fs v h d) = elim (equals_cases t) [
   | inl q ↦
-    absurd (true_false (subst (λ (j : Thing). may_begin (at a true c outside) (name (codes "if") ∷ name (codes "__BYTE_ORDER__") ∷ j ∷ []) ≡ true) (sym q) (rw e refl)) h)
+      absurd (true_false (subst (λ (j : Thing). may_begin (at a true c outside) (name (codes "if") ∷ name (codes "__BYTE_ORDER__") ∷ j ∷ []) ≡ true) (sym q) (rw e refl)) h)
   | inr q ↦ rw (next_read x, next_read y, next_read z, e, next_read v, q.1) refl
 ]
 
@@ -184,14 +184,14 @@ unfolding step directive_at condition_at
 condition_1 a c bs cs ds l m r x y (something_broken j q b) = rw (next_read x, next_read y, breaks_read b) refl
 condition_1 a c bs cs ds l m r x y (something_wrong n t es z h d) = elim (name_cases t) [
   | inl q ↦
-    let z' = subst (λ (j : Thing). Next m ds n j es) q.1 z in
-    let h' = subst (λ (j : Thing). may_begin (at a true c outside) (name (codes "if") ∷ j ∷ []) ≡ false) q.1 h in
-    elim (test_cases (is_plain c (codes "__BYTE_ORDER__") q.0)) [
-      | inl k ↦
-        let f : may_begin (at a true c outside) (name (codes "if") ∷ name q.0 ∷ []) ≡ true = rw k refl in
-        absurd (true_false f h')
-      | inr k ↦ subst (λ (j : Thing). step (at a true c outside) bs ≡ Err (wrong 7 l n j)) (sym q.1) (rw (next_read x, next_read y, next_read z', k) refl)
-    ]
+      let z' = subst (λ (j : Thing). Next m ds n j es) q.1 z in
+      let h' = subst (λ (j : Thing). may_begin (at a true c outside) (name (codes "if") ∷ j ∷ []) ≡ false) q.1 h in
+      elim (test_cases (is_plain c (codes "__BYTE_ORDER__") q.0)) [
+        | inl k ↦
+            let f : may_begin (at a true c outside) (name (codes "if") ∷ name q.0 ∷ []) ≡ true = rw k refl in
+            absurd (true_false f h')
+        | inr k ↦ subst (λ (j : Thing). step (at a true c outside) bs ≡ Err (wrong 7 l n j)) (sym q.1) (rw (next_read x, next_read y, next_read z', k) refl)
+      ]
   | inr q ↦ rw (next_read x, next_read y, next_read z, q.1) refl
 ]
 
@@ -229,7 +229,7 @@ condition_orders a c bs cs ds es fs hs l m n o j ts r e x y z v (more {m = i} {c
     let b' = and_parts (order_test c t) (pass (is_over ∷ []) us) b in
     let k = order_is c t b'.0 in
     condition_ends a c bs cs ds es fs gs hs l m n o i j k.0 us r e k.2 k.3 x y z v (subst (λ (d : Thing). Next o fs i d gs) k.1 g) s (or_parts (is_over t) (list_any is_over us) p).1 b'.1
-        (subst (λ (d : Thing). Behind (at a true c outside) l (name (codes "if") ∷ name (codes "__BYTE_ORDER__") ∷ mark equals ∷ d ∷ us) j hs r) k.1 q)
+    (subst (λ (d : Thing). Behind (at a true c outside) l (name (codes "if") ∷ name (codes "__BYTE_ORDER__") ∷ mark equals ∷ d ∷ us) j hs r) k.1 q)
 
 condition_marks : (a : ℕ) (c : Constants) (bs cs ds es hs : List ℕ) (l m n j : ℕ) (ts : List Thing) (r : Refusal)
     → constant c (codes "__BYTE_ORDER__") ≡ None
@@ -241,7 +241,7 @@ condition_marks a c bs cs ds es hs l m n j ts r e x y z (more {m = o} {cs = fs} 
     let b' = and_parts (is_mark equals t) (pass (order_test c ∷ is_over ∷ []) us) b in
     let k = mark_is t b'.0 in
     condition_orders a c bs cs ds es fs hs l m n o j us r e x y z (subst (λ (d : Thing). Next n es o d fs) k g) s (or_parts (is_over t) (list_any is_over us) p).1 b'.1
-        (subst (λ (d : Thing). Behind (at a true c outside) l (name (codes "if") ∷ name (codes "__BYTE_ORDER__") ∷ d ∷ us) j hs r) k q)
+    (subst (λ (d : Thing). Behind (at a true c outside) l (name (codes "if") ∷ name (codes "__BYTE_ORDER__") ∷ d ∷ us) j hs r) k q)
 
 pub condition_things : (a : ℕ) (c : Constants) (bs cs ds hs : List ℕ) (l m j : ℕ) (ts : List Thing) (r : Refusal)
     → Next a bs l hash cs → Next l cs m (name (codes "if")) ds
@@ -254,4 +254,4 @@ condition_things a c bs cs ds hs l m j ts r x y (more {m = n} {cs = es} {t = t} 
     let d = plain_parts c (codes "__BYTE_ORDER__") w.0 w.2 in
     let k : t ≡ name (codes "__BYTE_ORDER__") = w.1 ∙ ap name d.0 in
     condition_marks a c bs cs ds es hs l m n j us r d.1 x y (subst (λ (v : Thing). Next m ds n v es) k g) s (or_parts (is_over t) (list_any is_over us) p).1 b'.1
-        (subst (λ (v : Thing). Behind (at a true c outside) l (name (codes "if") ∷ v ∷ us) j hs r) k q)
+    (subst (λ (v : Thing). Behind (at a true c outside) l (name (codes "if") ∷ v ∷ us) j hs r) k q)

@@ -89,8 +89,8 @@ word_outside a c bs cs ds hs w l m j ts r x y s o b q = elim (test_cases (bytes_
     | inr i ↦ elim (test_cases (bytes_eq w (codes "if"))) [
       | inl k ↦ condition_things a c bs cs ds hs l m j ts r x (renamed w (codes "if") k y) s o (begun (at a true c outside) ts w (codes "if") k b) (retold w (codes "if") k q)
       | inr k ↦
-        let f : may_begin (at a true c outside) (name w ∷ ts) ≡ false = rw (h, i, k) refl in
-        absurd (true_false b f)
+          let f : may_begin (at a true c outside) (name w ∷ ts) ≡ false = rw (h, i, k) refl in
+          absurd (true_false b f)
     ]
   ]
 ]
@@ -112,9 +112,9 @@ unfolding step directive_at
 first_outside a c bs cs l r x (something_broken k n b) = rw (next_read x, breaks_read b) refl
 first_outside a c bs cs l r x (something_wrong n t es y h d) = elim (name_cases t) [
   | inl q ↦
-    let y' = subst (λ (j : Thing). Next l cs n j es) q.1 y in
-    let h' = subst (λ (j : Thing). may_begin (at a true c outside) (j ∷ []) ≡ false) q.1 h in
-    subst (λ (j : Thing). step (at a true c outside) bs ≡ Err (wrong (directive_kind (at a true c outside) (j ∷ [])) l n j)) (sym q.1) (first_word a c bs cs es q.0 l n x y' h')
+      let y' = subst (λ (j : Thing). Next l cs n j es) q.1 y in
+      let h' = subst (λ (j : Thing). may_begin (at a true c outside) (j ∷ []) ≡ false) q.1 h in
+      subst (λ (j : Thing). step (at a true c outside) bs ≡ Err (wrong (directive_kind (at a true c outside) (j ∷ [])) l n j)) (sym q.1) (first_word a c bs cs es q.0 l n x y' h')
   | inr q ↦ rw (next_read x, next_read y, q.1, q.0 (λ w. list_any (bytes_eq w) (codes "if" ∷ codes "elif" ∷ codes "else" ∷ codes "endif" ∷ [])), q.0 (λ w. bytes_eq w (codes "include"))) refl
 ]
 
@@ -124,12 +124,12 @@ pub outside_read : (a : ℕ) (c : Constants) (bs cs hs : List ℕ) (l j : ℕ) (
 outside_read a c bs cs hs l j ts r x none o b q = first_outside a c bs cs l r x q
 outside_read a c bs cs hs l j ts r x (more {m = m} {cs = ds} {t = t} {ts = us} y s) o b q = elim (name_cases t) [
   | inl k ↦
-    word_outside a c bs cs ds hs k.0 l m j us r x (subst (λ (v : Thing). Next l cs m v ds) k.1 y) s (or_parts (is_over t) (list_any is_over us) o).1
-        (subst (λ (v : Thing). may_begin (at a true c outside) (v ∷ us) ≡ true) k.1 b) (subst (λ (v : Thing). Behind (at a true c outside) l (v ∷ us) j hs r) k.1 q)
+      word_outside a c bs cs ds hs k.0 l m j us r x (subst (λ (v : Thing). Next l cs m v ds) k.1 y) s (or_parts (is_over t) (list_any is_over us) o).1
+      (subst (λ (v : Thing). may_begin (at a true c outside) (v ∷ us) ≡ true) k.1 b) (subst (λ (v : Thing). Behind (at a true c outside) l (v ∷ us) j hs r) k.1 q)
   | inr k ↦
-    let f : may_begin (at a true c outside) (t ∷ us) ≡ false =
-        rw (k.0 (λ w. bytes_eq w (codes "define")), k.0 (λ w. bytes_eq w (codes "include")), k.0 (λ w. bytes_eq w (codes "if"))) refl in
-    absurd (true_false b f)
+      let f : may_begin (at a true c outside) (t ∷ us) ≡ false =
+      rw (k.0 (λ w. bytes_eq w (codes "define")), k.0 (λ w. bytes_eq w (codes "include")), k.0 (λ w. bytes_eq w (codes "if"))) refl in
+      absurd (true_false b f)
 ]
 
 -- ---- inside a conditional
@@ -191,8 +191,8 @@ first_words a c bs cs ds hs w l m j from ts r x y s o b q = elim (test_cases (by
   | inr h ↦ elim (test_cases (bytes_eq w (codes "else"))) [
     | inl i ↦ first_elses a c bs cs ds hs l m j from ts r x (renamed w (codes "else") i y) s o (begun (at a true c (first_arm from)) ts w (codes "else") i b) (retold w (codes "else") i q)
     | inr i ↦
-      let f : may_begin (at a true c (first_arm from)) (name w ∷ ts) ≡ false = rw (h, i) refl in
-      absurd (true_false b f)
+        let f : may_begin (at a true c (first_arm from)) (name w ∷ ts) ≡ false = rw (h, i) refl in
+        absurd (true_false b f)
   ]
 ]
 
@@ -202,8 +202,8 @@ second_words : (a : ℕ) (c : Constants) (bs cs ds hs w : List ℕ) (l m j from 
 second_words a c bs cs ds hs w l m j from ts r x y s o b q = elim (test_cases (bytes_eq w (codes "endif"))) [
   | inl h ↦ second_ends a c bs cs ds hs l m j from ts r x (renamed w (codes "endif") h y) s o (begun (at a true c (second_arm from)) ts w (codes "endif") h b) (retold w (codes "endif") h q)
   | inr h ↦
-    let f : may_begin (at a true c (second_arm from)) (name w ∷ ts) ≡ false = rw h refl in
-    absurd (true_false b f)
+      let f : may_begin (at a true c (second_arm from)) (name w ∷ ts) ≡ false = rw h refl in
+      absurd (true_false b f)
 ]
 
 in_first : (a : ℕ) (c : Constants) (bs cs : List ℕ) (l from : ℕ) (r : Refusal) → Next a bs l hash cs → Behind (at a true c (first_arm from)) l [] l cs r → step (at a true c (first_arm from)) bs ≡ Err r
@@ -211,12 +211,12 @@ unfolding step directive_at
 in_first a c bs cs l from r x (something_broken k n b) = rw (next_read x, breaks_read b) refl
 in_first a c bs cs l from r x (something_wrong n t es y h d) = elim (name_cases t) [
   | inl q ↦
-    let y' = subst (λ (j : Thing). Next l cs n j es) q.1 y in
-    let h' = subst (λ (j : Thing). may_begin (at a true c (first_arm from)) (j ∷ []) ≡ false) q.1 h in
-    let p = or_parts (bytes_eq q.0 (codes "endif") && true) ((bytes_eq q.0 (codes "else") && true) || false) h' in
-    let e = no_and (bytes_eq q.0 (codes "endif")) p.0 in
-    let f = no_and (bytes_eq q.0 (codes "else")) (or_parts (bytes_eq q.0 (codes "else") && true) false p.1).0 in
-    subst (λ (j : Thing). step (at a true c (first_arm from)) bs ≡ Err (wrong 7 l n j)) (sym q.1) (rw (next_read x, next_read y', e, f) refl)
+      let y' = subst (λ (j : Thing). Next l cs n j es) q.1 y in
+      let h' = subst (λ (j : Thing). may_begin (at a true c (first_arm from)) (j ∷ []) ≡ false) q.1 h in
+      let p = or_parts (bytes_eq q.0 (codes "endif") && true) ((bytes_eq q.0 (codes "else") && true) || false) h' in
+      let e = no_and (bytes_eq q.0 (codes "endif")) p.0 in
+      let f = no_and (bytes_eq q.0 (codes "else")) (or_parts (bytes_eq q.0 (codes "else") && true) false p.1).0 in
+      subst (λ (j : Thing). step (at a true c (first_arm from)) bs ≡ Err (wrong 7 l n j)) (sym q.1) (rw (next_read x, next_read y', e, f) refl)
   | inr q ↦ rw (next_read x, next_read y, q.1) refl
 ]
 
@@ -225,10 +225,10 @@ unfolding step directive_at
 in_second a c bs cs l from r x (something_broken k n b) = rw (next_read x, breaks_read b) refl
 in_second a c bs cs l from r x (something_wrong n t es y h d) = elim (name_cases t) [
   | inl q ↦
-    let y' = subst (λ (j : Thing). Next l cs n j es) q.1 y in
-    let h' = subst (λ (j : Thing). may_begin (at a true c (second_arm from)) (j ∷ []) ≡ false) q.1 h in
-    let e = no_and (bytes_eq q.0 (codes "endif")) (or_parts (bytes_eq q.0 (codes "endif") && true) false h').0 in
-    subst (λ (j : Thing). step (at a true c (second_arm from)) bs ≡ Err (wrong 7 l n j)) (sym q.1) (rw (next_read x, next_read y', e) refl)
+      let y' = subst (λ (j : Thing). Next l cs n j es) q.1 y in
+      let h' = subst (λ (j : Thing). may_begin (at a true c (second_arm from)) (j ∷ []) ≡ false) q.1 h in
+      let e = no_and (bytes_eq q.0 (codes "endif")) (or_parts (bytes_eq q.0 (codes "endif") && true) false h').0 in
+      subst (λ (j : Thing). step (at a true c (second_arm from)) bs ≡ Err (wrong 7 l n j)) (sym q.1) (rw (next_read x, next_read y', e) refl)
   | inr q ↦ rw (next_read x, next_read y, q.1) refl
 ]
 
@@ -238,11 +238,11 @@ first_read : (a : ℕ) (c : Constants) (bs cs hs : List ℕ) (l j from : ℕ) (t
 first_read a c bs cs hs l j from ts r x none o b q = in_first a c bs cs l from r x q
 first_read a c bs cs hs l j from ts r x (more {m = m} {cs = ds} {t = t} {ts = us} y s) o b q = elim (name_cases t) [
   | inl k ↦
-    first_words a c bs cs ds hs k.0 l m j from us r x (subst (λ (v : Thing). Next l cs m v ds) k.1 y) s (or_parts (is_over t) (list_any is_over us) o).1
-        (subst (λ (v : Thing). may_begin (at a true c (first_arm from)) (v ∷ us) ≡ true) k.1 b) (subst (λ (v : Thing). Behind (at a true c (first_arm from)) l (v ∷ us) j hs r) k.1 q)
+      first_words a c bs cs ds hs k.0 l m j from us r x (subst (λ (v : Thing). Next l cs m v ds) k.1 y) s (or_parts (is_over t) (list_any is_over us) o).1
+      (subst (λ (v : Thing). may_begin (at a true c (first_arm from)) (v ∷ us) ≡ true) k.1 b) (subst (λ (v : Thing). Behind (at a true c (first_arm from)) l (v ∷ us) j hs r) k.1 q)
   | inr k ↦
-    let f : may_begin (at a true c (first_arm from)) (t ∷ us) ≡ false = rw (k.0 (λ w. bytes_eq w (codes "endif")), k.0 (λ w. bytes_eq w (codes "else"))) refl in
-    absurd (true_false b f)
+      let f : may_begin (at a true c (first_arm from)) (t ∷ us) ≡ false = rw (k.0 (λ w. bytes_eq w (codes "endif")), k.0 (λ w. bytes_eq w (codes "else"))) refl in
+      absurd (true_false b f)
 ]
 
 second_read : (a : ℕ) (c : Constants) (bs cs hs : List ℕ) (l j from : ℕ) (ts : List Thing) (r : Refusal)
@@ -251,11 +251,11 @@ second_read : (a : ℕ) (c : Constants) (bs cs hs : List ℕ) (l j from : ℕ) (
 second_read a c bs cs hs l j from ts r x none o b q = in_second a c bs cs l from r x q
 second_read a c bs cs hs l j from ts r x (more {m = m} {cs = ds} {t = t} {ts = us} y s) o b q = elim (name_cases t) [
   | inl k ↦
-    second_words a c bs cs ds hs k.0 l m j from us r x (subst (λ (v : Thing). Next l cs m v ds) k.1 y) s (or_parts (is_over t) (list_any is_over us) o).1
-        (subst (λ (v : Thing). may_begin (at a true c (second_arm from)) (v ∷ us) ≡ true) k.1 b) (subst (λ (v : Thing). Behind (at a true c (second_arm from)) l (v ∷ us) j hs r) k.1 q)
+      second_words a c bs cs ds hs k.0 l m j from us r x (subst (λ (v : Thing). Next l cs m v ds) k.1 y) s (or_parts (is_over t) (list_any is_over us) o).1
+      (subst (λ (v : Thing). may_begin (at a true c (second_arm from)) (v ∷ us) ≡ true) k.1 b) (subst (λ (v : Thing). Behind (at a true c (second_arm from)) l (v ∷ us) j hs r) k.1 q)
   | inr k ↦
-    let f : may_begin (at a true c (second_arm from)) (t ∷ us) ≡ false = rw (k.0 (λ w. bytes_eq w (codes "endif"))) refl in
-    absurd (true_false b f)
+      let f : may_begin (at a true c (second_arm from)) (t ∷ us) ≡ false = rw (k.0 (λ w. bytes_eq w (codes "endif"))) refl in
+      absurd (true_false b f)
 ]
 
 inside_read : (a : ℕ) (c : Constants) (o : Open) (bs cs hs : List ℕ) (l j : ℕ) (ts : List Thing) (r : Refusal)

@@ -13,6 +13,7 @@ use Rattle.ep_lexer.specs.Step.{Went, step, Fails}
 use Rattle.ep_lexer.proofs.NextLemmas.{next_read, breaks_read, NextIs, there, broken, next_is}
 use Rattle.ep_lexer.proofs.Pieces.{piece_read}
 use Rattle.ep_lexer.proofs.DirectiveLemmas.{at, Outcome, goes, offends}
+use Rattle.ep_lexer.proofs.OffenceReads.{offence_read}
 use Rattle.ep_lexer.proofs.ArmLemmas.{directive_is}
 
 -- a step is the end, a piece, or an offence
@@ -68,9 +69,10 @@ pub record Upto (bs : List ℕ) (front : List Tok) (p : Place) (rest : List ℕ)
   pub forth : (ts : List Tok) → Cuts p rest ts → Cuts start bs (front ++ ts)
   pub back : (ts : List Tok) → Cuts start bs ts → (more : List Tok) × (ts ≡ front ++ more) × Cuts p rest more
   pub worse : (r : Refusal) → Offends p rest r → Offends start bs r
+  pub left : (r : Refusal) → Offends start bs r → Offends p rest r
 
 pub begins : (bs : List ℕ) → Upto bs [] start bs
-begins bs = record { forth = λ ts d. d; back = λ ts d. (ts, refl, d); worse = λ r o. o }
+begins bs = record { forth = λ ts d. d; back = λ ts d. (ts, refl, d); worse = λ r o. o; left = λ r o. o }
 
 same_ok : {A : Type 0} {x y : A} {o : Result A Refusal} → o ≡ Ok x → o ≡ Ok y → x ≡ y
 same_ok e f = cc
@@ -107,6 +109,14 @@ back_on bs front p rest w e ts more same (piece {q = q} {rest = rest'} {ts = vs}
     let P : Went → Type 0 = λ v. (us : List Tok) × (ts ≡ (front ++ v.0) ++ us) × Cuts v.1 v.2 us in
     subst P equal (us, same ∙ ap (λ (y : List Tok). front ++ y) all ∙ sym (append_assoc front vs us), d)
 
+-- and an offence in the rest stands behind that piece
+left_on : (p : Place) (rest : List ℕ) (w : Went) → step p rest ≡ Ok (Some w) → (r : Refusal) → Offends p rest r → Offends w.1 w.2 r
+left_on p rest w e r (now x) = absurd (ok_err e (offence_read x))
+left_on p rest w e r (later {q = q} {rest = rest'} {ts = ts} x o) =
+    let equal : (ts, q, rest') ≡ w = same_some (same_ok (piece_read x) e) in
+    let P : Went → Type 0 = λ v. Offends v.1 v.2 r in
+    subst P equal o
+
 pub further : (bs : List ℕ) (front : List Tok) (p : Place) (rest : List ℕ) (w : Went) → step p rest ≡ Ok (Some w) → Upto bs front p rest → Upto bs (front ++ w.0) w.1 w.2
 further bs front p rest w e u =
     let x = is_piece p rest w e in
@@ -114,6 +124,7 @@ further bs front p rest w e u =
       forth = λ ts d. rw append_assoc (u.forth (w.0 ++ ts) (piece x d refl));
       back = λ ts d. let r = u.back ts d in back_on bs front p rest w e ts r.0 r.1 r.2;
       worse = λ r o. u.worse r (later x o);
+      left = λ r o. left_on p rest w e r (u.left r o);
     }
 
 is_offence : (p : Place) (bs : List ℕ) (r : Refusal) → step p bs ≡ Err r → Offence p bs r
@@ -153,3 +164,19 @@ pub fails_spell_nothing : (bs : List ℕ) (front : List Tok) (p : Place) (rest :
     → IfRefused e (λ _. (ts : List Tok) → Cuts start bs ts → ⊥)
 fails_spell_nothing bs front p rest halts.Memory f u = tt
 fails_spell_nothing bs front p rest (halts.Refused r) f u = (refused_at bs front p rest r f u).1
+
+offends_so : (p : Place) (bs : List ℕ) (r q : Refusal) → step p bs ≡ Err r → Offends p bs q → q ≡ r
+offends_so p bs r q e (now x) = same_err (offence_read x) e
+offends_so p bs r q e (later x o) = absurd (ok_err (piece_read x) e)
+
+ends_faultless : (p : Place) (bs : List ℕ) (r : Refusal) → step p bs ≡ Ok None → Offends p bs r → ⊥
+ends_faultless p bs r e (now x) = ok_err e (offence_read x)
+ends_faultless p bs r e (later x o) = none_went e (piece_read x)
+
+pub fails_first : (bs : List ℕ) (front : List Tok) (p : Place) (rest : List ℕ) (e : Halt) → Fails e (step p rest) → Upto bs front p rest
+    → IfRefused e (λ r. (q : Refusal) → Offends start bs q → q ≡ r)
+fails_first bs front p rest halts.Memory f u = tt
+fails_first bs front p rest (halts.Refused r) f u = λ q o. offends_so p rest r q f (u.left q o)
+
+pub done_faultless : (bs : List ℕ) (front : List Tok) (p : Place) (rest : List ℕ) → step p rest ≡ Ok None → Upto bs front p rest → (r : Refusal) → Offends start bs r → ⊥
+done_faultless bs front p rest e u r o = ends_faultless p rest r e (u.left r o)

@@ -4,6 +4,7 @@ ghost use Rattle.ep_lexer.specs.Step as step;
 ghost use Rattle.ep_lexer.specs.Tokens.{view, view_at, view_all};
 ghost use Rattle.ep_ast.specs.Token.{Tok};
 ghost use Rattle.ep_ast.specs.Refusal.{IfRefused};
+ghost use Rattle.ep_ast.specs.declared.refusals.Refusal.{Refusal};
 
 use crate::bytes::after;
 use crate::definitions::Definitions;
@@ -230,7 +231,9 @@ pub fn lex(alloc: Global, source: &[u8]) -> Result<Tokens, Halt>
     requires { length source.now < 2 ^ 24 }
     ensures spells { IfOk result (λ tokens. cut.Spells source.now (view_all tokens)) }
     ensures only { IfOk result (λ tokens. (ts : List Tok) → cut.Spells source.now ts → ts ≡ view_all tokens) }
+    ensures faultless { IfOk result (λ _. (r : Refusal) → cut.Offends cut.start source.now r → ⊥) }
     ensures offends { IfErr result (λ e. IfRefused e (λ r. cut.Offends cut.start source.now r)) }
+    ensures first { IfErr result (λ e. IfRefused e (λ r. (q : Refusal) → cut.Offends cut.start source.now q → q ≡ r)) }
     ensures spells_nothing { IfErr result (λ e. IfRefused e (λ _. (ts : List Tok) → cut.Spells source.now ts → ⊥)) }
 {
     let mut list = Vec::new(alloc);
