@@ -1,15 +1,14 @@
 -- Each offence in a directive is what is read.
-use Rattle.std.proofs.Common.{◌≡◌, ℕ, suc, ◌+◌, Bool, true, false, cond, ◌&&◌, ◌||◌, ◌==◌, not, List, [], ◌∷◌, ◌++◌, codes, Option, Some, None, is_some, is_none, Result, Ok, Err, refl, sym, ap, ◌∙◌, subst, inl, inr, ◌⊎◌}
+use Rattle.std.proofs.Common.{◌≡◌, ℕ, Bool, true, false, ◌&&◌, ◌||◌, List, [], ◌∷◌, ◌++◌, codes, Option, Some, None, is_some, Err, refl, sym, ap, ◌∙◌, subst, inl, inr}
 use Rattle.std.specs.List.{list_any}
-use Rattle.std.specs.Str.{bytes_eq}
 use Rattle.ep_int.specs.declared.types.Order.{Order}
 use Rattle.ep_int.specs.declared.types.Order.TheVariants.{Little, Big}
 use Rattle.ep_ast.specs.declared.expressions.Literal.{Literal}
 use Rattle.ep_ast.specs.declared.refusals.Refusal.{Refusal}
-use Rattle.ep_ast.specs.Lexeme.{Thing, over, hash, quote, name, number, mark, Gap, Begins, Next, Breaks, Spoilt, bad_number, bad_character, bad_byte, spoilt, unclosed}
-use Rattle.ep_ast.specs.Cut.{Constants, constant, value, may_define, pass, Place, Open, outside, first_arm, second_arm, Stand, none, more, after, headers, order_name, equals, may_begin, directive_kind, is_include, is_named, is_over, is_mark, wrong, at_line}
-use Rattle.ep_lexer.specs.Step.{step, directive_at, define_at, condition_at, include_at, header_at, header_found, is_plain, order_of, word_kind}
-use Rattle.ep_lexer.proofs.Cases.{test_cases, option_cases, none_some, true_false, and_parts}
+use Rattle.ep_ast.specs.Lexeme.{Thing, over, hash, quote, name, number, mark, Next, Breaks}
+use Rattle.ep_ast.specs.Cut.{Constants, constant, value, may_define, pass, Place, outside, Stand, none, more, order_name, equals, may_begin, directive_kind, is_include, is_named, is_over, is_mark, wrong, at_line}
+use Rattle.ep_lexer.specs.Step.{step, directive_at, define_at, condition_at, is_plain, order_of}
+use Rattle.ep_lexer.proofs.Cases.{test_cases, option_cases, true_false, and_parts}
 use Rattle.ep_lexer.proofs.NextLemmas.{next_read, breaks_read}
 use Rattle.ep_lexer.proofs.DirectiveLemmas.{at, name_cases, over_cases, equals_cases, order_cases, plain_parts}
 

@@ -1,15 +1,15 @@
 -- Each offence is what is read.
-use Rattle.std.proofs.Common.{◌≡◌, ℕ, suc, ◌+◌, Bool, true, false, cond, ◌&&◌, ◌||◌, ◌==◌, not, List, [], ◌∷◌, ◌++◌, codes, Option, Some, None, is_some, is_none, Result, Ok, Err, refl, sym, ap, ◌∙◌, subst, nat_eq, arith, inl, inr, ◌⊎◌}
+use Rattle.std.proofs.Common.{◌≡◌, ℕ, Bool, true, false, cond, ◌&&◌, ◌||◌, ◌==◌, List, [], ◌∷◌, codes, Option, Some, None, Err, refl, sym, ◌∙◌, subst, nat_eq, arith, inl, inr}
 use Rattle.std.proofs.lemmas.Bool.Decides.{nat_tests}
 use Rattle.std.specs.List.{list_any, starts_with}
 use Rattle.std.specs.Str.{bytes_eq}
 use Rattle.ep_ast.specs.declared.refusals.Refusal.{Refusal}
-use Rattle.ep_ast.specs.Lexeme.{Thing, over, hash, quote, name, number, mark, mark_at, is_word, Gap, Begins, Next, Breaks, Spoilt, bad_number, bad_character, bad_byte, spoilt, unclosed as unclosed_comment}
-use Rattle.ep_ast.specs.Cut.{Constants, Place, Open, outside, first_arm, second_arm, opened_at, Stand, none, more, after, headers, may_begin, directive_kind, is_include, is_named, is_over, pass, wrong, at_line, Offence, broken as broken_here, stray_quote, stray_hash, reserved_word, no_end_if, broken_inside, wrong_inside, no_header, broken_header, behind_header}
-use Rattle.ep_lexer.specs.Step.{Skipped, stopped, unclosed, skip, plain, step, directive_at, include_at, header_at, header_found, word_kind, thing_at}
-use Rattle.ep_lexer.proofs.Cases.{test_cases, none_some, true_false, and_parts, same_bytes, no_number}
+use Rattle.ep_ast.specs.Lexeme.{Thing, over, hash, name, mark_at, Next, Spoilt, bad_number, bad_character, bad_byte, spoilt, unclosed as unclosed_comment}
+use Rattle.ep_ast.specs.Cut.{Constants, Place, Open, outside, first_arm, second_arm, opened_at, Stand, none, more, after, headers, may_begin, directive_kind, is_over, pass, wrong, at_line, Offence, broken as broken_here, stray_quote, stray_hash, reserved_word, no_end_if, broken_inside, wrong_inside, no_header, broken_header, behind_header}
+use Rattle.ep_lexer.specs.Step.{step, directive_at}
+use Rattle.ep_lexer.proofs.Cases.{test_cases, true_false, and_parts, same_bytes, no_number}
 use Rattle.ep_lexer.proofs.Classes.{from, digit_word}
-use Rattle.ep_lexer.proofs.Gaps.{Stops, stays, gap_skips}
+use Rattle.ep_lexer.proofs.Gaps.{gap_skips}
 use Rattle.ep_lexer.proofs.Skips.{comment_open}
 use Rattle.ep_lexer.proofs.NextLemmas.{next_read, breaks_read, begins_read, spoilt_read, begins_stops, spoilt_stops}
 use Rattle.ep_lexer.proofs.Pieces.{header_read}
