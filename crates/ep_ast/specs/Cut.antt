@@ -153,7 +153,7 @@ pub data Cuts : Place → List ℕ → List Tok → Type 0 where
   ends : {p : Place} {bs : List ℕ} (m : ℕ) → Next p.line bs m over [] → p.open_arm ≡ outside → Cuts p bs []
   piece : {p q : Place} {bs rest : List ℕ} {ts us all : List Tok} → Piece p bs ts q rest → Cuts q rest us → all ≡ ts ++ us → Cuts p bs all
 
--- ---- what offends in a directive: from left to right, the first thing with which it is no directive any more
+-- ---- what offends in a directive: from left to right, the first thing with which it is no directive any more, or that is broken in itself
 
 abbrev pub is_over : Thing → Bool
 is_over over = true
@@ -180,7 +180,7 @@ is_mark k (name t) = false
 is_mark k (number n) = false
 is_mark k (mark n) = n == k
 
--- whether the things pass these tests in turn, as far as both go
+-- whether there are no more things than tests, and each passes its own
 abbrev pub pass : List (Thing → Bool) → List Thing → Bool
 pass fs [] = true
 pass [] (t ∷ ts) = false
