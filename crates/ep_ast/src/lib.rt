@@ -1,0 +1,17 @@
+//! The trees of the grammar, and the refusals of a source.
+#![tactic(auto)]
+
+mod declarations;
+mod expressions;
+mod refusals;
+mod statements;
+
+pub use declarations::{
+    AggregateTree, DeclarationTree, DeclaratorTree, HeadTree, InitTree, MemberTree, ParamTree,
+    ParamsTree, SpecTree, TypedefTree, ValueTree,
+};
+pub use expressions::{ExprTree, Literal, TypeNameTree, TypeWordTree};
+pub use refusals::{Halt, Refusal, refusal_text};
+pub use statements::{
+    BlockItemTree, BlockTree, ForInitTree, FunctionTree, ItemTree, ProgramTree, StmtTree,
+};

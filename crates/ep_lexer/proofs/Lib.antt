@@ -1,0 +1,14 @@
+pub mod Values
+pub mod Skips
+pub mod Numbered
+pub mod Tables
+pub mod Cases
+pub mod Classes
+pub mod Gaps
+pub mod NextLemmas
+pub mod Pieces
+pub mod DirectiveLemmas
+pub mod ArmLemmas
+pub mod Steps
+pub mod OffenceLemmas
+pub mod OffenceReads
