@@ -1,0 +1,8 @@
+//! Numeric domains: what an abstract number promises, and which pairs of numbers may be undefined.
+#![tactic(auto)]
+
+mod num;
+mod outcome;
+
+pub use num::Num;
+pub use outcome::Outcome;
