@@ -1,22 +1,15 @@
 -- Where two ranges of numbers that arithmetic takes hold a pair of which it is undefined.
-use Rattle.std.proofs.Common.{◌≡◌, ℕ, ◌*◌, ◌^◌, ◌-◌, ◌<◌, ◌≤◌, ℤ, pos, negsuc, ◌+ℤ◌, ◌-ℤ◌, ◌*ℤ◌, ◌≤ℤ◌, ◌<ℤ◌, Bool, true, false, cond, not, ◌&&◌, ◌||◌, ◌⊎◌, inl, inr, Ok, Err, is_err, refl, sym, ap, ◌∙◌, arith, subst}
-use Rattle.std.specs.Prelude.{int_le, int_lt, int_div, unsigned_abs}
+use Rattle.std.proofs.Common.{◌≡◌, ℤ, ◌*ℤ◌, ◌≤ℤ◌, true, ◌⊎◌, inl, inr, is_err, refl, ◌∙◌, arith}
 use Rattle.std.specs.Int.{int_min, int_max}
-use Rattle.std.proofs.Math.Nat.{pow-le-pow_right}
-use Rattle.std.proofs.lemmas.Int.{ints, clamps}
-use Rattle.std.proofs.Math.IntN.{*ℤ_comm}
+use Rattle.std.proofs.lemmas.Int.{ints}
 use Rattle.ep_int.specs.declared.types.IntType.{IntType}
 use Rattle.ep_int.specs.declared.types.BinOp.{BinOp}
 use Rattle.ep_int.specs.declared.types.BinOp.TheVariants.{Add, Sub, Mul, Div, Rem, And, Or, Xor, Shl, Shr}
-use Rattle.ep_int.specs.declared.types.Undef.TheVariants.{Overflow, Division, Shift}
-use Rattle.ep_int.specs.Types.{bits_of, is_signed, least_of, greatest_of, InRange}
-use Rattle.ep_int.specs.Arith.{arith_of, settled, is_divisible, is_amount}
+use Rattle.ep_int.specs.Arith.{arith_of}
 use Rattle.ep_domain.specs.Ranges.{LiesIn}
-use Rattle.ep_domain.specs.Faults.{shown_of, shown_range, least_of_four, greatest_of_four, lies_in, may_overflow, may_not_divide, may_pass_width, may_not_shift, may_fault, nearest_amount}
-use Rattle.ep_domain.proofs.Tests.{le_true, lt_true, from_le_true, from_le_false, from_lt_true, between_true, from_between, outside_true, from_outside, min_is, max_is, le_trans, le_antisym}
-use Rattle.ep_domain.proofs.Corners.{product_up, product_high, product_low}
-use Rattle.ep_domain.proofs.Types.{least_negative, greatest_positive, least_unsigned}
-use Rattle.ep_domain.proofs.Undefined.{IsOut, settled_out, out_settled, error_if, if_error, IsLeastByMinusOne, undivided, not_by_zero, not_by_minus_one, no_amount, amount_false, nearest_same, nearest_above}
+use Rattle.ep_domain.specs.Faults.{shown_of, shown_range}
+use Rattle.ep_domain.proofs.Tests.{min_is, max_is}
+use Rattle.ep_domain.proofs.Corners.{product_high, product_low}
 
 -- a pair of two ranges of which arithmetic is undefined
 pub record FaultAt (o : BinOp) (t : IntType) (r s : ℤ × ℤ) : Type 0 where

@@ -1,11 +1,9 @@
 -- The test for a pair of which arithmetic is undefined is true exactly where there is one.
-use Rattle.std.proofs.Common.{◌≡◌, ℕ, ◌*◌, ◌^◌, ◌-◌, ◌<◌, ◌≤◌, ℤ, pos, negsuc, ◌+ℤ◌, ◌-ℤ◌, ◌*ℤ◌, ◌≤ℤ◌, ◌<ℤ◌, Bool, true, false, cond, not, ◌&&◌, ◌||◌, ◌⊎◌, inl, inr, Ok, Err, is_err, Result, refl, sym, ap, ◌∙◌, arith, subst}
-use Rattle.std.specs.Prelude.{int_le, int_lt, int_div, unsigned_abs}
-use Rattle.std.specs.Int.{int_min, int_max}
+use Rattle.std.proofs.Common.{◌≡◌, ℕ, ◌^◌, ◌≤◌, ℤ, pos, negsuc, ◌+ℤ◌, ◌-ℤ◌, ◌*ℤ◌, ◌≤ℤ◌, ◌<ℤ◌, Bool, true, false, cond, ◌&&◌, ◌⊎◌, inl, inr, Err, is_err, refl, arith, subst}
+use Rattle.std.specs.Prelude.{int_le, int_lt, unsigned_abs}
 use Rattle.std.proofs.Math.Nat.{pow-le-pow_right, mul-le-mul_left}
 use Rattle.std.proofs.lemmas.Bool.{and_parts, and_from, or_cases, or_left, or_right}
-use Rattle.std.proofs.lemmas.Int.{ints, clamps}
-use Rattle.std.proofs.Math.IntN.{*ℤ_comm}
+use Rattle.std.proofs.lemmas.Int.{ints}
 use Rattle.ep_int.specs.declared.types.IntType.{IntType}
 use Rattle.ep_int.specs.declared.types.BinOp.{BinOp}
 use Rattle.ep_int.specs.declared.types.BinOp.TheVariants.{Add, Sub, Mul, Div, Rem, And, Or, Xor, Shl, Shr}
@@ -14,10 +12,10 @@ use Rattle.ep_int.specs.declared.types.Undef.TheVariants.{Overflow, Division, Sh
 use Rattle.ep_int.specs.Types.{bits_of, is_signed, least_of, greatest_of, InRange}
 use Rattle.ep_int.specs.Arith.{arith_of, settled, is_divisible, is_amount}
 use Rattle.ep_domain.specs.Ranges.{LiesIn}
-use Rattle.ep_domain.specs.Faults.{shown_of, shown_range, lies_in, may_overflow, may_not_divide, may_pass_width, may_not_shift, may_fault, nearest_amount}
-use Rattle.ep_domain.proofs.Tests.{le_true, le_false, lt_true, from_le_true, from_le_false, from_lt_true, between_true, from_between, outside_true, from_outside, le_trans, le_antisym}
+use Rattle.ep_domain.specs.Faults.{shown_range, lies_in, may_overflow, may_not_divide, may_pass_width, may_not_shift, may_fault, nearest_amount}
+use Rattle.ep_domain.proofs.Tests.{le_true, le_false, lt_true, from_le_true, from_le_false, from_lt_true, between_true, from_between, outside_true, from_outside}
 use Rattle.ep_domain.proofs.Corners.{product_up}
-use Rattle.ep_domain.proofs.Types.{least_negative, greatest_positive, least_unsigned}
+use Rattle.ep_domain.proofs.Types.{least_negative, least_unsigned}
 use Rattle.ep_domain.proofs.Undefined.{IsOut, settled_out, out_settled, error_if, if_error, IsLeastByMinusOne, undivided, not_by_zero, not_by_minus_one, no_amount, amount_false, nearest_same, nearest_above}
 use Rattle.ep_domain.proofs.FaultAt.{FaultAt, ShownAt, low_lies, high_lies, low_shown, high_shown, each_shown}
 
@@ -136,6 +134,7 @@ not_shifted_at t r s h k e = by_case (or_cases _ _ (and_parts (is_signed t) _ e)
     by_amount : (b : Bool) → is_amount t s.1 ≡ b → greatest_of t <ℤ (r.1 *ℤ pos (2 ^ nearest_amount t s.1)) → is_err (arith_of Shl t r.1 s.1) ≡ true
     by_amount true f g = shl_out t r.1 s.1 (out_above t r.1 s.1 _ (and_parts (is_signed t) _ e).0 g (nearest_same t s.1 f))
     by_amount false f g = shl_no_amount t r.1 s.1 f
+
     by_case : (int_lt r.0 (pos 0) ≡ true) ⊎ (int_lt (greatest_of t) (r.1 *ℤ pos (2 ^ nearest_amount t s.1)) ≡ true) → FaultAt Shl t r s
     by_case (inl p) = record { x = r.0; y = s.0; left = low_lies r h; right = low_lies s k; undefined = shl_negative t r.0 s.0 (le_false (pos 0) r.0 (from_lt_true r.0 (pos 0) p)) }
     by_case (inr p) = record { x = r.1; y = s.1; left = high_lies r h; right = high_lies s k; undefined = by_amount (is_amount t s.1) refl (from_lt_true _ _ p) }

@@ -6,3 +6,4 @@ pub mod Undefined
 pub mod FaultAt
 pub mod FaultFound
 pub mod RangeFaults
+pub mod FaultCode

@@ -1,12 +1,12 @@
 -- The parts of two ranges that arithmetic takes.
-use Rattle.std.proofs.Common.{◌≡◌, ℤ, ◌≤ℤ◌, Bool, true, false, refl, arith}
+use Rattle.std.proofs.Common.{ℤ, Bool, true, false, arith}
 use Rattle.std.proofs.lemmas.Int.{ints, clamps}
 use Rattle.ep_int.specs.declared.types.IntType.{IntType}
 use Rattle.ep_int.specs.declared.types.BinOp.{BinOp}
 use Rattle.ep_int.specs.declared.types.BinOp.TheVariants.{Add, Sub, Mul, Div, Rem, And, Or, Xor, Shl, Shr}
-use Rattle.ep_int.specs.Types.{least_of, greatest_of, InRange}
-use Rattle.ep_domain.specs.Ranges.{IsNumber, IsRange, LiesIn, Encloses}
-use Rattle.ep_domain.specs.Faults.{IsRight, Takes, is_shift, part_of, right_part}
+use Rattle.ep_int.specs.Types.{InRange}
+use Rattle.ep_domain.specs.Ranges.{IsNumber, IsRange, LiesIn}
+use Rattle.ep_domain.specs.Faults.{IsRight, is_shift, part_of, right_part}
 use Rattle.ep_domain.proofs.Tests.{le_trans}
 
 pub part_in_range : (t : IntType) (r : ℤ × ℤ) (x : ℤ) → LiesIn (part_of t r) x → InRange t x

@@ -1,17 +1,14 @@
 -- The range that an alarm shows is there exactly where two ranges hold a pair of which arithmetic is undefined, and is exact.
-use Rattle.std.proofs.Common.{◌≡◌, ℤ, ◌≤ℤ◌, Bool, true, false, cond, ◌&&◌, Option, Some, None, is_some, is_err, refl, sym, subst}
+use Rattle.std.proofs.Common.{◌≡◌, ℤ, ◌≤ℤ◌, Bool, true, false, cond, ◌&&◌, Some, None, is_some, refl, sym, subst}
 use Rattle.std.specs.Prelude.{IfSome}
 use Rattle.std.proofs.lemmas.Bool.{and_parts, and_from}
 use Rattle.ep_int.specs.declared.types.IntType.{IntType}
 use Rattle.ep_int.specs.declared.types.BinOp.{BinOp}
-use Rattle.ep_int.specs.declared.types.BinOp.TheVariants.{Div, Rem}
-use Rattle.ep_int.specs.Types.{InRange}
-use Rattle.ep_int.specs.Arith.{arith_of}
-use Rattle.ep_domain.specs.Ranges.{IsRange, LiesIn, Encloses}
-use Rattle.ep_domain.specs.Faults.{IsRight, Takes, MayFault, IsShown, ShowsRange, shown_of, shown_range, is_ordered, may_fault, part_of, right_part, fault_between, range_fault_of}
+use Rattle.ep_domain.specs.Ranges.{IsRange, LiesIn}
+use Rattle.ep_domain.specs.Faults.{IsRight, Takes, MayFault, IsShown, ShowsRange, shown_range, is_ordered, may_fault, part_of, right_part, range_fault_of}
 use Rattle.ep_domain.proofs.Tests.{le_true, from_le_true, le_trans}
 use Rattle.ep_domain.proofs.Parts.{part_in_range, part_in_whole, into_part, right_is_right, right_in_whole, into_right}
-use Rattle.ep_domain.proofs.FaultAt.{FaultAt, ShownAt, low_lies, high_lies, low_shown, high_shown, each_shown}
+use Rattle.ep_domain.proofs.FaultAt.{ShownAt, low_lies, low_shown, high_shown, each_shown}
 use Rattle.ep_domain.proofs.FaultFound.{fault_found, found_fault}
 
 module _ (o : BinOp) (t : IntType) (r s : ℤ × ℤ) where

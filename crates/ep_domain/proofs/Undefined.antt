@@ -1,18 +1,17 @@
 -- Where arithmetic is undefined of two numbers.
-use Rattle.std.proofs.Common.{◌≡◌, ℕ, zero, suc, ◌*◌, ◌/◌, ◌^◌, ◌-◌, ◌<◌, ◌≤◌, ℤ, pos, negsuc, ◌+ℤ◌, ◌*ℤ◌, ◌≤ℤ◌, ◌<ℤ◌, neg_ℤ, Bool, true, false, cond, not, ◌&&◌, ◌||◌, ◌⊎◌, inl, inr, Ok, Err, is_err, Result, refl, sym, ap, ◌∙◌, arith, subst}
+use Rattle.std.proofs.Common.{◌≡◌, ℕ, zero, suc, ◌*◌, ◌/◌, ◌-◌, ◌≤◌, ℤ, pos, negsuc, ◌≤ℤ◌, ◌<ℤ◌, neg_ℤ, Bool, true, false, cond, not, ◌&&◌, ◌⊎◌, inl, inr, Ok, Err, is_err, refl, ap, ◌∙◌, arith}
 use Rattle.std.specs.Prelude.{int_le, int_lt, int_div, unsigned_abs}
 use Rattle.std.specs.Int.{int_min, int_max}
-use Rattle.std.proofs.Math.Nat.{div-le_self, pow-le-pow_right}
+use Rattle.std.proofs.Math.Nat.{div-le_self}
 use Rattle.std.proofs.lemmas.Int.{ints, clamps}
 use Rattle.ep_int.specs.declared.types.IntType.{IntType}
 use Rattle.ep_int.specs.declared.types.IntType.TheVariants.{I8, U8, I16, U16, I32, U32, I64, U64}
 use Rattle.ep_int.specs.declared.types.Undef.{Undef}
-use Rattle.ep_int.specs.declared.types.Undef.TheVariants.{Division, Shift}
 use Rattle.ep_int.specs.Types.{bits_of, is_signed, least_of, greatest_of, InRange, wrapped}
 use Rattle.ep_int.specs.Arith.{is_in_range, settled, is_divisible, is_amount}
 use Rattle.ep_domain.specs.Faults.{nearest_amount}
-use Rattle.ep_domain.proofs.Tests.{le_true, le_false, lt_true, lt_false, from_le_true, from_le_false, from_lt_true, from_lt_false, between_true, between_false, from_between, from_between_false, le_trans}
-use Rattle.ep_domain.proofs.Types.{least_negative, greatest_positive, least_signed, least_unsigned, reach, in_range_true, from_in_range}
+use Rattle.ep_domain.proofs.Tests.{le_true, le_false, lt_true, lt_false, from_le_true, from_le_false, from_lt_true, from_lt_false, between_false, from_between_false}
+use Rattle.ep_domain.proofs.Types.{least_negative, greatest_positive, least_signed, least_unsigned, reach, in_range_true}
 
 -- ---- exact results
 
@@ -99,6 +98,7 @@ divides t x y n h = both (not (int_le y (pos 0) && int_le (pos 0) y)) (is_in_ran
     both : (p q : Bool) → p ≡ true → q ≡ true → (p && q) ≡ true
     both true q e f = f
     both false q e f = e
+
     not_zero : (y : ℤ) → (y ≡ pos 0 → ⊥) → not (int_le y (pos 0) && int_le (pos 0) y) ≡ true
     not_zero (pos zero) n = absurd (n refl)
     not_zero (pos (suc b)) n = ap not (between_false (pos (suc b)) (pos 0) (pos 0) (pos (suc b)) (inl (omega (arith, ints))))
@@ -109,10 +109,12 @@ undivided t x y h k e = by_zero y k e
   where
     true_false : (b : Bool) {P : Type 0} → b ≡ true → b ≡ false → P
     true_false b e f = absurd cc
+
     by_case : (y : ℤ) → (y ≡ pos 0 → ⊥) → is_divisible t x y ≡ false → (y ≡ pos 0) ⊎ (InRange t (int_div x y) ⊎ IsLeastByMinusOne t x y) → (y ≡ pos 0) ⊎ IsLeastByMinusOne t x y
     by_case y n e (inl z) = inl z
     by_case y n e (inr (inl i)) = true_false (is_divisible t x y) (divides t x y n i) e
     by_case y n e (inr (inr l)) = inr l
+
     by_zero : (y : ℤ) → InRange t y → is_divisible t x y ≡ false → (y ≡ pos 0) ⊎ IsLeastByMinusOne t x y
     by_zero (pos zero) k e = inl refl
     by_zero (pos (suc b)) k e = by_case (pos (suc b)) (λ z. cc) e (quotient_cases t x (pos (suc b)) h k)

@@ -68,25 +68,20 @@ pub record KeepsStrides {N : Type 0} (d : Ops N) : Type 0 where
 pub record Lawful {N : Type 0} (d : Ops N) : Type 0 where
   -- every number of the type
   pub top_holds : (t : IntType) (z : ℤ) → InRange t z → Holds d (d.top t) z
-
   -- that number alone
   pub single_holds : (v : ℤ) → IsNumber v → Holds d (d.single v) v
   pub single_only : (v z : ℤ) → IsNumber v → Holds d (d.single v) z → z ≡ v
   pub single_range : (v : ℤ) → IsNumber v → IsSingle d (d.single v) v
-
   -- The range encloses the numbers held; of equal ends, that number is held.
   pub range_ends : (a : N) → IsRange (d.range a).0 (d.range a).1
   pub range_encloses : (a : N) (z : ℤ) → Holds d a z → LiesIn (d.range a) z
   pub range_single : (a : N) (v : ℤ) → IsSingle d a v → Holds d a v
-
   -- inclusion, of the ranges too
   pub within_holds : (a b : N) (z : ℤ) → IsTrue (d.within a b) → Holds d a z → Holds d b z
   pub within_range : (a b : N) → IsTrue (d.within a b) → Encloses (d.range b) (d.range a)
-
   -- the numbers of both
   pub join_left : (a b : N) (z : ℤ) → Holds d a z → Holds d (d.join a b) z
   pub join_right : (a b : N) (z : ℤ) → Holds d b z → Holds d (d.join a b) z
-
   -- The numbers of both, and their ranges. The rank falls where the first value changes, and where the second is not within it.
   pub widen_left : (a b : N) (z : ℤ) → Holds d a z → Holds d (d.widen a b) z
   pub widen_right : (a b : N) (z : ℤ) → Holds d b z → Holds d (d.widen a b) z
@@ -95,36 +90,29 @@ pub record Lawful {N : Type 0} (d : Ops N) : Type 0 where
   pub widen_changes : (a b : N) → d.height < 4294967295 → d.widen a b ≢ a → d.rank (d.widen a b) < d.rank a
   pub widen_falls : (a b : N) → d.height < 4294967295 → d.within b a ≡ false → d.rank (d.widen a b) < d.rank a
   pub rank_bound : (a : N) → d.rank a ≤ d.height
-
   -- the numbers that both hold
   pub meet_holds : (a b : N) (z : ℤ) → Holds d a z → Holds d b z → IsSomeAnd (d.meet a b) (λ c. Holds d c z)
-
   -- Each result of arithmetic is held, and where it has none there is a fault. A fault comes only where the ranges hold such a pair. Of two single numbers there is one single result, or a fault and no result.
   pub op_holds : (o : BinOp) (t : IntType) (a b : N) (x y : ℤ) → Takes o t x y → Holds d a x → Holds d b y →
-    MatchResult (arith_of o t x y) (λ v. IsSomeAnd (d.op o t a b).value (λ c. Holds d c v)) (λ _. IsTrue (d.op o t a b).fault)
+      MatchResult (arith_of o t x y) (λ v. IsSomeAnd (d.op o t a b).value (λ c. Holds d c v)) (λ _. IsTrue (d.op o t a b).fault)
   pub op_faults : (o : BinOp) (t : IntType) (a b : N) → IsTrue (d.op o t a b).fault → MayFault o t (d.range a) (d.range b)
   pub op_shows : (o : BinOp) (t : IntType) (a b : N) → IsTrue (d.op o t a b).fault → ShowsPart d o t a b (d.op o t a b).shown
   pub op_single : (o : BinOp) (t : IntType) (a b : N) (x y : ℤ) → Takes o t x y → IsSingle d a x → IsSingle d b y →
-    MatchResult (arith_of o t x y) (λ v. IsSomeAnd (d.op o t a b).value (λ c. IsSingle d c v)) (λ _. (d.op o t a b).value ≡ None)
-
+      MatchResult (arith_of o t x y) (λ v. IsSomeAnd (d.op o t a b).value (λ c. IsSingle d c v)) (λ _. (d.op o t a b).value ≡ None)
   -- each number after conversion to the type
   pub convert_holds : (a : N) (t : IntType) (z : ℤ) → Holds d a z → Holds d (d.convert a t) (wrapped t z)
   pub convert_single : (a : N) (t : IntType) (v : ℤ) → IsSingle d a v → IsSingle d (d.convert a t) (wrapped t v)
-
   -- each pair that compares so
   pub filter_holds : (c : Cmp) (a b : N) (x y : ℤ) → compares c x y ≡ true → Holds d a x → Holds d b y → IsSomeAnd (d.filter c a b) (λ p. Holds d p.0 x × Holds d p.1 y)
   pub filter_single : (c : Cmp) (a b : N) (x y : ℤ) → compares c x y ≡ false → IsSingle d a x → IsSingle d b y → d.filter c a b ≡ None
-
   -- a range from lo to hi that encloses each number held there
   pub edges_inside : (a : N) (lo hi : ℤ) → IfSome (d.edges a lo hi) (λ e. (e.0 ≤ℤ e.1) × Encloses (lo, hi) e)
   pub edges_enclose : (a : N) (lo hi z : ℤ) → Holds d a z → LiesIn (lo, hi) z → IsSomeAnd (d.edges a lo hi) (λ e. LiesIn e z)
-
   -- The numbers held from lo to hi: of one place, and of a single number, a single one.
   pub cut_holds : (a : N) (lo hi z : ℤ) → Holds d a z → LiesIn (lo, hi) z → IsSomeAnd (d.cut a lo hi) (λ c. Holds d c z)
   pub cut_place : (a : N) (v : ℤ) → IfSome (d.cut a v v) (λ c. IsSingle d c v)
   pub cut_single : (a : N) (lo hi v : ℤ) → IsSingle d a v → LiesIn (lo, hi) v → IsSomeAnd (d.cut a lo hi) (λ c. IsSingle d c v)
   pub cut_single_away : (a : N) (lo hi v : ℤ) → IsSingle d a v → (v <ℤ lo) ⊎ (hi <ℤ v) → d.cut a lo hi ≡ None
-
   -- a stride is one of each number held, and has those of its divisors
   pub stride_holds : (a : N) (r s : ℕ) (z : ℤ) → IsStride r s → IsTrue (d.has_stride a r s) → Holds d a z → residue s z ≡ r
   pub stride_divides : (a : N) (r s k : ℕ) → IsStride r (s * k) → IsTrue (d.has_stride a r (s * k)) → IsTrue (d.has_stride a (r % s) s)

@@ -1,11 +1,11 @@
 -- Which pairs of numbers arithmetic takes, where a pair of two ranges is undefined, and the number that an alarm shows of it (this project's rules).
-use Rattle.std.specs.Prelude.{◌≡◌, ℕ, ◌-◌, ◌^◌, ℤ, pos, negsuc, ◌+ℤ◌, ◌-ℤ◌, ◌*ℤ◌, Bool, true, false, ◌&&◌, ◌||◌, not, if◌then◌else◌, Option, Some, None, int_le, int_lt, unsigned_abs, is_err}
+use Rattle.std.specs.Prelude.{◌≡◌, ℕ, ◌-◌, ◌^◌, ℤ, pos, negsuc, ◌+ℤ◌, ◌-ℤ◌, ◌*ℤ◌, Bool, true, false, ◌&&◌, ◌||◌, if◌then◌else◌, Option, Some, None, int_le, int_lt, unsigned_abs, is_err}
 use Rattle.std.specs.Int.{int_min, int_max}
 use Rattle.ep_int.specs.declared.types.IntType.{IntType}
 use Rattle.ep_int.specs.declared.types.BinOp.{BinOp}
 use Rattle.ep_int.specs.declared.types.BinOp.TheVariants.{Add, Sub, Mul, Div, Rem, And, Or, Xor, Shl, Shr}
 use Rattle.ep_int.specs.Types.{bits_of, is_signed, least_of, greatest_of, InRange}
-use Rattle.ep_int.specs.Arith.{arith_of, is_in_range}
+use Rattle.ep_int.specs.Arith.{arith_of}
 use Rattle.ep_domain.specs.Ranges.{IsNumber, LiesIn}
 
 abbrev pub is_shift : BinOp → Bool

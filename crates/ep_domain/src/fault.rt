@@ -1,0 +1,125 @@
+//! Where two ranges hold a pair of numbers of which arithmetic is undefined.
+
+ghost use Rattle.std.specs.Prelude.{◌≡◌, ◌↔◌, ◌<◌, ◌^◌, pos, IsSome, IfSome, if◌then◌else◌, ◌≤ℤ◌};
+ghost use Rattle.ep_int.specs.Types.{InRange, is_signed};
+ghost use Rattle.ep_domain.specs.Ranges.{IsRange};
+ghost use Rattle.ep_domain.specs.Faults.{IsRight, is_shift, part_of, lies_in, shown_range, may_overflow, may_not_divide, may_pass_width, may_not_shift, nearest_amount, right_part, fault_between, range_fault_of, MayFault, ShowsRange};
+
+use ep_int::{BinOp, IntType, bits, greatest, least};
+
+/// The range of the number that an alarm shows, over the pairs of two ranges that arithmetic takes: the exact result
+/// of an overflow, the divisor of a division, the amount of a shift. `None` where arithmetic is defined of each such
+/// pair.
+pub fn range_fault(op: BinOp, t: IntType, x: (i128, i128), y: (i128, i128)) -> Option<(i128, i128)>
+    requires left { IsRange x.0 x.1 }
+    requires right { IsRange y.0 y.1 }
+    ensures value { result ≡ range_fault_of op t x y }
+    ensures some { IsSome result ↔ MayFault op t x y }
+    ensures shown { IfSome result (ShowsRange op t x y) }
+{
+    fault_between(op, t, part_of_type(t, x), right_part(op, t, y))
+}
+
+fn is_shift(op: BinOp) -> bool
+    ensures { result ≡ is_shift op }
+{
+    matches!(op, BinOp::Shl | BinOp::Shr)
+}
+
+// The part of a range that is of a type.
+fn part_of_type(t: IntType, x: (i128, i128)) -> (i128, i128)
+    ensures { result ≡ part_of t x }
+{
+    (x.0.max(least(t)), x.1.min(greatest(t)))
+}
+
+// The right operands of a range that arithmetic takes.
+fn right_part(op: BinOp, t: IntType, y: (i128, i128)) -> (i128, i128)
+    ensures { result ≡ right_part op t y }
+{
+    if is_shift(op) { y } else { part_of_type(t, y) }
+}
+
+// The same for ranges that have only numbers that arithmetic takes, or none where their ends are out of order.
+fn fault_between(op: BinOp, t: IntType, x: (i128, i128), y: (i128, i128)) -> Option<(i128, i128)>
+    requires left { x.0 ≤ℤ x.1 → InRange t x.0 × InRange t x.1 }
+    requires right { y.0 ≤ℤ y.1 → IsRight op t y.0 × IsRight op t y.1 }
+    ensures { result ≡ fault_between op t x y }
+{
+    if x.0 > x.1 || y.0 > y.1 {
+        return None;
+    }
+    match op {
+        BinOp::Add => overflow(t, (x.0 + y.0, x.1 + y.1)),
+        BinOp::Sub => overflow(t, (x.0 - y.1, x.1 - y.0)),
+        BinOp::Mul if is_signed(t) => overflow(t, products(x, y)),
+        BinOp::Div | BinOp::Rem => may_not_divide(t, x, y).then_some(y),
+        BinOp::Shl => (may_pass_width(t, y) || may_not_shift(t, x, y)).then_some(y),
+        BinOp::Shr => may_pass_width(t, y).then_some(y),
+        BinOp::Mul | BinOp::And | BinOp::Or | BinOp::Xor => None,
+    }
+}
+
+fn is_signed(t: IntType) -> bool
+    ensures { result ≡ is_signed t }
+{
+    matches!(t, IntType::I8 | IntType::I16 | IntType::I32 | IntType::I64)
+}
+
+// A range of exact results, where some are out of the range of a signed type.
+fn overflow(t: IntType, exact: (i128, i128)) -> Option<(i128, i128)>
+    ensures { result ≡ (if may_overflow t exact then Some exact else None) }
+{
+    (is_signed(t) && (exact.0 < least(t) || greatest(t) < exact.1)).then_some(exact)
+}
+
+// The range of the products of two ranges.
+fn products(x: (i128, i128), y: (i128, i128)) -> (i128, i128)
+    requires left { InRange IntType.I64 x.0 × InRange IntType.I64 x.1 }
+    requires right { InRange IntType.I64 y.0 × InRange IntType.I64 y.1 }
+    ensures { result ≡ shown_range BinOp.Mul x y }
+{
+    let (a, b) = (x.0 * y.0, x.0 * y.1);
+    let (c, d) = (x.1 * y.0, x.1 * y.1);
+    (a.min(b).min(c.min(d)), a.max(b).max(c.max(d)))
+}
+
+fn lies_in(x: (i128, i128), v: i128) -> bool
+    ensures { result ≡ lies_in x v }
+{
+    x.0 <= v && v <= x.1
+}
+
+fn may_not_divide(t: IntType, x: (i128, i128), y: (i128, i128)) -> bool
+    ensures { result ≡ may_not_divide t x y }
+{
+    lies_in(y, 0) || lies_in(x, least(t)) && lies_in(y, -1)
+}
+
+fn may_pass_width(t: IntType, y: (i128, i128)) -> bool
+    ensures { result ≡ may_pass_width t y }
+{
+    y.0 < 0 || i128::from(bits(t)) <= y.1
+}
+
+fn may_not_shift(t: IntType, x: (i128, i128), y: (i128, i128)) -> bool
+    requires left { InRange t x.1 }
+    ensures { result ≡ may_not_shift t x y }
+{
+    is_signed(t) && (x.0 < 0 || greatest(t) < x.1 * power_of_two(nearest_amount(t, y.1)))
+}
+
+// The nearest amount of a shift.
+fn nearest_amount(t: IntType, y: i128) -> u32
+    ensures value { result ≡ nearest_amount t y }
+    ensures within { result < 64 }
+{
+    y.clamp(0, i128::from(bits(t)) - 1).unsigned_abs() as u32
+}
+
+fn power_of_two(n: u32) -> i128
+    requires { n < 64 }
+    ensures { result ≡ pos (2 ^ n) }
+{
+    i128::from(1u64 << n)
+}
