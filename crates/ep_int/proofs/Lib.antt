@@ -1,4 +1,6 @@
 pub mod Wrapping
 pub mod Places
 pub mod Encodings
+pub mod Memories
+pub mod Arithmetic
 mod Worked

@@ -7,7 +7,17 @@ use Rattle.std.proofs.Math.Nat.{mod-eq_of_lt, add-mul}
 use Rattle.std.proofs.Math.IntN.{suc_ℤ, suc_ℤ-*ℤ}
 use Rattle.ep_int.specs.declared.types.IntType.{IntType}
 use Rattle.ep_int.specs.declared.types.IntType.TheVariants.{I8, U8, I16, U16, I32, U32, I64, U64}
-use Rattle.ep_int.specs.Types.{bits_of, InRange, IsCongruent, residue, representation, represented, wrapped}
+use Rattle.ep_int.specs.Types.{bytes_of, bits_of, InRange, IsCongruent, residue, representation, represented, wrapped}
+
+pub bytes_of_positive : (t : IntType) → 0 < bytes_of t
+bytes_of_positive I8 = omega arith
+bytes_of_positive U8 = omega arith
+bytes_of_positive I16 = omega arith
+bytes_of_positive U16 = omega arith
+bytes_of_positive I32 = omega arith
+bytes_of_positive U32 = omega arith
+bytes_of_positive I64 = omega arith
+bytes_of_positive U64 = omega arith
 
 pub residue_below : (m : ℕ) (v : ℤ) → 0 < m → residue m v < m
 residue_below m (pos n) h = mod_below n m h

@@ -1,5 +1,5 @@
 -- Arithmetic on numbers of the integer types, on exact whole numbers: C11 6.3.1.1, 6.3.1.8 and 6.5.5 to 6.5.12.
-use Rattle.std.specs.Prelude.{◌^◌, ℤ, pos, ◌+ℤ◌, ◌-ℤ◌, ◌*ℤ◌, Bool, ◌&&◌, not, if◌then◌else◌, Result, Ok, Err, int_lt, int_le, int_div, int_rem, unsigned_abs, bit_and, bit_or, bit_xor}
+use Rattle.std.specs.Prelude.{◌^◌, ℤ, pos, ◌+ℤ◌, ◌-ℤ◌, ◌*ℤ◌, ◌≤ℤ◌, Bool, ◌&&◌, not, if◌then◌else◌, Result, Ok, Err, int_lt, int_le, int_div, int_rem, unsigned_abs, bit_and, bit_or, bit_xor}
 use Rattle.std.specs.Int.{int_shr}
 use Rattle.ep_int.specs.declared.types.IntType.{IntType}
 use Rattle.ep_int.specs.declared.types.IntType.TheVariants.{I8, U8, I16, U16, I32, U32, I64, U64}
@@ -9,7 +9,7 @@ use Rattle.ep_int.specs.declared.types.Cmp.{Cmp}
 use Rattle.ep_int.specs.declared.types.Cmp.TheVariants.{Eq, Ne, Lt, Le, Gt, Ge}
 use Rattle.ep_int.specs.declared.types.Undef.{Undef}
 use Rattle.ep_int.specs.declared.types.Undef.TheVariants.{Overflow, Division, Shift}
-use Rattle.ep_int.specs.Types.{bits_of, is_signed, least_of, greatest_of, representation, represented, wrapped}
+use Rattle.ep_int.specs.Types.{bits_of, is_signed, least_of, greatest_of, InRange, representation, represented, wrapped}
 
 -- the integer promotions (C11 6.3.1.1p2)
 abbrev pub promoted : IntType → IntType
@@ -40,6 +40,17 @@ common_of a b = wider_of (promoted a) (promoted b)
 abbrev pub is_in_range : IntType → ℤ → Bool
 is_in_range t v = int_le (least_of t) v && int_le v (greatest_of t)
 
+-- a number of some type
+pub record IsOfSomeType (v : ℤ) : Type 0 where
+  pub low : least_of I64 ≤ℤ v
+  pub high : v ≤ℤ greatest_of U64
+
+-- the right number of an operator: of the operator's type, but the amount of a shift may be of any type
+abbrev pub IsRightOperand : BinOp → IntType → ℤ → Type 0
+IsRightOperand Shl t y = IsOfSomeType y
+IsRightOperand Shr t y = IsOfSomeType y
+IsRightOperand op t y = InRange t y
+
 -- An exact result: of a signed type it has to be in range, of an unsigned one it is reduced (C11 6.5p5 and 6.2.5p9).
 abbrev pub settled : Undef → IntType → ℤ → Result ℤ Undef
 settled u t v = if is_signed t then (if is_in_range t v then Ok v else Err u) else Ok (wrapped t v)
@@ -55,7 +66,7 @@ is_divisible t x y = not (int_eq y (pos 0)) && is_in_range t (int_div x y)
 abbrev pub is_amount : IntType → ℤ → Bool
 is_amount t y = int_le (pos 0) y && int_lt y (pos (bits_of t))
 
--- The numbers are of the type, but the amount of a shift may be any. To the left only numbers that are not negative are shifted, which those of an unsigned type never are (C11 6.5.7p4); to the right all are, rounded down (6.5.7p5, of negative numbers by this project's choice).
+-- What an operator gives at two numbers. The bitwise operators work on the bits of the type (C11 6.5.10 to 6.5.12). To the left only numbers that are not negative are shifted, and those of an unsigned type never are (6.5.7p4); to the right all are, and rounded down (6.5.7p5, of negative numbers by this project's choice).
 abbrev pub arith_of : BinOp → IntType → ℤ → ℤ → Result ℤ Undef
 arith_of Add t x y = settled Overflow t (x +ℤ y)
 arith_of Sub t x y = settled Overflow t (x -ℤ y)

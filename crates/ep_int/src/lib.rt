@@ -1,8 +1,10 @@
-//! Integer types and their numbers, and the two byte orders.
+//! Integer types and their numbers, C arithmetic on them, and the two byte orders.
 #![tactic(auto)]
 
 mod numbers;
+mod operators;
 mod types;
 
 pub use numbers::{bits, bytes, greatest, in_range, least, wrap};
+pub use operators::{arith, common, promote};
 pub use types::{BinOp, Cmp, IntType, Memory, Order, Scalar, Undef};

@@ -94,14 +94,14 @@ pub(crate) fn from_representation(t: IntType, n: u128) -> i128
     }
 }
 
-// As many ones as the type has bits.
-fn mask(t: IntType) -> u128
+/// As many ones as the type has bits.
+pub(crate) fn mask(t: IntType) -> u128
     ensures { result ≡ 2 ^ bits_of t - 1 }
 {
     (1 << bits(t)) - 1
 }
 
-fn is_signed(t: IntType) -> bool
+pub(crate) fn is_signed(t: IntType) -> bool
     ensures { result ≡ is_signed t }
 {
     match t {
