@@ -11,8 +11,9 @@ use Rattle.ep_int.specs.declared.types.IntType.TheVariants.{I8, U8, I16, U16, I3
 use Rattle.ep_int.specs.declared.types.BinOp.{BinOp}
 use Rattle.ep_int.specs.declared.types.BinOp.TheVariants.{Add, Sub, Mul, Div, Rem, And, Or, Xor, Shl, Shr}
 use Rattle.ep_int.specs.Types.{is_signed, greatest_of, InRange}
-use Rattle.ep_domain.specs.Ranges.{IsNumber, IsRange, LiesIn}
-use Rattle.ep_domain.specs.Faults.{IsRight, least_of_four, greatest_of_four, shown_range, may_overflow, may_not_shift, may_fault, nearest_amount, right_part, fault_between}
+use Rattle.ep_int.specs.Arith.{IsOfSomeType, IsRightOperand}
+use Rattle.ep_domain.specs.Ranges.{IsRange, LiesIn}
+use Rattle.ep_domain.specs.Faults.{least_of_four, greatest_of_four, shown_range, may_overflow, may_not_shift, may_fault, nearest_amount, right_part, fault_between}
 use Rattle.ep_domain.proofs.Tests.{le_true, lt_false, from_lt_false, le_trans}
 use Rattle.ep_domain.proofs.Parts.{right_is_right}
 use Rattle.ep_domain.proofs.FaultAt.{low_lies, high_lies}
@@ -26,7 +27,7 @@ mag_fits : (v : ℤ) → negsuc 340282366920938463463374607431768 ≤ℤ v → v
 mag_fits (pos n) p q = record { sfits = omega (arith, ints) }
 mag_fits (negsuc n) p q = record { sfits = omega (arith, ints) }
 
-pub fits_number : (v : ℤ) → IsNumber v → FitsSigned w128 v
+pub fits_number : (v : ℤ) → IsOfSomeType v → FitsSigned w128 v
 fits_number (pos n) h = let p = h.high in record { sfits = omega (arith, ints) }
 fits_number (negsuc n) h = let p = h.low in record { sfits = omega (arith, ints) }
 
@@ -82,13 +83,13 @@ not_negative x f e = let g = rw (to_z-of_z w128 x f) at e in from_lt_false x (po
 pub above_is : (t : IntType) (x : ℤ × ℤ) (g p y : ℤ) (n : ℕ) → g ≡ greatest_of t → p ≡ pos (2 ^ n) → n ≡ nearest_amount t y → int_lt g (x.1 *ℤ p) ≡ int_lt (greatest_of t) (x.1 *ℤ pos (2 ^ nearest_amount t y))
 above_is t x g p y n e f h = ap (λ z. int_lt z (x.1 *ℤ p)) e ∙ ap (λ z. int_lt (greatest_of t) (x.1 *ℤ z)) (f ∙ ap (λ k. pos (2 ^ k)) h)
 
-pub sum_fits : (x y : ℤ) → IsNumber x → IsNumber y → FitsSigned w128 (x +ℤ y)
+pub sum_fits : (x y : ℤ) → IsOfSomeType x → IsOfSomeType y → FitsSigned w128 (x +ℤ y)
 sum_fits x y h k = let p = h.low in let q = h.high in let r = k.low in let s = k.high in mag_fits (x +ℤ y) (omega (arith, ints)) (omega (arith, ints))
 
-pub difference_fits : (x y : ℤ) → IsNumber x → IsNumber y → FitsSigned w128 (x -ℤ y)
+pub difference_fits : (x y : ℤ) → IsOfSomeType x → IsOfSomeType y → FitsSigned w128 (x -ℤ y)
 difference_fits x y h k = let p = h.low in let q = h.high in let r = k.low in let s = k.high in mag_fits (x -ℤ y) (omega (arith, ints)) (omega (arith, ints))
 
-pub right_number : (o : BinOp) (t : IntType) (y : ℤ) → IsRight o t y → IsNumber y
+pub right_number : (o : BinOp) (t : IntType) (y : ℤ) → IsRightOperand o t y → IsOfSomeType y
 right_number Add t y h = number_of t y h
 right_number Sub t y h = number_of t y h
 right_number Mul t y h = number_of t y h
@@ -100,8 +101,8 @@ right_number Xor t y h = number_of t y h
 right_number Shl t y h = h
 right_number Shr t y h = h
 
-pub right_in_range : (o : BinOp) (t : IntType) (y : ℤ) → o ≡ Mul → IsRight o t y → InRange t y
-right_in_range o t y e h = subst (λ p. IsRight p t y) e h
+pub right_in_range : (o : BinOp) (t : IntType) (y : ℤ) → o ≡ Mul → IsRightOperand o t y → InRange t y
+right_in_range o t y e h = subst (λ p. IsRightOperand p t y) e h
 
 pub then_is : (o : BinOp) (t : IntType) (x y : ℤ × ℤ) (b : Bool) (v : Option (ℤ × ℤ)) → x.0 ≤ℤ x.1 → y.0 ≤ℤ y.1 → shown_range o x y ≡ y → b ≡ may_fault o t x y → v ≡ then_some b y → v ≡ fault_between o t x y
 then_is o t x y b v p q e f g = rw (in_order o t x y p q, e, ← f) (g ∙ both_words b y)
@@ -110,7 +111,7 @@ then_is o t x y b v p q e f g = rw (in_order o t x y p q, e, ← f) (g ∙ both_
     both_words true y = refl
     both_words false y = refl
 
-pub right_ends : (o : BinOp) (t : IntType) (y r : ℤ × ℤ) → IsRange y.0 y.1 → r ≡ right_part o t y → r.0 ≤ℤ r.1 → IsRight o t r.0 × IsRight o t r.1
+pub right_ends : (o : BinOp) (t : IntType) (y r : ℤ × ℤ) → IsRange y.0 y.1 → r ≡ right_part o t y → r.0 ≤ℤ r.1 → IsRightOperand o t r.0 × IsRightOperand o t r.1
 right_ends o t y r i e h =
     (right_is_right o t y r.0 i (subst (λ (q : ℤ × ℤ). LiesIn q r.0) e (low_lies r h)), right_is_right o t y r.1 i (subst (λ (q : ℤ × ℤ). LiesIn q r.1) e (high_lies r h)))
 

@@ -5,8 +5,9 @@ use Rattle.ep_int.specs.declared.types.IntType.{IntType}
 use Rattle.ep_int.specs.declared.types.BinOp.{BinOp}
 use Rattle.ep_int.specs.declared.types.BinOp.TheVariants.{Add, Sub, Mul, Div, Rem, And, Or, Xor, Shl, Shr}
 use Rattle.ep_int.specs.Types.{InRange}
-use Rattle.ep_domain.specs.Ranges.{IsNumber, IsRange, LiesIn}
-use Rattle.ep_domain.specs.Faults.{IsRight, is_shift, part_of, right_part}
+use Rattle.ep_int.specs.Arith.{IsOfSomeType, IsRightOperand}
+use Rattle.ep_domain.specs.Ranges.{IsRange, LiesIn}
+use Rattle.ep_domain.specs.Faults.{is_shift, part_of, right_part}
 use Rattle.ep_domain.proofs.Tests.{le_trans}
 
 pub part_in_range : (t : IntType) (r : ℤ × ℤ) (x : ℤ) → LiesIn (part_of t r) x → InRange t x
@@ -18,10 +19,10 @@ part_in_whole t r x h = record { low = let p = h.low in omega (arith, ints, clam
 pub into_part : (t : IntType) (r : ℤ × ℤ) (x : ℤ) → LiesIn r x → InRange t x → LiesIn (part_of t r) x
 into_part t r x h k = record { low = let p = h.low in let q = k.low in omega (arith, ints, clamps); high = let p = h.high in let q = k.high in omega (arith, ints, clamps) }
 
-number_between : (s : ℤ × ℤ) (y : ℤ) → IsRange s.0 s.1 → LiesIn s y → IsNumber y
+number_between : (s : ℤ × ℤ) (y : ℤ) → IsRange s.0 s.1 → LiesIn s y → IsOfSomeType y
 number_between s y r h = record { low = le_trans _ _ _ r.above h.low; high = le_trans _ _ _ h.high r.below }
 
-pub right_is_right : (o : BinOp) (t : IntType) (s : ℤ × ℤ) (y : ℤ) → IsRange s.0 s.1 → LiesIn (right_part o t s) y → IsRight o t y
+pub right_is_right : (o : BinOp) (t : IntType) (s : ℤ × ℤ) (y : ℤ) → IsRange s.0 s.1 → LiesIn (right_part o t s) y → IsRightOperand o t y
 right_is_right Add t s y r h = part_in_range t s y h
 right_is_right Sub t s y r h = part_in_range t s y h
 right_is_right Mul t s y r h = part_in_range t s y h
@@ -40,7 +41,7 @@ right_in_whole o t s y h = by_test (is_shift o) h
     by_test true h = h
     by_test false h = part_in_whole t s y h
 
-pub into_right : (o : BinOp) (t : IntType) (s : ℤ × ℤ) (y : ℤ) → LiesIn s y → IsRight o t y → LiesIn (right_part o t s) y
+pub into_right : (o : BinOp) (t : IntType) (s : ℤ × ℤ) (y : ℤ) → LiesIn s y → IsRightOperand o t y → LiesIn (right_part o t s) y
 into_right Add t s y h k = into_part t s y h k
 into_right Sub t s y h k = into_part t s y h k
 into_right Mul t s y h k = into_part t s y h k

@@ -4,8 +4,9 @@ use Rattle.std.specs.Prelude.{IfSome}
 use Rattle.std.proofs.lemmas.Bool.{and_parts, and_from}
 use Rattle.ep_int.specs.declared.types.IntType.{IntType}
 use Rattle.ep_int.specs.declared.types.BinOp.{BinOp}
+use Rattle.ep_int.specs.Arith.{IsRightOperand}
 use Rattle.ep_domain.specs.Ranges.{IsRange, LiesIn}
-use Rattle.ep_domain.specs.Faults.{IsRight, Takes, MayFault, IsShown, ShowsRange, shown_range, is_ordered, may_fault, part_of, right_part, range_fault_of}
+use Rattle.ep_domain.specs.Faults.{Takes, MayFault, IsShown, ShowsRange, shown_range, is_ordered, may_fault, part_of, right_part, range_fault_of}
 use Rattle.ep_domain.proofs.Tests.{le_true, from_le_true, le_trans}
 use Rattle.ep_domain.proofs.Parts.{part_in_range, part_in_whole, into_part, right_is_right, right_in_whole, into_right}
 use Rattle.ep_domain.proofs.FaultAt.{ShownAt, low_lies, low_shown, high_shown, each_shown}
@@ -44,7 +45,7 @@ module _ (o : BinOp) (t : IntType) (r s : ℤ × ℤ) where
   takes i x y h k = record { left = part_in_range t r x h; right = right_is_right o t s y i k }
 
   -- the low end of the right part is one that arithmetic takes
-  low_right : IsRange s.0 s.1 → Found → IsRight o t (right_part o t s).0
+  low_right : IsRange s.0 s.1 → Found → IsRightOperand o t (right_part o t s).0
   low_right i f = right_is_right o t s _ i (low_lies (right_part o t s) f.right)
 
   shown_between : IsRange s.0 s.1 → (v : ℤ) → ShownAt o (part_of t r) (right_part o t s) v → IsShown o t r s v
@@ -61,7 +62,7 @@ module _ (o : BinOp) (t : IntType) (r s : ℤ × ℤ) where
   unfolding test
   fault_is_found i e =
       let f = found (some_at test _ e) in
-      let w = fault_found o t (part_of t r) (right_part o t s) f.left f.right (λ p. subst (λ o'. IsRight o' t (right_part o t s).0) p (low_right i f)) (λ p. subst (λ o'. IsRight o' t (right_part o t s).0) p (low_right i f)) f.faults in
+      let w = fault_found o t (part_of t r) (right_part o t s) f.left f.right (λ p. subst (λ o'. IsRightOperand o' t (right_part o t s).0) p (low_right i f)) (λ p. subst (λ o'. IsRightOperand o' t (right_part o t s).0) p (low_right i f)) f.faults in
       record { x = w.x; y = w.y; left = part_in_whole t r _ w.left; right = right_in_whole o t s _ w.right; taken = takes i _ _ w.left w.right; undefined = w.undefined }
 
   pub fault_is_shown : MayFault o t r s → is_some (range_fault_of o t r s) ≡ true
@@ -69,7 +70,7 @@ module _ (o : BinOp) (t : IntType) (r s : ℤ × ℤ) where
   fault_is_shown h =
       let p = into_part t r h.x h.left h.taken.left in
       let q = into_right o t s h.y h.right h.taken.right in
-      let f = found_fault o t (part_of t r) (right_part o t s) h.x h.y p q h.taken.left (λ e. subst (λ o'. IsRight o' t h.y) e h.taken.right) (λ e. subst (λ o'. IsRight o' t h.y) e h.taken.right) h.undefined in
+      let f = found_fault o t (part_of t r) (right_part o t s) h.x h.y p q h.taken.left (λ e. subst (λ o'. IsRightOperand o' t h.y) e h.taken.right) (λ e. subst (λ o'. IsRightOperand o' t h.y) e h.taken.right) h.undefined in
       at_some test _ (and_from _ _ (and_from _ _ (le_true _ _ (le_trans _ _ _ p.low p.high)) (le_true _ _ (le_trans _ _ _ q.low q.high))) f)
 
   pub range_is_exact : IsRange s.0 s.1 → IfSome (range_fault_of o t r s) (ShowsRange o t r s)

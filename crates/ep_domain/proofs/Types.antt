@@ -4,8 +4,7 @@ use Rattle.std.proofs.lemmas.Int.{ints}
 use Rattle.ep_int.specs.declared.types.IntType.{IntType}
 use Rattle.ep_int.specs.declared.types.IntType.TheVariants.{I8, U8, I16, U16, I32, U32, I64, U64}
 use Rattle.ep_int.specs.Types.{is_signed, least_of, greatest_of, InRange}
-use Rattle.ep_int.specs.Arith.{is_in_range}
-use Rattle.ep_domain.specs.Ranges.{least_number, greatest_number, IsNumber}
+use Rattle.ep_int.specs.Arith.{is_in_range, IsOfSomeType}
 use Rattle.ep_domain.proofs.Tests.{between_true, from_between, le_trans}
 
 pub least_negative : (t : IntType) → least_of t ≤ℤ pos 0
@@ -31,7 +30,7 @@ greatest_positive U64 = omega (arith, ints)
 pub ends_ordered : (t : IntType) → least_of t ≤ℤ greatest_of t
 ends_ordered t = let p = least_negative t in let q = greatest_positive t in omega (arith, ints)
 
-pub number_low : (t : IntType) → least_number ≤ℤ least_of t
+pub number_low : (t : IntType) → least_of I64 ≤ℤ least_of t
 number_low I8 = omega (arith, ints)
 number_low U8 = omega (arith, ints)
 number_low I16 = omega (arith, ints)
@@ -41,7 +40,7 @@ number_low U32 = omega (arith, ints)
 number_low I64 = omega (arith, ints)
 number_low U64 = omega (arith, ints)
 
-pub number_high : (t : IntType) → greatest_of t ≤ℤ greatest_number
+pub number_high : (t : IntType) → greatest_of t ≤ℤ greatest_of U64
 number_high I8 = omega (arith, ints)
 number_high U8 = omega (arith, ints)
 number_high I16 = omega (arith, ints)
@@ -83,7 +82,7 @@ reach U32 = omega (arith, ints)
 reach I64 = omega (arith, ints)
 reach U64 = omega (arith, ints)
 
-pub number_of : (t : IntType) (v : ℤ) → InRange t v → IsNumber v
+pub number_of : (t : IntType) (v : ℤ) → InRange t v → IsOfSomeType v
 number_of t v h = record { low = le_trans _ _ _ (number_low t) h.low; high = le_trans _ _ _ h.high (number_high t) }
 
 pub in_range_true : (t : IntType) (v : ℤ) → InRange t v → is_in_range t v ≡ true

@@ -6,9 +6,9 @@ use Rattle.ep_int.specs.declared.types.BinOp.{BinOp}
 use Rattle.ep_int.specs.declared.types.BinOp.TheVariants.{Add, Sub, Mul}
 use Rattle.ep_int.specs.declared.types.Cmp.{Cmp}
 use Rattle.ep_int.specs.Types.{InRange, residue, wrapped}
-use Rattle.ep_int.specs.Arith.{arith_of, compares}
+use Rattle.ep_int.specs.Arith.{arith_of, compares, IsOfSomeType}
 use Rattle.ep_domain.specs.declared.outcome.Outcome.{Outcome}
-use Rattle.ep_domain.specs.Ranges.{IsNumber, IsRange, LiesIn, Encloses}
+use Rattle.ep_domain.specs.Ranges.{IsRange, LiesIn, Encloses}
 use Rattle.ep_domain.specs.Faults.{Takes, MayFault, range_fault_of}
 
 -- The meaning and the operations of a domain. A value holds some of the numbers from -2^63 to 2^64 - 1.
@@ -57,7 +57,7 @@ pub record IsStride (r s : ℕ) : Type 0 where
 
 -- what a domain that keeps strides promises of them
 pub record KeepsStrides {N : Type 0} (d : Ops N) : Type 0 where
-  pub single : (v : ℤ) (s : ℕ) → IsNumber v → 0 < s → s ≤ 65536 → IsTrue (d.has_stride (d.single v) (residue s v) s)
+  pub single : (v : ℤ) (s : ℕ) → IsOfSomeType v → 0 < s → s ≤ 65536 → IsTrue (d.has_stride (d.single v) (residue s v) s)
   pub join : (a b : N) (r s : ℕ) → IsStride r s → IsTrue (d.has_stride a r s) → IsTrue (d.has_stride b r s) → IsTrue (d.has_stride (d.join a b) r s)
   pub widen : (a b : N) (r s : ℕ) → IsStride r s → IsTrue (d.has_stride a r s) → IsTrue (d.has_stride b r s) → IsTrue (d.has_stride (d.widen a b) r s)
   pub cut : (a : N) (lo hi : ℤ) (r s : ℕ) → IsStride r s → IsTrue (d.has_stride a r s) → IfSome (d.cut a lo hi) (λ c. IsTrue (d.has_stride c r s))
@@ -69,9 +69,9 @@ pub record Lawful {N : Type 0} (d : Ops N) : Type 0 where
   -- every number of the type
   pub top_holds : (t : IntType) (z : ℤ) → InRange t z → Holds d (d.top t) z
   -- that number alone
-  pub single_holds : (v : ℤ) → IsNumber v → Holds d (d.single v) v
-  pub single_only : (v z : ℤ) → IsNumber v → Holds d (d.single v) z → z ≡ v
-  pub single_range : (v : ℤ) → IsNumber v → IsSingle d (d.single v) v
+  pub single_holds : (v : ℤ) → IsOfSomeType v → Holds d (d.single v) v
+  pub single_only : (v z : ℤ) → IsOfSomeType v → Holds d (d.single v) z → z ≡ v
+  pub single_range : (v : ℤ) → IsOfSomeType v → IsSingle d (d.single v) v
   -- The range encloses the numbers held; of equal ends, that number is held.
   pub range_ends : (a : N) → IsRange (d.range a).0 (d.range a).1
   pub range_encloses : (a : N) (z : ℤ) → Holds d a z → LiesIn (d.range a) z

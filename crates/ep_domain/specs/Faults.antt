@@ -5,8 +5,8 @@ use Rattle.ep_int.specs.declared.types.IntType.{IntType}
 use Rattle.ep_int.specs.declared.types.BinOp.{BinOp}
 use Rattle.ep_int.specs.declared.types.BinOp.TheVariants.{Add, Sub, Mul, Div, Rem, And, Or, Xor, Shl, Shr}
 use Rattle.ep_int.specs.Types.{bits_of, is_signed, least_of, greatest_of, InRange}
-use Rattle.ep_int.specs.Arith.{arith_of}
-use Rattle.ep_domain.specs.Ranges.{IsNumber, LiesIn}
+use Rattle.ep_int.specs.Arith.{arith_of, IsOfSomeType}
+use Rattle.ep_domain.specs.Ranges.{LiesIn}
 
 abbrev pub is_shift : BinOp → Bool
 is_shift Add = false
@@ -20,16 +20,10 @@ is_shift Xor = false
 is_shift Shl = true
 is_shift Shr = true
 
--- a right operand: of the type, but the amount of a shift of any type
-abbrev pub IsRight : BinOp → IntType → ℤ → Type 0
-IsRight Shl t y = IsNumber y
-IsRight Shr t y = IsNumber y
-IsRight o t y = InRange t y
-
 -- a pair of numbers that arithmetic takes
 pub record Takes (o : BinOp) (t : IntType) (x y : ℤ) : Type 0 where
   pub left : InRange t x
-  pub right : IsRight o t y
+  pub right : IsRightOperand o t y
 
 -- the number that an alarm shows: the exact result of an overflow, the divisor, the amount
 abbrev pub shown_of : BinOp → ℤ → ℤ → ℤ

@@ -1,23 +1,13 @@
 -- Ranges of numbers.
-use Rattle.std.specs.Prelude.{ℤ, pos, negsuc, ◌≤ℤ◌}
+use Rattle.std.specs.Prelude.{ℤ, ◌≤ℤ◌}
+use Rattle.ep_int.specs.declared.types.IntType.TheVariants.{I64, U64}
+use Rattle.ep_int.specs.Types.{least_of, greatest_of}
 
--- the least and the greatest number of all integer types
-abbrev pub least_number : ℤ
-least_number = negsuc 9223372036854775807
-
-abbrev pub greatest_number : ℤ
-greatest_number = pos 18446744073709551615
-
--- a number of some integer type
-pub record IsNumber (v : ℤ) : Type 0 where
-  pub low : least_number ≤ℤ v
-  pub high : v ≤ℤ greatest_number
-
--- the two ends of a range of such numbers
+-- the two ends of a range of numbers of the integer types, from -2^63 to 2^64 - 1
 pub record IsRange (low high : ℤ) : Type 0 where
-  pub above : least_number ≤ℤ low
+  pub above : least_of I64 ≤ℤ low
   pub ordered : low ≤ℤ high
-  pub below : high ≤ℤ greatest_number
+  pub below : high ≤ℤ greatest_of U64
 
 -- a number from the low to the high end of a range
 pub record LiesIn (range : ℤ × ℤ) (v : ℤ) : Type 0 where

@@ -2,8 +2,9 @@
 
 ghost use Rattle.std.specs.Prelude.{◌≡◌, ◌↔◌, ◌<◌, ◌^◌, pos, IsSome, IfSome, if◌then◌else◌, ◌≤ℤ◌};
 ghost use Rattle.ep_int.specs.Types.{InRange, is_signed};
+ghost use Rattle.ep_int.specs.Arith.{IsRightOperand};
 ghost use Rattle.ep_domain.specs.Ranges.{IsRange};
-ghost use Rattle.ep_domain.specs.Faults.{IsRight, is_shift, part_of, lies_in, shown_range, may_overflow, may_not_divide, may_pass_width, may_not_shift, nearest_amount, right_part, fault_between, range_fault_of, MayFault, ShowsRange};
+ghost use Rattle.ep_domain.specs.Faults.{is_shift, part_of, lies_in, shown_range, may_overflow, may_not_divide, may_pass_width, may_not_shift, nearest_amount, right_part, fault_between, range_fault_of, MayFault, ShowsRange};
 
 use ep_int::{BinOp, IntType, bits, greatest, least};
 
@@ -43,7 +44,7 @@ fn right_part(op: BinOp, t: IntType, y: (i128, i128)) -> (i128, i128)
 // The same for ranges that have only numbers that arithmetic takes, or none where their ends are out of order.
 fn fault_between(op: BinOp, t: IntType, x: (i128, i128), y: (i128, i128)) -> Option<(i128, i128)>
     requires left { x.0 ≤ℤ x.1 → InRange t x.0 × InRange t x.1 }
-    requires right { y.0 ≤ℤ y.1 → IsRight op t y.0 × IsRight op t y.1 }
+    requires right { y.0 ≤ℤ y.1 → IsRightOperand op t y.0 × IsRightOperand op t y.1 }
     ensures { result ≡ fault_between op t x y }
 {
     if x.0 > x.1 || y.0 > y.1 {

@@ -1,7 +1,7 @@
 //! What an abstract number is.
 
 ghost use Rattle.std.specs.Prelude.{◌≡◌, ℕ};
-ghost use Rattle.ep_domain.specs.Ranges.{IsNumber};
+ghost use Rattle.ep_int.specs.Arith.{IsOfSomeType};
 ghost use Rattle.ep_domain.specs.Domain.{Ops, Lawful};
 
 use crate::outcome::Outcome;
@@ -21,7 +21,7 @@ pub trait Num: Copy {
 
     /// One number.
     fn single(v: i128) -> Self
-        requires { IsNumber v }
+        requires { IsOfSomeType v }
         ensures { result ≡ ops.single v };
 
     /// Whether it holds a number.
