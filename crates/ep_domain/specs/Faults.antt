@@ -5,7 +5,7 @@ use Rattle.ep_int.specs.declared.types.IntType.{IntType}
 use Rattle.ep_int.specs.declared.types.BinOp.{BinOp}
 use Rattle.ep_int.specs.declared.types.BinOp.TheVariants.{Add, Sub, Mul, Div, Rem, And, Or, Xor, Shl, Shr}
 use Rattle.ep_int.specs.Types.{bits_of, is_signed, least_of, greatest_of, InRange}
-use Rattle.ep_int.specs.Arith.{arith_of, IsOfSomeType}
+use Rattle.ep_int.specs.Arith.{arith_of, IsRightOperand}
 use Rattle.ep_domain.specs.Ranges.{LiesIn}
 
 abbrev pub is_shift : BinOp → Bool
