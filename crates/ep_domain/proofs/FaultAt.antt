@@ -8,7 +8,7 @@ use Rattle.ep_int.specs.declared.types.BinOp.TheVariants.{Add, Sub, Mul, Div, Re
 use Rattle.ep_int.specs.Arith.{arith_of}
 use Rattle.ep_domain.specs.Ranges.{LiesIn}
 use Rattle.ep_domain.specs.Faults.{shown_of, shown_range}
-use Rattle.ep_domain.proofs.Tests.{min_is, max_is}
+use Rattle.ep_domain.proofs.Tests.{min_is, max_is, le_self}
 use Rattle.ep_domain.proofs.Corners.{product_high, product_low}
 
 -- a pair of two ranges of which arithmetic is undefined
@@ -26,9 +26,6 @@ pub record ShownAt (o : BinOp) (r s : ℤ × ℤ) (v : ℤ) : Type 0 where
   pub left : LiesIn r x
   pub right : LiesIn s y
   pub shown : v ≡ shown_of o x y
-
-le_self : (a : ℤ) → a ≤ℤ a
-le_self a = omega (arith, ints)
 
 pub low_lies : (r : ℤ × ℤ) → r.0 ≤ℤ r.1 → LiesIn r r.0
 low_lies r h = record { low = le_self r.0; high = h }

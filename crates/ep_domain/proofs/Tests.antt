@@ -56,6 +56,9 @@ from_outside a b c d h = by_first (int_lt a b) refl
     by_first true e = inl (from_lt_true a b e)
     by_first false e = let f = rw e at h in inr (from_lt_true c d f)
 
+pub le_self : (a : ℤ) → a ≤ℤ a
+le_self a = omega (arith, ints)
+
 pub le_trans : (a b c : ℤ) → a ≤ℤ b → b ≤ℤ c → a ≤ℤ c
 le_trans a b c p q = omega (arith, ints)
 
