@@ -19,7 +19,7 @@ interval lo hi p = record { lo = lo; hi = hi; ends = p }
 abbrev pub ends_of : Interval → ℤ × ℤ
 ends_of a = (a.lo, a.hi)
 
-abbrev between_at : (lo hi : ℤ) (b : Bool) → is_range lo hi ≡ b → Option Interval
+abbrev pub between_at : (lo hi : ℤ) (b : Bool) → is_range lo hi ≡ b → Option Interval
 between_at lo hi true e = Some (interval lo hi (is_range_true lo hi e))
 between_at lo hi false e = None
 

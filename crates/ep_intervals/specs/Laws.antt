@@ -1,3 +1,7 @@
 -- The laws of intervals, as lemmas on their definitions.
 pub mod Wrapping
 pub mod Ranges
+pub mod Between
+pub mod Ranks
+pub mod Simple
+pub mod Filters
