@@ -5,3 +5,7 @@ pub mod Between
 pub mod Ranks
 pub mod Simple
 pub mod Filters
+pub mod Division
+pub mod Bits
+pub mod Results
+pub mod Operators
