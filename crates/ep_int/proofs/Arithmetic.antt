@@ -3,14 +3,14 @@ use Rattle.std.proofs.Common.{◌≡◌, ℕ, zero, suc, ◌+◌, ◌-◌, ◌*�
 use Rattle.std.specs.Int.{w128, int_shr}
 use Rattle.std.specs.Prelude.{bit_xor, int_lt, int_le, int_div, int_rem, unsigned_abs}
 use Rattle.std.proofs.lemmas.Bool.{and_from, and_parts, cond-false}
-use Rattle.std.proofs.lemmas.Int.{ints, to_z_pos, fits_signed_mul}
+use Rattle.std.proofs.lemmas.Int.{ints, by_lt_z, to_z_pos, fits_signed_mul}
 use Rattle.std.proofs.lemmas.Nat.{and_mask, and_le_l, or_lt, xor_lt, shl_whole, shl_below}
 use Rattle.std.proofs.Math.Nat.{div-le_self, mod-le}
 use Rattle.std.proofs.Math.Pow.{pow_mono}
 use Rattle.ep_int.specs.declared.types.IntType.{IntType}
 use Rattle.ep_int.specs.declared.types.IntType.TheVariants.{I8, U8, I16, U16, I32, U32, I64, U64}
 use Rattle.ep_int.specs.Types.{bits_of, is_signed, least_of, greatest_of, InRange, residue, representation, represented, wrapped}
-use Rattle.ep_int.specs.Arith.{is_in_range, IsOfSomeType, int_eq, settled, is_divisible, is_amount, arith_of}
+use Rattle.ep_int.specs.Arith.{is_in_range, IsOfSomeType, IsRightOperand, int_eq, settled, is_divisible, is_amount, arith_of}
 use Rattle.ep_int.specs.declared.types.BinOp.{BinOp}
 use Rattle.ep_int.specs.declared.types.BinOp.TheVariants.{Add, Sub, Mul, Div, Rem, And, Or, Xor, Shl, Shr}
 use Rattle.ep_int.specs.declared.types.Undef.{Undef}
@@ -26,6 +26,27 @@ in_range_some_type I32 v h = record { low = omega (arith, ints); high = omega (a
 in_range_some_type U32 v h = record { low = omega (arith, ints); high = omega (arith, ints) }
 in_range_some_type I64 v h = record { low = omega (arith, ints); high = omega (arith, ints) }
 in_range_some_type U64 v h = record { low = omega (arith, ints); high = omega (arith, ints) }
+
+pub some_type_in_range : (v : ℤ) → IsOfSomeType v → (t : IntType) × InRange t v
+some_type_in_range v h =
+    let low = h.low in
+    let high = h.high in
+    by_lt_z v (pos 9223372036854775808)
+    (λ below. (I64, record { low = omega (arith, ints); high = omega (arith, ints) }))
+    (λ above. (U64, record { low = omega (arith, ints); high = omega (arith, ints) }))
+
+-- a number of the operator's type can be its right number
+pub right_operand : (op : BinOp) (t : IntType) (y : ℤ) → InRange t y → IsRightOperand op t y
+right_operand Add t y h = h
+right_operand Sub t y h = h
+right_operand Mul t y h = h
+right_operand Div t y h = h
+right_operand Rem t y h = h
+right_operand And t y h = h
+right_operand Or t y h = h
+right_operand Xor t y h = h
+right_operand Shl t y h = in_range_some_type t y h
+right_operand Shr t y h = in_range_some_type t y h
 
 pub sum_fits : (x y : ℤ) → IsOfSomeType x → IsOfSomeType y → FitsSigned w128 (x +ℤ y)
 sum_fits x y p q = omega (arith, ints)

@@ -3,6 +3,8 @@
 
 mod numbers;
 mod operators;
+#[cfg(test)]
+mod tests;
 mod types;
 
 pub use numbers::{bits, bytes, greatest, in_range, least, wrap};

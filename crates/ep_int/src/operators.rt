@@ -7,7 +7,8 @@ use crate::numbers::{
 };
 use crate::{BinOp, IntType, Undef};
 
-/// The type that a number of a type is converted to before anything is computed with it.
+/// The type that a number of type `t` is converted to before anything is computed with it: the integer promotions of C11
+/// 6.3.1.1.
 pub fn promote(t: IntType) -> IntType
     ensures { result ≡ promoted t }
 {
@@ -17,7 +18,8 @@ pub fn promote(t: IntType) -> IntType
     }
 }
 
-/// The type that two operands of an operator are converted to.
+/// The type in which an operator computes with operands of two types, after the promotion of both: the usual arithmetic
+/// conversions of C11 6.3.1.8.
 pub fn common(a: IntType, b: IntType) -> IntType
     ensures { result ≡ common_of a b }
 {
@@ -29,7 +31,8 @@ pub fn common(a: IntType, b: IntType) -> IntType
     }
 }
 
-/// What an operator gives at two numbers of a type, or why its behaviour is undefined.
+/// What an operator gives at two numbers of type `t`, or why its behaviour is undefined, by C11 6.5.5 to 6.5.12. The
+/// amount of a shift may be of another type. A negative number is shifted to the right arithmetically.
 pub fn arith(op: BinOp, t: IntType, x: i128, y: i128) -> Result<i128, Undef>
     requires left { InRange t x }
     requires right { IsRightOperand op t y }

@@ -25,7 +25,7 @@ pub enum Order {
     Big,
 }
 
-/// An operator on two numbers of one type, or a shift of a number by an amount.
+/// An operator on two numbers: `+`, `-`, `*`, `/`, `%`, `&`, `|`, `^`, `<<` and `>>` of C.
 #[derive(Clone, Copy, Debug, PartialEq, Eq)]
 pub enum BinOp {
     Add,
@@ -40,7 +40,7 @@ pub enum BinOp {
     Shr,
 }
 
-/// A comparison of two numbers.
+/// A comparison of two numbers: `==`, `!=`, `<`, `<=`, `>` and `>=` of C.
 #[derive(Clone, Copy, Debug, PartialEq, Eq)]
 pub enum Cmp {
     Eq,
@@ -51,11 +51,15 @@ pub enum Cmp {
     Ge,
 }
 
-/// Why an operator on two numbers has no answer.
+/// Why the behaviour of an operator on two numbers is undefined.
 #[derive(Clone, Copy, Debug, PartialEq, Eq)]
 pub enum Undef {
+    /// A signed sum, difference or product that is out of range.
     Overflow,
+    /// A divisor of zero, or a quotient that is out of range.
     Division,
+    /// A negative amount, one that isn't below the width, or to the left a negative number or a signed result that is out
+    /// of range.
     Shift,
 }
 
