@@ -9,3 +9,5 @@ pub mod Division
 pub mod Bits
 pub mod Results
 pub mod Operators
+pub mod Outcomes
+pub mod Lawful
