@@ -6,6 +6,7 @@ ghost use Rattle.ep_int.specs.Arith.{IsRightOperand};
 ghost use Rattle.ep_domain.specs.Ranges.{IsRange};
 ghost use Rattle.ep_domain.specs.Faults.{is_shift, part_of, lies_in, shown_range, may_overflow, may_not_divide, may_pass_width, may_not_shift, nearest_amount, right_part, fault_between, range_fault_of, MayFault, ShowsRange};
 
+use crate::ranges::{is_shift, is_signed, nearest_amount, power_of_two, products};
 use ep_int::{BinOp, IntType, bits, greatest, least};
 
 /// The range of the number that an alarm shows, over the pairs of two ranges that arithmetic takes: the exact result
@@ -19,12 +20,6 @@ pub fn range_fault(op: BinOp, t: IntType, x: (i128, i128), y: (i128, i128)) -> O
     ensures shown { IfSome result (ShowsRange op t x y) }
 {
     fault_between(op, t, part_of_type(t, x), right_part(op, t, y))
-}
-
-fn is_shift(op: BinOp) -> bool
-    ensures { result ≡ is_shift op }
-{
-    matches!(op, BinOp::Shl | BinOp::Shr)
 }
 
 // The part of a range that is of a type.
@@ -61,28 +56,11 @@ fn fault_between(op: BinOp, t: IntType, x: (i128, i128), y: (i128, i128)) -> Opt
     }
 }
 
-fn is_signed(t: IntType) -> bool
-    ensures { result ≡ is_signed t }
-{
-    matches!(t, IntType::I8 | IntType::I16 | IntType::I32 | IntType::I64)
-}
-
 // A range of exact results, where some are out of the range of a signed type.
 fn overflow(t: IntType, exact: (i128, i128)) -> Option<(i128, i128)>
     ensures { result ≡ (if may_overflow t exact then Some exact else None) }
 {
     (is_signed(t) && (exact.0 < least(t) || greatest(t) < exact.1)).then_some(exact)
-}
-
-// The range of the products of two ranges.
-fn products(x: (i128, i128), y: (i128, i128)) -> (i128, i128)
-    requires left { InRange IntType.I64 x.0 × InRange IntType.I64 x.1 }
-    requires right { InRange IntType.I64 y.0 × InRange IntType.I64 y.1 }
-    ensures { result ≡ shown_range BinOp.Mul x y }
-{
-    let (a, b) = (x.0 * y.0, x.0 * y.1);
-    let (c, d) = (x.1 * y.0, x.1 * y.1);
-    (a.min(b).min(c.min(d)), a.max(b).max(c.max(d)))
 }
 
 fn lies_in(x: (i128, i128), v: i128) -> bool
@@ -108,19 +86,4 @@ fn may_not_shift(t: IntType, x: (i128, i128), y: (i128, i128)) -> bool
     ensures { result ≡ may_not_shift t x y }
 {
     is_signed(t) && (x.0 < 0 || greatest(t) < x.1 * power_of_two(nearest_amount(t, y.1)))
-}
-
-// The nearest amount of a shift.
-fn nearest_amount(t: IntType, y: i128) -> u32
-    ensures value { result ≡ nearest_amount t y }
-    ensures within { result < 64 }
-{
-    y.clamp(0, i128::from(bits(t)) - 1).unsigned_abs() as u32
-}
-
-fn power_of_two(n: u32) -> i128
-    requires { n < 64 }
-    ensures { result ≡ pos (2 ^ n) }
-{
-    i128::from(1u64 << n)
 }

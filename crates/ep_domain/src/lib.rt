@@ -4,6 +4,7 @@
 mod fault;
 mod num;
 mod outcome;
+pub mod ranges;
 
 pub use fault::range_fault;
 pub use num::Num;

@@ -1,6 +1,6 @@
 -- Intervals of numbers, and what does not depend on an operator (this project's rules).
 use Rattle.std.specs.Prelude.{◌≡◌, ℕ, ◌+◌, ℤ, pos, negsuc, ◌+ℤ◌, ◌-ℤ◌, Bool, true, false, ◌&&◌, Option, Some, None, int_le, int_lt, if◌then◌else◌, refl}
-use Rattle.std.specs.Option.{option_map}
+use Rattle.std.specs.Option.{option_map, option_zip}
 use Rattle.std.specs.Int.{int_min, int_max}
 use Rattle.ep_int.specs.declared.types.IntType.{IntType}
 use Rattle.ep_int.specs.declared.types.IntType.TheVariants.{I64, U64}
@@ -69,11 +69,6 @@ conversion_of a t = interval (wrapped_low t a.lo a.hi) (wrapped_high t a.lo a.hi
 
 -- ---- comparisons
 
-abbrev pub both : Option Interval → Option Interval → Option (Interval × Interval)
-both None b = None
-both (Some x) None = None
-both (Some x) (Some y) = Some (x, y)
-
 -- the numbers that differ from that of a single, as far as they are an interval
 abbrev pub apart_from : Interval → Interval → Option Interval
 apart_from a b =
@@ -83,9 +78,9 @@ apart_from a b =
 
 -- the ends cut by the comparison
 abbrev pub filter_of : Cmp → Interval → Interval → Option (Interval × Interval)
-filter_of Eq a b = both (meet_of a b) (meet_of b a)
-filter_of Ne a b = both (apart_from a b) (apart_from b a)
-filter_of Lt a b = both (overlap a a.lo (b.hi -ℤ pos 1)) (overlap b (a.lo +ℤ pos 1) b.hi)
-filter_of Le a b = both (overlap a a.lo b.hi) (overlap b a.lo b.hi)
-filter_of Gt a b = both (overlap a (b.lo +ℤ pos 1) a.hi) (overlap b b.lo (a.hi -ℤ pos 1))
-filter_of Ge a b = both (overlap a b.lo a.hi) (overlap b b.lo a.hi)
+filter_of Eq a b = option_zip (meet_of a b) (meet_of b a)
+filter_of Ne a b = option_zip (apart_from a b) (apart_from b a)
+filter_of Lt a b = option_zip (overlap a a.lo (b.hi -ℤ pos 1)) (overlap b (a.lo +ℤ pos 1) b.hi)
+filter_of Le a b = option_zip (overlap a a.lo b.hi) (overlap b a.lo b.hi)
+filter_of Gt a b = option_zip (overlap a (b.lo +ℤ pos 1) a.hi) (overlap b b.lo (a.hi -ℤ pos 1))
+filter_of Ge a b = option_zip (overlap a b.lo a.hi) (overlap b b.lo a.hi)

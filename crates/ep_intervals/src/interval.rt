@@ -115,15 +115,14 @@ impl Num for Interval {
     }
 
     fn filter(c: Cmp, x: &Self, y: &Self) -> Option<(Self, Self)> {
-        let (left, right) = match c {
-            Cmp::Eq => (x.meet(y), y.meet(x)),
-            Cmp::Ne => (x.apart_from(y), y.apart_from(x)),
-            Cmp::Lt => (x.overlap(x.lo, y.hi - 1), y.overlap(x.lo + 1, y.hi)),
-            Cmp::Le => (x.overlap(x.lo, y.hi), y.overlap(x.lo, y.hi)),
-            Cmp::Gt => (x.overlap(y.lo + 1, x.hi), y.overlap(y.lo, x.hi - 1)),
-            Cmp::Ge => (x.overlap(y.lo, x.hi), y.overlap(y.lo, x.hi)),
-        };
-        Some((left?, right?))
+        match c {
+            Cmp::Eq => x.meet(y).zip(y.meet(x)),
+            Cmp::Ne => x.apart_from(y).zip(y.apart_from(x)),
+            Cmp::Lt => x.overlap(x.lo, y.hi - 1).zip(y.overlap(x.lo + 1, y.hi)),
+            Cmp::Le => x.overlap(x.lo, y.hi).zip(y.overlap(x.lo, y.hi)),
+            Cmp::Gt => x.overlap(y.lo + 1, x.hi).zip(y.overlap(y.lo, x.hi - 1)),
+            Cmp::Ge => x.overlap(y.lo, x.hi).zip(y.overlap(y.lo, x.hi)),
+        }
     }
 
     fn rank(&self) -> u32 {

@@ -1,5 +1,6 @@
 -- The laws of comparisons.
 use Rattle.std.specs.Prelude.{◌≡◌, ℤ, pos, ◌+ℤ◌, ◌-ℤ◌, ◌≤ℤ◌, ◌<ℤ◌, ◌⊎◌, Bool, true, false, cond, not, ◌&&◌, Option, Some, None, IsTrue, IsSomeAnd, refl, int_le, int_lt}
+use Rattle.std.specs.Option.{option_zip}
 use Rattle.std.specs.Int.{int_min, int_max}
 use Rattle.std.proofs.Common.{arith, ap, sym, ◌∙◌, subst, inl, inr}
 use Rattle.std.proofs.lemmas.Bool.{not-true, not-false}
@@ -11,7 +12,7 @@ use Rattle.ep_int.specs.Types.{least_of, greatest_of}
 use Rattle.ep_int.specs.Arith.{int_eq, compares}
 use Rattle.ep_domain.proofs.Tests.{between_true, from_between, from_between_false, from_le_true, from_le_false, from_lt_true, from_lt_false, le_self, le_trans, le_antisym}
 use Rattle.ep_intervals.specs.declared.interval.Interval.{Interval}
-use Rattle.ep_intervals.specs.Interval.{ends_of, between, overlap, both, apart_from, filter_of}
+use Rattle.ep_intervals.specs.Interval.{ends_of, between, overlap, apart_from, filter_of}
 use Rattle.ep_intervals.specs.Laws.Between.{between_none, between_holds}
 use Rattle.ep_intervals.specs.Laws.Simple.{HasNumber, has_low, has_high, overlap_holds, cut_single_away, first_of_pair, second_of_pair}
 
@@ -32,7 +33,7 @@ module _ (a b : Interval) (x y : ℤ) where
   abbrev HavePair : Interval × Interval → Type 0
   HavePair p = HasNumber p.0 x × HasNumber p.1 y
 
-  both_hold : (o p : Option Interval) → IsSomeAnd o (λ c. HasNumber c x) → IsSomeAnd p (λ c. HasNumber c y) → IsSomeAnd (both o p) HavePair
+  both_hold : (o p : Option Interval) → IsSomeAnd o (λ c. HasNumber c x) → IsSomeAnd p (λ c. HasNumber c y) → IsSomeAnd (option_zip o p) HavePair
   both_hold None p h k = absurd h
   both_hold (Some c) None h k = absurd k
   both_hold (Some c) (Some d) h k = (h, k)
@@ -93,8 +94,8 @@ filter_holds Ge a b x y e h k =
     let f = from_le_true y x e in let q = has_low b y k in let r = has_high a x h in
     both_hold a b x y _ _ (overlap_holds a b.lo a.hi x h (omega (arith, ints)) r) (overlap_holds b b.lo a.hi y k q (omega (arith, ints)))
 
-both_none : (o p : Option Interval) → o ≡ None → both o p ≡ None
-both_none o p e = ap (λ o. both o p) e
+both_none : (o p : Option Interval) → o ≡ None → option_zip o p ≡ None
+both_none o p e = ap (λ o. option_zip o p) e
 
 pub filter_single : (c : Cmp) (a b : Interval) (x y : ℤ) → compares c x y ≡ false → (let p : ℤ × ℤ = ends_of a in p) ≡ (x, x) → (let p : ℤ × ℤ = ends_of b in p) ≡ (y, y) → filter_of c a b ≡ None
 filter_single Eq a b x y e f g =

@@ -5,30 +5,36 @@ use Rattle.ep_int.specs.Types.{is_signed}
 use Rattle.ep_int.specs.declared.types.BinOp.TheVariants.{Add, Sub, Mul, Div, Rem, Shl}
 use Rattle.ep_domain.specs.Faults.{may_fault, may_not_shift, fault_between}
 use Rattle.ep_domain.proofs.Types.{number_of}
-use Rattle.ep_domain.proofs.FaultCode.{passed, in_long, overflow_is, then_is, sum_fits, difference_fits, right_number, right_in_range}
+use Rattle.ep_domain.proofs.FaultCode.{passed, in_long, product_fits, overflow_is, then_is, sum_fits, difference_fits, right_number, right_in_range}
 use Rattle.std.proofs.lemmas.Bool.{or_left}
 use Rattle.ep_domain.proofs.fault.fault_between.Goals as goal
 use Rattle.ep_domain.proofs.fault.fault_between.Goals.{then-may_pass_width, else-may_pass_width}
 
--- src/fault.rt:55:51
-pub products-requires-clause-left : goal.products-requires-clause-left
-products-requires-clause-left c =
-    let x = c.args.x in
+pub products-requires-clause-low : goal.products-requires-clause-low
+products-requires-clause-low c =
+    let x = c.args.x in let y = c.args.y in
     let x0 : FitsSigned w128 x.0 = search rules in
     let x1 : FitsSigned w128 x.1 = search rules in
-    let i = c.requires.left (passed x.0 x.1 x0 x1 c.if-x.false) in
-    let s : is_signed c.args.t ≡ true = sym c.is_signed.ensures ∙ c.if-is_signed.true in
-    (in_long c.args.t x.0 s i.0, in_long c.args.t x.1 s i.1)
-
--- src/fault.rt:55:51
-pub products-requires-clause-right : goal.products-requires-clause-right
-products-requires-clause-right c =
-    let y = c.args.y in
     let y0 : FitsSigned w128 y.0 = search rules in
     let y1 : FitsSigned w128 y.1 = search rules in
+    let i = c.requires.left (passed x.0 x.1 x0 x1 c.if-x.false) in
     let j = c.requires.right (passed y.0 y.1 y0 y1 c.if-y.false) in
     let s : is_signed c.args.t ≡ true = sym c.is_signed.ensures ∙ c.if-is_signed.true in
-    (in_long c.args.t y.0 s (right_in_range c.args.op c.args.t y.0 c.in-Mul.is j.0), in_long c.args.t y.1 s (right_in_range c.args.op c.args.t y.1 c.in-Mul.is j.1))
+    let l = in_long c.args.t x.0 s i.0 in
+    (product_fits x.0 y.0 l (in_long c.args.t y.0 s (right_in_range c.args.op c.args.t y.0 c.in-Mul.is j.0)), product_fits x.0 y.1 l (in_long c.args.t y.1 s (right_in_range c.args.op c.args.t y.1 c.in-Mul.is j.1)))
+
+pub products-requires-clause-high : goal.products-requires-clause-high
+products-requires-clause-high c =
+    let x = c.args.x in let y = c.args.y in
+    let x0 : FitsSigned w128 x.0 = search rules in
+    let x1 : FitsSigned w128 x.1 = search rules in
+    let y0 : FitsSigned w128 y.0 = search rules in
+    let y1 : FitsSigned w128 y.1 = search rules in
+    let i = c.requires.left (passed x.0 x.1 x0 x1 c.if-x.false) in
+    let j = c.requires.right (passed y.0 y.1 y0 y1 c.if-y.false) in
+    let s : is_signed c.args.t ≡ true = sym c.is_signed.ensures ∙ c.if-is_signed.true in
+    let l = in_long c.args.t x.1 s i.1 in
+    (product_fits x.1 y.0 l (in_long c.args.t y.0 s (right_in_range c.args.op c.args.t y.0 c.in-Mul.is j.0)), product_fits x.1 y.1 l (in_long c.args.t y.1 s (right_in_range c.args.op c.args.t y.1 c.in-Mul.is j.1)))
 
 -- src/fault.rt:57:48
 pub may_not_shift-requires : goal.may_not_shift-requires
