@@ -1,5 +1,5 @@
 -- The ends of intervals (this project's rules).
-use Rattle.std.specs.Prelude.{ℕ, ◌+◌, ℤ, pos, negsuc, ◌-ℤ◌, Bool, ◌&&◌, int_le, int_lt, if◌then◌else◌}
+use Rattle.std.specs.Prelude.{ℕ, ◌+◌, ℤ, pos, negsuc, ◌+ℤ◌, ◌-ℤ◌, Bool, ◌&&◌, int_le, int_lt, if◌then◌else◌}
 use Rattle.std.specs.Int.{int_min, int_max}
 use Rattle.ep_int.specs.declared.types.IntType.{IntType}
 use Rattle.ep_int.specs.declared.types.IntType.TheVariants.{I64, U64}
@@ -72,3 +72,12 @@ wrapped_low t lo hi = if in_one_stretch t lo hi then wrapped t lo else least_of 
 
 abbrev pub wrapped_high : IntType → ℤ → ℤ → ℤ
 wrapped_high t lo hi = if in_one_stretch t lo hi then wrapped t hi else greatest_of t
+
+-- ---- comparisons
+
+-- an end without a number that is left out
+abbrev pub low_apart : ℤ → ℤ → ℤ
+low_apart l v = if int_eq l v then l +ℤ pos 1 else l
+
+abbrev pub high_apart : ℤ → ℤ → ℤ
+high_apart h v = if int_eq h v then h -ℤ pos 1 else h

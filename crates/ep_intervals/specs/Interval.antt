@@ -10,7 +10,7 @@ use Rattle.ep_int.specs.Types.{least_of, greatest_of, wrapped}
 use Rattle.ep_int.specs.Arith.{int_eq}
 use Rattle.ep_domain.specs.Ranges.{IsRange}
 use Rattle.ep_intervals.specs.declared.interval.Interval.{Interval}
-use Rattle.ep_intervals.specs.Ends.{is_range, nearest_number, lowered, raised, low_rank, high_rank, wrapped_low, wrapped_high}
+use Rattle.ep_intervals.specs.Ends.{is_range, nearest_number, lowered, raised, low_rank, high_rank, wrapped_low, wrapped_high, low_apart, high_apart}
 use Rattle.ep_intervals.specs.Laws.Ranges.{is_range_true, range_of_type, range_of_one, range_of_join, range_of_widening, range_of_conversion}
 
 abbrev pub interval : (lo hi : ℤ) → IsRange lo hi → Interval
@@ -71,10 +71,7 @@ conversion_of a t = interval (wrapped_low t a.lo a.hi) (wrapped_high t a.lo a.hi
 
 -- the numbers that differ from that of a single, as far as they are an interval
 abbrev pub apart_from : Interval → Interval → Option Interval
-apart_from a b =
-  if int_eq b.lo b.hi
-  then between (if int_eq a.lo b.lo then a.lo +ℤ pos 1 else a.lo) (if int_eq a.hi b.lo then a.hi -ℤ pos 1 else a.hi)
-  else Some a
+apart_from a b = if int_eq b.lo b.hi then between (low_apart a.lo b.lo) (high_apart a.hi b.lo) else Some a
 
 -- the ends cut by the comparison
 abbrev pub filter_of : Cmp → Interval → Interval → Option (Interval × Interval)

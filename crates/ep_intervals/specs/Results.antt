@@ -1,5 +1,5 @@
 -- What an operator gives of two intervals (this project's rules).
-use Rattle.std.specs.Prelude.{ℕ, ◌+◌, ◌-◌, ◌^◌, ℤ, pos, negsuc, ◌+ℤ◌, ◌-ℤ◌, neg_ℤ, Bool, ◌&&◌, Option, Some, None, Result, Ok, Err, is_some, int_le, int_div, unsigned_abs, if◌then◌else◌}
+use Rattle.std.specs.Prelude.{ℕ, ◌+◌, ◌-◌, ◌^◌, ℤ, pos, negsuc, ◌+ℤ◌, ◌-ℤ◌, neg_ℤ, Bool, ◌&&◌, Option, Some, None, Result, Ok, Err, is_some, int_le, int_lt, int_div, unsigned_abs, if◌then◌else◌}
 use Rattle.std.specs.Option.{unwrap_or, option_and_then}
 use Rattle.std.specs.Int.{w64, leading_zeros, int_min, int_max, int_shr}
 use Rattle.ep_int.specs.declared.types.IntType.{IntType}
@@ -12,7 +12,7 @@ use Rattle.ep_domain.specs.declared.outcome.Outcome.{Outcome}
 use Rattle.ep_domain.specs.Faults.{is_shift, is_ordered, least_of_four, greatest_of_four, shown_range, nearest_amount, range_fault_of}
 use Rattle.ep_intervals.specs.declared.interval.Interval.{Interval}
 use Rattle.ep_intervals.specs.Ends.{wrapped_low, wrapped_high}
-use Rattle.ep_intervals.specs.Interval.{ends_of, between, overlap, single_of}
+use Rattle.ep_intervals.specs.Interval.{ends_of, between, overlap}
 
 -- the numbers of a type that lie between two ends
 abbrev pub clipped : IntType → ℤ × ℤ → Option Interval
@@ -85,7 +85,7 @@ xored t r s = if is_positive r && is_positive s then between (pos 0) (ones_over 
 
 -- some amount is from 0 to the width less one
 abbrev pub has_amount : IntType → ℤ × ℤ → Bool
-has_amount t s = int_le (pos 0) s.1 && int_le s.0 (pos (bits_of t - 1))
+has_amount t s = int_le (pos 0) s.1 && int_lt s.0 (pos (bits_of t))
 
 -- the powers of 2 of the amounts
 abbrev pub powers : IntType → ℤ × ℤ → ℤ × ℤ
@@ -106,7 +106,7 @@ shifted_right t r s = if has_amount t s then shifted_right_between r (nearest_am
 -- ---- each operator
 
 abbrev pub single_result : Result ℤ Undef → Option Interval
-single_result (Ok v) = Some (single_of v)
+single_result (Ok v) = between v v
 single_result (Err u) = None
 
 abbrev pub results_of : BinOp → IntType → ℤ × ℤ → ℤ × ℤ → Option Interval

@@ -3,7 +3,8 @@
 ghost use Rattle.std.specs.Prelude.{◌≡◌, ◌≤◌, ◌-ℤ◌, FitsSigned};
 ghost use Rattle.std.specs.Int.{w128};
 ghost use Rattle.ep_int.specs.Types.{wrapped};
-ghost use Rattle.ep_intervals.specs.Ends.{low_limit, high_limit, lowered, raised, low_rank, high_rank, wrapped_low, wrapped_high};
+ghost use Rattle.ep_int.specs.Arith.{IsOfSomeType};
+ghost use Rattle.ep_intervals.specs.Ends.{low_limit, high_limit, lowered, raised, low_rank, high_rank, wrapped_low, wrapped_high, low_apart, high_apart};
 
 use ep_int::{IntType, greatest, least, wrap};
 
@@ -103,4 +104,20 @@ pub(crate) fn wrapped(t: IntType, lo: i128, hi: i128) -> (i128, i128)
     } else {
         (least(t), greatest(t))
     }
+}
+
+// A lower end without a number that is left out.
+pub(crate) fn low_apart(end: i128, v: i128) -> i128
+    requires { IsOfSomeType end }
+    ensures { result ≡ low_apart end v }
+{
+    if end == v { end + 1 } else { end }
+}
+
+// An upper end without a number that is left out.
+pub(crate) fn high_apart(end: i128, v: i128) -> i128
+    requires { IsOfSomeType end }
+    ensures { result ≡ high_apart end v }
+{
+    if end == v { end - 1 } else { end }
 }

@@ -3,7 +3,7 @@
 ghost use Rattle.std.specs.Prelude.{◌≡◌};
 ghost use Rattle.ep_domain.specs.Ranges.{IsRange};
 
-use crate::ends;
+use crate::{ends, results};
 use ep_domain::{Num, Outcome, range_fault};
 use ep_int::{BinOp, Cmp, IntType, greatest, least};
 
@@ -40,12 +40,11 @@ impl Interval {
     fn apart_from(&self, o: &Self) -> Option<Self>
         ensures { result ≡ apart_from self.now o.now }
     {
-        if o.lo != o.hi {
-            return Some(*self);
+        if o.lo == o.hi {
+            Self::between(ends::low_apart(self.lo, o.lo), ends::high_apart(self.hi, o.lo))
+        } else {
+            Some(*self)
         }
-        let lo = if self.lo == o.lo { self.lo + 1 } else { self.lo };
-        let hi = if self.hi == o.lo { self.hi - 1 } else { self.hi };
-        Self::between(lo, hi)
     }
 }
 
@@ -103,7 +102,7 @@ impl Num for Interval {
     fn op(op: BinOp, t: IntType, x: &Self, y: &Self) -> Outcome<Self> {
         let shown = range_fault(op, t, x.range(), y.range());
         Outcome {
-            value: None,
+            value: results::value(op, t, x, y),
             fault: shown.is_some(),
             shown: shown.unwrap_or((0, 0)),
         }
@@ -130,7 +129,7 @@ impl Num for Interval {
     }
 
     fn edges(&self, lo: i128, hi: i128) -> Option<(i128, i128)> {
-        self.overlap(lo, hi).map(|c| (c.lo, c.hi))
+        self.overlap(lo, hi).map(|c| c.range())
     }
 
     fn cut(&self, lo: i128, hi: i128) -> Option<Self> {

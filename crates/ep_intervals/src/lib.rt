@@ -3,5 +3,6 @@
 
 mod ends;
 mod interval;
+mod results;
 
 pub use interval::Interval;

@@ -3,7 +3,7 @@ use Rattle.std.specs.Prelude.{◌≡◌, ℕ, zero, suc, ◌-◌, ◌^◌, ◌<�
 use Rattle.std.specs.Int.{int_min, int_max, int_shr}
 use Rattle.std.proofs.Common.{arith, ap, sym, ◌∙◌, subst, inl, inr}
 use Rattle.std.proofs.Math.Nat.{pow-le-pow_right}
-use Rattle.std.proofs.lemmas.Bool.{and_parts, not-true}
+use Rattle.std.proofs.lemmas.Bool.{and_parts, and_from, not-true}
 use Rattle.std.proofs.lemmas.Int.{ints, clamps}
 use Rattle.std.proofs.lemmas.Nat.{and_le_l, and_le_r, le_or_l, le_or_r}
 use Rattle.ep_int.specs.declared.types.IntType.{IntType}
@@ -17,7 +17,7 @@ use Rattle.ep_int.specs.Arith.{arith_of, settled, is_in_range, is_divisible, is_
 use Rattle.ep_int.proofs.Arithmetic.{arith_in_range}
 use Rattle.ep_domain.specs.Ranges.{IsRange, LiesIn}
 use Rattle.ep_domain.specs.Faults.{shown_of, shown_range, is_ordered, least_of_four, greatest_of_four, nearest_amount, is_shift}
-use Rattle.ep_domain.proofs.Tests.{le_true, from_le_true, from_le_false, from_between, between_true, from_lt_true, le_trans, le_self}
+use Rattle.ep_domain.proofs.Tests.{le_true, lt_true, from_le_true, from_le_false, from_between, between_true, from_lt_true, le_trans, le_self}
 use Rattle.ep_domain.proofs.Types.{number_low, number_high, number_of, from_in_range, least_negative}
 use Rattle.ep_domain.proofs.FaultAt.{each_shown}
 use Rattle.ep_domain.proofs.Undefined.{amount_from, nearest_above, nearest_same, bits_positive}
@@ -180,9 +180,9 @@ nearest_below t c y e h =
 some_amount : (t : IntType) (s : ℤ × ℤ) (y : ℤ) → LiesIn s y → is_amount t y ≡ true → has_amount t s ≡ true
 some_amount t s y h e =
     let p = amount_from t y e in let q = p.0 in let r = p.1 in let l = h.low in let u = h.high in
-    between_true (pos 0) s.1 s.0 (pos (bits_of t - 1)) (omega (arith, ints)) (below_width s.0 y (bits_of t) l r)
+    and_from (int_le (pos 0) s.1) (int_lt s.0 (pos (bits_of t))) (le_true (pos 0) s.1 (omega (arith, ints))) (lt_true s.0 (pos (bits_of t)) (below_width s.0 y (bits_of t) l r))
   where
-    below_width : (c y : ℤ) (w : ℕ) → c ≤ℤ y → y <ℤ pos w → c ≤ℤ pos (w - 1)
+    below_width : (c y : ℤ) (w : ℕ) → c ≤ℤ y → y <ℤ pos w → c <ℤ pos w
     below_width c y w p q = omega (arith, ints)
 
 if_true : (b : Bool) (o : Option Interval) (v : ℤ) → b ≡ true → HaveNumber o v → HaveNumber (cond b o None) v

@@ -10,17 +10,18 @@ use Rattle.ep_int.specs.declared.types.Undef.{Undef}
 use Rattle.ep_int.specs.Types.{least_of, greatest_of, InRange}
 use Rattle.ep_int.specs.Arith.{arith_of, int_eq, IsRightOperand}
 use Rattle.ep_int.proofs.Arithmetic.{arith_in_range}
-use Rattle.ep_domain.specs.Ranges.{LiesIn, Encloses}
+use Rattle.ep_domain.specs.Ranges.{IsRange, LiesIn, Encloses}
 use Rattle.ep_domain.specs.Faults.{Takes, MayFault, is_shift, range_fault_of}
 use Rattle.ep_domain.specs.Domain.{ShowsPart}
 use Rattle.ep_domain.proofs.Tests.{between_true, from_between, le_self, le_trans, le_antisym}
 use Rattle.ep_domain.proofs.Types.{number_of}
 use Rattle.ep_domain.proofs.RangeFaults.{fault_is_found, fault_is_shown}
 use Rattle.ep_intervals.specs.declared.interval.Interval.{Interval}
-use Rattle.ep_intervals.specs.Interval.{ends_of, overlap, single_of}
+use Rattle.ep_intervals.specs.Interval.{interval, ends_of, between, overlap}
 use Rattle.ep_intervals.specs.Results.{single_result, results_of, results_between, right_operands, value_of, outcome_of}
 use Rattle.ep_intervals.specs.Domain.{interval_ops}
-use Rattle.ep_intervals.specs.Laws.Simple.{HasNumber, has_low, has_high, overlap_holds, single_holds, single_ends, cut_single, range_encloses, first_of_pair, second_of_pair}
+use Rattle.ep_intervals.specs.Laws.Between.{between_holds, between_some}
+use Rattle.ep_intervals.specs.Laws.Simple.{HasNumber, has_low, has_high, overlap_holds, cut_single, range_encloses, first_of_pair, second_of_pair}
 use Rattle.ep_intervals.specs.Laws.Results.{HaveNumber}
 use Rattle.ep_intervals.specs.Laws.Operators.{results_hold}
 
@@ -31,7 +32,7 @@ results_between_hold : (o : BinOp) (t : IntType) (a b : Interval) (x y v : ℤ) 
 results_between_hold o t a b x y v h k i j e = by_test (int_eq a.lo a.hi && int_eq b.lo b.hi) refl
   where
     of_single : (r : Result ℤ Undef) → r ≡ Ok v → HaveNumber (single_result r) v
-    of_single r f = subst (λ r. HaveNumber (single_result r) v) (sym f) (single_holds v (number_of t v (arith_in_range o t x y v i e)))
+    of_single r f = subst (λ r. HaveNumber (single_result r) v) (sym f) (let n = number_of t v (arith_in_range o t x y v i e) in between_holds v v v n.low n.high (le_self v) (le_self v))
     by_test : (s : Bool) → (int_eq a.lo a.hi && int_eq b.lo b.hi) ≡ s → HaveNumber (cond s (single_result (arith_of o t a.lo b.lo)) (results_of o t (ends_of a) (ends_of b))) v
     by_test true f =
         let p = and_parts (int_eq a.lo a.hi) (int_eq b.lo b.hi) f in
@@ -134,8 +135,11 @@ pub outcome_single : (o : BinOp) (t : IntType) (a b : Interval) (x y : ℤ) → 
   MatchResult (arith_of o t x y) (λ v. IsSomeAnd (outcome_of o t a b).value (Single v)) (λ _. (outcome_of o t a b).value ≡ None)
 outcome_single o t a b x y i e f = by_result (arith_of o t x y) refl
   where
+    some_single : (o : Option Interval) (v : ℤ) (c : Interval) → o ≡ Some c → Single v c → IsSomeAnd o (Single v)
+    some_single o v c p q = subst (λ o. IsSomeAnd o (Single v)) (sym p) q
     by_result : (r : Result ℤ Undef) → arith_of o t x y ≡ r → MatchResult r (λ v. IsSomeAnd (outcome_of o t a b).value (Single v)) (λ _. (outcome_of o t a b).value ≡ None)
     by_result (Ok v) g =
-        let p : value_of o t a b ≡ Some (single_of v) = value_single o t a b x y i e f ∙ ap single_result g in
-        subst (λ o. IsSomeAnd o (Single v)) (sym p) (single_ends v (number_of t v (arith_in_range o t x y v i.left g)))
+        let n = number_of t v (arith_in_range o t x y v i.left g) in
+        let r : IsRange v v = record { above = n.low; ordered = le_self v; below = n.high } in
+        some_single (value_of o t a b) v (interval v v r) (value_single o t a b x y i e f ∙ ap single_result g ∙ between_some v v r) refl
     by_result (Err u) g = value_single o t a b x y i e f ∙ ap single_result g
