@@ -1,6 +1,7 @@
 //! Intervals of numbers.
 
 ghost use Rattle.std.specs.Prelude.{◌≡◌};
+ghost use Rattle.ep_int.specs.Arith.{int_eq};
 ghost use Rattle.ep_domain.specs.Ranges.{IsRange};
 
 use crate::{ends, results};
@@ -27,6 +28,12 @@ impl Interval {
         } else {
             None
         }
+    }
+
+    pub(crate) fn is_single(&self) -> bool
+        ensures { result ≡ int_eq self.now.lo self.now.hi }
+    {
+        self.lo == self.hi
     }
 
     // The part from `lo` to `hi`.

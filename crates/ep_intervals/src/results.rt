@@ -3,10 +3,10 @@
 ghost use Rattle.std.specs.Prelude.{◌≡◌, ◌≢◌, ◌≤ℤ◌, ◌<◌, ◌-ℤ◌, pos, negsuc, false, FitsSigned};
 ghost use Rattle.std.specs.Int.{w128};
 ghost use Rattle.ep_int.specs.Types.{InRange, is_signed, wrapped};
-ghost use Rattle.ep_int.specs.Arith.{IsOfSomeType, IsRightOperand, is_amount};
+ghost use Rattle.ep_int.specs.Arith.{IsOfSomeType, IsRightOperand, arith_of};
 ghost use Rattle.ep_domain.specs.Ranges.{IsRange};
 ghost use Rattle.ep_domain.specs.Faults.{shown_range};
-ghost use Rattle.ep_intervals.specs.Results.{clipped, settled_between, quotients, hull, divided, remainders, whole, anded, ored, xored, ones_over, has_amount, shifted_left, shifted_right, results_between, right_operands, value_of};
+ghost use Rattle.ep_intervals.specs.Results.{clipped, settled_between, quotients, hull, divided, remainders, whole, anded, ored, xored, ones_over, has_amount, shifted_left, shifted_right, single_result, results_of, results_between, right_operands, value_of};
 
 use crate::{Interval, ends};
 use ep_domain::ranges::{corners, is_shift, is_signed, nearest_amount, power_of_two, products};
@@ -38,24 +38,40 @@ fn results(op: BinOp, t: IntType, x: &Interval, y: &Interval) -> Option<Interval
     requires right { IsRightOperand op t y.now.lo × IsRightOperand op t y.now.hi }
     ensures { result ≡ results_between op t x.now y.now }
 {
-    if x.lo == x.hi && y.lo == y.hi {
-        return match arith(op, t, x.lo, y.lo) {
-            Ok(v) => Interval::between(v, v),
-            Err(_) => None,
-        };
+    if x.is_single() && y.is_single() {
+        single_result(op, t, x.lo, y.lo)
+    } else {
+        results_by_ends(op, t, (x.lo, x.hi), (y.lo, y.hi))
     }
-    let (left, right) = ((x.lo, x.hi), (y.lo, y.hi));
+}
+
+fn single_result(op: BinOp, t: IntType, x: i128, y: i128) -> Option<Interval>
+    requires left { InRange t x }
+    requires right { IsRightOperand op t y }
+    ensures { result ≡ single_result (arith_of op t x y) }
+{
+    match arith(op, t, x, y) {
+        Ok(v) => Interval::between(v, v),
+        Err(_) => None,
+    }
+}
+
+fn results_by_ends(op: BinOp, t: IntType, x: (i128, i128), y: (i128, i128)) -> Option<Interval>
+    requires left { InRange t x.0 × InRange t x.1 × x.0 ≤ℤ x.1 }
+    requires right { IsRightOperand op t y.0 × IsRightOperand op t y.1 × y.0 ≤ℤ y.1 }
+    ensures { result ≡ results_of op t x y }
+{
     match op {
-        BinOp::Add => settled(t, (x.lo + y.lo, x.hi + y.hi)),
-        BinOp::Sub => settled(t, (x.lo - y.hi, x.hi - y.lo)),
-        BinOp::Mul => multiplied(t, left, right),
-        BinOp::Div => divided(t, left, right),
-        BinOp::Rem => remainders(left, right),
-        BinOp::And => anded(t, left, right),
-        BinOp::Or => ored(t, left, right),
-        BinOp::Xor => xored(t, left, right),
-        BinOp::Shl => shifted_left(t, left, right),
-        BinOp::Shr => shifted_right(t, left, right),
+        BinOp::Add => settled(t, (x.0 + y.0, x.1 + y.1)),
+        BinOp::Sub => settled(t, (x.0 - y.1, x.1 - y.0)),
+        BinOp::Mul => multiplied(t, x, y),
+        BinOp::Div => divided(t, x, y),
+        BinOp::Rem => remainders(x, y),
+        BinOp::And => anded(t, x, y),
+        BinOp::Or => ored(t, x, y),
+        BinOp::Xor => xored(t, x, y),
+        BinOp::Shl => shifted_left(t, x, y),
+        BinOp::Shr => shifted_right(t, x, y),
     }
 }
 
