@@ -1,7 +1,7 @@
 -- What the code of intervals needs.
-use Rattle.std.proofs.Common.{◌≡◌, ℕ, ◌-◌, ◌^◌, ◌<◌, ◌≤◌, ◌*ℤ◌, ℤ, pos, negsuc, ◌+ℤ◌, ◌-ℤ◌, ◌≤ℤ◌, ◌<ℤ◌, Bool, true, false, cond, Option, Some, None, FitsSigned, refl, sym, ap, ◌∙◌, subst, arith, to_z, of_z}
+use Rattle.std.proofs.Common.{◌≡◌, ℕ, ◌-◌, ◌^◌, ◌<◌, ◌≤◌, ◌*ℤ◌, ℤ, pos, negsuc, neg_ℤ, ◌+ℤ◌, ◌-ℤ◌, ◌≤ℤ◌, Bool, true, false, cond, Option, Some, None, FitsSigned, refl, sym, ap, ◌∙◌, subst, arith, to_z, of_z}
 use mir.Syntax.{w128}
-use Rattle.std.specs.Prelude.{int_le, int_lt, unsigned_abs, IfSome}
+use Rattle.std.specs.Prelude.{int_le, unsigned_abs, IfSome}
 use Rattle.std.specs.Option.{option_zip, option_and_then}
 use Rattle.std.specs.Int.{int_min, int_max, int_shr}
 use Rattle.std.proofs.lemmas.Int.{ints, clamps, to_z-of_z, fits_signed_mul}
@@ -12,12 +12,12 @@ use Rattle.ep_int.specs.declared.types.BinOp.TheVariants.{Add, Sub, Mul, Div, Re
 use Rattle.ep_int.specs.Types.{is_signed, least_of, greatest_of, wrapped, InRange}
 use Rattle.ep_int.specs.Arith.{int_eq, IsOfSomeType, IsRightOperand}
 use Rattle.ep_domain.specs.Ranges.{IsRange}
-use Rattle.ep_domain.proofs.Tests.{between_true, from_between, le_true, le_self, le_trans, le_antisym}
+use Rattle.ep_domain.proofs.Tests.{between_true, from_between, le_self, le_trans, le_antisym}
 use Rattle.ep_domain.proofs.FaultCode.{fits_number, sum_fits, difference_fits}
 use Rattle.ep_intervals.specs.declared.interval.Interval.{Interval}
 use Rattle.ep_intervals.specs.Ends.{in_one_stretch, wrapped_low, wrapped_high, low_apart, high_apart}
 use Rattle.ep_intervals.specs.Interval.{interval, between, overlap, apart_from, filter_of}
-use Rattle.ep_intervals.specs.Results.{clipped, settled_between, negative_part, positive_part, quotients, hull, divided, anded, ored, xored, ones_over, whole, has_amount, powers, shifted_left, shifted_right, shifted_right_between, results_between, right_operands, value_of}
+use Rattle.ep_intervals.specs.Results.{clipped, settled_between, negative_part, positive_part, quotients, hull, divided, greatest_size, remainders, anded, ored, xored, ones_over, whole, has_amount, powers, shifted_left, shifted_right, shifted_right_between, results_between, right_operands, value_of}
 use Rattle.ep_domain.specs.Faults.{is_ordered, least_of_four, greatest_of_four, shown_range, nearest_amount}
 use Rattle.ep_domain.proofs.Types.{number_of, number_low, number_high, least_unsigned}
 use Rattle.ep_int.proofs.Wrapping.{wrapped_in_range}
@@ -126,11 +126,11 @@ pub reduced_is : (t : IntType) (e : ℤ × ℤ) (r : Option Interval) → is_sig
 reduced_is t e r s h = h ∙ ap (λ b. cond b (clipped t e) (between (wrapped_low t e.0 e.1) (wrapped_high t e.0 e.1))) (sym s)
 
 pub divided_at : (t : IntType) (x y : ℤ × ℤ) (a b : Bool) → is_ordered (negative_part y) ≡ a → is_ordered (positive_part y) ≡ b →
-  divided t x y ≡ cond a (cond b (clipped t (hull (quotients x (negative_part y)) (quotients x (positive_part y)))) (clipped t (quotients x (negative_part y)))) (cond b (clipped t (quotients x (positive_part y))) None)
+    divided t x y ≡ cond a (cond b (clipped t (hull (quotients x (negative_part y)) (quotients x (positive_part y)))) (clipped t (quotients x (negative_part y)))) (cond b (clipped t (quotients x (positive_part y))) None)
 divided_at t x y a b e f = rw (e, f) refl
 
 pub anded_at : (t : IntType) (x y : ℤ × ℤ) (a b : Bool) → int_le (pos 0) x.0 ≡ a → int_le (pos 0) y.0 ≡ b →
-  anded t x y ≡ cond a (between (pos 0) (cond b (int_min x.1 y.1) x.1)) (cond b (between (pos 0) y.1) (whole t))
+    anded t x y ≡ cond a (between (pos 0) (cond b (int_min x.1 y.1) x.1)) (cond b (between (pos 0) y.1) (whole t))
 anded_at t x y a b e f = rw (e, f) refl
 
 pub ored_at : (t : IntType) (x y : ℤ × ℤ) → int_le (pos 0) x.0 ≡ true → int_le (pos 0) y.0 ≡ true → ored t x y ≡ between (int_max x.0 y.0) (ones_over (int_max x.1 y.1))
@@ -207,13 +207,32 @@ shr_fits (pos n) k f = let e = div-le_self n (2 ^ k) in let h : n < 2 ^ 127 = f.
 shr_fits (negsuc n) k f = let e = div-le_self n (2 ^ k) in let h : n < 2 ^ 127 = f.sfits in record { sfits = omega arith }
 
 pub shifted_right_is : (t : IntType) (x y : ℤ × ℤ) (j k : ℕ) (e : ℤ × ℤ) (r : Option Interval) → has_amount t y ≡ true → j ≡ nearest_amount t y.0 → k ≡ nearest_amount t y.1 →
-  e ≡ (least_of_four (int_shr x.0 j) (int_shr x.0 k) (int_shr x.1 j) (int_shr x.1 k), greatest_of_four (int_shr x.0 j) (int_shr x.0 k) (int_shr x.1 j) (int_shr x.1 k)) → r ≡ between e.0 e.1 → r ≡ shifted_right t x y
+    e ≡ (least_of_four (int_shr x.0 j) (int_shr x.0 k) (int_shr x.1 j) (int_shr x.1 k), greatest_of_four (int_shr x.0 j) (int_shr x.0 k) (int_shr x.1 j) (int_shr x.1 k)) → r ≡ between e.0 e.1 → r ≡ shifted_right t x y
 shifted_right_is t x y j k e r h p q f g =
     g ∙ ap (λ (z : ℤ × ℤ). between z.0 z.1) f ∙ ap (λ z. shifted_right_between x z k) p ∙ ap (shifted_right_between x (nearest_amount t y.0)) q
     ∙ ap (λ b. cond b (shifted_right_between x (nearest_amount t y.0) (nearest_amount t y.1)) None) (sym h)
 
 pub shifted_left_is : (t : IntType) (x y : ℤ × ℤ) (m n : ℤ) (e : ℤ × ℤ) (r : Option Interval) → has_amount t y ≡ true → m ≡ pos (2 ^ nearest_amount t y.0) → n ≡ pos (2 ^ nearest_amount t y.1) →
-  e ≡ shown_range Mul x (m, n) → r ≡ settled_between t e → r ≡ shifted_left t x y
+    e ≡ shown_range Mul x (m, n) → r ≡ settled_between t e → r ≡ shifted_left t x y
 shifted_left_is t x y m n e r h p q f g =
     g ∙ ap (settled_between t) f ∙ ap (λ z. settled_between t (shown_range Mul x (z, n))) p ∙ ap (λ z. settled_between t (shown_range Mul x (pos (2 ^ nearest_amount t y.0), z))) q
     ∙ ap (λ b. cond b (settled_between t (shown_range Mul x (powers t y))) None) (sym h)
+
+-- ---- remainders
+
+pub zero_less : (l : ℤ) → (pos 0 -ℤ l) ≡ neg_ℤ l
+zero_less l = omega (arith, ints)
+
+pub negation_fits : (l h : ℤ) → IsRange l h → FitsSigned w128 (pos 0 -ℤ l)
+negation_fits l h r = let p = low_number l h r in let a = p.low in let b = p.high in fits_between (pos 0 -ℤ l) (omega (arith, ints)) (omega (arith, ints))
+
+pub size_fits : (l h s : ℤ) → IsRange l h → s ≡ int_max (neg_ℤ l) h → FitsSigned w128 (pos 1 -ℤ s) × FitsSigned w128 (s -ℤ pos 1)
+size_fits l h s r e =
+    let p = low_number l h r in let a = p.low in let b = p.high in
+    let q = high_number l h r in let c = q.low in let d = q.high in
+    (fits_between (pos 1 -ℤ s) (omega (arith, ints, clamps)) (omega (arith, ints, clamps)), fits_between (s -ℤ pos 1) (omega (arith, ints, clamps)) (omega (arith, ints, clamps)))
+
+pub remainders_is : (x y : ℤ × ℤ) (s a b c d : ℤ) (r : Option Interval) → s ≡ greatest_size y → a ≡ int_min x.0 (pos 0) → b ≡ int_max (pos 1 -ℤ s) a → c ≡ int_max x.1 (pos 0) → d ≡ int_min (s -ℤ pos 1) c → r ≡ between b d → r ≡ remainders x y
+remainders_is x y s a b c d r e f g h i j =
+    j ∙ ap (λ z. between z d) (g ∙ ap (λ z. int_max (pos 1 -ℤ z) a) e ∙ ap (int_max (pos 1 -ℤ greatest_size y)) f)
+    ∙ ap (between (int_max (pos 1 -ℤ greatest_size y) (int_min x.0 (pos 0)))) (i ∙ ap (λ z. int_min (z -ℤ pos 1) c) e ∙ ap (int_min (greatest_size y -ℤ pos 1)) h)

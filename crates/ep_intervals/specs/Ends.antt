@@ -19,24 +19,24 @@ nearest_number v = int_max (least_of I64) (int_min v (greatest_of U64))
 -- the greatest limit that is not above a lower end
 abbrev pub low_limit : ℤ → ℤ
 low_limit v =
-  if int_le (pos 0) v then pos 0
-  else if int_le (negsuc 127) v then negsuc 127
-  else if int_le (negsuc 32767) v then negsuc 32767
-  else if int_le (negsuc 2147483647) v then negsuc 2147483647
-  else negsuc 9223372036854775807
+    if int_le (pos 0) v then pos 0
+    else if int_le (negsuc 127) v then negsuc 127
+    else if int_le (negsuc 32767) v then negsuc 32767
+    else if int_le (negsuc 2147483647) v then negsuc 2147483647
+    else negsuc 9223372036854775807
 
 -- the least limit that is not below an upper end
 abbrev pub high_limit : ℤ → ℤ
 high_limit v =
-  if int_le v (pos 0) then pos 0
-  else if int_le v (pos 127) then pos 127
-  else if int_le v (pos 255) then pos 255
-  else if int_le v (pos 32767) then pos 32767
-  else if int_le v (pos 65535) then pos 65535
-  else if int_le v (pos 2147483647) then pos 2147483647
-  else if int_le v (pos 4294967295) then pos 4294967295
-  else if int_le v (pos 9223372036854775807) then pos 9223372036854775807
-  else pos 18446744073709551615
+    if int_le v (pos 0) then pos 0
+    else if int_le v (pos 127) then pos 127
+    else if int_le v (pos 255) then pos 255
+    else if int_le v (pos 32767) then pos 32767
+    else if int_le v (pos 65535) then pos 65535
+    else if int_le v (pos 2147483647) then pos 2147483647
+    else if int_le v (pos 4294967295) then pos 4294967295
+    else if int_le v (pos 9223372036854775807) then pos 9223372036854775807
+    else pos 18446744073709551615
 
 -- an end that moves goes to a limit
 abbrev pub lowered : ℤ → ℤ → ℤ
@@ -51,14 +51,14 @@ one_if b = if b then 1 else 0
 -- how many lower limits are below it
 abbrev pub low_rank : ℤ → ℕ
 low_rank v =
-  one_if (int_lt (pos 0) v) + one_if (int_lt (negsuc 127) v) + one_if (int_lt (negsuc 32767) v)
-  + one_if (int_lt (negsuc 2147483647) v) + one_if (int_lt (negsuc 9223372036854775807) v)
+    one_if (int_lt (pos 0) v) + one_if (int_lt (negsuc 127) v) + one_if (int_lt (negsuc 32767) v)
+    + one_if (int_lt (negsuc 2147483647) v) + one_if (int_lt (negsuc 9223372036854775807) v)
 
 -- how many upper limits are above it
 abbrev pub high_rank : ℤ → ℕ
 high_rank v =
-  one_if (int_lt v (pos 0)) + one_if (int_lt v (pos 127)) + one_if (int_lt v (pos 255)) + one_if (int_lt v (pos 32767)) + one_if (int_lt v (pos 65535))
-  + one_if (int_lt v (pos 2147483647)) + one_if (int_lt v (pos 4294967295)) + one_if (int_lt v (pos 9223372036854775807)) + one_if (int_lt v (pos 18446744073709551615))
+    one_if (int_lt v (pos 0)) + one_if (int_lt v (pos 127)) + one_if (int_lt v (pos 255)) + one_if (int_lt v (pos 32767)) + one_if (int_lt v (pos 65535))
+    + one_if (int_lt v (pos 2147483647)) + one_if (int_lt v (pos 4294967295)) + one_if (int_lt v (pos 9223372036854775807)) + one_if (int_lt v (pos 18446744073709551615))
 
 -- ---- conversion
 

@@ -1,5 +1,5 @@
 -- What an operator gives of two intervals (this project's rules).
-use Rattle.std.specs.Prelude.{ℕ, ◌+◌, ◌-◌, ◌^◌, ℤ, pos, negsuc, ◌+ℤ◌, ◌-ℤ◌, neg_ℤ, Bool, ◌&&◌, Option, Some, None, Result, Ok, Err, is_some, int_le, int_lt, int_div, unsigned_abs, if◌then◌else◌}
+use Rattle.std.specs.Prelude.{ℕ, ◌-◌, ◌^◌, ℤ, pos, negsuc, ◌-ℤ◌, neg_ℤ, Bool, ◌&&◌, Option, Some, None, Result, Ok, Err, is_some, int_le, int_lt, int_div, unsigned_abs, if◌then◌else◌}
 use Rattle.std.specs.Option.{unwrap_or, option_and_then}
 use Rattle.std.specs.Int.{w64, leading_zeros, int_min, int_max, int_shr}
 use Rattle.ep_int.specs.declared.types.IntType.{IntType}
@@ -33,16 +33,16 @@ positive_part s = (int_max s.0 (pos 1), s.1)
 -- the range of the quotients by divisors of one sign
 abbrev pub quotients : ℤ × ℤ → ℤ × ℤ → ℤ × ℤ
 quotients r s =
-  (least_of_four (int_div r.0 s.0) (int_div r.0 s.1) (int_div r.1 s.0) (int_div r.1 s.1), greatest_of_four (int_div r.0 s.0) (int_div r.0 s.1) (int_div r.1 s.0) (int_div r.1 s.1))
+    (least_of_four (int_div r.0 s.0) (int_div r.0 s.1) (int_div r.1 s.0) (int_div r.1 s.1), greatest_of_four (int_div r.0 s.0) (int_div r.0 s.1) (int_div r.1 s.0) (int_div r.1 s.1))
 
 abbrev pub hull : ℤ × ℤ → ℤ × ℤ → ℤ × ℤ
 hull d e = (int_min d.0 e.0, int_max d.1 e.1)
 
 abbrev pub divided : IntType → ℤ × ℤ → ℤ × ℤ → Option Interval
 divided t r s =
-  if is_ordered (negative_part s)
-  then (if is_ordered (positive_part s) then clipped t (hull (quotients r (negative_part s)) (quotients r (positive_part s))) else clipped t (quotients r (negative_part s)))
-  else (if is_ordered (positive_part s) then clipped t (quotients r (positive_part s)) else None)
+    if is_ordered (negative_part s)
+    then (if is_ordered (positive_part s) then clipped t (hull (quotients r (negative_part s)) (quotients r (positive_part s))) else clipped t (quotients r (negative_part s)))
+    else (if is_ordered (positive_part s) then clipped t (quotients r (positive_part s)) else None)
 
 -- the greatest size of a divisor
 abbrev pub greatest_size : ℤ × ℤ → ℤ
@@ -63,9 +63,9 @@ is_positive r = int_le (pos 0) r.0
 -- up to the least upper end of the operands that are not negative
 abbrev pub anded : IntType → ℤ × ℤ → ℤ × ℤ → Option Interval
 anded t r s =
-  if is_positive r
-  then between (pos 0) (if is_positive s then int_min r.1 s.1 else r.1)
-  else (if is_positive s then between (pos 0) s.1 else whole t)
+    if is_positive r
+    then between (pos 0) (if is_positive s then int_min r.1 s.1 else r.1)
+    else (if is_positive s then between (pos 0) s.1 else whole t)
 
 -- the least k for which a number of at most 64 bits is below 2 to the power of k
 abbrev pub length_in_bits : ℕ → ℕ
@@ -96,7 +96,7 @@ shifted_left t r s = if has_amount t s then settled_between t (shown_range Mul r
 
 abbrev pub shifted_right_between : ℤ × ℤ → ℕ → ℕ → Option Interval
 shifted_right_between r j k =
-  between
+    between
     (least_of_four (int_shr r.0 j) (int_shr r.0 k) (int_shr r.1 j) (int_shr r.1 k))
     (greatest_of_four (int_shr r.0 j) (int_shr r.0 k) (int_shr r.1 j) (int_shr r.1 k))
 

@@ -48,7 +48,10 @@ impl Interval {
         ensures { result ≡ apart_from self.now o.now }
     {
         if o.lo == o.hi {
-            Self::between(ends::low_apart(self.lo, o.lo), ends::high_apart(self.hi, o.lo))
+            Self::between(
+                ends::low_apart(self.lo, o.lo),
+                ends::high_apart(self.hi, o.lo),
+            )
         } else {
             Some(*self)
         }

@@ -1,13 +1,12 @@
 -- Operators on bits, of numbers that are not negative.
-use Rattle.std.specs.Prelude.{◌≡◌, ℕ, suc, ◌+◌, ◌-◌, ◌*◌, ◌%◌, ◌^◌, ◌<◌, ◌≤◌, ℤ, pos, negsuc, ◌≤ℤ◌, unsigned_abs, bit_and, bit_or, bit_xor, refl}
-use Rattle.std.specs.Int.{w64, leading_zeros, int_max}
+use Rattle.std.specs.Prelude.{◌≡◌, ℕ, ◌+◌, ◌-◌, ◌*◌, ◌^◌, ◌<◌, ◌≤◌, ℤ, pos, negsuc, ◌≤ℤ◌, bit_and, bit_or, bit_xor, refl}
 use Rattle.std.proofs.Common.{arith, ap, sym, ◌∙◌, subst}
 use Rattle.std.proofs.Math.Nat.{mod-eq_of_lt, pow-le-pow_right}
-use Rattle.std.proofs.lemmas.Nat.{and_le_l, and_le_r, or_lt, xor_lt, le_or_l, le_or_r, leading_length, pow_pos}
-use Rattle.std.proofs.lemmas.Int.{ints, clamps}
+use Rattle.std.proofs.lemmas.Nat.{and_le_l, and_le_r, or_lt, xor_lt, leading_length}
+use Rattle.std.proofs.lemmas.Int.{ints}
 use Rattle.ep_int.specs.declared.types.IntType.{IntType}
 use Rattle.ep_int.specs.declared.types.IntType.TheVariants.{I8, U8, I16, U16, I32, U32, I64, U64}
-use Rattle.ep_int.specs.Types.{bits_of, least_of, greatest_of, InRange, representation, represented}
+use Rattle.ep_int.specs.Types.{bits_of, greatest_of, representation, represented}
 use Rattle.ep_int.proofs.Wrapping.{represented_representation}
 use Rattle.ep_domain.proofs.Types.{least_negative}
 use Rattle.ep_intervals.specs.Results.{length_in_bits, ones_over}

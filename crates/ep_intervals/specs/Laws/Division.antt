@@ -1,7 +1,7 @@
 -- Quotients, remainders and shifts to the right of numbers between two ends.
-use Rattle.std.specs.Prelude.{◌≡◌, ℕ, zero, suc, ◌+◌, ◌-◌, ◌*◌, ◌/◌, ◌%◌, ◌^◌, ◌<◌, ◌≤◌, ℤ, pos, negsuc, neg_ℤ, ◌+ℤ◌, ◌-ℤ◌, ◌≤ℤ◌, ◌<ℤ◌, int_div, int_rem, unsigned_abs, refl}
+use Rattle.std.specs.Prelude.{◌≡◌, ℕ, zero, suc, ◌/◌, ◌%◌, ◌^◌, ◌<◌, ◌≤◌, ℤ, pos, negsuc, neg_ℤ, ◌-ℤ◌, ◌≤ℤ◌, int_div, int_rem, unsigned_abs, refl}
 use Rattle.std.specs.Int.{int_min, int_max, int_shr}
-use Rattle.std.proofs.Common.{arith, ap, sym, ◌∙◌, subst}
+use Rattle.std.proofs.Common.{arith, sym, subst}
 use Rattle.std.proofs.Math.Nat.{div-le_self, div-mul-le_self, mul-le-mul_left, mod-lt, mod-le, pow-le-pow_right}
 use Rattle.std.proofs.Math.IntN.{neg_ℤ-neg_ℤ}
 use Rattle.std.proofs.lemmas.Nat.{le-div, pow_pos}
@@ -126,6 +126,7 @@ remainder_between r s x y h k p = by_size (unsigned_abs y) refl p
       where
         low_of : (m l x v : ℤ) (n : ℕ) → pos (suc n) ≤ℤ m → l ≤ℤ x → int_min x (pos 0) ≤ℤ v → neg_ℤ (pos n) ≤ℤ v → int_max (pos 1 -ℤ m) (int_min l (pos 0)) ≤ℤ v
         low_of m l x v n p q r s = omega (arith, ints, clamps)
+
         high_of : (m u x v : ℤ) (n : ℕ) → pos (suc n) ≤ℤ m → x ≤ℤ u → v ≤ℤ int_max x (pos 0) → v ≤ℤ pos n → v ≤ℤ int_min (m -ℤ pos 1) (int_max u (pos 0))
         high_of m u x v n p q r s = omega (arith, ints, clamps)
 
@@ -152,7 +153,7 @@ shr_low (pos x) i k j p q = let e = pos_up _ _ (quotient_down x (2 ^ k) (2 ^ j) 
 shr_low (negsuc x) i k j p q = let e = negsuc_down _ _ (quotient_down x (2 ^ i) (2 ^ k) (pow_pos i) (power_up i k p)) in omega (arith, ints, clamps)
 
 pub shift_between : (r : ℤ × ℤ) (x : ℤ) (i k j : ℕ) → LiesIn r x → i ≤ k → k ≤ j →
-  LiesIn (least_of_four (int_shr r.0 i) (int_shr r.0 j) (int_shr r.1 i) (int_shr r.1 j), greatest_of_four (int_shr r.0 i) (int_shr r.0 j) (int_shr r.1 i) (int_shr r.1 j)) (int_shr x k)
+    LiesIn (least_of_four (int_shr r.0 i) (int_shr r.0 j) (int_shr r.1 i) (int_shr r.1 j), greatest_of_four (int_shr r.0 i) (int_shr r.0 j) (int_shr r.1 i) (int_shr r.1 j)) (int_shr x k)
 shift_between r x i k j h p q = record {
   low = four_low (int_shr x k) (int_shr r.0 k) (int_shr r.0 i) (int_shr r.0 j) (int_shr r.1 i) (int_shr r.1 j) (shr_up r.0 x k h.low) (shr_low r.0 i k j p q);
   high = four_high (int_shr x k) (int_shr r.1 k) (int_shr r.0 i) (int_shr r.0 j) (int_shr r.1 i) (int_shr r.1 j) (shr_up x r.1 k h.high) (shr_high r.1 i k j p q);

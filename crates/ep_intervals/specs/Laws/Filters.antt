@@ -1,18 +1,17 @@
 -- The laws of comparisons.
-use Rattle.std.specs.Prelude.{◌≡◌, ℤ, pos, ◌+ℤ◌, ◌-ℤ◌, ◌≤ℤ◌, ◌<ℤ◌, ◌⊎◌, Bool, true, false, cond, not, ◌&&◌, Option, Some, None, IsTrue, IsSomeAnd, refl, int_le, int_lt}
+use Rattle.std.specs.Prelude.{◌≡◌, ℤ, pos, ◌+ℤ◌, ◌-ℤ◌, ◌≤ℤ◌, ◌<ℤ◌, ◌⊎◌, Bool, true, false, cond, Option, Some, None, IsSomeAnd, refl, int_le}
 use Rattle.std.specs.Option.{option_zip}
-use Rattle.std.specs.Int.{int_min, int_max}
 use Rattle.std.proofs.Common.{arith, ap, sym, ◌∙◌, subst, inl, inr}
 use Rattle.std.proofs.lemmas.Bool.{not-true, not-false}
-use Rattle.std.proofs.lemmas.Int.{ints, clamps}
+use Rattle.std.proofs.lemmas.Int.{ints}
 use Rattle.ep_int.specs.declared.types.IntType.TheVariants.{I64, U64}
 use Rattle.ep_int.specs.declared.types.Cmp.{Cmp}
 use Rattle.ep_int.specs.declared.types.Cmp.TheVariants.{Eq, Ne, Lt, Le, Gt, Ge}
 use Rattle.ep_int.specs.Types.{least_of, greatest_of}
 use Rattle.ep_int.specs.Arith.{int_eq, compares}
-use Rattle.ep_domain.proofs.Tests.{between_true, from_between, from_between_false, from_le_true, from_le_false, from_lt_true, from_lt_false, le_self, le_trans, le_antisym}
+use Rattle.ep_domain.proofs.Tests.{between_true, from_between, from_between_false, from_le_true, from_le_false, from_lt_true, from_lt_false, le_self, le_antisym}
 use Rattle.ep_intervals.specs.declared.interval.Interval.{Interval}
-use Rattle.ep_intervals.specs.Interval.{ends_of, between, overlap, apart_from, filter_of}
+use Rattle.ep_intervals.specs.Interval.{ends_of, between, apart_from, filter_of}
 use Rattle.ep_intervals.specs.Laws.Between.{between_none, between_holds}
 use Rattle.ep_intervals.specs.Laws.Simple.{HasNumber, has_low, has_high, overlap_holds, cut_single_away, first_of_pair, second_of_pair}
 
@@ -52,6 +51,7 @@ apart_holds a b x y n h k = by_test (int_eq b.lo b.hi) refl
             by_test true e = from_le_true _ _ e
             by_test false g = let w = from_le_false (l +ℤ pos 1) x g in absurd (n (omega (arith, ints)))
     low_of false e f = has_low a x h
+
     high_of : (t : Bool) → int_eq a.hi b.lo ≡ t → b.lo ≡ b.hi → x ≤ℤ cond t (a.hi -ℤ pos 1) a.hi
     high_of true e f = let p = has_high a x h in let q = has_low b y k in let r = has_high b y k in let g = equal a.hi b.lo e in below a.hi x b.lo y p (n) g (le_antisym b.lo y q (subst (λ z. y ≤ℤ z) (sym f) r))
       where
@@ -62,12 +62,15 @@ apart_holds a b x y n h k = by_test (int_eq b.lo b.hi) refl
             by_test true e = from_le_true _ _ e
             by_test false g = let w = from_le_false x (u -ℤ pos 1) g in absurd (n (omega (arith, ints)))
     high_of false e f = has_high a x h
+
     least_stays : (t : Bool) → least_of I64 ≤ℤ cond t (a.lo +ℤ pos 1) a.lo
     least_stays true = let p = a.ends.above in omega (arith, ints)
     least_stays false = a.ends.above
+
     greatest_stays : (t : Bool) → cond t (a.hi -ℤ pos 1) a.hi ≤ℤ greatest_of U64
     greatest_stays true = let p = a.ends.below in omega (arith, ints)
     greatest_stays false = a.ends.below
+
     by_test : (t : Bool) → int_eq b.lo b.hi ≡ t → IsSomeAnd (cond t (between (cond (int_eq a.lo b.lo) (a.lo +ℤ pos 1) a.lo) (cond (int_eq a.hi b.lo) (a.hi -ℤ pos 1) a.hi)) (Some a)) (λ c. HasNumber c x)
     by_test true e =
         let f = equal b.lo b.hi e in
@@ -113,6 +116,7 @@ filter_single Ne a b x y e f g =
   where
     above : (l h : ℤ) → l ≡ x → h ≡ x → (h -ℤ pos 1) <ℤ (l +ℤ pos 1)
     above l h p q = omega (arith, ints)
+
     none_of : (t u v : Bool) → t ≡ true → u ≡ true → v ≡ true → (a.hi -ℤ pos 1) <ℤ (a.lo +ℤ pos 1) → cond t (between (cond u (a.lo +ℤ pos 1) a.lo) (cond v (a.hi -ℤ pos 1) a.hi)) (Some a) ≡ None
     none_of true true true e f g h = between_none _ _ h
     none_of false u v e f g h = absurd cc

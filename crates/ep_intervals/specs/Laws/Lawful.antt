@@ -1,9 +1,7 @@
 -- Intervals are a lawful domain.
-use Rattle.std.specs.Prelude.{ℤ, Bool, true, false}
 use Rattle.ep_domain.specs.Domain.{Lawful}
 use Rattle.ep_domain.proofs.Tests.{between_true}
-use Rattle.ep_intervals.specs.declared.interval.Interval.{Interval}
-use Rattle.ep_intervals.specs.Interval.{ends_of, widening_of}
+use Rattle.ep_intervals.specs.Interval.{widening_of}
 use Rattle.ep_intervals.specs.Domain.{interval_ops}
 use Rattle.ep_intervals.specs.Laws.Ranks.{rank_bound}
 use Rattle.ep_intervals.specs.Laws.Simple as simple

@@ -1,9 +1,9 @@
 -- Each result of each operator is held.
-use Rattle.std.specs.Prelude.{◌≡◌, ℕ, zero, suc, ◌-◌, ◌^◌, ◌<◌, ◌≤◌, ℤ, pos, negsuc, ◌+ℤ◌, ◌-ℤ◌, ◌*ℤ◌, ◌≤ℤ◌, ◌<ℤ◌, ◌⊎◌, Bool, true, false, cond, not, ◌&&◌, Option, Some, None, Result, Ok, Err, IsTrue, IsSomeAnd, refl, int_le, int_lt, int_div, int_rem, unsigned_abs, bit_and, bit_or, bit_xor}
+use Rattle.std.specs.Prelude.{◌≡◌, ℕ, zero, suc, ◌-◌, ◌^◌, ◌<◌, ◌≤◌, ℤ, pos, negsuc, ◌+ℤ◌, ◌-ℤ◌, ◌*ℤ◌, ◌≤ℤ◌, ◌<ℤ◌, Bool, true, false, cond, not, ◌&&◌, Option, None, Result, Ok, Err, refl, int_le, int_lt, int_div, int_rem, unsigned_abs, bit_and, bit_or, bit_xor}
 use Rattle.std.specs.Int.{int_min, int_max, int_shr}
-use Rattle.std.proofs.Common.{arith, ap, sym, ◌∙◌, subst, inl, inr}
+use Rattle.std.proofs.Common.{arith, sym, subst}
 use Rattle.std.proofs.Math.Nat.{pow-le-pow_right}
-use Rattle.std.proofs.lemmas.Bool.{and_parts, and_from, not-true}
+use Rattle.std.proofs.lemmas.Bool.{and_parts, and_from}
 use Rattle.std.proofs.lemmas.Int.{ints, clamps}
 use Rattle.std.proofs.lemmas.Nat.{and_le_l, and_le_r, le_or_l, le_or_r}
 use Rattle.ep_int.specs.declared.types.IntType.{IntType}
@@ -12,25 +12,23 @@ use Rattle.ep_int.specs.declared.types.BinOp.{BinOp}
 use Rattle.ep_int.specs.declared.types.BinOp.TheVariants.{Add, Sub, Mul, Div, Rem, And, Or, Xor, Shl, Shr}
 use Rattle.ep_int.specs.declared.types.Undef.{Undef}
 use Rattle.ep_int.specs.declared.types.Undef.TheVariants.{Overflow, Division, Shift}
-use Rattle.ep_int.specs.Types.{bits_of, is_signed, least_of, greatest_of, InRange, representation, represented, wrapped}
-use Rattle.ep_int.specs.Arith.{arith_of, settled, is_in_range, is_divisible, is_amount, int_eq, IsOfSomeType, IsRightOperand}
+use Rattle.ep_int.specs.Types.{bits_of, least_of, greatest_of, InRange, representation, represented}
+use Rattle.ep_int.specs.Arith.{arith_of, settled, is_in_range, is_divisible, is_amount, int_eq, IsRightOperand}
 use Rattle.ep_int.proofs.Arithmetic.{arith_in_range}
-use Rattle.ep_domain.specs.Ranges.{IsRange, LiesIn}
-use Rattle.ep_domain.specs.Faults.{shown_of, shown_range, is_ordered, least_of_four, greatest_of_four, nearest_amount, is_shift}
-use Rattle.ep_domain.proofs.Tests.{le_true, lt_true, from_le_true, from_le_false, from_between, between_true, from_lt_true, le_trans, le_self}
-use Rattle.ep_domain.proofs.Types.{number_low, number_high, number_of, from_in_range, least_negative}
+use Rattle.ep_domain.specs.Ranges.{LiesIn}
+use Rattle.ep_domain.specs.Faults.{shown_range, least_of_four, greatest_of_four, nearest_amount}
+use Rattle.ep_domain.proofs.Tests.{le_true, lt_true, from_le_true, le_trans}
+use Rattle.ep_domain.proofs.Types.{number_low, number_high, from_in_range}
 use Rattle.ep_domain.proofs.FaultAt.{each_shown}
-use Rattle.ep_domain.proofs.Undefined.{amount_from, nearest_above, nearest_same, bits_positive}
+use Rattle.ep_domain.proofs.Undefined.{amount_from, nearest_above, bits_positive}
 use Rattle.ep_intervals.specs.declared.interval.Interval.{Interval}
-use Rattle.ep_intervals.specs.Ends.{in_one_stretch, wrapped_low, wrapped_high}
-use Rattle.ep_intervals.specs.Interval.{ends_of, between, overlap, single_of}
-use Rattle.ep_intervals.specs.Results.{clipped, settled_between, negative_part, positive_part, quotients, hull, divided, remainders, greatest_size, whole, is_positive, anded, ored, xored, ones_over, has_amount, powers, shifted_left, shifted_right, results_of}
+use Rattle.ep_intervals.specs.Interval.{ends_of, between}
+use Rattle.ep_intervals.specs.Results.{divided, remainders, greatest_size, whole, anded, ored, xored, ones_over, has_amount, powers, shifted_left, shifted_right, results_of}
 use Rattle.ep_intervals.specs.Laws.Between.{between_holds}
-use Rattle.ep_intervals.specs.Laws.Results.{HaveNumber, ok_same, ok_if, clipped_holds, settled_holds, divided_holds}
-use Rattle.ep_intervals.specs.Laws.Simple.{HasNumber, has_low, has_high, range_encloses, wrapped_ends_hold}
-use Rattle.ep_intervals.specs.Laws.Division.{quotient_of_positive, quotient_of_negative, remainder_between, shift_between, shift_above, shift_below}
+use Rattle.ep_intervals.specs.Laws.Results.{HaveNumber, ok_same, ok_if, settled_holds, divided_holds}
+use Rattle.ep_intervals.specs.Laws.Simple.{HasNumber, has_low, has_high, range_encloses}
+use Rattle.ep_intervals.specs.Laws.Division.{remainder_between, shift_between, shift_above, shift_below}
 use Rattle.ep_intervals.specs.Laws.Bits.{and_left_part, and_right_part, or_is, xor_is, ones_below, or_below, xor_below}
-
 
 -- ---- remainders
 
@@ -49,6 +47,7 @@ remainders_hold a b x y h k n =
   where
     low_of : (m l : ℤ) → least_of I64 ≤ℤ l → least_of I64 ≤ℤ int_max (pos 1 -ℤ m) (int_min l (pos 0))
     low_of m l p = omega (arith, ints, clamps)
+
     high_of : (m h : ℤ) → h ≤ℤ greatest_of U64 → int_min (m -ℤ pos 1) (int_max h (pos 0)) ≤ℤ greatest_of U64
     high_of m h p = omega (arith, ints, clamps)
 
@@ -81,8 +80,9 @@ anded_holds t a b x y h k i j w = by_signs (int_le (pos 0) a.lo) (int_le (pos 0)
   where
     v : ℤ
     v = and_of t x y
+
     by_signs : (p q : Bool) → int_le (pos 0) a.lo ≡ p → int_le (pos 0) b.lo ≡ q →
-      HaveNumber (cond p (between (pos 0) (cond q (int_min a.hi b.hi) a.hi)) (cond q (between (pos 0) b.hi) (whole t))) (and_of t x y)
+        HaveNumber (cond p (between (pos 0) (cond q (int_min a.hi b.hi) a.hi)) (cond q (between (pos 0) b.hi) (whole t))) (and_of t x y)
     by_signs true true e f =
         let l = left_bound t x y i (le_trans _ _ _ (from_le_true (pos 0) a.lo e) (has_low a x h)) in
         let r = right_bound t x y j (le_trans _ _ _ (from_le_true (pos 0) b.lo f) (has_low b y k)) in
@@ -174,6 +174,7 @@ nearest_below t c y e h =
     abs_le (pos a) (pos b) p q = omega (arith, ints)
     abs_le (pos a) (negsuc b) p q = absurd (omega (arith, ints))
     abs_le (negsuc a) b p q = absurd (omega (arith, ints))
+
     clamp_le : (c y : ℤ) (w : ℕ) → pos 0 ≤ℤ y → y <ℤ pos w → c ≤ℤ y → 1 ≤ w → unsigned_abs (int_max (pos 0) (int_min c (pos (w - 1)))) ≤ unsigned_abs y
     clamp_le c y w p q r s = abs_le (int_max (pos 0) (int_min c (pos (w - 1)))) y (omega (arith, ints, clamps)) (omega (arith, ints, clamps))
 
@@ -214,10 +215,10 @@ shifted_right_holds t a b x y h k e =
     let l = a.ends.above in let u = a.ends.below in
     let l1 = le_trans _ _ _ l a.ends.ordered in let u0 = le_trans _ _ _ a.ends.ordered u in
     if_true _ _ _ (some_amount t (ends_of b) y (range_encloses b y k) e)
-      (between_holds _ _ (int_shr x (unsigned_abs y))
-        (four_above (least_of I64) (int_shr a.lo i) (int_shr a.lo j) (int_shr a.hi i) (int_shr a.hi j) (shift_above a.lo i _ l) (shift_above a.lo j _ l) (shift_above a.hi i _ l1) (shift_above a.hi j _ l1))
-        (four_below (greatest_of U64) (int_shr a.lo i) (int_shr a.lo j) (int_shr a.hi i) (int_shr a.hi j) (shift_below a.lo i _ u0) (shift_below a.lo j _ u0) (shift_below a.hi i _ u) (shift_below a.hi j _ u))
-        m.low m.high)
+    (between_holds _ _ (int_shr x (unsigned_abs y))
+    (four_above (least_of I64) (int_shr a.lo i) (int_shr a.lo j) (int_shr a.hi i) (int_shr a.hi j) (shift_above a.lo i _ l) (shift_above a.lo j _ l) (shift_above a.hi i _ l1) (shift_above a.hi j _ l1))
+    (four_below (greatest_of U64) (int_shr a.lo i) (int_shr a.lo j) (int_shr a.hi i) (int_shr a.hi j) (shift_below a.lo i _ u0) (shift_below a.lo j _ u0) (shift_below a.hi i _ u) (shift_below a.hi j _ u))
+    m.low m.high)
 
 -- ---- each operator
 

@@ -1,7 +1,7 @@
 -- The laws of operators.
-use Rattle.std.specs.Prelude.{◌≡◌, ℤ, pos, ◌≤ℤ◌, Bool, true, false, cond, ◌&&◌, Option, Some, None, Result, Ok, Err, IsTrue, IsSomeAnd, MatchResult, is_some, is_err, refl, int_le}
+use Rattle.std.specs.Prelude.{◌≡◌, ℤ, pos, ◌≤ℤ◌, Bool, true, false, cond, ◌&&◌, Option, Some, None, Result, Ok, Err, IsTrue, IsSomeAnd, MatchResult, is_some, is_err, refl}
 use Rattle.std.specs.Option.{unwrap_or, option_and_then}
-use Rattle.std.proofs.Common.{arith, ap, sym, ◌∙◌, subst}
+use Rattle.std.proofs.Common.{ap, sym, ◌∙◌, subst}
 use Rattle.std.proofs.lemmas.Bool.{and_parts, and_from}
 use Rattle.ep_int.specs.declared.types.IntType.{IntType}
 use Rattle.ep_int.specs.declared.types.BinOp.{BinOp}
@@ -10,14 +10,14 @@ use Rattle.ep_int.specs.declared.types.Undef.{Undef}
 use Rattle.ep_int.specs.Types.{least_of, greatest_of, InRange}
 use Rattle.ep_int.specs.Arith.{arith_of, int_eq, IsRightOperand}
 use Rattle.ep_int.proofs.Arithmetic.{arith_in_range}
-use Rattle.ep_domain.specs.Ranges.{IsRange, LiesIn, Encloses}
-use Rattle.ep_domain.specs.Faults.{Takes, MayFault, is_shift, range_fault_of}
+use Rattle.ep_domain.specs.Ranges.{IsRange}
+use Rattle.ep_domain.specs.Faults.{Takes, MayFault, range_fault_of}
 use Rattle.ep_domain.specs.Domain.{ShowsPart}
 use Rattle.ep_domain.proofs.Tests.{between_true, from_between, le_self, le_trans, le_antisym}
 use Rattle.ep_domain.proofs.Types.{number_of}
 use Rattle.ep_domain.proofs.RangeFaults.{fault_is_found, fault_is_shown}
 use Rattle.ep_intervals.specs.declared.interval.Interval.{Interval}
-use Rattle.ep_intervals.specs.Interval.{interval, ends_of, between, overlap}
+use Rattle.ep_intervals.specs.Interval.{interval, ends_of, overlap}
 use Rattle.ep_intervals.specs.Results.{single_result, results_of, results_between, right_operands, value_of, outcome_of}
 use Rattle.ep_intervals.specs.Domain.{interval_ops}
 use Rattle.ep_intervals.specs.Laws.Between.{between_holds, between_some}
@@ -33,6 +33,7 @@ results_between_hold o t a b x y v h k i j e = by_test (int_eq a.lo a.hi && int_
   where
     of_single : (r : Result ℤ Undef) → r ≡ Ok v → HaveNumber (single_result r) v
     of_single r f = subst (λ r. HaveNumber (single_result r) v) (sym f) (let n = number_of t v (arith_in_range o t x y v i e) in between_holds v v v n.low n.high (le_self v) (le_self v))
+
     by_test : (s : Bool) → (int_eq a.lo a.hi && int_eq b.lo b.hi) ≡ s → HaveNumber (cond s (single_result (arith_of o t a.lo b.lo)) (results_of o t (ends_of a) (ends_of b))) v
     by_test true f =
         let p = and_parts (int_eq a.lo a.hi) (int_eq b.lo b.hi) f in
@@ -60,11 +61,11 @@ then_holds (Some c) f x v h g = g c h
 pub value_holds : (o : BinOp) (t : IntType) (a b : Interval) (x y v : ℤ) → HasNumber a x → HasNumber b y → Takes o t x y → arith_of o t x y ≡ Ok v → HaveNumber (value_of o t a b) v
 value_holds o t a b x y v h k i e =
     then_holds (overlap a (least_of t) (greatest_of t)) (λ c. option_and_then (λ d. results_between o t c d) (right_operands o t b)) x v
-      (overlap_holds a (least_of t) (greatest_of t) x h i.left.low i.left.high)
-      (λ c p. then_holds (right_operands o t b) (λ d. results_between o t c d) y v (right_holds o t b y k i.right) (λ d q. results_between_hold o t c d x y v p q i.left i.right e))
+    (overlap_holds a (least_of t) (greatest_of t) x h i.left.low i.left.high)
+    (λ c p. then_holds (right_operands o t b) (λ d. results_between o t c d) y v (right_holds o t b y k i.right) (λ d q. results_between_hold o t c d x y v p q i.left i.right e))
 
 pub outcome_holds : (o : BinOp) (t : IntType) (a b : Interval) (x y : ℤ) → Takes o t x y → HasNumber a x → HasNumber b y →
-  MatchResult (arith_of o t x y) (λ v. IsSomeAnd (outcome_of o t a b).value (λ c. HasNumber c v)) (λ _. IsTrue (outcome_of o t a b).fault)
+    MatchResult (arith_of o t x y) (λ v. IsSomeAnd (outcome_of o t a b).value (λ c. HasNumber c v)) (λ _. IsTrue (outcome_of o t a b).fault)
 outcome_holds o t a b x y i h k = by_result (arith_of o t x y) refl
   where
     by_result : (r : Result ℤ Undef) → arith_of o t x y ≡ r → MatchResult r (λ v. IsSomeAnd (outcome_of o t a b).value (λ c. HasNumber c v)) (λ _. IsTrue (outcome_of o t a b).fault)
@@ -128,15 +129,16 @@ results_single o t a b x y e f =
 pub value_single : (o : BinOp) (t : IntType) (a b : Interval) (x y : ℤ) → Takes o t x y → Single x a → Single y b → value_of o t a b ≡ single_result (arith_of o t x y)
 value_single o t a b x y i e f =
     then_single (overlap a (least_of t) (greatest_of t)) (λ c. option_and_then (λ d. results_between o t c d) (right_operands o t b)) _ x
-      (cut_single a (least_of t) (greatest_of t) x e (record { low = i.left.low; high = i.left.high }))
-      (λ c p. then_single (right_operands o t b) (λ d. results_between o t c d) _ y (right_single o t b y f i.right) (λ d q. results_single o t c d x y p q))
+    (cut_single a (least_of t) (greatest_of t) x e (record { low = i.left.low; high = i.left.high }))
+    (λ c p. then_single (right_operands o t b) (λ d. results_between o t c d) _ y (right_single o t b y f i.right) (λ d q. results_single o t c d x y p q))
 
 pub outcome_single : (o : BinOp) (t : IntType) (a b : Interval) (x y : ℤ) → Takes o t x y → Single x a → Single y b →
-  MatchResult (arith_of o t x y) (λ v. IsSomeAnd (outcome_of o t a b).value (Single v)) (λ _. (outcome_of o t a b).value ≡ None)
+    MatchResult (arith_of o t x y) (λ v. IsSomeAnd (outcome_of o t a b).value (Single v)) (λ _. (outcome_of o t a b).value ≡ None)
 outcome_single o t a b x y i e f = by_result (arith_of o t x y) refl
   where
     some_single : (o : Option Interval) (v : ℤ) (c : Interval) → o ≡ Some c → Single v c → IsSomeAnd o (Single v)
     some_single o v c p q = subst (λ o. IsSomeAnd o (Single v)) (sym p) q
+
     by_result : (r : Result ℤ Undef) → arith_of o t x y ≡ r → MatchResult r (λ v. IsSomeAnd (outcome_of o t a b).value (Single v)) (λ _. (outcome_of o t a b).value ≡ None)
     by_result (Ok v) g =
         let n = number_of t v (arith_in_range o t x y v i.left g) in

@@ -1,5 +1,5 @@
 -- That the ends of intervals are ranges.
-use Rattle.std.proofs.Common.{◌≡◌, ℤ, pos, negsuc, ◌+ℤ◌, ◌-ℤ◌, ◌≤ℤ◌, ◌<ℤ◌, Bool, true, false, cond, ◌&&◌, arith, refl, sym, ap, ◌∙◌}
+use Rattle.std.proofs.Common.{◌≡◌, ℤ, ◌-ℤ◌, ◌≤ℤ◌, Bool, true, false, cond, ◌&&◌, arith, refl}
 use Rattle.std.specs.Prelude.{int_le, int_lt}
 use Rattle.std.specs.Int.{int_min, int_max}
 use Rattle.std.proofs.lemmas.Bool.{and_parts, and_from}
@@ -7,7 +7,6 @@ use Rattle.std.proofs.lemmas.Int.{ints, clamps}
 use Rattle.ep_int.specs.declared.types.IntType.{IntType}
 use Rattle.ep_int.specs.declared.types.IntType.TheVariants.{I64, U64}
 use Rattle.ep_int.specs.Types.{least_of, greatest_of, wrapped}
-use Rattle.ep_int.specs.Arith.{int_eq}
 use Rattle.ep_int.proofs.Wrapping.{wrapped_in_range}
 use Rattle.ep_domain.specs.Ranges.{IsRange}
 use Rattle.ep_domain.proofs.Tests.{le_true, from_le_true, from_lt_true, from_lt_false, from_between, le_trans, le_self}
@@ -100,6 +99,7 @@ range_of_conversion t lo hi h = by_test (in_one_stretch t lo hi) refl
   where
     order : (l h w v : ℤ) → l ≤ℤ h → (h -ℤ v) ≤ℤ (l -ℤ w) → w ≤ℤ v
     order l h w v p q = omega (arith, ints)
+
     by_test : (b : Bool) → in_one_stretch t lo hi ≡ b → IsRange (cond b (wrapped t lo) (least_of t)) (cond b (wrapped t hi) (greatest_of t))
     by_test true e =
         let p = wrapped_in_range t lo in let q = wrapped_in_range t hi in

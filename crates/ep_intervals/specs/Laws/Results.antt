@@ -1,34 +1,25 @@
 -- Each operator's results are held.
-use Rattle.std.specs.Prelude.{◌≡◌, ℕ, zero, suc, ◌-◌, ◌^◌, ◌<◌, ◌≤◌, ℤ, pos, negsuc, ◌+ℤ◌, ◌-ℤ◌, ◌*ℤ◌, ◌≤ℤ◌, ◌<ℤ◌, ◌⊎◌, Bool, true, false, cond, not, ◌&&◌, Option, Some, None, Result, Ok, Err, IsTrue, IsSomeAnd, refl, int_le, int_lt, int_div, int_rem, unsigned_abs, bit_and, bit_or, bit_xor}
-use Rattle.std.specs.Int.{int_min, int_max, int_shr}
-use Rattle.std.proofs.Common.{arith, ap, sym, ◌∙◌, subst, inl, inr}
-use Rattle.std.proofs.lemmas.Bool.{and_parts, not-true}
+use Rattle.std.specs.Prelude.{◌≡◌, zero, suc, ℤ, pos, negsuc, ◌≤ℤ◌, ◌⊎◌, Bool, true, false, cond, not, Option, None, Result, Ok, Err, IsSomeAnd, refl, int_div}
+use Rattle.std.specs.Int.{int_min, int_max}
+use Rattle.std.proofs.Common.{arith, subst, inl, inr}
 use Rattle.std.proofs.lemmas.Int.{ints, clamps}
-use Rattle.std.proofs.lemmas.Nat.{and_le_l, and_le_r, le_or_l, le_or_r}
 use Rattle.ep_int.specs.declared.types.IntType.{IntType}
 use Rattle.ep_int.specs.declared.types.IntType.TheVariants.{I64, U64}
-use Rattle.ep_int.specs.declared.types.BinOp.{BinOp}
-use Rattle.ep_int.specs.declared.types.BinOp.TheVariants.{Add, Sub, Mul, Div, Rem, And, Or, Xor, Shl, Shr}
 use Rattle.ep_int.specs.declared.types.Undef.{Undef}
-use Rattle.ep_int.specs.declared.types.Undef.TheVariants.{Overflow, Division, Shift}
-use Rattle.ep_int.specs.Types.{bits_of, is_signed, least_of, greatest_of, InRange, representation, represented, wrapped}
-use Rattle.ep_int.specs.Arith.{arith_of, settled, is_in_range, is_divisible, is_amount, int_eq, IsOfSomeType, IsRightOperand}
-use Rattle.ep_int.proofs.Arithmetic.{arith_in_range}
+use Rattle.ep_int.specs.Types.{is_signed, least_of, greatest_of, InRange, wrapped}
+use Rattle.ep_int.specs.Arith.{settled, is_in_range, int_eq}
 use Rattle.ep_int.proofs.Wrapping.{wrapped_in_range}
-use Rattle.ep_domain.specs.Ranges.{IsRange, LiesIn}
-use Rattle.ep_domain.specs.Faults.{shown_of, shown_range, is_ordered, least_of_four, greatest_of_four, nearest_amount, is_shift}
-use Rattle.ep_domain.proofs.Tests.{le_true, from_le_true, from_le_false, from_between, from_lt_true, le_trans, le_self}
-use Rattle.ep_domain.proofs.Types.{number_low, number_high, number_of, from_in_range, least_negative}
-use Rattle.ep_domain.proofs.FaultAt.{each_shown}
-use Rattle.ep_domain.proofs.Undefined.{amount_from, nearest_above, nearest_same, bits_positive}
+use Rattle.ep_domain.specs.Ranges.{LiesIn}
+use Rattle.ep_domain.specs.Faults.{is_ordered}
+use Rattle.ep_domain.proofs.Tests.{le_true, le_trans}
+use Rattle.ep_domain.proofs.Types.{number_low, number_high, from_in_range}
 use Rattle.ep_intervals.specs.declared.interval.Interval.{Interval}
 use Rattle.ep_intervals.specs.Ends.{in_one_stretch, wrapped_low, wrapped_high}
-use Rattle.ep_intervals.specs.Interval.{ends_of, between, overlap, single_of}
-use Rattle.ep_intervals.specs.Results.{clipped, settled_between, negative_part, positive_part, quotients, hull, divided, remainders, greatest_size, whole, is_positive, anded, ored, xored, ones_over, has_amount, powers, shifted_left, shifted_right, results_of}
+use Rattle.ep_intervals.specs.Interval.{between}
+use Rattle.ep_intervals.specs.Results.{clipped, settled_between, negative_part, positive_part, quotients, hull, divided}
 use Rattle.ep_intervals.specs.Laws.Between.{between_holds}
-use Rattle.ep_intervals.specs.Laws.Simple.{HasNumber, has_low, has_high, range_encloses, wrapped_ends_hold}
-use Rattle.ep_intervals.specs.Laws.Division.{quotient_of_positive, quotient_of_negative, remainder_between, shift_between, shift_above, shift_below}
-use Rattle.ep_intervals.specs.Laws.Bits.{and_left_part, and_right_part, or_is, xor_is, ones_below, or_below, xor_below}
+use Rattle.ep_intervals.specs.Laws.Simple.{HasNumber, wrapped_ends_hold}
+use Rattle.ep_intervals.specs.Laws.Division.{quotient_of_positive, quotient_of_negative}
 
 abbrev pub HaveNumber : Option Interval → ℤ → Type 0
 HaveNumber o v = IsSomeAnd o (λ c. HasNumber c v)
@@ -91,12 +82,16 @@ divided_holds t r s x y h k n i = by_sign (not_zero y n)
   where
     of_negative : y ≤ℤ negsuc 0 → LiesIn (negative_part s) y
     of_negative p = let a = k.low in let b = k.high in record { low = a; high = omega (arith, ints, clamps) }
+
     of_positive : pos 1 ≤ℤ y → LiesIn (positive_part s) y
     of_positive p = let a = k.low in let b = k.high in record { low = omega (arith, ints, clamps); high = b }
+
     negative_low : (negative_part s).1 ≤ℤ negsuc 0
     negative_low = omega (arith, ints, clamps)
+
     positive_high : pos 1 ≤ℤ (positive_part s).0
     positive_high = omega (arith, ints, clamps)
+
     by_sign : (y ≤ℤ negsuc 0) ⊎ (pos 1 ≤ℤ y) → HaveNumber (divided t r s) (int_div x y)
     by_sign (inl p) =
         let m = of_negative p in

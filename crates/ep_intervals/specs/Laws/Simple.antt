@@ -1,23 +1,21 @@
 -- The laws of what does not depend on an operator.
-use Rattle.std.specs.Prelude.{◌≡◌, ◌≢◌, ℕ, ◌+◌, ◌<◌, ◌≤◌, ℤ, pos, ◌+ℤ◌, ◌-ℤ◌, ◌≤ℤ◌, ◌<ℤ◌, ◌⊎◌, Bool, true, false, cond, ◌&&◌, Option, Some, None, IsTrue, IfSome, IsSomeAnd, refl, int_le, int_lt}
+use Rattle.std.specs.Prelude.{◌≡◌, ◌≢◌, ℕ, ◌+◌, ◌<◌, ◌≤◌, ℤ, ◌-ℤ◌, ◌≤ℤ◌, ◌<ℤ◌, ◌⊎◌, Bool, true, false, cond, Option, Some, None, IsTrue, IfSome, IsSomeAnd, refl, int_lt}
 use Rattle.std.specs.Option.{option_map}
 use Rattle.std.specs.Int.{int_min, int_max}
 use Rattle.std.proofs.Common.{arith, ap, sym, ◌∙◌, subst, inl, inr}
-use Rattle.std.proofs.lemmas.Bool.{and_parts}
 use Rattle.std.proofs.lemmas.Int.{ints, clamps}
 use Rattle.ep_int.specs.declared.types.IntType.{IntType}
-use Rattle.ep_int.specs.declared.types.IntType.TheVariants.{I64, U64}
-use Rattle.ep_int.specs.Types.{least_of, greatest_of, InRange, wrapped}
-use Rattle.ep_int.specs.Arith.{IsOfSomeType, int_eq}
+use Rattle.ep_int.specs.Types.{least_of, greatest_of, wrapped}
+use Rattle.ep_int.specs.Arith.{IsOfSomeType}
 use Rattle.ep_int.proofs.Wrapping.{wrapped_in_range}
 use Rattle.ep_domain.specs.Ranges.{IsRange, LiesIn, Encloses}
-use Rattle.ep_domain.proofs.Tests.{between_true, from_between, from_le_true, from_le_false, le_true, lt_true, from_lt_true, from_lt_false, from_between_false, le_trans, le_self, le_antisym}
+use Rattle.ep_domain.proofs.Tests.{between_true, from_between, from_lt_true, from_between_false, le_trans, le_self, le_antisym}
 use Rattle.ep_intervals.specs.declared.interval.Interval.{Interval}
-use Rattle.ep_intervals.specs.Ends.{nearest_number, lowered, raised, low_rank, high_rank, low_limit, high_limit, in_one_stretch, wrapped_low, wrapped_high}
-use Rattle.ep_intervals.specs.Interval.{interval, ends_of, between, holds_of, top_of, single_of, is_within, join_of, overlap, meet_of, edges_of, widening_of, rank_of, conversion_of}
+use Rattle.ep_intervals.specs.Ends.{nearest_number, low_limit, high_limit, in_one_stretch, wrapped_low, wrapped_high}
+use Rattle.ep_intervals.specs.Interval.{interval, ends_of, between, holds_of, single_of, is_within, join_of, overlap, edges_of, widening_of, rank_of, conversion_of}
 use Rattle.ep_intervals.specs.Laws.Ranges.{lowered_kept, lowered_new, raised_kept, raised_new}
 use Rattle.ep_intervals.specs.Laws.Between.{same_ends, between_some, between_none, between_parts, between_holds}
-use Rattle.ep_intervals.specs.Laws.Ranks.{lowered_falls, lowered_stays, raised_falls, raised_stays, rank_bound}
+use Rattle.ep_intervals.specs.Laws.Ranks.{lowered_falls, lowered_stays, raised_falls, raised_stays}
 use Rattle.ep_intervals.specs.Laws.Wrapping.{wrapped_between}
 
 abbrev pub HasNumber : Interval → ℤ → Type 0
@@ -124,6 +122,7 @@ edges_inside a lo hi = of_map (overlap a lo hi) (between_parts (int_max a.lo lo)
   where
     inside : (p : IsRange (int_max a.lo lo) (int_min a.hi hi)) → (int_max a.lo lo ≤ℤ int_min a.hi hi) × Encloses (pair lo hi) (pair (int_max a.lo lo) (int_min a.hi hi))
     inside p = (p.ordered, record { low = omega (arith, ints, clamps); high = omega (arith, ints, clamps) })
+
     of_map : (o : Option Interval) → IfSome o (λ c. (c.lo ≤ℤ c.hi) × Encloses (pair lo hi) (ends_of c)) → IfSome (option_map ends_of o) (λ e. (e.0 ≤ℤ e.1) × Encloses (pair lo hi) e)
     of_map None h = tt
     of_map (Some c) h = h
@@ -156,6 +155,7 @@ cut_single a lo hi v e h =
   where
     of_ends : (a b lo hi v : ℤ) → a ≡ v → b ≡ v → lo ≤ℤ v → v ≤ℤ hi → (int_max a lo ≡ v) × (int_min b hi ≡ v)
     of_ends a b lo hi v e f p q = (omega (arith, ints, clamps), omega (arith, ints, clamps))
+
     some_of : (o : Option Interval) (c : Interval) → o ≡ Some c → ends_of c ≡ pair v v → IsSomeAnd o (λ c. ends_of c ≡ pair v v)
     some_of o c e f = subst (λ o. IsSomeAnd o (λ c. ends_of c ≡ pair v v)) (sym e) f
 

@@ -1,17 +1,16 @@
 -- What the numbers between two ends are converted to.
-use Rattle.std.proofs.Common.{◌≡◌, ℕ, zero, suc, ◌*◌, ◌^◌, ◌<◌, ◌≤◌, ℤ, pos, negsuc, ◌+ℤ◌, ◌-ℤ◌, ◌*ℤ◌, ◌≤ℤ◌, ◌<ℤ◌, Bool, true, false, arith, refl, sym, ap, ◌∙◌, subst}
+use Rattle.std.proofs.Common.{◌≡◌, ℕ, ◌^◌, ℤ, pos, ◌+ℤ◌, ◌-ℤ◌, ◌*ℤ◌, ◌≤ℤ◌, ◌<ℤ◌, Bool, true, false, arith, refl, sym, ap, ◌∙◌, subst}
 use Rattle.std.proofs.Math.IntN.{suc_ℤ, pred_ℤ, +ℤ_one, suc_ℤ-*ℤ, pred_ℤ-*ℤ}
 use Rattle.std.specs.Prelude.{int_lt}
 use Rattle.std.proofs.lemmas.Int.{ints}
 use Rattle.ep_int.specs.declared.types.IntType.{IntType}
 use Rattle.ep_int.specs.declared.types.IntType.TheVariants.{I8, U8, I16, U16, I32, U32, I64, U64}
-use Rattle.ep_int.specs.Types.{bits_of, least_of, greatest_of, InRange, IsCongruent, wrapped}
-use Rattle.ep_int.specs.Arith.{int_eq}
-use Rattle.ep_int.proofs.Wrapping.{wrapped_in_range, wrapped_same, wrapped_congruent}
+use Rattle.ep_int.specs.Types.{bits_of, least_of, greatest_of, InRange, wrapped}
+use Rattle.ep_int.proofs.Wrapping.{wrapped_in_range, wrapped_congruent}
 use Rattle.ep_domain.proofs.Tests.{from_between, between_true, from_lt_true, from_lt_false, le_antisym, le_self}
 use Rattle.ep_domain.proofs.Types.{ends_ordered}
 use Rattle.ep_domain.proofs.Corners.{product_up}
-use Rattle.ep_intervals.specs.Ends.{in_one_stretch, wrapped_low, wrapped_high}
+use Rattle.ep_intervals.specs.Ends.{in_one_stretch}
 
 -- a type has as many numbers as its width says
 pub width : (t : IntType) → (greatest_of t +ℤ pos 1) ≡ (least_of t +ℤ pos (2 ^ bits_of t))
@@ -43,14 +42,19 @@ same_number t a b k j h i e = by_order k j below same above
   where
     m : ℕ
     m = 2 ^ bits_of t
+
     apart : (a b x y w l g : ℤ) → a ≤ℤ g → l ≤ℤ b → (g +ℤ pos 1) ≡ (l +ℤ w) → (x +ℤ w) ≤ℤ y → a +ℤ x ≡ b +ℤ y → ⊥
     apart a b x y w l g p q f r d = omega (arith, ints)
+
     below : k <ℤ j → a ≡ b
     below l = absurd (apart a b (k *ℤ pos (2 ^ bits_of t)) (j *ℤ pos (2 ^ bits_of t)) (pos (2 ^ bits_of t)) (least_of t) (greatest_of t) h.high i.low (width t) (step k j (2 ^ bits_of t) l) e)
+
     above : j <ℤ k → a ≡ b
     above l = absurd (apart b a (j *ℤ pos (2 ^ bits_of t)) (k *ℤ pos (2 ^ bits_of t)) (pos (2 ^ bits_of t)) (least_of t) (greatest_of t) i.high h.low (width t) (step j k (2 ^ bits_of t) l) (sym e))
+
     cancel : (a b x : ℤ) → a +ℤ x ≡ b +ℤ x → a ≡ b
     cancel a b x d = omega (arith, ints)
+
     same : k ≡ j → a ≡ b
     same f = cancel a b (j *ℤ pos (2 ^ bits_of t)) (subst (λ z. a +ℤ (z *ℤ pos (2 ^ bits_of t)) ≡ b +ℤ (j *ℤ pos (2 ^ bits_of t))) f e)
 
@@ -77,8 +81,10 @@ wrapped_between t l h z e p q =
   where
     low_of : (l z w b : ℤ) → l ≤ℤ z → b ≤ℤ w → b ≤ℤ (z -ℤ (l -ℤ w))
     low_of l z w b p q = omega (arith, ints)
+
     high_of : (h z d w b : ℤ) → z ≤ℤ h → (h -ℤ w) ≡ d → w ≤ℤ b → (z -ℤ d) ≤ℤ b
     high_of h z d w b p e q = omega (arith, ints)
+
     shifted : (l z w x : ℤ) → l ≡ w +ℤ x → z ≡ (z -ℤ (l -ℤ w)) +ℤ x
     shifted l z w x e = omega (arith, ints)
 
@@ -95,6 +101,7 @@ passes t l h o e = by_order (wrapped_congruent t l).0 (wrapped_congruent t h).0 
   where
     below_of : (l w x y d b g : ℤ) → l ≡ w +ℤ x → w ≤ℤ g → (x +ℤ d) ≤ℤ y → (g +ℤ pos 1) ≡ (b +ℤ d) → (l +ℤ pos 1) ≤ℤ (b +ℤ y)
     below_of l w x y d b g e p q f = omega (arith, ints)
+
     found : (wrapped_congruent t l).0 <ℤ (wrapped_congruent t h).0 → Passes t l h
     found k =
         let c = wrapped_congruent t l in let d = wrapped_congruent t h in
@@ -110,18 +117,22 @@ passes t l h o e = by_order (wrapped_congruent t l).0 (wrapped_congruent t h).0 
       where
         above_of : (h w y b : ℤ) → h ≡ w +ℤ y → b ≤ℤ w → (b +ℤ y) ≤ℤ h
         above_of h w y b e p = omega (arith, ints)
+
         before : (b g y d x : ℤ) → (g +ℤ pos 1) ≡ (b +ℤ d) → x ≡ y -ℤ d → ((b +ℤ y) -ℤ pos 1) ≡ g +ℤ x
         before b g y d x e f = omega (arith, ints)
+
     same : (wrapped_congruent t l).0 ≡ (wrapped_congruent t h).0 → Passes t l h
     same f =
         let c = wrapped_congruent t l in let d = wrapped_congruent t h in
         absurd (not_both (in_one_stretch t l h) (between_true (l -ℤ wrapped t l) (h -ℤ wrapped t h) (h -ℤ wrapped t h) (l -ℤ wrapped t l)
-          (equal_low l h (wrapped t l) (wrapped t h) _ _ c.1 d.1 (ap (λ k. k *ℤ pos (2 ^ bits_of t)) f)) (equal_low h l (wrapped t h) (wrapped t l) _ _ d.1 c.1 (ap (λ k. k *ℤ pos (2 ^ bits_of t)) (sym f)))) e)
+        (equal_low l h (wrapped t l) (wrapped t h) _ _ c.1 d.1 (ap (λ k. k *ℤ pos (2 ^ bits_of t)) f)) (equal_low h l (wrapped t h) (wrapped t l) _ _ d.1 c.1 (ap (λ k. k *ℤ pos (2 ^ bits_of t)) (sym f)))) e)
       where
         not_both : (b : Bool) → b ≡ true → b ≡ false → ⊥
         not_both b p q = cc
+
         equal_low : (l h w v x y : ℤ) → l ≡ w +ℤ x → h ≡ v +ℤ y → x ≡ y → (l -ℤ w) ≤ℤ (h -ℤ v)
         equal_low l h w v x y p q r = omega (arith, ints)
+
     crossed : (wrapped_congruent t h).0 <ℤ (wrapped_congruent t l).0 → Passes t l h
     crossed k =
         let c = wrapped_congruent t l in let d = wrapped_congruent t h in

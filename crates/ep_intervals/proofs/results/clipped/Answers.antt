@@ -1,8 +1,8 @@
-use Rattle.std.proofs.Common.{◌≡◌, rules, FitsSigned, ◌∙◌, sym, ap, refl, ◌≤ℤ◌}
+use Rattle.std.proofs.Common.{rules, FitsSigned, ◌∙◌, ap}
 use mir.Syntax.{w128}
 use Rattle.std.proofs.lemmas.Int.{to_z-of_z}
 use Rattle.std.specs.Int.{int_min, int_max}
-use Rattle.ep_int.specs.Types.{least_of, greatest_of}
+use Rattle.ep_int.specs.Types.{least_of}
 use Rattle.ep_intervals.specs.Interval.{between}
 use Rattle.ep_intervals.proofs.results.clipped.Goals as goal
 

@@ -1,4 +1,4 @@
-use Rattle.std.proofs.Common.{◌≡◌, rules, FitsSigned, ◌∙◌, sym, ap, refl, true, false}
+use Rattle.std.proofs.Common.{rules, FitsSigned, ◌∙◌, sym, ap, true, false}
 use mir.Syntax.{w128}
 use Rattle.std.proofs.lemmas.Int.{to_z-of_z}
 use Rattle.std.specs.Prelude.{int_le}

@@ -1,4 +1,4 @@
-use Rattle.std.proofs.Common.{◌≡◌, rules, FitsSigned, ◌∙◌, sym, ap, refl, subst}
+use Rattle.std.proofs.Common.{rules, FitsSigned, ◌∙◌, sym, ap, subst}
 use mir.Syntax.{w128}
 use Rattle.std.proofs.lemmas.Int.{to_z-of_z}
 use Rattle.std.specs.Int.{int_max}

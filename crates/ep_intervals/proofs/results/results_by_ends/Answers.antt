@@ -1,7 +1,6 @@
-use Rattle.std.proofs.Common.{◌≡◌, rules, FitsSigned, ◌∙◌, sym, ap, refl, subst}
+use Rattle.std.proofs.Common.{◌≡◌, rules, FitsSigned, sym, subst}
 use mir.Syntax.{w128}
 use Rattle.std.proofs.lemmas.Int.{to_z-of_z}
-use Rattle.ep_int.specs.declared.types.BinOp.TheVariants.{Add, Sub}
 use Rattle.ep_domain.proofs.Types.{number_of}
 use Rattle.ep_domain.proofs.FaultCode.{sum_fits, difference_fits, right_number}
 use Rattle.ep_intervals.specs.Results.{results_of}

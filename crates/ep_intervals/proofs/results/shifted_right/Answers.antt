@@ -1,8 +1,6 @@
-use Rattle.std.proofs.Common.{◌≡◌, rules, FitsSigned, ◌∙◌, sym, ap, refl, ℤ, true, ℕ}
+use Rattle.std.proofs.Common.{rules, FitsSigned, ◌∙◌, sym}
 use mir.Syntax.{w128}
 use Rattle.std.proofs.lemmas.Int.{to_z-of_z}
-use Rattle.std.specs.Int.{int_shr}
-use Rattle.ep_intervals.specs.Results.{has_amount}
 use Rattle.ep_intervals.proofs.Machine.{shr_fits, shifted_right_is}
 use Rattle.ep_intervals.proofs.results.shifted_right.Goals as goal
 
@@ -23,4 +21,4 @@ returns-then-has_amount c =
     let e = shr_fits x.1 c.nearest_amount-k.result x1 in
     let m = simp to_z-of_z at c.corners-lo.ensures in
     let n = simp to_z-of_z at c.between.ensures in
-    ?
+    shifted_right_is c.args.t x y c.nearest_amount-j.result c.nearest_amount-k.result c.corners-lo.result c.between.result (sym c.has_amount.ensures ∙ c.if-has_amount.true) j k m n

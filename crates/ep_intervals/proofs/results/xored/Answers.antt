@@ -1,4 +1,4 @@
-use Rattle.std.proofs.Common.{◌≡◌, rules, FitsSigned, ◌∙◌, sym, ap, refl, pos}
+use Rattle.std.proofs.Common.{rules, FitsSigned, ◌∙◌, sym, ap, pos}
 use mir.Syntax.{w128}
 use Rattle.std.proofs.lemmas.Int.{to_z-of_z}
 use Rattle.ep_intervals.specs.Interval.{between}

@@ -1,5 +1,4 @@
-use Rattle.std.proofs.Common.{◌≡◌, rules, FitsSigned, ◌∙◌, sym, ap, refl, ◌+ℤ◌, ◌-ℤ◌, pos}
-use mir.Syntax.{w128}
+use Rattle.std.proofs.Common.{refl, ◌+ℤ◌, ◌-ℤ◌, pos}
 use Rattle.std.proofs.lemmas.Int.{to_z-of_z}
 use Rattle.ep_int.specs.declared.types.Cmp.TheVariants.{Lt, Le, Gt, Ge}
 use Rattle.ep_intervals.specs.Interval.{overlap}
