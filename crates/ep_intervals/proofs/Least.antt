@@ -1,6 +1,6 @@
 -- Which results are the least intervals.
-use Rattle.std.proofs.Common.{◌≡◌, ℤ, pos, ◌+ℤ◌, ◌-ℤ◌, ◌*ℤ◌, ◌≤ℤ◌, ◌<ℤ◌, Bool, true, false, cond, ◌&&◌, ◌⊎◌, inl, inr, Option, Some, None, Result, Ok, Err, IsTrue, IfSome, refl, sym, ap, ◌∙◌, subst, arith}
-use Rattle.std.specs.Prelude.{int_le, MatchOption, IsSomeAnd, ◌↔◌}
+use Rattle.std.proofs.Common.{◌≡◌, ℤ, pos, ◌+ℤ◌, ◌-ℤ◌, ◌≤ℤ◌, Bool, true, false, cond, ◌&&◌, ◌⊎◌, inl, inr, Option, Some, None, Result, Ok, Err, IfSome, refl, sym, ap, ◌∙◌, subst, arith}
+use Rattle.std.specs.Prelude.{IsSomeAnd}
 use Rattle.std.specs.Option.{option_and_then}
 use Rattle.std.specs.Int.{int_min, int_max}
 use Rattle.std.proofs.lemmas.Int.{ints, clamps}
@@ -14,14 +14,14 @@ use Rattle.ep_int.specs.Arith.{arith_of, settled, is_in_range, int_eq}
 use Rattle.ep_int.proofs.Wrapping.{wrapped_same}
 use Rattle.ep_domain.specs.Ranges.{IsRange, LiesIn}
 use Rattle.ep_domain.specs.Faults.{Takes, shown_of, shown_range}
-use Rattle.ep_domain.proofs.Tests.{between_true, le_self, le_trans}
+use Rattle.ep_domain.proofs.Tests.{between_true, le_self}
 use Rattle.ep_domain.proofs.Types.{in_range_true}
 use Rattle.ep_domain.proofs.FaultAt.{ShownAt, low_shown, high_shown}
 use Rattle.ep_intervals.specs.declared.interval.Interval.{Interval}
 use Rattle.ep_intervals.specs.Ends.{in_one_stretch, wrapped_low, wrapped_high}
-use Rattle.ep_intervals.specs.Interval.{ends_of, between, overlap, is_within, join_of, meet_of, conversion_of}
-use Rattle.ep_intervals.specs.Results.{clipped, settled_between, single_result, results_of, results_between, right_operands, value_of}
-use Rattle.ep_intervals.specs.Least.{HasNumber, IsLeast, IsLeastOf, IsResult, IsConverted, HasLeast, IsCommon}
+use Rattle.ep_intervals.specs.Interval.{HasNumber, ends_of, between, overlap, join_of, meet_of, conversion_of}
+use Rattle.ep_intervals.specs.Results.{clipped, settled_between, single_result, results_of, results_between, value_of}
+use Rattle.ep_intervals.specs.Least.{IsLeast, IsLeastOf, IsResult, IsConverted, HasLeast, IsCommon}
 use Rattle.ep_intervals.specs.Laws.Between.{between_parts}
 use Rattle.ep_intervals.specs.Laws.Wrapping.{Passes, passes}
 use Rattle.ep_intervals.specs.Laws.Simple as simple
@@ -56,16 +56,20 @@ meet_common a b = by_value (meet_of a b) refl
   where
     no_number : (o : Option Interval) (z : ℤ) → o ≡ None → IsSomeAnd o (λ c. HasNumber c z) → ⊥
     no_number o z e h = subst (λ o. IsSomeAnd o (λ c. HasNumber c z)) e h
+
     inside : (c : Interval) → meet_of a b ≡ Some c → (c.lo ≡ int_max a.lo b.lo) × (c.hi ≡ int_min a.hi b.hi)
     inside c e = subst (λ o. IfSome o (λ c. (c.lo ≡ int_max a.lo b.lo) × (c.hi ≡ int_min a.hi b.hi))) e (between_parts (int_max a.lo b.lo) (int_min a.hi b.hi) (λ c. (c.lo ≡ int_max a.lo b.lo) × (c.hi ≡ int_min a.hi b.hi)) (λ p. (refl, refl)))
+
     out_of : (c : Interval) (z : ℤ) → (c.lo ≡ int_max a.lo b.lo) × (c.hi ≡ int_min a.hi b.hi) → HasNumber c z → HasNumber a z × HasNumber b z
     out_of c z e h =
         let l = simple.has_low c z h in let u = simple.has_high c z h in let p = e.0 in let q = e.1 in
         (simple.has a z (omega (arith, ints, clamps)) (omega (arith, ints, clamps)), simple.has b z (omega (arith, ints, clamps)) (omega (arith, ints, clamps)))
+
     into : (c : Interval) (z : ℤ) → (c.lo ≡ int_max a.lo b.lo) × (c.hi ≡ int_min a.hi b.hi) → HasNumber a z × HasNumber b z → HasNumber c z
     into c z e h =
         let al = simple.has_low a z h.0 in let ah = simple.has_high a z h.0 in let bl = simple.has_low b z h.1 in let bh = simple.has_high b z h.1 in
         let p = e.0 in let q = e.1 in simple.has c z (omega (arith, ints, clamps)) (omega (arith, ints, clamps))
+
     by_value : (o : Option Interval) → meet_of a b ≡ o → IsCommon a b o
     by_value None e = λ z h k. no_number (meet_of a b) z e (simple.overlap_holds a b.lo b.hi z h (simple.has_low b z k) (simple.has_high b z k))
     by_value (Some c) e = λ z. (out_of c z (inside c e), into c z (inside c e))
@@ -75,13 +79,17 @@ conversion_least a t = ends_least (IsConverted t a) (conversion_of a t) held (by
   where
     held : (v : ℤ) → IsConverted t a v → HasNumber (conversion_of a t) v
     held v h = subst (HasNumber (conversion_of a t)) (sym h.converted) (simple.conversion_holds a t h.number h.held)
+
     at_end : Passes t a.lo a.hi → IsConverted t a (least_of t)
     at_end p = let q = p.above in let r = p.below in record { number = p.end; held = simple.has a p.end (omega (arith, ints)) r; converted = sym p.to_least }
+
     before_end : Passes t a.lo a.hi → IsConverted t a (greatest_of t)
     before_end p = let q = p.above in let r = p.below in record { number = p.end -ℤ pos 1; held = simple.has a (p.end -ℤ pos 1) (omega (arith, ints)) (omega (arith, ints)); converted = sym p.to_greatest }
+
     by_low : (b : Bool) → in_one_stretch t a.lo a.hi ≡ b → IsConverted t a (cond b (wrapped t a.lo) (least_of t))
     by_low true e = record { number = a.lo; held = simple.has a a.lo (le_self a.lo) a.ends.ordered; converted = refl }
     by_low false e = at_end (passes t a.lo a.hi a.ends.ordered e)
+
     by_high : (b : Bool) → in_one_stretch t a.lo a.hi ≡ b → IsConverted t a (cond b (wrapped t a.hi) (greatest_of t))
     by_high true e = record { number = a.hi; held = simple.has a a.hi a.ends.ordered (le_self a.hi); converted = refl }
     by_high false e = before_end (passes t a.lo a.hi a.ends.ordered e)
@@ -111,19 +119,23 @@ settled_ends u t e o = by_sign (is_signed t) refl
   where
     of_clipped : (p : IsRange (int_max e.0 (least_of t)) (int_min e.1 (greatest_of t))) → Settles u t e (int_max e.0 (least_of t)) × Settles u t e (int_min e.1 (greatest_of t))
     of_clipped p =
-        let r = p.ordered in
-        (record { exact = int_max e.0 (least_of t); inside = record { low = omega (arith, ints, clamps); high = omega (arith, ints, clamps) }; settles = settled_same u t _ (record { low = omega (arith, ints, clamps); high = omega (arith, ints, clamps) }) },
-          record { exact = int_min e.1 (greatest_of t); inside = record { low = omega (arith, ints, clamps); high = omega (arith, ints, clamps) }; settles = settled_same u t _ (record { low = omega (arith, ints, clamps); high = omega (arith, ints, clamps) }) })
+        let r = p.ordered in (
+          record { exact = int_max e.0 (least_of t); inside = record { low = omega (arith, ints, clamps); high = omega (arith, ints, clamps) }; settles = settled_same u t _ (record { low = omega (arith, ints, clamps); high = omega (arith, ints, clamps) }) },
+          record { exact = int_min e.1 (greatest_of t); inside = record { low = omega (arith, ints, clamps); high = omega (arith, ints, clamps) }; settles = settled_same u t _ (record { low = omega (arith, ints, clamps); high = omega (arith, ints, clamps) }) },
+        )
+
     of_low : is_signed t ≡ false → (b : Bool) → in_one_stretch t e.0 e.1 ≡ b → Settles u t e (cond b (wrapped t e.0) (least_of t))
     of_low s true f = record { exact = e.0; inside = record { low = le_self e.0; high = o }; settles = settled_unsigned u t e.0 s }
     of_low s false f =
         let p = passes t e.0 e.1 o f in let q = p.above in let r = p.below in
         record { exact = p.end; inside = record { low = omega (arith, ints); high = r }; settles = settled_unsigned u t p.end s ∙ ap Ok p.to_least }
+
     of_high : is_signed t ≡ false → (b : Bool) → in_one_stretch t e.0 e.1 ≡ b → Settles u t e (cond b (wrapped t e.1) (greatest_of t))
     of_high s true f = record { exact = e.1; inside = record { low = o; high = le_self e.1 }; settles = settled_unsigned u t e.1 s }
     of_high s false f =
         let p = passes t e.0 e.1 o f in let q = p.above in let r = p.below in
         record { exact = p.end -ℤ pos 1; inside = record { low = omega (arith, ints); high = omega (arith, ints) }; settles = settled_unsigned u t (p.end -ℤ pos 1) s ∙ ap Ok p.to_greatest }
+
     by_sign : (b : Bool) → is_signed t ≡ b → IfSome (cond b (clipped t e) (between (wrapped_low t e.0 e.1) (wrapped_high t e.0 e.1))) (λ c. Settles u t e c.lo × Settles u t e c.hi)
     by_sign true s = between_parts (int_max e.0 (least_of t)) (int_min e.1 (greatest_of t)) (λ c. Settles u t e c.lo × Settles u t e c.hi) of_clipped
     by_sign false s = between_parts (wrapped_low t e.0 e.1) (wrapped_high t e.0 e.1) (λ c. Settles u t e c.lo × Settles u t e c.hi) (λ p. (of_low s (in_one_stretch t e.0 e.1) refl, of_high s (in_one_stretch t e.0 e.1) refl))
@@ -213,8 +225,8 @@ module _ (o : BinOp) (t : IntType) (a b c d : Interval) (i : IsCut t a c) (j : I
   ends_by_cases : IfSome (results_of o t (ends_of c) (ends_of d)) (HasEnds o t a b) → IfSome (results_between o t c d) (HasEnds o t a b)
   ends_by_cases h =
       if_parts (int_eq c.lo c.hi && int_eq d.lo d.hi) (single_result (arith_of o t c.lo d.lo)) (results_of o t (ends_of c) (ends_of d)) (HasEnds o t a b)
-        (single_parts (arith_of o t c.lo d.lo) (IsResult o t a b) (λ v e. cut_result c.lo d.lo v (simple.has c c.lo (le_self c.lo) c.ends.ordered) (simple.has d d.lo (le_self d.lo) d.ends.ordered) e))
-        h
+      (single_parts (arith_of o t c.lo d.lo) (IsResult o t a b) (λ v e. cut_result c.lo d.lo v (simple.has c c.lo (le_self c.lo) c.ends.ordered) (simple.has d d.lo (le_self d.lo) d.ends.ordered) e))
+      h
 
 add_takes : (t : IntType) (x y : ℤ) → InRange t x → InRange t y → Takes Add t x y
 add_takes t x y h k = record { left = h; right = k }
@@ -243,14 +255,18 @@ exact_ends t e P i j f = by_sign (is_signed t)
   where
     clip_low : (x l : ℤ) → l ≤ℤ x → int_max x l ≡ x
     clip_low x l h = omega (arith, ints, clamps)
+
     clip_high : (x u : ℤ) → x ≤ℤ u → int_min x u ≡ x
     clip_high x u h = omega (arith, ints, clamps)
+
     zero_less : (x y : ℤ) → y ≡ x → (x -ℤ y) ≡ pos 0
     zero_less x y e = omega (arith, ints)
+
     stretch : in_one_stretch t e.0 e.1 ≡ true
     stretch =
         let p = zero_less e.0 (wrapped t e.0) (wrapped_same t e.0 i) in let q = zero_less e.1 (wrapped t e.1) (wrapped_same t e.1 j) in
         subst (λ z. int_eq (e.0 -ℤ wrapped t e.0) z ≡ true) (p ∙ sym q) (let w = e.0 -ℤ wrapped t e.0 in between_true w w w w (le_self w) (le_self w))
+
     by_sign : (b : Bool) → IfSome (cond b (clipped t e) (between (wrapped_low t e.0 e.1) (wrapped_high t e.0 e.1))) P
     by_sign true = between_parts (int_max e.0 (least_of t)) (int_min e.1 (greatest_of t)) P (λ p. f _ _ p (clip_low e.0 (least_of t) i.low) (clip_high e.1 (greatest_of t) j.high))
     by_sign false = between_parts (wrapped_low t e.0 e.1) (wrapped_high t e.0 e.1) P
@@ -262,16 +278,19 @@ of_lies c z h = simple.has c z h.low h.high
 product_ends : (t : IntType) (a b c d : Interval) → IsCut t a c → IsCut t b d → HasLeast Mul t a b → IfSome (settled_between t (shown_range Mul (ends_of c) (ends_of d))) (HasEnds Mul t a b)
 product_ends t a b c d i j n =
     exact_ends t (shown_range Mul (ends_of c) (ends_of d)) (HasEnds Mul t a b) (in_type _ low) (in_type _ high)
-      (λ l h p f g. (subst (IsResult Mul t a b) (sym f) (result _ low), subst (IsResult Mul t a b) (sym g) (result _ high)))
+    (λ l h p f g. (subst (IsResult Mul t a b) (sym f) (result _ low), subst (IsResult Mul t a b) (sym g) (result _ high)))
   where
     low : ShownAt Mul (ends_of c) (ends_of d) (shown_range Mul (ends_of c) (ends_of d)).0
     low = low_shown Mul (ends_of c) (ends_of d) c.ends.ordered d.ends.ordered
+
     high : ShownAt Mul (ends_of c) (ends_of d) (shown_range Mul (ends_of c) (ends_of d)).1
     high = high_shown Mul (ends_of c) (ends_of d) c.ends.ordered d.ends.ordered
+
     in_type : (z : ℤ) → ShownAt Mul (ends_of c) (ends_of d) z → InRange t z
     in_type z s =
         let p = i.inside s.x (of_lies c s.x s.left) in let q = j.inside s.y (of_lies d s.y s.right) in
         subst (InRange t) (sym s.shown) (n s.x s.y p.0 q.0 (mul_takes t s.x s.y p.1 q.1))
+
     result : (z : ℤ) → ShownAt Mul (ends_of c) (ends_of d) z → IsResult Mul t a b z
     result z s = cut_result Mul t a b c d i j (mul_takes t) s.x s.y z (of_lies c s.x s.left) (of_lies d s.y s.right) (subst (λ w. settled Overflow t w ≡ Ok z) s.shown (settled_same Overflow t z (in_type z s)))
 
@@ -280,18 +299,18 @@ product_ends t a b c d i j n =
 value_ends : (o : BinOp) (t : IntType) (a b : Interval) → HasLeast o t a b → IfSome (value_of o t a b) (HasEnds o t a b)
 value_ends Add t a b n =
     then_parts (overlap a (least_of t) (greatest_of t)) (λ c. option_and_then (λ d. results_between Add t c d) (overlap b (least_of t) (greatest_of t))) (IsCut t a) (HasEnds Add t a b) (cut_parts t a)
-      (λ c i. then_parts (overlap b (least_of t) (greatest_of t)) (λ d. results_between Add t c d) (IsCut t b) (HasEnds Add t a b) (cut_parts t b)
-        (λ d j. ends_by_cases Add t a b c d i j (add_takes t)
-          (both_parts (settled_between t (shown_range Add (ends_of c) (ends_of d))) _ (HasEnds Add t a b) (λ r s. (sum_result t a b c d i j r.lo s.0, sum_result t a b c d i j r.hi s.1)) (settled_ends Overflow t (shown_range Add (ends_of c) (ends_of d)) (sums_ordered c d)))))
+    (λ c i. then_parts (overlap b (least_of t) (greatest_of t)) (λ d. results_between Add t c d) (IsCut t b) (HasEnds Add t a b) (cut_parts t b)
+    (λ d j. ends_by_cases Add t a b c d i j (add_takes t)
+    (both_parts (settled_between t (shown_range Add (ends_of c) (ends_of d))) _ (HasEnds Add t a b) (λ r s. (sum_result t a b c d i j r.lo s.0, sum_result t a b c d i j r.hi s.1)) (settled_ends Overflow t (shown_range Add (ends_of c) (ends_of d)) (sums_ordered c d)))))
 value_ends Sub t a b n =
     then_parts (overlap a (least_of t) (greatest_of t)) (λ c. option_and_then (λ d. results_between Sub t c d) (overlap b (least_of t) (greatest_of t))) (IsCut t a) (HasEnds Sub t a b) (cut_parts t a)
-      (λ c i. then_parts (overlap b (least_of t) (greatest_of t)) (λ d. results_between Sub t c d) (IsCut t b) (HasEnds Sub t a b) (cut_parts t b)
-        (λ d j. ends_by_cases Sub t a b c d i j (sub_takes t)
-          (both_parts (settled_between t (shown_range Sub (ends_of c) (ends_of d))) _ (HasEnds Sub t a b) (λ r s. (difference_result t a b c d i j r.lo s.0, difference_result t a b c d i j r.hi s.1)) (settled_ends Overflow t (shown_range Sub (ends_of c) (ends_of d)) (differences_ordered c d)))))
+    (λ c i. then_parts (overlap b (least_of t) (greatest_of t)) (λ d. results_between Sub t c d) (IsCut t b) (HasEnds Sub t a b) (cut_parts t b)
+    (λ d j. ends_by_cases Sub t a b c d i j (sub_takes t)
+    (both_parts (settled_between t (shown_range Sub (ends_of c) (ends_of d))) _ (HasEnds Sub t a b) (λ r s. (difference_result t a b c d i j r.lo s.0, difference_result t a b c d i j r.hi s.1)) (settled_ends Overflow t (shown_range Sub (ends_of c) (ends_of d)) (differences_ordered c d)))))
 value_ends Mul t a b n =
     then_parts (overlap a (least_of t) (greatest_of t)) (λ c. option_and_then (λ d. results_between Mul t c d) (overlap b (least_of t) (greatest_of t))) (IsCut t a) (HasEnds Mul t a b) (cut_parts t a)
-      (λ c i. then_parts (overlap b (least_of t) (greatest_of t)) (λ d. results_between Mul t c d) (IsCut t b) (HasEnds Mul t a b) (cut_parts t b)
-        (λ d j. ends_by_cases Mul t a b c d i j (mul_takes t) (product_ends t a b c d i j n)))
+    (λ c i. then_parts (overlap b (least_of t) (greatest_of t)) (λ d. results_between Mul t c d) (IsCut t b) (HasEnds Mul t a b) (cut_parts t b)
+    (λ d j. ends_by_cases Mul t a b c d i j (mul_takes t) (product_ends t a b c d i j n)))
 value_ends Div t a b n = absurd n
 value_ends Rem t a b n = absurd n
 value_ends And t a b n = absurd n
@@ -305,6 +324,7 @@ value_least o t a b n = by_value (value_of o t a b) refl
   where
     held : (v : ℤ) → IsResult o t a b v → IsSomeAnd (value_of o t a b) (λ c. HasNumber c v)
     held v r = value_holds o t a b r.x r.y v r.left r.right r.taken r.result
+
     by_value : (r : Option Interval) → value_of o t a b ≡ r → IsLeastOf (IsResult o t a b) r
     by_value None e = λ v r. subst (λ p. IsSomeAnd p (λ c. HasNumber c v)) e (held v r)
     by_value (Some c) e =

@@ -1,5 +1,5 @@
 -- Intervals of numbers, and what does not depend on an operator (this project's rules).
-use Rattle.std.specs.Prelude.{◌≡◌, ℕ, ◌+◌, ℤ, pos, ◌+ℤ◌, ◌-ℤ◌, Bool, true, false, ◌&&◌, Option, Some, None, int_le, if◌then◌else◌, refl}
+use Rattle.std.specs.Prelude.{◌≡◌, ℕ, ◌+◌, ℤ, pos, ◌+ℤ◌, ◌-ℤ◌, Bool, true, false, ◌&&◌, Option, Some, None, int_le, if◌then◌else◌, refl, IsTrue}
 use Rattle.std.specs.Option.{option_map, option_zip}
 use Rattle.std.specs.Int.{int_min, int_max}
 use Rattle.ep_int.specs.declared.types.IntType.{IntType}
@@ -28,6 +28,10 @@ between lo hi = between_at lo hi (is_range lo hi) refl
 
 abbrev pub holds_of : Interval → ℤ → Bool
 holds_of a z = int_le a.lo z && int_le z a.hi
+
+-- the number lies in the interval
+abbrev pub HasNumber : Interval → ℤ → Type 0
+HasNumber a z = IsTrue (holds_of a z)
 
 -- the range of a type
 abbrev pub top_of : IntType → Interval

@@ -1,16 +1,13 @@
 -- Which results are the least intervals.
-use Rattle.std.specs.Prelude.{◌≡◌, ℤ, ◌*ℤ◌, ◌⊎◌, ◌↔◌, Option, Ok, IsTrue, MatchOption}
+use Rattle.std.specs.Prelude.{◌≡◌, ℤ, ◌*ℤ◌, ◌↔◌, Option, Ok, IsTrue, MatchOption}
 use Rattle.ep_int.specs.declared.types.IntType.{IntType}
 use Rattle.ep_int.specs.declared.types.BinOp.{BinOp}
-use Rattle.ep_int.specs.declared.types.BinOp.TheVariants.{Add, Sub, Mul, Div, Rem, And, Or, Xor, Shl, Shr}
+use Rattle.ep_int.specs.declared.types.BinOp.TheVariants.{Add, Sub, Mul}
 use Rattle.ep_int.specs.Types.{InRange, wrapped}
 use Rattle.ep_int.specs.Arith.{arith_of}
 use Rattle.ep_domain.specs.Faults.{Takes}
 use Rattle.ep_intervals.specs.declared.interval.Interval.{Interval}
-use Rattle.ep_intervals.specs.Interval.{holds_of, is_within}
-
-abbrev pub HasNumber : Interval → ℤ → Type 0
-HasNumber a z = IsTrue (holds_of a z)
+use Rattle.ep_intervals.specs.Interval.{HasNumber, is_within}
 
 -- The interval has each of these numbers, and lies within every interval that has each of them.
 pub record IsLeast (P : ℤ → Type 0) (c : Interval) : Type 0 where

@@ -1,6 +1,6 @@
 //! Intervals of numbers.
 
-ghost use Rattle.std.specs.Prelude.{◌≡◌};
+ghost use Rattle.std.specs.Prelude.{◌≡◌, ◌⊎◌};
 ghost use Rattle.ep_int.specs.Arith.{int_eq};
 ghost use Rattle.ep_domain.specs.Ranges.{IsRange};
 
@@ -61,6 +61,9 @@ impl Interval {
 impl Num for Interval {
     ghost use Rattle.ep_intervals.specs.Domain.{interval_ops};
     ghost use Rattle.ep_intervals.specs.Laws.Lawful.{interval_laws};
+    ghost use Rattle.ep_intervals.specs.Interval.{HasNumber, join_of, meet_of, conversion_of};
+    ghost use Rattle.ep_intervals.specs.Results.{outcome_of};
+    ghost use Rattle.ep_intervals.specs.Least.{IsLeast, IsLeastOf, IsResult, IsConverted, HasLeast, IsCommon};
 
     ghost ops = { interval_ops };
 
@@ -91,7 +94,10 @@ impl Num for Interval {
         o.lo <= self.lo && self.hi <= o.hi
     }
 
-    fn join(&self, o: &Self) -> Self {
+    fn join(&self, o: &Self) -> Self
+        ensures value { result ≡ join_of self.now o.now }
+        ensures least { IsLeast (λ v. HasNumber self.now v ⊎ HasNumber o.now v) result }
+    {
         Interval {
             lo: self.lo.min(o.lo),
             hi: self.hi.max(o.hi),
@@ -105,11 +111,17 @@ impl Num for Interval {
         }
     }
 
-    fn meet(&self, o: &Self) -> Option<Self> {
+    fn meet(&self, o: &Self) -> Option<Self>
+        ensures value { result ≡ meet_of self.now o.now }
+        ensures common { IsCommon self.now o.now result }
+    {
         self.overlap(o.lo, o.hi)
     }
 
-    fn op(op: BinOp, t: IntType, x: &Self, y: &Self) -> Outcome<Self> {
+    fn op(op: BinOp, t: IntType, x: &Self, y: &Self) -> Outcome<Self>
+        ensures value { result ≡ outcome_of op t x.now y.now }
+        ensures least { HasLeast op t x.now y.now → IsLeastOf (IsResult op t x.now y.now) result.value }
+    {
         let shown = range_fault(op, t, x.range(), y.range());
         Outcome {
             value: results::value(op, t, x, y),
@@ -118,7 +130,10 @@ impl Num for Interval {
         }
     }
 
-    fn convert(&self, t: IntType) -> Self {
+    fn convert(&self, t: IntType) -> Self
+        ensures value { result ≡ conversion_of self.now t }
+        ensures least { IsLeast (IsConverted t self.now) result }
+    {
         let (lo, hi) = ends::wrapped(t, self.lo, self.hi);
         Interval { lo, hi }
     }

@@ -17,11 +17,11 @@ use Rattle.ep_domain.proofs.Tests.{between_true, from_between, le_self, le_trans
 use Rattle.ep_domain.proofs.Types.{number_of}
 use Rattle.ep_domain.proofs.RangeFaults.{fault_is_found, fault_is_shown}
 use Rattle.ep_intervals.specs.declared.interval.Interval.{Interval}
-use Rattle.ep_intervals.specs.Interval.{interval, ends_of, overlap}
+use Rattle.ep_intervals.specs.Interval.{HasNumber, interval, ends_of, overlap}
 use Rattle.ep_intervals.specs.Results.{single_result, results_of, results_between, right_operands, value_of, outcome_of}
 use Rattle.ep_intervals.specs.Domain.{interval_ops}
 use Rattle.ep_intervals.specs.Laws.Between.{between_holds, between_some}
-use Rattle.ep_intervals.specs.Laws.Simple.{HasNumber, has_low, has_high, overlap_holds, cut_single, range_encloses, first_of_pair, second_of_pair}
+use Rattle.ep_intervals.specs.Laws.Simple.{has_low, has_high, overlap_holds, cut_single, range_encloses, first_of_pair, second_of_pair}
 use Rattle.ep_intervals.specs.Laws.Results.{HaveNumber}
 use Rattle.ep_intervals.specs.Laws.Operators.{results_hold}
 

@@ -12,14 +12,11 @@ use Rattle.ep_domain.specs.Ranges.{IsRange, LiesIn, Encloses}
 use Rattle.ep_domain.proofs.Tests.{between_true, from_between, from_lt_true, from_between_false, le_trans, le_self, le_antisym}
 use Rattle.ep_intervals.specs.declared.interval.Interval.{Interval}
 use Rattle.ep_intervals.specs.Ends.{nearest_number, low_limit, high_limit, in_one_stretch, wrapped_low, wrapped_high}
-use Rattle.ep_intervals.specs.Interval.{interval, ends_of, between, holds_of, single_of, is_within, join_of, overlap, edges_of, widening_of, rank_of, conversion_of}
+use Rattle.ep_intervals.specs.Interval.{HasNumber, interval, ends_of, between, single_of, is_within, join_of, overlap, edges_of, widening_of, rank_of, conversion_of}
 use Rattle.ep_intervals.specs.Laws.Ranges.{lowered_kept, lowered_new, raised_kept, raised_new}
 use Rattle.ep_intervals.specs.Laws.Between.{same_ends, between_some, between_none, between_parts, between_holds}
 use Rattle.ep_intervals.specs.Laws.Ranks.{lowered_falls, lowered_stays, raised_falls, raised_stays}
 use Rattle.ep_intervals.specs.Laws.Wrapping.{wrapped_between}
-
-abbrev pub HasNumber : Interval → ℤ → Type 0
-HasNumber a z = IsTrue (holds_of a z)
 
 pub has_low : (a : Interval) (z : ℤ) → HasNumber a z → a.lo ≤ℤ z
 has_low a z h = (from_between a.lo z z a.hi h).0
