@@ -8,7 +8,7 @@ use Rattle.ep_int.specs.declared.types.BinOp.TheVariants.{Add, Sub, Mul, Div, Re
 use Rattle.ep_int.specs.Arith.{arith_of}
 use Rattle.ep_domain.specs.Ranges.{LiesIn}
 use Rattle.ep_domain.specs.Faults.{shown_of, shown_range}
-use Rattle.ep_domain.proofs.Tests.{min_is, max_is, le_self}
+use Rattle.ep_domain.proofs.Comparisons.{min_is, max_is, le_self}
 use Rattle.ep_domain.proofs.Corners.{product_high, product_low}
 
 -- a pair of two ranges of which arithmetic is undefined

@@ -14,7 +14,7 @@ use Rattle.ep_int.specs.Types.{is_signed, greatest_of, InRange}
 use Rattle.ep_int.specs.Arith.{IsOfSomeType, IsRightOperand}
 use Rattle.ep_domain.specs.Ranges.{IsRange, LiesIn}
 use Rattle.ep_domain.specs.Faults.{least_of_four, greatest_of_four, shown_range, may_overflow, may_not_shift, may_fault, nearest_amount, right_part, fault_between}
-use Rattle.ep_domain.proofs.Tests.{le_true, lt_false, from_lt_false, le_trans}
+use Rattle.ep_domain.proofs.Comparisons.{le_true, lt_false, from_lt_false, le_trans}
 use Rattle.ep_domain.proofs.Parts.{right_is_right}
 use Rattle.ep_domain.proofs.FaultAt.{low_lies, high_lies}
 use Rattle.ep_domain.proofs.Types.{number_of, number_low}

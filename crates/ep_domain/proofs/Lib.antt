@@ -1,4 +1,4 @@
-pub mod Tests
+pub mod Comparisons
 pub mod Corners
 pub mod Types
 pub mod Parts

@@ -8,7 +8,7 @@ use Rattle.ep_int.specs.Types.{InRange}
 use Rattle.ep_int.specs.Arith.{IsOfSomeType, IsRightOperand}
 use Rattle.ep_domain.specs.Ranges.{IsRange, LiesIn}
 use Rattle.ep_domain.specs.Faults.{is_shift, part_of, right_part}
-use Rattle.ep_domain.proofs.Tests.{le_trans}
+use Rattle.ep_domain.proofs.Comparisons.{le_trans}
 
 pub part_in_range : (t : IntType) (r : ℤ × ℤ) (x : ℤ) → LiesIn (part_of t r) x → InRange t x
 part_in_range t r x h = record { low = let p = h.low in omega (arith, ints, clamps); high = let p = h.high in omega (arith, ints, clamps) }

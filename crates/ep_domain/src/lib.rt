@@ -5,6 +5,8 @@ mod fault;
 mod num;
 mod outcome;
 pub mod ranges;
+#[cfg(test)]
+mod tests;
 
 pub use fault::range_fault;
 pub use num::Num;

@@ -12,7 +12,7 @@ use Rattle.ep_int.specs.declared.types.BinOp.TheVariants.{Add, Sub, Mul, Div, Re
 use Rattle.ep_int.specs.Types.{is_signed, least_of, greatest_of, wrapped, InRange}
 use Rattle.ep_int.specs.Arith.{int_eq, IsOfSomeType, IsRightOperand}
 use Rattle.ep_domain.specs.Ranges.{IsRange}
-use Rattle.ep_domain.proofs.Tests.{between_true, from_between, le_self, le_trans, le_antisym}
+use Rattle.ep_domain.proofs.Comparisons.{between_true, from_between, le_self, le_trans, le_antisym}
 use Rattle.ep_domain.proofs.FaultCode.{fits_number, sum_fits, difference_fits}
 use Rattle.ep_intervals.specs.declared.interval.Interval.{Interval}
 use Rattle.ep_intervals.specs.Ends.{in_one_stretch, wrapped_low, wrapped_high, low_apart, high_apart}

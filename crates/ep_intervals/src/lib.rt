@@ -4,5 +4,7 @@
 mod ends;
 mod interval;
 mod results;
+#[cfg(test)]
+mod tests;
 
 pub use interval::Interval;

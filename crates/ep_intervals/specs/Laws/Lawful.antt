@@ -1,6 +1,6 @@
 -- Intervals are a lawful domain.
 use Rattle.ep_domain.specs.Domain.{Lawful}
-use Rattle.ep_domain.proofs.Tests.{between_true}
+use Rattle.ep_domain.proofs.Comparisons.{between_true}
 use Rattle.ep_intervals.specs.Interval.{widening_of}
 use Rattle.ep_intervals.specs.Domain.{interval_ops}
 use Rattle.ep_intervals.specs.Laws.Ranks.{rank_bound}

@@ -13,7 +13,7 @@ use Rattle.ep_int.proofs.Arithmetic.{arith_in_range}
 use Rattle.ep_domain.specs.Ranges.{IsRange}
 use Rattle.ep_domain.specs.Faults.{Takes, MayFault, range_fault_of}
 use Rattle.ep_domain.specs.Domain.{ShowsPart}
-use Rattle.ep_domain.proofs.Tests.{between_true, from_between, le_self, le_trans, le_antisym}
+use Rattle.ep_domain.proofs.Comparisons.{between_true, from_between, le_self, le_trans, le_antisym}
 use Rattle.ep_domain.proofs.Types.{number_of}
 use Rattle.ep_domain.proofs.RangeFaults.{fault_is_found, fault_is_shown}
 use Rattle.ep_intervals.specs.declared.interval.Interval.{Interval}
