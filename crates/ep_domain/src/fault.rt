@@ -82,7 +82,7 @@ fn may_pass_width(t: IntType, y: (i128, i128)) -> bool
 }
 
 fn may_not_shift(t: IntType, x: (i128, i128), y: (i128, i128)) -> bool
-    requires left { InRange t x.1 }
+    requires { InRange t x.1 }
     ensures { result ≡ may_not_shift t x y }
 {
     is_signed(t) && (x.0 < 0 || greatest(t) < x.1 * power_of_two(nearest_amount(t, y.1)))

@@ -42,7 +42,7 @@ may_not_shift-requires c =
     let x = c.args.x in
     let x0 : FitsSigned w128 x.0 = search rules in
     let x1 : FitsSigned w128 x.1 = search rules in
-    record { left = (c.requires.left (passed x.0 x.1 x0 x1 c.if-x.false)).1 }
+    (c.requires.left (passed x.0 x.1 x0 x1 c.if-x.false)).1
 
 -- src/fault.rt:44:1
 pub returns-in-Add : goal.returns-in-Add

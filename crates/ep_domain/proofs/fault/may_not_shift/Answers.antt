@@ -10,7 +10,7 @@ overflow_mul-result c =
     let x1 : FitsSigned w128 c.args.x.1 = search rules in
     let p : FitsSigned w128 c.power_of_two.result = search rules in
     let s : is_signed c.args.t ≡ true = sym c.is_signed.ensures ∙ c.if-is_signed.true in
-    simp to_z-of_z (power_fits c.args.t c.args.x.1 c.power_of_two.result c.nearest_amount.result s c.requires.left c.nearest_amount.ensures.within c.power_of_two.ensures)
+    simp to_z-of_z (power_fits c.args.t c.args.x.1 c.power_of_two.result c.nearest_amount.result s c.requires c.nearest_amount.ensures.within c.power_of_two.ensures)
 
 pub returns-else-x-lt0 : goal.returns-else-x-lt0
 returns-else-x-lt0 c =
@@ -20,6 +20,6 @@ returns-else-x-lt0 c =
     let p : FitsSigned w128 c.power_of_two.result = search rules in
     let g : FitsSigned w128 c.greatest.result = search rules in
     let s : is_signed c.args.t ≡ true = sym c.is_signed.ensures ∙ c.if-is_signed.true in
-    let f = power_fits c.args.t c.args.x.1 c.power_of_two.result c.nearest_amount.result s c.requires.left c.nearest_amount.ensures.within c.power_of_two.ensures in
+    let f = power_fits c.args.t c.args.x.1 c.power_of_two.result c.nearest_amount.result s c.requires c.nearest_amount.ensures.within c.power_of_two.ensures in
     let n = simp to_z-of_z at c.nearest_amount.ensures.value in
     simp to_z-of_z (shift_is c.args.t c.args.x c.args.y _ s (not_negative c.args.x.0 x0 c.if-x-lt0.false) (above_is c.args.t c.args.x c.greatest.result c.power_of_two.result c.args.y.1 c.nearest_amount.result c.greatest.ensures c.power_of_two.ensures n))

@@ -1,4 +1,4 @@
-use Rattle.std.proofs.Common.{rules, FitsSigned, ◌*ℤ◌}
+use Rattle.std.proofs.Common.{rules, FitsSigned}
 use mir.Syntax.{w128}
 use Rattle.std.proofs.lemmas.Int.{to_z-of_z}
 use Rattle.ep_domain.proofs.ranges.products.Goals as goal
