@@ -1,0 +1,13 @@
+//! Numeric domains: what an abstract number promises, and which pairs of numbers may be undefined.
+#![tactic(auto)]
+
+mod fault;
+mod num;
+mod outcome;
+pub mod ranges;
+#[cfg(test)]
+mod tests;
+
+pub use fault::range_fault;
+pub use num::Num;
+pub use outcome::Outcome;
