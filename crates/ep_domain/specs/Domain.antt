@@ -63,7 +63,7 @@ pub record KeepsStrides {N : Type 0} (d : Ops N) : Type 0 where
   pub cut : (a : N) (lo hi : ℤ) (r s : ℕ) → IsStride r s → IsTrue (d.has_stride a r s) → IfSome (d.cut a lo hi) (λ c. IsTrue (d.has_stride c r s))
   pub add : (a b : N) (r q s : ℕ) → IsStride r s → IsStride q s → IsTrue (d.has_stride a r s) → IsTrue (d.has_stride b q s) → IfSome (d.op Add I64 a b).value (λ c. IsTrue (d.has_stride c ((r + q) % s) s))
   pub sub : (a b : N) (r q s : ℕ) → IsStride r s → IsStride q s → IsTrue (d.has_stride a r s) → IsTrue (d.has_stride b q s) → IfSome (d.op Sub I64 a b).value (λ c. IsTrue (d.has_stride c (residue s (pos r -ℤ pos q)) s))
-  pub mul : (a : N) (s : ℕ) → 0 < s → s ≤ 65536 → IfSome (d.op Mul I64 a (d.single (pos s))).value (λ c. IsTrue (d.has_stride c 0 s))
+  pub mul : (a b : N) (s : ℕ) → 0 < s → s ≤ 65536 → IsSingle d b (pos s) → IfSome (d.op Mul I64 a b).value (λ c. IsTrue (d.has_stride c 0 s))
 
 pub record Lawful {N : Type 0} (d : Ops N) : Type 0 where
   -- every number of the type
@@ -101,7 +101,7 @@ pub record Lawful {N : Type 0} (d : Ops N) : Type 0 where
       MatchResult (arith_of o t x y) (λ v. IsSomeAnd (d.op o t a b).value (λ c. IsSingle d c v)) (λ _. (d.op o t a b).value ≡ None)
   -- each number after conversion to the type
   pub convert_holds : (a : N) (t : IntType) (z : ℤ) → Holds d a z → Holds d (d.convert a t) (wrapped t z)
-  pub convert_single : (a : N) (t : IntType) (v : ℤ) → IsSingle d a v → IsSingle d (d.convert a t) (wrapped t v)
+  pub convert_single : (t : IntType) (v : ℤ) → IsOfSomeType v → IsSingle d (d.convert (d.single v) t) (wrapped t v)
   -- each pair that compares so
   pub filter_holds : (c : Cmp) (a b : N) (x y : ℤ) → compares c x y ≡ true → Holds d a x → Holds d b y → IsSomeAnd (d.filter c a b) (λ p. Holds d p.0 x × Holds d p.1 y)
   pub filter_single : (c : Cmp) (a b : N) (x y : ℤ) → compares c x y ≡ false → IsSingle d a x → IsSingle d b y → d.filter c a b ≡ None

@@ -15,6 +15,8 @@ pub trait Num: Copy {
     /// The greatest rank. A domain of which it is 4294967295 promises nothing of ranks.
     const HEIGHT: u32;
 
+    ghost HEIGHT: { ℕ };
+
     /// The range of a type.
     fn top(t: IntType) -> Self
         ensures { result ≡ ops.top t };
@@ -74,4 +76,7 @@ pub trait Num: Copy {
 
     /// They keep the laws.
     ghost laws: { Lawful ops };
+
+    /// The constant is their height.
+    ghost height_is: { ops.height ≡ HEIGHT };
 }

@@ -3,81 +3,100 @@ ghost use Rattle.ep_domain.specs.Ranges.{IsRange};
 
 use crate::range_fault;
 use ep_int::{BinOp, IntType, greatest, least};
+use std::test::Fail;
 
 type Ends = (i128, i128);
 
 // The operator, the type, two ranges, and the range that is shown.
-const FAULTS: [(BinOp, IntType, Ends, Ends, Option<Ends>); 24] = [
-    (
-        BinOp::Add,
-        IntType::I32,
-        (0, 2147483647),
-        (1, 1),
-        Some((1, 2147483648)),
-    ),
-    (BinOp::Add, IntType::I32, (0, 2147483646), (1, 1), None),
-    (BinOp::Sub, IntType::I8, (-128, 0), (-3, 1), Some((-129, 3))),
-    (BinOp::Sub, IntType::U8, (0, 3), (4, 9), None),
-    (BinOp::Add, IntType::I8, (200, 300), (1, 1), None),
-    (
-        BinOp::Mul,
-        IntType::I64,
-        (-9223372036854775808, 9223372036854775807),
-        (-9223372036854775808, 9223372036854775807),
-        Some((
-            -85070591730234615856620279821087277056,
-            85070591730234615865843651857942052864,
-        )),
-    ),
-    (BinOp::Mul, IntType::I32, (-3, 5), (-7, 2), None),
-    (
-        BinOp::Mul,
-        IntType::U64,
-        (0, 18446744073709551615),
-        (0, 18446744073709551615),
-        None,
-    ),
-    (
-        BinOp::Div,
-        IntType::U32,
-        (0, 4294967295),
-        (0, 6),
-        Some((0, 6)),
-    ),
-    (
-        BinOp::Div,
-        IntType::I32,
-        (-2147483648, 5),
-        (-1, -1),
-        Some((-1, -1)),
-    ),
-    (BinOp::Div, IntType::I32, (-2147483647, 5), (-1, -1), None),
-    (
-        BinOp::Rem,
-        IntType::I32,
-        (-2147483648, -2147483648),
-        (-3, -1),
-        Some((-3, -1)),
-    ),
-    (BinOp::Rem, IntType::U32, (5, 9), (-3, 0), Some((0, 0))),
-    (BinOp::And, IntType::I32, (-5, 5), (0, 9), None),
-    (BinOp::Or, IntType::U64, (0, 1), (0, 1), None),
-    (BinOp::Xor, IntType::I8, (0, 1), (0, 1), None),
-    (BinOp::Shl, IntType::I32, (0, 1), (0, 31), Some((0, 31))),
-    (BinOp::Shl, IntType::I32, (0, 1), (0, 30), None),
-    (BinOp::Shl, IntType::U32, (0, 4294967295), (0, 31), None),
-    (BinOp::Shl, IntType::I32, (-1, 0), (0, 1), Some((0, 1))),
-    (BinOp::Shl, IntType::U8, (0, 1), (3, 8), Some((3, 8))),
-    (BinOp::Shr, IntType::I64, (-5, 5), (0, 63), None),
-    (BinOp::Shr, IntType::I64, (-5, 5), (-1, 63), Some((-1, 63))),
-    (
-        BinOp::Shr,
-        IntType::U16,
-        (0, 1),
-        (16, 9223372036854775808),
-        Some((16, 9223372036854775808)),
-    ),
-];
+const FAULTS: &str = "\
++ i32 0..2147483647 1..1 1..2147483648
++ i32 0..2147483646 1..1 none
+- i8 -128..0 -3..1 -129..3
+- u8 0..3 4..9 none
++ i8 200..300 1..1 none
+* i64 -9223372036854775808..9223372036854775807 -9223372036854775808..9223372036854775807 -85070591730234615856620279821087277056..85070591730234615865843651857942052864
+* i32 -3..5 -7..2 none
+* u64 0..18446744073709551615 0..18446744073709551615 none
+/ u32 0..4294967295 0..6 0..6
+/ i32 -2147483648..5 -1..-1 -1..-1
+/ i32 -2147483647..5 -1..-1 none
+% i32 -2147483648..-2147483648 -3..-1 -3..-1
+% u32 5..9 -3..0 0..0
+& i32 -5..5 0..9 none
+| u64 0..1 0..1 none
+^ i8 0..1 0..1 none
+<< i32 0..1 0..31 0..31
+<< i32 0..1 0..30 none
+<< u32 0..4294967295 0..31 none
+<< i32 -1..0 0..1 0..1
+<< u8 0..1 3..8 3..8
+>> i64 -5..5 0..63 none
+>> i64 -5..5 -1..63 -1..63
+>> u16 0..1 16..9223372036854775808 16..9223372036854775808
+";
+
+#[derive(Clone, Copy)]
+struct Row {
+    op: BinOp,
+    t: IntType,
+    x: Ends,
+    y: Ends,
+    shown: Option<Ends>,
+}
+
+fn parsed(line: &str) -> Option<Row> {
+    let mut words = line.split_whitespace();
+    Some(Row {
+        op: operator(words.next()?)?,
+        t: int_type(words.next()?)?,
+        x: ends(words.next()?)?,
+        y: ends(words.next()?)?,
+        shown: maybe_ends(words.next()?)?,
+    })
+}
+
+fn ends(word: &str) -> Option<Ends> {
+    let (lo, hi) = word.split_once("..")?;
+    Some((lo.parse().ok()?, hi.parse().ok()?))
+}
+
+fn maybe_ends(word: &str) -> Option<Option<Ends>> {
+    if word == "none" {
+        Some(None)
+    } else {
+        Some(Some(ends(word)?))
+    }
+}
+
+fn int_type(word: &str) -> Option<IntType> {
+    match word {
+        "i8" => Some(IntType::I8),
+        "u8" => Some(IntType::U8),
+        "i16" => Some(IntType::I16),
+        "u16" => Some(IntType::U16),
+        "i32" => Some(IntType::I32),
+        "u32" => Some(IntType::U32),
+        "i64" => Some(IntType::I64),
+        "u64" => Some(IntType::U64),
+        _ => None,
+    }
+}
+
+fn operator(word: &str) -> Option<BinOp> {
+    match word {
+        "+" => Some(BinOp::Add),
+        "-" => Some(BinOp::Sub),
+        "*" => Some(BinOp::Mul),
+        "/" => Some(BinOp::Div),
+        "%" => Some(BinOp::Rem),
+        "&" => Some(BinOp::And),
+        "|" => Some(BinOp::Or),
+        "^" => Some(BinOp::Xor),
+        "<<" => Some(BinOp::Shl),
+        ">>" => Some(BinOp::Shr),
+        _ => None,
+    }
+}
 
 fn is_range(ends: Ends) -> bool
     ensures { IsTrue result ↔ IsRange ends.0 ends.1 }
@@ -86,9 +105,14 @@ fn is_range(ends: Ends) -> bool
 }
 
 #[test]
-fn faults_give_the_table(rt: HostRuntime) {
-    for (i, (op, t, x, y, shown)) in FAULTS.into_iter().enumerate() {
-        assert!(rt; is_range(x) && is_range(y));
-        assert_eq!(rt; range_fault(op, t, x, y), shown, "row {i}");
+fn faults_give_the_table(rt: HostRuntime) -> Result<(), Fail> {
+    let mut rows = 0u32;
+    for line in FAULTS.lines() {
+        let Row { op, t, x, y, shown } = parsed(line).ok_or(line)?;
+        assert!(rt; is_range(x) && is_range(y), "{line}");
+        assert_eq!(rt; range_fault(op, t, x, y), shown, "{line}");
+        rows = rows.wrapping_add(1);
     }
+    assert_eq!(rt; rows, 24);
+    Ok(())
 }

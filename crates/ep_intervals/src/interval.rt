@@ -1,6 +1,6 @@
 //! Intervals of numbers.
 
-ghost use Rattle.std.specs.Prelude.{◌≡◌, ◌⊎◌};
+ghost use Rattle.std.specs.Prelude.{◌≡◌, ◌⊎◌, refl};
 ghost use Rattle.ep_int.specs.Arith.{int_eq};
 ghost use Rattle.ep_domain.specs.Ranges.{IsRange};
 
@@ -69,7 +69,11 @@ impl Num for Interval {
 
     const HEIGHT: u32 = 14;
 
+    ghost HEIGHT = { 14 };
+
     ghost laws = { interval_laws };
+
+    ghost height_is = { refl };
 
     fn top(t: IntType) -> Self {
         Interval {
