@@ -4,7 +4,7 @@ use Rattle.std.proofs.lemmas.Bool.Decides.{nat_tests}
 use Rattle.std.proofs.lemmas.List.{append-nil}
 use Rattle.std.specs.Option.{option_map}
 use Rattle.endport.specs.declared.form.token.Mark.{Mark}
-use Rattle.endport.specs.Tokens.{Tok, name, number, mark, Cuts, ends, blank, word, digits, sign, is_blank, is_letter, is_digit, line_after, run, after_run, is_number, decimal, mark_of}
+use Rattle.endport.specs.Tokens.{Tok, name, number, mark, Cuts, ends, blank, word, digits, sign, is_blank, is_letter, is_digit, line_after, run, after_run, is_number, decimal, punctuation, operator, comparison, double_mark, mark_of}
 use Rattle.endport.specs.Pieces.{Piece, piece, number_of, with_token}
 
 chosen : {A : Type 0} (b : Bool) (x y z : A) → cond b x y ≡ z → ((b ≡ true) × (x ≡ z)) ⊎ ((b ≡ false) × (y ≡ z))
@@ -22,14 +22,19 @@ digit_not_blank b h = grind (arith, nat_tests)
 digit_no_letter : (b : ℕ) → is_digit b ≡ true → is_letter b ≡ false
 digit_no_letter b h = grind (arith, nat_tests)
 
-blank_no_mark : (b : ℕ) → is_blank b ≡ true → mark_of b ≡ None
-blank_no_mark b h = grind (arith, nat_tests)
+-- a byte that begins no mark, whatever comes behind it
+begins_none : (b : ℕ) (bs : List ℕ) → punctuation b ≡ None → operator b ≡ None → comparison b ≡ None → ((c : ℕ) → double_mark b c ≡ None) → mark_of (b ∷ bs) ≡ None
+begins_none b [] p o c d = rw (p, o, c) refl
+begins_none b (x ∷ bs) p o c d = let e = d x in rw (e, p, o, c) refl
 
-letter_no_mark : (b : ℕ) → is_letter b ≡ true → mark_of b ≡ None
-letter_no_mark b h = grind (arith, nat_tests)
+blank_no_mark : (b : ℕ) (bs : List ℕ) → is_blank b ≡ true → mark_of (b ∷ bs) ≡ None
+blank_no_mark b bs h = begins_none b bs (grind (arith, nat_tests)) (grind (arith, nat_tests)) (grind (arith, nat_tests)) (λ c. grind (arith, nat_tests))
 
-digit_no_mark : (b : ℕ) → is_digit b ≡ true → mark_of b ≡ None
-digit_no_mark b h = grind (arith, nat_tests)
+letter_no_mark : (b : ℕ) (bs : List ℕ) → is_letter b ≡ true → mark_of (b ∷ bs) ≡ None
+letter_no_mark b bs h = begins_none b bs (grind (arith, nat_tests)) (grind (arith, nat_tests)) (grind (arith, nat_tests)) (λ c. grind (arith, nat_tests))
+
+digit_no_mark : (b : ℕ) (bs : List ℕ) → is_digit b ≡ true → mark_of (b ∷ bs) ≡ None
+digit_no_mark b bs h = begins_none b bs (grind (arith, nat_tests)) (grind (arith, nat_tests)) (grind (arith, nat_tests)) (λ c. grind (arith, nat_tests))
 
 -- a test that rules a mark out fails at a mark
 fails_at_mark : {A : Type 0} (t : Bool) (o : Option A) (m : A) → (t ≡ true → o ≡ None) → o ≡ Some m → t ≡ false
@@ -59,11 +64,11 @@ goes (word {l} {b} {bs} {ts} h d) =
     record { first = (Some (name l (run (b ∷ bs))), l, after_run (b ∷ bs)); is = rw (letter_not_blank b h, h) refl; others = ts; all = refl; then = d }
 goes (digits {l} {b} {bs} {ts} h n d) =
     record { first = (Some (number l (decimal (run (b ∷ bs)))), l, after_run (b ∷ bs)); is = rw (n, digit_not_blank b h, digit_no_letter b h, h) refl; others = ts; all = refl; then = d }
-goes (sign {l} {b} {bs} {ts} {m} h d) =
-    let not_blank = fails_at_mark (is_blank b) (mark_of b) m (blank_no_mark b) h in
-    let no_letter = fails_at_mark (is_letter b) (mark_of b) m (letter_no_mark b) h in
-    let no_digit = fails_at_mark (is_digit b) (mark_of b) m (digit_no_mark b) h in
-    record { first = (Some (mark l m), l, bs); is = rw (not_blank, no_letter, no_digit, h) refl; others = ts; all = refl; then = d }
+goes (sign {l} {b} {bs} {cs} {ts} {m} h d) =
+    let not_blank = fails_at_mark (is_blank b) (mark_of (b ∷ bs)) (m, cs) (blank_no_mark b bs) h in
+    let no_letter = fails_at_mark (is_letter b) (mark_of (b ∷ bs)) (m, cs) (letter_no_mark b bs) h in
+    let no_digit = fails_at_mark (is_digit b) (mark_of (b ∷ bs)) (m, cs) (digit_no_mark b bs) h in
+    record { first = (Some (mark l m), l, cs); is = rw (not_blank, no_letter, no_digit, h) refl; others = ts; all = refl; then = d }
 
 -- ---- each piece is a rule
 
@@ -79,8 +84,8 @@ unfolding piece
 joins l b bs p ts e d =
     let Goal : Piece → Type 0 = λ q. Cuts q.1 q.2 ts → Cuts l (b ∷ bs) (with_token q.0 ts) in
     let of_number : ℕ → Piece = λ n. (Some (number l n), l, after_run (b ∷ bs)) in
-    let of_mark : Mark → Piece = λ m. (Some (mark l m), l, bs) in
-    let m : Option Piece = option_map of_mark (mark_of b) in
+    let of_mark : Mark × List ℕ → Piece = λ m. (Some (mark l m.0), l, m.1) in
+    let m : Option Piece = option_map of_mark (mark_of (b ∷ bs)) in
     let n : Option Piece = option_map of_number (number_of (run (b ∷ bs))) in
     let w : Piece = (Some (name l (run (b ∷ bs))), l, after_run (b ∷ bs)) in
     let s : Piece = (None, line_after l b, bs) in
@@ -95,7 +100,7 @@ joins l b bs p ts e d =
               let q = mapped_is of_number (number_of (run (b ∷ bs))) p c3.1 in
               let r = number_is (run (b ∷ bs)) q.0 q.1 in
               subst Goal (ap of_number r.1 ∙ q.2) (digits c3.0 r.0) d
-          | inr c3 ↦ let q = mapped_is of_mark (mark_of b) p c3.1 in subst Goal q.2 (sign q.1) d
+          | inr c3 ↦ let q = mapped_is of_mark (mark_of (b ∷ bs)) p c3.1 in subst Goal q.2 (sign q.1) d
         ]
       ]
     ]
@@ -145,28 +150,3 @@ done bs front l u = (rw append-nil at (u.forth [] ends), λ ts d. let r = u.back
 pub done_at : (bs : List ℕ) (front : List Tok) (l : ℕ) (rest : List ℕ) → length rest ≤ 0 → Upto bs front l rest → Cuts 1 bs front × ((ts : List Tok) → Cuts 1 bs ts → ts ≡ front)
 done_at bs front l [] e u = done bs front l u
 done_at bs front l (b ∷ more) e u = absurd (omega arith)
-
--- ---- a text has one list of tokens
-
-same_rest : (l b : ℕ) (bs : List ℕ) (us : List Tok) (p q : Piece) (xs : List Tok) → p ≡ q → us ≡ with_token q.0 xs → Cuts q.1 q.2 xs → (ys : List Tok) × (us ≡ with_token p.0 ys) × Cuts p.1 p.2 ys
-same_rest l b bs us p q xs e h d = let Goal : Piece → Type 0 = λ r. (ys : List Tok) × (us ≡ with_token r.0 ys) × Cuts r.1 r.2 ys in subst Goal (sym e) (xs, h, d)
-
-pub tokens_unique : {l : ℕ} {bs : List ℕ} {ts : List Tok} → Cuts l bs ts → (us : List Tok) → Cuts l bs us → us ≡ ts
-unfolding goes
-tokens_unique ends us d = nothing_left d
-tokens_unique (blank {l} {b} {bs} {ts} h d) us e =
-    let w = goes e in let v = goes {l = l} {b = b} {bs = bs} (blank h d) in
-    let r = same_rest l b bs us v.first w.first w.others (some_is v.is w.is) w.all w.then in
-    r.1 ∙ tokens_unique d r.0 r.2
-tokens_unique (word {l} {b} {bs} {ts} h d) us e =
-    let w = goes e in let v = goes {l = l} {b = b} {bs = bs} (word h d) in
-    let r = same_rest l b bs us v.first w.first w.others (some_is v.is w.is) w.all w.then in
-    r.1 ∙ ap (λ (x : List Tok). name l (run (b ∷ bs)) ∷ x) (tokens_unique d r.0 r.2)
-tokens_unique (digits {l} {b} {bs} {ts} h n d) us e =
-    let w = goes e in let v = goes {l = l} {b = b} {bs = bs} (digits h n d) in
-    let r = same_rest l b bs us v.first w.first w.others (some_is v.is w.is) w.all w.then in
-    r.1 ∙ ap (λ (x : List Tok). number l (decimal (run (b ∷ bs))) ∷ x) (tokens_unique d r.0 r.2)
-tokens_unique (sign {l} {b} {bs} {ts} {m} h d) us e =
-    let w = goes e in let v = goes {l = l} {b = b} {bs = bs} (sign h d) in
-    let r = same_rest l b bs us v.first w.first w.others (some_is v.is w.is) w.all w.then in
-    r.1 ∙ ap (λ (x : List Tok). mark l m ∷ x) (tokens_unique d r.0 r.2)

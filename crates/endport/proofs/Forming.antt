@@ -1,60 +1,34 @@
--- The program of a source of the straight-line form is well formed.
-use Rattle.std.proofs.Common.{◌≡◌, ℕ, zero, suc, ◌+◌, ◌≤◌, ◌<◌, pos, Bool, true, false, cond, ◌&&◌, ◌||◌, not, nat_eq, nat_le, List, [], ◌∷◌, ◌++◌, map, length, sum_by, fold, slice_get, Some, is_some, IsTrue, refl, ap, ◌∙◌, subst, arith, add-one}
-use Rattle.std.proofs.lemmas.List.{append-nil}
-use Rattle.std.proofs.lemmas.Bool.Decides.{nat_tests}
-use Rattle.std.proofs.lemmas.List.Sums.{sum_by-cons}
+-- The program of a source is well formed.
+use Rattle.std.proofs.Common.{◌≡◌, ℕ, ◌≤◌, pos, Bool, true, false, cond, ◌&&◌, not, nat_le, List, [], ◌∷◌, ◌++◌, Option, Some, IsTrue, refl, sym, subst}
 use Rattle.std.specs.List.{list_all}
-use Rattle.std.specs.Str.{bytes_eq}
+use Rattle.ep_int.specs.declared.types.BinOp.{BinOp}
+use Rattle.ep_int.specs.declared.types.BinOp.TheVariants.{Add, Sub, Mul, Div, Rem, And, Or, Xor, Shl, Shr}
+use Rattle.ep_int.specs.declared.types.Cmp.{Cmp}
 use Rattle.ep_int.specs.declared.types.IntType.{IntType}
 use Rattle.ep_int.specs.declared.types.IntType.TheVariants.{I32}
 use Rattle.ep_int.specs.declared.types.Scalar.TheVariants.{Int}
-use Rattle.ep_int.specs.Types.{bytes_of, size_of}
-use Rattle.ep_core.specs.Program.{block, load, convert, const, What, Stmts, Block, Program}
-use Rattle.ep_core.specs.WellFormed.{number_of_type, is_same_type, contains, are_different, numbers_below, is_global, holds_scalar, block_fits, blocks_fit, is_in_range, are_listed, is_number, type_of_scalar, has_type, has_bytes, place_has, type_of, bytes_fit, what_fits, stmts_fit, is_well_formed}
+use Rattle.ep_int.specs.Types.{bytes_of}
+use Rattle.ep_int.specs.Arith.{common_of}
+use Rattle.ep_core.specs.Program.{block, Expr, convert, const, What, Stmts, Program}
+use Rattle.ep_core.specs.WellFormed.{number_of_type, is_same_type, scoped_in, scoped, is_number, Ty, has_type, is_right_operand, place_has, type_of, what_fits, stmts_fit, is_well_formed}
 use Rattle.ep_core.specs.WellFormed as ty
+use Rattle.ep_core.proofs.Typing.{same_type, is_of_type}
 use Rattle.endport.specs.Tokens as tokens
 use Rattle.endport.specs.Tokens.{Tok, name, number, mark, Cuts}
 use Rattle.endport.specs.Form as form
-use Rattle.endport.specs.Form.{Variable, Object, found_from, found, bytes_of_all, value_as, Step, Names, Body, block_of_type, result_block, block_of, blocks_from, program_of, Form, First}
-use Rattle.endport.proofs.Steps.{both}
+use Rattle.endport.specs.Form.{Variable, Object, bytes_of_all, Value, loaded, literal, as_type, left_type, right_type, operated, compared, Operand, Test, Step, Steps, Otherwise, Names, Body, blocks_from, program_of, Form, First}
+use Rattle.endport.proofs.Looks.{both}
+use Rattle.endport.proofs.Placing.{and_true, same_number, at_most, all_blocks, listed_once, all_fit, Placed, placed_later}
 use Rattle.endport.proofs.Bodies.{body_grown}
-
--- ---- tests
-
-and_true : (a b : Bool) → a ≡ true → b ≡ true → (a && b) ≡ true
-and_true a b p q = rw (p, q) refl
-
-or_true : (a b : Bool) → b ≡ true → (a || b) ≡ true
-or_true true b q = refl
-or_true false b q = q
-
-same_number : (n : ℕ) → nat_eq n n ≡ true
-same_number n = grind (arith, nat_tests)
-
-other_number : (m n : ℕ) → m < n → nat_eq m n ≡ false
-other_number m n h = grind (arith, nat_tests)
-
-number_swaps : (m n : ℕ) → nat_eq m n ≡ true → nat_eq n m ≡ true
-number_swaps m n h = grind (arith, nat_tests)
-
-at_most : (m n : ℕ) → m ≤ n → nat_le m n ≡ true
-at_most m n h = grind (arith, nat_tests)
-
-at_most_is : (m n : ℕ) → nat_le m n ≡ true → m ≤ n
-at_most_is m n h = grind (arith, nat_tests)
-
-all_append : {A : Type 0} (p : A → Bool) (xs ys : List A) → list_all p xs ≡ true → list_all p ys ≡ true → list_all p (xs ++ ys) ≡ true
-all_append p [] ys f g = g
-all_append p (x ∷ xs) ys f g = let h = both (p x) (list_all p xs) f in and_true (p x) (list_all p (xs ++ ys)) h.0 (all_append p xs ys h.1 g)
 
 -- ---- numbers of tokens are numbers of an int
 
-abbrev is_small : Tok → Bool
+abbrev pub is_small : Tok → Bool
 is_small (name l x) = true
 is_small (number l n) = nat_le n 2147483647
 is_small (mark l m) = true
 
-abbrev are_small : List Tok → Bool
+abbrev pub are_small : List Tok → Bool
 are_small ts = list_all is_small ts
 
 cut_small : {l : ℕ} {bs : List ℕ} {ts : List Tok} → Cuts l bs ts → are_small ts ≡ true
@@ -71,183 +45,157 @@ names_small : {t : IntType} {vs ws : List Variable} {ts rs : List Tok} → Names
 names_small (form.last f n) h = h
 names_small (form.next f n d) h = names_small d h
 
-step_small : {vs : List Variable} {ts rs : List Tok} {l : ℕ} {a : What} → Step vs ts rs l a → are_small ts ≡ true → are_small rs ≡ true
-step_small (form.inputs f i) h = h
-step_small (form.copies f g) h = h
-step_small (form.sets {k = k} {ts = ts} f) h = (both (nat_le k 2147483647) (are_small ts) h).1
-step_small (form.outputs i f) h = h
-step_small (form.writes {k = k} {ts = ts} e f low high) h = (both (nat_le k 2147483647) (are_small ts) h).1
+-- ---- types of values, among the blocks of these variables
 
--- ---- blocks of variables
+abbrev type_among : List Variable → Expr → Option Ty
+type_among us e = type_of (all_blocks us) (blocks_from 1 us) e
 
--- the variables' blocks stand in this list, from this number on
-abbrev Stand : List Block → ℕ → List Variable → Type 0
-Stand bs b [] = Unit {0}
-Stand bs b (v ∷ vs) = (slice_get bs b ≡ Some (block_of v)) × Stand bs (b + 1) vs
+abbrev IsTyped : List Variable → Value → Type 0
+IsTyped us v = has_type (type_among us v.expr) (ty.number v.ty) ≡ true
 
-later_block : (x : Block) (bs : List Block) (b : ℕ) → slice_get (x ∷ bs) (b + 1) ≡ slice_get bs b
-later_block x bs b = rw add-one refl
+has_place : (us : List Variable) (o : Object) → Placed us o → place_has (all_blocks us) (blocks_from 1 us) (block o.block) (Int o.ty) ≡ true
+has_place us o p = let a = p.at in let c = p.own in let e = same_number (number_of_type o.ty) in rw (a, c, e) refl
 
-shifted : (x : Block) (bs : List Block) (b : ℕ) (vs : List Variable) → Stand bs b vs → Stand (x ∷ bs) (b + 1) vs
-shifted x bs b [] s = tt
-shifted x bs b (v ∷ vs) s = (later_block x bs b ∙ s.0, shifted x bs (b + 1) vs s.1)
+loaded_typed : (us : List Variable) (o : Object) → Placed us o → IsTyped us (loaded o)
+loaded_typed us o p = let h = has_place us o p in let e = same_number (number_of_type o.ty) in rw h e
 
-all_stand : (vs : List Variable) → Stand (map block_of vs) 0 vs
-all_stand [] = tt
-all_stand (v ∷ vs) = (refl, shifted (block_of v) (map block_of vs) 0 vs (all_stand vs))
+literal_typed : (us : List Variable) (k : ℕ) → nat_le k 2147483647 ≡ true → IsTyped us (literal k)
+literal_typed us k h = rw h refl
 
-abbrev all_blocks : List Variable → List Block
-all_blocks vs = result_block ∷ map block_of vs
-
-stand_behind : (vs : List Variable) → Stand (all_blocks vs) 1 vs
-stand_behind vs = shifted result_block (map block_of vs) 0 vs (all_stand vs)
-
-earlier : (k b : ℕ) (vs : List Variable) → k < b → contains k (blocks_from b vs) ≡ false
-earlier k b [] h = refl
-earlier k b (v ∷ vs) h = let e = other_number k b h in rw e (earlier k (b + 1) vs (omega arith))
-
-blocks_differ : (b : ℕ) (vs : List Variable) → are_different (blocks_from b vs) ≡ true
-blocks_differ b [] = refl
-blocks_differ b (v ∷ vs) = let e = earlier b (b + 1) vs (omega arith) in rw e (blocks_differ (b + 1) vs)
-
-contains_by : (k b : ℕ) (vs : List Variable) (t : Bool) → nat_eq k b ≡ t → (t ≡ false → contains k (blocks_from (b + 1) vs) ≡ true) → (t || contains k (blocks_from (b + 1) vs)) ≡ true
-contains_by k b vs true e f = refl
-contains_by k b vs false e f = f refl
-
-not_there : (k b : ℕ) → nat_eq k b ≡ false → b ≤ k → b + 1 ≤ k
-not_there k b e h = grind (arith, nat_tests)
-
-among : (k b : ℕ) (vs : List Variable) → b ≤ k → k < b + length vs → contains k (blocks_from b vs) ≡ true
-among k b [] low high = absurd (omega arith)
-among k b (v ∷ vs) low high = contains_by k b vs (nat_eq k b) refl (λ e. let l = not_there k b e low in among k (b + 1) vs l (omega arith))
-
-abbrev is_kept : List Block → ℕ → Bool
-is_kept bs b = is_some (slice_get bs b) && not (is_global (slice_get bs b))
-
-all_kept : (bs : List Block) (b : ℕ) (vs : List Variable) → Stand bs b vs → list_all (is_kept bs) (blocks_from b vs) ≡ true
-all_kept bs b [] s = refl
-all_kept bs b (v ∷ vs) s = let e = s.0 in rw e (all_kept bs (b + 1) vs s.1)
-
-all_below : (p : ℕ → Bool) (n : ℕ) → ((k : ℕ) → k < n → p k ≡ true) → list_all p (numbers_below n) ≡ true
-all_below p zero f = refl
-all_below p (suc n) f = all_append p (numbers_below n) (n ∷ []) (all_below p n (λ k h. f k (omega arith))) (and_true (p n) true (f n (omega arith)) refl)
-
-all_own : (vs : List Variable) (k : ℕ) → k < length (all_blocks vs) → contains k (0 ∷ blocks_from 1 vs) ≡ true
-all_own vs zero h = refl
-all_own vs (suc k) h =
-    let n : length (map block_of vs) ≡ length vs = length_map vs in
-    or_true (nat_eq (suc k) 0) (contains (suc k) (blocks_from 1 vs)) (among (suc k) 1 vs (omega arith) (omega arith))
+as_typed : (us : List Variable) (t : IntType) (v : Value) → IsTyped us v → has_type (type_among us (as_type t v)) (ty.number t) ≡ true
+as_typed us t v h = by (is_same_type t v.ty) refl
   where
-    length_map : (vs : List Variable) → length (map block_of vs) ≡ length vs
-    length_map [] = refl
-    length_map (v ∷ vs) = let h = length_map vs in omega arith
+    by : (b : Bool) → is_same_type t v.ty ≡ b → has_type (type_among us (cond b v.expr (convert t v.expr))) (ty.number t) ≡ true
+    by true s = subst (λ (u : IntType). has_type (type_among us v.expr) (ty.number u) ≡ true) (sym (same_type t v.ty s)) h
+    by false s = let is = is_of_type (type_among us v.expr) v.ty h in let e = same_number (number_of_type t) in rw is e
 
-listed_once : (vs : List Variable) → are_listed (all_blocks vs) (0 ∷ (blocks_from 1 vs ++ [])) ≡ true
-listed_once vs = rw (append-nil (blocks_from 1 vs)) (
-    let first = earlier 0 1 vs (omega arith) in
-    let different : are_different (0 ∷ blocks_from 1 vs) ≡ true = rw first (blocks_differ 1 vs) in
-    let kept : list_all (is_kept (all_blocks vs)) (0 ∷ blocks_from 1 vs) ≡ true = all_kept (all_blocks vs) 1 vs (stand_behind vs) in
-    let whole = all_below (λ b. is_global (slice_get (all_blocks vs) b) || contains b (0 ∷ blocks_from 1 vs)) (length (all_blocks vs))
-    (λ k h. or_true (is_global (slice_get (all_blocks vs) k)) (contains k (0 ∷ blocks_from 1 vs)) (all_own vs k h)) in
-    and_true (are_different (0 ∷ blocks_from 1 vs) && list_all (is_kept (all_blocks vs)) (0 ∷ blocks_from 1 vs)) _
-    (and_true (are_different (0 ∷ blocks_from 1 vs)) (list_all (is_kept (all_blocks vs)) (0 ∷ blocks_from 1 vs)) different kept) whole)
+number_has : (o : Option Ty) (t : IntType) → has_type o (ty.number t) ≡ true → is_number o ≡ true
+number_has o t h = rw (is_of_type o t h) refl
 
-sizes_fit : (vs : List Variable) → list_all block_fits (map block_of vs) ≡ true
-sizes_fit [] = refl
-sizes_fit (v ∷ vs) = let e = same_number (bytes_of v.ty) in rw e (sizes_fit vs)
+right_fits : (op : BinOp) (t u : IntType) (o : Option Ty) → has_type o (ty.number (right_type op t u)) ≡ true → is_right_operand op (left_type op t u) o ≡ true
+right_fits Add t u o h = h
+right_fits Sub t u o h = h
+right_fits Mul t u o h = h
+right_fits Div t u o h = h
+right_fits Rem t u o h = h
+right_fits And t u o h = h
+right_fits Or t u o h = h
+right_fits Xor t u o h = h
+right_fits Shl t u o h = number_has o (right_type Shl t u) h
+right_fits Shr t u o h = number_has o (right_type Shr t u) h
 
-sum_from : (a : ℕ) (vs : List Variable) → fold (λ (n : ℕ) (b : Block). n + b.size) a (map block_of vs) ≡ fold (λ (n : ℕ) (v : Variable). n + bytes_of v.ty) a vs
-sum_from a [] = refl
-sum_from a (v ∷ vs) = sum_from (a + bytes_of v.ty) vs
+operated_typed : (us : List Variable) (op : BinOp) (a b : Value) → IsTyped us a → IsTyped us b → IsTyped us (operated op a b)
+operated_typed us op a b f g =
+    let left = as_typed us (left_type op a.ty b.ty) a f in
+    let right = right_fits op a.ty b.ty (type_among us (as_type (right_type op a.ty b.ty) b)) (as_typed us (right_type op a.ty b.ty) b g) in
+    let e = same_number (number_of_type (left_type op a.ty b.ty)) in
+    rw (left, right) e
 
-sum_of_sizes : (vs : List Variable) → sum_by (λ (b : Block). b.size) (all_blocks vs) ≡ 4 + bytes_of_all vs
-sum_of_sizes vs = sum_by-cons (λ (b : Block). b.size) result_block (map block_of vs) ∙ ap (λ (n : ℕ). 4 + n) (sum_from 0 vs)
+compared_number : (us : List Variable) (c : Cmp) (a b : Value) → IsTyped us a → IsTyped us b → is_number (type_among us (compared c a b)) ≡ true
+compared_number us c a b f g =
+    let left = as_typed us (common_of a.ty b.ty) a f in
+    let right = as_typed us (common_of a.ty b.ty) b g in
+    rw (left, right) refl
 
-all_fit : (vs : List Variable) → bytes_of_all vs ≤ 65532 → blocks_fit (all_blocks vs) ≡ true
-all_fit vs h =
-    let s = sum_of_sizes vs in
-    and_true (list_all block_fits (all_blocks vs)) (nat_le (sum_by (λ (b : Block). b.size) (all_blocks vs)) 65536)
-    (sizes_fit vs) (at_most (sum_by (λ (b : Block). b.size) (all_blocks vs)) 65536 (omega (arith, s)))
+set_fits : (us : List Variable) (t : IntType) (k : ℕ) → nat_le k 2147483647 ≡ true → has_type (type_among us (convert t (const I32 (pos k)))) (ty.number t) ≡ true
+set_fits us t k h = let e = same_number (number_of_type t) in rw h e
 
--- ---- steps
+-- ---- steps, where more variables may be declared after them
 
--- what is known of the object of a variable, among these blocks
-pub record Placed (vs : List Variable) (o : Object) : Type 0 where
-  pub at : slice_get (all_blocks vs) o.block ≡ Some (block_of_type o.ty)
-  pub own : contains o.block (blocks_from 1 vs) ≡ true
+-- a step fits, has no scopes, and leaves small numbers
+record FitsStep (us : List Variable) (i : Bool) (a : What) (rs : List Tok) : Type 0 where
+  pub fits : what_fits (all_blocks us) (Some (Int I32)) a (blocks_from 1 us) i ≡ true
+  pub unscoped : scoped_in a ≡ []
+  pub small : are_small rs ≡ true
 
-placed_from : (bs : List Block) (b : ℕ) (vs : List Variable) (x : List ℕ) (o : Object) → Stand bs b vs → found_from b vs x ≡ Some o → (slice_get bs o.block ≡ Some (block_of_type o.ty)) × (contains o.block (blocks_from b vs) ≡ true)
-placed_from bs b [] x o s e = absurd cc
-placed_from bs b (v ∷ vs) x o s e = by (bytes_eq x v.name) e (λ f. placed_from bs (b + 1) vs x o s.1 f)
-  where
-    P : Object → Type 0
-    P q = (slice_get bs q.block ≡ Some (block_of_type q.ty)) × ((nat_eq q.block b || contains q.block (blocks_from (b + 1) vs)) ≡ true)
+record FitSteps (us : List Variable) (i : Bool) (ss : Stmts) (rs : List Tok) : Type 0 where
+  pub fit : stmts_fit (all_blocks us) (Some (Int I32)) ss (blocks_from 1 us) i ≡ true
+  pub unscoped : scoped ss ≡ []
+  pub small : are_small rs ≡ true
 
-    by : (t : Bool) → cond t (Some (record { block = b; ty = v.ty })) (found_from (b + 1) vs x) ≡ Some o
-        → (found_from (b + 1) vs x ≡ Some o → (slice_get bs o.block ≡ Some (block_of_type o.ty)) × (contains o.block (blocks_from (b + 1) vs) ≡ true)) → P o
-    by true f rest =
-        let q : ◌≡◌ {A = Object} (record { block = b; ty = v.ty }) o = cc in
-        let e = same_number b in
-        subst P q (s.0, rw e refl)
-    by false f rest = let r = rest f in (r.0, or_true (nat_eq o.block b) (contains o.block (blocks_from (b + 1) vs)) r.1)
+module _ (vs us others : List Variable) (g : us ≡ vs ++ others) where
+  operand_typed : {a : Tok} {v : Value} → Operand vs a v → is_small a ≡ true → IsTyped us v
+  operand_typed (form.variable {x = x} {o = o} f) h = loaded_typed us o (placed_later vs us others x o g f)
+  operand_typed (form.constant {k = k}) h = literal_typed us k h
 
-placed : (vs : List Variable) (x : List ℕ) (o : Object) → found vs x ≡ Some o → Placed vs o
-placed vs x o e = let r = placed_from (all_blocks vs) 1 vs x o (stand_behind vs) e in record { at = r.0; own = r.1 }
+  test_fits : {ts rs : List Tok} {e : Expr} → Test vs ts rs e → are_small ts ≡ true → (is_number (type_among us e) ≡ true) × (are_small rs ≡ true)
+  test_fits (form.test {m = m} {n = n} {a = a} {b = b} {s = s} {t = t} {c = c} {ts = ts} f h) small =
+      let p = both (is_small a) (is_small b && are_small ts) small in
+      let q = both (is_small b) (are_small ts) p.1 in
+      (compared_number us c s t (operand_typed f p.0) (operand_typed h q.0), q.1)
 
--- a variable that is found stays, whatever is declared after it
-stays_from : (b : ℕ) (vs others : List Variable) (x : List ℕ) (o : Object) → found_from b vs x ≡ Some o → found_from b (vs ++ others) x ≡ Some o
-stays_from b [] others x o e = absurd cc
-stays_from b (v ∷ vs) others x o e = by (bytes_eq x v.name) e (λ f. stays_from (b + 1) vs others x o f)
-  where
-    by : (t : Bool) → cond t (Some (record { block = b; ty = v.ty })) (found_from (b + 1) vs x) ≡ Some o → (found_from (b + 1) vs x ≡ Some o → found_from (b + 1) (vs ++ others) x ≡ Some o)
-        → cond t (Some (record { block = b; ty = v.ty })) (found_from (b + 1) (vs ++ others) x) ≡ Some o
-    by true f rest = f
-    by false f rest = rest f
+  mutual
+    step_fits : {room l : ℕ} {i : Bool} {ts rs : List Tok} {a : What} → Step vs room i ts rs l a → are_small ts ≡ true → FitsStep us i a rs
+    step_fits (form.inputs {x = x} {o = o} f e) small = record { fits = has_place us o (placed_later vs us others x o g f); unscoped = refl; small = small }
+    step_fits (form.copies {x = x} {y = y} {o = o} {s = s} f h) small =
+        let p = has_place us o (placed_later vs us others x o g f) in
+        let q = as_typed us o.ty (loaded s) (loaded_typed us s (placed_later vs us others y s g h)) in
+        record { fits = rw (p, q) refl; unscoped = refl; small = small }
+    step_fits (form.sets {k = k} {x = x} {o = o} {ts = ts} f) small =
+        let b = both (nat_le k 2147483647) (are_small ts) small in
+        let p = has_place us o (placed_later vs us others x o g f) in
+        let q = set_fits us o.ty k b.0 in
+        record { fits = rw (p, q) refl; unscoped = refl; small = b.1 }
+    step_fits (form.computes {x = x} {o = o} {a = a} {b = b} {s = s} {t = t} {op = op} {ts = ts} f d e) small =
+        let k = both (is_small a) (is_small b && are_small ts) small in
+        let m = both (is_small b) (are_small ts) k.1 in
+        let p = has_place us o (placed_later vs us others x o g f) in
+        let q = as_typed us o.ty (operated op s t) (operated_typed us op s t (operand_typed d k.0) (operand_typed e m.0)) in
+        record { fits = rw (p, q) refl; unscoped = refl; small = m.1 }
+    step_fits (form.outputs {x = x} {t = t} {o = o} e f) small =
+        record { fits = as_typed us t (loaded o) (loaded_typed us o (placed_later vs us others x o g f)); unscoped = refl; small = small }
+    step_fits (form.writes {k = k} {x = x} {o = o} {ts = ts} e f low high) small =
+        let h = both (nat_le k 2147483647) (are_small ts) small in
+        let p = placed_later vs us others x o g f in
+        let a = p.at in let c = p.own in let b = at_most 1 k low in let d = at_most k (bytes_of o.ty) high in
+        record { fits = rw (a, c, b, d) refl; unscoped = refl; small = h.1 }
+    step_fits (form.branches e t d o) small =
+        let p = test_fits t small in
+        let q = steps_fit d p.1 in
+        let r = otherwise_fits o q.small in
+        let test = p.0 in let then = q.fit in let else = r.fit in let a = q.unscoped in let b = r.unscoped in
+        record { fits = rw (test, then, else) refl; unscoped = rw (a, b) refl; small = r.small }
+    step_fits (form.repeats e t d) small =
+        let p = test_fits t small in
+        let q = steps_fit d p.1 in
+        let test = p.0 in let turn = q.fit in let a = q.unscoped in
+        record { fits = rw (test, turn) refl; unscoped = rw a refl; small = q.small }
+    step_fits (form.breaks e) small = record { fits = refl; unscoped = refl; small = small }
+    step_fits (form.continues e) small = record { fits = refl; unscoped = refl; small = small }
+    step_fits (form.leaves {a = a} {s = s} {ts = ts} e f) small =
+        let k = both (is_small a) (are_small ts) small in
+        record { fits = as_typed us I32 s (operand_typed f k.0); unscoped = refl; small = k.1 }
 
-placed_later : (vs us others : List Variable) (x : List ℕ) (o : Object) → us ≡ vs ++ others → found vs x ≡ Some o → Placed us o
-placed_later vs us others x o g e = placed us x o (rw g (stays_from 1 vs others x o e))
+    steps_fit : {room : ℕ} {i : Bool} {ts rs : List Tok} {ss : Stmts} → Steps vs room i ts rs ss → are_small ts ≡ true → FitSteps us i ss rs
+    steps_fit form.closes small = record { fit = refl; unscoped = refl; small = small }
+    steps_fit (form.follows d r) small =
+        let p = step_fits d small in
+        let q = steps_fit r p.small in
+        let first = p.fits in let rest = q.fit in let a = p.unscoped in let b = q.unscoped in
+        record { fit = rw (first, rest) refl; unscoped = rw (a, b) refl; small = q.small }
 
-module _ (us : List Variable) where
-  has_place : (o : Object) → Placed us o → place_has (all_blocks us) (blocks_from 1 us) (block o.block) (Int o.ty) ≡ true
-  has_place o p = let a = p.at in let c = p.own in let e = same_number (number_of_type o.ty) in rw (a, c, e) refl
+    otherwise_fits : {room : ℕ} {i : Bool} {ts rs : List Tok} {ss : Stmts} → Otherwise vs room i ts rs ss → are_small ts ≡ true → FitSteps us i ss rs
+    otherwise_fits (form.nothing e) small = record { fit = refl; unscoped = refl; small = small }
+    otherwise_fits (form.body e d) small = steps_fit d small
 
-  value_fits : (t : IntType) (o : Object) → Placed us o → has_type (type_of (all_blocks us) (blocks_from 1 us) (value_as t o)) (ty.number t) ≡ true
-  value_fits t o p = by (is_same_type t o.ty) refl
-    where
-      load_fits : is_same_type t o.ty ≡ true → has_type (type_of (all_blocks us) (blocks_from 1 us) (load (Int o.ty) (block o.block))) (ty.number t) ≡ true
-      load_fits s = let h = has_place o p in rw h (number_swaps (number_of_type t) (number_of_type o.ty) s)
+-- ---- the body and the program
 
-      converted_fits : has_type (type_of (all_blocks us) (blocks_from 1 us) (convert t (load (Int o.ty) (block o.block)))) (ty.number t) ≡ true
-      converted_fits = let h = has_place o p in let e = same_number (number_of_type t) in rw h e
+record FitsBody (us : List Variable) (ss : Stmts) : Type 0 where
+  pub fit : stmts_fit (all_blocks us) (Some (Int I32)) ss (blocks_from 1 us) false ≡ true
+  pub unscoped : scoped ss ≡ []
 
-      by : (b : Bool) → is_same_type t o.ty ≡ b → has_type (type_of (all_blocks us) (blocks_from 1 us) (cond b (load (Int o.ty) (block o.block)) (convert t (load (Int o.ty) (block o.block))))) (ty.number t) ≡ true
-      by true s = load_fits s
-      by false s = converted_fits
-
-  const_fits : (t : IntType) (k : ℕ) → nat_le k 2147483647 ≡ true → has_type (type_of (all_blocks us) (blocks_from 1 us) (convert t (const I32 (pos k)))) (ty.number t) ≡ true
-  const_fits t k h = let e = same_number (number_of_type t) in rw (h, e) refl
-
-  step_fits : {vs : List Variable} {ts rs : List Tok} {l : ℕ} {a : What} (others : List Variable) → us ≡ vs ++ others → are_small ts ≡ true → Step vs ts rs l a → what_fits (all_blocks us) (blocks_from 1 us) a ≡ true
-  step_fits {vs = vs} others g small (form.inputs {x = x} {o = o} f i) = has_place o (placed_later vs us others x o g f)
-  step_fits {vs = vs} others g small (form.copies {x = x} {y = y} {o = o} {s = s} f h) =
-      let p = has_place o (placed_later vs us others x o g f) in rw p (value_fits o.ty s (placed_later vs us others y s g h))
-  step_fits {vs = vs} others g small (form.sets {k = k} {x = x} {o = o} {ts = ts} f) =
-      let p = has_place o (placed_later vs us others x o g f) in rw p (const_fits o.ty k (both (nat_le k 2147483647) (are_small ts) small).0)
-  step_fits {vs = vs} others g small (form.outputs {x = x} {t = t} {o = o} i f) = value_fits t o (placed_later vs us others x o g f)
-  step_fits {vs = vs} others g small (form.writes {k = k} {x = x} {o = o} e f low high) =
-      let p = placed_later vs us others x o g f in
-      let a = p.at in let c = p.own in let b = at_most 1 k low in let d = at_most k (bytes_of o.ty) high in
-      rw (a, c, b, d) refl
-
-body_fits : {vs us : List Variable} {ts : List Tok} {ss : Stmts} → Body vs ts us ss → are_small ts ≡ true → stmts_fit (all_blocks us) (blocks_from 1 us) ss ≡ true
-body_fits form.ends small = refl
+body_fits : {vs us : List Variable} {ts : List Tok} {ss : Stmts} → Body vs ts us ss → are_small ts ≡ true → FitsBody us ss
+body_fits form.ends small = record { fit = refl; unscoped = refl }
 body_fits (form.declares e n d) small = body_fits d (names_small n small)
-body_fits (form.steps {a = a} {us = us} {ss = ss} s d) small =
+body_fits (form.steps {vs = vs} {us = us} s d) small =
     let g = body_grown d in
-    and_true (what_fits (all_blocks us) (blocks_from 1 us) a) (stmts_fit (all_blocks us) (blocks_from 1 us) ss) (step_fits us g.0 g.1 small s) (body_fits d (step_small s small))
+    let p = step_fits vs us g.0 g.1 s small in
+    let q = body_fits d p.small in
+    let first = p.fits in let rest = q.fit in let a = p.unscoped in let b = q.unscoped in
+    record { fit = rw (first, rest) refl; unscoped = rw (a, b) refl }
 
-program_fits : (l : ℕ) (vs : List Variable) (ss : Stmts) → bytes_of_all vs ≤ 65532 → stmts_fit (all_blocks vs) (blocks_from 1 vs) ss ≡ true → is_well_formed (program_of l vs ss) ≡ true
-program_fits l vs ss h s = let a = all_fit vs h in let b = listed_once vs in rw (a, b, s) refl
+program_fits : (l : ℕ) (vs : List Variable) (ss : Stmts) → bytes_of_all vs ≤ 65532 → FitsBody vs ss → is_well_formed (program_of l vs ss) ≡ true
+program_fits l vs ss h s = let a = all_fit vs h in let b = listed_once vs in let u = s.unscoped in let f = s.fit in rw (a, u, b, f) refl
 
 form_fits : {ts : List Tok} {p : Program} → are_small ts ≡ true → Form ts p → is_well_formed p ≡ true
 form_fits small (form.form {m = m} {vs = vs} {ts = ts} {ss = ss} e f g d b) = program_fits m vs ss b (body_fits d small)

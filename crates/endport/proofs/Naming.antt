@@ -1,6 +1,5 @@
 -- The rules of declared names against reading one name after the other.
 use Rattle.std.proofs.Common.{◌≡◌, ℕ, ◌≤◌, Bool, true, false, true≢false, ◌&&◌, nat_le, is_none, List, [], ◌∷◌, ◌++◌, append_assoc, Option, Some, None, refl, sym, ap, ◌∙◌, subst, arith, inl, inr}
-use Rattle.std.proofs.lemmas.Bool.Decides.{nat_tests}
 use Rattle.std.proofs.lemmas.List.Sums.{sum_by-append}
 use Rattle.std.specs.Option.{option_map_or}
 use Rattle.ep_int.specs.declared.types.IntType.{IntType}
@@ -14,7 +13,7 @@ use Rattle.endport.specs.Words.{is_free}
 use Rattle.endport.specs.Form.{Variable, found, declared, bytes_of_all, Names, last, next}
 use Rattle.endport.specs.Fitting.{FitNames}
 use Rattle.endport.specs.Reading.{name_at, mark_at, ◌>>=◌, declarator_at, allows, declaring}
-use Rattle.endport.proofs.Steps.{some_is, none_some, bound, either, if_some, both, name_then, mark_then}
+use Rattle.endport.proofs.Looks.{some_is, none_some, bound, either, if_some, both, le_is, at_most, name_then, mark_then}
 
 -- what follows a declared name: more names behind a comma, or nothing more
 abbrev After : IntType → List Variable → Bool → List Tok → List Variable → List Tok → Type 0
@@ -84,12 +83,6 @@ same_first {t} {vs} {us} {ts} {qs} d e b = let G : List ℕ × Bool × List Tok 
 none_is : {X : Type 0} (o : Option X) → is_none o ≡ true → o ≡ None
 none_is None h = refl
 none_is (Some x) h = absurd (true≢false (sym h))
-
-le_is : (m n : ℕ) → nat_le m n ≡ true → m ≤ n
-le_is m n h = grind (arith, nat_tests)
-
-at_most : (m n : ℕ) → m ≤ n → nat_le m n ≡ true
-at_most m n h = grind (arith, nat_tests)
 
 -- what is known of a name that is declared
 pub record Allowed (vs : List Variable) (x : List ℕ) (t : IntType) (ws : List Variable) : Type 0 where

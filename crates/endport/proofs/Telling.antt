@@ -1,5 +1,5 @@
 -- From what was read and reported to the text and the status.
-use Rattle.std.proofs.Common.{◌≡◌, refl, ap, ◌∙◌, ℕ, ◌⊎◌, inl, inr, List, [], ◌∷◌, ◌++◌, codes, decimal, Option, Some, None, IfSome}
+use Rattle.std.proofs.Common.{◌≡◌, refl, ap, ◌∙◌, ℕ, true, ◌⊎◌, inl, inr, List, [], ◌∷◌, ◌++◌, codes, decimal, Option, Some, None, IfSome, Result, Ok, Err, IfOk}
 use Rattle.endport.specs.declared.refusal.Refusal.{Refusal}
 use Rattle.endport.specs.declared.status.Status.{Status}
 use Rattle.endport.specs.declared.status.Status.TheVariants.{Done, Alarms, Refused, Usage, ReadFault, WriteFault, Memory, TooLong}
@@ -7,13 +7,15 @@ use Rattle.ep_alarms.specs.declared.types.Alarm.{Alarm}
 use Rattle.ep_alarms.specs.Text.{report_text_of}
 use Rattle.ep_core.specs.Program.{Program}
 use Rattle.ep_core.specs.Agree.{Agree, AgreeAlong}
+use Rattle.ep_core.specs.WellFormed.{is_well_formed}
 use Rattle.ep_int.specs.declared.types.Order.TheVariants.{Little, Big}
-use Rattle.ep_iterator.specs.Pass.{report_of}
+use Rattle.ep_iterator.specs.Straight.{is_straight}
+use Rattle.ep_iterator.proofs.Straight.{straight_complete}
 use Rattle.ep_io.specs.Bytes.{Appended, FrontAppended}
 use Rattle.ep_io.specs.Faults.{Rose}
 use Rattle.endport.specs.Answers.{not_built}
 use Rattle.endport.specs.Form.{First}
-use Rattle.endport.specs.Top.{report_status, refusal_line, Reports, Refuses, IsJob, TextOf, Written}
+use Rattle.endport.specs.Top.{alarms_of, report_status, refusal_line, Reports, Refuses, IsJob, TextOf, Written}
 
 -- the bytes under the file are those that were read
 told_as : (told : Option (List ℕ)) (bytes read : List ℕ) → IfSome told (λ standing. standing ≡ bytes) → bytes ≡ read → IfSome told (λ standing. standing ≡ read)
@@ -53,10 +55,15 @@ pub record Read (bytes : List ℕ) (program : Program) : Type 0 where
   pub only : (p : Program) → First bytes p → p ≡ program
 
 pub record Found (program : Program) (alarms : List Alarm) : Type 0 where
-  pub exact : alarms ≡ report_of program Little Big
+  pub exact : alarms ≡ alarms_of program
   pub sound : alarms ≡ [] → Agree program Little Big
-  pub complete : Agree program Little Big → alarms ≡ []
+  pub complete : is_straight program ≡ true → Agree program Little Big → alarms ≡ []
   pub interleaved : alarms ≡ [] → AgreeAlong program Little Big
+
+-- a report that is exact is complete on straight-line programs
+pub complete_of : {R E : Type 0} (alarms : R → List Alarm) (p : Program) (r : Result R E) → is_well_formed p ≡ true → IfOk r (λ x. alarms x ≡ alarms_of p) → IfOk r (λ x. is_straight p ≡ true → Agree p Little Big → alarms x ≡ [])
+complete_of alarms p (Ok x) w e = λ s a. e ∙ straight_complete p w s 0 a
+complete_of alarms p (Err e) w f = tt
 
 none_is_done : (alarms : List Alarm) → report_status alarms ≡ Done → alarms ≡ []
 none_is_done [] e = refl
@@ -74,7 +81,7 @@ reports bytes program alarms text r f e = record {
   status_is = ap report_status f.exact;
   portable = λ d. f.sound (none_is_done alarms d);
   interleaved = λ d. f.interleaved (none_is_done alarms d);
-  complete = λ a. ap report_status (f.complete a);
+  complete = λ s a. ap report_status (f.complete s a);
 }
 
 pub job_of : (bytes : List ℕ) (program : Program) (alarms : List Alarm) (text : List ℕ) → Read bytes program → Found program alarms → text ≡ report_text_of alarms

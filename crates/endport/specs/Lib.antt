@@ -5,6 +5,7 @@ pub mod Answers
 pub mod Fitting
 pub mod Reading
 pub mod Views
+pub mod Parts
 pub mod Pieces
 pub mod Listed
 pub mod Mains

@@ -20,7 +20,7 @@ piece l (b ∷ bs) =
     if is_blank b then Some (None, line_after l b, bs)
     else if is_letter b then Some (Some (name l (run (b ∷ bs))), l, after_run (b ∷ bs))
     else if is_digit b then option_map (λ (n : ℕ). (Some (number l n), l, after_run (b ∷ bs))) (number_of (run (b ∷ bs)))
-    else option_map (λ (m : Mark). (Some (mark l m), l, bs)) (mark_of b)
+    else option_map (λ (p : Mark × List ℕ). (Some (mark l p.0), l, p.1)) (mark_of (b ∷ bs))
 
 abbrev pub view_piece : Option Token × ℕ × (Bor (List ℕ)) → Piece
 view_piece p = (option_map view p.0, p.1, p.2.now)

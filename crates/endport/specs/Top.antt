@@ -9,7 +9,10 @@ use Rattle.ep_core.specs.Agree.{Agree, AgreeAlong}
 use Rattle.ep_int.specs.declared.types.Order.TheVariants.{Little, Big}
 use Rattle.ep_io.specs.Bytes.{Appended, FrontAppended}
 use Rattle.ep_io.specs.Faults.{Rose}
-use Rattle.ep_iterator.specs.Pass.{report_of}
+use Rattle.ep_intervals.specs.Domain.{interval_ops}
+use Rattle.ep_iterator.specs.Plain.{cells_ops}
+use Rattle.ep_iterator.specs.Straight.{is_straight}
+use Rattle.ep_pass.specs.Pass.{report_of}
 use Rattle.endport.specs.Answers.{not_built}
 use Rattle.endport.specs.Form.{First}
 
@@ -60,20 +63,24 @@ report_status (a ∷ more) = Alarms
 
 -- ---- what is written
 
--- The text and the status of a report: the bytes are a source of the straight-line form, they are those that stand under the file where these are told, and the text is the report on their one program. It has no alarms exactly where the two machines agree on this program.
+-- the alarms of a program, by intervals; no turn of a loop is gone through by itself
+abbrev pub alarms_of : Program → List Alarm
+alarms_of p = report_of (cells_ops interval_ops Little Big p) 0 p
+
+-- The text and the status of a report: the bytes are a source of the form that is read, they are those that stand under the file where these are told, and the text is the report on their one program. Where it has no alarms the two machines agree on this program. Where they agree on a program without operators, tests, loops and jumps, it has none.
 pub record Reports (told : Option (List ℕ)) (status : Status) (text : List ℕ) : Type 0 where
   pub bytes : List ℕ
   pub are : IfSome told (λ standing. standing ≡ bytes)
   pub program : Program
   pub form : First bytes program
   pub only : (p : Program) → First bytes p → p ≡ program
-  pub text_is : text ≡ report_text_of (report_of program Little Big)
-  pub status_is : status ≡ report_status (report_of program Little Big)
+  pub text_is : text ≡ report_text_of (alarms_of program)
+  pub status_is : status ≡ report_status (alarms_of program)
   pub portable : status ≡ Done → Agree program Little Big
   pub interleaved : status ≡ Done → AgreeAlong program Little Big
-  pub complete : Agree program Little Big → status ≡ Done
+  pub complete : is_straight program ≡ true → Agree program Little Big → status ≡ Done
 
--- the refusal of a source that has not the straight-line form
+-- the refusal of a source that is not of this form
 pub record Refuses (told : Option (List ℕ)) (text : List ℕ) : Type 0 where
   pub bytes : List ℕ
   pub are : IfSome told (λ standing. standing ≡ bytes)

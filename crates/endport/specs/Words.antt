@@ -31,7 +31,7 @@ built_in_names =
 abbrev pub is_free : List ℕ → Bool
 is_free x = not (list_any (bytes_eq x) (codes "main" ∷ accepted_words ++ reserved_words ++ built_in_names))
 
--- ---- the types of the straight-line form, by the words that name them
+-- ---- types, by the words that name them
 
 abbrev pub declared_type : List ℕ → Option IntType
 declared_type w = if bytes_eq w (codes "uint8_t") then Some U8 else if bytes_eq w (codes "uint32_t") then Some U32 else None

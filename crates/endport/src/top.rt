@@ -1,13 +1,13 @@
 // The top call.
-ghost use Rattle.std.specs.Prelude.{◌≡◌, ◌++◌, ◌<◌, ◌≤◌, ◌⊎◌, [], None, Some, IfErr, IfOk, IfSome, IsSome, OnOk, codes, decimal, length, map, string_bytes, vec_len};
+ghost use Rattle.std.specs.Prelude.{◌≡◌, true, ◌++◌, ◌<◌, ◌≤◌, ◌⊎◌, [], None, Some, IfErr, IfOk, IfSome, IsSome, OnOk, codes, decimal, length, map, string_bytes, vec_len};
 ghost use Rattle.endport.specs.Answers.{not_built};
-ghost use Rattle.endport.specs.Top.{IsJob, IsSilent, IsTooLong, StopsSo, TextOf, WasRead, Written, plain_file, refusal_line, report_status, under};
+ghost use Rattle.endport.specs.Top.{IsJob, IsSilent, IsTooLong, StopsSo, TextOf, WasRead, Written, alarms_of, plain_file, refusal_line, report_status, under};
 ghost use Rattle.ep_core.specs.Agree.{Agree, AgreeAlong};
 ghost use Rattle.ep_core.specs.Shown.{shown};
 ghost use Rattle.ep_int.specs.declared.types.Order.TheVariants.{Little, Big};
 ghost use Rattle.ep_io.specs.Bytes.{Appended, FrontAppended, NoneLeft};
 ghost use Rattle.ep_io.specs.Faults.{NeverFalls, Rose};
-ghost use Rattle.ep_iterator.specs.Pass.{report_of};
+ghost use Rattle.ep_iterator.specs.Straight.{is_straight};
 
 use crate::form::read_form;
 use crate::refusal::{Halt, Refusal};
@@ -16,6 +16,7 @@ use crate::words::plain_file;
 use ep_alarms::{Alarms, report_text};
 use ep_core::program::CoreProgram;
 use ep_int::Memory;
+use ep_intervals::Interval;
 use ep_io::{ReadStop, Sink, Source, read_all, write_all};
 use ep_iterator::{Report, Steps, analyse};
 use itoa::Buffer;
@@ -159,13 +160,13 @@ fn uncounted<L: Ledger>(alloc: Global, p: &CoreProgram, blank: Blank) -> Result<
     requires name { blank.name ≡ L.name }
     requires parts { blank.parts ≡ L.parts }
     requires some { 0 < blank.parts }
-    ensures exact { IfOk result (λ r. r.alarms ≡ report_of (shown p.now) Little Big) }
+    ensures exact { IfOk result (λ r. r.alarms ≡ alarms_of (shown p.now)) }
     ensures sound { IfOk result (λ r. r.alarms ≡ [] → Agree (shown p.now) Little Big) }
-    ensures complete { IfOk result (λ r. Agree (shown p.now) Little Big → r.alarms ≡ []) }
+    ensures complete { IfOk result (λ r. is_straight (shown p.now) ≡ true → Agree (shown p.now) Little Big → r.alarms ≡ []) }
     ensures interleaved { IfOk result (λ r. r.alarms ≡ [] → AgreeAlong (shown p.now) Little Big) }
 {
     let mut steps: Steps<L> = Steps::new(blank);
-    analyse(alloc, p, 0, &mut steps)
+    analyse::<Interval, L>(alloc, p, 0, &mut steps)
 }
 
 // The line of a refusal.

@@ -1,4 +1,8 @@
 pub mod Rows
-pub mod Longer
-pub mod Runs
 pub mod Typing
+pub mod Views
+pub mod Prefixes
+pub mod Grows
+pub mod Bridge
+pub mod Runs
+pub mod Plain

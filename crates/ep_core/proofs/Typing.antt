@@ -8,9 +8,10 @@ use Rattle.ep_int.specs.declared.types.IntType.{IntType}
 use Rattle.ep_int.specs.declared.types.IntType.TheVariants.{I8, U8, I16, U16, I32, U32, I64, U64}
 use Rattle.ep_int.specs.declared.types.Scalar.{Scalar}
 use Rattle.ep_int.specs.declared.types.Scalar.TheVariants.{Int, Pointer}
+use Rattle.ep_int.specs.Arith.{is_in_range}
 use Rattle.ep_int.specs.Types.{size_of, InRange}
 use Rattle.ep_core.specs.Program.{Block}
-use Rattle.ep_core.specs.WellFormed.{number_of_type, is_same_type, is_same_scalar, holds_scalar, is_integer, block_fits, blocks_fit, is_in_range, Ty, number, address, has_type}
+use Rattle.ep_core.specs.WellFormed.{number_of_type, is_same_type, is_same_scalar, holds_scalar, is_integer, block_fits, blocks_fit, Ty, number, address, has_type}
 
 -- the type of a number: the inverse of number_of_type
 type_at : ℕ → IntType

@@ -9,7 +9,7 @@ use Rattle.ep_int.specs.declared.types.Scalar.TheVariants.{Int}
 use Rattle.ep_int.specs.Memory.{undefined, number, Memory, int, null, pointer, Kind, pointer_part, Found, has, faults, loaded, stored}
 use Rattle.ep_core.specs.Program.{Block, Init, Function, Program}
 use Rattle.ep_core.specs.WellFormed.{is_global}
-use Rattle.ep_core.specs.Exec.{Output, State, Outcome, leaves, running, no_input, undefined_at, size_at, exec_all, put_out}
+use Rattle.ep_core.specs.Exec.{Output, State, Outcome, leaves, running, no_input, undefined_at, Counting, counted, size_at, exec_all, put_out}
 
 -- ---- the memory at the start
 
@@ -48,27 +48,30 @@ result_out (has null) l s = run_of (undefined_on l pointer_part) s.outputs
 result_out (has (pointer b q)) l s = run_of (undefined_on l pointer_part) s.outputs
 result_out (faults k) l s = run_of (undefined_on l k) s.outputs
 
-abbrev pub main_ends : Order → List Block → Option (ℕ × Scalar) → (line : ℕ) → State → Run
-main_ends o bs None l s = run_of ended s.outputs
-main_ends o bs (Some r) l s = result_out (loaded o (size_at o bs r.0) s.memory r.1 r.0 0) l s
+abbrev pub main_ends : Order → Program → Option (ℕ × Scalar) → (line : ℕ) → State → Run
+main_ends o p None l s = run_of ended s.outputs
+main_ends o p (Some r) l s = result_out (loaded o (size_at o p r.0) s.memory r.1 r.0 0) l s
 
-abbrev pub finished : Order → List Block → Function → Outcome → Run
-finished o bs f (leaves w left s) = main_ends o bs f.result f.line s
-finished o bs f (running s) = run_of still_running s.outputs
-finished o bs f (no_input s) = run_of wants_input s.outputs
-finished o bs f (undefined_at l k s) = run_of (undefined_on l k) s.outputs
+abbrev pub finished : Order → Program → Function → Outcome → Run
+finished o p f (leaves w left s) = main_ends o p f.result f.line s
+finished o p f (running s) = run_of still_running s.outputs
+finished o p f (no_input s) = run_of wants_input s.outputs
+finished o p f (undefined_at l k s) = run_of (undefined_on l k) s.outputs
 
 abbrev pub start : Order → Program → Function → List ℕ → State
-start o p f inputs = record { memory = initial o p f; inputs = inputs; outputs = [] }
+start o p f inputs = record { memory = initial o p f; inputs = inputs; outputs = []; tests = []; joint_tests = [] }
 
 -- a well-formed program has its main
-abbrev pub run_from : Order → Program → Option Function → List ℕ → ℕ → Run
-run_from o p None inputs n = run_of ended []
-run_from o p (Some f) inputs n = finished o p.blocks f (exec_all o p.blocks f.body n (start o p f inputs))
+abbrev pub run_from : Counting → Order → Program → Option Function → List ℕ → ℕ → Run
+run_from c o p None inputs n = run_of ended []
+run_from c o p (Some f) inputs n = finished o p f (exec_all o p c f.result f.body n (start o p f inputs))
+
+abbrev pub run_by : Counting → Program → Order → List ℕ → ℕ → Run
+run_by c p o inputs n = run_from c o p (slice_get p.functions p.main) inputs n
 
 -- so many steps of main on a machine of this byte order, with these inputs
 abbrev pub run : Program → Order → List ℕ → ℕ → Run
-run p o inputs n = run_from o p (slice_get p.functions p.main) inputs n
+run p o inputs n = run_by counted p o inputs n
 
 -- ---- agreement
 

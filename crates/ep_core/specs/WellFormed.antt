@@ -1,12 +1,16 @@
 -- Which programs are well formed. The typing rules are this project's, after C11 6.5 to 6.8.
-use Rattle.std.specs.Prelude.{ℕ, zero, suc, ℤ, Bool, true, false, ◌&&◌, ◌||◌, not, nat_eq, nat_le, int_le, if◌then◌else◌, List, [], ◌∷◌, ◌++◌, map, length, sum_by, slice_get, Option, Some, None, option_to_list, is_some}
+use Rattle.std.specs.Prelude.{ℕ, zero, suc, Bool, true, false, ◌&&◌, ◌||◌, not, nat_eq, nat_le, if◌then◌else◌, List, [], ◌∷◌, ◌++◌, map, length, sum_by, slice_get, Option, Some, None, option_to_list, is_some}
 use Rattle.std.specs.List.{list_any, list_all, flat_map}
+use Rattle.std.specs.Option.{option_map}
 use Rattle.ep_int.specs.declared.types.IntType.{IntType}
 use Rattle.ep_int.specs.declared.types.IntType.TheVariants.{I8, U8, I16, U16, I32, U32, I64, U64}
 use Rattle.ep_int.specs.declared.types.Scalar.{Scalar}
 use Rattle.ep_int.specs.declared.types.Scalar.TheVariants.{Int, Pointer}
-use Rattle.ep_int.specs.Types.{size_of, least_of, greatest_of}
-use Rattle.ep_core.specs.Program.{Place, block, Expr, const, load, addr_of, convert, Dest, What, assign, input, output, write_bytes, Stmts, stop, more, Block, Init, Function, Program}
+use Rattle.ep_int.specs.Types.{size_of}
+use Rattle.ep_int.specs.declared.types.BinOp.{BinOp}
+use Rattle.ep_int.specs.declared.types.BinOp.TheVariants.{Add, Sub, Mul, Div, Rem, And, Or, Xor, Shl, Shr}
+use Rattle.ep_int.specs.Arith.{is_in_range}
+use Rattle.ep_core.specs.Program.{Place, block, Expr, const, load, addr_of, binary, convert, compare, Dest, What, nothing, eval, assign, input, output, write_bytes, if_else, loop, break_loop, continue_loop, returns, scope, Stmts, stop, more, Block, Init, Function, Program}
 
 -- ---- equality of types
 
@@ -46,9 +50,29 @@ numbers_below (suc n) = numbers_below n ++ n ∷ []
 abbrev pub first_of : List (ℕ × Scalar) → List ℕ
 first_of ps = map (λ (p : ℕ × Scalar). p.0) ps
 
--- the blocks of a function's own: its parameters, its result and its locals
+-- the blocks of the scopes in statements
+abbrev mutual
+  pub scoped_in : What → List ℕ
+  scoped_in nothing = []
+  scoped_in (eval e) = []
+  scoped_in (assign what a e) = []
+  scoped_in (input t d) = []
+  scoped_in (output t e) = []
+  scoped_in (write_bytes e n) = []
+  scoped_in (if_else e a b) = scoped a ++ scoped b
+  scoped_in (loop first e a b) = scoped a ++ scoped b
+  scoped_in break_loop = []
+  scoped_in continue_loop = []
+  scoped_in (returns e) = []
+  scoped_in (scope bs a) = bs ++ scoped a
+
+  pub scoped : Stmts → List ℕ
+  scoped stop = []
+  scoped (more l w rest) = scoped_in w ++ scoped rest
+
+-- the blocks of a function's own: its parameters, its result, its locals and those of its scopes
 abbrev pub own_blocks : Function → List ℕ
-own_blocks f = first_of f.params ++ (first_of (option_to_list f.result) ++ f.locals)
+own_blocks f = first_of f.params ++ (first_of (option_to_list f.result) ++ (f.locals ++ scoped f.body))
 
 -- ---- blocks and their first values
 
@@ -73,9 +97,6 @@ block_fits b = is_integer b.ty && nat_eq b.size (size_of b.ty)
 -- all blocks together have at most 65,536 bytes
 abbrev pub blocks_fit : List Block → Bool
 blocks_fit bs = list_all block_fits bs && nat_le (sum_by (λ (b : Block). b.size) bs) 65536
-
-abbrev pub is_in_range : IntType → ℤ → Bool
-is_in_range t v = int_le (least_of t) v && int_le v (greatest_of t)
 
 -- a first value is of the whole of a global block, and of its type
 abbrev pub init_fits : List Block → Init → Bool
@@ -121,9 +142,42 @@ abbrev pub has_bytes : Option Block → ℕ → Bool
 has_bytes None n = false
 has_bytes (Some b) n = nat_le n b.size
 
--- in a function that sees these blocks
+-- the right operand of an operator: of its type, but the amount of a shift is a number of any type
+abbrev pub is_right_operand : BinOp → IntType → Option Ty → Bool
+is_right_operand Add t u = has_type u (number t)
+is_right_operand Sub t u = has_type u (number t)
+is_right_operand Mul t u = has_type u (number t)
+is_right_operand Div t u = has_type u (number t)
+is_right_operand Rem t u = has_type u (number t)
+is_right_operand And t u = has_type u (number t)
+is_right_operand Or t u = has_type u (number t)
+is_right_operand Xor t u = has_type u (number t)
+is_right_operand Shl t u = is_number u
+is_right_operand Shr t u = is_number u
+
+-- these statements have no loop and no jump, at whatever depth
+abbrev mutual
+  pub is_plain : What → Bool
+  is_plain nothing = true
+  is_plain (eval e) = true
+  is_plain (assign what a e) = true
+  is_plain (input t d) = true
+  is_plain (output t e) = true
+  is_plain (write_bytes e n) = true
+  is_plain (if_else e a b) = are_plain a && are_plain b
+  is_plain (loop first e a b) = false
+  is_plain break_loop = false
+  is_plain continue_loop = false
+  is_plain (returns e) = false
+  is_plain (scope bs a) = are_plain a
+
+  pub are_plain : Stmts → Bool
+  are_plain stop = true
+  are_plain (more l w rest) = is_plain w && are_plain rest
+
+-- among these blocks, where these can be named
 module _ (bs : List Block) (seen : List ℕ) where
-  -- a place is a block that is global or of the function
+  -- a place is a block that is global or can be named
   abbrev pub place_has : Place → Scalar → Bool
   place_has (block b) what = (is_global (slice_get bs b) || contains b seen) && holds_scalar (slice_get bs b) what
 
@@ -131,37 +185,62 @@ module _ (bs : List Block) (seen : List ℕ) where
   type_of (const t v) = if is_in_range t v then Some (number t) else None
   type_of (load what a) = if place_has a what then Some (type_of_scalar what) else None
   type_of (addr_of a) = Some address
+  type_of (binary op t a b) = if has_type (type_of a) (number t) && is_right_operand op t (type_of b) then Some (number t) else None
   type_of (convert t e) = if is_number (type_of e) then Some (number t) else None
+  type_of (compare c t a b) = if has_type (type_of a) (number t) && has_type (type_of b) (number t) then Some (number I32) else None
 
   -- so far the bytes that are put out are those of one object, from its start
   abbrev pub bytes_fit : Expr → ℕ → Bool
   bytes_fit (const t v) n = false
   bytes_fit (load what a) n = false
   bytes_fit (addr_of (block b)) n = (is_global (slice_get bs b) || contains b seen) && nat_le 1 n && has_bytes (slice_get bs b) n
+  bytes_fit (binary op t a b) n = false
   bytes_fit (convert t e) n = false
+  bytes_fit (compare c t a b) n = false
 
   -- an input goes to a number
   abbrev pub dest_fits : Option Dest → Bool
   dest_fits None = true
   dest_fits (Some d) = is_integer d.what && place_has d.place d.what
 
-  abbrev pub what_fits : What → Bool
-  what_fits (assign what a e) = place_has a what && has_type (type_of e) (type_of_scalar what)
-  what_fits (input t d) = dest_fits d
-  what_fits (output t e) = has_type (type_of e) (number t)
-  what_fits (write_bytes e n) = bytes_fit e n
+-- what is returned has the type of the function's result, if there is one
+abbrev pub result_fits : List Block → List ℕ → Option Scalar → Option Expr → Bool
+result_fits bs seen None None = true
+result_fits bs seen None (Some e) = false
+result_fits bs seen (Some what) None = false
+result_fits bs seen (Some what) (Some e) = has_type (type_of bs seen e) (type_of_scalar what)
 
-  abbrev pub stmts_fit : Stmts → Bool
-  stmts_fit stop = true
-  stmts_fit (more l w rest) = what_fits w && stmts_fit rest
+-- statements of a function with this result; so far what is tested is a number
+module _ (bs : List Block) (result : Option Scalar) where
+  abbrev mutual
+    pub what_fits : What → (seen : List ℕ) → (in_loop : Bool) → Bool
+    what_fits nothing seen i = true
+    what_fits (eval e) seen i = is_number (type_of bs seen e)
+    what_fits (assign what a e) seen i = place_has bs seen a what && has_type (type_of bs seen e) (type_of_scalar what)
+    what_fits (input t d) seen i = dest_fits bs seen d
+    what_fits (output t e) seen i = has_type (type_of bs seen e) (number t)
+    what_fits (write_bytes e n) seen i = bytes_fit bs seen e n
+    what_fits (if_else e a b) seen i = is_number (type_of bs seen e) && stmts_fit a seen i && stmts_fit b seen i
+    what_fits (loop first e a b) seen i = is_number (type_of bs seen e) && stmts_fit a seen true && (are_plain b && stmts_fit b seen i)
+    what_fits break_loop seen i = i
+    what_fits continue_loop seen i = i
+    what_fits (returns e) seen i = result_fits bs seen result e
+    what_fits (scope own a) seen i = stmts_fit a (own ++ seen) i
+
+    pub stmts_fit : Stmts → (seen : List ℕ) → (in_loop : Bool) → Bool
+    stmts_fit stop seen i = true
+    stmts_fit (more l w rest) seen i = what_fits w seen i && stmts_fit rest seen i
 
 -- ---- functions
 
 abbrev pub are_held : List Block → List (ℕ × Scalar) → Bool
 are_held bs ps = list_all (λ (p : ℕ × Scalar). holds_scalar (slice_get bs p.0) p.1) ps
 
+abbrev pub scalar_of : ℕ × Scalar → Scalar
+scalar_of p = p.1
+
 abbrev pub function_fits : List Block → Function → Bool
-function_fits bs f = are_held bs f.params && are_held bs (option_to_list f.result) && stmts_fit bs (first_of f.params ++ f.locals) f.body
+function_fits bs f = are_held bs f.params && are_held bs (option_to_list f.result) && stmts_fit bs (option_map scalar_of f.result) f.body (first_of f.params ++ f.locals) false
 
 abbrev pub is_int : Option (ℕ × Scalar) → Bool
 is_int None = false

@@ -1,6 +1,6 @@
 //! Expressions and statements.
 
-use ep_int::{IntType, Scalar};
+use ep_int::{BinOp, Cmp, IntType, Scalar};
 
 /// An expression, typed: a number of an integer type, or an address.
 #[derive(Debug, Drop)]
@@ -11,8 +11,12 @@ pub enum Expr {
     Load(Scalar, Box<Place>),
     /// The address of a place.
     AddrOf(Box<Place>),
+    /// An operator on two numbers of the type; the amount of a shift may be of any type.
+    Bin(BinOp, IntType, Box<Expr>, Box<Expr>),
     /// A number, converted to the type.
     Convert(IntType, Box<Expr>),
+    /// 1 where two numbers of the type compare so, else 0, as an int.
+    Compare(Cmp, IntType, Box<Expr>, Box<Expr>),
 }
 
 /// An object, or a part of one.
@@ -33,6 +37,7 @@ pub struct Dest {
 
 /// A statement, at the line of its first token.
 #[derive(Debug, Drop)]
+#[cycle(statements)]
 pub struct Stmt {
     pub line: u32,
     pub what: What,
@@ -40,7 +45,11 @@ pub struct Stmt {
 
 /// What a statement does.
 #[derive(Debug, Drop)]
+#[cycle(statements)]
 pub enum What {
+    Nothing,
+    /// Evaluates an expression, whose value goes nowhere.
+    Eval(Expr),
     /// Stores a value of the place's type.
     Assign(Scalar, Place, Expr),
     /// Takes the next input as a number of the type, and stores it, converted.
@@ -49,4 +58,14 @@ pub enum What {
     Output(IntType, Expr),
     /// Puts out so many bytes from an address on.
     WriteBytes(Expr, u32),
+    /// A test, what is done where it is true, and what is done else.
+    If(Expr, Vec<Stmt>, Vec<Stmt>),
+    /// Whether the test comes before the first turn, the test, the body, and the step part, which is done after each turn.
+    Loop(bool, Expr, Vec<Stmt>, Vec<Stmt>),
+    Break,
+    Continue,
+    /// Leaves the function, with its result where it has one.
+    Return(Option<Expr>),
+    /// The blocks of objects that are there while the statements are done.
+    Scope(Vec<u32>, Vec<Stmt>),
 }

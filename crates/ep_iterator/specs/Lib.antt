@@ -1,3 +1,6 @@
-pub mod Range
-pub mod Known
-pub mod Pass
+pub mod Plain
+pub mod Needs
+pub mod Stands
+pub mod Straight
+pub mod Laws
+pub mod Samples

@@ -1,18 +1,17 @@
 // The report on a program.
-ghost use Rattle.std.specs.Prelude.{◌≡◌, IfOk, [], slice_get};
-ghost use Rattle.std.specs.Option.{option_map};
+ghost use Rattle.std.specs.Prelude.{◌≡◌, ◌+◌, ◌<◌, IfOk, OnOk, []};
 ghost use Rattle.ep_core.specs.Agree.{Agree, AgreeAlong};
 ghost use Rattle.ep_core.specs.Shown.{shown};
-ghost use Rattle.ep_core.specs.View.{shown_function};
 ghost use Rattle.ep_int.specs.declared.types.Order.TheVariants.{Little, Big};
-ghost use Rattle.ep_iterator.specs.Pass.{report_of};
+ghost use Rattle.ep_iterator.specs.Plain.{cells_ops};
+ghost use Rattle.ep_pass.specs.Pass.{report_of, turns_of};
 
-use crate::known::at_entry;
-use crate::steps::Steps;
-use crate::walk::pass_all;
+use crate::plain::Plain;
 use ep_alarms::Alarms;
-use ep_core::program::{CoreProgram, Function};
+use ep_core::program::CoreProgram;
+use ep_domain::Num;
 use ep_int::Memory;
+use ep_walk::{Steps, walk};
 use std::alloc::Global;
 use std::sync::ledger::Ledger;
 
@@ -22,37 +21,21 @@ pub struct Report {
     pub alarms: Alarms,
 }
 
-/// Goes through a program once, for a little-endian and a big-endian machine that are otherwise alike.
-/// Of a loop's turns the first `unroll` are to be gone through one by one, and `steps` counts the
-/// passes through loop bodies.
-pub fn analyse<L: Ledger>(
+/// Goes through a program once, for a little-endian and a big-endian machine that are otherwise alike, with what `N`
+/// knows of numbers. Of a loop's turns the first `unroll` are gone through one by one, and `steps` counts the passes
+/// through loop bodies.
+pub fn analyse<N: Num, L: Ledger>(
     alloc: Global,
     p: &CoreProgram,
     unroll: u32,
     steps: &mut Steps<L>,
 ) -> Result<Report, Memory>
-    ensures exact { IfOk result (λ r. r.alarms ≡ report_of (shown p.now) Little Big) }
+    requires settles { N.HEIGHT < 4294967295 }
+    ensures exact { IfOk result (λ r. r.alarms ≡ report_of (cells_ops N.ops Little Big (shown p.now)) unroll (shown p.now)) }
     ensures sound { IfOk result (λ r. r.alarms ≡ [] → Agree (shown p.now) Little Big) }
-    ensures complete { IfOk result (λ r. Agree (shown p.now) Little Big → r.alarms ≡ []) }
     ensures interleaved { IfOk result (λ r. r.alarms ≡ [] → AgreeAlong (shown p.now) Little Big) }
-    ensures steps { steps.new ≡ steps.old }
+    ensures steps { OnOk result (steps.new ≡ steps.old + turns_of (cells_ops N.ops Little Big (shown p.now)) unroll (shown p.now)) }
 {
-    // No statement is a loop yet.
-    let _ = unroll;
-    let _ = steps;
-    let mut alarms = Alarms::new(alloc);
-    let Some(main) = main_of(p) else {
-        return Ok(Report { alarms });
-    };
-    let Ok(known) = at_entry(alloc, p, main) else {
-        return Err(Memory);
-    };
-    pass_all(&p.blocks, &main.body, known, &mut alarms)?;
+    let alarms = walk::<Plain<N>, L>(alloc, p, unroll, steps)?;
     Ok(Report { alarms })
-}
-
-fn main_of(p: &CoreProgram) -> Option<&Function>
-    ensures { option_map (λ f. shown_function f.now) result ≡ slice_get (shown p.now).functions (shown p.now).main }
-{
-    p.functions.get(p.main as usize)
 }

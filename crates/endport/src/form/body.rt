@@ -10,7 +10,7 @@ ghost use Rattle.endport.specs.Views.{view};
 
 use crate::form::item::{Item, head, next_declarator, next_item};
 use crate::form::look::Tokens;
-use crate::form::meaning::meaning;
+use crate::form::steps::{Surroundings, read_step};
 use crate::form::variables::Variables;
 use crate::refusal::{Halt, not_built};
 use ep_core::tree::Stmt;
@@ -39,6 +39,9 @@ fn declare_names<'t>(
         next = next_declarator(rest);
     }
 }
+
+/// How many bodies of `if` and `while` may be inside one another.
+const MOST_DEPTH: u32 = 64;
 
 /// What is read of a whole source.
 #[derive(Drop)]
@@ -70,9 +73,13 @@ pub fn read_main(alloc: Global, tokens: Tokens<'_>) -> Result<Main, Halt>
                 steps,
             }),
             Item::Declares(ty, names) => rest = declare_names(alloc, &mut variables, ty, names)?,
-            Item::Step(line, phrase, after) => {
-                let what = meaning(alloc, &variables, phrase)?;
-                steps.push(Stmt { line, what })?;
+            Item::Begins => {
+                let around = Surroundings {
+                    room: MOST_DEPTH,
+                    in_loop: false,
+                };
+                let (step, after) = read_step(alloc, &variables, around, rest)?;
+                steps.push(step)?;
                 rest = after;
             }
         }

@@ -1,12 +1,11 @@
-//! Declarations and steps, as they are written.
+//! What the body of main consists of, and its head.
 
-ghost use Rattle.std.specs.Prelude.{◌≡◌, ◌<◌, ◌≤◌, length, map, IfSome, is_some};
+ghost use Rattle.std.specs.Prelude.{◌≡◌, ◌<◌, ◌≤◌, length, map, IfSome};
 ghost use Rattle.std.specs.Option.{option_map};
-ghost use Rattle.endport.specs.Views.{view_item, rest_of, declarator_read, head_read, view};
+ghost use Rattle.endport.specs.Views.{view_item, names_of, declarator_read, head_read, view};
 ghost use Rattle.endport.specs.Reading as reading;
 
 use crate::form::look::{Tokens, mark, name};
-use crate::form::phrase::{Phrase, read_phrase};
 use crate::form::token::Mark;
 use crate::form::words::declared_type;
 use ep_int::IntType;
@@ -18,37 +17,30 @@ pub enum Item<'t> {
     Ends,
     /// A declaration of names of this type, from the first name on.
     Declares(IntType, Tokens<'t>),
-    /// A step at this line, and what comes after it.
-    Step(u32, Phrase<'t>, Tokens<'t>),
+    /// A step, if it is of the form at all.
+    Begins,
 }
 
 /// A declared name, whether a comma (and no semicolon) stands behind it, and what comes after that.
 type Declarator<'t> = (&'t [u8], bool, Tokens<'t>);
 
-fn begins_with_name(tokens: Tokens<'_>) -> bool
-    ensures { result ≡ is_some (reading.name_at (map view tokens.now)) }
+/// The type of a declaration, and its names.
+#[tactic(auto, unfolding(crate::specs::Reading::declaration_at))]
+fn declaration<'t>(tokens: Tokens<'t>) -> Option<(IntType, Tokens<'t>)>
+    ensures value { option_map (λ p. (p.0, map view p.1.now)) result ≡ reading.declaration_at (map view tokens.now) }
+    ensures shorter { IfSome result (λ p. length p.1.now < length tokens.now) }
 {
-    name(tokens).is_some()
-}
-
-/// A declaration or a step, from behind its first token, a name at this line.
-#[tactic(auto, unfolding(crate::specs::Reading::named_item))]
-fn named_item<'t>(line: u32, first: &'t [u8], tokens: Tokens<'t>) -> Option<Item<'t>>
-    ensures value { option_map view_item result ≡ reading.named_item line first.now (map view tokens.now) }
-    ensures shorter { IfSome result (λ i. length (rest_of i) ≤ length tokens.now) }
-{
-    if begins_with_name(tokens) {
-        return Some(Item::Declares(declared_type(first)?, tokens));
-    }
-    let (phrase, rest) = read_phrase(first, tokens)?;
-    Some(Item::Step(line, phrase, rest))
+    let (_, word, rest) = name(tokens)?;
+    name(rest)?;
+    let ty = declared_type(word)?;
+    Some((ty, rest))
 }
 
 /// What comes next in the body.
 #[tactic(auto, unfolding(crate::specs::Reading::item_at))]
 pub fn next_item<'t>(tokens: Tokens<'t>) -> Option<Item<'t>>
     ensures value { option_map view_item result ≡ reading.item_at (map view tokens.now) }
-    ensures shorter { IfSome result (λ i. length (rest_of i) < length tokens.now) }
+    ensures shorter { IfSome result (λ i. length (names_of i) ≤ length tokens.now) }
 {
     if let Some(rest) = mark(tokens, Mark::BraceClose) {
         return match rest {
@@ -56,8 +48,10 @@ pub fn next_item<'t>(tokens: Tokens<'t>) -> Option<Item<'t>>
             _ => None,
         };
     }
-    let (line, first, rest) = name(tokens)?;
-    named_item(line, first, rest)
+    match declaration(tokens) {
+        Some((ty, names)) => Some(Item::Declares(ty, names)),
+        None => Some(Item::Begins),
+    }
 }
 
 /// The next name of a declaration.

@@ -1,28 +1,34 @@
-//! Steps as they are written.
+//! Steps as they are written, but those with bodies.
 
 ghost use Rattle.std.specs.Prelude.{◌≡◌, ◌<◌, length, map, IfSome};
 ghost use Rattle.std.specs.Option.{option_map};
-ghost use Rattle.endport.specs.Views.{view, phrase_read, view_phrase};
+ghost use Rattle.endport.specs.Views.{view, phrase_read, view_atom, view_phrase};
 ghost use Rattle.endport.specs.Reading as reading;
 
-use crate::form::look::{Tokens, mark, name, number};
+use crate::form::look::{Atom, Tokens, mark, name, next_atom, next_operator, number};
 use crate::form::token::Mark;
 use crate::form::words::{input_type, output_type};
-use ep_int::IntType;
+use ep_int::{BinOp, IntType};
 
-/// A step, before its names are looked up. Names lie in the source.
+/// A step without a body, before its names are looked up. Names lie in the source.
 #[derive(Clone, Copy)]
 pub enum Phrase<'t> {
     /// `x = ep_in_T();`
     Takes(&'t [u8], IntType),
-    /// `x = y;`
-    Copies(&'t [u8], &'t [u8]),
-    /// `x = 5;`
-    Sets(&'t [u8], u32),
+    /// `x = y;` or `x = 5;`
+    Sets(&'t [u8], Atom<'t>),
+    /// `x = a + b;`, and likewise the other operators
+    Computes(&'t [u8], BinOp, Atom<'t>, Atom<'t>),
     /// `ep_out_T(x);`
     Puts(IntType, &'t [u8]),
     /// `ep_write(&x, 4);`
     Writes(&'t [u8], u32),
+    /// `break;`
+    Breaks,
+    /// `continue;`
+    Continues,
+    /// `return a;`
+    Leaves(Atom<'t>),
 }
 
 /// A step, and what comes after it.
@@ -37,27 +43,43 @@ fn ended<'t>(phrase: Phrase<'t>, tokens: Tokens<'t>) -> Read<'t>
     Some((phrase, rest))
 }
 
-/// Behind `x = word (`.
+/// Behind `x = word (`, where the word has to be the name of a call.
 #[tactic(auto, unfolding(crate::specs::Reading::taken))]
-fn taken<'t>(target: &'t [u8], word: &'t [u8], tokens: Tokens<'t>) -> Read<'t>
-    ensures value { option_map phrase_read result ≡ reading.taken target.now word.now (map view tokens.now) }
+fn taken<'t>(target: &'t [u8], word: Atom<'t>, tokens: Tokens<'t>) -> Read<'t>
+    ensures value { option_map phrase_read result ≡ reading.taken target.now (view_atom word.entry) (map view tokens.now) }
     ensures shorter { IfSome result (λ p. length p.1.now < length tokens.now) }
 {
+    let Atom::Variable(word) = word else {
+        return None;
+    };
     let ty = input_type(word)?;
     let rest = mark(tokens, Mark::ParenClose)?;
     ended(Phrase::Takes(target, ty), rest)
 }
 
-/// Behind `x = source`.
-#[tactic(auto, unfolding(crate::specs::Reading::named))]
-fn named<'t>(target: &'t [u8], source: &'t [u8], tokens: Tokens<'t>) -> Read<'t>
-    ensures value { option_map phrase_read result ≡ reading.named target.now source.now (map view tokens.now) }
+/// Behind `x = a +`, and likewise the other operators.
+#[tactic(auto, unfolding(crate::specs::Reading::computed))]
+fn computed<'t>(target: &'t [u8], left: Atom<'t>, op: BinOp, tokens: Tokens<'t>) -> Read<'t>
+    ensures value { option_map phrase_read result ≡ reading.computed target.now (view_atom left.entry) op (map view tokens.now) }
     ensures shorter { IfSome result (λ p. length p.1.now < length tokens.now) }
 {
-    match mark(tokens, Mark::ParenOpen) {
-        Some(rest) => taken(target, source, rest),
-        None => ended(Phrase::Copies(target, source), tokens),
+    let (right, rest) = next_atom(tokens)?;
+    ended(Phrase::Computes(target, op, left, right), rest)
+}
+
+/// Behind `x = a`.
+#[tactic(auto, unfolding(crate::specs::Reading::given))]
+fn given<'t>(target: &'t [u8], first: Atom<'t>, tokens: Tokens<'t>) -> Read<'t>
+    ensures value { option_map phrase_read result ≡ reading.given target.now (view_atom first.entry) (map view tokens.now) }
+    ensures shorter { IfSome result (λ p. length p.1.now < length tokens.now) }
+{
+    if let Some(rest) = mark(tokens, Mark::ParenOpen) {
+        return taken(target, first, rest);
     }
+    if let Some((op, rest)) = next_operator(tokens) {
+        return computed(target, first, op, rest);
+    }
+    ended(Phrase::Sets(target, first), tokens)
 }
 
 /// Behind `x =`.
@@ -66,11 +88,8 @@ fn assigned<'t>(target: &'t [u8], tokens: Tokens<'t>) -> Read<'t>
     ensures value { option_map phrase_read result ≡ reading.assigned target.now (map view tokens.now) }
     ensures shorter { IfSome result (λ p. length p.1.now < length tokens.now) }
 {
-    if let Some((value, rest)) = number(tokens) {
-        return ended(Phrase::Sets(target, value), rest);
-    }
-    let (_, source, rest) = name(tokens)?;
-    named(target, source, rest)
+    let (first, rest) = next_atom(tokens)?;
+    given(target, first, rest)
 }
 
 /// Behind `word ( &`.
@@ -104,25 +123,51 @@ fn put<'t>(word: &'t [u8], tokens: Tokens<'t>) -> Read<'t>
 
 /// Behind `word (`.
 #[tactic(auto, unfolding(crate::specs::Reading::called))]
-fn called<'t>(word: &'t [u8], tokens: Tokens<'t>) -> Read<'t>
+pub fn read_call<'t>(word: &'t [u8], tokens: Tokens<'t>) -> Read<'t>
     ensures value { option_map phrase_read result ≡ reading.called word.now (map view tokens.now) }
     ensures shorter { IfSome result (λ p. length p.1.now < length tokens.now) }
 {
-    match mark(tokens, Mark::Ampersand) {
+    match mark(tokens, Mark::Operator(BinOp::And)) {
         Some(rest) => written(word, rest),
         None => put(word, tokens),
     }
 }
 
-/// A step that begins with this name, from what comes after the name.
+/// Behind `return`.
+#[tactic(auto, unfolding(crate::specs::Reading::returned))]
+fn returned<'t>(tokens: Tokens<'t>) -> Read<'t>
+    ensures value { option_map phrase_read result ≡ reading.returned (map view tokens.now) }
+    ensures shorter { IfSome result (λ p. length p.1.now < length tokens.now) }
+{
+    let (value, rest) = next_atom(tokens)?;
+    ended(Phrase::Leaves(value), rest)
+}
+
+/// A jump, from behind its word.
+#[tactic(auto, unfolding(crate::specs::Reading::jumped))]
+fn jumped<'t>(word: &'t [u8], tokens: Tokens<'t>) -> Read<'t>
+    ensures value { option_map phrase_read result ≡ reading.jumped word.now (map view tokens.now) }
+    ensures shorter { IfSome result (λ p. length p.1.now < length tokens.now) }
+{
+    if word == b"return".as_slice() {
+        returned(tokens)
+    } else if word == b"break".as_slice() {
+        ended(Phrase::Breaks, tokens)
+    } else if word == b"continue".as_slice() {
+        ended(Phrase::Continues, tokens)
+    } else {
+        None
+    }
+}
+
+/// A step that begins with this name, from what comes after the name, which is no `(`.
 #[tactic(auto, unfolding(crate::specs::Reading::phrase_at))]
 pub fn read_phrase<'t>(first: &'t [u8], tokens: Tokens<'t>) -> Read<'t>
     ensures value { option_map phrase_read result ≡ reading.phrase_at first.now (map view tokens.now) }
     ensures shorter { IfSome result (λ p. length p.1.now < length tokens.now) }
 {
-    if let Some(rest) = mark(tokens, Mark::Equals) {
-        return assigned(first, rest);
+    match mark(tokens, Mark::Equals) {
+        Some(rest) => assigned(first, rest),
+        None => jumped(first, tokens),
     }
-    let rest = mark(tokens, Mark::ParenOpen)?;
-    called(first, rest)
 }

@@ -10,9 +10,10 @@ ghost use Rattle.endport.specs.Views.{view};
 ghost use Rattle.endport.specs.declared.refusal.Halt.TheVariants.{Memory};
 
 use crate::refusal::{Halt, not_built};
+use ep_int::{BinOp, Cmp};
 use std::alloc::{AllocError, Global};
 
-/// A mark of punctuation.
+/// Punctuation, an operator or a comparison.
 #[derive(Clone, Copy, PartialEq, Eq)]
 pub enum Mark {
     ParenOpen,
@@ -22,7 +23,8 @@ pub enum Mark {
     Comma,
     Semicolon,
     Equals,
-    Ampersand,
+    Operator(BinOp),
+    Comparison(Cmp),
 }
 
 /// What a token is. A name lies in the source.
@@ -69,8 +71,8 @@ fn is_word(b: u8) -> bool
     is_letter(b) || is_digit(b)
 }
 
-fn mark_of(b: u8) -> Option<Mark>
-    ensures { result ≡ tokens.mark_of b }
+fn punctuation(b: u8) -> Option<Mark>
+    ensures { result ≡ tokens.punctuation b }
 {
     match b {
         b'(' => Some(Mark::ParenOpen),
@@ -80,8 +82,80 @@ fn mark_of(b: u8) -> Option<Mark>
         b',' => Some(Mark::Comma),
         b';' => Some(Mark::Semicolon),
         b'=' => Some(Mark::Equals),
-        b'&' => Some(Mark::Ampersand),
         _ => None,
+    }
+}
+
+fn operator(b: u8) -> Option<Mark>
+    ensures { result ≡ tokens.operator b }
+{
+    match b {
+        b'+' => Some(Mark::Operator(BinOp::Add)),
+        b'-' => Some(Mark::Operator(BinOp::Sub)),
+        b'*' => Some(Mark::Operator(BinOp::Mul)),
+        b'/' => Some(Mark::Operator(BinOp::Div)),
+        b'%' => Some(Mark::Operator(BinOp::Rem)),
+        b'&' => Some(Mark::Operator(BinOp::And)),
+        b'|' => Some(Mark::Operator(BinOp::Or)),
+        b'^' => Some(Mark::Operator(BinOp::Xor)),
+        _ => None,
+    }
+}
+
+fn comparison(b: u8) -> Option<Mark>
+    ensures { result ≡ tokens.comparison b }
+{
+    match b {
+        b'<' => Some(Mark::Comparison(Cmp::Lt)),
+        b'>' => Some(Mark::Comparison(Cmp::Gt)),
+        _ => None,
+    }
+}
+
+/// The mark that one byte is.
+fn single_mark(b: u8) -> Option<Mark>
+    ensures { result ≡ tokens.single_mark b }
+{
+    if let Some(mark) = punctuation(b) {
+        return Some(mark);
+    }
+    if let Some(mark) = operator(b) {
+        return Some(mark);
+    }
+    comparison(b)
+}
+
+/// The mark that two bytes are.
+fn double_mark(b: u8, c: u8) -> Option<Mark>
+    ensures { result ≡ tokens.double_mark b c }
+{
+    match (b, c) {
+        (b'<', b'<') => Some(Mark::Operator(BinOp::Shl)),
+        (b'>', b'>') => Some(Mark::Operator(BinOp::Shr)),
+        (b'<', b'=') => Some(Mark::Comparison(Cmp::Le)),
+        (b'>', b'=') => Some(Mark::Comparison(Cmp::Ge)),
+        (b'=', b'=') => Some(Mark::Comparison(Cmp::Eq)),
+        (b'!', b'=') => Some(Mark::Comparison(Cmp::Ne)),
+        _ => None,
+    }
+}
+
+/// The longest mark at the front, and what comes after it.
+fn mark_of(bytes: &[u8]) -> Option<(Mark, &[u8])>
+    ensures value { option_map (λ p. (p.0, p.1.now)) result ≡ tokens.mark_of bytes.now }
+    ensures shorter { IfSome result (λ p. length p.1.now < length bytes.now) }
+{
+    if let [b, c, rest @ ..] = bytes {
+        if let Some(mark) = double_mark(*b, *c) {
+            return Some((mark, rest));
+        }
+    }
+    match bytes {
+        [b, rest @ ..] => {
+            let mark = single_mark(*b)?;
+            Some((mark, rest))
+        }
+        [] => None,
     }
 }
 
@@ -149,8 +223,9 @@ fn next_piece(line: u32, bytes: &[u8]) -> Option<Piece<'_>>
         let what = TokenKind::Number(number(text)?);
         return Some((Some(Token { line, what }), line, rest));
     }
-    let what = TokenKind::Mark(mark_of(b)?);
-    Some((Some(Token { line, what }), line, &bytes[1..]))
+    let (mark, rest) = mark_of(bytes)?;
+    let what = TokenKind::Mark(mark);
+    Some((Some(Token { line, what }), line, rest))
 }
 
 fn keep<'a>(kept: &mut Vec<Token<'a>>, token: Option<Token<'a>>) -> Result<(), AllocError>

@@ -141,6 +141,111 @@ fn sources_and_their_reports(rt: HostRuntime) -> Result<(), Fail> {
     )
 }
 
+/// What stands between the braces of main, from the second line on; the status and the report.
+type Row = (&'static str, Status, &'static str);
+
+#[test]
+fn operators_tests_and_loops(rt: HostRuntime) -> Result<(), Fail> {
+    let table: [Row; 19] = [
+        (
+            "uint32_t x, y;\ny = ep_in_u32();\ny = y & 3;\nx = 100 / y;\nep_out_u32(x);",
+            Status::Alarms,
+            "5: U2 division left [0,3] right [0,3]\n1 alarms\n",
+        ),
+        (
+            "uint32_t x, y;\ny = ep_in_u32();\ny = y & 3;\nx = 0; if (y != 0) { x = 100 / y; }\nep_out_u32(x);",
+            Status::Done,
+            "portable\n",
+        ),
+        (
+            "uint32_t i; i = 0; while (i < 10) { i = i + 1; } ep_out_u32(i);",
+            Status::Done,
+            "portable\n",
+        ),
+        (
+            "uint8_t i; i = 0; while (i < 256) { i = i + 1; } ep_out_u32(i);",
+            Status::Done,
+            "portable\n",
+        ),
+        (
+            "uint32_t x;\nx = 2147483647 + 1;",
+            Status::Alarms,
+            "3: U1 overflow left [2147483648,2147483648] right [2147483648,2147483648]\n1 alarms\n",
+        ),
+        (
+            "uint32_t x; x = 2147483647;\nx = x + 1; ep_out_u32(x);",
+            Status::Done,
+            "portable\n",
+        ),
+        (
+            "uint32_t x; uint8_t y; y = ep_in_u8();\nx = y << 24;",
+            Status::Alarms,
+            "3: U3 shift left [24,24] right [24,24]\n1 alarms\n",
+        ),
+        (
+            "uint32_t x; uint8_t y; y = ep_in_u8();\nx = y; x = x << 24; ep_out_u32(x);",
+            Status::Done,
+            "portable\n",
+        ),
+        (
+            "uint32_t x;\nx = x + 1;",
+            Status::Alarms,
+            "3: U4 uninitialised left [0,0] right [0,0]\n1 alarms\n",
+        ),
+        (
+            "uint32_t x, y; y = ep_in_u32(); if (y == 0) { x = 1; }\nep_out_u32(x);",
+            Status::Alarms,
+            "3: U4 uninitialised left [0,0] right [0,0]\n1 alarms\n",
+        ),
+        (
+            "uint32_t x, y; y = ep_in_u32(); if (y == 0) { x = 1; } else { x = 2; } ep_out_u32(x);",
+            Status::Done,
+            "portable\n",
+        ),
+        (
+            "uint32_t x, y; y = ep_in_u32(); if (y == 0) { return 1; } else { x = 2; } ep_out_u32(x);",
+            Status::Done,
+            "portable\n",
+        ),
+        (
+            "uint32_t x; x = ep_in_u32(); if (x > 0) { return 1; } ep_write(&x, 4);",
+            Status::Done,
+            "portable\n",
+        ),
+        (
+            "uint32_t x; x = ep_in_u32(); if (x > 1) { return 1; }\nep_write(&x, 4);",
+            Status::Alarms,
+            "3: E1 output-differs left [0,1] right [0,1]\n1 alarms\n",
+        ),
+        (
+            "uint32_t x; x = 0; while (1 == 1) { x = ep_in_u32(); if (x == 0) { break; } else { continue; } } ep_write(&x, 4);",
+            Status::Done,
+            "portable\n",
+        ),
+        ("break;", Status::Refused, REFUSED),
+        (
+            "uint32_t x; x = 1; if (x) { x = 2; }",
+            Status::Refused,
+            REFUSED,
+        ),
+        ("uint32_t x; x = 1 +;", Status::Refused, REFUSED),
+        ("uint32_t x; x <<= 1;", Status::Refused, REFUSED),
+    ];
+    for (body, status, text) in table.iter() {
+        let mut source = String::from_str(rt.alloc(), "int main(void) {\n")?;
+        source.push_str(body)?;
+        source.push_str("\n}\n")?;
+        expect(
+            &rt,
+            rt.alloc(),
+            &Case::check(source.as_bytes()),
+            *status,
+            text,
+        )?;
+    }
+    Ok(())
+}
+
 const USAGE_TEXT: &str = "usage:\n  endport check FILE\n";
 
 #[test]

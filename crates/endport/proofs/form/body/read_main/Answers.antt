@@ -1,12 +1,12 @@
 use Rattle.std.proofs.Common.{◌≡◌, ◌≤◌, List, map, Some, refl, sym, ap, ◌∙◌, arith}
 use Rattle.std.proofs.lemmas.Result.{err_from_is_err_and}
-use Rattle.ep_core.specs.declared.tree.Stmt as tree
 use Rattle.endport.specs.Tokens.{Tok}
 use Rattle.endport.specs.Form.{bytes_of_all}
-use Rattle.endport.specs.Views.{view_item, view_phrase, view}
+use Rattle.endport.specs.Views.{view_item, view}
 use Rattle.endport.specs.Listed.{listed}
-use Rattle.endport.specs.Reading.{item_at, ends, declares, step}
-use Rattle.endport.proofs.Bodies.{begins, no_head, no_item, declared_on, no_names, step_on, no_meaning, finished}
+use Rattle.endport.specs.Reading.{item_at, ends, declares}
+use Rattle.endport.specs.Reading as reading
+use Rattle.endport.proofs.Bodies.{begins, no_head, no_item, declared_on, no_names, step_on, no_step, finished}
 use Rattle.endport.proofs.form.body.read_main.Goals as goal
 
 pub returns-in_default : goal.returns-in_default
@@ -50,20 +50,18 @@ items-preserved-in-Declares c =
     declared_on c.in-Some.line all (listed c.items.variables.types.entries) (listed c.declare_names.new.variables.types.entries) c.items.steps.items ts ns (map view c.in_ok-rest-in-Declares.rest.now) c.in-Declares.ty e
     c.in_ok-rest-in-Declares.ensures.reads.0.0 c.items.invariant
 
-pub returns-in_err-what-in-Step : goal.returns-in_err-what-in-Step
-returns-in_err-what-in-Step c =
-    let p = err_from_is_err_and c.from_residual-in_err-what-in-Step.result c.from_residual-in_err-what-in-Step.ensures.1 in
+pub returns-in_err-step-in-Begins : goal.returns-in_err-step-in-Begins
+returns-in_err-step-in-Begins c =
+    let p = err_from_is_err_and c.from_residual-in_err-step-in-Begins.result c.from_residual-in_err-step-in-Begins.ensures.1 in
     let all : List Tok = map view c.args.tokens.now in
     let ts : List Tok = map view c.items.rest.now in
-    let rs : List Tok = map view c.in-Step.after.now in
-    let e : item_at ts ≡ Some (step c.in-Step.line (view_phrase c.in-Step.phrase) rs) = sym c.in-Some-next_item.ensures.value ∙ ap (λ i. Some (view_item i)) c.in-Step.is in
-    rw (p.1, p.2) (no_meaning c.in-Some.line all (listed c.items.variables.types.entries) c.items.steps.items ts rs c.in-Step.line (view_phrase c.in-Step.phrase) c.in_err-what-in-Step.field-0.0 e c.in_err-what-in-Step.ensures c.items.invariant)
+    let e : item_at ts ≡ Some reading.begins = sym c.in-Some-next_item.ensures.value ∙ ap (λ i. Some (view_item i)) c.in-Begins.is in
+    rw (p.1, p.2) (no_step c.in-Some.line all (listed c.items.variables.types.entries) c.items.steps.items ts c.in_err-step-in-Begins.field-0.0 e c.in_err-step-in-Begins.ensures.reads c.items.invariant)
 
 pub items-preserved : goal.items-preserved
 items-preserved c =
     let all : List Tok = map view c.args.tokens.now in
     let ts : List Tok = map view c.items.rest.now in
-    let rs : List Tok = map view c.in-Step.after.now in
-    let s : tree.Stmt = record { line = c.in-Step.line; what = c.in_ok-what-in-Step.what } in
-    let e : item_at ts ≡ Some (step c.in-Step.line (view_phrase c.in-Step.phrase) rs) = sym c.in-Some-next_item.ensures.value ∙ ap (λ i. Some (view_item i)) c.in-Step.is in
-    rw c.in_ok-push-in-Step.ensures.items (step_on c.in-Some.line all (listed c.items.variables.types.entries) c.items.steps.items ts rs c.in-Step.line (view_phrase c.in-Step.phrase) s e refl c.in_ok-what-in-Step.ensures c.items.invariant)
+    let rs : List Tok = map view c.in_ok-step-in-Begins.after.now in
+    let e : item_at ts ≡ Some reading.begins = sym c.in-Some-next_item.ensures.value ∙ ap (λ i. Some (view_item i)) c.in-Begins.is in
+    rw c.in_ok-push-in-Begins.ensures.items (step_on c.in-Some.line all (listed c.items.variables.types.entries) c.items.steps.items ts rs c.in_ok-step-in-Begins.step e c.in_ok-step-in-Begins.ensures.reads.0 c.in_ok-step-in-Begins.ensures.reads.1 c.items.invariant)

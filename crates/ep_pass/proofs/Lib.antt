@@ -1,0 +1,5 @@
+mod Reaching
+mod Turns
+mod Jumps
+mod Statements
+pub mod Sound

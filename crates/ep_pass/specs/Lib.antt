@@ -1,0 +1,4 @@
+pub mod States
+pub mod Typed
+pub mod Pass
+pub mod Laws
