@@ -1,4 +1,4 @@
--- What the reader of the straight-line form answers.
+-- What the reader of sources answers.
 use Rattle.std.specs.Prelude.{◌≡◌, Option, None, Some, Result, Ok, Err}
 use Rattle.endport.specs.declared.refusal.Refusal.{Refusal}
 use Rattle.endport.specs.declared.refusal.Halt.{Halt}

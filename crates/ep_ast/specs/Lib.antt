@@ -5,3 +5,14 @@ pub mod Token
 pub mod Refusal
 pub mod Lexeme
 pub mod Cut
+pub mod Mark
+pub mod TypeWords
+pub mod Grammar
+pub mod Nesting
+pub mod Reading
+pub mod DeclarationGrammar
+pub mod StatementGrammar
+pub mod ProgramGrammar
+pub mod BitField
+pub mod Depth
+pub mod Offence

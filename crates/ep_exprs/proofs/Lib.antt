@@ -1,0 +1,16 @@
+pub mod NameLemmas
+pub mod TypeWordLemmas
+pub mod StarLemmas
+pub mod KeptLemmas
+pub mod MarkLemmas
+pub mod PrimaryLemmas
+pub mod SuffixLemmas
+pub mod LevelLemmas
+pub mod OperandLemmas
+pub mod PrefixLemmas
+pub mod ArgumentLemmas
+pub mod ConditionalLemmas
+pub mod PendingLemmas
+pub mod PassLemmas
+pub mod FrontLemmas
+pub mod TopLemmas

@@ -1,0 +1,114 @@
+//! What is pending while an expression is read.
+
+ghost use Rattle.std.specs.Prelude.{◌≡◌, ◌<◌, ◌∷◌, length, map, reverse, List, ℕ, Bool, IfOk};
+ghost use Rattle.ep_ast.specs.Token.{Tok};
+ghost use Rattle.ep_ast.specs.Expression.{Expr};
+ghost use Rattle.ep_lexer.specs.Tokens.{view};
+ghost use Rattle.ep_exprs.specs.Names.{is_type};
+ghost use Rattle.ep_exprs.specs.Kept.{Shows, wrap_all};
+ghost use Rattle.ep_exprs.specs.Pending.{IsBefore, Waits, Value, Combines, Completes, IsShorter};
+ghost use Rattle.ep_exprs.specs.declared.frames.Frame.{Frame as Pending};
+
+use crate::TypeNames;
+use crate::kept::{Kept, Prefix, assign, conditional, prefixed};
+use crate::look::{Head, at_cast, at_word, first_of, is_prefix, is_step};
+use crate::marks::SIZEOF;
+use ep_lexer::Token;
+use std::alloc::{AllocError, Global};
+
+/// What stands first before an operand, with its line and what comes after it; for the types what comes after `(`.
+#[derive(Clone, Copy)]
+pub enum Before<'a> {
+    Operator(u32, u8, &'a [Token]),
+    Step(u32, u8, &'a [Token]),
+    Sizeof(u32, &'a [Token]),
+    SizeofType(u32, &'a [Token]),
+    Cast(u32, &'a [Token]),
+    Nothing,
+}
+
+pub fn prefix_at<'a>(names: &TypeNames, tokens: &'a [Token]) -> Before<'a>
+    ensures value { IsBefore (is_type names.now) result (map view tokens.now) }
+    ensures shorter { IsShorter result (length tokens.now) }
+{
+    if let Some((line, inside)) = at_cast(names, tokens) {
+        return Before::Cast(line, inside);
+    }
+    match first_of(tokens) {
+        Head::Mark(line, code, rest) => if is_prefix(code) {
+            Before::Operator(line, code, rest)
+        } else if is_step(code) {
+            Before::Step(line, code, rest)
+        } else {
+            Before::Nothing
+        },
+        Head::Word(line, code, rest) => if code == SIZEOF {
+            match at_cast(names, rest) {
+                Some((_, inside)) => Before::SizeofType(line, inside),
+                None => Before::Sizeof(line, rest),
+            }
+        } else {
+            Before::Nothing
+        },
+        _ => Before::Nothing,
+    }
+}
+
+/// The operand under these prefixes, of which the first is outermost.
+pub fn wrapped(alloc: Global, prefixes: Vec<Prefix>, operand: Kept) -> Result<Kept, AllocError>
+    ensures { (t : Expr) → Shows operand t → IfOk result (λ k. Shows k (wrap_all prefixes.items t)) }
+{
+    let mut left = prefixes;
+    let mut found = operand;
+    while let Some(prefix) = left.pop() {
+        found = prefixed(alloc, prefix, found)?;
+    }
+    Ok(found)
+}
+
+/// What waits for more: a place and its assignment mark, a test before `?`, or a test and the part before `:`.
+#[derive(Debug, Drop)]
+pub enum Frame {
+    Assign(Kept, u8),
+    Question(Kept),
+    Colon(Kept, Kept),
+}
+
+/// A longer value, or a test and the part after its `?`.
+#[derive(Debug, Drop)]
+pub enum Combined {
+    More(Kept),
+    Asks(Kept, Kept),
+}
+
+/// The whole value, or what still waits, a test and the part after its `?`.
+#[derive(Debug, Drop)]
+pub enum Completed {
+    Whole(Kept),
+    Asks(Vec<Frame>, Kept, Kept),
+}
+
+fn combine(alloc: Global, frame: Frame, value: Kept) -> Result<Combined, AllocError>
+    ensures { (N : List ℕ → Bool) → (xs zs : List Tok) → (fs : List Pending) → Value N xs (frame ∷ fs) value zs → IfOk result (Combines N xs fs zs) }
+{
+    match frame {
+        Frame::Assign(place, mark) => Ok(Combined::More(assign(alloc, mark, place, value)?)),
+        Frame::Question(test) => Ok(Combined::Asks(test, value)),
+        Frame::Colon(test, yes) => Ok(Combined::More(conditional(alloc, test, yes, value)?)),
+    }
+}
+
+/// What the value completes of what waits, the last of which is innermost.
+pub fn complete(alloc: Global, frames: Vec<Frame>, value: Kept) -> Result<Completed, AllocError>
+    ensures { (N : List ℕ → Bool) → (xs zs : List Tok) → Value N xs (reverse frames.items) value zs → IfOk result (Completes N xs zs) }
+{
+    let mut left = frames;
+    let mut found = value;
+    while let Some(frame) = left.pop() {
+        match combine(alloc, frame, found)? {
+            Combined::More(longer) => found = longer,
+            Combined::Asks(test, yes) => return Ok(Completed::Asks(left, test, yes)),
+        }
+    }
+    Ok(Completed::Whole(found))
+}

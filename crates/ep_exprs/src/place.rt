@@ -1,0 +1,82 @@
+//! An expression at a place of the tokens.
+
+ghost use Rattle.std.specs.Prelude.{◌≡◌, ◌+◌, ◌<◌, ◌≤◌, ◌^◌, length, drop, map, List, IfOk, IfErr, OnOk, None, false};
+ghost use Rattle.ep_ast.specs.Token.{Tok};
+ghost use Rattle.ep_ast.specs.Expression.{Expr, expr};
+ghost use Rattle.ep_ast.specs.Grammar.{IsFront};
+ghost use Rattle.ep_ast.specs.Nesting.{is_too_deep, opens_past};
+ghost use Rattle.ep_ast.specs.Refusal.{IfRefused};
+ghost use Rattle.ep_lexer.specs.Tokens.{view, view_all};
+ghost use Rattle.ep_exprs.specs.Names.{is_type};
+ghost use Rattle.ep_exprs.specs.Kept.{Shows};
+ghost use Rattle.ep_exprs.specs.Answer.{IsFound, IsRefused, Wholly};
+
+use crate::TypeNames;
+use crate::kept::Kept;
+use crate::look::{follows, stopped};
+use crate::nesting::opens_past;
+use crate::parser::read_expression;
+use ep_ast::{ExprTree, Halt, Refusal};
+use ep_lexer::{Token, Tokens};
+use std::alloc::Global;
+
+fn too_deep(line: u32) -> Refusal
+    ensures { (result.kind ≡ 22) × (result.word ≡ 0) × (result.line ≡ line) }
+{
+    Refusal {
+        kind: 22,
+        line,
+        word: 0,
+    }
+}
+
+/// The tree, where it isn't too deep.
+fn whole(kept: Kept) -> Result<ExprTree, Refusal>
+    ensures { (t : Expr) → Shows kept t → Wholly result t }
+{
+    let line = kept.line;
+    match kept.tree {
+        Some(tree) => Ok(tree),
+        None => Err(too_deep(line)),
+    }
+}
+
+/// The line of the last token, 1 where there is none.
+fn last_line(tokens: &[Token]) -> u32 {
+    match tokens.last() {
+        Some(token) => token.line,
+        None => 1,
+    }
+}
+
+/// The expression that begins at this place, and the place after it, where something stands that may follow an expression.
+/// A refusal for syntax names the line of the first token with which no expression goes on, or the last token's where the
+/// tokens end too soon; one for nesting that of the bracket, or of the expression.
+pub fn expression(
+    alloc: Global,
+    tokens: &Tokens,
+    from: usize,
+    names: &TypeNames,
+) -> Result<(ExprTree, usize), Halt>
+    requires place { from ≤ length tokens.now.list.items }
+    requires few { length tokens.now.list.items < 2 ^ 24 }
+    ensures found { IfOk result (λ p. IsFound (is_type names.now) (view_all tokens.now) from p.1 (expr p.0)) }
+    ensures only { IfOk result (λ p. (front rest : List Tok) → (t : Expr) → IsFront (is_type names.now) (drop from (view_all tokens.now)) front rest t → (t ≡ expr p.0) × (length front + from ≡ p.1)) }
+    ensures nesting { IfOk result (λ p. (opens_past 0 (drop from (view_all tokens.now)) ≡ None) × (is_too_deep (expr p.0) ≡ false)) }
+    ensures refused { IfErr result (λ e. IfRefused e (IsRefused (is_type names.now) (drop from (view_all tokens.now)))) }
+{
+    let all = tokens.list.as_slice();
+    let (_, here) = all.split_at(from);
+    if let Some(line) = opens_past(here) {
+        return Err(Halt::Refused(too_deep(line)));
+    }
+    let last = last_line(all);
+    let (kept, rest) = read_expression(alloc, names, last, here)?;
+    if !follows(rest) {
+        return Err(Halt::Refused(stopped(rest, last)));
+    }
+    match whole(kept) {
+        Ok(tree) => Ok((tree, all.len() - rest.len())),
+        Err(refusal) => Err(Halt::Refused(refusal)),
+    }
+}

@@ -1,0 +1,259 @@
+//! Reading the names of types.
+
+ghost use Rattle.std.specs.Prelude.{◌≡◌, ◌<◌, ◌≤◌, ◌^◌, length, map, IfOk, IfSome, true, false};
+ghost use Rattle.std.specs.Option.{option_map};
+ghost use Rattle.ep_ast.specs.Expression.{type_word, type_name as shown};
+ghost use Rattle.ep_ast.specs.TypeWords as spec;
+ghost use Rattle.ep_ast.specs.TypeWords.{AreType, AreStars, TypeNamed, ends_stars, Consts, words_line};
+ghost use Rattle.ep_ast.specs.Reading.{Gives, LacksWord};
+ghost use Rattle.ep_ast.specs.Mark.{const_word};
+ghost use Rattle.ep_lexer.specs.Tokens.{view};
+ghost use Rattle.ep_exprs.specs.Names.{is_type};
+ghost use Rattle.ep_exprs.specs.Words.{bag, Joins, OneRead, CountsConsts, ReadsStars};
+
+use crate::TypeNames;
+use crate::look::{Head, at_mark, at_name, at_word, first_of, is_tag_word, is_type_word, stopped};
+use crate::marks::{CONST, RIGHT_PAREN, STAR};
+use ep_ast::{Halt, TypeNameTree, TypeWordTree};
+use ep_lexer::Token;
+use std::alloc::{AllocError, Global};
+
+/// How many words of each sort stand together: `signed` and `unsigned` are signs, and the last counts `void`, typedef
+/// names and tags.
+#[derive(Clone, Copy)]
+pub struct TypeBag {
+    pub chars: u8,
+    pub shorts: u8,
+    pub ints: u8,
+    pub longs: u8,
+    pub signs: u8,
+    pub wholes: u8,
+}
+
+impl TypeBag {
+    pub fn new() -> TypeBag
+        ensures { bag result ≡ spec.no_bag }
+    {
+        TypeBag {
+            chars: 0,
+            shorts: 0,
+            ints: 0,
+            longs: 0,
+            signs: 0,
+            wholes: 0,
+        }
+    }
+
+    fn is_basic(&self) -> bool
+        ensures { result ≡ spec.is_basic (bag self.now) }
+    {
+        self.chars == 0 && self.shorts == 0 && self.ints == 0 && self.longs == 0 && self.signs == 0
+    }
+
+    pub fn is_empty(&self) -> bool
+        ensures { result ≡ spec.is_no_bag (bag self.now) }
+    {
+        self.wholes == 0 && self.is_basic()
+    }
+
+    fn is_integer(&self) -> bool
+        ensures { result ≡ spec.is_integer (bag self.now) }
+    {
+        if self.chars == 0 {
+            self.ints <= 1
+                && if self.shorts == 0 {
+                    self.longs <= 2
+                } else {
+                    self.shorts == 1 && self.longs == 0
+                }
+        } else {
+            self.chars == 1 && self.shorts == 0 && self.ints == 0 && self.longs == 0
+        }
+    }
+
+    /// Whether a type may have these words beside one another.
+    pub fn fits(&self) -> bool
+        ensures { result ≡ spec.fits (bag self.now) }
+    {
+        if self.wholes == 0 {
+            self.signs <= 1 && self.is_integer()
+        } else {
+            self.wholes == 1 && self.is_basic()
+        }
+    }
+
+    fn fitting(self) -> Option<TypeBag>
+        ensures { Joins (bag self) (option_map bag result) }
+    {
+        if self.fits() { Some(self) } else { None }
+    }
+
+    /// With a typedef name, a tag or members, or None where it doesn't fit.
+    pub fn with_whole(&self) -> Option<TypeBag>
+        requires { spec.fits (bag self.now) ≡ true }
+        ensures { Joins (spec.with_whole (bag self.now)) (option_map bag result) }
+    {
+        let mut next = *self;
+        next.wholes += 1;
+        next.fitting()
+    }
+
+    /// With an accepted word, or None where it doesn't fit.
+    pub fn with_word(&self, code: u8) -> Option<TypeBag>
+        requires { spec.fits (bag self.now) ≡ true }
+        ensures { Joins (spec.with_word (bag self.now) code) (option_map bag result) }
+    {
+        let mut next = *self;
+        match code {
+            2 => next.chars += 1,
+            13 => next.shorts += 1,
+            10 => next.ints += 1,
+            11 => next.longs += 1,
+            14 | 20 => next.signs += 1,
+            21 => next.wholes += 1,
+            _ => {}
+        }
+        next.fitting()
+    }
+
+    fn with(&self, word: &TypeWordTree) -> Option<TypeBag>
+        requires { spec.fits (bag self.now) ≡ true }
+        ensures { Joins (spec.joined (bag self.now) (type_word word.now)) (option_map bag result) }
+    {
+        match word {
+            TypeWordTree::Word(_, code) => self.with_word(*code),
+            TypeWordTree::Name(_, _) | TypeWordTree::Tag(_, _, _) => self.with_whole(),
+        }
+    }
+}
+
+/// The word of a type that stands first, and what comes after it; None where none begins.
+pub fn one_word<'a>(
+    alloc: Global,
+    names: &TypeNames,
+    last: u32,
+    tokens: &'a [Token],
+) -> Result<Option<(TypeWordTree, &'a [Token])>, Halt>
+    ensures reads { OneRead (is_type names.now) (λ p. type_word p.0) (λ p. map view p.1.now) (map view tokens.now) result }
+    ensures shorter { IfOk result (λ o. IfSome o (λ p. length p.1.now < length tokens.now)) }
+{
+    match first_of(tokens) {
+        Head::Word(line, code, rest) => if is_type_word(code) {
+            Ok(Some((TypeWordTree::Word(line, code), rest)))
+        } else if is_tag_word(code) {
+            match at_name(rest) {
+                Some((_, tag, more)) => {
+                    let tag = Vec::from_slice(alloc, tag)?;
+                    Ok(Some((TypeWordTree::Tag(line, code, tag), more)))
+                }
+                None => Err(Halt::Refused(stopped(rest, last))),
+            }
+        } else {
+            Ok(None)
+        },
+        Head::Name(line, text, rest) => if names.has(text) {
+            let text = Vec::from_slice(alloc, text)?;
+            Ok(Some((TypeWordTree::Name(line, text), rest)))
+        } else {
+            Ok(None)
+        },
+        _ => Ok(None),
+    }
+}
+
+/// The words of a type without members, all that stand here. The refusal names the first word that can't join.
+pub fn type_words<'a>(
+    alloc: Global,
+    names: &TypeNames,
+    last: u32,
+    tokens: &'a [Token],
+) -> Result<(Vec<TypeWordTree>, &'a [Token]), Halt>
+    ensures reads { Gives (λ p. map type_word p.0.items) (λ p. map view p.1.now) (AreType (is_type names.now)) (map view tokens.now) result }
+    ensures shorter { IfOk result (λ p. length p.1.now ≤ length tokens.now) }
+{
+    let mut words = Vec::new(alloc);
+    let mut bag = TypeBag::new();
+    let mut rest = tokens;
+    'words: loop {
+        let Some((word, more)) = one_word(alloc, names, last, rest)? else {
+            if bag.is_empty() {
+                return Err(Halt::Refused(stopped(rest, last)));
+            }
+            return Ok((words, rest));
+        };
+        let Some(next) = bag.with(&word) else {
+            return Err(Halt::Refused(stopped(rest, last)));
+        };
+        words.push(word)?;
+        bag = next;
+        rest = more;
+    }
+}
+
+/// How many `const` stand here, and what comes after them.
+fn consts(tokens: &[Token]) -> (u32, &[Token])
+    requires { length tokens.now < 2 ^ 24 }
+    ensures counts { CountsConsts (map view tokens.now) result.0 (map view result.1.now) }
+    ensures shorter { length result.1.now ≤ length tokens.now }
+{
+    let mut count = 0;
+    let mut rest = tokens;
+    while let Some((_, more)) = at_word(rest, CONST) {
+        count += 1;
+        rest = more;
+    }
+    (count, rest)
+}
+
+/// All stars that stand here, each with the number of `const` after it.
+pub fn stars(alloc: Global, tokens: &[Token]) -> Result<(Vec<u32>, &[Token]), AllocError>
+    requires few { length tokens.now < 2 ^ 24 }
+    requires begins { LacksWord const_word (map view tokens.now) }
+    ensures reads { IfOk result (λ p. ReadsStars (map view tokens.now) p.0.items (map view p.1.now)) }
+    ensures shorter { IfOk result (λ p. length p.1.now ≤ length tokens.now) }
+{
+    let mut found = Vec::new(alloc);
+    let mut rest = tokens;
+    'stars: loop {
+        let Some((_, more)) = at_mark(rest, STAR) else {
+            return Ok((found, rest));
+        };
+        let (count, after) = consts(more);
+        found.push(count)?;
+        rest = after;
+    }
+}
+
+/// The line of the first of these words.
+fn line_of(words: &[TypeWordTree]) -> u32
+    ensures { result ≡ words_line (map type_word words.now) }
+{
+    match words {
+        [] => 0,
+        [first, ..] => match first {
+            TypeWordTree::Word(line, _)
+            | TypeWordTree::Name(line, _)
+            | TypeWordTree::Tag(line, _, _) => *line,
+        },
+    }
+}
+
+/// The name of a type, from behind an opening parenthesis to behind the closing one.
+pub fn type_name<'a>(
+    alloc: Global,
+    names: &TypeNames,
+    last: u32,
+    tokens: &'a [Token],
+) -> Result<(TypeNameTree, &'a [Token]), Halt>
+    requires { length tokens.now < 2 ^ 24 }
+    ensures reads { Gives (λ p. shown p.0) (λ p. map view p.1.now) (TypeNamed (is_type names.now)) (map view tokens.now) result }
+    ensures shorter { IfOk result (λ p. length p.1.now < length tokens.now) }
+{
+    let (specs, after) = type_words(alloc, names, last, tokens)?;
+    let (stars, rest) = stars(alloc, after)?;
+    let Some((_, more)) = at_mark(rest, RIGHT_PAREN) else {
+        return Err(Halt::Refused(stopped(rest, last)));
+    };
+    let line = line_of(&specs);
+    Ok((TypeNameTree { line, specs, stars }, more))
+}
