@@ -40,7 +40,7 @@ follow_is P a b d e f g c l ts h = elim (or_cases (c == 23 || c == 25 || c == 27
     at_is : (P : ℕ → Type 0) (c n : ℕ) → (c == n) ≡ true → P n → P c
     at_is P c n h p = subst P (sym (eqb-true c n h)) p
 
-ends_follow : (ts : List Tok) → follows ts ≡ true → Ends rules.expr ts
+pub ends_follow : (ts : List Tok) → follows ts ≡ true → Ends rules.expr ts
 ends_follow [] h = tt
 ends_follow (word l c ∷ ts) h = tt
 ends_follow (name l t ∷ ts) h = tt

@@ -14,7 +14,7 @@ use Rattle.ep_ast.specs.declared.refusals.Halt.TheVariants as halts
 use Rattle.std.specs.Prelude.{Err}
 use Rattle.ep_exprs.specs.Words.{OneRead}
 
-apart : (c : ℕ) → is_type_word c ≡ true → is_tag_word c ≡ true → ⊥
+pub apart : (c : ℕ) → is_type_word c ≡ true → is_tag_word c ≡ true → ⊥
 apart c h k = grind (arith, nat_tests)
 
 -- ---- bags
@@ -96,7 +96,7 @@ whole_at t c s i l g w e h =
     let z : w ≡ 0 = only_one w k.0 in
     rw z (basic_fits c s i l g k.1)
 
-less_whole : (b : Bag) → fits (with_whole b) ≡ true → fits b ≡ true
+pub less_whole : (b : Bag) → fits (with_whole b) ≡ true → fits b ≡ true
 less_whole b h = whole_at (b.wholes + 1 == 0) b.chars b.shorts b.ints b.longs b.signs b.wholes refl h
 
 -- a choice of bags, each of which fits only where b does
@@ -113,7 +113,7 @@ less_word b c h =
     (chosen (c == 14 || c == 20) b _ _ (less_signs b.chars b.shorts b.ints b.longs b.signs b.wholes)
     (chosen (c == 21) b _ _ (less_whole b) (λ k. k)))))) h
 
-less_joined : (b : Bag) (w : TypeWord) → fits (joined b w) ≡ true → fits b ≡ true
+pub less_joined : (b : Bag) (w : TypeWord) → fits (joined b w) ≡ true → fits b ≡ true
 less_joined b (tree.word l c) h = less_word b c h
 less_joined b (tree.typedef_name l text) h = less_whole b h
 less_joined b (tree.tagged l c text) h = less_whole b h
@@ -129,7 +129,7 @@ joined-append (x ∷ xs) ys b = joined-append xs ys (joined b x)
 pub joined-last : (b : Bag) (xs : List TypeWord) (w : TypeWord) → b ≡ all_joined no_bag xs → joined b w ≡ all_joined no_bag (xs ++ w ∷ [])
 joined-last b xs w e = ap (λ (c : Bag). joined c w) e ∙ sym (joined-append xs (w ∷ []) no_bag)
 
-is_not : (b : Bool) → not b ≡ true → b ≡ true → ⊥
+pub is_not : (b : Bool) → not b ≡ true → b ≡ true → ⊥
 is_not true h k = cc
 is_not false h k = cc
 

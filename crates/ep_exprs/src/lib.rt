@@ -4,7 +4,7 @@
 mod frames;
 mod kept;
 mod look;
-mod marks;
+pub mod marks;
 mod names;
 mod nesting;
 mod parser;
@@ -12,11 +12,11 @@ mod place;
 mod words;
 
 pub use kept::Kept;
-pub use look::{Head, at_mark, at_word, first_of, follows, stopped};
+pub use look::{Head, at_mark, at_name, at_word, begins_type, first_of, is_tag_word, stopped};
 pub use names::TypeNames;
 pub use parser::read_expression;
-pub use place::expression;
-pub use words::{TypeBag, one_word, stars, type_name, type_words};
+pub use place::{expression, last_line};
+pub use words::{TypeBag, one_word, stars, type_words};
 
 #[cfg(test)]
 mod tests;

@@ -1,9 +1,10 @@
 //! The names that are types so far.
 
-ghost use Rattle.std.specs.Prelude.{◌≡◌, ◌||◌, OnOk, OnErr, List, ℕ};
+ghost use Rattle.std.specs.Prelude.{◌≡◌, false, ◌||◌, OnOk, OnErr, List, ℕ};
 ghost use Rattle.std.specs.List.{list_any};
 ghost use Rattle.std.specs.Str.{bytes_eq};
 ghost use Rattle.ep_ast.specs.TypeWords.{is_built_in_type, built_in_types};
+ghost use Rattle.ep_ast.specs.ProgramGrammar.{with_name};
 ghost use Rattle.ep_exprs.specs.Names.{is_type};
 
 use ep_int::Memory;
@@ -45,7 +46,7 @@ fn is_built_in(name: &[u8]) -> bool
 impl TypeNames {
     /// The built-in names alone.
     pub fn new(alloc: Global) -> TypeNames
-        ensures { (text : List ℕ) → is_type result text ≡ is_built_in_type text }
+        ensures { is_type result ≡ is_built_in_type }
     {
         TypeNames {
             added: IndexSet::new(alloc),
@@ -55,6 +56,7 @@ impl TypeNames {
 
     fn insert(&mut self, name: &[u8]) -> Result<(), AllocError>
         ensures added { OnOk result ((text : List ℕ) → is_type self.new text ≡ (bytes_eq text name.now || is_type self.old text)) }
+        ensures named { OnOk result (is_type self.old name.now ≡ false → is_type self.new ≡ with_name (is_type self.old) name.now) }
         ensures unchanged { OnErr result ((text : List ℕ) → is_type self.new text ≡ is_type self.old text) }
     {
         let text = Vec::from_slice(self.alloc, name)?;
@@ -65,6 +67,7 @@ impl TypeNames {
     /// The name is a type from here on.
     pub fn add(&mut self, name: &[u8]) -> Result<(), Memory>
         ensures added { OnOk result ((text : List ℕ) → is_type self.new text ≡ (bytes_eq text name.now || is_type self.old text)) }
+        ensures named { OnOk result (is_type self.old name.now ≡ false → is_type self.new ≡ with_name (is_type self.old) name.now) }
         ensures unchanged { OnErr result ((text : List ℕ) → is_type self.new text ≡ is_type self.old text) }
     {
         match self.insert(name) {

@@ -42,7 +42,7 @@ fn whole(kept: Kept) -> Result<ExprTree, Refusal>
 }
 
 /// The line of the last token, 1 where there is none.
-fn last_line(tokens: &[Token]) -> u32 {
+pub fn last_line(tokens: &[Token]) -> u32 {
     match tokens.last() {
         Some(token) => token.line,
         None => 1,

@@ -160,40 +160,89 @@ fn refusals(rt: HostRuntime) -> Result<(), Fail> {
     Ok(())
 }
 
-fn long(alloc: Global, front: &[u8], count: u32, end: &[u8]) -> Result<Vec<u8>, AllocError> {
-    let mut out = Vec::new(alloc);
-    out.push(b'\n')?;
+/// The front so many times, the middle, and the end so many times.
+fn nested(
+    alloc: Global,
+    front: &str,
+    count: u32,
+    middle: &str,
+    end: &str,
+) -> Result<String, AllocError> {
+    let mut out = String::new(alloc);
     for _ in 0..count {
-        out.extend_from_slice(front)?;
+        out.push_str(front)?;
     }
-    out.extend_from_slice(end)?;
+    out.push_str(middle)?;
+    for _ in 0..count {
+        out.push_str(end)?;
+    }
     Ok(out)
 }
 
 #[test]
-fn nesting(rt: HostRuntime) -> Result<(), Fail> {
+fn sixty_four_are_accepted(rt: HostRuntime) -> Result<(), Fail> {
+    for (front, end, node, close, next) in [
+        ("- ", "a", "Unary(1, 32, ", ")", 65),
+        ("a+", "a", "Binary(1, 31, ", ", Id(1, [97]))", 129),
+        (
+            "(T)",
+            "a",
+            "Cast(1, TypeNameTree { line: 1, specs: [Name(1, [84])], stars: [] }, ",
+            ")",
+            193,
+        ),
+    ] {
+        let source = nested(rt.alloc(), front, 64, end, "")?;
+        let tree = nested(rt.alloc(), node, 64, "Id(1, [97])", close)?;
+        let tree = tree.as_str();
+        let want = format!(in rt.alloc(); "{tree} {next}")?;
+        assert_eq!(rt;
+            read(rt.alloc(), source.as_bytes(), 0)?.as_str(),
+            want.as_str(),
+            "{front}"
+        );
+    }
+    let source = nested(rt.alloc(), "(", 64, "a", ")")?;
+    assert_eq!(rt;
+        read(rt.alloc(), source.as_bytes(), 0)?.as_str(),
+        "Id(1, [97]) 129"
+    );
+    let source = nested(rt.alloc(), "(", 65, "", "")?;
+    let source = source.as_str();
+    let behind = format!(in rt.alloc(); "a, {source}")?;
+    assert_eq!(rt;
+        read(rt.alloc(), behind.as_bytes(), 0)?.as_str(),
+        "Id(1, [97]) 1"
+    );
+    let behind = format!(in rt.alloc(); "a : {source}")?;
+    assert_eq!(rt;
+        read(rt.alloc(), behind.as_bytes(), 0)?.as_str(),
+        "refused 22 line 1 word 0"
+    );
+    Ok(())
+}
+
+#[test]
+fn too_many_are_refused(rt: HostRuntime) -> Result<(), Fail> {
     for (front, count, end, kind) in [
-        ("- ", 64, "a", 0),
-        ("- ", 65, "a", 22),
-        ("a+", 64, "a", 0),
-        ("a+", 65, "a", 22),
-        ("(T)", 64, "a", 0),
-        ("(T)", 65, "a", 22),
+        ("- ", 65, "\na", 22),
+        ("a+", 65, "\na", 22),
+        ("(T)", 65, "\na", 22),
         ("(", 64, "", 10),
         ("(", 65, "", 22),
-        ("a, ", 1, "((((", 0),
         ("[", 65, "", 22),
         ("- ", 20000, "a", 22),
         ("a = ", 10000, "a", 22),
         ("a ? a : ", 5000, "a", 22),
         ("a ? ", 10000, "a", 10),
     ] {
-        let source = long(rt.alloc(), front.as_bytes(), count, end.as_bytes())?;
-        let answer = read(rt.alloc(), source.as_slice(), 0)?;
-        let refused = format!(in rt.alloc(); "refused {kind} line 2 word 0")?;
+        let source = nested(rt.alloc(), front, count, end, "")?;
+        let source = source.as_str();
+        let source = format!(in rt.alloc(); "\n{source}")?;
+        let want = format!(in rt.alloc(); "refused {kind} line 2 word 0")?;
         assert_eq!(rt;
-            answer.as_str() == refused.as_str(),
-            kind != 0,
+            read(rt.alloc(), source.as_bytes(), 0)?.as_str(),
+            want.as_str(),
             "{front} {count}"
         );
     }

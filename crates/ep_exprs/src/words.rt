@@ -116,7 +116,8 @@ impl TypeBag {
         next.fitting()
     }
 
-    fn with(&self, word: &TypeWordTree) -> Option<TypeBag>
+    /// With a word, or None where it doesn't fit.
+    pub fn with(&self, word: &TypeWordTree) -> Option<TypeBag>
         requires { spec.fits (bag self.now) ≡ true }
         ensures { Joins (spec.joined (bag self.now) (type_word word.now)) (option_map bag result) }
     {
