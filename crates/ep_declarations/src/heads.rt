@@ -1,0 +1,99 @@
+//! Reading the heads of functions.
+
+ghost use Rattle.std.specs.Prelude.{◌≡◌, ◌<◌, ◌^◌, [], length, map, Option, IfOk, List};
+ghost use Rattle.std.specs.Option.{option_map};
+ghost use Rattle.ep_ast.specs.Token.{Tok};
+ghost use Rattle.ep_ast.specs.Declaration.{Spec, Params, spec_of, params_of, head_of};
+ghost use Rattle.ep_ast.specs.DeclarationGrammar as grammar;
+ghost use Rattle.ep_ast.specs.DeclarationGrammar.{Specified, at_file_scope};
+ghost use Rattle.ep_ast.specs.Depth.{first_of, line_if, are_deep, in_spec, in_params, in_head};
+ghost use Rattle.ep_ast.specs.Reading.{Takes};
+ghost use Rattle.ep_lexer.specs.Tokens.{view};
+ghost use Rattle.ep_exprs.specs.Names.{is_type};
+ghost use Rattle.ep_exprs.specs.Parsed.{GivesShown};
+ghost use Rattle.ep_declarators.specs.Measured.{Shows};
+ghost use Rattle.ep_declarations.specs.Answer.{ShowsSpecs, ShowsHead};
+
+use crate::specs::SpecList;
+use ep_ast::{Halt, HeadTree, ParamsTree, SpecTree};
+use ep_declarators::{Measured, head_parameters};
+use ep_exprs::marks::{CONST, LEFT_PAREN};
+use ep_exprs::{TypeNames, at_mark, at_name, at_word, stars, stopped};
+use ep_lexer::Token;
+use std::alloc::{AllocError, Global};
+
+/// The head of a function, where nothing in it is too deep, and whether every parameter has a name.
+#[derive(Debug, Drop)]
+pub struct Headed {
+    pub tree: Measured<HeadTree>,
+    pub named: bool,
+}
+
+/// The stars, where there are no more than 64, or this line.
+fn measured_stars(line: u32, stars: Vec<u32>) -> Measured<Vec<u32>>
+    ensures { Shows (λ v. v.items) (λ ns. line_if (are_deep ns []) line) result stars.items }
+{
+    if stars.len() > 64 {
+        return Measured::TooDeep(line);
+    }
+    Measured::Fits(stars)
+}
+
+fn make_head(
+    alloc: Global,
+    line: u32,
+    specs: Measured<Vec<SpecTree>>,
+    stars: Vec<u32>,
+    name: &[u8],
+    params: Measured<Option<ParamsTree>>,
+) -> Result<Measured<HeadTree>, AllocError>
+    ensures { (ss : List Spec) → (ps : Option Params) → Shows (λ v. map spec_of v.items) (first_of in_spec) specs ss → Shows (option_map params_of) in_params params ps
+        → IfOk result (λ t. Shows head_of in_head t (record { line = line; specs = ss; stars = stars.items; name = name.now; params = ps })) }
+{
+    let behind = measured_stars(line, stars).and(params);
+    match specs.and(behind) {
+        Measured::Fits((specs, (stars, params))) => {
+            let name = Vec::from_slice(alloc, name)?;
+            Ok(Measured::Fits(HeadTree {
+                line,
+                specs,
+                stars,
+                name,
+                params,
+            }))
+        }
+        Measured::TooDeep(line) => Ok(Measured::TooDeep(line)),
+    }
+}
+
+/// The rest of a head behind the words that begin it, up to and with the closing parenthesis.
+pub fn head<'a>(
+    alloc: Global,
+    names: &TypeNames,
+    last: u32,
+    specs: SpecList,
+    tokens: &'a [Token],
+) -> Result<(Headed, &'a [Token]), Halt>
+    requires { length tokens.now < 2 ^ 24 }
+    ensures reads { (xs : List Tok) → (ss : List Spec) → Takes (Specified (is_type names.now) at_file_scope) xs ss (map view tokens.now) → ShowsSpecs specs ss
+        → GivesShown ShowsHead (λ p. p.0) (λ p. map view p.1.now) (grammar.Headed (is_type names.now)) xs result }
+    ensures shorter { IfOk result (λ p. length p.1.now < length tokens.now) }
+{
+    if let Some(_) = at_word(tokens, CONST) {
+        return Err(Halt::Refused(stopped(tokens, last)));
+    }
+    let (stars, after) = stars(alloc, tokens)?;
+    let Some((line, name, behind)) = at_name(after) else {
+        return Err(Halt::Refused(stopped(after, last)));
+    };
+    if names.has(name) {
+        return Err(Halt::Refused(stopped(after, last)));
+    }
+    let Some((_, inside)) = at_mark(behind, LEFT_PAREN) else {
+        return Err(Halt::Refused(stopped(behind, last)));
+    };
+    let (parameters, rest) = head_parameters(alloc, names, last, inside)?;
+    let named = parameters.named;
+    let tree = make_head(alloc, line, specs.tree, stars, name, parameters.tree)?;
+    Ok((Headed { tree, named }, rest))
+}

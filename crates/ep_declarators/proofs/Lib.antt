@@ -1,0 +1,7 @@
+pub mod BoundLemmas
+pub mod DeclaratorLemmas
+pub mod JoinedLemmas
+pub mod TypedefLemmas
+pub mod ValueLemmas
+pub mod InitLemmas
+pub mod ParameterLemmas

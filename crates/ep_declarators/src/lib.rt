@@ -1,0 +1,15 @@
+//! Reading declarators with their initialisers, parameters, and the names of types.
+#![tactic(auto)]
+
+mod bracketed;
+mod declarators;
+mod initialisers;
+mod measured;
+mod parameters;
+mod typedefs;
+
+pub use declarators::{Named, declarator, member_declarators};
+pub use initialisers::inits;
+pub use measured::Measured;
+pub use parameters::{ParameterList, head_parameters};
+pub use typedefs::typedef_names;
