@@ -1,0 +1,108 @@
+-- What the readers of functions, items and programs answer.
+use Rattle.std.specs.Prelude.{◌≡◌, ℕ, Bool, List, [], ◌∷◌, ◌++◌, map, Option, Some, None, Result, Ok, Err}
+use Rattle.std.specs.Global.{Vec}
+use Rattle.std.specs.Option.{option_map}
+use Rattle.ep_int.specs.declared.types.Order.{Order}
+use Rattle.ep_ast.specs.declared.refusals.Refusal.{Refusal}
+use Rattle.ep_ast.specs.declared.statements.FunctionTree.{FunctionTree}
+use Rattle.ep_ast.specs.declared.statements.ItemTree.{ItemTree}
+use Rattle.ep_ast.specs.declared.statements.ProgramTree.{ProgramTree}
+use Rattle.ep_ast.specs.Token.{Tok, word, mark, other}
+use Rattle.ep_ast.specs.Declaration.{Declarator, Spec, Aggregate, Declaration, Head}
+use Rattle.ep_ast.specs.Statement as tree
+use Rattle.ep_ast.specs.Statement.{Function, Item, function_of, functions_of, item_of, program_of}
+use Rattle.ep_ast.specs.Mark.{typedef_word, semicolon}
+use Rattle.ep_ast.specs.TypeWords.{no_bag}
+use Rattle.ep_ast.specs.DeclarationGrammar as grammar
+use Rattle.ep_ast.specs.DeclarationGrammar.{at_file_scope, Specified, Aggregated, Declares, Headed}
+use Rattle.ep_ast.specs.StatementGrammar.{IsIf}
+use Rattle.ep_ast.specs.ProgramGrammar.{Typedefs, Defines, Functions, OtherFunctions, OneItem, Programs}
+use Rattle.ep_ast.specs.BitField.{InSpecs, InFunctions}
+use Rattle.ep_ast.specs.Depth.{first_of, in_function, in_functions, in_item, too_deep}
+use Rattle.ep_declarators.specs.declared.measured.Measured.{Measured}
+use Rattle.ep_declarators.specs.declared.measured.Measured.TheVariants as measured
+use Rattle.ep_declarators.specs.Measured.{Shows}
+
+-- ---- trees
+
+abbrev pub ShowsFunction : Measured FunctionTree → Function → Type 0
+ShowsFunction k f = Shows function_of in_function k f
+
+abbrev pub ShowsFunctions : Measured (Vec FunctionTree) → List Function → Type 0
+ShowsFunctions k fs = Shows functions_of (first_of in_function) k fs
+
+abbrev pub ShowsOther : Measured (Option (Vec FunctionTree)) → Option (List Function) → Type 0
+ShowsOther k fs = Shows (option_map functions_of) in_functions k fs
+
+abbrev pub ShowsItem : Measured ItemTree → Item → Type 0
+ShowsItem k i = Shows item_of in_item k i
+
+abbrev pub items_of : Vec ItemTree → List Item
+items_of v = map item_of v.items
+
+abbrev pub ShowsItems : Measured (Vec ItemTree) → List Item → Type 0
+ShowsItems k is = Shows items_of too_deep k is
+
+-- a list with one more, where nothing is too deep, or the line of the first that is
+abbrev pub IsLonger : {T : Type 0} → Measured (Vec T) → Measured T → Measured (Vec T) → Type 0
+IsLonger (measured.Fits v) (measured.Fits t) (measured.Fits w) = w.items ≡ v.items ++ t ∷ []
+IsLonger (measured.Fits v) (measured.TooDeep l) r = r ≡ measured.TooDeep l
+IsLonger (measured.TooDeep l) k r = r ≡ measured.TooDeep l
+IsLonger (measured.Fits v) (measured.Fits t) (measured.TooDeep l) = ⊥
+
+-- the tree of a program, or a refusal for what is too deep in it
+abbrev pub IsWhole : List Item → Result ProgramTree Refusal → Type 0
+IsWhole is (Ok t) = (program_of t ≡ is) × (too_deep is ≡ None)
+IsWhole is (Err r) = (r.kind ≡ 22) × (r.word ≡ 0) × (too_deep is ≡ Some r.line)
+
+-- ---- arms
+
+-- from behind an `#if` of this line and order to behind its `#endif`
+pub data Arms (is_type : List ℕ → Bool) (line : ℕ) (order : Order) : List Tok → List Tok → Item → Type 0 where
+  arms : {xs ys zs : List Tok} {fs : List Function} {gs : Option (List Function)} → Functions is_type xs ys fs → OtherFunctions is_type ys zs gs
+      → Arms is_type line order xs zs (tree.functions_by_order line order fs gs)
+
+-- a bit-field behind an `#else`
+pub data InOther (is_type : List ℕ → Bool) : List Tok → (line : ℕ) → Type 0 where
+  in_other : {l m : ℕ} {xs : List Tok} → InFunctions is_type xs l → InOther is_type (other m ∷ xs) l
+
+-- a bit-field in one of two arms
+pub data InArms (is_type : List ℕ → Bool) : List Tok → (line : ℕ) → Type 0 where
+  in_first : {l : ℕ} {xs : List Tok} → InFunctions is_type xs l → InArms is_type xs l
+  in_second : {l m : ℕ} {xs ys : List Tok} {fs : List Function} → Functions is_type xs (other m ∷ ys) fs → InFunctions is_type ys l → InArms is_type xs l
+
+-- ---- items
+
+-- an item that begins with the words of a declaration
+pub data Worded (is_type : List ℕ → Bool) : List Tok → List Tok → Item → Type 0 where
+  defines : {xs ys : List Tok} {f : Function} → Defines is_type xs ys f → Worded is_type xs ys (tree.defines f)
+  prototype : {l c : ℕ} {xs ys : List Tok} {h : Head} → c ≡ semicolon → Headed is_type xs (mark l c ∷ ys) h → Worded is_type xs ys (tree.prototype h)
+  declares : {xs ys : List Tok} {d : Declaration} → Declares is_type at_file_scope xs ys d → Worded is_type xs ys (tree.declares_all d)
+  completes : {l c : ℕ} {xs ys : List Tok} {a : Aggregate} → c ≡ semicolon → Aggregated is_type xs (mark l c ∷ ys) a → Worded is_type xs ys (tree.completes a)
+
+abbrev pub InWords : (List ℕ → Bool) → List Tok → (line : ℕ) → Type 0
+InWords is_type xs l = InSpecs is_type at_file_scope no_bag xs l
+
+-- from behind the word `typedef` of this line, with the names that are types after it
+pub data NewTypes (before : List ℕ → Bool) (line : ℕ) : List Tok → List Tok → Item × (List ℕ → Bool) → Type 0 where
+  new_types : {after : List ℕ → Bool} {xs ys zs : List Tok} {ss : List Spec} {ds : List Declarator} → Specified before grammar.in_typedef xs ys ss → Typedefs before after ys zs ds
+      → NewTypes before line xs zs (tree.typedefs (record { line = line; specs = ss; declarators = ds }), after)
+
+abbrev pub InTypedefWords : (List ℕ → Bool) → List Tok → (line : ℕ) → Type 0
+InTypedefWords is_type xs l = InSpecs is_type grammar.in_typedef no_bag xs l
+
+-- an item with the names that are types after it
+abbrev pub Itemed : (before : List ℕ → Bool) → List Tok → List Tok → Item × (List ℕ → Bool) → Type 0
+Itemed before xs ys v = OneItem before v.1 xs ys v.0
+
+-- a bit-field in the first item
+pub data InItem (is_type : List ℕ → Bool) : List Tok → (line : ℕ) → Type 0 where
+  in_words : {l : ℕ} {xs : List Tok} → InWords is_type xs l → InItem is_type xs l
+  in_typedef : {l m c : ℕ} {xs : List Tok} → c ≡ typedef_word → InTypedefWords is_type xs l → InItem is_type (word m c ∷ xs) l
+  in_arms : {t : Tok} {o : Order} {l : ℕ} {xs : List Tok} → IsIf t o → InArms is_type xs l → InItem is_type (t ∷ xs) l
+
+-- ---- programs
+
+-- the tokens to their end
+pub data Whole : List Tok → List Tok → List Item → Type 0 where
+  whole : {xs : List Tok} {is : List Item} → Programs xs is → Whole xs [] is

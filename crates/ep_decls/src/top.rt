@@ -1,0 +1,61 @@
+//! Reading a program.
+
+ghost use Rattle.std.specs.Prelude.{◌≡◌, ◌<◌, ◌^◌, length, map, IfOk, IfErr, List, [], None};
+ghost use Rattle.ep_ast.specs.Statement.{Item, program_of};
+ghost use Rattle.ep_ast.specs.ProgramGrammar.{Programs};
+ghost use Rattle.ep_ast.specs.BitField.{HasBitField};
+ghost use Rattle.ep_ast.specs.Depth.{brackets_past, too_deep};
+ghost use Rattle.ep_ast.specs.Offence.{Offends};
+ghost use Rattle.ep_ast.specs.Refusal.{IfRefused};
+ghost use Rattle.ep_lexer.specs.Tokens.{view, view_all};
+ghost use Rattle.ep_declarators.specs.Checked.{GivesChecked};
+ghost use Rattle.ep_decls.specs.Answer.{ShowsItems, Whole};
+
+use crate::brackets::brackets_past;
+use crate::items::item;
+use crate::trees::{longer, too_deep, whole};
+use ep_ast::{Halt, ItemTree, ProgramTree};
+use ep_declarators::Measured;
+use ep_exprs::{TypeNames, last_line};
+use ep_lexer::{Token, Tokens};
+use std::alloc::Global;
+
+/// All items, up to the end of the tokens, of which the last has this line.
+fn all_items(alloc: Global, last: u32, tokens: &[Token]) -> Result<Measured<Vec<ItemTree>>, Halt>
+    requires { length tokens.now < 2 ^ 24 }
+    ensures reads { GivesChecked ShowsItems (λ k. k) (λ k. []) Whole HasBitField (map view tokens.now) result }
+{
+    let mut names = TypeNames::new(alloc);
+    let mut found = Measured::Fits(Vec::new(alloc));
+    let mut rest = tokens;
+    'items: loop {
+        if rest.is_empty() {
+            return Ok(found);
+        }
+        let (one, more) = item(alloc, &mut names, last, rest)?;
+        found = longer(found, one)?;
+        rest = more;
+    }
+}
+
+/// The tree of a whole program.
+/// A refusal for a bit-field names its line, one for syntax that of the first token with which no
+/// program goes on, or the last token's where the tokens end too soon, and one for nesting that of
+/// the bracket, or of what is too deep the first in the text.
+pub fn program(alloc: Global, tokens: &Tokens) -> Result<ProgramTree, Halt>
+    requires few { length tokens.now.list.items < 2 ^ 24 }
+    ensures derives { IfOk result (λ t. Programs (view_all tokens.now) (program_of t)) }
+    ensures only { IfOk result (λ t. (is : List Item) → Programs (view_all tokens.now) is → is ≡ program_of t) }
+    ensures fits { IfOk result (λ t. (brackets_past 0 (view_all tokens.now) ≡ None) × (too_deep (program_of t) ≡ None)) }
+    ensures refused { IfErr result (λ e. IfRefused e (Offends (view_all tokens.now))) }
+{
+    let all = tokens.list.as_slice();
+    if let Some(line) = brackets_past(all) {
+        return Err(Halt::Refused(too_deep(line)));
+    }
+    let found = all_items(alloc, last_line(all), all)?;
+    match whole(found) {
+        Ok(tree) => Ok(tree),
+        Err(refusal) => Err(Halt::Refused(refusal)),
+    }
+}

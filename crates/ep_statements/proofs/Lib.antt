@@ -1,0 +1,7 @@
+pub mod DepthLemmas
+pub mod SequenceLemmas
+pub mod HeadLemmas
+pub mod FrameLemmas
+pub mod PieceLemmas
+pub mod PartLemmas
+pub mod StandLemmas

@@ -1,0 +1,5 @@
+pub mod Answer
+pub mod Shown
+pub mod Piece
+pub mod Directive
+pub mod Around
