@@ -1,8 +1,8 @@
 -- What is answered for a part, from what was answered for the parts of it.
 use Rattle.std.proofs.Common.{◌≡◌, List, [], ◌∷◌, ◌++◌, Option, Some, Result, Ok, Err, refl, ap}
-use Rattle.ep_core.specs.Program.{Stmts, stop, more}
-use Rattle.ep_core.specs.View.{shown_stmts, shown_what}
-use Rattle.ep_core.specs.declared.tree.Stmt as tree
+use Rattle.ep_small_core.specs.Program.{Stmts, stop, more}
+use Rattle.ep_small_core.specs.View.{shown_stmts, shown_what}
+use Rattle.ep_small_core.specs.declared.tree.Stmt as tree
 use Rattle.endport.specs.declared.refusal.Halt.{Halt}
 use Rattle.endport.specs.declared.refusal.Halt.TheVariants.{Refused, Memory}
 use Rattle.endport.specs.Answers.{Fails, Refuses, ReadsAs}

@@ -4,9 +4,9 @@ use Rattle.std.proofs.lemmas.List.{append-nil}
 use Rattle.std.specs.Option.{option_map_or}
 use Rattle.std.specs.Str.{bytes_eq}
 use Rattle.ep_int.specs.declared.types.IntType.{IntType}
-use Rattle.ep_core.specs.Program.{Expr, What, Stmts, stop, more, Program}
-use Rattle.ep_core.specs.View.{shown_stmts, shown_what}
-use Rattle.ep_core.specs.declared.tree.Stmt as tree
+use Rattle.ep_small_core.specs.Program.{Expr, What, Stmts, stop, more, Program}
+use Rattle.ep_small_core.specs.View.{shown_stmts, shown_what}
+use Rattle.ep_small_core.specs.declared.tree.Stmt as tree
 use Rattle.endport.specs.declared.form.token.Mark.TheVariants.{BraceOpen, BraceClose, ParenOpen, ParenClose, Comma, Semicolon}
 use Rattle.endport.specs.declared.refusal.Halt.{Halt}
 use Rattle.endport.specs.declared.refusal.Halt.TheVariants.{Refused, Memory}

@@ -9,10 +9,10 @@ use Rattle.ep_int.specs.declared.types.IntType.TheVariants.{I32}
 use Rattle.ep_int.specs.declared.types.Scalar.TheVariants.{Int}
 use Rattle.ep_int.specs.Types.{bytes_of}
 use Rattle.ep_int.specs.Arith.{common_of}
-use Rattle.ep_core.specs.Program.{block, Expr, convert, const, What, Stmts, Program}
-use Rattle.ep_core.specs.WellFormed.{number_of_type, is_same_type, scoped_in, scoped, is_number, Ty, has_type, is_right_operand, place_has, type_of, what_fits, stmts_fit, is_well_formed}
-use Rattle.ep_core.specs.WellFormed as ty
-use Rattle.ep_core.proofs.Typing.{same_type, is_of_type}
+use Rattle.ep_small_core.specs.Program.{block, Expr, convert, const, What, Stmts, Program}
+use Rattle.ep_small_core.specs.WellFormed.{number_of_type, is_same_type, scoped_in, scoped, is_number, Ty, has_type, is_right_operand, place_has, type_of, what_fits, stmts_fit, is_well_formed}
+use Rattle.ep_small_core.specs.WellFormed as ty
+use Rattle.ep_small_core.proofs.Typing.{same_type, is_of_type}
 use Rattle.endport.specs.Tokens as tokens
 use Rattle.endport.specs.Tokens.{Tok, name, number, mark, Cuts}
 use Rattle.endport.specs.Form as form

@@ -1,9 +1,9 @@
 -- Steps with their bodies: what is answered for them, from what was answered for their parts.
 use Rattle.std.proofs.Common.{◌≡◌, ℕ, suc, Bool, true, false, true≢false, cond, List, [], ◌∷◌, ◌++◌, Some, None, codes, refl, sym, ap, ◌∙◌, subst, arith}
 use Rattle.std.specs.Str.{bytes_eq}
-use Rattle.ep_core.specs.Program.{Expr, What, if_else, loop, Stmts, stop, more}
-use Rattle.ep_core.specs.View.{shown_stmts, shown_what}
-use Rattle.ep_core.specs.declared.tree.Stmt as tree
+use Rattle.ep_small_core.specs.Program.{Expr, What, if_else, loop, Stmts, stop, more}
+use Rattle.ep_small_core.specs.View.{shown_stmts, shown_what}
+use Rattle.ep_small_core.specs.declared.tree.Stmt as tree
 use Rattle.endport.specs.declared.form.token.Mark.TheVariants.{BraceOpen, BraceClose}
 use Rattle.endport.specs.declared.refusal.Halt.{Halt}
 use Rattle.endport.specs.Answers.{Refuses}

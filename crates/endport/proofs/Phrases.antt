@@ -7,7 +7,7 @@ use Rattle.ep_int.specs.declared.types.BinOp.TheVariants.{And}
 use Rattle.ep_int.specs.declared.types.IntType.TheVariants.{I32}
 use Rattle.ep_int.specs.declared.types.Scalar.TheVariants.{Int}
 use Rattle.ep_int.specs.Types.{bytes_of}
-use Rattle.ep_core.specs.Program.{block, const, addr_of, convert, What, assign, input, output, write_bytes, break_loop, continue_loop, returns}
+use Rattle.ep_small_core.specs.Program.{block, const, addr_of, convert, What, assign, input, output, write_bytes, break_loop, continue_loop, returns}
 use Rattle.endport.specs.declared.form.token.Mark.TheVariants.{ParenOpen, ParenClose, Comma, Semicolon, Equals, Operator}
 use Rattle.endport.specs.Tokens.{Tok, name, number, mark}
 use Rattle.endport.specs.Words.{input_type, output_type}

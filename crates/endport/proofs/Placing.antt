@@ -6,8 +6,8 @@ use Rattle.std.proofs.lemmas.List.Sums.{sum_by-cons}
 use Rattle.std.specs.List.{list_all}
 use Rattle.std.specs.Str.{bytes_eq}
 use Rattle.ep_int.specs.Types.{bytes_of}
-use Rattle.ep_core.specs.Program.{Block}
-use Rattle.ep_core.specs.WellFormed.{contains, are_different, numbers_below, is_global, block_fits, blocks_fit, are_listed}
+use Rattle.ep_small_core.specs.Program.{Block}
+use Rattle.ep_small_core.specs.WellFormed.{contains, are_different, numbers_below, is_global, block_fits, blocks_fit, are_listed}
 use Rattle.endport.specs.Form.{Variable, Object, found_from, found, bytes_of_all, block_of_type, result_block, block_of, blocks_from}
 use Rattle.endport.proofs.Looks.{both}
 

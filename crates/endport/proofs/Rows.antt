@@ -4,7 +4,7 @@ use Rattle.ep_int.specs.declared.types.BinOp.TheVariants.{Add, Sub, And, Shl}
 use Rattle.ep_int.specs.declared.types.Cmp.TheVariants.{Lt, Le, Ne}
 use Rattle.ep_int.specs.declared.types.IntType.TheVariants.{U8, U32, I32}
 use Rattle.ep_int.specs.declared.types.Scalar.TheVariants.{Int}
-use Rattle.ep_core.specs.Program.{block, load, const, binary, convert, compare, assign, if_else, loop, break_loop, returns, stop, more}
+use Rattle.ep_small_core.specs.Program.{block, load, const, binary, convert, compare, assign, if_else, loop, break_loop, returns, stop, more}
 use Rattle.endport.specs.declared.form.token.Mark.TheVariants.{ParenOpen, ParenClose, BraceOpen, BraceClose, Semicolon, Equals, Operator, Comparison}
 use Rattle.endport.specs.Tokens.{name, number, mark, mark_of}
 use Rattle.endport.specs.Form as form

@@ -4,7 +4,7 @@ use Rattle.std.specs.Option.{option_map}
 use Rattle.std.specs.Str.{bytes_eq}
 use Rattle.ep_int.specs.declared.types.IntType.{IntType}
 use Rattle.ep_int.specs.Types.{bytes_of}
-use Rattle.ep_core.specs.Program.{Expr, What, if_else, loop, stop}
+use Rattle.ep_small_core.specs.Program.{Expr, What, if_else, loop, stop}
 use Rattle.endport.specs.declared.form.token.Mark.{Mark}
 use Rattle.endport.specs.declared.form.token.Mark.TheVariants.{ParenOpen, ParenClose, BraceOpen, Semicolon, Equals, Operator, Comparison}
 use Rattle.endport.specs.Tokens.{Tok, name, mark}

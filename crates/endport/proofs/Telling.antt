@@ -5,12 +5,12 @@ use Rattle.endport.specs.declared.status.Status.{Status}
 use Rattle.endport.specs.declared.status.Status.TheVariants.{Done, Alarms, Refused, Usage, ReadFault, WriteFault, Memory, TooLong}
 use Rattle.ep_alarms.specs.declared.types.Alarm.{Alarm}
 use Rattle.ep_alarms.specs.Text.{report_text_of}
-use Rattle.ep_core.specs.Program.{Program}
-use Rattle.ep_core.specs.Agree.{Agree, AgreeAlong}
-use Rattle.ep_core.specs.WellFormed.{is_well_formed}
+use Rattle.ep_small_core.specs.Program.{Program}
+use Rattle.ep_small_core.specs.Agree.{Agree, AgreeAlong}
+use Rattle.ep_small_core.specs.WellFormed.{is_well_formed}
 use Rattle.ep_int.specs.declared.types.Order.TheVariants.{Little, Big}
-use Rattle.ep_iterator.specs.Straight.{is_straight}
-use Rattle.ep_iterator.proofs.Straight.{straight_complete}
+use Rattle.ep_small_iterator.specs.Straight.{is_straight}
+use Rattle.ep_small_iterator.proofs.Straight.{straight_complete}
 use Rattle.ep_io.specs.Bytes.{Appended, FrontAppended}
 use Rattle.ep_io.specs.Faults.{Rose}
 use Rattle.endport.specs.Answers.{not_built}

@@ -17,8 +17,8 @@ use Rattle.ep_int.specs.declared.types.IntType.{IntType}
 use Rattle.ep_int.specs.declared.types.IntType.TheVariants.{I32}
 use Rattle.ep_int.specs.declared.types.Scalar.TheVariants.{Int}
 use Rattle.ep_int.specs.Types.{bytes_of}
-use Rattle.ep_core.specs.Program.{block, Expr, const, load, addr_of, binary, convert, compare, What, assign, input, output, write_bytes, if_else, loop, break_loop, continue_loop, returns, Stmts, stop, more, Block, Program}
-use Rattle.ep_core.specs.WellFormed.{is_same_type}
+use Rattle.ep_small_core.specs.Program.{block, Expr, const, load, addr_of, binary, convert, compare, What, assign, input, output, write_bytes, if_else, loop, break_loop, continue_loop, returns, Stmts, stop, more, Block, Program}
+use Rattle.ep_small_core.specs.WellFormed.{is_same_type}
 use Rattle.endport.specs.declared.form.token.Mark.TheVariants.{ParenOpen, ParenClose, BraceOpen, BraceClose, Comma, Semicolon, Equals, Operator, Comparison}
 use Rattle.endport.specs.Tokens.{Tok, name, number, mark, Cuts}
 use Rattle.endport.specs.Words.{is_free, declared_type, input_type, output_type}

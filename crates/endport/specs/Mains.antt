@@ -1,6 +1,6 @@
 -- What is read of a source, seen as its program.
-use Rattle.ep_core.specs.Program.{Program}
-use Rattle.ep_core.specs.View.{shown_stmts}
+use Rattle.ep_small_core.specs.Program.{Program}
+use Rattle.ep_small_core.specs.View.{shown_stmts}
 use Rattle.endport.specs.declared.form.body.Main.{Main}
 use Rattle.endport.specs.Form.{program_of}
 use Rattle.endport.specs.Listed.{listed}

@@ -1,6 +1,6 @@
 -- Parts of a source whose bodies are still to be read, by the rules of the form.
 use Rattle.std.specs.Prelude.{◌≡◌, ℕ, suc, Bool, true, List, Some}
-use Rattle.ep_core.specs.Program.{Expr, What, if_else, loop, Stmts, stop}
+use Rattle.ep_small_core.specs.Program.{Expr, What, if_else, loop, Stmts, stop}
 use Rattle.endport.specs.declared.form.token.Mark.TheVariants.{BraceOpen}
 use Rattle.endport.specs.Tokens.{Tok}
 use Rattle.endport.specs.Form.{Variable, Step, Steps, Otherwise}

@@ -10,7 +10,7 @@ use Rattle.ep_int.specs.declared.types.IntType.{IntType}
 use Rattle.ep_int.specs.declared.types.IntType.TheVariants.{I32}
 use Rattle.ep_int.specs.declared.types.Scalar.TheVariants.{Int}
 use Rattle.ep_int.specs.Types.{bytes_of}
-use Rattle.ep_core.specs.Program.{block, Expr, const, addr_of, convert, What, assign, input, output, write_bytes, break_loop, continue_loop, returns}
+use Rattle.ep_small_core.specs.Program.{block, Expr, const, addr_of, convert, What, assign, input, output, write_bytes, break_loop, continue_loop, returns}
 use Rattle.endport.specs.declared.form.token.Mark.{Mark}
 use Rattle.endport.specs.declared.form.token.Mark.TheVariants.{ParenOpen, ParenClose, BraceOpen, BraceClose, Comma, Semicolon, Equals, Operator, Comparison}
 use Rattle.endport.specs.Tokens.{Tok, name, number, mark}

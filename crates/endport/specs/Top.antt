@@ -4,15 +4,15 @@ use Rattle.endport.specs.declared.status.Status.{Status}
 use Rattle.endport.specs.declared.status.Status.TheVariants.{Done, Alarms, Refused, Usage, ReadFault, WriteFault, Memory, TooLong}
 use Rattle.ep_alarms.specs.declared.types.Alarm.{Alarm}
 use Rattle.ep_alarms.specs.Text.{report_text_of}
-use Rattle.ep_core.specs.Program.{Program}
-use Rattle.ep_core.specs.Agree.{Agree, AgreeAlong}
+use Rattle.ep_small_core.specs.Program.{Program}
+use Rattle.ep_small_core.specs.Agree.{Agree, AgreeAlong}
 use Rattle.ep_int.specs.declared.types.Order.TheVariants.{Little, Big}
 use Rattle.ep_io.specs.Bytes.{Appended, FrontAppended}
 use Rattle.ep_io.specs.Faults.{Rose}
 use Rattle.ep_intervals.specs.Domain.{interval_ops}
-use Rattle.ep_iterator.specs.Plain.{cells_ops}
-use Rattle.ep_iterator.specs.Straight.{is_straight}
-use Rattle.ep_pass.specs.Pass.{report_of}
+use Rattle.ep_small_iterator.specs.Plain.{cells_ops}
+use Rattle.ep_small_iterator.specs.Straight.{is_straight}
+use Rattle.ep_small_pass.specs.Pass.{report_of}
 use Rattle.endport.specs.Answers.{not_built}
 use Rattle.endport.specs.Form.{First}
 

@@ -1,9 +1,9 @@
 -- Tokens, steps and items in memory, seen as they are written, and values.
 use Rattle.std.specs.Prelude.{ℕ, Bool, List, [], map}
 use denote.Ref.{Bor}
-use Rattle.ep_core.specs.Program.{What, Stmts}
-use Rattle.ep_core.specs.View.{shown_expr, shown_what, shown_stmts}
-use Rattle.ep_core.specs.declared.tree.Stmt.{Stmt}
+use Rattle.ep_small_core.specs.Program.{What, Stmts}
+use Rattle.ep_small_core.specs.View.{shown_expr, shown_what, shown_stmts}
+use Rattle.ep_small_core.specs.declared.tree.Stmt.{Stmt}
 use Rattle.std.specs.Global.{Vec}
 use Rattle.endport.specs.declared.form.token.Token.{Token}
 use Rattle.endport.specs.declared.form.token.TokenKind.{TokenKind}

@@ -1,8 +1,8 @@
 //! The form of a source that is read: declarations, and steps with operators, `if`, `while` and jumps.
 
 ghost use Rattle.std.specs.Prelude.{◌≡◌, ◌<◌, ◌^◌, length, IfOk};
-ghost use Rattle.ep_core.specs.Program.{Program};
-ghost use Rattle.ep_core.specs.Shown.{shown};
+ghost use Rattle.ep_small_core.specs.Program.{Program};
+ghost use Rattle.ep_small_core.specs.Shown.{shown};
 ghost use Rattle.endport.specs.Answers.{not_built, IfRefused};
 ghost use Rattle.endport.specs.Form.{First};
 
@@ -19,7 +19,7 @@ mod variables;
 mod words;
 
 use crate::refusal::Halt;
-use ep_core::program::CoreProgram;
+use ep_small_core::program::CoreProgram;
 use std::alloc::Global;
 
 /// The program of a source of this form. Any other source is refused, as a whole.

@@ -2,23 +2,23 @@
 ghost use Rattle.std.specs.Prelude.{◌≡◌, true, ◌++◌, ◌<◌, ◌≤◌, ◌⊎◌, [], None, Some, IfErr, IfOk, IfSome, IsSome, OnOk, codes, decimal, length, map, string_bytes, vec_len};
 ghost use Rattle.endport.specs.Answers.{not_built};
 ghost use Rattle.endport.specs.Top.{IsJob, IsSilent, IsTooLong, StopsSo, TextOf, WasRead, Written, alarms_of, plain_file, refusal_line, report_status, under};
-ghost use Rattle.ep_core.specs.Agree.{Agree, AgreeAlong};
-ghost use Rattle.ep_core.specs.Shown.{shown};
+ghost use Rattle.ep_small_core.specs.Agree.{Agree, AgreeAlong};
+ghost use Rattle.ep_small_core.specs.Shown.{shown};
 ghost use Rattle.ep_int.specs.declared.types.Order.TheVariants.{Little, Big};
 ghost use Rattle.ep_io.specs.Bytes.{Appended, FrontAppended, NoneLeft};
 ghost use Rattle.ep_io.specs.Faults.{NeverFalls, Rose};
-ghost use Rattle.ep_iterator.specs.Straight.{is_straight};
+ghost use Rattle.ep_small_iterator.specs.Straight.{is_straight};
 
 use crate::form::read_form;
 use crate::refusal::{Halt, Refusal};
 use crate::status::Status;
 use crate::words::plain_file;
 use ep_alarms::{Alarms, report_text};
-use ep_core::program::CoreProgram;
+use ep_small_core::program::CoreProgram;
 use ep_int::Memory;
 use ep_intervals::Interval;
 use ep_io::{ReadStop, Sink, Source, read_all, write_all};
-use ep_iterator::{Report, Steps, analyse};
+use ep_small_iterator::{Report, Steps, analyse};
 use itoa::Buffer;
 use std::alloc::{AllocError, Global};
 use std::marker::Brand;

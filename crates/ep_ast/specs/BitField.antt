@@ -1,6 +1,6 @@
 -- Where a `:` stands after a member, with nothing wrong before it: this project has no bit-fields (C11 6.7.2.1).
 use Rattle.std.specs.Prelude.{◌≡◌, ℕ, Bool, true, List, ◌∷◌}
-use Rattle.ep_int.specs.declared.types.Order.{Order}
+use Rattle.ep_ast.specs.declared.orders.NamedOrder.{NamedOrder}
 use Rattle.ep_ast.specs.Token.{Tok, word, name, mark, other}
 use Rattle.ep_ast.specs.Declaration.{Declarator, Spec, Member}
 use Rattle.ep_ast.specs.Statement.{Function, Item}
@@ -40,8 +40,8 @@ pub data InItems : (List ℕ → Bool) → List Tok → (line : ℕ) → Type 0 
   after_item : {is_type after : List ℕ → Bool} {l : ℕ} {xs ys : List Tok} {i : Item} → OneItem is_type after xs ys i → InItems after ys l → InItems is_type xs l
   in_words : {is_type : List ℕ → Bool} {l : ℕ} {xs : List Tok} → InSpecs is_type at_file_scope no_bag xs l → InItems is_type xs l
   in_typedef_words : {is_type : List ℕ → Bool} {l m c : ℕ} {xs : List Tok} → c ≡ typedef_word → InSpecs is_type in_typedef no_bag xs l → InItems is_type (word m c ∷ xs) l
-  in_arm : {is_type : List ℕ → Bool} {t : Tok} {o : Order} {l : ℕ} {xs : List Tok} → IsIf t o → InFunctions is_type xs l → InItems is_type (t ∷ xs) l
-  in_other_arm : {is_type : List ℕ → Bool} {t : Tok} {o : Order} {l m : ℕ} {xs ys : List Tok} {fs : List Function} → IsIf t o
+  in_arm : {is_type : List ℕ → Bool} {t : Tok} {o : NamedOrder} {l : ℕ} {xs : List Tok} → IsIf t o → InFunctions is_type xs l → InItems is_type (t ∷ xs) l
+  in_other_arm : {is_type : List ℕ → Bool} {t : Tok} {o : NamedOrder} {l m : ℕ} {xs ys : List Tok} {fs : List Function} → IsIf t o
       → Functions is_type xs (other m ∷ ys) fs → InFunctions is_type ys l → InItems is_type (t ∷ xs) l
 
 -- a `:` of this line stands after a member

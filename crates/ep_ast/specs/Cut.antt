@@ -2,8 +2,8 @@
 use Rattle.std.specs.Prelude.{◌≡◌, ℕ, ◌+◌, Bool, true, false, ◌&&◌, ◌||◌, not, ◌==◌, nat_eq, if◌then◌else◌, List, [], ◌∷◌, ◌++◌, length, drop, codes, Option, Some, None, is_some, is_none}
 use Rattle.std.specs.List.{position_from, starts_with, list_any}
 use Rattle.std.specs.Str.{bytes_eq}
-use Rattle.ep_int.specs.declared.types.Order.{Order}
-use Rattle.ep_int.specs.declared.types.Order.TheVariants.{Little, Big}
+use Rattle.ep_ast.specs.declared.orders.NamedOrder.{NamedOrder}
+use Rattle.ep_ast.specs.declared.orders.NamedOrder.TheVariants.{Little, Big}
 use Rattle.ep_ast.specs.declared.expressions.Literal.{Literal}
 use Rattle.ep_ast.specs.declared.refusals.Refusal.{Refusal}
 use Rattle.ep_ast.specs.Token as token
@@ -111,11 +111,11 @@ value cs hash = None
 value cs quote = None
 value cs (mark n) = None
 
-abbrev pub order_name : Order → List ℕ
+abbrev pub order_name : NamedOrder → List ℕ
 order_name Little = codes "__ORDER_LITTLE_ENDIAN__"
 order_name Big = codes "__ORDER_BIG_ENDIAN__"
 
-abbrev pub order_token : Order → ℕ → Tok
+abbrev pub order_token : NamedOrder → ℕ → Tok
 order_token Little l = token.if_little l
 order_token Big l = token.if_big l
 
@@ -139,7 +139,7 @@ pub data Piece (p : Place) : List ℕ → List Tok → Place → List ℕ → Ty
   define : {bs rest : List ℕ} (m : ℕ) (t : List ℕ) (v : Thing) (c : Literal) → p.fresh ≡ true → p.open_arm ≡ outside
       → Stand p.line bs (hash ∷ name (codes "define") ∷ name t ∷ v ∷ over ∷ []) m rest → may_define p.constants t ≡ true → value p.constants v ≡ Some c
       → Piece p bs [] (record p { line = m; fresh = false; constants = p.constants ++ (t, c) ∷ [] }) rest
-  condition : {bs cs rest : List ℕ} (l m : ℕ) (o : Order) → p.fresh ≡ true → p.open_arm ≡ outside → constant p.constants (codes "__BYTE_ORDER__") ≡ None
+  condition : {bs cs rest : List ℕ} (l m : ℕ) (o : NamedOrder) → p.fresh ≡ true → p.open_arm ≡ outside → constant p.constants (codes "__BYTE_ORDER__") ≡ None
       → constant p.constants (order_name o) ≡ None → Next p.line bs l hash cs
       → Stand l cs (name (codes "if") ∷ name (codes "__BYTE_ORDER__") ∷ mark equals ∷ name (order_name o) ∷ over ∷ []) m rest
       → Piece p bs (order_token o l ∷ []) (record p { line = m; fresh = false; open_arm = first_arm l }) rest

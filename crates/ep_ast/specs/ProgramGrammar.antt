@@ -1,7 +1,7 @@
 -- The grammar of whole programs, with one case for each rule: C11 6.9, less what this project leaves out, and this project's functions by byte order.
 use Rattle.std.specs.Prelude.{◌≡◌, ℕ, Bool, true, ◌||◌, Option, Some, None, List, [], ◌∷◌}
 use Rattle.std.specs.Str.{bytes_eq}
-use Rattle.ep_int.specs.declared.types.Order.{Order}
+use Rattle.ep_ast.specs.declared.orders.NamedOrder.{NamedOrder}
 use Rattle.ep_ast.specs.Token.{Tok, word, mark, other, end_if, line_of}
 use Rattle.ep_ast.specs.Declaration.{Declarator, Spec, Aggregate, Declaration, Head}
 use Rattle.ep_ast.specs.Statement as tree
@@ -46,7 +46,7 @@ pub data OneItem : (before after : List ℕ → Bool) → List Tok → List Tok 
   prototype : {is_type : List ℕ → Bool} {l c : ℕ} {xs ys : List Tok} {h : Head} → c ≡ semicolon → Headed is_type xs (mark l c ∷ ys) h → OneItem is_type is_type xs ys (tree.prototype h)
   declares : {is_type : List ℕ → Bool} {xs ys : List Tok} {d : Declaration} → Declares is_type at_file_scope xs ys d → OneItem is_type is_type xs ys (tree.declares_all d)
   completes : {is_type : List ℕ → Bool} {l c : ℕ} {xs ys : List Tok} {a : Aggregate} → c ≡ semicolon → Aggregated is_type xs (mark l c ∷ ys) a → OneItem is_type is_type xs ys (tree.completes a)
-  arms : {is_type : List ℕ → Bool} {t : Tok} {o : Order} {xs ys zs : List Tok} {fs : List Function} {gs : Option (List Function)} → IsIf t o
+  arms : {is_type : List ℕ → Bool} {t : Tok} {o : NamedOrder} {xs ys zs : List Tok} {fs : List Function} {gs : Option (List Function)} → IsIf t o
       → Functions is_type xs ys fs → OtherFunctions is_type ys zs gs → OneItem is_type is_type (t ∷ xs) zs (tree.functions_by_order (line_of t) o fs gs)
 
 pub data Items : (List ℕ → Bool) → List Tok → List Item → Type 0 where

@@ -2,7 +2,7 @@
 use Rattle.std.specs.Prelude.{ℕ, List, [], ◌∷◌, map, Option, Some, None}
 use Rattle.std.specs.Global.{Vec}
 use Rattle.std.specs.Option.{option_map}
-use Rattle.ep_int.specs.declared.types.Order.{Order}
+use Rattle.ep_ast.specs.declared.orders.NamedOrder.{NamedOrder}
 use Rattle.ep_ast.specs.declared.statements.StmtTree.{StmtTree, Block', Expr, If', While', Do', For', Break, Continue, Return, Row_of-BlockItemTree, end_of-BlockItemTree, more_of-BlockItemTree, Held-StmtTree-If-3, StmtTree-If-3-None', StmtTree-If-3-Some'}
 use Rattle.ep_ast.specs.declared.statements.BlockTree.{BlockTree}
 use Rattle.ep_ast.specs.declared.statements.BlockItemTree.{BlockItemTree, Declaration, Statement, Arms', Row_of-StmtTree, end_of-StmtTree, more_of-StmtTree, Held-BlockItemTree-Arms-3, BlockItemTree-Arms-3-None', BlockItemTree-Arms-3-Some'}
@@ -47,8 +47,8 @@ mutual
   pub data Part : Type 0 where
     declares_in : declarations.Declaration → Part
     states : Stmt → Part
-    arm : (line : ℕ) (order : Order) (then : Stmts) → Part
-    two_arms : (line : ℕ) (order : Order) (then otherwise : Stmts) → Part
+    arm : (line : ℕ) (order : NamedOrder) (then : Stmts) → Part
+    two_arms : (line : ℕ) (order : NamedOrder) (then otherwise : Stmts) → Part
 
   pub data Parts : Type 0 where
     no_parts : Parts
@@ -66,7 +66,7 @@ abbrev pub make_if : ℕ → expressions.Expr → Stmt → Option Stmt → Stmt
 make_if l e s None = if_then l e s
 make_if l e s (Some t) = if_else l e s t
 
-abbrev pub make_arms : ℕ → Order → Stmts → Option Stmts → Part
+abbrev pub make_arms : ℕ → NamedOrder → Stmts → Option Stmts → Part
 make_arms l o ss None = arm l o ss
 make_arms l o ss (Some ts) = two_arms l o ss ts
 
@@ -131,7 +131,7 @@ pub data Item : Type 0 where
   prototype : declarations.Head → Item
   declares_all : declarations.Declaration → Item
   completes : declarations.Aggregate → Item
-  functions_by_order : (line : ℕ) (order : Order) (then : List Function) (otherwise : Option (List Function)) → Item
+  functions_by_order : (line : ℕ) (order : NamedOrder) (then : List Function) (otherwise : Option (List Function)) → Item
 
 abbrev pub item_of : ItemTree → Item
 item_of (items.Typedef t) = typedefs (typedef_of t)

@@ -1,7 +1,7 @@
 -- The grammar of statements and blocks, on whole lists of tokens, with one case for each rule: C11 6.8, less what this project leaves out, and this project's statements by byte order.
 use Rattle.std.specs.Prelude.{◌≡◌, ℕ, Bool, Option, Some, None, List, [], ◌∷◌}
-use Rattle.ep_int.specs.declared.types.Order.{Order}
-use Rattle.ep_int.specs.declared.types.Order.TheVariants.{Little, Big}
+use Rattle.ep_ast.specs.declared.orders.NamedOrder.{NamedOrder}
+use Rattle.ep_ast.specs.declared.orders.NamedOrder.TheVariants.{Little, Big}
 use Rattle.ep_ast.specs.Token.{Tok, word, mark, if_little, if_big, other, end_if, line_of}
 use Rattle.ep_ast.specs.Expression as expressions
 use Rattle.ep_ast.specs.Declaration.{Declaration}
@@ -28,7 +28,7 @@ pub data Firsts (is_type : List ℕ → Bool) : List Tok → List Tok → First 
   evaluates : {xs ys : List Tok} {e : Option expressions.Expr} → UpTo is_type semicolon xs ys e → Firsts is_type xs ys (tree.evaluates e)
 
 -- an `#if` of this order begins here
-pub data IsIf : Tok → Order → Type 0 where
+pub data IsIf : Tok → NamedOrder → Type 0 where
   little : {l : ℕ} → IsIf (if_little l) Little
   big : {l : ℕ} → IsIf (if_big l) Big
 
@@ -62,7 +62,7 @@ mutual
   pub data OnePart (is_type : List ℕ → Bool) : List Tok → List Tok → Part → Type 0 where
     declaration : {xs ys : List Tok} {d : Declaration} → Declares is_type in_block xs ys d → OnePart is_type xs ys (tree.declares_in d)
     statement : {xs ys : List Tok} {s : Stmt} → States is_type xs ys s → OnePart is_type xs ys (tree.states s)
-    arms : {t : Tok} {o : Order} {xs ys zs : List Tok} {ss : List Stmt} {ts : Option Stmts} → IsIf t o
+    arms : {t : Tok} {o : NamedOrder} {xs ys zs : List Tok} {ss : List Stmt} {ts : Option Stmts} → IsIf t o
         → Statements is_type xs ys ss → OtherArm is_type ys zs ts → OnePart is_type (t ∷ xs) zs (make_arms (line_of t) o (to_stmts ss) ts)
 
   -- as many statements as there are before an `#else` or `#endif`

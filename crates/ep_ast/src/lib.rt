@@ -3,6 +3,7 @@
 
 mod declarations;
 mod expressions;
+mod orders;
 mod refusals;
 mod statements;
 
@@ -11,6 +12,7 @@ pub use declarations::{
     ParamsTree, SpecTree, TypedefTree, ValueTree,
 };
 pub use expressions::{ExprTree, Literal, TypeNameTree, TypeWordTree};
+pub use orders::NamedOrder;
 pub use refusals::{Halt, Refusal, refusal_text};
 pub use statements::{
     BlockItemTree, BlockTree, ForInitTree, FunctionTree, ItemTree, ProgramTree, StmtTree,

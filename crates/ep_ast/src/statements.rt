@@ -3,9 +3,9 @@ ghost use Rattle.std.specs.Option.{option_map};
 ghost use Rattle.ep_ast.specs.Expression.{expr};
 ghost use Rattle.ep_ast.specs.Statement as shape;
 
+use crate::NamedOrder;
 use crate::declarations::{AggregateTree, DeclarationTree, HeadTree, TypedefTree};
 use crate::expressions::ExprTree;
-use ep_int::Order;
 
 /// The body of a function. The line is that of its `{`.
 #[derive(Debug, Drop)]
@@ -21,7 +21,7 @@ pub struct BlockTree {
 pub enum BlockItemTree {
     Declaration(DeclarationTree),
     Statement(StmtTree),
-    Arms(u32, Order, Vec<StmtTree>, Option<Vec<StmtTree>>),
+    Arms(u32, NamedOrder, Vec<StmtTree>, Option<Vec<StmtTree>>),
 }
 
 /// The first part of a `for`.
@@ -62,7 +62,7 @@ pub enum ItemTree {
     Prototype(HeadTree),
     Declaration(DeclarationTree),
     Aggregate(AggregateTree),
-    Arms(u32, Order, Vec<FunctionTree>, Option<Vec<FunctionTree>>),
+    Arms(u32, NamedOrder, Vec<FunctionTree>, Option<Vec<FunctionTree>>),
 }
 
 /// A whole program.
@@ -96,7 +96,7 @@ impl BlockItemTree {
     /// Statements by byte order.
     pub fn new_arms(
         line: u32,
-        order: Order,
+        order: NamedOrder,
         then: Vec<StmtTree>,
         otherwise: Option<Vec<StmtTree>>,
     ) -> BlockItemTree

@@ -1,7 +1,7 @@
 -- Functions with their bodies, alone and in the arms of a conditional.
 use Rattle.std.proofs.Common.{◌≡◌, ℕ, Bool, true, false, List, [], ◌∷◌, ◌++◌, Option, Some, None, refl, sym, ap, ◌∙◌, append_assoc, subst}
 use Rattle.std.proofs.lemmas.List.{append-nil}
-use Rattle.ep_int.specs.declared.types.Order.{Order}
+use Rattle.ep_ast.specs.declared.orders.NamedOrder.{NamedOrder}
 use Rattle.ep_ast.specs.Token.{Tok, word, name, number, mark, if_little, if_big, other, end_if}
 use Rattle.ep_ast.specs.Declaration.{Head}
 use Rattle.ep_ast.specs.Statement as tree
@@ -204,10 +204,10 @@ module _ (N : List ℕ → Bool) where
 
   -- ---- both arms
 
-  then_never : {l : ℕ} {o : Order} {xs ys : List Tok} {i : Item} → TakesNone (Functions N) xs → Arms N l o xs ys i → ⊥
+  then_never : {l : ℕ} {o : NamedOrder} {xs ys : List Tok} {i : Item} → TakesNone (Functions N) xs → Arms N l o xs ys i → ⊥
   then_never n (arms {ys = ys} {fs = fs} d e) = n.never fs ys d
 
-  pub then_refused : (l : ℕ) (o : Order) (xs : List Tok) → TakesNone (Functions N) xs → TakesNone (Arms N l o) xs
+  pub then_refused : (l : ℕ) (o : NamedOrder) (xs : List Tok) → TakesNone (Functions N) xs → TakesNone (Arms N l o) xs
   then_refused l o xs n = record { never = λ i ys d. then_never n d }
 
   then_in : {xs : List Tok} {l : ℕ} → TakesNone (Functions N) xs → Clear (InFunctions N) xs → InArms N xs l → ⊥
@@ -220,10 +220,10 @@ module _ (N : List ℕ → Bool) where
   pub then_worse : (xs : List Tok) (l : ℕ) → InFunctions N xs l → InArms N xs l
   then_worse xs l d = in_first d
 
-  otherwise_never : {l : ℕ} {o : Order} {xs ys zs : List Tok} {fs : List Function} {i : Item} → Takes (Functions N) xs fs ys → TakesNone (OtherFunctions N) ys → Arms N l o xs zs i → ⊥
+  otherwise_never : {l : ℕ} {o : NamedOrder} {xs ys zs : List Tok} {fs : List Function} {i : Item} → Takes (Functions N) xs fs ys → TakesNone (OtherFunctions N) ys → Arms N l o xs zs i → ⊥
   otherwise_never t n (arms {ys = ys'} {zs = zs} {fs = fs'} {gs = gs} d e) = let q = t.only fs' ys' d in n.never gs zs (rw q.1 at e)
 
-  pub otherwise_refused : (l : ℕ) (o : Order) (xs ys : List Tok) (fs : List Function) → Takes (Functions N) xs fs ys → TakesNone (OtherFunctions N) ys → TakesNone (Arms N l o) xs
+  pub otherwise_refused : (l : ℕ) (o : NamedOrder) (xs ys : List Tok) (fs : List Function) → Takes (Functions N) xs fs ys → TakesNone (OtherFunctions N) ys → TakesNone (Arms N l o) xs
   otherwise_refused l o xs ys fs t n = record { never = λ i zs d. otherwise_never t n d }
 
   otherwise_in : {xs ys : List Tok} {fs : List Function} {l : ℕ} → Takes (Functions N) xs fs ys → Clear (InFunctions N) xs → Clear (InOther N) ys → InArms N xs l → ⊥
@@ -236,12 +236,12 @@ module _ (N : List ℕ → Bool) where
   pub otherwise_worse : (xs ys : List Tok) (fs : List Function) → Takes (Functions N) xs fs ys → (l : ℕ) → InOther N ys l → InArms N xs l
   otherwise_worse xs ys fs t l (in_other d) = in_second t.holds d
 
-  arms_only : {l : ℕ} {o : Order} {xs ys zs ws : List Tok} {fs : List Function} {gs : Option (List Function)} {i : Item} → Takes (Functions N) xs fs ys → Takes (OtherFunctions N) ys gs zs → Arms N l o xs ws i
+  arms_only : {l : ℕ} {o : NamedOrder} {xs ys zs ws : List Tok} {fs : List Function} {gs : Option (List Function)} {i : Item} → Takes (Functions N) xs fs ys → Takes (OtherFunctions N) ys gs zs → Arms N l o xs ws i
       → (i ≡ tree.functions_by_order l o fs gs) × (ws ≡ zs)
   arms_only t k (arms {ys = ys'} {zs = ws} {fs = fs'} {gs = gs'} d e) =
       let p = t.only fs' ys' d in
       let q = k.only gs' ws (rw p.1 at e) in
       (rw (p.0, q.0) refl, q.1)
 
-  pub arms_taken : (l : ℕ) (o : Order) (xs ys zs : List Tok) (fs : List Function) (gs : Option (List Function)) → Takes (Functions N) xs fs ys → Takes (OtherFunctions N) ys gs zs → Takes (Arms N l o) xs (tree.functions_by_order l o fs gs) zs
+  pub arms_taken : (l : ℕ) (o : NamedOrder) (xs ys zs : List Tok) (fs : List Function) (gs : Option (List Function)) → Takes (Functions N) xs fs ys → Takes (OtherFunctions N) ys gs zs → Takes (Arms N l o) xs (tree.functions_by_order l o fs gs) zs
   arms_taken l o xs ys zs fs gs t k = record { holds = arms t.holds k.holds; only = λ i ws d. arms_only t k d }

@@ -1,8 +1,8 @@
 -- Items: which of them begins with the words that were read.
 use Rattle.std.proofs.Common.{◌≡◌, ℕ, Bool, true, false, List, [], ◌∷◌, Option, Some, refl, sym, ◌∙◌, arith}
 use Rattle.std.proofs.lemmas.Bool.{ne_eqb}
-use Rattle.ep_int.specs.declared.types.Order.{Order}
-use Rattle.ep_int.specs.declared.types.Order.TheVariants.{Little, Big}
+use Rattle.ep_ast.specs.declared.orders.NamedOrder.{NamedOrder}
+use Rattle.ep_ast.specs.declared.orders.NamedOrder.TheVariants.{Little, Big}
 use Rattle.ep_ast.specs.Token.{Tok, word, name, number, mark, if_little, if_big, other, end_if}
 use Rattle.ep_ast.specs.Expression as expressions
 use Rattle.ep_ast.specs.Declaration.{Declarator, Spec, body, Aggregate, Init, Head}
@@ -307,7 +307,7 @@ module _ (N : List ℕ → Bool) where
 
   -- behind an `#if`
 
-  to_arms : {M : List ℕ → Bool} {l : ℕ} {us zs : List Tok} {i : Item} (o : Order) → OneItem N M (order_token o l ∷ us) zs i → (M ≡ N) × Arms N l o us zs i
+  to_arms : {M : List ℕ → Bool} {l : ℕ} {us zs : List Tok} {i : Item} (o : NamedOrder) → OneItem N M (order_token o l ∷ us) zs i → (M ≡ N) × Arms N l o us zs i
   to_arms Little (programs.defines d) = absurd (worded_not N refl (defines d))
   to_arms Little (programs.prototype f d) = absurd (worded_not N refl (prototype f d))
   to_arms Little (programs.declares d) = absurd (worded_not N refl (declares d))
@@ -319,31 +319,31 @@ module _ (N : List ℕ → Bool) where
   to_arms Big (programs.completes f d) = absurd (worded_not N refl (completes f d))
   to_arms Big (programs.arms big f g) = (refl, arms f g)
 
-  of_arms : {l : ℕ} {us zs : List Tok} {i : Item} (o : Order) → Arms N l o us zs i → OneItem N N (order_token o l ∷ us) zs i
+  of_arms : {l : ℕ} {us zs : List Tok} {i : Item} (o : NamedOrder) → Arms N l o us zs i → OneItem N N (order_token o l ∷ us) zs i
   of_arms Little (arms f g) = programs.arms little f g
   of_arms Big (arms f g) = programs.arms big f g
 
-  pub arms_taken : (xs us zs : List Tok) (l : ℕ) (o : Order) (i : Item) → xs ≡ order_token o l ∷ us → Takes (Arms N l o) us i zs → Takes (Itemed N) xs (i, N) zs
+  pub arms_taken : (xs us zs : List Tok) (l : ℕ) (o : NamedOrder) (i : Item) → xs ≡ order_token o l ∷ us → Takes (Arms N l o) us i zs → Takes (Itemed N) xs (i, N) zs
   arms_taken xs us zs l o i e t = rw e (record {
     holds = of_arms o t.holds;
     only = λ u vs d. let p = to_arms o d in let q = t.only u.0 vs p.1 in (pair_is u i N q.0 p.0, q.1);
   })
 
-  pub arms_refused : (xs us : List Tok) (l : ℕ) (o : Order) → xs ≡ order_token o l ∷ us → TakesNone (Arms N l o) us → TakesNone (Itemed N) xs
+  pub arms_refused : (xs us : List Tok) (l : ℕ) (o : NamedOrder) → xs ≡ order_token o l ∷ us → TakesNone (Arms N l o) us → TakesNone (Itemed N) xs
   arms_refused xs us l o e n = rw e (record { never = λ u vs d. n.never u.0 vs (to_arms o d).1 })
 
-  arms_in : {l : ℕ} {us : List Tok} (m : ℕ) (o : Order) → Clear (InArms N) us → InItem N (order_token o m ∷ us) l → ⊥
+  arms_in : {l : ℕ} {us : List Tok} (m : ℕ) (o : NamedOrder) → Clear (InArms N) us → InItem N (order_token o m ∷ us) l → ⊥
   arms_in m Little c (in_words d) = in_specs_not N refl d
   arms_in {l = l} m Little c (in_arms little d) = c l d
   arms_in m Big c (in_words d) = in_specs_not N refl d
   arms_in {l = l} m Big c (in_arms big d) = c l d
 
-  pub arms_clear : (xs us : List Tok) (l : ℕ) (o : Order) → xs ≡ order_token o l ∷ us → Clear (InArms N) us → Clear (InItem N) xs
+  pub arms_clear : (xs us : List Tok) (l : ℕ) (o : NamedOrder) → xs ≡ order_token o l ∷ us → Clear (InArms N) us → Clear (InItem N) xs
   arms_clear xs us l o e k = rw e (λ m d. arms_in l o k d)
 
-  in_order : (o : Order) (l m : ℕ) (us : List Tok) → InArms N us m → InItem N (order_token o l ∷ us) m
+  in_order : (o : NamedOrder) (l m : ℕ) (us : List Tok) → InArms N us m → InItem N (order_token o l ∷ us) m
   in_order Little l m us d = in_arms little d
   in_order Big l m us d = in_arms big d
 
-  pub arms_worse : (xs us : List Tok) (l : ℕ) (o : Order) → xs ≡ order_token o l ∷ us → (m : ℕ) → InArms N us m → InItem N xs m
+  pub arms_worse : (xs us : List Tok) (l : ℕ) (o : NamedOrder) → xs ≡ order_token o l ∷ us → (m : ℕ) → InArms N us m → InItem N xs m
   arms_worse xs us l o e m d = rw e (in_order o l m us d)

@@ -2,7 +2,7 @@
 use Rattle.std.specs.Prelude.{◌≡◌, ℕ, Bool, List, [], ◌∷◌, ◌++◌, map, Option, Some, None, Result, Ok, Err}
 use Rattle.std.specs.Global.{Vec}
 use Rattle.std.specs.Option.{option_map}
-use Rattle.ep_int.specs.declared.types.Order.{Order}
+use Rattle.ep_ast.specs.declared.orders.NamedOrder.{NamedOrder}
 use Rattle.ep_ast.specs.declared.refusals.Refusal.{Refusal}
 use Rattle.ep_ast.specs.declared.statements.FunctionTree.{FunctionTree}
 use Rattle.ep_ast.specs.declared.statements.ItemTree.{ItemTree}
@@ -58,7 +58,7 @@ IsWhole is (Err r) = (r.kind ≡ 22) × (r.word ≡ 0) × (too_deep is ≡ Some 
 -- ---- arms
 
 -- from behind an `#if` of this line and order to behind its `#endif`
-pub data Arms (is_type : List ℕ → Bool) (line : ℕ) (order : Order) : List Tok → List Tok → Item → Type 0 where
+pub data Arms (is_type : List ℕ → Bool) (line : ℕ) (order : NamedOrder) : List Tok → List Tok → Item → Type 0 where
   arms : {xs ys zs : List Tok} {fs : List Function} {gs : Option (List Function)} → Functions is_type xs ys fs → OtherFunctions is_type ys zs gs
       → Arms is_type line order xs zs (tree.functions_by_order line order fs gs)
 
@@ -99,7 +99,7 @@ Itemed before xs ys v = OneItem before v.1 xs ys v.0
 pub data InItem (is_type : List ℕ → Bool) : List Tok → (line : ℕ) → Type 0 where
   in_words : {l : ℕ} {xs : List Tok} → InWords is_type xs l → InItem is_type xs l
   in_typedef : {l m c : ℕ} {xs : List Tok} → c ≡ typedef_word → InTypedefWords is_type xs l → InItem is_type (word m c ∷ xs) l
-  in_arms : {t : Tok} {o : Order} {l : ℕ} {xs : List Tok} → IsIf t o → InArms is_type xs l → InItem is_type (t ∷ xs) l
+  in_arms : {t : Tok} {o : NamedOrder} {l : ℕ} {xs : List Tok} → IsIf t o → InArms is_type xs l → InItem is_type (t ∷ xs) l
 
 -- ---- programs
 

@@ -15,11 +15,10 @@ ghost use Rattle.ep_declarations.specs.Answer.{ShowsHead};
 ghost use Rattle.ep_decls.specs.Answer.{ShowsFunction, ShowsFunctions, ShowsOther, ShowsItem, Arms, InOther, InArms, InWords};
 
 use crate::trees::{behind_else, by_order, function_of, longer};
-use ep_ast::{FunctionTree, Halt, ItemTree};
+use ep_ast::{FunctionTree, Halt, ItemTree, NamedOrder};
 use ep_declarations::{Headed, Place, head, spec_list};
 use ep_declarators::Measured;
 use ep_exprs::{TypeNames, stopped};
-use ep_int::Order;
 use ep_lexer::Token;
 use ep_statements::{at_else, at_end_if, block, ends_arm};
 use std::alloc::Global;
@@ -113,7 +112,7 @@ pub fn arms<'a>(
     names: &TypeNames,
     last: u32,
     line: u32,
-    order: Order,
+    order: NamedOrder,
     tokens: &'a [Token],
 ) -> Result<(Measured<ItemTree>, &'a [Token]), Halt>
     requires { length tokens.now < 2 ^ 24 }

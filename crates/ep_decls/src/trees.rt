@@ -12,11 +12,10 @@ ghost use Rattle.ep_decls.specs.Answer.{ShowsFunction, ShowsFunctions, ShowsOthe
 
 use ep_ast::{
     AggregateTree, BlockTree, DeclarationTree, DeclaratorTree, FunctionTree, HeadTree, ItemTree,
-    ProgramTree, Refusal, TypedefTree,
+    NamedOrder, ProgramTree, Refusal, TypedefTree,
 };
 use ep_declarations::SpecList;
 use ep_declarators::Measured;
-use ep_int::Order;
 use std::alloc::AllocError;
 
 /// The list with one more.
@@ -116,7 +115,7 @@ pub fn new_types(
 /// Functions by byte order. The line is that of the `#if`.
 pub fn by_order(
     line: u32,
-    order: Order,
+    order: NamedOrder,
     then: Measured<Vec<FunctionTree>>,
     otherwise: Measured<Option<Vec<FunctionTree>>>,
 ) -> Measured<ItemTree>

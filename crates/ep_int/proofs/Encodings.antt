@@ -8,7 +8,7 @@ use Rattle.ep_int.specs.declared.types.IntType.{IntType}
 use Rattle.ep_int.specs.declared.types.Order.{Order}
 use Rattle.ep_int.specs.Types.{bytes_of, bits_of, InRange, representation, represented}
 use Rattle.ep_int.specs.Encoding.{place, byte_of, encoded, sum_of_bytes, decoded}
-use Rattle.ep_int.proofs.Places.{place_below, place_back}
+use Rattle.ep_int.proofs.Places.{width_of, place_below, place_back}
 use Rattle.ep_int.proofs.Wrapping.{representation_below, representation_represented, wrapped_same}
 
 pub byte_below : (k n : ℕ) → byte_of k n < 256
@@ -84,13 +84,13 @@ byte_of-sum_of_bytes b (suc w) k h l =
 -- equal bytes at the places of a type are of one number
 pub decoded_same : (o : Order) (t : IntType) (b c : ℕ → ℕ) → ((p : ℕ) → p < bytes_of t → b p ≡ c p) → decoded o t b ≡ decoded o t c
 decoded_same o t b c h =
-    ap (represented t) (sum_of_bytes_same (λ k. b (place o (bytes_of t) k)) (λ k. c (place o (bytes_of t) k)) (bytes_of t) (λ k l. h (place o (bytes_of t) k) (place_below o (bytes_of t) k l)))
+    ap (represented t) (sum_of_bytes_same (λ k. b (place o (bytes_of t) k)) (λ k. c (place o (bytes_of t) k)) (bytes_of t) (λ k l. h (place o (bytes_of t) k) (place_below o (bytes_of t) k (width_of t) l)))
 
 pub decoded_encoded : (o : Order) (t : IntType) (v : ℤ) → InRange t v → decoded o t (encoded o t v) ≡ v
 decoded_encoded o t v h =
     let w = bytes_of t in
     let n = representation t v in
-    let placed = sum_of_bytes_same (λ k. byte_of (place o w (place o w k)) n) (λ k. byte_of k n) w (λ k l. ap (λ j. byte_of j n) (place_back o w k l)) in
+    let placed = sum_of_bytes_same (λ k. byte_of (place o w (place o w k)) n) (λ k. byte_of k n) w (λ k l. ap (λ j. byte_of j n) (place_back o w k (width_of t) l)) in
     let below : n < 256 ^ w = rw bytes_pow (representation_below t v) in
     ap (represented t) (placed ∙ sum_of_bytes-byte_of n w ∙ mod-eq_of_lt below) ∙ wrapped_same t v h
 
@@ -98,8 +98,8 @@ pub encoded_decoded : (o : Order) (t : IntType) (b : ℕ → ℕ) (p : ℕ) → 
 encoded_decoded o t b p h l =
     let w = bytes_of t in
     let placed : ℕ → ℕ = λ k. b (place o w k) in
-    let small : (k : ℕ) → k < w → placed k < 256 = λ k m. h (place o w k) (place_below o w k m) in
+    let small : (k : ℕ) → k < w → placed k < 256 = λ k m. h (place o w k) (place_below o w k (width_of t) m) in
     let below : sum_of_bytes placed w < 2 ^ bits_of t = subst (λ n. sum_of_bytes placed w < n) (bytes_pow w) (sum_of_bytes_below placed w small) in
     ap (byte_of (place o w p)) (representation_represented t (sum_of_bytes placed w) below)
-    ∙ byte_of-sum_of_bytes placed w (place o w p) small (place_below o w p l)
-    ∙ ap b (place_back o w p l)
+    ∙ byte_of-sum_of_bytes placed w (place o w p) small (place_below o w p (width_of t) l)
+    ∙ ap b (place_back o w p (width_of t) l)

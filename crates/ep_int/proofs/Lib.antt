@@ -1,6 +1,5 @@
 pub mod Wrapping
 pub mod Places
 pub mod Encodings
-pub mod Memories
 pub mod Arithmetic
 mod Worked

@@ -1,12 +1,12 @@
 -- The definitions on worked values.
 use Rattle.std.proofs.Common.{◌≡◌, pos, negsuc, true, false, Ok, Err, refl}
 use Rattle.ep_int.specs.declared.types.IntType.TheVariants.{I8, U8, I16, U16, I32, U32, I64, U64}
-use Rattle.ep_int.specs.declared.types.Order.TheVariants.{Little, Big}
+use Rattle.ep_int.specs.declared.types.Order.TheVariants.{Little, Big, SwappedWords}
 use Rattle.ep_int.specs.declared.types.BinOp.TheVariants.{Add, Sub, Mul, Div, Rem, And, Or, Xor, Shl, Shr}
 use Rattle.ep_int.specs.declared.types.Cmp.TheVariants.{Eq, Ne, Lt, Le, Gt, Ge}
 use Rattle.ep_int.specs.declared.types.Undef.TheVariants.{Overflow, Division, Shift}
 use Rattle.ep_int.specs.Types.{wrapped}
-use Rattle.ep_int.specs.Encoding.{encoded, decoded}
+use Rattle.ep_int.specs.Encoding.{place, encoded, decoded}
 use Rattle.ep_int.specs.Arith.{common_of, arith_of, compares}
 
 -- the bytes of 0x12345678, highest first on a big-endian machine
@@ -16,12 +16,22 @@ big_bytes = (refl, refl, refl, refl)
 little_bytes : (encoded Little U32 (pos 305419896) 0 ≡ 120) × (encoded Little U32 (pos 305419896) 1 ≡ 86) × (encoded Little U32 (pos 305419896) 2 ≡ 52) × (encoded Little U32 (pos 305419896) 3 ≡ 18)
 little_bytes = (refl, refl, refl, refl)
 
+-- units of two bytes, the highest first, and in each the lower byte first
+swapped_bytes : (encoded SwappedWords U32 (pos 305419896) 0 ≡ 52) × (encoded SwappedWords U32 (pos 305419896) 1 ≡ 18) × (encoded SwappedWords U32 (pos 305419896) 2 ≡ 120) × (encoded SwappedWords U32 (pos 305419896) 3 ≡ 86)
+swapped_bytes = (refl, refl, refl, refl)
+
+swapped_eight : (place SwappedWords 8 0 ≡ 6) × (place SwappedWords 8 1 ≡ 7) × (place SwappedWords 8 6 ≡ 0) × (place SwappedWords 8 7 ≡ 1) × (place SwappedWords 2 0 ≡ 0) × (place SwappedWords 1 0 ≡ 0)
+swapped_eight = (refl, refl, refl, refl, refl, refl)
+
 -- and back, also of a negative number
 decoded_big : decoded Big U32 (encoded Big U32 (pos 305419896)) ≡ pos 305419896
 decoded_big = refl
 
 decoded_little : decoded Little I64 (encoded Little I64 (negsuc 305419895)) ≡ negsuc 305419895
 decoded_little = refl
+
+decoded_swapped : decoded SwappedWords I64 (encoded SwappedWords I64 (negsuc 305419895)) ≡ negsuc 305419895
+decoded_swapped = refl
 
 -- bytes of one order, read in the other
 swapped : decoded Little U16 (encoded Big U16 (pos 513)) ≡ pos 258

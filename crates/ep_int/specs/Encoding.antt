@@ -1,14 +1,19 @@
 -- Numbers as bytes: C11 6.2.6.1, with this project's byte orders.
-use Rattle.std.specs.Prelude.{ℕ, zero, suc, ◌+◌, ◌-◌, ◌*◌, ◌/◌, ◌%◌, ◌^◌, ℤ}
+use Rattle.std.specs.Prelude.{ℕ, zero, suc, ◌+◌, ◌-◌, ◌*◌, ◌/◌, ◌%◌, ◌^◌, ℤ, Bool, ◌||◌, nat_eq, if◌then◌else◌}
 use Rattle.ep_int.specs.declared.types.IntType.{IntType}
 use Rattle.ep_int.specs.declared.types.Order.{Order}
-use Rattle.ep_int.specs.declared.types.Order.TheVariants.{Little, Big}
+use Rattle.ep_int.specs.declared.types.Order.TheVariants.{Little, Big, SwappedWords}
 use Rattle.ep_int.specs.Types.{bytes_of, representation, represented}
 
--- The place of byte k of a number of w bytes. Placing twice leads back, so at place p stands byte `place o w p`.
+-- a number has so many bytes
+abbrev pub is_width : ℕ → Bool
+is_width w = nat_eq w 1 || nat_eq w 2 || nat_eq w 4 || nat_eq w 8
+
+-- The place of byte k of a number of w bytes. Swapped words are units of two bytes, the highest first, and in each the lower byte first. Placing twice leads back, so at place p stands byte `place o w p`.
 abbrev pub place : Order → ℕ → ℕ → ℕ
 place Little w k = k
 place Big w k = w - 1 - k
+place SwappedWords w k = if nat_eq w 1 then 0 else w - 2 - 2 * (k / 2) + k % 2
 
 -- bits 8k to 8k + 7
 abbrev pub byte_of : ℕ → ℕ → ℕ

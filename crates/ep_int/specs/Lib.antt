@@ -1,4 +1,3 @@
 pub mod Types
 pub mod Encoding
-pub mod Memory
 pub mod Arith

@@ -2,10 +2,12 @@
 use Rattle.std.specs.Prelude.{◌≡◌, ℕ, ◌-◌, ◌*◌, ◌%◌, ◌^◌, ℤ, pos, negsuc, ◌+ℤ◌, ◌*ℤ◌, ◌≤ℤ◌, Bool, true, false, ◌&&◌, nat_le, if◌then◌else◌}
 use Rattle.ep_int.specs.declared.types.IntType.{IntType}
 use Rattle.ep_int.specs.declared.types.IntType.TheVariants.{I8, U8, I16, U16, I32, U32, I64, U64}
+use Rattle.ep_int.specs.declared.types.Model.{Model}
+use Rattle.ep_int.specs.declared.types.Model.TheVariants.{Ilp32, Lp64}
 use Rattle.ep_int.specs.declared.types.Scalar.{Scalar}
 use Rattle.ep_int.specs.declared.types.Scalar.TheVariants.{Int, Pointer}
 
--- the number of bytes: char 1, short 2, int and long 4, long long 8 (this project's data model)
+-- the number of bytes (this project's choice, the same in both data models)
 abbrev pub bytes_of : IntType → ℕ
 bytes_of I8 = 1
 bytes_of U8 = 1
@@ -20,14 +22,15 @@ bytes_of U64 = 8
 abbrev pub bits_of : IntType → ℕ
 bits_of t = 8 * bytes_of t
 
--- the number of bytes of a pointer (this project's data model)
-abbrev pub pointer_bytes : ℕ
-pointer_bytes = 4
+-- the number of bytes of a pointer (this project's data models)
+abbrev pub pointer_bytes : Model → ℕ
+pointer_bytes Ilp32 = 4
+pointer_bytes Lp64 = 8
 
 -- the number of bytes of a scalar, and what its address is a multiple of
-abbrev pub size_of : Scalar → ℕ
-size_of (Int t) = bytes_of t
-size_of Pointer = pointer_bytes
+abbrev pub size_of : Model → Scalar → ℕ
+size_of m (Int t) = bytes_of t
+size_of m Pointer = pointer_bytes m
 
 abbrev pub is_signed : IntType → Bool
 is_signed I8 = true

@@ -1,4 +1,5 @@
 ghost use Rattle.std.specs.Prelude.{◌≡◌, ◌-◌, ◌^◌, ◌<◌, ◌≤◌, ◌↔◌, IsTrue};
+ghost use Rattle.ep_int.specs.Encoding.{is_width};
 ghost use Rattle.ep_int.specs.Types.{bytes_of, bits_of, least_of, greatest_of, is_signed, InRange, IsCongruent, representation, represented, wrapped};
 
 use crate::IntType;
@@ -20,6 +21,7 @@ pub fn bits(t: IntType) -> u32
 pub fn bytes(t: IntType) -> u32
     ensures value { result ≡ bytes_of t }
     ensures within { result ≤ 8 }
+    ensures width { IsTrue (is_width result) }
 {
     match t {
         IntType::I8 | IntType::U8 => 1,
@@ -102,7 +104,8 @@ pub(crate) fn mask(t: IntType) -> u128
     (1 << bits(t)) - 1
 }
 
-pub(crate) fn is_signed(t: IntType) -> bool
+/// Whether a type has negative numbers.
+pub fn is_signed(t: IntType) -> bool
     ensures { result ≡ is_signed t }
 {
     match t {

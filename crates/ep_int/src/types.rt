@@ -23,6 +23,17 @@ pub enum Scalar {
 pub enum Order {
     Little,
     Big,
+    /// Units of 16 bits, the highest first, and in each the lower byte first.
+    SwappedWords,
+}
+
+/// The sizes of `long` and of pointers.
+#[derive(Clone, Copy, Debug, PartialEq, Eq)]
+pub enum Model {
+    /// `int`, `long` and pointers have 32 bits.
+    Ilp32,
+    /// `long` and pointers have 64 bits.
+    Lp64,
 }
 
 /// An operator on two numbers: `+`, `-`, `*`, `/`, `%`, `&`, `|`, `^`, `<<` and `>>` of C.

@@ -1,8 +1,8 @@
 -- Reading a directive: it is one, or something in it offends.
 use Rattle.std.proofs.Common.{◌≡◌, ℕ, Bool, true, false, ◌&&◌, ◌||◌, ◌==◌, List, [], ◌∷◌, ◌++◌, codes, Some, None, is_none, Err, refl, ap, ◌∙◌, subst, inl, inr, ◌⊎◌}
 use Rattle.std.specs.Str.{bytes_eq}
-use Rattle.ep_int.specs.declared.types.Order.{Order}
-use Rattle.ep_int.specs.declared.types.Order.TheVariants.{Little, Big}
+use Rattle.ep_ast.specs.declared.orders.NamedOrder.{NamedOrder}
+use Rattle.ep_ast.specs.declared.orders.NamedOrder.TheVariants.{Little, Big}
 use Rattle.ep_ast.specs.declared.expressions.Literal.{Literal}
 use Rattle.ep_ast.specs.declared.refusals.Refusal.{Refusal}
 use Rattle.ep_ast.specs.Token.{Tok}
@@ -129,7 +129,7 @@ plain_parts c w t h =
     (e, subst (λ (x : List ℕ). constant c x ≡ None) e (is_no_value (constant c t) p.1))
 
 -- the name of a byte order by what reading takes it for
-pub order_cases : (c : Constants) (t : List ℕ) → ((o : Order) × (t ≡ order_name o) × (constant c (order_name o) ≡ None) × (order_of c t ≡ Some o)) ⊎ ((is_order c t ≡ false) × (order_of c t ≡ None))
+pub order_cases : (c : Constants) (t : List ℕ) → ((o : NamedOrder) × (t ≡ order_name o) × (constant c (order_name o) ≡ None) × (order_of c t ≡ Some o)) ⊎ ((is_order c t ≡ false) × (order_of c t ≡ None))
 order_cases c t = elim (test_cases (is_plain c (order_name Little) t)) [
   | inl h ↦ let p = plain_parts c (order_name Little) t h in inl (Little, p.0, p.1, rw h refl)
   | inr h ↦ elim (test_cases (is_plain c (order_name Big) t)) [
@@ -138,17 +138,17 @@ order_cases c t = elim (test_cases (is_plain c (order_name Little) t)) [
   ]
 ]
 
-begun : (c : Constants) (u : Order) → constant c (codes "__BYTE_ORDER__") ≡ None → constant c (order_name u) ≡ None
+begun : (c : Constants) (u : NamedOrder) → constant c (codes "__BYTE_ORDER__") ≡ None → constant c (order_name u) ≡ None
     → may_begin (at 0 true c outside) (name (codes "if") ∷ name (codes "__BYTE_ORDER__") ∷ mark equals ∷ name (order_name u) ∷ []) ≡ true
 begun c Little e f = rw (e, f) refl
 begun c Big e f = rw (e, f) refl
 
-not_over : (c : Constants) (u : Order) (t : Thing) → constant c (codes "__BYTE_ORDER__") ≡ None → constant c (order_name u) ≡ None → is_over t ≡ false
+not_over : (c : Constants) (u : NamedOrder) (t : Thing) → constant c (codes "__BYTE_ORDER__") ≡ None → constant c (order_name u) ≡ None → is_over t ≡ false
     → may_begin (at 0 true c outside) (name (codes "if") ∷ name (codes "__BYTE_ORDER__") ∷ mark equals ∷ name (order_name u) ∷ t ∷ []) ≡ false
 not_over c Little t e f h = rw (e, f, h) refl
 not_over c Big t e f h = rw (e, f, h) refl
 
-condition_over : (a : ℕ) (c : Constants) (bs cs ds es fs gs : List ℕ) (l m n o i : ℕ) (u : Order)
+condition_over : (a : ℕ) (c : Constants) (bs cs ds es fs gs : List ℕ) (l m n o i : ℕ) (u : NamedOrder)
     → constant c (codes "__BYTE_ORDER__") ≡ None → constant c (order_name u) ≡ None → order_of c (order_name u) ≡ Some u
     → Next a bs l hash cs → Next l cs m (name (codes "if")) ds → Next m ds n (name (codes "__BYTE_ORDER__")) es → Next n es o (mark equals) fs → Next o fs i (name (order_name u)) gs
     → NextIs i gs → Outcome (at a true c outside) bs

@@ -1,8 +1,8 @@
 -- Each offence in a directive is what is read.
 use Rattle.std.proofs.Common.{◌≡◌, ℕ, Bool, true, false, ◌&&◌, ◌||◌, List, [], ◌∷◌, ◌++◌, codes, Option, Some, None, is_some, Err, refl, sym, ap, ◌∙◌, subst, inl, inr}
 use Rattle.std.specs.List.{list_any}
-use Rattle.ep_int.specs.declared.types.Order.{Order}
-use Rattle.ep_int.specs.declared.types.Order.TheVariants.{Little, Big}
+use Rattle.ep_ast.specs.declared.orders.NamedOrder.{NamedOrder}
+use Rattle.ep_ast.specs.declared.orders.NamedOrder.TheVariants.{Little, Big}
 use Rattle.ep_ast.specs.declared.expressions.Literal.{Literal}
 use Rattle.ep_ast.specs.declared.refusals.Refusal.{Refusal}
 use Rattle.ep_ast.specs.Lexeme.{Thing, over, hash, quote, name, number, mark, Next, Breaks}
@@ -116,17 +116,17 @@ define_things a c bs cs ds gs l m j ts r x y (more {m = n} {cs = es} {t = t} {ts
 
 -- ---- `#if`
 
-ends_so : (c : Constants) (u : Order) → constant c (codes "__BYTE_ORDER__") ≡ None → constant c (order_name u) ≡ None
+ends_so : (c : Constants) (u : NamedOrder) → constant c (codes "__BYTE_ORDER__") ≡ None → constant c (order_name u) ≡ None
     → may_begin (at 0 true c outside) (name (codes "if") ∷ name (codes "__BYTE_ORDER__") ∷ mark equals ∷ name (order_name u) ∷ over ∷ []) ≡ true
 ends_so c Little e f = rw (e, f) refl
 ends_so c Big e f = rw (e, f) refl
 
-begins_so : (c : Constants) (u : Order) → constant c (codes "__BYTE_ORDER__") ≡ None → constant c (order_name u) ≡ None
+begins_so : (c : Constants) (u : NamedOrder) → constant c (codes "__BYTE_ORDER__") ≡ None → constant c (order_name u) ≡ None
     → may_begin (at 0 true c outside) (name (codes "if") ∷ name (codes "__BYTE_ORDER__") ∷ mark equals ∷ name (order_name u) ∷ []) ≡ true
 begins_so c Little e f = rw (e, f) refl
 begins_so c Big e f = rw (e, f) refl
 
-order_so : (a : ℕ) (c : Constants) (t : List ℕ) (u : Order) → constant c (codes "__BYTE_ORDER__") ≡ None → t ≡ order_name u → constant c (order_name u) ≡ None
+order_so : (a : ℕ) (c : Constants) (t : List ℕ) (u : NamedOrder) → constant c (codes "__BYTE_ORDER__") ≡ None → t ≡ order_name u → constant c (order_name u) ≡ None
     → may_begin (at a true c outside) (name (codes "if") ∷ name (codes "__BYTE_ORDER__") ∷ mark equals ∷ name t ∷ []) ≡ false → ⊥
 order_so a c t u e k f h =
     true_false (begins_so c u e f) (subst (λ (w : List ℕ). may_begin (at a true c outside) (name (codes "if") ∷ name (codes "__BYTE_ORDER__") ∷ mark equals ∷ name w ∷ []) ≡ false) k h)
@@ -134,7 +134,7 @@ order_so a c t u e k f h =
 mark_is : (t : Thing) → is_mark equals t ≡ true → t ≡ mark equals
 mark_is t h = elim (equals_cases t) [ inl e ↦ e | inr q ↦ absurd (true_false h q.0) ]
 
-condition_4 : (a : ℕ) (c : Constants) (bs cs ds es fs gs : List ℕ) (l m n o i : ℕ) (u : Order) (r : Refusal)
+condition_4 : (a : ℕ) (c : Constants) (bs cs ds es fs gs : List ℕ) (l m n o i : ℕ) (u : NamedOrder) (r : Refusal)
     → constant c (codes "__BYTE_ORDER__") ≡ None → constant c (order_name u) ≡ None → order_of c (order_name u) ≡ Some u
     → Next a bs l hash cs → Next l cs m (name (codes "if")) ds → Next m ds n (name (codes "__BYTE_ORDER__")) es → Next n es o (mark equals) fs → Next o fs i (name (order_name u)) gs
     → Behind (at a true c outside) l (name (codes "if") ∷ name (codes "__BYTE_ORDER__") ∷ mark equals ∷ name (order_name u) ∷ []) i gs r → step (at a true c outside) bs ≡ Err r
@@ -198,7 +198,7 @@ condition_1 a c bs cs ds l m r x y (something_wrong n t es z h d) = elim (name_c
 abbrev order_test : Constants → Thing → Bool
 order_test c t = is_named (λ w. is_plain c (order_name Little) w) t || is_named (λ w. is_plain c (order_name Big) w) t
 
-order_is : (c : Constants) (t : Thing) → order_test c t ≡ true → (u : Order) × (t ≡ name (order_name u)) × (constant c (order_name u) ≡ None) × (order_of c (order_name u) ≡ Some u)
+order_is : (c : Constants) (t : Thing) → order_test c t ≡ true → (u : NamedOrder) × (t ≡ name (order_name u)) × (constant c (order_name u) ≡ None) × (order_of c (order_name u) ≡ Some u)
 order_is c over h = absurd cc
 order_is c hash h = absurd cc
 order_is c quote h = absurd cc
@@ -209,7 +209,7 @@ order_is c (name w) h = elim (order_cases c w) [
 order_is c (number n) h = absurd cc
 order_is c (mark n) h = absurd cc
 
-condition_ends : (a : ℕ) (c : Constants) (bs cs ds es fs gs hs : List ℕ) (l m n o i j : ℕ) (u : Order) (ts : List Thing) (r : Refusal)
+condition_ends : (a : ℕ) (c : Constants) (bs cs ds es fs gs hs : List ℕ) (l m n o i j : ℕ) (u : NamedOrder) (ts : List Thing) (r : Refusal)
     → constant c (codes "__BYTE_ORDER__") ≡ None → constant c (order_name u) ≡ None → order_of c (order_name u) ≡ Some u
     → Next a bs l hash cs → Next l cs m (name (codes "if")) ds → Next m ds n (name (codes "__BYTE_ORDER__")) es → Next n es o (mark equals) fs → Next o fs i (name (order_name u)) gs
     → Stand i gs ts j hs → list_any is_over ts ≡ false → pass (is_over ∷ []) ts ≡ true

@@ -1,6 +1,6 @@
 -- Each piece of a source is what is read.
 use Rattle.std.proofs.Common.{◌≡◌, ℕ, false, ◌==◌, List, [], ◌∷◌, Some, None, Ok, refl, ap, ◌∙◌, subst, inl, inr, ◌⊎◌}
-use Rattle.ep_int.specs.declared.types.Order.TheVariants.{Little, Big}
+use Rattle.ep_ast.specs.declared.orders.NamedOrder.TheVariants.{Little, Big}
 use Rattle.ep_ast.specs.Token.{Tok}
 use Rattle.ep_ast.specs.Lexeme.{Gap}
 use Rattle.ep_ast.specs.Cut.{Place, Open, outside, first_arm, second_arm, is_outside, Piece, line_end, word, own_name, defined, literal, sign, include, define, condition, otherwise, end_if, none, more, after, headers}

@@ -4,8 +4,8 @@ use denote.Ref.{Bor}
 use Rattle.ep_ast.specs.declared.expressions.Literal.{Literal}
 use Rattle.ep_ast.specs.declared.refusals.Refusal.{Refusal}
 use Rattle.ep_ast.specs.Lexeme.{is_blank, is_letter, is_digit, opens_comment, opens_remark, line_after, to_line_end, word_text, after_word, number_text, after_number, literal, character, of_character, mark_at, mark_len, Thing, over, hash, quote, name, number, mark}
-use Rattle.ep_int.specs.declared.types.Order.{Order}
-use Rattle.ep_int.specs.declared.types.Order.TheVariants.{Little, Big}
+use Rattle.ep_ast.specs.declared.orders.NamedOrder.{NamedOrder}
+use Rattle.ep_ast.specs.declared.orders.NamedOrder.TheVariants.{Little, Big}
 use Rattle.std.specs.Str.{bytes_eq}
 use Rattle.ep_ast.specs.Cut.{Constants, constant, value, may_define, wrong, at_line, after, headers, order_name, equals, Open, outside, first_arm, second_arm, opened_at, Place, behind, order_token, Sense, is_accepted, is_reserved, is_constant, is_own, sense}
 use Rattle.ep_ast.specs.Token as token
@@ -123,7 +123,7 @@ next l bs = next_from (skip plain l bs)
 pub data Effect : Type 0 where
   nothing : Effect
   defines : (text : List ℕ) (literal : Literal) → Effect
-  conditions : (order : Order) → Effect
+  conditions : (order : NamedOrder) → Effect
   turns : (from : ℕ) → Effect
   closes : Effect
 
@@ -188,10 +188,10 @@ abbrev pub is_plain : Constants → List ℕ → List ℕ → Bool
 is_plain cs w t = bytes_eq t w && is_none (constant cs t)
 
 -- the name of a byte order is wanted
-abbrev pub order_of : Constants → List ℕ → Option Order
+abbrev pub order_of : Constants → List ℕ → Option NamedOrder
 order_of cs t = if is_plain cs (order_name Little) t then Some Little else if is_plain cs (order_name Big) t then Some Big else None
 
-abbrev pub conditional : ℕ → Option Order → Result (ℕ × List ℕ) Refusal → Result Done Refusal
+abbrev pub conditional : ℕ → Option NamedOrder → Result (ℕ × List ℕ) Refusal → Result Done Refusal
 conditional h None r = Err (at_line 7 h)
 conditional h (Some o) (Err r) = Err r
 conditional h (Some o) (Ok r) = Ok (conditions o, r.0, r.1)

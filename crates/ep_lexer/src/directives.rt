@@ -7,8 +7,7 @@ use crate::bytes::{after, skip};
 use crate::definitions::Definitions;
 use crate::things::{Next, Thing, next_thing, refusal, thing_at};
 use crate::words::{accepted, reserved};
-use ep_ast::{Literal, Refusal};
-use ep_int::Order;
+use ep_ast::{Literal, NamedOrder, Refusal};
 
 /// Whether a conditional is open: its first arm, or the one behind `#else`, with the line of its `#if`.
 #[derive(Clone, Copy, Debug)]
@@ -23,7 +22,7 @@ pub enum Open {
 pub enum Effect<'a> {
     Nothing,
     Defines(&'a [u8], Literal),
-    Opens(Order),
+    Opens(NamedOrder),
     Turns(u32),
     Closes,
 }
@@ -137,13 +136,13 @@ fn is_plain(defined: &Definitions, word: &[u8], name: &[u8]) -> bool
     name == word && defined.get(name).is_none()
 }
 
-fn order_of(defined: &Definitions, name: &[u8]) -> Option<Order>
+fn order_of(defined: &Definitions, name: &[u8]) -> Option<NamedOrder>
     ensures { result ≡ step.order_of (step.constants defined.now) name.now }
 {
     if is_plain(defined, b"__ORDER_LITTLE_ENDIAN__", name) {
-        Some(Order::Little)
+        Some(NamedOrder::Little)
     } else if is_plain(defined, b"__ORDER_BIG_ENDIAN__", name) {
-        Some(Order::Big)
+        Some(NamedOrder::Big)
     } else {
         None
     }

@@ -12,8 +12,7 @@ use crate::directives::{Effect, Open, directive_at};
 use crate::things::{Thing, next_thing, refusal};
 use crate::tokens::{Token, TokenKind, Tokens};
 use crate::words::{accepted, reserved};
-use ep_ast::{Halt, Refusal};
-use ep_int::Order;
+use ep_ast::{Halt, NamedOrder, Refusal};
 use std::alloc::{AllocError, Global};
 
 /// Where the reading stands: the line, whether nothing stands before it on its line, and the conditional round it.
@@ -91,8 +90,8 @@ fn apply(
         }
         Effect::Opens(order) => {
             let what = match order {
-                Order::Little => TokenKind::IfLittle,
-                Order::Big => TokenKind::IfBig,
+                NamedOrder::Little => TokenKind::IfLittle,
+                NamedOrder::Big => TokenKind::IfBig,
             };
             Ok((
                 Some(Token { line: hash, what }),

@@ -2,8 +2,8 @@
 use Rattle.std.proofs.Common.{◌≡◌, ℕ, Bool, true, false, List, [], ◌∷◌, ◌++◌, Option, Some, None, refl, sym, ap, ◌∙◌, subst, append_assoc, arith}
 use Rattle.std.specs.Prelude.{◌||◌}
 use Rattle.std.proofs.lemmas.List.{append-nil}
-use Rattle.ep_int.specs.declared.types.Order.{Order}
-use Rattle.ep_int.specs.declared.types.Order.TheVariants.{Little, Big}
+use Rattle.ep_ast.specs.declared.orders.NamedOrder.{NamedOrder}
+use Rattle.ep_ast.specs.declared.orders.NamedOrder.TheVariants.{Little, Big}
 use Rattle.ep_ast.specs.Token.{Tok, word, name, number, mark, if_little, if_big, other, end_if}
 use Rattle.ep_ast.specs.Statement as tree
 use Rattle.ep_ast.specs.Statement.{Stmt, Stmts, Part, Block, to_stmts, make_arms}
@@ -233,7 +233,7 @@ module _ (N : List ℕ → Bool) where
   to_big (statement k) = absurd (big_no_state k)
   to_big (arms {ys = ys} {ss = ss} {ts = ts} big d o) = ((ss, ts), (ys, d, o), refl)
 
-  pub arms_rule : (l : ℕ) (o : Order) (xs : List Tok) → Makes ArmParts xs (λ (q : List Stmt × Option Stmts). make_arms l o (to_stmts q.0) q.1) (OnePart N) (order_token o l ∷ xs)
+  pub arms_rule : (l : ℕ) (o : NamedOrder) (xs : List Tok) → Makes ArmParts xs (λ (q : List Stmt × Option Stmts). make_arms l o (to_stmts q.0) q.1) (OnePart N) (order_token o l ∷ xs)
   arms_rule l Little xs = record { to = λ p zs d. to_little d; from = λ q zs d. arms little d.1 d.2 }
   arms_rule l Big xs = record { to = λ p zs d. to_big d; from = λ q zs d. arms big d.1 d.2 }
 

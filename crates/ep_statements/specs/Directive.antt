@@ -1,6 +1,6 @@
 -- Looks at the directives on byte order.
 use Rattle.std.specs.Prelude.{◌≡◌, ℕ, Bool, true, false, List, ◌∷◌, Option, Some, None}
-use Rattle.ep_int.specs.declared.types.Order.{Order}
+use Rattle.ep_ast.specs.declared.orders.NamedOrder.{NamedOrder}
 use Rattle.ep_ast.specs.Token.{Tok, if_little, if_big, other, end_if}
 use Rattle.ep_ast.specs.Cut.{order_token}
 
@@ -11,7 +11,7 @@ LacksIf (if_big l ∷ ts) = ⊥
 LacksIf _ = Unit {0}
 
 -- the line and order of an `#if`, and what comes after it
-abbrev pub AtIf : List Tok → Option (ℕ × Order × List Tok) → Type 0
+abbrev pub AtIf : List Tok → Option (ℕ × NamedOrder × List Tok) → Type 0
 AtIf ts (Some r) = ts ≡ order_token r.1 r.0 ∷ r.2
 AtIf ts None = LacksIf ts
 

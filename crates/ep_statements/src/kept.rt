@@ -11,10 +11,11 @@ ghost use Rattle.ep_declarators.specs.Measured as measured;
 ghost use Rattle.ep_statements.specs.Answer.{ShowsBlock};
 ghost use Rattle.ep_statements.specs.Shown.{body, ShowsTest, ShowsGiven, ShowsFirst, ShowsHeading, ShowsStmt, ShowsPart, ShowsStmts, ShowsParts, ShowsTested, ShowsBoth, ShowsTestedLast, ShowsHeaded, ShowsAll, ShowsItems, Counts};
 
-use ep_ast::{BlockItemTree, BlockTree, DeclarationTree, ExprTree, ForInitTree, StmtTree};
+use ep_ast::{
+    BlockItemTree, BlockTree, DeclarationTree, ExprTree, ForInitTree, NamedOrder, StmtTree,
+};
 use ep_declarators::Measured;
 use ep_exprs::Kept;
-use ep_int::Order;
 use std::alloc::{AllocError, Global};
 
 /// What was read, or the line of the first in it that is too deep, and how many statements stand
@@ -402,7 +403,7 @@ pub fn states(statement: Counted<StmtTree>) -> Counted<BlockItemTree>
     Counted { tree, height }
 }
 
-fn arm_tree(line: u32, order: Order, then: Measured<Vec<StmtTree>>) -> Measured<BlockItemTree>
+fn arm_tree(line: u32, order: NamedOrder, then: Measured<Vec<StmtTree>>) -> Measured<BlockItemTree>
     ensures { (ss : List Stmt) → ShowsAll then ss → measured.Shows shape.part_of in_part result (shape.make_arms line order (shape.to_stmts ss) None) }
 {
     match then {
@@ -411,7 +412,7 @@ fn arm_tree(line: u32, order: Order, then: Measured<Vec<StmtTree>>) -> Measured<
     }
 }
 
-pub fn one_arm(line: u32, order: Order, then: Counted<Vec<StmtTree>>) -> Counted<BlockItemTree>
+pub fn one_arm(line: u32, order: NamedOrder, then: Counted<Vec<StmtTree>>) -> Counted<BlockItemTree>
     ensures { (ss : List Stmt) → ShowsStmts then ss → ShowsPart result (shape.make_arms line order (shape.to_stmts ss) None) }
 {
     let height = then.height;
@@ -421,7 +422,7 @@ pub fn one_arm(line: u32, order: Order, then: Counted<Vec<StmtTree>>) -> Counted
 
 fn arms_tree(
     line: u32,
-    order: Order,
+    order: NamedOrder,
     then: Measured<Vec<StmtTree>>,
     otherwise: Measured<Vec<StmtTree>>,
 ) -> Measured<BlockItemTree>
@@ -440,7 +441,7 @@ fn arms_tree(
 
 pub fn two_arms(
     line: u32,
-    order: Order,
+    order: NamedOrder,
     then: Counted<Vec<StmtTree>>,
     otherwise: Counted<Vec<StmtTree>>,
 ) -> Counted<BlockItemTree>

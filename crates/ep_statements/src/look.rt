@@ -6,18 +6,18 @@ ghost use Rattle.ep_lexer.specs.Tokens.{view};
 ghost use Rattle.ep_statements.specs.Directive.{AtIf, AtElse, AtEndIf};
 ghost use Rattle.ep_statements.specs.Directive as directive;
 
-use ep_int::Order;
+use ep_ast::NamedOrder;
 use ep_lexer::{Token, TokenKind};
 
 /// The line and order of an `#if`, if one stands first, and what comes after it.
-pub fn at_if<'a>(tokens: &'a [Token]) -> Option<(u32, Order, &'a [Token])>
+pub fn at_if<'a>(tokens: &'a [Token]) -> Option<(u32, NamedOrder, &'a [Token])>
     ensures value { AtIf (map view tokens.now) (option_map (λ r. (r.0, r.1, map view r.2.now)) result) }
     ensures shorter { IfSome result (λ r. length r.2.now < length tokens.now) }
 {
     match tokens {
         [first, rest @ ..] => match first.what {
-            TokenKind::IfLittle => Some((first.line, Order::Little, rest)),
-            TokenKind::IfBig => Some((first.line, Order::Big, rest)),
+            TokenKind::IfLittle => Some((first.line, NamedOrder::Little, rest)),
+            TokenKind::IfBig => Some((first.line, NamedOrder::Big, rest)),
             _ => None,
         },
         [] => None,

@@ -13,7 +13,7 @@ use crate::form::look::Tokens;
 use crate::form::steps::{Surroundings, read_step};
 use crate::form::variables::Variables;
 use crate::refusal::{Halt, not_built};
-use ep_core::tree::Stmt;
+use ep_small_core::tree::Stmt;
 use ep_int::IntType;
 use std::alloc::Global;
 

@@ -1,8 +1,8 @@
 //! What steps do.
 
 ghost use Rattle.std.specs.Prelude.{◌≡◌, IfOk};
-ghost use Rattle.ep_core.specs.View.{shown_expr, shown_what};
-ghost use Rattle.ep_core.specs.WellFormed as types;
+ghost use Rattle.ep_small_core.specs.View.{shown_expr, shown_what};
+ghost use Rattle.ep_small_core.specs.WellFormed as types;
 ghost use Rattle.endport.specs.Answers.{Gives};
 ghost use Rattle.endport.specs.Form as form;
 ghost use Rattle.endport.specs.Listed.{listed};
@@ -14,7 +14,7 @@ use crate::form::phrase::Phrase;
 use crate::form::start::Condition;
 use crate::form::variables::{Object, Variables, bytes_of};
 use crate::refusal::{Halt, not_built};
-use ep_core::tree::{Dest, Expr, Place, What};
+use ep_small_core::tree::{Dest, Expr, Place, What};
 use ep_int::{BinOp, Cmp, IntType, Scalar, common, promote};
 use std::alloc::{AllocError, Global};
 

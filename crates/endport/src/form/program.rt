@@ -1,16 +1,16 @@
 //! The program of a source.
 
 ghost use Rattle.std.specs.Prelude.{◌≡◌, ◌∷◌, map, IfOk, IsTrue};
-ghost use Rattle.ep_core.specs.Shown.{shown};
-ghost use Rattle.ep_core.specs.View.{shown_block};
-ghost use Rattle.ep_core.specs.WellFormed.{is_well_formed};
+ghost use Rattle.ep_small_core.specs.Shown.{shown};
+ghost use Rattle.ep_small_core.specs.View.{shown_block};
+ghost use Rattle.ep_small_core.specs.WellFormed.{is_well_formed};
 ghost use Rattle.endport.specs.Form.{block_of_type, result_block, block_of, blocks_from};
 ghost use Rattle.endport.specs.Listed.{listed};
 ghost use Rattle.endport.specs.Mains.{view_main};
 
 use crate::form::body::Main;
 use crate::form::variables::{Variables, bytes_of};
-use ep_core::program::{BlockInfo, CoreProgram, Function};
+use ep_small_core::program::{BlockInfo, CoreProgram, Function};
 use ep_int::{IntType, Scalar};
 use std::alloc::{AllocError, Global};
 

@@ -12,7 +12,7 @@ use crate::form::start::{Condition, Start, behind_else, next_step};
 use crate::form::token::Mark;
 use crate::form::variables::Variables;
 use crate::refusal::{Halt, not_built};
-use ep_core::tree::{Stmt, What};
+use ep_small_core::tree::{Stmt, What};
 use std::alloc::Global;
 
 /// Where a step stands.

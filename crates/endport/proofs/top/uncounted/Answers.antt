@@ -1,4 +1,4 @@
-use Rattle.ep_core.specs.Shown.{shown}
+use Rattle.ep_small_core.specs.Shown.{shown}
 use Rattle.endport.proofs.Telling.{complete_of}
 use Rattle.endport.proofs.top.uncounted.Goals as goal
 

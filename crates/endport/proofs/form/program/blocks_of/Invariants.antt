@@ -1,5 +1,5 @@
 use Rattle.std.proofs.Common.{◌≡◌, ◌+◌, ◌∷◌, ◌++◌, length, map, vec_len}
-use Rattle.ep_core.specs.View.{shown_block}
+use Rattle.ep_small_core.specs.View.{shown_block}
 use Rattle.endport.specs.Form.{result_block, block_of, blocks_from}
 use Rattle.endport.specs.Listed.{listed}
 use Rattle.endport.proofs.form.program.blocks_of.Given as goal

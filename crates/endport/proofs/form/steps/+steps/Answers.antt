@@ -1,9 +1,9 @@
 use Rattle.std.proofs.Common.{◌≡◌, ℕ, suc, ◌-◌, Bool, true, List, map, Some, refl, sym, ap, ◌∙◌, arith}
 use Rattle.std.proofs.lemmas.Bool.Decides.{nat_tests}
 use Rattle.std.proofs.lemmas.Result.{err_from_is_err_and}
-use Rattle.ep_core.specs.View.{shown_expr, shown_stmts, shown_what}
-use Rattle.ep_core.specs.Program.{loop}
-use Rattle.ep_core.proofs.Views.{if_is, loop_is}
+use Rattle.ep_small_core.specs.View.{shown_expr, shown_stmts, shown_what}
+use Rattle.ep_small_core.specs.Program.{loop}
+use Rattle.ep_small_core.proofs.Views.{if_is, loop_is}
 use Rattle.endport.specs.Tokens.{Tok}
 use Rattle.endport.specs.Form.{Variable}
 use Rattle.endport.specs.Listed.{listed}
