@@ -14,18 +14,15 @@ use crate::refusal::{Halt, Refusal};
 use crate::status::Status;
 use crate::words::plain_file;
 use ep_alarms::{Alarms, report_text};
-use ep_small_core::program::CoreProgram;
 use ep_int::Memory;
 use ep_intervals::Interval;
 use ep_io::{ReadStop, Sink, Source, read_all, write_all};
+use ep_small_core::program::CoreProgram;
 use ep_small_iterator::{Report, Steps, analyse};
 use itoa::Buffer;
 use std::alloc::{AllocError, Global};
 use std::marker::Brand;
 use std::sync::ledger::{Blank, Ledger};
-
-#[cfg(test)]
-mod tests;
 
 /// The most bytes that a source has.
 const LIMIT: u32 = 1_048_576;

@@ -1,16 +1,24 @@
 //! The program: it checks a file, and ends with the status's code.
 #![tactic(auto)]
 
-use endport::endport;
-use ep_io::{FileSource, StdSink};
-use std::io;
+use endport::{Status, endport};
+use ep_io::{FileSource, StdSink, command_words};
 use std::process::ExitCode;
 
-fn main(rt: HostRuntime) -> io::Result<ExitCode> {
+fn main(rt: HostRuntime) -> ExitCode {
+    ExitCode::from(run(&rt).code())
+}
+
+// Words that can't be gathered for want of memory end the program as any want of memory does.
+fn run(rt: &HostRuntime) -> Status {
     let alloc = rt.alloc();
-    let words: Vec<String> = std::env::args(&rt)?.collect(alloc)?;
-    let mut source = FileSource::new(rt.clone()?);
-    let mut sink = StdSink::new(rt);
-    let status = endport(alloc, &words, &mut source, &mut sink);
-    Ok(ExitCode::from(status.code()))
+    let Ok(words) = command_words(rt) else {
+        return Status::Memory;
+    };
+    endport(
+        alloc,
+        &words,
+        &mut FileSource::new(rt),
+        &mut StdSink::new(rt),
+    )
 }

@@ -1,5 +1,5 @@
 -- The order of a report, by one number for each line and kind.
-use Rattle.std.proofs.Common.{◌≡◌, ℕ, ◌+◌, ◌*◌, ◌<◌, ◌≤◌, true, false, ltb, eqb, ◌&&◌, ◌||◌, sym, ◌∙◌, arith, ltb-true, ltb-false, lt-ltb, le-ltb}
+use Rattle.std.proofs.Common.{◌≡◌, ℕ, ◌+◌, ◌*◌, ◌<◌, ◌≤◌, true, false, ltb, eqb, ◌&&◌, ◌||◌, sym, ◌∙◌, arith, ltb-true, ltb-false, lt-ltb}
 use Rattle.std.proofs.lemmas.Bool.Decides.{nat_tests}
 use Rattle.ep_alarms.specs.declared.types.Alarm.{Alarm}
 use Rattle.ep_alarms.specs.declared.types.AlarmKind.{AlarmKind}
@@ -46,6 +46,3 @@ before_by_lt a b h = before_by_rank a b ∙ lt-ltb _ _ h
 
 pub le_by_not_before : (a b : Alarm) → before a b ≡ false → rank b ≤ rank a
 le_by_not_before a b h = ltb-false (rank a) (rank b) (sym (before_by_rank a b) ∙ h)
-
-pub not_before_by_le : (a b : Alarm) → rank b ≤ rank a → before a b ≡ false
-not_before_by_le a b h = before_by_rank a b ∙ le-ltb _ _ h

@@ -1,9 +1,1 @@
-pub mod Comparisons
-pub mod Corners
-pub mod Types
-pub mod Parts
-pub mod Undefined
-pub mod FaultAt
-pub mod FaultFound
-pub mod RangeFaults
 pub mod FaultCode

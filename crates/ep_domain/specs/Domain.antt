@@ -6,7 +6,7 @@ use Rattle.ep_int.specs.declared.types.BinOp.{BinOp}
 use Rattle.ep_int.specs.declared.types.BinOp.TheVariants.{Add, Sub, Mul}
 use Rattle.ep_int.specs.declared.types.Cmp.{Cmp}
 use Rattle.ep_int.specs.Types.{InRange, residue, wrapped}
-use Rattle.ep_int.specs.Arith.{arith_of, compares, IsOfSomeType}
+use Rattle.ep_int.specs.Arith.{arith_of, compares, IsOfSomeType, IsRightOperand}
 use Rattle.ep_domain.specs.declared.outcome.Outcome.{Outcome}
 use Rattle.ep_domain.specs.Ranges.{IsRange, LiesIn, Encloses}
 use Rattle.ep_domain.specs.Faults.{Takes, MayFault, range_fault_of}
@@ -40,17 +40,17 @@ Holds d a z = IsTrue (d.holds a z)
 abbrev pub IsSingle : {N : Type 0} → Ops N → N → ℤ → Type 0
 IsSingle d a z = d.range a ≡ (z, z)
 
--- The range that a fault shows is that of two ranges inside those of the operands, which have every number that the operands hold.
+-- The range that a fault shows is that of two ranges inside those of the operands, which have every number held that arithmetic takes.
 pub record ShowsPart {N : Type 0} (d : Ops N) (o : BinOp) (t : IntType) (a b : N) (shown : ℤ × ℤ) : Type 0 where
   pub left : ℤ × ℤ
   pub right : ℤ × ℤ
   pub left_inside : Encloses (d.range a) left
   pub right_inside : Encloses (d.range b) right
-  pub left_has : (z : ℤ) → Holds d a z → LiesIn left z
-  pub right_has : (z : ℤ) → Holds d b z → LiesIn right z
+  pub left_has : (z : ℤ) → InRange t z → Holds d a z → LiesIn left z
+  pub right_has : (z : ℤ) → IsRightOperand o t z → Holds d b z → LiesIn right z
   pub shows : range_fault_of o t left right ≡ Some shown
 
--- a remainder at a modulus that a domain may keep
+-- a remainder at a modulus, from 1 to 65536, that a domain may keep
 pub record IsStride (r s : ℕ) : Type 0 where
   pub below : r < s
   pub small : s ≤ 65536
@@ -99,9 +99,9 @@ pub record Lawful {N : Type 0} (d : Ops N) : Type 0 where
   pub op_shows : (o : BinOp) (t : IntType) (a b : N) → IsTrue (d.op o t a b).fault → ShowsPart d o t a b (d.op o t a b).shown
   pub op_single : (o : BinOp) (t : IntType) (a b : N) (x y : ℤ) → Takes o t x y → IsSingle d a x → IsSingle d b y →
       MatchResult (arith_of o t x y) (λ v. IsSomeAnd (d.op o t a b).value (λ c. IsSingle d c v)) (λ _. (d.op o t a b).value ≡ None)
-  -- each number after conversion to the type
+  -- each number after conversion to the type: of a single number a single one
   pub convert_holds : (a : N) (t : IntType) (z : ℤ) → Holds d a z → Holds d (d.convert a t) (wrapped t z)
-  pub convert_single : (t : IntType) (v : ℤ) → IsOfSomeType v → IsSingle d (d.convert (d.single v) t) (wrapped t v)
+  pub convert_single : (a : N) (t : IntType) (v : ℤ) → IsSingle d a v → IsSingle d (d.convert a t) (wrapped t v)
   -- each pair that compares so
   pub filter_holds : (c : Cmp) (a b : N) (x y : ℤ) → compares c x y ≡ true → Holds d a x → Holds d b y → IsSomeAnd (d.filter c a b) (λ p. Holds d p.0 x × Holds d p.1 y)
   pub filter_single : (c : Cmp) (a b : N) (x y : ℤ) → compares c x y ≡ false → IsSingle d a x → IsSingle d b y → d.filter c a b ≡ None

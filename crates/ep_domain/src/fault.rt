@@ -6,8 +6,8 @@ ghost use Rattle.ep_int.specs.Arith.{IsRightOperand};
 ghost use Rattle.ep_domain.specs.Ranges.{IsRange};
 ghost use Rattle.ep_domain.specs.Faults.{is_shift, part_of, lies_in, shown_range, may_overflow, may_not_divide, may_pass_width, may_not_shift, nearest_amount, right_part, fault_between, range_fault_of, MayFault, ShowsRange};
 
-use crate::ranges::{is_shift, is_signed, nearest_amount, power_of_two, products};
-use ep_int::{BinOp, IntType, bits, greatest, least};
+use crate::ranges::{is_shift, nearest_amount, power_of_two, products};
+use ep_int::{BinOp, IntType, bits, greatest, is_signed, least};
 
 /// The range of the number that an alarm shows, over the pairs of two ranges that arithmetic takes: the exact result
 /// of an overflow, the divisor of a division, the amount of a shift. `None` where arithmetic is defined of each such

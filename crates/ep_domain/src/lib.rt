@@ -4,10 +4,11 @@
 mod fault;
 mod num;
 mod outcome;
+mod pair;
+mod product;
 pub mod ranges;
-#[cfg(test)]
-mod tests;
 
 pub use fault::range_fault;
 pub use num::Num;
 pub use outcome::Outcome;
+pub use pair::Pair;

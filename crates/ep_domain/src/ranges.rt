@@ -2,7 +2,6 @@
 
 ghost use Rattle.std.specs.Prelude.{◌≡◌, ◌<◌, ◌^◌, ◌*ℤ◌, pos, FitsSigned};
 ghost use Rattle.std.specs.Int.{w128};
-ghost use Rattle.ep_int.specs.Types.{is_signed};
 ghost use Rattle.ep_domain.specs.Faults.{is_shift, least_of_four, greatest_of_four, shown_range, nearest_amount};
 
 use ep_int::{BinOp, IntType, bits};
@@ -12,13 +11,6 @@ pub fn is_shift(op: BinOp) -> bool
     ensures { result ≡ is_shift op }
 {
     matches!(op, BinOp::Shl | BinOp::Shr)
-}
-
-/// Whether a type has negative numbers.
-pub fn is_signed(t: IntType) -> bool
-    ensures { result ≡ is_signed t }
-{
-    matches!(t, IntType::I8 | IntType::I16 | IntType::I32 | IntType::I64)
 }
 
 /// The least and the greatest of four numbers.

@@ -2,8 +2,8 @@
 use Rattle.std.proofs.Common.{◌≡◌, ℕ, zero, suc, ◌+◌, ◌-◌, ◌*◌, ◌%◌, ◌^◌, ◌<◌, ◌≤◌, ◌↔◌, ◌/◌, Bool, true, false, ◌&&◌, not, neg_ℤ, if◌then◌else◌, IsTrue, ℤ, pos, negsuc, ◌+ℤ◌, ◌-ℤ◌, ◌*ℤ◌, ◌≤ℤ◌, Result, Ok, Err, FitsSigned, to_z, of_z, bit_and, bit_or, refl, sym, ◌∙◌, ap, subst, arith}
 use Rattle.std.specs.Int.{w128, int_shr}
 use Rattle.std.specs.Prelude.{bit_xor, int_lt, int_le, int_div, int_rem, unsigned_abs}
-use Rattle.std.proofs.lemmas.Bool.{and_from, and_parts, cond-false}
-use Rattle.std.proofs.lemmas.Int.{ints, by_lt_z, to_z_pos, fits_signed_mul}
+use Rattle.std.proofs.lemmas.Bool.{and_parts, cond-false}
+use Rattle.std.proofs.lemmas.Int.{ints, to_z_pos, fits_signed_mul}
 use Rattle.std.proofs.lemmas.Nat.{and_mask, and_le_l, or_lt, xor_lt, shl_whole, shl_below}
 use Rattle.std.proofs.Math.Nat.{div-le_self, mod-le}
 use Rattle.std.proofs.Math.Pow.{pow_mono}
@@ -26,14 +26,6 @@ in_range_some_type I32 v h = record { low = omega (arith, ints); high = omega (a
 in_range_some_type U32 v h = record { low = omega (arith, ints); high = omega (arith, ints) }
 in_range_some_type I64 v h = record { low = omega (arith, ints); high = omega (arith, ints) }
 in_range_some_type U64 v h = record { low = omega (arith, ints); high = omega (arith, ints) }
-
-pub some_type_in_range : (v : ℤ) → IsOfSomeType v → (t : IntType) × InRange t v
-some_type_in_range v h =
-    let low = h.low in
-    let high = h.high in
-    by_lt_z v (pos 9223372036854775808)
-    (λ below. (I64, record { low = omega (arith, ints); high = omega (arith, ints) }))
-    (λ above. (U64, record { low = omega (arith, ints); high = omega (arith, ints) }))
 
 -- a number of the operator's type can be its right number
 pub right_operand : (op : BinOp) (t : IntType) (y : ℤ) → InRange t y → IsRightOperand op t y
@@ -74,9 +66,6 @@ in_range_test t v b h =
     both (int_le (least_of t) v) (int_le v (greatest_of t)) b
     (λ e. let r : InRange t v = h.0 e in (le_test (least_of t) v r.low, le_test v (greatest_of t) r.high))
     (λ e f. h.1 (record { low = le_fact (least_of t) v e; high = le_fact v (greatest_of t) f }))
-
-pub in_range_true : (t : IntType) (v : ℤ) → InRange t v → is_in_range t v ≡ true
-in_range_true t v h = and_from (int_le (least_of t) v) (int_le v (greatest_of t)) (le_test (least_of t) v h.low) (le_test v (greatest_of t) h.high)
 
 pub in_range_from_true : (t : IntType) (v : ℤ) → is_in_range t v ≡ true → InRange t v
 in_range_from_true t v e =

@@ -1,3 +1,4 @@
 pub mod Types
 pub mod Encoding
+pub mod Memory
 pub mod Arith

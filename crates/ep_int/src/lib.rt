@@ -4,8 +4,6 @@
 mod machines;
 mod numbers;
 mod operators;
-#[cfg(test)]
-mod tests;
 mod types;
 
 pub use machines::{place, pointer_bytes, size};

@@ -14,9 +14,9 @@ use Rattle.ep_int.specs.Arith.{arith_of, settled, is_in_range, int_eq}
 use Rattle.ep_int.proofs.Wrapping.{wrapped_same}
 use Rattle.ep_domain.specs.Ranges.{IsRange, LiesIn}
 use Rattle.ep_domain.specs.Faults.{Takes, shown_of, shown_range}
-use Rattle.ep_domain.proofs.Comparisons.{between_true, le_self}
-use Rattle.ep_domain.proofs.Types.{in_range_true}
-use Rattle.ep_domain.proofs.FaultAt.{ShownAt, low_shown, high_shown}
+use Rattle.ep_domain.specs.Laws.Comparisons.{between_true, le_self}
+use Rattle.ep_domain.specs.Laws.Types.{in_range_true}
+use Rattle.ep_domain.specs.Laws.FaultAt.{ShownAt, low_shown, high_shown}
 use Rattle.ep_intervals.specs.declared.interval.Interval.{Interval}
 use Rattle.ep_intervals.specs.Ends.{in_one_stretch, wrapped_low, wrapped_high}
 use Rattle.ep_intervals.specs.Interval.{HasNumber, ends_of, between, overlap, join_of, meet_of, conversion_of}

@@ -12,14 +12,14 @@ use Rattle.ep_int.specs.declared.types.BinOp.TheVariants.{Add, Sub, Mul, Div, Re
 use Rattle.ep_int.specs.Types.{is_signed, least_of, greatest_of, wrapped, InRange}
 use Rattle.ep_int.specs.Arith.{int_eq, IsOfSomeType, IsRightOperand}
 use Rattle.ep_domain.specs.Ranges.{IsRange}
-use Rattle.ep_domain.proofs.Comparisons.{between_true, from_between, le_self, le_trans, le_antisym}
+use Rattle.ep_domain.specs.Laws.Comparisons.{between_true, from_between, le_self, le_trans, le_antisym}
 use Rattle.ep_domain.proofs.FaultCode.{fits_number, sum_fits, difference_fits}
 use Rattle.ep_intervals.specs.declared.interval.Interval.{Interval}
 use Rattle.ep_intervals.specs.Ends.{in_one_stretch, wrapped_low, wrapped_high, low_apart, high_apart}
 use Rattle.ep_intervals.specs.Interval.{interval, between, overlap, apart_from, filter_of}
 use Rattle.ep_intervals.specs.Results.{clipped, settled_between, negative_part, positive_part, quotients, hull, divided, greatest_size, remainders, anded, ored, xored, ones_over, whole, has_amount, powers, shifted_left, shifted_right, shifted_right_between, results_between, right_operands, value_of}
 use Rattle.ep_domain.specs.Faults.{is_ordered, least_of_four, greatest_of_four, shown_range, nearest_amount}
-use Rattle.ep_domain.proofs.Types.{number_of, number_low, number_high, least_unsigned}
+use Rattle.ep_domain.specs.Laws.Types.{number_of, number_low, number_high, least_unsigned}
 use Rattle.ep_int.proofs.Wrapping.{wrapped_in_range}
 use Rattle.std.proofs.Math.Nat.{pow-le-pow_right, div-le_self}
 use Rattle.ep_intervals.specs.Laws.Between.{same_ends, between_some, between_parts}
@@ -52,9 +52,6 @@ pub equal_true : (x y : ℤ) → x ≡ y → int_eq x y ≡ true
 equal_true x y e = subst (λ z. int_eq x z ≡ true) e (between_true x x x x (le_self x) (le_self x))
 
 -- ---- conversion
-
-both_ways : (b : Bool) → b ≡ true → b ≡ false → ⊥
-both_ways b p q = cc
 
 pub apart_stretches : (t : IntType) (l h a b : ℤ) → a ≡ wrapped t l → b ≡ wrapped t h → ((of_z w128 (l -ℤ a) ≡ of_z w128 (h -ℤ b)) → ⊥) → in_one_stretch t l h ≡ false
 apart_stretches t l h a b e f n = by_test (in_one_stretch t l h) refl
@@ -145,9 +142,6 @@ greater_number x y h k =
     record { low = omega (arith, ints, clamps); high = omega (arith, ints, clamps) }
 
 -- ---- shifts
-
-pub power_number : (n : ℕ) → n < 64 → IsOfSomeType (pos (2 ^ n))
-power_number n h = let k : n ≤ 63 = omega arith in let p = pow-le-pow_right {n = 2} (omega arith) k in record { low = omega (arith, ints); high = omega (arith, ints) }
 
 abs_number : (x : ℤ) → IsOfSomeType x → unsigned_abs x ≤ 2 ^ 64 - 1
 abs_number (pos n) h = let p = h.high in omega (arith, ints)

@@ -4,7 +4,5 @@
 mod ends;
 mod interval;
 mod results;
-#[cfg(test)]
-mod tests;
 
 pub use interval::Interval;

@@ -9,8 +9,8 @@ ghost use Rattle.ep_domain.specs.Faults.{shown_range};
 ghost use Rattle.ep_intervals.specs.Results.{clipped, settled_between, quotients, hull, divided, remainders, whole, anded, ored, xored, ones_over, has_amount, shifted_left, shifted_right, single_result, results_of, results_between, right_operands, value_of};
 
 use crate::{Interval, ends};
-use ep_domain::ranges::{corners, is_shift, is_signed, nearest_amount, power_of_two, products};
-use ep_int::{BinOp, IntType, arith, bits, greatest, least};
+use ep_domain::ranges::{corners, is_shift, nearest_amount, power_of_two, products};
+use ep_int::{BinOp, IntType, arith, bits, greatest, is_signed, least};
 
 // The results of the numbers that arithmetic takes.
 pub(crate) fn value(op: BinOp, t: IntType, x: &Interval, y: &Interval) -> Option<Interval>

@@ -6,10 +6,8 @@ mod faults;
 mod in_memory;
 mod outside;
 mod system;
-#[cfg(test)]
-mod tests;
 
 pub use engines::{read_all, write_all};
 pub use in_memory::{MemSink, MemSource};
 pub use outside::{Failed, ReadStop, Sink, Source};
-pub use system::{FileSource, StdSink};
+pub use system::{FileSource, StdSink, command_words};

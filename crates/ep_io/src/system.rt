@@ -1,15 +1,13 @@
-// A source over files and a sink over standard output. They tell nothing of the bytes.
+// A source over files, a sink over standard output, and the words of the command line. They tell nothing of the bytes.
 ghost use Rattle.std.specs.Prelude.{◌≡◌, None};
 
 use crate::engines::PIECE;
 use crate::faults::Faults;
 use crate::outside::{Failed, Sink, Source};
-use std::fs;
-use std::io::Read;
-use std::rt::Files;
-
-#[cfg(test)]
-mod tests;
+use std::alloc::AllocError;
+use std::io::{ErrorKind, Read};
+use std::rt::{Env, Files};
+use std::{env, fs};
 
 /// A source whose names are the paths of files.
 #[derive(Drop)]
@@ -95,5 +93,15 @@ impl<R: Print> Sink for StdSink<R> {
             Ok(count) if count > 0 || piece.is_empty() => Ok(count),
             _ => Err(self.faults.raise()),
         }
+    }
+}
+
+/// The words of the command line, from the program's name on. Where one of them is no text there are none, so that they
+/// name no file.
+pub fn command_words<R: Env + AllocGlobal>(rt: &R) -> Result<Vec<String>, AllocError> {
+    match env::args(rt) {
+        Ok(words) => words.collect(rt.alloc()),
+        Err(error) if error.kind() == ErrorKind::OutOfMemory => Err(AllocError),
+        Err(_) => Ok(Vec::new(rt.alloc())),
     }
 }

@@ -6,8 +6,8 @@ ghost use Rattle.ep_small_pass.specs.Pass.{join_on, leave_on};
 
 use crate::kept::Kept;
 use ep_alarms::Alarms;
-use ep_small_core::program::CoreProgram;
 use ep_int::Memory;
+use ep_small_core::program::CoreProgram;
 
 /// Where statements are left otherwise than at their end.
 #[derive(Drop)]

@@ -12,9 +12,9 @@ ghost use Rattle.ep_small_pass.specs.States.{StateOps};
 ghost use Rattle.ep_small_pass.specs.Typed.{IsTyped, IsTest};
 
 use ep_alarms::Alarms;
+use ep_int::{Memory, Scalar};
 use ep_small_core::program::{CoreProgram, Function};
 use ep_small_core::tree::{Expr, Stmt};
-use ep_int::{Memory, Scalar};
 use std::alloc::Global;
 
 /// A state that is kept: it stands for pairs of states of a little-endian and a big-endian machine.

@@ -13,8 +13,8 @@ use crate::kept::Kept;
 use crate::statements::{Course, pass_list};
 use crate::steps::Steps;
 use ep_alarms::Alarms;
-use ep_small_core::program::{CoreProgram, Function};
 use ep_int::Memory;
+use ep_small_core::program::{CoreProgram, Function};
 use std::alloc::Global;
 use std::sync::ledger::Ledger;
 

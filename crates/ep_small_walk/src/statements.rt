@@ -11,9 +11,9 @@ use crate::flow::{Flow, Turn, Ways, add_all, either, join_reached, join_ways, le
 use crate::kept::Kept;
 use crate::steps::Steps;
 use ep_alarms::Alarms;
+use ep_int::{Memory, Scalar};
 use ep_small_core::program::CoreProgram;
 use ep_small_core::tree::{Expr, Stmt, What};
-use ep_int::{Memory, Scalar};
 use std::alloc::Global;
 use std::sync::ledger::Ledger;
 

@@ -13,8 +13,8 @@ use crate::form::look::Tokens;
 use crate::form::steps::{Surroundings, read_step};
 use crate::form::variables::Variables;
 use crate::refusal::{Halt, not_built};
-use ep_small_core::tree::Stmt;
 use ep_int::IntType;
+use ep_small_core::tree::Stmt;
 use std::alloc::Global;
 
 /// Declares the names of this type up to their semicolon, and gives what comes after it.

@@ -14,8 +14,8 @@ use crate::form::phrase::Phrase;
 use crate::form::start::Condition;
 use crate::form::variables::{Object, Variables, bytes_of};
 use crate::refusal::{Halt, not_built};
-use ep_small_core::tree::{Dest, Expr, Place, What};
 use ep_int::{BinOp, Cmp, IntType, Scalar, common, promote};
+use ep_small_core::tree::{Dest, Expr, Place, What};
 use std::alloc::{AllocError, Global};
 
 /// An expression, with the type of its value.

@@ -10,8 +10,8 @@ ghost use Rattle.endport.specs.Mains.{view_main};
 
 use crate::form::body::Main;
 use crate::form::variables::{Variables, bytes_of};
-use ep_small_core::program::{BlockInfo, CoreProgram, Function};
 use ep_int::{IntType, Scalar};
+use ep_small_core::program::{BlockInfo, CoreProgram, Function};
 use std::alloc::{AllocError, Global};
 
 /// The object of a number of the type.

@@ -1,7 +1,7 @@
 -- Intervals are a lawful domain.
 use Rattle.ep_domain.specs.Domain.{Lawful}
-use Rattle.ep_domain.proofs.Comparisons.{between_true}
-use Rattle.ep_intervals.specs.Interval.{single_of, widening_of}
+use Rattle.ep_domain.specs.Laws.Comparisons.{between_true}
+use Rattle.ep_intervals.specs.Interval.{widening_of}
 use Rattle.ep_intervals.specs.Domain.{interval_ops}
 use Rattle.ep_intervals.specs.Laws.Ranks.{rank_bound}
 use Rattle.ep_intervals.specs.Laws.Simple as simple
@@ -34,7 +34,7 @@ interval_laws = record {
   op_shows = outcome_shows;
   op_single = outcome_single;
   convert_holds = simple.conversion_holds;
-  convert_single = λ t v h. simple.conversion_single (single_of v) t v (simple.single_ends v h);
+  convert_single = simple.conversion_single;
   filter_holds = filter_holds;
   filter_single = filter_single;
   edges_inside = simple.edges_inside;

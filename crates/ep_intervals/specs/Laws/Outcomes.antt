@@ -13,9 +13,9 @@ use Rattle.ep_int.proofs.Arithmetic.{arith_in_range}
 use Rattle.ep_domain.specs.Ranges.{IsRange}
 use Rattle.ep_domain.specs.Faults.{Takes, MayFault, range_fault_of}
 use Rattle.ep_domain.specs.Domain.{ShowsPart}
-use Rattle.ep_domain.proofs.Comparisons.{between_true, from_between, le_self, le_trans, le_antisym}
-use Rattle.ep_domain.proofs.Types.{number_of}
-use Rattle.ep_domain.proofs.RangeFaults.{fault_is_found, fault_is_shown}
+use Rattle.ep_domain.specs.Laws.Comparisons.{between_true, from_between, le_self, le_trans, le_antisym}
+use Rattle.ep_domain.specs.Laws.Types.{number_of}
+use Rattle.ep_domain.specs.Laws.RangeFaults.{fault_is_found, fault_is_shown}
 use Rattle.ep_intervals.specs.declared.interval.Interval.{Interval}
 use Rattle.ep_intervals.specs.Interval.{HasNumber, interval, ends_of, overlap}
 use Rattle.ep_intervals.specs.Results.{single_result, results_of, results_between, right_operands, value_of, outcome_of}
@@ -85,8 +85,8 @@ outcome_shows o t a b h = record {
   right = ends_of b;
   left_inside = record { low = le_self _; high = le_self _ };
   right_inside = record { low = le_self _; high = le_self _ };
-  left_has = λ z k. range_encloses a z k;
-  right_has = λ z k. range_encloses b z k;
+  left_has = λ z i k. range_encloses a z k;
+  right_has = λ z i k. range_encloses b z k;
   shows = some_value (range_fault_of o t (ends_of a) (ends_of b)) h;
 }
 

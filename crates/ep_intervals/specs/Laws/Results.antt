@@ -11,8 +11,8 @@ use Rattle.ep_int.specs.Arith.{settled, is_in_range, int_eq}
 use Rattle.ep_int.proofs.Wrapping.{wrapped_in_range}
 use Rattle.ep_domain.specs.Ranges.{LiesIn}
 use Rattle.ep_domain.specs.Faults.{is_ordered}
-use Rattle.ep_domain.proofs.Comparisons.{le_true, le_trans}
-use Rattle.ep_domain.proofs.Types.{number_low, number_high, from_in_range}
+use Rattle.ep_domain.specs.Laws.Comparisons.{le_true, le_trans}
+use Rattle.ep_domain.specs.Laws.Types.{number_low, number_high, from_in_range}
 use Rattle.ep_intervals.specs.declared.interval.Interval.{Interval}
 use Rattle.ep_intervals.specs.Ends.{in_one_stretch, wrapped_low, wrapped_high}
 use Rattle.ep_intervals.specs.Interval.{HasNumber, between}

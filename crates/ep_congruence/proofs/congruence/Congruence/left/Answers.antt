@@ -1,0 +1,15 @@
+use Rattle.std.proofs.Common.{arith}
+use Rattle.std.proofs.lemmas.Int.{ints, to_z-of_z}
+use Rattle.ep_congruence_laws.proofs.Classes.{class_small}
+use Rattle.ep_congruence.proofs.congruence.Congruence.left.Goals as goal
+
+pub overflow_cast-result : goal.overflow_cast-result
+overflow_cast-result c = let b = class_small c.args.self.now.remainder c.args.self.now.modulus c.args.self.now.valid in omega (arith, ints)
+
+pub returns : goal.returns
+returns c =
+    let b = class_small c.args.self.now.remainder c.args.self.now.modulus c.args.self.now.valid in
+    let f = c.ranges.z in
+    let e = simp to_z-of_z at c.residue.ensures.value in
+    let l = c.residue.ensures.below in
+    record { value = omega (arith, ints); low = omega (arith, ints); high = omega (arith, ints) }

@@ -1,0 +1,2 @@
+//! Definitions and laws of congruence classes, on plain numbers. There is no function here.
+#![tactic(auto)]

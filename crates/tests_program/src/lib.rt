@@ -1,0 +1,11 @@
+//! Tests of the program from its words to what it writes, as tables.
+#![tactic(auto)]
+
+#[cfg(test)]
+mod calls;
+#[cfg(test)]
+mod copies;
+#[cfg(test)]
+mod form;
+#[cfg(test)]
+mod system;
