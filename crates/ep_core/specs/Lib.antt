@@ -1,0 +1,9 @@
+pub mod Program
+pub mod View
+pub mod Exec
+pub mod Runs
+pub mod Ways
+pub mod WellFormed
+pub mod Shown
+pub mod Laws
+pub mod Typed

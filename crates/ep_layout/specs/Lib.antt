@@ -1,0 +1,11 @@
+pub mod SameTypes
+pub mod Layout
+pub mod Table
+pub mod Views
+pub mod Placed
+pub mod Stops
+pub mod Places
+pub mod Extents
+pub mod Kept
+pub mod Text
+pub mod Pending

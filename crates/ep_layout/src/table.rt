@@ -1,0 +1,182 @@
+//! A table of types, and what it answers of each.
+
+ghost use Rattle.std.specs.Prelude.{◌≡◌, ◌≢◌, ◌+◌, ◌<◌, ◌≤◌, ◌^◌, [], Some, None, Ok, Err, IsTrue, IsOk, IsSome, IfOk, IfErr, IfSome, OnOk, OnErr, option_map, slice_get, length, unwrap_or};
+ghost use Rattle.std.specs.List.{list_all};
+ghost use Rattle.ep_layout.specs.declared.types.LayoutStop.{LayoutStop};
+ghost use Rattle.ep_layout.specs.declared.table.Body.{Body};
+ghost use Rattle.ep_layout.specs.Layout.{most_bytes};
+ghost use Rattle.ep_layout.specs.Table as table;
+ghost use Rattle.ep_layout.specs.Table.{IsBuilt};
+ghost use Rattle.ep_layout.specs.Extents.{IsExtent, extent_of, kept_extent};
+ghost use Rattle.ep_layout.specs.Views.{view_member, view_members, view_named};
+
+mod bodies;
+mod growth;
+mod leaves;
+mod text;
+
+use crate::extent::Extent;
+use crate::list::TypeList;
+use crate::members::MemberList;
+use crate::types::{Member, Ty};
+use ep_int::Model as DataModel;
+use std::alloc::Global;
+use std::marker::Model;
+
+/// The members of a completed aggregate, and how many bytes they take.
+#[derive(Drop)]
+pub(crate) struct Body {
+    pub members: MemberList,
+    pub extent: Extent,
+}
+
+/// A struct or union; its body once it is completed.
+#[derive(Drop)]
+pub(crate) struct AggregateEntry {
+    pub tag: Vec<u8>,
+    pub is_union: bool,
+    pub body: Option<Body>,
+}
+
+impl AggregateEntry {
+    fn extent(&self) -> Option<Extent>
+        ensures { result ≡ option_map (λ (b : Body). b.extent) self.now.body }
+    {
+        match &self.body {
+            None => None,
+            Some(body) => Some(body.extent),
+        }
+    }
+}
+
+/// A list of types and one of aggregates, each numbered from 0 in the order of coming, for one data model.
+#[derive(Drop)]
+pub struct Types {
+    model: DataModel,
+    types: TypeList,
+    /// Of each type that isn't an aggregate.
+    extents: Vec<Option<Extent>>,
+    aggregates: Vec<AggregateEntry>,
+    completed: Vec<u32>,
+    alloc: Global,
+}
+
+impl Model for Types {
+    ghost use Rattle.ep_layout.specs.Table.{Table};
+
+    ghost Value = { Table };
+
+    ghost use Rattle.ep_layout.specs.Kept.{table_of, IsKept};
+
+    ghost view = { table_of };
+
+    ghost invariant = { IsKept };
+}
+
+impl Types {
+    /// No types and no aggregates. Takes no memory.
+    pub fn new(alloc: Global, model: DataModel) -> Types
+        ensures { result ≡ table.empty model }
+    {
+        Types {
+            model,
+            types: TypeList::new(alloc),
+            extents: Vec::new(alloc),
+            aggregates: Vec::new(alloc),
+            completed: Vec::new(alloc),
+            alloc,
+        }
+    }
+
+    /// The data model that the sizes are for.
+    pub fn model(&self) -> DataModel
+        ensures model { result ≡ self.now.model }
+        ensures built { IsBuilt self.now }
+    {
+        self.model
+    }
+
+    pub fn type_count(&self) -> u32
+        ensures { result ≡ length self.now.types }
+    {
+        self.types.count() as u32
+    }
+
+    pub fn aggregate_count(&self) -> u32
+        ensures { result ≡ length self.now.aggregates }
+    {
+        self.aggregates.len() as u32
+    }
+
+    /// The type of a number.
+    pub fn ty(&self, ty: u32) -> &Ty
+        requires { ty < length self.now.types }
+        ensures { slice_get self.now.types ty ≡ Some result.now }
+    {
+        self.types.get(ty as usize)
+    }
+
+    pub fn is_union(&self, aggregate: u32) -> bool
+        requires { aggregate < length self.now.aggregates }
+        ensures { result ≡ table.is_union self.now aggregate }
+    {
+        self.aggregates[aggregate as usize].is_union
+    }
+
+    /// The members of an aggregate in their order. One that isn't completed has none.
+    pub fn members(&self, aggregate: u32) -> &[Member]
+        requires { aggregate < length self.now.aggregates }
+        ensures { view_members result.now ≡ table.members_of self.now aggregate }
+    {
+        match &self.aggregates[aggregate as usize].body {
+            None => &[],
+            Some(body) => body.members.all(),
+        }
+    }
+
+    /// The member of a name, the first one where several have it.
+    pub fn member(&self, aggregate: u32, name: &[u8]) -> Option<&Member>
+        requires { aggregate < length self.now.aggregates }
+        ensures { option_map (λ m. view_member m.now) result ≡ table.member_named self.now aggregate name.now }
+    {
+        match &self.aggregates[aggregate as usize].body {
+            None => None,
+            Some(body) => body.members.named(name),
+        }
+    }
+
+    pub(crate) fn extent(&self, ty: u32) -> Option<Extent>
+        requires { ty < length self.now.types }
+        ensures value { result ≡ option_map extent_of (table.layout_of self.now ty) }
+        ensures within { IfSome result (λ e. IsExtent e) }
+    {
+        match *self.types.get(ty as usize) {
+            Ty::Aggregate(a) => self.aggregates[a as usize].extent(),
+            _ => self.extents[ty as usize],
+        }
+    }
+
+    /// The number of bytes of a type; none where it is void or incomplete.
+    pub fn size(&self, ty: u32) -> Option<u32>
+        requires { ty < length self.now.types }
+        ensures value { result ≡ table.size self.now ty }
+        ensures within { IfSome result (λ n. n ≤ most_bytes) }
+    {
+        match self.extent(ty) {
+            None => None,
+            Some(extent) => Some(extent.size),
+        }
+    }
+
+    /// What the address of an object of a type is a multiple of; none where it is void or incomplete.
+    pub fn align(&self, ty: u32) -> Option<u32>
+        requires { ty < length self.now.types }
+        ensures value { result ≡ table.align self.now ty }
+        ensures within { IfSome result (λ n. (0 < n) × (n ≤ 8)) }
+    {
+        match self.extent(ty) {
+            None => None,
+            Some(extent) => Some(extent.align),
+        }
+    }
+}
