@@ -1,0 +1,12 @@
+pub mod Lists
+pub mod Merging
+pub mod Passing
+pub mod Holding
+pub mod Comparing
+pub mod Exact
+pub mod Moving
+pub mod MovingOne
+pub mod Leaving
+pub mod Answering
+pub mod Gathered
+pub mod Rows

@@ -1,0 +1,5 @@
+pub mod Value
+pub mod Sum
+pub mod Compare
+pub mod Parts
+pub mod Laws
