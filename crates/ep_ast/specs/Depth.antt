@@ -144,9 +144,9 @@ abbrev mutual
   in_stmt (tree.if_then l e s) = or_else (line_if (nat_lt 64 (height (tree.if_then l e s)) || is_too_deep e) l) (in_stmt s)
   in_stmt (tree.if_else l e s t) = or_else (line_if (nat_lt 64 (height (tree.if_else l e s t)) || is_too_deep e) l) (or_else (in_stmt s) (in_stmt t))
   in_stmt (tree.while_loop l e s) = or_else (line_if (nat_lt 64 (height (tree.while_loop l e s)) || is_too_deep e) l) (in_stmt s)
-  in_stmt (tree.do_loop l s e) = or_else (line_if (nat_lt 64 (height (tree.do_loop l s e))) l) (or_else (in_stmt s) (line_if (is_too_deep e) l))
+  in_stmt (tree.do_loop l s e) = or_else (line_if (nat_lt 64 (height (tree.do_loop l s e)) || is_too_deep e) l) (in_stmt s)
   in_stmt (tree.for_loop l f e g s) =
-      or_else (line_if (nat_lt 64 (height (tree.for_loop l f e g s))) l) (or_else (in_first f l) (or_else (line_if (is_deep_if e || is_deep_if g) l) (in_stmt s)))
+      or_else (line_if (nat_lt 64 (height (tree.for_loop l f e g s)) || is_deep_if e || is_deep_if g) l) (or_else (in_first f l) (in_stmt s))
   in_stmt (tree.break_loop l) = None
   in_stmt (tree.continue_loop l) = None
   in_stmt (tree.return_value l e) = line_if (is_deep_if e) l

@@ -1,191 +1,193 @@
--- The marks and words that the grammar names, by their numbers in the lists of tokens.
+-- The marks and words that the grammar names, by the numbers that code has for them.
 use Rattle.std.specs.Prelude.{ℕ}
+use Rattle.ep_ast.specs.declared.marks.TheConstants as marks
+use Rattle.ep_ast.specs.declared.words.TheConstants as words
 
 -- ---- marks
 
 abbrev pub arrow : ℕ
-arrow = 3
+arrow = marks.ARROW
 
 abbrev pub plus_plus : ℕ
-plus_plus = 4
+plus_plus = marks.PLUS_PLUS
 
 abbrev pub minus_minus : ℕ
-minus_minus = 5
+minus_minus = marks.MINUS_MINUS
 
 abbrev pub left_shift : ℕ
-left_shift = 6
+left_shift = marks.LEFT_SHIFT
 
 abbrev pub right_shift : ℕ
-right_shift = 7
+right_shift = marks.RIGHT_SHIFT
 
 abbrev pub less_equal : ℕ
-less_equal = 8
+less_equal = marks.LESS_EQUAL
 
 abbrev pub greater_equal : ℕ
-greater_equal = 9
+greater_equal = marks.GREATER_EQUAL
 
 abbrev pub equal_equal : ℕ
-equal_equal = 10
+equal_equal = marks.EQUAL_EQUAL
 
 abbrev pub not_equal : ℕ
-not_equal = 11
+not_equal = marks.NOT_EQUAL
 
 abbrev pub and_and : ℕ
-and_and = 12
+and_and = marks.AND_AND
 
 abbrev pub bar_bar : ℕ
-bar_bar = 13
+bar_bar = marks.BAR_BAR
 
 -- `<<=` and `>>=`
 abbrev pub left_shift_equal : ℕ
-left_shift_equal = 1
+left_shift_equal = marks.LEFT_SHIFT_EQUAL
 
 abbrev pub right_shift_equal : ℕ
-right_shift_equal = 2
+right_shift_equal = marks.RIGHT_SHIFT_EQUAL
 
 -- `+= -= *= /= %= &= |= ^=` stand in a row, from the first to the last
 abbrev pub plus_equal : ℕ
-plus_equal = 14
+plus_equal = marks.PLUS_EQUAL
 
 abbrev pub caret_equal : ℕ
-caret_equal = 21
+caret_equal = marks.CARET_EQUAL
 
 abbrev pub left_paren : ℕ
-left_paren = 22
+left_paren = marks.LEFT_PAREN
 
 abbrev pub right_paren : ℕ
-right_paren = 23
+right_paren = marks.RIGHT_PAREN
 
 abbrev pub left_bracket : ℕ
-left_bracket = 24
+left_bracket = marks.LEFT_BRACKET
 
 abbrev pub right_bracket : ℕ
-right_bracket = 25
+right_bracket = marks.RIGHT_BRACKET
 
 abbrev pub left_brace : ℕ
-left_brace = 26
+left_brace = marks.LEFT_BRACE
 
 abbrev pub right_brace : ℕ
-right_brace = 27
+right_brace = marks.RIGHT_BRACE
 
 abbrev pub dot : ℕ
-dot = 28
+dot = marks.DOT
 
 abbrev pub ampersand : ℕ
-ampersand = 29
+ampersand = marks.AMPERSAND
 
 abbrev pub star : ℕ
-star = 30
+star = marks.STAR
 
 abbrev pub plus : ℕ
-plus = 31
+plus = marks.PLUS
 
 abbrev pub minus : ℕ
-minus = 32
+minus = marks.MINUS
 
 abbrev pub tilde : ℕ
-tilde = 33
+tilde = marks.TILDE
 
 abbrev pub exclamation : ℕ
-exclamation = 34
+exclamation = marks.EXCLAMATION
 
 abbrev pub slash : ℕ
-slash = 35
+slash = marks.SLASH
 
 abbrev pub percent : ℕ
-percent = 36
+percent = marks.PERCENT
 
 abbrev pub less : ℕ
-less = 37
+less = marks.LESS
 
 abbrev pub greater : ℕ
-greater = 38
+greater = marks.GREATER
 
 abbrev pub caret : ℕ
-caret = 39
+caret = marks.CARET
 
 abbrev pub bar : ℕ
-bar = 40
+bar = marks.BAR
 
 abbrev pub question : ℕ
-question = 41
+question = marks.QUESTION
 
 abbrev pub colon : ℕ
-colon = 42
+colon = marks.COLON
 
 abbrev pub semicolon : ℕ
-semicolon = 43
+semicolon = marks.SEMICOLON
 
 abbrev pub equal : ℕ
-equal = 44
+equal = marks.EQUAL
 
 abbrev pub comma : ℕ
-comma = 45
+comma = marks.COMMA
 
 -- ---- words
 
 abbrev pub break_word : ℕ
-break_word = 1
+break_word = words.BREAK
 
 abbrev pub char_word : ℕ
-char_word = 2
+char_word = words.CHAR
 
 abbrev pub const_word : ℕ
-const_word = 3
+const_word = words.CONST
 
 abbrev pub continue_word : ℕ
-continue_word = 4
+continue_word = words.CONTINUE
 
 abbrev pub do_word : ℕ
-do_word = 5
+do_word = words.DO
 
 abbrev pub else_word : ℕ
-else_word = 6
+else_word = words.ELSE
 
 abbrev pub for_word : ℕ
-for_word = 7
+for_word = words.FOR
 
 abbrev pub if_word : ℕ
-if_word = 8
+if_word = words.IF
 
 abbrev pub inline_word : ℕ
-inline_word = 9
+inline_word = words.INLINE
 
 abbrev pub int_word : ℕ
-int_word = 10
+int_word = words.INT
 
 abbrev pub long_word : ℕ
-long_word = 11
+long_word = words.LONG
 
 abbrev pub return_word : ℕ
-return_word = 12
+return_word = words.RETURN
 
 abbrev pub short_word : ℕ
-short_word = 13
+short_word = words.SHORT
 
 abbrev pub signed_word : ℕ
-signed_word = 14
+signed_word = words.SIGNED
 
 abbrev pub sizeof_word : ℕ
-sizeof_word = 15
+sizeof_word = words.SIZEOF
 
 abbrev pub static_word : ℕ
-static_word = 16
+static_word = words.STATIC
 
 abbrev pub struct_word : ℕ
-struct_word = 17
+struct_word = words.STRUCT
 
 abbrev pub typedef_word : ℕ
-typedef_word = 18
+typedef_word = words.TYPEDEF
 
 abbrev pub union_word : ℕ
-union_word = 19
+union_word = words.UNION
 
 abbrev pub unsigned_word : ℕ
-unsigned_word = 20
+unsigned_word = words.UNSIGNED
 
 abbrev pub void_word : ℕ
-void_word = 21
+void_word = words.VOID
 
 abbrev pub while_word : ℕ
-while_word = 22
+while_word = words.WHILE

@@ -3,9 +3,11 @@
 
 mod declarations;
 mod expressions;
+pub mod marks;
 mod orders;
 mod refusals;
 mod statements;
+pub mod words;
 
 pub use declarations::{
     AggregateTree, DeclarationTree, DeclaratorTree, HeadTree, InitTree, MemberTree, ParamTree,

@@ -1,19 +1,10 @@
--- The first that is too deep in words and members, with one more at their end.
-use Rattle.std.proofs.Common.{◌≡◌, ℕ, true, false, List, [], ◌∷◌, ◌++◌, Option, Some, None, refl, ap, ◌∙◌, map}
+-- The first that is too deep in a member, and a body alone.
+use Rattle.std.proofs.Common.{◌≡◌, ℕ, true, false, List, [], ◌∷◌, ◌++◌, Option, Some, None, refl, ap}
 use Rattle.std.specs.Prelude.{◌&&◌}
-use Rattle.std.proofs.lemmas.List.{map_push}
 use Rattle.ep_ast.specs.Declaration.{Spec, plain, body, Aggregate, Member, member, to_specs, to_members, Declarator}
 use Rattle.ep_ast.specs.Depth.{or_else, first_of, in_spec, in_specs, in_member, in_members, in_declarator}
-use Rattle.ep_declarations.specs.Answer.{is_one_body}
-use Rattle.ep_declarations.specs.SpecAhead.{is_body, are_none}
-
-or-none : (o : Option ℕ) → or_else o None ≡ o
-or-none None = refl
-or-none (Some l) = refl
-
-or-assoc : (o p q : Option ℕ) → or_else o (or_else p q) ≡ or_else (or_else o p) q
-or-assoc None p q = refl
-or-assoc (Some l) p q = refl
+use Rattle.ep_declarations.specs.Answer.{is_body, is_one_body}
+use Rattle.ep_declarations.specs.SpecAhead.{are_none}
 
 pub in_members_is : (ms : List Member) → in_members (to_members ms) ≡ first_of in_member ms
 in_members_is [] = refl
@@ -23,31 +14,20 @@ pub in_specs_is : (ss : List Spec) → in_specs (to_specs ss) ≡ first_of in_sp
 in_specs_is [] = refl
 in_specs_is (s ∷ ss) = ap (λ (o : Option ℕ). or_else (in_spec s) o) (in_specs_is ss)
 
-module _ {V : Type 0} (deep : V → Option ℕ) where
-  first-last : (xs : List V) (x : V) → first_of deep (xs ++ x ∷ []) ≡ or_else (first_of deep xs) (deep x)
-  first-last [] x = or-none (deep x)
-  first-last (y ∷ ys) x = ap (λ (o : Option ℕ). or_else (deep y) o) (first-last ys x) ∙ or-assoc (deep y) (first_of deep ys) (deep x)
-
-  pub last_deep : (xs : List V) (x : V) (l : ℕ) → first_of deep xs ≡ None → deep x ≡ Some l → first_of deep (xs ++ x ∷ []) ≡ Some l
-  last_deep xs x l e f = rw (first-last xs x, e, f) refl
-
-  pub before_deep : (xs : List V) (x : V) (l : ℕ) → first_of deep xs ≡ Some l → first_of deep (xs ++ x ∷ []) ≡ Some l
-  before_deep xs x l e = rw (first-last xs x, e) refl
-
-  pub none_deep : {T : Type 0} (shape : T → V) (ts us : List T) (t : T) (xs : List V) (x : V) → us ≡ ts ++ t ∷ [] → (map shape ts ≡ xs) × (first_of deep xs ≡ None) → (shape t ≡ x) × (deep x ≡ None)
-      → (map shape us ≡ xs ++ x ∷ []) × (first_of deep (xs ++ x ∷ []) ≡ None)
-  none_deep shape ts us t xs x e h k = (rw (e, map_push shape ts t, h.0, k.0) refl, rw (first-last xs x, h.1, k.1) refl)
-
 -- ---- one member
 
-pub member_fits : (us ss : List Spec) (vs ds : List Declarator) (l : ℕ) (line : List Spec → ℕ) → l ≡ line us → (us ≡ ss) × (first_of in_spec ss ≡ None) → (vs ≡ ds) × (first_of in_declarator ds ≡ None)
-    → (member l (to_specs us) vs ≡ member (line ss) (to_specs ss) ds) × (or_else (in_specs (to_specs ss)) (first_of in_declarator ds) ≡ None)
+pub member_fits : (us ss : List Spec) (vs ds : List Declarator) (l : ℕ) (line : List Spec → ℕ) → l ≡ line us
+    → (us ≡ ss) × (first_of in_spec ss ≡ None) → (vs ≡ ds) × (first_of in_declarator ds ≡ None)
+    → (member l (to_specs us) vs ≡ member (line ss) (to_specs ss) ds)
+    × (or_else (in_specs (to_specs ss)) (first_of in_declarator ds) ≡ None)
 member_fits us ss vs ds l line e h k = (rw (e, h.0, k.0) refl, rw (in_specs_is ss, h.1, k.1) refl)
 
-pub names_deep : (ss : List Spec) (ds : List Declarator) (l : ℕ) → first_of in_spec ss ≡ None → first_of in_declarator ds ≡ Some l → or_else (in_specs (to_specs ss)) (first_of in_declarator ds) ≡ Some l
+pub names_deep : (ss : List Spec) (ds : List Declarator) (l : ℕ) → first_of in_spec ss ≡ None
+    → first_of in_declarator ds ≡ Some l → or_else (in_specs (to_specs ss)) (first_of in_declarator ds) ≡ Some l
 names_deep ss ds l h k = rw (in_specs_is ss, h, k) refl
 
-pub words_deep : (ss : List Spec) (ds : List Declarator) (l : ℕ) → first_of in_spec ss ≡ Some l → or_else (in_specs (to_specs ss)) (first_of in_declarator ds) ≡ Some l
+pub words_deep : (ss : List Spec) (ds : List Declarator) (l : ℕ) → first_of in_spec ss ≡ Some l
+    → or_else (in_specs (to_specs ss)) (first_of in_declarator ds) ≡ Some l
 words_deep ss ds l h = rw (in_specs_is ss, h) refl
 
 -- ---- a body alone

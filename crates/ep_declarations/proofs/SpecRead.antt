@@ -7,15 +7,16 @@ use Rattle.ep_ast.specs.DeclarationGrammar.{Place, spec_joined, specs_joined}
 use Rattle.ep_ast.specs.Depth.{in_spec}
 use Rattle.ep_ast.specs.Reading.{Takes}
 use Rattle.ep_exprs.specs.Words.{bag}
-use Rattle.ep_exprs.specs.Parsed.{IsTaken}
-use Rattle.ep_declarators.specs.Measured.{Shows}
+use Rattle.ep_reading.specs.Measured.{Shows}
 use Rattle.ep_declarations.specs.declared.words.OneMore.{OneMore}
-use Rattle.ep_declarators.specs.Checked.{Clear}
-use Rattle.ep_declarations.specs.SpecAhead.{Ahead, InBody, ShowsAhead, is_body, are_none}
+use Rattle.ep_reading.specs.Answer.{IsTaken, Clear}
+use Rattle.ep_declarations.specs.SpecAhead.{Ahead, InBody, ShowsAhead, are_none}
+use Rattle.ep_declarations.specs.Answer.{is_body}
 use Rattle.ep_declarations.proofs.SpecLemmas.{fits_is, SpecsSo, specs_step}
 
 module _ (N : List ℕ → Bool) where
-  pub none_read : {k : Place} {b : Bag} {ys us : List Tok} → IsTaken (ShowsAhead b) (Ahead N k b) ys None us → Takes (Ahead N k b) ys None us
+  pub none_read : {k : Place} {b : Bag} {ys us : List Tok} → IsTaken (ShowsAhead b) (Ahead N k b) ys None us
+      → Takes (Ahead N k b) ys None us
   none_read t = rw t.shows at t.takes
 
   -- a word, and the words with it
@@ -27,23 +28,38 @@ module _ (N : List ℕ → Bool) where
     pub words : bag o.bag ≡ spec_joined b word
     pub fit : fits (spec_joined b word) ≡ true
 
-  pub some_read : {k : Place} {b : Bag} {ys us : List Tok} {o : OneMore} → IsTaken (ShowsAhead b) (Ahead N k b) ys (Some o) us → Word k b ys us o
-  some_read t = record { word = t.shows.0; takes = rw t.shows.1 at t.takes; shows = t.shows.2; kind = t.shows.3; words = t.shows.4; fit = t.shows.5 }
+  pub some_read : {k : Place} {b : Bag} {ys us : List Tok} {o : OneMore}
+      → IsTaken (ShowsAhead b) (Ahead N k b) ys (Some o) us → Word k b ys us o
+  some_read t =
+      record {
+        word = t.shows.0;
+        takes = rw t.shows.1 at t.takes;
+        shows = t.shows.2;
+        kind = t.shows.3;
+        words = t.shows.4;
+        fit = t.shows.5;
+      }
 
-  step_at : (k : Place) (xs : List Tok) (front : List Spec) (b c : Bag) (ys us : List Tok) (s : Spec) → c ≡ spec_joined b s → SpecsSo N k xs front b ys → Takes (Ahead N k b) ys (Some s) us → Clear (InBody N k b) ys
+  step_at : (k : Place) (xs : List Tok) (front : List Spec) (b c : Bag) (ys us : List Tok) (s : Spec)
+      → c ≡ spec_joined b s → SpecsSo N k xs front b ys → Takes (Ahead N k b) ys (Some s) us → Clear (InBody N k b) ys
       → SpecsSo N k xs (front ++ s ∷ []) c us
   step_at k xs front b c ys us s e o t n = rw e (specs_step N k xs front b ys us s o t n)
 
-  pub word_step : (k : Place) (xs : List Tok) (front : List Spec) (b : Bag) (ys us : List Tok) (o : OneMore) → SpecsSo N k xs front b ys → (w : Word k b ys us o) → Clear (InBody N k b) ys
+  pub word_step : (k : Place) (xs : List Tok) (front : List Spec) (b : Bag) (ys us : List Tok) (o : OneMore)
+      → SpecsSo N k xs front b ys → (w : Word k b ys us o) → Clear (InBody N k b) ys
       → SpecsSo N k xs (front ++ w.word ∷ []) (bag o.bag) us × (fits (bag o.bag) ≡ true)
-  word_step k xs front b ys us o s w n = (step_at k xs front b (bag o.bag) ys us w.word w.words s w.takes n, fits_is (bag o.bag) (spec_joined b w.word) (sym w.words) w.fit)
+  word_step k xs front b ys us o s w n = (
+    step_at k xs front b (bag o.bag) ys us w.word w.words s w.takes n,
+    fits_is (bag o.bag) (spec_joined b w.word) (sym w.words) w.fit,
+  )
 
 none_bag : (ss : List Spec) (b : Bag) → are_none ss ≡ true → b ≡ specs_joined no_bag ss → is_no_bag b ≡ true
 none_bag [] b h e = rw e refl
 none_bag (s ∷ ss) b h e = absurd cc
 
 -- a word that counts was read, so it isn't the first that comes
-pub not_first : (f : Bool) (ss : List Spec) (b : Bag) → f ≡ are_none ss → b ≡ specs_joined no_bag ss → is_no_bag b ≡ false → f ≡ false
+pub not_first : (f : Bool) (ss : List Spec) (b : Bag) → f ≡ are_none ss → b ≡ specs_joined no_bag ss
+    → is_no_bag b ≡ false → f ≡ false
 not_first false ss b h e n = refl
 not_first true ss b h e n = let g = none_bag ss b (sym h) e in absurd cc
 

@@ -1,18 +1,23 @@
--- One word more of those that begin a declaration, behind words that may stand together; and one `struct` or `union` with its members.
-use Rattle.std.specs.Prelude.{◌≡◌, ℕ, Bool, true, false, ◌&&◌, ◌==◌, ◌⊎◌, List, [], ◌∷◌, map, Option, Some, None}
+-- One word more of those that begin a declaration, behind words that may stand together; and one `struct` or `union`
+-- with its members.
+use Rattle.std.specs.Prelude.{◌≡◌, ℕ, Bool, true, false, ◌&&◌, ◌==◌, ◌<◌, ◌⊎◌, if◌then◌else◌, List, [], ◌∷◌, length, map, Option, Some, None, IfSome}
 use Rattle.std.specs.Option.{option_map}
+use Rattle.std.specs.Borrow.{Bor}
 use Rattle.ep_ast.specs.Token.{Tok, word, name, mark}
 use Rattle.ep_ast.specs.Mark.{left_brace}
 use Rattle.ep_ast.specs.TypeWords.{Bag, no_bag, with_whole, fits, is_tag_word}
-use Rattle.ep_ast.specs.Declaration as tree
-use Rattle.ep_ast.specs.Declaration.{Spec, spec_of, aggregate_of}
-use Rattle.ep_ast.specs.declared.declarations.AggregateTree.{AggregateTree}
+use Rattle.ep_ast.specs.Declaration.{Spec, Member, spec_of, member_of}
+use Rattle.ep_ast.specs.declared.declarations.MemberTree.{MemberTree}
+use Rattle.ep_lexer.specs.declared.tokens.Token.{Token}
 use Rattle.ep_ast.specs.DeclarationGrammar.{Place, in_aggregate, has_bodies, has_storage, is_storage_word, spec_joined, begins_spec, OneSpec, Specified}
 use Rattle.ep_ast.specs.BitField.{InSpecs, InMembers, InDeclarators}
-use Rattle.ep_ast.specs.Depth.{in_spec}
+use Rattle.ep_ast.specs.Depth.{in_spec, in_member}
 use Rattle.ep_lexer.specs.Tokens.{view}
 use Rattle.ep_exprs.specs.Words.{bag}
-use Rattle.ep_declarators.specs.Measured.{Shows}
+use Rattle.ep_reading.specs.declared.reader.Part.{Part}
+use Rattle.ep_reading.specs.declared.measured.Measured.{Measured}
+use Rattle.ep_reading.specs.Measured.{Shows}
+use Rattle.ep_declarations.specs.Answer.{is_body}
 use Rattle.ep_declarations.specs.declared.aggregates.Opening.{Opening}
 use Rattle.ep_declarations.specs.declared.words.OneMore.{OneMore}
 
@@ -21,15 +26,8 @@ use Rattle.ep_declarations.specs.declared.words.OneMore.{OneMore}
 -- the next word may stand with those before it, or the words are over
 pub data Ahead (is_type : List ℕ → Bool) (k : Place) (b : Bag) : List Tok → List Tok → Option Spec → Type 0 where
   over : {xs : List Tok} → begins_spec is_type k xs ≡ false → Ahead is_type k b xs xs None
-  fitting : {xs ys : List Tok} {s : Spec} → OneSpec is_type k xs ys s → fits (spec_joined b s) ≡ true → Ahead is_type k b xs ys (Some s)
-
-abbrev pub is_body : Spec → Bool
-is_body (tree.plain w) = false
-is_body (tree.body a) = true
-
-abbrev pub AsAggregate : Option AggregateTree → Spec → Type 0
-AsAggregate (Some a) s = s ≡ tree.body (aggregate_of a)
-AsAggregate None s = is_body s ≡ false
+  fitting : {xs ys : List Tok} {s : Spec} → OneSpec is_type k xs ys s → fits (spec_joined b s) ≡ true
+      → Ahead is_type k b xs ys (Some s)
 
 abbrev pub are_none : List Spec → Bool
 are_none [] = true
@@ -39,7 +37,17 @@ are_none (s ∷ ss) = false
 abbrev pub ShowsAhead : Bag → Option OneMore → Option Spec → Type 0
 ShowsAhead b None s = s ≡ None
 ShowsAhead b (Some o) s =
-    (t : Spec) × (s ≡ Some t) × Shows spec_of in_spec o.tree t × (o.is_body ≡ is_body t) × (bag o.bag ≡ spec_joined b t) × (fits (spec_joined b t) ≡ true)
+    (t : Spec) × (s ≡ Some t) × Shows spec_of in_spec o.tree t × (o.is_body ≡ is_body t)
+    × (bag o.bag ≡ spec_joined b t) × (fits (spec_joined b t) ≡ true)
+
+-- fewer tokens than so many stand behind the word, where one was read
+abbrev pub IsPastWord : ℕ → Part (Option OneMore) → Type 0
+IsPastWord n p = IfSome p.value (λ o. length p.rest.now < n)
+
+-- the `struct` or `union` that stands first, if one does, can join these words
+abbrev pub tag_joins : Bag → List Tok → Bool
+tag_joins b (word l c ∷ ts) = if is_tag_word c then fits (with_whole b) else true
+tag_joins b _ = true
 
 -- `static` or `inline`, where it may stand
 abbrev pub begins_storage : Place → List Tok → Bool
@@ -49,6 +57,12 @@ begins_storage k _ = false
 abbrev pub AtStorage : Place → List Tok → Option (ℕ × ℕ × List Tok) → Type 0
 AtStorage k ts (Some r) = (has_storage k ≡ true) × (is_storage_word r.1 ≡ true) × (ts ≡ word r.0 r.1 ∷ r.2)
 AtStorage k ts None = begins_storage k ts ≡ false
+
+abbrev pub seen_storage : ℕ × ℕ × Bor (List Token) → ℕ × ℕ × List Tok
+seen_storage r = (r.0, r.1, map view r.2.now)
+
+abbrev pub IsPastStorage : ℕ → ℕ × ℕ × Bor (List Token) → Type 0
+IsPastStorage n r = length r.2.now < n
 
 -- ---- members
 
@@ -60,17 +74,29 @@ begins_body _ = false
 
 abbrev pub Opens : (line code : ℕ) → Option (List ℕ) → (inside : List Tok) → List Tok → Type 0
 Opens l c None xs ts = (p d : ℕ) × (d ≡ left_brace) × (is_tag_word c ≡ true) × (ts ≡ word l c ∷ mark p d ∷ xs)
-Opens l c (Some text) xs ts = (m p d : ℕ) × (d ≡ left_brace) × (is_tag_word c ≡ true) × (ts ≡ word l c ∷ name m text ∷ mark p d ∷ xs)
+Opens l c (Some text) xs ts =
+    (m p d : ℕ) × (d ≡ left_brace) × (is_tag_word c ≡ true) × (ts ≡ word l c ∷ name m text ∷ mark p d ∷ xs)
+
+abbrev pub tag_text : Option (Bor (List ℕ)) → Option (List ℕ)
+tag_text t = option_map (λ b. b.now) t
 
 abbrev pub AtBody : List Tok → Option Opening → Type 0
-AtBody ts (Some o) = Opens o.line o.word (option_map (λ t. t.now) o.tag) (map view o.inside.now) ts
+AtBody ts (Some o) = Opens o.line o.word (tag_text o.tag) (map view o.inside.now) ts
 AtBody ts None = begins_body ts ≡ false
+
+abbrev pub IsOpenPast : ℕ → Opening → Type 0
+IsOpenPast n o = length o.inside.now < n
+
+abbrev pub ShowsMember : Measured MemberTree → Member → Type 0
+ShowsMember k m = Shows member_of in_member k m
 
 -- a bit-field stands in the members of the `struct` or `union` that begins here
 pub data InAggregate (is_type : List ℕ → Bool) : List Tok → (line : ℕ) → Type 0 where
-  in_tagged : {l m c n p d : ℕ} {text : List ℕ} {xs : List Tok} → is_tag_word c ≡ true → d ≡ left_brace → InMembers is_type xs l
+  in_tagged : {l m c n p d : ℕ} {text : List ℕ} {xs : List Tok} → is_tag_word c ≡ true → d ≡ left_brace
+      → InMembers is_type xs l
       → InAggregate is_type (word m c ∷ name n text ∷ mark p d ∷ xs) l
-  in_untagged : {l m c p d : ℕ} {xs : List Tok} → is_tag_word c ≡ true → d ≡ left_brace → InMembers is_type xs l → InAggregate is_type (word m c ∷ mark p d ∷ xs) l
+  in_untagged : {l m c p d : ℕ} {xs : List Tok} → is_tag_word c ≡ true → d ≡ left_brace → InMembers is_type xs l
+      → InAggregate is_type (word m c ∷ mark p d ∷ xs) l
 
 -- the same, where members may stand behind words that fit
 abbrev pub InBody : (List ℕ → Bool) → Place → Bag → List Tok → (line : ℕ) → Type 0
@@ -78,4 +104,6 @@ InBody is_type k b xs l = (has_bodies k ≡ true) × (fits (with_whole b) ≡ tr
 
 -- a bit-field stands in the words or behind a name of the member that begins here
 abbrev pub InMember : (List ℕ → Bool) → List Tok → (line : ℕ) → Type 0
-InMember is_type xs l = InSpecs is_type in_aggregate no_bag xs l ⊎ ((ys : List Tok) × (ss : List Spec) × Specified is_type in_aggregate xs ys ss × InDeclarators is_type ys l)
+InMember is_type xs l =
+    InSpecs is_type in_aggregate no_bag xs l
+    ⊎ ((ys : List Tok) × (ss : List Spec) × Specified is_type in_aggregate xs ys ss × InDeclarators is_type ys l)

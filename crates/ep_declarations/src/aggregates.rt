@@ -1,36 +1,39 @@
 //! The parts of a `struct` or `union` with its members.
 
-ghost use Rattle.std.specs.Prelude.{◌≡◌, ◌<◌, ◌++◌, ◌∷◌, [], length, map, IfOk, IfSome, List};
+ghost use Rattle.std.specs.Prelude.{◌≡◌, ◌<◌, length, map, IfOk, IfSome, List};
 ghost use Rattle.std.specs.Option.{option_map};
 ghost use Rattle.ep_ast.specs.Declaration as shape;
 ghost use Rattle.ep_ast.specs.Declaration.{Spec, Member, Declarator, spec_of, member_of, text_of, to_specs, to_members};
 ghost use Rattle.ep_ast.specs.DeclarationGrammar as grammar;
-ghost use Rattle.ep_ast.specs.Depth.{first_of, in_spec, in_member, in_declarator};
+ghost use Rattle.ep_ast.specs.Depth.{in_spec, in_member};
 ghost use Rattle.ep_lexer.specs.Tokens.{view};
-ghost use Rattle.ep_declarators.specs.Measured.{Shows};
-ghost use Rattle.ep_declarations.specs.SpecAhead.{AtBody};
+ghost use Rattle.ep_reading.specs.Measured.{Shows, ShowsAll};
+ghost use Rattle.ep_declarators.specs.Answer.{ShowsDeclarators};
+ghost use Rattle.ep_declarations.specs.Answer.{ShowsMembers};
+ghost use Rattle.ep_declarations.specs.SpecAhead.{AtBody, IsOpenPast, tag_text};
 
+use ep_ast::marks::LEFT_BRACE;
 use ep_ast::{DeclaratorTree, MemberTree, SpecTree, TypeWordTree};
-use ep_declarators::Measured;
-use ep_exprs::marks::LEFT_BRACE;
-use ep_exprs::{Head, at_mark, at_name, first_of, is_tag_word};
+use ep_exprs::is_tag_word;
 use ep_lexer::Token;
+use ep_reading::{Head, Measured, at_mark, at_name, first_of};
 use std::alloc::{AllocError, Global};
 
-/// A `struct` or `union` before its members: the line and the number of its word, its tag, and what comes behind the
-/// opening brace.
+/// A `struct` or `union` before its members: the line and the number of its word, its tag, what begins with the opening
+/// brace, and what comes behind that.
 #[derive(Clone, Copy)]
 pub struct Opening<'a> {
     pub line: u32,
     pub word: u8,
     pub tag: Option<&'a [u8]>,
+    pub brace: &'a [Token],
     pub inside: &'a [Token],
 }
 
 /// The `struct` or `union` that begins here, where its members come.
 pub fn at_body<'a>(tokens: &'a [Token]) -> Option<Opening<'a>>
     ensures value { AtBody (map view tokens.now) result }
-    ensures shorter { IfSome result (λ o. length o.inside.now < length tokens.now) }
+    ensures shorter { IfSome result (IsOpenPast (length tokens.now)) }
 {
     let Head::Word(line, word, rest) = first_of(tokens) else {
         return None;
@@ -43,6 +46,7 @@ pub fn at_body<'a>(tokens: &'a [Token]) -> Option<Opening<'a>>
             line,
             word,
             tag: None,
+            brace: rest,
             inside,
         });
     }
@@ -52,13 +56,14 @@ pub fn at_body<'a>(tokens: &'a [Token]) -> Option<Opening<'a>>
         line,
         word,
         tag: Some(tag),
+        brace: after,
         inside,
     })
 }
 
 /// The tag, where there is one.
 pub fn owned_tag(alloc: Global, tag: Option<&[u8]>) -> Result<Option<Vec<u8>>, AllocError>
-    ensures { IfOk result (λ t. option_map text_of t ≡ option_map (λ b. b.now) tag.entry) }
+    ensures { IfOk result (λ t. option_map text_of t ≡ tag_text tag.entry) }
 {
     match tag {
         Some(text) => Ok(Some(Vec::from_slice(alloc, text)?)),
@@ -73,8 +78,9 @@ pub fn make_body(
     tag: Option<Vec<u8>>,
     members: Measured<Vec<MemberTree>>,
 ) -> Measured<SpecTree>
-    ensures { (ms : List Member) → Shows (λ v. map member_of v.items) (first_of in_member) members ms
-        → Shows spec_of in_spec result (shape.body (shape.aggregate line word (option_map text_of tag) (to_members ms))) }
+    ensures { (ms : List Member) → ShowsMembers members ms
+        → Shows spec_of in_spec result
+        (shape.body (shape.aggregate line word (option_map text_of tag) (to_members ms))) }
 {
     match members {
         Measured::Fits(members) => Measured::Fits(SpecTree::new_body(line, word, tag, members)),
@@ -102,8 +108,8 @@ pub fn make_member(
     specs: Measured<Vec<SpecTree>>,
     declarators: Measured<Vec<DeclaratorTree>>,
 ) -> Measured<MemberTree>
-    ensures { (ss : List Spec) → (ds : List Declarator) → Shows (λ v. map spec_of v.items) (first_of in_spec) specs ss
-        → Shows (λ v. map shape.declarator v.items) (first_of in_declarator) declarators ds
+    ensures { (ss : List Spec) → (ds : List Declarator) → ShowsAll spec_of in_spec specs ss
+        → ShowsDeclarators declarators ds
         → Shows member_of in_member result (shape.member (grammar.specs_line ss) (to_specs ss) ds) }
 {
     match specs {
@@ -119,26 +125,5 @@ pub fn make_member(
             Measured::TooDeep(deep) => Measured::TooDeep(deep),
         },
         Measured::TooDeep(deep) => Measured::TooDeep(deep),
-    }
-}
-
-/// The members and one more.
-pub fn with_member(
-    found: Measured<Vec<MemberTree>>,
-    one: Measured<MemberTree>,
-) -> Result<Measured<Vec<MemberTree>>, AllocError>
-    ensures { (ms : List Member) → (m : Member) → Shows (λ v. map member_of v.items) (first_of in_member) found ms → Shows member_of in_member one m
-        → IfOk result (λ r. Shows (λ v. map member_of v.items) (first_of in_member) r (ms ++ m ∷ [])) }
-{
-    match found {
-        Measured::Fits(members) => match one {
-            Measured::Fits(member) => {
-                let mut all = members;
-                all.push(member)?;
-                Ok(Measured::Fits(all))
-            }
-            Measured::TooDeep(deep) => Ok(Measured::TooDeep(deep)),
-        },
-        Measured::TooDeep(deep) => Ok(Measured::TooDeep(deep)),
     }
 }

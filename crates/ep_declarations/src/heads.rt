@@ -6,21 +6,26 @@ ghost use Rattle.ep_ast.specs.Token.{Tok};
 ghost use Rattle.ep_ast.specs.Declaration.{Spec, Params, spec_of, params_of, head_of};
 ghost use Rattle.ep_ast.specs.DeclarationGrammar as grammar;
 ghost use Rattle.ep_ast.specs.DeclarationGrammar.{Specified, at_file_scope};
-ghost use Rattle.ep_ast.specs.Depth.{first_of, line_if, are_deep, in_spec, in_params, in_head};
+ghost use Rattle.ep_ast.specs.Depth.{line_if, are_deep, in_spec, in_params, in_head};
 ghost use Rattle.ep_ast.specs.Reading.{Takes};
 ghost use Rattle.ep_lexer.specs.Tokens.{view};
-ghost use Rattle.ep_exprs.specs.Names.{is_type};
-ghost use Rattle.ep_exprs.specs.Parsed.{GivesShown};
-ghost use Rattle.ep_declarators.specs.Measured.{Shows};
+ghost use Rattle.ep_reading.specs.Names.{is_type};
+ghost use Rattle.ep_reading.specs.Answer.{Gives, IsPast};
+ghost use Rattle.ep_reading.specs.Measured.{Shows, ShowsAll};
 ghost use Rattle.ep_declarations.specs.Answer.{ShowsSpecs, ShowsHead};
 
 use crate::specs::SpecList;
+use ep_ast::marks::LEFT_PAREN;
+use ep_ast::words::CONST;
 use ep_ast::{Halt, HeadTree, ParamsTree, SpecTree};
-use ep_declarators::{Measured, head_parameters};
-use ep_exprs::marks::{CONST, LEFT_PAREN};
-use ep_exprs::{TypeNames, at_mark, at_name, at_word, stars, stopped};
+use ep_declarators::head_parameters;
+use ep_exprs::stars;
 use ep_lexer::Token;
+use ep_reading::{Measured, Part, Reader, at_mark, at_name, at_word};
 use std::alloc::{AllocError, Global};
+
+/// How many stars may stand before the name of a function.
+const MOST_STARS: usize = 64;
 
 /// The head of a function, where nothing in it is too deep, and whether every parameter has a name.
 #[derive(Debug, Drop)]
@@ -29,11 +34,11 @@ pub struct Headed {
     pub named: bool,
 }
 
-/// The stars, where there are no more than 64, or this line.
+/// The stars, where there aren't too many, or this line.
 fn measured_stars(line: u32, stars: Vec<u32>) -> Measured<Vec<u32>>
     ensures { Shows (λ v. v.items) (λ ns. line_if (are_deep ns []) line) result stars.items }
 {
-    if stars.len() > 64 {
+    if stars.len() > MOST_STARS {
         return Measured::TooDeep(line);
     }
     Measured::Fits(stars)
@@ -47,8 +52,10 @@ fn make_head(
     name: &[u8],
     params: Measured<Option<ParamsTree>>,
 ) -> Result<Measured<HeadTree>, AllocError>
-    ensures { (ss : List Spec) → (ps : Option Params) → Shows (λ v. map spec_of v.items) (first_of in_spec) specs ss → Shows (option_map params_of) in_params params ps
-        → IfOk result (λ t. Shows head_of in_head t (record { line = line; specs = ss; stars = stars.items; name = name.now; params = ps })) }
+    ensures { (ss : List Spec) → (ps : Option Params) → ShowsAll spec_of in_spec specs ss
+        → Shows (option_map params_of) in_params params ps
+        → IfOk result (λ t. Shows head_of in_head t
+        (record { line = line; specs = ss; stars = stars.items; name = name.now; params = ps })) }
 {
     let behind = measured_stars(line, stars).and(params);
     match specs.and(behind) {
@@ -68,32 +75,42 @@ fn make_head(
 
 /// The rest of a head behind the words that begin it, up to and with the closing parenthesis.
 pub fn head<'a>(
-    alloc: Global,
-    names: &TypeNames,
-    last: u32,
+    reader: &Reader<'_>,
     specs: SpecList,
     tokens: &'a [Token],
-) -> Result<(Headed, &'a [Token]), Halt>
+) -> Result<Part<'a, Headed>, Halt>
     requires { length tokens.now < 2 ^ 24 }
-    ensures reads { (xs : List Tok) → (ss : List Spec) → Takes (Specified (is_type names.now) at_file_scope) xs ss (map view tokens.now) → ShowsSpecs specs ss
-        → GivesShown ShowsHead (λ p. p.0) (λ p. map view p.1.now) (grammar.Headed (is_type names.now)) xs result }
-    ensures shorter { IfOk result (λ p. length p.1.now < length tokens.now) }
+    ensures reads { (xs : List Tok) → (ss : List Spec)
+        → Takes (Specified (is_type reader.now.names.now) at_file_scope) xs ss (map view tokens.now)
+        → ShowsSpecs specs ss
+        → Gives ShowsHead (grammar.Headed (is_type reader.now.names.now)) xs result }
+    ensures shorter { IfOk result (IsPast (length tokens.now)) }
 {
     if let Some(_) = at_word(tokens, CONST) {
-        return Err(Halt::Refused(stopped(tokens, last)));
+        return Err(Halt::Refused(reader.stopped(tokens)));
     }
-    let (stars, after) = stars(alloc, tokens)?;
-    let Some((line, name, behind)) = at_name(after) else {
-        return Err(Halt::Refused(stopped(after, last)));
+    let stars = stars(reader.alloc, tokens)?;
+    let Some((line, name, behind)) = at_name(stars.rest) else {
+        return Err(Halt::Refused(reader.stopped(stars.rest)));
     };
-    if names.has(name) {
-        return Err(Halt::Refused(stopped(after, last)));
+    if reader.names.has(name) {
+        return Err(Halt::Refused(reader.stopped(stars.rest)));
     }
     let Some((_, inside)) = at_mark(behind, LEFT_PAREN) else {
-        return Err(Halt::Refused(stopped(behind, last)));
+        return Err(Halt::Refused(reader.stopped(behind)));
     };
-    let (parameters, rest) = head_parameters(alloc, names, last, inside)?;
-    let named = parameters.named;
-    let tree = make_head(alloc, line, specs.tree, stars, name, parameters.tree)?;
-    Ok((Headed { tree, named }, rest))
+    let parameters = head_parameters(reader, inside)?;
+    let named = parameters.value.named;
+    let tree = make_head(
+        reader.alloc,
+        line,
+        specs.tree,
+        stars.value,
+        name,
+        parameters.value.tree,
+    )?;
+    Ok(Part {
+        value: Headed { tree, named },
+        rest: parameters.rest,
+    })
 }

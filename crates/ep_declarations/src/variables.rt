@@ -1,31 +1,29 @@
 //! Reading declarations of variables.
 
 ghost use Rattle.std.specs.Prelude.{◌≡◌, ◌<◌, ◌^◌, length, map, IfOk, List};
-ghost use Rattle.ep_ast.specs.Declaration.{Spec, Init, init_of, declaration_of};
+ghost use Rattle.ep_ast.specs.Declaration.{Spec, Init};
 ghost use Rattle.ep_ast.specs.DeclarationGrammar as grammar;
 ghost use Rattle.ep_ast.specs.DeclarationGrammar.{Declares, in_block};
-ghost use Rattle.ep_ast.specs.Depth.{first_of, in_init, in_declaration};
 ghost use Rattle.ep_lexer.specs.Tokens.{view};
-ghost use Rattle.ep_exprs.specs.Names.{is_type};
-ghost use Rattle.ep_exprs.specs.Parsed.{GivesShown};
-ghost use Rattle.ep_declarators.specs.Measured.{Shows};
-ghost use Rattle.ep_declarations.specs.Answer.{ShowsSpecs};
+ghost use Rattle.ep_reading.specs.Names.{is_type};
+ghost use Rattle.ep_reading.specs.Answer.{Gives, IsPast};
+ghost use Rattle.ep_declarators.specs.Answer.{ShowsInits};
+ghost use Rattle.ep_declarations.specs.Answer.{ShowsSpecs, ShowsDeclaration};
 
 use crate::aggregates::specs_line;
 use crate::specs::{Place, SpecList, spec_list};
 use ep_ast::{DeclarationTree, Halt, InitTree};
-use ep_declarators::{Measured, inits};
-use ep_exprs::TypeNames;
+use ep_declarators::inits;
 use ep_lexer::Token;
-use std::alloc::Global;
+use ep_reading::{Measured, Part, Reader};
 
 /// A declaration of these words and variables.
 pub fn make_declaration(
     specs: SpecList,
     inits: Measured<Vec<InitTree>>,
 ) -> Measured<DeclarationTree>
-    ensures { (ss : List Spec) → (is : List Init) → ShowsSpecs specs ss → Shows (λ v. map init_of v.items) (first_of in_init) inits is
-        → Shows declaration_of in_declaration result (record { line = grammar.specs_line ss; specs = ss; inits = is }) }
+    ensures { (ss : List Spec) → (is : List Init) → ShowsSpecs specs ss → ShowsInits inits is
+        → ShowsDeclaration result (record { line = grammar.specs_line ss; specs = ss; inits = is }) }
 {
     match specs.tree.and(inits) {
         Measured::Fits((specs, inits)) => {
@@ -38,16 +36,18 @@ pub fn make_declaration(
 
 /// A declaration in a block, up to and with its semicolon.
 pub fn declaration<'a>(
-    alloc: Global,
-    names: &TypeNames,
-    last: u32,
+    reader: &Reader<'_>,
     tokens: &'a [Token],
-) -> Result<(Measured<DeclarationTree>, &'a [Token]), Halt>
+) -> Result<Part<'a, Measured<DeclarationTree>>, Halt>
     requires { length tokens.now < 2 ^ 24 }
-    ensures reads { GivesShown (Shows declaration_of in_declaration) (λ p. p.0) (λ p. map view p.1.now) (Declares (is_type names.now) in_block) (map view tokens.now) result }
-    ensures shorter { IfOk result (λ p. length p.1.now < length tokens.now) }
+    ensures reads { Gives ShowsDeclaration (Declares (is_type reader.now.names.now) in_block) (map view tokens.now)
+        result }
+    ensures shorter { IfOk result (IsPast (length tokens.now)) }
 {
-    let (specs, after) = spec_list(alloc, names, last, Place::Block, tokens)?;
-    let (variables, rest) = inits(alloc, names, last, after)?;
-    Ok((make_declaration(specs, variables), rest))
+    let specs = spec_list(reader, Place::Block, tokens)?;
+    let variables = inits(reader, specs.rest)?;
+    Ok(Part {
+        value: make_declaration(specs.value, variables.value),
+        rest: variables.rest,
+    })
 }

@@ -5,19 +5,20 @@ ghost use Rattle.std.specs.Option.{option_map};
 ghost use Rattle.ep_ast.specs.TypeWords.{fits};
 ghost use Rattle.ep_ast.specs.DeclarationGrammar as grammar;
 ghost use Rattle.ep_lexer.specs.Tokens.{view};
-ghost use Rattle.ep_exprs.specs.Names.{is_type};
+ghost use Rattle.ep_reading.specs.Names.{is_type};
+ghost use Rattle.ep_reading.specs.Answer.{GivesChecked};
 ghost use Rattle.ep_exprs.specs.Words.{bag};
-ghost use Rattle.ep_declarators.specs.Checked.{GivesChecked};
 ghost use Rattle.ep_declarations.specs.Answer as answers;
-ghost use Rattle.ep_declarations.specs.SpecAhead.{Ahead, InBody, ShowsAhead, AtStorage, begins_body};
+ghost use Rattle.ep_declarations.specs.SpecAhead as ahead;
+ghost use Rattle.ep_declarations.specs.SpecAhead.{Ahead, InBody, ShowsAhead, IsPastWord, AtStorage, begins_body, seen_storage, IsPastStorage};
 
 use crate::specs::Place;
+use ep_ast::marks::LEFT_BRACE;
+use ep_ast::words::{INLINE, STATIC};
 use ep_ast::{Halt, SpecTree, TypeWordTree};
-use ep_declarators::Measured;
-use ep_exprs::marks::{INLINE, LEFT_BRACE, STATIC};
-use ep_exprs::{Head, TypeBag, TypeNames, at_mark, first_of, one_word, stopped};
+use ep_exprs::{TypeBag, is_tag_word, one_word};
 use ep_lexer::Token;
-use std::alloc::Global;
+use ep_reading::{Head, Measured, Part, Reader, at_mark, first_of};
 
 /// A word, whether it is a `struct` or `union` with its members, and how many words of each sort there are with it.
 #[derive(Drop)]
@@ -57,8 +58,8 @@ fn is_storage_word(code: u8) -> bool
 
 /// `static` or `inline`, where it may stand, with its line, its number and what comes after it.
 fn at_storage<'a>(place: Place, tokens: &'a [Token]) -> Option<(u32, u8, &'a [Token])>
-    ensures value { AtStorage (answers.place place) (map view tokens.now) (option_map (λ r. (r.0, r.1, map view r.2.now)) result) }
-    ensures shorter { IfSome result (λ r. length r.2.now < length tokens.now) }
+    ensures value { AtStorage (answers.place place) (map view tokens.now) (option_map seen_storage result) }
+    ensures shorter { IfSome result (IsPastStorage (length tokens.now)) }
 {
     match first_of(tokens) {
         Head::Word(line, code, rest) => if place.has_storage() && is_storage_word(code) {
@@ -70,19 +71,38 @@ fn at_storage<'a>(place: Place, tokens: &'a [Token]) -> Option<(u32, u8, &'a [To
     }
 }
 
-/// The next word, where no members come with it.
+/// Whether the `struct` or `union` that stands first, if one does, can join these words.
+fn tag_joins(words: &TypeBag, tokens: &[Token]) -> bool
+    requires { fits (bag words.now) ≡ true }
+    ensures { result ≡ ahead.tag_joins (bag words.now) (map view tokens.now) }
+{
+    match first_of(tokens) {
+        Head::Word(_, code, _) => if is_tag_word(code) {
+            match words.with_whole() {
+                Some(_) => true,
+                None => false,
+            }
+        } else {
+            true
+        },
+        _ => true,
+    }
+}
+
+/// The next word, where no members come with it. The refusal names the word that can't join those before it, also where
+/// something else is missing behind it.
 pub fn plain_word<'a>(
-    alloc: Global,
-    names: &TypeNames,
-    last: u32,
+    reader: &Reader<'_>,
     place: Place,
     words: &TypeBag,
     tokens: &'a [Token],
-) -> Result<(Option<OneMore>, &'a [Token]), Halt>
+) -> Result<Part<'a, Option<OneMore>>, Halt>
     requires fit { fits (bag words.now) ≡ true }
     requires plain { begins_body (map view tokens.now) ≡ false }
-    ensures reads { GivesChecked (ShowsAhead (bag words.now)) (λ p. p.0) (λ p. map view p.1.now) (Ahead (is_type names.now) (answers.place place) (bag words.now)) (InBody (is_type names.now) (answers.place place) (bag words.now)) (map view tokens.now) result }
-    ensures shorter { IfOk result (λ p. IfSome p.0 (λ o. length p.1.now < length tokens.now)) }
+    ensures reads { GivesChecked (ShowsAhead (bag words.now))
+        (Ahead (is_type reader.now.names.now) (answers.place place) (bag words.now))
+        (InBody (is_type reader.now.names.now) (answers.place place) (bag words.now)) (map view tokens.now) result }
+    ensures shorter { IfOk result (IsPastWord (length tokens.now)) }
 {
     if let Some((line, code, rest)) = at_storage(place, tokens) {
         let tree = Measured::Fits(SpecTree::Plain(TypeWordTree::Word(line, code)));
@@ -91,21 +111,33 @@ pub fn plain_word<'a>(
             is_body: false,
             bag: *words,
         };
-        return Ok((Some(one), rest));
+        return Ok(Part {
+            value: Some(one),
+            rest,
+        });
     }
-    let Some((word, rest)) = one_word(alloc, names, last, tokens)? else {
-        return Ok((None, tokens));
-    };
-    if let Some(_) = at_mark(rest, LEFT_BRACE) {
-        return Err(Halt::Refused(stopped(rest, last)));
+    if !tag_joins(words, tokens) {
+        return Err(Halt::Refused(reader.stopped(tokens)));
     }
-    let Some(bag) = words.with(&word) else {
-        return Err(Halt::Refused(stopped(tokens, last)));
+    let Some(word) = one_word(reader, tokens)? else {
+        return Ok(Part {
+            value: None,
+            rest: tokens,
+        });
     };
+    let Some(bag) = words.with(&word.value) else {
+        return Err(Halt::Refused(reader.stopped(tokens)));
+    };
+    if let Some(_) = at_mark(word.rest, LEFT_BRACE) {
+        return Err(Halt::Refused(reader.stopped(word.rest)));
+    }
     let one = OneMore {
-        tree: Measured::Fits(SpecTree::Plain(word)),
+        tree: Measured::Fits(SpecTree::Plain(word.value)),
         is_body: false,
         bag,
     };
-    Ok((Some(one), rest))
+    Ok(Part {
+        value: Some(one),
+        rest: word.rest,
+    })
 }

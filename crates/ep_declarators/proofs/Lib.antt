@@ -1,6 +1,6 @@
+pub mod PartLemmas
 pub mod BoundLemmas
 pub mod DeclaratorLemmas
-pub mod JoinedLemmas
 pub mod TypedefLemmas
 pub mod ValueLemmas
 pub mod InitLemmas

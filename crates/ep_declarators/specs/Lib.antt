@@ -1,6 +1,2 @@
-pub mod Measured
-pub mod Joined
-pub mod Checked
 pub mod Answer
-pub mod Ended
-pub mod ParameterParts
+pub mod Parts

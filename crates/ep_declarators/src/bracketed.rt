@@ -1,93 +1,76 @@
 //! Reading the bounds of arrays.
 
-ghost use Rattle.std.specs.Prelude.{◌≡◌, ◌<◌, ◌≤◌, ◌^◌, ◌++◌, ◌∷◌, [], length, map, List, Option, Some, None, IfOk};
+ghost use Rattle.std.specs.Prelude.{◌≡◌, ◌<◌, ◌^◌, length, map, List, Option, Some, IfOk};
 ghost use Rattle.ep_ast.specs.Expression.{Expr};
 ghost use Rattle.ep_ast.specs.DeclarationGrammar.{Bounds};
 ghost use Rattle.ep_lexer.specs.Tokens.{view};
-ghost use Rattle.ep_exprs.specs.Names.{is_type};
+ghost use Rattle.ep_reading.specs.Names.{is_type};
+ghost use Rattle.ep_reading.specs.Answer.{Gives, IsWithin};
 ghost use Rattle.ep_exprs.specs.Kept.{Shows};
-ghost use Rattle.ep_exprs.specs.Parsed.{GivesShown};
-ghost use Rattle.ep_declarators.specs.Measured.{ShowsBounds};
-ghost use Rattle.ep_declarators.specs.Joined.{BothFit};
+ghost use Rattle.ep_declarators.specs.Parts.{ShowsBound, ShowsBounds, Derives};
 
-use crate::measured::pushed;
+use ep_ast::marks::{LEFT_BRACKET, RIGHT_BRACKET};
 use ep_ast::{ExprTree, Halt};
-use ep_exprs::marks::{LEFT_BRACKET, RIGHT_BRACKET};
-use ep_exprs::{Kept, TypeNames, at_mark, read_expression, stopped};
+use ep_exprs::{Kept, read_expression};
 use ep_lexer::Token;
-use std::alloc::{AllocError, Global};
+use ep_reading::{Measured, Part, Reader, at_mark};
 
-/// The bounds and one more, where none is too deep.
-fn both(
-    found: Option<Vec<Option<ExprTree>>>,
-    size: Kept,
-) -> Option<(Vec<Option<ExprTree>>, ExprTree)>
-    ensures { (bs : List (Option Expr)) → (e : Expr) → ShowsBounds found bs → Shows size e → BothFit result bs e }
-{
-    match (found, size.tree) {
-        (Some(all), Some(tree)) => Some((all, tree)),
-        _ => None,
-    }
-}
+/// How many stars and bounds a declarator may have.
+const MOST_DERIVATIONS: usize = 64;
 
-/// With a pair of brackets that is empty.
-fn with_open(
-    found: Option<Vec<Option<ExprTree>>>,
-) -> Result<Option<Vec<Option<ExprTree>>>, AllocError>
-    ensures { (bs : List (Option Expr)) → ShowsBounds found bs → IfOk result (λ v. ShowsBounds v (bs ++ None ∷ [])) }
+/// What stands between brackets that aren't empty.
+fn bound(size: Kept) -> Measured<Option<ExprTree>>
+    ensures { (e : Expr) → Shows size e → ShowsBound result (Some e) }
 {
-    match found {
-        Some(all) => {
-            let more = pushed(all, None)?;
-            Ok(Some(more))
-        }
-        None => Ok(None),
-    }
-}
-
-/// With a bound.
-fn with_bound(
-    found: Option<Vec<Option<ExprTree>>>,
-    size: Kept,
-) -> Result<Option<Vec<Option<ExprTree>>>, AllocError>
-    ensures { (bs : List (Option Expr)) → (e : Expr) → ShowsBounds found bs → Shows size e → IfOk result (λ v. ShowsBounds v (bs ++ Some e ∷ [])) }
-{
-    match both(found, size) {
-        Some((all, tree)) => {
-            let more = pushed(all, Some(tree))?;
-            Ok(Some(more))
-        }
-        None => Ok(None),
+    match size.measured() {
+        Measured::Fits(tree) => Measured::Fits(Some(tree)),
+        Measured::TooDeep(line) => Measured::TooDeep(line),
     }
 }
 
 /// All pairs of `[ ]` that stand here, where no bound is too deep.
 pub fn bounds<'a>(
-    alloc: Global,
-    names: &TypeNames,
-    last: u32,
+    reader: &Reader<'_>,
     tokens: &'a [Token],
-) -> Result<(Option<Vec<Option<ExprTree>>>, &'a [Token]), Halt>
+) -> Result<Part<'a, Measured<Vec<Option<ExprTree>>>>, Halt>
     requires { length tokens.now < 2 ^ 24 }
-    ensures reads { GivesShown ShowsBounds (λ p. p.0) (λ p. map view p.1.now) (Bounds (is_type names.now)) (map view tokens.now) result }
-    ensures shorter { IfOk result (λ p. length p.1.now ≤ length tokens.now) }
+    ensures reads { Gives ShowsBounds (Bounds (is_type reader.now.names.now)) (map view tokens.now) result }
+    ensures shorter { IfOk result (IsWithin (length tokens.now)) }
 {
-    let mut found = Some(Vec::new(alloc));
+    let mut found = Measured::Fits(Vec::new(reader.alloc));
     let mut rest = tokens;
     'bounds: loop {
         let Some((_, inside)) = at_mark(rest, LEFT_BRACKET) else {
-            return Ok((found, rest));
+            return Ok(Part { value: found, rest });
         };
         if let Some((_, more)) = at_mark(inside, RIGHT_BRACKET) {
-            found = with_open(found)?;
+            found = found.longer(Measured::Fits(None))?;
             rest = more;
         } else {
-            let (size, after) = read_expression(alloc, names, last, inside)?;
-            let Some((_, more)) = at_mark(after, RIGHT_BRACKET) else {
-                return Err(Halt::Refused(stopped(after, last)));
+            let size = read_expression(reader, inside)?;
+            let Some((_, more)) = at_mark(size.rest, RIGHT_BRACKET) else {
+                return Err(Halt::Refused(reader.stopped(size.rest)));
             };
-            found = with_bound(found, size)?;
+            found = found.longer(bound(size.value))?;
             rest = more;
         }
+    }
+}
+
+/// The stars and bounds of a declarator, where they aren't too many and no bound is too deep.
+pub fn derived(
+    stars: Vec<u32>,
+    bounds: Measured<Vec<Option<ExprTree>>>,
+) -> Option<(Vec<u32>, Vec<Option<ExprTree>>)>
+    ensures { (bs : List (Option Expr)) → ShowsBounds bounds bs → Derives result stars.items bs }
+{
+    match bounds {
+        Measured::Fits(bounds) => {
+            if stars.len() + bounds.len() > MOST_DERIVATIONS {
+                return None;
+            }
+            Some((stars, bounds))
+        }
+        Measured::TooDeep(_) => None,
     }
 }

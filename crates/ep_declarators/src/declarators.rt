@@ -1,25 +1,22 @@
 //! Reading declarators.
 
-ghost use Rattle.std.specs.Prelude.{◌≡◌, ◌<◌, ◌^◌, ◌++◌, ◌∷◌, [], length, map, List, Option, IfOk};
+ghost use Rattle.std.specs.Prelude.{◌≡◌, ◌<◌, ◌^◌, length, map, List, Option, IfOk};
 ghost use Rattle.ep_ast.specs.Expression.{Expr};
-ghost use Rattle.ep_ast.specs.Declaration as shape;
-ghost use Rattle.ep_ast.specs.Declaration.{Declarator};
 ghost use Rattle.ep_ast.specs.DeclarationGrammar.{Declared, Declarators};
 ghost use Rattle.ep_ast.specs.BitField.{InDeclarators};
-ghost use Rattle.ep_ast.specs.Depth.{first_of, in_declarator};
 ghost use Rattle.ep_lexer.specs.Tokens.{view};
-ghost use Rattle.ep_exprs.specs.Names.{is_type};
-ghost use Rattle.ep_exprs.specs.Parsed.{GivesShown};
-ghost use Rattle.ep_declarators.specs.Measured.{Shows, ShowsBounds};
-ghost use Rattle.ep_declarators.specs.Checked.{GivesChecked};
-ghost use Rattle.ep_declarators.specs.Answer.{ShowsNamed};
+ghost use Rattle.ep_reading.specs.Names.{is_type};
+ghost use Rattle.ep_reading.specs.Answer.{Gives, GivesChecked, IsPast};
+ghost use Rattle.ep_declarators.specs.Answer.{ShowsDeclarator, ShowsNamed, ShowsDeclarators};
+ghost use Rattle.ep_declarators.specs.Parts.{ShowsBounds};
 
-use crate::bracketed::bounds;
-use crate::measured::{Measured, pushed};
+use crate::bracketed::{bounds, derived};
+use ep_ast::marks::{COLON, COMMA, SEMICOLON};
+use ep_ast::words::CONST;
 use ep_ast::{DeclaratorTree, ExprTree, Halt, Refusal};
-use ep_exprs::marks::{COLON, COMMA, CONST, SEMICOLON};
-use ep_exprs::{TypeNames, at_mark, at_name, at_word, stars, stopped};
+use ep_exprs::stars;
 use ep_lexer::Token;
+use ep_reading::{Measured, Part, Reader, at_mark, at_name, at_word};
 use std::alloc::{AllocError, Global};
 
 /// The name that is declared, and the declarator where it isn't too deep.
@@ -29,103 +26,86 @@ pub struct Named<'a> {
     pub tree: Measured<DeclaratorTree>,
 }
 
-/// A declarator, where it has no more than 64 stars and bounds together, and no bound is too deep.
+/// A declarator, where it isn't too deep.
 fn make_declarator(
     alloc: Global,
     line: u32,
     stars: Vec<u32>,
     name: &[u8],
-    bounds: Option<Vec<Option<ExprTree>>>,
+    bounds: Measured<Vec<Option<ExprTree>>>,
 ) -> Result<Measured<DeclaratorTree>, AllocError>
     ensures { (bs : List (Option Expr)) → ShowsBounds bounds bs
-        → IfOk result (λ t. Shows shape.declarator in_declarator t (record { line = line; stars = stars.items; name = name.now; bounds = bs })) }
+        → IfOk result (λ t. ShowsDeclarator t
+        (record { line = line; stars = stars.items; name = name.now; bounds = bs })) }
 {
-    let Some(bounds) = bounds else {
-        return Ok(Measured::TooDeep(line));
-    };
-    if stars.len() + bounds.len() > 64 {
-        return Ok(Measured::TooDeep(line));
+    match derived(stars, bounds) {
+        Some((stars, bounds)) => {
+            let name = Vec::from_slice(alloc, name)?;
+            Ok(Measured::Fits(DeclaratorTree {
+                line,
+                stars,
+                name,
+                bounds,
+            }))
+        }
+        None => Ok(Measured::TooDeep(line)),
     }
-    let name = Vec::from_slice(alloc, name)?;
-    Ok(Measured::Fits(DeclaratorTree {
-        line,
-        stars,
-        name,
-        bounds,
-    }))
 }
 
-/// The declarator that begins here, and what comes after it. `last` is the line of the last of all tokens.
-pub fn declarator<'a>(
-    alloc: Global,
-    names: &TypeNames,
-    last: u32,
-    tokens: &'a [Token],
-) -> Result<(Named<'a>, &'a [Token]), Halt>
+/// The declarator that begins here.
+pub fn declarator<'a>(reader: &Reader<'_>, tokens: &'a [Token]) -> Result<Part<'a, Named<'a>>, Halt>
     requires { length tokens.now < 2 ^ 24 }
-    ensures reads { GivesShown ShowsNamed (λ p. p.0) (λ p. map view p.1.now) (Declared (is_type names.now)) (map view tokens.now) result }
-    ensures shorter { IfOk result (λ p. length p.1.now < length tokens.now) }
+    ensures reads { Gives ShowsNamed (Declared (is_type reader.now.names.now)) (map view tokens.now) result }
+    ensures shorter { IfOk result (IsPast (length tokens.now)) }
 {
     if let Some(_) = at_word(tokens, CONST) {
-        return Err(Halt::Refused(stopped(tokens, last)));
+        return Err(Halt::Refused(reader.stopped(tokens)));
     }
-    let (stars, after) = stars(alloc, tokens)?;
-    let Some((line, name, inside)) = at_name(after) else {
-        return Err(Halt::Refused(stopped(after, last)));
+    let stars = stars(reader.alloc, tokens)?;
+    let Some((line, name, inside)) = at_name(stars.rest) else {
+        return Err(Halt::Refused(reader.stopped(stars.rest)));
     };
-    if names.has(name) {
-        return Err(Halt::Refused(stopped(after, last)));
+    if reader.names.has(name) {
+        return Err(Halt::Refused(reader.stopped(stars.rest)));
     }
-    let (bounds, rest) = bounds(alloc, names, last, inside)?;
-    let tree = make_declarator(alloc, line, stars, name, bounds)?;
-    Ok((Named { name, tree }, rest))
-}
-
-/// With a declarator more.
-pub fn with_declarator(
-    found: Measured<Vec<DeclaratorTree>>,
-    next: Measured<DeclaratorTree>,
-) -> Result<Measured<Vec<DeclaratorTree>>, AllocError>
-    ensures { (ds : List Declarator) → (d : Declarator) → Shows (λ v. map shape.declarator v.items) (first_of in_declarator) found ds → Shows shape.declarator in_declarator next d
-        → IfOk result (λ v. Shows (λ v. map shape.declarator v.items) (first_of in_declarator) v (ds ++ d ∷ [])) }
-{
-    match found.and(next) {
-        Measured::Fits((all, tree)) => {
-            let more = pushed(all, tree)?;
-            Ok(Measured::Fits(more))
-        }
-        Measured::TooDeep(line) => Ok(Measured::TooDeep(line)),
-    }
+    let bounds = bounds(reader, inside)?;
+    let tree = make_declarator(reader.alloc, line, stars.value, name, bounds.value)?;
+    Ok(Part {
+        value: Named { name, tree },
+        rest: bounds.rest,
+    })
 }
 
 /// The declarators of members, up to and with the semicolon. A `:` behind one is refused as a bit-field, at its line.
 pub fn member_declarators<'a>(
-    alloc: Global,
-    names: &TypeNames,
-    last: u32,
+    reader: &Reader<'_>,
     tokens: &'a [Token],
-) -> Result<(Measured<Vec<DeclaratorTree>>, &'a [Token]), Halt>
+) -> Result<Part<'a, Measured<Vec<DeclaratorTree>>>, Halt>
     requires { length tokens.now < 2 ^ 24 }
-    ensures reads { GivesChecked (Shows (λ v. map shape.declarator v.items) (first_of in_declarator)) (λ p. p.0) (λ p. map view p.1.now) (Declarators (is_type names.now)) (InDeclarators (is_type names.now)) (map view tokens.now) result }
-    ensures shorter { IfOk result (λ p. length p.1.now < length tokens.now) }
+    ensures reads { GivesChecked ShowsDeclarators (Declarators (is_type reader.now.names.now))
+        (InDeclarators (is_type reader.now.names.now)) (map view tokens.now) result }
+    ensures shorter { IfOk result (IsPast (length tokens.now)) }
 {
-    let mut found = Measured::Fits(Vec::new(alloc));
+    let mut found = Measured::Fits(Vec::with_capacity(reader.alloc, 1)?);
     let mut rest = tokens;
     'declarators: loop {
-        let (named, after) = declarator(alloc, names, last, rest)?;
-        found = with_declarator(found, named.tree)?;
-        if let Some((_, end)) = at_mark(after, SEMICOLON) {
-            return Ok((found, end));
+        let named = declarator(reader, rest)?;
+        found = found.longer(named.value.tree)?;
+        if let Some((_, end)) = at_mark(named.rest, SEMICOLON) {
+            return Ok(Part {
+                value: found,
+                rest: end,
+            });
         }
-        if let Some((line, _)) = at_mark(after, COLON) {
+        if let Some((line, _)) = at_mark(named.rest, COLON) {
             return Err(Halt::Refused(Refusal {
                 kind: 9,
                 line,
                 word: 0,
             }));
         }
-        let Some((_, more)) = at_mark(after, COMMA) else {
-            return Err(Halt::Refused(stopped(after, last)));
+        let Some((_, more)) = at_mark(named.rest, COMMA) else {
+            return Err(Halt::Refused(reader.stopped(named.rest)));
         };
         rest = more;
     }

@@ -4,12 +4,10 @@
 mod bracketed;
 mod declarators;
 mod initialisers;
-mod measured;
 mod parameters;
 mod typedefs;
 
 pub use declarators::{Named, declarator, member_declarators};
 pub use initialisers::inits;
-pub use measured::Measured;
 pub use parameters::{ParameterList, head_parameters};
 pub use typedefs::typedef_names;

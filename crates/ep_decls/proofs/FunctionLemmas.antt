@@ -11,9 +11,9 @@ use Rattle.ep_ast.specs.StatementGrammar.{Blocks}
 use Rattle.ep_ast.specs.ProgramGrammar.{Defines, function, Functions, before_else, before_end, more_functions, OtherFunctions, no_other, another}
 use Rattle.ep_ast.specs.BitField.{InFunctions, after_function, in_head}
 use Rattle.ep_ast.specs.Reading.{Takes, TakesNone}
-use Rattle.ep_exprs.proofs.MarkLemmas.{tail_is}
-use Rattle.ep_declarators.specs.Checked.{Clear}
-use Rattle.ep_statements.specs.Directive.{ends_arm, LacksElse, LacksEndIf}
+use Rattle.ep_reading.proofs.FirstLemmas.{tail_is}
+use Rattle.ep_reading.specs.Answer.{Clear}
+use Rattle.ep_reading.specs.Look.{ends_arm, LacksElse, LacksEndIf}
 use Rattle.ep_decls.specs.Answer.{InWords, InOther, in_other, InArms, in_first, in_second, Arms, arms}
 use Rattle.ep_decls.proofs.BeginLemmas.{contrary, defines_not, in_specs_not}
 

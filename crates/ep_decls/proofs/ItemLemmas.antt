@@ -17,11 +17,11 @@ use Rattle.ep_ast.specs.StatementGrammar.{little, big, Blocks, braces}
 use Rattle.ep_ast.specs.ProgramGrammar as programs
 use Rattle.ep_ast.specs.ProgramGrammar.{Defines, function, OneItem}
 use Rattle.ep_ast.specs.Reading.{Takes, TakesNone, Lacks, AtMark, LacksWord}
-use Rattle.ep_exprs.proofs.MarkLemmas.{lacks_is, tail_is}
-use Rattle.ep_declarators.specs.Checked.{Clear}
+use Rattle.ep_reading.proofs.FirstLemmas.{lacks_is, tail_is}
+use Rattle.ep_reading.specs.Answer.{Clear}
 use Rattle.ep_declarators.specs.Answer.{NamesTypes}
 use Rattle.ep_declarations.specs.Answer.{is_one_body}
-use Rattle.ep_statements.specs.Directive.{LacksIf}
+use Rattle.ep_reading.specs.Look.{LacksIf}
 use Rattle.ep_decls.specs.Look.{begins_call, begins_head}
 use Rattle.ep_decls.specs.Answer.{InWords, Worded, defines, prototype, declares, completes, NewTypes, new_types, InTypedefWords, Itemed, Arms, arms, InArms, InItem, in_words, in_typedef, in_arms}
 use Rattle.ep_decls.proofs.BeginLemmas.{contrary, in_specs_not, worded_not}

@@ -1,6 +1,5 @@
 pub mod AnswerLemmas
 pub mod BeginLemmas
-pub mod ListLemmas
 pub mod FunctionLemmas
 pub mod ItemLemmas
 pub mod ProgramLemmas

@@ -19,7 +19,7 @@ use Rattle.ep_ast.specs.Offence.{Offends, refusal}
 use Rattle.ep_ast.specs.Reading.{Takes, TakesNone}
 use Rattle.ep_lexer.specs.declared.tokens.Token.{Token}
 use Rattle.ep_lexer.specs.Tokens.{view}
-use Rattle.ep_declarators.specs.Checked.{Clear, Fails}
+use Rattle.ep_reading.specs.Answer.{Clear, Fails}
 use Rattle.ep_decls.specs.Answer.{defines, prototype, declares, completes, Itemed, InItem, in_words, in_typedef, in_arms, in_first, in_second, Whole, whole}
 use Rattle.ep_decls.proofs.BeginLemmas.{worded_not, in_specs_not}
 

@@ -1,9 +1,11 @@
 -- What the readers of functions, items and programs answer.
-use Rattle.std.specs.Prelude.{◌≡◌, ℕ, Bool, List, [], ◌∷◌, ◌++◌, map, Option, Some, None, Result, Ok, Err}
+use Rattle.std.specs.Prelude.{◌≡◌, ℕ, Bool, List, [], ◌∷◌, Option, Some, None, Result, Ok, Err}
 use Rattle.std.specs.Global.{Vec}
 use Rattle.std.specs.Option.{option_map}
 use Rattle.ep_ast.specs.declared.orders.NamedOrder.{NamedOrder}
 use Rattle.ep_ast.specs.declared.refusals.Refusal.{Refusal}
+use Rattle.ep_ast.specs.declared.refusals.Halt.{Halt}
+use Rattle.ep_ast.specs.declared.refusals.Halt.TheVariants as halts
 use Rattle.ep_ast.specs.declared.statements.FunctionTree.{FunctionTree}
 use Rattle.ep_ast.specs.declared.statements.ItemTree.{ItemTree}
 use Rattle.ep_ast.specs.declared.statements.ProgramTree.{ProgramTree}
@@ -16,12 +18,13 @@ use Rattle.ep_ast.specs.TypeWords.{no_bag}
 use Rattle.ep_ast.specs.DeclarationGrammar as grammar
 use Rattle.ep_ast.specs.DeclarationGrammar.{at_file_scope, Specified, Aggregated, Declares, Headed}
 use Rattle.ep_ast.specs.StatementGrammar.{IsIf}
+use Rattle.ep_ast.specs.Reading.{Takes}
 use Rattle.ep_ast.specs.ProgramGrammar.{Typedefs, Defines, Functions, OtherFunctions, OneItem, Programs}
-use Rattle.ep_ast.specs.BitField.{InSpecs, InFunctions}
-use Rattle.ep_ast.specs.Depth.{first_of, in_function, in_functions, in_item, too_deep}
-use Rattle.ep_declarators.specs.declared.measured.Measured.{Measured}
-use Rattle.ep_declarators.specs.declared.measured.Measured.TheVariants as measured
-use Rattle.ep_declarators.specs.Measured.{Shows}
+use Rattle.ep_ast.specs.BitField.{InSpecs, InFunctions, HasBitField}
+use Rattle.ep_ast.specs.Depth.{in_function, in_functions, in_item, too_deep}
+use Rattle.ep_reading.specs.declared.measured.Measured.{Measured}
+use Rattle.ep_reading.specs.Answer.{Clear, Fails}
+use Rattle.ep_reading.specs.Measured.{Shows, ShowsAll}
 
 -- ---- trees
 
@@ -29,7 +32,7 @@ abbrev pub ShowsFunction : Measured FunctionTree → Function → Type 0
 ShowsFunction k f = Shows function_of in_function k f
 
 abbrev pub ShowsFunctions : Measured (Vec FunctionTree) → List Function → Type 0
-ShowsFunctions k fs = Shows functions_of (first_of in_function) k fs
+ShowsFunctions k fs = ShowsAll function_of in_function k fs
 
 abbrev pub ShowsOther : Measured (Option (Vec FunctionTree)) → Option (List Function) → Type 0
 ShowsOther k fs = Shows (option_map functions_of) in_functions k fs
@@ -37,18 +40,12 @@ ShowsOther k fs = Shows (option_map functions_of) in_functions k fs
 abbrev pub ShowsItem : Measured ItemTree → Item → Type 0
 ShowsItem k i = Shows item_of in_item k i
 
-abbrev pub items_of : Vec ItemTree → List Item
-items_of v = map item_of v.items
-
 abbrev pub ShowsItems : Measured (Vec ItemTree) → List Item → Type 0
-ShowsItems k is = Shows items_of too_deep k is
+ShowsItems k is = ShowsAll item_of in_item k is
 
--- a list with one more, where nothing is too deep, or the line of the first that is
-abbrev pub IsLonger : {T : Type 0} → Measured (Vec T) → Measured T → Measured (Vec T) → Type 0
-IsLonger (measured.Fits v) (measured.Fits t) (measured.Fits w) = w.items ≡ v.items ++ t ∷ []
-IsLonger (measured.Fits v) (measured.TooDeep l) r = r ≡ measured.TooDeep l
-IsLonger (measured.TooDeep l) k r = r ≡ measured.TooDeep l
-IsLonger (measured.Fits v) (measured.Fits t) (measured.TooDeep l) = ⊥
+-- the item is kept, and these are the names of types behind it
+abbrev pub MakesTypes : (after : List ℕ → Bool) → Measured ItemTree → Item × (List ℕ → Bool) → Type 0
+MakesTypes after k v = ShowsItem k v.0 × (v.1 ≡ after)
 
 -- the tree of a program, or a refusal for what is too deep in it
 abbrev pub IsWhole : List Item → Result ProgramTree Refusal → Type 0
@@ -106,3 +103,14 @@ pub data InItem (is_type : List ℕ → Bool) : List Tok → (line : ℕ) → Ty
 -- the tokens to their end
 pub data Whole : List Tok → List Tok → List Item → Type 0 where
   whole : {xs : List Tok} {is : List Item} → Programs xs is → Whole xs [] is
+
+-- these items are all, with no bit-field in them, or the tokens are refused
+abbrev pub ReadsAll : List Tok → Result (Measured (Vec ItemTree)) Halt → Type 0
+ReadsAll xs (Ok k) = (is : List Item) × ShowsItems k is × Takes Whole xs is [] × Clear HasBitField xs
+ReadsAll xs (Err e) = Fails Whole HasBitField xs e
+
+-- the same refusal, perhaps with another line
+abbrev pub IsMoved : Halt → Halt → Type 0
+IsMoved (halts.Refused f) (halts.Refused g) = (g.kind ≡ f.kind) × (g.word ≡ f.word)
+IsMoved halts.Memory halts.Memory = Unit {0}
+IsMoved _ _ = ⊥

@@ -1,7 +1,10 @@
 -- What a look at the first tokens answers.
-use Rattle.std.specs.Prelude.{◌≡◌, ◌==◌, Bool, false, ◌&&◌, List, ◌∷◌, Option, Some, None}
+use Rattle.std.specs.Prelude.{◌≡◌, ℕ, ◌<◌, ◌==◌, Bool, false, ◌&&◌, List, ◌∷◌, length, map, Option, Some, None}
+use Rattle.std.specs.Borrow.{Bor}
 use Rattle.ep_ast.specs.Token.{Tok, word, name, mark}
 use Rattle.ep_ast.specs.Mark.{const_word, left_paren, star}
+use Rattle.ep_lexer.specs.declared.tokens.Token.{Token}
+use Rattle.ep_lexer.specs.Tokens.{view}
 
 -- a name and an opening parenthesis
 abbrev pub begins_call : List Tok → Bool
@@ -19,3 +22,9 @@ begins_head _ = false
 abbrev pub IsBehind : List Tok → Option (List Tok) → Type 0
 IsBehind ts (Some us) = begins_head ts ≡ begins_head us
 IsBehind ts None = begins_head ts ≡ begins_call ts
+
+abbrev pub tokens_of : Bor (List Token) → List Tok
+tokens_of r = map view r.now
+
+abbrev pub HasFewer : ℕ → Bor (List Token) → Type 0
+HasFewer n r = length r.now < n

@@ -8,118 +8,135 @@ ghost use Rattle.ep_ast.specs.ProgramGrammar.{Defines, Functions, OtherFunctions
 ghost use Rattle.ep_ast.specs.BitField.{InFunctions};
 ghost use Rattle.ep_ast.specs.Reading.{Takes};
 ghost use Rattle.ep_lexer.specs.Tokens.{view};
-ghost use Rattle.ep_exprs.specs.Names.{is_type};
-ghost use Rattle.ep_exprs.specs.Parsed.{GivesShown};
-ghost use Rattle.ep_declarators.specs.Checked.{GivesChecked};
-ghost use Rattle.ep_declarations.specs.Answer.{ShowsHead};
+ghost use Rattle.ep_reading.specs.Names.{is_type};
+ghost use Rattle.ep_reading.specs.Answer.{Gives, GivesChecked, IsPast, IsWithin};
+ghost use Rattle.ep_declarations.specs.Answer.{ShowsSpecs, ShowsHead};
 ghost use Rattle.ep_decls.specs.Answer.{ShowsFunction, ShowsFunctions, ShowsOther, ShowsItem, Arms, InOther, InArms, InWords};
 
-use crate::trees::{behind_else, by_order, function_of, longer};
+use crate::trees::{behind_else, by_order, function_of};
+use crate::unnamed::{behind_unnamed, no_later};
 use ep_ast::{FunctionTree, Halt, ItemTree, NamedOrder};
-use ep_declarations::{Headed, Place, head, spec_list};
-use ep_declarators::Measured;
-use ep_exprs::{TypeNames, stopped};
+use ep_declarations::{Headed, Place, SpecList, head, spec_list};
 use ep_lexer::Token;
-use ep_statements::{at_else, at_end_if, block, ends_arm};
-use std::alloc::Global;
+use ep_reading::{Measured, Part, Reader, at_else, at_end_if, ends_arm};
+use ep_statements::block;
 
 /// The rest of a function behind its head.
 pub fn body<'a>(
-    alloc: Global,
-    names: &TypeNames,
-    last: u32,
+    reader: &Reader<'_>,
     headed: Headed,
     tokens: &'a [Token],
-) -> Result<(Measured<FunctionTree>, &'a [Token]), Halt>
+) -> Result<Part<'a, Measured<FunctionTree>>, Halt>
     requires { length tokens.now < 2 ^ 24 }
-    ensures reads { (xs : List Tok) → (h : shape.Head) → Takes (grammar.Headed (is_type names.now)) xs h (map view tokens.now) → ShowsHead headed h
-        → GivesShown ShowsFunction (λ p. p.0) (λ p. map view p.1.now) (Defines (is_type names.now)) xs result }
-    ensures shorter { IfOk result (λ p. length p.1.now < length tokens.now) }
+    ensures reads { (xs : List Tok) → (h : shape.Head) → Takes (grammar.Headed (is_type reader.now.names.now)) xs h (map view tokens.now) → ShowsHead headed h
+        → Gives ShowsFunction (Defines (is_type reader.now.names.now)) xs result }
+    ensures shorter { IfOk result (IsPast (length tokens.now)) }
 {
     if !headed.named {
-        return Err(Halt::Refused(stopped(tokens, last)));
+        return Err(Halt::Refused(reader.stopped(tokens)));
     }
-    let (block, rest) = block(alloc, names, last, tokens)?;
-    Ok((function_of(headed.tree, block), rest))
+    let block = block(reader, tokens)?;
+    Ok(Part {
+        value: function_of(headed.tree, block.value),
+        rest: block.rest,
+    })
 }
 
-/// A function with its body.
-fn function<'a>(
-    alloc: Global,
-    names: &TypeNames,
-    last: u32,
+/// A function with its body, from behind the words that begin its head.
+fn definition<'a>(
+    reader: &Reader<'_>,
+    specs: SpecList,
     tokens: &'a [Token],
-) -> Result<(Measured<FunctionTree>, &'a [Token]), Halt>
+) -> Result<Part<'a, Measured<FunctionTree>>, Halt>
     requires { length tokens.now < 2 ^ 24 }
-    ensures reads { GivesChecked ShowsFunction (λ p. p.0) (λ p. map view p.1.now) (Defines (is_type names.now)) (InWords (is_type names.now)) (map view tokens.now) result }
-    ensures shorter { IfOk result (λ p. length p.1.now < length tokens.now) }
+    ensures reads { (xs : List Tok) → (ss : List shape.Spec) → Takes (grammar.Specified (is_type reader.now.names.now) grammar.at_file_scope) xs ss (map view tokens.now) → ShowsSpecs specs ss
+        → Gives ShowsFunction (Defines (is_type reader.now.names.now)) xs result }
+    ensures shorter { IfOk result (IsPast (length tokens.now)) }
 {
-    let (specs, behind) = spec_list(alloc, names, last, Place::FileScope, tokens)?;
-    let (headed, rest) = head(alloc, names, last, specs, behind)?;
-    body(alloc, names, last, headed, rest)
+    let headed = head(reader, specs, tokens)?;
+    body(reader, headed.value, headed.rest)
+}
+
+/// A function with its body, where only functions stand: a parameter without a name is refused at the token behind it.
+fn function<'a>(
+    reader: &Reader<'_>,
+    tokens: &'a [Token],
+) -> Result<Part<'a, Measured<FunctionTree>>, Halt>
+    requires { length tokens.now < 2 ^ 24 }
+    ensures reads { GivesChecked ShowsFunction (Defines (is_type reader.now.names.now)) (InWords (is_type reader.now.names.now)) (map view tokens.now) result }
+    ensures shorter { IfOk result (IsPast (length tokens.now)) }
+{
+    let specs = spec_list(reader, Place::FileScope, tokens)?;
+    match definition(reader, specs.value, specs.rest) {
+        Ok(found) => Ok(found),
+        Err(halt) => Err(no_later(halt, behind_unnamed(reader.names, specs.rest))),
+    }
 }
 
 /// The functions of an arm, up to an `#else` or `#endif`.
 fn all_functions<'a>(
-    alloc: Global,
-    names: &TypeNames,
-    last: u32,
+    reader: &Reader<'_>,
     tokens: &'a [Token],
-) -> Result<(Measured<Vec<FunctionTree>>, &'a [Token]), Halt>
+) -> Result<Part<'a, Measured<Vec<FunctionTree>>>, Halt>
     requires { length tokens.now < 2 ^ 24 }
-    ensures reads { GivesChecked ShowsFunctions (λ p. p.0) (λ p. map view p.1.now) (Functions (is_type names.now)) (InFunctions (is_type names.now)) (map view tokens.now) result }
-    ensures shorter { IfOk result (λ p. length p.1.now ≤ length tokens.now) }
+    ensures reads { GivesChecked ShowsFunctions (Functions (is_type reader.now.names.now)) (InFunctions (is_type reader.now.names.now)) (map view tokens.now) result }
+    ensures shorter { IfOk result (IsWithin (length tokens.now)) }
 {
-    let mut found = Measured::Fits(Vec::new(alloc));
+    let mut found = Measured::Fits(Vec::new(reader.alloc));
     let mut rest = tokens;
     'functions: loop {
         if ends_arm(rest) {
-            return Ok((found, rest));
+            return Ok(Part { value: found, rest });
         }
-        let (one, more) = function(alloc, names, last, rest)?;
-        found = longer(found, one)?;
-        rest = more;
+        let one = function(reader, rest)?;
+        found = found.longer(one.value)?;
+        rest = one.rest;
     }
 }
 
 /// What stands from `#else` on, if there is one, up to and with the `#endif`.
 fn other_functions<'a>(
-    alloc: Global,
-    names: &TypeNames,
-    last: u32,
+    reader: &Reader<'_>,
     tokens: &'a [Token],
-) -> Result<(Measured<Option<Vec<FunctionTree>>>, &'a [Token]), Halt>
+) -> Result<Part<'a, Measured<Option<Vec<FunctionTree>>>>, Halt>
     requires { length tokens.now < 2 ^ 24 }
-    ensures reads { GivesChecked ShowsOther (λ p. p.0) (λ p. map view p.1.now) (OtherFunctions (is_type names.now)) (InOther (is_type names.now)) (map view tokens.now) result }
-    ensures shorter { IfOk result (λ p. length p.1.now < length tokens.now) }
+    ensures reads { GivesChecked ShowsOther (OtherFunctions (is_type reader.now.names.now)) (InOther (is_type reader.now.names.now)) (map view tokens.now) result }
+    ensures shorter { IfOk result (IsPast (length tokens.now)) }
 {
     if let Some((_, more)) = at_end_if(tokens) {
-        return Ok((Measured::Fits(None), more));
+        return Ok(Part {
+            value: Measured::Fits(None),
+            rest: more,
+        });
     }
     let Some((_, inside)) = at_else(tokens) else {
-        return Err(Halt::Refused(stopped(tokens, last)));
+        return Err(Halt::Refused(reader.stopped(tokens)));
     };
-    let (found, rest) = all_functions(alloc, names, last, inside)?;
-    let Some((_, more)) = at_end_if(rest) else {
-        return Err(Halt::Refused(stopped(rest, last)));
+    let found = all_functions(reader, inside)?;
+    let Some((_, more)) = at_end_if(found.rest) else {
+        return Err(Halt::Refused(reader.stopped(found.rest)));
     };
-    Ok((behind_else(found), more))
+    Ok(Part {
+        value: behind_else(found.value),
+        rest: more,
+    })
 }
 
 /// Functions by byte order, from behind the `#if` of this line and order.
 pub fn arms<'a>(
-    alloc: Global,
-    names: &TypeNames,
-    last: u32,
+    reader: &Reader<'_>,
     line: u32,
     order: NamedOrder,
     tokens: &'a [Token],
-) -> Result<(Measured<ItemTree>, &'a [Token]), Halt>
+) -> Result<Part<'a, Measured<ItemTree>>, Halt>
     requires { length tokens.now < 2 ^ 24 }
-    ensures reads { GivesChecked ShowsItem (λ p. p.0) (λ p. map view p.1.now) (Arms (is_type names.now) line order) (InArms (is_type names.now)) (map view tokens.now) result }
-    ensures shorter { IfOk result (λ p. length p.1.now < length tokens.now) }
+    ensures reads { GivesChecked ShowsItem (Arms (is_type reader.now.names.now) line order) (InArms (is_type reader.now.names.now)) (map view tokens.now) result }
+    ensures shorter { IfOk result (IsPast (length tokens.now)) }
 {
-    let (then, behind) = all_functions(alloc, names, last, tokens)?;
-    let (otherwise, rest) = other_functions(alloc, names, last, behind)?;
-    Ok((by_order(line, order, then, otherwise), rest))
+    let then = all_functions(reader, tokens)?;
+    let otherwise = other_functions(reader, then.rest)?;
+    Ok(Part {
+        value: by_order(line, order, then.value, otherwise.value),
+        rest: otherwise.rest,
+    })
 }

@@ -6,23 +6,22 @@ ghost use Rattle.ep_ast.specs.Declaration.{Spec};
 ghost use Rattle.ep_ast.specs.DeclarationGrammar as grammar;
 ghost use Rattle.ep_ast.specs.Reading.{Takes};
 ghost use Rattle.ep_lexer.specs.Tokens.{view};
-ghost use Rattle.ep_exprs.specs.Names.{is_type};
-ghost use Rattle.ep_exprs.specs.Parsed.{GivesShown};
-ghost use Rattle.ep_declarators.specs.Checked.{GivesChecked};
+ghost use Rattle.ep_reading.specs.Names.{is_type};
+ghost use Rattle.ep_reading.specs.Answer.{Gives, GivesChecked, IsPast};
 ghost use Rattle.ep_declarations.specs.Answer.{ShowsSpecs};
 ghost use Rattle.ep_decls.specs.Look as look;
-ghost use Rattle.ep_decls.specs.Answer.{ShowsItem, Worded, InWords, NewTypes, InTypedefWords, Itemed, InItem};
+ghost use Rattle.ep_decls.specs.Answer.{ShowsItem, MakesTypes, Worded, InWords, NewTypes, InTypedefWords, Itemed, InItem};
 
 use crate::functions::{arms, body};
 use crate::look::begins_head;
 use crate::trees::{completed, declared, defined, new_types, prototype};
+use ep_ast::marks::SEMICOLON;
+use ep_ast::words::TYPEDEF;
 use ep_ast::{Halt, ItemTree};
 use ep_declarations::{Place, SpecList, head, make_declaration, only_body, spec_list};
-use ep_declarators::{Measured, inits, typedef_names};
-use ep_exprs::marks::{SEMICOLON, TYPEDEF};
-use ep_exprs::{TypeNames, at_mark, at_word, stopped};
+use ep_declarators::{inits, typedef_names};
 use ep_lexer::Token;
-use ep_statements::at_if;
+use ep_reading::{Measured, Part, Reader, TypeNames, at_if, at_mark, at_word};
 use std::alloc::Global;
 
 /// Names of types, from behind the word `typedef` of this line.
@@ -32,60 +31,76 @@ fn typedef<'a>(
     last: u32,
     line: u32,
     tokens: &'a [Token],
-) -> Result<(Measured<ItemTree>, &'a [Token]), Halt>
+) -> Result<Part<'a, Measured<ItemTree>>, Halt>
     requires { length tokens.now < 2 ^ 24 }
-    ensures reads { GivesChecked (λ k v. ShowsItem k v.0 × (v.1 ≡ is_type names.new)) (λ p. p.0) (λ p. map view p.1.now) (NewTypes (is_type names.old) line) (InTypedefWords (is_type names.old)) (map view tokens.now) result }
-    ensures shorter { IfOk result (λ p. length p.1.now < length tokens.now) }
+    ensures reads { GivesChecked (MakesTypes (is_type names.new)) (NewTypes (is_type names.old) line) (InTypedefWords (is_type names.old)) (map view tokens.now) result }
+    ensures shorter { IfOk result (IsPast (length tokens.now)) }
 {
-    let (specs, behind) = spec_list(alloc, names, last, Place::Typedef, tokens)?;
-    let (declarators, rest) = typedef_names(alloc, names, last, behind)?;
-    Ok((new_types(line, specs, declarators), rest))
+    let reader = Reader {
+        alloc,
+        names: &*names,
+        last,
+    };
+    let specs = spec_list(&reader, Place::Typedef, tokens)?;
+    let declarators = typedef_names(alloc, names, last, specs.rest)?;
+    Ok(Part {
+        value: new_types(line, specs.value, declarators.value),
+        rest: declarators.rest,
+    })
 }
 
 /// A function or a prototype, from behind the words that begin its head.
 fn headed_item<'a>(
-    alloc: Global,
-    names: &TypeNames,
-    last: u32,
+    reader: &Reader<'_>,
     specs: SpecList,
     tokens: &'a [Token],
-) -> Result<(Measured<ItemTree>, &'a [Token]), Halt>
+) -> Result<Part<'a, Measured<ItemTree>>, Halt>
     requires { length tokens.now < 2 ^ 24 }
-    ensures reads { (xs : List Tok) → (ss : List Spec) → Takes (grammar.Specified (is_type names.now) grammar.at_file_scope) xs ss (map view tokens.now) → ShowsSpecs specs ss
-        → look.begins_head (map view tokens.now) ≡ true → GivesShown ShowsItem (λ p. p.0) (λ p. map view p.1.now) (Worded (is_type names.now)) xs result }
-    ensures shorter { IfOk result (λ p. length p.1.now < length tokens.now) }
+    ensures reads { (xs : List Tok) → (ss : List Spec) → Takes (grammar.Specified (is_type reader.now.names.now) grammar.at_file_scope) xs ss (map view tokens.now) → ShowsSpecs specs ss
+        → look.begins_head (map view tokens.now) ≡ true → Gives ShowsItem (Worded (is_type reader.now.names.now)) xs result }
+    ensures shorter { IfOk result (IsPast (length tokens.now)) }
 {
-    let (headed, rest) = head(alloc, names, last, specs, tokens)?;
-    if let Some((_, more)) = at_mark(rest, SEMICOLON) {
-        return Ok((prototype(headed.tree), more));
+    let headed = head(reader, specs, tokens)?;
+    if let Some((_, more)) = at_mark(headed.rest, SEMICOLON) {
+        return Ok(Part {
+            value: prototype(headed.value.tree),
+            rest: more,
+        });
     }
-    let (function, more) = body(alloc, names, last, headed, rest)?;
-    Ok((defined(function), more))
+    let function = body(reader, headed.value, headed.rest)?;
+    Ok(Part {
+        value: defined(function.value),
+        rest: function.rest,
+    })
 }
 
 /// An item that begins with the words of a declaration.
 fn worded_item<'a>(
-    alloc: Global,
-    names: &TypeNames,
-    last: u32,
+    reader: &Reader<'_>,
     tokens: &'a [Token],
-) -> Result<(Measured<ItemTree>, &'a [Token]), Halt>
+) -> Result<Part<'a, Measured<ItemTree>>, Halt>
     requires { length tokens.now < 2 ^ 24 }
-    ensures reads { GivesChecked ShowsItem (λ p. p.0) (λ p. map view p.1.now) (Worded (is_type names.now)) (InWords (is_type names.now)) (map view tokens.now) result }
-    ensures shorter { IfOk result (λ p. length p.1.now < length tokens.now) }
+    ensures reads { GivesChecked ShowsItem (Worded (is_type reader.now.names.now)) (InWords (is_type reader.now.names.now)) (map view tokens.now) result }
+    ensures shorter { IfOk result (IsPast (length tokens.now)) }
 {
-    let (specs, rest) = spec_list(alloc, names, last, Place::FileScope, tokens)?;
-    if begins_head(rest) {
-        return headed_item(alloc, names, last, specs, rest);
+    let specs = spec_list(reader, Place::FileScope, tokens)?;
+    if begins_head(specs.rest) {
+        return headed_item(reader, specs.value, specs.rest);
     }
-    if let Some((_, more)) = at_mark(rest, SEMICOLON) {
-        return match only_body(specs) {
-            Some(aggregate) => Ok((completed(aggregate), more)),
-            None => Err(Halt::Refused(stopped(rest, last))),
+    if let Some((_, more)) = at_mark(specs.rest, SEMICOLON) {
+        return match only_body(specs.value) {
+            Some(aggregate) => Ok(Part {
+                value: completed(aggregate),
+                rest: more,
+            }),
+            None => Err(Halt::Refused(reader.stopped(specs.rest))),
         };
     }
-    let (variables, more) = inits(alloc, names, last, rest)?;
-    Ok((declared(make_declaration(specs, variables)), more))
+    let variables = inits(reader, specs.rest)?;
+    Ok(Part {
+        value: declared(make_declaration(specs.value, variables.value)),
+        rest: variables.rest,
+    })
 }
 
 /// The item that stands first. The names that it makes types are known from there on.
@@ -94,16 +109,21 @@ pub fn item<'a>(
     names: &mut TypeNames,
     last: u32,
     tokens: &'a [Token],
-) -> Result<(Measured<ItemTree>, &'a [Token]), Halt>
+) -> Result<Part<'a, Measured<ItemTree>>, Halt>
     requires { length tokens.now < 2 ^ 24 }
-    ensures reads { GivesChecked (λ k v. ShowsItem k v.0 × (v.1 ≡ is_type names.new)) (λ p. p.0) (λ p. map view p.1.now) (Itemed (is_type names.old)) (InItem (is_type names.old)) (map view tokens.now) result }
-    ensures shorter { IfOk result (λ p. length p.1.now < length tokens.now) }
+    ensures reads { GivesChecked (MakesTypes (is_type names.new)) (Itemed (is_type names.old)) (InItem (is_type names.old)) (map view tokens.now) result }
+    ensures shorter { IfOk result (IsPast (length tokens.now)) }
 {
     if let Some((line, behind)) = at_word(tokens, TYPEDEF) {
         return typedef(alloc, names, last, line, behind);
     }
+    let reader = Reader {
+        alloc,
+        names: &*names,
+        last,
+    };
     if let Some((line, order, behind)) = at_if(tokens) {
-        return arms(alloc, names, last, line, order, behind);
+        return arms(&reader, line, order, behind);
     }
-    worded_item(alloc, names, last, tokens)
+    worded_item(&reader, tokens)
 }

@@ -1,14 +1,11 @@
 //! Reading programs.
 #![tactic(auto)]
 
-mod brackets;
 mod functions;
 mod items;
 mod look;
 mod top;
 mod trees;
+mod unnamed;
 
 pub use top::program;
-
-#[cfg(test)]
-mod tests;

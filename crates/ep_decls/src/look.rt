@@ -4,11 +4,12 @@ ghost use Rattle.std.specs.Prelude.{◌≡◌, ◌<◌, length, map, IfSome};
 ghost use Rattle.std.specs.Option.{option_map};
 ghost use Rattle.ep_lexer.specs.Tokens.{view};
 ghost use Rattle.ep_decls.specs.Look as look;
-ghost use Rattle.ep_decls.specs.Look.{IsBehind};
+ghost use Rattle.ep_decls.specs.Look.{IsBehind, HasFewer, tokens_of};
 
-use ep_exprs::marks::{CONST, LEFT_PAREN, STAR};
-use ep_exprs::{at_mark, at_name, at_word};
+use ep_ast::marks::{LEFT_PAREN, STAR};
+use ep_ast::words::CONST;
 use ep_lexer::Token;
+use ep_reading::{at_mark, at_name, at_word};
 
 fn begins_call(tokens: &[Token]) -> bool
     ensures { result ≡ look.begins_call (map view tokens.now) }
@@ -21,8 +22,8 @@ fn begins_call(tokens: &[Token]) -> bool
 
 /// What comes behind a star or a `const`.
 fn behind_star(tokens: &[Token]) -> Option<&[Token]>
-    ensures value { IsBehind (map view tokens.now) (option_map (λ r. map view r.now) result) }
-    ensures shorter { IfSome result (λ r. length r.now < length tokens.now) }
+    ensures value { IsBehind (map view tokens.now) (option_map tokens_of result) }
+    ensures shorter { IfSome result (HasFewer (length tokens.now)) }
 {
     if let Some((_, rest)) = at_mark(tokens, STAR) {
         return Some(rest);
@@ -33,13 +34,20 @@ fn behind_star(tokens: &[Token]) -> Option<&[Token]>
     None
 }
 
-/// Whether a name and an opening parenthesis stand here, perhaps behind stars.
-pub fn begins_head(tokens: &[Token]) -> bool
-    ensures { result ≡ look.begins_head (map view tokens.now) }
+/// What comes behind all stars and `const` that stand here.
+pub fn behind_stars(tokens: &[Token]) -> &[Token]
+    ensures { look.begins_head (map view tokens.now) ≡ look.begins_call (map view result.now) }
 {
     let mut rest = tokens;
     'stars: while let Some(more) = behind_star(rest) {
         rest = more;
     }
-    begins_call(rest)
+    rest
+}
+
+/// Whether a name and an opening parenthesis stand here, perhaps behind stars.
+pub fn begins_head(tokens: &[Token]) -> bool
+    ensures { result ≡ look.begins_head (map view tokens.now) }
+{
+    begins_call(behind_stars(tokens))
 }

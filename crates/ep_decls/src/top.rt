@@ -1,29 +1,25 @@
 //! Reading a program.
 
-ghost use Rattle.std.specs.Prelude.{◌≡◌, ◌<◌, ◌^◌, length, map, IfOk, IfErr, List, [], None};
+ghost use Rattle.std.specs.Prelude.{◌≡◌, ◌<◌, ◌^◌, length, map, IfOk, IfErr, List, None};
 ghost use Rattle.ep_ast.specs.Statement.{Item, program_of};
 ghost use Rattle.ep_ast.specs.ProgramGrammar.{Programs};
-ghost use Rattle.ep_ast.specs.BitField.{HasBitField};
 ghost use Rattle.ep_ast.specs.Depth.{brackets_past, too_deep};
 ghost use Rattle.ep_ast.specs.Offence.{Offends};
 ghost use Rattle.ep_ast.specs.Refusal.{IfRefused};
 ghost use Rattle.ep_lexer.specs.Tokens.{view, view_all};
-ghost use Rattle.ep_declarators.specs.Checked.{GivesChecked};
-ghost use Rattle.ep_decls.specs.Answer.{ShowsItems, Whole};
+ghost use Rattle.ep_decls.specs.Answer.{ReadsAll};
 
-use crate::brackets::brackets_past;
 use crate::items::item;
-use crate::trees::{longer, too_deep, whole};
+use crate::trees::{too_deep, whole};
 use ep_ast::{Halt, ItemTree, ProgramTree};
-use ep_declarators::Measured;
-use ep_exprs::{TypeNames, last_line};
 use ep_lexer::{Token, Tokens};
+use ep_reading::{Measured, TypeNames, brackets_past, last_line};
 use std::alloc::Global;
 
 /// All items, up to the end of the tokens, of which the last has this line.
 fn all_items(alloc: Global, last: u32, tokens: &[Token]) -> Result<Measured<Vec<ItemTree>>, Halt>
     requires { length tokens.now < 2 ^ 24 }
-    ensures reads { GivesChecked ShowsItems (λ k. k) (λ k. []) Whole HasBitField (map view tokens.now) result }
+    ensures reads { ReadsAll (map view tokens.now) result }
 {
     let mut names = TypeNames::new(alloc);
     let mut found = Measured::Fits(Vec::new(alloc));
@@ -32,9 +28,9 @@ fn all_items(alloc: Global, last: u32, tokens: &[Token]) -> Result<Measured<Vec<
         if rest.is_empty() {
             return Ok(found);
         }
-        let (one, more) = item(alloc, &mut names, last, rest)?;
-        found = longer(found, one)?;
-        rest = more;
+        let one = item(alloc, &mut names, last, rest)?;
+        found = found.longer(one.value)?;
+        rest = one.rest;
     }
 }
 

@@ -1,56 +1,34 @@
 //! The trees of functions and items, where nothing in them is too deep.
 
-ghost use Rattle.std.specs.Prelude.{◌≡◌, IfOk, List, Option, Some, map};
+ghost use Rattle.std.specs.Prelude.{◌≡◌, List, Option, Some};
 ghost use Rattle.ep_ast.specs.Declaration as shape;
-ghost use Rattle.ep_ast.specs.Declaration.{declaration_of, aggregate_of, head_of};
+ghost use Rattle.ep_ast.specs.Declaration.{aggregate_of, head_of};
 ghost use Rattle.ep_ast.specs.Statement as tree;
-ghost use Rattle.ep_ast.specs.Depth.{first_of, in_aggregate, in_declaration, in_declarator, in_head};
-ghost use Rattle.ep_declarators.specs.Measured.{Shows};
-ghost use Rattle.ep_declarations.specs.Answer.{ShowsSpecs};
+ghost use Rattle.ep_ast.specs.Depth.{in_aggregate, in_head};
+ghost use Rattle.ep_reading.specs.Measured.{Shows};
+ghost use Rattle.ep_declarators.specs.Answer.{ShowsDeclarators};
+ghost use Rattle.ep_declarations.specs.Answer.{ShowsSpecs, ShowsDeclaration};
 ghost use Rattle.ep_statements.specs.Answer.{ShowsBlock};
-ghost use Rattle.ep_decls.specs.Answer.{ShowsFunction, ShowsFunctions, ShowsOther, ShowsItem, ShowsItems, IsLonger, IsWhole};
+ghost use Rattle.ep_decls.specs.Answer.{ShowsFunction, ShowsFunctions, ShowsOther, ShowsItem, ShowsItems, IsWhole};
 
 use ep_ast::{
     AggregateTree, BlockTree, DeclarationTree, DeclaratorTree, FunctionTree, HeadTree, ItemTree,
     NamedOrder, ProgramTree, Refusal, TypedefTree,
 };
 use ep_declarations::SpecList;
-use ep_declarators::Measured;
-use std::alloc::AllocError;
-
-/// The list with one more.
-pub fn longer<T: Drop>(
-    found: Measured<Vec<T>>,
-    one: Measured<T>,
-) -> Result<Measured<Vec<T>>, AllocError>
-    ensures { IfOk result (IsLonger found one) }
-{
-    match found {
-        Measured::TooDeep(line) => Ok(Measured::TooDeep(line)),
-        Measured::Fits(mut list) => match one {
-            Measured::TooDeep(line) => Ok(Measured::TooDeep(line)),
-            Measured::Fits(tree) => {
-                list.push(tree)?;
-                Ok(Measured::Fits(list))
-            }
-        },
-    }
-}
+use ep_reading::Measured;
 
 /// A function with its body.
 pub fn function_of(head: Measured<HeadTree>, body: Measured<BlockTree>) -> Measured<FunctionTree>
     ensures { (h : shape.Head) → (b : tree.Block) → Shows head_of in_head head h → ShowsBlock body b → ShowsFunction result (record { line = h.line; head = h; body = b }) }
 {
-    match head {
+    match head.and(body) {
         Measured::TooDeep(line) => Measured::TooDeep(line),
-        Measured::Fits(head) => match body {
-            Measured::TooDeep(line) => Measured::TooDeep(line),
-            Measured::Fits(body) => Measured::Fits(FunctionTree {
-                line: head.line,
-                head,
-                body,
-            }),
-        },
+        Measured::Fits((head, body)) => Measured::Fits(FunctionTree {
+            line: head.line,
+            head,
+            body,
+        }),
     }
 }
 
@@ -73,7 +51,7 @@ pub fn prototype(head: Measured<HeadTree>) -> Measured<ItemTree>
 }
 
 pub fn declared(declaration: Measured<DeclarationTree>) -> Measured<ItemTree>
-    ensures { (d : shape.Declaration) → Shows declaration_of in_declaration declaration d → ShowsItem result (tree.declares_all d) }
+    ensures { (d : shape.Declaration) → ShowsDeclaration declaration d → ShowsItem result (tree.declares_all d) }
 {
     match declaration {
         Measured::TooDeep(line) => Measured::TooDeep(line),
@@ -96,19 +74,16 @@ pub fn new_types(
     specs: SpecList,
     declarators: Measured<Vec<DeclaratorTree>>,
 ) -> Measured<ItemTree>
-    ensures { (ss : List shape.Spec) → (ds : List shape.Declarator) → ShowsSpecs specs ss → Shows (λ v. map shape.declarator v.items) (first_of in_declarator) declarators ds
+    ensures { (ss : List shape.Spec) → (ds : List shape.Declarator) → ShowsSpecs specs ss → ShowsDeclarators declarators ds
         → ShowsItem result (tree.typedefs (record { line = line; specs = ss; declarators = ds })) }
 {
-    match specs.tree {
+    match specs.tree.and(declarators) {
         Measured::TooDeep(first) => Measured::TooDeep(first),
-        Measured::Fits(specs) => match declarators {
-            Measured::TooDeep(first) => Measured::TooDeep(first),
-            Measured::Fits(declarators) => Measured::Fits(ItemTree::Typedef(TypedefTree {
-                line,
-                specs,
-                declarators,
-            })),
-        },
+        Measured::Fits((specs, declarators)) => Measured::Fits(ItemTree::Typedef(TypedefTree {
+            line,
+            specs,
+            declarators,
+        })),
     }
 }
 
@@ -121,14 +96,11 @@ pub fn by_order(
 ) -> Measured<ItemTree>
     ensures { (fs : List tree.Function) → (gs : Option (List tree.Function)) → ShowsFunctions then fs → ShowsOther otherwise gs → ShowsItem result (tree.functions_by_order line order fs gs) }
 {
-    match then {
+    match then.and(otherwise) {
         Measured::TooDeep(first) => Measured::TooDeep(first),
-        Measured::Fits(then) => match otherwise {
-            Measured::TooDeep(first) => Measured::TooDeep(first),
-            Measured::Fits(otherwise) => {
-                Measured::Fits(ItemTree::Arms(line, order, then, otherwise))
-            }
-        },
+        Measured::Fits((then, otherwise)) => {
+            Measured::Fits(ItemTree::Arms(line, order, then, otherwise))
+        }
     }
 }
 

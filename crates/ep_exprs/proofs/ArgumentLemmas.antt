@@ -1,15 +1,13 @@
 -- Arguments: read one after the other, up to the closing parenthesis.
-use Rattle.std.proofs.Common.{◌≡◌, ℕ, Bool, true, false, List, [], ◌∷◌, ◌++◌, Some, refl, sym, ap, ◌∙◌, append_assoc, eq-eqb, inl, inr, ◌⊎◌}
-use Rattle.std.specs.Prelude.{◌==◌}
+use Rattle.std.proofs.Common.{◌≡◌, ℕ, Bool, true, List, [], ◌∷◌, ◌++◌, Some, refl, sym, ap, ◌∙◌, append_assoc, inl, inr, ◌⊎◌}
 use Rattle.ep_ast.specs.Token.{Tok, mark}
 use Rattle.ep_ast.specs.Expression.{Expr}
 use Rattle.ep_ast.specs.Mark.{left_paren, right_paren, comma}
 use Rattle.ep_ast.specs.Grammar.{is_prefix, is_step, Rule, expr, Derives, assigns, assigns_not, chooses, chooses_not, left, tighter, operand, casts, casts_not, steps, prefixed, unary_not, suffixed, suffixed_not, parens, Arguments, no_arguments, some_arguments, Listed, last, next}
 use Rattle.ep_ast.specs.Reading.{Reads, Refuses, Takes, TakesNone, Lacks, AtMark}
-use Rattle.ep_exprs.proofs.MarkLemmas.{ends_at_paren, ends_at_comma, tail_is, code_is, lacks_is}
-
-apart : (m n : ℕ) {c : ℕ} → (m == n) ≡ false → c ≡ m → c ≡ n → ⊥
-apart m n h e f = let k : (m == n) ≡ true = eq-eqb m n (sym e ∙ f) in cc
+use Rattle.ep_reading.proofs.FirstLemmas.{apart}
+use Rattle.ep_reading.proofs.FirstLemmas.{tail_is, code_is, lacks_is}
+use Rattle.ep_exprs.proofs.MarkLemmas.{ends_at_paren, ends_at_comma}
 
 module _ (N : List ℕ → Bool) where
   -- these are read, and what comes is a list again

@@ -9,7 +9,8 @@ use Rattle.ep_ast.specs.Grammar.{level, is_assignment, expr, cond, bin, cast, un
 use Rattle.ep_ast.specs.Reading.{is_suffix, goes_on, Ends, Reads, Refuses, Lacks, AtMark}
 use Rattle.ep_exprs.specs.Look.{NotAt, AtAssignment, begins_cast, begins_assignment}
 use Rattle.ep_exprs.specs.Pending.{NoAssignment}
-use Rattle.ep_exprs.proofs.MarkLemmas.{ends_at_question, ends_at_colon, ends_at_assignment, ends_binary, ends_cond, ends_cast, assigns_only, tail_is, code_is, lacks_is}
+use Rattle.ep_reading.proofs.FirstLemmas.{tail_is, code_is, lacks_is}
+use Rattle.ep_exprs.proofs.MarkLemmas.{ends_at_question, ends_at_colon, ends_at_assignment, ends_binary, ends_cond, ends_cast, assigns_only}
 use Rattle.ep_exprs.proofs.LevelLemmas.{operand_read, refused_level, level_begins, level_done}
 use Rattle.ep_exprs.proofs.OperandLemmas.{no_unary, unary_read}
 

@@ -1,4 +1,3 @@
-pub mod NameLemmas
 pub mod TypeWordLemmas
 pub mod StarLemmas
 pub mod KeptLemmas

@@ -6,7 +6,7 @@ use Rattle.std.proofs.lemmas.Bool.Decides.{nat_tests}
 use Rattle.ep_ast.specs.Token.{Tok, word, name, number, mark, if_little, if_big, other, end_if}
 use Rattle.ep_ast.specs.Mark.{left_paren, right_paren, right_bracket, question, colon, comma}
 use Rattle.ep_ast.specs.Grammar.{level, is_assignment, is_prefix, is_step, Rule, expr, cond, bin, cast, unary, postfix, primary}
-use Rattle.ep_ast.specs.Reading.{is_suffix, goes_on, Ends, Lacks}
+use Rattle.ep_ast.specs.Reading.{is_suffix, goes_on, Ends}
 
 pub both_true : (a b : Bool) → (a && b) ≡ true → (a ≡ true) × (b ≡ true)
 both_true true true e = (refl, refl)
@@ -196,14 +196,3 @@ ends_at_question l c ts k = rw k refl
 
 pub ends_at_assignment : (l c : ℕ) (ts : List Tok) → is_assignment c ≡ true → Ends unary (mark l c ∷ ts)
 ends_at_assignment l c ts k = (assigns_only c k).1
-
--- ---- lists of tokens
-
-pub tail_is : {t u : Tok} {ts us : List Tok} → t ∷ ts ≡ u ∷ us → ts ≡ us
-tail_is e = cc
-
-pub code_is : {l c m d : ℕ} {xs ys : List Tok} → mark l c ∷ xs ≡ mark m d ∷ ys → c ≡ d
-code_is e = cc
-
-pub lacks_is : (m d e : ℕ) (ys zs : List Tok) → Lacks e ys → ys ≡ mark m d ∷ zs → d ≡ e → ⊥
-lacks_is m d e ys zs k same is = let L : List Tok → Type 0 = λ ts. Lacks e ts in let h : Lacks e (mark m d ∷ zs) = subst L same k in h is

@@ -1,33 +1,15 @@
--- What an answer says of a caller's answer.
+-- An expression where nothing waits.
 use Rattle.std.proofs.Common.{◌≡◌, ℕ, Bool, true, false, List, [], refl, ap, ◌∙◌, inl, inr, ◌⊎◌}
-use Rattle.ep_ast.specs.declared.refusals.Halt.{Halt}
-use Rattle.ep_ast.specs.declared.refusals.Halt.TheVariants as halts
 use Rattle.ep_ast.specs.Token.{Tok}
 use Rattle.ep_ast.specs.Expression.{Expr}
-use Rattle.ep_ast.specs.Grammar.{Rule, expr, cast}
-use Rattle.ep_ast.specs.Reading.{Reads, Refuses, TakesNone, Halts, Stops}
+use Rattle.ep_ast.specs.Grammar.{expr, cast}
+use Rattle.ep_ast.specs.Reading.{Reads}
 use Rattle.ep_exprs.specs.declared.kept.Kept.{Kept}
 use Rattle.ep_exprs.specs.declared.frames.Frame.{Frame}
 use Rattle.ep_exprs.specs.Look.{begins_cast, begins_assignment}
 use Rattle.ep_exprs.specs.Pending.{wanted, Plain, Waits, begins, Value}
 use Rattle.ep_exprs.specs.Parsed.{IsRead}
 use Rattle.ep_exprs.proofs.PendingLemmas.{part_rule, plain_third, plain_cast, plain_other}
-
-pub passes : (N : List ℕ → Bool) (r s : Rule) (ys xs : List Tok) (e : Halt) → (Refuses N r ys → Refuses N s xs) → Halts N r ys e → Halts N s xs e
-passes N r s ys xs (halts.Refused f) g h = (g h.0, h.1)
-passes N r s ys xs halts.Memory g h = tt
-
-pub stops_halt : {T : Type 0} (P : List Tok → List Tok → T → Type 0) (N : List ℕ → Bool) (s : Rule) (ys xs : List Tok) (e : Halt) → (TakesNone P ys → Refuses N s xs) → Stops P ys e → Halts N s xs e
-stops_halt P N s ys xs (halts.Refused f) g h = (g h.0, h.1)
-stops_halt P N s ys xs halts.Memory g h = tt
-
-pub halts_stop : {T : Type 0} (N : List ℕ → Bool) (r : Rule) (P : List Tok → List Tok → T → Type 0) (ys xs : List Tok) (e : Halt) → (Refuses N r ys → TakesNone P xs) → Halts N r ys e → Stops P xs e
-halts_stop N r P ys xs (halts.Refused f) g h = (g h.0, h.1)
-halts_stop N r P ys xs halts.Memory g h = tt
-
-pub stops_stop : {S T : Type 0} (P : List Tok → List Tok → S → Type 0) (Q : List Tok → List Tok → T → Type 0) (ys xs : List Tok) (e : Halt) → (TakesNone P ys → TakesNone Q xs) → Stops P ys e → Stops Q xs e
-stops_stop P Q ys xs (halts.Refused f) g h = (g h.0, h.1)
-stops_stop P Q ys xs halts.Memory g h = tt
 
 module _ (N : List ℕ → Bool) where
   plain_at : (b : Bool) (fs : List Frame) (xs ys : List Tok) (a : Expr) → begins_cast N xs ≡ b → Reads N cast xs a ys → begins_assignment ys ≡ false → Plain N fs xs

@@ -7,8 +7,9 @@ use Rattle.ep_ast.specs.Expression.{Expr}
 use Rattle.ep_ast.specs.Mark.{left_paren, right_paren}
 use Rattle.ep_ast.specs.Grammar.{expr, primary, Derives, names, numbers, parens}
 use Rattle.ep_ast.specs.Reading.{Reads, Refuses, Lacks, AtMark}
-use Rattle.ep_exprs.specs.Look.{NoToken}
-use Rattle.ep_exprs.proofs.MarkLemmas.{ends_at_paren, tail_is, lacks_is}
+use Rattle.ep_reading.specs.Look.{NoToken}
+use Rattle.ep_reading.proofs.FirstLemmas.{tail_is, lacks_is}
+use Rattle.ep_exprs.proofs.MarkLemmas.{ends_at_paren}
 
 module _ (N : List ℕ → Bool) where
   names_only : {l : ℕ} {text : List ℕ} {xs zs : List Tok} {u : Expr} → Derives N primary (name l text ∷ xs) zs u → (u ≡ tree.id l text) × (zs ≡ xs)
@@ -66,6 +67,3 @@ module _ (N : List ℕ → Bool) where
 
   other_mark : {l c : ℕ} {xs zs : List Tok} {u : Expr} → (c ≡ left_paren → ⊥) → Derives N primary (mark l c ∷ xs) zs u → ⊥
   other_mark n (parens h k' e) = n h
-
-  pub other_refused : (l c : ℕ) (ts xs : List Tok) → ts ≡ mark l c ∷ xs → (c ≡ left_paren → ⊥) → Refuses N primary ts
-  other_refused l c ts xs e n = rw e (record { never = λ u zs d o. other_mark n d })

@@ -115,23 +115,9 @@ lacks_is m d e ys zs k same is = let L : List Tok → Type 0 = λ ts. Lacks e ts
 tail_is : {t u : Tok} {ts us : List Tok} → t ∷ ts ≡ u ∷ us → ts ≡ us
 tail_is e = cc
 
-no_const_word : (c b : Bool) → c ≡ true → (c ≡ false) → ⊥
-no_const_word c b h k = cc
-
 module _ (N : List ℕ → Bool) where
   const_is : (c : ℕ) → begins_type N (word 0 c ∷ []) ≡ false → c ≡ const_word → ⊥
   const_is c h k = let f : begins_type N (word 0 c ∷ []) ≡ true = rw k refl in cc
-
-  pub lacks_const : (ys : List Tok) → begins_type N ys ≡ false → LacksWord const_word ys
-  lacks_const [] h = tt
-  lacks_const (word l c ∷ ts) h = const_is c h
-  lacks_const (mark l c ∷ ts) h = tt
-  lacks_const (name l c ∷ ts) h = tt
-  lacks_const (number l c ∷ ts) h = tt
-  lacks_const (if_little l ∷ ts) h = tt
-  lacks_const (if_big l ∷ ts) h = tt
-  lacks_const (other l ∷ ts) h = tt
-  lacks_const (end_if l ∷ ts) h = tt
 
   -- where the words and the stars of a name end is determined
   parts_only : {xs ys zs : List Tok} {ws us : List TypeWord} {ns ms : List ℕ} {vs qs : List Tok} → Takes (AreType N) xs ws ys → Takes AreStars ys ns zs → AreType N xs vs us → AreStars vs qs ms
@@ -151,9 +137,6 @@ module _ (N : List ℕ → Bool) where
 
   words_never : {xs vs : List Tok} {u : TypeName} → TakesNone (AreType N) xs → TypeNamed N xs vs u → ⊥
   words_never n (closed {ys = ys} {ws = ws} h d e) = n.never ws ys d
-
-  pub named_none : (xs : List Tok) → TakesNone (AreType N) xs → TakesNone (TypeNamed N) xs
-  named_none xs n = record { never = λ u vs d. words_never n d }
 
   open_never : {xs ys zs vs : List Tok} {ws : List TypeWord} {ns : List ℕ} {u : TypeName} → Takes (AreType N) xs ws ys → Takes AreStars ys ns zs → Lacks right_paren zs → TypeNamed N xs vs u → ⊥
   open_never {zs = zs} t s k (closed {m = m} {d = d'} {zs = vs} h d e) = let q = parts_only t s d e in lacks_is m d' right_paren zs vs k (sym q.2) h

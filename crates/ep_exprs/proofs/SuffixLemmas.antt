@@ -7,7 +7,8 @@ use Rattle.ep_ast.specs.Mark.{left_paren, left_bracket, right_bracket, dot, arro
 use Rattle.ep_ast.specs.Grammar.{expr, postfix, primary, Suffix, at, with, of, through, increment, decrement, apply, Derives, suffixed, suffixed_not, Behind, indexed, called, member, pointed, incremented, decremented, Arguments}
 use Rattle.ep_ast.specs.Reading.{is_suffix, Ends, Reads, Refuses, Takes, TakesNone, Lacks, AtMark, LacksName}
 use Rattle.ep_exprs.specs.Look.{begins_suffix}
-use Rattle.ep_exprs.proofs.MarkLemmas.{ends_primary, ends_at_bracket, tail_is, lacks_is}
+use Rattle.ep_reading.proofs.FirstLemmas.{tail_is, lacks_is}
+use Rattle.ep_exprs.proofs.MarkLemmas.{ends_primary, ends_at_bracket}
 
 -- one number isn't two
 apart : (m n : ℕ) {c : ℕ} → (m == n) ≡ false → c ≡ m → c ≡ n → ⊥
@@ -212,6 +213,3 @@ module _ (N : List ℕ → Bool) where
 
   pub decrement_read : (l c : ℕ) (ts xs : List Tok) → ts ≡ mark l c ∷ xs → c ≡ minus_minus → Takes (Behind N) ts decrement xs
   decrement_read l c ts xs e h = rw e (record { holds = decremented h; only = λ s zs d. decrement_only h d })
-
-  pub suffix_refused : (ts : List Tok) → begins_suffix ts ≡ false → TakesNone (Behind N) ts
-  suffix_refused ts b = record { never = λ s zs d. let k = behind_begins d in cc }

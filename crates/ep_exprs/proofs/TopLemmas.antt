@@ -1,5 +1,5 @@
 -- An expression at a place of the tokens.
-use Rattle.std.proofs.Common.{◌≡◌, ℕ, ◌+◌, ◌-◌, ◌<◌, ◌≤◌, Bool, true, false, List, [], ◌∷◌, ◌++◌, length, take, drop, Some, None, refl, sym, ap, subst, ◌∙◌, arith, inl, inr, ◌⊎◌}
+use Rattle.std.proofs.Common.{◌≡◌, ℕ, ◌+◌, ◌-◌, ◌<◌, ◌≤◌, Bool, true, false, List, [], ◌∷◌, ◌++◌, length, take, drop, None, refl, sym, ap, subst, ◌∙◌, arith, inl, inr, ◌⊎◌}
 use Rattle.std.specs.Prelude.{◌==◌, ◌||◌}
 use Rattle.std.proofs.lemmas.List.{append-nil, length-append, length-drop, take_at, drop_at, drop-drop}
 use Rattle.std.proofs.lemmas.Bool.{eqb-true}
@@ -14,7 +14,7 @@ use Rattle.ep_ast.specs.Grammar.{level, Rule, Derives, follows, IsFront}
 use Rattle.ep_ast.specs.Grammar as rules
 use Rattle.ep_ast.specs.Nesting.{is_too_deep, depth, opens_past}
 use Rattle.ep_ast.specs.Reading.{goes_on, Ends, Reads, Halts, IsSyntax}
-use Rattle.ep_exprs.specs.Answer.{IsFound, IsRefused, brackets, operators, syntax}
+use Rattle.ep_exprs.specs.Answer.{IsFound, IsRefused, operators, syntax}
 use Rattle.ep_exprs.proofs.FrontLemmas.{front_of}
 
 -- nothing that may follow an expression goes on with one
@@ -93,9 +93,6 @@ module _ (N : List ℕ → Bool) where
       (q.0, omega (arith, length-append front rest, ap length s.parts, length-drop from ts, ap length q.1))
 
   -- ---- refusals
-
-  pub brackets_refused : (ts : List Tok) (r : Refusal) (line : ℕ) → (r.kind ≡ 22) × (r.word ≡ 0) × (r.line ≡ line) → Some line ≡ opens_past 0 ts → IsRefused N ts r
-  brackets_refused ts r line h o = brackets h.0 h.1 (sym o ∙ ap (λ (n : ℕ). Some n) (sym h.2))
 
   pub operators_refused : (ts ys : List Tok) (r : Refusal) (t : Expr) → (r.kind ≡ 22) × (r.word ≡ 0) × (r.line ≡ line_of t) → None ≡ opens_past 0 ts → Reads N rules.expr ts t ys → follows ys ≡ true → 64 < depth t → IsRefused N ts r
   operators_refused ts ys r t h o d k m =

@@ -254,6 +254,6 @@ module _ (N : List ℕ → Bool) where
   pub stuck_taken : (xs : List Tok) (front : List TypeWord) (ys : List Tok) → WordsSo xs front ys → TakesNone (OneWord N) ys → begins_type N ys ≡ true → TakesNone (AreType N) xs
   stuck_taken xs front ys s n b = record { never = λ ws zs d. let q = s.back zs ws d.words d.over in stuck n b d.over q.2 }
 
-  pub word_halts : {X : Type 0} (value : X → TypeWord) (rest : X → List Tok) (xs : List Tok) (front : List TypeWord) (ys : List Tok) (e : Halt) → WordsSo xs front ys → OneRead N value rest ys (Err e) → Stops (AreType N) xs e
-  word_halts value rest xs front ys (halts.Refused f) s h = (stuck_taken xs front ys s h.0 h.1, h.2)
-  word_halts value rest xs front ys halts.Memory s h = tt
+  pub word_halts : (xs : List Tok) (front : List TypeWord) (ys : List Tok) (e : Halt) → WordsSo xs front ys → OneRead N ys (Err e) → Stops (AreType N) xs e
+  word_halts xs front ys (halts.Refused f) s h = (stuck_taken xs front ys s h.0 h.1, h.2)
+  word_halts xs front ys halts.Memory s h = tt

@@ -1,7 +1,7 @@
-pub mod Names
 pub mod Look
 pub mod Words
 pub mod Kept
 pub mod Pending
 pub mod Parsed
 pub mod Answer
+pub mod Measured

@@ -1,28 +1,21 @@
 -- What a look at the first tokens answers.
-use Rattle.std.specs.Prelude.{◌≡◌, ℕ, Bool, true, false, ◌&&◌, ◌==◌, List, ◌∷◌, map, Option, Some, None}
-use Rattle.ep_ast.specs.Token.{Tok, word, name, number, mark}
+use Rattle.std.specs.Prelude.{◌≡◌, ℕ, ◌<◌, Bool, true, false, ◌&&◌, ◌==◌, List, ◌∷◌, map, length, Option, Some, None}
+use Rattle.std.specs.Borrow.{Bor}
+use Rattle.ep_ast.specs.Token.{Tok, mark}
 use Rattle.ep_ast.specs.Mark.{left_paren}
 use Rattle.ep_ast.specs.TypeWords.{begins_type}
 use Rattle.ep_ast.specs.Grammar.{level, is_assignment}
 use Rattle.ep_ast.specs.Reading.{is_suffix}
+use Rattle.ep_lexer.specs.declared.tokens.Token.{Token}
 use Rattle.ep_lexer.specs.Tokens.{view}
-use Rattle.ep_exprs.specs.declared.look.Head.{Head}
-use Rattle.ep_exprs.specs.declared.look.Head.TheVariants as heads
 
--- a directive, or no token
-abbrev pub NoToken : List Tok → Type 0
-NoToken (word l c ∷ ts) = ⊥
-NoToken (name l text ∷ ts) = ⊥
-NoToken (number l n ∷ ts) = ⊥
-NoToken (mark l c ∷ ts) = ⊥
-NoToken _ = Unit {0}
+-- a line, the number of a mark and the tokens behind it, without where they lie in memory
+abbrev pub seen_code : ℕ × ℕ × Bor (List Token) → ℕ × ℕ × List Tok
+seen_code r = (r.0, r.1, map view r.2.now)
 
-abbrev pub IsHead : Head → List Tok → Type 0
-IsHead (heads.Word l c r) ts = ts ≡ word l c ∷ map view r.now
-IsHead (heads.Name l text r) ts = ts ≡ name l text.now ∷ map view r.now
-IsHead (heads.Number l n r) ts = ts ≡ number l n ∷ map view r.now
-IsHead (heads.Mark l c r) ts = ts ≡ mark l c ∷ map view r.now
-IsHead heads.Other ts = NoToken ts
+-- fewer tokens than so many stand behind
+abbrev pub IsShorterCode : ℕ → ℕ × ℕ × Bor (List Token) → Type 0
+IsShorterCode n r = length r.2.now < n
 
 -- no operator of this level
 abbrev pub NotAt : ℕ → List Tok → Type 0
@@ -54,8 +47,3 @@ begins_cast is_type _ = false
 abbrev pub AtCast : (List ℕ → Bool) → List Tok → Option (ℕ × List Tok) → Type 0
 AtCast is_type ts (Some r) = (c : ℕ) × (c ≡ left_paren) × (begins_type is_type r.1 ≡ true) × (ts ≡ mark r.0 c ∷ r.1)
 AtCast is_type ts None = begins_cast is_type ts ≡ false
-
--- the number of a mark
-abbrev pub code_at : Tok → Option ℕ
-code_at (mark l c) = Some c
-code_at _ = None

@@ -4,16 +4,16 @@ ghost use Rattle.std.specs.Prelude.{◌≡◌, ◌<◌, ◌∷◌, length, map, 
 ghost use Rattle.ep_ast.specs.Token.{Tok};
 ghost use Rattle.ep_ast.specs.Expression.{Expr};
 ghost use Rattle.ep_lexer.specs.Tokens.{view};
-ghost use Rattle.ep_exprs.specs.Names.{is_type};
+ghost use Rattle.ep_reading.specs.Names.{is_type};
 ghost use Rattle.ep_exprs.specs.Kept.{Shows, wrap_all};
 ghost use Rattle.ep_exprs.specs.Pending.{IsBefore, Waits, Value, Combines, Completes, IsShorter};
 ghost use Rattle.ep_exprs.specs.declared.frames.Frame.{Frame as Pending};
 
-use crate::TypeNames;
 use crate::kept::{Kept, Prefix, assign, conditional, prefixed};
-use crate::look::{Head, at_cast, at_word, first_of, is_prefix, is_step};
-use crate::marks::SIZEOF;
+use crate::look::{at_cast, is_prefix, is_step};
+use ep_ast::words::SIZEOF;
 use ep_lexer::Token;
+use ep_reading::{Head, TypeNames, first_of};
 use std::alloc::{AllocError, Global};
 
 /// What stands first before an operand, with its line and what comes after it; for the types what comes after `(`.

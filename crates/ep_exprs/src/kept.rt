@@ -5,10 +5,12 @@ ghost use Rattle.ep_ast.specs.Expression as tree;
 ghost use Rattle.ep_ast.specs.Expression.{Expr, to_exprs, line_of, type_name};
 ghost use Rattle.ep_ast.specs.Grammar.{apply};
 ghost use Rattle.ep_ast.specs.Grammar as grammar;
+ghost use Rattle.ep_exprs.specs.Measured.{ShowsExpr};
 ghost use Rattle.ep_exprs.specs.Kept.{Shows, ShowsAll, ShowsSuffix, Over, Pair, Three, WithAll, OneMore, wrap};
 ghost use Rattle.ep_ast.specs.Nesting.{depth, heights, all_stars_in};
 
 use ep_ast::{ExprTree, Literal, TypeNameTree};
+use ep_reading::Measured;
 use std::alloc::{AllocError, Global};
 
 /// An expression that was read: its line, its tree where that isn't too deep, and then how many operators stand inside
@@ -45,6 +47,19 @@ pub enum Prefix {
     Step(u32, u8),
     Sizeof(u32),
     Typed(u32, TypeNameTree),
+}
+
+impl Kept {
+    /// The tree, or its line where it is too deep.
+    pub fn measured(self) -> Measured<ExprTree>
+        ensures { (t : Expr) → Shows self t → ShowsExpr result t }
+    {
+        let line = self.line;
+        match self.tree {
+            Some(tree) => Measured::Fits(tree),
+            None => Measured::TooDeep(line),
+        }
+    }
 }
 
 fn too_deep(line: u32) -> Kept

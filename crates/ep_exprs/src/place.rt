@@ -7,17 +7,16 @@ ghost use Rattle.ep_ast.specs.Grammar.{IsFront};
 ghost use Rattle.ep_ast.specs.Nesting.{is_too_deep, opens_past};
 ghost use Rattle.ep_ast.specs.Refusal.{IfRefused};
 ghost use Rattle.ep_lexer.specs.Tokens.{view, view_all};
-ghost use Rattle.ep_exprs.specs.Names.{is_type};
+ghost use Rattle.ep_reading.specs.Names.{is_type};
 ghost use Rattle.ep_exprs.specs.Kept.{Shows};
 ghost use Rattle.ep_exprs.specs.Answer.{IsFound, IsRefused, Wholly};
 
-use crate::TypeNames;
 use crate::kept::Kept;
-use crate::look::{follows, stopped};
-use crate::nesting::opens_past;
+use crate::look::follows;
 use crate::parser::read_expression;
 use ep_ast::{ExprTree, Halt, Refusal};
-use ep_lexer::{Token, Tokens};
+use ep_lexer::Tokens;
+use ep_reading::{Reader, TypeNames, last_line, opens_past};
 use std::alloc::Global;
 
 fn too_deep(line: u32) -> Refusal
@@ -38,14 +37,6 @@ fn whole(kept: Kept) -> Result<ExprTree, Refusal>
     match kept.tree {
         Some(tree) => Ok(tree),
         None => Err(too_deep(line)),
-    }
-}
-
-/// The line of the last token, 1 where there is none.
-pub fn last_line(tokens: &[Token]) -> u32 {
-    match tokens.last() {
-        Some(token) => token.line,
-        None => 1,
     }
 }
 
@@ -70,13 +61,17 @@ pub fn expression(
     if let Some(line) = opens_past(here) {
         return Err(Halt::Refused(too_deep(line)));
     }
-    let last = last_line(all);
-    let (kept, rest) = read_expression(alloc, names, last, here)?;
-    if !follows(rest) {
-        return Err(Halt::Refused(stopped(rest, last)));
+    let reader = Reader {
+        alloc,
+        names,
+        last: last_line(all),
+    };
+    let kept = read_expression(&reader, here)?;
+    if !follows(kept.rest) {
+        return Err(Halt::Refused(reader.stopped(kept.rest)));
     }
-    match whole(kept) {
-        Ok(tree) => Ok((tree, all.len() - rest.len())),
+    match whole(kept.value) {
+        Ok(tree) => Ok((tree, all.len() - kept.rest.len())),
         Err(refusal) => Err(Halt::Refused(refusal)),
     }
 }

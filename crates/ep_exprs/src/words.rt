@@ -1,21 +1,23 @@
 //! Reading the names of types.
 
-ghost use Rattle.std.specs.Prelude.{◌≡◌, ◌<◌, ◌≤◌, ◌^◌, length, map, IfOk, IfSome, true, false};
+ghost use Rattle.std.specs.Prelude.{◌≡◌, ◌<◌, ◌≤◌, ◌^◌, length, map, IfOk, true};
 ghost use Rattle.std.specs.Option.{option_map};
 ghost use Rattle.ep_ast.specs.Expression.{type_word, type_name as shown};
 ghost use Rattle.ep_ast.specs.TypeWords as spec;
-ghost use Rattle.ep_ast.specs.TypeWords.{AreType, AreStars, TypeNamed, ends_stars, Consts, words_line};
-ghost use Rattle.ep_ast.specs.Reading.{Gives, LacksWord};
+ghost use Rattle.ep_ast.specs.TypeWords.{AreType, TypeNamed, words_line};
+ghost use Rattle.ep_ast.specs.Reading.{LacksWord};
 ghost use Rattle.ep_ast.specs.Mark.{const_word};
 ghost use Rattle.ep_lexer.specs.Tokens.{view};
-ghost use Rattle.ep_exprs.specs.Names.{is_type};
-ghost use Rattle.ep_exprs.specs.Words.{bag, Joins, OneRead, CountsConsts, ReadsStars};
+ghost use Rattle.ep_reading.specs.Names.{is_type};
+ghost use Rattle.ep_reading.specs.Answer.{GivesAs, IsPast, IsWithin, after};
+ghost use Rattle.ep_exprs.specs.Words.{bag, Joins, OneRead, IsPastWord, CountsConsts, ReadsStars, words_of};
 
-use crate::TypeNames;
-use crate::look::{Head, at_mark, at_name, at_word, first_of, is_tag_word, is_type_word, stopped};
-use crate::marks::{CONST, RIGHT_PAREN, STAR};
+use crate::look::{is_tag_word, is_type_word};
+use ep_ast::marks::{RIGHT_PAREN, STAR};
+use ep_ast::words::{CHAR, CONST, INT, LONG, SHORT, SIGNED, UNSIGNED, VOID};
 use ep_ast::{Halt, TypeNameTree, TypeWordTree};
 use ep_lexer::Token;
+use ep_reading::{Head, Part, Reader, at_mark, at_name, at_word, first_of};
 use std::alloc::{AllocError, Global};
 
 /// How many words of each sort stand together: `signed` and `unsigned` are signs, and the last counts `void`, typedef
@@ -105,12 +107,12 @@ impl TypeBag {
     {
         let mut next = *self;
         match code {
-            2 => next.chars += 1,
-            13 => next.shorts += 1,
-            10 => next.ints += 1,
-            11 => next.longs += 1,
-            14 | 20 => next.signs += 1,
-            21 => next.wholes += 1,
+            CHAR => next.chars += 1,
+            SHORT => next.shorts += 1,
+            INT => next.ints += 1,
+            LONG => next.longs += 1,
+            SIGNED | UNSIGNED => next.signs += 1,
+            VOID => next.wholes += 1,
             _ => {}
         }
         next.fitting()
@@ -130,31 +132,38 @@ impl TypeBag {
 
 /// The word of a type that stands first, and what comes after it; None where none begins.
 pub fn one_word<'a>(
-    alloc: Global,
-    names: &TypeNames,
-    last: u32,
+    reader: &Reader<'_>,
     tokens: &'a [Token],
-) -> Result<Option<(TypeWordTree, &'a [Token])>, Halt>
-    ensures reads { OneRead (is_type names.now) (λ p. type_word p.0) (λ p. map view p.1.now) (map view tokens.now) result }
-    ensures shorter { IfOk result (λ o. IfSome o (λ p. length p.1.now < length tokens.now)) }
+) -> Result<Option<Part<'a, TypeWordTree>>, Halt>
+    ensures reads { OneRead (is_type reader.now.names.now) (map view tokens.now) result }
+    ensures shorter { IfOk result (IsPastWord (length tokens.now)) }
 {
     match first_of(tokens) {
         Head::Word(line, code, rest) => if is_type_word(code) {
-            Ok(Some((TypeWordTree::Word(line, code), rest)))
+            Ok(Some(Part {
+                value: TypeWordTree::Word(line, code),
+                rest,
+            }))
         } else if is_tag_word(code) {
             match at_name(rest) {
                 Some((_, tag, more)) => {
-                    let tag = Vec::from_slice(alloc, tag)?;
-                    Ok(Some((TypeWordTree::Tag(line, code, tag), more)))
+                    let tag = Vec::from_slice(reader.alloc, tag)?;
+                    Ok(Some(Part {
+                        value: TypeWordTree::Tag(line, code, tag),
+                        rest: more,
+                    }))
                 }
-                None => Err(Halt::Refused(stopped(rest, last))),
+                None => Err(Halt::Refused(reader.stopped(rest))),
             }
         } else {
             Ok(None)
         },
-        Head::Name(line, text, rest) => if names.has(text) {
-            let text = Vec::from_slice(alloc, text)?;
-            Ok(Some((TypeWordTree::Name(line, text), rest)))
+        Head::Name(line, text, rest) => if reader.names.has(text) {
+            let text = Vec::from_slice(reader.alloc, text)?;
+            Ok(Some(Part {
+                value: TypeWordTree::Name(line, text),
+                rest,
+            }))
         } else {
             Ok(None)
         },
@@ -162,40 +171,59 @@ pub fn one_word<'a>(
     }
 }
 
+/// The same behind words of these sorts. A `struct` or `union` that can't join them is the place of a refusal itself, also
+/// where its tag is missing.
+fn next_word<'a>(
+    reader: &Reader<'_>,
+    words: &TypeBag,
+    tokens: &'a [Token],
+) -> Result<Option<Part<'a, TypeWordTree>>, Halt>
+    ensures reads { OneRead (is_type reader.now.names.now) (map view tokens.now) result }
+    ensures shorter { IfOk result (IsPastWord (length tokens.now)) }
+{
+    match one_word(reader, tokens) {
+        Ok(word) => Ok(word),
+        Err(Halt::Memory) => Err(Halt::Memory),
+        Err(Halt::Refused(bare)) => if words.is_empty() {
+            Err(Halt::Refused(bare))
+        } else {
+            Err(Halt::Refused(reader.stopped(tokens)))
+        },
+    }
+}
+
 /// The words of a type without members, all that stand here. The refusal names the first word that can't join.
 pub fn type_words<'a>(
-    alloc: Global,
-    names: &TypeNames,
-    last: u32,
+    reader: &Reader<'_>,
     tokens: &'a [Token],
-) -> Result<(Vec<TypeWordTree>, &'a [Token]), Halt>
-    ensures reads { Gives (λ p. map type_word p.0.items) (λ p. map view p.1.now) (AreType (is_type names.now)) (map view tokens.now) result }
-    ensures shorter { IfOk result (λ p. length p.1.now ≤ length tokens.now) }
+) -> Result<Part<'a, Vec<TypeWordTree>>, Halt>
+    ensures reads { GivesAs words_of (AreType (is_type reader.now.names.now)) (map view tokens.now) result }
+    ensures shorter { IfOk result (IsWithin (length tokens.now)) }
 {
-    let mut words = Vec::new(alloc);
+    let mut words = Vec::new(reader.alloc);
     let mut bag = TypeBag::new();
     let mut rest = tokens;
     'words: loop {
-        let Some((word, more)) = one_word(alloc, names, last, rest)? else {
+        let Some(word) = next_word(reader, &bag, rest)? else {
             if bag.is_empty() {
-                return Err(Halt::Refused(stopped(rest, last)));
+                return Err(Halt::Refused(reader.stopped(rest)));
             }
-            return Ok((words, rest));
+            return Ok(Part { value: words, rest });
         };
-        let Some(next) = bag.with(&word) else {
-            return Err(Halt::Refused(stopped(rest, last)));
+        let Some(next) = bag.with(&word.value) else {
+            return Err(Halt::Refused(reader.stopped(rest)));
         };
-        words.push(word)?;
+        words.push(word.value)?;
         bag = next;
-        rest = more;
+        rest = word.rest;
     }
 }
 
 /// How many `const` stand here, and what comes after them.
-fn consts(tokens: &[Token]) -> (u32, &[Token])
+fn consts(tokens: &[Token]) -> Part<'_, u32>
     requires { length tokens.now < 2 ^ 24 }
-    ensures counts { CountsConsts (map view tokens.now) result.0 (map view result.1.now) }
-    ensures shorter { length result.1.now ≤ length tokens.now }
+    ensures counts { CountsConsts (map view tokens.now) result.value (after result) }
+    ensures shorter { IsWithin (length tokens.now) result }
 {
     let mut count = 0;
     let mut rest = tokens;
@@ -203,25 +231,25 @@ fn consts(tokens: &[Token]) -> (u32, &[Token])
         count += 1;
         rest = more;
     }
-    (count, rest)
+    Part { value: count, rest }
 }
 
 /// All stars that stand here, each with the number of `const` after it.
-pub fn stars(alloc: Global, tokens: &[Token]) -> Result<(Vec<u32>, &[Token]), AllocError>
+pub fn stars(alloc: Global, tokens: &[Token]) -> Result<Part<'_, Vec<u32>>, AllocError>
     requires few { length tokens.now < 2 ^ 24 }
     requires begins { LacksWord const_word (map view tokens.now) }
-    ensures reads { IfOk result (λ p. ReadsStars (map view tokens.now) p.0.items (map view p.1.now)) }
-    ensures shorter { IfOk result (λ p. length p.1.now ≤ length tokens.now) }
+    ensures reads { IfOk result (ReadsStars (map view tokens.now)) }
+    ensures shorter { IfOk result (IsWithin (length tokens.now)) }
 {
     let mut found = Vec::new(alloc);
     let mut rest = tokens;
     'stars: loop {
         let Some((_, more)) = at_mark(rest, STAR) else {
-            return Ok((found, rest));
+            return Ok(Part { value: found, rest });
         };
-        let (count, after) = consts(more);
-        found.push(count)?;
-        rest = after;
+        let count = consts(more);
+        found.push(count.value)?;
+        rest = count.rest;
     }
 }
 
@@ -241,20 +269,25 @@ fn line_of(words: &[TypeWordTree]) -> u32
 
 /// The name of a type, from behind an opening parenthesis to behind the closing one.
 pub fn type_name<'a>(
-    alloc: Global,
-    names: &TypeNames,
-    last: u32,
+    reader: &Reader<'_>,
     tokens: &'a [Token],
-) -> Result<(TypeNameTree, &'a [Token]), Halt>
+) -> Result<Part<'a, TypeNameTree>, Halt>
     requires { length tokens.now < 2 ^ 24 }
-    ensures reads { Gives (λ p. shown p.0) (λ p. map view p.1.now) (TypeNamed (is_type names.now)) (map view tokens.now) result }
-    ensures shorter { IfOk result (λ p. length p.1.now < length tokens.now) }
+    ensures reads { GivesAs shown (TypeNamed (is_type reader.now.names.now)) (map view tokens.now) result }
+    ensures shorter { IfOk result (IsPast (length tokens.now)) }
 {
-    let (specs, after) = type_words(alloc, names, last, tokens)?;
-    let (stars, rest) = stars(alloc, after)?;
-    let Some((_, more)) = at_mark(rest, RIGHT_PAREN) else {
-        return Err(Halt::Refused(stopped(rest, last)));
+    let specs = type_words(reader, tokens)?;
+    let stars = stars(reader.alloc, specs.rest)?;
+    let Some((_, more)) = at_mark(stars.rest, RIGHT_PAREN) else {
+        return Err(Halt::Refused(reader.stopped(stars.rest)));
     };
-    let line = line_of(&specs);
-    Ok((TypeNameTree { line, specs, stars }, more))
+    let line = line_of(&specs.value);
+    Ok(Part {
+        value: TypeNameTree {
+            line,
+            specs: specs.value,
+            stars: stars.value,
+        },
+        rest: more,
+    })
 }

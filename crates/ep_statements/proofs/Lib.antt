@@ -1,5 +1,4 @@
 pub mod DepthLemmas
-pub mod SequenceLemmas
 pub mod HeadLemmas
 pub mod FrameLemmas
 pub mod PieceLemmas

@@ -15,12 +15,13 @@ use Rattle.ep_ast.specs.StatementGrammar.{nothing, something, little, big, State
 use Rattle.ep_ast.specs.Reading.{Takes, TakesNone, Lacks, AtMark}
 use Rattle.ep_statements.specs.Shown.{body}
 use Rattle.ep_ast.specs.Cut.{order_token}
-use Rattle.ep_statements.specs.Directive.{LacksIf, LacksElse, LacksEndIf, ends_arm}
-use Rattle.ep_statements.proofs.SequenceLemmas.{Both, Makes}
+use Rattle.ep_reading.specs.Look.{LacksIf, LacksElse, LacksEndIf, ends_arm}
+use Rattle.ep_reading.proofs.SequenceLemmas.{Both, Makes}
 use Rattle.ep_statements.proofs.HeadLemmas.{begins_expr, begins_not}
 use Rattle.ep_statements.proofs.PieceLemmas.{declares_begins, type_no_up_to}
 
-no_type_word : (c n : ℕ) → c ≡ n → (is_type_word n || is_tag_word n) ≡ false → (is_type_word c || is_tag_word c) ≡ true → ⊥
+no_type_word : (c n : ℕ) → c ≡ n → (is_type_word n || is_tag_word n) ≡ false → (is_type_word c || is_tag_word c) ≡ true
+    → ⊥
 no_type_word c n h e k = let f : (is_type_word n || is_tag_word n) ≡ true = rw h at k in cc
 
 module _ (N : List ℕ → Bool) where
@@ -52,7 +53,8 @@ module _ (N : List ℕ → Bool) where
   close_no_state : {l c : ℕ} {xs ws : List Tok} {u : Stmt} → c ≡ right_brace → States N (mark l c ∷ xs) ws u → ⊥
   close_no_state h (block k d) = absurd (omega arith)
   close_no_state h (evaluate (nothing k)) = absurd (omega arith)
-  close_no_state {l = l} {c = c} h (evaluate (something k d)) = begins_not N l c right_brace h refl refl refl (begins_expr N d)
+  close_no_state {l = l} {c = c} h (evaluate (something k d)) = begins_not N l c right_brace h refl refl refl
+      (begins_expr N d)
 
   close_no_part : {l c : ℕ} {xs ws : List Tok} {p : Part} → c ≡ right_brace → OnePart N (mark l c ∷ xs) ws p → ⊥
   close_no_part h (declaration d) = let b = declares_begins N d in absurd cc
@@ -63,62 +65,88 @@ module _ (N : List ℕ → Bool) where
 
   pub record PartsSo (xs : List Tok) (front : List Part) (ys : List Tok) : Type 0 where
     pub forth : (zs : List Tok) (ps : List Part) → Parts N ys zs ps → Parts N xs zs (front ++ ps)
-    pub back : (zs : List Tok) (ps : List Part) → Parts N xs zs ps → (more : List Part) × (ps ≡ front ++ more) × Parts N ys zs more
+    pub back : (zs : List Tok) (ps : List Part) → Parts N xs zs ps → (more : List Part) × (ps ≡ front ++ more)
+        × Parts N ys zs more
 
   pub parts_begin : (xs : List Tok) → PartsSo xs [] xs
   parts_begin xs = record { forth = λ zs ps d. d; back = λ zs ps d. (ps, refl, d) }
 
-  one_part : (front : List Part) {ys ws zs : List Tok} {p : Part} {ps rest : List Part} → Takes (OnePart N) ys p ws → ps ≡ front ++ rest → Parts N ys zs rest → (more : List Part) × (ps ≡ (front ++ p ∷ []) ++ more) × Parts N ws zs more
+  one_part : (front : List Part) {ys ws zs : List Tok} {p : Part} {ps rest : List Part} → Takes (OnePart N) ys p ws
+      → ps ≡ front ++ rest → Parts N ys zs rest → (more : List Part) × (ps ≡ (front ++ p ∷ []) ++ more)
+      × Parts N ws zs more
   one_part front {ws = ws} {p = p} k e (no_parts h) = absurd (close_no_part h k.holds)
   one_part front {ws = ws} {zs = zs} {p = p} k e (more_parts {ys = us} {p = q} {ps = qs} o d) =
-      let f = k.only q us o in
-      (qs, e ∙ ap (λ (r : Part). front ++ r ∷ qs) f.0 ∙ sym (append_assoc front (p ∷ []) qs), subst (λ (ts : List Tok). Parts N ts zs qs) f.1 d)
+      let f = k.only q us o in (
+        qs,
+        e ∙ ap (λ (r : Part). front ++ r ∷ qs) f.0 ∙ sym (append_assoc front (p ∷ []) qs),
+        subst
+            (λ (ts : List Tok). Parts N ts zs qs) f.1 d,
+      )
 
-  pub part_step : (xs ys zs : List Tok) (front : List Part) (p : Part) → PartsSo xs front ys → Takes (OnePart N) ys p zs → PartsSo xs (front ++ p ∷ []) zs
+  pub part_step : (xs ys zs : List Tok) (front : List Part) (p : Part) → PartsSo xs front ys
+      → Takes (OnePart N) ys p zs → PartsSo xs (front ++ p ∷ []) zs
   part_step xs ys zs front p s k = record {
     forth = λ us ps d. rw append_assoc (s.forth us (p ∷ ps) (more_parts k.holds d));
     back = λ us ps d. let q = s.back us ps d in one_part front k q.1 q.2;
   }
 
-  at_close : (front : List Part) {l c : ℕ} {ys zs : List Tok} {ps rest : List Part} → c ≡ right_brace → ps ≡ front ++ rest → Parts N (mark l c ∷ ys) zs rest → (ps ≡ front ++ []) × (zs ≡ ys)
+  at_close : (front : List Part) {l c : ℕ} {ys zs : List Tok} {ps rest : List Part} → c ≡ right_brace
+      → ps ≡ front ++ rest → Parts N (mark l c ∷ ys) zs rest → (ps ≡ front ++ []) × (zs ≡ ys)
   at_close front h e (no_parts k) = (e, refl)
   at_close front h e (more_parts o d) = absurd (close_no_part h o)
 
-  pub parts_done : (xs ys zs : List Tok) (front : List Part) (l : ℕ) → PartsSo xs front ys → AtMark right_brace ys (Some (l, zs)) → Takes (Parts N) xs front zs
+  pub parts_done : (xs ys zs : List Tok) (front : List Part) (l : ℕ) → PartsSo xs front ys
+      → AtMark right_brace ys (Some (l, zs)) → Takes (Parts N) xs front zs
   parts_done xs ys zs front l s k =
       let s' : PartsSo xs front (mark l k.0 ∷ zs) = rw k.2 at s in
-      subst (λ (ps : List Part). Takes (Parts N) xs ps zs) (append-nil front) (record { holds = s'.forth zs [] (no_parts k.1); only = λ ps us d. let q = s'.back us ps d in at_close front k.1 q.1 q.2 })
+      subst (λ (ps : List Part). Takes (Parts N) xs ps zs) (append-nil front)
+      (record {
+        holds = s'.forth zs [] (no_parts k.1);
+        only = λ ps us d. let q = s'.back us ps d in at_close front
+            k.1 q.1 q.2;
+      })
 
-  part_never : {ys zs : List Tok} {ps : List Part} → Lacks right_brace ys → TakesNone (OnePart N) ys → Parts N ys zs ps → ⊥
+  part_never : {ys zs : List Tok} {ps : List Part} → Lacks right_brace ys → TakesNone (OnePart N) ys → Parts N ys zs ps
+      → ⊥
   part_never n k (no_parts h) = n h
   part_never n k (more_parts {ys = us} {p = p} o d) = k.never p us o
 
-  pub part_refused : (xs ys : List Tok) (front : List Part) → PartsSo xs front ys → Lacks right_brace ys → TakesNone (OnePart N) ys → TakesNone (Parts N) xs
+  pub part_refused : (xs ys : List Tok) (front : List Part) → PartsSo xs front ys → Lacks right_brace ys
+      → TakesNone (OnePart N) ys → TakesNone (Parts N) xs
   part_refused xs ys front s n k = record { never = λ ps zs d. let q = s.back zs ps d in part_never n k q.2 }
 
   -- ---- the statements of an arm
 
   pub record StatementsSo (xs : List Tok) (front : List Stmt) (ys : List Tok) : Type 0 where
     pub forth : (zs : List Tok) (ss : List Stmt) → Statements N ys zs ss → Statements N xs zs (front ++ ss)
-    pub back : (zs : List Tok) (ss : List Stmt) → Statements N xs zs ss → (more : List Stmt) × (ss ≡ front ++ more) × Statements N ys zs more
+    pub back : (zs : List Tok) (ss : List Stmt) → Statements N xs zs ss → (more : List Stmt) × (ss ≡ front ++ more)
+        × Statements N ys zs more
 
   pub statements_begin : (xs : List Tok) → StatementsSo xs [] xs
   statements_begin xs = record { forth = λ zs ss d. d; back = λ zs ss d. (ss, refl, d) }
 
-  one_statement : (front : List Stmt) {ys ws zs : List Tok} {s : Stmt} {ss rest : List Stmt} → Takes (States N) ys s ws → ss ≡ front ++ rest → Statements N ys zs rest → (more : List Stmt) × (ss ≡ (front ++ s ∷ []) ++ more) × Statements N ws zs more
+  one_statement : (front : List Stmt) {ys ws zs : List Tok} {s : Stmt} {ss rest : List Stmt} → Takes (States N) ys s ws
+      → ss ≡ front ++ rest → Statements N ys zs rest → (more : List Stmt) × (ss ≡ (front ++ s ∷ []) ++ more)
+      × Statements N ws zs more
   one_statement front k e before_else = absurd (other_no_state k.holds)
   one_statement front k e before_end = absurd (end_no_state k.holds)
   one_statement front {zs = zs} {s = s} k e (more_statements {ys = us} {s = t} {ss = ts} o d) =
-      let f = k.only t us o in
-      (ts, e ∙ ap (λ (r : Stmt). front ++ r ∷ ts) f.0 ∙ sym (append_assoc front (s ∷ []) ts), subst (λ (vs : List Tok). Statements N vs zs ts) f.1 d)
+      let f = k.only t us o in (
+        ts,
+        e ∙ ap (λ (r : Stmt). front ++ r ∷ ts) f.0 ∙ sym (append_assoc front (s ∷ []) ts),
+        subst
+            (λ (vs : List Tok). Statements N vs zs ts) f.1 d,
+      )
 
-  pub statement_step : (xs ys zs : List Tok) (front : List Stmt) (s : Stmt) → StatementsSo xs front ys → Takes (States N) ys s zs → StatementsSo xs (front ++ s ∷ []) zs
+  pub statement_step : (xs ys zs : List Tok) (front : List Stmt) (s : Stmt) → StatementsSo xs front ys
+      → Takes (States N) ys s zs → StatementsSo xs (front ++ s ∷ []) zs
   statement_step xs ys zs front s r k = record {
     forth = λ us ss d. rw append_assoc (r.forth us (s ∷ ss) (more_statements k.holds d));
     back = λ us ss d. let q = r.back us ss d in one_statement front k q.1 q.2;
   }
 
-  at_arm_end : (front : List Stmt) {ys zs : List Tok} {ss rest : List Stmt} → ends_arm ys ≡ true → ss ≡ front ++ rest → Statements N ys zs rest → (ss ≡ front ++ []) × (zs ≡ ys)
+  at_arm_end : (front : List Stmt) {ys zs : List Tok} {ss rest : List Stmt} → ends_arm ys ≡ true → ss ≡ front ++ rest
+      → Statements N ys zs rest → (ss ≡ front ++ []) × (zs ≡ ys)
   at_arm_end front h e before_else = (e, refl)
   at_arm_end front h e before_end = (e, refl)
   at_arm_end front h e (more_statements (block k d) r) = absurd cc
@@ -149,15 +177,23 @@ module _ (N : List ℕ → Bool) where
   arm_ends (other l ∷ ts) h = before_else
   arm_ends (end_if l ∷ ts) h = before_end
 
-  pub statements_done : (xs ys : List Tok) (front : List Stmt) → StatementsSo xs front ys → ends_arm ys ≡ true → Takes (Statements N) xs front ys
-  statements_done xs ys front r h = subst (λ (ss : List Stmt). Takes (Statements N) xs ss ys) (append-nil front) (record { holds = r.forth ys [] (arm_ends ys h); only = λ ss us d. let q = r.back us ss d in at_arm_end front h q.1 q.2 })
+  pub statements_done : (xs ys : List Tok) (front : List Stmt) → StatementsSo xs front ys → ends_arm ys ≡ true
+      → Takes (Statements N) xs front ys
+  statements_done xs ys front r h = subst (λ (ss : List Stmt). Takes (Statements N) xs ss ys) (append-nil front)
+      (record {
+        holds = r.forth ys [] (arm_ends ys h);
+        only = λ ss us d. let q = r.back us ss d in at_arm_end front h
+            q.1 q.2;
+      })
 
-  statement_never : {ys zs : List Tok} {ss : List Stmt} → ends_arm ys ≡ false → TakesNone (States N) ys → Statements N ys zs ss → ⊥
+  statement_never : {ys zs : List Tok} {ss : List Stmt} → ends_arm ys ≡ false → TakesNone (States N) ys
+      → Statements N ys zs ss → ⊥
   statement_never h k before_else = absurd cc
   statement_never h k before_end = absurd cc
   statement_never h k (more_statements {ys = us} {s = s} o d) = k.never s us o
 
-  pub statement_refused : (xs ys : List Tok) (front : List Stmt) → StatementsSo xs front ys → ends_arm ys ≡ false → TakesNone (States N) ys → TakesNone (Statements N) xs
+  pub statement_refused : (xs ys : List Tok) (front : List Stmt) → StatementsSo xs front ys → ends_arm ys ≡ false
+      → TakesNone (States N) ys → TakesNone (Statements N) xs
   statement_refused xs ys front r h k = record { never = λ ss zs d. let q = r.back zs ss d in statement_never h k q.2 }
 
   -- ---- the arm behind an `#else`
@@ -178,19 +214,23 @@ module _ (N : List ℕ → Bool) where
   pub end_lacking : (xs : List Tok) → LacksEndIf xs → TakesNone IsEnd xs
   end_lacking xs n = record { never = λ m zs d. end_never n d }
 
-  no_other_only : {l : ℕ} {xs zs : List Tok} {o : Option Stmts} → OtherArm N (end_if l ∷ xs) zs o → (o ≡ None) × (zs ≡ xs)
+  no_other_only : {l : ℕ} {xs zs : List Tok} {o : Option Stmts} → OtherArm N (end_if l ∷ xs) zs o → (o ≡ None)
+      × (zs ≡ xs)
   no_other_only no_other = (refl, refl)
 
   pub no_other_taken : (l : ℕ) (xs ys : List Tok) → xs ≡ end_if l ∷ ys → Takes (OtherArm N) xs None ys
   no_other_taken l xs ys h = rw h (record { holds = no_other; only = λ o zs d. no_other_only d })
 
-  to_another : {l : ℕ} {xs zs : List Tok} {o : Option Stmts} → OtherArm N (other l ∷ xs) zs o → (p : List Stmt × ℕ) × Both (Statements N) IsEnd xs zs p × (o ≡ Some (to_stmts p.0))
+  to_another : {l : ℕ} {xs zs : List Tok} {o : Option Stmts} → OtherArm N (other l ∷ xs) zs o → (p : List Stmt × ℕ)
+      × Both (Statements N) IsEnd xs zs p × (o ≡ Some (to_stmts p.0))
   to_another {zs = zs} (another {m = m} {ss = ss} d) = ((ss, m), (end_if m ∷ zs, d, is_end), refl)
 
-  another_from : {l n : ℕ} {xs ys zs : List Tok} {ss : List Stmt} → Statements N xs ys ss → IsEnd ys zs n → OtherArm N (other l ∷ xs) zs (Some (to_stmts ss))
+  another_from : {l n : ℕ} {xs ys zs : List Tok} {ss : List Stmt} → Statements N xs ys ss → IsEnd ys zs n
+      → OtherArm N (other l ∷ xs) zs (Some (to_stmts ss))
   another_from d is_end = another d
 
-  pub another_rule : (l : ℕ) (xs : List Tok) → Makes (Both (Statements N) IsEnd) xs (λ (p : List Stmt × ℕ). Some (to_stmts p.0)) (OtherArm N) (other l ∷ xs)
+  pub another_rule : (l : ℕ) (xs : List Tok)
+      → Makes (Both (Statements N) IsEnd) xs (λ (p : List Stmt × ℕ). Some (to_stmts p.0)) (OtherArm N) (other l ∷ xs)
   another_rule l xs = record { to = λ o zs d. to_another d; from = λ p zs d. another_from d.1 d.2 }
 
   other_arm_never : {xs zs : List Tok} {o : Option Stmts} → LacksElse xs → LacksEndIf xs → OtherArm N xs zs o → ⊥
@@ -202,44 +242,53 @@ module _ (N : List ℕ → Bool) where
 
   -- ---- one part
 
-  to_declared : {xs zs : List Tok} {p : Part} → begins_type N xs ≡ true → OnePart N xs zs p → (d : Declaration) × Declares N in_block xs zs d × (p ≡ tree.declares_in d)
+  to_declared : {xs zs : List Tok} {p : Part} → begins_type N xs ≡ true → OnePart N xs zs p → (d : Declaration)
+      × Declares N in_block xs zs d × (p ≡ tree.declares_in d)
   to_declared h (declaration {d = d} k) = (d, k, refl)
   to_declared h (statement k) = absurd (type_no_state h k)
   to_declared h (arms little d o) = absurd cc
   to_declared h (arms big d o) = absurd cc
 
-  pub declared_rule : (xs : List Tok) → begins_type N xs ≡ true → Makes (Declares N in_block) xs (λ (d : Declaration). tree.declares_in d) (OnePart N) xs
+  pub declared_rule : (xs : List Tok) → begins_type N xs ≡ true
+      → Makes (Declares N in_block) xs (λ (d : Declaration). tree.declares_in d) (OnePart N) xs
   declared_rule xs h = record { to = λ p zs d. to_declared h d; from = λ v zs d. declaration d }
 
-  to_stated : {xs zs : List Tok} {p : Part} → begins_type N xs ≡ false → LacksIf xs → OnePart N xs zs p → (s : Stmt) × States N xs zs s × (p ≡ tree.states s)
+  to_stated : {xs zs : List Tok} {p : Part} → begins_type N xs ≡ false → LacksIf xs → OnePart N xs zs p → (s : Stmt)
+      × States N xs zs s × (p ≡ tree.states s)
   to_stated h n (declaration k) = let b = declares_begins N k in absurd cc
   to_stated h n (statement {s = s} k) = (s, k, refl)
   to_stated h n (arms little d o) = absurd n
   to_stated h n (arms big d o) = absurd n
 
-  pub stated_rule : (xs : List Tok) → begins_type N xs ≡ false → LacksIf xs → Makes (States N) xs (λ (s : Stmt). tree.states s) (OnePart N) xs
+  pub stated_rule : (xs : List Tok) → begins_type N xs ≡ false → LacksIf xs
+      → Makes (States N) xs (λ (s : Stmt). tree.states s) (OnePart N) xs
   stated_rule xs h n = record { to = λ p zs d. to_stated h n d; from = λ s zs d. statement d }
 
   abbrev pub ArmParts : List Tok → List Tok → List Stmt × Option Stmts → Type 0
   ArmParts = Both (Statements N) (OtherArm N)
 
-  to_little : {l : ℕ} {xs zs : List Tok} {p : Part} → OnePart N (if_little l ∷ xs) zs p → (q : List Stmt × Option Stmts) × ArmParts xs zs q × (p ≡ make_arms l Little (to_stmts q.0) q.1)
+  to_little : {l : ℕ} {xs zs : List Tok} {p : Part} → OnePart N (if_little l ∷ xs) zs p
+      → (q : List Stmt × Option Stmts) × ArmParts xs zs q × (p ≡ make_arms l Little (to_stmts q.0) q.1)
   to_little (declaration k) = let b = declares_begins N k in absurd cc
   to_little (statement k) = absurd (little_no_state k)
   to_little (arms {ys = ys} {ss = ss} {ts = ts} little d o) = ((ss, ts), (ys, d, o), refl)
 
-  to_big : {l : ℕ} {xs zs : List Tok} {p : Part} → OnePart N (if_big l ∷ xs) zs p → (q : List Stmt × Option Stmts) × ArmParts xs zs q × (p ≡ make_arms l Big (to_stmts q.0) q.1)
+  to_big : {l : ℕ} {xs zs : List Tok} {p : Part} → OnePart N (if_big l ∷ xs) zs p → (q : List Stmt × Option Stmts)
+      × ArmParts xs zs q × (p ≡ make_arms l Big (to_stmts q.0) q.1)
   to_big (declaration k) = let b = declares_begins N k in absurd cc
   to_big (statement k) = absurd (big_no_state k)
   to_big (arms {ys = ys} {ss = ss} {ts = ts} big d o) = ((ss, ts), (ys, d, o), refl)
 
-  pub arms_rule : (l : ℕ) (o : NamedOrder) (xs : List Tok) → Makes ArmParts xs (λ (q : List Stmt × Option Stmts). make_arms l o (to_stmts q.0) q.1) (OnePart N) (order_token o l ∷ xs)
+  pub arms_rule : (l : ℕ) (o : NamedOrder) (xs : List Tok)
+      → Makes ArmParts xs (λ (q : List Stmt × Option Stmts). make_arms l o (to_stmts q.0) q.1) (OnePart N)
+      (order_token o l ∷ xs)
   arms_rule l Little xs = record { to = λ p zs d. to_little d; from = λ q zs d. arms little d.1 d.2 }
   arms_rule l Big xs = record { to = λ p zs d. to_big d; from = λ q zs d. arms big d.1 d.2 }
 
   -- ---- the body of a function
 
-  to_braces : {l c : ℕ} {xs zs : List Tok} {b : Block} → Blocks N (mark l c ∷ xs) zs b → (ps : List Part) × Parts N xs zs ps × (b ≡ body l ps)
+  to_braces : {l c : ℕ} {xs zs : List Tok} {b : Block} → Blocks N (mark l c ∷ xs) zs b → (ps : List Part)
+      × Parts N xs zs ps × (b ≡ body l ps)
   to_braces (braces {ps = ps} h d) = (ps, d, refl)
 
   pub braces_rule : (l c : ℕ) (xs : List Tok) → c ≡ left_brace → Makes (Parts N) xs (body l) (Blocks N) (mark l c ∷ xs)

@@ -3,8 +3,8 @@ use Rattle.std.specs.Prelude.{ℕ, Option}
 use Rattle.ep_ast.specs.Statement.{Block, to_parts, block_of}
 use Rattle.ep_ast.specs.declared.statements.BlockTree.{BlockTree}
 use Rattle.ep_ast.specs.Depth.{in_parts}
-use Rattle.ep_declarators.specs.declared.measured.Measured.{Measured}
-use Rattle.ep_declarators.specs.Measured.{Shows}
+use Rattle.ep_reading.specs.declared.measured.Measured.{Measured}
+use Rattle.ep_reading.specs.Measured.{Shows}
 
 abbrev pub in_block : Block → Option ℕ
 in_block b = in_parts (to_parts b.parts)

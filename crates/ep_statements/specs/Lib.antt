@@ -1,5 +1,4 @@
 pub mod Answer
 pub mod Shown
 pub mod Piece
-pub mod Directive
 pub mod Around

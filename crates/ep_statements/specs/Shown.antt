@@ -1,5 +1,5 @@
 -- What is kept of statements and of parts of blocks.
-use Rattle.std.specs.Prelude.{◌≡◌, ℕ, ◌≤◌, nat_lt, true, false, ◌||◌, Option, Some, None, List, map}
+use Rattle.std.specs.Prelude.{◌≡◌, ℕ, ◌≤◌, nat_lt, max, ◌||◌, Option, Some, None, List, []}
 use Rattle.std.specs.Global.{Vec}
 use Rattle.std.specs.Option.{option_map}
 use Rattle.ep_ast.specs.declared.expressions.ExprTree.{ExprTree}
@@ -9,37 +9,65 @@ use Rattle.ep_ast.specs.declared.statements.ForInitTree.{ForInitTree}
 use Rattle.ep_ast.specs.Expression.{Expr, expr}
 use Rattle.ep_ast.specs.Statement.{First, first_of, Stmt, Stmts, Block, stmt_of, Part, part_of, to_stmts, to_parts}
 use Rattle.ep_ast.specs.Nesting.{is_too_deep}
-use Rattle.ep_ast.specs.Depth.{is_deep_if, in_first, in_stmt, in_stmts, in_part, in_parts, or_else, line_if, height, height_of_stmts, height_of_part, height_of_parts}
-use Rattle.ep_declarators.specs.declared.measured.Measured.{Measured}
-use Rattle.ep_declarators.specs.Measured.{Shows}
+use Rattle.ep_ast.specs.Depth.{is_deep_if, in_first, in_stmt, in_part, or_else, line_if, height, height_of_stmts, height_of_part, height_of_parts}
+use Rattle.ep_reading.specs.declared.measured.Measured.{Measured}
+use Rattle.ep_reading.specs.declared.measured.Measured.TheVariants as measured
+use Rattle.ep_reading.specs.Measured as measures
+use Rattle.ep_reading.specs.Measured.{Shows, ShowsAll}
 use Rattle.ep_statements.specs.declared.kept.Counted.{Counted}
-use Rattle.ep_statements.specs.declared.kept.Given.{Given}
-use Rattle.ep_statements.specs.declared.kept.Given.TheVariants as givens
 use Rattle.ep_statements.specs.declared.kept.Heading.{Heading}
-use Rattle.ep_statements.specs.declared.kept.Tested.{Tested}
 
--- ---- expressions
+-- ---- lists
 
--- the tree, where it isn't too deep
-abbrev pub ShowsTest : Option ExprTree → Expr → Type 0
-ShowsTest (Some t) e = (expr t ≡ e) × (is_too_deep e ≡ false)
-ShowsTest None e = is_too_deep e ≡ true
+-- another list of the same elements, or the same line
+abbrev pub HasSame : {T : Type 0} → Measured (Vec T) → Measured (Vec T) → Type 0
+HasSame (measured.Fits v) (measured.Fits w) = w.items ≡ v.items
+HasSame (measured.Fits v) (measured.TooDeep l) = ⊥
+HasSame (measured.TooDeep l) r = r ≡ measured.TooDeep l
 
--- the same of an expression that may be missing
-abbrev pub ShowsGiven : Given → Option Expr → Type 0
-ShowsGiven (givens.Fits o) e = (option_map expr o ≡ e) × (is_deep_if e ≡ false)
-ShowsGiven givens.TooDeep e = is_deep_if e ≡ true
+-- no elements
+abbrev pub HasNone : {T : Type 0} → Measured (Vec T) → Type 0
+HasNone (measured.Fits v) = v.items ≡ []
+HasNone (measured.TooDeep l) = ⊥
 
--- the first part of a `for` of this line
+abbrev pub IsEmpty : {T : Type 0} → Counted (Vec T) → Type 0
+IsEmpty r = HasNone r.tree × (r.height ≡ 0)
+
+-- with one more
+abbrev pub IsLonger : {T : Type 0} → Counted (Vec T) → Counted T → Counted (Vec T) → Type 0
+IsLonger all one r = measures.IsLonger all.tree one.tree r.tree × (r.height ≡ max all.height one.height)
+
+-- ---- expressions in a statement of this line
+
+abbrev pub in_test : (line : ℕ) → Expr → Option ℕ
+in_test l e = line_if (is_too_deep e) l
+
+abbrev pub ShowsTest : (line : ℕ) → Measured ExprTree → Expr → Type 0
+ShowsTest l k e = Shows expr (in_test l) k e
+
+-- one that may be missing
+abbrev pub in_given : (line : ℕ) → Option Expr → Option ℕ
+in_given l o = line_if (is_deep_if o) l
+
+abbrev pub given : Option ExprTree → Option Expr
+given o = option_map expr o
+
+abbrev pub ShowsGiven : (line : ℕ) → Measured (Option ExprTree) → Option Expr → Type 0
+ShowsGiven l k o = Shows given (in_given l) k o
+
+-- ---- the parts of a `for` of this line in its parentheses
+
+abbrev pub deep_first : (line : ℕ) → First → Option ℕ
+deep_first l f = in_first f l
+
 abbrev pub ShowsFirst : (line : ℕ) → Measured ForInitTree → First → Type 0
-ShowsFirst l k f = Shows first_of (λ (g : First). in_first g l) k f
+ShowsFirst l k f = Shows first_of (deep_first l) k f
 
--- the parts of a `for` in its parentheses
 abbrev pub heading_of : Heading → First × Option Expr × Option Expr
-heading_of h = (first_of h.first, option_map expr h.test, option_map expr h.next)
+heading_of h = (first_of h.first, given h.test, given h.next)
 
 abbrev pub in_heading : (line : ℕ) → First × Option Expr × Option Expr → Option ℕ
-in_heading l p = or_else (in_first p.0 l) (line_if (is_deep_if p.1 || is_deep_if p.2) l)
+in_heading l p = or_else (line_if (is_deep_if p.1 || is_deep_if p.2) l) (in_first p.0 l)
 
 abbrev pub ShowsHeading : (line : ℕ) → Measured Heading → First × Option Expr × Option Expr → Type 0
 ShowsHeading l k p = Shows heading_of (in_heading l) k p
@@ -56,40 +84,44 @@ ShowsStmt k s = Shows stmt_of in_stmt k.tree s × Counts k.height (height s)
 abbrev pub ShowsPart : Counted BlockItemTree → Part → Type 0
 ShowsPart k p = Shows part_of in_part k.tree p × Counts k.height (height_of_part p)
 
-abbrev pub ShowsAll : Measured (Vec StmtTree) → List Stmt → Type 0
-ShowsAll k ss = Shows (λ (v : Vec StmtTree). map stmt_of v.items) (λ (ts : List Stmt). in_stmts (to_stmts ts)) k ss
-
 abbrev pub ShowsStmts : Counted (Vec StmtTree) → List Stmt → Type 0
-ShowsStmts k ss = ShowsAll k.tree ss × Counts k.height (height_of_stmts (to_stmts ss))
-
-abbrev pub ShowsItems : Measured (Vec BlockItemTree) → List Part → Type 0
-ShowsItems k ps = Shows (λ (v : Vec BlockItemTree). map part_of v.items) (λ (qs : List Part). in_parts (to_parts qs)) k ps
+ShowsStmts k ss = ShowsAll stmt_of in_stmt k.tree ss × Counts k.height (height_of_stmts (to_stmts ss))
 
 abbrev pub ShowsParts : Counted (Vec BlockItemTree) → List Part → Type 0
-ShowsParts k ps = ShowsItems k.tree ps × Counts k.height (height_of_parts (to_parts ps))
+ShowsParts k ps = ShowsAll part_of in_part k.tree ps × Counts k.height (height_of_parts (to_parts ps))
 
 -- ---- parts of statements of this line, in which so many stand inside one another
+
+abbrev pub tested_of : ExprTree × StmtTree → Expr × Stmt
+tested_of t = (expr t.0, stmt_of t.1)
 
 abbrev pub in_tested : (n line : ℕ) → Expr × Stmt → Option ℕ
 in_tested n l p = or_else (line_if (nat_lt 64 n || is_too_deep p.0) l) (in_stmt p.1)
 
-abbrev pub ShowsTested : (n line : ℕ) → Measured Tested → Expr × Stmt → Type 0
-ShowsTested n l k p = Shows (λ (t : Tested). (expr t.test, stmt_of t.inner)) (in_tested n l) k p
+abbrev pub ShowsTested : (n line : ℕ) → Measured (ExprTree × StmtTree) → Expr × Stmt → Type 0
+ShowsTested n l k p = Shows tested_of (in_tested n l) k p
 
 -- with an `else`
-abbrev pub ShowsBoth : (n line : ℕ) → Measured (Tested × StmtTree) → Expr × Stmt × Stmt → Type 0
-ShowsBoth n l k p =
-    Shows (λ (t : Tested × StmtTree). (expr t.0.test, stmt_of t.0.inner, stmt_of t.1)) (λ (q : Expr × Stmt × Stmt). or_else (line_if (nat_lt 64 n || is_too_deep q.0) l) (or_else (in_stmt q.1) (in_stmt q.2))) k p
+abbrev pub both_of : (ExprTree × StmtTree) × StmtTree → (Expr × Stmt) × Stmt
+both_of t = (tested_of t.0, stmt_of t.1)
 
--- with the test behind
-abbrev pub ShowsTestedLast : (n line : ℕ) → Measured Tested → Expr × Stmt → Type 0
-ShowsTestedLast n l k p =
-    Shows (λ (t : Tested). (expr t.test, stmt_of t.inner)) (λ (q : Expr × Stmt). or_else (line_if (nat_lt 64 n) l) (or_else (in_stmt q.1) (line_if (is_too_deep q.0) l))) k p
+abbrev pub in_both : (n line : ℕ) → (Expr × Stmt) × Stmt → Option ℕ
+in_both n l p = or_else (line_if (nat_lt 64 n || is_too_deep p.0.0) l) (or_else (in_stmt p.0.1) (in_stmt p.1))
 
-abbrev pub ShowsHeaded : (n line : ℕ) → Measured (Heading × StmtTree) → (First × Option Expr × Option Expr) × Stmt → Type 0
-ShowsHeaded n l k p =
-    Shows (λ (t : Heading × StmtTree). (heading_of t.0, stmt_of t.1)) (λ (q : (First × Option Expr × Option Expr) × Stmt). or_else (line_if (nat_lt 64 n) l)
-    (or_else (in_first q.0.0 l) (or_else (line_if (is_deep_if q.0.1 || is_deep_if q.0.2) l) (in_stmt q.1)))) k p
+abbrev pub ShowsBoth : (n line : ℕ) → Measured ((ExprTree × StmtTree) × StmtTree) → (Expr × Stmt) × Stmt → Type 0
+ShowsBoth n l k p = Shows both_of (in_both n l) k p
+
+-- of a `for`
+abbrev pub headed_of : Heading × StmtTree → (First × Option Expr × Option Expr) × Stmt
+headed_of t = (heading_of t.0, stmt_of t.1)
+
+abbrev pub in_headed : (n line : ℕ) → (First × Option Expr × Option Expr) × Stmt → Option ℕ
+in_headed n l p =
+    or_else (line_if (nat_lt 64 n || is_deep_if p.0.1 || is_deep_if p.0.2) l) (or_else (in_first p.0.0 l) (in_stmt p.1))
+
+abbrev pub ShowsHeaded : (n line : ℕ) → Measured (Heading × StmtTree) → (First × Option Expr × Option Expr) × Stmt
+    → Type 0
+ShowsHeaded n l k p = Shows headed_of (in_headed n l) k p
 
 -- the arm behind an `#else`, where there is one
 abbrev pub ShowsOther : Option (Counted (Vec StmtTree)) → Option Stmts → Type 0

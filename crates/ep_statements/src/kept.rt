@@ -1,36 +1,66 @@
 //! Statements and parts of blocks that are kept while nothing in them is too deep.
 
-ghost use Rattle.std.specs.Prelude.{◌≡◌, ◌<◌, ◌≤◌, ◌++◌, ◌∷◌, [], map, IfOk, IfSome, List, ℕ, suc, max, Option, None, Some};
+ghost use Rattle.std.specs.Prelude.{◌≡◌, ◌<◌, ◌≤◌, IfOk, List, ℕ, suc, Option, None, Some};
 ghost use Rattle.ep_ast.specs.Expression.{Expr};
-ghost use Rattle.ep_ast.specs.Declaration.{Declaration, declaration_of};
+ghost use Rattle.ep_ast.specs.Declaration.{Declaration};
 ghost use Rattle.ep_ast.specs.Statement as shape;
-ghost use Rattle.ep_ast.specs.Statement.{First, Stmt, Part};
-ghost use Rattle.ep_ast.specs.Depth.{in_declaration, in_stmt, in_part, height_of_parts};
+ghost use Rattle.ep_ast.specs.Statement.{First, Stmt, Part, stmt_of, part_of};
+ghost use Rattle.ep_ast.specs.Depth.{in_stmt, in_part, height_of_parts};
 ghost use Rattle.ep_exprs.specs.Kept as expressions;
-ghost use Rattle.ep_declarators.specs.Measured as measured;
+ghost use Rattle.ep_reading.specs.Measured as measured;
+ghost use Rattle.ep_declarations.specs.Answer.{ShowsDeclaration};
 ghost use Rattle.ep_statements.specs.Answer.{ShowsBlock};
-ghost use Rattle.ep_statements.specs.Shown.{body, ShowsTest, ShowsGiven, ShowsFirst, ShowsHeading, ShowsStmt, ShowsPart, ShowsStmts, ShowsParts, ShowsTested, ShowsBoth, ShowsTestedLast, ShowsHeaded, ShowsAll, ShowsItems, Counts};
+ghost use Rattle.ep_statements.specs.Shown.{body, Counts, HasSame, IsEmpty, IsLonger, ShowsTest, ShowsGiven, ShowsFirst, ShowsHeading, ShowsStmt, ShowsPart, ShowsStmts, ShowsParts, ShowsTested, ShowsBoth, ShowsHeaded};
 
 use ep_ast::{
     BlockItemTree, BlockTree, DeclarationTree, ExprTree, ForInitTree, NamedOrder, StmtTree,
 };
-use ep_declarators::Measured;
 use ep_exprs::Kept;
+use ep_reading::Measured;
 use std::alloc::{AllocError, Global};
 
-/// What was read, or the line of the first in it that is too deep, and how many statements stand
-/// inside one another in it, of which 65 are counted.
+/// What was read, or the line of the first in it that is too deep, and how many statements stand inside one another in
+/// it, of which 65 are counted.
 #[derive(Debug, Drop)]
 pub struct Counted<T: Drop> {
     pub tree: Measured<T>,
     pub height: u32,
 }
 
-/// An expression that may be missing, where it isn't too deep.
-#[derive(Debug, Drop)]
-pub enum Given {
-    Fits(Option<ExprTree>),
-    TooDeep,
+/// The same list. An empty one has room for one element: most blocks are short.
+fn first_room<T: Drop>(list: Measured<Vec<T>>) -> Result<Measured<Vec<T>>, AllocError>
+    ensures { IfOk result (HasSame list) }
+{
+    match list {
+        Measured::TooDeep(line) => Ok(Measured::TooDeep(line)),
+        Measured::Fits(mut items) => {
+            if items.is_empty() {
+                items.reserve_exact(1)?;
+            }
+            Ok(Measured::Fits(items))
+        }
+    }
+}
+
+impl<T: Drop> Counted<Vec<T>> {
+    pub fn new(alloc: Global) -> Counted<Vec<T>>
+        ensures { IsEmpty result }
+    {
+        Counted {
+            tree: Measured::Fits(Vec::new(alloc)),
+            height: 0,
+        }
+    }
+
+    /// With one more behind the others.
+    pub fn longer(self, one: Counted<T>) -> Result<Counted<Vec<T>>, AllocError>
+        ensures { IfOk result (IsLonger self one) }
+    {
+        let height = self.height.max(one.height);
+        let list = first_room(self.tree)?;
+        let tree = list.longer(one.tree)?;
+        Ok(Counted { tree, height })
+    }
 }
 
 /// What stands in the parentheses of a `for`.
@@ -41,25 +71,29 @@ pub struct Heading {
     pub next: Option<ExprTree>,
 }
 
-/// The tree of an expression that isn't too deep.
-pub fn test_of(read: Kept) -> Option<ExprTree>
-    ensures { (e : Expr) → expressions.Shows read e → ShowsTest result e }
-{
-    read.tree
-}
-
-pub fn given_from(read: Kept) -> Given
-    ensures { (e : Expr) → expressions.Shows read e → ShowsGiven result (Some e) }
+/// The test of a statement of this line.
+pub fn test_of(line: u32, read: Kept) -> Measured<ExprTree>
+    ensures { (e : Expr) → expressions.Shows read e → ShowsTest line result e }
 {
     match read.tree {
-        Some(tree) => Given::Fits(Some(tree)),
-        None => Given::TooDeep,
+        Some(tree) => Measured::Fits(tree),
+        None => Measured::TooDeep(line),
     }
 }
 
-/// The first part of a `for` of this line.
-pub fn first_declares(line: u32, tree: Measured<DeclarationTree>) -> Measured<ForInitTree>
-    ensures { (d : Declaration) → measured.Shows declaration_of in_declaration tree d → ShowsFirst line result (shape.declares d) }
+/// An expression that could be missing in a statement of this line.
+pub fn given_of(line: u32, read: Kept) -> Measured<Option<ExprTree>>
+    ensures { (e : Expr) → expressions.Shows read e → ShowsGiven line result (Some e) }
+{
+    match read.tree {
+        Some(tree) => Measured::Fits(Some(tree)),
+        None => Measured::TooDeep(line),
+    }
+}
+
+/// The first part of a `for`.
+pub fn first_declares(tree: Measured<DeclarationTree>) -> Measured<ForInitTree>
+    ensures { (line : ℕ) (d : Declaration) → ShowsDeclaration tree d → ShowsFirst line result (shape.declares d) }
 {
     match tree {
         Measured::Fits(tree) => Measured::Fits(ForInitTree::Declaration(tree)),
@@ -67,33 +101,33 @@ pub fn first_declares(line: u32, tree: Measured<DeclarationTree>) -> Measured<Fo
     }
 }
 
-pub fn first_evaluates(line: u32, value: Given) -> Measured<ForInitTree>
-    ensures { (o : Option Expr) → ShowsGiven value o → ShowsFirst line result (shape.evaluates o) }
+pub fn first_evaluates(value: Measured<Option<ExprTree>>) -> Measured<ForInitTree>
+    ensures { (line : ℕ) (o : Option Expr) → ShowsGiven line value o → ShowsFirst line result (shape.evaluates o) }
 {
     match value {
-        Given::Fits(value) => Measured::Fits(ForInitTree::Expr(value)),
-        Given::TooDeep => Measured::TooDeep(line),
+        Measured::Fits(value) => Measured::Fits(ForInitTree::Expr(value)),
+        Measured::TooDeep(line) => Measured::TooDeep(line),
     }
 }
 
-/// What stands in the parentheses of a `for` of this line.
+/// What stands in the parentheses of a `for`.
 pub fn heading_from(
-    line: u32,
     first: Measured<ForInitTree>,
-    test: Given,
-    next: Given,
+    test: Measured<Option<ExprTree>>,
+    next: Measured<Option<ExprTree>>,
 ) -> Measured<Heading>
-    ensures { (f : First) (o q : Option Expr) → ShowsFirst line first f → ShowsGiven test o → ShowsGiven next q → ShowsHeading line result (f, o, q) }
+    ensures { (line : ℕ) (f : First) (o q : Option Expr) → ShowsFirst line first f → ShowsGiven line test o
+        → ShowsGiven line next q
+        → ShowsHeading line result (f, o, q) }
 {
-    match first {
+    let tests = test.and(next);
+    match tests.and(first) {
+        Measured::Fits(parts) => Measured::Fits(Heading {
+            first: parts.1,
+            test: parts.0.0,
+            next: parts.0.1,
+        }),
         Measured::TooDeep(line) => Measured::TooDeep(line),
-        Measured::Fits(first) => match test {
-            Given::TooDeep => Measured::TooDeep(line),
-            Given::Fits(test) => match next {
-                Given::TooDeep => Measured::TooDeep(line),
-                Given::Fits(next) => Measured::Fits(Heading { first, test, next }),
-            },
-        },
     }
 }
 
@@ -122,68 +156,83 @@ pub fn continue_loop(line: u32) -> Counted<StmtTree>
     }
 }
 
-pub fn return_value(line: u32, value: Given) -> Counted<StmtTree>
-    ensures { (o : Option Expr) → ShowsGiven value o → ShowsStmt result (shape.return_value line o) }
+pub fn return_value(line: u32, value: Measured<Option<ExprTree>>) -> Counted<StmtTree>
+    ensures { (o : Option Expr) → ShowsGiven line value o → ShowsStmt result (shape.return_value line o) }
 {
     let tree = match value {
-        Given::Fits(value) => Measured::Fits(StmtTree::Return(line, value)),
-        Given::TooDeep => Measured::TooDeep(line),
+        Measured::Fits(value) => Measured::Fits(StmtTree::Return(line, value)),
+        Measured::TooDeep(line) => Measured::TooDeep(line),
     };
     Counted { tree, height: 1 }
 }
 
-pub fn evaluate(line: u32, value: Given) -> Counted<StmtTree>
-    ensures { (o : Option Expr) → ShowsGiven value o → ShowsStmt result (shape.evaluate line o) }
+pub fn evaluate(line: u32, value: Measured<Option<ExprTree>>) -> Counted<StmtTree>
+    ensures { (o : Option Expr) → ShowsGiven line value o → ShowsStmt result (shape.evaluate line o) }
 {
     let tree = match value {
-        Given::Fits(value) => Measured::Fits(StmtTree::Expr(line, value)),
-        Given::TooDeep => Measured::TooDeep(line),
+        Measured::Fits(value) => Measured::Fits(StmtTree::Expr(line, value)),
+        Measured::TooDeep(line) => Measured::TooDeep(line),
     };
     Counted { tree, height: 1 }
 }
 
-/// The parts of a statement with a test and a statement inside it.
-#[derive(Debug, Drop)]
-struct Tested {
-    test: ExprTree,
-    inner: StmtTree,
-}
-
-/// Both parts, where the statement of this line and count isn't too deep itself.
+/// The test and the statement inside, where the statement of this line and count isn't too deep itself.
 fn with_test(
     line: u32,
     height: u32,
-    test: Option<ExprTree>,
+    test: Measured<ExprTree>,
     inner: Measured<StmtTree>,
-) -> Measured<Tested>
-    ensures { (n : ℕ) (e : Expr) (s : Stmt) → Counts height n → ShowsTest test e → measured.Shows shape.stmt_of in_stmt inner s → ShowsTested n line result (e, s) }
+) -> Measured<(ExprTree, StmtTree)>
+    ensures { (n : ℕ) (e : Expr) (s : Stmt) → Counts height n → ShowsTest line test e
+        → measured.Shows stmt_of in_stmt inner s
+        → ShowsTested n line result (e, s) }
 {
-    match test {
-        None => Measured::TooDeep(line),
-        Some(test) => if height > 64 {
-            Measured::TooDeep(line)
-        } else {
-            match inner {
-                Measured::Fits(inner) => Measured::Fits(Tested { test, inner }),
-                Measured::TooDeep(line) => Measured::TooDeep(line),
-            }
-        },
+    if height > 64 {
+        return Measured::TooDeep(line);
     }
+    test.and(inner)
 }
 
 pub fn while_loop(
     alloc: Global,
     line: u32,
-    test: Option<ExprTree>,
+    test: Measured<ExprTree>,
     turn: Counted<StmtTree>,
 ) -> Result<Counted<StmtTree>, AllocError>
-    ensures { (e : Expr) (s : Stmt) → ShowsTest test e → ShowsStmt turn s → IfOk result (λ k. ShowsStmt k (shape.while_loop line e s)) }
+    ensures { (e : Expr) (s : Stmt) → ShowsTest line test e → ShowsStmt turn s
+        → IfOk result (λ k. ShowsStmt k (shape.while_loop line e s)) }
 {
     let height = over(turn.height);
     match with_test(line, height, test, turn.tree) {
         Measured::Fits(parts) => {
-            let turn = Box::new(alloc, parts.inner)?;
-            let tree = StmtTree::While(line, parts.test, turn);
+            let turn = Box::new(alloc, parts.1)?;
+            let tree = StmtTree::While(line, parts.0, turn);
+            Ok(Counted {
+                tree: Measured::Fits(tree),
+                height,
+            })
+        }
+        Measured::TooDeep(line) => Ok(Counted {
+            tree: Measured::TooDeep(line),
+            height,
+        }),
+    }
+}
+
+pub fn do_loop(
+    alloc: Global,
+    line: u32,
+    turn: Counted<StmtTree>,
+    test: Measured<ExprTree>,
+) -> Result<Counted<StmtTree>, AllocError>
+    ensures { (e : Expr) (s : Stmt) → ShowsStmt turn s → ShowsTest line test e
+        → IfOk result (λ k. ShowsStmt k (shape.do_loop line s e)) }
+{
+    let height = over(turn.height);
+    match with_test(line, height, test, turn.tree) {
+        Measured::Fits(parts) => {
+            let turn = Box::new(alloc, parts.1)?;
+            let tree = StmtTree::Do(line, turn, parts.0);
             Ok(Counted {
                 tree: Measured::Fits(tree),
                 height,
@@ -199,16 +248,17 @@ pub fn while_loop(
 pub fn if_then(
     alloc: Global,
     line: u32,
-    test: Option<ExprTree>,
+    test: Measured<ExprTree>,
     then: Counted<StmtTree>,
 ) -> Result<Counted<StmtTree>, AllocError>
-    ensures { (e : Expr) (s : Stmt) → ShowsTest test e → ShowsStmt then s → IfOk result (λ k. ShowsStmt k (shape.if_then line e s)) }
+    ensures { (e : Expr) (s : Stmt) → ShowsTest line test e → ShowsStmt then s
+        → IfOk result (λ k. ShowsStmt k (shape.if_then line e s)) }
 {
     let height = over(then.height);
     match with_test(line, height, test, then.tree) {
         Measured::Fits(parts) => {
-            let then = Box::new(alloc, parts.inner)?;
-            let tree = StmtTree::new_if(line, parts.test, then, None);
+            let then = Box::new(alloc, parts.1)?;
+            let tree = StmtTree::new_if(line, parts.0, then, None);
             Ok(Counted {
                 tree: Measured::Fits(tree),
                 height,
@@ -222,34 +272,34 @@ pub fn if_then(
 }
 
 /// The parts of an `if`, and then the statement behind its `else`.
-fn with_else(parts: Measured<Tested>, otherwise: Measured<StmtTree>) -> Measured<(Tested, StmtTree)>
-    ensures { (n line : ℕ) (e : Expr) (s t : Stmt) → ShowsTested n line parts (e, s) → measured.Shows shape.stmt_of in_stmt otherwise t → ShowsBoth n line result (e, s, t) }
+fn with_else(
+    parts: Measured<(ExprTree, StmtTree)>,
+    otherwise: Measured<StmtTree>,
+) -> Measured<((ExprTree, StmtTree), StmtTree)>
+    ensures { (n line : ℕ) (e : Expr) (s t : Stmt) → ShowsTested n line parts (e, s)
+        → measured.Shows stmt_of in_stmt otherwise t
+        → ShowsBoth n line result ((e, s), t) }
 {
-    match parts {
-        Measured::TooDeep(line) => Measured::TooDeep(line),
-        Measured::Fits(parts) => match otherwise {
-            Measured::Fits(otherwise) => Measured::Fits((parts, otherwise)),
-            Measured::TooDeep(line) => Measured::TooDeep(line),
-        },
-    }
+    parts.and(otherwise)
 }
 
 pub fn if_else(
     alloc: Global,
     line: u32,
-    test: Option<ExprTree>,
+    test: Measured<ExprTree>,
     then: Counted<StmtTree>,
     otherwise: Counted<StmtTree>,
 ) -> Result<Counted<StmtTree>, AllocError>
-    ensures { (e : Expr) (s t : Stmt) → ShowsTest test e → ShowsStmt then s → ShowsStmt otherwise t → IfOk result (λ k. ShowsStmt k (shape.if_else line e s t)) }
+    ensures { (e : Expr) (s t : Stmt) → ShowsTest line test e → ShowsStmt then s → ShowsStmt otherwise t
+        → IfOk result (λ k. ShowsStmt k (shape.if_else line e s t)) }
 {
     let height = over(then.height.max(otherwise.height));
     let parts = with_test(line, height, test, then.tree);
     match with_else(parts, otherwise.tree) {
-        Measured::Fits((parts, otherwise)) => {
-            let then = Box::new(alloc, parts.inner)?;
-            let otherwise = Box::new(alloc, otherwise)?;
-            let tree = StmtTree::new_if(line, parts.test, then, Some(otherwise));
+        Measured::Fits((parts, last)) => {
+            let then = Box::new(alloc, parts.1)?;
+            let otherwise = Box::new(alloc, last)?;
+            let tree = StmtTree::new_if(line, parts.0, then, Some(otherwise));
             Ok(Counted {
                 tree: Measured::Fits(tree),
                 height,
@@ -262,72 +312,20 @@ pub fn if_else(
     }
 }
 
-/// Both parts of a `do` loop, where the loop of this line and count isn't too deep itself.
-fn with_test_behind(
-    line: u32,
-    height: u32,
-    inner: Measured<StmtTree>,
-    test: Option<ExprTree>,
-) -> Measured<Tested>
-    ensures { (n : ℕ) (e : Expr) (s : Stmt) → Counts height n → measured.Shows shape.stmt_of in_stmt inner s → ShowsTest test e → ShowsTestedLast n line result (e, s) }
-{
-    if height > 64 {
-        return Measured::TooDeep(line);
-    }
-    match inner {
-        Measured::TooDeep(line) => Measured::TooDeep(line),
-        Measured::Fits(inner) => match test {
-            Some(test) => Measured::Fits(Tested { test, inner }),
-            None => Measured::TooDeep(line),
-        },
-    }
-}
-
-pub fn do_loop(
-    alloc: Global,
-    line: u32,
-    turn: Counted<StmtTree>,
-    test: Option<ExprTree>,
-) -> Result<Counted<StmtTree>, AllocError>
-    ensures { (e : Expr) (s : Stmt) → ShowsStmt turn s → ShowsTest test e → IfOk result (λ k. ShowsStmt k (shape.do_loop line s e)) }
-{
-    let height = over(turn.height);
-    match with_test_behind(line, height, turn.tree, test) {
-        Measured::Fits(parts) => {
-            let turn = Box::new(alloc, parts.inner)?;
-            let tree = StmtTree::Do(line, turn, parts.test);
-            Ok(Counted {
-                tree: Measured::Fits(tree),
-                height,
-            })
-        }
-        Measured::TooDeep(line) => Ok(Counted {
-            tree: Measured::TooDeep(line),
-            height,
-        }),
-    }
-}
-
-/// What stands in parentheses and the statement inside, where the `for` of this line and count
-/// isn't too deep itself.
+/// What stands in parentheses and the statement inside, where the `for` of this line and count isn't too deep itself.
 fn with_heading(
     line: u32,
     height: u32,
     heading: Measured<Heading>,
     inner: Measured<StmtTree>,
 ) -> Measured<(Heading, StmtTree)>
-    ensures { (n : ℕ) (p : First × Option Expr × Option Expr) (s : Stmt) → Counts height n → ShowsHeading line heading p → measured.Shows shape.stmt_of in_stmt inner s → ShowsHeaded n line result (p, s) }
+    ensures { (n : ℕ) (p : First × Option Expr × Option Expr) (s : Stmt) → Counts height n → ShowsHeading line heading p
+        → measured.Shows stmt_of in_stmt inner s → ShowsHeaded n line result (p, s) }
 {
     if height > 64 {
         return Measured::TooDeep(line);
     }
-    match heading {
-        Measured::TooDeep(line) => Measured::TooDeep(line),
-        Measured::Fits(heading) => match inner {
-            Measured::Fits(inner) => Measured::Fits((heading, inner)),
-            Measured::TooDeep(line) => Measured::TooDeep(line),
-        },
-    }
+    heading.and(inner)
 }
 
 pub fn for_loop(
@@ -336,7 +334,8 @@ pub fn for_loop(
     heading: Measured<Heading>,
     turn: Counted<StmtTree>,
 ) -> Result<Counted<StmtTree>, AllocError>
-    ensures { (p : First × Option Expr × Option Expr) (s : Stmt) → ShowsHeading line heading p → ShowsStmt turn s → IfOk result (λ k. ShowsStmt k (shape.for_loop line p.0 p.1 p.2 s)) }
+    ensures { (p : First × Option Expr × Option Expr) (s : Stmt) → ShowsHeading line heading p → ShowsStmt turn s
+        → IfOk result (λ k. ShowsStmt k (shape.for_loop line p.0 p.1 p.2 s)) }
 {
     let height = over(turn.height);
     match with_heading(line, height, heading, turn.tree) {
@@ -356,7 +355,9 @@ pub fn for_loop(
 }
 
 fn block_tree(line: u32, height: u32, parts: Measured<Vec<BlockItemTree>>) -> Measured<StmtTree>
-    ensures { (ps : List Part) → Counts height (suc (height_of_parts (shape.to_parts ps))) → ShowsItems parts ps → measured.Shows shape.stmt_of in_stmt result (shape.block line (shape.to_parts ps)) }
+    ensures { (ps : List Part) → Counts height (suc (height_of_parts (shape.to_parts ps)))
+        → measured.ShowsAll part_of in_part parts ps
+        → measured.Shows stmt_of in_stmt result (shape.block line (shape.to_parts ps)) }
 {
     if height > 64 {
         return Measured::TooDeep(line);
@@ -377,7 +378,7 @@ pub fn block_of(line: u32, parts: Counted<Vec<BlockItemTree>>) -> Counted<StmtTr
 }
 
 pub fn declares(tree: Measured<DeclarationTree>) -> Counted<BlockItemTree>
-    ensures { (d : Declaration) → measured.Shows declaration_of in_declaration tree d → ShowsPart result (shape.declares_in d) }
+    ensures { (d : Declaration) → ShowsDeclaration tree d → ShowsPart result (shape.declares_in d) }
 {
     let tree = match tree {
         Measured::Fits(tree) => Measured::Fits(BlockItemTree::Declaration(tree)),
@@ -387,7 +388,8 @@ pub fn declares(tree: Measured<DeclarationTree>) -> Counted<BlockItemTree>
 }
 
 fn item_of(tree: Measured<StmtTree>) -> Measured<BlockItemTree>
-    ensures { (s : Stmt) → measured.Shows shape.stmt_of in_stmt tree s → measured.Shows shape.part_of in_part result (shape.states s) }
+    ensures { (s : Stmt) → measured.Shows stmt_of in_stmt tree s
+        → measured.Shows part_of in_part result (shape.states s) }
 {
     match tree {
         Measured::Fits(tree) => Measured::Fits(BlockItemTree::Statement(tree)),
@@ -404,7 +406,8 @@ pub fn states(statement: Counted<StmtTree>) -> Counted<BlockItemTree>
 }
 
 fn arm_tree(line: u32, order: NamedOrder, then: Measured<Vec<StmtTree>>) -> Measured<BlockItemTree>
-    ensures { (ss : List Stmt) → ShowsAll then ss → measured.Shows shape.part_of in_part result (shape.make_arms line order (shape.to_stmts ss) None) }
+    ensures { (ss : List Stmt) → measured.ShowsAll stmt_of in_stmt then ss
+        → measured.Shows part_of in_part result (shape.make_arms line order (shape.to_stmts ss) None) }
 {
     match then {
         Measured::Fits(then) => { Measured::Fits(BlockItemTree::new_arms(line, order, then, None)) }
@@ -413,7 +416,8 @@ fn arm_tree(line: u32, order: NamedOrder, then: Measured<Vec<StmtTree>>) -> Meas
 }
 
 pub fn one_arm(line: u32, order: NamedOrder, then: Counted<Vec<StmtTree>>) -> Counted<BlockItemTree>
-    ensures { (ss : List Stmt) → ShowsStmts then ss → ShowsPart result (shape.make_arms line order (shape.to_stmts ss) None) }
+    ensures { (ss : List Stmt) → ShowsStmts then ss
+        → ShowsPart result (shape.make_arms line order (shape.to_stmts ss) None) }
 {
     let height = then.height;
     let tree = arm_tree(line, order, then.tree);
@@ -426,16 +430,16 @@ fn arms_tree(
     then: Measured<Vec<StmtTree>>,
     otherwise: Measured<Vec<StmtTree>>,
 ) -> Measured<BlockItemTree>
-    ensures { (ss ts : List Stmt) → ShowsAll then ss → ShowsAll otherwise ts → measured.Shows shape.part_of in_part result (shape.make_arms line order (shape.to_stmts ss) (Some (shape.to_stmts ts))) }
+    ensures { (ss ts : List Stmt) → measured.ShowsAll stmt_of in_stmt then ss
+        → measured.ShowsAll stmt_of in_stmt otherwise ts
+        → measured.Shows part_of in_part result
+        (shape.make_arms line order (shape.to_stmts ss) (Some (shape.to_stmts ts))) }
 {
-    match then {
+    match then.and(otherwise) {
+        Measured::Fits(arms) => {
+            Measured::Fits(BlockItemTree::new_arms(line, order, arms.0, Some(arms.1)))
+        }
         Measured::TooDeep(line) => Measured::TooDeep(line),
-        Measured::Fits(then) => match otherwise {
-            Measured::Fits(otherwise) => {
-                Measured::Fits(BlockItemTree::new_arms(line, order, then, Some(otherwise)))
-            }
-            Measured::TooDeep(line) => Measured::TooDeep(line),
-        },
     }
 }
 
@@ -445,95 +449,16 @@ pub fn two_arms(
     then: Counted<Vec<StmtTree>>,
     otherwise: Counted<Vec<StmtTree>>,
 ) -> Counted<BlockItemTree>
-    ensures { (ss ts : List Stmt) → ShowsStmts then ss → ShowsStmts otherwise ts → ShowsPart result (shape.make_arms line order (shape.to_stmts ss) (Some (shape.to_stmts ts))) }
+    ensures { (ss ts : List Stmt) → ShowsStmts then ss → ShowsStmts otherwise ts
+        → ShowsPart result (shape.make_arms line order (shape.to_stmts ss) (Some (shape.to_stmts ts))) }
 {
     let height = then.height.max(otherwise.height);
     let tree = arms_tree(line, order, then.tree, otherwise.tree);
     Counted { tree, height }
 }
 
-fn longer_statements(
-    all: Measured<Vec<StmtTree>>,
-    one: Measured<StmtTree>,
-) -> Result<Measured<Vec<StmtTree>>, AllocError>
-    ensures { (ss : List Stmt) (s : Stmt) → ShowsAll all ss → measured.Shows shape.stmt_of in_stmt one s → IfOk result (λ k. ShowsAll k (ss ++ s ∷ [])) }
-{
-    match all {
-        Measured::TooDeep(line) => Ok(Measured::TooDeep(line)),
-        Measured::Fits(trees) => match one {
-            Measured::Fits(tree) => {
-                let mut longer = trees;
-                longer.push(tree)?;
-                Ok(Measured::Fits(longer))
-            }
-            Measured::TooDeep(line) => Ok(Measured::TooDeep(line)),
-        },
-    }
-}
-
-/// Statements with one more at their end.
-pub fn with_statement(
-    all: Counted<Vec<StmtTree>>,
-    one: Counted<StmtTree>,
-) -> Result<Counted<Vec<StmtTree>>, AllocError>
-    ensures { (ss : List Stmt) (s : Stmt) → ShowsStmts all ss → ShowsStmt one s → IfOk result (λ k. ShowsStmts k (ss ++ s ∷ [])) }
-{
-    let height = all.height.max(one.height);
-    let tree = longer_statements(all.tree, one.tree)?;
-    Ok(Counted { tree, height })
-}
-
-fn longer_parts(
-    all: Measured<Vec<BlockItemTree>>,
-    one: Measured<BlockItemTree>,
-) -> Result<Measured<Vec<BlockItemTree>>, AllocError>
-    ensures { (ps : List Part) (p : Part) → ShowsItems all ps → measured.Shows shape.part_of in_part one p → IfOk result (λ k. ShowsItems k (ps ++ p ∷ [])) }
-{
-    match all {
-        Measured::TooDeep(line) => Ok(Measured::TooDeep(line)),
-        Measured::Fits(trees) => match one {
-            Measured::Fits(tree) => {
-                let mut longer = trees;
-                longer.push(tree)?;
-                Ok(Measured::Fits(longer))
-            }
-            Measured::TooDeep(line) => Ok(Measured::TooDeep(line)),
-        },
-    }
-}
-
-/// Parts with one more at their end.
-pub fn with_part(
-    all: Counted<Vec<BlockItemTree>>,
-    one: Counted<BlockItemTree>,
-) -> Result<Counted<Vec<BlockItemTree>>, AllocError>
-    ensures { (ps : List Part) (p : Part) → ShowsParts all ps → ShowsPart one p → IfOk result (λ k. ShowsParts k (ps ++ p ∷ [])) }
-{
-    let height = all.height.max(one.height);
-    let tree = longer_parts(all.tree, one.tree)?;
-    Ok(Counted { tree, height })
-}
-
-pub fn no_statements(alloc: Global) -> Counted<Vec<StmtTree>>
-    ensures { ShowsStmts result [] }
-{
-    Counted {
-        tree: Measured::Fits(Vec::new(alloc)),
-        height: 0,
-    }
-}
-
-pub fn no_parts(alloc: Global) -> Counted<Vec<BlockItemTree>>
-    ensures { ShowsParts result [] }
-{
-    Counted {
-        tree: Measured::Fits(Vec::new(alloc)),
-        height: 0,
-    }
-}
-
 fn body_of(line: u32, parts: Measured<Vec<BlockItemTree>>) -> Measured<BlockTree>
-    ensures { (ps : List Part) → ShowsItems parts ps → ShowsBlock result (body line ps) }
+    ensures { (ps : List Part) → measured.ShowsAll part_of in_part parts ps → ShowsBlock result (body line ps) }
 {
     match parts {
         Measured::Fits(items) => Measured::Fits(BlockTree { line, items }),
@@ -541,7 +466,7 @@ fn body_of(line: u32, parts: Measured<Vec<BlockItemTree>>) -> Measured<BlockTree
     }
 }
 
-/// The body of a function with these parts.
+/// The body of a function with these parts. A function's body is no statement, and its count is not asked.
 pub fn block_tree_of(line: u32, parts: Counted<Vec<BlockItemTree>>) -> Measured<BlockTree>
     ensures { (ps : List Part) → ShowsParts parts ps → ShowsBlock result (body line ps) }
 {

@@ -1,12 +1,10 @@
 use Rattle.std.proofs.Common.{◌≡◌, ◌<◌, ◌≤◌, ◌+◌, ◌*◌, length, map, List, true, false}
-use Rattle.ep_ast.specs.Declaration.{Spec, Member, member_of}
+use Rattle.ep_ast.specs.Declaration.{Spec, Member}
 use Rattle.ep_ast.specs.TypeWords.{fits}
-use Rattle.ep_ast.specs.Depth.{first_of, in_member}
 use Rattle.ep_lexer.specs.Tokens.{view}
-use Rattle.ep_exprs.specs.Names.{is_type}
+use Rattle.ep_reading.specs.Names.{is_type}
 use Rattle.ep_exprs.specs.Words.{bag}
-use Rattle.ep_declarators.specs.Measured.{Shows}
-use Rattle.ep_declarations.specs.Answer.{place, ShowsSpecs}
+use Rattle.ep_declarations.specs.Answer.{place, ShowsSpecs, ShowsMembers}
 use Rattle.ep_declarations.specs.SpecAhead.{are_none}
 use Rattle.ep_declarations.proofs.SpecLemmas.{SpecsSo}
 use Rattle.ep_declarations.proofs.MemberLemmas.{MembersSo}
@@ -26,14 +24,16 @@ decreases-members l = 4 * length l.tokens.now + 3
 
 abbrev pub invariant-members-members : goal.invariant-members-members
 invariant-members-members l =
-    ((ms : List Member) × Shows (λ v. map member_of v.items) (first_of in_member) l.found ms × MembersSo (is_type l.names) (map view l.tokens) ms (map view l.rest)) × (length l.rest ≤ length l.tokens)
+    ((ms : List Member) × ShowsMembers l.found ms × MembersSo (is_type l.reader.names.now) (map view l.tokens) ms
+    (map view l.rest)) × (length l.rest ≤ length l.tokens)
 
 abbrev pub decreases-members-members : goal.decreases-members-members
 decreases-members-members l = length l.rest
 
 abbrev pub invariant-spec_list-words : goal.invariant-spec_list-words
 invariant-spec_list-words l =
-    ((ss : List Spec) × ShowsSpecs l.found ss × (l.is_first ≡ are_none ss) × SpecsSo (is_type l.names) (place l.place) (map view l.tokens) ss (bag l.bag) (map view l.rest)) × (fits (bag l.bag) ≡ true)
+    ((ss : List Spec) × ShowsSpecs l.found ss × (l.is_first ≡ are_none ss) × SpecsSo (is_type l.reader.names.now)
+    (place l.place) (map view l.tokens) ss (bag l.bag) (map view l.rest)) × (fits (bag l.bag) ≡ true)
     × (length l.rest ≤ length l.tokens) × (l.is_first ≡ false → length l.rest < length l.tokens)
 
 abbrev pub decreases-spec_list-words : goal.decreases-spec_list-words

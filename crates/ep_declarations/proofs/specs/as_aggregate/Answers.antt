@@ -5,4 +5,7 @@ use Rattle.ep_ast.proofs.Rows.{members-vec}
 use Rattle.ep_declarations.proofs.specs.as_aggregate.Goals as goal
 
 pub returns-in-Body : goal.returns-in-Body
-returns-in-Body c = rw c.in-Body.is (ap (λ (ms : Members). body (aggregate c.in-Body.line c.in-Body.word (option_map text_of c.in-Body.tag) ms)) (members-vec c.in-Body.members))
+returns-in-Body c =
+    rw c.in-Body.is
+    (ap (λ (ms : Members). body (aggregate c.in-Body.line c.in-Body.word (option_map text_of c.in-Body.tag) ms))
+    (members-vec c.in-Body.members))

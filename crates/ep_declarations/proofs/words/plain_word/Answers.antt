@@ -1,25 +1,15 @@
-use Rattle.std.proofs.Common.{map, Some, refl, inl, List}
-use Rattle.std.specs.Borrow.{Bor}
+use Rattle.std.proofs.Common.{map, Some, refl, sym, inl, ◌∙◌}
 use Rattle.std.proofs.lemmas.Result.{err_from_is_err_and}
-use Rattle.ep_ast.specs.Token.{Tok}
 use Rattle.ep_ast.specs.Expression as expressions
 use Rattle.ep_ast.specs.Expression.{TypeWord, type_word}
 use Rattle.ep_ast.specs.Declaration.{plain}
-use Rattle.ep_ast.specs.declared.expressions.TypeWordTree.{TypeWordTree}
-use Rattle.ep_lexer.specs.declared.tokens.Token.{Token}
 use Rattle.ep_lexer.specs.Tokens.{view}
-use Rattle.ep_exprs.specs.Names.{is_type}
+use Rattle.ep_reading.specs.Names.{is_type}
 use Rattle.ep_exprs.specs.Words.{bag}
 use Rattle.ep_declarations.specs.Answer.{place}
 use Rattle.ep_declarations.proofs.SpecLemmas.{fits_is}
 use Rattle.ep_declarations.proofs.AggregateLemmas as ahead
 use Rattle.ep_declarations.proofs.words.plain_word.Goals as goal
-
-abbrev shown : TypeWordTree × Bor (List Token) → TypeWord
-shown p = type_word p.0
-
-abbrev after : TypeWordTree × Bor (List Token) → List Tok
-after p = map view p.1.now
 
 pub returns-in-Some-clause-reads : goal.returns-in-Some-clause-reads
 returns-in-Some-clause-reads c =
@@ -28,49 +18,87 @@ returns-in-Some-clause-reads c =
       record {
         value = Some (plain (expressions.word c.in-Some.line c.in-Some.code));
         shows = (plain (expressions.word c.in-Some.line c.in-Some.code), refl, (refl, refl), refl, g.0, g.1);
-        takes = ahead.storage_taken (is_type c.args.names.now) (place c.args.place) (bag c.args.words.now) c.in-Some.line c.in-Some.code (map view c.in-Some.rest.now) (map view c.args.tokens.now) c.requires.plain k.0 k.1 k.2 c.requires.fit;
+        takes =
+            ahead.storage_taken (is_type c.args.reader.now.names.now) (place c.args.place) (bag c.args.words.now)
+            c.in-Some.line c.in-Some.code (map view c.in-Some.rest.now) (map view c.args.tokens.now) c.requires.plain
+            k.0 k.1 k.2 c.requires.fit;
       },
-      ahead.plain_clear (is_type c.args.names.now) (place c.args.place) (bag c.args.words.now) (map view c.args.tokens.now) c.requires.plain,
+      ahead.plain_clear (is_type c.args.reader.now.names.now) (place c.args.place) (bag c.args.words.now)
+          (map view c.args.tokens.now) c.requires.plain,
     )
+
+pub returns-then-not-tag_joins-clause-reads : goal.returns-then-not-tag_joins-clause-reads
+returns-then-not-tag_joins-clause-reads c = inl (
+  ahead.tag_unfit (is_type c.args.reader.now.names.now) (place c.args.place) (bag c.args.words.now)
+      (map view c.args.tokens.now) c.requires.plain c.in_default.ensures.value
+      (sym c.tag_joins.ensures ∙ c.if-not-tag_joins.true),
+  ahead.plain_clear (is_type c.args.reader.now.names.now) (place c.args.place) (bag c.args.words.now)
+      (map view c.args.tokens.now) c.requires.plain,
+  c.stopped.ensures,
+)
 
 pub returns-in_err-word-clause-reads : goal.returns-in_err-word-clause-reads
 returns-in_err-word-clause-reads c =
     let p = err_from_is_err_and c.from_residual.result c.from_residual.ensures.1 in
-    rw (p.1, p.2) (ahead.word_halts (is_type c.args.names.now) shown after (place c.args.place) (bag c.args.words.now) (map view c.args.tokens.now) c.in_err-word.field-0.0 c.requires.plain c.in_default.ensures.value c.in_err-word.ensures.reads)
+    rw (p.1, p.2)
+    (ahead.word_halts (is_type c.args.reader.now.names.now) (place c.args.place) (bag c.args.words.now)
+    (map view c.args.tokens.now) c.in_err-word.field-0.0 c.requires.plain c.in_default.ensures.value
+    c.in_err-word.ensures.reads)
 
 pub returns-in_default-2-clause-reads : goal.returns-in_default-2-clause-reads
 returns-in_default-2-clause-reads c = (
   record {
     value = _;
     shows = refl;
-    takes = ahead.no_word (is_type c.args.names.now) (place c.args.place) (bag c.args.words.now) (map view c.args.tokens.now) (rw c.in_default-2.is at c.in_ok-word.ensures.reads) c.in_default.ensures.value;
+    takes =
+        ahead.no_word (is_type c.args.reader.now.names.now) (place c.args.place) (bag c.args.words.now)
+        (map view c.args.tokens.now) (rw c.in_default-2.is at c.in_ok-word.ensures.reads) c.in_default.ensures.value;
   },
-  ahead.plain_clear (is_type c.args.names.now) (place c.args.place) (bag c.args.words.now) (map view c.args.tokens.now) c.requires.plain,
+  ahead.plain_clear (is_type c.args.reader.now.names.now) (place c.args.place) (bag c.args.words.now)
+      (map view c.args.tokens.now) c.requires.plain,
 )
 
 pub returns-in-Some-at_mark-clause-reads : goal.returns-in-Some-at_mark-clause-reads
 returns-in-Some-at_mark-clause-reads c = inl (
-  ahead.word_braced (is_type c.args.names.now) (place c.args.place) (bag c.args.words.now) (map view c.args.tokens.now) (map view c.in-Some-2.rest.now) (map view c.in-Some-at_mark.field-0.1.now) (type_word c.in-Some-2.word) c.in-Some-at_mark.field-0.0
-      c.requires.plain c.in_default.ensures.value (rw c.in-Some-2.is at c.in_ok-word.ensures.reads) c.in-Some-at_mark.ensures.value,
-  ahead.plain_clear (is_type c.args.names.now) (place c.args.place) (bag c.args.words.now) (map view c.args.tokens.now) c.requires.plain,
-  c.stopped.ensures,
+  ahead.word_braced (is_type c.args.reader.now.names.now) (place c.args.place) (bag c.args.words.now)
+      (map view c.args.tokens.now) (map view c.in-Some-2.word.rest.now) (map view c.in-Some-at_mark.field-0.1.now)
+      (type_word c.in-Some-2.word.value) c.in-Some-at_mark.field-0.0
+      c.requires.plain c.in_default.ensures.value (rw c.in-Some-2.is at c.in_ok-word.ensures.reads)
+      c.in-Some-at_mark.ensures.value,
+  ahead.plain_clear (is_type c.args.reader.now.names.now) (place c.args.place) (bag c.args.words.now)
+      (map view c.args.tokens.now) c.requires.plain,
+  c.stopped-in-Some-at_mark.ensures,
 )
 
 pub returns-in_default-with-clause-reads : goal.returns-in_default-with-clause-reads
 returns-in_default-with-clause-reads c = inl (
-  ahead.word_unfit (is_type c.args.names.now) (place c.args.place) (bag c.args.words.now) (map view c.args.tokens.now) (map view c.in-Some-2.rest.now) (type_word c.in-Some-2.word)
-      c.requires.plain c.in_default.ensures.value (rw c.in-Some-2.is at c.in_ok-word.ensures.reads) c.in_default-with.ensures,
-  ahead.plain_clear (is_type c.args.names.now) (place c.args.place) (bag c.args.words.now) (map view c.args.tokens.now) c.requires.plain,
+  ahead.word_unfit (is_type c.args.reader.now.names.now) (place c.args.place) (bag c.args.words.now)
+      (map view c.args.tokens.now) (map view c.in-Some-2.word.rest.now) (type_word c.in-Some-2.word.value)
+      c.requires.plain c.in_default.ensures.value (rw c.in-Some-2.is at c.in_ok-word.ensures.reads)
+      c.in_default-with.ensures,
+  ahead.plain_clear (is_type c.args.reader.now.names.now) (place c.args.place) (bag c.args.words.now)
+      (map view c.args.tokens.now) c.requires.plain,
   c.stopped-in_default-with.ensures,
 )
 
 pub returns-clause-reads : goal.returns-clause-reads
 returns-clause-reads c = (
   record {
-    value = Some (plain (type_word c.in-Some-2.word));
-    shows = (plain (type_word c.in-Some-2.word), refl, (refl, refl), refl, c.in-Some-with.ensures.0, (fits_is _ _ c.in-Some-with.ensures.0 c.in-Some-with.ensures.1));
-    takes = ahead.word_taken (is_type c.args.names.now) (place c.args.place) (bag c.args.words.now) (map view c.args.tokens.now) (map view c.in-Some-2.rest.now) (type_word c.in-Some-2.word)
-        c.requires.plain c.in_default.ensures.value (rw c.in-Some-2.is at c.in_ok-word.ensures.reads) c.in_default-at_mark.ensures.value (fits_is _ _ c.in-Some-with.ensures.0 c.in-Some-with.ensures.1);
+    value = Some (plain (type_word c.in-Some-2.word.value));
+    shows = (
+      plain (type_word c.in-Some-2.word.value),
+      refl,
+      (refl, refl),
+      refl,
+      c.in-Some-with.ensures.0,
+      (fits_is _ _ c.in-Some-with.ensures.0 c.in-Some-with.ensures.1),
+    );
+    takes =
+        ahead.word_taken (is_type c.args.reader.now.names.now) (place c.args.place) (bag c.args.words.now)
+        (map view c.args.tokens.now) (map view c.in-Some-2.word.rest.now) (type_word c.in-Some-2.word.value)
+        c.requires.plain c.in_default.ensures.value (rw c.in-Some-2.is at c.in_ok-word.ensures.reads)
+        c.in_default-at_mark.ensures.value (fits_is _ _ c.in-Some-with.ensures.0 c.in-Some-with.ensures.1);
   },
-  ahead.plain_clear (is_type c.args.names.now) (place c.args.place) (bag c.args.words.now) (map view c.args.tokens.now) c.requires.plain,
+  ahead.plain_clear (is_type c.args.reader.now.names.now) (place c.args.place) (bag c.args.words.now)
+      (map view c.args.tokens.now) c.requires.plain,
 )

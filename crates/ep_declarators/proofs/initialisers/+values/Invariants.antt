@@ -1,8 +1,8 @@
 use Rattle.std.proofs.Common.{◌≤◌, ◌+◌, ◌*◌, List, length, map}
 use Rattle.ep_ast.specs.Declaration.{Value}
 use Rattle.ep_lexer.specs.Tokens.{view}
-use Rattle.ep_exprs.specs.Names.{is_type}
-use Rattle.ep_declarators.specs.Ended.{ShowsValues}
+use Rattle.ep_reading.specs.Names.{is_type}
+use Rattle.ep_declarators.specs.Parts.{ShowsValues}
 use Rattle.ep_declarators.proofs.ValueLemmas.{ValuesSo}
 use Rattle.ep_declarators.proofs.initialisers.+values.Given as goal
 
@@ -13,7 +13,9 @@ abbrev pub decreases-values : goal.decreases-values
 decreases-values l = 2 * length l.tokens.now + 1
 
 abbrev pub invariant-values-values : goal.invariant-values-values
-invariant-values-values l = ((vs : List Value) × ShowsValues l.found vs × ValuesSo (is_type l.names) (map view l.tokens) vs (map view l.rest)) × (length l.rest ≤ length l.tokens)
+invariant-values-values l =
+    ((vs : List Value) × ShowsValues l.found vs × ValuesSo (is_type l.reader.names.now) (map view l.tokens) vs
+    (map view l.rest)) × (length l.rest ≤ length l.tokens)
 
 abbrev pub decreases-values-values : goal.decreases-values-values
 decreases-values-values l = length l.rest

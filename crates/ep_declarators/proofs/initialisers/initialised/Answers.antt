@@ -1,6 +1,6 @@
 use Rattle.std.proofs.Common.{Some, None, map}
 use Rattle.ep_lexer.specs.Tokens.{view}
-use Rattle.ep_exprs.specs.Names.{is_type}
+use Rattle.ep_reading.specs.Names.{is_type}
 use Rattle.ep_declarators.proofs.InitLemmas as inits
 use Rattle.ep_declarators.proofs.initialisers.initialised.Goals as goal
 
@@ -10,7 +10,9 @@ returns-in_default-clause-reads c =
     record {
       value = record { line = q.value.line; declarator = q.value; value = None };
       shows = c.without_value.ensures q.value q.shows.1;
-      takes = inits.bare_read (is_type c.args.names.now) (map view c.args.tokens.now) (map view c.in_ok-named.after.now) q.value q.takes c.in_default.ensures.value;
+      takes =
+          inits.bare_read (is_type c.args.reader.now.names.now) (map view c.args.tokens.now)
+          (map view c.in_ok-named.named.rest.now) q.value q.takes c.in_default.ensures.value;
     }
 
 pub returns-clause-reads : goal.returns-clause-reads
@@ -20,5 +22,8 @@ returns-clause-reads c =
     record {
       value = record { line = q.value.line; declarator = q.value; value = Some g.value };
       shows = c.with_value.ensures q.value g.value q.shows.1 g.shows;
-      takes = inits.given_read (is_type c.args.names.now) (map view c.args.tokens.now) (map view c.in_ok-named.after.now) (map view c.in-Some.more.now) (map view c.in_ok-given.rest.now) c.in-Some.field-0-0 q.value g.value q.takes c.in-Some.ensures.value g.takes;
+      takes =
+          inits.given_read (is_type c.args.reader.now.names.now) (map view c.args.tokens.now)
+          (map view c.in_ok-named.named.rest.now) (map view c.in-Some.more.now) (map view c.in_ok-given.given.rest.now)
+          c.in-Some.field-0-0 q.value g.value q.takes c.in-Some.ensures.value g.takes;
     }

@@ -4,10 +4,10 @@ use Rattle.ep_ast.specs.Statement as tree
 use Rattle.ep_ast.specs.DeclarationGrammar as grammar
 use Rattle.ep_ast.specs.DeclarationGrammar.{Specified}
 use Rattle.ep_lexer.specs.Tokens.{view}
-use Rattle.ep_exprs.specs.Names.{is_type}
+use Rattle.ep_reading.specs.Names.{is_type}
 use Rattle.ep_declarators.specs.Answer.{NamesTypes}
 use Rattle.ep_decls.specs.Answer.{NewTypes, InTypedefWords}
-use Rattle.ep_decls.proofs.AnswerLemmas.{stops_fail, fails_fail}
+use Rattle.ep_reading.proofs.PassLemmas.{stops_fail, fails_fail}
 use Rattle.ep_decls.proofs.ItemLemmas as items
 use Rattle.ep_decls.proofs.items.typedef.Goals as goal
 
@@ -20,7 +20,7 @@ pub returns-in_err-declarators-clause-reads : goal.returns-in_err-declarators-cl
 returns-in_err-declarators-clause-reads c =
     let p = err_from_is_err_and c.from_residual-in_err-declarators.result c.from_residual-in_err-declarators.ensures.1 in
     let q = c.in_ok-specs.ensures.reads in
-    rw (p.1, p.2) (stops_fail (NamesTypes (is_type c.args.names.now)) (NewTypes (is_type c.args.names.now) c.args.line) (InTypedefWords (is_type c.args.names.now)) (map view c.in_ok-specs.behind.now) (map view c.args.tokens.now) c.in_err-declarators.field-0.0 (items.second_refused (is_type c.args.names.now) c.args.line (map view c.args.tokens.now) (map view c.in_ok-specs.behind.now) q.0.value q.0.takes) (λ n. q.1) c.in_err-declarators.ensures.reads)
+    rw (p.1, p.2) (stops_fail (NamesTypes (is_type c.args.names.now)) (NewTypes (is_type c.args.names.now) c.args.line) (InTypedefWords (is_type c.args.names.now)) (map view c.in_ok-specs.specs.rest.now) (map view c.args.tokens.now) c.in_err-declarators.field-0.0 (items.second_refused (is_type c.args.names.now) c.args.line (map view c.args.tokens.now) (map view c.in_ok-specs.specs.rest.now) q.0.value q.0.takes) (λ n. q.1) c.in_err-declarators.ensures.reads)
 
 pub returns-clause-reads : goal.returns-clause-reads
 returns-clause-reads c =
@@ -29,7 +29,7 @@ returns-clause-reads c =
       record {
         value = (tree.typedefs (record { line = c.args.line; specs = q.0.value; declarators = r.value.0 }), r.value.1);
         shows = (c.new_types.ensures q.0.value r.value.0 q.0.shows r.shows.0, r.shows.1);
-        takes = items.new_taken (is_type c.args.names.now) c.args.line (map view c.args.tokens.now) (map view c.in_ok-specs.behind.now) (map view c.in_ok-declarators.rest.now) q.0.value r.value q.0.takes r.takes;
+        takes = items.new_taken (is_type c.args.names.now) c.args.line (map view c.args.tokens.now) (map view c.in_ok-specs.specs.rest.now) (map view c.in_ok-declarators.declarators.rest.now) q.0.value r.value q.0.takes r.takes;
       },
       q.1,
     )

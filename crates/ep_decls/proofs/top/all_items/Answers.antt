@@ -4,10 +4,10 @@ use Rattle.ep_ast.specs.Statement.{item_of}
 use Rattle.ep_ast.specs.BitField.{HasBitField}
 use Rattle.ep_ast.specs.Depth.{in_item}
 use Rattle.ep_lexer.specs.Tokens.{view}
-use Rattle.ep_exprs.specs.Names.{is_type}
+use Rattle.ep_reading.specs.Names.{is_type}
 use Rattle.ep_decls.specs.Answer.{Itemed, InItem, Whole}
-use Rattle.ep_decls.proofs.AnswerLemmas.{fails_fail}
-use Rattle.ep_decls.proofs.ListLemmas.{longer_shows}
+use Rattle.ep_reading.proofs.PassLemmas.{fails_fail}
+use Rattle.ep_reading.proofs.MeasuredLemmas.{longer_shows}
 use Rattle.ep_decls.proofs.ProgramLemmas as programs
 use Rattle.ep_decls.proofs.top.all_items.Goals as goal
 
@@ -17,7 +17,9 @@ returns-then-is_empty c =
     let e = programs.none_left c.items.rest.now (sym c.if-is_empty.ensures) in
     record {
       reads = (
-        record { value = i.0; shows = i.1; takes = programs.items_done (map view c.args.tokens.now) i.0 (is_type c.items.names) (map view c.items.rest.now) e i.2 },
+        i.0,
+        i.1,
+        programs.items_done (map view c.args.tokens.now) i.0 (is_type c.items.names) (map view c.items.rest.now) e i.2,
         programs.items_clear (map view c.args.tokens.now) i.0 (is_type c.items.names) (map view c.items.rest.now) e i.2,
       );
     }
@@ -41,8 +43,8 @@ items-preserved c =
     let q = c.in_ok-one.ensures.reads in (
       (
         i.0 ++ q.0.value.0 ∷ [],
-        longer_shows item_of in_item c.items.found c.in_ok-one.one c.in_ok-found.found i.0 q.0.value.0 c.in_ok-found.ensures i.1 q.0.shows.0,
-        programs.items_step (map view c.args.tokens.now) i.0 (is_type c.items.names) (is_type c.item.new.names) (map view c.items.rest.now) (map view c.in_ok-one.more.now) q.0.value q.0.shows.1 i.2 q.0.takes q.1,
+        longer_shows item_of in_item c.items.found c.in_ok-one.one.value c.in_ok-found.found i.0 q.0.value.0 c.in_ok-found.ensures i.1 q.0.shows.0,
+        programs.items_step (map view c.args.tokens.now) i.0 (is_type c.items.names) (is_type c.item.new.names) (map view c.items.rest.now) (map view c.in_ok-one.one.rest.now) q.0.value q.0.shows.1 i.2 q.0.takes q.1,
       ),
       omega (arith, c.in_ok-one.ensures.shorter, c.items.invariant.1),
     )

@@ -1,7 +1,7 @@
 use Rattle.std.proofs.Common.{◌≤◌, List, map, length}
 use Rattle.ep_ast.specs.Statement.{Item}
 use Rattle.ep_lexer.specs.Tokens.{view}
-use Rattle.ep_exprs.specs.Names.{is_type}
+use Rattle.ep_reading.specs.Names.{is_type}
 use Rattle.ep_decls.specs.Answer.{ShowsItems}
 use Rattle.ep_decls.proofs.ProgramLemmas.{ItemsSo}
 use Rattle.ep_decls.proofs.top.all_items.Given as goal

@@ -5,7 +5,7 @@ use Rattle.ep_ast.specs.Depth.{brackets_past}
 use Rattle.ep_ast.specs.Reading.{Takes}
 use Rattle.ep_lexer.specs.declared.tokens.Token.{Token}
 use Rattle.ep_lexer.specs.Tokens.{view, view_all}
-use Rattle.ep_declarators.specs.Checked.{Fails}
+use Rattle.ep_reading.specs.Answer.{Fails}
 use Rattle.ep_decls.specs.Answer.{Whole}
 use Rattle.ep_decls.proofs.ProgramLemmas as programs
 use Rattle.ep_decls.proofs.top.program.Goals as goal
@@ -24,13 +24,13 @@ returns-in_err-found-clause-refused c =
 
 pub returns-in-Ok-clause-only : goal.returns-in-Ok-clause-only
 returns-in-Ok-clause-only c = λ is d. (
-    let q = c.in_ok-found.ensures.reads.0 in
-    let t : Takes Whole (view_all c.args.tokens.now) q.value [] = rw c.as_slice-all.ensures.value at q.takes in
-    programs.whole_alone (view_all c.args.tokens.now) q.value is t d ∙ sym (c.in-Ok.ensures q.value q.shows).0)
+    let q = c.in_ok-found.ensures.reads in
+    let t : Takes Whole (view_all c.args.tokens.now) q.0 [] = rw c.as_slice-all.ensures.value at q.2 in
+    programs.whole_alone (view_all c.args.tokens.now) q.0 is t d ∙ sym (c.in-Ok.ensures q.0 q.1).0)
 
 pub returns-in-Err-clause-refused : goal.returns-in-Err-clause-refused
 returns-in-Err-clause-refused c =
     let n : None ≡ brackets_past 0 (view_all c.args.tokens.now) = sym c.in_default.is ∙ c.brackets_past.ensures ∙ ap (λ (ts : List Token). brackets_past 0 (map view ts)) c.as_slice-all.ensures.value in
-    let q = c.in_ok-found.ensures.reads.0 in
-    let t : Takes Whole (view_all c.args.tokens.now) q.value [] = rw c.as_slice-all.ensures.value at q.takes in
-    programs.depth_offends (view_all c.args.tokens.now) c.in-Err.refusal q.value n t (c.in-Err.ensures q.value q.shows)
+    let q = c.in_ok-found.ensures.reads in
+    let t : Takes Whole (view_all c.args.tokens.now) q.0 [] = rw c.as_slice-all.ensures.value at q.2 in
+    programs.depth_offends (view_all c.args.tokens.now) c.in-Err.refusal q.0 n t (c.in-Err.ensures q.0 q.1)

@@ -2,7 +2,7 @@ use Rattle.std.proofs.Common.{◌≤◌, ◌+◌, ◌*◌, length, map, List}
 use Rattle.std.specs.Prelude.{reverse}
 use Rattle.ep_ast.specs.Statement.{Stmt, Part}
 use Rattle.ep_lexer.specs.Tokens.{view}
-use Rattle.ep_exprs.specs.Names.{is_type}
+use Rattle.ep_reading.specs.Names.{is_type}
 use Rattle.ep_statements.specs.Shown.{ShowsStmts, ShowsParts}
 use Rattle.ep_statements.specs.Around.{Waits}
 use Rattle.ep_statements.proofs.PartLemmas.{PartsSo, StatementsSo}
@@ -27,19 +27,24 @@ abbrev pub decreases-arm : goal.decreases-arm
 decreases-arm l = 8 * length l.tokens.now + 3
 
 abbrev pub invariant-statement-heads : goal.invariant-statement-heads
-invariant-statement-heads l = Waits (is_type l.names) (map view l.tokens) (reverse l.frames.items) (map view l.rest) × (length l.rest ≤ length l.tokens)
+invariant-statement-heads l = Waits (is_type l.reader.names.now) (map view l.tokens) (reverse l.frames.items)
+    (map view l.rest) × (length l.rest ≤ length l.tokens)
 
 abbrev pub decreases-statement-heads : goal.decreases-statement-heads
 decreases-statement-heads l = length l.rest
 
 abbrev pub invariant-parts-parts : goal.invariant-parts-parts
-invariant-parts-parts l = ((ps : List Part) × ShowsParts l.found ps × PartsSo (is_type l.names) (map view l.tokens) ps (map view l.rest)) × (length l.rest ≤ length l.tokens)
+invariant-parts-parts l =
+    ((ps : List Part) × ShowsParts l.found ps × PartsSo (is_type l.reader.names.now) (map view l.tokens) ps
+    (map view l.rest)) × (length l.rest ≤ length l.tokens)
 
 abbrev pub decreases-parts-parts : goal.decreases-parts-parts
 decreases-parts-parts l = length l.rest
 
 abbrev pub invariant-arm-statements : goal.invariant-arm-statements
-invariant-arm-statements l = ((ss : List Stmt) × ShowsStmts l.found ss × StatementsSo (is_type l.names) (map view l.tokens) ss (map view l.rest)) × (length l.rest ≤ length l.tokens)
+invariant-arm-statements l =
+    ((ss : List Stmt) × ShowsStmts l.found ss × StatementsSo (is_type l.reader.names.now) (map view l.tokens) ss
+    (map view l.rest)) × (length l.rest ≤ length l.tokens)
 
 abbrev pub decreases-arm-statements : goal.decreases-arm-statements
 decreases-arm-statements l = length l.rest

@@ -8,8 +8,9 @@ use Rattle.ep_statements.proofs.kept.do_loop.Goals as goal
 pub returns-in_ok-turn-in-Fits : goal.returns-in_ok-turn-in-Fits
 returns-in_ok-turn-in-Fits c = λ e s k h. (
     let n = c.over-height.ensures (height s) k.1 in
-    let r = c.in-Fits.ensures (suc (height s)) e s n k.0 h in
+    let r = c.in-Fits.ensures (suc (height s)) e s n h k.0 in
     ((rw c.in_ok-turn-in-Fits.ensures.ok (ap (λ (p : Expr × Stmt). shape.do_loop c.args.line p.1 p.0) r.0), r.1), n))
 
 pub returns-in-TooDeep : goal.returns-in-TooDeep
-returns-in-TooDeep c = λ e s k h. (let n = c.over-height.ensures (height s) k.1 in (c.in-TooDeep.ensures (suc (height s)) e s n k.0 h, n))
+returns-in-TooDeep c = λ e s k h.
+    (let n = c.over-height.ensures (height s) k.1 in (c.in-TooDeep.ensures (suc (height s)) e s n h k.0, n))

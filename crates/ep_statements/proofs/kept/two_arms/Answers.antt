@@ -5,4 +5,8 @@ use Rattle.ep_statements.proofs.DepthLemmas.{counts_max}
 use Rattle.ep_statements.proofs.kept.two_arms.Goals as goal
 
 pub returns : goal.returns
-returns c = λ ss ts k j. (c.arms_tree-tree.ensures ss ts k.0 j.0, counts_max c.args.then.height c.args.otherwise.height c.max-height.result (height_of_stmts (to_stmts ss)) (height_of_stmts (to_stmts ts)) (omega arith) k.1 j.1)
+returns c = λ ss ts k j. (
+  c.arms_tree-tree.ensures ss ts k.0 j.0,
+  counts_max c.args.then.height c.args.otherwise.height
+      c.max-height.result (height_of_stmts (to_stmts ss)) (height_of_stmts (to_stmts ts)) (omega arith) k.1 j.1,
+)

@@ -12,4 +12,5 @@ returns-in_ok-turn-in-Fits c = λ e s h k. (
     ((rw c.in_ok-turn-in-Fits.ensures.ok (ap (λ (p : Expr × Stmt). shape.while_loop c.args.line p.0 p.1) r.0), r.1), n))
 
 pub returns-in-TooDeep : goal.returns-in-TooDeep
-returns-in-TooDeep c = λ e s h k. (let n = c.over-height.ensures (height s) k.1 in (c.in-TooDeep.ensures (suc (height s)) e s n h k.0, n))
+returns-in-TooDeep c = λ e s h k.
+    (let n = c.over-height.ensures (height s) k.1 in (c.in-TooDeep.ensures (suc (height s)) e s n h k.0, n))

@@ -1,0 +1,104 @@
+//! The place of a refusal where a parameter has no name.
+
+ghost use Rattle.ep_decls.specs.Answer.{IsMoved};
+
+use crate::look::behind_stars;
+use ep_ast::marks::{COMMA, LEFT_BRACKET, LEFT_PAREN, RIGHT_BRACKET, RIGHT_PAREN, STAR};
+use ep_ast::words::{STRUCT, UNION, VOID};
+use ep_ast::{Halt, Refusal};
+use ep_lexer::{Token, TokenKind};
+use ep_reading::{TypeNames, at_mark, at_name, at_word};
+
+/// What stands last of a parameter that is looked at.
+#[derive(Clone, Copy)]
+enum Seen {
+    /// A word of its type or a star; and whether it is a word that a tag follows.
+    Type(bool),
+    /// Its name, and behind that so many open brackets.
+    Name(u32),
+}
+
+/// With a token more, where no name has come; None where it can't stand before a name.
+fn before_name(names: &TypeNames, tag: bool, token: &Token) -> Option<Seen> {
+    match &token.what {
+        TokenKind::Word(code) => Some(Seen::Type(*code == STRUCT || *code == UNION)),
+        TokenKind::Name(text) => if tag || names.has(text) {
+            Some(Seen::Type(false))
+        } else {
+            Some(Seen::Name(0))
+        },
+        TokenKind::Mark(code) => if *code == STAR {
+            Some(Seen::Type(false))
+        } else {
+            None
+        },
+        _ => None,
+    }
+}
+
+/// With a mark more behind the name; None where the parameters end.
+fn behind_name(open: u32, code: u8) -> Option<Seen> {
+    if code == LEFT_PAREN || code == LEFT_BRACKET {
+        return Some(Seen::Name(open.saturating_add(1)));
+    }
+    if open == 0 && code == COMMA {
+        return Some(Seen::Type(false));
+    }
+    if open == 0 && code == RIGHT_PAREN {
+        return None;
+    }
+    if code == RIGHT_PAREN || code == RIGHT_BRACKET {
+        return Some(Seen::Name(open.saturating_sub(1)));
+    }
+    Some(Seen::Name(open))
+}
+
+/// Whether no parameter stands behind the opening parenthesis.
+fn has_none(inside: &[Token]) -> bool {
+    let behind = match at_word(inside, VOID) {
+        Some((_, rest)) => rest,
+        None => inside,
+    };
+    at_mark(behind, RIGHT_PAREN).is_some()
+}
+
+/// The line of the token behind the first parameter without a name, where these tokens begin behind the words of a
+/// head; where the head itself is to be refused, perhaps that of a token after the one that is refused.
+pub fn behind_unnamed(names: &TypeNames, tokens: &[Token]) -> Option<u32> {
+    let (_, _, behind) = at_name(behind_stars(tokens))?;
+    let (_, inside) = at_mark(behind, LEFT_PAREN)?;
+    if has_none(inside) {
+        return None;
+    }
+    let mut seen = Seen::Type(false);
+    for token in inside {
+        match seen {
+            Seen::Type(tag) => {
+                let Some(next) = before_name(names, tag, token) else {
+                    return Some(token.line);
+                };
+                seen = next;
+            }
+            Seen::Name(open) => if let TokenKind::Mark(code) = token.what {
+                seen = behind_name(open, code)?;
+            },
+        }
+    }
+    None
+}
+
+/// A refusal of a place that isn't behind this line.
+pub fn no_later(halt: Halt, line: Option<u32>) -> Halt
+    ensures { IsMoved halt result }
+{
+    match halt {
+        Halt::Refused(refusal) => match line {
+            Some(place) => Halt::Refused(Refusal {
+                line: refusal.line.min(place),
+                ..refusal
+            }),
+            None => halt,
+        },
+        Halt::Memory => halt,
+    }
+}

@@ -1,0 +1,5 @@
+pub mod NameLemmas
+pub mod FirstLemmas
+pub mod PassLemmas
+pub mod MeasuredLemmas
+pub mod SequenceLemmas

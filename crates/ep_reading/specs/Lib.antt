@@ -1,0 +1,4 @@
+pub mod Names
+pub mod Look
+pub mod Measured
+pub mod Answer

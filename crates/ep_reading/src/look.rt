@@ -1,0 +1,152 @@
+//! Looks at the first tokens.
+
+ghost use Rattle.std.specs.Prelude.{◌≡◌, ◌<◌, length, map, IfSome};
+ghost use Rattle.std.specs.Option.{option_map};
+ghost use Rattle.ep_ast.specs.Reading.{AtMark, AtWord, AtName};
+ghost use Rattle.ep_lexer.specs.Tokens.{view};
+ghost use Rattle.ep_reading.specs.Look as look;
+ghost use Rattle.ep_reading.specs.Look.{AtIf, AtElse, AtEndIf, IsHead, IsShorter, IsShorterText, IsShorterOrder, seen, seen_text, seen_order};
+
+use ep_ast::{Literal, NamedOrder};
+use ep_lexer::{Token, TokenKind};
+
+/// The first token, and what comes after it. The last is a directive, or no token.
+#[derive(Clone, Copy)]
+pub enum Head<'a> {
+    Word(u32, u8, &'a [Token]),
+    Name(u32, &'a [u8], &'a [Token]),
+    Number(u32, Literal, &'a [Token]),
+    Mark(u32, u8, &'a [Token]),
+    Other,
+}
+
+pub fn first_of<'a>(tokens: &'a [Token]) -> Head<'a>
+    ensures { IsHead result (map view tokens.now) }
+{
+    match tokens {
+        [] => Head::Other,
+        [first, rest @ ..] => match &first.what {
+            TokenKind::Word(c) => Head::Word(first.line, *c, rest),
+            TokenKind::Name(text) => Head::Name(first.line, text, rest),
+            TokenKind::Number(n) => Head::Number(first.line, *n, rest),
+            TokenKind::Mark(c) => Head::Mark(first.line, *c, rest),
+            TokenKind::IfLittle | TokenKind::IfBig | TokenKind::Other | TokenKind::EndIf => {
+                Head::Other
+            }
+        },
+    }
+}
+
+/// The line of this mark, if it stands first, and what comes after it.
+pub fn at_mark<'a>(tokens: &'a [Token], code: u8) -> Option<(u32, &'a [Token])>
+    ensures value { AtMark code (map view tokens.now) (option_map seen result) }
+    ensures shorter { IfSome result (IsShorter (length tokens.now)) }
+{
+    match tokens {
+        [first, rest @ ..] => match first.what {
+            TokenKind::Mark(c) => if c == code {
+                Some((first.line, rest))
+            } else {
+                None
+            },
+            _ => None,
+        },
+        [] => None,
+    }
+}
+
+/// The line of this word, if it stands first, and what comes after it.
+pub fn at_word<'a>(tokens: &'a [Token], code: u8) -> Option<(u32, &'a [Token])>
+    ensures value { AtWord code (map view tokens.now) (option_map seen result) }
+    ensures shorter { IfSome result (IsShorter (length tokens.now)) }
+{
+    match tokens {
+        [first, rest @ ..] => match first.what {
+            TokenKind::Word(c) => if c == code {
+                Some((first.line, rest))
+            } else {
+                None
+            },
+            _ => None,
+        },
+        [] => None,
+    }
+}
+
+/// The name that stands first, with its line and what comes after it.
+pub fn at_name<'a>(tokens: &'a [Token]) -> Option<(u32, &'a [u8], &'a [Token])>
+    ensures value { AtName (map view tokens.now) (option_map seen_text result) }
+    ensures shorter { IfSome result (IsShorterText (length tokens.now)) }
+{
+    match tokens {
+        [first, rest @ ..] => match &first.what {
+            TokenKind::Name(text) => Some((first.line, text, rest)),
+            _ => None,
+        },
+        [] => None,
+    }
+}
+
+/// The line and order of an `#if`, if one stands first, and what comes after it.
+pub fn at_if<'a>(tokens: &'a [Token]) -> Option<(u32, NamedOrder, &'a [Token])>
+    ensures value { AtIf (map view tokens.now) (option_map seen_order result) }
+    ensures shorter { IfSome result (IsShorterOrder (length tokens.now)) }
+{
+    match tokens {
+        [first, rest @ ..] => match first.what {
+            TokenKind::IfLittle => Some((first.line, NamedOrder::Little, rest)),
+            TokenKind::IfBig => Some((first.line, NamedOrder::Big, rest)),
+            _ => None,
+        },
+        [] => None,
+    }
+}
+
+/// The line of an `#else`, if one stands first, and what comes after it.
+pub fn at_else<'a>(tokens: &'a [Token]) -> Option<(u32, &'a [Token])>
+    ensures value { AtElse (map view tokens.now) (option_map seen result) }
+    ensures shorter { IfSome result (IsShorter (length tokens.now)) }
+{
+    match tokens {
+        [first, rest @ ..] => match first.what {
+            TokenKind::Other => Some((first.line, rest)),
+            _ => None,
+        },
+        [] => None,
+    }
+}
+
+/// The line of an `#endif`, if one stands first, and what comes after it.
+pub fn at_end_if<'a>(tokens: &'a [Token]) -> Option<(u32, &'a [Token])>
+    ensures value { AtEndIf (map view tokens.now) (option_map seen result) }
+    ensures shorter { IfSome result (IsShorter (length tokens.now)) }
+{
+    match tokens {
+        [first, rest @ ..] => match first.what {
+            TokenKind::EndIf => Some((first.line, rest)),
+            _ => None,
+        },
+        [] => None,
+    }
+}
+
+/// Whether an `#else` or `#endif` stands first.
+pub fn ends_arm(tokens: &[Token]) -> bool
+    ensures { result ≡ look.ends_arm (map view tokens.now) }
+{
+    match tokens {
+        [] => false,
+        [first, ..] => match first.what {
+            TokenKind::Other | TokenKind::EndIf => true,
+            _ => false,
+        },
+    }
+}
+
+/// The line of the last token, 1 where there is none.
+pub fn last_line(tokens: &[Token]) -> u32 {
+    match tokens.last() {
+        Some(token) => token.line,
+        None => 1,
+    }
+}
