@@ -1,0 +1,6 @@
+pub mod Trees
+pub mod Around
+pub mod Opened
+mod Rows
+mod MeaningRows
+mod TypeRows

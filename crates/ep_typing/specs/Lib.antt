@@ -1,0 +1,10 @@
+pub mod Results
+pub mod Types
+pub mod Env
+pub mod Names
+pub mod Operand
+pub mod Constant
+pub mod Operators
+pub mod Parts
+pub mod Calls
+pub mod Typing

@@ -1,0 +1,6 @@
+//! What expressions mean: definitions alone.
+#![tactic(auto)]
+
+mod types;
+
+pub use types::{Base, CType};

@@ -1,0 +1,5 @@
+use Rattle.ep_typing_laws.proofs.Order.{means, meant}
+use Rattle.ep_typing_laws.proofs.expressions.Goals as goal
+
+pub returns : goal.returns
+returns c = record { means = means; meant = meant }
