@@ -70,19 +70,19 @@ sub_stride a b r q s p i j h k =
     (λ e. subst (λ (m : ℕ). HasStride (reduced (a.remainder -ℤ b.remainder) m) (residue s (pos r -ℤ pos q)) s) (sym (gcd_limited a b i j))
     (stride_of (a.remainder -ℤ b.remainder) (pos r -ℤ pos q) (gcd a.modulus b.modulus) (residue s (pos r -ℤ pos q)) s p (gcd_greatest a.modulus b.modulus s h.divides k.divides) (difference_apart a b r q s p h k) refl))
 
--- a product by the number s
-pub mul_stride : (a : Class) (s : ℕ) → 0 < s → IfSome (results_between Mul I64 a (one (pos s))) (λ c. HasStride c 0 s)
-mul_stride a s p =
-    between (is_one a && true) (single_result (arith_of Mul I64 a.remainder (pos s))) (product_of I64 a (one (pos s))) (λ c. HasStride c 0 s)
-    (λ e. signed_ok _ (λ c. HasStride c 0 s) (λ v d. one_stride v 0 s (ap (residue s) (signed_result Overflow I64 (a.remainder *ℤ pos s) v refl d) ∙ residue_same s (a.remainder *ℤ pos s) (pos 0) p (apart (a.remainder *ℤ pos s) times) ∙ zero_residue)))
-    (λ e. at_products (are_small (products a (one (pos s)))) (first (is_one a) true e refl))
+-- a product by a number that s divides
+pub mul_stride : (a : Class) (n s : ℕ) → 0 < s → s ∣ n → IfSome (results_between Mul I64 a (one (pos n))) (λ c. HasStride c 0 s)
+mul_stride a n s p d =
+    between (is_one a && true) (single_result (arith_of Mul I64 a.remainder (pos n))) (product_of I64 a (one (pos n))) (λ c. HasStride c 0 s)
+    (λ e. signed_ok _ (λ c. HasStride c 0 s) (λ v f. one_stride v 0 s (ap (residue s) (signed_result Overflow I64 (a.remainder *ℤ pos n) v refl f) ∙ residue_same s (a.remainder *ℤ pos n) (pos 0) p (apart (a.remainder *ℤ pos n) times) ∙ zero_residue)))
+    (λ e. at_products (are_small (products a (one (pos n)))) (first (is_one a) true e refl))
   where
     first : (x y : Bool) → (x && y) ≡ false → y ≡ true → x ≡ false
     first true y e h = cc
     first false y e h = refl
 
-    times : IsMultiple s (a.remainder *ℤ pos s)
-    times = subst (IsMultiple s) (*ℤ_comm (pos s) a.remainder) (multiple_product s (pos s) a.remainder (itself s))
+    times : IsMultiple s (a.remainder *ℤ pos n)
+    times = multiple_of s n (a.remainder *ℤ pos n) d (subst (IsMultiple n) (*ℤ_comm (pos n) a.remainder) (multiple_product n (pos n) a.remainder (itself n)))
 
     minus_zero : (z : ℤ) → z ≡ z -ℤ pos 0
     minus_zero z = omega (arith, ints)
@@ -96,10 +96,10 @@ mul_stride a s p =
         zero_mod : (s : ℕ) → 0 < s → 0 % s ≡ 0
         zero_mod s h = mod-eq_of_lt h
 
-    divides : s ∣ product_modulus I64 a (one (pos s))
+    divides : s ∣ product_modulus I64 a (one (pos n))
     divides =
-        gcd_greatest (gcd (products a (one (pos s))).0 (products a (one (pos s))).1) (products a (one (pos s))).2 s
-        (gcd_greatest (products a (one (pos s))).0 (products a (one (pos s))).1 s (of_zero a.modulus) (dvd-mul_left s a.modulus)) (of_zero (unsigned_abs a.remainder))
+        gcd_greatest (gcd (products a (one (pos n))).0 (products a (one (pos n))).1) (products a (one (pos n))).2 s
+        (gcd_greatest (products a (one (pos n))).0 (products a (one (pos n))).1 s (of_zero a.modulus) (dvd_trans s d (dvd-mul_left n a.modulus))) (of_zero (unsigned_abs a.remainder))
       where
         of_zero : (m : ℕ) → s ∣ m * 0
         of_zero m = subst (λ (n : ℕ). s ∣ n) (zero_product m) (dvd-zero s)
@@ -107,20 +107,20 @@ mul_stride a s p =
             zero_product : (m : ℕ) → 0 ≡ m * 0
             zero_product m = omega arith
 
-    of_factor : HasStride (multiples_of I64 (pos s)) 0 s
-    of_factor = stride_of (pos 0) (pos 0) s 0 s p (dvd_refl s) (none_of s) zero_residue
+    of_factor : HasStride (multiples_of I64 (pos n)) 0 s
+    of_factor = stride_of (pos 0) (pos 0) n 0 s p d (none_of s) zero_residue
 
-    past : is_one a ≡ false → HasStride (past_limits I64 a (one (pos s))) 0 s
+    past : is_one a ≡ false → HasStride (past_limits I64 a (one (pos n))) 0 s
     past e = at (is_one a) e
       where
-        at : (x : Bool) → x ≡ false → HasStride (cond x (multiples_of I64 a.remainder) (multiples_of I64 (pos s))) 0 s
-        at true d = cc
-        at false d = of_factor
+        at : (x : Bool) → x ≡ false → HasStride (cond x (multiples_of I64 a.remainder) (multiples_of I64 (pos n))) 0 s
+        at true f = cc
+        at false f = of_factor
 
-    at_limit : (x : Bool) → is_one a ≡ false → HasStride (cond x (reduced (a.remainder *ℤ pos s) (product_modulus I64 a (one (pos s)))) (past_limits I64 a (one (pos s)))) 0 s
-    at_limit true e = stride_of (a.remainder *ℤ pos s) (pos 0) (product_modulus I64 a (one (pos s))) 0 s p divides (apart _ times) zero_residue
+    at_limit : (x : Bool) → is_one a ≡ false → HasStride (cond x (reduced (a.remainder *ℤ pos n) (product_modulus I64 a (one (pos n)))) (past_limits I64 a (one (pos n)))) 0 s
+    at_limit true e = stride_of (a.remainder *ℤ pos n) (pos 0) (product_modulus I64 a (one (pos n))) 0 s p divides (apart _ times) zero_residue
     at_limit false e = past e
 
-    at_products : (x : Bool) → is_one a ≡ false → HasStride (cond x (product_at I64 a (one (pos s)) (product_modulus I64 a (one (pos s)))) (past_limits I64 a (one (pos s)))) 0 s
-    at_products true e = at_limit (nat_le (product_modulus I64 a (one (pos s))) greatest_modulus) e
+    at_products : (x : Bool) → is_one a ≡ false → HasStride (cond x (product_at I64 a (one (pos n)) (product_modulus I64 a (one (pos n)))) (past_limits I64 a (one (pos n)))) 0 s
+    at_products true e = at_limit (nat_le (product_modulus I64 a (one (pos n))) greatest_modulus) e
     at_products false e = past e

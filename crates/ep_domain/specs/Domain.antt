@@ -63,7 +63,8 @@ pub record KeepsStrides {N : Type 0} (d : Ops N) : Type 0 where
   pub cut : (a : N) (lo hi : ℤ) (r s : ℕ) → IsStride r s → IsTrue (d.has_stride a r s) → IfSome (d.cut a lo hi) (λ c. IsTrue (d.has_stride c r s))
   pub add : (a b : N) (r q s : ℕ) → IsStride r s → IsStride q s → IsTrue (d.has_stride a r s) → IsTrue (d.has_stride b q s) → IfSome (d.op Add I64 a b).value (λ c. IsTrue (d.has_stride c ((r + q) % s) s))
   pub sub : (a b : N) (r q s : ℕ) → IsStride r s → IsStride q s → IsTrue (d.has_stride a r s) → IsTrue (d.has_stride b q s) → IfSome (d.op Sub I64 a b).value (λ c. IsTrue (d.has_stride c (residue s (pos r -ℤ pos q)) s))
-  pub mul : (a b : N) (s : ℕ) → 0 < s → s ≤ 65536 → IsSingle d b (pos s) → IfSome (d.op Mul I64 a b).value (λ c. IsTrue (d.has_stride c 0 s))
+  -- the product by one number, at each modulus that divides it
+  pub mul : (a b : N) (s k : ℕ) → IsStride 0 s → IsSingle d b (pos (s * k)) → IfSome (d.op Mul I64 a b).value (λ c. IsTrue (d.has_stride c 0 s))
 
 pub record Lawful {N : Type 0} (d : Ops N) : Type 0 where
   -- every number of the type

@@ -28,7 +28,7 @@ pointer_laws {N = N} d law = record {
   sum_rises = λ m sizes p r. of_rising (moved_targets d m sizes p.targets) (rising_moved d m sizes p.targets r);
   sum_holds = λ m sizes p f r. sums_held d law m sizes p f.each_size f.positive f.unit r;
   sum_of_one = λ m sizes p f. moves_one d law m sizes p f.unit;
-  sum_stride = λ m sizes p f r. keeps_stride d law m sizes p f.positive f.unit r;
+  sum_stride = λ m sizes p f r. keeps_stride d law m sizes p f.unit r;
   compare_answers = pair_answers d law;
   compare_one = one_answers d law;
   without_rises = λ b p r. rising_kept d law b p.targets r;

@@ -1,7 +1,7 @@
 -- A sum of one place and a single number, and strides of sums.
 use Rattle.std.proofs.Common.{◌≡◌, ℕ, ◌+◌, ◌*◌, ◌%◌, ◌<◌, ◌≤◌, ℤ, pos, ◌-ℤ◌, ◌*ℤ◌, ◌<ℤ◌, Bool, true, false, if◌then◌else◌, IsTrue, List, [], ◌∷◌, slice_get, refl, sym, ap, ◌∙◌, subst, Option, Some, None, IsSomeAnd, IfSome, Ok, Err, MatchResult, ◌⊎◌, inl, inr, arith}
 use Rattle.std.specs.Prelude.{int_le}
-use Rattle.std.proofs.Math.Nat.{mod-eq_of_lt, zero-mod}
+use Rattle.std.proofs.Math.Nat.{mod-eq_of_lt}
 use Rattle.std.proofs.lemmas.Int.{ints}
 use Rattle.ep_int.specs.declared.types.IntType.TheVariants.{I64}
 use Rattle.ep_int.specs.declared.types.BinOp.TheVariants.{Add, Sub, Mul}
@@ -139,17 +139,13 @@ module _ {N : Type 0} (d : Ops N) (law : Lawful d) where
   Has q s c = IsTrue (d.has_stride c q s)
 
   module _ (keeps : KeepsStrides d) where
-    if_map : (o : Option N) (P Q : N → Type 0) → ((n : N) → P n → Q n) → IfSome o P → IfSome o Q
-    if_map None P Q f h = tt
-    if_map (Some n) P Q f h = f n h
+    zero_stride : (q s : ℕ) → IsStride q s → IsStride 0 s
+    zero_stride q s i = let b = i.below in record { below = omega arith; small = i.small }
 
-    bytes_stride : (delta : N) (u s k : ℕ) → u < 4294967296 → 0 < u → u ≤ 65536 → u ≡ s * k
+    bytes_stride : (delta : N) (u q s k : ℕ) → u < 4294967296 → u ≡ s * k → IsStride q s
         → IfSome (bytes_of d delta u) (λ c. IsTrue (d.has_stride c 0 s))
-    bytes_stride delta u s k h p l e =
-        if_map (bytes_of d delta u) (λ c. IsTrue (d.has_stride c 0 u)) (λ c. IsTrue (d.has_stride c 0 s))
-        (λ c g. subst (λ r. IsTrue (d.has_stride c r s)) (zero-mod s) (law.stride_divides c 0 s k
-        (subst (IsStride 0) e (record { below = p; small = l })) (subst (λ z. IsTrue (d.has_stride c 0 z)) e g)))
-        (keeps.mul delta (d.single (pos u)) u p l (law.single_range (pos u) (offset_of_some_type u h)))
+    bytes_stride delta u q s k h e i = keeps.mul delta (d.single (pos u)) s k (zero_stride q s i)
+        (subst (λ n. IsSingle d (d.single (pos u)) (pos n)) e (law.single_range (pos u) (offset_of_some_type u h)))
 
     same_sum : (q s : ℕ) → q < s → (q + 0) % s ≡ q
     same_sum q s h = ap (λ x. x % s) (plus q) ∙ mod-eq_of_lt h
@@ -171,22 +167,16 @@ module _ {N : Type 0} (d : Ops N) (law : Lawful d) where
         (λ c. IsTrue (d.has_stride c q s))
     sum_stride false n bytes q s i h k = subst (λ r. IfSome (offsets_and d false n (Some bytes))
         (λ c. IsTrue (d.has_stride c r s))) (same_sum q s i.below) (keeps.add n bytes q 0 s i (zero_stride q s i) h k)
-      where
-        zero_stride : (q s : ℕ) → IsStride q s → IsStride 0 s
-        zero_stride q s i = let b = i.below in record { below = omega arith; small = i.small }
     sum_stride true n bytes q s i h k = subst (λ r. IfSome (offsets_and d true n (Some bytes))
         (λ c. IsTrue (d.has_stride c r s))) (same_difference q s i.below)
         (keeps.sub n bytes q 0 s i (zero_stride q s i) h k)
-      where
-        zero_stride : (q s : ℕ) → IsStride q s → IsStride 0 s
-        zero_stride q s i = let b = i.below in record { below = omega arith; small = i.small }
 
-    offset_stride : (m : Move N) (size : Option ℕ) (n : N) (q s k : ℕ) → m.unit < 4294967296 → 0 < m.unit
-        → m.unit ≤ 65536 → m.unit ≡ s * k → IsStride q s → IsTrue (d.has_stride n q s)
+    offset_stride : (m : Move N) (size : Option ℕ) (n : N) (q s k : ℕ) → m.unit < 4294967296 → m.unit ≡ s * k
+        → IsStride q s → IsTrue (d.has_stride n q s)
         → IfSome (moved_offset d m size n) (λ c. IsTrue (d.has_stride c q s))
-    offset_stride m None n q s k h p l e i g = tt
-    offset_stride m (Some size) n q s k h p l e i g = cutted (offsets_and d m.subtract n (bytes_of d m.delta m.unit))
-        (by (bytes_of d m.delta m.unit) (bytes_stride m.delta m.unit s k h p l e))
+    offset_stride m None n q s k h e i g = tt
+    offset_stride m (Some size) n q s k h e i g = cutted (offsets_and d m.subtract n (bytes_of d m.delta m.unit))
+        (by (bytes_of d m.delta m.unit) (bytes_stride m.delta m.unit q s k h e i))
       where
         by : (o : Option N) → IfSome o (λ c. IsTrue (d.has_stride c 0 s))
             → IfSome (offsets_and d m.subtract n o) (λ c. IsTrue (d.has_stride c q s))
@@ -199,10 +189,10 @@ module _ {N : Type 0} (d : Ops N) (law : Lawful d) where
         cutted (Some c) j = keeps.cut c (pos 0) (pos size) q s i j
 
     targets_stride : (m : Move N) (sizes : List ℕ) (ts : List (Target N)) (q s k : ℕ) → m.unit < 4294967296
-        → 0 < m.unit → m.unit ≤ 65536 → m.unit ≡ s * k → IsStride q s → IsRising ts
+        → m.unit ≡ s * k → IsStride q s → IsRising ts
         → ((b : ℕ) (n : N) → offset_at ts b ≡ Some n → IsTrue (d.has_stride n q s))
         → (b : ℕ) (n : N) → offset_at (moved_targets d m sizes ts) b ≡ Some n → IsTrue (d.has_stride n q s)
-    targets_stride m sizes ts q s k h p l e i r f b n g = by (offset_at ts b) refl
+    targets_stride m sizes ts q s k h e i r f b n g = by (offset_at ts b) refl
       where
         is_some_at : (o : Option N) → IfSome o (λ c. IsTrue (d.has_stride c q s)) → o ≡ Some n
             → IsTrue (d.has_stride n q s)
@@ -212,7 +202,7 @@ module _ {N : Type 0} (d : Ops N) (law : Lawful d) where
         by : (o : Option N) → offset_at ts b ≡ o → IsTrue (d.has_stride n q s)
         by None w = let none = moved_none d m sizes ts b r w in absurd cc
         by (Some c) w = is_some_at (moved_offset d m (slice_get sizes b) c)
-            (offset_stride m (slice_get sizes b) c q s k h p l e i (f b c w)) (sym (moved_at d m sizes ts b c r w)
+            (offset_stride m (slice_get sizes b) c q s k h e i (f b c w)) (sym (moved_at d m sizes ts b c r w)
             ∙ g)
 
     of_list : (ts : List (Target N)) (q s : ℕ) → ((b : ℕ) (n : N) → offset_at ts b ≡ Some n → IsTrue
@@ -220,7 +210,7 @@ module _ {N : Type 0} (d : Ops N) (law : Lawful d) where
     of_list [] q s f = tt
     of_list (t ∷ ts) q s f = f
 
-  pub keeps_stride : (m : Move N) (sizes : List ℕ) (p : Pointers N) → 1 ≤ m.unit → m.unit < 4294967296
-      → IsRising p.targets → KeepsStride d m p (moved d m sizes p)
-  keeps_stride m sizes p h1 h2 r q s k keep l i e f = of_list (law.strides keep) (moved_targets d m sizes p.targets) q
-      s (targets_stride (law.strides keep) m sizes p.targets q s k h2 h1 l e i r f)
+  pub keeps_stride : (m : Move N) (sizes : List ℕ) (p : Pointers N) → m.unit < 4294967296 → IsRising p.targets
+      → KeepsStride d m p (moved d m sizes p)
+  keeps_stride m sizes p h r q s k keep i e f = of_list (law.strides keep) (moved_targets d m sizes p.targets) q
+      s (targets_stride (law.strides keep) m sizes p.targets q s k h e i r f)

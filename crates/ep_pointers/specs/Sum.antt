@@ -155,5 +155,5 @@ module _ {N : Type 0} (d : Ops N) where
 
   -- Offsets keep a stride that divides the unit, in a domain that keeps strides.
   abbrev pub KeepsStride : Move N → Pointers N → Option (Pointers N) → Type 0
-  KeepsStride m p r = (q s k : ℕ) → d.keeps_strides ≡ true → m.unit ≤ 65536 → IsStride q s → m.unit ≡ s * k
-      → HaveStride d p q s → IfSome r (λ v. HaveStride d v q s)
+  KeepsStride m p r = (q s k : ℕ) → d.keeps_strides ≡ true → IsStride q s → m.unit ≡ s * k → HaveStride d p q s
+      → IfSome r (λ v. HaveStride d v q s)

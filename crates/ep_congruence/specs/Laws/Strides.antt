@@ -4,7 +4,7 @@ use Rattle.std.specs.Prelude.{◌≡◌, ℕ, zero, suc, ◌+◌, ◌*◌, ◌%�
 use Rattle.std.specs.Option.{option_and_then}
 use Rattle.std.proofs.Common.{arith, ap, sym, ◌∙◌, subst, inl, inr}
 use Rattle.std.proofs.lemmas.Int.{ints}
-use Rattle.std.proofs.lemmas.Nat.Gcd.{dvd-zero}
+use Rattle.std.proofs.Math.Nat.{dvd-mul_right}
 use Rattle.ep_int.specs.declared.types.IntType.{IntType}
 use Rattle.ep_int.specs.declared.types.IntType.TheVariants.{I64}
 use Rattle.ep_int.specs.declared.types.BinOp.{BinOp}
@@ -117,27 +117,27 @@ difference_stride a b r q s i j h k =
     (operand (class_of a) r s p a.valid (stride_from (class_of a) r s h)) (operand (class_of b) q s p b.valid (stride_from (class_of b) q s k))
     (λ d f x y. sub_stride d f r q s p x.valid y.valid x.stride y.stride)))
 
-product_stride : (a b : Congruence) (s : ℕ) → 0 < s → s ≤ 65536 → range_of b ≡ pair (pos s) (pos s) → IfSome (outcome_of Mul I64 a b).value (λ c. IsTrue (classes.has_stride (class_of c) 0 s))
-product_stride a b s p q e =
+product_stride : (a b : Congruence) (s k : ℕ) → IsStride 0 s → range_of b ≡ pair (pos (s * k)) (pos (s * k)) → IfSome (outcome_of Mul I64 a b).value (λ c. IsTrue (classes.has_stride (class_of c) 0 s))
+product_stride a b s k i e =
     tested (outcome_of Mul I64 a b).value 0 s
     (then_kept (λ c. HasStride c 0 s) (value_of Mul I64 (class_of a) (class_of b))
-    (both_cut Mul (λ d. Unit {0}) (λ f. f ≡ one (pos s)) (λ c. HasStride c 0 s) (left_operand I64 (class_of a)) (left_operand I64 (class_of b))
-    (any (left_operand I64 (class_of a))) (subst (λ k. IfSome (left_operand I64 k) (λ f. f ≡ one (pos s))) (sym (single_of_range b (pos s) e)) of_one)
-    (λ d f x y. subst (λ f. IfSome (results_between Mul I64 d f) (λ c. HasStride c 0 s)) (sym y) (mul_stride d s p))))
+    (both_cut Mul (λ d. Unit {0}) (λ f. f ≡ one (pos (s * k))) (λ c. HasStride c 0 s) (left_operand I64 (class_of a)) (left_operand I64 (class_of b))
+    (any (left_operand I64 (class_of a))) (subst (λ c. IfSome (left_operand I64 c) (λ f. f ≡ one (pos (s * k)))) (sym (single_of_range b (pos (s * k)) e)) (of_one (pos (s * k))))
+    (λ d f x y. subst (λ f. IfSome (results_between Mul I64 d f) (λ c. HasStride c 0 s)) (sym y) (mul_stride d (s * k) s (positive 0 s i) (dvd-mul_right s k)))))
   where
     any : (o : Option Class) → IfSome o (λ d. Unit {0})
     any None = tt
     any (Some d) = tt
 
     -- a cut of one number is that number
-    of_one : IfSome (left_operand I64 (one (pos s))) (λ f. f ≡ one (pos s))
-    of_one = at (left_operand I64 (one (pos s))) (cut_is (one (pos s)) (least_of I64) (greatest_of I64))
+    of_one : (n : ℤ) → IfSome (left_operand I64 (one n)) (λ f. f ≡ one n)
+    of_one n = at (left_operand I64 (one n)) (cut_is (one n) (least_of I64) (greatest_of I64))
       where
-        of : (d : Class) → (d ≡ one (pos s)) ⊎ ((v : ℤ) × (d ≡ one v) × IsOfSomeType v × In (one (pos s)) v × (least_of I64 ≤ℤ v) × (v ≤ℤ greatest_of I64)) → d ≡ one (pos s)
+        of : (d : Class) → (d ≡ one n) ⊎ ((v : ℤ) × (d ≡ one v) × IsOfSomeType v × In (one n) v × (least_of I64 ≤ℤ v) × (v ≤ℤ greatest_of I64)) → d ≡ one n
         of d (inl f) = f
-        of d (inr w) = w.1 ∙ ap one (one_member (one (pos s)) w.0 refl w.3)
+        of d (inr w) = w.1 ∙ ap one (one_member (one n) w.0 refl w.3)
 
-        at : (o : Option Class) → IfSome o (IsCut (one (pos s)) (least_of I64) (greatest_of I64)) → IfSome o (λ f. f ≡ one (pos s))
+        at : (o : Option Class) → IfSome o (IsCut (one n) (least_of I64) (greatest_of I64)) → IfSome o (λ f. f ≡ one n)
         at None c = tt
         at (Some d) c = of d c.inside
 

@@ -32,7 +32,7 @@ pub record KeepsAs {N : Type 0} (d : Ops N) (S : ℕ → ℕ → N → Type 0) :
   pub cut : (a : N) (lo hi : ℤ) (r s : ℕ) → IsStride r s → S r s a → IfSome (d.cut a lo hi) (S r s)
   pub add : (a b : N) (r q s : ℕ) → IsStride r s → IsStride q s → S r s a → S q s b → IfSome (d.op Add I64 a b).value (S ((r + q) % s) s)
   pub sub : (a b : N) (r q s : ℕ) → IsStride r s → IsStride q s → S r s a → S q s b → IfSome (d.op Sub I64 a b).value (S (residue s (pos r -ℤ pos q)) s)
-  pub mul : (a b : N) (s : ℕ) → 0 < s → s ≤ 65536 → IsSingle d b (pos s) → IfSome (d.op Mul I64 a b).value (S 0 s)
+  pub mul : (a b : N) (s k : ℕ) → IsStride 0 s → IsSingle d b (pos (s * k)) → IfSome (d.op Mul I64 a b).value (S 0 s)
 
 abbrev pub Nothing : {N : Type 0} → ℕ → ℕ → N → Type 0
 Nothing r s a = Unit {0}
@@ -48,7 +48,7 @@ keeps_nothing d = record {
   cut = λ a lo hi r s i h. always _ _ (λ c. tt);
   add = λ a b r q s i j h k. always _ _ (λ c. tt);
   sub = λ a b r q s i j h k. always _ _ (λ c. tt);
-  mul = λ a b s p q h. always _ _ (λ c. tt);
+  mul = λ a b s k i h. always _ _ (λ c. tt);
 }
 
 keeps_strides : {N : Type 0} (d : Ops N) → KeepsStrides d → KeepsAs d (HasStride d)
@@ -134,10 +134,10 @@ module _ {A B : Type 0} (f : Ghosts A) (g : Ghosts B) (law : Lawful f.ops) (too 
     sub = λ p q r n s i j h k. at_value Sub I64 (Both r s) (Both n s) (Both (residue s (pos r -ℤ pos n)) s)
         (λ c d u v. both_has _ _ _ s (difference_stride r n s i) (ks.sub c.left d.left r n s i j u.0 v.0) (kt.sub c.right d.right r n s i j u.1 v.1)) p q _ _
         (always _ (common_edges f.ops g.ops p.left p.right) (cut_has p r s i h)) (always _ (common_edges f.ops g.ops q.left q.right) (cut_has q n s j k));
-    mul = λ p q s h k e. at_value Mul I64 (λ c. Unit {0}) (BothSingle f g law too (pos s)) (Both 0 s)
-        (λ c d u v. both_has _ _ 0 s (record { below = h; small = k }) (ks.mul c.left d.left s h k v.0) (kt.mul c.right d.right s h k v.1)) p q _ _
+    mul = λ p q s k i e. at_value Mul I64 (λ c. Unit {0}) (BothSingle f g law too (pos (s * k))) (Both 0 s)
+        (λ c d u v. both_has _ _ 0 s i (ks.mul c.left d.left s k i v.0) (kt.mul c.right d.right s k i v.1)) p q _ _
         (always _ (common_edges f.ops g.ops p.left p.right) (λ e. always (λ (c : Pair A B f g). Unit {0}) (cut_to {f = f} {g = g} p.left p.right e) (λ c. tt)))
-        (single_cut q (pos s) (common_edges f.ops g.ops q.left q.right) (edges_to_single f g law too Mul I64 q (pos s) e));
+        (single_cut q (pos (s * k)) (common_edges f.ops g.ops q.left q.right) (edges_to_single f g law too Mul I64 q (pos (s * k)) e));
   }
     where
       single_cut : (q : Pair A B f g) (v : ℤ) (o : Option (ℤ × ℤ)) → IsSomeAnd o (λ e. IsSomeAnd (cut_to {f = f} {g = g} q.left q.right e) (BothSingle f g law too v)) → IfSome o (λ e. IfSome (cut_to {f = f} {g = g} q.left q.right e) (BothSingle f g law too v))
@@ -157,7 +157,7 @@ keeps_same d S T to from k = record {
   cut = λ a lo hi r s i h. map_if (S r s) (T r s) (d.cut a lo hi) (to r s) (k.cut a lo hi r s i (from r s a h));
   add = λ a b r q s i j h l. map_if (S ((r + q) % s) s) (T ((r + q) % s) s) (d.op Add I64 a b).value (to ((r + q) % s) s) (k.add a b r q s i j (from r s a h) (from q s b l));
   sub = λ a b r q s i j h l. map_if (S (residue s (pos r -ℤ pos q)) s) (T (residue s (pos r -ℤ pos q)) s) (d.op Sub I64 a b).value (to (residue s (pos r -ℤ pos q)) s) (k.sub a b r q s i j (from r s a h) (from q s b l));
-  mul = λ a b s p q h. map_if (S 0 s) (T 0 s) (d.op Mul I64 a b).value (to 0 s) (k.mul a b s p q h);
+  mul = λ a b s n i h. map_if (S 0 s) (T 0 s) (d.op Mul I64 a b).value (to 0 s) (k.mul a b s n i h);
 }
 
 module _ {A B : Type 0} (f : Ghosts A) (g : Ghosts B) (law : Lawful f.ops) (too : Lawful g.ops) where

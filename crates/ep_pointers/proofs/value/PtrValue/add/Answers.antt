@@ -39,7 +39,7 @@ returns-clause-strides g c =
     let e : c.of_targets.result ≡ moved g.N.Num.ops m c.args.sizes.now c.args.self.now = search rules in
     let fits : c.args.unit < 4294967296 = search rules in
     subst (KeepsStride g.N.Num.ops m c.args.self.now) (sym e) (keeps_stride g.N.Num.ops g.met.N.Num.laws m
-    c.args.sizes.now c.args.self.now c.requires fits left)
+    c.args.sizes.now c.args.self.now fits left)
 
 pub returns-clause-leaves : goal.returns-clause-leaves
 returns-clause-leaves g c =
