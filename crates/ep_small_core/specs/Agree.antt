@@ -99,6 +99,11 @@ pub record Agrees (x y : Run) : Type 0 where
   pub outputs : Begins x.outputs y.outputs ⊎ Begins y.outputs x.outputs
   pub over : IsOver x.ending → IsOver y.ending → (x.ending ≡ y.ending) × (x.outputs ≡ y.outputs)
 
+-- one run on both machines, which is defined
+pub record SameRun (x y : Run) : Type 0 where
+  pub defined : IsDefined x.ending
+  pub same : x ≡ y
+
 -- inputs are numbers below 2 to the 64
 abbrev pub AreInputs : List ℕ → Type 0
 AreInputs vs = AllByRecursion (λ v. v < 2 ^ 64) vs

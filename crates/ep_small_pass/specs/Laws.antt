@@ -7,7 +7,7 @@ use Rattle.ep_small_core.specs.Memory.{Value, has}
 use Rattle.ep_small_core.specs.Program.{Expr, What, returns, Function, Program}
 use Rattle.ep_small_core.specs.WellFormed.{is_number, type_of, what_fits, are_held, scalar_of}
 use Rattle.ep_small_core.specs.Exec.{State, Outcome, on, broken, continued, returned, leaves, running, no_input, uncounted, is_true, tested, without, value, exec}
-use Rattle.ep_small_core.specs.Agree.{AreInputs, IsDefined, Run, main_ends, start}
+use Rattle.ep_small_core.specs.Agree.{AreInputs, SameRun, main_ends, start}
 use Rattle.ep_small_pass.specs.States.{StateOps, Gives, IsSimple}
 use Rattle.ep_small_pass.specs.Pass.{Pass, simple_pass, returned_pass}
 
@@ -15,11 +15,6 @@ use Rattle.ep_small_pass.specs.Pass.{Pass, simple_pass, returned_pass}
 abbrev pub pass_of : {S : Type 0} → What → Gives S → Pass S
 pass_of (returns e) g = returned_pass g
 pass_of w g = simple_pass g
-
--- one run, which is defined
-pub record IsOneRun (x y : Run) : Type 0 where
-  pub defined : IsDefined x.ending
-  pub same : x ≡ y
 
 -- where `In s x y` says that a kept state stands for the states x and y of the two machines
 module _ {S : Type 0} (In : S → State → State → Type 0) where
@@ -63,7 +58,7 @@ pub record Lawful (p : Program) (a b : Order) {S : Type 0} (o : StateOps S) (In 
   pub enter_in : (bs : List ℕ) (s : S) (x y : State) → In s x y → In (o.enter bs s) (without bs x) (without bs y)
   pub leave_in : (bs : List ℕ) (s : S) (x y : State) → In s x y → In (o.leave bs s) (without bs x) (without bs y)
   -- without a fault, both machines end main alike
-  pub ended_sound : (f : Function) → slice_get p.functions p.main ≡ Some f → (s : S) (x y : State) → In s x y → o.ended f s ≡ [] → IsOneRun (main_ends a p f.result f.line x) (main_ends b p f.result f.line y)
+  pub ended_sound : (f : Function) → slice_get p.functions p.main ≡ Some f → (s : S) (x y : State) → In s x y → o.ended f s ≡ [] → SameRun (main_ends a p f.result f.line x) (main_ends b p f.result f.line y)
   pub join_left : (s t : S) (x y : State) → In s x y → In (o.join s t) x y
   pub join_right : (s t : S) (x y : State) → In t x y → In (o.join s t) x y
   pub widen_left : (s t : S) (x y : State) → In s x y → In (o.widen s t) x y

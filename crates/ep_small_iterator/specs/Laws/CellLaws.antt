@@ -15,9 +15,9 @@ use Rattle.ep_domain.specs.Domain as domain
 use Rattle.ep_small_core.specs.Program.{Init, Function, Program}
 use Rattle.ep_small_core.specs.WellFormed.{is_same_scalar, holds_scalar, are_different, blocks_fit, init_fits, inits_fit, are_listed, own_blocks, are_held, first_of, stmts_fit, scalar_of, function_fits, is_int, is_main, is_well_formed}
 use Rattle.ep_small_core.specs.Exec.{State, size_at}
-use Rattle.ep_small_core.specs.Agree.{run_of, ended, result_out, main_ends}
+use Rattle.ep_small_core.specs.Agree.{SameRun, run_of, ended, result_out, main_ends}
 use Rattle.ep_small_core.proofs.Typing.{each_passes}
-use Rattle.ep_small_pass.specs.Laws.{IsOneRun, Lawful}
+use Rattle.ep_small_pass.specs.Laws.{Lawful}
 use Rattle.ep_small_iterator.specs.Plain.{Cells, cell_of, read_as, assumed, result_read, cells_ops}
 use Rattle.ep_small_iterator.specs.Stands.{Stands}
 use Rattle.ep_small_iterator.specs.Laws.Entry.{entry_fits}
@@ -54,15 +54,15 @@ kept p w =
 
 module _ {N : Type 0} (d : Ops N) (law : domain.Lawful d) (a b : Order) (p : Program) (fit : blocks_fit p.blocks ≡ true) where
   -- both machines put out the same result
-  result_same : (t : IntType) (f : ℕ → Option N) (u w : Found) (l : ℕ) (x y : State) → x.outputs ≡ y.outputs → IsOne d law t f u w → IsOneRun (result_out u l x) (result_out w l y)
+  result_same : (t : IntType) (f : ℕ → Option N) (u w : Found) (l : ℕ) (x y : State) → x.outputs ≡ y.outputs → IsOne d law t f u w → SameRun (result_out u l x) (result_out w l y)
   result_same t f u w l x y e i = rw (i.left, i.right) (record { defined = tt; same = ap (λ o. run_of ended (o ++ record { t = I32; value = i.v } ∷ [])) e })
 
   result_one : (s : Cells N) (x y : State) (n : ℕ) (what : Scalar) (l : ℕ) → holds_scalar (slice_get p.blocks n) what ≡ true → is_same_scalar what (Int I32) ≡ true → Stands d a b p s x y → (read_as d what (cell_of s n) l).faults ≡ []
-      → IsOneRun (result_out (loaded a (size_at a p n) x.memory what n 0) l x) (result_out (loaded b (size_at b p n) y.memory what n 0) l y)
+      → SameRun (result_out (loaded a (size_at a p n) x.memory what n 0) l x) (result_out (loaded b (size_at b p n) y.memory what n 0) l y)
   result_one s x y n (Int t) l h e i q = result_same t _ _ _ l x y i.outputs (variable_one d law a b p fit s x.memory y.memory n l t h (i.cells n) q)
   result_one s x y n Pointer l h e i q = absurd cc
 
-  ends_alike : (r : Option (ℕ × Scalar)) (l : ℕ) (s : Cells N) (x y : State) → are_held p.blocks (option_to_list r) ≡ true → is_int r ≡ true → Stands d a b p s x y → result_read d r l s ≡ [] → IsOneRun (main_ends a p r l x) (main_ends b p r l y)
+  ends_alike : (r : Option (ℕ × Scalar)) (l : ℕ) (s : Cells N) (x y : State) → are_held p.blocks (option_to_list r) ≡ true → is_int r ≡ true → Stands d a b p s x y → result_read d r l s ≡ [] → SameRun (main_ends a p r l x) (main_ends b p r l y)
   ends_alike None l s x y h e i q = absurd cc
   ends_alike (Some r) l s x y h e i q = result_one s x y r.0 r.1 l (and_parts (holds_scalar (slice_get p.blocks r.0) r.1) true h).0 e i q
 
