@@ -3,7 +3,8 @@ use Rattle.std.specs.Prelude.{ℕ, ◌^◌, ◌<◌, ℤ, FitsSigned, Bool, ◌&
 use Rattle.std.specs.Int.{int_min, int_max, w128}
 use Rattle.ep_alarms.specs.declared.types.Alarm.{Alarm}
 use Rattle.ep_alarms.specs.declared.types.AlarmKind.{AlarmKind}
-use Rattle.ep_alarms.specs.declared.types.AlarmKind.TheVariants.{U1, U2, U3, U4, U5, U6, U7, U8, U9, U10, E1, E2, E3, E4}
+use Rattle.ep_alarms.specs.declared.types.AlarmKind.TheVariants.{U1, U2, U3, U4, U5, U6, U7, U8, U9, U10, E1, E2, E3}
+use Rattle.ep_alarms.specs.declared.types.AlarmKind.TheVariants.{E4}
 
 -- the place of a kind in the order of a report
 abbrev pub place_of : AlarmKind → ℕ

@@ -1,5 +1,6 @@
 -- The list of a report. This project's rules.
-use Rattle.std.specs.Prelude.{◌≡◌, ℕ, ◌<◌, ◌≤◌, Bool, true, false, length, slice_index_or, IsTrue, if◌then◌else◌, List, [], ◌∷◌, fold}
+use Rattle.std.specs.Prelude.{◌≡◌, ℕ, ◌<◌, ◌≤◌, Bool, true, false, length, slice_index_or, IsTrue, if◌then◌else◌, List}
+use Rattle.std.specs.Prelude.{[], ◌∷◌, fold}
 use Rattle.std.specs.List.{list_any}
 use Rattle.ep_alarms.specs.declared.types.Alarm.{Alarm}
 use Rattle.ep_alarms.specs.Alarm.{before, joined, stand_together}
@@ -14,7 +15,8 @@ IsReport (a ∷ b ∷ more) = IsTrue (before a b) × IsReport (b ∷ more)
 abbrev pub has_place : List Alarm → Alarm → Bool
 has_place alarms a = list_any (λ b. stand_together b a) alarms
 
--- the list with one alarm more, in its place; where its line and kind are there, that alarm's ranges widen to hold the new ones
+-- the list with one alarm more, in its place; where its line and kind are there, that alarm's ranges widen to hold the
+-- new ones
 abbrev pub added : List Alarm → Alarm → List Alarm
 added [] a = a ∷ []
 added (b ∷ bs) a = if before b a then b ∷ added bs a else if before a b then a ∷ b ∷ bs else joined b a ∷ bs

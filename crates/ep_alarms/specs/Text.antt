@@ -10,7 +10,9 @@ range_text r = codes "[" ++ signed_decimal r.0 ++ codes "," ++ signed_decimal r.
 
 -- `LINE: KIND left [a,b] right [c,d]`, and a newline
 abbrev pub line_text : Alarm → List ℕ
-line_text a = decimal a.line ++ codes ": " ++ name_of a.kind ++ codes " left " ++ range_text a.left ++ codes " right " ++ range_text a.right ++ codes "\n"
+line_text a =
+    decimal a.line ++ codes ": " ++ name_of a.kind ++ codes " left " ++ range_text a.left ++ codes " right "
+    ++ range_text a.right ++ codes "\n"
 
 -- the last line: `portable`, or how many alarms there are, `1 alarms` too
 abbrev pub last_line : ℕ → List ℕ

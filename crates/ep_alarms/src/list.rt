@@ -33,7 +33,8 @@ impl Alarms {
         }
     }
 
-    /// Puts an alarm in its place. One of its line and kind that is there is widened to hold its ranges, which takes no memory.
+    /// Puts an alarm in its place. One of its line and kind that is there is widened to hold its ranges, which takes no
+    /// memory.
     pub fn add(&mut self, a: Alarm) -> Result<(), Memory>
         ensures ok { OnOk result (self.new ≡ added self.old a) }
         ensures err { OnErr result (self.new ≡ self.old) }

@@ -1,6 +1,8 @@
 -- What a program does on a machine, step by step. The order of evaluation and the steps are this project's rules, after
 -- C11 5.1.2.3, 6.5 and 6.8.
-use Rattle.std.specs.Prelude.{ℕ, zero, suc, ◌+◌, ◌*◌, ◌%◌, ℤ, pos, ◌+ℤ◌, ◌-ℤ◌, ◌*ℤ◌, Bool, true, false, ◌&&◌, not, List, [], ◌∷◌, ◌++◌, map, nat_lt, nat_le, nat_eq, int_le, int_lt, unsigned_abs, if◌then◌else◌, slice_get, Option, Some, None, Result, Ok, Err, option_to_list, unwrap_or}
+use Rattle.std.specs.Prelude.{ℕ, zero, suc, ◌+◌, ◌*◌, ◌%◌, ℤ, pos, ◌+ℤ◌, ◌-ℤ◌, ◌*ℤ◌, Bool, true, false, ◌&&◌, not, List}
+use Rattle.std.specs.Prelude.{[], ◌∷◌, ◌++◌, map, nat_lt, nat_le, nat_eq, int_le, int_lt, unsigned_abs, if◌then◌else◌}
+use Rattle.std.specs.Prelude.{slice_get, Option, Some, None, Result, Ok, Err, option_to_list, unwrap_or}
 use Rattle.std.specs.List.{list_any}
 use Rattle.ep_int.specs.declared.types.IntType.{IntType}
 use Rattle.ep_int.specs.declared.types.IntType.TheVariants.{U8}
@@ -15,10 +17,18 @@ use Rattle.ep_int.specs.declared.types.Cmp.{Cmp}
 use Rattle.ep_int.specs.declared.types.Cmp.TheVariants.{Eq, Ne, Lt, Le, Gt, Ge}
 use Rattle.ep_int.specs.Arith.{arith_of, compares, int_eq}
 use Rattle.ep_int.specs.Types.{size_of, representation, wrapped}
-use Rattle.ep_int.specs.Memory.{Byte, undefined, number, fragment, Memory, Value, int, null, pointer, Kind, overflow, division, shift, uninitialised, bounds, null_pointer, pointer_mix, overlap, pointer_part, Found, has, faults, with_place, loaded, stored, filled, copied, replaced, killed, overlaps, range_fault, store_fault}
+use Rattle.ep_int.specs.Memory.{Byte, undefined, number, fragment, Memory, Value, int, null, pointer, Kind, overflow}
+use Rattle.ep_int.specs.Memory.{division, shift, uninitialised, bounds, null_pointer, pointer_mix, overlap}
+use Rattle.ep_int.specs.Memory.{pointer_part, Found, has, faults, with_place, loaded, stored, filled, copied, replaced}
+use Rattle.ep_int.specs.Memory.{killed, overlaps, range_fault, store_fault}
 use Rattle.ep_layout.specs.declared.types.Leaf.{Leaf}
 use Rattle.ep_layout.specs.Table as table
-use Rattle.ep_core.specs.Program.{Place, block, deref, member, element, Expr, const, null_value, load, addr_of, binary, convert, compare, ptr_compare, logical_and, logical_or, logical_not, conditional, ptr_add, cast, Dest, Simple, nothing, eval, assign, clear, copy_aggregate, copy_bytes, fill, input, output, read_bytes, write_bytes, returns, What, simple, call, if_else, loop, break_loop, continue_loop, by_order, scope, Stmts, stop, more, Block, Function, Program}
+use Rattle.ep_core.specs.Program.{Place, block, deref, member, element, Expr, const, null_value, load, addr_of, binary}
+use Rattle.ep_core.specs.Program.{convert, compare, ptr_compare, logical_and, logical_or, logical_not, conditional}
+use Rattle.ep_core.specs.Program.{ptr_add, cast, Dest, Simple, nothing, eval, assign, clear, copy_aggregate, copy_bytes}
+use Rattle.ep_core.specs.Program.{fill, input, output, read_bytes, write_bytes, returns, What, simple, call, if_else}
+use Rattle.ep_core.specs.Program.{loop, break_loop, continue_loop, by_order, scope, Stmts, stop, more, Block, Function}
+use Rattle.ep_core.specs.Program.{Program}
 
 -- a number that was put out, with its type
 pub record Output : Type 0 where

@@ -2,7 +2,8 @@
 use Rattle.std.specs.Prelude.{◌≡◌, ℕ, ◌<◌, ◌≤◌, slice_get, Bool, List, Option, IsTrue}
 use Rattle.ep_int.specs.declared.types.Order.{Order}
 use Rattle.ep_core.specs.Program.{Stmts, Program}
-use Rattle.ep_core.specs.Exec.{State, Way, Outcome, leaves, running, no_input, undefined_at, Going, Counting, uncounted, exec_all, body_of, bodies}
+use Rattle.ep_core.specs.Exec.{State, Way, Outcome, leaves, running, no_input, undefined_at, Going, Counting, uncounted}
+use Rattle.ep_core.specs.Exec.{exec_all, body_of, bodies}
 use Rattle.ep_core.specs.Ways.{Ways, has_way, ways_of_all}
 use Rattle.ep_core.specs.WellFormed.{stmts_fit}
 use Rattle.ep_core.specs.Runs.{Run, run, run_by, IsOver, Begins, Agree, AgreeAlong}

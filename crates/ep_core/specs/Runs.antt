@@ -1,5 +1,6 @@
 -- Runs of a program, and what it means that two machines agree on it.
-use Rattle.std.specs.Prelude.{◌≡◌, ℕ, ◌^◌, ◌<◌, ◌⊎◌, Bool, true, false, ◌||◌, if◌then◌else◌, nat_eq, List, [], ◌++◌, fold, count_by, slice_get, Option, Some, None}
+use Rattle.std.specs.Prelude.{◌≡◌, ℕ, ◌^◌, ◌<◌, ◌⊎◌, Bool, true, false, ◌||◌, if◌then◌else◌, nat_eq, List, [], ◌++◌}
+use Rattle.std.specs.Prelude.{fold, count_by, slice_get, Option, Some, None}
 use Rattle.std.specs.List.{AllByRecursion}
 use Rattle.ep_int.specs.declared.types.IntType.TheVariants.{I32}
 use Rattle.ep_int.specs.declared.types.Order.{Order}
@@ -7,7 +8,8 @@ use Rattle.ep_int.specs.declared.types.Scalar.{Scalar}
 use Rattle.ep_int.specs.declared.types.Scalar.TheVariants.{Int}
 use Rattle.ep_int.specs.Memory.{undefined, number, Memory, int, null, pointer, Kind, Found, has, faults, loaded, stored}
 use Rattle.ep_core.specs.Program.{Block, Init, Function, Program}
-use Rattle.ep_core.specs.Exec.{Output, State, Outcome, leaves, running, no_input, undefined_at, untyped, Counting, counted, model, size_at, result_in, body_of, bodies, put_out}
+use Rattle.ep_core.specs.Exec.{Output, State, Outcome, leaves, running, no_input, undefined_at, untyped, Counting}
+use Rattle.ep_core.specs.Exec.{counted, model, size_at, result_in, body_of, bodies, put_out}
 
 -- ---- the memory at the start
 

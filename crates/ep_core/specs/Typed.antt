@@ -1,5 +1,6 @@
 -- What it means that values, memories and machines are as the types of a program say.
-use Rattle.std.specs.Prelude.{◌≡◌, ℕ, ◌<◌, ◌≤◌, ℤ, pos, Bool, true, List, [], ◌∷◌, length, slice_get, Option, Some, None}
+use Rattle.std.specs.Prelude.{◌≡◌, ℕ, ◌<◌, ◌≤◌, ℤ, pos, Bool, true, List, [], ◌∷◌, length, slice_get, Option, Some}
+use Rattle.std.specs.Prelude.{None}
 use Rattle.std.specs.List.{AllByRecursion}
 use Rattle.ep_int.specs.declared.types.IntType.{IntType}
 use Rattle.ep_int.specs.declared.types.IntType.TheVariants.{U8, I32}
@@ -8,11 +9,20 @@ use Rattle.ep_int.specs.declared.types.Scalar.{Scalar}
 use Rattle.ep_int.specs.declared.types.Scalar.TheVariants.{Int, Pointer}
 use Rattle.ep_int.specs.Arith.{IsOfSomeType, IsRightOperand}
 use Rattle.ep_int.specs.Types.{InRange, wrapped}
-use Rattle.ep_int.specs.Memory.{Byte, undefined, number, fragment, Memory, Value, int, null, pointer, Found, has, faults, loaded}
-use Rattle.ep_core.specs.Program.{Place, block, deref, member, element, Expr, const, null_value, load, addr_of, binary, convert, compare, ptr_compare, logical_and, logical_or, logical_not, conditional, ptr_add, cast, Dest, Simple, nothing, eval, assign, clear, copy_aggregate, copy_bytes, fill, input, output, read_bytes, write_bytes, returns, What, simple, call, if_else, loop, break_loop, continue_loop, by_order, scope, Stmts, stop, more, Function, Program}
-use Rattle.ep_core.specs.Exec.{Output, State, Outcome, leaves, running, no_input, undefined_at, Going, Counting, greatest_offset, converted, result_in, callee_of, model, size_at, value, address, exec_all, bodies}
+use Rattle.ep_int.specs.Memory.{Byte, undefined, number, fragment, Memory, Value, int, null, pointer, Found, has}
+use Rattle.ep_int.specs.Memory.{faults, loaded}
+use Rattle.ep_core.specs.Program.{Place, block, deref, member, element, Expr, const, null_value, load, addr_of, binary}
+use Rattle.ep_core.specs.Program.{convert, compare, ptr_compare, logical_and, logical_or, logical_not, conditional}
+use Rattle.ep_core.specs.Program.{ptr_add, cast, Dest, Simple, nothing, eval, assign, clear, copy_aggregate, copy_bytes}
+use Rattle.ep_core.specs.Program.{fill, input, output, read_bytes, write_bytes, returns, What, simple, call, if_else}
+use Rattle.ep_core.specs.Program.{loop, break_loop, continue_loop, by_order, scope, Stmts, stop, more, Function}
+use Rattle.ep_core.specs.Program.{Program}
+use Rattle.ep_core.specs.Exec.{Output, State, Outcome, leaves, running, no_input, undefined_at, Going, Counting}
+use Rattle.ep_core.specs.Exec.{greatest_offset, converted, result_in, callee_of, model, size_at, value, address}
+use Rattle.ep_core.specs.Exec.{exec_all, bodies}
 use Rattle.ep_core.specs.Runs.{main_function, main_from, run_by}
-use Rattle.ep_core.specs.WellFormed.{Sort, integer, pointer_to, has_sort, place_has, result_type, stmts_fit, blocks_fit, is_well_formed}
+use Rattle.ep_core.specs.WellFormed.{Sort, integer, pointer_to, has_sort, place_has, result_type, stmts_fit, blocks_fit}
+use Rattle.ep_core.specs.WellFormed.{is_well_formed}
 
 -- ---- values
 

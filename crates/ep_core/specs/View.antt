@@ -2,14 +2,17 @@
 use Rattle.std.specs.Prelude.{ℕ, List, [], ◌∷◌, map}
 use Rattle.std.specs.Option.{option_map}
 use Rattle.ep_core.specs.declared.tree.Expr as tree
-use Rattle.ep_core.specs.declared.tree.Expr.TheVariants.{Const, Null, Load', AddrOf', Bin', Convert', Compare', PtrCompare', And', Or', Not', Cond', PtrAdd', Cast'}
+use Rattle.ep_core.specs.declared.tree.Expr.TheVariants.{Const, Null, Load', AddrOf', Bin', Convert', Compare'}
+use Rattle.ep_core.specs.declared.tree.Expr.TheVariants.{PtrCompare', And', Or', Not', Cond', PtrAdd', Cast'}
 use Rattle.ep_core.specs.declared.tree.Place as part
 use Rattle.ep_core.specs.declared.tree.Place.TheVariants.{Block, Deref', Member', Element'}
 use Rattle.ep_core.specs.declared.tree.Dest as dest
 use Rattle.ep_core.specs.declared.tree.Stmt as statement
 use Rattle.ep_core.specs.declared.tree.What as action
 use Rattle.ep_core.specs.declared.tree.What.{Row_of-Stmt, end_of-Stmt, more_of-Stmt}
-use Rattle.ep_core.specs.declared.tree.What.TheVariants.{Nothing, Eval, Assign, Clear, CopyAggregate, CopyBytes, Fill, Call, Input, Output, ReadBytes, WriteBytes, If', Loop', Break, Continue, Return, ByOrder', Scope'}
+use Rattle.ep_core.specs.declared.tree.What.TheVariants.{Nothing, Eval, Assign, Clear, CopyAggregate, CopyBytes, Fill}
+use Rattle.ep_core.specs.declared.tree.What.TheVariants.{Call, Input, Output, ReadBytes, WriteBytes, If', Loop', Break}
+use Rattle.ep_core.specs.declared.tree.What.TheVariants.{Continue, Return, ByOrder', Scope'}
 use Rattle.ep_core.specs.declared.program.BlockInfo.{BlockInfo}
 use Rattle.ep_core.specs.declared.program.InitByte.{InitByte}
 use Rattle.ep_core.specs.declared.program.Function as function

@@ -1,6 +1,8 @@
 -- The ways out that statements can have by their text.
 use Rattle.std.specs.Prelude.{Bool, true, false, ◌&&◌, ◌||◌}
-use Rattle.ep_core.specs.Program.{Simple, nothing, eval, assign, clear, copy_aggregate, copy_bytes, fill, input, output, read_bytes, write_bytes, returns, What, simple, call, if_else, loop, break_loop, continue_loop, by_order, scope, Stmts, stop, more}
+use Rattle.ep_core.specs.Program.{Simple, nothing, eval, assign, clear, copy_aggregate, copy_bytes, fill, input, output}
+use Rattle.ep_core.specs.Program.{read_bytes, write_bytes, returns, What, simple, call, if_else, loop, break_loop}
+use Rattle.ep_core.specs.Program.{continue_loop, by_order, scope, Stmts, stop, more}
 use Rattle.ep_core.specs.Exec.{Way, on, broken, continued, returned}
 
 -- which ways there are

@@ -1,5 +1,6 @@
 -- Which programs are well formed. The typing rules are this project's, after C11 6.5 to 6.8.
-use Rattle.std.specs.Prelude.{ℕ, zero, suc, Bool, true, false, ◌&&◌, ◌||◌, not, nat_eq, nat_le, List, [], ◌∷◌, ◌++◌, length, sum_by, slice_get, Option, Some, None, option_and_then, option_to_list, is_some}
+use Rattle.std.specs.Prelude.{ℕ, zero, suc, Bool, true, false, ◌&&◌, ◌||◌, not, nat_eq, nat_le, List, [], ◌∷◌, ◌++◌}
+use Rattle.std.specs.Prelude.{length, sum_by, slice_get, Option, Some, None, option_and_then, option_to_list, is_some}
 use Rattle.std.specs.List.{list_any, list_all, flat_map, filter}
 use Rattle.ep_int.specs.declared.types.IntType.{IntType}
 use Rattle.ep_int.specs.declared.types.IntType.TheVariants.{I8, U8, I16, U16, I32, U32, I64, U64}
@@ -13,7 +14,12 @@ use Rattle.ep_layout.specs.declared.types.Ty.{Ty}
 use Rattle.ep_layout.specs.declared.types.Ty.TheVariants.{Int, Ptr, Array, Aggregate}
 use Rattle.ep_layout.specs.declared.types.Leaf.{Leaf}
 use Rattle.ep_layout.specs.Table.{Table, size, leaves, has_member_at}
-use Rattle.ep_core.specs.Program.{Place, block, deref, member, element, Expr, const, null_value, load, addr_of, binary, convert, compare, ptr_compare, logical_and, logical_or, logical_not, conditional, ptr_add, cast, Dest, Simple, nothing, eval, assign, clear, copy_aggregate, copy_bytes, fill, input, output, read_bytes, write_bytes, returns, What, simple, call, if_else, loop, break_loop, continue_loop, by_order, scope, Stmts, stop, more, Block, Init, Function, Program}
+use Rattle.ep_core.specs.Program.{Place, block, deref, member, element, Expr, const, null_value, load, addr_of, binary}
+use Rattle.ep_core.specs.Program.{convert, compare, ptr_compare, logical_and, logical_or, logical_not, conditional}
+use Rattle.ep_core.specs.Program.{ptr_add, cast, Dest, Simple, nothing, eval, assign, clear, copy_aggregate, copy_bytes}
+use Rattle.ep_core.specs.Program.{fill, input, output, read_bytes, write_bytes, returns, What, simple, call, if_else}
+use Rattle.ep_core.specs.Program.{loop, break_loop, continue_loop, by_order, scope, Stmts, stop, more, Block, Init}
+use Rattle.ep_core.specs.Program.{Function, Program}
 use Rattle.ep_core.specs.Exec.{first_of, frame_of, callee_of}
 use Rattle.ep_core.specs.Runs.{is_global}
 

@@ -1,6 +1,7 @@
 //! What holds of all runs.
 
-ghost use Rattle.ep_core.specs.Laws.{StepsGoOn, TurnsGoOn, TurnsGoFurther, StepsReach, TurnsStay, BodiesStand, AgreesAlong, LeavesByItsWays};
+ghost use Rattle.ep_core.specs.Laws.{StepsGoOn, TurnsGoOn, TurnsGoFurther, StepsReach, TurnsStay, BodiesStand};
+ghost use Rattle.ep_core.specs.Laws.{AgreesAlong, LeavesByItsWays};
 
 /// States the laws of runs, and does nothing.
 pub fn laws()

@@ -1,6 +1,7 @@
 //! What the types of a program say of its values.
 
-ghost use Rattle.ep_core.specs.Typed.{ValuesFit, PlacesLie, StatementsFit, BodiesKeep, StatementsKeep, RunsFit, MainsFit};
+ghost use Rattle.ep_core.specs.Typed.{ValuesFit, PlacesLie, StatementsFit, BodiesKeep, StatementsKeep, RunsFit};
+ghost use Rattle.ep_core.specs.Typed.{MainsFit};
 
 /// States that values are as their types say, and does nothing.
 pub fn typing_laws()

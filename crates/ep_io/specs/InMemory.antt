@@ -1,5 +1,6 @@
 -- A source and a sink over memory, and what each of their calls does (this project's rule).
-use Rattle.std.specs.Prelude.{ℕ, ◌-◌, ◌==◌, min, Bool, not, ◌&&◌, ◌||◌, if◌then◌else◌, List, [], ◌++◌, length, take, drop, bytes_eq}
+use Rattle.std.specs.Prelude.{ℕ, ◌-◌, ◌==◌, min, Bool, not, ◌&&◌, ◌||◌, if◌then◌else◌, List, [], ◌++◌, length, take}
+use Rattle.std.specs.Prelude.{drop, bytes_eq}
 use Rattle.std.specs.List.{list_any}
 use Rattle.ep_io.specs.Faults.{counted}
 

@@ -1,7 +1,9 @@
 // A source and a sink over memory, whose calls fail where they are told to.
-ghost use Rattle.std.specs.Prelude.{◌≡◌, ◌+◌, ◌<◌, ◌≤◌, ◌||◌, [], ◌++◌, length, take, drop, Some, Bool, is_err, IfOk, List, ℕ};
+ghost use Rattle.std.specs.Prelude.{◌≡◌, ◌+◌, ◌<◌, ◌≤◌, ◌||◌, [], ◌++◌, length, take, drop, Some, Bool, is_err, IfOk};
+ghost use Rattle.std.specs.Prelude.{List, ℕ};
 ghost use Rattle.ep_io.specs.Faults.{NeverFalls};
-ghost use Rattle.ep_io.specs.InMemory.{no_calls, is_to_fail, after_call, bytes_under, after_begin, read_count, after_read, is_refused, write_count, after_write};
+ghost use Rattle.ep_io.specs.InMemory.{no_calls, is_to_fail, after_call, bytes_under, after_begin, read_count};
+ghost use Rattle.ep_io.specs.InMemory.{after_read, is_refused, write_count, after_write};
 
 use crate::faults::Faults;
 use crate::outside::{Failed, Sink, Source};

@@ -1,5 +1,6 @@
 // Sources and sinks, and how their calls fail.
-ghost use Rattle.std.specs.Prelude.{◌≡◌, ℕ, ◌<◌, ◌≤◌, List, [], length, take, drop, Option, Some, is_some, IfSome, IfOk, OnOk, OnErr};
+ghost use Rattle.std.specs.Prelude.{◌≡◌, ℕ, ◌<◌, ◌≤◌, List, [], length, take, drop, Option, Some, is_some, IfSome};
+ghost use Rattle.std.specs.Prelude.{IfOk, OnOk, OnErr};
 ghost use Rattle.ep_io.specs.Faults.{NeverFalls, Rose};
 ghost use Rattle.ep_io.specs.Bytes.{Taken, NoneLeft, Appended};
 ghost use Rattle.ep_io.specs.declared.outside.ReadStop.TheVariants.{Fault, Memory};

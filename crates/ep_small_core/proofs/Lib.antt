@@ -6,4 +6,5 @@ pub mod Prefixes
 pub mod Grows
 pub mod Bridge
 pub mod Runs
+pub mod Mains
 pub mod Plain

@@ -5,7 +5,7 @@ use Rattle.ep_int.specs.declared.types.Scalar.{Scalar}
 use Rattle.ep_small_core.specs.Memory.{int, null, pointer, Found, has, faults, loaded}
 use Rattle.ep_small_core.specs.Program.{Function, Program}
 use Rattle.ep_small_core.specs.Exec.{State, Outcome, leaves, running, no_input, undefined_at, counted, uncounted, size_at}
-use Rattle.ep_small_core.specs.Agree.{Ending, still_running, ended, wants_input, undefined_on, Run, run_of, result_out, main_ends, finished, start, run_from, run_by, run, IsDefined, IsOver, Begins, Agrees, AreInputs, Agree, AgreeAlong, steps_of}
+use Rattle.ep_small_core.specs.Agree.{Ending, still_running, ended, wants_input, undefined_on, Run, run_of, result_out, main_ends, finished, start, run_from, run_by, run, IsDefined, IsOver, Begins, Agrees, SameRun, AreInputs, Agree, AgreeAlong, steps_of}
 use Rattle.ep_small_core.proofs.Prefixes.{begins_refl, begins_trans, begins_more, begins_either}
 use Rattle.ep_small_core.proofs.Grows.{outputs_in}
 use Rattle.ep_small_core.proofs.Bridge.{Starts, all_starts}
@@ -50,11 +50,6 @@ pub run_continues : (p : Program) (o : Order) (inputs : List ℕ) (n m : ℕ) �
 run_continues p o inputs n m h = run_from_continues p o (slice_get p.functions p.main) inputs n m h
 
 -- ---- agreement
-
--- the same run on both machines, and none that is undefined
-pub record SameRun (x y : Run) : Type 0 where
-  pub defined : IsDefined x.ending
-  pub same : x ≡ y
 
 -- a run that is not over is not undefined
 defined_if : (e : Ending) → (IsOver e → IsDefined e) → IsDefined e

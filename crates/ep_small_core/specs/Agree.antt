@@ -1,15 +1,18 @@
 -- Runs of a program, and what it means that two machines agree on it.
-use Rattle.std.specs.Prelude.{◌≡◌, ℕ, ◌^◌, ◌<◌, ◌⊎◌, Bool, true, false, ◌||◌, if◌then◌else◌, nat_eq, List, [], ◌++◌, fold, count_by, slice_get, Option, Some, None}
+use Rattle.std.specs.Prelude.{◌≡◌, ℕ, ◌^◌, ◌<◌, ◌⊎◌, Bool, true, false, ◌||◌, if◌then◌else◌, nat_eq, List, [], ◌++◌}
+use Rattle.std.specs.Prelude.{fold, count_by, slice_get, Option, Some, None}
 use Rattle.std.specs.List.{AllByRecursion}
 use Rattle.ep_int.specs.declared.types.IntType.TheVariants.{I32}
 use Rattle.ep_int.specs.declared.types.Order.{Order}
 use Rattle.ep_int.specs.declared.types.Order.TheVariants.{Little, Big, SwappedWords}
 use Rattle.ep_int.specs.declared.types.Scalar.{Scalar}
 use Rattle.ep_int.specs.declared.types.Scalar.TheVariants.{Int}
-use Rattle.ep_small_core.specs.Memory.{undefined, number, Memory, int, null, pointer, Kind, pointer_part, Found, has, faults, loaded, stored}
+use Rattle.ep_small_core.specs.Memory.{undefined, number, Memory, int, null, pointer, Kind, pointer_part, Found, has}
+use Rattle.ep_small_core.specs.Memory.{faults, loaded, stored}
 use Rattle.ep_small_core.specs.Program.{Block, Init, Function, Program}
 use Rattle.ep_small_core.specs.WellFormed.{is_global}
-use Rattle.ep_small_core.specs.Exec.{Output, State, Outcome, leaves, running, no_input, undefined_at, Counting, counted, size_at, exec_all, put_out}
+use Rattle.ep_small_core.specs.Exec.{Output, State, Outcome, leaves, running, no_input, undefined_at, Counting, counted}
+use Rattle.ep_small_core.specs.Exec.{size_at, exec_all, put_out}
 
 -- ---- the memory at the start
 
@@ -23,7 +26,9 @@ zeroed bs r b q = if is_global (slice_get bs b) || is_result r b then number 0 e
 
 -- the first values of globals, in their places
 abbrev pub initial : Order → Program → Function → Memory
-initial o p f = fold (λ (m : Memory) (i : Init). stored o m (Int i.t) i.block i.offset (int i.value)) (zeroed p.blocks f.result) p.init
+initial o p f =
+    fold (λ (m : Memory) (i : Init). stored o m (Int i.t) i.block i.offset (int i.value)) (zeroed p.blocks f.result)
+    p.init
 
 -- ---- runs
 
@@ -92,12 +97,18 @@ pub record Begins (a b : List Output) : Type 0 where
   pub rest : List Output
   pub is : a ++ rest ≡ b
 
--- Two runs agree so far: neither is undefined, one's outputs begin the other's, and where both are over, their endings and outputs are equal.
+-- Two runs agree so far: neither is undefined, one's outputs begin the other's, and where both are over, their endings
+-- and outputs are equal.
 pub record Agrees (x y : Run) : Type 0 where
   pub left : IsDefined x.ending
   pub right : IsDefined y.ending
   pub outputs : Begins x.outputs y.outputs ⊎ Begins y.outputs x.outputs
   pub over : IsOver x.ending → IsOver y.ending → (x.ending ≡ y.ending) × (x.outputs ≡ y.outputs)
+
+-- one run on both machines, which is defined
+pub record SameRun (x y : Run) : Type 0 where
+  pub defined : IsDefined x.ending
+  pub same : x ≡ y
 
 -- inputs are numbers below 2 to the 64
 abbrev pub AreInputs : List ℕ → Type 0
@@ -121,4 +132,6 @@ steps_of o schedule = count_by (is_order o) schedule
 
 -- the two machines agree at every moment of every interleaving of their steps
 abbrev pub AgreeAlong : Program → Order → Order → Type 0
-AgreeAlong p a b = (inputs : List ℕ) → AreInputs inputs → (schedule : List Order) → Agrees (run p a inputs (steps_of a schedule)) (run p b inputs (steps_of b schedule))
+AgreeAlong p a b =
+    (inputs : List ℕ) → AreInputs inputs → (schedule : List Order)
+    → Agrees (run p a inputs (steps_of a schedule)) (run p b inputs (steps_of b schedule))

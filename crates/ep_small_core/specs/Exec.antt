@@ -1,5 +1,7 @@
--- What a program does on a machine, step by step. The order of evaluation and the steps are this project's rules, after C11 5.1.2.3, 6.5 and 6.8.
-use Rattle.std.specs.Prelude.{ℕ, zero, suc, ◌+◌, ℤ, pos, Bool, true, false, not, List, [], ◌∷◌, ◌++◌, nat_lt, if◌then◌else◌, slice_get, Option, Some, None, Result, Ok, Err}
+-- What a program does on a machine, step by step. The order of evaluation and the steps are this project's rules, after
+-- C11 5.1.2.3, 6.5 and 6.8.
+use Rattle.std.specs.Prelude.{ℕ, zero, suc, ◌+◌, ℤ, pos, Bool, true, false, not, List, [], ◌∷◌, ◌++◌, nat_lt}
+use Rattle.std.specs.Prelude.{if◌then◌else◌, slice_get, Option, Some, None, Result, Ok, Err}
 use Rattle.ep_int.specs.declared.types.IntType.{IntType}
 use Rattle.ep_int.specs.declared.types.IntType.TheVariants.{U8}
 use Rattle.ep_int.specs.declared.types.Scalar.{Scalar}
@@ -9,8 +11,12 @@ use Rattle.ep_int.specs.declared.types.Undef.{Undef}
 use Rattle.ep_int.specs.declared.types.Undef.TheVariants.{Overflow, Division, Shift}
 use Rattle.ep_int.specs.Arith.{arith_of, compares, int_eq}
 use Rattle.ep_int.specs.Types.{wrapped}
-use Rattle.ep_small_core.specs.Memory.{Byte, undefined, number, fragment, Memory, Value, int, null, pointer, Kind, overflow, division, shift, uninitialised, bounds, null_pointer, pointer_part, Found, has, faults, loaded, stored, store_fault}
-use Rattle.ep_small_core.specs.Program.{Place, block, Expr, const, load, addr_of, binary, convert, compare, Dest, What, nothing, eval, assign, input, output, write_bytes, if_else, loop, break_loop, continue_loop, returns, scope, Stmts, stop, more, Block, Program}
+use Rattle.ep_small_core.specs.Memory.{Byte, undefined, number, fragment, Memory, Value, int, null, pointer, Kind}
+use Rattle.ep_small_core.specs.Memory.{overflow, division, shift, uninitialised, bounds, null_pointer, pointer_part}
+use Rattle.ep_small_core.specs.Memory.{Found, has, faults, loaded, stored, store_fault}
+use Rattle.ep_small_core.specs.Program.{Place, block, Expr, const, load, addr_of, binary, convert, compare, Dest, What}
+use Rattle.ep_small_core.specs.Program.{nothing, eval, assign, input, output, write_bytes, if_else, loop, break_loop}
+use Rattle.ep_small_core.specs.Program.{continue_loop, returns, scope, Stmts, stop, more, Block, Program}
 use Rattle.ep_small_core.specs.WellFormed.{contains}
 
 -- a number that was put out, with its type
@@ -18,7 +24,8 @@ pub record Output : Type 0 where
   pub t : IntType
   pub value : ℤ
 
--- A machine: its memory, the inputs left, the outputs so far, and whether each test so far was true. The joint tests are those that both machines of an analysis come to; so far these are all.
+-- A machine: its memory, the inputs left, the outputs so far, and whether each test so far was true. The joint tests
+-- are those that both machines of an analysis come to; so far these are all.
 pub record State : Type 0 where
   pub memory : Memory
   pub inputs : List ℕ
@@ -33,7 +40,8 @@ pub data Way : Type 0 where
   continued : Way
   returned : Way
 
--- What so many steps come to: the statement is left, with the steps that are left; or there are no more steps, or no more inputs, or behaviour is undefined.
+-- What so many steps come to: the statement is left, with the steps that are left; or there are no more steps, or no
+-- more inputs, or behaviour is undefined.
 pub data Outcome : Type 0 where
   leaves : Way → (left : ℕ) → State → Outcome
   running : State → Outcome
@@ -78,7 +86,8 @@ abbrev pub unless : Option Kind → (line : ℕ) → State → Outcome → Outco
 unless None l s go = go
 unless (Some k) l s go = undefined_at l k s
 
--- Whether steps are used up. Where they aren't, they only bound how many turns each loop makes; proofs speak of such runs.
+-- Whether steps are used up. Where they aren't, they only bound how many turns each loop makes; proofs speak of such
+-- runs.
 pub data Counting : Type 0 where
   counted : Counting
   uncounted : Counting
@@ -119,7 +128,8 @@ byte_out (fragment b o k) l s go = undefined_at l pointer_part s
 -- the bytes from here on, a step for each
 abbrev pub bytes_out : Counting → (count block here line : ℕ) → ℕ → State → Outcome
 bytes_out c zero b here l left s = leaves on left s
-bytes_out c (suc n) b here l left s = step c left s (λ left. byte_out (s.memory b here) l s (bytes_out c n b (here + 1) l left))
+bytes_out c (suc n) b here l left s =
+    step c left s (λ left. byte_out (s.memory b here) l s (bytes_out c n b (here + 1) l left))
 
 -- the same where the step for the first is taken
 abbrev pub rest_out : Counting → (count block here line : ℕ) → ℕ → State → Outcome
@@ -175,11 +185,15 @@ turned (running s) next again = running s
 turned (no_input s) next again = no_input s
 turned (undefined_at l k s) next again = undefined_at l k s
 
--- A loop from a test on. Where it is true a turn takes a step. More tests than `most` it does not come to; the steps that are left and one more are enough.
-abbrev pub looped : Counting → (most : ℕ) → (test : Memory → Found) → (line : ℕ) → (body next : ℕ → State → Outcome) → ℕ → State → Outcome
+-- A loop from a test on. Where it is true a turn takes a step. More tests than `most` it does not come to; the steps
+-- that are left and one more are enough.
+abbrev pub looped : Counting → (most : ℕ) → (test : Memory → Found) → (line : ℕ) → (body next : ℕ → State → Outcome) → ℕ
+    → State → Outcome
 looped c zero test l body next left s = running s
 looped c (suc most) test l body next left s =
-    given (test s.memory) l s (λ v. either (is_true v) (λ left s. step c left s (λ left. turned (body left s) next (looped c most test l body next))) (leaves on) left s)
+    given (test s.memory) l s (λ v. either (is_true v)
+    (λ left s. step c left s (λ left. turned (body left s) next (looped c most test l body next))) (leaves on) left
+    s)
 
 -- The first turn of a `do` loop comes before the test.
 abbrev pub first_turn : Counting → (tests_first : Bool) → (body next again : ℕ → State → Outcome) → ℕ → State → Outcome
@@ -224,18 +238,22 @@ module _ (o : Order) (p : Program) where
   value (const t v) m = has (int v)
   value (load what a) m = with_place (address a m) (λ b q. loaded o (size_at b) m what b q)
   value (addr_of a) m = address a m
-  value (binary op t a b) m = with_number (value a m) (λ x. with_number (value b m) (λ y. result_of (arith_of op t x y)))
+  value (binary op t a b) m =
+      with_number (value a m) (λ x. with_number (value b m) (λ y. result_of (arith_of op t x y)))
   value (convert t e) m = with_number (value e m) (λ v. has (int (wrapped t v)))
-  value (compare c t a b) m = with_number (value a m) (λ x. with_number (value b m) (λ y. has (int (if compares c x y then pos 1 else pos 0))))
+  value (compare c t a b) m =
+      with_number (value a m) (λ x. with_number (value b m) (λ y. has (int (if compares c x y then pos 1 else pos 0))))
 
   -- stores a value at a place, and goes on so
   abbrev pub put_at : Scalar → (block here : ℕ) → Value → (line : ℕ) → State → (State → Outcome) → Outcome
-  put_at what b q v l s go = unless (store_fault (size_at b) what q) l s (go (record s { memory = stored o s.memory what b q v }))
+  put_at what b q v l s go =
+      unless (store_fault (size_at b) what q) l s (go (record s { memory = stored o s.memory what b q v }))
 
   -- an input goes to its place, converted
   abbrev pub put_input : Option Dest → ℤ → (line left : ℕ) → State → Outcome
   put_input None v l left s = leaves on left s
-  put_input (Some d) v l left s = given_place (address d.place s.memory) l s (λ b q. put_at d.what b q (converted d.what v) l s (leaves on left))
+  put_input (Some d) v l left s =
+      given_place (address d.place s.memory) l s (λ b q. put_at d.what b q (converted d.what v) l s (leaves on left))
 
   -- a value becomes the function's result; no typed function without one returns a value
   abbrev pub put_result : Option (ℕ × Scalar) → Value → (line left : ℕ) → State → Outcome
@@ -253,14 +271,20 @@ module _ (o : Order) (p : Program) where
       exec nothing l left s = step c left s (λ left. leaves on left s)
       exec (eval e) l left s = step c left s (λ left. given (value e s.memory) l s (λ v. leaves on left s))
       exec (assign what a e) l left s =
-          step c left s (λ left. given_place (address a s.memory) l s (λ b q. given (value e s.memory) l s (λ v. put_at what b q v l s (leaves on left))))
-      exec (input t d) l left s = step c left s (λ left. taken s.inputs s (λ v s. put_input d (wrapped t (pos v)) l left s))
+          step c left s (λ left. given_place (address a s.memory) l s
+          (λ b q. given (value e s.memory) l s (λ v. put_at what b q v l s (leaves on left))))
+      exec (input t d) l left s =
+          step c left s (λ left. taken s.inputs s (λ v s. put_input d (wrapped t (pos v)) l left s))
       exec (output t e) l left s = step c left s (λ left. given (value e s.memory) l s (λ v. number_out t v l left s))
       exec (write_bytes e n) l left s =
-          step c left s (λ left. given_place (value e s.memory) l s (λ b q. if nat_lt (size_at b) (q + n) then undefined_at l bounds s else rest_out c n b q l left s))
-      exec (if_else e a b) l left s = step c left s (λ left. given (value e s.memory) l s (λ v. either (is_true v) (exec_all a) (exec_all b) left s))
+          step c left s (λ left. given_place (value e s.memory) l s
+          (λ b q. if nat_lt (size_at b) (q + n) then undefined_at l bounds s else rest_out c n b q l left s))
+      exec (if_else e a b) l left s =
+          step c left s (λ left. given (value e s.memory) l s
+          (λ v. either (is_true v) (exec_all a) (exec_all b) left s))
       exec (loop first e a b) l left s =
-          step c left s (λ left. first_turn c first (exec_all a) (exec_all b) (looped c (suc left) (value e) l (exec_all a) (exec_all b)) left s)
+          step c left s (λ left. first_turn c first (exec_all a) (exec_all b)
+          (looped c (suc left) (value e) l (exec_all a) (exec_all b)) left s)
       exec break_loop l left s = step c left s (λ left. leaves broken left s)
       exec continue_loop l left s = step c left s (λ left. leaves continued left s)
       exec (returns e) l left s = step c left s (λ left. returned_with e l left s)

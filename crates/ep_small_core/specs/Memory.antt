@@ -1,5 +1,7 @@
--- The memory of a machine, byte by byte: C11 6.2.6.1 and 6.3.2.1, with this project's rules on undefined bytes and on the bytes of pointers.
-use Rattle.std.specs.Prelude.{ℕ, zero, suc, ◌+◌, ◌-◌, ◌%◌, ℤ, Bool, true, false, ◌&&◌, ◌==◌, not, nat_eq, nat_lt, nat_le, if◌then◌else◌, List, [], ◌∷◌, slice_index_or, Option, Some, None}
+-- The memory of a machine, byte by byte: C11 6.2.6.1 and 6.3.2.1, with this project's rules on undefined bytes and on
+-- the bytes of pointers.
+use Rattle.std.specs.Prelude.{ℕ, zero, suc, ◌+◌, ◌-◌, ◌%◌, ℤ, Bool, true, false, ◌&&◌, ◌==◌, not, nat_eq, nat_lt}
+use Rattle.std.specs.Prelude.{nat_le, if◌then◌else◌, List, [], ◌∷◌, slice_index_or, Option, Some, None}
 use Rattle.std.specs.List.{list_any, list_all}
 use Rattle.ep_int.specs.declared.types.Order.{Order}
 use Rattle.ep_int.specs.declared.types.Scalar.{Scalar}
@@ -32,7 +34,8 @@ pub data Value : Type 0 where
   null : Value
   pointer : (block offset : ℕ) → Value
 
--- what behaviour is undefined (C11 6.5p5, 6.5.5p5, 6.5.7p3, 6.3.2.1p2, 6.5.6p8, 6.5.3.2p4, 6.3.2.3p7, 6.5.8p5, 6.5.16.1p3 and, of a pointer's bytes, this project's rule)
+-- what behaviour is undefined (C11 6.5p5, 6.5.5p5, 6.5.7p3, 6.3.2.1p2, 6.5.6p8, 6.5.3.2p4, 6.3.2.3p7, 6.5.8p5,
+-- 6.5.16.1p3 and, of a pointer's bytes, this project's rule)
 pub data Kind : Type 0 where
   overflow : Kind
   division : Kind
@@ -57,7 +60,8 @@ abbrev pub lies_partly : ℕ → ℕ → Byte → ℕ → Bool
 lies_partly here n undefined p = false
 lies_partly here n (number v) p = false
 lies_partly here n (fragment b o k) p =
-    (nat_lt p (here + n + k) && nat_lt (here + k) (p + pointer_bytes)) && not (nat_le (here + k) p && nat_le (p + pointer_bytes) (here + n + k))
+    (nat_lt p (here + n + k) && nat_lt (here + k) (p + pointer_bytes))
+    && not (nat_le (here + k) p && nat_le (p + pointer_bytes) (here + n + k))
 
 -- the memory in which each pointer that lies partly in the place is undefined as a whole
 abbrev pub broken : Memory → ℕ → ℕ → ℕ → Memory
@@ -65,7 +69,8 @@ broken m b here n c p = if nat_eq b c && lies_partly here n (m c p) p then undef
 
 -- that memory with new bytes in the place
 abbrev pub replaced : Memory → ℕ → ℕ → ℕ → (ℕ → Byte) → Memory
-replaced m b here n new c p = if nat_eq b c && (nat_le here p && nat_lt p (here + n)) then new (p - here) else broken m b here n c p
+replaced m b here n new c p =
+    if nat_eq b c && (nat_le here p && nat_lt p (here + n)) then new (p - here) else broken m b here n c p
 
 -- the bytes of a value of a scalar type
 abbrev pub bytes_of_value : Order → Scalar → Value → ℕ → Byte
@@ -118,14 +123,18 @@ abbrev pub pointer_in : List Byte → Found
 pointer_in [] = faults pointer_part
 pointer_in (undefined ∷ more) = faults pointer_part
 pointer_in (number v ∷ more) = faults pointer_part
-pointer_in (fragment b o k ∷ more) = if are_parts b o 0 (fragment b o k ∷ more) then has (pointer b o) else faults pointer_part
+pointer_in (fragment b o k ∷ more) =
+    if are_parts b o 0 (fragment b o k ∷ more) then has (pointer b o) else faults pointer_part
 
 -- the value of defined bytes
 abbrev pub value_of_bytes : Order → Scalar → List Byte → Found
-value_of_bytes o (Int t) bs = if list_all is_number bs then has (int (decoded o t (λ p. number_in (slice_index_or bs p undefined)))) else faults pointer_part
+value_of_bytes o (Int t) bs =
+    if list_all is_number bs then has (int (decoded o t (λ p. number_in (slice_index_or bs p undefined))))
+    else faults pointer_part
 value_of_bytes o Pointer bs = if list_all is_zero bs then has null else pointer_in bs
 
--- A read in a block of this size: outside of it, at an offset that is no multiple of the scalar's size, of an undefined byte, or its value.
+-- A read in a block of this size: outside of it, at an offset that is no multiple of the scalar's size, of an undefined
+-- byte, or its value.
 abbrev pub loaded : Order → ℕ → Memory → Scalar → ℕ → ℕ → Found
 loaded o size m what b here =
     if nat_lt size (here + size_of what) then faults bounds
@@ -136,4 +145,5 @@ loaded o size m what b here =
 -- what is wrong with a write in a block of this size, if anything
 abbrev pub store_fault : ℕ → Scalar → ℕ → Option Kind
 store_fault size what here =
-    if nat_lt size (here + size_of what) then Some bounds else if not (here % size_of what == 0) then Some alignment else None
+    if nat_lt size (here + size_of what) then Some bounds else if not (here % size_of what == 0) then Some alignment
+    else None

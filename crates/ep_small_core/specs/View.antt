@@ -9,7 +9,8 @@ use Rattle.ep_small_core.specs.declared.tree.Dest as dest
 use Rattle.ep_small_core.specs.declared.tree.Stmt as statement
 use Rattle.ep_small_core.specs.declared.tree.What as action
 use Rattle.ep_small_core.specs.declared.tree.What.{Row_of-Stmt, end_of-Stmt, more_of-Stmt}
-use Rattle.ep_small_core.specs.declared.tree.What.TheVariants.{Nothing, Eval, Assign, Input, Output, WriteBytes, If', Loop', Break, Continue, Return, Scope'}
+use Rattle.ep_small_core.specs.declared.tree.What.TheVariants.{Nothing, Eval, Assign, Input, Output, WriteBytes, If'}
+use Rattle.ep_small_core.specs.declared.tree.What.TheVariants.{Loop', Break, Continue, Return, Scope'}
 use Rattle.ep_small_core.specs.declared.program.BlockInfo.{BlockInfo}
 use Rattle.ep_small_core.specs.declared.program.InitByte.{InitByte}
 use Rattle.ep_small_core.specs.declared.program.Function as function
@@ -63,7 +64,19 @@ abbrev pub shown_init : InitByte → plain.Init
 shown_init i = record { block = i.block; offset = i.offset; t = i.t; value = i.value }
 
 abbrev pub shown_function : function.Function → plain.Function
-shown_function f = record { name = f.name.items; line = f.line; params = f.params.items; result = f.result; locals = f.locals.items; body = shown_stmts f.body.items }
+shown_function f = record {
+  name = f.name.items;
+  line = f.line;
+  params = f.params.items;
+  result = f.result;
+  locals = f.locals.items;
+  body = shown_stmts f.body.items;
+}
 
 abbrev pub shown_parts : List BlockInfo → List InitByte → List function.Function → ℕ → plain.Program
-shown_parts blocks init functions main = record { blocks = map shown_block blocks; init = map shown_init init; functions = map shown_function functions; main = main }
+shown_parts blocks init functions main = record {
+  blocks = map shown_block blocks;
+  init = map shown_init init;
+  functions = map shown_function functions;
+  main = main;
+}

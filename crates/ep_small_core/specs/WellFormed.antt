@@ -1,5 +1,6 @@
 -- Which programs are well formed. The typing rules are this project's, after C11 6.5 to 6.8.
-use Rattle.std.specs.Prelude.{ℕ, zero, suc, Bool, true, false, ◌&&◌, ◌||◌, not, nat_eq, nat_le, if◌then◌else◌, List, [], ◌∷◌, ◌++◌, map, length, sum_by, slice_get, Option, Some, None, option_to_list, is_some}
+use Rattle.std.specs.Prelude.{ℕ, zero, suc, Bool, true, false, ◌&&◌, ◌||◌, not, nat_eq, nat_le, if◌then◌else◌, List, []}
+use Rattle.std.specs.Prelude.{◌∷◌, ◌++◌, map, length, sum_by, slice_get, Option, Some, None, option_to_list, is_some}
 use Rattle.std.specs.List.{list_any, list_all, flat_map}
 use Rattle.std.specs.Option.{option_map}
 use Rattle.ep_int.specs.declared.types.IntType.{IntType}
@@ -9,7 +10,10 @@ use Rattle.ep_int.specs.declared.types.Scalar.TheVariants.{Int, Pointer}
 use Rattle.ep_int.specs.declared.types.BinOp.{BinOp}
 use Rattle.ep_int.specs.declared.types.BinOp.TheVariants.{Add, Sub, Mul, Div, Rem, And, Or, Xor, Shl, Shr}
 use Rattle.ep_int.specs.Arith.{is_in_range}
-use Rattle.ep_small_core.specs.Program.{Place, block, Expr, const, load, addr_of, binary, convert, compare, Dest, What, nothing, eval, assign, input, output, write_bytes, if_else, loop, break_loop, continue_loop, returns, scope, Stmts, stop, more, Block, Init, Function, Program}
+use Rattle.ep_small_core.specs.Program.{Place, block, Expr, const, load, addr_of, binary, convert, compare, Dest, What}
+use Rattle.ep_small_core.specs.Program.{nothing, eval, assign, input, output, write_bytes, if_else, loop, break_loop}
+use Rattle.ep_small_core.specs.Program.{continue_loop, returns, scope, Stmts, stop, more, Block, Init, Function}
+use Rattle.ep_small_core.specs.Program.{Program}
 use Rattle.ep_small_core.specs.Memory.{size_of}
 
 -- ---- equality of types
@@ -100,7 +104,9 @@ blocks_fit bs = list_all block_fits bs && nat_le (sum_by (λ (b : Block). b.size
 
 -- a first value is of the whole of a global block, and of its type
 abbrev pub init_fits : List Block → Init → Bool
-init_fits bs i = is_global (slice_get bs i.block) && holds_scalar (slice_get bs i.block) (Int i.t) && nat_eq i.offset 0 && is_in_range i.t i.value
+init_fits bs i =
+    is_global (slice_get bs i.block) && holds_scalar (slice_get bs i.block) (Int i.t) && nat_eq i.offset 0
+    && is_in_range i.t i.value
 
 abbrev pub inits_fit : List Block → List Init → Bool
 inits_fit bs is = list_all (init_fits bs) is && are_different (map (λ (i : Init). i.block) is)
@@ -185,15 +191,18 @@ module _ (bs : List Block) (seen : List ℕ) where
   type_of (const t v) = if is_in_range t v then Some (number t) else None
   type_of (load what a) = if place_has a what then Some (type_of_scalar what) else None
   type_of (addr_of a) = Some address
-  type_of (binary op t a b) = if has_type (type_of a) (number t) && is_right_operand op t (type_of b) then Some (number t) else None
+  type_of (binary op t a b) =
+      if has_type (type_of a) (number t) && is_right_operand op t (type_of b) then Some (number t) else None
   type_of (convert t e) = if is_number (type_of e) then Some (number t) else None
-  type_of (compare c t a b) = if has_type (type_of a) (number t) && has_type (type_of b) (number t) then Some (number I32) else None
+  type_of (compare c t a b) =
+      if has_type (type_of a) (number t) && has_type (type_of b) (number t) then Some (number I32) else None
 
   -- so far the bytes that are put out are those of one object, from its start
   abbrev pub bytes_fit : Expr → ℕ → Bool
   bytes_fit (const t v) n = false
   bytes_fit (load what a) n = false
-  bytes_fit (addr_of (block b)) n = (is_global (slice_get bs b) || contains b seen) && nat_le 1 n && has_bytes (slice_get bs b) n
+  bytes_fit (addr_of (block b)) n =
+      (is_global (slice_get bs b) || contains b seen) && nat_le 1 n && has_bytes (slice_get bs b) n
   bytes_fit (binary op t a b) n = false
   bytes_fit (convert t e) n = false
   bytes_fit (compare c t a b) n = false
@@ -221,7 +230,8 @@ module _ (bs : List Block) (result : Option Scalar) where
     what_fits (output t e) seen i = has_type (type_of bs seen e) (number t)
     what_fits (write_bytes e n) seen i = bytes_fit bs seen e n
     what_fits (if_else e a b) seen i = is_number (type_of bs seen e) && stmts_fit a seen i && stmts_fit b seen i
-    what_fits (loop first e a b) seen i = is_number (type_of bs seen e) && stmts_fit a seen true && (are_plain b && stmts_fit b seen i)
+    what_fits (loop first e a b) seen i =
+        is_number (type_of bs seen e) && stmts_fit a seen true && (are_plain b && stmts_fit b seen i)
     what_fits break_loop seen i = i
     what_fits continue_loop seen i = i
     what_fits (returns e) seen i = result_fits bs seen result e
@@ -240,7 +250,9 @@ abbrev pub scalar_of : ℕ × Scalar → Scalar
 scalar_of p = p.1
 
 abbrev pub function_fits : List Block → Function → Bool
-function_fits bs f = are_held bs f.params && are_held bs (option_to_list f.result) && stmts_fit bs (option_map scalar_of f.result) f.body (first_of f.params ++ f.locals) false
+function_fits bs f =
+    are_held bs f.params && are_held bs (option_to_list f.result)
+    && stmts_fit bs (option_map scalar_of f.result) f.body (first_of f.params ++ f.locals) false
 
 abbrev pub is_int : Option (ℕ × Scalar) → Bool
 is_int None = false

@@ -60,7 +60,8 @@ pub enum What {
     WriteBytes(Expr, u32),
     /// A test, what is done where it is true, and what is done else.
     If(Expr, Vec<Stmt>, Vec<Stmt>),
-    /// Whether the test comes before the first turn, the test, the body, and the step part, which is done after each turn.
+    /// Whether the test comes before the first turn, the test, the body, and the step part, which is done after each
+    /// turn.
     Loop(bool, Expr, Vec<Stmt>, Vec<Stmt>),
     Break,
     Continue,

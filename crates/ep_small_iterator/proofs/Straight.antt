@@ -29,7 +29,8 @@ use Rattle.ep_small_iterator.specs.Straight.{is_straight_step, are_straight, is_
 use Rattle.ep_small_iterator.proofs.StraightMemory.{CellIs, AreOnes, block_is, size_of_block}
 use Rattle.ep_small_iterator.proofs.StraightQuiet.{front_empty, back_empty, Fits', Agreeing, both_on, both_running, both_starved, exec_agrees}
 use Rattle.ep_small_iterator.proofs.StraightApart.{Ample, cost_all, needs_all, exec_ample, Diverge, Apart, diverge_more, apart_then, none_or_some, exec_apart}
-use Rattle.ep_small_iterator.proofs.StraightStart.{HasMain, has_main, start_fits}
+use Rattle.ep_small_core.proofs.Mains.{HasMain, has_main}
+use Rattle.ep_small_iterator.proofs.StraightStart.{start_fits}
 
 -- ---- the pass through straight statements
 

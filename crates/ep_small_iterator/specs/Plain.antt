@@ -1,5 +1,8 @@
--- The plain state of the analysis: for each variable what is known of its number, which is one on both machines. This project's rules.
-use Rattle.std.specs.Prelude.{ℕ, zero, suc, ◌+◌, ◌*◌, ℤ, pos, Bool, true, false, ◌&&◌, ◌||◌, not, nat_eq, nat_lt, nat_le, if◌then◌else◌, List, [], ◌∷◌, ◌++◌, map, fold, sum_by, length, slice_get, slice_index_or, slice_set, Option, Some, None, is_some, int_le}
+-- The plain state of the analysis: for each variable what is known of its number, which is one on both machines. This
+-- project's rules.
+use Rattle.std.specs.Prelude.{ℕ, zero, suc, ◌+◌, ◌*◌, ℤ, pos, Bool, true, false, ◌&&◌, ◌||◌, not, nat_eq, nat_lt}
+use Rattle.std.specs.Prelude.{nat_le, if◌then◌else◌, List, [], ◌∷◌, ◌++◌, map, fold, sum_by, length, slice_get}
+use Rattle.std.specs.Prelude.{slice_index_or, slice_set, Option, Some, None, is_some, int_le}
 use Rattle.std.specs.List.{zip, list_all, enumerate_from}
 use Rattle.std.specs.Option.{option_map}
 use Rattle.ep_int.specs.declared.types.BinOp.{BinOp}
@@ -19,7 +22,9 @@ use Rattle.ep_domain.specs.declared.outcome.Outcome.{Outcome}
 use Rattle.ep_alarms.specs.declared.types.Alarm.{Alarm}
 use Rattle.ep_alarms.specs.declared.types.AlarmKind.{AlarmKind}
 use Rattle.ep_alarms.specs.declared.types.AlarmKind.TheVariants.{U1, U2, U3, U4, E1}
-use Rattle.ep_small_core.specs.Program.{Place, block, Expr, const, load, addr_of, binary, convert, compare, Dest, What, nothing, eval, assign, input, output, write_bytes, if_else, loop, break_loop, continue_loop, returns, scope, Block, Init, Function, Program}
+use Rattle.ep_small_core.specs.Program.{Place, block, Expr, const, load, addr_of, binary, convert, compare, Dest, What}
+use Rattle.ep_small_core.specs.Program.{nothing, eval, assign, input, output, write_bytes, if_else, loop, break_loop}
+use Rattle.ep_small_core.specs.Program.{continue_loop, returns, scope, Block, Init, Function, Program}
 use Rattle.ep_small_core.specs.Agree.{is_result}
 use Rattle.ep_small_pass.specs.States.{StateOps, Gives, gives}
 use Rattle.ep_small_iterator.specs.declared.plain.Cell.{Cell}
@@ -79,7 +84,8 @@ with_truth c t = if t then c else opposite c
 abbrev pub has_numbers_of : IntType → IntType → Bool
 has_numbers_of t u = int_le (least_of t) (least_of u) && int_le (greatest_of u) (greatest_of t)
 
--- The variable, and its type, that an expression has the number of: a load of it, or conversions of one to types that have all numbers of its type.
+-- The variable, and its type, that an expression has the number of: a load of it, or conversions of one to types that
+-- have all numbers of its type.
 abbrev pub same_through : IntType → Option (IntType × ℕ) → Option (IntType × ℕ)
 same_through t None = None
 same_through t (Some v) = if has_numbers_of t v.0 then Some v else None
@@ -145,14 +151,17 @@ module _ {N : Type 0} (d : Ops N) where
   compared c (Some x) None = None
   compared c (Some x) (Some y) = truths (may_compare c x y) (may_compare (opposite c) x y)
 
-  -- An expression's operands are gone through from left to right; the faults of all are listed. No expression of this stage has the value of an address.
+  -- An expression's operands are gone through from left to right; the faults of all are listed. No expression of this
+  -- stage has the value of an address.
   abbrev pub find : Expr → (line : ℕ) → Cells N → Found N
   find (const t v) l s = found (Some (d.single v)) []
   find (load what a) l s = read_as what (place_cell a s) l
   find (addr_of a) l s = found None []
-  find (binary op t a b) l s = operated op t l ((find a l s).faults ++ (find b l s).faults) (find a l s).value (find b l s).value
+  find (binary op t a b) l s =
+      operated op t l ((find a l s).faults ++ (find b l s).faults) (find a l s).value (find b l s).value
   find (convert t e) l s = found (option_map (λ n. d.convert n t) (find e l s).value) (find e l s).faults
-  find (compare c t a b) l s = found (compared c (find a l s).value (find b l s).value) ((find a l s).faults ++ (find b l s).faults)
+  find (compare c t a b) l s =
+      found (compared c (find a l s).value (find b l s).value) ((find a l s).faults ++ (find b l s).faults)
 
   -- ---- tests
 
@@ -203,13 +212,15 @@ module _ {N : Type 0} (d : Ops N) where
   abbrev pub byte_fault : (w line : ℕ) → Option N → Option N → List Alarm
   byte_fault w l None y = []
   byte_fault w l (Some x) None = []
-  byte_fault w l (Some x) (Some y) = if nat_eq w 1 || are_one (d.range x) (d.range y) then [] else differs_at l (d.range x) (d.range y) ∷ []
+  byte_fault w l (Some x) (Some y) =
+      if nat_eq w 1 || are_one (d.range x) (d.range y) then [] else differs_at l (d.range x) (d.range y) ∷ []
 
   -- of n bytes from place p on, on machines of these byte orders
   abbrev pub byte_faults : Order → Order → IntType → (n p line : ℕ) → N → List Alarm
   byte_faults a b t zero p l k = []
   byte_faults a b t (suc n) p l k =
-      byte_fault (bytes_of t) l (byte_at t (place a (bytes_of t) p) k) (byte_at t (place b (bytes_of t) p) k) ++ byte_faults a b t n (p + 1) l k
+      byte_fault (bytes_of t) l (byte_at t (place a (bytes_of t) p) k) (byte_at t (place b (bytes_of t) p) k)
+      ++ byte_faults a b t n (p + 1) l k
 
   -- ---- statements
 

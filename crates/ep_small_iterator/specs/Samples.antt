@@ -1,4 +1,5 @@
--- The programs of the tests: main with an int as its result, and with the variables a of type int32_t, and x and y of type uint32_t.
+-- The programs of the tests: main with an int as its result, and with the variables a of type int32_t, and x and y of
+-- type uint32_t.
 use Rattle.std.specs.Prelude.{◌≡◌, ℕ, Bool, true, false, List, [], ◌∷◌, Some}
 use Rattle.ep_int.specs.declared.types.IntType.{IntType}
 use Rattle.ep_int.specs.declared.types.IntType.TheVariants.{I32, U32}

@@ -1,6 +1,8 @@
 -- Programs without operators, tests, loops and jumps: their statements come one after another, each once.
 use Rattle.std.specs.Prelude.{Bool, true, false, ◌&&◌, slice_get, Option, Some, None}
-use Rattle.ep_small_core.specs.Program.{Expr, const, load, addr_of, binary, convert, compare, What, nothing, eval, assign, input, output, write_bytes, if_else, loop, break_loop, continue_loop, returns, scope, Stmts, stop, more, Function, Program}
+use Rattle.ep_small_core.specs.Program.{Expr, const, load, addr_of, binary, convert, compare, What, nothing, eval}
+use Rattle.ep_small_core.specs.Program.{assign, input, output, write_bytes, if_else, loop, break_loop, continue_loop}
+use Rattle.ep_small_core.specs.Program.{returns, scope, Stmts, stop, more, Function, Program}
 
 -- a number, or a variable's, perhaps converted
 abbrev pub is_straight_value : Expr → Bool

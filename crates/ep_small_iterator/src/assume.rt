@@ -2,7 +2,8 @@
 ghost use Rattle.std.specs.Prelude.{◌≡◌, true, IfOk};
 ghost use Rattle.ep_small_core.specs.View.{shown_expr};
 ghost use Rattle.ep_small_iterator.specs.Needs.{constants_fit};
-ghost use Rattle.ep_small_iterator.specs.Plain.{assumed, comparison_assumed, find, has_numbers_of, narrowed, number_assumed, variable_of, with_truth};
+ghost use Rattle.ep_small_iterator.specs.Plain.{assumed, comparison_assumed, find, has_numbers_of, narrowed};
+ghost use Rattle.ep_small_iterator.specs.Plain.{number_assumed, variable_of, with_truth};
 
 use crate::find::{opposite, value_of};
 use crate::plain::{Cell, Plain, block_of};
@@ -31,7 +32,8 @@ fn comparison_assumed<N: Num>(
 ) -> Result<Option<Plain<N>>, Memory>
     requires left { constants_fit (shown_expr a.now) ≡ true }
     requires right { constants_fit (shown_expr b.now) ≡ true }
-    ensures { IfOk result (λ r. r ≡ comparison_assumed N.ops c (shown_expr a.now) (shown_expr b.now) known.now (find N.ops (shown_expr a.now) 0 known.now).value (find N.ops (shown_expr b.now) 0 known.now).value) }
+    ensures { IfOk result (λ r. r ≡ comparison_assumed N.ops c (shown_expr a.now) (shown_expr b.now) known.now
+        (find N.ops (shown_expr a.now) 0 known.now).value (find N.ops (shown_expr b.now) 0 known.now).value) }
 {
     let (Some(x), Some(y)) = (value_of(a, known), value_of(b, known)) else {
         return Ok(None);
@@ -52,7 +54,8 @@ fn number_assumed<N: Num>(
     known: &Plain<N>,
 ) -> Result<Option<Plain<N>>, Memory>
     requires { constants_fit (shown_expr e.now) ≡ true }
-    ensures { IfOk result (λ r. r ≡ number_assumed N.ops truth (shown_expr e.now) known.now (find N.ops (shown_expr e.now) 0 known.now).value) }
+    ensures { IfOk result (λ r. r ≡ number_assumed N.ops truth (shown_expr e.now) known.now
+        (find N.ops (shown_expr e.now) 0 known.now).value) }
 {
     let Some(x) = value_of(e, known) else {
         return Ok(None);

@@ -33,7 +33,8 @@ fn first_cells<N: Num>(
     blocks: &[BlockInfo],
     result_of_main: Option<(u32, Scalar)>,
 ) -> Result<Vec<Cell<N>>, AllocError>
-    ensures { IfOk result (λ v. v.items ≡ map (first_cell N.ops result_of_main) (enumerate_from 0 (map shown_block blocks.now))) }
+    ensures { IfOk result (λ v. v.items ≡ map (first_cell N.ops result_of_main)
+        (enumerate_from 0 (map shown_block blocks.now))) }
 {
     let mut cells = Vec::with_capacity(alloc, blocks.len())?;
     for (number, block) in blocks.iter().enumerate() {

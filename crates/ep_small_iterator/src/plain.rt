@@ -4,7 +4,8 @@ ghost use Rattle.std.specs.List.{list_all, zip};
 ghost use Rattle.ep_small_core.specs.View.{shown_place};
 ghost use Rattle.ep_small_core.specs.Program.{block};
 ghost use Rattle.ep_small_iterator.specs.declared.plain.Cell.TheVariants.{Number, Undefined};
-ghost use Rattle.ep_small_iterator.specs.Plain.{cell_of, undefined_now, join_cell, widen_cell, cell_within, join_cells, widen_cells, cells_within};
+ghost use Rattle.ep_small_iterator.specs.Plain.{cell_of, undefined_now, join_cell, widen_cell, cell_within, join_cells};
+ghost use Rattle.ep_small_iterator.specs.Plain.{widen_cells, cells_within};
 
 use ep_domain::Num;
 use ep_int::Memory;

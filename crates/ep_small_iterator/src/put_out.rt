@@ -29,7 +29,8 @@ pub fn given_bytes<N: Num>(
     alarms: &mut Alarms,
 ) -> Result<Option<Plain<N>>, Memory>
     requires { AreBytes (shown p.now) (shown_expr e.now) count }
-    ensures faults { OnOk result (alarms.new ≡ fold added alarms.old (given_bytes N.ops Little Big (shown p.now) (shown_expr e.now) count line known).faults) }
+    ensures faults { OnOk result (alarms.new ≡ fold added alarms.old
+        (given_bytes N.ops Little Big (shown p.now) (shown_expr e.now) count line known).faults) }
     ensures next { IfOk result (λ r. r ≡ (given_bytes N.ops Little Big (shown p.now) (shown_expr e.now) count line known).next) }
 {
     let Expr::AddrOf(place) = e else {
@@ -60,7 +61,8 @@ fn number_put_out<N: Num>(
     alarms: &mut Alarms,
 ) -> Result<Option<Plain<N>>, Memory>
     requires { count ≤ size_of what }
-    ensures faults { OnOk result ((p : Program) → alarms.new ≡ fold added alarms.old (number_put_out N.ops Little Big p what count line cell known).faults) }
+    ensures faults { OnOk result ((p : Program) → alarms.new ≡ fold added alarms.old
+        (number_put_out N.ops Little Big p what count line cell known).faults) }
     ensures next { IfOk result (λ r. (p : Program) → r ≡ (number_put_out N.ops Little Big p what count line cell known).next) }
 {
     let Scalar::Int(t) = what else {

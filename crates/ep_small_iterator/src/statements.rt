@@ -7,7 +7,8 @@ ghost use Rattle.ep_small_core.specs.Shown.{shown};
 ghost use Rattle.ep_small_core.specs.View.{shown_dest_if, shown_expr, shown_what};
 ghost use Rattle.ep_int.specs.declared.types.Order.TheVariants.{Little, Big};
 ghost use Rattle.ep_small_iterator.specs.Needs.{constants_fit};
-ghost use Rattle.ep_small_iterator.specs.Plain.{assigned, evaluated, find, given_back, given_input, input_number, simple, returned};
+ghost use Rattle.ep_small_iterator.specs.Plain.{assigned, evaluated, find, given_back, given_input, input_number};
+ghost use Rattle.ep_small_iterator.specs.Plain.{simple, returned};
 ghost use Rattle.ep_small_pass.specs.Typed.{IsTyped};
 
 use crate::find::find;
@@ -29,8 +30,10 @@ pub fn simple<N: Num>(
     alarms: &mut Alarms,
 ) -> Result<Option<Plain<N>>, Memory>
     requires { IsTyped (shown p.now) returns (shown_what s.now.what) }
-    ensures faults { OnOk result (alarms.new ≡ fold added alarms.old (simple N.ops Little Big (shown p.now) returns (shown_what s.now.what) s.now.line known).faults) }
-    ensures next { IfOk result (λ r. r ≡ (simple N.ops Little Big (shown p.now) returns (shown_what s.now.what) s.now.line known).next) }
+    ensures faults { OnOk result (alarms.new ≡ fold added alarms.old
+        (simple N.ops Little Big (shown p.now) returns (shown_what s.now.what) s.now.line known).faults) }
+    ensures next { IfOk result (λ r. r ≡ (simple N.ops Little Big (shown p.now) returns (shown_what s.now.what) s.now.line
+        known).next) }
 {
     match &s.what {
         What::Nothing => Ok(Some(known)),
@@ -73,7 +76,8 @@ fn given_back<N: Num>(
     alarms: &mut Alarms,
 ) -> Result<Option<Plain<N>>, Memory>
     requires { IfSome (option_map shown_expr e.now) (λ e. constants_fit e ≡ true) }
-    ensures faults { OnOk result (alarms.new ≡ fold added alarms.old (given_back N.ops returns (option_map shown_expr e.now) line known).faults) }
+    ensures faults { OnOk result (alarms.new ≡ fold added alarms.old
+        (given_back N.ops returns (option_map shown_expr e.now) line known).faults) }
     ensures next { IfOk result (λ r. r ≡ (given_back N.ops returns (option_map shown_expr e.now) line known).next) }
 {
     let Some(e) = e else {

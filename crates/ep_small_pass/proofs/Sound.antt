@@ -1,16 +1,13 @@
 -- A report without alarms means that the two machines agree.
-use Rattle.std.proofs.Common.{◌≡◌, ℕ, ◌++◌, ◌&&◌, List, [], refl, ap, subst, Option, Some, None, true, false, slice_get, option_to_list}
-use Rattle.std.specs.List.{list_all, flat_map}
-use Rattle.std.specs.Option.{option_map}
-use Rattle.std.proofs.lemmas.Bool.{and_parts}
+use Rattle.std.proofs.Common.{◌≡◌, ℕ, ◌++◌, List, [], refl, ap, subst, Option, Some, None, true, false, slice_get}
 use Rattle.ep_int.specs.declared.types.Order.{Order}
 use Rattle.ep_alarms.proofs.Gathered.{no_faults}
 use Rattle.ep_small_core.specs.Program.{Function, Program}
-use Rattle.ep_small_core.specs.WellFormed.{blocks_fit, inits_fit, are_listed, own_blocks, are_held, first_of, stmts_fit, scalar_of, function_fits, is_main, is_well_formed}
+use Rattle.ep_small_core.specs.WellFormed.{first_of, is_well_formed}
 use Rattle.ep_small_core.specs.Exec.{State, Outcome, uncounted, exec_all}
-use Rattle.ep_small_core.specs.Agree.{still_running, wants_input, run_of, main_ends, finished, start, run_by, AreInputs, Agree, AgreeAlong}
-use Rattle.ep_small_core.proofs.Typing.{each_passes}
-use Rattle.ep_small_core.proofs.Runs.{SameRun, same_by_turns, agree_along}
+use Rattle.ep_small_core.specs.Agree.{still_running, wants_input, run_of, main_ends, finished, start, run_by, AreInputs, SameRun, Agree, AgreeAlong}
+use Rattle.ep_small_core.proofs.Mains.{HasMain, has_main}
+use Rattle.ep_small_core.proofs.Runs.{same_by_turns, agree_along}
 use Rattle.ep_small_pass.specs.States.{StateOps}
 use Rattle.ep_small_pass.specs.Pass.{none, Pass, join_on, faults_at_end, main_pass, faults_from, report_of}
 use Rattle.ep_small_pass.specs.Laws.{Reaches, Together, both_on, both_broken, both_continued, both_returned, both_running, both_starved, Lawful, Settles}
@@ -19,36 +16,11 @@ use Rattle.ep_small_pass.proofs.Turns.{Falls}
 use Rattle.ep_small_pass.proofs.Jumps.{NoJumps, jumps_all}
 use Rattle.ep_small_pass.proofs.Statements.{all_sound}
 
--- what is known of a well-formed program's main
-pub record HasMain (p : Program) : Type 0 where
-  pub f : Function
-  pub is : slice_get p.functions p.main ≡ Some f
-  pub held : are_held p.blocks (option_to_list f.result) ≡ true
-  pub body : stmts_fit p.blocks (option_map scalar_of f.result) f.body (first_of f.params ++ f.locals) false ≡ true
-
-pub has_main : (p : Program) → is_well_formed p ≡ true → HasMain p
-has_main p w =
-    let e = and_parts (((blocks_fit p.blocks && inits_fit p.blocks p.init) && are_listed p.blocks (flat_map own_blocks p.functions)) && list_all (function_fits p.blocks) p.functions) (is_main (slice_get p.functions p.main)) w in
-    let d = and_parts ((blocks_fit p.blocks && inits_fit p.blocks p.init) && are_listed p.blocks (flat_map own_blocks p.functions)) (list_all (function_fits p.blocks) p.functions) e.0 in
-    by_main (slice_get p.functions p.main) refl e.1 d.1
-  where
-    by_main : (o : Option Function) → slice_get p.functions p.main ≡ o → is_main o ≡ true → list_all (function_fits p.blocks) p.functions ≡ true → HasMain p
-    by_main None e h fs = absurd cc
-    by_main (Some f) e h fs =
-        let here = each_passes (function_fits p.blocks) p.functions p.main f fs e in
-        let parts = and_parts (are_held p.blocks f.params && are_held p.blocks (option_to_list f.result)) (stmts_fit p.blocks (option_map scalar_of f.result) f.body (first_of f.params ++ f.locals) false) here in
-        record {
-          f = f;
-          is = e;
-          held = (and_parts (are_held p.blocks f.params) (are_held p.blocks (option_to_list f.result)) parts.0).1;
-          body = parts.1;
-        }
-
 module _ {S : Type 0} (p : Program) (a b : Order) (o : StateOps S) (In : S → State → State → Type 0) (law : Lawful p a b o In) where
   -- from states that a kept state stands for, both machines end main alike
   ends_same : (f : Function) → slice_get p.functions p.main ≡ Some f → (u : Option S) (x y : State) → Reaches In u x y → faults_at_end o f u ≡ [] → SameRun (main_ends a p f.result f.line x) (main_ends b p f.result f.line y)
   ends_same f is None x y i e = absurd i
-  ends_same f is (Some s) x y i e = let r = law.ended_sound f is s x y i e in record { defined = r.defined; same = r.same }
+  ends_same f is (Some s) x y i e = law.ended_sound f is s x y i e
 
   finished_same : (f : Function) → slice_get p.functions p.main ≡ Some f → (q : Pass S) (c d : Outcome) → NoJumps o q.ways → faults_at_end o f (join_on o q.ways.returned q.on) ≡ [] → Together In q c d → SameRun (finished a p f c) (finished b p f d)
   finished_same f is q c d j e (both_on {n} {x} {y} i) = ends_same f is (join_on o q.ways.returned q.on) x y (less_right p a b o In law q.ways.returned q.on x y i) e

@@ -1,8 +1,10 @@
--- What an analysis does with the states that it keeps. Each state stands for some pairs of states of the two machines, as in abstract interpretation (Cousot and Cousot 1977); what it is made of is left open here.
+-- What an analysis does with the states that it keeps. Each state stands for some pairs of states of the two machines,
+-- as in abstract interpretation (Cousot and Cousot 1977); what it is made of is left open here.
 use Rattle.std.specs.Prelude.{ℕ, Bool, List, Option}
 use Rattle.ep_int.specs.declared.types.Scalar.{Scalar}
 use Rattle.ep_alarms.specs.declared.types.Alarm.{Alarm}
-use Rattle.ep_small_core.specs.Program.{Expr, What, nothing, eval, assign, input, output, write_bytes, if_else, loop, break_loop, continue_loop, returns, scope, Function}
+use Rattle.ep_small_core.specs.Program.{Expr, What, nothing, eval, assign, input, output, write_bytes, if_else, loop}
+use Rattle.ep_small_core.specs.Program.{break_loop, continue_loop, returns, scope, Function}
 
 -- the faults of a statement without parts, and the state after it, where one is reached
 pub record Gives (S : Type 0) : Type 0 where

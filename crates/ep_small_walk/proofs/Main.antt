@@ -8,7 +8,7 @@ use Rattle.ep_small_core.specs.WellFormed.{first_of, is_well_formed}
 use Rattle.ep_small_pass.specs.States.{StateOps}
 use Rattle.ep_small_pass.specs.Typed.{AreTyped}
 use Rattle.ep_small_pass.specs.Pass.{none, faults_at_end, faults_from, faults_in, join_on, main_pass, pass_all, report_of}
-use Rattle.ep_small_pass.proofs.Sound.{has_main}
+use Rattle.ep_small_core.proofs.Mains.{has_main}
 use Rattle.ep_small_walk.specs.declared.flow.Flow.{Flow}
 use Rattle.ep_small_walk.specs.Shown.{HasPassed}
 

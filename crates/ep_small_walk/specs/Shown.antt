@@ -5,12 +5,14 @@ use Rattle.ep_alarms.specs.declared.types.Alarm.{Alarm}
 use Rattle.ep_alarms.specs.Report.{added}
 use Rattle.ep_small_core.specs.Program.{Expr, Stmts}
 use Rattle.ep_small_pass.specs.States.{StateOps}
-use Rattle.ep_small_pass.specs.Pass.{Pass, Turn, Ways, passed, none, tested_turn, settled, is_stable, widen_on, pass_all}
+use Rattle.ep_small_pass.specs.Pass.{Pass, Turn, Ways, passed, none, tested_turn, settled, is_stable, widen_on}
+use Rattle.ep_small_pass.specs.Pass.{pass_all}
 use Rattle.ep_small_walk.specs.declared.flow.Flow.{Flow}
 use Rattle.ep_small_walk.specs.declared.flow.Turn as turn
 use Rattle.ep_small_walk.specs.declared.flow.Ways as ways
 
--- These are the states in which statements were left, the alarms before and after them, and the count of passes through loop bodies before and after.
+-- These are the states in which statements were left, the alarms before and after them, and the count of passes through
+-- loop bodies before and after.
 pub record HasPassed {S : Type 0} (p : Pass S) (f : Flow S) (old new : List Alarm) (first last : ℕ) : Type 0 where
   pub on : f.on ≡ p.on
   pub broken : f.ways.broken ≡ p.ways.broken
@@ -36,8 +38,11 @@ shown_flow f = passed f.on (shown_ways f.ways) [] 0
 
 module _ {S : Type 0} (o : StateOps S) where
   -- a turn of a loop with this test, at this line, body and step part, of a function with this result
-  abbrev pub loop_turn : (unroll : ℕ) (result : Option (ℕ × Scalar)) → Expr → (line : ℕ) → (body next : Stmts) → S → Turn S
-  loop_turn unroll result e l a b = tested_turn o (o.test e l) (o.assume e) (λ s. pass_all o unroll result a s none) (λ s. pass_all o unroll result b s none)
+  abbrev pub loop_turn : (unroll : ℕ) (result : Option (ℕ × Scalar)) → Expr → (line : ℕ) → (body next : Stmts) → S
+      → Turn S
+  loop_turn unroll result e l a b =
+      tested_turn o (o.test e l) (o.assume e) (λ s. pass_all o unroll result a s none)
+      (λ s. pass_all o unroll result b s none)
 
   -- the turn from a state that it keeps, found from this one
   abbrev pub settled_from : (S → Turn S) → S → Turn S

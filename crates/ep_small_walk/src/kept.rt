@@ -39,7 +39,8 @@ pub trait Kept: Drop {
         alarms: &mut Alarms,
     ) -> Result<Option<Self>, Memory>
         requires { IsTyped (shown p.now) returns (shown_what s.now.what) }
-        ensures faults { OnOk result (alarms.new ≡ fold added alarms.old ((ops (shown p.now)).simple returns (shown_what s.now.what) s.now.line self).faults) }
+        ensures faults { OnOk result (alarms.new ≡ fold added alarms.old
+            ((ops (shown p.now)).simple returns (shown_what s.now.what) s.now.line self).faults) }
         ensures next { IfOk result (λ r. r ≡ ((ops (shown p.now)).simple returns (shown_what s.now.what) s.now.line self).next) };
 
     /// The faults of a test become alarms.
@@ -62,7 +63,8 @@ pub trait Kept: Drop {
 
     /// The faults at the end of main become alarms.
     fn ended(&self, p: &CoreProgram, main: &Function, alarms: &mut Alarms) -> Result<(), Memory>
-        ensures { OnOk result (alarms.new ≡ fold added alarms.old ((ops (shown p.now)).ended (shown_function main.now) self.now)) };
+        ensures { OnOk result (alarms.new ≡ fold added alarms.old
+            ((ops (shown p.now)).ended (shown_function main.now) self.now)) };
 
     /// All that two states stand for.
     fn join(self, p: &CoreProgram, other: &Self) -> Result<Self, Memory>

@@ -63,7 +63,9 @@ fn end_main<K: Kept>(
     flow: Flow<K>,
     alarms: &mut Alarms,
 ) -> Result<(), Memory>
-    ensures { OnOk result (alarms.new ≡ fold added alarms.old (faults_at_end (K.ops (shown p.now)) (shown_function main.now) (join_on (K.ops (shown p.now)) flow.ways.returned flow.on))) }
+    ensures { OnOk result (alarms.new ≡ fold added alarms.old
+        (faults_at_end (K.ops (shown p.now)) (shown_function main.now)
+        (join_on (K.ops (shown p.now)) flow.ways.returned flow.on))) }
 {
     let Flow { on, ways } = flow;
     match join_reached(p, ways.returned, on)? {

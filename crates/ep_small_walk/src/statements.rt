@@ -47,7 +47,8 @@ fn pass_stmt<K: Kept, L: Ledger>(
 ) -> Result<Flow<K>, Memory>
     requires settles { (K.ops (shown course.now.program.now)).settles ≡ true }
     requires typed { IsTyped (shown course.now.program.now) course.now.returns (shown_what s.now.what) }
-    ensures { IfOk result (λ f. HasPassed (pass (K.ops (shown course.now.program.now)) course.now.unroll course.now.returns (shown_what s.now.what) s.now.line known) f alarms.old alarms.new steps.old steps.new) }
+    ensures { IfOk result (λ f. HasPassed (pass (K.ops (shown course.now.program.now)) course.now.unroll course.now.returns
+        (shown_what s.now.what) s.now.line known) f alarms.old alarms.new steps.old steps.new) }
 {
     match &s.what {
         What::Nothing
@@ -100,7 +101,9 @@ fn pass_branch<K: Kept, L: Ledger>(
 ) -> Result<Flow<K>, Memory>
     requires settles { (K.ops (shown course.now.program.now)).settles ≡ true }
     requires typed { AreTyped (shown course.now.program.now) course.now.returns (shown_stmts body.now) }
-    ensures { IfOk result (λ f. HasPassed (branch known (λ s. pass_all (K.ops (shown course.now.program.now)) course.now.unroll course.now.returns (shown_stmts body.now) s none)) f alarms.old alarms.new steps.old steps.new) }
+    ensures { IfOk result (λ f. HasPassed (branch known
+        (λ s. pass_all (K.ops (shown course.now.program.now)) course.now.unroll course.now.returns
+        (shown_stmts body.now) s none)) f alarms.old alarms.new steps.old steps.new) }
 {
     match known {
         None => Ok(Flow::none()),
@@ -119,7 +122,8 @@ pub fn pass_list<K: Kept, L: Ledger>(
 ) -> Result<Flow<K>, Memory>
     requires settles { (K.ops (shown course.now.program.now)).settles ≡ true }
     requires typed { AreTyped (shown course.now.program.now) course.now.returns (shown_stmts body.now) }
-    ensures { IfOk result (λ f. HasPassed (pass_all (K.ops (shown course.now.program.now)) course.now.unroll course.now.returns (shown_stmts body.now) known none) f alarms.old alarms.new steps.old steps.new) }
+    ensures { IfOk result (λ f. HasPassed (pass_all (K.ops (shown course.now.program.now)) course.now.unroll
+        course.now.returns (shown_stmts body.now) known none) f alarms.old alarms.new steps.old steps.new) }
 {
     let mut here = known;
     let mut ways = Ways::none();
@@ -151,7 +155,9 @@ fn pass_loop<K: Kept, L: Ledger>(
     requires test { IsTest (shown course.now.program.now) (shown_expr parts.now.test.now) }
     requires body { AreTyped (shown course.now.program.now) course.now.returns (shown_stmts parts.now.body.now) }
     requires next { AreTyped (shown course.now.program.now) course.now.returns (shown_stmts parts.now.next.now) }
-    ensures { IfOk result (λ f. HasPassed (pass (K.ops (shown course.now.program.now)) course.now.unroll course.now.returns (loop tests_first (shown_expr parts.now.test.now) (shown_stmts parts.now.body.now) (shown_stmts parts.now.next.now)) parts.now.line known) f alarms.old alarms.new steps.old steps.new) }
+    ensures { IfOk result (λ f. HasPassed (pass (K.ops (shown course.now.program.now)) course.now.unroll course.now.returns
+        (loop tests_first (shown_expr parts.now.test.now) (shown_stmts parts.now.body.now)
+        (shown_stmts parts.now.next.now)) parts.now.line known) f alarms.old alarms.new steps.old steps.new) }
 {
     if tests_first {
         let start = Turn::at(known);
@@ -183,7 +189,11 @@ fn pass_turns<K: Kept, L: Ledger>(
     requires test { IsTest (shown course.now.program.now) (shown_expr parts.now.test.now) }
     requires body { AreTyped (shown course.now.program.now) course.now.returns (shown_stmts parts.now.body.now) }
     requires next { AreTyped (shown course.now.program.now) course.now.returns (shown_stmts parts.now.next.now) }
-    ensures { IfOk result (λ f. HasPassed (go_round (K.ops (shown course.now.program.now)) start.next start.out start.returned [] 0 (unrolled (K.ops (shown course.now.program.now)) unroll (loop_turn (K.ops (shown course.now.program.now)) course.now.unroll course.now.returns (shown_expr parts.now.test.now) parts.now.line (shown_stmts parts.now.body.now) (shown_stmts parts.now.next.now)))) f alarms.old alarms.new steps.old steps.new) }
+    ensures { IfOk result (λ f. HasPassed (go_round (K.ops (shown course.now.program.now)) start.next start.out start.returned
+        [] 0 (unrolled (K.ops (shown course.now.program.now)) unroll
+        (loop_turn (K.ops (shown course.now.program.now)) course.now.unroll course.now.returns
+        (shown_expr parts.now.test.now) parts.now.line (shown_stmts parts.now.body.now)
+        (shown_stmts parts.now.next.now)))) f alarms.old alarms.new steps.old steps.new) }
 {
     let Turn {
         next,
@@ -226,7 +236,9 @@ fn tested_turn<K: Kept, L: Ledger>(
     requires test { IsTest (shown course.now.program.now) (shown_expr parts.now.test.now) }
     requires body { AreTyped (shown course.now.program.now) course.now.returns (shown_stmts parts.now.body.now) }
     requires next { AreTyped (shown course.now.program.now) course.now.returns (shown_stmts parts.now.next.now) }
-    ensures { IfOk result (λ t. HasTurned (loop_turn (K.ops (shown course.now.program.now)) course.now.unroll course.now.returns (shown_expr parts.now.test.now) parts.now.line (shown_stmts parts.now.body.now) (shown_stmts parts.now.next.now) head.now) t alarms.old alarms.new steps.old steps.new) }
+    ensures { IfOk result (λ t. HasTurned (loop_turn (K.ops (shown course.now.program.now)) course.now.unroll
+        course.now.returns (shown_expr parts.now.test.now) parts.now.line (shown_stmts parts.now.body.now)
+        (shown_stmts parts.now.next.now) head.now) t alarms.old alarms.new steps.old steps.new) }
 {
     head.test(course.program, parts.test, parts.line, alarms)?;
     let leaves = head.assume(course.program, parts.test, false)?;
@@ -246,7 +258,10 @@ fn pass_body<K: Kept, L: Ledger>(
 ) -> Result<Flow<K>, Memory>
     requires settles { (K.ops (shown course.now.program.now)).settles ≡ true }
     requires typed { AreTyped (shown course.now.program.now) course.now.returns (shown_stmts body.now) }
-    ensures { IfOk result (λ f. HasPassed (branch known (λ s. counted (K.ops (shown course.now.program.now)) (pass_all (K.ops (shown course.now.program.now)) course.now.unroll course.now.returns (shown_stmts body.now) s none))) f alarms.old alarms.new steps.old steps.new) }
+    ensures { IfOk result (λ f. HasPassed (branch known
+        (λ s. counted (K.ops (shown course.now.program.now))
+        (pass_all (K.ops (shown course.now.program.now)) course.now.unroll course.now.returns (shown_stmts body.now) s
+        none))) f alarms.old alarms.new steps.old steps.new) }
 {
     match known {
         None => Ok(Flow::none()),
@@ -269,7 +284,9 @@ fn end_turn<K: Kept, L: Ledger>(
 ) -> Result<Turn<K>, Memory>
     requires settles { (K.ops (shown course.now.program.now)).settles ≡ true }
     requires typed { AreTyped (shown course.now.program.now) course.now.returns (shown_stmts next.now) }
-    ensures { IfOk result (λ t. HasTurned (with_next (K.ops (shown course.now.program.now)) [] leaves (shown_flow body) (λ s. pass_all (K.ops (shown course.now.program.now)) course.now.unroll course.now.returns (shown_stmts next.now) s none)) t alarms.old alarms.new steps.old steps.new) }
+    ensures { IfOk result (λ t. HasTurned (with_next (K.ops (shown course.now.program.now)) [] leaves (shown_flow body)
+        (λ s. pass_all (K.ops (shown course.now.program.now)) course.now.unroll course.now.returns
+        (shown_stmts next.now) s none)) t alarms.old alarms.new steps.old steps.new) }
 {
     let Flow { on, ways } = body;
     let Ways {
@@ -301,7 +318,10 @@ fn settled_turn<K: Kept, L: Ledger>(
     requires test { IsTest (shown course.now.program.now) (shown_expr parts.now.test.now) }
     requires body { AreTyped (shown course.now.program.now) course.now.returns (shown_stmts parts.now.body.now) }
     requires next { AreTyped (shown course.now.program.now) course.now.returns (shown_stmts parts.now.next.now) }
-    ensures { IfOk result (λ t. HasTurned (settled_from (K.ops (shown course.now.program.now)) (loop_turn (K.ops (shown course.now.program.now)) course.now.unroll course.now.returns (shown_expr parts.now.test.now) parts.now.line (shown_stmts parts.now.body.now) (shown_stmts parts.now.next.now)) known) t alarms.old alarms.new steps.old steps.new) }
+    ensures { IfOk result (λ t. HasTurned (settled_from (K.ops (shown course.now.program.now))
+        (loop_turn (K.ops (shown course.now.program.now)) course.now.unroll course.now.returns
+        (shown_expr parts.now.test.now) parts.now.line (shown_stmts parts.now.body.now)
+        (shown_stmts parts.now.next.now)) known) t alarms.old alarms.new steps.old steps.new) }
 {
     let mut head = known;
     'heads: loop {

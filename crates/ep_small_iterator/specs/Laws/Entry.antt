@@ -1,5 +1,7 @@
 -- The memories at the start are those that the entry's cells stand for.
-use Rattle.std.proofs.Common.{◌≡◌, ℕ, zero, suc, ◌+◌, ◌/◌, ◌%◌, ◌^◌, Bool, true, false, ◌&&◌, ◌||◌, nat_eq, if◌then◌else◌, pos, List, [], ◌∷◌, map, fold, slice_get, slice_set, refl, sym, ap, ◌∙◌, subst, Option, Some, None, arith}
+use Rattle.std.proofs.Common.{◌≡◌, ℕ, zero, suc, ◌+◌, ◌/◌, ◌%◌, ◌^◌, Bool, true, false, ◌&&◌, ◌||◌, nat_eq}
+use Rattle.std.proofs.Common.{if◌then◌else◌, pos, List, [], ◌∷◌, map, fold, slice_get, slice_set, refl, sym, ap, ◌∙◌}
+use Rattle.std.proofs.Common.{subst, Option, Some, None, arith}
 use Rattle.std.specs.List.{list_all, enumerate_from}
 use Rattle.std.proofs.lemmas.Bool.{and_parts}
 use Rattle.ep_int.specs.declared.types.IntType.{IntType}
@@ -44,7 +46,9 @@ zero_mod m = omega arith
 
 -- each byte of zero is zero
 zero_byte : (o : Order) (t : IntType) (p : ℕ) → encoded o t (pos 0) p ≡ 0
-zero_byte o t p = ap (byte_of (place o (bytes_of t) p)) (zero_mod (2 ^ bits_of t)) ∙ ap (λ x. x % 256) (zero_div (256 ^ place o (bytes_of t) p))
+zero_byte o t p =
+    ap (byte_of (place o (bytes_of t) p)) (zero_mod (2 ^ bits_of t))
+    ∙ ap (λ x. x % 256) (zero_div (256 ^ place o (bytes_of t) p))
 
 suc_plus : (k x : ℕ) → (k + 1) + x ≡ k + suc x
 suc_plus k x = omega arith
@@ -55,13 +59,16 @@ module _ {N : Type 0} (d : Ops N) (law : Lawful d) where
   first_at r n None = Undefined
   first_at r n (Some b) = first_cell d r (n, b)
 
-  first_is : (r : Option (ℕ × Scalar)) (k : ℕ) (bs : List Block) (x : ℕ) → cell_of (map (first_cell d r) (enumerate_from k bs)) x ≡ first_at r (k + x) (slice_get bs x)
+  first_is : (r : Option (ℕ × Scalar)) (k : ℕ) (bs : List Block) (x : ℕ)
+      → cell_of (map (first_cell d r) (enumerate_from k bs)) x ≡ first_at r (k + x) (slice_get bs x)
   first_is r k [] x = refl
   first_is r k (b ∷ bs) zero = ap (λ n. first_cell d r (n, b)) (omega arith)
   first_is r k (b ∷ bs) (suc x) = first_is r (k + 1) bs x ∙ ap (λ n. first_at r n (slice_get bs x)) (suc_plus k x)
 
   module _ (a b : Order) (bs : List Block) where
-    scalar_fits : (what : Scalar) (c : Bool) → CellFits d a b what (if c then Number (d.single (pos 0)) false else Undefined) (λ q. if c then number 0 else undefined) (λ q. if c then number 0 else undefined)
+    scalar_fits : (what : Scalar) (c : Bool) → CellFits d a b what
+        (if c then Number (d.single (pos 0)) false else Undefined) (λ q. if c then number 0 else undefined)
+        (λ q. if c then number 0 else undefined)
     scalar_fits (Int t) true = record {
       v = pos 0;
       in_range = zero_in_range t;
@@ -72,30 +79,47 @@ module _ {N : Type 0} (d : Ops N) (law : Lawful d) where
     scalar_fits (Int t) false = tt
     scalar_fits Pointer c = tt
 
-    zeroed_fits : (r : Option (ℕ × Scalar)) → MemoryFits d a b bs (map (first_cell d r) (enumerate_from 0 bs)) (zeroed bs r) (zeroed bs r)
+    zeroed_fits : (r : Option (ℕ × Scalar)) → MemoryFits d a b bs (map (first_cell d r) (enumerate_from 0 bs))
+        (zeroed bs r) (zeroed bs r)
     zeroed_fits r x =
-        subst (λ k. BlockFits d a b (slice_get bs x) k (zeroed bs r x) (zeroed bs r x)) (sym (first_is r 0 bs x ∙ ap (λ n. first_at r n (slice_get bs x)) (omega arith))) (here (slice_get bs x))
+        subst (λ k. BlockFits d a b (slice_get bs x) k (zeroed bs r x) (zeroed bs r x))
+        (sym (first_is r 0 bs x ∙ ap (λ n. first_at r n (slice_get bs x)) (omega arith))) (here (slice_get bs x))
       where
-        here : (o : Option Block) → BlockFits d a b o (first_at r x o) (λ q. if is_global o || is_result r x then number 0 else undefined) (λ q. if is_global o || is_result r x then number 0 else undefined)
+        here : (o : Option Block) → BlockFits d a b o (first_at r x o)
+            (λ q. if is_global o || is_result r x then number 0 else undefined)
+            (λ q. if is_global o || is_result r x then number 0 else undefined)
         here None = tt
         here (Some z) = scalar_fits z.ty (z.global || is_result r x)
 
     set_init : (s : Cells N) (m n : Memory) (i : Init) → init_fits bs i ≡ true → MemoryFits d a b bs s m n
-        → MemoryFits d a b bs (slice_set s i.block (Number (d.single i.value) false)) (stored a m (Int i.t) i.block i.offset (int i.value)) (stored b n (Int i.t) i.block i.offset (int i.value))
+        → MemoryFits d a b bs (slice_set s i.block (Number (d.single i.value) false))
+        (stored a m (Int i.t) i.block i.offset (int i.value)) (stored b n (Int i.t) i.block i.offset (int i.value))
     set_init s m n i h g =
-        let h1 = and_parts ((is_global (slice_get bs i.block) && holds_scalar (slice_get bs i.block) (Int i.t)) && nat_eq i.offset 0) (is_in_range i.t i.value) h in
-        let h2 = and_parts (is_global (slice_get bs i.block) && holds_scalar (slice_get bs i.block) (Int i.t)) (nat_eq i.offset 0) h1.0 in
+        let h1 = and_parts ((is_global (slice_get bs i.block) && holds_scalar (slice_get bs i.block) (Int i.t))
+        && nat_eq i.offset 0) (is_in_range i.t i.value) h in
+        let h2 = and_parts (is_global (slice_get bs i.block) && holds_scalar (slice_get bs i.block) (Int i.t))
+        (nat_eq i.offset 0) h1.0 in
         let h3 = and_parts (is_global (slice_get bs i.block)) (holds_scalar (slice_get bs i.block) (Int i.t)) h2.0 in
         let at_start : i.offset ≡ 0 = equal_numbers i.offset 0 h2.1 in
         let r = in_range i.t i.value h1.1 in
-        subst (λ q. MemoryFits d a b bs (slice_set s i.block (Number (d.single i.value) false)) (stored a m (Int i.t) i.block q (int i.value)) (stored b n (Int i.t) i.block q (int i.value))) (sym at_start)
+        subst (λ q. MemoryFits d a b bs (slice_set s i.block (Number (d.single i.value) false))
+        (stored a m (Int i.t) i.block q (int i.value)) (stored b n (Int i.t) i.block q (int i.value))) (sym
+        at_start)
         (memory_put d a b bs s m n i.block i.t (d.single i.value) i.value h3.1 r (single_is_held d law i.t i.value r) g)
 
-    set_inits : (is : List Init) (s : Cells N) (m n : Memory) → list_all (init_fits bs) is ≡ true → MemoryFits d a b bs s m n
-        → MemoryFits d a b bs (fold (with_first d) s is) (fold (λ (m : Memory) (i : Init). stored a m (Int i.t) i.block i.offset (int i.value)) m is) (fold (λ (m : Memory) (i : Init). stored b m (Int i.t) i.block i.offset (int i.value)) n is)
+    set_inits : (is : List Init) (s : Cells N) (m n : Memory) → list_all (init_fits bs) is ≡ true
+        → MemoryFits d a b bs s m n
+        → MemoryFits d a b bs (fold (with_first d) s is)
+        (fold (λ (m : Memory) (i : Init). stored a m (Int i.t) i.block i.offset (int i.value)) m is)
+        (fold (λ (m : Memory) (i : Init). stored b m (Int i.t) i.block i.offset (int i.value)) n is)
     set_inits [] s m n h g = g
-    set_inits (i ∷ is) s m n h g = let p = and_parts (init_fits bs i) (list_all (init_fits bs) is) h in set_inits is _ _ _ p.1 (set_init s m n i p.0 g)
+    set_inits (i ∷ is) s m n h g =
+        let p = and_parts (init_fits bs i) (list_all (init_fits bs) is) h
+        in set_inits is _ _ _ p.1 (set_init s m n i p.0 g)
 
   -- at the start of main
-  pub entry_fits : (a b : Order) (p : Program) (f : Function) → list_all (init_fits p.blocks) p.init ≡ true → MemoryFits d a b p.blocks (at_entry d p f) (initial a p f) (initial b p f)
-  entry_fits a b p f h = set_inits a b p.blocks p.init (map (first_cell d f.result) (enumerate_from 0 p.blocks)) (zeroed p.blocks f.result) (zeroed p.blocks f.result) h (zeroed_fits a b p.blocks f.result)
+  pub entry_fits : (a b : Order) (p : Program) (f : Function) → list_all (init_fits p.blocks) p.init ≡ true
+      → MemoryFits d a b p.blocks (at_entry d p f) (initial a p f) (initial b p f)
+  entry_fits a b p f h =
+      set_inits a b p.blocks p.init (map (first_cell d f.result) (enumerate_from 0 p.blocks)) (zeroed p.blocks f.result)
+      (zeroed p.blocks f.result) h (zeroed_fits a b p.blocks f.result)

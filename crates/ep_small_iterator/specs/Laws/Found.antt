@@ -1,5 +1,7 @@
 -- What operators, conversions and comparisons of numbers that values hold give.
-use Rattle.std.proofs.Common.{◌≡◌, Bool, true, false, ◌++◌, not, if◌then◌else◌, IsTrue, ℤ, pos, List, [], ◌∷◌, refl, sym, ap, ◌∙◌, subst, Option, Some, None, is_some, Result, Ok, Err, MatchResult, IsSomeAnd, arith}
+use Rattle.std.proofs.Common.{◌≡◌, Bool, true, false, ◌++◌, not, if◌then◌else◌, IsTrue, ℤ, pos, List, [], ◌∷◌, refl}
+use Rattle.std.proofs.Common.{sym, ap, ◌∙◌, subst, Option, Some, None, is_some, Result, Ok, Err, MatchResult, IsSomeAnd}
+use Rattle.std.proofs.Common.{arith}
 use Rattle.std.proofs.lemmas.Int.{ints}
 use Rattle.ep_int.specs.declared.types.BinOp.{BinOp}
 use Rattle.ep_int.specs.declared.types.Cmp.{Cmp}
@@ -28,12 +30,6 @@ no_fault true x e = cc
 no_fault false x e = refl
 
 -- ---- tests of comparisons
-
-pub eq_same : (x y : ℤ) → int_eq x y ≡ true → x ≡ y
-eq_same x y h = grind (arith, ints)
-
-pub eq_refl : (x : ℤ) → int_eq x x ≡ true
-eq_refl x = grind (arith, ints)
 
 not_not : (b : Bool) → not (not b) ≡ b
 not_not true = refl
@@ -72,10 +68,13 @@ module _ {N : Type 0} (d : Ops N) (law : Lawful d) where
     pub result : r ≡ Ok v
     pub value : HasValue o v
 
-  pub operation : (op : BinOp) (t : IntType) (x y : N) (u v : ℤ) → Takes op t u v → Holds d x u → Holds d y v → (d.op op t x y).fault ≡ false → HasResult (arith_of op t u v) (d.op op t x y).value
+  pub operation : (op : BinOp) (t : IntType) (x y : N) (u v : ℤ) → Takes op t u v → Holds d x u → Holds d y v
+      → (d.op op t x y).fault ≡ false → HasResult (arith_of op t u v) (d.op op t x y).value
   operation op t x y u v takes hx hy quiet = by_result (arith_of op t u v) refl (law.op_holds op t x y u v takes hx hy)
     where
-      by_result : (r : Result ℤ Undef) → arith_of op t u v ≡ r → MatchResult r (λ v. IsSomeAnd (d.op op t x y).value (λ c. Holds d c v)) (λ _. IsTrue (d.op op t x y).fault) → HasResult (arith_of op t u v) (d.op op t x y).value
+      by_result : (r : Result ℤ Undef) → arith_of op t u v ≡ r
+          → MatchResult r (λ v. IsSomeAnd (d.op op t x y).value (λ c. Holds d c v)) (λ _. IsTrue (d.op op t x y).fault)
+          → HasResult (arith_of op t u v) (d.op op t x y).value
       by_result (Ok z) e h = record { v = z; result = e; value = has_value (d.op op t x y).value z h }
       by_result (Err k) e h = absurd cc
 
@@ -95,24 +94,45 @@ module _ {N : Type 0} (d : Ops N) (law : Lawful d) where
   one_number : IsOfSomeType (pos 1)
   one_number = record { low = omega (arith, ints); high = omega (arith, ints) }
 
-  truths_hold : (h f t : Bool) → (t ≡ true → h ≡ true) → (t ≡ false → f ≡ true) → HasValue (truths d h f) (if t then pos 1 else pos 0)
-  truths_hold true true true p q = record { number = d.join (d.single (pos 0)) (d.single (pos 1)); is = refl; held = law.join_right (d.single (pos 0)) (d.single (pos 1)) (pos 1) (law.single_holds (pos 1) one_number) }
-  truths_hold true true false p q = record { number = d.join (d.single (pos 0)) (d.single (pos 1)); is = refl; held = law.join_left (d.single (pos 0)) (d.single (pos 1)) (pos 0) (law.single_holds (pos 0) zero_number) }
-  truths_hold true false true p q = record { number = d.single (pos 1); is = refl; held = law.single_holds (pos 1) one_number }
+  truths_hold : (h f t : Bool) → (t ≡ true → h ≡ true) → (t ≡ false → f ≡ true)
+      → HasValue (truths d h f) (if t then pos 1 else pos 0)
+  truths_hold true true true p q = record {
+    number = d.join (d.single (pos 0)) (d.single (pos 1));
+    is = refl;
+    held = law.join_right (d.single (pos 0)) (d.single (pos 1)) (pos 1) (law.single_holds (pos 1) one_number);
+  }
+  truths_hold true true false p q = record {
+    number = d.join (d.single (pos 0)) (d.single (pos 1));
+    is = refl;
+    held = law.join_left (d.single (pos 0)) (d.single (pos 1)) (pos 0) (law.single_holds (pos 0) zero_number);
+  }
+  truths_hold true false true p q = record {
+    number = d.single (pos 1);
+    is = refl;
+    held = law.single_holds (pos 1) one_number;
+  }
   truths_hold true false false p q = let e = q refl in absurd cc
   truths_hold false true true p q = let e = p refl in absurd cc
-  truths_hold false true false p q = record { number = d.single (pos 0); is = refl; held = law.single_holds (pos 0) zero_number }
+  truths_hold false true false p q = record {
+    number = d.single (pos 0);
+    is = refl;
+    held = law.single_holds (pos 0) zero_number;
+  }
   truths_hold false false true p q = let e = p refl in absurd cc
   truths_hold false false false p q = let e = q refl in absurd cc
 
   -- a comparison that holds may
-  may_hold : (c : Cmp) (x y : N) (u v : ℤ) → compares c u v ≡ true → Holds d x u → Holds d y v → may_compare d c x y ≡ true
+  may_hold : (c : Cmp) (x y : N) (u v : ℤ) → compares c u v ≡ true → Holds d x u → Holds d y v
+      → may_compare d c x y ≡ true
   may_hold c x y u v e hx hy = by_pair (d.filter c x y) (law.filter_holds c x y u v e hx hy)
     where
       by_pair : (o : Option (N × N)) → IsSomeAnd o (λ p. Holds d p.0 u × Holds d p.1 v) → is_some o ≡ true
       by_pair None h = absurd h
       by_pair (Some p) h = refl
 
-  pub compared_holds : (c : Cmp) (x y : N) (u v : ℤ) → Holds d x u → Holds d y v → HasValue (truths d (may_compare d c x y) (may_compare d (opposite c) x y)) (if compares c u v then pos 1 else pos 0)
+  pub compared_holds : (c : Cmp) (x y : N) (u v : ℤ) → Holds d x u → Holds d y v
+      → HasValue (truths d (may_compare d c x y) (may_compare d (opposite c) x y))
+      (if compares c u v then pos 1 else pos 0)
   compared_holds c x y u v hx hy =
-      truths_hold (may_compare d c x y) (may_compare d (opposite c) x y) (compares c u v) (λ e. may_hold c x y u v e hx hy) (λ e. may_hold (opposite c) x y u v (opposite_is c u v ∙ ap not e) hx hy)
+      truths_hold (may_compare d c x y) (may_compare d (opposite c) x y) (compares c u v)
+      (λ e. may_hold c x y u v e hx hy) (λ e. may_hold (opposite c) x y u v (opposite_is c u v ∙ ap not e) hx hy)

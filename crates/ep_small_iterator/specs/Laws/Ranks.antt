@@ -1,5 +1,6 @@
 -- A state that is widened by one that isn't within it has a lower rank.
-use Rattle.std.proofs.Common.{◌≡◌, ◌≢◌, ℕ, ◌<◌, ◌≤◌, ◌⊎◌, inl, inr, ⊎_elim, Bool, true, false, ◌&&◌, ◌||◌, not, nat_le, nat_lt, [], ◌∷◌, length, sum_by, refl, ap, arith}
+use Rattle.std.proofs.Common.{◌≡◌, ◌≢◌, ℕ, ◌<◌, ◌≤◌, ◌⊎◌, inl, inr, ⊎_elim, Bool, true, false, ◌&&◌, ◌||◌, not, nat_le}
+use Rattle.std.proofs.Common.{nat_lt, [], ◌∷◌, length, sum_by, refl, ap, arith}
 use Rattle.std.specs.List.{zip, list_all}
 use Rattle.std.proofs.lemmas.Bool.{cases_lt}
 use Rattle.std.proofs.lemmas.Bool.Decides.{nat_tests}
@@ -10,7 +11,8 @@ use Rattle.ep_small_core.specs.Program.{Program}
 use Rattle.ep_small_pass.specs.Laws.{Settles}
 use Rattle.ep_small_iterator.specs.declared.plain.Cell.{Cell}
 use Rattle.ep_small_iterator.specs.declared.plain.Cell.TheVariants.{Undefined, Number}
-use Rattle.ep_small_iterator.specs.Plain.{Cells, widen_cell, cell_within, widen_cells, cells_within, cell_rank, cells_ops}
+use Rattle.ep_small_iterator.specs.Plain.{Cells, widen_cell, cell_within, widen_cells, cells_within, cell_rank}
+use Rattle.ep_small_iterator.specs.Plain.{cells_ops}
 
 module _ {N : Type 0} (d : Ops N) (law : Lawful d) (low : d.height < 4294967295) where
   -- no widening raises the rank of a number
@@ -19,7 +21,8 @@ module _ {N : Type 0} (d : Ops N) (law : Lawful d) (low : d.height < 4294967295)
     where
       not_more : d.rank x < d.rank (d.widen x y) → ⊥
       not_more more =
-          let changed : d.widen x y ≢ x = λ e. let same : d.rank (d.widen x y) ≡ d.rank x = ap d.rank e in omega arith in
+          let changed : d.widen x y ≢ x = λ e. let same : d.rank (d.widen x y) ≡ d.rank x = ap d.rank e in omega arith
+          in
           let less = law.widen_changes x y low changed in
           omega arith
 
@@ -32,7 +35,8 @@ module _ {N : Type 0} (d : Ops N) (law : Lawful d) (low : d.height < 4294967295)
   cell_stays (Number n false) (Number k true) = omega (arith, rank_stays n k)
   cell_stays (Number n false) (Number k false) = omega (arith, rank_stays n k)
 
-  number_falls : (n k : N) (m l c : Bool) → d.within k n ≡ c → (c && (not l || m)) ≡ false → cell_rank d (Number (d.widen n k) (m || l)) < cell_rank d (Number n m)
+  number_falls : (n k : N) (m l c : Bool) → d.within k n ≡ c → (c && (not l || m)) ≡ false
+      → cell_rank d (Number (d.widen n k) (m || l)) < cell_rank d (Number n m)
   number_falls n k true l false e f = omega (arith, law.widen_falls n k low e)
   number_falls n k false true false e f = omega (arith, law.widen_falls n k low e)
   number_falls n k false false false e f = omega (arith, law.widen_falls n k low e)
@@ -57,10 +61,18 @@ module _ {N : Type 0} (d : Ops N) (law : Lawful d) (low : d.height < 4294967295)
   cells_stay [] s = omega arith
   cells_stay (c ∷ h) [] = omega arith
   cells_stay (c ∷ h) (e ∷ s) =
-      omega (arith, sum_by-cons (cell_rank d) c h, sum_by-cons (cell_rank d) (widen_cell d c e) (widen_cells d h s), cell_stays c e, cells_stay h s)
+      omega (
+        arith,
+        sum_by-cons (cell_rank d) c h,
+        sum_by-cons (cell_rank d) (widen_cell d c e) (widen_cells d h s),
+        cell_stays c e,
+        cells_stay h s,
+      )
 
   -- a cell isn't within, or is dropped
-  cells_fall : (h s : Cells N) → (length s < length h) ⊎ (list_all (λ (p : Cell N × Cell N). cell_within d p.0 p.1) (zip s h) ≡ false) → sum_by (cell_rank d) (widen_cells d h s) < sum_by (cell_rank d) h
+  cells_fall : (h s : Cells N) → (length s < length h)
+      ⊎ (list_all (λ (p : Cell N × Cell N). cell_within d p.0 p.1) (zip s h) ≡ false)
+      → sum_by (cell_rank d) (widen_cells d h s) < sum_by (cell_rank d) h
   cells_fall [] [] (inl l) = absurd (omega arith)
   cells_fall [] [] (inr e) = absurd cc
   cells_fall [] (c ∷ s) (inl l) = absurd (omega arith)
@@ -68,27 +80,48 @@ module _ {N : Type 0} (d : Ops N) (law : Lawful d) (low : d.height < 4294967295)
   cells_fall (c ∷ h) [] o = omega (arith, sum_by-cons (cell_rank d) c h, cell_counts c)
   cells_fall (c ∷ h) (e ∷ s) (inl l) =
       let rest = cells_fall h s (inl (omega arith)) in
-      omega (arith, sum_by-cons (cell_rank d) c h, sum_by-cons (cell_rank d) (widen_cell d c e) (widen_cells d h s), cell_stays c e)
+      omega (
+        arith,
+        sum_by-cons (cell_rank d) c h,
+        sum_by-cons (cell_rank d) (widen_cell d c e) (widen_cells d h s),
+        cell_stays c e,
+      )
   cells_fall (c ∷ h) (e ∷ s) (inr f) = by_test (cell_within d e c) refl f (λ g. cells_fall h s (inr g))
     where
-      by_test : (t : Bool) → cell_within d e c ≡ t → (t && list_all (λ (p : Cell N × Cell N). cell_within d p.0 p.1) (zip s h)) ≡ false
-          → (list_all (λ (p : Cell N × Cell N). cell_within d p.0 p.1) (zip s h) ≡ false → sum_by (cell_rank d) (widen_cells d h s) < sum_by (cell_rank d) h)
+      by_test : (t : Bool) → cell_within d e c ≡ t
+          → (t && list_all (λ (p : Cell N × Cell N). cell_within d p.0 p.1) (zip s h)) ≡ false
+          → (list_all (λ (p : Cell N × Cell N). cell_within d p.0 p.1) (zip s h) ≡ false
+          → sum_by (cell_rank d) (widen_cells d h s) < sum_by (cell_rank d) h)
           → sum_by (cell_rank d) (widen_cells d (c ∷ h) (e ∷ s)) < sum_by (cell_rank d) (c ∷ h)
       by_test true g f rest =
           let less = rest f in
-          omega (arith, sum_by-cons (cell_rank d) c h, sum_by-cons (cell_rank d) (widen_cell d c e) (widen_cells d h s), cell_stays c e)
+          omega (
+            arith,
+            sum_by-cons (cell_rank d) c h,
+            sum_by-cons (cell_rank d) (widen_cell d c e) (widen_cells d h s),
+            cell_stays c e,
+          )
       by_test false g f rest =
-          omega (arith, sum_by-cons (cell_rank d) c h, sum_by-cons (cell_rank d) (widen_cell d c e) (widen_cells d h s), cell_falls c e g, cells_stay h s)
+          omega (
+            arith,
+            sum_by-cons (cell_rank d) c h,
+            sum_by-cons (cell_rank d) (widen_cell d c e) (widen_cells d h s),
+            cell_falls c e g,
+            cells_stay h s,
+          )
 
-  not_within : (h s : Cells N) → cells_within d s h ≡ false → (length s < length h) ⊎ (list_all (λ (p : Cell N × Cell N). cell_within d p.0 p.1) (zip s h) ≡ false)
+  not_within : (h s : Cells N) → cells_within d s h ≡ false
+      → (length s < length h) ⊎ (list_all (λ (p : Cell N × Cell N). cell_within d p.0 p.1) (zip s h) ≡ false)
   not_within h s e = by_test (nat_le (length h) (length s)) refl e
     where
-      by_test : (t : Bool) → nat_le (length h) (length s) ≡ t → (t && list_all (λ (p : Cell N × Cell N). cell_within d p.0 p.1) (zip s h)) ≡ false
+      by_test : (t : Bool) → nat_le (length h) (length s) ≡ t
+          → (t && list_all (λ (p : Cell N × Cell N). cell_within d p.0 p.1) (zip s h)) ≡ false
           → (length s < length h) ⊎ (list_all (λ (p : Cell N × Cell N). cell_within d p.0 p.1) (zip s h) ≡ false)
       by_test true g f = inr f
       by_test false g f = inl (grind (arith, nat_tests))
 
-  pub rank_falls : (h s : Cells N) → cells_within d s h ≡ false → sum_by (cell_rank d) (widen_cells d h s) < sum_by (cell_rank d) h
+  pub rank_falls : (h s : Cells N) → cells_within d s h ≡ false
+      → sum_by (cell_rank d) (widen_cells d h s) < sum_by (cell_rank d) h
   rank_falls h s e = cells_fall h s (not_within h s e)
 
 height_low : (h : ℕ) → nat_lt h 4294967295 ≡ true → h < 4294967295
