@@ -132,6 +132,42 @@ inside_64 = refl
 inside_65 : in_stmt (inside 64) ≡ Some 3
 inside_65 = refl
 
+-- so many operators inside one another
+abbrev over : ℕ → Expr
+over zero = expressions.id 1 x
+over (suc n) = expressions.unary 1 32 (over n)
+
+abbrev deep_statement : Stmt
+deep_statement = tree.evaluate 4 (Some (over 65))
+
+-- a loop begins before its body, whose line counts where the loop's own test is not too deep
+do_first_line : in_stmt (tree.do_loop 3 deep_statement (over 65)) ≡ Some 3
+do_first_line = refl
+
+body_of_do_line : in_stmt (tree.do_loop 3 deep_statement (over 64)) ≡ Some 4
+body_of_do_line = refl
+
+for_first_line : in_stmt (tree.for_loop 3 (tree.evaluates None) None (Some (over 65)) deep_statement) ≡ Some 3
+for_first_line = refl
+
+-- and before a variable that is declared in its parentheses
+abbrev deep_variable : declarations.Declaration
+deep_variable = record {
+  line = 5;
+  specs = [];
+  inits = record {
+    line = 5;
+    declarator = record { line = 5; stars = []; name = x; bounds = [] };
+    value = Some (declarations.single (over 65));
+  } ∷ [];
+}
+
+for_before_variable : in_stmt (tree.for_loop 3 (tree.declares deep_variable) (Some (over 65)) None deep_statement) ≡ Some 3
+for_before_variable = refl
+
+variable_of_for : in_stmt (tree.for_loop 3 (tree.declares deep_variable) (Some (over 64)) None deep_statement) ≡ Some 5
+variable_of_for = refl
+
 abbrev many : Tok → ℕ → List Tok → List Tok
 many t zero ts = ts
 many t (suc n) ts = t ∷ many t n ts

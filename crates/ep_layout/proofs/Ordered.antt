@@ -11,7 +11,7 @@ use Rattle.ep_int.specs.declared.types.IntType.TheVariants.{I8, U8, I16, U16, I3
 use Rattle.ep_int.specs.Types.{size_of}
 use Rattle.ep_layout.specs.declared.types.Leaf.{Leaf}
 use Rattle.ep_layout.specs.Layout.{Layout, AreLeavesFrom, shifted, repeated, greatest_align, greatest_size, first_leaves, leaves_after, end_of, array_layout, scalar_layout}
-use Rattle.ep_layout.specs.Table.{Table, layout_rules, layout_of, leaves, size}
+use Rattle.ep_layout.specs.Table.{Table, layout_rules, layout_of, leaves, AreLeavesOf}
 use Rattle.ep_layout.proofs.Sizes.{IsKept, kept_by_type}
 
 ---- sizes of scalars and alignments are powers of two up to 8
@@ -210,5 +210,5 @@ known_ordered m None f = omega arith
 known_ordered m (Some l) f = f l refl
 
 -- the leaves of a type rise, don't overlap, are aligned and end inside its size
-pub leaves_ordered : (t : Table) (n : ℕ) → AreLeavesFrom t.model 0 (unwrap_or (size t n) 0) (leaves t n)
+pub leaves_ordered : (t : Table) (n : ℕ) → AreLeavesOf t n (leaves t n)
 leaves_ordered t n = known_ordered t.model (layout_of t n) (ordered t n)

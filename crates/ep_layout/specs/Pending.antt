@@ -1,5 +1,6 @@
 -- Leaves that are still to come: of objects, of the elements of arrays and of the members of aggregates.
 use Rattle.std.specs.Prelude.{◌≡◌, ℕ, ◌+◌, ◌*◌, ◌<◌, ◌≤◌, Bool, List, [], ◌∷◌, ◌++◌, length, drop, unwrap_or, if◌then◌else◌}
+use Rattle.std.specs.Global.{Vec}
 use Rattle.std.specs.List.{All}
 use Rattle.ep_layout.specs.declared.types.Leaf.{Leaf}
 use Rattle.ep_layout.specs.declared.table.leaves.Task.{Task}
@@ -64,8 +65,12 @@ abbrev pub pending_steps : Table → List Task → ℕ
 pending_steps t [] = 0
 pending_steps t (k ∷ more) = task_steps t k + pending_steps t more
 
--- A task was taken from the others, and one step made.
-pub record IsStep (t : Table) (task : Task) (before : List Leaf) (tasks : List Task) (after : List Leaf) (later : List Task) : Type 0 where
+-- A task was taken from the others, and one step made: the leaves and the tasks before it and after it.
+pub record IsStep (t : Table) (task : Task) (before : List Leaf) (tasks : List Task) (after : List Leaf) (later : List Task)
+    : Type 0 where
   pub leaves : after ++ pending t later ≡ before ++ (task_leaves t task ++ pending t tasks)
   pub fit : All (TaskFits t) later
   pub fewer : pending_steps t later < task_steps t task + pending_steps t tasks
+
+abbrev pub Steps : Table → Task → Vec Leaf → Vec Task → Vec Leaf → Vec Task → Type 0
+Steps t task leaves tasks after later = IsStep t task leaves.items tasks.items after.items later.items

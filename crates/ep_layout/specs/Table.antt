@@ -11,7 +11,7 @@ use Rattle.ep_layout.specs.declared.types.Leaf.{Leaf}
 use Rattle.ep_layout.specs.declared.types.LayoutStop.{LayoutStop}
 use Rattle.ep_layout.specs.declared.types.LayoutStop.TheVariants.{Incomplete, TooLarge}
 use Rattle.ep_layout.specs.SameTypes.{is_same_type}
-use Rattle.ep_layout.specs.Layout.{Layout, scalar_layout, array_layout, struct_layout, union_layout, most_bytes}
+use Rattle.ep_layout.specs.Layout.{Layout, AreLeavesFrom, scalar_layout, array_layout, struct_layout, union_layout, most_bytes}
 
 -- a member of an aggregate: its name, its type, and where it lies in the aggregate
 pub record MemberRow : Type 0 where
@@ -89,6 +89,10 @@ align t n = option_map (λ (l : Layout). l.align) (layout_of t n)
 -- the leaves of a type; none where it is void or incomplete
 abbrev pub leaves : Table → ℕ → List Leaf
 leaves t n = unwrap_or (option_map (λ (l : Layout). l.leaves) (layout_of t n)) []
+
+-- leaves as an object of a type has them, from its begin to its end; of nothing there are none
+abbrev pub AreLeavesOf : Table → ℕ → List Leaf → Type 0
+AreLeavesOf t n leaves = AreLeavesFrom t.model 0 (unwrap_or (size t n) 0) leaves
 
 -- the layout of an aggregate; none until it is completed
 abbrev pub aggregate_layout : Table → ℕ → Option Layout

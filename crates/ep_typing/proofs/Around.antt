@@ -1,5 +1,5 @@
 -- A program's names, for the rows.
-use Rattle.std.proofs.Common.{ℕ, List, [], ◌∷◌, true, false, Option, Some, None}
+use Rattle.std.proofs.Common.{ℕ, List, [], ◌∷◌, true, false, Some, None}
 use Rattle.std.specs.Prelude.{codes}
 use Rattle.ep_int.specs.declared.types.IntType.TheVariants.{I8, U8, I32, U32, I64}
 use Rattle.ep_int.specs.declared.types.Model.{Model}
@@ -7,7 +7,7 @@ use Rattle.ep_layout.specs.declared.types.Ty.TheVariants.{Void, Int, Ptr, Array,
 use Rattle.ep_layout.specs.Table.{Table, MemberRow}
 use Rattle.ep_typing.specs.declared.types.Base.TheVariants as bases
 use Rattle.ep_typing.specs.declared.types.CType.{CType}
-use Rattle.ep_typing.specs.Env.{Env, Meaning, variable, function, type_name}
+use Rattle.ep_typing.specs.Env.{Env, variable, function, type_name}
 use Rattle.ep_typing.specs.Types.{int_type, void_type, void_pointer, whole, pointer_to}
 
 abbrev member : List ℕ → (ty offset : ℕ) → MemberRow

@@ -1,22 +1,19 @@
 -- What statements of each form become. All stand in a program with the names of `around`.
-use Rattle.std.proofs.Common.{◌≡◌, ℕ, List, [], ◌∷◌, refl, true, false, Bool, Option, Some, None, pos, Result, Ok, Err}
+use Rattle.std.proofs.Common.{◌≡◌, ℕ, [], ◌∷◌, refl, true, false, Bool, Option, Some, None, pos, Ok}
 use Rattle.std.specs.Prelude.{codes}
 use Rattle.ep_int.specs.declared.types.BinOp.TheVariants.{Add, Sub, Xor, Shl, Shr}
 use Rattle.ep_int.specs.declared.types.Cmp.TheVariants.{Eq, Lt}
 use Rattle.ep_int.specs.declared.types.IntType.TheVariants.{U8, U16, I32, U32, I64, U64}
-use Rattle.ep_int.specs.declared.types.Model.{Model}
 use Rattle.ep_int.specs.declared.types.Model.TheVariants.{Ilp32, Lp64}
 use Rattle.ep_int.specs.declared.types.Scalar.{Scalar}
 use Rattle.ep_int.specs.declared.types.Scalar.TheVariants.{Int as Number, Pointer}
 use Rattle.ep_ast.specs.declared.marks.TheConstants as marks
-use Rattle.ep_ast.specs.declared.refusals.Refusal.{Refusal}
 use Rattle.ep_ast.specs.Mark as mark
 use Rattle.ep_ast.specs.Expression as source
 use Rattle.ep_ast.specs.Expression.{Expr}
 use Rattle.ep_core.specs.Program as core
-use Rattle.ep_typing.proofs.Around.{around}
 use Rattle.ep_typing.proofs.Opened.{statement}
-use Rattle.ep_typing.proofs.Trees.{assign, conditional, binary, type_name, cast, step, unary, sizeof_expr, sizeof_type, index, call, member, arrow, post_increment, post_decrement, id, literal, number, load_int, load_pointer}
+use Rattle.ep_typing.proofs.Trees.{assign, conditional, binary, type_name, cast, step, unary, sizeof_expr, sizeof_type, index, call, member, arrow, post_increment, id, literal, number, load_int, load_pointer}
 
 abbrev evaluated : core.Expr → core.What
 evaluated e = core.simple (core.eval e)

@@ -1,7 +1,6 @@
 -- The definitions opened for the rows, which compute.
-use Rattle.std.proofs.Common.{◌≡◌, ℕ, List, [], ◌∷◌, map, refl}
+use Rattle.std.proofs.Common.{ℕ, List, map}
 use Rattle.ep_int.specs.declared.types.Model.{Model}
-use Rattle.ep_int.specs.declared.types.Model.TheVariants.{Ilp32}
 use Rattle.std.specs.Prelude.{Result}
 use Rattle.ep_ast.specs.declared.refusals.Refusal.{Refusal}
 use Rattle.ep_ast.specs.Expression.{Expr}

@@ -1,12 +1,11 @@
 -- Whole statements of each kind, as C compilers and this project's rules have them. All stand in a program with the
 -- names of `around`.
-use Rattle.std.proofs.Common.{◌≡◌, ℕ, List, [], ◌∷◌, map, refl, true, false}
+use Rattle.std.proofs.Common.{◌≡◌, [], ◌∷◌, refl, true, false}
 use Rattle.std.specs.Prelude.{codes}
 use Rattle.ep_int.specs.declared.types.Model.TheVariants.{Ilp32}
 use Rattle.ep_ast.specs.declared.marks.TheConstants as marks
 use Rattle.ep_ast.specs.Mark as mark
 use Rattle.ep_ast.specs.Expression as source
-use Rattle.ep_ast.specs.Expression.{Expr}
 use Rattle.ep_typing.proofs.Opened.{kinds}
 use Rattle.ep_typing.proofs.Trees.{assign, conditional, binary, type_name, cast, step, unary, sizeof_expr, sizeof_type, index, call, member, arrow, post_increment, post_decrement, id, literal, number}
 

@@ -1,6 +1,5 @@
 -- Short names for trees whose tokens all stand on line 2, and for what is asked of them.
-use Rattle.std.proofs.Common.{◌≡◌, ℕ, List, [], ◌∷◌, map, true, false, Bool, Result, Ok, Err, Option}
-use Rattle.std.specs.Prelude.{IsTrue}
+use Rattle.std.proofs.Common.{ℕ, List, true, false, Bool, Result, Ok, Err}
 use Rattle.ep_int.specs.declared.types.IntType.{IntType}
 use Rattle.ep_int.specs.declared.types.Scalar.TheVariants as scalars
 use Rattle.ep_ast.specs.declared.refusals.Refusal.{Refusal}

@@ -1,9 +1,7 @@
 -- The types of numbers, type words and type names in both data models.
-use Rattle.std.proofs.Common.{◌≡◌, ℕ, List, [], ◌∷◌, map, refl, true, false, Bool, Option, Some, None, Result, Ok, Err}
+use Rattle.std.proofs.Common.{◌≡◌, ℕ, List, [], ◌∷◌, map, refl, true, false, Bool, Option, Some, None}
 use Rattle.std.specs.Prelude.{codes, drop}
-use Rattle.ep_int.specs.declared.types.IntType.{IntType}
 use Rattle.ep_int.specs.declared.types.IntType.TheVariants.{I8, U8, I16, U16, I32, U32, I64, U64}
-use Rattle.ep_int.specs.declared.types.Model.{Model}
 use Rattle.ep_int.specs.declared.types.Model.TheVariants.{Ilp32, Lp64}
 use Rattle.ep_ast.specs.declared.expressions.Literal.{Literal}
 use Rattle.ep_ast.specs.Mark as mark
@@ -12,10 +10,10 @@ use Rattle.ep_ast.specs.Expression.{TypeWord}
 use Rattle.ep_layout.specs.declared.types.Ty.{Ty}
 use Rattle.ep_layout.specs.declared.types.Ty.TheVariants.{Ptr, Aggregate}
 use Rattle.ep_typing.specs.Env.{Env, look_up_tag}
-use Rattle.ep_typing.specs.Names.{integer_of, mentioned, mentioned_all, mentioned_name, named_type, words_type}
-use Rattle.ep_typing.specs.Types.{number_type, type_within, with_pointers, pointer_number}
+use Rattle.ep_typing.specs.Names.{integer_of, mentioned, mentioned_name, named_type, words_type}
+use Rattle.ep_typing.specs.Types.{number_type, with_pointers}
 use Rattle.ep_typing.proofs.Around.{around}
-use Rattle.ep_typing.proofs.Trees.{binary, cast, id, number, sizeof_type, type_name}
+use Rattle.ep_typing.proofs.Trees.{binary, cast, id, sizeof_type, type_name}
 
 abbrev numeral : ℕ → (decimal is_unsigned : Bool) → (longs : ℕ) → Literal
 numeral n d u k = record { value = n; decimal = d; unsigned = u; longs = k }

@@ -1,8 +1,6 @@
 -- What an expression stands for, its value, and what a value becomes where another type is asked: C11 6.3.
-use Rattle.std.specs.Prelude.{ℕ, Bool, true, false, ◌&&◌, ◌||◌, not, if◌then◌else◌, List, [], ◌∷◌, Option, Some, None, Result, Ok, Err, ℤ, pos}
+use Rattle.std.specs.Prelude.{ℕ, Bool, true, false, ◌&&◌, ◌||◌, not, if◌then◌else◌, Result, Ok, Err}
 use Rattle.ep_int.specs.declared.types.IntType.{IntType}
-use Rattle.ep_int.specs.declared.types.IntType.TheVariants.{I32}
-use Rattle.ep_int.specs.declared.types.BinOp.{BinOp}
 use Rattle.ep_int.specs.Arith.{promoted}
 use Rattle.ep_layout.specs.Table.{Table}
 use Rattle.ep_core.specs.Program as core

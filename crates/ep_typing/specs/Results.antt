@@ -1,5 +1,5 @@
 -- Answers with a kind, or with a refusal: the first one stands.
-use Rattle.std.specs.Prelude.{ℕ, List, [], ◌∷◌, min, Option, Some, None, Result, Ok, Err}
+use Rattle.std.specs.Prelude.{ℕ, List, ◌∷◌, min, Option, Some, None, Result, Ok, Err}
 use Rattle.ep_ast.specs.declared.refusals.Refusal.{Refusal}
 
 infixl 10 ◌>>=◌

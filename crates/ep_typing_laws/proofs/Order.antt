@@ -1,5 +1,5 @@
 -- The function of the definition against the rules and the order.
-use Rattle.std.proofs.Common.{◌≡◌, ℕ, List, [], ◌∷◌, ◌++◌, Bool, true, Option, Some, None, Result, Ok, Err, refl, ap, subst, ◌⊎◌, inl, inr}
+use Rattle.std.proofs.Common.{◌≡◌, ℕ, List, [], ◌∷◌, ◌++◌, Bool, true, Result, Ok, Err, refl, ap, subst, ◌⊎◌, inl, inr}
 use Rattle.ep_ast.specs.declared.refusals.Refusal.{Refusal}
 use Rattle.ep_ast.specs.Expression.{Expr, Exprs, TypeName, assign, conditional, binary, cast, step, unary, sizeof_expr, sizeof_type, index, call, member, arrow, post_increment, post_decrement, id, number, no_exprs, more_exprs}
 use Rattle.ep_typing.specs.declared.types.CType.{CType}
@@ -7,9 +7,8 @@ use Rattle.ep_typing.specs.Results.{at, ◌>>=◌}
 use Rattle.ep_typing.specs.Env.{Env}
 use Rattle.ep_typing.specs.Names.{named_type}
 use Rattle.ep_typing.specs.Operand.{Operand, Value, value_of}
-use Rattle.ep_typing.specs.Parts.{an_operand, indexable, named, numbered, selected, sized, type_sized, unary_typed}
+use Rattle.ep_typing.specs.Parts.{an_operand, indexable, named, selected, sized, type_sized, unary_typed}
 use Rattle.ep_typing.specs.Typing.{typed, typed_all, read_first, joined, chosen_from, cast_to, indexed_by, selected_behind}
-use Rattle.ep_typing_laws.specs.Rules as rule
 use Rattle.ep_typing_laws.specs.Rules.{Means, HaveValues, Point, node, type_named, value_asked, update_asked, index_asked, Breaks, First, here, order, order_all, refusal, no_values, more_values, is_number, is_name, is_choice, is_binary, is_cast, is_unary, is_size, is_type_size, is_element, is_member, is_member_behind, bad_type_name, bad_value, bad_update, bad_array, bad_name, bad_choice, bad_binary, bad_cast, bad_unary, bad_size, bad_type_size, bad_element, bad_member, bad_member_behind, assigns, steps, steps_up, steps_down, calls}
 use Rattle.ep_typing_laws.proofs.Firsts.{Clean, both, in_front, past, none_first, only_first}
 
@@ -161,3 +160,268 @@ means_all G l (more_exprs e0 es) vs e =
     let q = bind_ok (typed_all G l es) _ vs u.2 in
     subst (HaveValues G (more_exprs e0 es)) (ok_is (u.0 ∷ q.0) vs q.2)
     (more_values p.0 (means G e0 p.0 p.1) (at_ok l (value_of G.types p.0) u.0 u.1) (means_all G l es q.0 q.1))
+
+-- ---- points that break no rule
+
+goes_twice : (t : Result Bool Refusal) (s : Refusal) → t ≡ Ok true → t ≡ Err s → ⊥
+goes_twice t s e f = cc
+
+one_clean : (G : Env) (p : Point) → comes_to G p ≡ Ok true → Clean (Breaks G) (p ∷ [])
+one_clean G p h = ((λ s b. goes_twice (comes_to G p) s h (broken G p s b)), tt)
+
+node_clean : (G : Env) (e : Expr) (z : Operand) → typed G e ≡ Ok z → Clean (Breaks G) (node e ∷ [])
+node_clean G e z h = one_clean G (node e) (rw h refl)
+
+name_clean : (G : Env) (n : TypeName) (c : CType) → named_type G n ≡ Ok c → Clean (Breaks G) (type_named n ∷ [])
+name_clean G n c h = one_clean G (type_named n) (rw h refl)
+
+value_clean : (G : Env) (l : ℕ) (a : Expr) (x : Operand) (u : Value) → typed G a ≡ Ok x
+    → at l (value_of G.types x) ≡ Ok u → Clean (Breaks G) (value_asked l a ∷ [])
+value_clean G l a x u h k = one_clean G (value_asked l a) (rw (h, k) refl)
+
+update_clean : (G : Env) (l m : ℕ) (a : Expr) (x u : Operand) → typed G a ≡ Ok x
+    → at l (read_first G.types m x) ≡ Ok u → Clean (Breaks G) (update_asked l m a ∷ [])
+update_clean G l m a x u h k = one_clean G (update_asked l m a) (rw (h, k) refl)
+
+index_clean : (G : Env) (l : ℕ) (a : Expr) (x u : Operand) → typed G a ≡ Ok x
+    → at l (indexable G.types x) ≡ Ok u → Clean (Breaks G) (index_asked l a ∷ [])
+index_clean G l a x u h k = one_clean G (index_asked l a) (rw (h, k) refl)
+
+-- one part of a node, then the others
+clean_then : {A : Type 0} (G : Env) (t : Result A Refusal) (f : A → Result Operand Refusal) (z : Operand)
+    (xs ys : List Point) → (t >>= f) ≡ Ok z
+    → ((x : A) → t ≡ Ok x → Clean (Breaks G) xs) → ((x : A) → t ≡ Ok x → f x ≡ Ok z → Clean (Breaks G) ys)
+    → Clean (Breaks G) (xs ++ ys)
+clean_then G t f z xs ys e part rest =
+    let p = bind_ok t f z e in both (Breaks G) xs ys (part p.0 p.1) (rest p.0 p.1 p.2)
+
+-- a node of one operand that means something
+one_operand : (G : Env) (a e : Expr) (f : Operand → Result Operand Refusal) (z : Operand)
+    → ((x : Operand) → typed G a ≡ Ok x → Clean (Breaks G) (order a)) → typed G e ≡ Ok z
+    → (typed G a >>= f) ≡ Ok z → Clean (Breaks G) (order a ++ node e ∷ [])
+one_operand G a e f z part h k =
+    clean_then G (typed G a) f z (order a) (node e ∷ []) k part (λ x hx r. node_clean G e z h)
+
+pub clean : (G : Env) (e : Expr) (z : Operand) → typed G e ≡ Ok z → Clean (Breaks G) (order e)
+unfolding typed
+clean G (assign l m a b) z e =
+    let p = bind_ok (typed G a) _ z e in
+    let o = bind_ok (at l (read_first G.types m p.0)) _ z p.2 in
+    let q = bind_ok (typed G b) _ z o.2 in absurd (let c = q.2 in cc)
+clean G (conditional l e0 a b) z e =
+    let n = node (conditional l e0 a b) in
+    clean_then G (typed G e0) _ z (order e0) (value_asked l e0 ∷ (order a ++ (value_asked l a ∷ (order b ++ n ∷ [])))) e
+    (λ x h. clean G e0 x h)
+    (λ w hw e1. clean_then G (at l (value_of G.types w)) _ z (value_asked l e0 ∷ [])
+    (order a ++ (value_asked l a ∷ (order b ++ n ∷ []))) e1 (λ r hr. value_clean G l e0 w r hw hr)
+    (λ r hr e2. clean_then G (typed G a) _ z (order a) (value_asked l a ∷ (order b ++ n ∷ [])) e2
+    (λ x h. clean G a x h)
+    (λ x hx e3. clean_then G (at l (value_of G.types x)) _ z (value_asked l a ∷ []) (order b ++ n ∷ []) e3
+    (λ u hu. value_clean G l a x u hx hu)
+    (λ u hu e4. one_operand G b (conditional l e0 a b) _ z (λ y h. clean G b y h) e e4))))
+clean G (binary l m a b) z e =
+    clean_then G (typed G a) _ z (order a) (value_asked l a ∷ (order b ++ node (binary l m a b) ∷ [])) e
+    (λ x h. clean G a x h)
+    (λ x hx e1. clean_then G (at l (value_of G.types x)) _ z (value_asked l a ∷ [])
+    (order b ++ node (binary l m a b) ∷ []) e1
+    (λ u hu. value_clean G l a x u hx hu)
+    (λ u hu e2. one_operand G b (binary l m a b) _ z (λ y h. clean G b y h) e e2))
+clean G (cast l n a) z e =
+    clean_then G (named_type G n) _ z (type_named n ∷ []) (order a ++ node (cast l n a) ∷ []) e
+    (λ c h. name_clean G n c h) (λ c hc e1. one_operand G a (cast l n a) _ z (λ x h. clean G a x h) e e1)
+clean G (step l m a) z e = let p = bind_ok (typed G a) _ z e in absurd (let c = p.2 in cc)
+clean G (unary l m a) z e = one_operand G a (unary l m a) _ z (λ x h. clean G a x h) e e
+clean G (sizeof_expr l a) z e = one_operand G a (sizeof_expr l a) _ z (λ x h. clean G a x h) e e
+clean G (sizeof_type l n) z e =
+    clean_then G (named_type G n) _ z (type_named n ∷ []) (node (sizeof_type l n) ∷ []) e
+    (λ c h. name_clean G n c h) (λ c hc e1. node_clean G (sizeof_type l n) z e)
+clean G (index l a b) z e =
+    clean_then G (typed G a) _ z (order a) (index_asked l a ∷ (order b ++ node (index l a b) ∷ [])) e
+    (λ x h. clean G a x h)
+    (λ x hx e1. clean_then G (at l (indexable G.types x)) _ z (index_asked l a ∷ [])
+    (order b ++ node (index l a b) ∷ []) e1
+    (λ u hu. index_clean G l a x u hx hu)
+    (λ u hu e2. one_operand G b (index l a b) _ z (λ y h. clean G b y h) e e2))
+clean G (call l f es) z e =
+    let p = bind_ok (typed G f) _ z e in
+    let q = bind_ok (typed_all G l es) _ z p.2 in absurd (let c = q.2 in cc)
+clean G (member l a n) z e = one_operand G a (member l a n) _ z (λ x h. clean G a x h) e e
+clean G (arrow l a n) z e = one_operand G a (arrow l a n) _ z (λ x h. clean G a x h) e e
+clean G (post_increment l a) z e = let p = bind_ok (typed G a) _ z e in absurd (let c = p.2 in cc)
+clean G (post_decrement l a) z e = let p = bind_ok (typed G a) _ z e in absurd (let c = p.2 in cc)
+clean G (id l t) z e = node_clean G (id l t) z e
+clean G (number l n) z e = node_clean G (number l n) z e
+
+clean_all : (G : Env) (l : ℕ) (es : Exprs) (vs : List Value) → typed_all G l es ≡ Ok vs
+    → Clean (Breaks G) (order_all l es)
+unfolding typed
+clean_all G l no_exprs vs e = tt
+clean_all G l (more_exprs e0 es) vs e =
+    let p = bind_ok (typed G e0) _ vs e in
+    let u = bind_ok (at l (value_of G.types p.0)) _ vs p.2 in
+    let q = bind_ok (typed_all G l es) _ vs u.2 in
+    both (Breaks G) (order e0) (value_asked l e0 ∷ order_all l es) (clean G e0 p.0 p.1)
+    (both (Breaks G) (value_asked l e0 ∷ []) (order_all l es) (value_clean G l e0 p.0 u.0 p.1 u.1)
+    (clean_all G l es q.0 q.1))
+
+-- ---- the first point that breaks a rule
+
+-- one part of a node is refused, or the others are
+refused_then : {A B : Type 0} (G : Env) (t : Result A Refusal) (f : A → Result B Refusal) (r : Refusal)
+    (xs ys : List Point) → (t >>= f) ≡ Err r
+    → (t ≡ Err r → First (Breaks G) xs r) → ((x : A) → t ≡ Ok x → Clean (Breaks G) xs)
+    → ((x : A) → t ≡ Ok x → f x ≡ Err r → First (Breaks G) ys r)
+    → First (Breaks G) (xs ++ ys) r
+refused_then G t f r xs ys e part fine rest = elim (bind_err t f r e) [
+  | inl h ↦ in_front (Breaks G) xs ys r (part h)
+  | inr p ↦ past (Breaks G) xs ys r (fine p.0 p.1) (rest p.0 p.1 p.2)
+]
+
+-- a point of one line offends by its kind
+breaks_here : {A : Type 0} (G : Env) (l : ℕ) (p : Point) (t : Result A ℕ) (r : Refusal) → at l t ≡ Err r
+    → ((k : ℕ) → t ≡ Err k → Breaks G p (refusal k l)) → First (Breaks G) (p ∷ []) r
+breaks_here G l p t r e breaks = let k = at_err l t r e in here (subst (Breaks G p) k.2 (breaks k.0 k.1))
+
+-- a node with a last operand is refused for the operand, or for itself
+last_operand : (G : Env) (l : ℕ) (a e : Expr) (f : Operand → Result Operand ℕ) (r : Refusal)
+    → (typed G a >>= (λ x. at l (f x))) ≡ Err r
+    → (typed G a ≡ Err r → First (Breaks G) (order a) r)
+    → ((x : Operand) (k : ℕ) → Means G a x → f x ≡ Err k → Breaks G (node e) (refusal k l))
+    → First (Breaks G) (order a ++ node e ∷ []) r
+last_operand G l a e f r h part breaks =
+    refused_then G (typed G a) (λ x. at l (f x)) r (order a) (node e ∷ []) h part (λ x hx. clean G a x hx)
+    (λ x hx k. breaks_here G l (node e) (f x) r k (λ j hj. breaks x j (means G a x hx) hj))
+
+-- a kind that stands there
+abbrev stopped : ℕ → Result Operand ℕ
+stopped k = Err k
+
+kind_is : (j k : ℕ) → stopped j ≡ stopped k → j ≡ k
+kind_is j k e = cc
+
+always : (G : Env) (l j : ℕ) (p : Point) → Breaks G p (refusal j l) → (k : ℕ) → stopped j ≡ stopped k
+    → Breaks G p (refusal k l)
+always G l j p b k h = subst (λ (i : ℕ). Breaks G p (refusal i l)) (kind_is j k h) b
+
+rest_err : (t : Result (List Value) Refusal) (u : Value) (r : Refusal)
+    → (t >>= (λ vs. done (u ∷ vs))) ≡ Err r → t ≡ Err r
+rest_err (Ok vs) u r e = absurd cc
+rest_err (Err s) u r e = cc
+
+mutual
+  unfolding typed
+
+  pub refused : (G : Env) (e : Expr) (r : Refusal) → typed G e ≡ Err r → First (Breaks G) (order e) r
+  refused G (assign l m a b) r e =
+      refused_then G (typed G a) _ r (order a) (update_asked l m a ∷ (order b ++ node (assign l m a b) ∷ [])) e
+      (λ h. refused G a r h) (λ x h. clean G a x h)
+      (λ x hx e1. refused_then G (at l (read_first G.types m x)) _ r (update_asked l m a ∷ [])
+      (order b ++ node (assign l m a b) ∷ []) e1
+      (λ h. breaks_here G l (update_asked l m a) (read_first G.types m x) r h
+      (λ k hk. bad_update x (means G a x hx) hk))
+      (λ u hu. update_clean G l m a x u hx hu)
+      (λ u hu e2. last_operand G l b (assign l m a b) (λ y. stopped 19) r e2 (λ h. refused G b r h)
+      (λ y k q h. always G l 19 (node (assign l m a b))
+      (assigns x u y (means G a x hx) (at_ok l (read_first G.types m x) u hu) q) k h)))
+  refused G (conditional l e0 a b) r e =
+      let n = node (conditional l e0 a b) in
+      refused_then G (typed G e0) _ r (order e0)
+      (value_asked l e0 ∷ (order a ++ (value_asked l a ∷ (order b ++ n ∷ [])))) e
+      (λ h. refused G e0 r h) (λ x h. clean G e0 x h)
+      (λ w hw e1. refused_then G (at l (value_of G.types w)) _ r (value_asked l e0 ∷ [])
+      (order a ++ (value_asked l a ∷ (order b ++ n ∷ []))) e1
+      (λ h. breaks_here G l (value_asked l e0) (value_of G.types w) r h (λ k hk. bad_value w (means G e0 w hw) hk))
+      (λ t ht. value_clean G l e0 w t hw ht)
+      (λ t ht e2. refused_then G (typed G a) _ r (order a) (value_asked l a ∷ (order b ++ n ∷ [])) e2
+      (λ h. refused G a r h) (λ x h. clean G a x h)
+      (λ x hx e3. refused_then G (at l (value_of G.types x)) _ r (value_asked l a ∷ []) (order b ++ n ∷ []) e3
+      (λ h. breaks_here G l (value_asked l a) (value_of G.types x) r h (λ k hk. bad_value x (means G a x hx) hk))
+      (λ u hu. value_clean G l a x u hx hu)
+      (λ u hu e4. last_operand G l b (conditional l e0 a b) (chosen_from G.types t u) r e4
+      (λ h. refused G b r h)
+      (λ y k q h. bad_choice w x y t u (means G e0 w hw) (at_ok l (value_of G.types w) t ht) (means G a x hx)
+      (at_ok l (value_of G.types x) u hu) q h)))))
+  refused G (binary l m a b) r e =
+      refused_then G (typed G a) _ r (order a) (value_asked l a ∷ (order b ++ node (binary l m a b) ∷ [])) e
+      (λ h. refused G a r h) (λ x h. clean G a x h)
+      (λ x hx e1. refused_then G (at l (value_of G.types x)) _ r (value_asked l a ∷ [])
+      (order b ++ node (binary l m a b) ∷ []) e1
+      (λ h. breaks_here G l (value_asked l a) (value_of G.types x) r h (λ k hk. bad_value x (means G a x hx) hk))
+      (λ u hu. value_clean G l a x u hx hu)
+      (λ u hu e2. last_operand G l b (binary l m a b) (joined G.types m u) r e2 (λ h. refused G b r h)
+      (λ y k q h. bad_binary x y u (means G a x hx) (at_ok l (value_of G.types x) u hu) q h)))
+  refused G (cast l n a) r e =
+      refused_then G (named_type G n) _ r (type_named n ∷ []) (order a ++ node (cast l n a) ∷ []) e
+      (λ h. here (bad_type_name h)) (λ c h. name_clean G n c h)
+      (λ c hc e1. last_operand G l a (cast l n a) (cast_to G.types c) r e1 (λ h. refused G a r h)
+      (λ x k q h. bad_cast c x hc q h))
+  refused G (step l m a) r e =
+      last_operand G l a (step l m a) (λ x. stopped 19) r e (λ h. refused G a r h)
+      (λ x k q h. always G l 19 (node (step l m a)) (steps x q) k h)
+  refused G (unary l m a) r e =
+      last_operand G l a (unary l m a) (unary_typed G.types m) r e (λ h. refused G a r h) (λ x k q h. bad_unary x q h)
+  refused G (sizeof_expr l a) r e =
+      last_operand G l a (sizeof_expr l a) (λ x. an_operand (sized G.types x)) r e (λ h. refused G a r h)
+      (λ x k q h. bad_size x q h)
+  refused G (sizeof_type l n) r e =
+      refused_then G (named_type G n) _ r (type_named n ∷ []) (node (sizeof_type l n) ∷ []) e
+      (λ h. here (bad_type_name h)) (λ c h. name_clean G n c h)
+      (λ c hc e1. breaks_here G l (node (sizeof_type l n)) (an_operand (type_sized G.types c)) r e1
+      (λ k h. bad_type_size c hc h))
+  refused G (index l a b) r e =
+      refused_then G (typed G a) _ r (order a) (index_asked l a ∷ (order b ++ node (index l a b) ∷ [])) e
+      (λ h. refused G a r h) (λ x h. clean G a x h)
+      (λ x hx e1. refused_then G (at l (indexable G.types x)) _ r (index_asked l a ∷ [])
+      (order b ++ node (index l a b) ∷ []) e1
+      (λ h. breaks_here G l (index_asked l a) (indexable G.types x) r h (λ k hk. bad_array x (means G a x hx) hk))
+      (λ u hu. index_clean G l a x u hx hu)
+      (λ u hu e2. last_operand G l b (index l a b) (indexed_by G.types u) r e2 (λ h. refused G b r h)
+      (λ y k q h. bad_element x u y (means G a x hx) (at_ok l (indexable G.types x) u hu) q h)))
+  refused G (call l f es) r e =
+      refused_then G (typed G f) _ r (order f) (order_all l es ++ node (call l f es) ∷ []) e
+      (λ h. refused G f r h) (λ x h. clean G f x h)
+      (λ x hx e1. refused_then G (typed_all G l es) (λ vs. at l (stopped 18)) r (order_all l es)
+      (node (call l f es) ∷ []) e1
+      (λ h. refused_all G l es r h) (λ vs h. clean_all G l es vs h)
+      (λ vs hvs e2. breaks_here G l (node (call l f es)) (stopped 18) r e2
+      (λ k h. always G l 18 (node (call l f es)) (calls x vs (means G f x hx) (means_all G l es vs hvs)) k h)))
+  refused G (member l a n) r e =
+      last_operand G l a (member l a n) (λ x. selected G.types x n) r e (λ h. refused G a r h)
+      (λ x k q h. bad_member x q h)
+  refused G (arrow l a n) r e =
+      last_operand G l a (arrow l a n) (λ x. selected_behind G.types x n) r e (λ h. refused G a r h)
+      (λ x k q h. bad_member_behind x q h)
+  refused G (post_increment l a) r e =
+      last_operand G l a (post_increment l a) (λ x. stopped 19) r e (λ h. refused G a r h)
+      (λ x k q h. always G l 19 (node (post_increment l a)) (steps_up x q) k h)
+  refused G (post_decrement l a) r e =
+      last_operand G l a (post_decrement l a) (λ x. stopped 19) r e (λ h. refused G a r h)
+      (λ x k q h. always G l 19 (node (post_decrement l a)) (steps_down x q) k h)
+  refused G (id l t) r e = breaks_here G l (node (id l t)) (named G t) r e (λ k h. bad_name h)
+  refused G (number l n) r e = absurd cc
+
+  refused_all : (G : Env) (l : ℕ) (es : Exprs) (r : Refusal) → typed_all G l es ≡ Err r
+      → First (Breaks G) (order_all l es) r
+  refused_all G l no_exprs r e = absurd cc
+  refused_all G l (more_exprs e0 es) r e =
+      refused_then G (typed G e0) _ r (order e0) (value_asked l e0 ∷ order_all l es) e
+      (λ h. refused G e0 r h) (λ x h. clean G e0 x h)
+      (λ x hx e1. refused_then G (at l (value_of G.types x)) _ r (value_asked l e0 ∷ []) (order_all l es) e1
+      (λ h. breaks_here G l (value_asked l e0) (value_of G.types x) r h (λ k hk. bad_value x (means G e0 x hx) hk))
+      (λ u hu. value_clean G l e0 x u hx hu)
+      (λ u hu e2. refused_all G l es r (rest_err (typed_all G l es) u r e2)))
+
+refused_twice : (t : Result Bool Refusal) (r s : Refusal) → t ≡ Err r → t ≡ Err s → r ≡ s
+refused_twice t r s e f = cc
+
+one_refusal : (G : Env) (p : Point) (r s : Refusal) → Breaks G p r → Breaks G p s → r ≡ s
+one_refusal G p r s b c = refused_twice (comes_to G p) r s (broken G p r b) (broken G p s c)
+
+first_at : (G : Env) (e : Expr) (t : Result Operand Refusal) (r : Refusal) → typed G e ≡ t
+    → First (Breaks G) (order e) r → t ≡ Err r
+first_at G e (Ok z) r h f = absurd (none_first (Breaks G) (order e) r (clean G e z h) f)
+first_at G e (Err s) r h f =
+    ap (λ (d : Refusal). Err d) (only_first (Breaks G) (one_refusal G) (order e) s r (refused G e s h) f)
+
+pub first : (G : Env) (e : Expr) (r : Refusal) → First (Breaks G) (order e) r → typed G e ≡ Err r
+first G e r f = first_at G e (typed G e) r refl f

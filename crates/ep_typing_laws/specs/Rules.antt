@@ -1,5 +1,5 @@
 -- What expressions mean, by rules without an order, and the order of the text apart from them. C11 6.5.
-use Rattle.std.specs.Prelude.{◌≡◌, ℕ, List, [], ◌∷◌, ◌++◌, Option, Some, None, Result, Ok, Err}
+use Rattle.std.specs.Prelude.{◌≡◌, ℕ, List, [], ◌∷◌, ◌++◌, Ok, Err}
 use Rattle.ep_ast.specs.declared.expressions.Literal.{Literal}
 use Rattle.ep_ast.specs.declared.refusals.Refusal.{Refusal}
 use Rattle.ep_ast.specs.Expression.{Expr, Exprs, TypeName, assign, conditional, binary, cast, step, unary, sizeof_expr, sizeof_type, index, call, member, arrow, post_increment, post_decrement, id, number, no_exprs, more_exprs}

@@ -14,4 +14,6 @@ ghost use Rattle.ep_typing_laws.specs.Rules.{Means, Offends};
 pub fn expressions()
     ensures means { (G : Env) (e : Expr) (z : Operand) → typed G e ≡ Ok z → Means G e z }
     ensures meant { (G : Env) (e : Expr) (z : Operand) → Means G e z → typed G e ≡ Ok z }
+    ensures refused { (G : Env) (e : Expr) (r : Fault) → typed G e ≡ Err r → Offends G e r }
+    ensures first { (G : Env) (e : Expr) (r : Fault) → Offends G e r → typed G e ≡ Err r }
 {}

@@ -1,11 +1,10 @@
 //! The leaves of a type.
 
-ghost use Rattle.std.specs.Prelude.{◌≡◌, ◌<◌, [], ◌∷◌, ◌++◌, IfOk, OnOk, length, unwrap_or};
+ghost use Rattle.std.specs.Prelude.{◌≡◌, ◌<◌, [], ◌∷◌, ◌++◌, IfOk, OnOk, length};
 ghost use Rattle.std.specs.List.{All};
 ghost use Rattle.ep_layout.specs.declared.table.leaves.Task.{Task};
 ghost use Rattle.ep_layout.specs.declared.table.leaves.Task.TheVariants.{Object, Elements, Members};
-ghost use Rattle.ep_layout.specs.Layout.{AreLeavesFrom};
-ghost use Rattle.ep_layout.specs.Pending.{IsStep, TaskFits};
+ghost use Rattle.ep_layout.specs.Pending.{Steps, TaskFits};
 ghost use Rattle.ep_layout.specs.Table as table;
 ghost use Rattle.ep_layout.specs.Table.{IsBuilt};
 
@@ -54,7 +53,7 @@ impl Types {
     pub fn leaves(&self, ty: u32) -> Result<Vec<Leaf>, Memory>
         requires { ty < length self.now.types }
         ensures value { IfOk result (λ v. v.items ≡ table.leaves self.now ty) }
-        ensures ordered { IfOk result (λ v. AreLeavesFrom self.now.model 0 (unwrap_or (table.size self.now ty) 0) v.items) }
+        ensures ordered { IfOk result (λ v. table.AreLeavesOf self.now ty v.items) }
     {
         match self.leaf_list(ty) {
             Ok(leaves) => Ok(leaves),
@@ -84,7 +83,7 @@ impl Types {
         requires built { IsBuilt self.now }
         requires task { TaskFits self.now task }
         requires tasks { All (TaskFits self.now) tasks.old.items }
-        ensures { OnOk result (IsStep self.now task leaves.old.items tasks.old.items leaves.new.items tasks.new.items) }
+        ensures { OnOk result (Steps self.now task leaves.old tasks.old leaves.new tasks.new) }
     {
         match task {
             Task::Object { ty, offset } => self.open(ty, offset, leaves, tasks),
@@ -109,7 +108,7 @@ impl Types {
         requires built { IsBuilt self.now }
         requires task { TaskFits self.now (Object ty offset) }
         requires tasks { All (TaskFits self.now) tasks.old.items }
-        ensures { OnOk result (IsStep self.now (Object ty offset) leaves.old.items tasks.old.items leaves.new.items tasks.new.items) }
+        ensures { OnOk result (Steps self.now (Object ty offset) leaves.old tasks.old leaves.new tasks.new) }
     {
         match *self.ty(ty) {
             Ty::Void => Ok(()),
@@ -144,7 +143,7 @@ impl Types {
     ) -> Result<(), AllocError>
         requires task { TaskFits self.now (Elements ty offset count) }
         requires tasks { All (TaskFits self.now) tasks.old.items }
-        ensures { OnOk result (IsStep self.now (Elements ty offset count) leaves.old.items tasks.old.items leaves.new.items tasks.new.items) }
+        ensures { OnOk result (Steps self.now (Elements ty offset count) leaves.old tasks.old leaves.new tasks.new) }
     {
         let size = self.size(ty).unwrap_or(0);
         // Objects of no bytes have no leaves, however many there are.
@@ -170,7 +169,7 @@ impl Types {
     ) -> Result<(), AllocError>
         requires task { TaskFits self.now (Members aggregate offset next) }
         requires tasks { All (TaskFits self.now) tasks.old.items }
-        ensures { OnOk result (IsStep self.now (Members aggregate offset next) leaves.old.items tasks.old.items leaves.new.items tasks.new.items) }
+        ensures { OnOk result (Steps self.now (Members aggregate offset next) leaves.old tasks.old leaves.new tasks.new) }
     {
         match self.members(aggregate).get(next) {
             None => Ok(()),
