@@ -9,7 +9,7 @@ use Rattle.ep_layout.specs.declared.table.Types.TheInside.{Inside}
 use Rattle.ep_layout.specs.declared.types.Ty.{Ty}
 use Rattle.ep_layout.specs.declared.types.Ty.TheVariants.{Void, Int, Ptr, Array, Aggregate}
 use Rattle.ep_layout.specs.Layout.{Layout, most_bytes}
-use Rattle.ep_layout.specs.Table.{Table, AggregateRow, IsBuilt, at_type, at_aggregate, layout_rules, layout_of, type_stop, stop_at_size, empty}
+use Rattle.ep_layout.specs.Table.{Table, AggregateRow, IsBuilt, at_type, at_aggregate, aggregate_layout, layout_rules, layout_of, type_stop, stop_at_size, empty}
 use Rattle.ep_layout.specs.Table.IsBuilt.{start}
 use Rattle.ep_layout.specs.Extents.{IsExtent, extent_of, kept_extent}
 use Rattle.ep_layout.specs.Kept.{IsKept, table_of, view_entry, entry_extent}
@@ -88,3 +88,15 @@ kept_start s types extents aggregates completed =
 
     same_table : (s : Inside) → s.types ≡ [] → s.aggregates.items ≡ [] → s.completed.items ≡ [] → empty s.model ≡ table_of s
     same_table s p q r = rw (p, q, r) refl
+
+-- the size of an aggregate is that of its entry
+pub entry_size_is : (s : Inside) → IsKept s → (a : ℕ) (g : AggregateEntry) (o : Option Extent) → slice_get s.aggregates.items a ≡ Some g
+    → o ≡ entry_extent g → option_map (λ (e : Extent). e.size) o ≡ option_map (λ (l : Layout). l.size) (aggregate_layout (table_of s) a)
+entry_size_is s k a g o h e =
+    let row : slice_get (map view_entry s.aggregates.items) a ≡ Some (view_entry g) = slice_get-map view_entry s.aggregates.items a ∙ ap (option_map view_entry) h in
+    ap (option_map (λ (x : Extent). x.size)) (e ∙ k.aggregates a g h) ∙ twice (at_aggregate (layout_rules s.model) (layout_of (table_of s)) (view_entry g))
+    ∙ sym (ap (λ (r : Option AggregateRow). option_map (λ (l : Layout). l.size) (option_and_then (at_aggregate (layout_rules s.model) (layout_of (table_of s))) r)) row)
+  where
+    twice : (o : Option Layout) → option_map (λ (x : Extent). x.size) (option_map extent_of o) ≡ option_map (λ (l : Layout). l.size) o
+    twice None = refl
+    twice (Some l) = refl

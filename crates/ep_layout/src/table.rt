@@ -4,7 +4,7 @@ ghost use Rattle.std.specs.Prelude.{◌≡◌, ◌≢◌, ◌+◌, ◌<◌, ◌�
 ghost use Rattle.std.specs.List.{list_all};
 ghost use Rattle.ep_layout.specs.declared.types.LayoutStop.{LayoutStop};
 ghost use Rattle.ep_layout.specs.declared.table.Body.{Body};
-ghost use Rattle.ep_layout.specs.Layout.{most_bytes};
+ghost use Rattle.ep_layout.specs.Layout.{Layout, most_bytes};
 ghost use Rattle.ep_layout.specs.Table as table;
 ghost use Rattle.ep_layout.specs.Table.{IsBuilt};
 ghost use Rattle.ep_layout.specs.Extents.{IsExtent, extent_of, kept_extent};
@@ -165,6 +165,28 @@ impl Types {
         match self.extent(ty) {
             None => None,
             Some(extent) => Some(extent.size),
+        }
+    }
+
+    /// The number of bytes of an aggregate; none where it isn't completed.
+    pub fn aggregate_size(&self, aggregate: u32) -> Option<u32>
+        requires { aggregate < length self.now.aggregates }
+        ensures { result ≡ option_map (λ (l : Layout). l.size) (table.aggregate_layout self.now aggregate) }
+    {
+        match self.aggregates[aggregate as usize].extent() {
+            None => None,
+            Some(extent) => Some(extent.size),
+        }
+    }
+
+    /// The number of a type, if it is there.
+    pub fn number_of(&self, ty: Ty) -> Option<u32>
+        ensures number { result ≡ table.number_of self.now ty }
+        ensures inside { IfSome result (λ n. n < length self.now.types) }
+    {
+        match self.types.number_of(ty) {
+            None => None,
+            Some(n) => Some(n as u32),
         }
     }
 

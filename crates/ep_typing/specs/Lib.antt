@@ -1,5 +1,6 @@
 pub mod Results
 pub mod Types
+pub mod SameTypes
 pub mod Env
 pub mod Names
 pub mod Operand
