@@ -32,9 +32,6 @@ number_swaps m n h = grind (arith, nat_tests)
 pub at_most : (m n : ℕ) → m ≤ n → nat_le m n ≡ true
 at_most m n h = grind (arith, nat_tests)
 
-at_most_is : (m n : ℕ) → nat_le m n ≡ true → m ≤ n
-at_most_is m n h = grind (arith, nat_tests)
-
 all_append : {A : Type 0} (p : A → Bool) (xs ys : List A) → list_all p xs ≡ true → list_all p ys ≡ true → list_all p (xs ++ ys) ≡ true
 all_append p [] ys f g = g
 all_append p (x ∷ xs) ys f g = let h = both (p x) (list_all p xs) f in and_true (p x) (list_all p (xs ++ ys)) h.0 (all_append p xs ys h.1 g)

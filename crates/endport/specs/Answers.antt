@@ -19,7 +19,8 @@ abbrev pub Refuses : {Y : Type 0} → (Y → Type 0) → Halt → Type 0
 Refuses P Memory = Unit {0}
 Refuses {Y} P (Refused r) = ((y : Y) → P y → ⊥) × (r ≡ not_built)
 
--- What is returned, seen by view, is the one value of which P holds. Where it is refused, P holds of none. Memory may want.
+-- What is returned, seen by view, is the one value of which P holds. Where it is refused, P holds of none. Memory may
+-- want.
 abbrev pub ReadsAs : {X Y : Type 0} → (X → Y) → (Y → Type 0) → Result X Halt → Type 0
 ReadsAs {X} {Y} view P (Ok x) = P (view x) × ((y : Y) → P y → y ≡ view x)
 ReadsAs view P (Err e) = Refuses P e

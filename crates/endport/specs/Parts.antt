@@ -20,7 +20,8 @@ abbrev pub IsOtherwise : List Variable → ℕ → Bool → List Tok → Stmts �
 IsOtherwise vs room in_loop ts p = Otherwise vs room in_loop ts p.1 p.0
 
 -- an `if` at this line, from behind its test on
-pub record IsIf (vs : List Variable) (room : ℕ) (in_loop : Bool) (line : ℕ) (c : Condition) (ts : List Tok) (p : ℕ × What × List Tok) : Type 0 where
+pub record IsIf (vs : List Variable) (room : ℕ) (in_loop : Bool) (line : ℕ) (c : Condition) (ts : List Tok)
+    (p : ℕ × What × List Tok) : Type 0 where
   pub less : ℕ
   pub has_room : room ≡ suc less
   pub test : Expr
@@ -34,7 +35,8 @@ pub record IsIf (vs : List Variable) (room : ℕ) (in_loop : Bool) (line : ℕ) 
   pub does : p.1 ≡ if_else test then others
 
 -- a `while`, likewise
-pub record IsWhile (vs : List Variable) (room : ℕ) (in_loop : Bool) (line : ℕ) (c : Condition) (ts : List Tok) (p : ℕ × What × List Tok) : Type 0 where
+pub record IsWhile (vs : List Variable) (room : ℕ) (in_loop : Bool) (line : ℕ) (c : Condition) (ts : List Tok)
+    (p : ℕ × What × List Tok) : Type 0 where
   pub less : ℕ
   pub has_room : room ≡ suc less
   pub test : Expr

@@ -1,5 +1,7 @@
--- Reading a source part by part: each part is what stands at the front of the tokens, and the tokens after it. None where no such part does.
-use Rattle.std.specs.Prelude.{ℕ, ◌+◌, pos, Bool, true, false, ◌&&◌, nat_eq, nat_le, is_none, if◌then◌else◌, List, [], ◌∷◌, Option, Some, None, codes}
+-- Reading a source part by part: each part is what stands at the front of the tokens, and the tokens after it. None
+-- where no such part does.
+use Rattle.std.specs.Prelude.{ℕ, ◌+◌, pos, Bool, true, false, ◌&&◌, nat_eq, nat_le, is_none, if◌then◌else◌, List, []}
+use Rattle.std.specs.Prelude.{◌∷◌, Option, Some, None, codes}
 use Rattle.std.specs.Option.{option_map, option_map_or}
 use Rattle.std.specs.Str.{bytes_eq}
 use Rattle.ep_int.specs.declared.types.BinOp.{BinOp}
@@ -10,12 +12,15 @@ use Rattle.ep_int.specs.declared.types.IntType.{IntType}
 use Rattle.ep_int.specs.declared.types.IntType.TheVariants.{I32}
 use Rattle.ep_int.specs.declared.types.Scalar.TheVariants.{Int}
 use Rattle.ep_int.specs.Types.{bytes_of}
-use Rattle.ep_small_core.specs.Program.{block, Expr, const, addr_of, convert, What, assign, input, output, write_bytes, break_loop, continue_loop, returns}
+use Rattle.ep_small_core.specs.Program.{block, Expr, const, addr_of, convert, What, assign, input, output, write_bytes}
+use Rattle.ep_small_core.specs.Program.{break_loop, continue_loop, returns}
 use Rattle.endport.specs.declared.form.token.Mark.{Mark}
-use Rattle.endport.specs.declared.form.token.Mark.TheVariants.{ParenOpen, ParenClose, BraceOpen, BraceClose, Comma, Semicolon, Equals, Operator, Comparison}
+use Rattle.endport.specs.declared.form.token.Mark.TheVariants.{ParenOpen, ParenClose, BraceOpen, BraceClose, Comma}
+use Rattle.endport.specs.declared.form.token.Mark.TheVariants.{Semicolon, Equals, Operator, Comparison}
 use Rattle.endport.specs.Tokens.{Tok, name, number, mark}
 use Rattle.endport.specs.Words.{is_free, declared_type, input_type, output_type}
-use Rattle.endport.specs.Form.{Variable, Object, found, declared, bytes_of_all, Value, loaded, literal, as_type, operated, compared}
+use Rattle.endport.specs.Form.{Variable, Object, found, declared, bytes_of_all, Value, loaded, literal, as_type}
+use Rattle.endport.specs.Form.{operated, compared}
 
 -- ---- one token
 
@@ -163,7 +168,9 @@ computed x a op ts = do
 
 -- behind `x = a`
 unfoldable pub given : List ℕ → Atom → List Tok → Option (Phrase × List Tok)
-given x a ts = option_map_or (λ us. taken x a us) (mark_at ParenOpen ts) (option_map_or (λ o. computed x a o.0 o.1) (operator_at ts) (ended (sets x a) ts))
+given x a ts =
+    option_map_or (λ us. taken x a us) (mark_at ParenOpen ts)
+    (option_map_or (λ o. computed x a o.0 o.1) (operator_at ts) (ended (sets x a) ts))
 
 -- behind `x =`
 unfoldable pub assigned : List ℕ → List Tok → Option (Phrase × List Tok)
@@ -352,7 +359,9 @@ if_last [] = Some ends
 if_last (t ∷ ts) = None
 
 unfoldable pub item_at : List Tok → Option Item
-item_at ts = option_map_or if_last (mark_at BraceClose ts) (option_map_or (λ d. Some (declares d.0 d.1)) (declaration_at ts) (Some begins))
+item_at ts =
+    option_map_or if_last (mark_at BraceClose ts)
+    (option_map_or (λ d. Some (declares d.0 d.1)) (declaration_at ts) (Some begins))
 
 -- int main(void) { : the line of the word main, and what comes behind
 unfoldable pub head_at : List Tok → Option (ℕ × List Tok)
@@ -363,4 +372,5 @@ head_at ts = do
   v ← name_at us
   vs ← mark_at ParenClose v.2
   rs ← mark_at BraceOpen vs
-  if bytes_eq w.1 (codes "int") && bytes_eq x.1 (codes "main") && bytes_eq v.1 (codes "void") then Some (x.0, rs) else None
+  if bytes_eq w.1 (codes "int") && bytes_eq x.1 (codes "main") && bytes_eq v.1 (codes "void") then Some (x.0, rs)
+      else None

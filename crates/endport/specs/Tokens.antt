@@ -1,11 +1,13 @@
 -- The tokens of a source, after C11 6.4: names, decimal numbers and marks, with white space between them.
-use Rattle.std.specs.Prelude.{◌≡◌, ℕ, ◌+◌, ◌-◌, ◌*◌, Bool, true, false, ◌&&◌, ◌||◌, not, if◌then◌else◌, ◌==◌, nat_le, List, [], ◌∷◌, take, drop, Option, Some, None}
+use Rattle.std.specs.Prelude.{◌≡◌, ℕ, ◌+◌, ◌-◌, ◌*◌, Bool, true, false, ◌&&◌, ◌||◌, not, if◌then◌else◌, ◌==◌, nat_le}
+use Rattle.std.specs.Prelude.{List, [], ◌∷◌, take, drop, Option, Some, None}
 use Rattle.std.specs.List.{prefix_len, list_all}
 use Rattle.std.specs.Option.{option_map, option_map_or}
 use Rattle.ep_int.specs.declared.types.BinOp.TheVariants.{Add, Sub, Mul, Div, Rem, And, Or, Xor, Shl, Shr}
 use Rattle.ep_int.specs.declared.types.Cmp.TheVariants.{Eq, Ne, Lt, Le, Gt, Ge}
 use Rattle.endport.specs.declared.form.token.Mark.{Mark}
-use Rattle.endport.specs.declared.form.token.Mark.TheVariants.{ParenOpen, ParenClose, BraceOpen, BraceClose, Comma, Semicolon, Equals, Operator, Comparison}
+use Rattle.endport.specs.declared.form.token.Mark.TheVariants.{ParenOpen, ParenClose, BraceOpen, BraceClose, Comma}
+use Rattle.endport.specs.declared.form.token.Mark.TheVariants.{Semicolon, Equals, Operator, Comparison}
 
 -- a token, at the line where it begins
 pub data Tok : Type 0 where
@@ -77,7 +79,9 @@ double_mark b c =
 abbrev pub mark_of : List ℕ → Option (Mark × List ℕ)
 mark_of [] = None
 mark_of (b ∷ []) = option_map (λ (m : Mark). (m, [])) (single_mark b)
-mark_of (b ∷ c ∷ bs) = option_map_or (λ (m : Mark). Some (m, bs)) (double_mark b c) (option_map (λ (m : Mark). (m, c ∷ bs)) (single_mark b))
+mark_of (b ∷ c ∷ bs) =
+    option_map_or (λ (m : Mark). Some (m, bs)) (double_mark b c)
+    (option_map (λ (m : Mark). (m, c ∷ bs)) (single_mark b))
 
 -- a line ends with byte 10
 abbrev pub line_after : ℕ → ℕ → ℕ

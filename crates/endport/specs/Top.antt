@@ -1,7 +1,9 @@
 -- What the program does, from its words to what it writes. This project's rules.
-use Rattle.std.specs.Prelude.{◌≡◌, ℕ, ◌<◌, ◌==◌, ◌&&◌, not, Bool, true, false, if◌then◌else◌, List, [], ◌∷◌, ◌++◌, length, codes, decimal, Option, Some, None, IfSome, bytes_eq}
+use Rattle.std.specs.Prelude.{◌≡◌, ℕ, ◌<◌, ◌==◌, ◌&&◌, not, Bool, true, false, if◌then◌else◌, List, [], ◌∷◌, ◌++◌}
+use Rattle.std.specs.Prelude.{length, codes, decimal, Option, Some, None, IfSome, bytes_eq}
 use Rattle.endport.specs.declared.status.Status.{Status}
-use Rattle.endport.specs.declared.status.Status.TheVariants.{Done, Alarms, Refused, Usage, ReadFault, WriteFault, Memory, TooLong}
+use Rattle.endport.specs.declared.status.Status.TheVariants.{Done, Alarms, Refused, Usage, ReadFault, WriteFault}
+use Rattle.endport.specs.declared.status.Status.TheVariants.{Memory, TooLong}
 use Rattle.ep_alarms.specs.declared.types.Alarm.{Alarm}
 use Rattle.ep_alarms.specs.Text.{report_text_of}
 use Rattle.ep_small_core.specs.Program.{Program}
@@ -67,7 +69,9 @@ report_status (a ∷ more) = Alarms
 abbrev pub alarms_of : Program → List Alarm
 alarms_of p = report_of (cells_ops interval_ops Little Big p) 0 p
 
--- The text and the status of a report: the bytes are a source of the form that is read, they are those that stand under the file where these are told, and the text is the report on their one program. Where it has no alarms the two machines agree on this program. Where they agree on a program without operators, tests, loops and jumps, it has none.
+-- The text and the status of a report: the bytes are a source of the form that is read, they are those that stand under
+-- the file where these are told, and the text is the report on their one program. Where it has no alarms the two
+-- machines agree on this program. Where they agree on a program without operators, tests, loops and jumps, it has none.
 pub record Reports (told : Option (List ℕ)) (status : Status) (text : List ℕ) : Type 0 where
   pub bytes : List ℕ
   pub are : IfSome told (λ standing. standing ≡ bytes)
@@ -116,7 +120,8 @@ Written file told Alarms old new = (text : List ℕ) × TextOf file told Alarms 
 Written file told Refused old new = (text : List ℕ) × TextOf file told Refused text × Appended old text new
 Written file told Usage old new = (text : List ℕ) × TextOf file told Usage text × Appended old text new
 Written file told ReadFault old new = new ≡ old
-Written file told WriteFault old new = (status : Status) × (text : List ℕ) × TextOf file told status text × FrontAppended old text new
+Written file told WriteFault old new =
+    (status : Status) × (text : List ℕ) × TextOf file told status text × FrontAppended old text new
 Written file told Memory old new = new ≡ old
 Written file told TooLong old new = new ≡ old
 

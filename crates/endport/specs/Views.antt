@@ -11,7 +11,8 @@ use Rattle.endport.specs.declared.form.token.TokenKind.TheVariants.{Name, Number
 use Rattle.endport.specs.declared.form.look.Atom.{Atom}
 use Rattle.endport.specs.declared.form.look.Atom.TheVariants.{Variable, Constant}
 use Rattle.endport.specs.declared.form.phrase.Phrase.{Phrase}
-use Rattle.endport.specs.declared.form.phrase.Phrase.TheVariants.{Takes, Sets, Computes, Puts, Writes, Breaks, Continues, Leaves}
+use Rattle.endport.specs.declared.form.phrase.Phrase.TheVariants.{Takes, Sets, Computes, Puts, Writes, Breaks}
+use Rattle.endport.specs.declared.form.phrase.Phrase.TheVariants.{Continues, Leaves}
 use Rattle.endport.specs.declared.form.start.Condition.{Condition}
 use Rattle.endport.specs.declared.form.start.Start.{Start}
 use Rattle.endport.specs.declared.form.start.Start.TheVariants.{Whole, If, While}

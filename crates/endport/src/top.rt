@@ -1,7 +1,9 @@
 // The top call.
-ghost use Rattle.std.specs.Prelude.{◌≡◌, true, ◌++◌, ◌<◌, ◌≤◌, ◌⊎◌, [], None, Some, IfErr, IfOk, IfSome, IsSome, OnOk, codes, decimal, length, map, string_bytes, vec_len};
+ghost use Rattle.std.specs.Prelude.{◌≡◌, true, ◌++◌, ◌<◌, ◌≤◌, ◌⊎◌, [], None, Some, IfErr, IfOk, IfSome, IsSome, OnOk};
+ghost use Rattle.std.specs.Prelude.{codes, decimal, length, map, string_bytes, vec_len};
 ghost use Rattle.endport.specs.Answers.{not_built};
-ghost use Rattle.endport.specs.Top.{IsJob, IsSilent, IsTooLong, StopsSo, TextOf, WasRead, Written, alarms_of, plain_file, refusal_line, report_status, under};
+ghost use Rattle.endport.specs.Top.{IsJob, IsSilent, IsTooLong, StopsSo, TextOf, WasRead, Written, alarms_of};
+ghost use Rattle.endport.specs.Top.{plain_file, refusal_line, report_status, under};
 ghost use Rattle.ep_small_core.specs.Agree.{Agree, AgreeAlong};
 ghost use Rattle.ep_small_core.specs.Shown.{shown};
 ghost use Rattle.ep_int.specs.declared.types.Order.TheVariants.{Little, Big};
@@ -55,7 +57,8 @@ pub fn endport<S: Source, K: Sink>(
     ensures usage { plain_file (map string_bytes words.now.items) ≡ None → (result ≡ Status.Usage) ⊎ (result ≡ Status.WriteFault) }
     ensures read_fault { result ≡ Status.ReadFault → Rose (S.faults src.old) (S.faults src.new) }
     ensures write_fault { result ≡ Status.WriteFault → Rose (K.faults out.old) (K.faults out.new) }
-    ensures too_long { result ≡ Status.TooLong → IfSome (under (plain_file (map string_bytes words.now.items)) (S.standing src.old)) IsTooLong }
+    ensures too_long { result ≡ Status.TooLong → IfSome (under (plain_file (map string_bytes words.now.items)) (S.standing src.old))
+        IsTooLong }
     ensures always_too_long { IfSome (under (plain_file (map string_bytes words.now.items)) (S.standing src.old)) (λ bytes.
         IsTooLong bytes → (result ≡ Status.TooLong) ⊎ (result ≡ Status.Memory) ⊎ Rose (S.faults src.old) (S.faults src.new)) }
 
@@ -182,7 +185,8 @@ fn refused(alloc: Global, refusal: Refusal) -> Result<Job, Status>
 }
 
 fn refusal_text(alloc: Global, refusal: Refusal) -> Result<Vec<u8>, AllocError>
-    ensures { IfOk result (λ v. v.items ≡ decimal refusal.line ++ codes ": refused " ++ decimal refusal.kind ++ codes " not-built\n") }
+    ensures { IfOk result (λ v. v.items ≡ decimal refusal.line ++ codes ": refused " ++ decimal refusal.kind
+        ++ codes " not-built\n") }
 {
     let mut number = Buffer::new();
     let mut text = Vec::from_slice(alloc, number.format(refusal.line).as_bytes())?;

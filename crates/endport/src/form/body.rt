@@ -24,7 +24,8 @@ fn declare_names<'t>(
     ty: IntType,
     tokens: Tokens<'t>,
 ) -> Result<Tokens<'t>, Halt>
-    ensures reads { ReadsAs (λ rest. (listed variables.new.types.entries, map view rest.now)) (FitNames ty (listed variables.old.types.entries) (map view tokens.now)) result }
+    ensures reads { ReadsAs (λ rest. (listed variables.new.types.entries, map view rest.now))
+        (FitNames ty (listed variables.old.types.entries) (map view tokens.now)) result }
     ensures shorter { IfOk result (λ rest. length rest.now < length tokens.now) }
 {
     let mut next = next_declarator(tokens);

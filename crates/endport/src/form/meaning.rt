@@ -141,7 +141,8 @@ fn operation(
     left: Atom<'_>,
     right: Atom<'_>,
 ) -> Result<Value, Halt>
-    ensures { Gives view_value result (reading.operation (listed variables.now.types.entries) op (view_atom left.entry) (view_atom right.entry)) }
+    ensures { Gives view_value result (reading.operation (listed variables.now.types.entries) op (view_atom left.entry)
+        (view_atom right.entry)) }
 {
     let left = operand(alloc, variables, left)?;
     let right = operand(alloc, variables, right)?;
@@ -202,7 +203,8 @@ pub fn meaning(
     in_loop: bool,
     phrase: Phrase<'_>,
 ) -> Result<What, Halt>
-    ensures { Gives shown_what result (reading.meaning (listed variables.now.types.entries) in_loop (view_phrase phrase.entry)) }
+    ensures { Gives shown_what result (reading.meaning (listed variables.now.types.entries) in_loop
+        (view_phrase phrase.entry)) }
 {
     match phrase {
         Phrase::Takes(target, ty) => {

@@ -31,7 +31,8 @@ pub fn read_step<'t>(
     around: Surroundings,
     tokens: Tokens<'t>,
 ) -> Result<(Stmt, Tokens<'t>), Halt>
-    ensures reads { ReadsAs step_read (IsStep (listed variables.now.types.entries) around.room around.in_loop (map view tokens.now)) result }
+    ensures reads { ReadsAs step_read (IsStep (listed variables.now.types.entries) around.room around.in_loop (map view tokens.now))
+        result }
     ensures shorter { IfOk result (λ p. length p.1.now < length tokens.now) }
 {
     let Some(start) = next_step(tokens) else {
@@ -55,7 +56,8 @@ fn read_body<'t>(
     around: Surroundings,
     tokens: Tokens<'t>,
 ) -> Result<(Vec<Stmt>, Tokens<'t>), Halt>
-    ensures reads { ReadsAs steps_read (IsBody (listed variables.now.types.entries) around.room around.in_loop (map view tokens.now)) result }
+    ensures reads { ReadsAs steps_read (IsBody (listed variables.now.types.entries) around.room around.in_loop
+        (map view tokens.now)) result }
     ensures shorter { IfOk result (λ p. length p.1.now < length tokens.now) }
 {
     let Some(inside) = mark(tokens, Mark::BraceOpen) else {
@@ -81,7 +83,8 @@ fn read_else<'t>(
     around: Surroundings,
     tokens: Tokens<'t>,
 ) -> Result<(Vec<Stmt>, Tokens<'t>), Halt>
-    ensures reads { ReadsAs steps_read (IsOtherwise (listed variables.now.types.entries) around.room around.in_loop (map view tokens.now)) result }
+    ensures reads { ReadsAs steps_read (IsOtherwise (listed variables.now.types.entries) around.room around.in_loop
+        (map view tokens.now)) result }
     ensures shorter { IfOk result (λ p. length p.1.now ≤ length tokens.now) }
 {
     match behind_else(tokens) {
@@ -100,7 +103,8 @@ fn read_if<'t>(
     test: Condition<'t>,
     tokens: Tokens<'t>,
 ) -> Result<(Stmt, Tokens<'t>), Halt>
-    ensures reads { ReadsAs step_read (IsIf (listed variables.now.types.entries) around.room around.in_loop line (view_condition test.entry) (map view tokens.now)) result }
+    ensures reads { ReadsAs step_read (IsIf (listed variables.now.types.entries) around.room around.in_loop line
+        (view_condition test.entry) (map view tokens.now)) result }
     ensures shorter { IfOk result (λ p. length p.1.now < length tokens.now) }
 {
     if around.room == 0 {
@@ -127,7 +131,8 @@ fn read_while<'t>(
     test: Condition<'t>,
     tokens: Tokens<'t>,
 ) -> Result<(Stmt, Tokens<'t>), Halt>
-    ensures reads { ReadsAs step_read (IsWhile (listed variables.now.types.entries) around.room around.in_loop line (view_condition test.entry) (map view tokens.now)) result }
+    ensures reads { ReadsAs step_read (IsWhile (listed variables.now.types.entries) around.room around.in_loop line
+        (view_condition test.entry) (map view tokens.now)) result }
     ensures shorter { IfOk result (λ p. length p.1.now < length tokens.now) }
 {
     if around.room == 0 {

@@ -1,6 +1,7 @@
 //! Tokens, from the bytes of a source.
 
-ghost use Rattle.std.specs.Prelude.{◌≡◌, ◌+◌, ◌-◌, ◌<◌, ◌≤◌, ◌^◌, [], ◌∷◌, ◌++◌, length, map, if◌then◌else◌, None, Some, IfSome, OnOk, OnErr, Err};
+ghost use Rattle.std.specs.Prelude.{◌≡◌, ◌+◌, ◌-◌, ◌<◌, ◌≤◌, ◌^◌, [], ◌∷◌, ◌++◌, length, map, if◌then◌else◌, None};
+ghost use Rattle.std.specs.Prelude.{Some, IfSome, OnOk, OnErr, Err};
 ghost use Rattle.std.specs.List.{prefix_len};
 ghost use Rattle.std.specs.Option.{option_map};
 ghost use Rattle.endport.specs.Tokens as tokens;
