@@ -66,7 +66,9 @@ is_divisible t x y = not (int_eq y (pos 0)) && is_in_range t (int_div x y)
 abbrev pub is_amount : IntType → ℤ → Bool
 is_amount t y = int_le (pos 0) y && int_lt y (pos (bits_of t))
 
--- What an operator gives at two numbers. The bitwise operators work on the bits of the type (C11 6.5.10 to 6.5.12). To the left only numbers that are not negative are shifted, and those of an unsigned type never are (6.5.7p4); to the right all are, and rounded down (6.5.7p5, of negative numbers by this project's choice).
+-- What an operator gives at two numbers. The bitwise operators work on the bits of the type (C11 6.5.10 to 6.5.12). To
+-- the left only numbers that are not negative are shifted, and those of an unsigned type never are (6.5.7p4); to the
+-- right all are, and rounded down (6.5.7p5, of negative numbers by this project's choice).
 abbrev pub arith_of : BinOp → IntType → ℤ → ℤ → Result ℤ Undef
 arith_of Add t x y = settled Overflow t (x +ℤ y)
 arith_of Sub t x y = settled Overflow t (x -ℤ y)
@@ -76,7 +78,8 @@ arith_of Rem t x y = if is_divisible t x y then Ok (int_rem x y) else Err Divisi
 arith_of And t x y = Ok (represented t (bit_and (representation t x) (representation t y)))
 arith_of Or t x y = Ok (represented t (bit_or (representation t x) (representation t y)))
 arith_of Xor t x y = Ok (represented t (bit_xor (representation t x) (representation t y)))
-arith_of Shl t x y = if is_amount t y && int_le (pos 0) x then settled Shift t (x *ℤ pos (2 ^ unsigned_abs y)) else Err Shift
+arith_of Shl t x y =
+    if is_amount t y && int_le (pos 0) x then settled Shift t (x *ℤ pos (2 ^ unsigned_abs y)) else Err Shift
 arith_of Shr t x y = if is_amount t y then Ok (int_shr x (unsigned_abs y)) else Err Shift
 
 -- whether two numbers compare so (C11 6.5.8 and 6.5.9)

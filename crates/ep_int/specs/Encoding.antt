@@ -9,7 +9,8 @@ use Rattle.ep_int.specs.Types.{bytes_of, representation, represented}
 abbrev pub is_width : ℕ → Bool
 is_width w = nat_eq w 1 || nat_eq w 2 || nat_eq w 4 || nat_eq w 8
 
--- The place of byte k of a number of w bytes. Swapped words are units of two bytes, the highest first, and in each the lower byte first. Placing twice leads back, so at place p stands byte `place o w p`.
+-- The place of byte k of a number of w bytes. Swapped words are units of two bytes, the highest first, and in each the
+-- lower byte first. Placing twice leads back, so at place p stands byte `place o w p`.
 abbrev pub place : Order → ℕ → ℕ → ℕ
 place Little w k = k
 place Big w k = w - 1 - k

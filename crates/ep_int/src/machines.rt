@@ -7,7 +7,8 @@ ghost use Rattle.ep_int.specs.Encoding as encoding;
 use crate::numbers::bytes;
 use crate::{Model, Order, Scalar};
 
-/// The place at which a machine keeps byte `k` of a number, counted from the byte of bits 0 to 7, among its `bytes` bytes.
+/// The place at which a machine keeps byte `k` of a number, counted from the byte of bits 0 to 7, among its `bytes`
+/// bytes.
 pub fn place(o: Order, bytes: u32, k: u32) -> u32
     requires width { IsTrue (encoding.is_width bytes) }
     requires below { k < bytes }

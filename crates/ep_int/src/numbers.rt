@@ -67,8 +67,8 @@ pub fn in_range(t: IntType, v: i128) -> bool
     least(t) <= v && v <= greatest(t)
 }
 
-/// The number of type `t` that equals `v` modulo 2 to the power of the width: conversion, by C11 6.3.1.3, to signed types
-/// too.
+/// The number of type `t` that equals `v` modulo 2 to the power of the width: conversion, by C11 6.3.1.3, to signed
+/// types too.
 pub fn wrap(t: IntType, v: i128) -> i128
     ensures value { result ≡ wrapped t v }
     ensures in_range { InRange t result }

@@ -7,8 +7,8 @@ use crate::numbers::{
 };
 use crate::{BinOp, IntType, Undef};
 
-/// The type that a number of type `t` is converted to before anything is computed with it: the integer promotions of C11
-/// 6.3.1.1.
+/// The type that a number of type `t` is converted to before anything is computed with it: the integer promotions of
+/// C11 6.3.1.1.
 pub fn promote(t: IntType) -> IntType
     ensures { result ≡ promoted t }
 {

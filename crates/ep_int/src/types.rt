@@ -69,8 +69,8 @@ pub enum Undef {
     Overflow,
     /// A divisor of zero, or a quotient that is out of range.
     Division,
-    /// A negative amount, one that isn't below the width, or to the left a negative number or a signed result that is out
-    /// of range.
+    /// A negative amount, one that isn't below the width, or to the left a negative number or a signed result that is
+    /// out of range.
     Shift,
 }
 

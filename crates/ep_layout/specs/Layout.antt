@@ -1,4 +1,5 @@
--- Sizes, alignments and leaves: what C11 6.2.6.1, 6.2.8 and 6.7.2.1p14 to p18 leave to the machine, by this project's rules.
+-- Sizes, alignments and leaves: what C11 6.2.6.1, 6.2.8 and 6.7.2.1p14 to p18 leave to the machine, by this project's
+-- rules.
 use Rattle.std.specs.Prelude.{◌≡◌, ℕ, zero, suc, ◌+◌, ◌*◌, ◌%◌, ◌≤◌, max, List, [], ◌∷◌, ◌++◌, map}
 use Rattle.std.specs.Int.{next_multiple_of}
 use Rattle.ep_int.specs.declared.types.Model.{Model}
@@ -6,7 +7,8 @@ use Rattle.ep_int.specs.declared.types.Scalar.{Scalar}
 use Rattle.ep_int.specs.Types.{size_of}
 use Rattle.ep_layout.specs.declared.types.Leaf.{Leaf}
 
--- What an object of a type takes: its bytes, the number that its address is a multiple of, and its leaves, which are its scalars in order of offset.
+-- What an object of a type takes: its bytes, the number that its address is a multiple of, and its leaves, which are
+-- its scalars in order of offset.
 pub record Layout : Type 0 where
   pub size : ℕ
   pub align : ℕ
@@ -42,7 +44,8 @@ abbrev pub greatest_align : List Layout → ℕ
 greatest_align [] = 1
 greatest_align (l ∷ more) = max l.align (greatest_align more)
 
--- Members of a struct lie in order, each at the next multiple of its alignment: where the last one ends, when those before these end at e.
+-- Members of a struct lie in order, each at the next multiple of its alignment: where the last one ends, when those
+-- before these end at e.
 abbrev pub end_of : ℕ → List Layout → ℕ
 end_of e [] = e
 end_of e (l ∷ more) = end_of (next_multiple_of e l.align + l.size) more
@@ -50,7 +53,8 @@ end_of e (l ∷ more) = end_of (next_multiple_of e l.align + l.size) more
 -- the leaves of these members of a struct, when those before end at e
 abbrev pub leaves_after : ℕ → List Layout → List Leaf
 leaves_after e [] = []
-leaves_after e (l ∷ more) = shifted (next_multiple_of e l.align) l.leaves ++ leaves_after (next_multiple_of e l.align + l.size) more
+leaves_after e (l ∷ more) =
+    shifted (next_multiple_of e l.align) l.leaves ++ leaves_after (next_multiple_of e l.align + l.size) more
 
 -- A struct: its size is rounded up to the greatest alignment.
 abbrev pub struct_layout : List Layout → Layout
@@ -69,7 +73,8 @@ abbrev pub first_leaves : List Layout → List Leaf
 first_leaves [] = []
 first_leaves (l ∷ more) = l.leaves
 
--- A union: its members lie at 0, its size is that of the greatest, rounded up, and its leaves are those of its first member.
+-- A union: its members lie at 0, its size is that of the greatest, rounded up, and its leaves are those of its first
+-- member.
 abbrev pub union_layout : List Layout → Layout
 union_layout members = record {
   size = next_multiple_of (greatest_size members) (greatest_align members);
@@ -81,7 +86,8 @@ union_layout members = record {
 abbrev pub most_bytes : ℕ
 most_bytes = 65536
 
--- Leaves as a block has them: each lies behind the one before, at a multiple of its size, and ends inside the block. Those before end at e.
+-- Leaves as a block has them: each lies behind the one before, at a multiple of its size, and ends inside the block.
+-- Those before end at e.
 abbrev pub AreLeavesFrom : Model → ℕ → ℕ → List Leaf → Type 0
 AreLeavesFrom m e size [] = e ≤ size
 AreLeavesFrom m e size (f ∷ more) =

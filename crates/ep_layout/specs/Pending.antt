@@ -11,7 +11,8 @@ use Rattle.ep_layout.specs.Table.{Table, MemberRow, TypeRules, by_type, known_la
 -- the leaves of these members, each where it lies; of a union's members those of the first one
 abbrev pub rows_leaves : Table → Bool → List MemberRow → List Leaf
 rows_leaves t is_union [] = []
-rows_leaves t is_union (m ∷ more) = shifted m.offset (leaves t m.ty) ++ (if is_union then [] else rows_leaves t is_union more)
+rows_leaves t is_union (m ∷ more) =
+    shifted m.offset (leaves t m.ty) ++ (if is_union then [] else rows_leaves t is_union more)
 
 abbrev pub task_leaves : Table → Task → List Leaf
 task_leaves t (Object ty offset) = shifted offset (leaves t ty)
@@ -66,8 +67,8 @@ pending_steps t [] = 0
 pending_steps t (k ∷ more) = task_steps t k + pending_steps t more
 
 -- A task was taken from the others, and one step made: the leaves and the tasks before it and after it.
-pub record IsStep (t : Table) (task : Task) (before : List Leaf) (tasks : List Task) (after : List Leaf) (later : List Task)
-    : Type 0 where
+pub record IsStep (t : Table) (task : Task) (before : List Leaf) (tasks : List Task) (after : List Leaf)
+    (later : List Task) : Type 0 where
   pub leaves : after ++ pending t later ≡ before ++ (task_leaves t task ++ pending t tasks)
   pub fit : All (TaskFits t) later
   pub fewer : pending_steps t later < task_steps t task + pending_steps t tasks

@@ -1,4 +1,5 @@
--- A table of types: types by number, the aggregates that they name, and the layout of each type by recursion on the type.
+-- A table of types: types by number, the aggregates that they name, and the layout of each type by recursion on the
+-- type.
 use Rattle.std.specs.Prelude.{◌≡◌, ℕ, zero, suc, ◌+◌, ◌*◌, ◌≤◌, Bool, true, false, ◌&&◌, ◌==◌, nat_lt, if◌then◌else◌, IsTrue, List, [], ◌∷◌, ◌++◌, length, map, find, position, slice_get, slice_set, Option, Some, None, option_map, option_and_then, is_some, unwrap_or, bytes_eq}
 use Rattle.std.specs.List.{list_any, list_all}
 use Rattle.std.specs.Int.{next_multiple_of}
@@ -25,7 +26,8 @@ pub record AggregateRow : Type 0 where
   pub is_union : Bool
   pub members : Option (List MemberRow)
 
--- The types by number, the aggregates by number, and the numbers of the completed aggregates in the order of their completion.
+-- The types by number, the aggregates by number, and the numbers of the completed aggregates in the order of their
+-- completion.
 pub record Table : Type 0 where
   pub model : Model
   pub types : List Ty
@@ -67,7 +69,8 @@ unfoldable pub at_depth : {A : Type 0} → TypeRules A → Table → ℕ → ℕ
 at_depth r t zero n = None
 at_depth r t (suc k) n = option_and_then (at_type r t (at_depth r t k)) (slice_get t.types n)
 
--- A type's value by recursion on the type. Each array and each aggregate stands on what was there before it, so no type is deeper than this.
+-- A type's value by recursion on the type. Each array and each aggregate stands on what was there before it, so no type
+-- is deeper than this.
 abbrev pub by_type : {A : Type 0} → TypeRules A → Table → ℕ → Option A
 by_type r t n = at_depth r t (length t.types + length t.completed) n
 
@@ -195,7 +198,8 @@ type_added t ty = added (number_of t ty) where
 
 -- a struct or union without members so far takes the next number
 abbrev pub declared : Table → List ℕ → Bool → Table
-declared t tag is_union = record t { aggregates = t.aggregates ++ (record { tag = tag; is_union = is_union; members = None }) ∷ [] }
+declared t tag is_union =
+    record t { aggregates = t.aggregates ++ (record { tag = tag; is_union = is_union; members = None }) ∷ [] }
 
 -- the layout of a type that has one
 abbrev pub known_layout : Table → ℕ → Layout
@@ -238,10 +242,13 @@ completed_with t a members = completed (slice_get t.aggregates a) where
     completed = t.completed ++ a ∷ [];
   }
 
--- A table that was built: from the empty one by types that are new, whose parts are there, and whose size, if they are arrays, is a size; by declarations; and by completions, each once.
+-- A table that was built: from the empty one by types that are new, whose parts are there, and whose size, if they are
+-- arrays, is a size; by declarations; and by completions, each once.
 pub data IsBuilt : Table → Type 0 where
   start : (m : Model) → IsBuilt (empty m)
-  type_more : (t : Table) (ty : Ty) → IsBuilt t → IsTrue (names_known t ty) → number_of t ty ≡ None → type_stop t ty ≡ None → IsBuilt (with_type t ty)
+  type_more : (t : Table) (ty : Ty) → IsBuilt t → IsTrue (names_known t ty) → number_of t ty ≡ None
+      → type_stop t ty ≡ None
+      → IsBuilt (with_type t ty)
   aggregate_more : (t : Table) (tag : List ℕ) (is_union : Bool) → IsBuilt t → IsBuilt (declared t tag is_union)
   members_more : (t : Table) (a : ℕ) (g : AggregateRow) (members : List (List ℕ × ℕ)) → IsBuilt t
       → slice_get t.aggregates a ≡ Some g → g.members ≡ None
@@ -254,5 +261,6 @@ pub record Grows (t u : Table) : Type 0 where
   pub model : u.model ≡ t.model
   pub types : (n : ℕ) (ty : Ty) → slice_get t.types n ≡ Some ty → slice_get u.types n ≡ Some ty
   pub aggregates : (a : ℕ) (g : AggregateRow) → slice_get t.aggregates a ≡ Some g
-      → (h : AggregateRow) × (slice_get u.aggregates a ≡ Some h) × (h.is_union ≡ g.is_union) × ((ms : List MemberRow) → g.members ≡ Some ms → h.members ≡ Some ms)
+      → (h : AggregateRow) × (slice_get u.aggregates a ≡ Some h) × (h.is_union ≡ g.is_union)
+      × ((ms : List MemberRow) → g.members ≡ Some ms → h.members ≡ Some ms)
   pub deeper : length t.types + length t.completed ≤ length u.types + length u.completed

@@ -10,14 +10,17 @@ tag_text (b ∷ bs) = b ∷ bs
 
 -- two spaces, `NAME offset O size S`, and a newline
 abbrev pub member_line : List ℕ → ℕ → ℕ → List ℕ
-member_line name offset size = codes "  " ++ name ++ codes " offset " ++ decimal offset ++ codes " size " ++ decimal size ++ codes "\n"
+member_line name offset size =
+    codes "  " ++ name ++ codes " offset " ++ decimal offset ++ codes " size " ++ decimal size ++ codes "\n"
 
 abbrev pub member_text : Table → MemberRow → List ℕ
 member_text t m = member_line m.name m.offset (unwrap_or (size t m.ty) 0)
 
 -- `struct NAME size S align A` or `union ..`, and a newline
 abbrev pub head_line : List ℕ → Bool → ℕ → ℕ → List ℕ
-head_line tag is_union size align = (if is_union then codes "union " else codes "struct ") ++ tag_text tag ++ codes " size " ++ decimal size ++ codes " align " ++ decimal align ++ codes "\n"
+head_line tag is_union size align =
+    (if is_union then codes "union " else codes "struct ")
+    ++ tag_text tag ++ codes " size " ++ decimal size ++ codes " align " ++ decimal align ++ codes "\n"
 
 -- a line for each member
 abbrev pub members_text : Table → List MemberRow → List ℕ

@@ -53,7 +53,8 @@ impl MemberList {
 
     /// The first member of a name.
     pub fn named(&self, name: &[u8]) -> Option<&Member>
-        ensures { option_map (λ m. view_member m.now) result ≡ find (λ (m : MemberRow). bytes_eq name.now m.name) self.now }
+        ensures { option_map (λ m. view_member m.now) result
+            ≡ find (λ (m : MemberRow). bytes_eq name.now m.name) self.now }
     {
         match self.places.get(name) {
             None => None,

@@ -32,7 +32,9 @@ impl Placing {
     ) -> Result<(), LayoutStop>
         requires extent { IsExtent extent }
         requires end { self.old.end ≤ most_bytes }
-        ensures members { OnOk result (view_members self.new.members.items ≡ view_members self.old.members.items ++ row name.items ty (next_offset is_union self.old.end extent) ∷ []) }
+        ensures members { OnOk result (view_members self.new.members.items
+            ≡ view_members self.old.members.items
+            ++ row name.items ty (next_offset is_union self.old.end extent) ∷ []) }
         ensures end { OnOk result (self.new.end ≡ next_end is_union self.old.end extent) }
         ensures align { OnOk result (self.new.align ≡ max self.old.align extent.align) }
         ensures fits { OnOk result (self.new.end ≤ most_bytes) }
@@ -96,7 +98,8 @@ impl Types {
     ) -> Result<Body, LayoutStop>
         requires { IsTrue (list_all (λ m. table.is_type self.now m.1) members.items) }
         ensures members { IfOk result (λ b. b.members ≡ table.laid_out self.now is_union (view_named members.items)) }
-        ensures extent { IfOk result (λ b. option_map extent_of (table.layout_with self.now is_union (view_named members.items)) ≡ Some b.extent) }
+        ensures extent { IfOk result (λ b.
+            option_map extent_of (table.layout_with self.now is_union (view_named members.items)) ≡ Some b.extent) }
         ensures fits { OnOk result (table.members_stop self.now is_union (view_named members.items) ≡ None) }
         ensures stop { IfErr result (IsStop (table.members_stop self.now is_union (view_named members.items))) }
     {

@@ -119,8 +119,8 @@ impl Types {
         Ok(n)
     }
 
-    /// Gives an aggregate its members: names and types, in their order. Where a member has no size, the aggregate has none,
-    /// and so it isn't too large.
+    /// Gives an aggregate its members: names and types, in their order. Where a member has no size, the aggregate has
+    /// none, and so it isn't too large.
     pub fn complete(
         &mut self,
         aggregate: u32,
@@ -130,9 +130,11 @@ impl Types {
         requires open { IsFalse (table.is_completed self.old aggregate) }
         requires parts { IsTrue (list_all (λ m. table.is_type self.old m.1) members.items) }
         ensures grown { OnOk result (self.new ≡ table.completed_with self.old aggregate (view_named members.items)) }
-        ensures fits { OnOk result (table.members_stop self.old (table.is_union self.old aggregate) (view_named members.items) ≡ None) }
+        ensures fits { OnOk result
+            (table.members_stop self.old (table.is_union self.old aggregate) (view_named members.items) ≡ None) }
         ensures err { OnErr result (self.new ≡ self.old) }
-        ensures stop { IfErr result (IsStop (table.members_stop self.old (table.is_union self.old aggregate) (view_named members.items))) }
+        ensures stop { IfErr result
+            (IsStop (table.members_stop self.old (table.is_union self.old aggregate) (view_named members.items))) }
     {
         let body = self.body(self.is_union(aggregate), members)?;
         if self.completed.push(aggregate).is_err() {

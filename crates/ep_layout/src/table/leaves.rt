@@ -169,7 +169,8 @@ impl Types {
     ) -> Result<(), AllocError>
         requires task { TaskFits self.now (Members aggregate offset next) }
         requires tasks { All (TaskFits self.now) tasks.old.items }
-        ensures { OnOk result (Steps self.now (Members aggregate offset next) leaves.old tasks.old leaves.new tasks.new) }
+        ensures { OnOk result
+            (Steps self.now (Members aggregate offset next) leaves.old tasks.old leaves.new tasks.new) }
     {
         match self.members(aggregate).get(next) {
             None => Ok(()),

@@ -13,7 +13,8 @@ use itoa::Buffer;
 use std::alloc::AllocError;
 
 fn push_head(text: &mut Vec<u8>, entry: &AggregateEntry, extent: Extent) -> Result<(), AllocError>
-    ensures { OnOk result (text.new.items ≡ text.old.items ++ head_line entry.now.tag.items entry.now.is_union extent.size extent.align) }
+    ensures { OnOk result (text.new.items
+        ≡ text.old.items ++ head_line entry.now.tag.items entry.now.is_union extent.size extent.align) }
 {
     let mut number = Buffer::new();
     push_kind(text, entry.is_union)?;
@@ -44,7 +45,8 @@ fn push_tag(text: &mut Vec<u8>, tag: &[u8]) -> Result<(), AllocError>
 }
 
 fn push_member(text: &mut Vec<u8>, member: &Member, size: u32) -> Result<(), AllocError>
-    ensures { OnOk result (text.new.items ≡ text.old.items ++ member_line member.now.name.items member.now.offset size) }
+    ensures { OnOk result (text.new.items
+        ≡ text.old.items ++ member_line member.now.name.items member.now.offset size) }
 {
     let mut number = Buffer::new();
     text.extend_from_slice(b"  ")?;
