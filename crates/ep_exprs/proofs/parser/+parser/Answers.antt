@@ -159,9 +159,8 @@ operand-returns-in_err-of-in-SizeofType-clause-reads t c =
     c.in-SizeofType.ensures.value.1 c.prefixes.invariant.0 c.in-SizeofType.ensures.value.4
     c.in-SizeofType.ensures.value.5) c.in_err-of-in-SizeofType.ensures.reads)
 
-pub operand-returns-in_ok-wrapped_before-in-SizeofType-clause-reads :
-    goal.operand-returns-in_ok-wrapped_before-in-SizeofType-clause-reads
-operand-returns-in_ok-wrapped_before-in-SizeofType-clause-reads t c =
+pub operand-returns-in-SizeofType-clause-reads : goal.operand-returns-in-SizeofType-clause-reads
+operand-returns-in-SizeofType-clause-reads t c =
     let size = tree.sizeof_type c.in-SizeofType.line (type_name c.in_ok-of-in-SizeofType.of.value.value) in
     record {
       tree = wrap_all c.prefixes.prefixes.items size;
@@ -185,9 +184,8 @@ operand-returns-in_err-inner-in-Nothing-clause-reads t c =
     c.prefixes.prefixes.items c.prefixes.bare (map view c.prefixes.rest.now) c.prefixes.invariant.0
     c.in-Nothing.ensures.value.0 c.in-Nothing.ensures.value.1) c.in_err-inner-in-Nothing.ensures.reads)
 
-pub operand-returns-in_ok-wrapped_before-in-Nothing-clause-reads :
-    goal.operand-returns-in_ok-wrapped_before-in-Nothing-clause-reads
-operand-returns-in_ok-wrapped_before-in-Nothing-clause-reads t c =
+pub operand-returns-in-Nothing-clause-reads : goal.operand-returns-in-Nothing-clause-reads
+operand-returns-in-Nothing-clause-reads t c =
     let q = c.in_ok-inner-in-Nothing.ensures.reads in
     record {
       tree = wrap_all c.prefixes.prefixes.items q.tree;

@@ -14,8 +14,8 @@ returns-in_default-clause-reads c = (
   c.stopped.ensures,
 )
 
-pub returns-in_ok-value-clause-reads : goal.returns-in_ok-value-clause-reads
-returns-in_ok-value-clause-reads c =
+pub returns-clause-reads : goal.returns-clause-reads
+returns-clause-reads c =
     rw (c.in_ok-value.ensures.ok, c.line_of-line.ensures, c.deref.ensures.value) (
     named_taken (is_type c.args.reader.now.names.now) (map view c.args.tokens.now)
     (map view c.in_ok-specs.specs.rest.now) (map view c.in_ok-stars.stars.rest.now) (map view c.in-Some.more.now)
