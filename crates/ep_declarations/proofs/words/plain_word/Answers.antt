@@ -68,7 +68,7 @@ returns-in_default-with-clause-reads c = inl (
       c.in_default-with.ensures,
   ahead.plain_clear (is_type c.args.reader.now.names.now) (place c.args.place) (bag c.args.words.now)
       (map view c.args.tokens.now) c.requires.plain,
-  c.stopped-in_default-with.ensures,
+  c.stopped.ensures,
 )
 
 pub returns-clause-reads : goal.returns-clause-reads
