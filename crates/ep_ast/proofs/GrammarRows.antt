@@ -6,7 +6,8 @@ use Rattle.ep_ast.specs.Expression as tree
 use Rattle.ep_ast.specs.Expression.{Expr}
 use Rattle.ep_ast.specs.Mark.{left_paren, right_paren, left_bracket, minus, equal, semicolon, comma, int_word}
 use Rattle.ep_ast.specs.TypeWords.{closed, no_words, more_words, plain_word, no_stars, named}
-use Rattle.ep_ast.specs.Grammar.{Derives, expr, bin, cast, unary, assigns, assigns_not, chooses_not, left, tighter, operand, casts, casts_not, unary_not, suffixed_not, names, follows}
+use Rattle.ep_ast.specs.Grammar.{Derives, expr, bin, cast, unary, assigns, assigns_not, chooses_not, left, tighter}
+use Rattle.ep_ast.specs.Grammar.{operand, casts, casts_not, unary_not, suffixed_not, names, follows}
 use Rattle.ep_ast.specs.Nesting.{height, opens_past}
 
 abbrev none_typed : List ℕ → Bool
@@ -24,21 +25,29 @@ as_level zero k ts e = operand (omega arith) (casts_not (as_unary ts))
 as_level (suc n) k ts e = tighter (omega arith) (as_level n (k + 1) ts (omega arith))
 
 down : {xs ys : List Tok} {a : Expr} → Derives none_typed (bin 9) xs ys a → Derives none_typed (bin 1) xs ys a
-down d = tighter (omega arith) (tighter (omega arith) (tighter (omega arith) (tighter (omega arith) (tighter (omega arith) (tighter (omega arith) (tighter (omega arith) (tighter (omega arith) d)))))))
+down d = tighter (omega arith) (tighter (omega arith) (tighter (omega arith)
+    (tighter (omega arith) (tighter (omega arith) (tighter (omega arith)
+    (tighter (omega arith) (tighter (omega arith) d)))))))
 
 -- `x - x - x` is `(x - x) - x`
-differences : Derives none_typed expr (name 1 x ∷ mark 1 minus ∷ name 1 x ∷ mark 1 minus ∷ name 1 x ∷ []) [] (tree.binary 1 minus (tree.binary 1 minus (tree.id 1 x) (tree.id 1 x)) (tree.id 1 x))
+differences : Derives none_typed expr (name 1 x ∷ mark 1 minus ∷ name 1 x ∷ mark 1 minus ∷ name 1 x ∷ []) []
+    (tree.binary 1 minus (tree.binary 1 minus (tree.id 1 x) (tree.id 1 x)) (tree.id 1 x))
 differences =
-    assigns_not (chooses_not (down (left refl (omega arith) (left refl (omega arith) (as_level 2 9 (mark 1 minus ∷ name 1 x ∷ mark 1 minus ∷ name 1 x ∷ []) refl) (as_level 1 10 (mark 1 minus ∷ name 1 x ∷ []) refl)) (as_level 1 10 [] refl))))
+    assigns_not (chooses_not (down (left refl (omega arith)
+    (left refl (omega arith) (as_level 2 9 (mark 1 minus ∷ name 1 x ∷ mark 1 minus ∷ name 1 x ∷ []) refl)
+    (as_level 1 10 (mark 1 minus ∷ name 1 x ∷ []) refl)) (as_level 1 10 [] refl))))
 
 -- `x = x`
-assignment : Derives none_typed expr (name 1 x ∷ mark 1 equal ∷ name 1 x ∷ []) [] (tree.assign 1 equal (tree.id 1 x) (tree.id 1 x))
+assignment : Derives none_typed expr (name 1 x ∷ mark 1 equal ∷ name 1 x ∷ []) []
+    (tree.assign 1 equal (tree.id 1 x) (tree.id 1 x))
 assignment = assigns refl (as_unary (mark 1 equal ∷ name 1 x ∷ [])) (assigns_not (chooses_not (as_level 10 1 [] refl)))
 
 -- `(int)x`
-conversion : Derives none_typed cast (mark 1 left_paren ∷ word 1 int_word ∷ mark 1 right_paren ∷ name 1 x ∷ []) [] (tree.cast 1 (named (tree.word 1 int_word ∷ []) []) (tree.id 1 x))
+conversion : Derives none_typed cast (mark 1 left_paren ∷ word 1 int_word ∷ mark 1 right_paren ∷ name 1 x ∷ []) []
+    (tree.cast 1 (named (tree.word 1 int_word ∷ []) []) (tree.id 1 x))
 conversion =
-    casts refl (closed refl (record { words = more_words (plain_word refl) no_words; named_type = refl; over = refl }) (record { stars = no_stars; over = refl }))
+    casts refl (closed refl (record { words = more_words (plain_word refl) no_words; named_type = refl; over = refl })
+    (record { stars = no_stars; over = refl }))
     (casts_not (as_unary []))
 
 ends_statement : follows (mark 1 semicolon ∷ name 1 x ∷ []) ≡ true

@@ -2,7 +2,14 @@
 use Rattle.std.proofs.Common.{◌≡◌, ℕ, ◌-◌, List, [], refl}
 use Rattle.std.specs.Prelude.{codes, slice_index_or}
 use Rattle.ep_ast.specs.Token.{marks, accepted_words}
-use Rattle.ep_ast.specs.Mark.{arrow, plus_plus, minus_minus, left_shift, right_shift, less_equal, greater_equal, equal_equal, not_equal, and_and, bar_bar, left_shift_equal, right_shift_equal, plus_equal, caret_equal, left_paren, right_paren, left_bracket, right_bracket, left_brace, right_brace, dot, ampersand, star, plus, minus, tilde, exclamation, slash, percent, less, greater, caret, bar, question, colon, semicolon, equal, comma, break_word, char_word, const_word, continue_word, do_word, else_word, for_word, if_word, inline_word, int_word, long_word, return_word, short_word, signed_word, sizeof_word, static_word, struct_word, typedef_word, union_word, unsigned_word, void_word, while_word}
+use Rattle.ep_ast.specs.Mark.{arrow, plus_plus, minus_minus, left_shift, right_shift, less_equal, greater_equal}
+use Rattle.ep_ast.specs.Mark.{equal_equal, not_equal, and_and, bar_bar, left_shift_equal, right_shift_equal, plus_equal}
+use Rattle.ep_ast.specs.Mark.{caret_equal, left_paren, right_paren, left_bracket, right_bracket, left_brace}
+use Rattle.ep_ast.specs.Mark.{right_brace, dot, ampersand, star, plus, minus, tilde, exclamation, slash, percent, less}
+use Rattle.ep_ast.specs.Mark.{greater, caret, bar, question, colon, semicolon, equal, comma, break_word, char_word}
+use Rattle.ep_ast.specs.Mark.{const_word, continue_word, do_word, else_word, for_word, if_word, inline_word, int_word}
+use Rattle.ep_ast.specs.Mark.{long_word, return_word, short_word, signed_word, sizeof_word, static_word, struct_word}
+use Rattle.ep_ast.specs.Mark.{typedef_word, union_word, unsigned_word, void_word, while_word}
 
 abbrev text_of : List (List ℕ) → ℕ → List ℕ
 text_of texts n = slice_index_or texts (n - 1) []

@@ -3,7 +3,8 @@ use Rattle.std.proofs.Common.{◌≡◌, ℕ, true, false, List, [], ◌∷◌, 
 use Rattle.std.specs.Prelude.{codes}
 use Rattle.ep_ast.specs.Expression as tree
 use Rattle.ep_ast.specs.Expression.{TypeWord}
-use Rattle.ep_ast.specs.Mark.{char_word, const_word, int_word, long_word, short_word, signed_word, struct_word, unsigned_word, void_word}
+use Rattle.ep_ast.specs.Mark.{char_word, const_word, int_word, long_word, short_word, signed_word, struct_word}
+use Rattle.ep_ast.specs.Mark.{unsigned_word, void_word}
 use Rattle.ep_ast.specs.TypeWords.{names_type}
 
 abbrev words_of : List ℕ → List TypeWord

@@ -1,5 +1,6 @@
 -- How the bytes of a source cut into tokens, and what offends there: C11 6.4 and 6.10, with this project's directives.
-use Rattle.std.specs.Prelude.{◌≡◌, ℕ, ◌+◌, Bool, true, false, ◌&&◌, ◌||◌, not, ◌==◌, nat_eq, if◌then◌else◌, List, [], ◌∷◌, ◌++◌, length, drop, codes, Option, Some, None, is_some, is_none}
+use Rattle.std.specs.Prelude.{◌≡◌, ℕ, ◌+◌, Bool, true, false, ◌&&◌, ◌||◌, not, ◌==◌, nat_eq, if◌then◌else◌, List, []}
+use Rattle.std.specs.Prelude.{◌∷◌, ◌++◌, length, drop, codes, Option, Some, None, is_some, is_none}
 use Rattle.std.specs.List.{position_from, starts_with, list_any}
 use Rattle.std.specs.Str.{bytes_eq}
 use Rattle.ep_ast.specs.declared.orders.NamedOrder.{NamedOrder}
@@ -67,7 +68,8 @@ opened_at outside = None
 opened_at (first_arm l) = Some l
 opened_at (second_arm l) = Some l
 
--- A place in the source: its line, whether nothing but blanks and comments stands before it on its line, the constants defined before it, and the conditional round it.
+-- A place in the source: its line, whether nothing but blanks and comments stands before it on its line, the constants
+-- defined before it, and the conditional round it.
 -- A comment counts as one space, so a newline inside one begins no line here.
 pub record Place : Type 0 where
   pub line : ℕ
@@ -87,7 +89,8 @@ behind p l = record p { line = l; fresh = false }
 -- These things stand next on the line.
 pub data Stand : ℕ → List ℕ → List Thing → ℕ → List ℕ → Type 0 where
   none : {l : ℕ} {bs : List ℕ} → Stand l bs [] l bs
-  more : {l m n : ℕ} {bs cs ds : List ℕ} {t : Thing} {ts : List Thing} → Next l bs m t cs → Stand m cs ts n ds → Stand l bs (t ∷ ts) n ds
+  more : {l m n : ℕ} {bs cs ds : List ℕ} {t : Thing} {ts : List Thing} → Next l bs m t cs → Stand m cs ts n ds
+      → Stand l bs (t ∷ ts) n ds
 
 -- the four header names, with their quotes
 abbrev pub headers : List (List ℕ)
@@ -125,35 +128,51 @@ equals = 10
 
 -- ---- the pieces of a source: one case for each rule
 
--- From the place p on the bytes begin with the end of a line, a token or a directive, and the place q and the rest come after it.
+-- From the place p on the bytes begin with the end of a line, a token or a directive, and the place q and the rest come
+-- after it.
 pub data Piece (p : Place) : List ℕ → List Tok → Place → List ℕ → Type 0 where
-  line_end : {bs rest : List ℕ} (m b : ℕ) → Next p.line bs m over (b ∷ rest) → Piece p bs [] (record p { line = m + 1; fresh = true }) rest
-  word : {bs rest : List ℕ} (m n : ℕ) (t : List ℕ) → Next p.line bs m (name t) rest → sense p.constants t ≡ is_accepted n → Piece p bs (token.word m n ∷ []) (behind p m) rest
-  own_name : {bs rest : List ℕ} (m : ℕ) (t : List ℕ) → Next p.line bs m (name t) rest → sense p.constants t ≡ is_own → Piece p bs (token.name m t ∷ []) (behind p m) rest
-  defined : {bs rest : List ℕ} (m : ℕ) (t : List ℕ) (c : Literal) → Next p.line bs m (name t) rest → sense p.constants t ≡ is_constant c
+  line_end : {bs rest : List ℕ} (m b : ℕ) → Next p.line bs m over (b ∷ rest)
+      → Piece p bs [] (record p { line = m + 1; fresh = true }) rest
+  word : {bs rest : List ℕ} (m n : ℕ) (t : List ℕ) → Next p.line bs m (name t) rest
+      → sense p.constants t ≡ is_accepted n → Piece p bs (token.word m n ∷ []) (behind p m) rest
+  own_name : {bs rest : List ℕ} (m : ℕ) (t : List ℕ) → Next p.line bs m (name t) rest → sense p.constants t ≡ is_own
+      → Piece p bs (token.name m t ∷ []) (behind p m) rest
+  defined : {bs rest : List ℕ} (m : ℕ) (t : List ℕ) (c : Literal) → Next p.line bs m (name t) rest
+      → sense p.constants t ≡ is_constant c
       → Piece p bs (token.number m c ∷ []) (behind p m) rest
-  literal : {bs rest : List ℕ} (m : ℕ) (c : Literal) → Next p.line bs m (number c) rest → Piece p bs (token.number m c ∷ []) (behind p m) rest
-  sign : {bs rest : List ℕ} (m n : ℕ) → Next p.line bs m (mark n) rest → Piece p bs (token.mark m n ∷ []) (behind p m) rest
-  include : {bs cs ds es rest : List ℕ} (m n k : ℕ) → p.fresh ≡ true → p.open_arm ≡ outside → Stand p.line bs (hash ∷ name (codes "include") ∷ []) m cs
+  literal : {bs rest : List ℕ} (m : ℕ) (c : Literal) → Next p.line bs m (number c) rest
+      → Piece p bs (token.number m c ∷ []) (behind p m) rest
+  sign : {bs rest : List ℕ} (m n : ℕ) → Next p.line bs m (mark n) rest
+      → Piece p bs (token.mark m n ∷ []) (behind p m) rest
+  include : {bs cs ds es rest : List ℕ} (m n k : ℕ) → p.fresh ≡ true → p.open_arm ≡ outside
+      → Stand p.line bs (hash ∷ name (codes "include") ∷ []) m cs
       → Gap m cs n ds → after headers ds ≡ Some es → Next n es k over rest → Piece p bs [] (behind p k) rest
   define : {bs rest : List ℕ} (m : ℕ) (t : List ℕ) (v : Thing) (c : Literal) → p.fresh ≡ true → p.open_arm ≡ outside
-      → Stand p.line bs (hash ∷ name (codes "define") ∷ name t ∷ v ∷ over ∷ []) m rest → may_define p.constants t ≡ true → value p.constants v ≡ Some c
+      → Stand p.line bs (hash ∷ name (codes "define") ∷ name t ∷ v ∷ over ∷ []) m rest → may_define p.constants t ≡ true
+      → value p.constants v ≡ Some c
       → Piece p bs [] (record p { line = m; fresh = false; constants = p.constants ++ (t, c) ∷ [] }) rest
-  condition : {bs cs rest : List ℕ} (l m : ℕ) (o : NamedOrder) → p.fresh ≡ true → p.open_arm ≡ outside → constant p.constants (codes "__BYTE_ORDER__") ≡ None
+  condition : {bs cs rest : List ℕ} (l m : ℕ) (o : NamedOrder) → p.fresh ≡ true → p.open_arm ≡ outside
+      → constant p.constants (codes "__BYTE_ORDER__") ≡ None
       → constant p.constants (order_name o) ≡ None → Next p.line bs l hash cs
-      → Stand l cs (name (codes "if") ∷ name (codes "__BYTE_ORDER__") ∷ mark equals ∷ name (order_name o) ∷ over ∷ []) m rest
+      → Stand l cs (name (codes "if") ∷ name (codes "__BYTE_ORDER__") ∷ mark equals ∷ name (order_name o) ∷ over ∷ []) m
+      rest
       → Piece p bs (order_token o l ∷ []) (record p { line = m; fresh = false; open_arm = first_arm l }) rest
-  otherwise : {bs cs rest : List ℕ} (l m from : ℕ) → p.fresh ≡ true → p.open_arm ≡ first_arm from → Next p.line bs l hash cs
-      → Stand l cs (name (codes "else") ∷ over ∷ []) m rest → Piece p bs (token.other l ∷ []) (record p { line = m; fresh = false; open_arm = second_arm from }) rest
+  otherwise : {bs cs rest : List ℕ} (l m from : ℕ) → p.fresh ≡ true → p.open_arm ≡ first_arm from
+      → Next p.line bs l hash cs
+      → Stand l cs (name (codes "else") ∷ over ∷ []) m rest
+      → Piece p bs (token.other l ∷ []) (record p { line = m; fresh = false; open_arm = second_arm from }) rest
   end_if : {bs cs rest : List ℕ} (l m : ℕ) → p.fresh ≡ true → is_outside p.open_arm ≡ false → Next p.line bs l hash cs
-      → Stand l cs (name (codes "endif") ∷ over ∷ []) m rest → Piece p bs (token.end_if l ∷ []) (record p { line = m; fresh = false; open_arm = outside }) rest
+      → Stand l cs (name (codes "endif") ∷ over ∷ []) m rest
+      → Piece p bs (token.end_if l ∷ []) (record p { line = m; fresh = false; open_arm = outside }) rest
 
 -- The bytes from this place on cut into the tokens.
 pub data Cuts : Place → List ℕ → List Tok → Type 0 where
   ends : {p : Place} {bs : List ℕ} (m : ℕ) → Next p.line bs m over [] → p.open_arm ≡ outside → Cuts p bs []
-  piece : {p q : Place} {bs rest : List ℕ} {ts us all : List Tok} → Piece p bs ts q rest → Cuts q rest us → all ≡ ts ++ us → Cuts p bs all
+  piece : {p q : Place} {bs rest : List ℕ} {ts us all : List Tok} → Piece p bs ts q rest → Cuts q rest us
+      → all ≡ ts ++ us → Cuts p bs all
 
--- ---- what offends in a directive: from left to right, the first thing with which it is no directive any more, or that is broken in itself
+-- ---- what offends in a directive: from left to right, the first thing with which it is no directive any more, or that
+-- is broken in itself
 
 abbrev pub is_over : Thing → Bool
 is_over over = true
@@ -195,10 +214,12 @@ shapes p =
     if is_outside p.open_arm then
     (word (codes "define") ∷ is_named (may_define c) ∷ (λ t. is_some (value c t)) ∷ is_over ∷ [])
     ∷ (word (codes "include") ∷ [])
-    ∷ (word (codes "if") ∷ plain (codes "__BYTE_ORDER__") ∷ is_mark equals ∷ (λ t. plain (order_name Little) t || plain (order_name Big) t) ∷ is_over ∷ [])
+    ∷ (word (codes "if") ∷ plain (codes "__BYTE_ORDER__") ∷ is_mark equals ∷
+    (λ t. plain (order_name Little) t || plain (order_name Big) t) ∷ is_over ∷ [])
     ∷ []
     else
-    (word (codes "endif") ∷ is_over ∷ []) ∷ (if is_first p.open_arm then (word (codes "else") ∷ is_over ∷ []) ∷ [] else [])
+    (word (codes "endif") ∷ is_over ∷ []) ∷ (if is_first p.open_arm then (word (codes "else") ∷ is_over ∷ []) ∷
+    [] else [])
 
 -- whether the things begin a directive
 abbrev pub may_begin : Place → List Thing → Bool
@@ -209,18 +230,21 @@ abbrev pub is_include : List Thing → Bool
 is_include [] = false
 is_include (t ∷ ts) = is_named (λ w. bytes_eq w (codes "include")) t
 
--- the kind of a wrong directive that begins with this thing: conditionals 7, includes 6, others 5; inside a conditional 7
+-- the kind of a wrong directive that begins with this thing: conditionals 7, includes 6, others 5; inside a conditional
+-- 7
 abbrev pub directive_kind : Place → List Thing → ℕ
 directive_kind p [] = 5
 directive_kind p (t ∷ ts) =
-    if not (is_outside p.open_arm) || is_named (λ w. list_any (bytes_eq w) (codes "if" ∷ codes "elif" ∷ codes "else" ∷ codes "endif" ∷ [])) t then 7
+    if not (is_outside p.open_arm) || is_named (λ w. list_any (bytes_eq w)
+    (codes "if" ∷ codes "elif" ∷ codes "else" ∷ codes "endif" ∷ [])) t then 7
     else if is_named (λ w. bytes_eq w (codes "include")) t then 6
     else 5
 
 abbrev pub at_line : ℕ → ℕ → Refusal
 at_line k l = record { kind = k; line = l; word = 0 }
 
--- How a thing on line m is refused in a directive of this kind on line l. A `#` is none of a directive, nor is a `"` but in an include; anything else makes the directive a wrong one.
+-- How a thing on line m is refused in a directive of this kind on line l. A `#` is none of a directive, nor is a `"`
+-- but in an include; anything else makes the directive a wrong one.
 abbrev pub wrong : ℕ → ℕ → ℕ → Thing → Refusal
 wrong k l m over = at_line k l
 wrong k l m hash = at_line 1 m
@@ -234,24 +258,36 @@ pub data Offence (p : Place) : List ℕ → Refusal → Type 0 where
   broken : {bs : List ℕ} (k m : ℕ) → Breaks p.line bs k m → Offence p bs (at_line k m)
   stray_quote : {bs rest : List ℕ} (m : ℕ) → Next p.line bs m quote rest → Offence p bs (at_line 4 m)
   stray_hash : {bs rest : List ℕ} (m : ℕ) → Next p.line bs m hash rest → p.fresh ≡ false → Offence p bs (at_line 1 m)
-  reserved_word : {bs rest : List ℕ} (m n : ℕ) (t : List ℕ) → Next p.line bs m (name t) rest → sense p.constants t ≡ is_reserved n
+  reserved_word : {bs rest : List ℕ} (m n : ℕ) (t : List ℕ) → Next p.line bs m (name t) rest
+      → sense p.constants t ≡ is_reserved n
       → Offence p bs (record { kind = 8; line = m; word = n })
-  no_end_if : {bs : List ℕ} (m from : ℕ) → Next p.line bs m over [] → opened_at p.open_arm ≡ Some from → Offence p bs (at_line 7 from)
-  broken_inside : {bs cs ds : List ℕ} (l m n k : ℕ) (ts : List Thing) → p.fresh ≡ true → Next p.line bs l hash cs → Stand l cs ts m ds → list_any is_over ts ≡ false → may_begin p ts ≡ true
+  no_end_if : {bs : List ℕ} (m from : ℕ) → Next p.line bs m over [] → opened_at p.open_arm ≡ Some from
+      → Offence p bs (at_line 7 from)
+  broken_inside : {bs cs ds : List ℕ} (l m n k : ℕ) (ts : List Thing) → p.fresh ≡ true → Next p.line bs l hash cs
+      → Stand l cs ts m ds → list_any is_over ts ≡ false → may_begin p ts ≡ true
       → Breaks m ds k n → Offence p bs (at_line k n)
-  wrong_inside : {bs cs ds es : List ℕ} (l m n : ℕ) (ts : List Thing) (t : Thing) → p.fresh ≡ true → Next p.line bs l hash cs → Stand l cs ts m ds → list_any is_over ts ≡ false
-      → may_begin p ts ≡ true → Next m ds n t es → may_begin p (ts ++ t ∷ []) ≡ false → is_include ts ≡ false → Offence p bs (wrong (directive_kind p (ts ++ t ∷ [])) l n t)
-  no_header : {bs cs ds es fs : List ℕ} (l m n : ℕ) (t : Thing) → p.fresh ≡ true → p.open_arm ≡ outside → Next p.line bs l hash cs
-      → Stand l cs (name (codes "include") ∷ []) m ds → Gap m ds n es → Begins es t fs → after headers es ≡ None → Offence p bs (wrong 6 l n t)
-  broken_header : {bs cs ds es fs : List ℕ} (l m n k o : ℕ) → p.fresh ≡ true → p.open_arm ≡ outside → Next p.line bs l hash cs
-      → Stand l cs (name (codes "include") ∷ []) m ds → Gap m ds n es → after headers es ≡ Some fs → Breaks n fs k o → Offence p bs (at_line k o)
-  behind_header : {bs cs ds es fs gs : List ℕ} (l m n o : ℕ) (t : Thing) → p.fresh ≡ true → p.open_arm ≡ outside → Next p.line bs l hash cs
-      → Stand l cs (name (codes "include") ∷ []) m ds → Gap m ds n es → after headers es ≡ Some fs → Next n fs o t gs → is_over t ≡ false → Offence p bs (wrong 6 l o t)
+  wrong_inside : {bs cs ds es : List ℕ} (l m n : ℕ) (ts : List Thing) (t : Thing) → p.fresh ≡ true
+      → Next p.line bs l hash cs → Stand l cs ts m ds → list_any is_over ts ≡ false
+      → may_begin p ts ≡ true → Next m ds n t es → may_begin p (ts ++ t ∷ []) ≡ false → is_include ts ≡ false
+      → Offence p bs (wrong (directive_kind p (ts ++ t ∷ [])) l n t)
+  no_header : {bs cs ds es fs : List ℕ} (l m n : ℕ) (t : Thing) → p.fresh ≡ true → p.open_arm ≡ outside
+      → Next p.line bs l hash cs
+      → Stand l cs (name (codes "include") ∷ []) m ds → Gap m ds n es → Begins es t fs → after headers es ≡ None
+      → Offence p bs (wrong 6 l n t)
+  broken_header : {bs cs ds es fs : List ℕ} (l m n k o : ℕ) → p.fresh ≡ true → p.open_arm ≡ outside
+      → Next p.line bs l hash cs
+      → Stand l cs (name (codes "include") ∷ []) m ds → Gap m ds n es → after headers es ≡ Some fs → Breaks n fs k o
+      → Offence p bs (at_line k o)
+  behind_header : {bs cs ds es fs gs : List ℕ} (l m n o : ℕ) (t : Thing) → p.fresh ≡ true → p.open_arm ≡ outside
+      → Next p.line bs l hash cs
+      → Stand l cs (name (codes "include") ∷ []) m ds → Gap m ds n es → after headers es ≡ Some fs → Next n fs o t gs
+      → is_over t ≡ false → Offence p bs (wrong 6 l o t)
 
 -- The first offence from this place on: everything before it cuts.
 pub data Offends : Place → List ℕ → Refusal → Type 0 where
   now : {p : Place} {bs : List ℕ} {r : Refusal} → Offence p bs r → Offends p bs r
-  later : {p q : Place} {bs rest : List ℕ} {ts : List Tok} {r : Refusal} → Piece p bs ts q rest → Offends q rest r → Offends p bs r
+  later : {p q : Place} {bs rest : List ℕ} {ts : List Tok} {r : Refusal} → Piece p bs ts q rest → Offends q rest r
+      → Offends p bs r
 
 -- The whole source cuts into the tokens.
 abbrev pub Spells : List ℕ → List Tok → Type 0

@@ -3,10 +3,13 @@ use Rattle.std.specs.Prelude.{ℕ, List, [], ◌∷◌, map, Option}
 use Rattle.std.specs.Global.{Vec}
 use Rattle.std.specs.Option.{option_map}
 use Rattle.ep_ast.specs.declared.declarations.DeclaratorTree.{DeclaratorTree}
-use Rattle.ep_ast.specs.declared.declarations.SpecTree.{SpecTree, Plain, Body', Row_of-MemberTree, end_of-MemberTree, more_of-MemberTree}
+use Rattle.ep_ast.specs.declared.declarations.SpecTree.{SpecTree, Plain, Body', Row_of-MemberTree, end_of-MemberTree}
+use Rattle.ep_ast.specs.declared.declarations.SpecTree.{more_of-MemberTree}
 use Rattle.ep_ast.specs.declared.declarations.AggregateTree.{AggregateTree}
-use Rattle.ep_ast.specs.declared.declarations.MemberTree.{MemberTree, Row_of-SpecTree, end_of-SpecTree, more_of-SpecTree}
-use Rattle.ep_ast.specs.declared.declarations.ValueTree.{ValueTree, Expr, List', Row_of-ValueTree, end_of-ValueTree, more_of-ValueTree}
+use Rattle.ep_ast.specs.declared.declarations.MemberTree.{MemberTree, Row_of-SpecTree, end_of-SpecTree}
+use Rattle.ep_ast.specs.declared.declarations.MemberTree.{more_of-SpecTree}
+use Rattle.ep_ast.specs.declared.declarations.ValueTree.{ValueTree, Expr, List', Row_of-ValueTree, end_of-ValueTree}
+use Rattle.ep_ast.specs.declared.declarations.ValueTree.{more_of-ValueTree}
 use Rattle.ep_ast.specs.declared.declarations.InitTree.{InitTree}
 use Rattle.ep_ast.specs.declared.declarations.DeclarationTree.{DeclarationTree}
 use Rattle.ep_ast.specs.declared.declarations.TypedefTree.{TypedefTree}
@@ -25,7 +28,12 @@ pub record Declarator : Type 0 where
   pub bounds : List (Option expressions.Expr)
 
 abbrev pub declarator : DeclaratorTree → Declarator
-declarator d = record { line = d.line; stars = d.stars.items; name = d.name.items; bounds = map (option_map expr) d.bounds.items }
+declarator d = record {
+  line = d.line;
+  stars = d.stars.items;
+  name = d.name.items;
+  bounds = map (option_map expr) d.bounds.items;
+}
 
 abbrev pub text_of : Vec ℕ → List ℕ
 text_of v = v.items
@@ -69,7 +77,8 @@ abbrev mutual
 
   pub members_of : {m : _} → Row_of-MemberTree m → Members
   members_of end_of-MemberTree = no_members
-  members_of (more_of-MemberTree l shape ss ds rest) = more_members (member l (specs_of ss) (map declarator ds.items)) (members_of rest)
+  members_of (more_of-MemberTree l shape ss ds rest) =
+      more_members (member l (specs_of ss) (map declarator ds.items)) (members_of rest)
 
 abbrev pub member_of : MemberTree → Member
 member_of m = member m.line (to_specs (map spec_of m.specs.items)) (map declarator m.declarators.items)
@@ -122,7 +131,11 @@ pub record Typedef : Type 0 where
   pub declarators : List Declarator
 
 abbrev pub typedef_of : TypedefTree → Typedef
-typedef_of t = record { line = t.line; specs = map spec_of t.specs.items; declarators = map declarator t.declarators.items }
+typedef_of t = record {
+  line = t.line;
+  specs = map spec_of t.specs.items;
+  declarators = map declarator t.declarators.items;
+}
 
 pub record Param : Type 0 where
   pub line : ℕ
@@ -132,7 +145,13 @@ pub record Param : Type 0 where
   pub bounds : List (Option expressions.Expr)
 
 abbrev pub param_of : ParamTree → Param
-param_of p = record { line = p.line; words = map type_word p.specs.items; stars = p.stars.items; name = option_map text_of p.name; bounds = map (option_map expr) p.bounds.items }
+param_of p = record {
+  line = p.line;
+  words = map type_word p.specs.items;
+  stars = p.stars.items;
+  name = option_map text_of p.name;
+  bounds = map (option_map expr) p.bounds.items;
+}
 
 -- what stands between the brackets of a head, where something does
 pub data Params : Type 0 where
@@ -151,4 +170,10 @@ pub record Head : Type 0 where
   pub params : Option Params
 
 abbrev pub head_of : HeadTree → Head
-head_of h = record { line = h.line; specs = map spec_of h.specs.items; stars = h.stars.items; name = h.name.items; params = option_map params_of h.params }
+head_of h = record {
+  line = h.line;
+  specs = map spec_of h.specs.items;
+  stars = h.stars.items;
+  name = h.name.items;
+  params = option_map params_of h.params;
+}

@@ -1,12 +1,17 @@
--- How much a program has inside one another: brackets, and operators, statements and type derivations. This project's limit is 64 of each.
-use Rattle.std.specs.Prelude.{ℕ, suc, ◌+◌, ◌-◌, max, length, nat_lt, if◌then◌else◌, Bool, false, ◌||◌, Option, Some, None, List, [], ◌∷◌}
+-- How much a program has inside one another: brackets, and operators, statements and type derivations. This project's
+-- limit is 64 of each.
+use Rattle.std.specs.Prelude.{ℕ, suc, ◌+◌, ◌-◌, max, length, nat_lt, if◌then◌else◌, Bool, false, ◌||◌, Option, Some}
+use Rattle.std.specs.Prelude.{None, List, [], ◌∷◌}
 use Rattle.std.specs.List.{list_any}
 use Rattle.ep_ast.specs.Token.{Tok, mark, if_little, if_big, end_if, line_of}
 use Rattle.ep_ast.specs.Expression as expressions
 use Rattle.ep_ast.specs.Declaration as declarations
-use Rattle.ep_ast.specs.Declaration.{Declarator, Spec, Specs, no_specs, more_specs, Aggregate, Member, Members, no_members, more_members, Value, Values, no_values, more_values, Init, Declaration, Typedef, Param, Params, Head}
+use Rattle.ep_ast.specs.Declaration.{Declarator, Spec, Specs, no_specs, more_specs, Aggregate, Member, Members}
+use Rattle.ep_ast.specs.Declaration.{no_members, more_members, Value, Values, no_values, more_values, Init, Declaration}
+use Rattle.ep_ast.specs.Declaration.{Typedef, Param, Params, Head}
 use Rattle.ep_ast.specs.Statement as tree
-use Rattle.ep_ast.specs.Statement.{First, Stmt, Stmts, no_stmts, more_stmts, Part, Parts, no_parts, more_parts, to_parts, Block, Function, Item}
+use Rattle.ep_ast.specs.Statement.{First, Stmt, Stmts, no_stmts, more_stmts, Part, Parts, no_parts, more_parts}
+use Rattle.ep_ast.specs.Statement.{to_parts, Block, Function, Item}
 use Rattle.ep_ast.specs.Nesting.{is_too_deep, counted}
 
 -- ---- brackets
@@ -104,7 +109,8 @@ in_head h = or_else (first_of in_spec h.specs) (or_else (line_if (are_deep h.sta
 
 -- ---- statements
 
--- How many statements stand inside one another, the outermost one too. A block is one, and an `else if` is one inside another; declarations and byte orders are none.
+-- How many statements stand inside one another, the outermost one too. A block is one, and an `else if` is one inside
+-- another; declarations and byte orders are none.
 abbrev mutual
   pub height : Stmt → ℕ
   height (tree.block l ps) = suc (height_of_parts ps)
@@ -136,17 +142,23 @@ abbrev pub in_first : First → (line : ℕ) → Option ℕ
 in_first (tree.declares d) l = in_declaration d
 in_first (tree.evaluates e) l = line_if (is_deep_if e) l
 
--- The first in the text: operators name the innermost statement, statements the outermost of those that are inside one another.
+-- The first in the text: operators name the innermost statement, statements the outermost of those that are inside one
+-- another.
 abbrev mutual
   pub in_stmt : Stmt → Option ℕ
   in_stmt (tree.block l ps) = or_else (line_if (nat_lt 64 (height (tree.block l ps))) l) (in_parts ps)
   in_stmt (tree.evaluate l e) = line_if (is_deep_if e) l
-  in_stmt (tree.if_then l e s) = or_else (line_if (nat_lt 64 (height (tree.if_then l e s)) || is_too_deep e) l) (in_stmt s)
-  in_stmt (tree.if_else l e s t) = or_else (line_if (nat_lt 64 (height (tree.if_else l e s t)) || is_too_deep e) l) (or_else (in_stmt s) (in_stmt t))
-  in_stmt (tree.while_loop l e s) = or_else (line_if (nat_lt 64 (height (tree.while_loop l e s)) || is_too_deep e) l) (in_stmt s)
-  in_stmt (tree.do_loop l s e) = or_else (line_if (nat_lt 64 (height (tree.do_loop l s e)) || is_too_deep e) l) (in_stmt s)
+  in_stmt (tree.if_then l e s) = or_else (line_if (nat_lt 64 (height (tree.if_then l e s)) || is_too_deep e) l)
+      (in_stmt s)
+  in_stmt (tree.if_else l e s t) = or_else (line_if (nat_lt 64 (height (tree.if_else l e s t)) || is_too_deep e) l)
+      (or_else (in_stmt s) (in_stmt t))
+  in_stmt (tree.while_loop l e s) = or_else (line_if (nat_lt 64 (height (tree.while_loop l e s)) || is_too_deep e) l)
+      (in_stmt s)
+  in_stmt (tree.do_loop l s e) = or_else (line_if (nat_lt 64 (height (tree.do_loop l s e)) || is_too_deep e) l)
+      (in_stmt s)
   in_stmt (tree.for_loop l f e g s) =
-      or_else (line_if (nat_lt 64 (height (tree.for_loop l f e g s)) || is_deep_if e || is_deep_if g) l) (or_else (in_first f l) (in_stmt s))
+      or_else (line_if (nat_lt 64 (height (tree.for_loop l f e g s)) || is_deep_if e || is_deep_if g) l)
+      (or_else (in_first f l) (in_stmt s))
   in_stmt (tree.break_loop l) = None
   in_stmt (tree.continue_loop l) = None
   in_stmt (tree.return_value l e) = line_if (is_deep_if e) l

@@ -4,7 +4,10 @@ use Rattle.ep_ast.specs.declared.expressions.Literal.{Literal}
 use Rattle.ep_ast.specs.declared.expressions.TypeWordTree.{TypeWordTree}
 use Rattle.ep_ast.specs.declared.expressions.TypeWordTree.TheVariants as words
 use Rattle.ep_ast.specs.declared.expressions.TypeNameTree.{TypeNameTree}
-use Rattle.ep_ast.specs.declared.expressions.ExprTree.{ExprTree, Assign', Conditional', Binary', Cast', Step', Unary', SizeofExpr', SizeofType, Index', Call', Member', Arrow', PostIncrement', PostDecrement', Id, Number, Row_of-ExprTree, end_of-ExprTree, more_of-ExprTree}
+use Rattle.ep_ast.specs.declared.expressions.ExprTree.{ExprTree, Assign', Conditional', Binary', Cast', Step', Unary'}
+use Rattle.ep_ast.specs.declared.expressions.ExprTree.{SizeofExpr', SizeofType, Index', Call', Member', Arrow'}
+use Rattle.ep_ast.specs.declared.expressions.ExprTree.{PostIncrement', PostDecrement', Id, Number, Row_of-ExprTree}
+use Rattle.ep_ast.specs.declared.expressions.ExprTree.{end_of-ExprTree, more_of-ExprTree}
 
 -- a type word: an accepted word by its number, a typedef name, or a `struct` or `union` word and its tag
 pub data TypeWord : Type 0 where
@@ -78,11 +81,11 @@ abbrev mutual
   expr (Assign' l c p a q b) = assign l c (expr a) (expr b)
   expr (Conditional' l p a q b r c) = conditional l (expr a) (expr b) (expr c)
   expr (Binary' l c p a q b) = binary l c (expr a) (expr b)
-  expr (Cast' l t p a) = cast l (type_name t) (expr a)
+  expr (Cast' l t p a) = cast l (type_name t.value) (expr a)
   expr (Step' l c p a) = step l c (expr a)
   expr (Unary' l c p a) = unary l c (expr a)
   expr (SizeofExpr' l p a) = sizeof_expr l (expr a)
-  expr (SizeofType l t) = sizeof_type l (type_name t)
+  expr (SizeofType l t) = sizeof_type l (type_name t.value)
   expr (Index' l p a q b) = index l (expr a) (expr b)
   expr (Call' l p a shape all) = call l (expr a) (exprs all)
   expr (Member' l p a v) = member l (expr a) v.items

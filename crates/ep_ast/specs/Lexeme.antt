@@ -1,5 +1,8 @@
--- What may stand next on a line of a source, byte by byte: C11 5.1.1.2 and 6.4, with this project's rules on bytes, numbers and characters.
-use Rattle.std.specs.Prelude.{◌≡◌, ℕ, suc, ◌+◌, ◌-◌, ◌*◌, ◌^◌, Bool, true, false, ◌&&◌, ◌||◌, not, ◌==◌, nat_eq, nat_lt, nat_le, if◌then◌else◌, List, [], ◌∷◌, length, take, drop, fold, slice_index, slice_index_or, Option, Some, None}
+-- What may stand next on a line of a source, byte by byte: C11 5.1.1.2 and 6.4, with this project's rules on bytes,
+-- numbers and characters.
+use Rattle.std.specs.Prelude.{◌≡◌, ℕ, suc, ◌+◌, ◌-◌, ◌*◌, ◌^◌, Bool, true, false, ◌&&◌, ◌||◌, not, ◌==◌, nat_eq, nat_lt}
+use Rattle.std.specs.Prelude.{nat_le, if◌then◌else◌, List, [], ◌∷◌, length, take, drop, fold, slice_index}
+use Rattle.std.specs.Prelude.{slice_index_or, Option, Some, None}
 use Rattle.std.specs.List.{prefix_len, position_from, starts_with, list_any}
 use Rattle.ep_ast.specs.declared.expressions.Literal.{Literal}
 use Rattle.ep_ast.specs.Token.{marks}
@@ -35,7 +38,8 @@ line_after l b = if b == 10 then l + 1 else l
 -- behind `/*`: the line on which the comment ends, and what comes after it
 abbrev pub past_comment : ℕ → List ℕ → Option (ℕ × List ℕ)
 past_comment l [] = None
-past_comment l (b ∷ bs) = if b == 42 && slice_index bs 0 == 47 then Some (l, drop 1 bs) else past_comment (line_after l b) bs
+past_comment l (b ∷ bs) = if b == 42 && slice_index bs 0 == 47 then Some (l, drop 1 bs) else past_comment
+    (line_after l b) bs
 
 -- from the next newline on
 abbrev pub to_line_end : List ℕ → List ℕ
@@ -52,7 +56,8 @@ after_word bs = drop (prefix_len is_word bs) bs
 
 -- ---- numbers
 
--- whether a number goes on with b behind a: letters, digits, `_`, `.`, and `+` or `-` directly behind `e`, `E`, `p` or `P`
+-- whether a number goes on with b behind a: letters, digits, `_`, `.`, and `+` or `-` directly behind `e`, `E`, `p` or
+-- `P`
 abbrev pub goes_on : ℕ → ℕ → Bool
 goes_on a b = is_word b || b == 46 || ((b == 43 || b == 45) && (a == 101 || a == 69 || a == 112 || a == 80))
 
@@ -69,7 +74,8 @@ after_number bs = drop (number_len 0 bs) bs
 
 -- what a byte counts as a digit; 16 where it is none
 abbrev pub digit_value : ℕ → ℕ
-digit_value b = if is_digit b then b - 48 else if nat_le 97 b && nat_le b 102 then b - 87 else if nat_le 65 b && nat_le b 70 then b - 55 else 16
+digit_value b = if is_digit b then b - 48 else if nat_le 97 b && nat_le b 102 then b - 87 else if nat_le 65 b &&
+    nat_le b 70 then b - 55 else 16
 
 abbrev pub is_digit_of : ℕ → ℕ → Bool
 is_digit_of base b = nat_lt (digit_value b) base
@@ -101,7 +107,8 @@ limit decimal unsigned = if decimal && not unsigned then 2 ^ 63 else 2 ^ 64
 
 abbrev pub with_suffix : Bool → ℕ → Option (Bool × ℕ) → Option Literal
 with_suffix decimal n None = None
-with_suffix decimal n (Some s) = if nat_lt n (limit decimal s.0) then Some (record { value = n; decimal = decimal; unsigned = s.0; longs = s.1 }) else None
+with_suffix decimal n (Some s) = if nat_lt n (limit decimal s.0) then Some
+    (record { value = n; decimal = decimal; unsigned = s.0; longs = s.1 }) else None
 
 -- digits of this base, at least one, and a suffix
 abbrev pub in_base : ℕ → Bool → List ℕ → Option Literal
@@ -112,7 +119,8 @@ in_base base decimal ds =
 -- the number that these bytes write: hexadecimal behind `0x` or `0X`, octal behind 0 (so 0 itself), else decimal
 abbrev pub literal : List ℕ → Option Literal
 literal ds =
-    if slice_index ds 0 == 48 then (if slice_index ds 1 == 120 || slice_index ds 1 == 88 then in_base 16 false (drop 2 ds) else in_base 8 false ds)
+    if slice_index ds 0 == 48 then (if slice_index ds 1 == 120 || slice_index ds 1 == 88 then in_base 16 false
+    (drop 2 ds) else in_base 8 false ds)
     else in_base 10 true ds
 
 -- ---- characters
@@ -171,8 +179,10 @@ pub data Thing : Type 0 where
 pub data Gap : ℕ → List ℕ → ℕ → List ℕ → Type 0 where
   here : {l : ℕ} {bs : List ℕ} → Gap l bs l bs
   blank : {l b m : ℕ} {bs cs : List ℕ} → is_blank b ≡ true → Gap l bs m cs → Gap l (b ∷ bs) m cs
-  remark : {l b m : ℕ} {bs cs : List ℕ} → opens_remark (b ∷ bs) ≡ true → Gap l (to_line_end bs) m cs → Gap l (b ∷ bs) m cs
-  comment : {l b m : ℕ} {bs cs : List ℕ} (l' : ℕ) (rest : List ℕ) → opens_comment (b ∷ bs) ≡ true → past_comment l (drop 1 bs) ≡ Some (l', rest)
+  remark : {l b m : ℕ} {bs cs : List ℕ} → opens_remark (b ∷ bs) ≡ true → Gap l (to_line_end bs) m cs
+      → Gap l (b ∷ bs) m cs
+  comment : {l b m : ℕ} {bs cs : List ℕ} (l' : ℕ) (rest : List ℕ) → opens_comment (b ∷ bs) ≡ true
+      → past_comment l (drop 1 bs) ≡ Some (l', rest)
       → Gap l' rest m cs → Gap l (b ∷ bs) m cs
 
 -- The bytes begin with this, up to those bytes.
@@ -181,10 +191,14 @@ pub data Begins : List ℕ → Thing → List ℕ → Type 0 where
   at_newline : {b : ℕ} {bs : List ℕ} → b ≡ 10 → Begins (b ∷ bs) over (b ∷ bs)
   a_hash : {b : ℕ} {bs : List ℕ} → b ≡ 35 → Begins (b ∷ bs) hash bs
   a_quote : {b : ℕ} {bs : List ℕ} → b ≡ 34 → Begins (b ∷ bs) quote bs
-  a_name : {b : ℕ} {bs : List ℕ} → is_letter b ≡ true → Begins (b ∷ bs) (name (word_text (b ∷ bs))) (after_word (b ∷ bs))
-  a_number : {b : ℕ} {bs : List ℕ} (n : Literal) → is_digit b ≡ true → literal (number_text (b ∷ bs)) ≡ Some n → Begins (b ∷ bs) (number n) (after_number (b ∷ bs))
-  a_character : {b : ℕ} {bs : List ℕ} (v k : ℕ) → b ≡ 39 → character bs ≡ Some (v, k) → Begins (b ∷ bs) (number (of_character v)) (drop k bs)
-  a_mark : {b : ℕ} {bs : List ℕ} (n : ℕ) → opens_remark (b ∷ bs) ≡ false → opens_comment (b ∷ bs) ≡ false → mark_at (b ∷ bs) ≡ Some n
+  a_name : {b : ℕ} {bs : List ℕ} → is_letter b ≡ true → Begins (b ∷ bs) (name (word_text (b ∷ bs)))
+      (after_word (b ∷ bs))
+  a_number : {b : ℕ} {bs : List ℕ} (n : Literal) → is_digit b ≡ true → literal (number_text (b ∷ bs)) ≡ Some n
+      → Begins (b ∷ bs) (number n) (after_number (b ∷ bs))
+  a_character : {b : ℕ} {bs : List ℕ} (v k : ℕ) → b ≡ 39 → character bs ≡ Some (v, k)
+      → Begins (b ∷ bs) (number (of_character v)) (drop k bs)
+  a_mark : {b : ℕ} {bs : List ℕ} (n : ℕ) → opens_remark (b ∷ bs) ≡ false → opens_comment (b ∷ bs) ≡ false
+      → mark_at (b ∷ bs) ≡ Some n
       → Begins (b ∷ bs) (mark n) (drop (mark_len n) (b ∷ bs))
 
 -- Next after blanks and comments, on line m, stands this thing.
@@ -193,14 +207,18 @@ pub record Next (l : ℕ) (bs : List ℕ) (m : ℕ) (t : Thing) (rest : List ℕ
   pub gap : Gap l bs m from
   pub begins : Begins from t rest
 
--- The bytes begin with something broken in itself: a wrong number or character (3), or a byte with which nothing begins (1).
+-- The bytes begin with something broken in itself: a wrong number or character (3), or a byte with which nothing begins
+-- (1).
 pub data Spoilt : List ℕ → ℕ → Type 0 where
   bad_number : {b : ℕ} {bs : List ℕ} → is_digit b ≡ true → literal (number_text (b ∷ bs)) ≡ None → Spoilt (b ∷ bs) 3
   bad_character : {b : ℕ} {bs : List ℕ} → b ≡ 39 → character bs ≡ None → Spoilt (b ∷ bs) 3
-  bad_byte : {b : ℕ} {bs : List ℕ} → is_blank b ≡ false → is_word b ≡ false → list_any (λ c. b == c) (10 ∷ 34 ∷ 35 ∷ 39 ∷ []) ≡ false → opens_remark (b ∷ bs) ≡ false
+  bad_byte : {b : ℕ} {bs : List ℕ} → is_blank b ≡ false → is_word b ≡ false
+      → list_any (λ c. b == c) (10 ∷ 34 ∷ 35 ∷ 39 ∷ []) ≡ false → opens_remark (b ∷ bs) ≡ false
       → opens_comment (b ∷ bs) ≡ false → mark_at (b ∷ bs) ≡ None → Spoilt (b ∷ bs) 1
 
--- Next after blanks and comments, on line m, stands something broken in itself, which is refused by this kind; 2 is a comment that is not closed.
+-- Next after blanks and comments, on line m, stands something broken in itself, which is refused by this kind; 2 is a
+-- comment that is not closed.
 pub data Breaks : ℕ → List ℕ → ℕ → ℕ → Type 0 where
-  unclosed : {l b m : ℕ} {bs cs : List ℕ} → Gap l bs m (b ∷ cs) → opens_comment (b ∷ cs) ≡ true → past_comment m (drop 1 cs) ≡ None → Breaks l bs 2 m
+  unclosed : {l b m : ℕ} {bs cs : List ℕ} → Gap l bs m (b ∷ cs) → opens_comment (b ∷ cs) ≡ true
+      → past_comment m (drop 1 cs) ≡ None → Breaks l bs 2 m
   spoilt : {l m k : ℕ} {bs cs : List ℕ} → Gap l bs m cs → Spoilt cs k → Breaks l bs k m

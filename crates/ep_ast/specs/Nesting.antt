@@ -1,9 +1,11 @@
 -- What may stand inside one another: this project's limit of 64.
-use Rattle.std.specs.Prelude.{ℕ, ◌+◌, ◌-◌, ◌==◌, max, length, nat_lt, if◌then◌else◌, Bool, ◌&&◌, ◌||◌, Option, Some, None, List, [], ◌∷◌}
+use Rattle.std.specs.Prelude.{ℕ, ◌+◌, ◌-◌, ◌==◌, max, length, nat_lt, if◌then◌else◌, Bool, ◌&&◌, ◌||◌, Option, Some}
+use Rattle.std.specs.Prelude.{None, List, [], ◌∷◌}
 use Rattle.ep_ast.specs.Token.{Tok, mark}
 use Rattle.ep_ast.specs.Expression as tree
 use Rattle.ep_ast.specs.Expression.{Expr, Exprs, no_exprs, more_exprs}
-use Rattle.ep_ast.specs.Mark.{left_paren, right_paren, left_bracket, right_bracket, left_brace, right_brace, semicolon, comma}
+use Rattle.ep_ast.specs.Mark.{left_paren, right_paren, left_bracket, right_bracket, left_brace, right_brace, semicolon}
+use Rattle.ep_ast.specs.Mark.{comma}
 
 -- how many operators stand inside one another: every node but names and numbers is one
 abbrev mutual
@@ -78,5 +80,6 @@ stops n c = n == 0 && (closes c || c == comma || c == semicolon)
 -- The look ends where no expression goes on.
 abbrev pub opens_past : ℕ → List Tok → Option ℕ
 opens_past n [] = None
-opens_past n (mark l c ∷ ts) = if nat_lt 64 (counted n c) then Some l else if stops n c then None else opens_past (counted n c) ts
+opens_past n (mark l c ∷ ts) = if nat_lt 64 (counted n c) then Some l else if stops n c then None else opens_past
+    (counted n c) ts
 opens_past n (_ ∷ ts) = opens_past n ts

@@ -1,5 +1,5 @@
 -- What it means to read a front of the tokens: its tree, and that no other tree or end is possible.
-use Rattle.std.specs.Prelude.{◌≡◌, ℕ, ◌==◌, nat_le, Bool, false, ◌&&◌, ◌||◌, Option, Some, None, List, ◌∷◌, Result, Ok, Err}
+use Rattle.std.specs.Prelude.{◌≡◌, ℕ, ◌==◌, nat_le, Bool, false, ◌&&◌, ◌||◌, Option, Some, None, List, ◌∷◌}
 use Rattle.ep_ast.specs.declared.refusals.Refusal.{Refusal}
 use Rattle.ep_ast.specs.declared.refusals.Halt.{Halt}
 use Rattle.ep_ast.specs.declared.refusals.Halt.TheVariants as halts
@@ -46,15 +46,11 @@ abbrev pub Halts : (List ℕ → Bool) → Rule → List Tok → Halt → Type 0
 Halts is_type r xs (halts.Refused f) = Refuses is_type r xs × IsSyntax f
 Halts is_type r xs halts.Memory = Unit {0}
 
--- the tree and where it ends, or a refusal where nothing is to be read
-abbrev pub Parses : {X : Type 0} → (X → Expr) → (X → List Tok) → (List ℕ → Bool) → Rule → List Tok → Result X Halt → Type 0
-Parses tree rest is_type r xs (Ok p) = Reads is_type r xs (tree p) (rest p)
-Parses tree rest is_type r xs (Err e) = Halts is_type r xs e
-
 -- ---- by a relation that says where it ends itself
 
 -- the relation holds of the tokens up to ys, and of no other front and value
-pub record Takes {T : Type 0} (P : List Tok → List Tok → T → Type 0) (xs : List Tok) (t : T) (ys : List Tok) : Type 0 where
+pub record Takes {T : Type 0} (P : List Tok → List Tok → T → Type 0) (xs : List Tok) (t : T) (ys : List Tok) : Type
+    0 where
   pub holds : P xs ys t
   pub only : (u : T) (zs : List Tok) → P xs zs u → (u ≡ t) × (zs ≡ ys)
 
@@ -64,10 +60,6 @@ pub record TakesNone {T : Type 0} (P : List Tok → List Tok → T → Type 0) (
 abbrev pub Stops : {T : Type 0} → (List Tok → List Tok → T → Type 0) → List Tok → Halt → Type 0
 Stops P xs (halts.Refused f) = TakesNone P xs × IsSyntax f
 Stops P xs halts.Memory = Unit {0}
-
-abbrev pub Gives : {T X : Type 0} → (X → T) → (X → List Tok) → (List Tok → List Tok → T → Type 0) → List Tok → Result X Halt → Type 0
-Gives value rest P xs (Ok p) = Takes P xs (value p) (rest p)
-Gives value rest P xs (Err e) = Stops P xs e
 
 -- ---- a look at the first token
 

@@ -3,9 +3,15 @@ use Rattle.std.specs.Prelude.{ℕ, List, [], ◌∷◌, map, Option, Some, None}
 use Rattle.std.specs.Global.{Vec}
 use Rattle.std.specs.Option.{option_map}
 use Rattle.ep_ast.specs.declared.orders.NamedOrder.{NamedOrder}
-use Rattle.ep_ast.specs.declared.statements.StmtTree.{StmtTree, Block', Expr, If', While', Do', For', Break, Continue, Return, Row_of-BlockItemTree, end_of-BlockItemTree, more_of-BlockItemTree, Held-StmtTree-If-3, StmtTree-If-3-None', StmtTree-If-3-Some'}
+use Rattle.ep_ast.specs.declared.statements.StmtTree.{StmtTree, Block', Expr, If', While', Do', For', Break, Continue}
+use Rattle.ep_ast.specs.declared.statements.StmtTree.{Return, Row_of-BlockItemTree, end_of-BlockItemTree}
+use Rattle.ep_ast.specs.declared.statements.StmtTree.{more_of-BlockItemTree, Held-StmtTree-If-3, StmtTree-If-3-None'}
+use Rattle.ep_ast.specs.declared.statements.StmtTree.{StmtTree-If-3-Some'}
 use Rattle.ep_ast.specs.declared.statements.BlockTree.{BlockTree}
-use Rattle.ep_ast.specs.declared.statements.BlockItemTree.{BlockItemTree, Declaration, Statement, Arms', Row_of-StmtTree, end_of-StmtTree, more_of-StmtTree, Held-BlockItemTree-Arms-3, BlockItemTree-Arms-3-None', BlockItemTree-Arms-3-Some'}
+use Rattle.ep_ast.specs.declared.statements.BlockItemTree.{BlockItemTree, Declaration, Statement, Arms'}
+use Rattle.ep_ast.specs.declared.statements.BlockItemTree.{Row_of-StmtTree, end_of-StmtTree, more_of-StmtTree}
+use Rattle.ep_ast.specs.declared.statements.BlockItemTree.{Held-BlockItemTree-Arms-3, BlockItemTree-Arms-3-None'}
+use Rattle.ep_ast.specs.declared.statements.BlockItemTree.{BlockItemTree-Arms-3-Some'}
 use Rattle.ep_ast.specs.declared.statements.ForInitTree.{ForInitTree}
 use Rattle.ep_ast.specs.declared.statements.ForInitTree.TheVariants as firsts
 use Rattle.ep_ast.specs.declared.statements.FunctionTree.{FunctionTree}
@@ -77,7 +83,8 @@ abbrev mutual
   stmt_of (If' l e p s o) = make_if l (expr e) (stmt_of s) (held_stmt o)
   stmt_of (While' l e p s) = while_loop l (expr e) (stmt_of s)
   stmt_of (Do' l p s e) = do_loop l (stmt_of s) (expr e)
-  stmt_of (For' l f e g p s) = for_loop l (first_of f) (option_map expr e) (option_map expr g) (stmt_of s)
+  stmt_of (For' l h p s) =
+      for_loop l (first_of h.value.first) (option_map expr h.value.test) (option_map expr h.value.next) (stmt_of s)
   stmt_of (Break l) = break_loop l
   stmt_of (Continue l) = continue_loop l
   stmt_of (Return l e) = return_value l (option_map expr e)
@@ -131,7 +138,8 @@ pub data Item : Type 0 where
   prototype : declarations.Head → Item
   declares_all : declarations.Declaration → Item
   completes : declarations.Aggregate → Item
-  functions_by_order : (line : ℕ) (order : NamedOrder) (then : List Function) (otherwise : Option (List Function)) → Item
+  functions_by_order : (line : ℕ) (order : NamedOrder) (then : List Function) (otherwise : Option (List Function))
+      → Item
 
 abbrev pub item_of : ItemTree → Item
 item_of (items.Typedef t) = typedefs (typedef_of t)

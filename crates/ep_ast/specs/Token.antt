@@ -27,27 +27,34 @@ line_of (end_if l) = l
 -- the words of C11 6.4.1 that are accepted
 abbrev pub accepted_words : List (List ℕ)
 accepted_words =
-    codes "break" ∷ codes "char" ∷ codes "const" ∷ codes "continue" ∷ codes "do" ∷ codes "else" ∷ codes "for" ∷ codes "if" ∷ codes "inline" ∷ codes "int" ∷ codes "long"
-    ∷ codes "return" ∷ codes "short" ∷ codes "signed" ∷ codes "sizeof" ∷ codes "static" ∷ codes "struct" ∷ codes "typedef" ∷ codes "union" ∷ codes "unsigned" ∷ codes "void"
+    codes "break" ∷ codes "char" ∷ codes "const" ∷ codes "continue" ∷ codes "do" ∷ codes "else" ∷ codes "for" ∷
+    codes "if" ∷ codes "inline" ∷ codes "int" ∷ codes "long"
+    ∷ codes "return" ∷ codes "short" ∷ codes "signed" ∷ codes "sizeof" ∷ codes "static" ∷ codes "struct" ∷
+    codes "typedef" ∷ codes "union" ∷ codes "unsigned" ∷ codes "void"
     ∷ codes "while" ∷ []
 
 -- the others, which are refused
 abbrev pub reserved_words : List (List ℕ)
 reserved_words =
-    codes "auto" ∷ codes "case" ∷ codes "default" ∷ codes "double" ∷ codes "enum" ∷ codes "extern" ∷ codes "float" ∷ codes "goto" ∷ codes "register" ∷ codes "restrict"
-    ∷ codes "switch" ∷ codes "volatile" ∷ codes "_Alignas" ∷ codes "_Alignof" ∷ codes "_Atomic" ∷ codes "_Bool" ∷ codes "_Complex" ∷ codes "_Generic" ∷ codes "_Imaginary"
+    codes "auto" ∷ codes "case" ∷ codes "default" ∷ codes "double" ∷ codes "enum" ∷ codes "extern" ∷ codes "float" ∷
+    codes "goto" ∷ codes "register" ∷ codes "restrict"
+    ∷ codes "switch" ∷ codes "volatile" ∷ codes "_Alignas" ∷ codes "_Alignof" ∷ codes "_Atomic" ∷ codes "_Bool" ∷
+    codes "_Complex" ∷ codes "_Generic" ∷ codes "_Imaginary"
     ∷ codes "_Noreturn" ∷ codes "_Static_assert" ∷ codes "_Thread_local" ∷ []
 
 -- the marks of more than one byte, longest first, and those of one
 abbrev pub long_marks : List (List ℕ)
 long_marks =
-    codes "<<=" ∷ codes ">>=" ∷ codes "->" ∷ codes "++" ∷ codes "--" ∷ codes "<<" ∷ codes ">>" ∷ codes "<=" ∷ codes ">=" ∷ codes "==" ∷ codes "!=" ∷ codes "&&" ∷ codes "||"
+    codes "<<=" ∷ codes ">>=" ∷ codes "->" ∷ codes "++" ∷ codes "--" ∷ codes "<<" ∷ codes ">>" ∷ codes "<=" ∷
+    codes ">=" ∷ codes "==" ∷ codes "!=" ∷ codes "&&" ∷ codes "||"
     ∷ codes "+=" ∷ codes "-=" ∷ codes "*=" ∷ codes "/=" ∷ codes "%=" ∷ codes "&=" ∷ codes "|=" ∷ codes "^=" ∷ []
 
 abbrev pub short_marks : List (List ℕ)
 short_marks =
-    codes "(" ∷ codes ")" ∷ codes "[" ∷ codes "]" ∷ codes "{" ∷ codes "}" ∷ codes "." ∷ codes "&" ∷ codes "*" ∷ codes "+" ∷ codes "-" ∷ codes "~" ∷ codes "!" ∷ codes "/"
-    ∷ codes "%" ∷ codes "<" ∷ codes ">" ∷ codes "^" ∷ codes "|" ∷ codes "?" ∷ codes ":" ∷ codes ";" ∷ codes "=" ∷ codes "," ∷ []
+    codes "(" ∷ codes ")" ∷ codes "[" ∷ codes "]" ∷ codes "{" ∷ codes "}" ∷ codes "." ∷ codes "&" ∷ codes "*" ∷
+    codes "+" ∷ codes "-" ∷ codes "~" ∷ codes "!" ∷ codes "/"
+    ∷ codes "%" ∷ codes "<" ∷ codes ">" ∷ codes "^" ∷ codes "|" ∷ codes "?" ∷ codes ":" ∷ codes ";" ∷ codes "=" ∷
+    codes "," ∷ []
 
 -- all marks, each before those with which it begins
 abbrev pub marks : List (List ℕ)

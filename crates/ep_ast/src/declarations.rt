@@ -101,7 +101,8 @@ pub struct HeadTree {
 impl SpecTree {
     /// A `struct` or `union` with its members.
     pub fn new_body(line: u32, word: u8, tag: Option<Vec<u8>>, members: Vec<MemberTree>) -> SpecTree
-        ensures { shape.spec_of result ≡ shape.body (shape.aggregate line word (option_map shape.text_of tag) (shape.to_members (map shape.member_of members.items))) }
+        ensures { shape.spec_of result ≡ shape.body (shape.aggregate line word (option_map shape.text_of tag)
+            (shape.to_members (map shape.member_of members.items))) }
     {
         SpecTree::Body(line, word, tag, members)
     }

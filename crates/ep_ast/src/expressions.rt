@@ -11,7 +11,8 @@ pub struct Literal {
     pub longs: u8,
 }
 
-/// A type word without a body: an accepted word by its number, a typedef name, or a `struct` or `union` word and its tag.
+/// A type word without a body: an accepted word by its number, a typedef name, or a `struct` or `union` word and its
+/// tag.
 #[derive(Debug, Drop)]
 pub enum TypeWordTree {
     Word(u32, u8),
@@ -27,18 +28,19 @@ pub struct TypeNameTree {
     pub stars: Vec<u32>,
 }
 
-/// An expression. Each variant begins with its line, that of its first token, where parentheses round an expression don't count.
-/// A `u8` is the number of a mark.
+/// An expression. Each variant begins with its line, that of its first token, where parentheses round an expression
+/// don't
+/// count. A `u8` is the number of a mark.
 #[derive(Debug, Drop)]
 pub enum ExprTree {
     Assign(u32, u8, Box<ExprTree>, Box<ExprTree>),
     Conditional(u32, Box<ExprTree>, Box<ExprTree>, Box<ExprTree>),
     Binary(u32, u8, Box<ExprTree>, Box<ExprTree>),
-    Cast(u32, TypeNameTree, Box<ExprTree>),
+    Cast(u32, Box<TypeNameTree>, Box<ExprTree>),
     Step(u32, u8, Box<ExprTree>),
     Unary(u32, u8, Box<ExprTree>),
     SizeofExpr(u32, Box<ExprTree>),
-    SizeofType(u32, TypeNameTree),
+    SizeofType(u32, Box<TypeNameTree>),
     Index(u32, Box<ExprTree>, Box<ExprTree>),
     Call(u32, Box<ExprTree>, Vec<ExprTree>),
     Member(u32, Box<ExprTree>, Vec<u8>),
@@ -52,7 +54,8 @@ pub enum ExprTree {
 impl ExprTree {
     /// A call of what the tree before the brackets names.
     pub fn new_call(line: u32, callee: Box<ExprTree>, arguments: Vec<ExprTree>) -> ExprTree
-        ensures { shape.expr result ≡ shape.call line (shape.expr callee.value) (shape.to_exprs (map shape.expr arguments.items)) }
+        ensures { shape.expr result
+            ≡ shape.call line (shape.expr callee.value) (shape.to_exprs (map shape.expr arguments.items)) }
     {
         ExprTree::Call(line, callee, arguments)
     }

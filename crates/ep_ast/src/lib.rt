@@ -17,5 +17,6 @@ pub use expressions::{ExprTree, Literal, TypeNameTree, TypeWordTree};
 pub use orders::NamedOrder;
 pub use refusals::{Halt, Refusal, refusal_text};
 pub use statements::{
-    BlockItemTree, BlockTree, ForInitTree, FunctionTree, ItemTree, ProgramTree, StmtTree,
+    BlockItemTree, BlockTree, ForInitTree, FunctionTree, HeadingTree, ItemTree, ProgramTree,
+    StmtTree,
 };

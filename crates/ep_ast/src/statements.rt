@@ -14,8 +14,9 @@ pub struct BlockTree {
     pub items: Vec<BlockItemTree>,
 }
 
-/// A part of a block. `Arms` has statements by byte order: those of the order that its condition names, and those of the other where there
-/// is an `#else`; its line is that of the `#if`.
+/// A part of a block. `Arms` has statements by byte order: those of the order that its condition names, and those of
+/// the
+/// other where there is an `#else`; its line is that of the `#if`.
 #[derive(Debug, Drop)]
 #[cycle(statements)]
 pub enum BlockItemTree {
@@ -31,6 +32,14 @@ pub enum ForInitTree {
     Expr(Option<ExprTree>),
 }
 
+/// What stands in the parentheses of a `for`.
+#[derive(Debug, Drop)]
+pub struct HeadingTree {
+    pub first: ForInitTree,
+    pub test: Option<ExprTree>,
+    pub next: Option<ExprTree>,
+}
+
 /// A statement. Each variant begins with its line, that of its first token.
 #[derive(Debug, Drop)]
 #[cycle(statements)]
@@ -40,7 +49,7 @@ pub enum StmtTree {
     If(u32, ExprTree, Box<StmtTree>, Option<Box<StmtTree>>),
     While(u32, ExprTree, Box<StmtTree>),
     Do(u32, Box<StmtTree>, ExprTree),
-    For(u32, ForInitTree, Option<ExprTree>, Option<ExprTree>, Box<StmtTree>),
+    For(u32, Box<HeadingTree>, Box<StmtTree>),
     Break(u32),
     Continue(u32),
     Return(u32, Option<ExprTree>),
@@ -86,7 +95,8 @@ impl StmtTree {
         then: Box<StmtTree>,
         otherwise: Option<Box<StmtTree>>,
     ) -> StmtTree
-        ensures { shape.stmt_of result ≡ shape.make_if line (expr test) (shape.stmt_of then.value) (option_map (λ s. shape.stmt_of s.value) otherwise) }
+        ensures { shape.stmt_of result ≡ shape.make_if line (expr test) (shape.stmt_of then.value)
+            (option_map (λ s. shape.stmt_of s.value) otherwise) }
     {
         StmtTree::If(line, test, then, otherwise)
     }
@@ -100,7 +110,8 @@ impl BlockItemTree {
         then: Vec<StmtTree>,
         otherwise: Option<Vec<StmtTree>>,
     ) -> BlockItemTree
-        ensures { shape.part_of result ≡ shape.make_arms line order (shape.statements then) (option_map shape.statements otherwise) }
+        ensures { shape.part_of result
+            ≡ shape.make_arms line order (shape.statements then) (option_map shape.statements otherwise) }
     {
         BlockItemTree::Arms(line, order, then, otherwise)
     }

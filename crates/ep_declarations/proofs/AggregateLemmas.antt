@@ -1,14 +1,17 @@
 -- The next word, by how it begins: a `struct` or `union` with its members, `static` or `inline`, or a word of a type.
-use Rattle.std.proofs.Common.{◌≡◌, ℕ, Bool, true, false, List, [], ◌∷◌, Option, Some, None, refl, sym, ap, subst, ◌∙◌, arith, inl}
-use Rattle.std.specs.Prelude.{◌==◌, ◌&&◌, if◌then◌else◌, Err}
+use Rattle.std.proofs.Common.{◌≡◌, ℕ, Bool, true, false, List, ◌∷◌, Option, Some, None, refl, sym, ap, subst, ◌∙◌}
+use Rattle.std.proofs.Common.{arith, inl}
+use Rattle.std.specs.Prelude.{◌==◌, ◌&&◌, Err}
 use Rattle.std.proofs.lemmas.Bool.Decides.{nat_tests}
-use Rattle.ep_ast.specs.Token.{Tok, word, name, number, mark, if_little, if_big, other, end_if}
+use Rattle.ep_ast.specs.Token.{Tok, word, name, mark}
 use Rattle.ep_ast.specs.Expression as expressions
 use Rattle.ep_ast.specs.Expression.{TypeWord}
 use Rattle.ep_ast.specs.Declaration.{Spec, plain, body, aggregate, Aggregate, Member, to_members}
 use Rattle.ep_ast.specs.Mark.{left_brace}
-use Rattle.ep_ast.specs.TypeWords.{Bag, with_word, with_whole, joined, fits, is_type_word, is_tag_word, OneWord, plain_word, tag as tag_name, begins_type}
-use Rattle.ep_ast.specs.DeclarationGrammar.{Place, has_bodies, has_storage, is_storage_word, begins_spec, type_word, storage, with_members, Aggregated, tagged, untagged, Members}
+use Rattle.ep_ast.specs.TypeWords.{Bag, with_word, with_whole, joined, fits, is_type_word, is_tag_word, OneWord}
+use Rattle.ep_ast.specs.TypeWords.{plain_word, tag as tag_name, begins_type}
+use Rattle.ep_ast.specs.DeclarationGrammar.{Place, has_bodies, has_storage, is_storage_word, begins_spec, type_word}
+use Rattle.ep_ast.specs.DeclarationGrammar.{storage, with_members, Aggregated, tagged, untagged, Members}
 use Rattle.ep_ast.specs.BitField.{InMembers}
 use Rattle.ep_ast.specs.Reading.{Takes, TakesNone, Lacks, AtMark}
 use Rattle.ep_ast.specs.declared.refusals.Halt.{Halt}
@@ -16,8 +19,9 @@ use Rattle.ep_ast.specs.declared.refusals.Halt.TheVariants as halts
 use Rattle.ep_exprs.specs.Words.{OneRead}
 use Rattle.ep_exprs.proofs.TypeWordLemmas.{apart, one_begins}
 use Rattle.ep_reading.specs.Answer.{Clear, Fails}
-use Rattle.ep_declarations.specs.SpecAhead.{Ahead, over, fitting, begins_storage, begins_body, tag_joins, Opens, InAggregate, in_tagged, in_untagged, InBody}
-use Rattle.ep_declarations.proofs.SpecLemmas.{or_right, tag_begins, type_begins, begins_neither, one_spec_begins}
+use Rattle.ep_declarations.specs.SpecAhead.{Ahead, over, fitting, begins_storage, begins_body, Opens}
+use Rattle.ep_declarations.specs.SpecAhead.{InAggregate, in_tagged, in_untagged, InBody}
+use Rattle.ep_declarations.proofs.SpecLemmas.{tag_begins, type_begins, begins_neither, one_spec_begins}
 
 -- ---- words of different kinds
 
@@ -40,10 +44,6 @@ body_test c d h e = rw (h, e) refl
 storage_test : (k : Place) (c : ℕ) → has_storage k ≡ true → is_storage_word c ≡ true
     → (has_storage k && is_storage_word c) ≡ true
 storage_test k c h i = rw (h, i) refl
-
-if_false : (t f : Bool) → (if t then f else true) ≡ false → (t ≡ true) × (f ≡ false)
-if_false true f e = (refl, e)
-if_false false f e = absurd cc
 
 module _ (N : List ℕ → Bool) where
   -- ---- behind the brace
@@ -212,36 +212,6 @@ module _ (N : List ℕ → Bool) where
     only = λ u vs d. let a = alone p s (one_begins N t.holds) d in let q = t.only a.one vs a.reads in
         (a.is ∙ plain_is w a.one q.0, q.1);
   }
-
-  -- a `struct` or `union` that can't join the words before it
-  tag_whole : {l c : ℕ} {us zs : List Tok} {w : TypeWord} (b : Bag) → is_tag_word c ≡ true
-      → OneWord N (word l c ∷ us) zs w → joined b w ≡ with_whole b
-  tag_whole {c = c} b h (plain_word k) = absurd (apart c k h)
-  tag_whole b h (tag_name k) = refl
-
-  tag_never : {l c : ℕ} {us zs : List Tok} {k : Place} {b : Bag} {o : Option Spec} → begins_body (word l c ∷ us) ≡ false
-      → begins_storage k (word l c ∷ us) ≡ false → is_tag_word c ≡ true → fits (with_whole b) ≡ false
-      → Ahead N k b (word l c ∷ us) zs o → ⊥
-  tag_never {c = c} {b = b} p s h n d =
-      let a = alone p s (or_right (is_type_word c) (is_tag_word c) h) d in
-      let f : fits (with_whole b) ≡ true = rw (tag_whole b h a.reads) at a.fit in cc
-
-  joins_never : (k : Place) (b : Bag) (ts zs : List Tok) (o : Option Spec) → begins_body ts ≡ false
-      → begins_storage k ts ≡ false → tag_joins b ts ≡ false → Ahead N k b ts zs o → ⊥
-  joins_never k b (word l c ∷ ts) zs o p s h d = let j = if_false (is_tag_word c) (fits (with_whole b)) h in
-      tag_never p s j.0 j.1 d
-  joins_never k b [] zs o p s h d = absurd cc
-  joins_never k b (name l c ∷ ts) zs o p s h d = absurd cc
-  joins_never k b (number l c ∷ ts) zs o p s h d = absurd cc
-  joins_never k b (mark l c ∷ ts) zs o p s h d = absurd cc
-  joins_never k b (if_little l ∷ ts) zs o p s h d = absurd cc
-  joins_never k b (if_big l ∷ ts) zs o p s h d = absurd cc
-  joins_never k b (other l ∷ ts) zs o p s h d = absurd cc
-  joins_never k b (end_if l ∷ ts) zs o p s h d = absurd cc
-
-  pub tag_unfit : (k : Place) (b : Bag) (ts : List Tok) → begins_body ts ≡ false → begins_storage k ts ≡ false
-      → tag_joins b ts ≡ false → TakesNone (Ahead N k b) ts
-  tag_unfit k b ts p s h = record { never = λ o zs d. joins_never k b ts zs o p s h d }
 
   lacks_at : (us vs : List Tok) (l : ℕ) → AtMark left_brace us (Some (l, vs)) → Lacks left_brace us → ⊥
   lacks_at us vs l k n = let L : List Tok → Type 0 = λ ts. Lacks left_brace ts in

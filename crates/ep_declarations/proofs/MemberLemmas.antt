@@ -4,7 +4,8 @@ use Rattle.ep_ast.specs.Token.{Tok, mark}
 use Rattle.ep_ast.specs.Declaration.{Spec, Member, member, to_specs, Declarator}
 use Rattle.ep_ast.specs.Mark.{right_brace}
 use Rattle.ep_ast.specs.TypeWords.{no_bag}
-use Rattle.ep_ast.specs.DeclarationGrammar.{in_aggregate, specs_line, Specified, Members, last_member, next_member, OneMember, members, Declarators}
+use Rattle.ep_ast.specs.DeclarationGrammar.{in_aggregate, specs_line, Specified, Members, last_member, next_member}
+use Rattle.ep_ast.specs.DeclarationGrammar.{OneMember, members, Declarators}
 use Rattle.ep_ast.specs.BitField.{InSpecs, InMembers, after_member, in_words, in_names, InDeclarators}
 use Rattle.ep_ast.specs.Reading.{Takes, TakesNone, Lacks, AtMark}
 use Rattle.ep_reading.specs.Answer.{Clear}

@@ -1,11 +1,14 @@
 -- Reading the words that begin a declaration, one after the other.
-use Rattle.std.proofs.Common.{◌≡◌, ℕ, Bool, true, false, List, [], ◌∷◌, ◌++◌, Some, None, refl, sym, ap, ◌∙◌, append_assoc, inl, inr}
+use Rattle.std.proofs.Common.{◌≡◌, ℕ, Bool, true, false, List, [], ◌∷◌, ◌++◌, Some, None, refl, sym, ap, ◌∙◌}
+use Rattle.std.proofs.Common.{append_assoc, inl, inr}
 use Rattle.std.specs.Prelude.{◌&&◌, ◌||◌, not}
 use Rattle.std.proofs.lemmas.List.{append-nil}
 use Rattle.ep_ast.specs.Token.{Tok, word, name, number, mark, if_little, if_big, other, end_if}
 use Rattle.ep_ast.specs.Declaration.{Spec, plain, body}
 use Rattle.ep_ast.specs.TypeWords.{Bag, no_bag, with_whole, fits, is_no_bag, is_type_word, is_tag_word, begins_type}
-use Rattle.ep_ast.specs.DeclarationGrammar.{Place, has_bodies, has_storage, is_storage_word, spec_joined, specs_joined, name_type, begins_spec, OneSpec, type_word, storage, with_members, Specs, no_specs, more_specs, Specified, specified, tagged, untagged}
+use Rattle.ep_ast.specs.DeclarationGrammar.{Place, has_bodies, has_storage, is_storage_word, spec_joined, specs_joined}
+use Rattle.ep_ast.specs.DeclarationGrammar.{name_type, begins_spec, OneSpec, type_word, storage, with_members, Specs}
+use Rattle.ep_ast.specs.DeclarationGrammar.{no_specs, more_specs, Specified, specified, tagged, untagged}
 use Rattle.ep_ast.specs.BitField as bits
 use Rattle.ep_ast.specs.BitField.{InSpecs, after_word}
 use Rattle.ep_ast.specs.Reading.{Takes, TakesNone}

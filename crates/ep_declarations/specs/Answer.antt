@@ -2,7 +2,8 @@
 use Rattle.std.specs.Prelude.{◌≡◌, Bool, true, false, List, [], ◌∷◌, Option, Some, None}
 use Rattle.std.specs.Global.{Vec}
 use Rattle.ep_ast.specs.Declaration as tree
-use Rattle.ep_ast.specs.Declaration.{Spec, Aggregate, Member, Declaration, Head, spec_of, aggregate_of, member_of, declaration_of, head_of}
+use Rattle.ep_ast.specs.Declaration.{Spec, Aggregate, Member, Declaration, Head, spec_of, aggregate_of, member_of}
+use Rattle.ep_ast.specs.Declaration.{declaration_of, head_of}
 use Rattle.ep_ast.specs.DeclarationGrammar as grammar
 use Rattle.ep_ast.specs.DeclarationGrammar.{are_named}
 use Rattle.ep_ast.specs.Depth.{in_spec, in_aggregate, in_member, in_declaration, in_head}

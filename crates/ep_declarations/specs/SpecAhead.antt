@@ -1,6 +1,7 @@
 -- One word more of those that begin a declaration, behind words that may stand together; and one `struct` or `union`
 -- with its members.
-use Rattle.std.specs.Prelude.{◌≡◌, ℕ, Bool, true, false, ◌&&◌, ◌==◌, ◌<◌, ◌⊎◌, if◌then◌else◌, List, [], ◌∷◌, length, map, Option, Some, None, IfSome}
+use Rattle.std.specs.Prelude.{◌≡◌, ℕ, Bool, true, false, ◌&&◌, ◌==◌, ◌<◌, ◌⊎◌, List, [], ◌∷◌, length}
+use Rattle.std.specs.Prelude.{map, Option, Some, None, IfSome}
 use Rattle.std.specs.Option.{option_map}
 use Rattle.std.specs.Borrow.{Bor}
 use Rattle.ep_ast.specs.Token.{Tok, word, name, mark}
@@ -9,7 +10,8 @@ use Rattle.ep_ast.specs.TypeWords.{Bag, no_bag, with_whole, fits, is_tag_word}
 use Rattle.ep_ast.specs.Declaration.{Spec, Member, spec_of, member_of}
 use Rattle.ep_ast.specs.declared.declarations.MemberTree.{MemberTree}
 use Rattle.ep_lexer.specs.declared.tokens.Token.{Token}
-use Rattle.ep_ast.specs.DeclarationGrammar.{Place, in_aggregate, has_bodies, has_storage, is_storage_word, spec_joined, begins_spec, OneSpec, Specified}
+use Rattle.ep_ast.specs.DeclarationGrammar.{Place, in_aggregate, has_bodies, has_storage, is_storage_word, spec_joined}
+use Rattle.ep_ast.specs.DeclarationGrammar.{begins_spec, OneSpec, Specified}
 use Rattle.ep_ast.specs.BitField.{InSpecs, InMembers, InDeclarators}
 use Rattle.ep_ast.specs.Depth.{in_spec, in_member}
 use Rattle.ep_lexer.specs.Tokens.{view}
@@ -43,11 +45,6 @@ ShowsAhead b (Some o) s =
 -- fewer tokens than so many stand behind the word, where one was read
 abbrev pub IsPastWord : ℕ → Part (Option OneMore) → Type 0
 IsPastWord n p = IfSome p.value (λ o. length p.rest.now < n)
-
--- the `struct` or `union` that stands first, if one does, can join these words
-abbrev pub tag_joins : Bag → List Tok → Bool
-tag_joins b (word l c ∷ ts) = if is_tag_word c then fits (with_whole b) else true
-tag_joins b _ = true
 
 -- `static` or `inline`, where it may stand
 abbrev pub begins_storage : Place → List Tok → Bool

@@ -13,7 +13,8 @@ ghost use Rattle.ep_reading.specs.Measured.{Shows};
 ghost use Rattle.ep_exprs.specs.Words.{bag};
 ghost use Rattle.ep_declarations.specs.Answer as answers;
 ghost use Rattle.ep_declarations.specs.Answer.{ShowsSpecs, ShowsMembers, TakesBody, AsAggregate};
-ghost use Rattle.ep_declarations.specs.SpecAhead.{Ahead, InBody, InMember, ShowsMember, ShowsAhead, IsPastWord, are_none};
+ghost use Rattle.ep_declarations.specs.SpecAhead.{Ahead, InBody, InMember, ShowsMember, ShowsAhead, IsPastWord};
+ghost use Rattle.ep_declarations.specs.SpecAhead.{are_none};
 
 use crate::aggregates::{at_body, make_body, make_member, owned_tag};
 use crate::words::{OneMore, plain_word};

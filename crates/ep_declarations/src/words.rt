@@ -9,14 +9,14 @@ ghost use Rattle.ep_reading.specs.Names.{is_type};
 ghost use Rattle.ep_reading.specs.Answer.{GivesChecked};
 ghost use Rattle.ep_exprs.specs.Words.{bag};
 ghost use Rattle.ep_declarations.specs.Answer as answers;
-ghost use Rattle.ep_declarations.specs.SpecAhead as ahead;
-ghost use Rattle.ep_declarations.specs.SpecAhead.{Ahead, InBody, ShowsAhead, IsPastWord, AtStorage, begins_body, seen_storage, IsPastStorage};
+ghost use Rattle.ep_declarations.specs.SpecAhead.{Ahead, InBody, ShowsAhead, IsPastWord, AtStorage, begins_body};
+ghost use Rattle.ep_declarations.specs.SpecAhead.{seen_storage, IsPastStorage};
 
 use crate::specs::Place;
 use ep_ast::marks::LEFT_BRACE;
 use ep_ast::words::{INLINE, STATIC};
 use ep_ast::{Halt, SpecTree, TypeWordTree};
-use ep_exprs::{TypeBag, is_tag_word, one_word};
+use ep_exprs::{TypeBag, next_word};
 use ep_lexer::Token;
 use ep_reading::{Head, Measured, Part, Reader, at_mark, first_of};
 
@@ -71,24 +71,6 @@ fn at_storage<'a>(place: Place, tokens: &'a [Token]) -> Option<(u32, u8, &'a [To
     }
 }
 
-/// Whether the `struct` or `union` that stands first, if one does, can join these words.
-fn tag_joins(words: &TypeBag, tokens: &[Token]) -> bool
-    requires { fits (bag words.now) ≡ true }
-    ensures { result ≡ ahead.tag_joins (bag words.now) (map view tokens.now) }
-{
-    match first_of(tokens) {
-        Head::Word(_, code, _) => if is_tag_word(code) {
-            match words.with_whole() {
-                Some(_) => true,
-                None => false,
-            }
-        } else {
-            true
-        },
-        _ => true,
-    }
-}
-
 /// The next word, where no members come with it. The refusal names the word that can't join those before it, also where
 /// something else is missing behind it.
 pub fn plain_word<'a>(
@@ -116,10 +98,7 @@ pub fn plain_word<'a>(
             rest,
         });
     }
-    if !tag_joins(words, tokens) {
-        return Err(Halt::Refused(reader.stopped(tokens)));
-    }
-    let Some(word) = one_word(reader, tokens)? else {
+    let Some(word) = next_word(reader, words, tokens)? else {
         return Ok(Part {
             value: None,
             rest: tokens,

@@ -1,5 +1,6 @@
 -- Reading declarators: one, and those of members.
-use Rattle.std.proofs.Common.{◌≡◌, ℕ, Bool, true, false, List, [], ◌∷◌, ◌++◌, Option, Some, refl, sym, ap, subst, ◌∙◌, append_assoc, inl}
+use Rattle.std.proofs.Common.{◌≡◌, ℕ, Bool, true, false, List, [], ◌∷◌, ◌++◌, Option, Some, refl, sym, ap, subst, ◌∙◌}
+use Rattle.std.proofs.Common.{append_assoc, inl}
 use Rattle.std.specs.Prelude.{◌==◌, not}
 use Rattle.ep_ast.specs.declared.refusals.Halt.{Halt}
 use Rattle.ep_ast.specs.declared.refusals.Halt.TheVariants as halts

@@ -2,7 +2,8 @@
 use Rattle.std.proofs.Common.{◌≡◌, ℕ, Bool, List, [], ◌∷◌, ◌++◌, Some, None, refl, sym, ap, ◌∙◌, append_assoc}
 use Rattle.ep_ast.specs.Token.{Tok, mark}
 use Rattle.ep_ast.specs.Declaration.{Declarator, Value, Init}
-use Rattle.ep_ast.specs.DeclarationGrammar.{Declared, Given, Initialised, without, with_value, Inits, last_init, next_init}
+use Rattle.ep_ast.specs.DeclarationGrammar.{Declared, Given, Initialised, without, with_value, Inits, last_init}
+use Rattle.ep_ast.specs.DeclarationGrammar.{next_init}
 use Rattle.ep_ast.specs.Mark.{equal, comma, semicolon}
 use Rattle.ep_ast.specs.Grammar.{expr}
 use Rattle.ep_ast.specs.Reading.{Ends, Takes, TakesNone, Lacks, AtMark}

@@ -1,12 +1,16 @@
 -- Parameters, one after the other up to the closing parenthesis.
-use Rattle.std.proofs.Common.{◌≡◌, ℕ, Bool, true, false, List, [], ◌∷◌, ◌++◌, Option, Some, None, refl, sym, ap, ◌∙◌, append_assoc}
+use Rattle.std.proofs.Common.{◌≡◌, ℕ, Bool, true, false, List, [], ◌∷◌, ◌++◌, Option, Some, None, refl, sym, ap, ◌∙◌}
+use Rattle.std.proofs.Common.{append_assoc}
 use Rattle.std.specs.Prelude.{◌==◌, ◌&&◌, is_some}
 use Rattle.ep_ast.specs.Token.{Tok, word, name, number, mark, if_little, if_big, other, end_if}
 use Rattle.ep_ast.specs.Expression.{Expr, TypeWord}
 use Rattle.ep_ast.specs.Declaration as tree
 use Rattle.ep_ast.specs.Declaration.{Param, Params}
-use Rattle.ep_ast.specs.TypeWords.{OneWord, plain_word, type_name, tag, Words, no_words, more_words, AreType, AreStars, words_line, names_type}
-use Rattle.ep_ast.specs.DeclarationGrammar.{Bounds, param, lacks_name, OneParam, named, unnamed, SomeParams, last_param, next_param, params_line, is_void_alone, Parameters, nothing, void_alone, some}
+use Rattle.ep_ast.specs.TypeWords.{OneWord, plain_word, type_name, tag, Words, no_words, more_words, AreType, AreStars}
+use Rattle.ep_ast.specs.TypeWords.{words_line, names_type}
+use Rattle.ep_ast.specs.DeclarationGrammar.{Bounds, param, lacks_name, OneParam, named, unnamed, SomeParams, last_param}
+use Rattle.ep_ast.specs.DeclarationGrammar.{next_param, params_line, is_void_alone, Parameters, nothing, void_alone}
+use Rattle.ep_ast.specs.DeclarationGrammar.{some}
 use Rattle.ep_ast.specs.Mark.{void_word, right_paren, comma}
 use Rattle.ep_ast.specs.Reading.{Takes, TakesNone, Lacks, LacksName, AtMark}
 use Rattle.ep_reading.proofs.FirstLemmas.{tail_is, code_is, lacks_is, apart}
@@ -90,8 +94,7 @@ module _ (N : List ℕ → Bool) where
   unnamed_read xs ys zs vs ns ws bs t s k b =
       record {
         holds = unnamed t.holds s.holds (lacks_a_name zs k) b.holds;
-        only =
-            λ p qs d. unnamed_only t s (lacks_a_name zs k) b d;
+        only = λ p qs d. unnamed_only t s (lacks_a_name zs k) b d;
       }
 
   typed_never : {l : ℕ} {text ns : List ℕ} {xs ys zs us : List Tok} {ws : List TypeWord} {p : Param}

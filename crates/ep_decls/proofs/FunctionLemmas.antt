@@ -1,5 +1,6 @@
 -- Functions with their bodies, alone and in the arms of a conditional.
-use Rattle.std.proofs.Common.{◌≡◌, ℕ, Bool, true, false, List, [], ◌∷◌, ◌++◌, Option, Some, None, refl, sym, ap, ◌∙◌, append_assoc, subst}
+use Rattle.std.proofs.Common.{◌≡◌, ℕ, Bool, true, false, List, [], ◌∷◌, ◌++◌, Option, Some, None, refl, sym, ap, ◌∙◌}
+use Rattle.std.proofs.Common.{append_assoc, subst}
 use Rattle.std.proofs.lemmas.List.{append-nil}
 use Rattle.ep_ast.specs.declared.orders.NamedOrder.{NamedOrder}
 use Rattle.ep_ast.specs.Token.{Tok, word, name, number, mark, if_little, if_big, other, end_if}
@@ -8,7 +9,8 @@ use Rattle.ep_ast.specs.Statement as tree
 use Rattle.ep_ast.specs.Statement.{Function, Block, Item}
 use Rattle.ep_ast.specs.DeclarationGrammar.{at_file_scope, begins_spec, are_named, Specified, Headed, head}
 use Rattle.ep_ast.specs.StatementGrammar.{Blocks}
-use Rattle.ep_ast.specs.ProgramGrammar.{Defines, function, Functions, before_else, before_end, more_functions, OtherFunctions, no_other, another}
+use Rattle.ep_ast.specs.ProgramGrammar.{Defines, function, Functions, before_else, before_end, more_functions}
+use Rattle.ep_ast.specs.ProgramGrammar.{OtherFunctions, no_other, another}
 use Rattle.ep_ast.specs.BitField.{InFunctions, after_function, in_head}
 use Rattle.ep_ast.specs.Reading.{Takes, TakesNone}
 use Rattle.ep_reading.proofs.FirstLemmas.{tail_is}
@@ -35,25 +37,34 @@ module _ (N : List ℕ → Bool) where
   pub head_refused : (xs : List Tok) → TakesNone (Headed N) xs → TakesNone (Defines N) xs
   head_refused xs n = record { never = λ f ys d. head_never n d }
 
-  unnamed_never : {xs ys zs : List Tok} {h : Head} {f : Function} → Takes (Headed N) xs h ys → are_named h.params ≡ false → Defines N xs zs f → ⊥
-  unnamed_never {h = h} t n (function {ys = ys'} {h = h'} q d b) = let k = t.only h' ys' d in contrary (are_named h.params) n (rw k.0 at q)
+  unnamed_never : {xs ys zs : List Tok} {h : Head} {f : Function} → Takes (Headed N) xs h ys
+      → are_named h.params ≡ false → Defines N xs zs f → ⊥
+  unnamed_never {h = h} t n (function {ys = ys'} {h = h'} q d b) = let k = t.only h' ys' d in
+      contrary (are_named h.params) n (rw k.0 at q)
 
-  pub unnamed_refused : (xs ys : List Tok) (h : Head) → Takes (Headed N) xs h ys → are_named h.params ≡ false → TakesNone (Defines N) xs
+  pub unnamed_refused : (xs ys : List Tok) (h : Head) → Takes (Headed N) xs h ys → are_named h.params ≡ false
+      → TakesNone (Defines N) xs
   unnamed_refused xs ys h t n = record { never = λ f zs d. unnamed_never t n d }
 
-  body_never : {xs ys zs : List Tok} {h : Head} {f : Function} → Takes (Headed N) xs h ys → TakesNone (Blocks N) ys → Defines N xs zs f → ⊥
-  body_never t n (function {ys = ys'} {zs = zs} {h = h'} {b = b'} q d b) = let k = t.only h' ys' d in n.never b' zs (rw k.1 at b)
+  body_never : {xs ys zs : List Tok} {h : Head} {f : Function} → Takes (Headed N) xs h ys → TakesNone (Blocks N) ys
+      → Defines N xs zs f → ⊥
+  body_never t n (function {ys = ys'} {zs = zs} {h = h'} {b = b'} q d b) = let k = t.only h' ys' d in
+      n.never b' zs (rw k.1 at b)
 
-  pub body_refused : (xs ys : List Tok) (h : Head) → Takes (Headed N) xs h ys → TakesNone (Blocks N) ys → TakesNone (Defines N) xs
+  pub body_refused : (xs ys : List Tok) (h : Head) → Takes (Headed N) xs h ys → TakesNone (Blocks N) ys
+      → TakesNone (Defines N) xs
   body_refused xs ys h t n = record { never = λ f zs d. body_never t n d }
 
-  defines_only : {xs ys zs ws : List Tok} {h : Head} {b : Block} {f : Function} → Takes (Headed N) xs h ys → Takes (Blocks N) ys b zs → Defines N xs ws f → (f ≡ made h b) × (ws ≡ zs)
+  defines_only : {xs ys zs ws : List Tok} {h : Head} {b : Block} {f : Function} → Takes (Headed N) xs h ys
+      → Takes (Blocks N) ys b zs → Defines N xs ws f → (f ≡ made h b) × (ws ≡ zs)
   defines_only t k (function {ys = ys'} {zs = ws} {h = h'} {b = b'} n d e) =
       let p = t.only h' ys' d in
       let q = k.only b' ws (rw p.1 at e) in
       (rw (p.0, q.0) refl, q.1)
 
-  pub defines_taken : (xs ys zs : List Tok) (h : Head) (b : Block) → are_named h.params ≡ true → Takes (Headed N) xs h ys → Takes (Blocks N) ys b zs → Takes (Defines N) xs (record { line = h.line; head = h; body = b }) zs
+  pub defines_taken : (xs ys zs : List Tok) (h : Head) (b : Block) → are_named h.params ≡ true
+      → Takes (Headed N) xs h ys → Takes (Blocks N) ys b zs
+      → Takes (Defines N) xs (record { line = h.line; head = h; body = b }) zs
   defines_taken xs ys zs h b n t k = record { holds = function n t.holds k.holds; only = λ f ws d. defines_only t k d }
 
   -- ---- the functions of an arm
@@ -61,11 +72,13 @@ module _ (N : List ℕ → Bool) where
   -- these are read with no bit-field in them, and what comes are functions again
   pub record FunctionsSo (xs : List Tok) (front : List Function) (ys : List Tok) : Type 0 where
     pub forth : (zs : List Tok) (fs : List Function) → Functions N ys zs fs → Functions N xs zs (front ++ fs)
-    pub back : (zs : List Tok) (fs : List Function) → Functions N xs zs fs → (more : List Function) × (fs ≡ front ++ more) × Functions N ys zs more
+    pub back : (zs : List Tok) (fs : List Function) → Functions N xs zs fs
+        → (more : List Function) × (fs ≡ front ++ more) × Functions N ys zs more
     pub clear : (l : ℕ) → InFunctions N xs l → InFunctions N ys l
     pub worse : (l : ℕ) → InFunctions N ys l → InFunctions N xs l
 
-  one_more : (front : List Function) {ys zs us : List Tok} {f : Function} {fs rest : List Function} → Takes (Defines N) ys f zs → fs ≡ front ++ rest → Functions N ys us rest
+  one_more : (front : List Function) {ys zs us : List Tok} {f : Function} {fs rest : List Function}
+      → Takes (Defines N) ys f zs → fs ≡ front ++ rest → Functions N ys us rest
       → (more : List Function) × (fs ≡ (front ++ f ∷ []) ++ more) × Functions N zs us more
   one_more front t e before_else = absurd (defines_not N refl t.holds)
   one_more front t e before_end = absurd (defines_not N refl t.holds)
@@ -73,11 +86,13 @@ module _ (N : List ℕ → Bool) where
       let q = t.only f' ys' d in
       (fs', e ∙ ap (λ (x : Function). front ++ x ∷ fs') q.0 ∙ sym (append_assoc front (f ∷ []) fs'), rw (← q.1) r)
 
-  in_next : {ys zs : List Tok} {f : Function} {l : ℕ} → Takes (Defines N) ys f zs → Clear (InWords N) ys → InFunctions N ys l → InFunctions N zs l
+  in_next : {ys zs : List Tok} {f : Function} {l : ℕ} → Takes (Defines N) ys f zs → Clear (InWords N) ys
+      → InFunctions N ys l → InFunctions N zs l
   in_next t k (after_function {ys = ys'} {f = f'} d e) = let q = t.only f' ys' d in rw q.1 at e
   in_next t k (in_head {l = l} d) = absurd (k l d)
 
-  pub functions_step : (xs : List Tok) (front : List Function) (ys zs : List Tok) (f : Function) → FunctionsSo xs front ys → Takes (Defines N) ys f zs → Clear (InWords N) ys → FunctionsSo xs (front ++ f ∷ []) zs
+  pub functions_step : (xs : List Tok) (front : List Function) (ys zs : List Tok) (f : Function)
+      → FunctionsSo xs front ys → Takes (Defines N) ys f zs → Clear (InWords N) ys → FunctionsSo xs (front ++ f ∷ []) zs
   functions_step xs front ys zs f s t k = record {
     forth = λ us fs d. rw append_assoc (s.forth us (f ∷ fs) (more_functions t.holds d));
     back = λ us fs d. let q = s.back us fs d in one_more front t q.1 q.2;
@@ -107,7 +122,8 @@ module _ (N : List ℕ → Bool) where
   none_here (other l ∷ ts) h = before_else
   none_here (end_if l ∷ ts) h = before_end
 
-  none_only : {ys zs : List Tok} {fs : List Function} → ends_arm ys ≡ true → Functions N ys zs fs → (fs ≡ []) × (zs ≡ ys)
+  none_only : {ys zs : List Tok} {fs : List Function} → ends_arm ys ≡ true → Functions N ys zs fs
+      → (fs ≡ []) × (zs ≡ ys)
   none_only h before_else = (refl, refl)
   none_only h before_end = (refl, refl)
   none_only h (more_functions {xs = ys} d r) = absurd (defines_not N (not_begun ys h) d)
@@ -116,36 +132,44 @@ module _ (N : List ℕ → Bool) where
   none_in b (after_function d e) = defines_not N b d
   none_in b (in_head d) = in_specs_not N b d
 
-  pub functions_done : (xs : List Tok) (front : List Function) (ys : List Tok) → FunctionsSo xs front ys → ends_arm ys ≡ true → Takes (Functions N) xs front ys
+  pub functions_done : (xs : List Tok) (front : List Function) (ys : List Tok) → FunctionsSo xs front ys
+      → ends_arm ys ≡ true → Takes (Functions N) xs front ys
   functions_done xs front ys s h = record {
     holds = rw append-nil at (s.forth ys [] (none_here ys h));
-    only = λ fs zs d. let q = s.back zs fs d in let r = none_only h q.2 in (q.1 ∙ ap (λ (us : List Function). front ++ us) r.0 ∙ append-nil front, r.1);
+    only = λ fs zs d. let q = s.back zs fs d in let r = none_only h q.2 in
+        (q.1 ∙ ap (λ (us : List Function). front ++ us) r.0 ∙ append-nil front, r.1);
   }
 
-  pub functions_clear : (xs : List Tok) (front : List Function) (ys : List Tok) → FunctionsSo xs front ys → ends_arm ys ≡ true → Clear (InFunctions N) xs
+  pub functions_clear : (xs : List Tok) (front : List Function) (ys : List Tok) → FunctionsSo xs front ys
+      → ends_arm ys ≡ true → Clear (InFunctions N) xs
   functions_clear xs front ys s h = λ l d. none_in (not_begun ys h) (s.clear l d)
 
-  none_never : {ys zs : List Tok} {fs : List Function} → ends_arm ys ≡ false → TakesNone (Defines N) ys → Functions N ys zs fs → ⊥
+  none_never : {ys zs : List Tok} {fs : List Function} → ends_arm ys ≡ false → TakesNone (Defines N) ys
+      → Functions N ys zs fs → ⊥
   none_never h n before_else = absurd cc
   none_never h n before_end = absurd cc
   none_never h n (more_functions {ys = ys} {f = f} d r) = n.never f ys d
 
-  pub functions_refused : (xs : List Tok) (front : List Function) (ys : List Tok) → FunctionsSo xs front ys → ends_arm ys ≡ false → TakesNone (Defines N) ys → TakesNone (Functions N) xs
+  pub functions_refused : (xs : List Tok) (front : List Function) (ys : List Tok) → FunctionsSo xs front ys
+      → ends_arm ys ≡ false → TakesNone (Defines N) ys → TakesNone (Functions N) xs
   functions_refused xs front ys s h n = record { never = λ fs zs d. let q = s.back zs fs d in none_never h n q.2 }
 
   not_here : {ys : List Tok} {l : ℕ} → TakesNone (Defines N) ys → Clear (InWords N) ys → InFunctions N ys l → ⊥
   not_here n k (after_function {ys = ys} {f = f} d e) = n.never f ys d
   not_here n k (in_head {l = l} d) = k l d
 
-  pub refused_clear : (xs : List Tok) (front : List Function) (ys : List Tok) → FunctionsSo xs front ys → TakesNone (Defines N) ys → Clear (InWords N) ys → Clear (InFunctions N) xs
+  pub refused_clear : (xs : List Tok) (front : List Function) (ys : List Tok) → FunctionsSo xs front ys
+      → TakesNone (Defines N) ys → Clear (InWords N) ys → Clear (InFunctions N) xs
   refused_clear xs front ys s n k = λ l d. not_here n k (s.clear l d)
 
-  pub refused_worse : (xs : List Tok) (front : List Function) (ys : List Tok) → FunctionsSo xs front ys → (l : ℕ) → InWords N ys l → InFunctions N xs l
+  pub refused_worse : (xs : List Tok) (front : List Function) (ys : List Tok) → FunctionsSo xs front ys → (l : ℕ)
+      → InWords N ys l → InFunctions N xs l
   refused_worse xs front ys s l d = s.worse l (in_head d)
 
   -- ---- behind the first arm
 
-  no_other_only : {l : ℕ} {ys zs : List Tok} {gs : Option (List Function)} → OtherFunctions N (end_if l ∷ ys) zs gs → (gs ≡ None) × (zs ≡ ys)
+  no_other_only : {l : ℕ} {ys zs : List Tok} {gs : Option (List Function)} → OtherFunctions N (end_if l ∷ ys) zs gs
+      → (gs ≡ None) × (zs ≡ ys)
   no_other_only no_other = (refl, refl)
 
   no_other_in : {l m : ℕ} {ys : List Tok} → InOther N (end_if m ∷ ys) l → ⊥
@@ -157,7 +181,8 @@ module _ (N : List ℕ → Bool) where
   pub end_clear : (xs ys : List Tok) (l : ℕ) → xs ≡ end_if l ∷ ys → Clear (InOther N) xs
   end_clear xs ys l e = rw e (λ k d. no_other_in d)
 
-  neither_never : {xs ys : List Tok} {gs : Option (List Function)} → LacksEndIf xs → LacksElse xs → OtherFunctions N xs ys gs → ⊥
+  neither_never : {xs ys : List Tok} {gs : Option (List Function)} → LacksEndIf xs → LacksElse xs
+      → OtherFunctions N xs ys gs → ⊥
   neither_never h k no_other = h
   neither_never h k (another d) = k
 
@@ -170,10 +195,12 @@ module _ (N : List ℕ → Bool) where
   pub neither_clear : (xs : List Tok) → LacksElse xs → Clear (InOther N) xs
   neither_clear xs k = λ l d. neither_in k d
 
-  inside_never : {l : ℕ} {us ys : List Tok} {gs : Option (List Function)} → TakesNone (Functions N) us → OtherFunctions N (other l ∷ us) ys gs → ⊥
+  inside_never : {l : ℕ} {us ys : List Tok} {gs : Option (List Function)} → TakesNone (Functions N) us
+      → OtherFunctions N (other l ∷ us) ys gs → ⊥
   inside_never n (another {m = m} {ys = ys} {fs = fs} d) = n.never fs (end_if m ∷ ys) d
 
-  pub inside_refused : (xs us : List Tok) (l : ℕ) → xs ≡ other l ∷ us → TakesNone (Functions N) us → TakesNone (OtherFunctions N) xs
+  pub inside_refused : (xs us : List Tok) (l : ℕ) → xs ≡ other l ∷ us → TakesNone (Functions N) us
+      → TakesNone (OtherFunctions N) xs
   inside_refused xs us l e n = rw e (record { never = λ gs ys d. inside_never n d })
 
   inside_in : {l m : ℕ} {us : List Tok} → Clear (InFunctions N) us → InOther N (other m ∷ us) l → ⊥
@@ -188,23 +215,30 @@ module _ (N : List ℕ → Bool) where
   end_is : (m : ℕ) (ys zs : List Tok) → LacksEndIf ys → ys ≡ end_if m ∷ zs → ⊥
   end_is m ys zs k e = let L : List Tok → Type 0 = λ ts. LacksEndIf ts in subst L e k
 
-  open_never : {l : ℕ} {us vs ys : List Tok} {fs : List Function} {gs : Option (List Function)} → Takes (Functions N) us fs vs → LacksEndIf vs → OtherFunctions N (other l ∷ us) ys gs → ⊥
-  open_never {vs = vs} t k (another {m = m} {ys = ys} {fs = fs'} d) = let q = t.only fs' (end_if m ∷ ys) d in end_is m vs ys k (sym q.1)
+  open_never : {l : ℕ} {us vs ys : List Tok} {fs : List Function} {gs : Option (List Function)}
+      → Takes (Functions N) us fs vs → LacksEndIf vs → OtherFunctions N (other l ∷ us) ys gs → ⊥
+  open_never {vs = vs} t k (another {m = m} {ys = ys} {fs = fs'} d) = let q = t.only fs' (end_if m ∷ ys) d in
+      end_is m vs ys k (sym q.1)
 
-  pub open_refused : (xs us vs : List Tok) (l : ℕ) (fs : List Function) → xs ≡ other l ∷ us → Takes (Functions N) us fs vs → LacksEndIf vs → TakesNone (OtherFunctions N) xs
+  pub open_refused : (xs us vs : List Tok) (l : ℕ) (fs : List Function) → xs ≡ other l ∷ us
+      → Takes (Functions N) us fs vs → LacksEndIf vs → TakesNone (OtherFunctions N) xs
   open_refused xs us vs l fs e t k = rw e (record { never = λ gs ys d. open_never t k d })
 
-  another_only : {l m : ℕ} {us ys zs : List Tok} {fs : List Function} {gs : Option (List Function)} → Takes (Functions N) us fs (end_if m ∷ ys) → OtherFunctions N (other l ∷ us) zs gs → (gs ≡ Some fs) × (zs ≡ ys)
-  another_only t (another {m = m'} {ys = zs} {fs = fs'} d) = let q = t.only fs' (end_if m' ∷ zs) d in (ap (λ (x : List Function). Some x) q.0, tail_is q.1)
+  another_only : {l m : ℕ} {us ys zs : List Tok} {fs : List Function} {gs : Option (List Function)}
+      → Takes (Functions N) us fs (end_if m ∷ ys) → OtherFunctions N (other l ∷ us) zs gs → (gs ≡ Some fs) × (zs ≡ ys)
+  another_only t (another {m = m'} {ys = zs} {fs = fs'} d) = let q = t.only fs' (end_if m' ∷ zs) d in
+      (ap (λ (x : List Function). Some x) q.0, tail_is q.1)
 
-  pub another_taken : (xs us vs ys : List Tok) (l m : ℕ) (fs : List Function) → xs ≡ other l ∷ us → Takes (Functions N) us fs vs → vs ≡ end_if m ∷ ys → Takes (OtherFunctions N) xs (Some fs) ys
+  pub another_taken : (xs us vs ys : List Tok) (l m : ℕ) (fs : List Function) → xs ≡ other l ∷ us
+      → Takes (Functions N) us fs vs → vs ≡ end_if m ∷ ys → Takes (OtherFunctions N) xs (Some fs) ys
   another_taken xs us vs ys l m fs e t k =
       let t' : Takes (Functions N) us fs (end_if m ∷ ys) = rw k at t in
       rw e (record { holds = another t'.holds; only = λ gs zs d. another_only t' d })
 
   -- ---- both arms
 
-  then_never : {l : ℕ} {o : NamedOrder} {xs ys : List Tok} {i : Item} → TakesNone (Functions N) xs → Arms N l o xs ys i → ⊥
+  then_never : {l : ℕ} {o : NamedOrder} {xs ys : List Tok} {i : Item} → TakesNone (Functions N) xs → Arms N l o xs ys i
+      → ⊥
   then_never n (arms {ys = ys} {fs = fs} d e) = n.never fs ys d
 
   pub then_refused : (l : ℕ) (o : NamedOrder) (xs : List Tok) → TakesNone (Functions N) xs → TakesNone (Arms N l o) xs
@@ -220,28 +254,38 @@ module _ (N : List ℕ → Bool) where
   pub then_worse : (xs : List Tok) (l : ℕ) → InFunctions N xs l → InArms N xs l
   then_worse xs l d = in_first d
 
-  otherwise_never : {l : ℕ} {o : NamedOrder} {xs ys zs : List Tok} {fs : List Function} {i : Item} → Takes (Functions N) xs fs ys → TakesNone (OtherFunctions N) ys → Arms N l o xs zs i → ⊥
-  otherwise_never t n (arms {ys = ys'} {zs = zs} {fs = fs'} {gs = gs} d e) = let q = t.only fs' ys' d in n.never gs zs (rw q.1 at e)
+  otherwise_never : {l : ℕ} {o : NamedOrder} {xs ys zs : List Tok} {fs : List Function} {i : Item}
+      → Takes (Functions N) xs fs ys → TakesNone (OtherFunctions N) ys → Arms N l o xs zs i → ⊥
+  otherwise_never t n (arms {ys = ys'} {zs = zs} {fs = fs'} {gs = gs} d e) = let q = t.only fs' ys' d in
+      n.never gs zs (rw q.1 at e)
 
-  pub otherwise_refused : (l : ℕ) (o : NamedOrder) (xs ys : List Tok) (fs : List Function) → Takes (Functions N) xs fs ys → TakesNone (OtherFunctions N) ys → TakesNone (Arms N l o) xs
+  pub otherwise_refused : (l : ℕ) (o : NamedOrder) (xs ys : List Tok) (fs : List Function)
+      → Takes (Functions N) xs fs ys → TakesNone (OtherFunctions N) ys → TakesNone (Arms N l o) xs
   otherwise_refused l o xs ys fs t n = record { never = λ i zs d. otherwise_never t n d }
 
-  otherwise_in : {xs ys : List Tok} {fs : List Function} {l : ℕ} → Takes (Functions N) xs fs ys → Clear (InFunctions N) xs → Clear (InOther N) ys → InArms N xs l → ⊥
+  otherwise_in : {xs ys : List Tok} {fs : List Function} {l : ℕ} → Takes (Functions N) xs fs ys
+      → Clear (InFunctions N) xs → Clear (InOther N) ys → InArms N xs l → ⊥
   otherwise_in {l = l} t k c (in_first d) = k l d
-  otherwise_in {l = l} t k c (in_second {m = m} {ys = ys'} {fs = fs'} d e) = let q = t.only fs' (other m ∷ ys') d in c l (rw (← q.1) (in_other e))
+  otherwise_in {l = l} t k c (in_second {m = m} {ys = ys'} {fs = fs'} d e) = let q = t.only fs' (other m ∷ ys') d in
+      c l (rw (← q.1) (in_other e))
 
-  pub otherwise_clear : (xs ys : List Tok) (fs : List Function) → Takes (Functions N) xs fs ys → Clear (InFunctions N) xs → Clear (InOther N) ys → Clear (InArms N) xs
+  pub otherwise_clear : (xs ys : List Tok) (fs : List Function) → Takes (Functions N) xs fs ys
+      → Clear (InFunctions N) xs → Clear (InOther N) ys → Clear (InArms N) xs
   otherwise_clear xs ys fs t k c = λ l d. otherwise_in t k c d
 
-  pub otherwise_worse : (xs ys : List Tok) (fs : List Function) → Takes (Functions N) xs fs ys → (l : ℕ) → InOther N ys l → InArms N xs l
+  pub otherwise_worse : (xs ys : List Tok) (fs : List Function) → Takes (Functions N) xs fs ys → (l : ℕ)
+      → InOther N ys l → InArms N xs l
   otherwise_worse xs ys fs t l (in_other d) = in_second t.holds d
 
-  arms_only : {l : ℕ} {o : NamedOrder} {xs ys zs ws : List Tok} {fs : List Function} {gs : Option (List Function)} {i : Item} → Takes (Functions N) xs fs ys → Takes (OtherFunctions N) ys gs zs → Arms N l o xs ws i
+  arms_only : {l : ℕ} {o : NamedOrder} {xs ys zs ws : List Tok} {fs : List Function} {gs : Option (List Function)}
+      {i : Item} → Takes (Functions N) xs fs ys → Takes (OtherFunctions N) ys gs zs → Arms N l o xs ws i
       → (i ≡ tree.functions_by_order l o fs gs) × (ws ≡ zs)
   arms_only t k (arms {ys = ys'} {zs = ws} {fs = fs'} {gs = gs'} d e) =
       let p = t.only fs' ys' d in
       let q = k.only gs' ws (rw p.1 at e) in
       (rw (p.0, q.0) refl, q.1)
 
-  pub arms_taken : (l : ℕ) (o : NamedOrder) (xs ys zs : List Tok) (fs : List Function) (gs : Option (List Function)) → Takes (Functions N) xs fs ys → Takes (OtherFunctions N) ys gs zs → Takes (Arms N l o) xs (tree.functions_by_order l o fs gs) zs
+  pub arms_taken : (l : ℕ) (o : NamedOrder) (xs ys zs : List Tok) (fs : List Function) (gs : Option (List Function))
+      → Takes (Functions N) xs fs ys → Takes (OtherFunctions N) ys gs zs
+      → Takes (Arms N l o) xs (tree.functions_by_order l o fs gs) zs
   arms_taken l o xs ys zs fs gs t k = record { holds = arms t.holds k.holds; only = λ i ws d. arms_only t k d }

@@ -12,7 +12,10 @@ use Rattle.ep_ast.specs.Mark.{typedef_word, left_paren, semicolon}
 use Rattle.ep_ast.specs.Cut.{order_token}
 use Rattle.ep_ast.specs.TypeWords.{Consts, no_consts, one_const, Stars, no_stars, one_star}
 use Rattle.ep_ast.specs.DeclarationGrammar as grammar
-use Rattle.ep_ast.specs.DeclarationGrammar.{at_file_scope, specs_line, Bounds, no_bounds, open_bound, bound, Declared, Specified, specified, no_specs, more_specs, with_members, type_word, storage, Aggregated, Initialised, without, with_value, Inits, last_init, next_init, Declares, variables, Headed, head}
+use Rattle.ep_ast.specs.DeclarationGrammar.{at_file_scope, specs_line, Bounds, no_bounds, open_bound, bound, Declared}
+use Rattle.ep_ast.specs.DeclarationGrammar.{Specified, specified, no_specs, more_specs, with_members, type_word}
+use Rattle.ep_ast.specs.DeclarationGrammar.{storage, Aggregated, Initialised, without, with_value, Inits, last_init}
+use Rattle.ep_ast.specs.DeclarationGrammar.{next_init, Declares, variables, Headed, head}
 use Rattle.ep_ast.specs.StatementGrammar.{little, big, Blocks, braces}
 use Rattle.ep_ast.specs.ProgramGrammar as programs
 use Rattle.ep_ast.specs.ProgramGrammar.{Defines, function, OneItem}
@@ -23,7 +26,8 @@ use Rattle.ep_declarators.specs.Answer.{NamesTypes}
 use Rattle.ep_declarations.specs.Answer.{is_one_body}
 use Rattle.ep_reading.specs.Look.{LacksIf}
 use Rattle.ep_decls.specs.Look.{begins_call, begins_head}
-use Rattle.ep_decls.specs.Answer.{InWords, Worded, defines, prototype, declares, completes, NewTypes, new_types, InTypedefWords, Itemed, Arms, arms, InArms, InItem, in_words, in_typedef, in_arms}
+use Rattle.ep_decls.specs.Answer.{InWords, Worded, defines, prototype, declares, completes, NewTypes, new_types}
+use Rattle.ep_decls.specs.Answer.{InTypedefWords, Itemed, Arms, arms, InArms, InItem, in_words, in_typedef, in_arms}
 use Rattle.ep_decls.proofs.BeginLemmas.{contrary, in_specs_not, worded_not}
 
 -- ---- heads and variables
@@ -54,13 +58,15 @@ one_body : {ss : List Spec} {a b : Aggregate} → ss ≡ body a ∷ [] → ss �
 one_body e f = cc
 
 module _ (N : List ℕ → Bool) where
-  bounds_lack : {ys zs : List Tok} {bs : List (Option expressions.Expr)} → Bounds N ys zs bs → Lacks left_paren zs → Lacks left_paren ys
+  bounds_lack : {ys zs : List Tok} {bs : List (Option expressions.Expr)} → Bounds N ys zs bs → Lacks left_paren zs
+      → Lacks left_paren ys
   bounds_lack (no_bounds k) h = h
   bounds_lack (open_bound e f b) h = λ k. omega arith
   bounds_lack (bound e f d b) h = λ k. omega arith
 
   declared_not : {xs zs : List Tok} {d : Declarator} → Lacks left_paren zs → Declared N xs zs d → begins_head xs ≡ false
-  declared_not h (grammar.declares {l = l} {text = text} {ys = ys} p s b) = stars_skip s.stars ∙ no_call l text ys (bounds_lack b h)
+  declared_not h (grammar.declares {l = l} {text = text} {ys = ys} p s b) =
+      stars_skip s.stars ∙ no_call l text ys (bounds_lack b h)
 
   initialised_not : {xs zs : List Tok} {i : Init} → Lacks left_paren zs → Initialised N xs zs i → begins_head xs ≡ false
   initialised_not h (without d k) = declared_not h d
@@ -70,13 +76,16 @@ module _ (N : List ℕ → Bool) where
   inits_not (last_init e i) = initialised_not (λ k. omega arith) i
   inits_not (next_init e i r) = initialised_not (λ k. omega arith) i
 
-  stars_no_semicolon : {l c m : ℕ} {ns text : List ℕ} {xs ys : List Tok} → c ≡ semicolon → Stars (mark l c ∷ xs) (name m text ∷ ys) ns → ⊥
+  stars_no_semicolon : {l c m : ℕ} {ns text : List ℕ} {xs ys : List Tok} → c ≡ semicolon
+      → Stars (mark l c ∷ xs) (name m text ∷ ys) ns → ⊥
   stars_no_semicolon e (one_star f d s) = omega arith
 
-  declared_no_semicolon : {l c : ℕ} {xs zs : List Tok} {d : Declarator} → c ≡ semicolon → Declared N (mark l c ∷ xs) zs d → ⊥
+  declared_no_semicolon : {l c : ℕ} {xs zs : List Tok} {d : Declarator} → c ≡ semicolon
+      → Declared N (mark l c ∷ xs) zs d → ⊥
   declared_no_semicolon e (grammar.declares p s b) = stars_no_semicolon e s.stars
 
-  initialised_no_semicolon : {l c : ℕ} {xs zs : List Tok} {i : Init} → c ≡ semicolon → Initialised N (mark l c ∷ xs) zs i → ⊥
+  initialised_no_semicolon : {l c : ℕ} {xs zs : List Tok} {i : Init} → c ≡ semicolon
+      → Initialised N (mark l c ∷ xs) zs i → ⊥
   initialised_no_semicolon e (without d k) = declared_no_semicolon e d
   initialised_no_semicolon e (with_value f d v) = declared_no_semicolon e d
 
@@ -87,45 +96,57 @@ module _ (N : List ℕ → Bool) where
   blocks_no_semicolon : {l c : ℕ} {xs zs : List Tok} {b : Block} → c ≡ semicolon → Blocks N (mark l c ∷ xs) zs b → ⊥
   blocks_no_semicolon e (braces f p) = omega arith
 
-  head_begins : {xs ys zs : List Tok} {ss : List Spec} {h : Head} → Takes (Specified N at_file_scope) xs ss ys → Headed N xs zs h → begins_head ys ≡ true
+  head_begins : {xs ys zs : List Tok} {ss : List Spec} {h : Head} → Takes (Specified N at_file_scope) xs ss ys
+      → Headed N xs zs h → begins_head ys ≡ true
   head_begins t (head {ys = ys'} {ss = ss'} p c d s q) =
       let k = t.only ss' ys' d in
       let e : begins_head ys' ≡ true = rw (stars_skip s.stars, c) refl in
       rw k.1 at e
 
-  body_specified : {l c : ℕ} {xs ys : List Tok} {a : Aggregate} → c ≡ semicolon → Aggregated N xs (mark l c ∷ ys) a → Specified N at_file_scope xs (mark l c ∷ ys) (body a ∷ [])
+  body_specified : {l c : ℕ} {xs ys : List Tok} {a : Aggregate} → c ≡ semicolon → Aggregated N xs (mark l c ∷ ys) a
+      → Specified N at_file_scope xs (mark l c ∷ ys) (body a ∷ [])
   body_specified e d = specified refl (more_specs (with_members refl d) (no_specs refl))
 
-  specified_body : {xs ys : List Tok} {ss : List Spec} {a : Aggregate} → ss ≡ body a ∷ [] → Specified N at_file_scope xs ys ss → Aggregated N xs ys a
+  specified_body : {xs ys : List Tok} {ss : List Spec} {a : Aggregate} → ss ≡ body a ∷ []
+      → Specified N at_file_scope xs ys ss → Aggregated N xs ys a
   specified_body e (specified n (no_specs b)) = absurd cc
   specified_body e (specified n (more_specs (type_word d l) r)) = absurd cc
   specified_body e (specified n (more_specs (storage h w) r)) = absurd cc
-  specified_body {a = a} e (specified n (more_specs (with_members {a = b} h d) (no_specs k))) = let q : b ≡ a = cc in rw q at d
+  specified_body {a = a} e (specified n (more_specs (with_members {a = b} h d) (no_specs k))) = let q : b ≡ a = cc in
+      rw q at d
   specified_body e (specified n (more_specs (with_members h d) (more_specs f r))) = absurd cc
 
   -- ---- what an item comes to behind its words
 
   data Heads : List Tok → List Tok → Item → Type 0 where
     defined : {xs ys : List Tok} {f : Function} → Defines N xs ys f → Heads xs ys (tree.defines f)
-    declared : {l c : ℕ} {xs ys : List Tok} {h : Head} → c ≡ semicolon → Headed N xs (mark l c ∷ ys) h → Heads xs ys (tree.prototype h)
+    declared : {l c : ℕ} {xs ys : List Tok} {h : Head} → c ≡ semicolon → Headed N xs (mark l c ∷ ys) h
+        → Heads xs ys (tree.prototype h)
 
   data Ends (ss : List Spec) (ys : List Tok) : List Tok → Item → Type 0 where
-    at_end : {l c : ℕ} {zs : List Tok} {a : Aggregate} → c ≡ semicolon → ss ≡ body a ∷ [] → ys ≡ mark l c ∷ zs → Ends ss ys zs (tree.completes a)
-    at_inits : {zs : List Tok} {is : List Init} → Inits N ys zs is → Ends ss ys zs (tree.declares_all (record { line = specs_line ss; specs = ss; inits = is }))
+    at_end : {l c : ℕ} {zs : List Tok} {a : Aggregate} → c ≡ semicolon → ss ≡ body a ∷ [] → ys ≡ mark l c ∷ zs
+        → Ends ss ys zs (tree.completes a)
+    at_inits : {zs : List Tok} {is : List Init} → Inits N ys zs is
+        → Ends ss ys zs (tree.declares_all (record { line = specs_line ss; specs = ss; inits = is }))
 
-  heads : {xs ys zs : List Tok} {ss : List Spec} {i : Item} → Takes (Specified N at_file_scope) xs ss ys → begins_head ys ≡ true → Worded N xs zs i → Heads xs zs i
+  heads : {xs ys zs : List Tok} {ss : List Spec} {i : Item} → Takes (Specified N at_file_scope) xs ss ys
+      → begins_head ys ≡ true → Worded N xs zs i → Heads xs zs i
   heads t b (defines d) = defined d
   heads t b (prototype e d) = declared e d
-  heads {ys = ys} t b (declares (variables {ys = ys'} {ss = ss'} d i)) = let k = t.only ss' ys' d in absurd (contrary (begins_head ys) (inits_not (rw k.1 at i)) b)
+  heads {ys = ys} t b (declares (variables {ys = ys'} {ss = ss'} d i)) = let k = t.only ss' ys' d in
+      absurd (contrary (begins_head ys) (inits_not (rw k.1 at i)) b)
   heads {ys = ys} t b (completes {l = l} {c = c} {ys = zs} {a = a} e d) =
       let k = t.only (body a ∷ []) (mark l c ∷ zs) (body_specified e d) in
       let f : begins_head ys ≡ false = rw (← k.1) (at_semicolon l c zs e) in absurd (contrary (begins_head ys) f b)
 
-  ends : {xs ys zs : List Tok} {ss : List Spec} {i : Item} → Takes (Specified N at_file_scope) xs ss ys → begins_head ys ≡ false → Worded N xs zs i → Ends ss ys zs i
+  ends : {xs ys zs : List Tok} {ss : List Spec} {i : Item} → Takes (Specified N at_file_scope) xs ss ys
+      → begins_head ys ≡ false → Worded N xs zs i → Ends ss ys zs i
   ends {ys = ys} t b (defines (function n d e)) = absurd (contrary (begins_head ys) b (head_begins t d))
   ends {ys = ys} t b (prototype e d) = absurd (contrary (begins_head ys) b (head_begins t d))
-  ends t b (declares (variables {ys = ys'} {ss = ss'} d i)) = let k = t.only ss' ys' d in rw k.0 (at_inits (rw k.1 at i))
-  ends t b (completes {l = l} {c = c} {ys = zs} {a = a} e d) = let k = t.only (body a ∷ []) (mark l c ∷ zs) (body_specified e d) in at_end e (sym k.0) (sym k.1)
+  ends t b (declares (variables {ys = ys'} {ss = ss'} d i)) = let k = t.only ss' ys' d in
+      rw k.0 (at_inits (rw k.1 at i))
+  ends t b (completes {l = l} {c = c} {ys = zs} {a = a} e d) = let k =
+      t.only (body a ∷ []) (mark l c ∷ zs) (body_specified e d) in at_end e (sym k.0) (sym k.1)
 
   -- ---- items that begin with words
 
@@ -133,7 +154,8 @@ module _ (N : List ℕ → Bool) where
   words_never n (defines (function q (head {ys = ys} {ss = ss} p c d s r) b)) = n.never ss ys d
   words_never n (prototype e (head {ys = ys} {ss = ss} p c d s r)) = n.never ss ys d
   words_never n (declares (variables {ys = ys} {ss = ss} d i)) = n.never ss ys d
-  words_never n (completes {l = l} {c = c} {ys = ys} {a = a} e d) = n.never (body a ∷ []) (mark l c ∷ ys) (body_specified e d)
+  words_never n (completes {l = l} {c = c} {ys = ys} {a = a} e d) =
+      n.never (body a ∷ []) (mark l c ∷ ys) (body_specified e d)
 
   pub words_refused : (xs : List Tok) → TakesNone (Specified N at_file_scope) xs → TakesNone (Worded N) xs
   words_refused xs n = record { never = λ i ys d. words_never n d }
@@ -148,46 +170,63 @@ module _ (N : List ℕ → Bool) where
     pub head_refused : begins_head ys ≡ true → TakesNone (Headed N) xs → TakesNone (Worded N) xs
     head_refused b n = record { never = λ i zs d. head_never n (heads t b d) }
 
-    prototype_only : {vs zs : List Tok} {l c : ℕ} {h : Head} {i : Item} → c ≡ semicolon → Takes (Headed N) xs h (mark l c ∷ vs) → Heads xs zs i → (i ≡ tree.prototype h) × (zs ≡ vs)
-    prototype_only e k (defined (function {ys = us} {zs = zs} {h = h'} {b = b} q d f)) = let p = k.only h' us d in absurd (blocks_no_semicolon e (rw p.1 at f))
-    prototype_only e k (declared {l = m} {c = d'} {ys = zs} {h = h'} f d) = let p = k.only h' (mark m d' ∷ zs) d in (rw p.0 refl, tail_is p.1)
+    prototype_only : {vs zs : List Tok} {l c : ℕ} {h : Head} {i : Item} → c ≡ semicolon
+        → Takes (Headed N) xs h (mark l c ∷ vs) → Heads xs zs i → (i ≡ tree.prototype h) × (zs ≡ vs)
+    prototype_only e k (defined (function {ys = us} {zs = zs} {h = h'} {b = b} q d f)) = let p = k.only h' us d in
+        absurd (blocks_no_semicolon e (rw p.1 at f))
+    prototype_only e k (declared {l = m} {c = d'} {ys = zs} {h = h'} f d) = let p = k.only h' (mark m d' ∷ zs) d in
+        (rw p.0 refl, tail_is p.1)
 
-    pub prototype_taken : begins_head ys ≡ true → (us vs : List Tok) (l : ℕ) (h : Head) → Takes (Headed N) xs h us → AtMark semicolon us (Some (l, vs)) → Takes (Worded N) xs (tree.prototype h) vs
+    pub prototype_taken : begins_head ys ≡ true → (us vs : List Tok) (l : ℕ) (h : Head) → Takes (Headed N) xs h us
+        → AtMark semicolon us (Some (l, vs)) → Takes (Worded N) xs (tree.prototype h) vs
     prototype_taken b us vs l h k m =
         let k' : Takes (Headed N) xs h (mark l m.0 ∷ vs) = rw m.2 at k in
         record { holds = prototype m.1 k'.holds; only = λ i zs d. prototype_only m.1 k' (heads t b d) }
 
-    define_never : {us zs : List Tok} {h : Head} {i : Item} → Takes (Headed N) xs h us → Lacks semicolon us → TakesNone (Defines N) xs → Heads xs zs i → ⊥
+    define_never : {us zs : List Tok} {h : Head} {i : Item} → Takes (Headed N) xs h us → Lacks semicolon us
+        → TakesNone (Defines N) xs → Heads xs zs i → ⊥
     define_never {zs = zs} k m n (defined {f = f} d) = n.never f zs d
-    define_never {us = us} k m n (declared {l = l} {c = c} {ys = zs} {h = h'} e d) = let p = k.only h' (mark l c ∷ zs) d in lacks_is l c semicolon us zs m (sym p.1) e
+    define_never {us = us} k m n (declared {l = l} {c = c} {ys = zs} {h = h'} e d) = let p =
+        k.only h' (mark l c ∷ zs) d in lacks_is l c semicolon us zs m (sym p.1) e
 
-    pub define_refused : begins_head ys ≡ true → (us : List Tok) (h : Head) → Takes (Headed N) xs h us → Lacks semicolon us → TakesNone (Defines N) xs → TakesNone (Worded N) xs
+    pub define_refused : begins_head ys ≡ true → (us : List Tok) (h : Head) → Takes (Headed N) xs h us
+        → Lacks semicolon us → TakesNone (Defines N) xs → TakesNone (Worded N) xs
     define_refused b us h k m n = record { never = λ i zs d. define_never k m n (heads t b d) }
 
-    define_only : {us vs zs : List Tok} {h : Head} {f : Function} {i : Item} → Takes (Headed N) xs h us → Lacks semicolon us → Takes (Defines N) xs f vs → Heads xs zs i → (i ≡ tree.defines f) × (zs ≡ vs)
+    define_only : {us vs zs : List Tok} {h : Head} {f : Function} {i : Item} → Takes (Headed N) xs h us
+        → Lacks semicolon us → Takes (Defines N) xs f vs → Heads xs zs i → (i ≡ tree.defines f) × (zs ≡ vs)
     define_only k m n (defined {ys = zs} {f = f'} d) = let p = n.only f' zs d in (rw p.0 refl, p.1)
-    define_only {us = us} k m n (declared {l = l} {c = c} {ys = zs} {h = h'} e d) = let p = k.only h' (mark l c ∷ zs) d in absurd (lacks_is l c semicolon us zs m (sym p.1) e)
+    define_only {us = us} k m n (declared {l = l} {c = c} {ys = zs} {h = h'} e d) = let p =
+        k.only h' (mark l c ∷ zs) d in absurd (lacks_is l c semicolon us zs m (sym p.1) e)
 
-    pub define_taken : begins_head ys ≡ true → (us vs : List Tok) (h : Head) (f : Function) → Takes (Headed N) xs h us → Lacks semicolon us → Takes (Defines N) xs f vs → Takes (Worded N) xs (tree.defines f) vs
-    define_taken b us vs h f k m n = record { holds = defines n.holds; only = λ i zs d. define_only k m n (heads t b d) }
+    pub define_taken : begins_head ys ≡ true → (us vs : List Tok) (h : Head) (f : Function) → Takes (Headed N) xs h us
+        → Lacks semicolon us → Takes (Defines N) xs f vs → Takes (Worded N) xs (tree.defines f) vs
+    define_taken b us vs h f k m n = record {
+      holds = defines n.holds;
+      only = λ i zs d. define_only k m n (heads t b d);
+    }
 
     -- where none goes on
 
-    complete_only : {vs zs : List Tok} {l c : ℕ} {a : Aggregate} {i : Item} → c ≡ semicolon → ys ≡ mark l c ∷ vs → ss ≡ body a ∷ [] → Ends ss ys zs i → (i ≡ tree.completes a) × (zs ≡ vs)
+    complete_only : {vs zs : List Tok} {l c : ℕ} {a : Aggregate} {i : Item} → c ≡ semicolon → ys ≡ mark l c ∷ vs
+        → ss ≡ body a ∷ [] → Ends ss ys zs i → (i ≡ tree.completes a) × (zs ≡ vs)
     complete_only e f k (at_end g k' f') = (rw (one_body k k') refl, tail_is (sym f' ∙ f))
     complete_only e f k (at_inits d) = absurd (inits_no_semicolon e (rw f at d))
 
-    pub complete_taken : begins_head ys ≡ false → (vs : List Tok) (l : ℕ) (a : Aggregate) → AtMark semicolon ys (Some (l, vs)) → ss ≡ body a ∷ [] → Takes (Worded N) xs (tree.completes a) vs
+    pub complete_taken : begins_head ys ≡ false → (vs : List Tok) (l : ℕ) (a : Aggregate)
+        → AtMark semicolon ys (Some (l, vs)) → ss ≡ body a ∷ [] → Takes (Worded N) xs (tree.completes a) vs
     complete_taken b vs l a m k = record {
       holds = completes m.1 (specified_body k (rw m.2 at t.holds));
       only = λ i zs d. complete_only m.1 m.2 k (ends t b d);
     }
 
-    alone_never : {vs zs : List Tok} {l c : ℕ} {i : Item} → c ≡ semicolon → ys ≡ mark l c ∷ vs → is_one_body ss ≡ false → Ends ss ys zs i → ⊥
+    alone_never : {vs zs : List Tok} {l c : ℕ} {i : Item} → c ≡ semicolon → ys ≡ mark l c ∷ vs → is_one_body ss ≡ false
+        → Ends ss ys zs i → ⊥
     alone_never e f k (at_end g k' f') = contrary (is_one_body ss) k (rw k' refl)
     alone_never e f k (at_inits d) = inits_no_semicolon e (rw f at d)
 
-    pub alone_refused : begins_head ys ≡ false → (vs : List Tok) (l : ℕ) → AtMark semicolon ys (Some (l, vs)) → is_one_body ss ≡ false → TakesNone (Worded N) xs
+    pub alone_refused : begins_head ys ≡ false → (vs : List Tok) (l : ℕ) → AtMark semicolon ys (Some (l, vs))
+        → is_one_body ss ≡ false → TakesNone (Worded N) xs
     alone_refused b vs l m k = record { never = λ i zs d. alone_never m.1 m.2 k (ends t b d) }
 
     inits_never : {zs : List Tok} {i : Item} → Lacks semicolon ys → TakesNone (Inits N) ys → Ends ss ys zs i → ⊥
@@ -197,19 +236,27 @@ module _ (N : List ℕ → Bool) where
     pub inits_refused : begins_head ys ≡ false → Lacks semicolon ys → TakesNone (Inits N) ys → TakesNone (Worded N) xs
     inits_refused b m n = record { never = λ i zs d. inits_never m n (ends t b d) }
 
-    inits_only : {vs zs : List Tok} {is : List Init} {i : Item} → Lacks semicolon ys → Takes (Inits N) ys is vs → Ends ss ys zs i → (i ≡ tree.declares_all (record { line = specs_line ss; specs = ss; inits = is })) × (zs ≡ vs)
+    inits_only : {vs zs : List Tok} {is : List Init} {i : Item} → Lacks semicolon ys → Takes (Inits N) ys is vs
+        → Ends ss ys zs i → (i ≡ tree.declares_all (record { line = specs_line ss; specs = ss; inits = is }))
+        × (zs ≡ vs)
     inits_only m n (at_end {l = l} {c = c} {zs = zs} e k f) = absurd (lacks_is l c semicolon ys zs m f e)
     inits_only m n (at_inits {zs = zs} {is = is'} d) = let p = n.only is' zs d in (rw p.0 refl, p.1)
 
-    pub inits_taken : begins_head ys ≡ false → (vs : List Tok) (is : List Init) → Lacks semicolon ys → Takes (Inits N) ys is vs → Takes (Worded N) xs (tree.declares_all (record { line = specs_line ss; specs = ss; inits = is })) vs
-    inits_taken b vs is m n = record { holds = declares (variables t.holds n.holds); only = λ i zs d. inits_only m n (ends t b d) }
+    pub inits_taken : begins_head ys ≡ false → (vs : List Tok) (is : List Init) → Lacks semicolon ys
+        → Takes (Inits N) ys is vs → Takes (Worded N) xs
+        (tree.declares_all (record { line = specs_line ss; specs = ss; inits = is })) vs
+    inits_taken b vs is m n = record {
+      holds = declares (variables t.holds n.holds);
+      only = λ i zs d. inits_only m n (ends t b d);
+    }
 
   -- ---- all items
 
   abbrev After : Type 0
   After = Item × (List ℕ → Bool)
 
-  to_worded : {M : List ℕ → Bool} {xs zs : List Tok} {i : Item} → LacksWord typedef_word xs → LacksIf xs → OneItem N M xs zs i → (M ≡ N) × Worded N xs zs i
+  to_worded : {M : List ℕ → Bool} {xs zs : List Tok} {i : Item} → LacksWord typedef_word xs → LacksIf xs
+      → OneItem N M xs zs i → (M ≡ N) × Worded N xs zs i
   to_worded h k (programs.typedefs e d f) = absurd (h e)
   to_worded h k (programs.defines d) = (refl, defines d)
   to_worded h k (programs.prototype e d) = (refl, prototype e d)
@@ -227,22 +274,26 @@ module _ (N : List ℕ → Bool) where
   pair_is : (u : Item × (List ℕ → Bool)) (i : Item) (M : List ℕ → Bool) → u.0 ≡ i → u.1 ≡ M → u ≡ (i, M)
   pair_is u i M e f = rw (← e, ← f) refl
 
-  pub worded_taken : (xs zs : List Tok) (i : Item) → LacksWord typedef_word xs → LacksIf xs → Takes (Worded N) xs i zs → Takes (Itemed N) xs (i, N) zs
+  pub worded_taken : (xs zs : List Tok) (i : Item) → LacksWord typedef_word xs → LacksIf xs → Takes (Worded N) xs i zs
+      → Takes (Itemed N) xs (i, N) zs
   worded_taken xs zs i h k t = record {
     holds = of_worded t.holds;
     only = λ u vs d. let p = to_worded h k d in let q = t.only u.0 vs p.1 in (pair_is u i N q.0 p.0, q.1);
   }
 
-  pub worded_refused : (xs : List Tok) → LacksWord typedef_word xs → LacksIf xs → TakesNone (Worded N) xs → TakesNone (Itemed N) xs
+  pub worded_refused : (xs : List Tok) → LacksWord typedef_word xs → LacksIf xs → TakesNone (Worded N) xs
+      → TakesNone (Itemed N) xs
   worded_refused xs h k n = record { never = λ u vs d. n.never u.0 vs (to_worded h k d).1 }
 
-  worded_in : {xs : List Tok} {l : ℕ} → LacksWord typedef_word xs → LacksIf xs → Clear (InWords N) xs → InItem N xs l → ⊥
+  worded_in : {xs : List Tok} {l : ℕ} → LacksWord typedef_word xs → LacksIf xs → Clear (InWords N) xs → InItem N xs l
+      → ⊥
   worded_in {l = l} h k c (in_words d) = c l d
   worded_in h k c (in_typedef e d) = h e
   worded_in h k c (in_arms little d) = k
   worded_in h k c (in_arms big d) = k
 
-  pub worded_clear : (xs : List Tok) → LacksWord typedef_word xs → LacksIf xs → Clear (InWords N) xs → Clear (InItem N) xs
+  pub worded_clear : (xs : List Tok) → LacksWord typedef_word xs → LacksIf xs → Clear (InWords N) xs
+      → Clear (InItem N) xs
   worded_clear xs h k c = λ l d. worded_in h k c d
 
   pub worded_worse : (xs : List Tok) (l : ℕ) → InWords N xs l → InItem N xs l
@@ -250,7 +301,8 @@ module _ (N : List ℕ → Bool) where
 
   -- behind the word `typedef`
 
-  to_types : {M : List ℕ → Bool} {l c : ℕ} {us zs : List Tok} {i : Item} → c ≡ typedef_word → OneItem N M (word l c ∷ us) zs i → NewTypes N l us zs (i, M)
+  to_types : {M : List ℕ → Bool} {l c : ℕ} {us zs : List Tok} {i : Item} → c ≡ typedef_word
+      → OneItem N M (word l c ∷ us) zs i → NewTypes N l us zs (i, M)
   to_types e (programs.typedefs f d k) = new_types d k
   to_types e (programs.defines d) = absurd (worded_not N (rw e refl) (defines d))
   to_types e (programs.prototype f d) = absurd (worded_not N (rw e refl) (prototype f d))
@@ -258,27 +310,37 @@ module _ (N : List ℕ → Bool) where
   to_types e (programs.completes f d) = absurd (worded_not N (rw e refl) (completes f d))
   to_types e (programs.arms i f g) = elim i [ ]
 
-  of_types : {l c : ℕ} {us zs : List Tok} {v : Item × (List ℕ → Bool)} → c ≡ typedef_word → NewTypes N l us zs v → OneItem N v.1 (word l c ∷ us) zs v.0
+  of_types : {l c : ℕ} {us zs : List Tok} {v : Item × (List ℕ → Bool)} → c ≡ typedef_word → NewTypes N l us zs v
+      → OneItem N v.1 (word l c ∷ us) zs v.0
   of_types e (new_types d k) = programs.typedefs e d k
 
-  pub types_taken : (xs us zs : List Tok) (l c : ℕ) (v : Item × (List ℕ → Bool)) → c ≡ typedef_word → xs ≡ word l c ∷ us → Takes (NewTypes N l) us v zs → Takes (Itemed N) xs v zs
-  types_taken xs us zs l c v e f t = rw f (record { holds = of_types e t.holds; only = λ u vs d. t.only u vs (to_types e d) })
+  pub types_taken : (xs us zs : List Tok) (l c : ℕ) (v : Item × (List ℕ → Bool)) → c ≡ typedef_word → xs ≡ word l c ∷ us
+      → Takes (NewTypes N l) us v zs → Takes (Itemed N) xs v zs
+  types_taken xs us zs l c v e f t = rw f (record {
+    holds = of_types e t.holds;
+    only = λ u vs d. t.only u vs (to_types e d);
+  })
 
-  pub types_refused : (xs us : List Tok) (l c : ℕ) → c ≡ typedef_word → xs ≡ word l c ∷ us → TakesNone (NewTypes N l) us → TakesNone (Itemed N) xs
+  pub types_refused : (xs us : List Tok) (l c : ℕ) → c ≡ typedef_word → xs ≡ word l c ∷ us → TakesNone (NewTypes N l) us
+      → TakesNone (Itemed N) xs
   types_refused xs us l c e f n = rw f (record { never = λ u vs d. n.never u vs (to_types e d) })
 
-  types_in : {l m c : ℕ} {us : List Tok} → c ≡ typedef_word → Clear (InTypedefWords N) us → InItem N (word m c ∷ us) l → ⊥
+  types_in : {l m c : ℕ} {us : List Tok} → c ≡ typedef_word → Clear (InTypedefWords N) us → InItem N (word m c ∷ us) l
+      → ⊥
   types_in e c (in_words d) = in_specs_not N (rw e refl) d
   types_in {l = l} e c (in_typedef f d) = c l d
   types_in e c (in_arms i d) = elim i [ ]
 
-  pub types_clear : (xs us : List Tok) (l c : ℕ) → c ≡ typedef_word → xs ≡ word l c ∷ us → Clear (InTypedefWords N) us → Clear (InItem N) xs
+  pub types_clear : (xs us : List Tok) (l c : ℕ) → c ≡ typedef_word → xs ≡ word l c ∷ us → Clear (InTypedefWords N) us
+      → Clear (InItem N) xs
   types_clear xs us l c e f k = rw f (λ m d. types_in e k d)
 
-  pub types_worse : (xs us : List Tok) (l c : ℕ) → c ≡ typedef_word → xs ≡ word l c ∷ us → (m : ℕ) → InTypedefWords N us m → InItem N xs m
+  pub types_worse : (xs us : List Tok) (l c : ℕ) → c ≡ typedef_word → xs ≡ word l c ∷ us → (m : ℕ)
+      → InTypedefWords N us m → InItem N xs m
   types_worse xs us l c e f m d = rw f (in_typedef e d)
 
-  new_only : {l : ℕ} {us ys zs ws : List Tok} {ss : List Spec} {v : List Declarator × (List ℕ → Bool)} {u : Item × (List ℕ → Bool)} → Takes (Specified N grammar.in_typedef) us ss ys
+  new_only : {l : ℕ} {us ys zs ws : List Tok} {ss : List Spec} {v : List Declarator × (List ℕ → Bool)}
+      {u : Item × (List ℕ → Bool)} → Takes (Specified N grammar.in_typedef) us ss ys
       → Takes (NamesTypes N) ys v zs → NewTypes N l us ws u
       → (u ≡ (tree.typedefs (record { line = l; specs = ss; declarators = v.0 }), v.1)) × (ws ≡ zs)
   new_only t k (new_types {after = after} {ys = ys'} {zs = ws} {ss = ss'} {ds = ds'} d e) =
@@ -286,20 +348,25 @@ module _ (N : List ℕ → Bool) where
       let q = k.only (ds', after) ws (rw p.1 at e) in
       (rw (p.0, ← q.0) refl, q.1)
 
-  pub new_taken : (l : ℕ) (us ys zs : List Tok) (ss : List Spec) (v : List Declarator × (List ℕ → Bool)) → Takes (Specified N grammar.in_typedef) us ss ys
+  pub new_taken : (l : ℕ) (us ys zs : List Tok) (ss : List Spec) (v : List Declarator × (List ℕ → Bool))
+      → Takes (Specified N grammar.in_typedef) us ss ys
       → Takes (NamesTypes N) ys v zs
       → Takes (NewTypes N l) us (tree.typedefs (record { line = l; specs = ss; declarators = v.0 }), v.1) zs
   new_taken l us ys zs ss v t k = record { holds = new_types t.holds k.holds; only = λ u ws d. new_only t k d }
 
-  first_never : {l : ℕ} {us ws : List Tok} {u : Item × (List ℕ → Bool)} → TakesNone (Specified N grammar.in_typedef) us → NewTypes N l us ws u → ⊥
+  first_never : {l : ℕ} {us ws : List Tok} {u : Item × (List ℕ → Bool)} → TakesNone (Specified N grammar.in_typedef) us
+      → NewTypes N l us ws u → ⊥
   first_never n (new_types {ys = ys} {ss = ss} d e) = n.never ss ys d
 
-  pub first_refused : (l : ℕ) (us : List Tok) → TakesNone (Specified N grammar.in_typedef) us → TakesNone (NewTypes N l) us
+  pub first_refused : (l : ℕ) (us : List Tok) → TakesNone (Specified N grammar.in_typedef) us
+      → TakesNone (NewTypes N l) us
   first_refused l us n = record { never = λ u ws d. first_never n d }
 
-  second_never : {l : ℕ} {us ys ws : List Tok} {ss : List Spec} {u : Item × (List ℕ → Bool)} → Takes (Specified N grammar.in_typedef) us ss ys
+  second_never : {l : ℕ} {us ys ws : List Tok} {ss : List Spec} {u : Item × (List ℕ → Bool)}
+      → Takes (Specified N grammar.in_typedef) us ss ys
       → TakesNone (NamesTypes N) ys → NewTypes N l us ws u → ⊥
-  second_never t n (new_types {after = after} {ys = ys'} {zs = ws} {ss = ss'} {ds = ds'} d e) = let p = t.only ss' ys' d in n.never (ds', after) ws (rw p.1 at e)
+  second_never t n (new_types {after = after} {ys = ys'} {zs = ws} {ss = ss'} {ds = ds'} d e) = let p =
+      t.only ss' ys' d in n.never (ds', after) ws (rw p.1 at e)
 
   pub second_refused : (l : ℕ) (us ys : List Tok) (ss : List Spec) → Takes (Specified N grammar.in_typedef) us ss ys
       → TakesNone (NamesTypes N) ys → TakesNone (NewTypes N l) us
@@ -307,7 +374,8 @@ module _ (N : List ℕ → Bool) where
 
   -- behind an `#if`
 
-  to_arms : {M : List ℕ → Bool} {l : ℕ} {us zs : List Tok} {i : Item} (o : NamedOrder) → OneItem N M (order_token o l ∷ us) zs i → (M ≡ N) × Arms N l o us zs i
+  to_arms : {M : List ℕ → Bool} {l : ℕ} {us zs : List Tok} {i : Item} (o : NamedOrder)
+      → OneItem N M (order_token o l ∷ us) zs i → (M ≡ N) × Arms N l o us zs i
   to_arms Little (programs.defines d) = absurd (worded_not N refl (defines d))
   to_arms Little (programs.prototype f d) = absurd (worded_not N refl (prototype f d))
   to_arms Little (programs.declares d) = absurd (worded_not N refl (declares d))
@@ -319,31 +387,37 @@ module _ (N : List ℕ → Bool) where
   to_arms Big (programs.completes f d) = absurd (worded_not N refl (completes f d))
   to_arms Big (programs.arms big f g) = (refl, arms f g)
 
-  of_arms : {l : ℕ} {us zs : List Tok} {i : Item} (o : NamedOrder) → Arms N l o us zs i → OneItem N N (order_token o l ∷ us) zs i
+  of_arms : {l : ℕ} {us zs : List Tok} {i : Item} (o : NamedOrder) → Arms N l o us zs i
+      → OneItem N N (order_token o l ∷ us) zs i
   of_arms Little (arms f g) = programs.arms little f g
   of_arms Big (arms f g) = programs.arms big f g
 
-  pub arms_taken : (xs us zs : List Tok) (l : ℕ) (o : NamedOrder) (i : Item) → xs ≡ order_token o l ∷ us → Takes (Arms N l o) us i zs → Takes (Itemed N) xs (i, N) zs
+  pub arms_taken : (xs us zs : List Tok) (l : ℕ) (o : NamedOrder) (i : Item) → xs ≡ order_token o l ∷ us
+      → Takes (Arms N l o) us i zs → Takes (Itemed N) xs (i, N) zs
   arms_taken xs us zs l o i e t = rw e (record {
     holds = of_arms o t.holds;
     only = λ u vs d. let p = to_arms o d in let q = t.only u.0 vs p.1 in (pair_is u i N q.0 p.0, q.1);
   })
 
-  pub arms_refused : (xs us : List Tok) (l : ℕ) (o : NamedOrder) → xs ≡ order_token o l ∷ us → TakesNone (Arms N l o) us → TakesNone (Itemed N) xs
+  pub arms_refused : (xs us : List Tok) (l : ℕ) (o : NamedOrder) → xs ≡ order_token o l ∷ us → TakesNone (Arms N l o) us
+      → TakesNone (Itemed N) xs
   arms_refused xs us l o e n = rw e (record { never = λ u vs d. n.never u.0 vs (to_arms o d).1 })
 
-  arms_in : {l : ℕ} {us : List Tok} (m : ℕ) (o : NamedOrder) → Clear (InArms N) us → InItem N (order_token o m ∷ us) l → ⊥
+  arms_in : {l : ℕ} {us : List Tok} (m : ℕ) (o : NamedOrder) → Clear (InArms N) us → InItem N (order_token o m ∷ us) l
+      → ⊥
   arms_in m Little c (in_words d) = in_specs_not N refl d
   arms_in {l = l} m Little c (in_arms little d) = c l d
   arms_in m Big c (in_words d) = in_specs_not N refl d
   arms_in {l = l} m Big c (in_arms big d) = c l d
 
-  pub arms_clear : (xs us : List Tok) (l : ℕ) (o : NamedOrder) → xs ≡ order_token o l ∷ us → Clear (InArms N) us → Clear (InItem N) xs
+  pub arms_clear : (xs us : List Tok) (l : ℕ) (o : NamedOrder) → xs ≡ order_token o l ∷ us → Clear (InArms N) us
+      → Clear (InItem N) xs
   arms_clear xs us l o e k = rw e (λ m d. arms_in l o k d)
 
   in_order : (o : NamedOrder) (l m : ℕ) (us : List Tok) → InArms N us m → InItem N (order_token o l ∷ us) m
   in_order Little l m us d = in_arms little d
   in_order Big l m us d = in_arms big d
 
-  pub arms_worse : (xs us : List Tok) (l : ℕ) (o : NamedOrder) → xs ≡ order_token o l ∷ us → (m : ℕ) → InArms N us m → InItem N xs m
+  pub arms_worse : (xs us : List Tok) (l : ℕ) (o : NamedOrder) → xs ≡ order_token o l ∷ us → (m : ℕ) → InArms N us m
+      → InItem N xs m
   arms_worse xs us l o e m d = rw e (in_order o l m us d)

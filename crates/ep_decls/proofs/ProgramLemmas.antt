@@ -1,5 +1,6 @@
 -- Whole programs: read item by item, with the names that are types before each.
-use Rattle.std.proofs.Common.{◌≡◌, ℕ, Bool, true, false, List, [], ◌∷◌, ◌++◌, Some, None, refl, sym, ap, ◌∙◌, append_assoc, inl, inr, map, length, arith}
+use Rattle.std.proofs.Common.{◌≡◌, ℕ, Bool, true, false, List, [], ◌∷◌, ◌++◌, Some, None, refl, sym, ap, ◌∙◌}
+use Rattle.std.proofs.Common.{append_assoc, inl, inr, map, length, arith}
 use Rattle.std.specs.Prelude.{◌==◌}
 use Rattle.std.proofs.lemmas.List.{append-nil}
 use Rattle.std.proofs.lemmas.Bool.{eqb-true}
@@ -20,7 +21,8 @@ use Rattle.ep_ast.specs.Reading.{Takes, TakesNone}
 use Rattle.ep_lexer.specs.declared.tokens.Token.{Token}
 use Rattle.ep_lexer.specs.Tokens.{view}
 use Rattle.ep_reading.specs.Answer.{Clear, Fails}
-use Rattle.ep_decls.specs.Answer.{defines, prototype, declares, completes, Itemed, InItem, in_words, in_typedef, in_arms, in_first, in_second, Whole, whole}
+use Rattle.ep_decls.specs.Answer.{defines, prototype, declares, completes, Itemed, InItem, in_words, in_typedef}
+use Rattle.ep_decls.specs.Answer.{in_arms, in_first, in_second, Whole, whole}
 use Rattle.ep_decls.proofs.BeginLemmas.{worded_not, in_specs_not}
 
 -- no item begins where there is no token
@@ -47,14 +49,19 @@ pub record ItemsSo (xs : List Tok) (front : List Item) (N : List ℕ → Bool) (
   pub clear : (l : ℕ) → HasBitField xs l → InItems N ys l
   pub worse : (l : ℕ) → InItems N ys l → HasBitField xs l
 
-one_more : (front : List Item) {N M : List ℕ → Bool} {ys zs : List Tok} {i : Item} {is rest : List Item} → Takes (Itemed N) ys (i, M) zs → is ≡ front ++ rest → Items N ys rest
+one_more : (front : List Item) {N M : List ℕ → Bool} {ys zs : List Tok} {i : Item} {is rest : List Item}
+    → Takes (Itemed N) ys (i, M) zs → is ≡ front ++ rest → Items N ys rest
     → (more : List Item) × (is ≡ (front ++ i ∷ []) ++ more) × Items M zs more
 one_more front t e no_items = absurd (no_item t.holds)
 one_more front {i = i} t e (more_items {after = after} {ys = ys'} {i = i'} {is = is'} d r) =
-    let q = t.only (i', after) ys' d in
-    (is', e ∙ ap (λ (v : Item × (List ℕ → Bool)). front ++ v.0 ∷ is') q.0 ∙ sym (append_assoc front (i ∷ []) is'), rw (← ap (λ (v : Item × (List ℕ → Bool)). v.1) q.0, ← q.1) r)
+    let q = t.only (i', after) ys' d in (
+      is',
+      e ∙ ap (λ (v : Item × (List ℕ → Bool)). front ++ v.0 ∷ is') q.0 ∙ sym (append_assoc front (i ∷ []) is'),
+      rw (← ap (λ (v : Item × (List ℕ → Bool)). v.1) q.0, ← q.1) r,
+    )
 
-in_next : {N M : List ℕ → Bool} {ys zs : List Tok} {i : Item} {l : ℕ} → Takes (Itemed N) ys (i, M) zs → Clear (InItem N) ys → InItems N ys l → InItems M zs l
+in_next : {N M : List ℕ → Bool} {ys zs : List Tok} {i : Item} {l : ℕ} → Takes (Itemed N) ys (i, M) zs
+    → Clear (InItem N) ys → InItems N ys l → InItems M zs l
 in_next t k (after_item {after = after} {ys = ys'} {i = i'} d e) =
     let q = t.only (i', after) ys' d in rw (← ap (λ (v : Item × (List ℕ → Bool)). v.1) q.0, ← q.1) e
 in_next {l = l} t k (bit_fields.in_words d) = absurd (k l (in_words d))
@@ -62,7 +69,8 @@ in_next {l = l} t k (bit_fields.in_typedef_words e d) = absurd (k l (in_typedef 
 in_next {l = l} t k (bit_fields.in_arm i d) = absurd (k l (in_arms i (in_first d)))
 in_next {l = l} t k (bit_fields.in_other_arm i d e) = absurd (k l (in_arms i (in_second d e)))
 
-step : (xs : List Tok) (front : List Item) (N M : List ℕ → Bool) (ys zs : List Tok) (i : Item) → ItemsSo xs front N ys → Takes (Itemed N) ys (i, M) zs → Clear (InItem N) ys → ItemsSo xs (front ++ i ∷ []) M zs
+step : (xs : List Tok) (front : List Item) (N M : List ℕ → Bool) (ys zs : List Tok) (i : Item) → ItemsSo xs front N ys
+    → Takes (Itemed N) ys (i, M) zs → Clear (InItem N) ys → ItemsSo xs (front ++ i ∷ []) M zs
 step xs front N M ys zs i s t k = record {
   forth = λ is d. rw append_assoc (s.forth (i ∷ is) (more_items t.holds d));
   back = λ is d. let q = s.back is d in one_more front t q.1 q.2;
@@ -70,7 +78,8 @@ step xs front N M ys zs i s t k = record {
   worse = λ l d. s.worse l (after_item t.holds d);
 }
 
-pub items_step : (xs : List Tok) (front : List Item) (N M : List ℕ → Bool) (ys zs : List Tok) (v : Item × (List ℕ → Bool)) → v.1 ≡ M → ItemsSo xs front N ys → Takes (Itemed N) ys v zs → Clear (InItem N) ys
+pub items_step : (xs : List Tok) (front : List Item) (N M : List ℕ → Bool) (ys zs : List Tok)
+    (v : Item × (List ℕ → Bool)) → v.1 ≡ M → ItemsSo xs front N ys → Takes (Itemed N) ys v zs → Clear (InItem N) ys
     → ItemsSo xs (front ++ v.0 ∷ []) M zs
 items_step xs front N M ys zs v e s t k = rw (← e) (step xs front N v.1 ys zs v.0 s t k)
 
@@ -78,38 +87,48 @@ none_only : {N : List ℕ → Bool} {is : List Item} → Items N [] is → is �
 none_only no_items = refl
 none_only (more_items d r) = absurd (no_item d)
 
-whole_only : (front : List Item) {N : List ℕ → Bool} {xs zs : List Tok} {is : List Item} → ItemsSo xs front N [] → Whole xs zs is → (is ≡ front) × (zs ≡ [])
-whole_only front {is = is} s (whole d) = let q = s.back is d in (q.1 ∙ ap (λ (us : List Item). front ++ us) (none_only q.2) ∙ append-nil front, refl)
+whole_only : (front : List Item) {N : List ℕ → Bool} {xs zs : List Tok} {is : List Item} → ItemsSo xs front N []
+    → Whole xs zs is → (is ≡ front) × (zs ≡ [])
+whole_only front {is = is} s (whole d) = let q = s.back is d in
+    (q.1 ∙ ap (λ (us : List Item). front ++ us) (none_only q.2) ∙ append-nil front, refl)
 
-pub items_done : (xs : List Tok) (front : List Item) (N : List ℕ → Bool) (ys : List Tok) → ys ≡ [] → ItemsSo xs front N ys → Takes Whole xs front []
+pub items_done : (xs : List Tok) (front : List Item) (N : List ℕ → Bool) (ys : List Tok) → ys ≡ []
+    → ItemsSo xs front N ys → Takes Whole xs front []
 items_done xs front N ys e s =
     let s' : ItemsSo xs front N [] = rw e at s in
     record { holds = whole (rw append-nil at (s'.forth [] no_items)); only = λ is zs d. whole_only front s' d }
 
-pub items_clear : (xs : List Tok) (front : List Item) (N : List ℕ → Bool) (ys : List Tok) → ys ≡ [] → ItemsSo xs front N ys → Clear HasBitField xs
+pub items_clear : (xs : List Tok) (front : List Item) (N : List ℕ → Bool) (ys : List Tok) → ys ≡ []
+    → ItemsSo xs front N ys → Clear HasBitField xs
 items_clear xs front N ys e s = let s' : ItemsSo xs front N [] = rw e at s in λ l d. in_none (s'.clear l d)
 
-none_never : {N : List ℕ → Bool} {ys : List Tok} {is : List Item} → (ys ≡ [] → ⊥) → TakesNone (Itemed N) ys → Items N ys is → ⊥
+none_never : {N : List ℕ → Bool} {ys : List Tok} {is : List Item} → (ys ≡ [] → ⊥) → TakesNone (Itemed N) ys
+    → Items N ys is → ⊥
 none_never h n no_items = h refl
 none_never h n (more_items {after = after} {ys = zs} {i = i} d r) = n.never (i, after) zs d
 
-whole_never : {front : List Item} {N : List ℕ → Bool} {xs ys zs : List Tok} {is : List Item} → (ys ≡ [] → ⊥) → ItemsSo xs front N ys → TakesNone (Itemed N) ys → Whole xs zs is → ⊥
+whole_never : {front : List Item} {N : List ℕ → Bool} {xs ys zs : List Tok} {is : List Item} → (ys ≡ [] → ⊥)
+    → ItemsSo xs front N ys → TakesNone (Itemed N) ys → Whole xs zs is → ⊥
 whole_never {is = is} h s n (whole d) = none_never h n (s.back is d).2
 
-pub items_refused : (xs : List Tok) (front : List Item) (N : List ℕ → Bool) (ys : List Tok) → (ys ≡ [] → ⊥) → ItemsSo xs front N ys → TakesNone (Itemed N) ys → TakesNone Whole xs
+pub items_refused : (xs : List Tok) (front : List Item) (N : List ℕ → Bool) (ys : List Tok) → (ys ≡ [] → ⊥)
+    → ItemsSo xs front N ys → TakesNone (Itemed N) ys → TakesNone Whole xs
 items_refused xs front N ys h s n = record { never = λ is zs d. whole_never h s n d }
 
-not_here : {N : List ℕ → Bool} {ys : List Tok} {l : ℕ} → TakesNone (Itemed N) ys → Clear (InItem N) ys → InItems N ys l → ⊥
+not_here : {N : List ℕ → Bool} {ys : List Tok} {l : ℕ} → TakesNone (Itemed N) ys → Clear (InItem N) ys → InItems N ys l
+    → ⊥
 not_here n k (after_item {after = after} {ys = zs} {i = i} d e) = n.never (i, after) zs d
 not_here {l = l} n k (bit_fields.in_words d) = k l (in_words d)
 not_here {l = l} n k (bit_fields.in_typedef_words e d) = k l (in_typedef e d)
 not_here {l = l} n k (bit_fields.in_arm i d) = k l (in_arms i (in_first d))
 not_here {l = l} n k (bit_fields.in_other_arm i d e) = k l (in_arms i (in_second d e))
 
-pub refused_clear : (xs : List Tok) (front : List Item) (N : List ℕ → Bool) (ys : List Tok) → ItemsSo xs front N ys → TakesNone (Itemed N) ys → Clear (InItem N) ys → Clear HasBitField xs
+pub refused_clear : (xs : List Tok) (front : List Item) (N : List ℕ → Bool) (ys : List Tok) → ItemsSo xs front N ys
+    → TakesNone (Itemed N) ys → Clear (InItem N) ys → Clear HasBitField xs
 refused_clear xs front N ys s n k = λ l d. not_here n k (s.clear l d)
 
-pub refused_worse : (xs : List Tok) (front : List Item) (N : List ℕ → Bool) (ys : List Tok) → ItemsSo xs front N ys → (l : ℕ) → InItem N ys l → HasBitField xs l
+pub refused_worse : (xs : List Tok) (front : List Item) (N : List ℕ → Bool) (ys : List Tok) → ItemsSo xs front N ys
+    → (l : ℕ) → InItem N ys l → HasBitField xs l
 refused_worse xs front N ys s l d = s.worse l (of_item N ys l d)
 
 -- ---- the whole answer
@@ -129,17 +148,21 @@ refusal_is f k e h = rw (← e) (rw (← h) refl)
 of_kind : (xs : List Tok) (f : Refusal) (k : ℕ) → f.kind ≡ k → f.word ≡ 0 → Offends xs (refusal k f.line) → Offends xs f
 of_kind xs f k e h d = let q = refusal_is f k e h in rw q at d
 
-pub brackets_offend : (xs : List Tok) (f : Refusal) (l : ℕ) → (f.kind ≡ 22) × (f.word ≡ 0) × (f.line ≡ l) → Some l ≡ brackets_past 0 xs → Offends xs f
-brackets_offend xs f l h e = of_kind xs f 22 h.0 h.1 (offences.too_many_brackets (sym e ∙ ap (λ (n : ℕ). Some n) (sym h.2)))
+pub brackets_offend : (xs : List Tok) (f : Refusal) (l : ℕ) → (f.kind ≡ 22) × (f.word ≡ 0) × (f.line ≡ l)
+    → Some l ≡ brackets_past 0 xs → Offends xs f
+brackets_offend xs f l h e = of_kind xs f 22 h.0 h.1 (offences.too_many_brackets
+    (sym e ∙ ap (λ (n : ℕ). Some n) (sym h.2)))
 
-pub items_offend : (xs : List Tok) (e : Halt) → None ≡ brackets_past 0 xs → Fails Whole HasBitField xs e → IfRefused e (Offends xs)
+pub items_offend : (xs : List Tok) (e : Halt) → None ≡ brackets_past 0 xs → Fails Whole HasBitField xs e
+    → IfRefused e (Offends xs)
 items_offend xs (halts.Refused f) n h = elim h [
   | inl p ↦ of_kind xs f 10 p.2.0 p.2.1 (offences.no_program (sym n) p.1 (λ is d. p.0.never is [] (whole d)))
   | inr p ↦ of_kind xs f 9 p.1 p.2 (offences.bit_field (sym n) p.0)
 ]
 items_offend xs halts.Memory n h = tt
 
-pub depth_offends : (xs : List Tok) (f : Refusal) (is : List Item) → None ≡ brackets_past 0 xs → Takes Whole xs is [] → (f.kind ≡ 22) × (f.word ≡ 0) × (too_deep is ≡ Some f.line) → Offends xs f
+pub depth_offends : (xs : List Tok) (f : Refusal) (is : List Item) → None ≡ brackets_past 0 xs → Takes Whole xs is []
+    → (f.kind ≡ 22) × (f.word ≡ 0) × (too_deep is ≡ Some f.line) → Offends xs f
 depth_offends xs f is n t h = of_kind xs f 22 h.0 h.1 (offences.too_deep_inside (sym n) (whole_derives xs is t) h.2)
 
 -- ---- the end of the tokens

@@ -56,7 +56,8 @@ IsWhole is (Err r) = (r.kind ≡ 22) × (r.word ≡ 0) × (too_deep is ≡ Some 
 
 -- from behind an `#if` of this line and order to behind its `#endif`
 pub data Arms (is_type : List ℕ → Bool) (line : ℕ) (order : NamedOrder) : List Tok → List Tok → Item → Type 0 where
-  arms : {xs ys zs : List Tok} {fs : List Function} {gs : Option (List Function)} → Functions is_type xs ys fs → OtherFunctions is_type ys zs gs
+  arms : {xs ys zs : List Tok} {fs : List Function} {gs : Option (List Function)} → Functions is_type xs ys fs
+      → OtherFunctions is_type ys zs gs
       → Arms is_type line order xs zs (tree.functions_by_order line order fs gs)
 
 -- a bit-field behind an `#else`
@@ -66,23 +67,28 @@ pub data InOther (is_type : List ℕ → Bool) : List Tok → (line : ℕ) → T
 -- a bit-field in one of two arms
 pub data InArms (is_type : List ℕ → Bool) : List Tok → (line : ℕ) → Type 0 where
   in_first : {l : ℕ} {xs : List Tok} → InFunctions is_type xs l → InArms is_type xs l
-  in_second : {l m : ℕ} {xs ys : List Tok} {fs : List Function} → Functions is_type xs (other m ∷ ys) fs → InFunctions is_type ys l → InArms is_type xs l
+  in_second : {l m : ℕ} {xs ys : List Tok} {fs : List Function} → Functions is_type xs (other m ∷ ys) fs
+      → InFunctions is_type ys l → InArms is_type xs l
 
 -- ---- items
 
 -- an item that begins with the words of a declaration
 pub data Worded (is_type : List ℕ → Bool) : List Tok → List Tok → Item → Type 0 where
   defines : {xs ys : List Tok} {f : Function} → Defines is_type xs ys f → Worded is_type xs ys (tree.defines f)
-  prototype : {l c : ℕ} {xs ys : List Tok} {h : Head} → c ≡ semicolon → Headed is_type xs (mark l c ∷ ys) h → Worded is_type xs ys (tree.prototype h)
-  declares : {xs ys : List Tok} {d : Declaration} → Declares is_type at_file_scope xs ys d → Worded is_type xs ys (tree.declares_all d)
-  completes : {l c : ℕ} {xs ys : List Tok} {a : Aggregate} → c ≡ semicolon → Aggregated is_type xs (mark l c ∷ ys) a → Worded is_type xs ys (tree.completes a)
+  prototype : {l c : ℕ} {xs ys : List Tok} {h : Head} → c ≡ semicolon → Headed is_type xs (mark l c ∷ ys) h
+      → Worded is_type xs ys (tree.prototype h)
+  declares : {xs ys : List Tok} {d : Declaration} → Declares is_type at_file_scope xs ys d
+      → Worded is_type xs ys (tree.declares_all d)
+  completes : {l c : ℕ} {xs ys : List Tok} {a : Aggregate} → c ≡ semicolon → Aggregated is_type xs (mark l c ∷ ys) a
+      → Worded is_type xs ys (tree.completes a)
 
 abbrev pub InWords : (List ℕ → Bool) → List Tok → (line : ℕ) → Type 0
 InWords is_type xs l = InSpecs is_type at_file_scope no_bag xs l
 
 -- from behind the word `typedef` of this line, with the names that are types after it
 pub data NewTypes (before : List ℕ → Bool) (line : ℕ) : List Tok → List Tok → Item × (List ℕ → Bool) → Type 0 where
-  new_types : {after : List ℕ → Bool} {xs ys zs : List Tok} {ss : List Spec} {ds : List Declarator} → Specified before grammar.in_typedef xs ys ss → Typedefs before after ys zs ds
+  new_types : {after : List ℕ → Bool} {xs ys zs : List Tok} {ss : List Spec} {ds : List Declarator}
+      → Specified before grammar.in_typedef xs ys ss → Typedefs before after ys zs ds
       → NewTypes before line xs zs (tree.typedefs (record { line = line; specs = ss; declarators = ds }), after)
 
 abbrev pub InTypedefWords : (List ℕ → Bool) → List Tok → (line : ℕ) → Type 0
@@ -95,8 +101,10 @@ Itemed before xs ys v = OneItem before v.1 xs ys v.0
 -- a bit-field in the first item
 pub data InItem (is_type : List ℕ → Bool) : List Tok → (line : ℕ) → Type 0 where
   in_words : {l : ℕ} {xs : List Tok} → InWords is_type xs l → InItem is_type xs l
-  in_typedef : {l m c : ℕ} {xs : List Tok} → c ≡ typedef_word → InTypedefWords is_type xs l → InItem is_type (word m c ∷ xs) l
-  in_arms : {t : Tok} {o : NamedOrder} {l : ℕ} {xs : List Tok} → IsIf t o → InArms is_type xs l → InItem is_type (t ∷ xs) l
+  in_typedef : {l m c : ℕ} {xs : List Tok} → c ≡ typedef_word → InTypedefWords is_type xs l
+      → InItem is_type (word m c ∷ xs) l
+  in_arms : {t : Tok} {o : NamedOrder} {l : ℕ} {xs : List Tok} → IsIf t o → InArms is_type xs l
+      → InItem is_type (t ∷ xs) l
 
 -- ---- programs
 

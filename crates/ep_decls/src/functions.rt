@@ -11,7 +11,8 @@ ghost use Rattle.ep_lexer.specs.Tokens.{view};
 ghost use Rattle.ep_reading.specs.Names.{is_type};
 ghost use Rattle.ep_reading.specs.Answer.{Gives, GivesChecked, IsPast, IsWithin};
 ghost use Rattle.ep_declarations.specs.Answer.{ShowsSpecs, ShowsHead};
-ghost use Rattle.ep_decls.specs.Answer.{ShowsFunction, ShowsFunctions, ShowsOther, ShowsItem, Arms, InOther, InArms, InWords};
+ghost use Rattle.ep_decls.specs.Answer.{ShowsFunction, ShowsFunctions, ShowsOther, ShowsItem, Arms, InOther, InArms};
+ghost use Rattle.ep_decls.specs.Answer.{InWords};
 
 use crate::trees::{behind_else, by_order, function_of};
 use crate::unnamed::{behind_unnamed, no_later};
@@ -28,7 +29,8 @@ pub fn body<'a>(
     tokens: &'a [Token],
 ) -> Result<Part<'a, Measured<FunctionTree>>, Halt>
     requires { length tokens.now < 2 ^ 24 }
-    ensures reads { (xs : List Tok) → (h : shape.Head) → Takes (grammar.Headed (is_type reader.now.names.now)) xs h (map view tokens.now) → ShowsHead headed h
+    ensures reads { (xs : List Tok) → (h : shape.Head)
+        → Takes (grammar.Headed (is_type reader.now.names.now)) xs h (map view tokens.now) → ShowsHead headed h
         → Gives ShowsFunction (Defines (is_type reader.now.names.now)) xs result }
     ensures shorter { IfOk result (IsPast (length tokens.now)) }
 {
@@ -49,7 +51,9 @@ fn definition<'a>(
     tokens: &'a [Token],
 ) -> Result<Part<'a, Measured<FunctionTree>>, Halt>
     requires { length tokens.now < 2 ^ 24 }
-    ensures reads { (xs : List Tok) → (ss : List shape.Spec) → Takes (grammar.Specified (is_type reader.now.names.now) grammar.at_file_scope) xs ss (map view tokens.now) → ShowsSpecs specs ss
+    ensures reads { (xs : List Tok) → (ss : List shape.Spec)
+        → Takes (grammar.Specified (is_type reader.now.names.now) grammar.at_file_scope) xs ss (map view tokens.now)
+        → ShowsSpecs specs ss
         → Gives ShowsFunction (Defines (is_type reader.now.names.now)) xs result }
     ensures shorter { IfOk result (IsPast (length tokens.now)) }
 {
@@ -63,7 +67,8 @@ fn function<'a>(
     tokens: &'a [Token],
 ) -> Result<Part<'a, Measured<FunctionTree>>, Halt>
     requires { length tokens.now < 2 ^ 24 }
-    ensures reads { GivesChecked ShowsFunction (Defines (is_type reader.now.names.now)) (InWords (is_type reader.now.names.now)) (map view tokens.now) result }
+    ensures reads { GivesChecked ShowsFunction (Defines (is_type reader.now.names.now))
+        (InWords (is_type reader.now.names.now)) (map view tokens.now) result }
     ensures shorter { IfOk result (IsPast (length tokens.now)) }
 {
     let specs = spec_list(reader, Place::FileScope, tokens)?;
@@ -79,7 +84,8 @@ fn all_functions<'a>(
     tokens: &'a [Token],
 ) -> Result<Part<'a, Measured<Vec<FunctionTree>>>, Halt>
     requires { length tokens.now < 2 ^ 24 }
-    ensures reads { GivesChecked ShowsFunctions (Functions (is_type reader.now.names.now)) (InFunctions (is_type reader.now.names.now)) (map view tokens.now) result }
+    ensures reads { GivesChecked ShowsFunctions (Functions (is_type reader.now.names.now))
+        (InFunctions (is_type reader.now.names.now)) (map view tokens.now) result }
     ensures shorter { IfOk result (IsWithin (length tokens.now)) }
 {
     let mut found = Measured::Fits(Vec::new(reader.alloc));
@@ -100,7 +106,8 @@ fn other_functions<'a>(
     tokens: &'a [Token],
 ) -> Result<Part<'a, Measured<Option<Vec<FunctionTree>>>>, Halt>
     requires { length tokens.now < 2 ^ 24 }
-    ensures reads { GivesChecked ShowsOther (OtherFunctions (is_type reader.now.names.now)) (InOther (is_type reader.now.names.now)) (map view tokens.now) result }
+    ensures reads { GivesChecked ShowsOther (OtherFunctions (is_type reader.now.names.now))
+        (InOther (is_type reader.now.names.now)) (map view tokens.now) result }
     ensures shorter { IfOk result (IsPast (length tokens.now)) }
 {
     if let Some((_, more)) = at_end_if(tokens) {
@@ -130,7 +137,8 @@ pub fn arms<'a>(
     tokens: &'a [Token],
 ) -> Result<Part<'a, Measured<ItemTree>>, Halt>
     requires { length tokens.now < 2 ^ 24 }
-    ensures reads { GivesChecked ShowsItem (Arms (is_type reader.now.names.now) line order) (InArms (is_type reader.now.names.now)) (map view tokens.now) result }
+    ensures reads { GivesChecked ShowsItem (Arms (is_type reader.now.names.now) line order)
+        (InArms (is_type reader.now.names.now)) (map view tokens.now) result }
     ensures shorter { IfOk result (IsPast (length tokens.now)) }
 {
     let then = all_functions(reader, tokens)?;

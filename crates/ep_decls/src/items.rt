@@ -10,7 +10,8 @@ ghost use Rattle.ep_reading.specs.Names.{is_type};
 ghost use Rattle.ep_reading.specs.Answer.{Gives, GivesChecked, IsPast};
 ghost use Rattle.ep_declarations.specs.Answer.{ShowsSpecs};
 ghost use Rattle.ep_decls.specs.Look as look;
-ghost use Rattle.ep_decls.specs.Answer.{ShowsItem, MakesTypes, Worded, InWords, NewTypes, InTypedefWords, Itemed, InItem};
+ghost use Rattle.ep_decls.specs.Answer.{ShowsItem, MakesTypes, Worded, InWords, NewTypes, InTypedefWords, Itemed};
+ghost use Rattle.ep_decls.specs.Answer.{InItem};
 
 use crate::functions::{arms, body};
 use crate::look::begins_head;
@@ -33,7 +34,8 @@ fn typedef<'a>(
     tokens: &'a [Token],
 ) -> Result<Part<'a, Measured<ItemTree>>, Halt>
     requires { length tokens.now < 2 ^ 24 }
-    ensures reads { GivesChecked (MakesTypes (is_type names.new)) (NewTypes (is_type names.old) line) (InTypedefWords (is_type names.old)) (map view tokens.now) result }
+    ensures reads { GivesChecked (MakesTypes (is_type names.new)) (NewTypes (is_type names.old) line)
+        (InTypedefWords (is_type names.old)) (map view tokens.now) result }
     ensures shorter { IfOk result (IsPast (length tokens.now)) }
 {
     let reader = Reader {
@@ -56,8 +58,11 @@ fn headed_item<'a>(
     tokens: &'a [Token],
 ) -> Result<Part<'a, Measured<ItemTree>>, Halt>
     requires { length tokens.now < 2 ^ 24 }
-    ensures reads { (xs : List Tok) → (ss : List Spec) → Takes (grammar.Specified (is_type reader.now.names.now) grammar.at_file_scope) xs ss (map view tokens.now) → ShowsSpecs specs ss
-        → look.begins_head (map view tokens.now) ≡ true → Gives ShowsItem (Worded (is_type reader.now.names.now)) xs result }
+    ensures reads { (xs : List Tok) → (ss : List Spec)
+        → Takes (grammar.Specified (is_type reader.now.names.now) grammar.at_file_scope) xs ss (map view tokens.now)
+        → ShowsSpecs specs ss
+        → look.begins_head (map view tokens.now) ≡ true
+        → Gives ShowsItem (Worded (is_type reader.now.names.now)) xs result }
     ensures shorter { IfOk result (IsPast (length tokens.now)) }
 {
     let headed = head(reader, specs, tokens)?;
@@ -80,7 +85,8 @@ fn worded_item<'a>(
     tokens: &'a [Token],
 ) -> Result<Part<'a, Measured<ItemTree>>, Halt>
     requires { length tokens.now < 2 ^ 24 }
-    ensures reads { GivesChecked ShowsItem (Worded (is_type reader.now.names.now)) (InWords (is_type reader.now.names.now)) (map view tokens.now) result }
+    ensures reads { GivesChecked ShowsItem (Worded (is_type reader.now.names.now))
+        (InWords (is_type reader.now.names.now)) (map view tokens.now) result }
     ensures shorter { IfOk result (IsPast (length tokens.now)) }
 {
     let specs = spec_list(reader, Place::FileScope, tokens)?;
@@ -111,7 +117,8 @@ pub fn item<'a>(
     tokens: &'a [Token],
 ) -> Result<Part<'a, Measured<ItemTree>>, Halt>
     requires { length tokens.now < 2 ^ 24 }
-    ensures reads { GivesChecked (MakesTypes (is_type names.new)) (Itemed (is_type names.old)) (InItem (is_type names.old)) (map view tokens.now) result }
+    ensures reads { GivesChecked (MakesTypes (is_type names.new)) (Itemed (is_type names.old))
+        (InItem (is_type names.old)) (map view tokens.now) result }
     ensures shorter { IfOk result (IsPast (length tokens.now)) }
 {
     if let Some((line, behind)) = at_word(tokens, TYPEDEF) {

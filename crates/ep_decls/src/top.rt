@@ -42,7 +42,8 @@ pub fn program(alloc: Global, tokens: &Tokens) -> Result<ProgramTree, Halt>
     requires few { length tokens.now.list.items < 2 ^ 24 }
     ensures derives { IfOk result (λ t. Programs (view_all tokens.now) (program_of t)) }
     ensures only { IfOk result (λ t. (is : List Item) → Programs (view_all tokens.now) is → is ≡ program_of t) }
-    ensures fits { IfOk result (λ t. (brackets_past 0 (view_all tokens.now) ≡ None) × (too_deep (program_of t) ≡ None)) }
+    ensures fits { IfOk result (λ t. (brackets_past 0 (view_all tokens.now) ≡ None)
+        × (too_deep (program_of t) ≡ None)) }
     ensures refused { IfErr result (λ e. IfRefused e (Offends (view_all tokens.now))) }
 {
     let all = tokens.list.as_slice();

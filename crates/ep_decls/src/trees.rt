@@ -20,7 +20,8 @@ use ep_reading::Measured;
 
 /// A function with its body.
 pub fn function_of(head: Measured<HeadTree>, body: Measured<BlockTree>) -> Measured<FunctionTree>
-    ensures { (h : shape.Head) → (b : tree.Block) → Shows head_of in_head head h → ShowsBlock body b → ShowsFunction result (record { line = h.line; head = h; body = b }) }
+    ensures { (h : shape.Head) → (b : tree.Block) → Shows head_of in_head head h → ShowsBlock body b
+        → ShowsFunction result (record { line = h.line; head = h; body = b }) }
 {
     match head.and(body) {
         Measured::TooDeep(line) => Measured::TooDeep(line),
@@ -60,7 +61,8 @@ pub fn declared(declaration: Measured<DeclarationTree>) -> Measured<ItemTree>
 }
 
 pub fn completed(aggregate: Measured<AggregateTree>) -> Measured<ItemTree>
-    ensures { (a : shape.Aggregate) → Shows aggregate_of in_aggregate aggregate a → ShowsItem result (tree.completes a) }
+    ensures { (a : shape.Aggregate) → Shows aggregate_of in_aggregate aggregate a
+        → ShowsItem result (tree.completes a) }
 {
     match aggregate {
         Measured::TooDeep(line) => Measured::TooDeep(line),
@@ -74,7 +76,8 @@ pub fn new_types(
     specs: SpecList,
     declarators: Measured<Vec<DeclaratorTree>>,
 ) -> Measured<ItemTree>
-    ensures { (ss : List shape.Spec) → (ds : List shape.Declarator) → ShowsSpecs specs ss → ShowsDeclarators declarators ds
+    ensures { (ss : List shape.Spec) → (ds : List shape.Declarator) → ShowsSpecs specs ss
+        → ShowsDeclarators declarators ds
         → ShowsItem result (tree.typedefs (record { line = line; specs = ss; declarators = ds })) }
 {
     match specs.tree.and(declarators) {
@@ -94,7 +97,8 @@ pub fn by_order(
     then: Measured<Vec<FunctionTree>>,
     otherwise: Measured<Option<Vec<FunctionTree>>>,
 ) -> Measured<ItemTree>
-    ensures { (fs : List tree.Function) → (gs : Option (List tree.Function)) → ShowsFunctions then fs → ShowsOther otherwise gs → ShowsItem result (tree.functions_by_order line order fs gs) }
+    ensures { (fs : List tree.Function) → (gs : Option (List tree.Function)) → ShowsFunctions then fs
+        → ShowsOther otherwise gs → ShowsItem result (tree.functions_by_order line order fs gs) }
 {
     match then.and(otherwise) {
         Measured::TooDeep(first) => Measured::TooDeep(first),

@@ -1,11 +1,13 @@
 -- Which marks are what, and what can't go on.
-use Rattle.std.proofs.Common.{◌≡◌, ℕ, zero, suc, ◌+◌, ◌-◌, ◌<◌, ◌≤◌, Bool, true, false, List, [], ◌∷◌, refl, sym, subst, arith, inl, inr, ◌⊎◌}
+use Rattle.std.proofs.Common.{◌≡◌, ℕ, zero, suc, ◌+◌, ◌-◌, ◌<◌, ◌≤◌, Bool, true, false, List, [], ◌∷◌, refl, sym, subst}
+use Rattle.std.proofs.Common.{arith, inl, inr, ◌⊎◌}
 use Rattle.std.specs.Prelude.{◌==◌, nat_le, ◌&&◌, ◌||◌}
 use Rattle.std.proofs.lemmas.Bool.{eqb-true}
 use Rattle.std.proofs.lemmas.Bool.Decides.{nat_tests}
 use Rattle.ep_ast.specs.Token.{Tok, word, name, number, mark, if_little, if_big, other, end_if}
 use Rattle.ep_ast.specs.Mark.{left_paren, right_paren, right_bracket, question, colon, comma}
-use Rattle.ep_ast.specs.Grammar.{level, is_assignment, is_prefix, is_step, Rule, expr, cond, bin, cast, unary, postfix, primary}
+use Rattle.ep_ast.specs.Grammar.{level, is_assignment, is_prefix, is_step, Rule, expr, cond, bin, cast, unary, postfix}
+use Rattle.ep_ast.specs.Grammar.{primary}
 use Rattle.ep_ast.specs.Reading.{is_suffix, goes_on, Ends}
 
 pub both_true : (a b : Bool) → (a && b) ≡ true → (a ≡ true) × (b ≡ true)
@@ -71,9 +73,18 @@ le_true m n h = grind (arith, nat_tests)
 abbrev AssignsOnly : ℕ → Type 0
 AssignsOnly c = (level c ≡ 0) × (is_suffix c ≡ false) × ((c == 41) ≡ false)
 
-assigns_here : AssignsOnly 14 × AssignsOnly 15 × AssignsOnly 16 × AssignsOnly 17 × AssignsOnly 18 × AssignsOnly 19 × AssignsOnly 20 × AssignsOnly 21
-assigns_here =
-    ((refl, refl, refl), (refl, refl, refl), (refl, refl, refl), (refl, refl, refl), (refl, refl, refl), (refl, refl, refl), (refl, refl, refl), (refl, refl, refl))
+assigns_here : AssignsOnly 14 × AssignsOnly 15 × AssignsOnly 16 × AssignsOnly 17 × AssignsOnly 18 × AssignsOnly 19
+    × AssignsOnly 20 × AssignsOnly 21
+assigns_here = (
+  (refl, refl, refl),
+  (refl, refl, refl),
+  (refl, refl, refl),
+  (refl, refl, refl),
+  (refl, refl, refl),
+  (refl, refl, refl),
+  (refl, refl, refl),
+  (refl, refl, refl),
+)
 
 in_row : (c : ℕ) → 14 ≤ c → c ≤ 21 → AssignsOnly c
 in_row c l m =
@@ -86,7 +97,11 @@ assigns_only c h = elim (or_cases (c == 44 || c == 1 || c == 2) (nat_le 14 c && 
   | inr k ↦ let q = both_true (nat_le 14 c) (nat_le c 21) k in in_row c (le_true 14 c q.0) (le_true c 21 q.1)
   | inl k ↦ elim (or_cases (c == 44 || c == 1) (c == 2) k) [
     | inr m ↦ at_is AssignsOnly c 2 m (refl, refl, refl)
-    | inl m ↦ elim (or_cases (c == 44) (c == 1) m) [ inr n ↦ at_is AssignsOnly c 1 n (refl, refl, refl) | inl n ↦ at_is AssignsOnly c 44 n (refl, refl, refl) ]
+    | inl m ↦ elim (or_cases (c == 44) (c == 1) m) [
+      | inr n ↦ at_is AssignsOnly c 1 n (refl, refl, refl)
+      | inl n ↦
+          at_is AssignsOnly c 44 n (refl, refl, refl)
+    ]
   ]
 ]
 
@@ -113,7 +128,8 @@ prefix_not_step c h k = let f = prefix_is (λ n. is_step n ≡ false) refl refl 
 
 -- ---- what goes on
 
-pub ends_map : (r s : Rule) → ((c : ℕ) → goes_on r c ≡ false → goes_on s c ≡ false) → (ts : List Tok) → Ends r ts → Ends s ts
+pub ends_map : (r s : Rule) → ((c : ℕ) → goes_on r c ≡ false → goes_on s c ≡ false) → (ts : List Tok) → Ends r ts
+    → Ends s ts
 ends_map r s f [] h = tt
 ends_map r s f (word l c ∷ ts) h = tt
 ends_map r s f (name l t ∷ ts) h = tt
@@ -142,7 +158,8 @@ tighter_number s n k h e = grind (arith, nat_tests)
 pub ends_at_operator : (l c k : ℕ) (ts : List Tok) → level c ≡ k → 0 < k → Ends (bin (k + 1)) (mark l c ∷ ts)
 ends_at_operator l c k ts h p = tighter_number (is_suffix c) (level c) k (level_no_suffix c k h p) h
 
-weaker_number : (s : Bool) (n k : ℕ) → (s || (nat_le 1 n && nat_le k n)) ≡ false → (s || (nat_le 1 n && nat_le (k + 1) n)) ≡ false
+weaker_number : (s : Bool) (n k : ℕ) → (s || (nat_le 1 n && nat_le k n)) ≡ false
+    → (s || (nat_le 1 n && nat_le (k + 1) n)) ≡ false
 weaker_number s n k h = grind (arith, nat_tests)
 
 pub ends_tighter : (k : ℕ) (ts : List Tok) → Ends (bin k) ts → Ends (bin (k + 1)) ts
@@ -159,7 +176,8 @@ or_left true b h = h
 or_left false b h = refl
 
 pub ends_operand : (ts : List Tok) → Ends (bin 11) ts → Ends cast ts
-ends_operand ts h = ends_map (bin 11) cast (λ c e. or_left (is_suffix c) (nat_le 1 (level c) && nat_le 11 (level c)) e) ts h
+ends_operand ts h = ends_map (bin 11) cast (λ c e. or_left (is_suffix c) (nat_le 1 (level c) && nat_le 11 (level c)) e)
+    ts h
 
 pub ends_unary : (ts : List Tok) → Ends cast ts → Ends unary ts
 ends_unary ts h = ends_map cast unary (λ c e. e) ts h
@@ -174,10 +192,12 @@ one_number : (s : Bool) (n : ℕ) → (s || nat_le 1 n) ≡ false → (s || (nat
 one_number s n h = grind (arith, nat_tests)
 
 pub ends_binary : (ts : List Tok) → Ends cond ts → Ends (bin 1) ts
-ends_binary ts h = ends_map cond (bin 1) (λ c e. one_number (is_suffix c) (level c) (or_left (is_suffix c || nat_le 1 (level c)) (c == 41) e)) ts h
+ends_binary ts h = ends_map cond (bin 1) (λ c e. one_number (is_suffix c) (level c)
+    (or_left (is_suffix c || nat_le 1 (level c)) (c == 41) e)) ts h
 
 pub ends_cond : (ts : List Tok) → Ends expr ts → Ends cond ts
-ends_cond ts h = ends_map expr cond (λ c e. or_left (is_suffix c || nat_le 1 (level c) || c == 41) (is_assignment c) e) ts h
+ends_cond ts h = ends_map expr cond (λ c e. or_left (is_suffix c || nat_le 1 (level c) || c == 41) (is_assignment c) e)
+    ts h
 
 pub ends_at_paren : (l c : ℕ) (ts : List Tok) → c ≡ right_paren → Ends expr (mark l c ∷ ts)
 ends_at_paren l c ts k = rw k refl

@@ -20,7 +20,8 @@ part_rule true = cond
 part_rule false = expr
 
 module _ (N : List ℕ → Bool) where
-  wanted_read : (fs : List Frame) (xs ys : List Tok) (a : Expr) → Plain N fs xs → Reads N cond xs a ys → Reads N (wanted fs) xs a ys
+  wanted_read : (fs : List Frame) (xs ys : List Tok) (a : Expr) → Plain N fs xs → Reads N cond xs a ys
+      → Reads N (wanted fs) xs a ys
   wanted_read [] xs ys a p r = laws.plain_read N xs ys a (p refl) r
   wanted_read (frames.Assign k c ∷ fs) xs ys a p r = laws.plain_read N xs ys a (p refl) r
   wanted_read (frames.Question k ∷ fs) xs ys a p r = laws.plain_read N xs ys a (p refl) r
@@ -43,46 +44,72 @@ module _ (N : List ℕ → Bool) where
   unwound begins r = r
   unwound (assigning {fs = fs} {ys = ys} {zs = zs} {ws = ws} {a = a} {l = l} {c = c} w u b s d k) r =
       unwound u (subst (λ (q : Rule). Refuses N q ys) (sym w) (laws.assign_refused N ys zs ws l c a b d k r))
-  unwound (asking {fs = fs} {ys = ys} {zs = zs} {ws = ws} {a = a} {l = l} u p s d k) r = unwound u (wanted_refused fs ys p (laws.yes_refused N ys zs ws l a d k r))
-  unwound (choosing {fs = fs} {ys = ys} {zs = zs} {ws = ws} {vs = vs} {us = us} {a = a} {b = b} {l = l} {m = m} u p s d k t e o) r =
+  unwound (asking {fs = fs} {ys = ys} {zs = zs} {ws = ws} {a = a} {l = l} u p s d k) r =
+      unwound u (wanted_refused fs ys p (laws.yes_refused N ys zs ws l a d k r))
+  unwound (choosing {fs = fs} {ys = ys} {zs = zs} {ws = ws} {vs = vs} {us = us} {a = a} {b = b} {l = l} {m = m} u p s d
+      k t e o) r =
       unwound u (wanted_refused fs ys p (laws.no_refused N ys zs ws vs us l m a b d k e o r))
 
-  pub test_unwound : {xs ys : List Tok} {fs : List Frame} → Waits N xs fs ys → Plain N fs ys → Refuses N (bin 1) ys → Refuses N expr xs
+  pub test_unwound : {xs ys : List Tok} {fs : List Frame} → Waits N xs fs ys → Plain N fs ys → Refuses N (bin 1) ys
+      → Refuses N expr xs
   test_unwound {ys = ys} {fs = fs} u p r = unwound u (wanted_refused fs ys p (laws.test_refused N ys r))
 
-  pub colon_unwound : (xs : List Tok) (fs : List Frame) (k j : Kept) (zs : List Tok) → Asked N xs fs k j zs → Lacks colon zs → Refuses N expr xs
-  colon_unwound xs fs k j zs a n = unwound a.waits (wanted_refused fs a.from a.plain (laws.colon_refused N a.from a.behind a.inner zs a.line a.test a.yes a.reads_test a.at_question a.reads_yes n))
+  pub colon_unwound : (xs : List Tok) (fs : List Frame) (k j : Kept) (zs : List Tok) → Asked N xs fs k j zs
+      → Lacks colon zs → Refuses N expr xs
+  colon_unwound xs fs k j zs a n = unwound a.waits (wanted_refused fs a.from a.plain
+      (laws.colon_refused N a.from a.behind a.inner zs a.line a.test a.yes a.reads_test a.at_question a.reads_yes n))
 
   -- ---- completed
 
-  pub test_value : (xs ys zs : List Tok) (fs : List Frame) (k : Kept) (t : Expr) → Waits N xs fs ys → Plain N fs ys → Shows k t → Reads N (bin 1) ys t zs → Lacks question zs → Value N xs fs k zs
-  test_value xs ys zs fs k t u p s r n = record { from = ys; tree = t; waits = u; shows = s; reads = wanted_read fs ys zs t p (laws.choice_none N ys zs t r n) }
+  pub test_value : (xs ys zs : List Tok) (fs : List Frame) (k : Kept) (t : Expr) → Waits N xs fs ys → Plain N fs ys
+      → Shows k t → Reads N (bin 1) ys t zs → Lacks question zs → Value N xs fs k zs
+  test_value xs ys zs fs k t u p s r n = record {
+    from = ys;
+    tree = t;
+    waits = u;
+    shows = s;
+    reads = wanted_read fs ys zs t p (laws.choice_none N ys zs t r n);
+  }
 
-  assign_at : (xs zs : List Tok) {ys : List Tok} (fs : List Frame) (k new : Kept) (c : ℕ) (t : Expr) → ((s : Expr) → Shows k s → Shows new (tree.assign (line_of s) c s t)) → Waits N xs (frames.Assign k c ∷ fs) ys → Reads N expr ys t zs → Value N xs fs new zs
+  assign_at : (xs zs : List Tok) {ys : List Tok} (fs : List Frame) (k new : Kept) (c : ℕ) (t : Expr)
+      → ((s : Expr) → Shows k s → Shows new (tree.assign (line_of s) c s t)) → Waits N xs (frames.Assign k c ∷ fs) ys
+      → Reads N expr ys t zs → Value N xs fs new zs
   assign_at xs zs fs k new c t f (assigning {ys = ys} {zs = vs} {ws = ws} {a = a} {l = l} w u b s d o) r = record {
     from = ys;
     tree = tree.assign (line_of a) c a t;
     waits = u;
     shows = f a s;
-    reads = subst (λ (q : Rule). Reads N q ys (tree.assign (line_of a) c a t) zs) (sym w) (laws.assign_read N ys vs ws zs l c a t b d o r);
+    reads = subst (λ (q : Rule). Reads N q ys (tree.assign (line_of a) c a t) zs) (sym w)
+        (laws.assign_read N ys vs ws zs l c a t b d o r);
   }
 
-  pub assign_value : (xs zs : List Tok) (fs : List Frame) (k old new : Kept) (c : ℕ) → ((s t : Expr) → Shows k s → Shows old t → Shows new (tree.assign (line_of s) c s t)) → Value N xs (frames.Assign k c ∷ fs) old zs → Value N xs fs new zs
-  assign_value xs zs fs k old new c f v = assign_at xs zs fs k new c v.tree (λ s h. f s v.tree h v.shows) v.waits v.reads
+  pub assign_value : (xs zs : List Tok) (fs : List Frame) (k old new : Kept) (c : ℕ)
+      → ((s t : Expr) → Shows k s → Shows old t → Shows new (tree.assign (line_of s) c s t))
+      → Value N xs (frames.Assign k c ∷ fs) old zs → Value N xs fs new zs
+  assign_value xs zs fs k old new c f v = assign_at xs zs fs k new c v.tree (λ s h. f s v.tree h v.shows) v.waits
+      v.reads
 
-  choice_at : (xs zs : List Tok) {ys : List Tok} (fs : List Frame) (k j new : Kept) (t : Expr) → ((s y : Expr) → Shows k s → Shows j y → Shows new (tree.conditional (line_of s) s y t)) → Waits N xs (frames.Colon k j ∷ fs) ys → Reads N cond ys t zs → Value N xs fs new zs
-  choice_at xs zs fs k j new t f (choosing {ys = ys} {zs = ws} {ws = qs} {vs = vs} {us = us} {a = a} {b = b} {l = l} {m = m} u p s d o g e h) r = record {
-    from = ys;
-    tree = tree.conditional (line_of a) a b t;
-    waits = u;
-    shows = f a b s g;
-    reads = wanted_read fs ys zs (tree.conditional (line_of a) a b t) p (laws.choice_read N ys ws qs vs us zs l m a b t d o e h r);
-  }
+  choice_at : (xs zs : List Tok) {ys : List Tok} (fs : List Frame) (k j new : Kept) (t : Expr)
+      → ((s y : Expr) → Shows k s → Shows j y → Shows new (tree.conditional (line_of s) s y t))
+      → Waits N xs (frames.Colon k j ∷ fs) ys → Reads N cond ys t zs → Value N xs fs new zs
+  choice_at xs zs fs k j new t f (choosing {ys = ys} {zs = ws} {ws = qs} {vs = vs} {us = us} {a = a} {b = b} {l = l}
+      {m = m} u p s d o g e h) r = record {
+        from = ys;
+        tree = tree.conditional (line_of a) a b t;
+        waits = u;
+        shows = f a b s g;
+        reads = wanted_read fs ys zs (tree.conditional (line_of a) a b t) p
+            (laws.choice_read N ys ws qs vs us zs l m a b t d o e h r);
+      }
 
-  pub choice_value : (xs zs : List Tok) (fs : List Frame) (k j old new : Kept) → ((s y t : Expr) → Shows k s → Shows j y → Shows old t → Shows new (tree.conditional (line_of s) s y t)) → Value N xs (frames.Colon k j ∷ fs) old zs → Value N xs fs new zs
-  choice_value xs zs fs k j old new f v = choice_at xs zs fs k j new v.tree (λ s y h g. f s y v.tree h g v.shows) v.waits v.reads
+  pub choice_value : (xs zs : List Tok) (fs : List Frame) (k j old new : Kept)
+      → ((s y t : Expr) → Shows k s → Shows j y → Shows old t → Shows new (tree.conditional (line_of s) s y t))
+      → Value N xs (frames.Colon k j ∷ fs) old zs → Value N xs fs new zs
+  choice_value xs zs fs k j old new f v = choice_at xs zs fs k j new v.tree (λ s y h g. f s y v.tree h g v.shows)
+      v.waits v.reads
 
-  ask_at : (xs zs : List Tok) {ys : List Tok} (fs : List Frame) (k j : Kept) (t : Expr) → Shows j t → Waits N xs (frames.Question k ∷ fs) ys → Reads N expr ys t zs → Asked N xs fs k j zs
+  ask_at : (xs zs : List Tok) {ys : List Tok} (fs : List Frame) (k j : Kept) (t : Expr) → Shows j t
+      → Waits N xs (frames.Question k ∷ fs) ys → Reads N expr ys t zs → Asked N xs fs k j zs
   ask_at xs zs fs k j t g (asking {ys = ys} {zs = vs} {ws = ws} {a = a} {l = l} u p s d o) r = record {
     from = ys;
     behind = vs;
@@ -99,11 +126,14 @@ module _ (N : List ℕ → Bool) where
     reads_yes = r;
   }
 
-  pub ask_value : (xs zs : List Tok) (fs : List Frame) (k j : Kept) → Value N xs (frames.Question k ∷ fs) j zs → Asked N xs fs k j zs
+  pub ask_value : (xs zs : List Tok) (fs : List Frame) (k j : Kept) → Value N xs (frames.Question k ∷ fs) j zs
+      → Asked N xs fs k j zs
   ask_value xs zs fs k j v = ask_at xs zs fs k j v.tree v.shows v.waits v.reads
 
-  pub colon_waits : (xs zs ws : List Tok) (fs : List Frame) (k j : Kept) (m : ℕ) → Asked N xs fs k j zs → AtMark colon zs (Some (m, ws)) → Waits N xs (frames.Colon k j ∷ fs) ws
-  colon_waits xs zs ws fs k j m a o = choosing a.waits a.plain a.shows_test a.reads_test a.at_question a.shows_yes a.reads_yes o
+  pub colon_waits : (xs zs ws : List Tok) (fs : List Frame) (k j : Kept) (m : ℕ) → Asked N xs fs k j zs
+      → AtMark colon zs (Some (m, ws)) → Waits N xs (frames.Colon k j ∷ fs) ws
+  colon_waits xs zs ws fs k j m a o = choosing a.waits a.plain a.shows_test a.reads_test a.at_question a.shows_yes
+      a.reads_yes o
 
   -- ---- where an assignment may stand
 
@@ -119,5 +149,6 @@ module _ (N : List ℕ → Bool) where
   pub plain_cast : (fs : List Frame) (xs : List Tok) → begins_cast N xs ≡ true → Plain N fs xs
   plain_cast fs xs h = λ e. laws.no_assignment_cast N xs h
 
-  pub plain_other : (fs : List Frame) (xs ys : List Tok) (a : Expr) → begins_cast N xs ≡ false → Reads N cast xs a ys → begins_assignment ys ≡ false → Plain N fs xs
+  pub plain_other : (fs : List Frame) (xs ys : List Tok) (a : Expr) → begins_cast N xs ≡ false → Reads N cast xs a ys
+      → begins_assignment ys ≡ false → Plain N fs xs
   plain_other fs xs ys a b r n = λ e. laws.no_assignment_read N xs ys a b r n

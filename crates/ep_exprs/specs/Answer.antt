@@ -18,10 +18,12 @@ pub data IsRefused (is_type : List ℕ → Bool) (ts : List Tok) (r : Refusal) :
   -- too many brackets are open
   brackets : r.kind ≡ 22 → r.word ≡ 0 → opens_past 0 ts ≡ Some r.line → IsRefused is_type ts r
   -- a front is the tree of an expression, and of this one alone, and it is too deep
-  operators : {front rest : List Tok} {t : Expr} → r.kind ≡ 22 → r.word ≡ 0 → opens_past 0 ts ≡ None → IsFront is_type ts front rest t → is_too_deep t ≡ true → r.line ≡ line_of t
+  operators : {front rest : List Tok} {t : Expr} → r.kind ≡ 22 → r.word ≡ 0 → opens_past 0 ts ≡ None
+      → IsFront is_type ts front rest t → is_too_deep t ≡ true → r.line ≡ line_of t
       → ((other more : List Tok) (u : Expr) → IsFront is_type ts other more u → u ≡ t) → IsRefused is_type ts r
   -- no front is one
-  syntax : r.kind ≡ 10 → r.word ≡ 0 → opens_past 0 ts ≡ None → ((front rest : List Tok) (t : Expr) → IsFront is_type ts front rest t → ⊥) → IsRefused is_type ts r
+  syntax : r.kind ≡ 10 → r.word ≡ 0 → opens_past 0 ts ≡ None
+      → ((front rest : List Tok) (t : Expr) → IsFront is_type ts front rest t → ⊥) → IsRefused is_type ts r
 
 -- the tree, or a refusal where it is too deep
 abbrev pub Wholly : Result ExprTree Refusal → Expr → Type 0

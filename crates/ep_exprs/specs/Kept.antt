@@ -22,7 +22,8 @@ abbrev pub Shows : Kept → Expr → Type 0
 Shows k t = (k.line ≡ line_of t) × Holds k.tree k.height t
 
 abbrev pub HoldsAll : Option (Vec ExprTree) → ℕ → List Expr → Type 0
-HoldsAll (Some v) h ts = (map expr v.items ≡ ts) × (h ≡ heights (to_exprs ts)) × (h ≤ 64) × (all_stars_in (to_exprs ts) ≤ 64)
+HoldsAll (Some v) h ts = (map expr v.items ≡ ts) × (h ≡ heights (to_exprs ts)) × (h ≤ 64)
+    × (all_stars_in (to_exprs ts) ≤ 64)
 HoldsAll None h ts = 64 < max (heights (to_exprs ts)) (all_stars_in (to_exprs ts))
 
 abbrev pub ShowsAll : Arguments → List Expr → Type 0
@@ -43,25 +44,31 @@ Over None t = 64 < max (height t + 1) (stars_in t)
 
 -- the same of two trees
 abbrev pub Pair : Option (ExprTree × ExprTree × ℕ) → Expr → Expr → Type 0
-Pair (Some p) s t = (expr p.0 ≡ s) × (expr p.1 ≡ t) × (p.2 ≡ max (height s) (height t) + 1) × (p.2 ≤ 64) × (max (stars_in s) (stars_in t) ≤ 64)
+Pair (Some p) s t = (expr p.0 ≡ s) × (expr p.1 ≡ t) × (p.2 ≡ max (height s) (height t) + 1) × (p.2 ≤ 64)
+    × (max (stars_in s) (stars_in t) ≤ 64)
 Pair None s t = 64 < max (max (height s) (height t) + 1) (max (stars_in s) (stars_in t))
 
 -- the same of three trees
 abbrev pub Three : Option (ExprTree × ExprTree × ExprTree × ℕ) → Expr → Expr → Expr → Type 0
 Three (Some p) s t u =
-    (expr p.0 ≡ s) × (expr p.1 ≡ t) × (expr p.2 ≡ u) × (p.3 ≡ max (height s) (max (height t) (height u)) + 1) × (p.3 ≤ 64) × (max (stars_in s) (max (stars_in t) (stars_in u)) ≤ 64)
-Three None s t u = 64 < max (max (height s) (max (height t) (height u)) + 1) (max (stars_in s) (max (stars_in t) (stars_in u)))
+    (expr p.0 ≡ s) × (expr p.1 ≡ t) × (expr p.2 ≡ u) × (p.3 ≡ max (height s) (max (height t) (height u)) + 1)
+    × (p.3 ≤ 64) × (max (stars_in s) (max (stars_in t) (stars_in u)) ≤ 64)
+Three None s t u = 64 < max (max (height s) (max (height t) (height u)) + 1)
+    (max (stars_in s) (max (stars_in t) (stars_in u)))
 
 -- the same of a tree and arguments
 abbrev pub WithAll : Option (ExprTree × Vec ExprTree × ℕ) → Expr → List Expr → Type 0
 WithAll (Some p) s ts =
-    (expr p.0 ≡ s) × (map expr p.1.items ≡ ts) × (p.2 ≡ max (height s) (heights (to_exprs ts)) + 1) × (p.2 ≤ 64) × (max (stars_in s) (all_stars_in (to_exprs ts)) ≤ 64)
-WithAll None s ts = 64 < max (max (height s) (heights (to_exprs ts)) + 1) (max (stars_in s) (all_stars_in (to_exprs ts)))
+    (expr p.0 ≡ s) × (map expr p.1.items ≡ ts) × (p.2 ≡ max (height s) (heights (to_exprs ts)) + 1) × (p.2 ≤ 64)
+    × (max (stars_in s) (all_stars_in (to_exprs ts)) ≤ 64)
+WithAll None s ts = 64 < max (max (height s) (heights (to_exprs ts)) + 1)
+    (max (stars_in s) (all_stars_in (to_exprs ts)))
 
 -- arguments and one more, and the height of them all, or that they are too deep
 abbrev pub OneMore : Option (Vec ExprTree × ExprTree × ℕ) → List Expr → Expr → Type 0
 OneMore (Some p) ts t =
-    (map expr p.0.items ≡ ts) × (expr p.1 ≡ t) × (p.2 ≡ max (heights (to_exprs ts)) (height t)) × (p.2 ≤ 64) × (max (all_stars_in (to_exprs ts)) (stars_in t) ≤ 64)
+    (map expr p.0.items ≡ ts) × (expr p.1 ≡ t) × (p.2 ≡ max (heights (to_exprs ts)) (height t)) × (p.2 ≤ 64)
+    × (max (all_stars_in (to_exprs ts)) (stars_in t) ≤ 64)
 OneMore None ts t = 64 < max (max (heights (to_exprs ts)) (height t)) (max (all_stars_in (to_exprs ts)) (stars_in t))
 
 -- ---- prefixes
@@ -70,7 +77,7 @@ abbrev pub wrap : Prefix → Expr → Expr
 wrap (prefixes.Operator l c) a = tree.unary l c a
 wrap (prefixes.Step l c) a = tree.step l c a
 wrap (prefixes.Sizeof l) a = tree.sizeof_expr l a
-wrap (prefixes.Typed l t) a = tree.cast l (type_name t) a
+wrap (prefixes.Typed l t) a = tree.cast l (type_name t.value) a
 
 -- the first is outermost
 abbrev pub wrap_all : List Prefix → Expr → Expr

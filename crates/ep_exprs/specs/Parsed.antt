@@ -21,7 +21,8 @@ abbrev pub Keeps : (List ℕ → Bool) → Rule → List Tok → Result (Part Ke
 Keeps is_type r xs (Ok p) = IsRead is_type r xs p.value (after p)
 Keeps is_type r xs (Err e) = Halts is_type r xs e
 
--- The first operand at xs ends at ys. There an assignment mark makes it a place, but in the third part of a conditional,
+-- The first operand at xs ends at ys. There an assignment mark makes it a place, but in the third part of a
+-- conditional,
 -- and behind a cast.
 abbrev pub Assigned : (List ℕ → Bool) → Bool → List Tok → List Tok → Option (Part ℕ) → Type 0
 Assigned is_type third xs ys (Some p) =

@@ -29,8 +29,10 @@ begins_unary _ = false
 abbrev pub IsBefore : (List ℕ → Bool) → Before → List Tok → Type 0
 IsBefore is_type (befores.Operator l c r) ts = (is_prefix c ≡ true) × (ts ≡ mark l c ∷ map view r.now)
 IsBefore is_type (befores.Step l c r) ts = (is_step c ≡ true) × (ts ≡ mark l c ∷ map view r.now)
-IsBefore is_type (befores.Sizeof l r) ts = (w : ℕ) × (w ≡ sizeof_word) × (ts ≡ word l w ∷ map view r.now) × (begins_cast is_type (map view r.now) ≡ false)
-IsBefore is_type (befores.SizeofType l r) ts = (w m : ℕ) × (us : List Tok) × (w ≡ sizeof_word) × (ts ≡ word l w ∷ us) × AtCast is_type us (Some (m, map view r.now))
+IsBefore is_type (befores.Sizeof l r) ts = (w : ℕ) × (w ≡ sizeof_word) × (ts ≡ word l w ∷ map view r.now)
+    × (begins_cast is_type (map view r.now) ≡ false)
+IsBefore is_type (befores.SizeofType l r) ts = (w m : ℕ) × (us : List Tok) × (w ≡ sizeof_word) × (ts ≡ word l w ∷ us)
+    × AtCast is_type us (Some (m, map view r.now))
 IsBefore is_type (befores.Cast l r) ts = AtCast is_type ts (Some (l, map view r.now))
 IsBefore is_type befores.Nothing ts = (begins_cast is_type ts ≡ false) × (begins_unary ts ≡ false)
 
@@ -51,7 +53,8 @@ wanted _ = expr
 
 -- no unary stands before an assignment mark here
 abbrev pub NoAssignment : (List ℕ → Bool) → List Tok → Type 0
-NoAssignment is_type xs = (u : Expr) (l c : ℕ) (ws : List Tok) → Derives is_type unary xs (mark l c ∷ ws) u → is_assignment c ≡ true → ⊥
+NoAssignment is_type xs = (u : Expr) (l c : ℕ) (ws : List Tok) → Derives is_type unary xs (mark l c ∷ ws) u
+    → is_assignment c ≡ true → ⊥
 
 abbrev pub Plain : (List ℕ → Bool) → List Frame → List Tok → Type 0
 Plain is_type fs xs = wanted fs ≡ expr → NoAssignment is_type xs
@@ -59,12 +62,18 @@ Plain is_type fs xs = wanted fs ≡ expr → NoAssignment is_type xs
 -- Behind these frames, which begin at xs, the wanted rule is to be read at the last list.
 pub data Waits (is_type : List ℕ → Bool) (xs : List Tok) : List Frame → List Tok → Type 0 where
   begins : Waits is_type xs [] xs
-  assigning : {fs : List Frame} {ys zs ws : List Tok} {k : Kept} {a : Expr} {l c : ℕ} → wanted fs ≡ expr → Waits is_type xs fs ys → begins_cast is_type ys ≡ false
-      → Shows k a → Reads is_type cast ys a zs → AtAssignment zs (Some (l, c, ws)) → Waits is_type xs (frames.Assign k c ∷ fs) ws
-  asking : {fs : List Frame} {ys zs ws : List Tok} {k : Kept} {a : Expr} {l : ℕ} → Waits is_type xs fs ys → Plain is_type fs ys
-      → Shows k a → Reads is_type (bin 1) ys a zs → AtMark question zs (Some (l, ws)) → Waits is_type xs (frames.Question k ∷ fs) ws
-  choosing : {fs : List Frame} {ys zs ws vs us : List Tok} {k j : Kept} {a b : Expr} {l m : ℕ} → Waits is_type xs fs ys → Plain is_type fs ys
-      → Shows k a → Reads is_type (bin 1) ys a zs → AtMark question zs (Some (l, ws)) → Shows j b → Reads is_type expr ws b vs → AtMark colon vs (Some (m, us))
+  assigning : {fs : List Frame} {ys zs ws : List Tok} {k : Kept} {a : Expr} {l c : ℕ} → wanted fs ≡ expr
+      → Waits is_type xs fs ys → begins_cast is_type ys ≡ false
+      → Shows k a → Reads is_type cast ys a zs → AtAssignment zs (Some (l, c, ws))
+      → Waits is_type xs (frames.Assign k c ∷ fs) ws
+  asking : {fs : List Frame} {ys zs ws : List Tok} {k : Kept} {a : Expr} {l : ℕ} → Waits is_type xs fs ys
+      → Plain is_type fs ys
+      → Shows k a → Reads is_type (bin 1) ys a zs → AtMark question zs (Some (l, ws))
+      → Waits is_type xs (frames.Question k ∷ fs) ws
+  choosing : {fs : List Frame} {ys zs ws vs us : List Tok} {k j : Kept} {a b : Expr} {l m : ℕ} → Waits is_type xs fs ys
+      → Plain is_type fs ys
+      → Shows k a → Reads is_type (bin 1) ys a zs → AtMark question zs (Some (l, ws)) → Shows j b
+      → Reads is_type expr ws b vs → AtMark colon vs (Some (m, us))
       → Waits is_type xs (frames.Colon k j ∷ fs) us
 
 -- a value is complete for what is pending

@@ -13,7 +13,7 @@ use crate::kept::{Kept, Prefix, assign, conditional, prefixed};
 use crate::look::{at_cast, is_prefix, is_step};
 use ep_ast::words::SIZEOF;
 use ep_lexer::Token;
-use ep_reading::{Head, TypeNames, first_of};
+use ep_reading::{Head, Part, TypeNames, first_of};
 use std::alloc::{AllocError, Global};
 
 /// What stands first before an operand, with its line and what comes after it; for the types what comes after `(`.
@@ -55,7 +55,7 @@ pub fn prefix_at<'a>(names: &TypeNames, tokens: &'a [Token]) -> Before<'a>
 }
 
 /// The operand under these prefixes, of which the first is outermost.
-pub fn wrapped(alloc: Global, prefixes: Vec<Prefix>, operand: Kept) -> Result<Kept, AllocError>
+fn wrapped(alloc: Global, prefixes: Vec<Prefix>, operand: Kept) -> Result<Kept, AllocError>
     ensures { (t : Expr) → Shows operand t → IfOk result (λ k. Shows k (wrap_all prefixes.items t)) }
 {
     let mut left = prefixes;
@@ -64,6 +64,20 @@ pub fn wrapped(alloc: Global, prefixes: Vec<Prefix>, operand: Kept) -> Result<Ke
         found = prefixed(alloc, prefix, found)?;
     }
     Ok(found)
+}
+
+/// The same, with what comes after it.
+pub fn wrapped_before<'a>(
+    alloc: Global,
+    prefixes: Vec<Prefix>,
+    operand: Kept,
+    rest: &'a [Token],
+) -> Result<Part<'a, Kept>, AllocError>
+    ensures value { (t : Expr) → Shows operand t → IfOk result (λ p. Shows p.value (wrap_all prefixes.items t)) }
+    ensures rest { IfOk result (λ p. p.rest.now ≡ rest.now) }
+{
+    let value = wrapped(alloc, prefixes, operand)?;
+    Ok(Part { value, rest })
 }
 
 /// What waits for more: a place and its assignment mark, a test before `?`, or a test and the part before `:`.
@@ -89,7 +103,8 @@ pub enum Completed {
 }
 
 fn combine(alloc: Global, frame: Frame, value: Kept) -> Result<Combined, AllocError>
-    ensures { (N : List ℕ → Bool) → (xs zs : List Tok) → (fs : List Pending) → Value N xs (frame ∷ fs) value zs → IfOk result (Combines N xs fs zs) }
+    ensures { (N : List ℕ → Bool) → (xs zs : List Tok) → (fs : List Pending) → Value N xs (frame ∷ fs) value zs
+        → IfOk result (Combines N xs fs zs) }
 {
     match frame {
         Frame::Assign(place, mark) => Ok(Combined::More(assign(alloc, mark, place, value)?)),
@@ -100,7 +115,8 @@ fn combine(alloc: Global, frame: Frame, value: Kept) -> Result<Combined, AllocEr
 
 /// What the value completes of what waits, the last of which is innermost.
 pub fn complete(alloc: Global, frames: Vec<Frame>, value: Kept) -> Result<Completed, AllocError>
-    ensures { (N : List ℕ → Bool) → (xs zs : List Tok) → Value N xs (reverse frames.items) value zs → IfOk result (Completes N xs zs) }
+    ensures { (N : List ℕ → Bool) → (xs zs : List Tok) → Value N xs (reverse frames.items) value zs
+        → IfOk result (Completes N xs zs) }
 {
     let mut left = frames;
     let mut found = value;

@@ -10,7 +10,7 @@ ghost use Rattle.ep_exprs.specs.Kept.{Shows, ShowsAll, ShowsSuffix, Over, Pair, 
 ghost use Rattle.ep_ast.specs.Nesting.{depth, heights, all_stars_in};
 
 use ep_ast::{ExprTree, Literal, TypeNameTree};
-use ep_reading::Measured;
+use ep_reading::{Measured, pushed};
 use std::alloc::{AllocError, Global};
 
 /// An expression that was read: its line, its tree where that isn't too deep, and then how many operators stand inside
@@ -46,7 +46,7 @@ pub enum Prefix {
     Operator(u32, u8),
     Step(u32, u8),
     Sizeof(u32),
-    Typed(u32, TypeNameTree),
+    Typed(u32, Box<TypeNameTree>),
 }
 
 impl Kept {
@@ -159,8 +159,8 @@ pub fn number(line: u32, literal: Literal) -> Kept
     }
 }
 
-pub fn size_of(line: u32, of: TypeNameTree) -> Kept
-    ensures { Shows result (tree.sizeof_type line (type_name of)) }
+pub fn size_of(line: u32, of: Box<TypeNameTree>) -> Kept
+    ensures { Shows result (tree.sizeof_type line (type_name of.value)) }
 {
     if of.stars.len() <= 64 {
         Kept {
@@ -174,7 +174,8 @@ pub fn size_of(line: u32, of: TypeNameTree) -> Kept
 }
 
 pub fn assign(alloc: Global, mark: u8, place: Kept, value: Kept) -> Result<Kept, AllocError>
-    ensures { (s t : Expr) → Shows place s → Shows value t → IfOk result (λ k. Shows k (tree.assign (line_of s) mark s t)) }
+    ensures { (s t : Expr) → Shows place s → Shows value t
+        → IfOk result (λ k. Shows k (tree.assign (line_of s) mark s t)) }
 {
     let line = place.line;
     match both(place, value) {
@@ -192,7 +193,8 @@ pub fn assign(alloc: Global, mark: u8, place: Kept, value: Kept) -> Result<Kept,
 }
 
 pub fn binary(alloc: Global, mark: u8, left: Kept, right: Kept) -> Result<Kept, AllocError>
-    ensures { (s t : Expr) → Shows left s → Shows right t → IfOk result (λ k. Shows k (tree.binary (line_of s) mark s t)) }
+    ensures { (s t : Expr) → Shows left s → Shows right t
+        → IfOk result (λ k. Shows k (tree.binary (line_of s) mark s t)) }
 {
     let line = left.line;
     match both(left, right) {
@@ -228,7 +230,8 @@ pub fn index(alloc: Global, operand: Kept, at: Kept) -> Result<Kept, AllocError>
 }
 
 pub fn conditional(alloc: Global, test: Kept, yes: Kept, no: Kept) -> Result<Kept, AllocError>
-    ensures { (s t u : Expr) → Shows test s → Shows yes t → Shows no u → IfOk result (λ k. Shows k (tree.conditional (line_of s) s t u)) }
+    ensures { (s t u : Expr) → Shows test s → Shows yes t → Shows no u
+        → IfOk result (λ k. Shows k (tree.conditional (line_of s) s t u)) }
 {
     let line = test.line;
     match three(test, yes, no) {
@@ -247,7 +250,8 @@ pub fn conditional(alloc: Global, test: Kept, yes: Kept, no: Kept) -> Result<Kep
 }
 
 fn call(alloc: Global, callee: Kept, arguments: Arguments) -> Result<Kept, AllocError>
-    ensures { (s : Expr) → (ts : List Expr) → Shows callee s → ShowsAll arguments ts → IfOk result (λ k. Shows k (tree.call (line_of s) s (to_exprs ts))) }
+    ensures { (s : Expr) → (ts : List Expr) → Shows callee s → ShowsAll arguments ts
+        → IfOk result (λ k. Shows k (tree.call (line_of s) s (to_exprs ts))) }
 {
     let line = callee.line;
     match with_all(callee, arguments) {
@@ -379,8 +383,8 @@ fn size_of_value(alloc: Global, line: u32, operand: Kept) -> Result<Kept, AllocE
     }
 }
 
-fn cast(alloc: Global, line: u32, to: TypeNameTree, operand: Kept) -> Result<Kept, AllocError>
-    ensures { (t : Expr) → Shows operand t → IfOk result (λ k. Shows k (tree.cast line (type_name to) t)) }
+fn cast(alloc: Global, line: u32, to: Box<TypeNameTree>, operand: Kept) -> Result<Kept, AllocError>
+    ensures { (t : Expr) → Shows operand t → IfOk result (λ k. Shows k (tree.cast line (type_name to.value) t)) }
 {
     if to.stars.len() > 64 {
         return Ok(too_deep(line));
@@ -412,7 +416,8 @@ pub fn prefixed(alloc: Global, prefix: Prefix, operand: Kept) -> Result<Kept, Al
 
 /// The operand with this behind it.
 pub fn suffixed(alloc: Global, operand: Kept, suffix: Suffix) -> Result<Kept, AllocError>
-    ensures { (t : Expr) → (s : grammar.Suffix) → Shows operand t → ShowsSuffix suffix s → IfOk result (λ k. Shows k (apply s t)) }
+    ensures { (t : Expr) → (s : grammar.Suffix) → Shows operand t → ShowsSuffix suffix s
+        → IfOk result (λ k. Shows k (apply s t)) }
 {
     match suffix {
         Suffix::At(at) => index(alloc, operand, at),
@@ -434,17 +439,10 @@ fn one_more(all: Arguments, one: Kept) -> Option<(Vec<ExprTree>, ExprTree, u32)>
     }
 }
 
-fn pushed(trees: Vec<ExprTree>, tree: ExprTree) -> Result<Vec<ExprTree>, AllocError>
-    ensures { IfOk result (λ v. v.items ≡ trees.items ++ tree ∷ []) }
-{
-    let mut all = trees;
-    all.push(tree)?;
-    Ok(all)
-}
-
 impl Arguments {
     fn too_deep() -> Arguments
-        ensures { (ts : List Expr) → 64 < max (heights (to_exprs ts)) (all_stars_in (to_exprs ts)) → ShowsAll result ts }
+        ensures { (ts : List Expr) → 64 < max (heights (to_exprs ts)) (all_stars_in (to_exprs ts))
+            → ShowsAll result ts }
     {
         Arguments {
             trees: None,
@@ -463,7 +461,8 @@ impl Arguments {
 
     /// With one argument more.
     pub fn with(self, argument: Kept) -> Result<Arguments, AllocError>
-        ensures { (ts : List Expr) → (t : Expr) → ShowsAll self ts → Shows argument t → IfOk result (λ a. ShowsAll a (ts ++ t ∷ [])) }
+        ensures { (ts : List Expr) → (t : Expr) → ShowsAll self ts → Shows argument t
+            → IfOk result (λ a. ShowsAll a (ts ++ t ∷ [])) }
     {
         match one_more(self, argument) {
             Some((trees, tree, height)) => {

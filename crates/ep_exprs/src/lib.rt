@@ -13,4 +13,4 @@ pub use kept::Kept;
 pub use look::{begins_type, is_tag_word};
 pub use parser::read_expression;
 pub use place::expression;
-pub use words::{TypeBag, one_word, stars, type_words};
+pub use words::{TypeBag, next_word, stars, type_words};

@@ -8,7 +8,8 @@ ghost use Rattle.ep_ast.specs.TypeWords as words;
 ghost use Rattle.ep_lexer.specs.Tokens.{view};
 ghost use Rattle.ep_reading.specs.Names.{is_type};
 ghost use Rattle.ep_reading.specs.Look.{IsShorter, seen};
-ghost use Rattle.ep_exprs.specs.Look.{AtOperator, AtAssignment, AtCast, IsShorterCode, begins_cast, begins_suffix, seen_code};
+ghost use Rattle.ep_exprs.specs.Look.{AtOperator, AtAssignment, AtCast, IsShorterCode, begins_cast, begins_suffix};
+ghost use Rattle.ep_exprs.specs.Look.{seen_code};
 
 use ep_ast::marks::{
     AMPERSAND, AND_AND, ARROW, BAR, BAR_BAR, CARET, CARET_EQUAL, COLON, COMMA, DOT, EQUAL,

@@ -1,4 +1,5 @@
-//! Recursive descent, where brackets alone recurse: prefixes, assignments and conditionals wait in lists. How many brackets
+//! Recursive descent, where brackets alone recurse: prefixes, assignments and conditionals wait in lists. How many
+//! brackets
 //! are open is counted before anything is read, so no limit is passed on here.
 
 ghost use Rattle.std.specs.Prelude.{◌≡◌, ◌<◌, ◌≤◌, ◌+◌, ◌^◌, length, map, IfOk, IfSome, List, ◌∷◌, ℕ, true};
@@ -12,7 +13,7 @@ ghost use Rattle.ep_reading.specs.Answer.{Gives, IsPast, IsWithin};
 ghost use Rattle.ep_exprs.specs.Kept.{ShowsAll, ShowsSuffix};
 ghost use Rattle.ep_exprs.specs.Parsed.{IsRead, Keeps, Assigned};
 
-use crate::frames::{Before, Completed, Frame, complete, prefix_at, wrapped};
+use crate::frames::{Before, Completed, Frame, complete, prefix_at, wrapped_before};
 use crate::kept::{
     Arguments, Kept, Prefix, Suffix, binary as joined, name, number, size_of, suffixed,
 };
@@ -140,7 +141,8 @@ fn operators<'a>(
 ) -> Result<Part<'a, Kept>, Halt>
     requires few { length tokens.now < 2 ^ 24 }
     requires level { (1 ≤ level) × (level < 11) }
-    ensures reads { (xs : List Tok) → IsRead (is_type reader.now.names.now) (rule.bin (level + 1)) xs first (map view tokens.now)
+    ensures reads { (xs : List Tok) → IsRead (is_type reader.now.names.now) (rule.bin (level + 1)) xs first
+        (map view tokens.now)
         → Keeps (is_type reader.now.names.now) (rule.bin level) xs result }
     ensures shorter { IfOk result (IsWithin (length tokens.now)) }
 {
@@ -192,19 +194,12 @@ fn operand<'a>(reader: &Reader<'_>, tokens: &'a [Token]) -> Result<Part<'a, Kept
             }
             Before::SizeofType(line, inside) => {
                 let of = type_name(reader, inside)?;
-                let whole = wrapped(reader.alloc, prefixes, size_of(line, of.value))?;
-                return Ok(Part {
-                    value: whole,
-                    rest: of.rest,
-                });
+                let size = size_of(line, of.value);
+                return Ok(wrapped_before(reader.alloc, prefixes, size, of.rest)?);
             }
             Before::Nothing => {
                 let inner = postfix(reader, rest)?;
-                let whole = wrapped(reader.alloc, prefixes, inner.value)?;
-                return Ok(Part {
-                    value: whole,
-                    rest: inner.rest,
-                });
+                return Ok(wrapped_before(reader.alloc, prefixes, inner.value, inner.rest)?);
             }
         }
     }
@@ -231,7 +226,8 @@ fn postfix<'a>(reader: &Reader<'_>, tokens: &'a [Token]) -> Result<Part<'a, Kept
 
 /// The member of what stands before a dot.
 fn behind_dot<'a>(reader: &Reader<'_>, tokens: &'a [Token]) -> Result<Part<'a, Suffix>, Halt>
-    ensures reads { (l c : ℕ) → c ≡ dot → Gives ShowsSuffix (Behind (is_type reader.now.names.now)) (mark l c ∷ map view tokens.now) result }
+    ensures reads { (l c : ℕ) → c ≡ dot → Gives ShowsSuffix (Behind (is_type reader.now.names.now))
+        (mark l c ∷ map view tokens.now) result }
     ensures shorter { IfOk result (IsPast (length tokens.now)) }
 {
     let Some((_, text, more)) = at_name(tokens) else {
@@ -245,7 +241,8 @@ fn behind_dot<'a>(reader: &Reader<'_>, tokens: &'a [Token]) -> Result<Part<'a, S
 
 /// The member of that to which what stands before an arrow points.
 fn behind_arrow<'a>(reader: &Reader<'_>, tokens: &'a [Token]) -> Result<Part<'a, Suffix>, Halt>
-    ensures reads { (l c : ℕ) → c ≡ arrow → Gives ShowsSuffix (Behind (is_type reader.now.names.now)) (mark l c ∷ map view tokens.now) result }
+    ensures reads { (l c : ℕ) → c ≡ arrow → Gives ShowsSuffix (Behind (is_type reader.now.names.now))
+        (mark l c ∷ map view tokens.now) result }
     ensures shorter { IfOk result (IsPast (length tokens.now)) }
 {
     let Some((_, text, more)) = at_name(tokens) else {

@@ -40,8 +40,10 @@ fn whole(kept: Kept) -> Result<ExprTree, Refusal>
     }
 }
 
-/// The expression that begins at this place, and the place after it, where something stands that may follow an expression.
-/// A refusal for syntax names the line of the first token with which no expression goes on, or the last token's where the
+/// The expression that begins at this place, and the place after it, where something stands that may follow an
+/// expression.
+/// A refusal for syntax names the line of the first token with which no expression goes on, or the last token's where
+/// the
 /// tokens end too soon; one for nesting that of the bracket, or of the expression.
 pub fn expression(
     alloc: Global,
@@ -52,9 +54,13 @@ pub fn expression(
     requires place { from ≤ length tokens.now.list.items }
     requires few { length tokens.now.list.items < 2 ^ 24 }
     ensures found { IfOk result (λ p. IsFound (is_type names.now) (view_all tokens.now) from p.1 (expr p.0)) }
-    ensures only { IfOk result (λ p. (front rest : List Tok) → (t : Expr) → IsFront (is_type names.now) (drop from (view_all tokens.now)) front rest t → (t ≡ expr p.0) × (length front + from ≡ p.1)) }
-    ensures nesting { IfOk result (λ p. (opens_past 0 (drop from (view_all tokens.now)) ≡ None) × (is_too_deep (expr p.0) ≡ false)) }
-    ensures refused { IfErr result (λ e. IfRefused e (IsRefused (is_type names.now) (drop from (view_all tokens.now)))) }
+    ensures only { IfOk result (λ p. (front rest : List Tok) → (t : Expr)
+        → IsFront (is_type names.now) (drop from (view_all tokens.now)) front rest t
+        → (t ≡ expr p.0) × (length front + from ≡ p.1)) }
+    ensures nesting { IfOk result (λ p. (opens_past 0 (drop from (view_all tokens.now)) ≡ None)
+        × (is_too_deep (expr p.0) ≡ false)) }
+    ensures refused { IfErr result (λ e. IfRefused e (IsRefused (is_type names.now)
+        (drop from (view_all tokens.now)))) }
 {
     let all = tokens.list.as_slice();
     let (_, here) = all.split_at(from);

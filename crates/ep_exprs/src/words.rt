@@ -2,7 +2,7 @@
 
 ghost use Rattle.std.specs.Prelude.{◌≡◌, ◌<◌, ◌≤◌, ◌^◌, length, map, IfOk, true};
 ghost use Rattle.std.specs.Option.{option_map};
-ghost use Rattle.ep_ast.specs.Expression.{type_word, type_name as shown};
+ghost use Rattle.ep_ast.specs.Expression.{type_word};
 ghost use Rattle.ep_ast.specs.TypeWords as spec;
 ghost use Rattle.ep_ast.specs.TypeWords.{AreType, TypeNamed, words_line};
 ghost use Rattle.ep_ast.specs.Reading.{LacksWord};
@@ -10,14 +10,14 @@ ghost use Rattle.ep_ast.specs.Mark.{const_word};
 ghost use Rattle.ep_lexer.specs.Tokens.{view};
 ghost use Rattle.ep_reading.specs.Names.{is_type};
 ghost use Rattle.ep_reading.specs.Answer.{GivesAs, IsPast, IsWithin, after};
-ghost use Rattle.ep_exprs.specs.Words.{bag, Joins, OneRead, IsPastWord, CountsConsts, ReadsStars, words_of};
+ghost use Rattle.ep_exprs.specs.Words.{bag, Joins, OneRead, IsPastWord, CountsConsts, ReadsStars, words_of, name_of};
 
 use crate::look::{is_tag_word, is_type_word};
 use ep_ast::marks::{RIGHT_PAREN, STAR};
 use ep_ast::words::{CHAR, CONST, INT, LONG, SHORT, SIGNED, UNSIGNED, VOID};
 use ep_ast::{Halt, TypeNameTree, TypeWordTree};
 use ep_lexer::Token;
-use ep_reading::{Head, Part, Reader, at_mark, at_name, at_word, first_of};
+use ep_reading::{Head, Part, Reader, at_mark, at_name, at_word, first_of, pushed};
 use std::alloc::{AllocError, Global};
 
 /// How many words of each sort stand together: `signed` and `unsigned` are signs, and the last counts `void`, typedef
@@ -131,7 +131,7 @@ impl TypeBag {
 }
 
 /// The word of a type that stands first, and what comes after it; None where none begins.
-pub fn one_word<'a>(
+fn one_word<'a>(
     reader: &Reader<'_>,
     tokens: &'a [Token],
 ) -> Result<Option<Part<'a, TypeWordTree>>, Halt>
@@ -171,9 +171,10 @@ pub fn one_word<'a>(
     }
 }
 
-/// The same behind words of these sorts. A `struct` or `union` that can't join them is the place of a refusal itself, also
+/// The same behind words of these sorts. A `struct` or `union` that can't join them is the place of a refusal itself,
+/// also
 /// where its tag is missing.
-fn next_word<'a>(
+pub fn next_word<'a>(
     reader: &Reader<'_>,
     words: &TypeBag,
     tokens: &'a [Token],
@@ -213,7 +214,7 @@ pub fn type_words<'a>(
         let Some(next) = bag.with(&word.value) else {
             return Err(Halt::Refused(reader.stopped(rest)));
         };
-        words.push(word.value)?;
+        words = pushed(words, word.value)?;
         bag = next;
         rest = word.rest;
     }
@@ -271,9 +272,9 @@ fn line_of(words: &[TypeWordTree]) -> u32
 pub fn type_name<'a>(
     reader: &Reader<'_>,
     tokens: &'a [Token],
-) -> Result<Part<'a, TypeNameTree>, Halt>
+) -> Result<Part<'a, Box<TypeNameTree>>, Halt>
     requires { length tokens.now < 2 ^ 24 }
-    ensures reads { GivesAs shown (TypeNamed (is_type reader.now.names.now)) (map view tokens.now) result }
+    ensures reads { GivesAs name_of (TypeNamed (is_type reader.now.names.now)) (map view tokens.now) result }
     ensures shorter { IfOk result (IsPast (length tokens.now)) }
 {
     let specs = type_words(reader, tokens)?;
@@ -282,12 +283,11 @@ pub fn type_name<'a>(
         return Err(Halt::Refused(reader.stopped(stars.rest)));
     };
     let line = line_of(&specs.value);
-    Ok(Part {
-        value: TypeNameTree {
-            line,
-            specs: specs.value,
-            stars: stars.value,
-        },
-        rest: more,
-    })
+    let tree = TypeNameTree {
+        line,
+        specs: specs.value,
+        stars: stars.value,
+    };
+    let value = Box::new(reader.alloc, tree)?;
+    Ok(Part { value, rest: more })
 }

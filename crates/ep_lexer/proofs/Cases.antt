@@ -1,5 +1,6 @@
 -- Cases of tests and of options.
-use Rattle.std.proofs.Common.{◌≡◌, ℕ, List, [], ◌∷◌, is_none, ◌&&◌, Bool, true, false, Option, Some, None, refl, inl, inr, ◌⊎◌, arith, ◌==◌}
+use Rattle.std.proofs.Common.{◌≡◌, ℕ, List, [], ◌∷◌, is_none, ◌&&◌, Bool, true, false, Option, Some, None, refl, inl}
+use Rattle.std.proofs.Common.{inr, ◌⊎◌, arith, ◌==◌}
 use Rattle.std.specs.Str.{bytes_eq}
 use Rattle.std.proofs.lemmas.Bool.Decides.{nat_tests}
 
@@ -38,4 +39,5 @@ pub same_bytes : (xs ys : List ℕ) → bytes_eq xs ys ≡ true → xs ≡ ys
 same_bytes [] [] h = refl
 same_bytes [] (y ∷ ys) h = absurd cc
 same_bytes (x ∷ xs) [] h = absurd cc
-same_bytes (x ∷ xs) (y ∷ ys) h = let p = and_parts (x == y) (bytes_eq xs ys) h in same_head (is_number x y p.0) (same_bytes xs ys p.1)
+same_bytes (x ∷ xs) (y ∷ ys) h = let p = and_parts (x == y) (bytes_eq xs ys) h in
+    same_head (is_number x y p.0) (same_bytes xs ys p.1)

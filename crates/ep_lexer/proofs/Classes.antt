@@ -1,12 +1,19 @@
 -- Classes of bytes, and the marks that begin with a byte.
-use Rattle.std.proofs.Common.{◌≡◌, ℕ, Bool, true, false, ◌||◌, ◌==◌, List, ◌∷◌, Some, None, refl, sym, subst, arith, inl, inr}
+use Rattle.std.proofs.Common.{◌≡◌, ℕ, Bool, true, false, ◌||◌, ◌==◌, List, ◌∷◌, Some, None, refl, sym, subst, arith}
+use Rattle.std.proofs.Common.{inl, inr}
 use Rattle.std.proofs.lemmas.Bool.Decides.{nat_tests}
 use Rattle.ep_ast.specs.Lexeme.{is_blank, is_letter, is_digit, is_word, opens_comment, opens_remark, mark_at}
 use Rattle.ep_lexer.proofs.Cases.{test_cases, no_number, none_some}
 
 -- no mark begins with another byte than these
-mark_none : (b : ℕ) (bs : List ℕ) → 60 == b ≡ false → 62 == b ≡ false → 45 == b ≡ false → 43 == b ≡ false → 61 == b ≡ false → 33 == b ≡ false → 38 == b ≡ false → 124 == b ≡ false → 42 == b ≡ false → 47 == b ≡ false → 37 == b ≡ false → 94 == b ≡ false → 40 == b ≡ false → 41 == b ≡ false → 91 == b ≡ false → 93 == b ≡ false → 123 == b ≡ false → 125 == b ≡ false → 46 == b ≡ false → 126 == b ≡ false → 63 == b ≡ false → 58 == b ≡ false → 59 == b ≡ false → 44 == b ≡ false → mark_at (b ∷ bs) ≡ None
-mark_none b bs h0 h1 h2 h3 h4 h5 h6 h7 h8 h9 h10 h11 h12 h13 h14 h15 h16 h17 h18 h19 h20 h21 h22 h23 = rw (h0, h1, h2, h3, h4, h5, h6, h7, h8, h9, h10, h11, h12, h13, h14, h15, h16, h17, h18, h19, h20, h21, h22, h23) refl
+mark_none : (b : ℕ) (bs : List ℕ) → 60 == b ≡ false → 62 == b ≡ false → 45 == b ≡ false → 43 == b ≡ false
+    → 61 == b ≡ false → 33 == b ≡ false → 38 == b ≡ false → 124 == b ≡ false → 42 == b ≡ false → 47 == b ≡ false
+    → 37 == b ≡ false → 94 == b ≡ false → 40 == b ≡ false → 41 == b ≡ false → 91 == b ≡ false → 93 == b ≡ false
+    → 123 == b ≡ false → 125 == b ≡ false → 46 == b ≡ false → 126 == b ≡ false → 63 == b ≡ false → 58 == b ≡ false
+    → 59 == b ≡ false → 44 == b ≡ false → mark_at (b ∷ bs) ≡ None
+mark_none b bs h0 h1 h2 h3 h4 h5 h6 h7 h8 h9 h10 h11 h12 h13 h14 h15 h16 h17 h18 h19 h20 h21 h22 h23 =
+    rw (h0, h1, h2, h3, h4, h5, h6, h7, h8, h9, h10, h11, h12, h13, h14, h15, h16, h17, h18, h19, h20, h21, h22, h23)
+    refl
 
 apart : (b c : ℕ) → is_word b ≡ true → is_word c ≡ false → b == c ≡ false
 apart b c h k = no_number b c (λ e. let f : is_word c ≡ true = subst (λ (x : ℕ). is_word x ≡ true) e h in cc)
@@ -15,7 +22,11 @@ pub from : (b c : ℕ) → is_word b ≡ true → is_word c ≡ false → c == b
 from b c h k = no_number c b (λ e. let f : is_word c ≡ true = subst (λ (x : ℕ). is_word x ≡ true) (sym e) h in cc)
 
 pub word_no_mark : (b : ℕ) (bs : List ℕ) → is_word b ≡ true → mark_at (b ∷ bs) ≡ None
-word_no_mark b bs h = mark_none b bs (from b 60 h refl) (from b 62 h refl) (from b 45 h refl) (from b 43 h refl) (from b 61 h refl) (from b 33 h refl) (from b 38 h refl) (from b 124 h refl) (from b 42 h refl) (from b 47 h refl) (from b 37 h refl) (from b 94 h refl) (from b 40 h refl) (from b 41 h refl) (from b 91 h refl) (from b 93 h refl) (from b 123 h refl) (from b 125 h refl) (from b 46 h refl) (from b 126 h refl) (from b 63 h refl) (from b 58 h refl) (from b 59 h refl) (from b 44 h refl)
+word_no_mark b bs h = mark_none b bs (from b 60 h refl) (from b 62 h refl) (from b 45 h refl) (from b 43 h refl)
+    (from b 61 h refl) (from b 33 h refl) (from b 38 h refl) (from b 124 h refl) (from b 42 h refl) (from b 47 h refl)
+    (from b 37 h refl) (from b 94 h refl) (from b 40 h refl) (from b 41 h refl) (from b 91 h refl) (from b 93 h refl)
+    (from b 123 h refl) (from b 125 h refl) (from b 46 h refl) (from b 126 h refl) (from b 63 h refl) (from b 58 h refl)
+    (from b 59 h refl) (from b 44 h refl)
 
 pub letter_word : (b : ℕ) → is_letter b ≡ true → is_word b ≡ true
 letter_word b h = rw h refl
@@ -40,7 +51,8 @@ word_no_remark b bs h = rw (apart b 47 h refl) refl
 
 -- where a mark stands, the byte is none of these
 along : (b c : ℕ) (bs : List ℕ) (n : ℕ) → mark_at (c ∷ bs) ≡ None → mark_at (b ∷ bs) ≡ Some n → b == c ≡ false
-along b c bs n h e = no_number b c (λ k. let f : mark_at (c ∷ bs) ≡ Some n = subst (λ (x : ℕ). mark_at (x ∷ bs) ≡ Some n) k e in none_some h f)
+along b c bs n h e = no_number b c (λ k. let f : mark_at (c ∷ bs) ≡ Some n =
+    subst (λ (x : ℕ). mark_at (x ∷ bs) ≡ Some n) k e in none_some h f)
 
 pub mark_no_word : (b : ℕ) (bs : List ℕ) (n : ℕ) → mark_at (b ∷ bs) ≡ Some n → is_word b ≡ false
 mark_no_word b bs n e = elim (test_cases (is_word b)) [ inl h ↦ absurd (none_some (word_no_mark b bs h) e) | inr h ↦ h ]

@@ -1,10 +1,17 @@
 -- What stands next on a line, and reading it.
-use Rattle.std.proofs.Common.{◌≡◌, ℕ, Bool, true, false, ◌||◌, ◌==◌, List, [], ◌∷◌, drop, Ok, Err, refl, ap, ◌∙◌, inl, inr}
-use Rattle.ep_ast.specs.Lexeme.{is_letter, is_digit, word_text, after_word, number_text, after_number, literal, character, of_character, mark_at, mark_len, Thing, over, hash, quote, name, number, mark, Gap, Begins, at_end, at_newline, a_hash, a_quote, a_name, a_number, a_character, a_mark, Spoilt, bad_number, bad_character, bad_byte, Next, Breaks, unclosed as unclosed_comment, spoilt}
+use Rattle.std.proofs.Common.{◌≡◌, ℕ, Bool, true, false, ◌||◌, ◌==◌, List, [], ◌∷◌, drop, Ok, Err, refl, ap, ◌∙◌, inl}
+use Rattle.std.proofs.Common.{inr}
+use Rattle.ep_ast.specs.Lexeme.{is_letter, is_digit, word_text, after_word, number_text, after_number, literal}
+use Rattle.ep_ast.specs.Lexeme.{character, of_character, mark_at, mark_len, Thing, over, hash, quote, name, number}
+use Rattle.ep_ast.specs.Lexeme.{mark, Gap, Begins, at_end, at_newline, a_hash, a_quote, a_name, a_number, a_character}
+use Rattle.ep_ast.specs.Lexeme.{a_mark, Spoilt, bad_number, bad_character, bad_byte, Next, Breaks}
+use Rattle.ep_ast.specs.Lexeme.{unclosed as unclosed_comment, spoilt}
 use Rattle.ep_ast.specs.Cut.{at_line}
 use Rattle.ep_lexer.specs.Step.{thing_at, next, next_from}
 use Rattle.ep_lexer.proofs.Cases.{test_cases, option_cases, is_number}
-use Rattle.ep_lexer.proofs.Classes.{letter_word, digit_word, digit_no_letter, word_apart, word_no_blank, word_no_comment, word_no_remark, mark_no_word, no_letter, no_digit, mark_no_newline, mark_no_hash, mark_no_quote, mark_no_tick, mark_no_blank}
+use Rattle.ep_lexer.proofs.Classes.{letter_word, digit_word, digit_no_letter, word_apart, word_no_blank}
+use Rattle.ep_lexer.proofs.Classes.{word_no_comment, word_no_remark, mark_no_word, no_letter, no_digit, mark_no_newline}
+use Rattle.ep_lexer.proofs.Classes.{mark_no_hash, mark_no_quote, mark_no_tick, mark_no_blank}
 use Rattle.ep_lexer.proofs.Gaps.{Stops, stays, gap_skips, over_at, open_at, gap_is}
 use Rattle.ep_lexer.proofs.Skips.{comment_open}
 
@@ -14,13 +21,16 @@ begins_stops at_end = tt
 begins_stops (at_newline e) = rw e (refl, refl, refl)
 begins_stops (a_hash e) = rw e (refl, refl, refl)
 begins_stops (a_quote e) = rw e (refl, refl, refl)
-begins_stops (a_name {b} {bs} h) = let w = letter_word b h in (word_no_blank b w, word_no_remark b bs w, word_no_comment b bs w)
-begins_stops (a_number {b} {bs} n h e) = let w = digit_word b h in (word_no_blank b w, word_no_remark b bs w, word_no_comment b bs w)
+begins_stops (a_name {b} {bs} h) = let w = letter_word b h in
+    (word_no_blank b w, word_no_remark b bs w, word_no_comment b bs w)
+begins_stops (a_number {b} {bs} n h e) = let w = digit_word b h in
+    (word_no_blank b w, word_no_remark b bs w, word_no_comment b bs w)
 begins_stops (a_character v k e c) = rw e (refl, refl, refl)
 begins_stops (a_mark {b} {bs} n r c e) = (mark_no_blank b bs n e, r, c)
 
 pub spoilt_stops : {bs : List ℕ} {k : ℕ} → Spoilt bs k → Stops bs
-spoilt_stops (bad_number {b} {bs} h e) = let w = digit_word b h in (word_no_blank b w, word_no_remark b bs w, word_no_comment b bs w)
+spoilt_stops (bad_number {b} {bs} h e) = let w = digit_word b h in
+    (word_no_blank b w, word_no_remark b bs w, word_no_comment b bs w)
 spoilt_stops (bad_character e c) = rw e (refl, refl, refl)
 spoilt_stops (bad_byte h w n r c e) = (h, r, c)
 
@@ -36,9 +46,18 @@ begins_read l (a_number {b} {bs} n h e) = rw (e, word_apart b 10 (digit_word b h
 begins_read l (a_character v k e c) = rw (e, c) refl
 begins_read l (a_mark {b} {bs} n r c e) =
     let w = mark_no_word b bs n e in
-    rw (e, mark_no_newline b bs n e, no_letter b w, no_digit b w, mark_no_tick b bs n e, mark_no_hash b bs n e, mark_no_quote b bs n e) refl
+    rw (
+      e,
+      mark_no_newline b bs n e,
+      no_letter b w,
+      no_digit b w,
+      mark_no_tick b bs n e,
+      mark_no_hash b bs n e,
+      mark_no_quote b bs n e,
+    ) refl
 
-four_parts : (a b c d : Bool) → (a || (b || (c || (d || false)))) ≡ false → (a ≡ false) × (b ≡ false) × (c ≡ false) × (d ≡ false)
+four_parts : (a b c d : Bool) → (a || (b || (c || (d || false)))) ≡ false → (a ≡ false) × (b ≡ false) × (c ≡ false)
+    × (d ≡ false)
 four_parts true b c d h = absurd cc
 four_parts false true c d h = absurd cc
 four_parts false false true d h = absurd cc
@@ -76,14 +95,16 @@ thing_is l (b ∷ bs) s =
           | inr d ↦ elim (test_cases (b == 39)) [
             | inl h ↦ elim (option_cases (character bs)) [
               | inl e ↦ no_thing 3 (bad_character (is_number b 39 h) e)
-              | inr e ↦ some_thing (number (of_character e.0.0)) (drop e.0.1 bs) (a_character e.0.0 e.0.1 (is_number b 39 h) e.1)
+              | inr e ↦ some_thing (number (of_character e.0.0)) (drop e.0.1 bs)
+                  (a_character e.0.0 e.0.1 (is_number b 39 h) e.1)
             ]
             | inr t ↦ elim (test_cases (b == 35)) [
               | inl h ↦ some_thing hash bs (a_hash (is_number b 35 h))
               | inr g ↦ elim (test_cases (b == 34)) [
                 | inl h ↦ some_thing quote bs (a_quote (is_number b 34 h))
                 | inr q ↦ elim (option_cases (mark_at (b ∷ bs))) [
-                  | inl e ↦ no_thing 1 (bad_byte s.0 (both_false (is_letter b) (is_digit b) a d) (rw (n, q, g, t) refl) s.1 s.2 e)
+                  | inl e ↦ no_thing 1 (bad_byte s.0 (both_false (is_letter b) (is_digit b) a d) (rw (n, q, g, t) refl)
+                      s.1 s.2 e)
                   | inr e ↦ some_thing (mark e.0) (drop (mark_len e.0) (b ∷ bs)) (a_mark e.0 s.1 s.2 e.1)
                 ]
               ]
@@ -103,7 +124,8 @@ next_read {l} {m} {bs} {rest} {t} n =
 pub breaks_read : {l k m : ℕ} {bs : List ℕ} → Breaks l bs k m → next l bs ≡ Err (at_line k m)
 unfolding next
 breaks_read (unclosed_comment {l} {b} {m} {bs} {cs} g o e) = ap next_from (gap_skips g ∙ comment_open m (b ∷ cs) o e)
-breaks_read (spoilt {l} {m} {k} {bs} {cs} g s) = ap next_from (gap_skips g ∙ stays m cs (spoilt_stops s)) ∙ spoilt_read m s
+breaks_read (spoilt {l} {m} {k} {bs} {cs} g s) = ap next_from (gap_skips g ∙ stays m cs (spoilt_stops s))
+    ∙ spoilt_read m s
 
 pub data NextIs (l : ℕ) (bs : List ℕ) : Type 0 where
   there : (m : ℕ) (t : Thing) (rest : List ℕ) → Next l bs m t rest → NextIs l bs

@@ -14,7 +14,8 @@ pub looks : (t : List ℕ) (es : List (Vec ℕ × Literal)) → lookup (λ k. by
 looks t [] = refl
 looks t (e ∷ es) = ap (λ (r : Option Literal). cond (bytes_eq t e.0.items) (Some e.1) r) (looks t es)
 
-step : (b : Bool) (t : List ℕ) (e : Vec ℕ × Literal) (x : Literal) (o : Option Literal) (xs ys : List (Vec ℕ × Literal)) (zs : Constants)
+step : (b : Bool) (t : List ℕ) (e : Vec ℕ × Literal) (x : Literal) (o : Option Literal) (xs ys : List (Vec ℕ × Literal))
+    (zs : Constants)
     → cond b (Some x) o ≡ None → (o ≡ None → map entry ys ≡ zs) → map entry (cond b xs (e ∷ ys)) ≡ entry e ∷ zs
 step true t e x o xs ys zs h f = absurd cc
 step false t e x o xs ys zs h f = ap (λ (ws : Constants). entry e ∷ ws) (f h)
@@ -23,5 +24,6 @@ pub added : (k : Vec ℕ) (v : Literal) (es : List (Vec ℕ × Literal)) → con
     → map entry (insert_entry (λ p q. bytes_eq p.items q.items) es k v) ≡ map entry es ++ (k.items, v) ∷ []
 added k v [] h = refl
 added k v (e ∷ es) h =
-    step (bytes_eq k.items e.0.items) k.items e e.1 (constant (map entry es) k.items) ((e.0, v) ∷ es) (insert_entry (λ p q. bytes_eq p.items q.items) es k v)
+    step (bytes_eq k.items e.0.items) k.items e e.1 (constant (map entry es) k.items) ((e.0, v) ∷ es)
+    (insert_entry (λ p q. bytes_eq p.items q.items) es k v)
     (map entry es ++ (k.items, v) ∷ []) h (added k v es)

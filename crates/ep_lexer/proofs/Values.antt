@@ -16,7 +16,8 @@ value_from-grows base n (b ∷ ds) h =
     let f = at_least n base h in
     omega (arith, e, f)
 
-pub overflows : (base n : ℕ) (b : ℕ) (ds : List ℕ) → 2 ^ 64 ≤ n * base + digit_value b → 0 < base → 2 ^ 64 ≤ value_from base n (b ∷ ds)
+pub overflows : (base n : ℕ) (b : ℕ) (ds : List ℕ) → 2 ^ 64 ≤ n * base + digit_value b → 0 < base
+    → 2 ^ 64 ≤ value_from base n (b ∷ ds)
 overflows base n b ds e h =
     let f = value_from-grows base (n * base + digit_value b) ds h in
     omega (arith, e, f)

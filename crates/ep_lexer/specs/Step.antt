@@ -1,13 +1,18 @@
 -- Reading a source from left to right.
-use Rattle.std.specs.Prelude.{◌≡◌, ℕ, ◌+◌, Bool, true, false, ◌&&◌, ◌||◌, ◌==◌, if◌then◌else◌, List, [], ◌∷◌, ◌++◌, drop, slice_index, Option, Some, None, is_none, map, codes, Result, Ok, Err}
+use Rattle.std.specs.Prelude.{◌≡◌, ℕ, ◌+◌, Bool, true, false, ◌&&◌, ◌||◌, ◌==◌, if◌then◌else◌, List, [], ◌∷◌, ◌++◌}
+use Rattle.std.specs.Prelude.{drop, slice_index, Option, Some, None, is_none, map, codes, Result, Ok, Err}
 use denote.Ref.{Bor}
 use Rattle.ep_ast.specs.declared.expressions.Literal.{Literal}
 use Rattle.ep_ast.specs.declared.refusals.Refusal.{Refusal}
-use Rattle.ep_ast.specs.Lexeme.{is_blank, is_letter, is_digit, opens_comment, opens_remark, line_after, to_line_end, word_text, after_word, number_text, after_number, literal, character, of_character, mark_at, mark_len, Thing, over, hash, quote, name, number, mark}
+use Rattle.ep_ast.specs.Lexeme.{is_blank, is_letter, is_digit, opens_comment, opens_remark, line_after, to_line_end}
+use Rattle.ep_ast.specs.Lexeme.{word_text, after_word, number_text, after_number, literal, character, of_character}
+use Rattle.ep_ast.specs.Lexeme.{mark_at, mark_len, Thing, over, hash, quote, name, number, mark}
 use Rattle.ep_ast.specs.declared.orders.NamedOrder.{NamedOrder}
 use Rattle.ep_ast.specs.declared.orders.NamedOrder.TheVariants.{Little, Big}
 use Rattle.std.specs.Str.{bytes_eq}
-use Rattle.ep_ast.specs.Cut.{Constants, constant, value, may_define, wrong, at_line, after, headers, order_name, equals, Open, outside, first_arm, second_arm, opened_at, Place, behind, order_token, Sense, is_accepted, is_reserved, is_constant, is_own, sense}
+use Rattle.ep_ast.specs.Cut.{Constants, constant, value, may_define, wrong, at_line, after, headers, order_name, equals}
+use Rattle.ep_ast.specs.Cut.{Open, outside, first_arm, second_arm, opened_at, Place, behind, order_token, Sense}
+use Rattle.ep_ast.specs.Cut.{is_accepted, is_reserved, is_constant, is_own, sense}
 use Rattle.ep_ast.specs.Token as token
 use Rattle.ep_ast.specs.Token.{Tok}
 use Rattle.ep_ast.specs.declared.refusals.Halt.{Halt}
@@ -49,7 +54,8 @@ skip plain l (b ∷ bs) =
 skip (opening from) l [] = unclosed from
 skip (opening from) l (b ∷ bs) = skip (inside from) l bs
 skip (inside from) l [] = unclosed from
-skip (inside from) l (b ∷ bs) = if b == 42 && slice_index bs 0 == 47 then skip closing l bs else skip (inside from) (line_after l b) bs
+skip (inside from) l (b ∷ bs) = if b == 42 && slice_index bs 0 == 47 then skip closing l bs else skip (inside from)
+    (line_after l b) bs
 skip closing l [] = stopped l []
 skip closing l (b ∷ bs) = skip plain l bs
 
@@ -119,7 +125,8 @@ next l bs = next_from (skip plain l bs)
 
 -- ---- directives, from the `#` on line h on
 
--- what a directive does: it has no effect, defines a constant, opens a conditional, turns to its other arm, or closes it
+-- what a directive does: it has no effect, defines a constant, opens a conditional, turns to its other arm, or closes
+-- it
 pub data Effect : Type 0 where
   nothing : Effect
   defines : (text : List ℕ) (literal : Literal) → Effect
@@ -169,7 +176,8 @@ constant_at cs h l bs = chain (next l bs) (λ n. constant_found h n.0 n.1 n.2 (v
 unfoldable pub define_at : Constants → ℕ → ℕ → List ℕ → Result Done Refusal
 define_at cs h l bs =
     chain (name_at 5 h l bs)
-    (λ p. if may_define cs p.0 then chain (constant_at cs h p.1 p.2) (λ q. chain (over_at 5 h q.1 q.2) (λ r. Ok (defines p.0 q.0, r.0, r.1))) else Err (at_line 5 h))
+    (λ p. if may_define cs p.0 then chain (constant_at cs h p.1 p.2)
+    (λ q. chain (over_at 5 h q.1 q.2) (λ r. Ok (defines p.0 q.0, r.0, r.1))) else Err (at_line 5 h))
 
 -- the mark `==` is wanted
 abbrev pub equals_found : ℕ → ℕ → Thing → List ℕ → Result (ℕ × List ℕ) Refusal
@@ -189,7 +197,8 @@ is_plain cs w t = bytes_eq t w && is_none (constant cs t)
 
 -- the name of a byte order is wanted
 abbrev pub order_of : Constants → List ℕ → Option NamedOrder
-order_of cs t = if is_plain cs (order_name Little) t then Some Little else if is_plain cs (order_name Big) t then Some Big else None
+order_of cs t = if is_plain cs (order_name Little) t then Some Little else if is_plain cs (order_name Big) t then Some
+    Big else None
 
 abbrev pub conditional : ℕ → Option NamedOrder → Result (ℕ × List ℕ) Refusal → Result Done Refusal
 conditional h None r = Err (at_line 7 h)
@@ -199,7 +208,9 @@ conditional h (Some o) (Ok r) = Ok (conditions o, r.0, r.1)
 unfoldable pub condition_at : Constants → ℕ → ℕ → List ℕ → Result Done Refusal
 condition_at cs h l bs =
     chain (name_at 7 h l bs)
-    (λ p. if is_plain cs (codes "__BYTE_ORDER__") p.0 then chain (equals_at h p.1 p.2) (λ q. chain (name_at 7 h q.0 q.1) (λ r. conditional h (order_of cs r.0) (over_at 7 h r.1 r.2))) else Err (at_line 7 h))
+    (λ p. if is_plain cs (codes "__BYTE_ORDER__") p.0 then chain (equals_at h p.1 p.2)
+    (λ q. chain (name_at 7 h q.0 q.1) (λ r. conditional h (order_of cs r.0) (over_at 7 h r.1 r.2))) else Err
+    (at_line 7 h))
 
 -- a header name is wanted
 abbrev pub header_found : ℕ → ℕ → List ℕ → Option (List ℕ) → Result Done Refusal
@@ -310,7 +321,8 @@ token_of m t (is_constant c) = Ok (token.number m c)
 token_of m t is_own = Ok (token.name m t)
 
 abbrev pub hash_on : Place → ℕ → List ℕ → Result (Option Went) Refusal
-hash_on p m rest = if p.fresh then chain (directive_at p.open_arm p.constants m rest) (λ d. went (applied p m d.0 d.1) d.2) else Err (at_line 1 m)
+hash_on p m rest = if p.fresh then chain (directive_at p.open_arm p.constants m rest)
+    (λ d. went (applied p m d.0 d.1) d.2) else Err (at_line 1 m)
 
 abbrev pub step_on : Place → ℕ → Thing → List ℕ → Result (Option Went) Refusal
 step_on p m over rest = line_ended p m rest

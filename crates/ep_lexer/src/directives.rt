@@ -100,7 +100,8 @@ fn constant_at<'a>(
     bytes: &'a [u8],
 ) -> Result<(Literal, u32, &'a [u8]), Refusal>
     requires { line + length bytes.now < 2 ^ 32 }
-    ensures value { step.shown (λ p. (p.0, p.1, p.2.now)) result ≡ step.constant_at (step.constants defined.now) hash line bytes.now }
+    ensures value { step.shown (λ p. (p.0, p.1, p.2.now)) result ≡ step.constant_at (step.constants defined.now) hash
+        line bytes.now }
     ensures within { IfOk result (λ p. p.1 + length p.2.now ≤ line + length bytes.now) }
     ensures shorter { IfOk result (λ p. length p.2.now ≤ length bytes.now) }
 {
@@ -184,7 +185,8 @@ fn condition_at<'a>(
     bytes: &'a [u8],
 ) -> Result<Directive<'a>, Refusal>
     requires { line + length bytes.now < 2 ^ 32 }
-    ensures value { step.shown step.view_done result ≡ step.condition_at (step.constants defined.now) hash line bytes.now }
+    ensures value { step.shown step.view_done result ≡ step.condition_at (step.constants defined.now) hash line
+        bytes.now }
     ensures fresh { IfOk result (λ d. step.IsNew (step.constants defined.now) (step.view_effect d.effect)) }
     ensures within { IfOk result (λ d. d.line + length d.rest.now ≤ line + length bytes.now) }
     ensures shorter { IfOk result (λ d. length d.rest.now ≤ length bytes.now) }
@@ -233,7 +235,8 @@ fn ending_at<'a>(
     bytes: &'a [u8],
 ) -> Result<Directive<'a>, Refusal>
     requires { line + length bytes.now < 2 ^ 32 }
-    ensures value { step.shown step.view_done result ≡ step.ending_at (step.view_effect effect.entry) kind hash line bytes.now }
+    ensures value { step.shown step.view_done result ≡ step.ending_at (step.view_effect effect.entry) kind hash line
+        bytes.now }
     ensures effect { IfOk result (λ d. step.view_effect d.effect ≡ step.view_effect effect.entry) }
     ensures within { IfOk result (λ d. d.line + length d.rest.now ≤ line + length bytes.now) }
     ensures shorter { IfOk result (λ d. length d.rest.now ≤ length bytes.now) }
@@ -281,7 +284,8 @@ fn directive_outside<'a>(
     bytes: &'a [u8],
 ) -> Result<Directive<'a>, Refusal>
     requires { line + length bytes.now < 2 ^ 32 }
-    ensures value { step.shown step.view_done result ≡ step.directive_outside (step.constants defined.now) hash word.now line bytes.now }
+    ensures value { step.shown step.view_done result ≡ step.directive_outside (step.constants defined.now) hash word.now
+        line bytes.now }
     ensures fresh { IfOk result (λ d. step.IsNew (step.constants defined.now) (step.view_effect d.effect)) }
     ensures within { IfOk result (λ d. d.line + length d.rest.now ≤ line + length bytes.now) }
     ensures shorter { IfOk result (λ d. length d.rest.now ≤ length bytes.now) }
@@ -356,7 +360,8 @@ pub fn directive_at<'a>(
     bytes: &'a [u8],
 ) -> Result<Directive<'a>, Refusal>
     requires { hash + length bytes.now < 2 ^ 32 }
-    ensures value { step.shown step.view_done result ≡ step.directive_at (step.view_open arm) (step.constants defined.now) hash bytes.now }
+    ensures value { step.shown step.view_done result ≡ step.directive_at (step.view_open arm)
+        (step.constants defined.now) hash bytes.now }
     ensures fresh { IfOk result (λ d. step.IsNew (step.constants defined.now) (step.view_effect d.effect)) }
     ensures within { IfOk result (λ d. d.line + length d.rest.now ≤ hash + length bytes.now) }
     ensures shorter { IfOk result (λ d. length d.rest.now ≤ length bytes.now) }

@@ -1,4 +1,5 @@
-ghost use Rattle.std.specs.Prelude.{◌≡◌, ◌+◌, ◌-◌, ◌<◌, ◌≤◌, ◌^◌, [], ◌∷◌, ◌++◌, List, map, length, IfOk, IfErr, IfSome, OnOk};
+ghost use Rattle.std.specs.Prelude.{◌≡◌, ◌+◌, ◌-◌, ◌<◌, ◌≤◌, ◌^◌, [], ◌∷◌, ◌++◌, List, map, length, IfOk, IfErr};
+ghost use Rattle.std.specs.Prelude.{IfSome, OnOk};
 ghost use Rattle.ep_ast.specs.Cut as cut;
 ghost use Rattle.ep_lexer.specs.Step as step;
 ghost use Rattle.ep_lexer.specs.Tokens.{view, view_at, view_all};
@@ -37,7 +38,8 @@ fn named(
     line: u32,
     text: &[u8],
 ) -> Result<TokenKind, Halt>
-    ensures { step.Gives (λ k. view_at line k) result (step.token_of line text.now (cut.sense (step.constants definitions.now) text.now)) }
+    ensures { step.Gives (λ k. view_at line k) result (step.token_of line text.now
+        (cut.sense (step.constants definitions.now) text.now)) }
 {
     if let Some(word) = accepted(text) {
         return Ok(TokenKind::Word(word));
@@ -65,7 +67,9 @@ fn apply(
     line: u32,
 ) -> Result<(Option<Token>, Place), AllocError>
     requires { step.IsNew (step.constants definitions.old) (step.view_effect effect) }
-    ensures value { IfOk result (λ p. (step.view_token p.0, step.view_place p.1 (step.constants definitions.new)) ≡ step.applied (step.view_place place (step.constants definitions.old)) hash (step.view_effect effect.entry) line) }
+    ensures value { IfOk result (λ p. (step.view_token p.0, step.view_place p.1 (step.constants definitions.new)) ≡
+        step.applied (step.view_place place (step.constants definitions.old)) hash (step.view_effect effect.entry)
+        line) }
     ensures same { IfOk result (λ p. p.1.line ≡ line) }
 {
     match effect {
@@ -130,7 +134,8 @@ fn apply(
 /// The end of a line, or of the source.
 fn line_end<'a>(place: Place, line: u32, bytes: &'a [u8]) -> Result<Option<Step<'a>>, Refusal>
     requires { line + length bytes.now < 2 ^ 32 }
-    ensures value { (cs : cut.Constants) → step.shown (step.view_step cs) result ≡ step.line_ended (step.view_place place cs) line bytes.now }
+    ensures value { (cs : cut.Constants) → step.shown (step.view_step cs) result ≡ step.line_ended
+        (step.view_place place cs) line bytes.now }
     ensures within { IfOk result (λ o. IfSome o (λ s. s.place.line + length s.rest.now ≤ line + length bytes.now)) }
     ensures shorter { IfOk result (λ o. IfSome o (λ s. length s.rest.now < length bytes.now)) }
 {
@@ -160,7 +165,8 @@ fn directive<'a>(
     bytes: &'a [u8],
 ) -> Result<Option<Step<'a>>, Halt>
     requires { hash + length bytes.now < 2 ^ 32 }
-    ensures value { step.Gives (step.view_step (step.constants definitions.new)) result (step.hash_on (step.view_place place (step.constants definitions.old)) hash bytes.now) }
+    ensures value { step.Gives (step.view_step (step.constants definitions.new)) result
+        (step.hash_on (step.view_place place (step.constants definitions.old)) hash bytes.now) }
     ensures within { IfOk result (λ o. IfSome o (λ s. s.place.line + length s.rest.now ≤ hash + length bytes.now)) }
     ensures shorter { IfOk result (λ o. IfSome o (λ s. length s.rest.now ≤ length bytes.now)) }
 {
@@ -185,8 +191,10 @@ fn read_piece<'a>(
     bytes: &'a [u8],
 ) -> Result<Option<Step<'a>>, Halt>
     requires { place.line + length bytes.now < 2 ^ 32 }
-    ensures value { step.Gives (step.view_step (step.constants definitions.new)) result (step.step (step.view_place place (step.constants definitions.old)) bytes.now) }
-    ensures within { IfOk result (λ o. IfSome o (λ s. s.place.line + length s.rest.now ≤ place.line + length bytes.now)) }
+    ensures value { step.Gives (step.view_step (step.constants definitions.new)) result
+        (step.step (step.view_place place (step.constants definitions.old)) bytes.now) }
+    ensures within { IfOk result (λ o. IfSome o (λ s. s.place.line + length s.rest.now ≤ place.line + length
+        bytes.now)) }
     ensures shorter { IfOk result (λ o. IfSome o (λ s. length s.rest.now < length bytes.now)) }
 {
     let next = next_thing(place.line, bytes)?;

@@ -53,7 +53,8 @@ fn name_at<'a>(line: u32, bytes: &'a [u8]) -> Next<'a>
 
 fn number_at<'a>(line: u32, bytes: &'a [u8]) -> Result<Next<'a>, Refusal>
     requires { IsTrue (spec.is_digit (slice_index bytes.now 0)) }
-    ensures value { step.shown step.view_next result ≡ step.number_found line (spec.literal (spec.number_text bytes.now)) (spec.after_number bytes.now) }
+    ensures value { step.shown step.view_next result ≡ step.number_found line
+        (spec.literal (spec.number_text bytes.now)) (spec.after_number bytes.now) }
     ensures shorter { IfOk result (λ n. length n.rest.now + step.weight n.thing ≤ length bytes.now) }
     ensures same { IfOk result (λ n. n.line ≡ line) }
 {

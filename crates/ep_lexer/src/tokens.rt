@@ -1,6 +1,7 @@
 use ep_ast::Literal;
 
-/// A token. Words and marks are numbers from 1 in the lists of accepted words and of marks. The last four are directives:
+/// A token. Words and marks are numbers from 1 in the lists of accepted words and of marks. The last four are
+/// directives:
 /// an `#if` of little or of big byte order, `#else` and `#endif`.
 #[derive(Debug, Drop)]
 pub enum TokenKind {

@@ -34,10 +34,12 @@ or_joins false b c = refl
 pub is_among : (N : List ℕ → Bool) (ks : List (Vec ℕ)) (t : List ℕ) → with_names N ks t ≡ (N t || has t ks)
 is_among N [] t = sym (or-false (N t))
 is_among N (k ∷ ks) t =
-    is_among (with_name N k.items) ks t ∙ ap (λ (b : Bool). (N t || b) || has t ks) (bytes_swap k.items t) ∙ or_joins (N t) (bytes_eq t k.items) (has t ks)
+    is_among (with_name N k.items) ks t ∙ ap (λ (b : Bool). (N t || b) || has t ks) (bytes_swap k.items t)
+    ∙ or_joins (N t) (bytes_eq t k.items) (has t ks)
 
 -- the last that is added
-snoc : (N : List ℕ → Bool) (ks : List (Vec ℕ)) (k : Vec ℕ) → with_names N (ks ++ k ∷ []) ≡ with_name (with_names N ks) k.items
+snoc : (N : List ℕ → Bool) (ks : List (Vec ℕ)) (k : Vec ℕ)
+    → with_names N (ks ++ k ∷ []) ≡ with_name (with_names N ks) k.items
 snoc N [] k = refl
 snoc N (x ∷ xs) k = snoc (with_name N x.items) xs k
 
@@ -52,17 +54,21 @@ or_at true t k ks h e = subst (λ (u : List ℕ). has u ks ≡ true) (sym (same_
 
 last : (t : List ℕ) (k : Vec ℕ) (ks : List (Vec ℕ)) → has t (ks ++ k ∷ []) ≡ (bytes_eq t k.items || has t ks)
 last t k [] = refl
-last t k (x ∷ xs) = ap (λ (b : Bool). bytes_eq t x.items || b) (last t k xs) ∙ or_swap (bytes_eq t x.items) (bytes_eq t k.items) (has t xs)
+last t k (x ∷ xs) = ap (λ (b : Bool). bytes_eq t x.items || b) (last t k xs)
+    ∙ or_swap (bytes_eq t x.items) (bytes_eq t k.items) (has t xs)
 
-chosen : (b : Bool) (t : List ℕ) (k : Vec ℕ) (ks : List (Vec ℕ)) → has k.items ks ≡ b → has t (cond b ks (ks ++ k ∷ [])) ≡ (bytes_eq t k.items || has t ks)
+chosen : (b : Bool) (t : List ℕ) (k : Vec ℕ) (ks : List (Vec ℕ)) → has k.items ks ≡ b
+    → has t (cond b ks (ks ++ k ∷ [])) ≡ (bytes_eq t k.items || has t ks)
 chosen true t k ks h = or_at (bytes_eq t k.items) t k.items ks h refl
 chosen false t k ks h = last t k ks
 
-pub one_more : (N : List ℕ → Bool) (t name : List ℕ) (k : Vec ℕ) (ks new : List (Vec ℕ)) → k.items ≡ name → new ≡ insert_key (λ x y. bytes_eq x.items y.items) ks k
+pub one_more : (N : List ℕ → Bool) (t name : List ℕ) (k : Vec ℕ) (ks new : List (Vec ℕ)) → k.items ≡ name
+    → new ≡ insert_key (λ x y. bytes_eq x.items y.items) ks k
     → with_names N new t ≡ (bytes_eq t name || with_names N ks t)
 one_more N t name k ks new e h =
     is_among N new t
-    ∙ ap (λ (xs : List (Vec ℕ)). N t || has t xs) h ∙ ap (λ (c : Bool). N t || c) (chosen (has k.items ks) t k ks refl) ∙ or_swap (N t) (bytes_eq t k.items) (has t ks)
+    ∙ ap (λ (xs : List (Vec ℕ)). N t || has t xs) h ∙ ap (λ (c : Bool). N t || c) (chosen (has k.items ks) t k ks refl)
+    ∙ or_swap (N t) (bytes_eq t k.items) (has t ks)
     ∙ ap (λ (n : List ℕ). bytes_eq t n || (N t || has t ks)) e
     ∙ ap (λ (b : Bool). bytes_eq t name || b) (sym (is_among N ks t))
 
@@ -71,16 +77,20 @@ no_part true b e = absurd cc
 no_part false b e = e
 
 -- a name that was none is added behind the others
-pub one_added : (N : List ℕ → Bool) (name : List ℕ) (k : Vec ℕ) (ks new : List (Vec ℕ)) → k.items ≡ name → new ≡ insert_key (λ x y. bytes_eq x.items y.items) ks k
+pub one_added : (N : List ℕ → Bool) (name : List ℕ) (k : Vec ℕ) (ks new : List (Vec ℕ)) → k.items ≡ name
+    → new ≡ insert_key (λ x y. bytes_eq x.items y.items) ks k
     → with_names N ks name ≡ false → with_names N new ≡ with_name (with_names N ks) name
 one_added N name k ks new e h out =
-    let none : has k.items ks ≡ false = ap (λ (n : List ℕ). has n ks) e ∙ no_part (N name) (has name ks) (sym (is_among N ks name) ∙ out) in
+    let none : has k.items ks ≡ false = ap (λ (n : List ℕ). has n ks) e
+    ∙ no_part (N name) (has name ks) (sym (is_among N ks name) ∙ out) in
     ap (λ (xs : List (Vec ℕ)). with_names N xs) (h ∙ ap (λ (b : Bool). cond b ks (ks ++ k ∷ [])) none)
     ∙ snoc N ks k ∙ ap (λ (n : List ℕ). with_name (with_names N ks) n) e
 
 -- the answer where the name is built in, and where it isn't
-pub has_then : (N : List ℕ → Bool) (ks : List (Vec ℕ)) (t : List ℕ) (b : Bool) → b ≡ N t → b ≡ true → b ≡ with_names N ks t
+pub has_then : (N : List ℕ → Bool) (ks : List (Vec ℕ)) (t : List ℕ) (b : Bool) → b ≡ N t → b ≡ true
+    → b ≡ with_names N ks t
 has_then N ks t b e h = h ∙ ap (λ (a : Bool). a || has t ks) (sym h ∙ e) ∙ sym (is_among N ks t)
 
-pub has_else : (N : List ℕ → Bool) (ks : List (Vec ℕ)) (t : List ℕ) (b c : Bool) → b ≡ N t → b ≡ false → c ≡ has t ks → c ≡ with_names N ks t
+pub has_else : (N : List ℕ → Bool) (ks : List (Vec ℕ)) (t : List ℕ) (b c : Bool) → b ≡ N t → b ≡ false → c ≡ has t ks
+    → c ≡ with_names N ks t
 has_else N ks t b c e h k = k ∙ ap (λ (a : Bool). a || has t ks) (sym h ∙ e) ∙ sym (is_among N ks t)

@@ -23,17 +23,20 @@ IsWithin n p = length p.rest.now ≤ n
 -- ---- by a relation that says where it ends itself
 
 -- a front is read, and this is kept of it
-pub record IsTaken {K T : Type 0} (Shows : K → T → Type 0) (P : List Tok → List Tok → T → Type 0) (xs : List Tok) (k : K) (ys : List Tok) : Type 0 where
+pub record IsTaken {K T : Type 0} (Shows : K → T → Type 0) (P : List Tok → List Tok → T → Type 0) (xs : List Tok)
+    (k : K) (ys : List Tok) : Type 0 where
   pub value : T
   pub shows : Shows k value
   pub takes : Takes P xs value ys
 
-abbrev pub Gives : {K T : Type 0} → (K → T → Type 0) → (List Tok → List Tok → T → Type 0) → List Tok → Result (Part K) Halt → Type 0
+abbrev pub Gives : {K T : Type 0} → (K → T → Type 0) → (List Tok → List Tok → T → Type 0) → List Tok
+    → Result (Part K) Halt → Type 0
 Gives Shows P xs (Ok p) = IsTaken Shows P xs p.value (after p)
 Gives Shows P xs (Err e) = Stops P xs e
 
 -- the same where all of it is kept
-abbrev pub GivesAs : {K T : Type 0} → (K → T) → (List Tok → List Tok → T → Type 0) → List Tok → Result (Part K) Halt → Type 0
+abbrev pub GivesAs : {K T : Type 0} → (K → T) → (List Tok → List Tok → T → Type 0) → List Tok → Result (Part K) Halt
+    → Type 0
 GivesAs shape P xs (Ok p) = Takes P xs (shape p.value) (after p)
 GivesAs shape P xs (Err e) = Stops P xs e
 
@@ -48,19 +51,22 @@ abbrev pub IsBitField : (List Tok → (line : ℕ) → Type 0) → List Tok → 
 IsBitField B xs f = B xs f.line × (f.kind ≡ 9) × (f.word ≡ 0)
 
 -- nothing is to be read and no bit-field stands there, or one does
-abbrev pub Fails : {T : Type 0} → (List Tok → List Tok → T → Type 0) → (List Tok → (line : ℕ) → Type 0) → List Tok → Halt → Type 0
+abbrev pub Fails : {T : Type 0} → (List Tok → List Tok → T → Type 0) → (List Tok → (line : ℕ) → Type 0) → List Tok
+    → Halt → Type 0
 Fails P B xs (halts.Refused f) = (TakesNone P xs × Clear B xs × IsSyntax f) ⊎ IsBitField B xs f
 Fails P B xs halts.Memory = Unit {0}
 
 -- a front is read, and no bit-field stands in it
-abbrev pub GivesChecked : {K T : Type 0} → (K → T → Type 0) → (List Tok → List Tok → T → Type 0) → (List Tok → (line : ℕ) → Type 0) → List Tok → Result (Part K) Halt → Type 0
+abbrev pub GivesChecked : {K T : Type 0} → (K → T → Type 0) → (List Tok → List Tok → T → Type 0)
+    → (List Tok → (line : ℕ) → Type 0) → List Tok → Result (Part K) Halt → Type 0
 GivesChecked Shows P B xs (Ok p) = IsTaken Shows P xs p.value (after p) × Clear B xs
 GivesChecked Shows P B xs (Err e) = Fails P B xs e
 
 -- ---- what ends where no expression goes on: values, and declarators with a value
 
 -- the relation holds of the tokens up to ys, and of no other front behind which no expression goes on
-pub record TakesEnded {T : Type 0} (P : List Tok → List Tok → T → Type 0) (xs : List Tok) (t : T) (ys : List Tok) : Type 0 where
+pub record TakesEnded {T : Type 0} (P : List Tok → List Tok → T → Type 0) (xs : List Tok) (t : T) (ys : List Tok) : Type
+    0 where
   pub holds : P xs ys t
   pub only : (u : T) (zs : List Tok) → P xs zs u → Ends expr zs → (u ≡ t) × (zs ≡ ys)
 
@@ -72,11 +78,13 @@ StopsEnded P xs (halts.Refused f) = EndsNone P xs × IsSyntax f
 StopsEnded P xs halts.Memory = Unit {0}
 
 -- such a front is read, and this is kept of it
-pub record IsEnded {K T : Type 0} (Shows : K → T → Type 0) (P : List Tok → List Tok → T → Type 0) (xs : List Tok) (k : K) (ys : List Tok) : Type 0 where
+pub record IsEnded {K T : Type 0} (Shows : K → T → Type 0) (P : List Tok → List Tok → T → Type 0) (xs : List Tok)
+    (k : K) (ys : List Tok) : Type 0 where
   pub value : T
   pub shows : Shows k value
   pub takes : TakesEnded P xs value ys
 
-abbrev pub GivesEnded : {K T : Type 0} → (K → T → Type 0) → (List Tok → List Tok → T → Type 0) → List Tok → Result (Part K) Halt → Type 0
+abbrev pub GivesEnded : {K T : Type 0} → (K → T → Type 0) → (List Tok → List Tok → T → Type 0) → List Tok
+    → Result (Part K) Halt → Type 0
 GivesEnded Shows P xs (Ok p) = IsEnded Shows P xs p.value (after p)
 GivesEnded Shows P xs (Err e) = StopsEnded P xs e

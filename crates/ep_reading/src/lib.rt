@@ -12,6 +12,6 @@ pub use brackets::{brackets_past, opens_past};
 pub use look::{
     Head, at_else, at_end_if, at_if, at_mark, at_name, at_word, ends_arm, first_of, last_line,
 };
-pub use measured::Measured;
+pub use measured::{Measured, pushed};
 pub use names::TypeNames;
 pub use reader::{Part, Reader};

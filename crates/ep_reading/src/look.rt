@@ -5,7 +5,8 @@ ghost use Rattle.std.specs.Option.{option_map};
 ghost use Rattle.ep_ast.specs.Reading.{AtMark, AtWord, AtName};
 ghost use Rattle.ep_lexer.specs.Tokens.{view};
 ghost use Rattle.ep_reading.specs.Look as look;
-ghost use Rattle.ep_reading.specs.Look.{AtIf, AtElse, AtEndIf, IsHead, IsShorter, IsShorterText, IsShorterOrder, seen, seen_text, seen_order};
+ghost use Rattle.ep_reading.specs.Look.{AtIf, AtElse, AtEndIf, IsHead, IsShorter, IsShorterText, IsShorterOrder, seen};
+ghost use Rattle.ep_reading.specs.Look.{seen_text, seen_order};
 
 use ep_ast::{Literal, NamedOrder};
 use ep_lexer::{Token, TokenKind};

@@ -1,6 +1,6 @@
 //! Trees in which nothing is too deep.
 
-ghost use Rattle.std.specs.Prelude.{◌≡◌, IfOk};
+ghost use Rattle.std.specs.Prelude.{◌≡◌, ◌++◌, ◌∷◌, [], IfOk};
 ghost use Rattle.ep_reading.specs.Measured.{joined, IsLonger};
 
 use std::alloc::AllocError;
@@ -10,6 +10,27 @@ use std::alloc::AllocError;
 pub enum Measured<T: Drop> {
     Fits(T),
     TooDeep(u32),
+}
+
+/// The same list, with room for one more. A full list grows by half, so that little of the room stays unused.
+fn with_room<T: Drop>(list: Vec<T>) -> Result<Vec<T>, AllocError>
+    ensures { IfOk result (λ v. v.items ≡ list.items) }
+{
+    let mut items = list;
+    let count = items.len();
+    if count == items.capacity() {
+        items.reserve_exact(count / 2 + 1)?;
+    }
+    Ok(items)
+}
+
+/// With one more behind the others.
+pub fn pushed<T: Drop>(list: Vec<T>, one: T) -> Result<Vec<T>, AllocError>
+    ensures { IfOk result (λ v. v.items ≡ list.items ++ one ∷ []) }
+{
+    let mut items = with_room(list)?;
+    items.push(one)?;
+    Ok(items)
 }
 
 impl<T: Drop> Measured<T> {
@@ -34,12 +55,9 @@ impl<T: Drop> Measured<Vec<T>> {
     {
         match self {
             Measured::TooDeep(line) => Ok(Measured::TooDeep(line)),
-            Measured::Fits(mut list) => match one {
+            Measured::Fits(list) => match one {
                 Measured::TooDeep(line) => Ok(Measured::TooDeep(line)),
-                Measured::Fits(tree) => {
-                    list.push(tree)?;
-                    Ok(Measured::Fits(list))
-                }
+                Measured::Fits(tree) => Ok(Measured::Fits(pushed(list, tree)?)),
             },
         }
     }

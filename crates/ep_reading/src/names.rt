@@ -55,8 +55,10 @@ impl TypeNames {
     }
 
     fn insert(&mut self, name: &[u8]) -> Result<(), AllocError>
-        ensures added { OnOk result ((text : List ℕ) → is_type self.new text ≡ (bytes_eq text name.now || is_type self.old text)) }
-        ensures named { OnOk result (is_type self.old name.now ≡ false → is_type self.new ≡ with_name (is_type self.old) name.now) }
+        ensures added { OnOk result ((text : List ℕ) → is_type self.new
+            text ≡ (bytes_eq text name.now || is_type self.old text)) }
+        ensures named { OnOk result (is_type self.old name.now ≡ false
+            → is_type self.new ≡ with_name (is_type self.old) name.now) }
         ensures unchanged { OnErr result ((text : List ℕ) → is_type self.new text ≡ is_type self.old text) }
     {
         let text = Vec::from_slice(self.alloc, name)?;
@@ -66,8 +68,10 @@ impl TypeNames {
 
     /// The name is a type from here on.
     pub fn add(&mut self, name: &[u8]) -> Result<(), Memory>
-        ensures added { OnOk result ((text : List ℕ) → is_type self.new text ≡ (bytes_eq text name.now || is_type self.old text)) }
-        ensures named { OnOk result (is_type self.old name.now ≡ false → is_type self.new ≡ with_name (is_type self.old) name.now) }
+        ensures added { OnOk result ((text : List ℕ) → is_type self.new
+            text ≡ (bytes_eq text name.now || is_type self.old text)) }
+        ensures named { OnOk result (is_type self.old name.now ≡ false
+            → is_type self.new ≡ with_name (is_type self.old) name.now) }
         ensures unchanged { OnErr result ((text : List ℕ) → is_type self.new text ≡ is_type self.old text) }
     {
         match self.insert(name) {

@@ -1,5 +1,6 @@
 -- How many statements stand inside one another, and the line of the first part that is too deep.
-use Rattle.std.proofs.Common.{◌≡◌, ℕ, ◌<◌, ◌≤◌, max, Bool, true, false, Option, None, List, [], ◌∷◌, ◌++◌, refl, ap, ◌∙◌, arith}
+use Rattle.std.proofs.Common.{◌≡◌, ℕ, ◌<◌, ◌≤◌, max, Bool, true, false, Option, List, [], ◌∷◌, ◌++◌, refl, ap}
+use Rattle.std.proofs.Common.{◌∙◌, arith}
 use Rattle.std.specs.Prelude.{nat_lt, ◌||◌}
 use Rattle.std.specs.Global.{Vec}
 use Rattle.std.proofs.lemmas.Bool.Decides.{nat_tests}
@@ -11,15 +12,19 @@ use Rattle.ep_ast.specs.Expression.{Expr, expr}
 use Rattle.ep_ast.specs.Statement as tree
 use Rattle.ep_ast.specs.Statement.{First, Stmt, Part, to_stmts, to_parts, stmt_of, part_of}
 use Rattle.ep_ast.specs.Nesting.{is_too_deep}
-use Rattle.ep_ast.specs.Depth.{first_of, or_else, line_if, is_deep_if, height, height_of_stmts, height_of_part, height_of_parts, in_first, in_stmt, in_stmts, in_part, in_parts}
+use Rattle.ep_ast.specs.Depth.{first_of, or_else, line_if, is_deep_if, height, height_of_stmts, height_of_part}
+use Rattle.ep_ast.specs.Depth.{height_of_parts, in_first, in_stmt, in_stmts, in_part, in_parts}
 use Rattle.ep_reading.specs.declared.measured.Measured.{Measured}
 use Rattle.ep_reading.specs.declared.measured.Measured.TheVariants as measured
 use Rattle.ep_reading.specs.Measured as measures
 use Rattle.ep_reading.specs.Measured.{Shows, ShowsAll, all_of, joined}
 use Rattle.ep_reading.proofs.MeasuredLemmas.{or_else-assoc, longer_shows, joined_shows}
 use Rattle.ep_statements.specs.declared.kept.Counted.{Counted}
-use Rattle.ep_statements.specs.declared.kept.Heading.{Heading}
-use Rattle.ep_statements.specs.Shown.{Counts, HasSame, HasNone, IsEmpty, IsLonger, ShowsStmt, ShowsPart, ShowsStmts, ShowsParts, given, in_given, in_test, deep_first, heading_of, in_heading, ShowsTest, ShowsGiven, ShowsFirst, ShowsHeading, tested_of, in_tested, ShowsTested, both_of, in_both, ShowsBoth, headed_of, in_headed, ShowsHeaded}
+use Rattle.ep_ast.specs.declared.statements.HeadingTree.{HeadingTree}
+use Rattle.ep_statements.specs.Shown.{Counts, HasNone, IsEmpty, IsLonger, ShowsStmt, ShowsPart, ShowsStmts}
+use Rattle.ep_statements.specs.Shown.{ShowsParts, given, in_given, in_test, deep_first, heading_of, in_heading}
+use Rattle.ep_statements.specs.Shown.{ShowsTest, ShowsGiven, ShowsFirst, ShowsHeading, tested_of, in_tested}
+use Rattle.ep_statements.specs.Shown.{ShowsTested, both_of, in_both, ShowsBoth, headed_of, in_headed, ShowsHeaded}
 
 pub tall : (h n : ℕ) → Counts h n → 64 < h → nat_lt 64 n ≡ true
 tall h n c k = let m : 64 < n = grind (arith) in grind (arith, nat_tests)
@@ -81,15 +86,6 @@ empty_stmts r e = (none_shows stmt_of in_stmt r.tree e.0, no_count r.height e.1)
 pub empty_parts : (r : Counted (Vec BlockItemTree)) → IsEmpty r → ShowsParts r []
 empty_parts r e = (none_shows part_of in_part r.tree e.0, no_count r.height e.1)
 
--- a list to which another of the same elements has been made longer
-pub same_longer : {T : Type 0} (all list : Measured (Vec T)) (one : Measured T) (r : Measured (Vec T))
-    → HasSame all list → measures.IsLonger list one r → measures.IsLonger all one r
-same_longer (measured.Fits v) (measured.Fits w) (measured.Fits t) (measured.Fits u) h e = rw h at e
-same_longer (measured.Fits v) (measured.Fits w) (measured.Fits t) (measured.TooDeep l) h e = e
-same_longer (measured.Fits v) (measured.Fits w) (measured.TooDeep l) r h e = e
-same_longer (measured.Fits v) (measured.TooDeep l) one r h e = absurd h
-same_longer (measured.TooDeep l) list one r h e = rw h at e
-
 -- ---- the parts of a statement
 
 -- the same where the first line is another's
@@ -131,7 +127,7 @@ both_shows n l parts otherwise e s t h i =
     (or_else-assoc (line_if (nat_lt 64 n || is_too_deep e) l) (in_stmt s) (in_stmt t))
     (joined_shows tested_of (in_tested n l) stmt_of in_stmt parts otherwise (e, s) t h i)
 
-pub headed_shows : (n l : ℕ) (heading : Measured Heading) (inner : Measured StmtTree)
+pub headed_shows : (n l : ℕ) (heading : Measured HeadingTree) (inner : Measured StmtTree)
     (p : First × Option Expr × Option Expr) (s : Stmt) → nat_lt 64 n ≡ false
     → ShowsHeading l heading p → Shows stmt_of in_stmt inner s → ShowsHeaded n l (joined heading inner) (p, s)
 headed_shows n l heading inner p s b h i =

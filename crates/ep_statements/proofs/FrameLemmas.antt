@@ -8,7 +8,8 @@ use Rattle.ep_ast.specs.Mark.{else_word}
 use Rattle.ep_ast.specs.StatementGrammar.{States, no_else, else_too}
 use Rattle.ep_ast.specs.Reading.{Takes, TakesNone, LacksWord, AtWord}
 use Rattle.ep_statements.specs.Piece.{DoEnd}
-use Rattle.ep_statements.specs.Around.{Outer, if_head, else_head, while_head, for_head, do_head, chosen, chosen_else, repeated, turned, done, Unwinds, no_heads, one_head, Reaches, Finishes, Opens}
+use Rattle.ep_statements.specs.Around.{Outer, if_head, else_head, while_head, for_head, do_head, chosen, chosen_else}
+use Rattle.ep_statements.specs.Around.{repeated, turned, done, Unwinds, no_heads, one_head, Reaches, Finishes, Opens}
 
 module _ (N : List ℕ → Bool) where
   pub reach_begin : (xs : List Tok) → Reaches N xs [] xs

@@ -1,17 +1,23 @@
 -- Statements and what stands inside them, by their first token.
-use Rattle.std.proofs.Common.{◌≡◌, ℕ, Bool, true, false, List, [], ◌∷◌, Option, refl, sym, ◌∙◌, subst, arith, eq-eqb, inl, inr, ◌⊎◌}
+use Rattle.std.proofs.Common.{◌≡◌, ℕ, Bool, true, false, List, [], ◌∷◌, Option, refl, sym, ◌∙◌, subst, arith, eq-eqb}
+use Rattle.std.proofs.Common.{inl, inr, ◌⊎◌}
 use Rattle.std.specs.Prelude.{◌==◌}
 use Rattle.ep_ast.specs.Token.{Tok, word, name, number, mark, if_little, if_big, other, end_if, line_of}
 use Rattle.ep_ast.specs.Expression.{Expr}
 use Rattle.ep_ast.specs.Statement as tree
 use Rattle.ep_ast.specs.Statement.{First, Stmt, Part, to_parts}
-use Rattle.ep_ast.specs.Mark.{break_word, continue_word, do_word, for_word, if_word, return_word, while_word, sizeof_word, left_paren, left_brace, semicolon}
-use Rattle.ep_ast.specs.Grammar.{is_prefix, is_step, Rule, Derives, assigns, assigns_not, chooses, chooses_not, left, tighter, operand, casts, casts_not, steps, prefixed, sized, sized_type, unary_not, suffixed, suffixed_not, names, numbers, parens}
-use Rattle.ep_ast.specs.StatementGrammar.{UpTo, nothing, something, InParens, States, block, evaluate, choose, repeat, do_first, for_each, break_off, go_on, give_back, Parts}
+use Rattle.ep_ast.specs.Mark.{break_word, continue_word, do_word, for_word, if_word, return_word, while_word}
+use Rattle.ep_ast.specs.Mark.{sizeof_word, left_paren, left_brace, semicolon}
+use Rattle.ep_ast.specs.Grammar.{is_prefix, is_step, Rule, Derives, assigns, assigns_not, chooses, chooses_not, left}
+use Rattle.ep_ast.specs.Grammar.{tighter, operand, casts, casts_not, steps, prefixed, sized, sized_type, unary_not}
+use Rattle.ep_ast.specs.Grammar.{suffixed, suffixed_not, names, numbers, parens}
+use Rattle.ep_ast.specs.StatementGrammar.{UpTo, nothing, something, InParens, States, block, evaluate, choose, repeat}
+use Rattle.ep_ast.specs.StatementGrammar.{do_first, for_each, break_off, go_on, give_back, Parts}
 use Rattle.ep_ast.specs.Reading.{Takes, TakesNone, Lacks}
 use Rattle.ep_reading.specs.Look.{NoToken}
 use Rattle.ep_statements.specs.Piece.{do_end, Headings, heading, IsOther, IsSimple, HasNoHead}
-use Rattle.ep_statements.specs.Around.{Outer, if_head, while_head, for_head, do_head, Around, chosen, repeated, turned, done, Opens}
+use Rattle.ep_statements.specs.Around.{Outer, if_head, while_head, for_head, do_head, Around, chosen, repeated, turned}
+use Rattle.ep_statements.specs.Around.{done, Opens}
 use Rattle.ep_reading.proofs.SequenceLemmas.{Makes, IsMark}
 
 pub no_head_simple : (ts : List Tok) → HasNoHead ts → Lacks left_brace ts → IsSimple ts

@@ -1,5 +1,6 @@
 -- Parts of blocks and statements by byte order, read one after the other.
-use Rattle.std.proofs.Common.{◌≡◌, ℕ, Bool, true, false, List, [], ◌∷◌, ◌++◌, Option, Some, None, refl, sym, ap, ◌∙◌, subst, append_assoc, arith}
+use Rattle.std.proofs.Common.{◌≡◌, ℕ, Bool, true, false, List, [], ◌∷◌, ◌++◌, Option, Some, None, refl, sym, ap, ◌∙◌}
+use Rattle.std.proofs.Common.{subst, append_assoc, arith}
 use Rattle.std.specs.Prelude.{◌||◌}
 use Rattle.std.proofs.lemmas.List.{append-nil}
 use Rattle.ep_ast.specs.declared.orders.NamedOrder.{NamedOrder}
@@ -8,10 +9,14 @@ use Rattle.ep_ast.specs.Token.{Tok, word, name, number, mark, if_little, if_big,
 use Rattle.ep_ast.specs.Statement as tree
 use Rattle.ep_ast.specs.Statement.{Stmt, Stmts, Part, Block, to_stmts, make_arms}
 use Rattle.ep_ast.specs.Declaration.{Declaration}
-use Rattle.ep_ast.specs.Mark.{break_word, continue_word, do_word, for_word, if_word, return_word, while_word, left_brace, right_brace}
+use Rattle.ep_ast.specs.Mark.{break_word, continue_word, do_word, for_word, if_word, return_word, while_word}
+use Rattle.ep_ast.specs.Mark.{left_brace, right_brace}
 use Rattle.ep_ast.specs.TypeWords.{is_type_word, is_tag_word, begins_type}
 use Rattle.ep_ast.specs.DeclarationGrammar.{in_block, Declares}
-use Rattle.ep_ast.specs.StatementGrammar.{nothing, something, little, big, States, block, evaluate, choose, repeat, do_first, for_each, break_off, go_on, give_back, Parts, no_parts, more_parts, OnePart, declaration, statement, arms, Statements, before_else, before_end, more_statements, OtherArm, no_other, another, Blocks, braces}
+use Rattle.ep_ast.specs.StatementGrammar.{nothing, something, little, big, States, block, evaluate, choose, repeat}
+use Rattle.ep_ast.specs.StatementGrammar.{do_first, for_each, break_off, go_on, give_back, Parts, no_parts, more_parts}
+use Rattle.ep_ast.specs.StatementGrammar.{OnePart, declaration, statement, arms, Statements, before_else, before_end}
+use Rattle.ep_ast.specs.StatementGrammar.{more_statements, OtherArm, no_other, another, Blocks, braces}
 use Rattle.ep_ast.specs.Reading.{Takes, TakesNone, Lacks, AtMark}
 use Rattle.ep_statements.specs.Shown.{body}
 use Rattle.ep_ast.specs.Cut.{order_token}

@@ -1,5 +1,6 @@
 -- Pieces of statements, each by its parts.
-use Rattle.std.proofs.Common.{◌≡◌, ℕ, Bool, true, false, List, [], ◌∷◌, Option, Some, None, refl, sym, ◌∙◌, subst, inl, inr}
+use Rattle.std.proofs.Common.{◌≡◌, ℕ, Bool, true, false, List, [], ◌∷◌, Option, Some, None, refl, sym, ◌∙◌, subst, inl}
+use Rattle.std.proofs.Common.{inr}
 use Rattle.std.specs.Prelude.{◌||◌}
 use Rattle.ep_ast.specs.Token.{Tok, word, name, number, mark, if_little, if_big, other, end_if}
 use Rattle.ep_ast.specs.Expression.{Expr}
@@ -9,7 +10,8 @@ use Rattle.ep_ast.specs.Declaration.{Declaration}
 use Rattle.ep_ast.specs.Mark.{while_word, sizeof_word, left_paren, right_paren, semicolon}
 use Rattle.ep_ast.specs.Grammar.{expr}
 use Rattle.ep_ast.specs.TypeWords.{is_type_word, is_tag_word, begins_type}
-use Rattle.ep_ast.specs.DeclarationGrammar.{in_block, OneSpec, type_word, storage, with_members, no_specs, more_specs, specified, Declares, variables}
+use Rattle.ep_ast.specs.DeclarationGrammar.{in_block, OneSpec, type_word, storage, with_members, no_specs, more_specs}
+use Rattle.ep_ast.specs.DeclarationGrammar.{specified, Declares, variables}
 use Rattle.ep_ast.specs.StatementGrammar.{UpTo, nothing, something, InParens, in_parens, Firsts, declares, evaluates}
 use Rattle.ep_ast.specs.Reading.{goes_on, Ends, Reads, Refuses, Takes, TakesNone, Lacks, LacksWord, AtMark}
 use Rattle.ep_reading.proofs.FirstLemmas.{tail_is, lacks_is}

@@ -13,12 +13,13 @@ use Rattle.ep_ast.specs.Reading.{TakesNone, LacksWord, AtWord}
 use Rattle.ep_reading.specs.Answer.{IsTaken}
 use Rattle.ep_reading.specs.declared.measured.Measured.{Measured}
 use Rattle.ep_statements.specs.declared.kept.Counted.{Counted}
-use Rattle.ep_statements.specs.declared.kept.Heading.{Heading}
+use Rattle.ep_ast.specs.declared.statements.HeadingTree.{HeadingTree}
 use Rattle.ep_statements.specs.declared.frames.Frame.{Frame}
 use Rattle.ep_statements.specs.declared.frames.Frame.TheVariants as frames
 use Rattle.ep_statements.specs.Shown.{ShowsTest, ShowsHeading, ShowsStmt}
 use Rattle.ep_statements.specs.Piece.{DoEnd}
-use Rattle.ep_statements.specs.Around.{Outer, if_head, else_head, while_head, for_head, do_head, Finishes, Opened, Waits, Stands}
+use Rattle.ep_statements.specs.Around.{Outer, if_head, else_head, while_head, for_head, do_head, Finishes, Opened}
+use Rattle.ep_statements.specs.Around.{Waits, Stands}
 use Rattle.ep_statements.proofs.FrameLemmas as steps
 
 module _ (N : List ℕ → Bool) where
@@ -131,7 +132,8 @@ module _ (N : List ℕ → Bool) where
         finishes = steps.close_while N xs zs a.1 l b.0 s.inner d;
       }
 
-  pub stands_for : (xs zs : List Tok) (ks : List Frame) (l : ℕ) (k : Box (Measured Heading)) (h : Measured Heading)
+  pub stands_for : (xs zs : List Tok) (ks : List Frame) (l : ℕ) (k : Box (Measured HeadingTree))
+      (h : Measured HeadingTree)
       (j i : Counted StmtTree) → h ≡ k.value
       → ((p : First × Option Expr × Option Expr) (s : Stmt) → ShowsHeading l h p → ShowsStmt j s
       → ShowsStmt i (tree.for_loop l p.0 p.1 p.2 s)) → Stands N xs (frames.For l k ∷ ks) j zs → Stands N xs ks i zs
@@ -145,7 +147,7 @@ module _ (N : List ℕ → Bool) where
         inner = tree.for_loop l b.0.0 b.0.1 b.0.2 s.inner;
         shows_heads = a.4;
         shows = f b.0 s.inner
-            (subst (λ (n : Measured Heading). ShowsHeading l n b.0) (sym e) b.2) s.shows;
+            (subst (λ (n : Measured HeadingTree). ShowsHeading l n b.0) (sym e) b.2) s.shows;
         finishes = steps.close_for N xs
             zs a.1 l b.0 s.inner d;
       }

@@ -3,7 +3,8 @@ use Rattle.std.specs.Prelude.{◌≡◌, ◌⊎◌, ℕ, Bool, Option, List, [],
 use Rattle.ep_ast.specs.Token.{Tok, word, mark}
 use Rattle.ep_ast.specs.Expression.{Expr}
 use Rattle.ep_ast.specs.Statement.{First}
-use Rattle.ep_ast.specs.Mark.{break_word, continue_word, return_word, do_word, for_word, if_word, while_word, left_paren, right_paren, left_brace, semicolon}
+use Rattle.ep_ast.specs.Mark.{break_word, continue_word, return_word, do_word, for_word, if_word, while_word}
+use Rattle.ep_ast.specs.Mark.{left_paren, right_paren, left_brace, semicolon}
 use Rattle.ep_ast.specs.Grammar.{expr, Derives}
 use Rattle.ep_ast.specs.StatementGrammar.{UpTo, InParens, Firsts}
 

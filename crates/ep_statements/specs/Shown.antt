@@ -6,24 +6,19 @@ use Rattle.ep_ast.specs.declared.expressions.ExprTree.{ExprTree}
 use Rattle.ep_ast.specs.declared.statements.StmtTree.{StmtTree}
 use Rattle.ep_ast.specs.declared.statements.BlockItemTree.{BlockItemTree}
 use Rattle.ep_ast.specs.declared.statements.ForInitTree.{ForInitTree}
+use Rattle.ep_ast.specs.declared.statements.HeadingTree.{HeadingTree}
 use Rattle.ep_ast.specs.Expression.{Expr, expr}
 use Rattle.ep_ast.specs.Statement.{First, first_of, Stmt, Stmts, Block, stmt_of, Part, part_of, to_stmts, to_parts}
 use Rattle.ep_ast.specs.Nesting.{is_too_deep}
-use Rattle.ep_ast.specs.Depth.{is_deep_if, in_first, in_stmt, in_part, or_else, line_if, height, height_of_stmts, height_of_part, height_of_parts}
+use Rattle.ep_ast.specs.Depth.{is_deep_if, in_first, in_stmt, in_part, or_else, line_if, height, height_of_stmts}
+use Rattle.ep_ast.specs.Depth.{height_of_part, height_of_parts}
 use Rattle.ep_reading.specs.declared.measured.Measured.{Measured}
 use Rattle.ep_reading.specs.declared.measured.Measured.TheVariants as measured
 use Rattle.ep_reading.specs.Measured as measures
 use Rattle.ep_reading.specs.Measured.{Shows, ShowsAll}
 use Rattle.ep_statements.specs.declared.kept.Counted.{Counted}
-use Rattle.ep_statements.specs.declared.kept.Heading.{Heading}
 
 -- ---- lists
-
--- another list of the same elements, or the same line
-abbrev pub HasSame : {T : Type 0} → Measured (Vec T) → Measured (Vec T) → Type 0
-HasSame (measured.Fits v) (measured.Fits w) = w.items ≡ v.items
-HasSame (measured.Fits v) (measured.TooDeep l) = ⊥
-HasSame (measured.TooDeep l) r = r ≡ measured.TooDeep l
 
 -- no elements
 abbrev pub HasNone : {T : Type 0} → Measured (Vec T) → Type 0
@@ -63,13 +58,13 @@ deep_first l f = in_first f l
 abbrev pub ShowsFirst : (line : ℕ) → Measured ForInitTree → First → Type 0
 ShowsFirst l k f = Shows first_of (deep_first l) k f
 
-abbrev pub heading_of : Heading → First × Option Expr × Option Expr
+abbrev pub heading_of : HeadingTree → First × Option Expr × Option Expr
 heading_of h = (first_of h.first, given h.test, given h.next)
 
 abbrev pub in_heading : (line : ℕ) → First × Option Expr × Option Expr → Option ℕ
 in_heading l p = or_else (line_if (is_deep_if p.1 || is_deep_if p.2) l) (in_first p.0 l)
 
-abbrev pub ShowsHeading : (line : ℕ) → Measured Heading → First × Option Expr × Option Expr → Type 0
+abbrev pub ShowsHeading : (line : ℕ) → Measured HeadingTree → First × Option Expr × Option Expr → Type 0
 ShowsHeading l k p = Shows heading_of (in_heading l) k p
 
 -- ---- statements
@@ -112,14 +107,14 @@ abbrev pub ShowsBoth : (n line : ℕ) → Measured ((ExprTree × StmtTree) × St
 ShowsBoth n l k p = Shows both_of (in_both n l) k p
 
 -- of a `for`
-abbrev pub headed_of : Heading × StmtTree → (First × Option Expr × Option Expr) × Stmt
+abbrev pub headed_of : HeadingTree × StmtTree → (First × Option Expr × Option Expr) × Stmt
 headed_of t = (heading_of t.0, stmt_of t.1)
 
 abbrev pub in_headed : (n line : ℕ) → (First × Option Expr × Option Expr) × Stmt → Option ℕ
 in_headed n l p =
     or_else (line_if (nat_lt 64 n || is_deep_if p.0.1 || is_deep_if p.0.2) l) (or_else (in_first p.0.0 l) (in_stmt p.1))
 
-abbrev pub ShowsHeaded : (n line : ℕ) → Measured (Heading × StmtTree) → (First × Option Expr × Option Expr) × Stmt
+abbrev pub ShowsHeaded : (n line : ℕ) → Measured (HeadingTree × StmtTree) → (First × Option Expr × Option Expr) × Stmt
     → Type 0
 ShowsHeaded n l k p = Shows headed_of (in_headed n l) k p
 

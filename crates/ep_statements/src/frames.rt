@@ -8,10 +8,10 @@ ghost use Rattle.ep_reading.specs.Answer.{IsWithin};
 ghost use Rattle.ep_statements.specs.Around.{Stands, Closes, Completes, GivesState, GivesHead, IsPastHead};
 ghost use Rattle.ep_statements.specs.declared.frames.Frame.{Frame as Pending};
 
-use crate::kept::{Counted, Heading, do_loop, for_loop, if_else, if_then, while_loop};
+use crate::kept::{Counted, do_loop, for_loop, if_else, if_then, while_loop};
 use crate::pieces::{do_end, for_heading, in_parens};
 use ep_ast::words::{DO, ELSE, FOR, IF, WHILE};
-use ep_ast::{ExprTree, Halt, StmtTree};
+use ep_ast::{ExprTree, Halt, HeadingTree, StmtTree};
 use ep_lexer::Token;
 use ep_reading::{Head, Measured, Part, Reader, at_word, first_of};
 
@@ -21,7 +21,7 @@ pub enum Frame {
     If(u32, Measured<ExprTree>),
     Else(u32, Measured<ExprTree>, Box<Counted<StmtTree>>),
     While(u32, Measured<ExprTree>),
-    For(u32, Box<Measured<Heading>>),
+    For(u32, Box<Measured<HeadingTree>>),
     Do(u32),
 }
 

@@ -10,10 +10,13 @@ ghost use Rattle.ep_exprs.specs.Kept as expressions;
 ghost use Rattle.ep_reading.specs.Measured as measured;
 ghost use Rattle.ep_declarations.specs.Answer.{ShowsDeclaration};
 ghost use Rattle.ep_statements.specs.Answer.{ShowsBlock};
-ghost use Rattle.ep_statements.specs.Shown.{body, Counts, HasSame, IsEmpty, IsLonger, ShowsTest, ShowsGiven, ShowsFirst, ShowsHeading, ShowsStmt, ShowsPart, ShowsStmts, ShowsParts, ShowsTested, ShowsBoth, ShowsHeaded};
+ghost use Rattle.ep_statements.specs.Shown.{body, Counts, IsEmpty, IsLonger, ShowsTest, ShowsGiven};
+ghost use Rattle.ep_statements.specs.Shown.{ShowsFirst, ShowsHeading, ShowsStmt, ShowsPart, ShowsStmts, ShowsParts};
+ghost use Rattle.ep_statements.specs.Shown.{ShowsTested, ShowsBoth, ShowsHeaded};
 
 use ep_ast::{
-    BlockItemTree, BlockTree, DeclarationTree, ExprTree, ForInitTree, NamedOrder, StmtTree,
+    BlockItemTree, BlockTree, DeclarationTree, ExprTree, ForInitTree, HeadingTree, NamedOrder,
+    StmtTree,
 };
 use ep_exprs::Kept;
 use ep_reading::Measured;
@@ -25,21 +28,6 @@ use std::alloc::{AllocError, Global};
 pub struct Counted<T: Drop> {
     pub tree: Measured<T>,
     pub height: u32,
-}
-
-/// The same list. An empty one has room for one element: most blocks are short.
-fn first_room<T: Drop>(list: Measured<Vec<T>>) -> Result<Measured<Vec<T>>, AllocError>
-    ensures { IfOk result (HasSame list) }
-{
-    match list {
-        Measured::TooDeep(line) => Ok(Measured::TooDeep(line)),
-        Measured::Fits(mut items) => {
-            if items.is_empty() {
-                items.reserve_exact(1)?;
-            }
-            Ok(Measured::Fits(items))
-        }
-    }
 }
 
 impl<T: Drop> Counted<Vec<T>> {
@@ -57,18 +45,9 @@ impl<T: Drop> Counted<Vec<T>> {
         ensures { IfOk result (IsLonger self one) }
     {
         let height = self.height.max(one.height);
-        let list = first_room(self.tree)?;
-        let tree = list.longer(one.tree)?;
+        let tree = self.tree.longer(one.tree)?;
         Ok(Counted { tree, height })
     }
-}
-
-/// What stands in the parentheses of a `for`.
-#[derive(Debug, Drop)]
-pub struct Heading {
-    pub first: ForInitTree,
-    pub test: Option<ExprTree>,
-    pub next: Option<ExprTree>,
 }
 
 /// The test of a statement of this line.
@@ -115,14 +94,14 @@ pub fn heading_from(
     first: Measured<ForInitTree>,
     test: Measured<Option<ExprTree>>,
     next: Measured<Option<ExprTree>>,
-) -> Measured<Heading>
+) -> Measured<HeadingTree>
     ensures { (line : ℕ) (f : First) (o q : Option Expr) → ShowsFirst line first f → ShowsGiven line test o
         → ShowsGiven line next q
         → ShowsHeading line result (f, o, q) }
 {
     let tests = test.and(next);
     match tests.and(first) {
-        Measured::Fits(parts) => Measured::Fits(Heading {
+        Measured::Fits(parts) => Measured::Fits(HeadingTree {
             first: parts.1,
             test: parts.0.0,
             next: parts.0.1,
@@ -316,9 +295,9 @@ pub fn if_else(
 fn with_heading(
     line: u32,
     height: u32,
-    heading: Measured<Heading>,
+    heading: Measured<HeadingTree>,
     inner: Measured<StmtTree>,
-) -> Measured<(Heading, StmtTree)>
+) -> Measured<(HeadingTree, StmtTree)>
     ensures { (n : ℕ) (p : First × Option Expr × Option Expr) (s : Stmt) → Counts height n → ShowsHeading line heading p
         → measured.Shows stmt_of in_stmt inner s → ShowsHeaded n line result (p, s) }
 {
@@ -331,7 +310,7 @@ fn with_heading(
 pub fn for_loop(
     alloc: Global,
     line: u32,
-    heading: Measured<Heading>,
+    heading: Measured<HeadingTree>,
     turn: Counted<StmtTree>,
 ) -> Result<Counted<StmtTree>, AllocError>
     ensures { (p : First × Option Expr × Option Expr) (s : Stmt) → ShowsHeading line heading p → ShowsStmt turn s
@@ -340,8 +319,9 @@ pub fn for_loop(
     let height = over(turn.height);
     match with_heading(line, height, heading, turn.tree) {
         Measured::Fits((parts, turn)) => {
+            let heading = Box::new(alloc, parts)?;
             let turn = Box::new(alloc, turn)?;
-            let tree = StmtTree::For(line, parts.first, parts.test, parts.next, turn);
+            let tree = StmtTree::For(line, heading, turn);
             Ok(Counted {
                 tree: Measured::Fits(tree),
                 height,

@@ -9,10 +9,10 @@ ghost use Rattle.ep_reading.specs.Answer.{Gives, IsPast};
 ghost use Rattle.ep_statements.specs.Shown.{ShowsTest, ShowsGiven, ShowsFirst, ShowsHeading};
 ghost use Rattle.ep_statements.specs.Piece.{CanClose, ExprThen, DoEnd, Headings};
 
-use crate::kept::{Heading, first_declares, first_evaluates, given_of, heading_from, test_of};
+use crate::kept::{first_declares, first_evaluates, given_of, heading_from, test_of};
 use ep_ast::marks::{LEFT_PAREN, RIGHT_PAREN, SEMICOLON};
 use ep_ast::words::WHILE;
-use ep_ast::{ExprTree, ForInitTree, Halt};
+use ep_ast::{ExprTree, ForInitTree, Halt, HeadingTree};
 use ep_declarations::declaration;
 use ep_exprs::{Kept, begins_type, read_expression};
 use ep_lexer::Token;
@@ -141,7 +141,7 @@ pub fn for_heading<'a>(
     reader: &Reader<'_>,
     line: u32,
     tokens: &'a [Token],
-) -> Result<Part<'a, Measured<Heading>>, Halt>
+) -> Result<Part<'a, Measured<HeadingTree>>, Halt>
     requires { length tokens.now < 2 ^ 24 }
     ensures reads { Gives (ShowsHeading line) (Headings (is_type reader.now.names.now)) (map view tokens.now) result }
     ensures shorter { IfOk result (IsPast (length tokens.now)) }

@@ -82,18 +82,24 @@ fn trees(rt: HostRuntime) -> Result<(), Fail> {
         ("++a--", "Step(1, 4, PostDecrement(1, Id(1, [97]))) 3"),
         (
             "a.b->c[1](2, 3)",
-            "Call(1, Index(1, Arrow(1, Member(1, Id(1, [97]), [98]), [99]), Number(1, Literal { value: 1, decimal: true, unsigned: false, longs: 0 })), [Number(1, Literal { value: 2, decimal: true, unsigned: false, longs: 0 }), Number(1, Literal { value: 3, decimal: true, unsigned: false, longs: 0 })]) 13",
+            "Call(1, Index(1, Arrow(1, Member(1, Id(1, [97]), [98]), [99]), Number(1, Literal { value: 1, decimal: \
+            true, unsigned: false, longs: 0 })), [Number(1, Literal { value: 2, decimal: true, unsigned: false, \
+            longs: 0 }), Number(1, Literal { value: 3, decimal: true, unsigned: false, longs: 0 })]) 13",
         ),
         ("(a)(b)", "Call(1, Id(1, [97]), [Id(1, [98])]) 6"),
         ("f()", "Call(1, Id(1, [102]), []) 3"),
         ("\na\n+\n(b)", "Binary(2, 31, Id(2, [97]), Id(4, [98])) 5"),
         (
             "a || b && c | d ^ e & f == g < h << i + j * k",
-            "Binary(1, 13, Id(1, [97]), Binary(1, 12, Id(1, [98]), Binary(1, 40, Id(1, [99]), Binary(1, 39, Id(1, [100]), Binary(1, 29, Id(1, [101]), Binary(1, 10, Id(1, [102]), Binary(1, 37, Id(1, [103]), Binary(1, 6, Id(1, [104]), Binary(1, 31, Id(1, [105]), Binary(1, 30, Id(1, [106]), Id(1, [107]))))))))))) 21",
+            "Binary(1, 13, Id(1, [97]), Binary(1, 12, Id(1, [98]), Binary(1, 40, Id(1, [99]), Binary(1, 39, Id(1, \
+            [100]), Binary(1, 29, Id(1, [101]), Binary(1, 10, Id(1, [102]), Binary(1, 37, Id(1, [103]), Binary(1, 6, \
+            Id(1, [104]), Binary(1, 31, Id(1, [105]), Binary(1, 30, Id(1, [106]), Id(1, [107]))))))))))) 21",
         ),
         (
             "a * b + c << d < e == f & g ^ h | i && j || k",
-            "Binary(1, 13, Binary(1, 12, Binary(1, 40, Binary(1, 39, Binary(1, 29, Binary(1, 10, Binary(1, 37, Binary(1, 6, Binary(1, 31, Binary(1, 30, Id(1, [97]), Id(1, [98])), Id(1, [99])), Id(1, [100])), Id(1, [101])), Id(1, [102])), Id(1, [103])), Id(1, [104])), Id(1, [105])), Id(1, [106])), Id(1, [107])) 21",
+            "Binary(1, 13, Binary(1, 12, Binary(1, 40, Binary(1, 39, Binary(1, 29, Binary(1, 10, Binary(1, 37, \
+            Binary(1, 6, Binary(1, 31, Binary(1, 30, Id(1, [97]), Id(1, [98])), Id(1, [99])), Id(1, [100])), Id(1, \
+            [101])), Id(1, [102])), Id(1, [103])), Id(1, [104])), Id(1, [105])), Id(1, [106])), Id(1, [107])) 21",
         ),
         ("a)", "Id(1, [97]) 1"),
         ("a]", "Id(1, [97]) 1"),

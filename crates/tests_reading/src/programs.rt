@@ -242,7 +242,8 @@ fn accepted(rt: HostRuntime) -> Result<(), Fail> {
             "aggregate 1;declaration 2;aggregate 3;",
         ),
         (
-            "#if __BYTE_ORDER__ == __ORDER_LITTLE_ENDIAN__\nint f(void) { }\nint g(void) { }\n#else\nint f(void) { }\n#endif\nint x;",
+            "#if __BYTE_ORDER__ == __ORDER_LITTLE_ENDIAN__\nint f(void) { }\nint g(void) { }\n#else\nint f(void) { }\n\
+            #endif\nint x;",
             "arms 1 Little 2 1;declaration 7;",
         ),
         (
@@ -278,7 +279,8 @@ fn refusals(rt: HostRuntime) -> Result<(), Fail> {
         ("struct s { int a : 3; };\nint ;", 9, 1),
         ("int ;\nstruct s { int a : 3; };", 10, 1),
         (
-            "#if __BYTE_ORDER__ == __ORDER_LITTLE_ENDIAN__\nint f(void) { }\n#else\nstruct s { int a : 3; } f(void) { }\n#endif",
+            "#if __BYTE_ORDER__ == __ORDER_LITTLE_ENDIAN__\nint f(void) { }\n#else\nstruct s { int a : 3; } f(void) { \
+            }\n#endif",
             9,
             4,
         ),
@@ -363,19 +365,30 @@ fn trees(rt: HostRuntime) -> Result<(), Fail> {
     for (source, want) in [
         (
             "int f(void) { if (a) if (b) c; else d; }",
-            "ProgramTree { items: [Function(FunctionTree { line: 1, head: HeadTree { line: 1, specs: [Plain(Word(1, 10))], stars: [], name: [102], params: Some(Void(1)) }, body: BlockTree { line: 1, items: [Statement(If(1, Id(1, [97]), If(1, Id(1, [98]), Expr(1, Some(Id(1, [99]))), Some(Expr(1, Some(Id(1, [100]))))), None))] } })] }",
+            "ProgramTree { items: [Function(FunctionTree { line: 1, head: HeadTree { line: 1, specs: [Plain(Word(1, \
+            10))], stars: [], name: [102], params: Some(Void(1)) }, body: BlockTree { line: 1, items: \
+            [Statement(If(1, Id(1, [97]), If(1, Id(1, [98]), Expr(1, Some(Id(1, [99]))), Some(Expr(1, Some(Id(1, \
+            [100]))))), None))] } })] }",
         ),
         (
             "static int *const\nf(int a,\nchar *);",
-            "ProgramTree { items: [Prototype(HeadTree { line: 2, specs: [Plain(Word(1, 16)), Plain(Word(1, 10))], stars: [1], name: [102], params: Some(List(2, [ParamTree { line: 2, specs: [Word(2, 10)], stars: [], name: Some([97]), bounds: [] }, ParamTree { line: 3, specs: [Word(3, 2)], stars: [0], name: None, bounds: [] }])) })] }",
+            "ProgramTree { items: [Prototype(HeadTree { line: 2, specs: [Plain(Word(1, 16)), Plain(Word(1, 10))], \
+            stars: [1], name: [102], params: Some(List(2, [ParamTree { line: 2, specs: [Word(2, 10)], stars: [], \
+            name: Some([97]), bounds: [] }, ParamTree { line: 3, specs: [Word(3, 2)], stars: [0], name: None, bounds: \
+            [] }])) })] }",
         ),
         (
             "struct s {\nint a, *b[c];\n};",
-            "ProgramTree { items: [Aggregate(AggregateTree { line: 1, word: 17, tag: Some([115]), members: [MemberTree { line: 2, specs: [Plain(Word(2, 10))], declarators: [DeclaratorTree { line: 2, stars: [], name: [97], bounds: [] }, DeclaratorTree { line: 2, stars: [0], name: [98], bounds: [Some(Id(2, [99]))] }] }] })] }",
+            "ProgramTree { items: [Aggregate(AggregateTree { line: 1, word: 17, tag: Some([115]), members: \
+            [MemberTree { line: 2, specs: [Plain(Word(2, 10))], declarators: [DeclaratorTree { line: 2, stars: [], \
+            name: [97], bounds: [] }, DeclaratorTree { line: 2, stars: [0], name: [98], bounds: [Some(Id(2, [99]))] \
+            }] }] })] }",
         ),
         (
             "int x = { a, };",
-            "ProgramTree { items: [Declaration(DeclarationTree { line: 1, specs: [Plain(Word(1, 10))], inits: [InitTree { line: 1, declarator: DeclaratorTree { line: 1, stars: [], name: [120], bounds: [] }, value: Some(List(1, [Expr(Id(1, [97]))])) }] })] }",
+            "ProgramTree { items: [Declaration(DeclarationTree { line: 1, specs: [Plain(Word(1, 10))], inits: \
+            [InitTree { line: 1, declarator: DeclaratorTree { line: 1, stars: [], name: [120], bounds: [] }, value: \
+            Some(List(1, [Expr(Id(1, [97]))])) }] })] }",
         ),
     ] {
         assert_eq!(rt;
@@ -391,7 +404,8 @@ fn trees(rt: HostRuntime) -> Result<(), Fail> {
 fn packets(rt: HostRuntime) -> Result<(), Fail> {
     assert_eq!(rt;
         items(rt.alloc(), PACKET.as_bytes())?.as_str(),
-        "aggregate 6;arms 13 Little 1 1;function 24;function 28;function 33;function 39;function 47;function 57;function 72;"
+        "aggregate 6;arms 13 Little 1 1;function 24;function 28;function 33;function 39;function 47;function 57;\
+        function 72;"
     );
     Ok(())
 }

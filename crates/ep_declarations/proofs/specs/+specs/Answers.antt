@@ -14,7 +14,8 @@ use Rattle.ep_declarations.specs.SpecAhead.{Ahead, InBody, InMember, tag_text}
 use Rattle.ep_declarations.proofs.SpecLemmas.{passes, fits_is, specs_taken, specs_none, specs_stuck, specs_in}
 use Rattle.ep_declarations.proofs.SpecRead.{none_read, some_read, word_step, not_first, more_than_none}
 use Rattle.ep_declarations.proofs.AggregateLemmas.{body_taken, body_none, body_in, no_bodies, unfit_body}
-use Rattle.ep_declarations.proofs.MemberLemmas.{one_taken, names_none, names_in, members_step, members_taken, members_stuck, members_in}
+use Rattle.ep_declarations.proofs.MemberLemmas.{one_taken, names_none, names_in, members_step, members_taken}
+use Rattle.ep_declarations.proofs.MemberLemmas.{members_stuck, members_in}
 use Rattle.ep_declarations.proofs.specs.+specs.Goals as goal
 
 -- ---- members
@@ -149,8 +150,7 @@ one_member-returns-clause-reads t c =
     (map view c.in_ok-declarators.declarators.rest.now) q.0.value d.0.value q.0.takes q.1 d.0.takes d.1 in (
       record {
         value = member (specs_line q.0.value) (to_specs q.0.value) d.0.value;
-        shows =
-            c.make_member.ensures q.0.value d.0.value q.0.shows.0 d.0.shows;
+        shows = c.make_member.ensures q.0.value d.0.value q.0.shows.0 d.0.shows;
         takes = k.0;
       },
       k.1,

@@ -1,7 +1,7 @@
-use Rattle.std.proofs.Common.{map, Some, refl, sym, inl, ◌∙◌}
+use Rattle.std.proofs.Common.{map, Some, refl, inl}
 use Rattle.std.proofs.lemmas.Result.{err_from_is_err_and}
 use Rattle.ep_ast.specs.Expression as expressions
-use Rattle.ep_ast.specs.Expression.{TypeWord, type_word}
+use Rattle.ep_ast.specs.Expression.{type_word}
 use Rattle.ep_ast.specs.Declaration.{plain}
 use Rattle.ep_lexer.specs.Tokens.{view}
 use Rattle.ep_reading.specs.Names.{is_type}
@@ -26,16 +26,6 @@ returns-in-Some-clause-reads c =
       ahead.plain_clear (is_type c.args.reader.now.names.now) (place c.args.place) (bag c.args.words.now)
           (map view c.args.tokens.now) c.requires.plain,
     )
-
-pub returns-then-not-tag_joins-clause-reads : goal.returns-then-not-tag_joins-clause-reads
-returns-then-not-tag_joins-clause-reads c = inl (
-  ahead.tag_unfit (is_type c.args.reader.now.names.now) (place c.args.place) (bag c.args.words.now)
-      (map view c.args.tokens.now) c.requires.plain c.in_default.ensures.value
-      (sym c.tag_joins.ensures ∙ c.if-not-tag_joins.true),
-  ahead.plain_clear (is_type c.args.reader.now.names.now) (place c.args.place) (bag c.args.words.now)
-      (map view c.args.tokens.now) c.requires.plain,
-  c.stopped.ensures,
-)
 
 pub returns-in_err-word-clause-reads : goal.returns-in_err-word-clause-reads
 returns-in_err-word-clause-reads c =
@@ -78,7 +68,7 @@ returns-in_default-with-clause-reads c = inl (
       c.in_default-with.ensures,
   ahead.plain_clear (is_type c.args.reader.now.names.now) (place c.args.place) (bag c.args.words.now)
       (map view c.args.tokens.now) c.requires.plain,
-  c.stopped-in_default-with.ensures,
+  c.stopped.ensures,
 )
 
 pub returns-clause-reads : goal.returns-clause-reads

@@ -18,7 +18,8 @@ returns-in-Some-clause-reads c =
       record {
         value = s.0 ++ q.value ∷ [];
         shows =
-            longer_shows declarator in_declarator c.declarators.found c.in_ok-named.named.value.tree c.in_ok-found.found s.0
+            longer_shows declarator in_declarator c.declarators.found c.in_ok-named.named.value.tree c.in_ok-found.found
+            s.0
             q.value c.in_ok-found.ensures s.1 q.shows.1;
         takes = d.0;
       },

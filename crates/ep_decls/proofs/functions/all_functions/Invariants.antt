@@ -7,7 +7,9 @@ use Rattle.ep_decls.proofs.FunctionLemmas.{FunctionsSo}
 use Rattle.ep_decls.proofs.functions.all_functions.Given as goal
 
 abbrev pub invariant-functions : goal.invariant-functions
-invariant-functions l = ((fs : List Function) × ShowsFunctions l.found fs × FunctionsSo (is_type l.reader.names.now) (map view l.tokens) fs (map view l.rest)) × (length l.rest ≤ length l.tokens)
+invariant-functions l = ((fs : List Function) × ShowsFunctions l.found fs
+    × FunctionsSo (is_type l.reader.names.now) (map view l.tokens) fs (map view l.rest))
+    × (length l.rest ≤ length l.tokens)
 
 abbrev pub decreases-functions : goal.decreases-functions
 decreases-functions l = length l.rest

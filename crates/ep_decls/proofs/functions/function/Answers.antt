@@ -15,7 +15,8 @@ returns-in_err-specs-clause-reads c =
     let p = err_from_is_err_and c.from_residual.result c.from_residual.ensures.1 in
     let N = is_type c.args.reader.now.names.now in
     let xs = map view c.args.tokens.now in
-    rw (p.1, p.2) (fails_fail (Specified N at_file_scope) (InWords N) (Defines N) (InWords N) xs xs c.in_err-specs.field-0.0
+    rw (p.1, p.2) (fails_fail (Specified N at_file_scope) (InWords N) (Defines N) (InWords N) xs xs
+    c.in_err-specs.field-0.0
     (functions.words_refused N xs) (λ n k. k) (λ l d. d) c.in_err-specs.ensures.reads)
 
 pub returns-in-Ok-clause-reads : goal.returns-in-Ok-clause-reads

@@ -11,21 +11,40 @@ use Rattle.ep_decls.proofs.functions.other_functions.Goals as goal
 
 pub returns-in-Some-clause-reads : goal.returns-in-Some-clause-reads
 returns-in-Some-clause-reads c = (
-  record { value = None; shows = (refl, refl); takes = functions.end_taken (is_type c.args.reader.now.names.now) (map view c.args.tokens.now) (map view c.in-Some.more.now) c.in-Some.field-0-0 c.in-Some.ensures.value },
-  functions.end_clear (is_type c.args.reader.now.names.now) (map view c.args.tokens.now) (map view c.in-Some.more.now) c.in-Some.field-0-0 c.in-Some.ensures.value,
+  record {
+    value = None;
+    shows = (refl, refl);
+    takes =
+        functions.end_taken (is_type c.args.reader.now.names.now) (map view c.args.tokens.now)
+        (map view c.in-Some.more.now) c.in-Some.field-0-0 c.in-Some.ensures.value;
+  },
+  functions.end_clear (is_type c.args.reader.now.names.now) (map view c.args.tokens.now) (map view c.in-Some.more.now)
+      c.in-Some.field-0-0 c.in-Some.ensures.value,
 )
 
 pub returns-in_default-at_else-clause-reads : goal.returns-in_default-at_else-clause-reads
-returns-in_default-at_else-clause-reads c = inl (functions.neither_refused (is_type c.args.reader.now.names.now) (map view c.args.tokens.now) c.in_default.ensures.value c.in_default-at_else.ensures.value, functions.neither_clear (is_type c.args.reader.now.names.now) (map view c.args.tokens.now) c.in_default-at_else.ensures.value, c.stopped.ensures)
+returns-in_default-at_else-clause-reads c = inl (
+  functions.neither_refused (is_type c.args.reader.now.names.now)
+      (map view c.args.tokens.now) c.in_default.ensures.value c.in_default-at_else.ensures.value,
+  functions.neither_clear (is_type c.args.reader.now.names.now) (map view c.args.tokens.now)
+      c.in_default-at_else.ensures.value,
+  c.stopped.ensures,
+)
 
 pub returns-in_err-found-clause-reads : goal.returns-in_err-found-clause-reads
 returns-in_err-found-clause-reads c =
     let p = err_from_is_err_and c.from_residual.result c.from_residual.ensures.1 in
     let e = c.in-Some-at_else.ensures.value in
-    rw (p.1, p.2) (fails_fail (Functions (is_type c.args.reader.now.names.now)) (InFunctions (is_type c.args.reader.now.names.now)) (OtherFunctions (is_type c.args.reader.now.names.now)) (InOther (is_type c.args.reader.now.names.now)) (map view c.in-Some-at_else.inside.now) (map view c.args.tokens.now) c.in_err-found.field-0.0
-    (functions.inside_refused (is_type c.args.reader.now.names.now) (map view c.args.tokens.now) (map view c.in-Some-at_else.inside.now) c.in-Some-at_else.field-0-0 e)
-    (λ n. functions.inside_clear (is_type c.args.reader.now.names.now) (map view c.args.tokens.now) (map view c.in-Some-at_else.inside.now) c.in-Some-at_else.field-0-0 e)
-    (functions.inside_worse (is_type c.args.reader.now.names.now) (map view c.args.tokens.now) (map view c.in-Some-at_else.inside.now) c.in-Some-at_else.field-0-0 e)
+    rw (p.1, p.2) (fails_fail (Functions (is_type c.args.reader.now.names.now))
+    (InFunctions (is_type c.args.reader.now.names.now)) (OtherFunctions (is_type c.args.reader.now.names.now))
+    (InOther (is_type c.args.reader.now.names.now)) (map view c.in-Some-at_else.inside.now)
+    (map view c.args.tokens.now) c.in_err-found.field-0.0
+    (functions.inside_refused (is_type c.args.reader.now.names.now) (map view c.args.tokens.now)
+    (map view c.in-Some-at_else.inside.now) c.in-Some-at_else.field-0-0 e)
+    (λ n. functions.inside_clear (is_type c.args.reader.now.names.now) (map view c.args.tokens.now)
+    (map view c.in-Some-at_else.inside.now) c.in-Some-at_else.field-0-0 e)
+    (functions.inside_worse (is_type c.args.reader.now.names.now) (map view c.args.tokens.now)
+    (map view c.in-Some-at_else.inside.now) c.in-Some-at_else.field-0-0 e)
     c.in_err-found.ensures.reads)
 
 pub returns-in_default-at_end_if-clause-reads : goal.returns-in_default-at_end_if-clause-reads
@@ -33,8 +52,11 @@ returns-in_default-at_end_if-clause-reads c =
     let q = c.in_ok-found.ensures.reads in
     let e = c.in-Some-at_else.ensures.value in
     inl (
-      functions.open_refused (is_type c.args.reader.now.names.now) (map view c.args.tokens.now) (map view c.in-Some-at_else.inside.now) (map view c.in_ok-found.found.rest.now) c.in-Some-at_else.field-0-0 q.0.value e q.0.takes c.in_default-at_end_if.ensures.value,
-      functions.inside_clear (is_type c.args.reader.now.names.now) (map view c.args.tokens.now) (map view c.in-Some-at_else.inside.now) c.in-Some-at_else.field-0-0 e q.1,
+      functions.open_refused (is_type c.args.reader.now.names.now) (map view c.args.tokens.now)
+          (map view c.in-Some-at_else.inside.now) (map view c.in_ok-found.found.rest.now) c.in-Some-at_else.field-0-0
+          q.0.value e q.0.takes c.in_default-at_end_if.ensures.value,
+      functions.inside_clear (is_type c.args.reader.now.names.now) (map view c.args.tokens.now)
+          (map view c.in-Some-at_else.inside.now) c.in-Some-at_else.field-0-0 e q.1,
       c.stopped-in_default-at_end_if.ensures,
     )
 
@@ -45,7 +67,11 @@ returns-clause-reads c =
       record {
         value = Some q.0.value;
         shows = c.behind_else.ensures q.0.value q.0.shows;
-        takes = functions.another_taken (is_type c.args.reader.now.names.now) (map view c.args.tokens.now) (map view c.in-Some-at_else.inside.now) (map view c.in_ok-found.found.rest.now) (map view c.in-Some-at_end_if.more.now) c.in-Some-at_else.field-0-0 c.in-Some-at_end_if.field-0-0 q.0.value e q.0.takes c.in-Some-at_end_if.ensures.value;
+        takes = functions.another_taken (is_type c.args.reader.now.names.now) (map view c.args.tokens.now)
+            (map view c.in-Some-at_else.inside.now) (map view c.in_ok-found.found.rest.now)
+            (map view c.in-Some-at_end_if.more.now) c.in-Some-at_else.field-0-0 c.in-Some-at_end_if.field-0-0 q.0.value
+            e q.0.takes c.in-Some-at_end_if.ensures.value;
       },
-      functions.inside_clear (is_type c.args.reader.now.names.now) (map view c.args.tokens.now) (map view c.in-Some-at_else.inside.now) c.in-Some-at_else.field-0-0 e q.1,
+      functions.inside_clear (is_type c.args.reader.now.names.now) (map view c.args.tokens.now)
+          (map view c.in-Some-at_else.inside.now) c.in-Some-at_else.field-0-0 e q.1,
     )

@@ -14,13 +14,22 @@ use Rattle.ep_decls.proofs.items.typedef.Goals as goal
 pub returns-in_err-specs-clause-reads : goal.returns-in_err-specs-clause-reads
 returns-in_err-specs-clause-reads c =
     let p = err_from_is_err_and c.from_residual.result c.from_residual.ensures.1 in
-    rw (p.1, p.2) (fails_fail (Specified (is_type c.args.names.now) grammar.in_typedef) (InTypedefWords (is_type c.args.names.now)) (NewTypes (is_type c.args.names.now) c.args.line) (InTypedefWords (is_type c.args.names.now)) (map view c.args.tokens.now) (map view c.args.tokens.now) c.in_err-specs.field-0.0 (items.first_refused (is_type c.args.names.now) c.args.line (map view c.args.tokens.now)) (λ n k. k) (λ l d. d) c.in_err-specs.ensures.reads)
+    rw (p.1, p.2) (fails_fail (Specified (is_type c.args.names.now) grammar.in_typedef)
+    (InTypedefWords (is_type c.args.names.now)) (NewTypes (is_type c.args.names.now) c.args.line)
+    (InTypedefWords (is_type c.args.names.now)) (map view c.args.tokens.now) (map view c.args.tokens.now)
+    c.in_err-specs.field-0.0 (items.first_refused (is_type c.args.names.now) c.args.line
+    (map view c.args.tokens.now)) (λ n k. k) (λ l d. d) c.in_err-specs.ensures.reads)
 
 pub returns-in_err-declarators-clause-reads : goal.returns-in_err-declarators-clause-reads
 returns-in_err-declarators-clause-reads c =
-    let p = err_from_is_err_and c.from_residual-in_err-declarators.result c.from_residual-in_err-declarators.ensures.1 in
+    let p = err_from_is_err_and c.from_residual-in_err-declarators.result
+    c.from_residual-in_err-declarators.ensures.1 in
     let q = c.in_ok-specs.ensures.reads in
-    rw (p.1, p.2) (stops_fail (NamesTypes (is_type c.args.names.now)) (NewTypes (is_type c.args.names.now) c.args.line) (InTypedefWords (is_type c.args.names.now)) (map view c.in_ok-specs.specs.rest.now) (map view c.args.tokens.now) c.in_err-declarators.field-0.0 (items.second_refused (is_type c.args.names.now) c.args.line (map view c.args.tokens.now) (map view c.in_ok-specs.specs.rest.now) q.0.value q.0.takes) (λ n. q.1) c.in_err-declarators.ensures.reads)
+    rw (p.1, p.2) (stops_fail (NamesTypes (is_type c.args.names.now)) (NewTypes (is_type c.args.names.now) c.args.line)
+    (InTypedefWords (is_type c.args.names.now)) (map view c.in_ok-specs.specs.rest.now) (map view c.args.tokens.now)
+    c.in_err-declarators.field-0.0 (items.second_refused (is_type c.args.names.now) c.args.line
+    (map view c.args.tokens.now) (map view c.in_ok-specs.specs.rest.now) q.0.value q.0.takes) (λ n. q.1)
+    c.in_err-declarators.ensures.reads)
 
 pub returns-clause-reads : goal.returns-clause-reads
 returns-clause-reads c =
@@ -29,7 +38,9 @@ returns-clause-reads c =
       record {
         value = (tree.typedefs (record { line = c.args.line; specs = q.0.value; declarators = r.value.0 }), r.value.1);
         shows = (c.new_types.ensures q.0.value r.value.0 q.0.shows r.shows.0, r.shows.1);
-        takes = items.new_taken (is_type c.args.names.now) c.args.line (map view c.args.tokens.now) (map view c.in_ok-specs.specs.rest.now) (map view c.in_ok-declarators.declarators.rest.now) q.0.value r.value q.0.takes r.takes;
+        takes = items.new_taken (is_type c.args.names.now) c.args.line (map view c.args.tokens.now)
+            (map view c.in_ok-specs.specs.rest.now) (map view c.in_ok-declarators.declarators.rest.now) q.0.value
+            r.value q.0.takes r.takes;
       },
       q.1,
     )

@@ -30,10 +30,14 @@ returns-in_err-one c =
     let i = c.items.invariant.0 in
     let e = programs.some_left c.items.rest.now (sym c.if-is_empty.ensures) in
     rw (p.1, p.2) (record {
-      reads = fails_fail (Itemed (is_type c.items.names)) (InItem (is_type c.items.names)) Whole HasBitField (map view c.items.rest.now) (map view c.args.tokens.now) c.in_err-one.field-0.0
-          (programs.items_refused (map view c.args.tokens.now) i.0 (is_type c.items.names) (map view c.items.rest.now) e i.2)
-          (programs.refused_clear (map view c.args.tokens.now) i.0 (is_type c.items.names) (map view c.items.rest.now) i.2)
-          (programs.refused_worse (map view c.args.tokens.now) i.0 (is_type c.items.names) (map view c.items.rest.now) i.2)
+      reads = fails_fail (Itemed (is_type c.items.names)) (InItem (is_type c.items.names)) Whole HasBitField
+          (map view c.items.rest.now) (map view c.args.tokens.now) c.in_err-one.field-0.0
+          (programs.items_refused (map view c.args.tokens.now) i.0 (is_type c.items.names) (map view c.items.rest.now) e
+          i.2)
+          (programs.refused_clear (map view c.args.tokens.now) i.0 (is_type c.items.names) (map view c.items.rest.now)
+          i.2)
+          (programs.refused_worse (map view c.args.tokens.now) i.0 (is_type c.items.names) (map view c.items.rest.now)
+          i.2)
           c.in_err-one.ensures.reads;
     })
 
@@ -43,8 +47,10 @@ items-preserved c =
     let q = c.in_ok-one.ensures.reads in (
       (
         i.0 ++ q.0.value.0 ∷ [],
-        longer_shows item_of in_item c.items.found c.in_ok-one.one.value c.in_ok-found.found i.0 q.0.value.0 c.in_ok-found.ensures i.1 q.0.shows.0,
-        programs.items_step (map view c.args.tokens.now) i.0 (is_type c.items.names) (is_type c.item.new.names) (map view c.items.rest.now) (map view c.in_ok-one.one.rest.now) q.0.value q.0.shows.1 i.2 q.0.takes q.1,
+        longer_shows item_of in_item c.items.found c.in_ok-one.one.value c.in_ok-found.found i.0 q.0.value.0
+            c.in_ok-found.ensures i.1 q.0.shows.0,
+        programs.items_step (map view c.args.tokens.now) i.0 (is_type c.items.names) (is_type c.item.new.names)
+            (map view c.items.rest.now) (map view c.in_ok-one.one.rest.now) q.0.value q.0.shows.1 i.2 q.0.takes q.1,
       ),
       omega (arith, c.in_ok-one.ensures.shorter, c.items.invariant.1),
     )

@@ -7,7 +7,8 @@ use Rattle.ep_decls.proofs.ProgramLemmas.{ItemsSo}
 use Rattle.ep_decls.proofs.top.all_items.Given as goal
 
 abbrev pub invariant-items : goal.invariant-items
-invariant-items l = ((is : List Item) × ShowsItems l.found is × ItemsSo (map view l.tokens) is (is_type l.names) (map view l.rest)) × (length l.rest ≤ length l.tokens)
+invariant-items l = ((is : List Item) × ShowsItems l.found is
+    × ItemsSo (map view l.tokens) is (is_type l.names) (map view l.rest)) × (length l.rest ≤ length l.tokens)
 
 abbrev pub decreases-items : goal.decreases-items
 decreases-items l = length l.rest

@@ -12,14 +12,19 @@ use Rattle.ep_decls.proofs.top.program.Goals as goal
 
 pub returns-in-Some-clause-refused : goal.returns-in-Some-clause-refused
 returns-in-Some-clause-refused c =
-    let n : Some c.in-Some.line ≡ brackets_past 0 (view_all c.args.tokens.now) = sym c.in-Some.is ∙ c.brackets_past.ensures ∙ ap (λ (ts : List Token). brackets_past 0 (map view ts)) c.as_slice-all.ensures.value in
+    let n : Some c.in-Some.line ≡ brackets_past 0 (view_all c.args.tokens.now) =
+    sym c.in-Some.is ∙ c.brackets_past.ensures ∙ ap (λ (ts : List Token). brackets_past 0 (map view ts))
+    c.as_slice-all.ensures.value in
     programs.brackets_offend (view_all c.args.tokens.now) c.too_deep.result c.in-Some.line c.too_deep.ensures n
 
 pub returns-in_err-found-clause-refused : goal.returns-in_err-found-clause-refused
 returns-in_err-found-clause-refused c =
-    let n : None ≡ brackets_past 0 (view_all c.args.tokens.now) = sym c.in_default.is ∙ c.brackets_past.ensures ∙ ap (λ (ts : List Token). brackets_past 0 (map view ts)) c.as_slice-all.ensures.value in
+    let n : None ≡ brackets_past 0 (view_all c.args.tokens.now) =
+    sym c.in_default.is ∙ c.brackets_past.ensures ∙ ap (λ (ts : List Token). brackets_past 0 (map view ts))
+    c.as_slice-all.ensures.value in
     let p = err_from_is_err_and c.from_residual.result c.from_residual.ensures.1 in
-    let f : Fails Whole HasBitField (view_all c.args.tokens.now) c.in_err-found.field-0.0 = rw c.as_slice-all.ensures.value at c.in_err-found.ensures.reads in
+    let f : Fails Whole HasBitField (view_all c.args.tokens.now) c.in_err-found.field-0.0 =
+    rw c.as_slice-all.ensures.value at c.in_err-found.ensures.reads in
     rw (p.1, p.2) (programs.items_offend (view_all c.args.tokens.now) c.in_err-found.field-0.0 n f)
 
 pub returns-in-Ok-clause-only : goal.returns-in-Ok-clause-only
@@ -30,7 +35,9 @@ returns-in-Ok-clause-only c = λ is d. (
 
 pub returns-in-Err-clause-refused : goal.returns-in-Err-clause-refused
 returns-in-Err-clause-refused c =
-    let n : None ≡ brackets_past 0 (view_all c.args.tokens.now) = sym c.in_default.is ∙ c.brackets_past.ensures ∙ ap (λ (ts : List Token). brackets_past 0 (map view ts)) c.as_slice-all.ensures.value in
+    let n : None ≡ brackets_past 0 (view_all c.args.tokens.now) =
+    sym c.in_default.is ∙ c.brackets_past.ensures ∙ ap (λ (ts : List Token). brackets_past 0 (map view ts))
+    c.as_slice-all.ensures.value in
     let q = c.in_ok-found.ensures.reads in
     let t : Takes Whole (view_all c.args.tokens.now) q.0 [] = rw c.as_slice-all.ensures.value at q.2 in
     programs.depth_offends (view_all c.args.tokens.now) c.in-Err.refusal q.0 n t (c.in-Err.ensures q.0 q.1)

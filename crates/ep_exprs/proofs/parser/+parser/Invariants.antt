@@ -46,14 +46,16 @@ decreases-arguments l = 8 * length l.tokens.now + 4
 
 abbrev pub invariant-read_expression-frames : goal.invariant-read_expression-frames
 invariant-read_expression-frames l =
-    Waits (is_type l.reader.names.now) (map view l.tokens) (reverse l.frames.items) (map view l.rest) × (wanted (reverse l.frames.items) ≡ part_rule l.third_part) × (length l.rest ≤ length l.tokens)
+    Waits (is_type l.reader.names.now) (map view l.tokens) (reverse l.frames.items) (map view l.rest)
+    × (wanted (reverse l.frames.items) ≡ part_rule l.third_part) × (length l.rest ≤ length l.tokens)
 
 abbrev pub decreases-read_expression-frames : goal.decreases-read_expression-frames
 decreases-read_expression-frames l = length l.rest
 
 abbrev pub invariant-levels-loop-level : goal.invariant-levels-loop-level
 invariant-levels-loop-level l =
-    ((xs : List Tok) → IsRead (is_type l.reader.names.now) (bin 11) xs l.fn.first (map view l.tokens) → IsRead (is_type l.reader.names.now) (bin l.level) xs l.left (map view l.rest))
+    ((xs : List Tok) → IsRead (is_type l.reader.names.now) (bin 11) xs l.fn.first (map view l.tokens)
+    → IsRead (is_type l.reader.names.now) (bin l.level) xs l.left (map view l.rest))
     × (l.least ≤ l.level) × (l.level ≤ 11) × (length l.rest ≤ length l.tokens)
 
 abbrev pub decreases-levels-loop-level : goal.decreases-levels-loop-level
@@ -61,27 +63,31 @@ decreases-levels-loop-level l = l.level - l.least
 
 abbrev pub invariant-operators-loop-mark : goal.invariant-operators-loop-mark
 invariant-operators-loop-mark l =
-    ((xs : List Tok) → IsRead (is_type l.reader.names.now) (bin (l.level + 1)) xs l.fn.first (map view l.tokens) → (t : Expr) × Shows l.left t × LevelSo (is_type l.reader.names.now) l.level xs t (map view l.rest))
+    ((xs : List Tok) → IsRead (is_type l.reader.names.now) (bin (l.level + 1)) xs l.fn.first (map view l.tokens)
+    → (t : Expr) × Shows l.left t × LevelSo (is_type l.reader.names.now) l.level xs t (map view l.rest))
     × (length l.rest ≤ length l.tokens)
 
 abbrev pub decreases-operators-loop-mark : goal.decreases-operators-loop-mark
 decreases-operators-loop-mark l = length l.rest
 
 abbrev pub invariant-operand-prefixes : goal.invariant-operand-prefixes
-invariant-operand-prefixes l = Under (is_type l.reader.names.now) (map view l.tokens) l.prefixes.items l.bare (map view l.rest) × (length l.rest ≤ length l.tokens)
+invariant-operand-prefixes l = Under (is_type l.reader.names.now) (map view l.tokens) l.prefixes.items l.bare
+    (map view l.rest) × (length l.rest ≤ length l.tokens)
 
 abbrev pub decreases-operand-prefixes : goal.decreases-operand-prefixes
 decreases-operand-prefixes l = length l.rest
 
 abbrev pub invariant-postfix-marks : goal.invariant-postfix-marks
-invariant-postfix-marks l = ((t : Expr) × Shows l.left t × Longer (is_type l.reader.names.now) (map view l.tokens) t (map view l.rest)) × (length l.rest < length l.tokens)
+invariant-postfix-marks l = ((t : Expr) × Shows l.left t × Longer (is_type l.reader.names.now) (map view l.tokens) t
+    (map view l.rest)) × (length l.rest < length l.tokens)
 
 abbrev pub decreases-postfix-marks : goal.decreases-postfix-marks
 decreases-postfix-marks l = length l.rest
 
 abbrev pub invariant-arguments-items : goal.invariant-arguments-items
 invariant-arguments-items l =
-    ((ts : List Expr) × ShowsAll l.found ts × ListSo (is_type l.reader.names.now) (map view l.tokens) ts (map view l.rest)) × Lacks right_paren (map view l.tokens) × (length l.rest ≤ length l.tokens)
+    ((ts : List Expr) × ShowsAll l.found ts × ListSo (is_type l.reader.names.now) (map view l.tokens) ts
+    (map view l.rest)) × Lacks right_paren (map view l.tokens) × (length l.rest ≤ length l.tokens)
 
 abbrev pub decreases-arguments-items : goal.decreases-arguments-items
 decreases-arguments-items l = length l.rest

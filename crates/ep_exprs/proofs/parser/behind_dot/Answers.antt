@@ -8,8 +8,11 @@ use Rattle.ep_exprs.proofs.parser.behind_dot.Goals as goal
 
 pub returns-in_default-clause-reads : goal.returns-in_default-clause-reads
 returns-in_default-clause-reads c = λ l k h. (
-    let xs = map view c.args.tokens.now in
-    (suffixes.member_refused (is_type c.args.reader.now.names.now) l k (mark l k ∷ xs) xs refl h c.in_default.ensures.value, c.stopped.ensures))
+    let xs = map view c.args.tokens.now in (
+      suffixes.member_refused (is_type c.args.reader.now.names.now) l k (mark l k ∷ xs) xs refl h
+          c.in_default.ensures.value,
+      c.stopped.ensures,
+    ))
 
 pub returns-clause-reads : goal.returns-clause-reads
 returns-clause-reads c = λ l k h. (
@@ -17,5 +20,6 @@ returns-clause-reads c = λ l k h. (
     record {
       value = of c.in-Some.text.now;
       shows = ap of (sym c.in_ok-from_slice.ensures.items);
-      takes = suffixes.member_read (is_type c.args.reader.now.names.now) l k c.in-Some.field-0-0 c.in-Some.text.now (mark l k ∷ xs) xs (map view c.in-Some.more.now) refl h c.in-Some.ensures.value;
+      takes = suffixes.member_read (is_type c.args.reader.now.names.now) l k c.in-Some.field-0-0 c.in-Some.text.now
+          (mark l k ∷ xs) xs (map view c.in-Some.more.now) refl h c.in-Some.ensures.value;
     })

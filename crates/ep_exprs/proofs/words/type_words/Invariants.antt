@@ -9,7 +9,9 @@ use Rattle.ep_exprs.proofs.words.type_words.Given as goal
 
 abbrev pub invariant-words : goal.invariant-words
 invariant-words l =
-    WordsSo (is_type l.reader.names.now) (map view l.tokens) (map type_word l.words.items) (map view l.rest) × (bag l.bag ≡ all_joined no_bag (map type_word l.words.items)) × (fits (bag l.bag) ≡ true) × (length l.rest ≤ length l.tokens)
+    WordsSo (is_type l.reader.names.now) (map view l.tokens) (map type_word l.words.items) (map view l.rest)
+    × (bag l.bag ≡ all_joined no_bag (map type_word l.words.items)) × (fits (bag l.bag) ≡ true)
+    × (length l.rest ≤ length l.tokens)
 
 abbrev pub decreases-words : goal.decreases-words
 decreases-words l = length l.rest

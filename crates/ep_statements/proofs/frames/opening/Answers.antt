@@ -7,7 +7,8 @@ use Rattle.ep_reading.specs.Names.{is_type}
 use Rattle.ep_reading.proofs.PassLemmas.{stops_stop}
 use Rattle.ep_statements.specs.Piece.{Headings}
 use Rattle.ep_statements.specs.Around.{if_head, while_head, for_head, do_head}
-use Rattle.ep_statements.proofs.HeadLemmas.{opens, opens_none, if_rule, while_rule, for_rule, do_rule, same_taken, word_no_head, no_token_no_head}
+use Rattle.ep_statements.proofs.HeadLemmas.{opens, opens_none, if_rule, while_rule, for_rule, do_rule, same_taken}
+use Rattle.ep_statements.proofs.HeadLemmas.{word_no_head, no_token_no_head}
 use Rattle.ep_statements.proofs.frames.opening.Goals as goal
 
 pub returns-in_err-test-in-Word-clause-reads : goal.returns-in_err-test-in-Word-clause-reads

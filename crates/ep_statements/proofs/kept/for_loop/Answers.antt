@@ -10,7 +10,7 @@ returns-in_ok-turn-in-Fits c = λ p s h k. (
     let n = c.over-height.ensures (height s) k.1 in
     let r = c.in-Fits.ensures (suc (height s)) p s n h k.0 in (
       (
-        rw c.in_ok-turn-in-Fits.ensures.ok
+        rw (c.in_ok-heading-in-Fits.ensures.ok, c.in_ok-turn-in-Fits.ensures.ok)
             (ap (λ (q : (First × Option Expr × Option Expr) × Stmt). shape.for_loop c.args.line q.0.0 q.0.1 q.0.2 q.1)
             r.0),
         r.1,

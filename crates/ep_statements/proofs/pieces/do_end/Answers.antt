@@ -6,7 +6,8 @@ use Rattle.ep_lexer.specs.Tokens.{view}
 use Rattle.ep_reading.specs.Names.{is_type}
 use Rattle.ep_reading.proofs.PassLemmas.{stops_stop}
 use Rattle.ep_statements.specs.Piece.{DoEnd}
-use Rattle.ep_reading.proofs.SequenceLemmas.{IsMark, made, made_none, both_takes, both_first, both_second, mark_taken, mark_lacking}
+use Rattle.ep_reading.proofs.SequenceLemmas.{IsMark, made, made_none, both_takes, both_first, both_second, mark_taken}
+use Rattle.ep_reading.proofs.SequenceLemmas.{mark_lacking}
 use Rattle.ep_statements.proofs.PieceLemmas.{do_end_rule, do_end_lacking}
 use Rattle.ep_statements.proofs.pieces.do_end.Goals as goal
 

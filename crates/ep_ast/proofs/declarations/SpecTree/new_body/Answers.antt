@@ -5,4 +5,5 @@ use Rattle.ep_ast.proofs.Rows.{members-vec}
 use Rattle.ep_ast.proofs.declarations.SpecTree.new_body.Goals as goal
 
 pub returns : goal.returns
-returns c = ap (λ (ms : Members). body (aggregate c.args.line c.args.word (option_map text_of c.args.tag) ms)) (members-vec c.args.members)
+returns c = ap (λ (ms : Members). body (aggregate c.args.line c.args.word (option_map text_of c.args.tag) ms))
+    (members-vec c.args.members)

@@ -6,5 +6,7 @@ use Rattle.ep_ast.proofs.statements.BlockItemTree.new_arms.Goals as goal
 
 pub returns : goal.returns
 returns c =
-    ap (λ (ss : Stmts). make_arms c.args.line c.args.order ss (held_stmts (back-BlockItemTree-Arms-3 c.args.otherwise))) (stmts-vec c.args.then)
-    ∙ ap (λ (ts : Option Stmts). make_arms c.args.line c.args.order (statements c.args.then) ts) (stmts-option c.args.otherwise)
+    ap (λ (ss : Stmts). make_arms c.args.line c.args.order ss (held_stmts (back-BlockItemTree-Arms-3 c.args.otherwise)))
+    (stmts-vec c.args.then)
+    ∙ ap (λ (ts : Option Stmts). make_arms c.args.line c.args.order (statements c.args.then) ts)
+    (stmts-option c.args.otherwise)

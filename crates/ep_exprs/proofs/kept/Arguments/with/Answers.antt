@@ -7,7 +7,8 @@ use Rattle.ep_exprs.proofs.kept.Arguments.with.Goals as goal
 pub returns-in_ok-trees-in-Some : goal.returns-in_ok-trees-in-Some
 returns-in_ok-trees-in-Some c = λ ts t p q. (
     let k = c.in-Some.ensures ts t p q in
-    let e : map expr c.in_ok-trees-in-Some.trees.items ≡ map expr c.in-Some.trees.items ++ expr c.in-Some.tree ∷ [] = rw c.in_ok-trees-in-Some.ensures (map_push expr c.in-Some.trees.items c.in-Some.tree) in (
+    let e : map expr c.in_ok-trees-in-Some.trees.items ≡ map expr c.in-Some.trees.items ++ expr c.in-Some.tree ∷ [] =
+    rw c.in_ok-trees-in-Some.ensures (map_push expr c.in-Some.trees.items c.in-Some.tree) in (
       rw (e, k.0, k.1) refl,
       omega (arith, heights-last ts t, k.2),
       k.3,
@@ -15,4 +16,5 @@ returns-in_ok-trees-in-Some c = λ ts t p q. (
     ))
 
 pub returns-in-None : goal.returns-in-None
-returns-in-None c = λ ts t p q. c.too_deep.ensures (ts ++ t ∷ []) (omega (arith, heights-last ts t, stars-last ts t, c.in-None.ensures ts t p q))
+returns-in-None c = λ ts t p q. c.too_deep.ensures (ts ++ t ∷ [])
+    (omega (arith, heights-last ts t, stars-last ts t, c.in-None.ensures ts t p q))
