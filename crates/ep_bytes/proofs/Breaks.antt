@@ -22,7 +22,8 @@ far_before d here n (Number v) p h = refl
 far_before d here n (Fragment b o k) p h =
     let t : nat_lt (here + k) (p + pointer_bytes d) ≡ false =
     le-ltb (here + k) (p + pointer_bytes d) (omega (arith, pointer_small d)) in
-    and_left (nat_lt p (here + n + k) && nat_lt (here + k) (p + pointer_bytes d)) (not (nat_le (here + k) p && nat_le (p + pointer_bytes d) (here + n + k)))
+    and_left (nat_lt p (here + n + k) && nat_lt (here + k) (p + pointer_bytes d))
+    (not (nat_le (here + k) p && nat_le (p + pointer_bytes d) (here + n + k)))
     (and_right (nat_lt p (here + n + k)) (nat_lt (here + k) (p + pointer_bytes d)) t)
 
 far_after : (d : Model) (here n : ℕ) (c : Byte) (p : ℕ) → here + n + 7 ≤ p → part_of c < 8
@@ -31,10 +32,12 @@ far_after d here n Undefined p h l = refl
 far_after d here n (Number v) p h l = refl
 far_after d here n (Fragment b o k) p h l =
     let t : nat_lt p (here + n + k) ≡ false = le-ltb p (here + n + k) (omega arith) in
-    and_left (nat_lt p (here + n + k) && nat_lt (here + k) (p + pointer_bytes d)) (not (nat_le (here + k) p && nat_le (p + pointer_bytes d) (here + n + k)))
+    and_left (nat_lt p (here + n + k) && nat_lt (here + k) (p + pointer_bytes d))
+    (not (nat_le (here + k) p && nat_le (p + pointer_bytes d) (here + n + k)))
     (and_left (nat_lt p (here + n + k)) (nat_lt (here + k) (p + pointer_bytes d)) t)
 
-stays : (d : Model) (here n : ℕ) (c : Byte) (p : ℕ) → lies_partly d here n (byte_in c) p ≡ false → c ≡ unbroken d here n c p
+stays : (d : Model) (here n : ℕ) (c : Byte) (p : ℕ) → lies_partly d here n (byte_in c) p ≡ false
+    → c ≡ unbroken d here n c p
 stays d here n c p h = rw h refl
 
 -- each byte at offsets from low on is cut
@@ -59,17 +62,20 @@ broken_beside d old mid new s size low high parts fits low_is high_is left right
     let end = s.here + s.count in
     record {
       same_length = right.same_length ∙ left.same_length;
-      inside = λ p h l. right.outside (s.start + p) (inl (omega arith)) ∙ left.outside (s.start + p) (inr (omega arith));
+      inside = λ p h l. right.outside (s.start + p) (inl (omega arith))
+          ∙ left.outside (s.start + p) (inr (omega arith));
       beside = λ p h o.
           ⊎_elim
           (λ before. right.outside (s.start + p) (inl (omega arith))
           ∙ ⊎_elim
           (λ far. left.outside (s.start + p) (inl (omega arith))
-          ∙ stays d s.here s.count (cell_at old (s.start + p)) p (far_before d s.here s.count (cell_at old (s.start + p)) p (omega arith)))
+          ∙ stays d s.here s.count (cell_at old (s.start + p)) p
+          (far_before d s.here s.count (cell_at old (s.start + p)) p (omega arith)))
           (λ near. cut_at d old mid s low (s.here - low) p left near (omega arith))
           (cases_lt p low))
           (λ after.
-          (let kept : cell_at mid (s.start + p) ≡ cell_at old (s.start + p) = left.outside (s.start + p) (inr (omega arith)) in
+          (let kept : cell_at mid (s.start + p) ≡ cell_at old (s.start + p) =
+          left.outside (s.start + p) (inr (omega arith)) in
           ⊎_elim
           (λ near. cut_at d mid new s end (high - end) p right after (omega arith)
           ∙ ap (λ c. unbroken d s.here s.count c p) kept)

@@ -25,18 +25,21 @@ each_block P blocks x b old new none =
 pub laid_more : (blocks : List Block) (x : Block) (n m : ℕ) → AreLaid blocks n → x.start ≡ n → n + x.size ≤ m
     → AreLaid (blocks ++ x ∷ []) m
 laid_more blocks x n m laid start fits = record {
-  inside = λ b. each_block (λ k. k.start + k.size ≤ m) blocks x b (let a = laid.inside b in omega arith) (omega arith) (omega arith);
+  inside = λ b. each_block (λ k. k.start + k.size ≤ m) blocks x b (let a = laid.inside b in omega arith) (omega arith)
+      (omega arith);
   apart = λ b c h l.
       (let old : block_of (blocks ++ x ∷ []) b ≡ block_of blocks b =
       get_or_append_left blocks (x ∷ []) no_block b (omega (arith, length-append blocks (x ∷ []))) in
       ⊎_elim
       (λ known.
-      (let other : block_of (blocks ++ x ∷ []) c ≡ block_of blocks c = get_or_append_left blocks (x ∷ []) no_block c known in
+      (let other : block_of (blocks ++ x ∷ []) c ≡ block_of blocks c =
+      get_or_append_left blocks (x ∷ []) no_block c known in
       rw (old, other) (laid.apart b c h known)))
       (λ new.
       (let e : length blocks ≡ c = omega (arith, length-append blocks (x ∷ [])) in
       let a = laid.inside b in
-      rw old (subst (λ i. (block_of blocks b).start + (block_of blocks b).size ≤ (block_of (blocks ++ x ∷ []) i).start) e
+      rw old (subst (λ i. (block_of blocks b).start + (block_of blocks b).size ≤
+      (block_of (blocks ++ x ∷ []) i).start) e
       (rw (get_or-append_seam blocks x [] no_block) (omega arith)))))
       (cases_lt c (length blocks)));
 }

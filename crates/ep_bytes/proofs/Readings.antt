@@ -24,15 +24,18 @@ number_of_cells o t cs b h =
     (λ p l. h p l ∙ ap number_in (sym (byte_in_map cs p)))
 
 pub pointer_of_cells : (cs : List Cell) (b o k : ℕ) → cell_at cs 0 ≡ cell.Fragment b o k
-    → pointer_in (map byte_in cs) ≡ (if are_parts b o 0 (map byte_in cs) then has (pointer b o) else faults pointer_part)
+    → pointer_in (map byte_in cs)
+    ≡ (if are_parts b o 0 (map byte_in cs) then has (pointer b o) else faults pointer_part)
 pointer_of_cells [] b o k h = absurd cc
 pointer_of_cells (c ∷ cs) b o k h = rw h refl
 
-pub no_pointer_undefined : (cs : List Cell) → cell_at cs 0 ≡ cell.Undefined → pointer_in (map byte_in cs) ≡ faults pointer_part
+pub no_pointer_undefined : (cs : List Cell) → cell_at cs 0 ≡ cell.Undefined
+    → pointer_in (map byte_in cs) ≡ faults pointer_part
 no_pointer_undefined [] h = refl
 no_pointer_undefined (c ∷ cs) h = rw h refl
 
-pub no_pointer_number : (cs : List Cell) (v : ℕ) → cell_at cs 0 ≡ cell.Number v → pointer_in (map byte_in cs) ≡ faults pointer_part
+pub no_pointer_number : (cs : List Cell) (v : ℕ) → cell_at cs 0 ≡ cell.Number v
+    → pointer_in (map byte_in cs) ≡ faults pointer_part
 no_pointer_number [] v h = absurd cc
 no_pointer_number (c ∷ cs) v h = rw h refl
 

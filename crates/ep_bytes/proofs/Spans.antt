@@ -27,7 +27,8 @@ spanned_set cells spans wider at x a l part len own others = record {
       (let g : b < length spans = omega arith in
       ⊎_elim
       (λ e. subst (λ j. IsIn (span_of wider b) j) (sym e)
-      (own b g (ap (points_to b) (sym (get_or-set_same cells at x Undefined l) ∙ ap (cell_at (slice_set cells at x)) (sym e)) ∙ p)))
+      (own b g (ap (points_to b) (sym (get_or-set_same cells at x Undefined l)
+      ∙ ap (cell_at (slice_set cells at x)) (sym e)) ∙ p)))
       (λ n. others b i (a.spanned b i g (ap (points_to b) (sym (get_or-set_other cells at i x Undefined n)) ∙ p)))
       (same_or_not i at));
 }

@@ -22,16 +22,19 @@ same_or_not i j =
 byte_in_unbroken : (d : Model) (here n : ℕ) (c : Cell) (p : ℕ)
     → byte_in (unbroken d here n c p) ≡ (if lies_partly d here n (byte_in c) p then undefined else byte_in c)
 byte_in_unbroken d here n c p =
-    elim (lies_partly d here n (byte_in c) p) as (λ t. byte_in (if t then cell.Undefined else c) ≡ (if t then undefined else byte_in c))
+    elim (lies_partly d here n (byte_in c) p) as
+    (λ t. byte_in (if t then cell.Undefined else c) ≡ (if t then undefined else byte_in c))
     [ true ↦ refl | false ↦ refl ]
 
 past_whole : (d : Model) (here n : ℕ) (k : Block) (p : ℕ) → lies_partly d here n (past_end k) p ≡ false
 past_whole d here n k p =
-    elim (k.is_zeroed) as (λ z. lies_partly d here n (if z then number 0 else undefined) p ≡ false) [ true ↦ refl | false ↦ refl ]
+    elim (k.is_zeroed) as (λ z. lies_partly d here n (if z then number 0 else undefined) p
+    ≡ false) [ true ↦ refl | false ↦ refl ]
 
 -- the bytes of another block
 other_block : (blocks : List Block) (old new : List Cell) (b c p : ℕ) → AreLaid blocks (length old) → b < length blocks
-    → b ≢ c → ((i : ℕ) → (i < (block_of blocks b).start) ⊎ ((block_of blocks b).start + (block_of blocks b).size ≤ i) → cell_at new i ≡ cell_at old i)
+    → b ≢ c → ((i : ℕ) → (i < (block_of blocks b).start) ⊎ ((block_of blocks b).start + (block_of blocks b).size ≤ i)
+    → cell_at new i ≡ cell_at old i)
     → memory_of blocks new c p ≡ memory_of blocks old c p
 other_block blocks old new b c p laid there apart outside =
     let k = block_of blocks b in
@@ -42,7 +45,9 @@ other_block blocks old new b c p laid there apart outside =
     ⊎_elim
     (λ after. ⊎_elim
     (λ known. (let a = laid.apart b c after known in outside (q.start + p) (inr (omega arith))))
-    (λ none. (let e : q ≡ no_block = get_or_past blocks c no_block none in absurd (omega (arith, ap (λ (x : Block). x.size) e))))
+    (λ none.
+    (let e : q ≡ no_block = get_or_past blocks c no_block none in
+    absurd (omega (arith, ap (λ (x : Block). x.size) e))))
     (cases_lt c (length blocks)))
     (λ before. (let a = laid.apart c b (omega arith) there in outside (q.start + p) (inl (omega arith))))
     (cases_lt b c) in
@@ -69,14 +74,17 @@ replaced_at d blocks old new b s f g laid there start fits w h c p =
     (let t : nat_lt p k.size ≡ true = lt-ltb p k.size inside in
     let beside : (p < here) ⊎ (here + n ≤ p) → (nat_le here p && nat_lt p (here + n)) ≡ false
     → memory_of blocks new b p ≡ replaced d m b here n g b p =
-    λ o u. rw (t, e, u) (ap byte_in (subst (λ x. cell_at new (x + p) ≡ unbroken d here n (cell_at old (x + p)) p) start (w.beside p inside o)) ∙ byte_in_unbroken d here n (cell_at old (k.start + p)) p) in
+    λ o u. rw (t, e, u) (ap byte_in
+    (subst (λ x. cell_at new (x + p) ≡ unbroken d here n (cell_at old (x + p)) p) start (w.beside p inside o))
+    ∙ byte_in_unbroken d here n (cell_at old (k.start + p)) p) in
     ⊎_elim
     (λ before. beside (inl before) (and_left (nat_le here p) (nat_lt p (here + n)) (lt-leb here p before)))
     (λ from. ⊎_elim
     (λ covered.
     (let u : nat_le here p ≡ true = le-leb here p from in
     let v : nat_lt p (here + n) ≡ true = lt-ltb p (here + n) covered in
-    rw (t, e, u, v) (ap byte_in (subst (λ x. cell_at new (x + p) ≡ f (p - here)) start (w.inside p from covered)) ∙ h (p - here) (omega arith))))
+    rw (t, e, u, v) (ap byte_in (subst (λ x. cell_at new (x + p) ≡ f (p - here)) start (w.inside p from covered))
+    ∙ h (p - here) (omega arith))))
     (λ after. beside (inr after) (and_right (nat_le here p) (nat_lt p (here + n)) (le-ltb p (here + n) after)))
     (cases_lt p (here + n)))
     (cases_lt p here)))
@@ -88,10 +96,12 @@ replaced_at d blocks old new b s f g laid there start fits w h c p =
     (cases_lt p k.size)))
     (λ apart.
     (let e : nat_eq b c ≡ false = ne_eqb b c apart in
-    rw e (other_block blocks old new b c p laid there apart (λ i o. w.outside i (subst (λ x. (i < x) ⊎ (x + k.size ≤ i)) (sym start) o)))))
+    rw e (other_block blocks old new b c p laid there apart
+    (λ i o. w.outside i (subst (λ x. (i < x) ⊎ (x + k.size ≤ i)) (sym start) o)))))
     (same_or_not b c)
 
-pub replaced_in : (d : Model) (blocks : List Block) (old new : List Cell) (b : ℕ) (s : Place) (f : ℕ → Cell) (g : ℕ → Byte)
+pub replaced_in : (d : Model) (blocks : List Block) (old new : List Cell) (b : ℕ) (s : Place)
+    → (f : ℕ → Cell) (g : ℕ → Byte)
     → AreLaid blocks (length old) → b < length blocks → s.start ≡ (block_of blocks b).start
     → s.here + s.count ≤ (block_of blocks b).size → IsReplaced d old new s (block_of blocks b).size f
     → ((k : ℕ) → k < s.count → byte_in (f k) ≡ g k)
@@ -118,7 +128,8 @@ zeroed_in blocks old new b laid there w =
     (let e : nat_eq b b ≡ true = eq-eqb b b refl in
     let q : block_of now b ≡ marked k true = get_or-set_same blocks b (marked k true) no_block there in
     ⊎_elim
-    (λ inside. (let t : nat_lt p k.size ≡ true = lt-ltb p k.size inside in rw (q, e, t) (ap byte_in (w.inside p inside))))
+    (λ inside.
+    (let t : nat_lt p k.size ≡ true = lt-ltb p k.size inside in rw (q, e, t) (ap byte_in (w.inside p inside))))
     (λ past. (let t : nat_lt p k.size ≡ false = le-ltb p k.size past in rw (q, e, t) refl))
     (cases_lt p k.size)))
     (λ apart.
@@ -137,15 +148,18 @@ byte_in_without b cell.Undefined = refl
 byte_in_without b (cell.Number v) = refl
 byte_in_without b (cell.Fragment a o k) =
     rw (or_false (nat_eq a b))
-    (elim (nat_eq a b) as (λ t. byte_in (if t then cell.Undefined else cell.Fragment a o k) ≡ (if t then undefined else fragment a o k))
+    (elim (nat_eq a b) as (λ t. byte_in (if t then cell.Undefined else cell.Fragment a o k)
+    ≡ (if t then undefined else fragment a o k))
     [ true ↦ refl | false ↦ refl ])
 
 past_forgotten : (b : ℕ) (k : Block) → past_end k ≡ forgotten (b ∷ []) (past_end k)
 past_forgotten b k =
-    elim (k.is_zeroed) as (λ z. (if z then number 0 else undefined) ≡ forgotten (b ∷ []) (if z then number 0 else undefined))
+    elim (k.is_zeroed) as
+    (λ z. (if z then number 0 else undefined) ≡ forgotten (b ∷ []) (if z then number 0 else undefined))
     [ true ↦ refl | false ↦ refl ]
 
-pub killed_in : (blocks : List Block) (old mid new : List Cell) (b : ℕ) → AreLaid blocks (length old) → b < length blocks
+pub killed_in : (blocks : List Block) (old mid new : List Cell) (b : ℕ) → AreLaid blocks (length old)
+    → b < length blocks
     → length mid ≡ length old → ((i : ℕ) → cell_at mid i ≡ without b (cell_at old i))
     → IsWritten mid new (block_of blocks b).start (block_of blocks b).size (λ k. cell.Undefined)
     → memory_of (slice_set blocks b (marked (block_of blocks b) false)) new ≡ killed (b ∷ []) (memory_of blocks old)
@@ -160,7 +174,8 @@ killed_in blocks old mid new b laid there long left w =
     (let e : nat_eq b b ≡ true = eq-eqb b b refl in
     let q : block_of now b ≡ marked k false = get_or-set_same blocks b (marked k false) no_block there in
     ⊎_elim
-    (λ inside. (let t : nat_lt p k.size ≡ true = lt-ltb p k.size inside in rw (q, e, t) (ap byte_in (w.inside p inside))))
+    (λ inside.
+    (let t : nat_lt p k.size ≡ true = lt-ltb p k.size inside in rw (q, e, t) (ap byte_in (w.inside p inside))))
     (λ past. (let t : nat_lt p k.size ≡ false = le-ltb p k.size past in rw (q, e, t) refl))
     (cases_lt p k.size)))
     (λ apart.
@@ -209,12 +224,14 @@ taken_is d blocks cells c s k start fits h =
     q ∙ ap (λ j. byte_in (cell_at cells j)) i in
     byte_in_unbroken d s.here s.count (cell_at cells (s.start + s.here + k)) (s.here + k)
     ∙ ap (λ x. if lies_partly d s.here s.count x (s.here + k) then undefined else x) (sym r)
-    ∙ ap (λ t. if t && lies_partly d s.here s.count (memory_of blocks cells c (s.here + k)) (s.here + k) then undefined else memory_of blocks cells c (s.here + k)) (sym e)
+    ∙ ap (λ t. if t && lies_partly d s.here s.count (memory_of blocks cells c (s.here + k))
+    (s.here + k) then undefined else memory_of blocks cells c (s.here + k)) (sym e)
 
 -- the bytes that a read of a place finds
 pub bytes_in_block : (blocks : List Block) (cells : List Cell) (b here n : ℕ) → AreLaid blocks (length cells)
     → here + n ≤ (block_of blocks b).size
-    → bytes_from (memory_of blocks cells) b here n ≡ map byte_in (take n (drop ((block_of blocks b).start + here) cells))
+    → bytes_from (memory_of blocks cells) b here n
+    ≡ map byte_in (take n (drop ((block_of blocks b).start + here) cells))
 bytes_in_block blocks cells b here n laid fits =
     let a = laid.inside b in
     let at = (block_of blocks b).start + here in

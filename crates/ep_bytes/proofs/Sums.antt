@@ -21,14 +21,16 @@ units_below (suc d) k e =
 pub unit_small : (k : ℕ) → k ≤ 8 → 256 ^ k ≤ 2 ^ 64
 unit_small k h = let e : k + (8 - k) ≡ 8 = omega arith in units_below (8 - k) k e
 
-pub sum_small : (b : ℕ → ℕ) (t : IntType) → ((k : ℕ) → k < bytes_of t → b k < 256) → sum_of_bytes b (bytes_of t) < 2 ^ bits_of t
+pub sum_small : (b : ℕ → ℕ) (t : IntType) → ((k : ℕ) → k < bytes_of t → b k < 256)
+    → sum_of_bytes b (bytes_of t) < 2 ^ bits_of t
 sum_small b t h =
     subst (λ n. sum_of_bytes b (bytes_of t) < n) (bytes_pow (bytes_of t)) (sum_of_bytes_below b (bytes_of t) h)
 
 pub decoded_by_sum : (o : Order) (t : IntType) (b : ℕ → ℕ) → ((k : ℕ) → b k < 256)
     → wrapped t (pos (sum_of_bytes (λ k. b (place o (bytes_of t) k)) (bytes_of t))) ≡ decoded o t b
 decoded_by_sum o t b h =
-    ap (represented t) (mod-eq_of_lt (sum_small (λ k. b (place o (bytes_of t) k)) t (λ k l. h (place o (bytes_of t) k))))
+    ap (represented t) (mod-eq_of_lt
+    (sum_small (λ k. b (place o (bytes_of t) k)) t (λ k l. h (place o (bytes_of t) k))))
 
 pub scaled : (b s : ℕ) → b < 256 → s ≤ 2 ^ 64 → b * s + s ≤ 256 * 2 ^ 64
 scaled b s h l =

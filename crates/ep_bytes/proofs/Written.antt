@@ -19,11 +19,14 @@ written_more old new at k f x w h e =
     record {
       same_length = length-set new (at + k) x ∙ w.same_length;
       inside = below_more (λ j. cell_at (slice_set new (at + k) x) (at + j) ≡ f j) k
-          (λ j b. (let apart : at + j ≢ at + k = omega arith in get_or-set_other new (at + k) (at + j) x Undefined apart ∙ w.inside j b))
+          (λ j b.
+          (let apart : at + j ≢ at + k = omega arith in
+          get_or-set_other new (at + k) (at + j) x Undefined apart ∙ w.inside j b))
           (get_or-set_same new (at + k) x Undefined l ∙ e);
       outside = λ i o.
           (let apart : i ≢ at + k = ⊎_elim (λ b. omega arith) (λ b. omega arith) o in
-          get_or-set_other new (at + k) i x Undefined apart ∙ w.outside i (⊎_elim (λ b. inl b) (λ b. inr (omega arith)) o));
+          get_or-set_other new (at + k) i x Undefined apart
+          ∙ w.outside i (⊎_elim (λ b. inl b) (λ b. inr (omega arith)) o));
     }
 
 -- among the places from one on and before another no cell points to the block, and all others are as they were

@@ -85,7 +85,8 @@ impl Place {
     pub(crate) fn overlaps(&self, other: &Place) -> bool
         requires own { self.now.here + self.now.count < 2 ^ 33 }
         requires other { other.now.here + self.now.count < 2 ^ 33 }
-        ensures { result ≡ (nat_lt self.now.here (other.now.here + self.now.count) && nat_lt other.now.here (self.now.here + self.now.count)) }
+        ensures { result ≡ (nat_lt self.now.here (other.now.here + self.now.count)
+            && nat_lt other.now.here (self.now.here + self.now.count)) }
     {
         self.here < other.here + self.count && other.here < self.here + self.count
     }
@@ -199,7 +200,8 @@ impl Cells {
         requires to { at + from.now.count ≤ length self.old }
         requires inside { from.now.start + from.now.here + from.now.count ≤ length self.old }
         requires small { from.now.here + from.now.count < 2 ^ 33 }
-        requires apart { (at + from.now.count ≤ from.now.start + from.now.here) ⊎ (from.now.start + from.now.here + from.now.count ≤ at) }
+        requires apart { (at + from.now.count ≤ from.now.start + from.now.here)
+            ⊎ (from.now.start + from.now.here + from.now.count ≤ at) }
         ensures { IsWritten self.old self.new at from.now.count (taken_from model self.old from.now) }
     {
         let _total = self.len();
@@ -217,7 +219,8 @@ impl Cells {
         requires inside { place.now.start + high ≤ length self.old }
         requires small { place.now.here + place.now.count < 2 ^ 33 }
         requires offsets { high < 2 ^ 33 }
-        ensures { IsWritten self.old self.new (place.now.start + low) (high - low) (cut_by model self.old place.now low) }
+        ensures { IsWritten self.old self.new (place.now.start + low) (high - low)
+            (cut_by model self.old place.now low) }
     {
         let _total = self.len();
         for k in 0..high - low {
@@ -271,7 +274,8 @@ impl Cells {
         requires source { from.now.start + from.now.here + from.now.count ≤ length self.old }
         requires near { from.now.here + from.now.count < 2 ^ 33 }
         requires counts { from.now.count ≡ place.now.count }
-        requires apart { (place.now.start + place.now.here + place.now.count ≤ from.now.start + from.now.here) ⊎ (from.now.start + from.now.here + from.now.count ≤ place.now.start + place.now.here) }
+        requires apart { (place.now.start + place.now.here + place.now.count ≤ from.now.start + from.now.here)
+            ⊎ (from.now.start + from.now.here + from.now.count ≤ place.now.start + place.now.here) }
         ensures { IsReplaced model self.old self.new place.now size (taken_from model self.old from.now) }
     {
         let _total = self.len();

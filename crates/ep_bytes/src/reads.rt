@@ -55,7 +55,8 @@ pub(crate) fn is_any_undefined(bytes: &[Byte]) -> bool
 fn numbers(bytes: &[Byte]) -> Option<[u8; 8]>
     requires { length bytes.now ≤ 8 }
     ensures none { IsSome result ↔ (list_all is_number (map byte_in bytes.now) ≡ true) }
-    ensures some { IfSome result (λ all. (p : ℕ) → p < length bytes.now → slice_index all p ≡ number_in (byte_in (cell_at bytes.now p))) }
+    ensures some { IfSome result (λ all. (p : ℕ) → p < length bytes.now
+        → slice_index all p ≡ number_in (byte_in (cell_at bytes.now p))) }
 {
     let mut all = [0; 8];
     for (k, byte) in bytes.iter().enumerate() {

@@ -86,7 +86,8 @@ impl Store {
         offset: i64,
     ) -> Result<Datum, AlarmKind>
         requires { block < count_of self.now }
-        ensures value { result ≡ read_as (found_at offset (loaded order self.now.model (size_in self.now block) (memory_in self.now) what block)) }
+        ensures value { result ≡ read_as (found_at offset
+            (loaded order self.now.model (size_in self.now block) (memory_in self.now) what block)) }
         ensures fits { IfOk result (λ d. Fits what d) }
     {
         let width = size(self.model, what);
@@ -101,8 +102,8 @@ impl Store {
         value(order, self.model, what, bytes)
     }
 
-    /// Stores a scalar at an offset of a block. Out of bounds is `U5`, an offset that is no multiple of the scalar's size
-    /// `U7`.
+    /// Stores a scalar at an offset of a block. Out of bounds is `U5`, an offset that is no multiple of the scalar's
+    /// size `U7`.
     pub fn store(
         &mut self,
         order: Order,
@@ -113,9 +114,11 @@ impl Store {
     ) -> Result<(), AlarmKind>
         requires block { block < count_of self.old }
         requires fits { Fits what d }
-        ensures answer { result ≡ written_as (fault_at offset (store_fault self.old.model (size_in self.old block) what)) }
+        ensures answer { result
+            ≡ written_as (fault_at offset (store_fault self.old.model (size_in self.old block) what)) }
         ensures like { IsLike self.old self.new }
-        ensures stored { OnOk result (memory_in self.new ≡ stored order self.old.model (memory_in self.old) what block (unsigned_abs offset) (value_in d)) }
+        ensures stored { OnOk result (memory_in self.new
+            ≡ stored order self.old.model (memory_in self.old) what block (unsigned_abs offset) (value_in d)) }
         ensures err { OnErr result (self.new ≡ self.old) }
     {
         let width = size(self.model, what);
@@ -129,8 +132,8 @@ impl Store {
         Ok(())
     }
 
-    /// Copies `n` bytes. Out of bounds is `U5`, of `to` before `from`, and a byte in common is `U9`. With `same_place`, a
-    /// copy to the place from which it comes changes nothing.
+    /// Copies `n` bytes. Out of bounds is `U5`, of `to` before `from`, and a byte in common is `U9`. With `same_place`,
+    /// a copy to the place from which it comes changes nothing.
     pub fn copy(
         &mut self,
         to: (u32, i64),
@@ -142,7 +145,8 @@ impl Store {
         requires from { from.0 < count_of self.old }
         ensures answer { result ≡ written_as (copy_fault self.old to from n (is_same to from same_place)) }
         ensures like { IsLike self.old self.new }
-        ensures copied { OnOk result (memory_in self.new ≡ (if is_same to from same_place then memory_in self.old else copied self.old.model (memory_in self.old) to.0 (unsigned_abs to.1) from.0 (unsigned_abs from.1) n)) }
+        ensures copied { OnOk result (memory_in self.new ≡ (if is_same to from same_place then memory_in self.old
+            else copied self.old.model (memory_in self.old) to.0 (unsigned_abs to.1) from.0 (unsigned_abs from.1) n)) }
         ensures err { OnErr result (self.new ≡ self.old) }
     {
         let target = self.place(to.0, to.1, n)?;
@@ -163,7 +167,8 @@ impl Store {
         requires { to.0 < count_of self.old }
         ensures answer { result ≡ written_as (place_fault self.old to n) }
         ensures like { IsLike self.old self.new }
-        ensures filled { OnOk result (memory_in self.new ≡ filled self.old.model (memory_in self.old) to.0 (unsigned_abs to.1) n value) }
+        ensures filled { OnOk result (memory_in self.new
+            ≡ filled self.old.model (memory_in self.old) to.0 (unsigned_abs to.1) n value) }
         ensures err { OnErr result (self.new ≡ self.old) }
     {
         let place = self.place(to.0, to.1, n)?;
@@ -178,7 +183,8 @@ impl Store {
         requires { to.0 < count_of self.old }
         ensures answer { result ≡ written_as (place_fault self.old to n) }
         ensures like { IsLike self.old self.new }
-        ensures cleared { OnOk result (memory_in self.new ≡ replaced self.old.model (memory_in self.old) to.0 (unsigned_abs to.1) n (λ k. undefined)) }
+        ensures cleared { OnOk result (memory_in self.new
+            ≡ replaced self.old.model (memory_in self.old) to.0 (unsigned_abs to.1) n (λ k. undefined)) }
         ensures err { OnErr result (self.new ≡ self.old) }
     {
         let place = self.place(to.0, to.1, n)?;
@@ -267,7 +273,8 @@ fn extend(cells: &mut Cells, count: u32) -> Result<(), Memory>
 // The bytes of a value.
 fn content(order: Order, what: Scalar, d: Datum) -> Content
     requires { Fits what d }
-    ensures { (m : Sizes) (k : ℕ) → k < size_of m what → byte_in (content_at result k) ≡ bytes_of_value order what (value_in d) k }
+    ensures { (m : Sizes) (k : ℕ) → k < size_of m what
+        → byte_in (content_at result k) ≡ bytes_of_value order what (value_in d) k }
 {
     match what {
         Scalar::Int(t) => match d {

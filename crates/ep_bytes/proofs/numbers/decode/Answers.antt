@@ -13,7 +13,9 @@ unit_fits c =
     subst (λ n. n ≤ 2 ^ 64) (sym c.loop-k.invariant.unit) (unit_small c.loop-k.k k)
 
 part_fits : (c : goal.After-from) → c.from.result * c.loop-k.unit + c.loop-k.unit ≤ 256 * 2 ^ 64
-part_fits c = let b = c.type_inv.bytes c.place.result in let small : c.from.result < 256 = omega (arith, c.from.ensures, b) in
+part_fits c =
+    let b = c.type_inv.bytes c.place.result in
+    let small : c.from.result < 256 = omega (arith, c.from.ensures, b) in
     scaled c.from.result c.loop-k.unit small (unit_fits c)
 
 pub overflow_mul-sum : goal.overflow_mul-sum

@@ -15,7 +15,8 @@ loop-p-preserved c =
     record {
       len = length-set all p x ∙ c.loop-p.invariant.len;
       before = below_more (λ q. get_or (slice_set all p x) q 0 ≡ byte_of (place c.args.order w q) n) p
-          (λ q b. (let apart : q ≢ p = omega arith in get_or-set_other all p q x 0 apart ∙ c.loop-p.invariant.before q b))
+          (λ q b. (let apart : q ≢ p = omega arith in get_or-set_other all p q x 0 apart
+          ∙ c.loop-p.invariant.before q b))
           (get_or-set_same all p x 0 l ∙ e);
       after = λ q b.
           (let apart : q ≢ p = omega arith in

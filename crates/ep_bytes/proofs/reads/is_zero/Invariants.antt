@@ -5,4 +5,5 @@ use Rattle.ep_bytes.specs.Shown.{byte_in}
 use Rattle.ep_bytes.proofs.reads.is_zero.Given as goal
 
 abbrev pub invariant-loop-byte : goal.invariant-loop-byte
-invariant-loop-byte l = list_all is_zero (map byte_in (drop l.byte-index l.bytes)) ≡ list_all is_zero (map byte_in l.bytes)
+invariant-loop-byte l =
+    list_all is_zero (map byte_in (drop l.byte-index l.bytes)) ≡ list_all is_zero (map byte_in l.bytes)

@@ -14,4 +14,5 @@ loop-k-preserved c =
     let x : c.kept-kept.result ≡ cut_by c.args.model old s c.args.low k =
     c.kept-kept.ensures.value
     ∙ ap (λ b. unbroken c.args.model s.here s.count b (c.args.low + k)) (c.get-byte.ensures.value ∙ here) in
-    rw c.put.ensures (written_more old c.loop-k.self at k (cut_by c.args.model old s c.args.low) c.kept-kept.result w (omega arith) x)
+    rw c.put.ensures (written_more old c.loop-k.self at k (cut_by c.args.model old s c.args.low) c.kept-kept.result w
+    (omega arith) x)

@@ -15,4 +15,5 @@ loop-k-preserved c =
     let x : c.kept-kept.result ≡ taken_from c.args.model old s k =
     c.kept-kept.ensures.value
     ∙ ap (λ b. unbroken c.args.model s.here s.count b (s.here + k)) (c.get-byte.ensures.value ∙ here) in
-    rw c.put.ensures (written_more old c.loop-k.self c.args.at k (taken_from c.args.model old s) c.kept-kept.result w (omega arith) x)
+    rw c.put.ensures (written_more old c.loop-k.self c.args.at k (taken_from c.args.model old s) c.kept-kept.result w
+    (omega arith) x)

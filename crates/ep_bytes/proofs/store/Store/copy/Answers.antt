@@ -18,14 +18,17 @@ copy-requires-clause-apart c =
     let q = c.in_ok-source.source in
     let to_fits : FitsSigned w64 to.1 = search rules in
     let from_fits : FitsSigned w64 from.1 = search rules in
-    let target = subst (λ z. IsPlace c.args.self.now to.0 z c.args.n p) (to_z-of_z w64 to.1 to_fits) c.in_ok-target.ensures.ok in
-    let source = subst (λ z. IsPlace c.args.self.now from.0 z c.args.n q) (to_z-of_z w64 from.1 from_fits) c.in_ok-source.ensures.ok in
+    let target = subst (λ z. IsPlace c.args.self.now to.0 z c.args.n p)
+    (to_z-of_z w64 to.1 to_fits) c.in_ok-target.ensures.ok in
+    let source = subst (λ z. IsPlace c.args.self.now from.0 z c.args.n q)
+    (to_z-of_z w64 from.1 from_fits) c.in_ok-source.ensures.ok in
     elim c.else-to-from-2.branch [
       | else-to-from-2-via-then-to-from-2+else-overlaps w ↦
           apart_within c.args.self.now to.0 from.0 to.1 from.1 c.args.n p q w.if-to-from-2.true target source
           (sym w.overlaps.ensures ∙ w.if-overlaps.false)
       | else-to-from-2-via-else-to-from-2 w ↦
-          apart_between c.self.view_is to.0 from.0 to.1 from.1 c.args.n p q w.if-to-from-2.false c.self.invariant c.requires.to c.requires.from
+          apart_between c.self.view_is to.0 from.0 to.1 from.1 c.args.n p q w.if-to-from-2.false c.self.invariant
+          c.requires.to c.requires.from
           target source
     ]
 
@@ -41,14 +44,17 @@ returns-clause-copied c =
     let q = c.in_ok-source.source in
     let to_fits : FitsSigned w64 to.1 = search rules in
     let from_fits : FitsSigned w64 from.1 = search rules in
-    let target = subst (λ z. IsPlace c.args.self.now to.0 z c.args.n p) (to_z-of_z w64 to.1 to_fits) c.in_ok-target.ensures.ok in
-    let source = subst (λ z. IsPlace c.args.self.now from.0 z c.args.n q) (to_z-of_z w64 from.1 from_fits) c.in_ok-source.ensures.ok in
+    let target = subst (λ z. IsPlace c.args.self.now to.0 z c.args.n p)
+    (to_z-of_z w64 to.1 to_fits) c.in_ok-target.ensures.ok in
+    let source = subst (λ z. IsPlace c.args.self.now from.0 z c.args.n q)
+    (to_z-of_z w64 from.1 from_fits) c.in_ok-source.ensures.ok in
     let whole = c.block_at-size.ensures ∙ ap (λ xs. block_of xs to.0) c.deref.ensures.value in
     let other : is_same to from c.args.same_place ≡ false =
     elim c.else-same_place.branch [
       | else-same_place-via-then-same_place+then-to-from+else-target-source w ↦
           (let apart : o ≢ r = λ e. w.if-target-source.false (target.here ∙ e ∙ sym source.here) in
-          and_right c.args.same_place (nat_eq to.0 from.0 && nat_eq o r) (and_right (nat_eq to.0 from.0) (nat_eq o r) (ne_eqb o r apart)))
+          and_right c.args.same_place (nat_eq to.0 from.0 && nat_eq o r)
+          (and_right (nat_eq to.0 from.0) (nat_eq o r) (ne_eqb o r apart)))
       | else-same_place-via-then-same_place+else-to-from w ↦
           and_right c.args.same_place (nat_eq to.0 from.0 && nat_eq o r)
           (and_left (nat_eq to.0 from.0) (nat_eq o r) (ne_eqb to.0 from.0 w.if-to-from.false))
@@ -56,7 +62,8 @@ returns-clause-copied c =
           and_left c.args.same_place (nat_eq to.0 from.0 && nat_eq o r) w.if-same_place.false
     ] in
     replaced_place c.self.view_is c.copy.new.self to.0 to.1 n p c.block_at-size.result
-    (taken_from c.self.inside.model c.self.inside.cells q) (λ k. broken now.model (memory_in now) from.0 r n from.0 (r + k))
+    (taken_from c.self.inside.model c.self.inside.cells q)
+    (λ k. broken now.model (memory_in now) from.0 r n from.0 (r + k))
     c.self.invariant c.requires.to target whole c.copy.ensures
     (taken_place c.self.view_is from.0 from.1 n q source)
     ∙ sym (ap (λ t. if t then memory_in now else copied now.model (memory_in now) to.0 o from.0 r n) other)

@@ -18,6 +18,7 @@ returns-clause-killed c =
     let whole : c.block_at-whole.result ≡ block_of blocks b =
     c.block_at-whole.ensures ∙ ap (λ xs. block_of xs b) c.deref.ensures.value in
     let w = subst (λ (x : Block). IsWritten mid new x.start x.size (λ k. Undefined)) whole c.write.ensures in
-    subst (λ (x : Block). memory_of (slice_set blocks b (marked x false)) new ≡ killed (b ∷ []) (memory_of blocks old)) (sym whole)
+    subst (λ (x : Block). memory_of (slice_set blocks b (marked x false)) new
+    ≡ killed (b ∷ []) (memory_of blocks old)) (sym whole)
     (killed_in blocks old mid new b c.self.invariant there c.forget.ensures.len c.forget.ensures.forgotten w)
     ∙ ap (λ s. killed (b ∷ []) (memory_in s)) c.self.view_is

@@ -16,7 +16,8 @@ returns-clause-stored c =
     let n = c.size-width.result in
     let bytes = bytes_of_value c.args.order c.args.what (value_in c.args.d) in
     let fits : FitsSigned w64 c.args.offset = search rules in
-    let place = subst (λ z. IsPlace now b z n c.in_ok-place.place) (to_z-of_z w64 c.args.offset fits) c.in_ok-place.ensures.ok in
+    let place = subst (λ z. IsPlace now b z n c.in_ok-place.place)
+    (to_z-of_z w64 c.args.offset fits) c.in_ok-place.ensures.ok in
     let whole = c.block_at-size.ensures ∙ ap (λ xs. block_of xs b) c.deref.ensures.value in
     let width : n ≡ size_of now.model c.args.what =
     c.size-width.ensures.value ∙ ap (λ (s : Held). size_of s.model c.args.what) c.self.view_is in

@@ -17,6 +17,7 @@ returns-clause-zeroed c =
     let whole : c.block_at-whole.result ≡ block_of blocks b =
     c.block_at-whole.ensures ∙ ap (λ xs. block_of xs b) c.deref.ensures.value in
     let w = subst (λ (x : Block). IsWritten old new x.start x.size (λ k. Number 0)) whole c.write.ensures in
-    subst (λ (x : Block). memory_of (slice_set blocks b (marked x true)) new ≡ zeroed (memory_of blocks old) b) (sym whole)
+    subst (λ (x : Block). memory_of (slice_set blocks b (marked x true)) new ≡ zeroed (memory_of blocks old) b)
+    (sym whole)
     (zeroed_in blocks old new b c.self.invariant there w)
     ∙ ap (λ s. zeroed (memory_in s) b) c.self.view_is
