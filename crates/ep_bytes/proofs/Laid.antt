@@ -35,11 +35,12 @@ laid_more blocks x n m laid start fits = record {
       (let other : block_of (blocks ++ x ∷ []) c ≡ block_of blocks c =
       get_or_append_left blocks (x ∷ []) no_block c known in
       rw (old, other) (laid.apart b c h known)))
-      (λ new.
+      (λ (new : length blocks ≤ c).
       (let e : length blocks ≡ c = omega (arith, length-append blocks (x ∷ [])) in
       let a = laid.inside b in
+      let before : (block_of blocks b).start + (block_of blocks b).size ≤ x.start = omega arith in
       rw old (subst (λ i. (block_of blocks b).start + (block_of blocks b).size ≤
       (block_of (blocks ++ x ∷ []) i).start) e
-      (rw (get_or-append_seam blocks x [] no_block) (omega arith)))))
+      (rw (get_or-append_seam blocks x [] no_block) before))))
       (cases_lt c (length blocks)));
 }

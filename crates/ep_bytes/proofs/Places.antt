@@ -1,11 +1,11 @@
 -- Reads and writes of places, as the memory of a store has them.
-use Rattle.std.proofs.Common.{◌≡◌, ℕ, ◌+◌, ◌%◌, ◌<◌, ◌≤◌, ◌≢◌, ◌⊎◌, ⊎_elim, inl, inr, ℤ, unsigned_abs, true, false, ◌&&◌, nat_eq, nat_lt, if◌then◌else◌, List, length, take, drop, map, refl, sym, ◌∙◌, ap, subst, arith}
+use Rattle.std.proofs.Common.{◌≡◌, ℕ, ◌+◌, ◌%◌, ◌<◌, ◌≤◌, ◌≢◌, ◌⊎◌, ⊎_elim, inl, inr, ℤ, unsigned_abs, Bool, true, false, ◌&&◌, nat_eq, nat_lt, if◌then◌else◌, List, length, take, drop, map, refl, sym, ◌∙◌, ap, subst, arith}
 use Rattle.std.specs.List.{list_any}
 use Rattle.std.proofs.lemmas.Bool.{ltb-false, eq-eqb, and_cases}
 use Rattle.ep_int.specs.declared.types.Order.{Order}
 use Rattle.ep_int.specs.declared.types.Scalar.{Scalar}
 use Rattle.ep_int.specs.Types.{size_of}
-use Rattle.ep_int.specs.Memory.{Byte, broken, replaced, loaded, bytes_from, is_undefined, value_of_bytes, faults, uninitialised}
+use Rattle.ep_int.specs.Memory.{Byte, broken, replaced, loaded, Found, bytes_from, is_undefined, value_of_bytes, faults, uninitialised}
 use Rattle.ep_bytes.specs.declared.types.Byte.{Byte as Cell}
 use Rattle.ep_bytes.specs.declared.cells.Place.{Place}
 use Rattle.ep_bytes.specs.declared.store.Block.{Block}
@@ -88,42 +88,40 @@ apart_between {s} {now} e b c o r n p q apart laid lb lc t f =
 
 -- ---- reads
 
-found_there : (order : Order) (what : Scalar) (s : Held) (b : ℕ) (o : ℤ) (n : ℕ) (p : Place) (bytes : List Cell)
-    → AreLaid s.blocks (length s.cells) → n ≡ size_of s.model what → IsPlace s b o n p → p.here % n ≡ 0
+-- what is found in bytes of which some are undefined, or none
+abbrev pub either : Order → Scalar → List Cell → (undefined : Bool) → Found
+either order what bytes some = if some then faults uninitialised else value_of_bytes order what (map byte_in bytes)
+
+found_there : (order : Order) (what : Scalar) (s : Held) (b : ℕ) (o : ℤ) (p : Place) (bytes : List Cell)
+    → AreLaid s.blocks (length s.cells) → IsPlace s b o (size_of s.model what) p → p.here % size_of s.model what ≡ 0
     → bytes ≡ take p.count (drop (p.start + p.here) s.cells)
     → found_at o (loaded order s.model (size_in s b) (memory_in s) what b)
-    ≡ (if list_any is_undefined (map byte_in bytes) then faults uninitialised
-    else value_of_bytes order what (map byte_in bytes))
-found_there order what s b o n p bytes laid width is aligned read =
+    ≡ either order what bytes (list_any is_undefined (map byte_in bytes))
+found_there order what s b o p bytes laid is aligned read =
     let here = unsigned_abs o in
-    let size = size_in s b in
-    let fits : here + n ≤ size = ltb-false size (here + n) is.inside in
-    let whole : bytes_from (memory_in s) b here n ≡ map byte_in bytes =
+    let n = size_of s.model what in
+    let fits : here + n ≤ size_in s b = ltb-false (size_in s b) (here + n) is.inside in
+    let sign = is.sign in
+    let inside = is.inside in
+    let divides : nat_eq (here % n) 0 ≡ true = eq-eqb (here % n) 0 (subst (λ x. x % n ≡ 0) is.here aligned) in
+    let all : bytes_from (memory_in s) b here n ≡ map byte_in bytes =
     bytes_in_block s.blocks s.cells b here n laid fits
     ∙ ap (λ x. map byte_in (take n (drop (x + here) s.cells))) (sym is.start)
     ∙ ap (λ x. map byte_in (take n (drop (p.start + x) s.cells))) (sym is.here)
     ∙ ap (λ x. map byte_in (take x (drop (p.start + p.here) s.cells))) (sym is.count)
     ∙ ap (map byte_in) (sym read) in
-    let sign = is.sign in
-    let inside : nat_lt size (here + size_of s.model what) ≡ false =
-    subst (λ w. nat_lt size (here + w) ≡ false) width is.inside in
-    let divides : nat_eq (here % size_of s.model what) 0 ≡ true =
-    eq-eqb (here % size_of s.model what) 0 (subst (λ w. here % w ≡ 0) width (subst (λ x. x % n ≡ 0) is.here aligned)) in
-    let all : bytes_from (memory_in s) b here (size_of s.model what) ≡ map byte_in bytes =
-    subst (λ w. bytes_from (memory_in s) b here w ≡ map byte_in bytes) width whole in
     rw (sign, inside, divides, all) refl
 
 -- what a read finds in a place at which the scalar may stand
 pub found_place : {s now : Held} → s ≡ now
-    → (order : Order) (what : Scalar) (b : ℕ) (o : ℤ) (n : ℕ) (p : Place) (bytes : List Cell)
-    → AreLaid s.blocks (length s.cells) → n ≡ size_of s.model what → IsPlace now b o n p → p.here % n ≡ 0
-    → bytes ≡ take p.count (drop (p.start + p.here) s.cells)
+    → (order : Order) (what : Scalar) (b : ℕ) (o : ℤ) (p : Place) (bytes : List Cell)
+    → AreLaid s.blocks (length s.cells) → IsPlace now b o (size_of now.model what) p
+    → p.here % size_of now.model what ≡ 0 → bytes ≡ take p.count (drop (p.start + p.here) s.cells)
     → found_at o (loaded order now.model (size_in now b) (memory_in now) what b)
-    ≡ (if list_any is_undefined (map byte_in bytes) then faults uninitialised
-    else value_of_bytes order what (map byte_in bytes))
-found_place {s} {now} e order what b o n p bytes laid width is aligned read =
-    subst (λ (x : Held). found_at o (loaded order x.model (size_in x b) (memory_in x) what b)
-    ≡ (if list_any is_undefined (map byte_in bytes) then faults uninitialised
-    else value_of_bytes order what (map byte_in bytes))) e
-    (found_there order what s b o n p bytes laid width
-    (subst (λ (x : Held). IsPlace x b o n p) (sym e) is) aligned read)
+    ≡ either order what bytes (list_any is_undefined (map byte_in bytes))
+found_place {s} {now} e order what b o p bytes laid is aligned read =
+    let P : Held → Type 0 = λ x. found_at o (loaded order x.model (size_in x b) (memory_in x) what b)
+    ≡ either order what bytes (list_any is_undefined (map byte_in bytes)) in
+    subst P e (found_there order what s b o p bytes laid
+    (subst (λ (x : Held). IsPlace x b o (size_of x.model what) p) (sym e) is)
+    (subst (λ (x : Held). p.here % size_of x.model what ≡ 0) (sym e) aligned) read)

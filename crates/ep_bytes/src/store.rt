@@ -1,6 +1,6 @@
 //! The bytes of the blocks of a program.
 
-ghost use Rattle.std.specs.Prelude.{◌≡◌, ℕ, ◌+◌, ◌<◌, ◌≤◌, ◌^◌, [], ◌∷◌, if◌then◌else◌, length, unsigned_abs, slice_index, IfOk, IfErr, OnOk, OnErr};
+ghost use Rattle.std.specs.Prelude.{◌≡◌, ℕ, ◌+◌, ◌<◌, ◌≤◌, ◌%◌, ◌^◌, [], ◌∷◌, if◌then◌else◌, length, unsigned_abs, slice_index, IfOk, IfErr, OnOk, OnErr};
 ghost use Rattle.ep_int.specs.Memory.{bytes_of_value, copied, filled, killed, loaded, replaced, store_fault, stored, undefined, zeroed};
 ghost use Rattle.ep_int.specs.declared.types.Model.{Model as Sizes};
 ghost use Rattle.ep_int.specs.Types.{size_of};
@@ -90,11 +90,7 @@ impl Store {
             (loaded order self.now.model (size_in self.now block) (memory_in self.now) what block)) }
         ensures fits { IfOk result (λ d. Fits what d) }
     {
-        let width = size(self.model, what);
-        let place = self.place(block, offset, width)?;
-        if place.here % width as usize != 0 {
-            return Err(AlarmKind::U7);
-        }
+        let place = self.scalar_place(what, block, offset)?;
         let bytes = self.cells.range(&place);
         if is_any_undefined(bytes) {
             return Err(AlarmKind::U4);
@@ -121,11 +117,7 @@ impl Store {
             ≡ stored order self.old.model (memory_in self.old) what block (unsigned_abs offset) (value_in d)) }
         ensures err { OnErr result (self.new ≡ self.old) }
     {
-        let width = size(self.model, what);
-        let place = self.place(block, offset, width)?;
-        if place.here % width as usize != 0 {
-            return Err(AlarmKind::U7);
-        }
+        let place = self.scalar_place(what, block, offset)?;
         let size = block_at(&self.blocks, block).size as usize;
         self.cells
             .replace(self.model, &place, size, &content(order, what, d));
@@ -234,19 +226,35 @@ impl Store {
         };
     }
 
+    // Where a scalar at an offset of a block lies, or what is wrong with that place.
+    fn scalar_place(&self, what: Scalar, block: u32, offset: i64) -> Result<Place, AlarmKind>
+        requires { block < count_of self.now }
+        ensures ok { IfOk result (IsPlace self.now block offset (size_of self.now.model what)) }
+        ensures aligned { IfOk result (λ s. s.here % size_of self.now.model what ≡ 0) }
+        ensures err { IfErr result (λ k. written_as
+            (fault_at offset (store_fault self.now.model (size_in self.now block) what)) ≡ Err k) }
+    {
+        let width = size(self.model, what);
+        let place = self.place(block, offset, width)?;
+        if place.here % width as usize != 0 {
+            return Err(AlarmKind::U7);
+        }
+        Ok(place)
+    }
+
     // Where `n` bytes of a block lie, or `U5`.
     fn place(&self, block: u32, offset: i64, n: u32) -> Result<Place, AlarmKind>
         requires { block < count_of self.now }
-        ensures ok { IfOk result (λ s. IsPlace self.now block offset n s) }
+        ensures ok { IfOk result (IsPlace self.now block offset n) }
         ensures small { IfOk result (λ s. s.here + s.count < 2 ^ 32) }
         ensures err { IfErr result (λ k. (k ≡ AlarmKind.U5) × IsOutside self.now block offset n) }
     {
-        let size = block_at(&self.blocks, block).size;
-        if offset < 0 || offset > i64::from(size) - i64::from(n) {
+        let whole = block_at(&self.blocks, block);
+        if offset < 0 || offset > i64::from(whole.size) - i64::from(n) {
             return Err(AlarmKind::U5);
         }
         Ok(Place {
-            start: block_at(&self.blocks, block).start,
+            start: whole.start,
             here: offset as usize,
             count: n as usize,
         })
