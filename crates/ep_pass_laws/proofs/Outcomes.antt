@@ -323,3 +323,12 @@ module _ (o : Order) (p : Program) where
           (received o p f.result d l)
       by_values (have vs) = whole vs
       by_values (stops k) = refl
+
+pub scope_call : (bs : List ℕ) (x : Outcome) → IsCall x → IsCall (scope_left bs x)
+scope_call bs (leaves on n s) h = h
+scope_call bs (leaves broken n s) h = h
+scope_call bs (leaves continued n s) h = h
+scope_call bs (leaves returned n s) h = h
+scope_call bs (running s) h = h
+scope_call bs (no_input s) h = h
+scope_call bs (undefined_at l k s) h = h
