@@ -6,3 +6,5 @@ pub mod Lone
 pub mod Rounds
 pub mod Text
 pub mod Statements
+pub mod Fitting
+pub mod Keeping
