@@ -8,3 +8,7 @@ pub mod Text
 pub mod Statements
 pub mod Fitting
 pub mod Keeping
+pub mod Stopping
+pub mod Passing
+pub mod Runs
+pub mod Sound

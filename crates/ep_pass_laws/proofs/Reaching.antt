@@ -52,7 +52,7 @@ pub data Cut : Side → Outcome → Outcome → Type 0 where
   right_cut : {c : Outcome} {y : State} → Begins y.outputs (state_in c).outputs → Cut right c (running y)
 
 -- what a machine puts out by the end of something
-then_begins : (x : Outcome) (f : Going) → Growing f → Begins (state_in x).outputs (state_in (and_then x f)).outputs
+pub then_begins : (x : Outcome) (f : Going) → Growing f → Begins (state_in x).outputs (state_in (and_then x f)).outputs
 then_begins (leaves on n s) f g = (grown s n (f n s) (g n s)).0
 then_begins (leaves broken n s) f g = begins_refl _
 then_begins (leaves continued n s) f g = begins_refl _
