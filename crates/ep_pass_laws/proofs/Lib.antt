@@ -12,3 +12,5 @@ pub mod Stopping
 pub mod Passing
 pub mod Runs
 pub mod Sound
+pub mod Circle
+pub mod Counts
