@@ -114,13 +114,9 @@ module _ (k : AlarmKind) where
 
   -- ---- statements without statements in them
 
-  -- An input or output by one machine alone is an alarm, and one that differs.
-  abbrev pub input_kinds : (alone : Bool) → List AlarmKind
-  input_kinds alone = kinds_if alone (E2 ∷ [])
-
-  abbrev pub output_kinds : (alone : Bool) → List AlarmKind
-  output_kinds true = E2 ∷ []
-  output_kinds false = E1 ∷ []
+  -- of an input or output, where one machine may run alone
+  abbrev pub alone_kinds : (alone : Bool) → List AlarmKind
+  alone_kinds alone = kinds_if alone (E2 ∷ [])
 
   -- whether a statement may have an alarm of this kind, where one machine may run alone
   abbrev pub simple_may : (alone : Bool) → Simple → Bool
@@ -132,11 +128,11 @@ module _ (k : AlarmKind) where
       is_one_of (U5 ∷ U6 ∷ U9 ∷ []) k || (place_may a || place_may b)
   simple_may alone (copy_bytes a b n) = is_one_of (U5 ∷ U6 ∷ U9 ∷ []) k || (expr_may a || expr_may b)
   simple_may alone (fill a e n) = is_one_of address_kinds k || (expr_may a || expr_may e)
-  simple_may alone (input t d) = is_one_of (input_kinds alone) k || dest_may d
-  simple_may alone (output t e) = is_one_of (output_kinds alone) k || expr_may e
-  simple_may alone (read_bytes e n) = is_one_of (input_kinds alone) k || (is_one_of address_kinds k || expr_may e)
+  simple_may alone (input t d) = is_one_of (alone_kinds alone) k || dest_may d
+  simple_may alone (output t e) = is_one_of (E1 ∷ alone_kinds alone) k || expr_may e
+  simple_may alone (read_bytes e n) = is_one_of (alone_kinds alone) k || (is_one_of address_kinds k || expr_may e)
   simple_may alone (write_bytes e n) =
-      is_one_of (output_kinds alone) k || (is_one_of read_kinds k || (is_one_of address_kinds k || expr_may e))
+      is_one_of (E1 ∷ alone_kinds alone) k || (is_one_of read_kinds k || (is_one_of address_kinds k || expr_may e))
   simple_may alone (returns None) = false
   simple_may alone (returns (Some e)) = expr_may e
 

@@ -14,3 +14,4 @@ pub mod Runs
 pub mod Sound
 pub mod Circle
 pub mod Counts
+pub mod Parting
