@@ -15,3 +15,5 @@ pub mod Sound
 pub mod Circle
 pub mod Counts
 pub mod Parting
+pub mod Differing
+pub mod Placing
