@@ -3,11 +3,8 @@ use Rattle.std.proofs.Common.{◌≡◌, ℕ, zero, suc, ◌+◌, ◌*◌, [], r
 use Rattle.std.proofs.Math.Nat.{suc-mul, zero-mul}
 use Rattle.ep_core.specs.Program.{Expr}
 use Rattle.ep_pass.specs.States.{Mode, StateOps}
+use Rattle.ep_pass_laws.specs.Heads.{more_turns, next_of, head_after, turns_at, NoneKept}
 use Rattle.ep_pass.specs.Pass.{logged, Pass, passed, after, from_head, is_stable, next_head, dropped, settled}
-
--- more turns that are counted, and that is all
-abbrev pub more_turns : {S : Type 0} → ℕ → Pass S → Pass S
-more_turns n p = after (logged [] n []) p
 
 no_more : {S : Type 0} (n : ℕ) (p : Pass S) → n ≡ 0 → more_turns n p ≡ p
 no_more n p e =
@@ -44,37 +41,33 @@ module _ {S : Type 0} (o : StateOps S) (u limit : ℕ) (l : ℕ) (e : Expr) (bod
 
   -- ---- circles of more heads
 
-  abbrev next_of : S → S
-  next_of h = next_head o u limit l e body h (turn h).on
+  abbrev next : S → S
+  next = next_of o u limit l e body turn
 
-  -- the head after so many, and the turns made at these
-  abbrev pub head_after : ℕ → S → S
-  head_after zero h = h
-  head_after (suc d) h = head_after d (next_of h)
+  abbrev after_so_many : ℕ → S → S
+  after_so_many = head_after o u limit l e body turn
 
-  abbrev pub turns_at : ℕ → S → ℕ
-  turns_at zero h = 0
-  turns_at (suc d) h = (turn h).log.count + turns_at d (next_of h)
+  abbrev count_of : ℕ → S → ℕ
+  count_of = turns_at o u limit l e body turn
 
-  abbrev pub NoneKept : ℕ → S → Type 0
-  NoneKept zero h = Unit {0}
-  NoneKept (suc d) h = (is_stable o u limit l e body h (turn h).on ≡ false) × NoneKept d (next_of h)
+  abbrev None_kept : ℕ → S → Type 0
+  None_kept = NoneKept o u limit l e body turn
 
-  pub skip : (d k n : ℕ) (h : S) → n ≡ d + k → NoneKept d h → tries n h ≡ more_turns (turns_at d h) (tries k (head_after d h))
+  pub skip : (d k n : ℕ) (h : S) → n ≡ d + k → None_kept d h → tries n h ≡ more_turns (count_of d h) (tries k (after_so_many d h))
   skip zero k n h sum a = let z : n ≡ k = omega arith in ap (λ j. tries j h) z ∙ sym (no_more 0 (tries k h) refl)
   skip (suc d) k zero h sum a = absurd (omega arith)
   skip (suc d) k (suc n) h sum a =
-      not_kept n h (is_stable o u limit l e body h (turn h).on) a.0 ∙ ap (more_turns (turn h).log.count) (skip d k n (next_of h) (omega arith) a.1)
-      ∙ more_twice (turn h).log.count (turns_at d (next_of h)) (turns_at (suc d) h) (tries k (head_after d (next_of h))) refl
+      not_kept n h (is_stable o u limit l e body h (turn h).on) a.0 ∙ ap (more_turns (turn h).log.count) (skip d k n (next h) (omega arith) a.1)
+      ∙ more_twice (turn h).log.count (count_of d (next h)) (count_of (suc d) h) (tries k (after_so_many d (next h))) refl
 
   -- where a head comes again after d others, q rounds of the circle are known
-  pub circles : (d : ℕ) (h : S) → NoneKept d h → head_after d h ≡ h → (q k n : ℕ) → n ≡ q * d + k → tries n h ≡ more_turns (q * turns_at d h) (tries k h)
-  circles d h a r zero k n sum = let z : n ≡ k = no_times d k n sum in ap (λ j. tries j h) z ∙ sym (no_more (0 * turns_at d h) (tries k h) (times_zero (turns_at d h)))
+  pub circles : (d : ℕ) (h : S) → None_kept d h → after_so_many d h ≡ h → (q k n : ℕ) → n ≡ q * d + k → tries n h ≡ more_turns (q * count_of d h) (tries k h)
+  circles d h a r zero k n sum = let z : n ≡ k = no_times d k n sum in ap (λ j. tries j h) z ∙ sym (no_more (0 * count_of d h) (tries k h) (times_zero (count_of d h)))
     where
       no_times : (d k n : ℕ) → n ≡ 0 * d + k → n ≡ k
       no_times d k n e = let z = times_zero d in omega (arith, e, z)
   circles d h a r (suc q) k n sum =
-      let t = turns_at d h in
+      let t = count_of d h in
       skip d (q * d + k) n h (one_less d q k n sum) a ∙ ap (λ g. more_turns t (tries (q * d + k) g)) r ∙ ap (more_turns t) (circles d h a r q k (q * d + k) refl) ∙ more_twice t (q * t) (suc q * t) (tries k h) (times_suc q t)
     where
       one_less : (d q k n : ℕ) → n ≡ suc q * d + k → n ≡ d + (q * d + k)

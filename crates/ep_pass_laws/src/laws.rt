@@ -10,6 +10,7 @@ ghost use Rattle.ep_core.specs.WellFormed.{is_well_formed};
 ghost use Rattle.ep_pass.specs.States.{StateOps};
 ghost use Rattle.ep_pass.specs.Pass.{report_of};
 ghost use Rattle.ep_pass.specs.Laws.{Lawful};
+ghost use Rattle.ep_pass_laws.specs.Laws.{TurnsAreBounded, AlarmsStand, HeadsRepeat, HeadsGoRound};
 ghost use Rattle.ep_pass_laws.specs.Agreement.{AgreeInTheEnd};
 
 /// States that an analysis keeps of a program, for two machines of different byte orders: what is done with them, for
@@ -23,4 +24,12 @@ pub trait States {
 /// States what an empty report means, however many turns are unrolled and heads are tried, and does nothing.
 pub fn empty_report<S: States>()
     ensures { (p : Program) (ord : Side → Order) → is_well_formed p ≡ true → is_order (ord left) (ord right) ≡ false → (u limit : ℕ) → report_of (S.ops p ord) u limit ord p ≡ [] → AgreeInTheEnd p (ord left) (ord right) }
+{}
+
+/// States what holds of each report, whatever the operations on the states are, and does nothing.
+pub fn reports<S>()
+    ensures turns { TurnsAreBounded S }
+    ensures places { AlarmsStand S }
+    ensures heads { HeadsRepeat S }
+    ensures rounds { HeadsGoRound S }
 {}
