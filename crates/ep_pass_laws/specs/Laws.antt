@@ -1,0 +1,45 @@
+-- What holds of each report, whatever is kept of a state.
+use Rattle.std.specs.Prelude.{◌≡◌, ℕ, ◌+◌, ◌*◌, ◌≤◌, List, IsTrue}
+use Rattle.std.specs.List.{AllByRecursion}
+use Rattle.ep_int.specs.declared.types.Order.{Order}
+use Rattle.ep_alarms.specs.declared.types.Alarm.{Alarm}
+use Rattle.ep_core.specs.Program.{Expr, Program}
+use Rattle.ep_core.specs.Runs.{Side}
+use Rattle.ep_pass.specs.States.{Mode, StateOps}
+use Rattle.ep_pass.specs.Pass.{Pass, from_head, settled, report_of, turns_of}
+use Rattle.ep_pass.specs.Turns.{most_turns}
+use Rattle.ep_pass.specs.Places.{may_stand}
+use Rattle.ep_pass.specs.Honest.{Honest}
+use Rattle.ep_pass_laws.specs.Heads.{more_turns, IsTriedAgain, next_of, head_after, turns_at, NoneKept}
+
+-- with states of this type
+module _ (S : Type 0) where
+  -- Bodies of loops are gone through at most so often, whatever the operations do.
+  abbrev pub TurnsAreBounded : Type 0
+  TurnsAreBounded =
+      (o : StateOps S) (u limit : ℕ) → 1 ≤ limit → (ord : Side → Order) (p : Program)
+      → turns_of o u limit ord p ≤ most_turns u limit ord p
+
+  -- Where the faults of operations are of kinds that the text may have, so is each alarm on its line.
+  abbrev pub AlarmsStand : Type 0
+  AlarmsStand =
+      (o : StateOps S) → Honest o → (u limit : ℕ) (ord : Side → Order) (p : Program)
+      → AllByRecursion (λ (a : Alarm). IsTrue (may_stand a.kind a.line p)) (report_of o u limit ord p)
+
+  -- Where the next head is the head again, its turn counts for each head that is left, and then comes that of the empty
+  -- state.
+  abbrev pub HeadsRepeat : Type 0
+  HeadsRepeat =
+      (o : StateOps S) (u limit l : ℕ) (e : Expr) (body : Mode → S → Pass S) (turn : S → Pass S) (h : S)
+      → IsTriedAgain o u limit l e body turn h → next_of o u limit l e body turn h ≡ h → (k : ℕ)
+      → settled o u limit l e body turn k h
+      ≡ more_turns (k * (turn h).log.count) (from_head o.empty (turn o.empty))
+
+  -- Where a head comes again after d heads, the turns of q rounds count, and what is left comes from that head.
+  abbrev pub HeadsGoRound : Type 0
+  HeadsGoRound =
+      (o : StateOps S) (u limit l : ℕ) (e : Expr) (body : Mode → S → Pass S) (turn : S → Pass S) (d : ℕ) (h : S)
+      → NoneKept o u limit l e body turn d h → head_after o u limit l e body turn d h ≡ h → (q k n : ℕ)
+      → n ≡ q * d + k
+      → settled o u limit l e body turn n h
+      ≡ more_turns (q * turns_at o u limit l e body turn d h) (settled o u limit l e body turn k h)
