@@ -1,5 +1,5 @@
 -- A block is killed on a side, or on both: it is as it is when its scope is entered, and pointers into it are undefined.
-use Rattle.std.specs.Prelude.{ℕ, zero, suc, ◌+◌, Bool, true, false, ◌&&◌, ◌||◌, nat_eq, nat_lt, nat_le, if◌then◌else◌, List, [], ◌∷◌, ◌++◌, map, Option, Some, None}
+use Rattle.std.specs.Prelude.{ℕ, zero, suc, ◌+◌, ◌≤◌, Bool, true, false, ◌&&◌, ◌||◌, nat_eq, nat_lt, nat_le, if◌then◌else◌, List, [], ◌∷◌, ◌++◌, map, Option, Some, None}
 use Rattle.std.specs.Option.{option_map}
 use Rattle.std.specs.List.{list_any}
 use Rattle.ep_int.specs.declared.types.Model.{Model}
@@ -42,6 +42,11 @@ cells_from d s b leaves q zero = []
 cells_from d s b leaves q (suc n) =
     cell_here s b q (leaf_at leaves q) (is_in_leaf d leaves q) ++ cells_from d s b leaves (q + 1) n
 
+-- the leaves rise, don't overlap, begin at e or later and end inside the size
+abbrev pub AreLeavesIn : Model → (e size : ℕ) → List Leaf → Type 0
+AreLeavesIn d e size [] = e ≤ size
+AreLeavesIn d e size (l ∷ leaves) = (e ≤ l.offset) × AreLeavesIn d (l.offset + size_of d l.what) size leaves
+
 abbrev pub entry_cells : {N : Type 0} → Model → Side → (block : ℕ) → List Leaf → (size : ℕ) → List (Cell N)
 entry_cells d s b leaves size = cells_from d s b leaves 0 size
 
@@ -61,9 +66,9 @@ value_without b None = None
 value_without b (Some (Num n)) = Some (Num n)
 value_without b (Some (Ptr p)) = some_pointer (without b p)
 
--- A pointer cell that loses a target may be undefined.
+-- A pointer cell that loses a target may be undefined. It has no form.
 abbrev pub without_target : {N : Type 0} → (block : ℕ) → Cell N → Cell N
-without_target b x = record x { value = value_without b x.value; maybe = true }
+without_target b x = record x { value = value_without b x.value; maybe = true; form = None }
 
 -- a part of a pointer cell, where its side is killed
 abbrev pub killed_part : {N : Type 0} → Side → (block : ℕ) → Cell N → Cell N
