@@ -6,5 +6,6 @@ pub mod Changes
 pub mod Write
 pub mod Both
 pub mod Kept
+pub mod Entry
 pub mod Kill
 pub mod Gathered

@@ -147,7 +147,7 @@ follows_rest x c e (Some s) i h =
       named = subst (λ z. IsNamed z (record x { side = s })) is (record { side = refl; block = i.block; offset = i.offset; what = i.what });
     }
 
-follows_by : {N : Type 0} (x : Cell N) (c e : CellName) (o : Option Side) (b : Bool) → IsNamed c x
+pub follows_by : {N : Type 0} (x : Cell N) (c e : CellName) (o : Option Side) (b : Bool) → IsNamed c x
     → cond b (option_map (λ s. record c { side = s }) o) (Some c) ≡ Some e → Follows x (cond b (with_side x o) (x ∷ [])) e
 follows_by x c e o true i h = follows_rest x c e o i h
 follows_by x c e o false i h =
