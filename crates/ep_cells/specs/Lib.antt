@@ -1,0 +1,10 @@
+pub mod Cells
+pub mod Forms
+pub mod States
+pub mod Meaning
+pub mod Look
+pub mod Write
+pub mod Both
+pub mod Weaken
+pub mod Kill
+pub mod Reshare

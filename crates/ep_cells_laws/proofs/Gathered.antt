@@ -1,0 +1,33 @@
+-- The laws, gathered.
+use Rattle.ep_domain.specs.Domain.{Ops, Lawful}
+use Rattle.ep_cells_laws.specs.Laws.{WriteLaws, JoinLaws, InclusionLaws}
+use Rattle.ep_cells_laws.proofs.Write.{write_cells, write_holds}
+use Rattle.ep_cells_laws.proofs.Both.{join_unites, widen_unites, both_cells, both_left, both_right, within_in}
+
+pub of_writes : {N : Type 0} (D : Ops N) → WriteLaws D
+of_writes D = record {
+  cells = write_cells;
+  holds = λ k c a w r m n i t s. write_holds D k.orders k.model m n c k.cells a w r i t s.cell s.form;
+}
+
+pub of_joins : {N : Type 0} (D : Ops N) → Lawful D → JoinLaws D
+of_joins D law =
+    let j = join_unites D law in
+    let w = widen_unites D law in
+    record {
+      join_cells = both_cells D D.join j;
+      join_holds = λ k ys p q a. record {
+        left = λ m i. both_left D D.join j k.orders k.model m k.cells ys p q a i;
+        right = λ m i. both_right D D.join j k.orders k.model m k.cells ys p q a i;
+      };
+      widen_cells = both_cells D D.widen w;
+      widen_holds = λ k ys p q a. record {
+        left = λ m i. both_left D D.widen w k.orders k.model m k.cells ys p q a i;
+        right = λ m i. both_right D D.widen w k.orders k.model m k.cells ys p q a i;
+      };
+    }
+
+pub of_inclusion : {N : Type 0} (D : Ops N) → Lawful D → InclusionLaws D
+of_inclusion D law = record {
+  within_holds = λ k ys p h m i. within_in D law k.orders k.model m k.cells ys p h i;
+}

@@ -1,0 +1,11 @@
+pub mod Lists
+pub mod Forms
+pub mod Bytes
+pub mod Places
+pub mod Changes
+pub mod Write
+pub mod Both
+pub mod Kept
+pub mod Entry
+pub mod Kill
+pub mod Gathered

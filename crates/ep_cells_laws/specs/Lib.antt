@@ -1,0 +1,3 @@
+pub mod Memories
+pub mod Sound
+pub mod Laws
