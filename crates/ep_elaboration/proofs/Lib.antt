@@ -12,3 +12,7 @@ mod MoreAcceptedRows
 mod LongRows
 mod LargeRows
 mod PacketRow
+mod GivenRows
+mod ScopeRows
+mod ArmRows
+mod LoopRows
