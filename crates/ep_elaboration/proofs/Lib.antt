@@ -1,0 +1,18 @@
+pub mod Trees
+pub mod Shared
+pub mod Opened
+mod NameRows
+mod MismatchRows
+mod PlaceRows
+mod WholeRows
+mod StatementRows
+mod MainRows
+mod AcceptedRows
+mod MoreAcceptedRows
+mod LongRows
+mod LargeRows
+mod PacketRow
+mod GivenRows
+mod ScopeRows
+mod ArmRows
+mod LoopRows

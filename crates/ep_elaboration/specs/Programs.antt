@@ -1,0 +1,168 @@
+-- What whole programs mean, or for what they are refused: C11 6.9, and this project's checks of the whole program.
+use Rattle.std.specs.Prelude.{ℕ, Bool, true, not, nat_lt, if◌then◌else◌, List, [], ◌∷◌, ◌++◌, length, map, find, position, sum_by, Option, Some, None, option_map, unwrap_or, ◌==◌, Result, Ok, Err}
+use Rattle.ep_int.specs.Memory.{contains}
+use Rattle.ep_int.specs.declared.types.Model.{Model}
+use Rattle.ep_ast.specs.declared.refusals.Refusal.{Refusal}
+use Rattle.ep_ast.specs.Declaration.{to_specs}
+use Rattle.ep_ast.specs.Statement as tree
+use Rattle.ep_ast.specs.Statement.{Item, typedefs, defines, declares_all, completes, functions_by_order}
+use Rattle.ep_core.specs.Program as core
+use Rattle.ep_typing.specs.Results.{◌>>=◌, at, needed}
+use Rattle.ep_typing.specs.Env.{Env, Signature, start}
+use Rattle.ep_elaboration.specs.Declarators.{types_declared}
+use Rattle.ep_elaboration.specs.Aggregates.{body_declared, specs_declared}
+use Rattle.ep_elaboration.specs.Declarations.{declaration}
+use Rattle.ep_elaboration.specs.Functions.{Defined, arms_defined, function_defined, is_main, number_of_function, numbers_of, prototype}
+use Rattle.ep_elaboration.specs.Calls.{Call, Place, Placed, calls_of, function_depth, in_items, is_recursive, one_after_another, with_function}
+
+-- ---- the text
+
+-- what was declared so far, the first values of globals, and the functions that have a body
+pub record Sofar : Type 0 where
+  pub env : Env
+  pub values : List core.Init
+  pub defined : List Defined
+
+abbrev pub begun : Model → Sofar
+begun m = record { env = start m; values = []; defined = [] }
+
+abbrev pub with_env : Sofar → Env → Sofar
+with_env s G = record s { env = G }
+
+abbrev pub with_defined : Sofar → List Defined × Env → Sofar
+with_defined s r = record s { env = r.1; defined = s.defined ++ r.0 }
+
+-- the functions of an arm; there are none where there is no `#else`
+abbrev pub functions_in : Option (List tree.Function) → List tree.Function
+functions_in None = []
+functions_in (Some fs) = fs
+
+unfoldable pub item : Sofar → Item → Result Sofar Refusal
+item s (typedefs t) = do
+  c ← specs_declared s.env [] [] (to_specs t.specs)
+  G ← types_declared c.1 c.0 t.declarators
+  Ok (with_env s G)
+item s (defines f) = do
+  r ← function_defined s.env (numbers_of s.defined) f
+  Ok (with_defined s (r.0 ∷ [], r.1))
+item s (tree.prototype h) = do
+  G ← prototype s.env (numbers_of s.defined) h
+  Ok (with_env s G)
+item s (declares_all d) = do
+  m ← declaration s.env true true d
+  Ok (record s { env = m.1; values = s.values ++ m.0.values })
+item s (completes a) = do
+  c ← body_declared s.env [] a
+  Ok (with_env s c.1)
+item s (functions_by_order l o fs gs) = do
+  r ← arms_defined s.env (numbers_of s.defined) l o fs (functions_in gs)
+  Ok (with_defined s r)
+
+unfoldable pub items : Sofar → List Item → Result Sofar Refusal
+items s [] = Ok s
+items s (i ∷ is) = do
+  u ← item s i
+  items u is
+
+-- ---- the checks of the whole program
+
+abbrev pub function_number : List Signature → List ℕ → ℕ
+function_number fs t = unwrap_or (number_of_function fs t) 0
+
+abbrev pub place_of : List Signature → Placed → Place
+place_of fs p = record {
+  caller = function_number fs p.0;
+  depth = p.1.depth;
+  line = p.1.line;
+  callee = option_map (function_number fs) p.1.callee;
+}
+
+abbrev pub places_of : Sofar → List Item → List Place
+places_of s is = map (place_of s.env.functions) (in_items is)
+
+abbrev pub main_of : List Defined → Option Defined
+main_of ds = find (λ (d : Defined). is_main d.function.name) ds
+
+-- no call of the text breaks a rule, or the first one that does
+abbrev pub none_breaks : (kind : ℕ) → Option Call → Result Bool Refusal
+none_breaks k None = Ok true
+none_breaks k (Some c) = at c.line (Err k)
+
+-- 46: a call of a function without a body
+abbrev pub all_have_bodies : List Defined → List Call → Result Bool Refusal
+all_have_bodies ds cs = none_breaks 46 (find (λ (c : Call). not (contains c.callee (numbers_of ds))) cs)
+
+-- 35: a call of main, or a cycle of calls
+abbrev pub none_recurs : Sofar → (main : ℕ) → List Call → Result Bool Refusal
+none_recurs s main cs = none_breaks 35 (find (is_recursive cs (length s.env.functions) main) cs)
+
+-- 48: more than 256 statements inside one another along calls from main, on the line of main
+abbrev pub not_too_deep : ℕ → Result Bool ℕ
+not_too_deep n = if nat_lt 256 n then Err 48 else Ok true
+
+-- 37: all objects together of more than 65,536 bytes
+abbrev pub all_fit : List core.Block → Result Bool ℕ
+all_fit bs = if nat_lt 65536 (sum_by (λ (b : core.Block). b.size) bs) then Err 37 else Ok true
+
+-- 36: no body of main. The checks stand in this order: 36, 46, 35, 48, 37.
+unfoldable pub checked : Sofar → List Place → Result Defined Refusal
+checked s ps = do
+  m ← at 1 (needed 36 (main_of s.defined))
+  bodies ← all_have_bodies s.defined (calls_of ps)
+  acyclic ← none_recurs s m.number (calls_of ps)
+  shallow ← at m.function.line (not_too_deep (function_depth ps (length s.env.functions) m.number))
+  small ← at 1 (all_fit s.env.blocks)
+  Ok m
+
+-- ---- the program
+
+-- calls of functions by their places in the program
+unfoldable mutual
+  pub renumbered_what : (ℕ → ℕ) → core.What → core.What
+  renumbered_what to (core.simple w) = core.simple w
+  renumbered_what to (core.call f es d) = core.call (to f) es d
+  renumbered_what to (core.if_else e a b) = core.if_else e (renumbered to a) (renumbered to b)
+  renumbered_what to (core.loop first e a b) = core.loop first e (renumbered to a) (renumbered to b)
+  renumbered_what to core.break_loop = core.break_loop
+  renumbered_what to core.continue_loop = core.continue_loop
+  renumbered_what to (core.by_order o a b) = core.by_order o (renumbered to a) (renumbered to b)
+  renumbered_what to (core.scope bs a) = core.scope bs (renumbered to a)
+
+  pub renumbered : (ℕ → ℕ) → core.Stmts → core.Stmts
+  renumbered to core.stop = core.stop
+  renumbered to (core.more l w rest) = core.more l (renumbered_what to w) (renumbered to rest)
+
+-- the place of a function in an order
+abbrev pub place_in : List ℕ → ℕ → ℕ
+place_in order f = unwrap_or (position (λ (g : ℕ). f == g) order) 0
+
+abbrev pub numbered : List Defined → ℕ → Option Defined
+numbered ds f = find (λ (d : Defined). d.number == f) ds
+
+abbrev pub in_order : (order : List ℕ) → Option Defined → List core.Function
+in_order order None = []
+in_order order (Some d) = record d.function { body = renumbered (place_in order) d.function.body } ∷ []
+
+abbrev pub all_in_order : (order : List ℕ) → List Defined → List ℕ → List core.Function
+all_in_order order ds [] = []
+all_in_order order ds (f ∷ fs) = in_order order (numbered ds f) ++ all_in_order order ds fs
+
+-- each function behind those that it calls, else in the order of their bodies
+abbrev pub order_of : Sofar → List Call → List ℕ
+order_of s cs = one_after_another (with_function cs (length s.env.functions)) [] (numbers_of s.defined)
+
+abbrev pub program_of : Sofar → (main : ℕ) → (order : List ℕ) → core.Program
+program_of s main order = record {
+  types = s.env.types;
+  blocks = s.env.blocks;
+  init = s.values;
+  functions = all_in_order order s.defined order;
+  main = place_in order main;
+}
+
+-- What a program means in a data model, or the first offence: in the order of the text, then of the checks.
+unfoldable pub elaborated : Model → List Item → Result core.Program Refusal
+elaborated m is = do
+  s ← items (begun m) is
+  d ← checked s (places_of s is)
+  Ok (program_of s d.number (order_of s (calls_of (places_of s is))))

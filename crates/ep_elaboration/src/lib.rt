@@ -1,0 +1,2 @@
+//! What declarations, statements and programs mean: definitions alone.
+#![tactic(auto)]
