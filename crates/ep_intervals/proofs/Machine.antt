@@ -14,15 +14,22 @@ use Rattle.ep_int.specs.Arith.{int_eq, IsOfSomeType, IsRightOperand}
 use Rattle.ep_domain.specs.Ranges.{IsRange}
 use Rattle.ep_domain.specs.Laws.Comparisons.{between_true, from_between, le_self, le_trans, le_antisym}
 use Rattle.ep_domain.proofs.FaultCode.{fits_number, sum_fits, difference_fits}
-use Rattle.ep_intervals.specs.declared.interval.Interval.{Interval}
-use Rattle.ep_intervals.specs.Ends.{in_one_stretch, wrapped_low, wrapped_high, low_apart, high_apart}
-use Rattle.ep_intervals.specs.Interval.{interval, between, overlap, apart_from, filter_of}
-use Rattle.ep_intervals.specs.Results.{clipped, settled_between, negative_part, positive_part, quotients, hull, divided, greatest_size, remainders, anded, ored, xored, ones_over, whole, has_amount, powers, shifted_left, shifted_right, shifted_right_between, results_between, right_operands, value_of}
+use Rattle.ep_intervals.specs.declared.interval.Interval.TheInside.{Inside}
+use Rattle.ep_interval_laws.specs.Ends.{in_one_stretch, wrapped_low, wrapped_high, low_apart, high_apart}
+use Rattle.ep_interval_laws.specs.Interval.{Interval, interval, between, overlap, apart_from, filter_of}
+use Rattle.ep_interval_laws.specs.Results.{clipped, settled_between, negative_part, positive_part, quotients, hull, divided, greatest_size, remainders, anded, ored, xored, ones_over, whole, has_amount, powers, shifted_left, shifted_right, shifted_right_between, results_between, right_operands, value_of}
 use Rattle.ep_domain.specs.Faults.{is_ordered, least_of_four, greatest_of_four, shown_range, nearest_amount}
 use Rattle.ep_domain.specs.Laws.Types.{number_of, number_low, number_high, least_unsigned}
 use Rattle.ep_int.proofs.Wrapping.{wrapped_in_range}
 use Rattle.std.proofs.Math.Nat.{pow-le-pow_right, div-le_self}
-use Rattle.ep_intervals.specs.Laws.Between.{same_ends, between_some, between_parts}
+use Rattle.ep_interval_laws.proofs.Between.{same_ends, between_some, between_parts}
+
+-- the fields of an interval as its value
+abbrev pub seen : Inside → Interval
+seen i = record { lo = i.lo; hi = i.hi; ends = i.ends }
+
+pub seen_overlap : {a b : Interval} {o : Option Interval} (lo hi : ℤ) → b ≡ a → o ≡ overlap a lo hi → o ≡ overlap b lo hi
+seen_overlap {o = o} lo hi e h = subst (λ x. o ≡ overlap x lo hi) (sym e) h
 
 -- the ends of intervals have 128 bits
 pub low_number : (l h : ℤ) → IsRange l h → IsOfSomeType l

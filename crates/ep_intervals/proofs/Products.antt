@@ -12,10 +12,9 @@ use Rattle.ep_int.specs.Arith.{int_eq}
 use Rattle.ep_domain.specs.Faults.{shown_range, least_of_four, greatest_of_four}
 use Rattle.ep_domain.specs.Laws.Comparisons.{between_true, from_between, le_self, le_antisym}
 use Rattle.ep_domain.specs.Laws.Types.{least_unsigned, number_high}
-use Rattle.ep_intervals.specs.declared.interval.Interval.{Interval}
-use Rattle.ep_intervals.specs.Ends.{in_one_stretch, wrapped_low}
-use Rattle.ep_intervals.specs.Interval.{between}
-use Rattle.ep_intervals.specs.Results.{settled_between, whole}
+use Rattle.ep_interval_laws.specs.Ends.{in_one_stretch, wrapped_low}
+use Rattle.ep_interval_laws.specs.Interval.{Interval, between}
+use Rattle.ep_interval_laws.specs.Results.{settled_between, whole}
 use Rattle.ep_intervals.proofs.Machine.{pair_same, reduced_is}
 
 -- unsigned numbers are natural

@@ -7,6 +7,7 @@ ghost use Rattle.ep_domain.specs.Ranges.{IsRange};
 use crate::{ends, results};
 use ep_domain::{Num, Outcome, range_fault};
 use ep_int::{BinOp, Cmp, IntType, greatest, least};
+use std::marker::Model;
 
 /// The numbers from one to another.
 #[derive(Clone, Copy, Debug, PartialEq, Eq)]
@@ -16,8 +17,21 @@ pub struct Interval {
     ghost ends: { IsRange lo hi },
 }
 
+impl Model for Interval {
+    ghost use Rattle.ep_interval_laws.specs.Interval.{Interval as Ends};
+    ghost use Rattle.ep_interval_laws.proofs.Stored.{interval_code};
+
+    ghost Value = { Ends };
+
+    ghost coded = { interval_code };
+
+    ghost view = { λ a. record { lo = a.lo; hi = a.hi; ends = a.ends } };
+
+    ghost inverse = { λ a. record { lo = a.lo; hi = a.hi; ends = a.ends } };
+}
+
 impl Interval {
-    ghost use Rattle.ep_intervals.specs.Interval.{between, overlap, apart_from};
+    ghost use Rattle.ep_interval_laws.specs.Interval.{between, overlap, apart_from};
 
     // The interval of two ends, where they are those of a range.
     pub(crate) fn between(lo: i128, hi: i128) -> Option<Self>
@@ -59,11 +73,11 @@ impl Interval {
 }
 
 impl Num for Interval {
-    ghost use Rattle.ep_intervals.specs.Domain.{interval_ops};
-    ghost use Rattle.ep_intervals.specs.Laws.Lawful.{interval_laws};
-    ghost use Rattle.ep_intervals.specs.Interval.{HasNumber, join_of, meet_of, conversion_of};
-    ghost use Rattle.ep_intervals.specs.Results.{outcome_of};
-    ghost use Rattle.ep_intervals.specs.Least.{IsLeast, IsLeastOf, IsResult, IsConverted, HasLeast, IsCommon};
+    ghost use Rattle.ep_interval_laws.specs.Domain.{interval_ops};
+    ghost use Rattle.ep_interval_laws.proofs.Lawful.{interval_laws};
+    ghost use Rattle.ep_interval_laws.specs.Interval.{HasNumber, join_of, meet_of, conversion_of};
+    ghost use Rattle.ep_interval_laws.specs.Results.{outcome_of};
+    ghost use Rattle.ep_interval_laws.specs.Least.{IsLeast, IsLeastOf, IsResult, IsConverted, HasLeast, IsCommon};
 
     ghost ops = { interval_ops };
 
@@ -158,7 +172,7 @@ impl Num for Interval {
     }
 
     fn edges(&self, lo: i128, hi: i128) -> Option<(i128, i128)> {
-        self.overlap(lo, hi).map(|c| c.range())
+        Some(self.overlap(lo, hi)?.range())
     }
 
     fn cut(&self, lo: i128, hi: i128) -> Option<Self> {

@@ -24,9 +24,9 @@ use Rattle.ep_intervals.specs.declared.interval.Interval.{Interval}
 use Rattle.ep_intervals.specs.Interval.{HasNumber, ends_of, single_of, conversion_of}
 use Rattle.ep_intervals.specs.Results.{value_of}
 use Rattle.ep_intervals.specs.Domain.{interval_ops}
-use Rattle.ep_intervals.specs.Laws.Results.{HaveNumber}
-use Rattle.ep_intervals.specs.Laws.Simple.{has_low, has_high, first_of_pair, second_of_pair, single_holds, single_ends, conversion_holds, conversion_single}
-use Rattle.ep_intervals.specs.Laws.Outcomes.{value_holds, outcome_single}
+use Rattle.ep_interval_laws.proofs.Results.{HaveNumber}
+use Rattle.ep_interval_laws.proofs.Simple.{has_low, has_high, first_of_pair, second_of_pair, single_holds, single_ends, conversion_holds, conversion_single}
+use Rattle.ep_interval_laws.proofs.Outcomes.{value_holds, outcome_single}
 use Rattle.ep_small_iterator.specs.Plain.{are_one, differs_at, byte_at, byte_fault, byte_faults}
 
 -- the lowest byte of what is left after k bytes, of a number and of its complement

@@ -25,8 +25,8 @@ use Rattle.ep_alarms.specs.declared.types.Alarm.{Alarm}
 use Rattle.ep_intervals.specs.declared.interval.Interval.{Interval}
 use Rattle.ep_intervals.specs.Interval.{HasNumber, top_of, single_of, conversion_of}
 use Rattle.ep_intervals.specs.Domain.{interval_ops}
-use Rattle.ep_intervals.specs.Laws.Simple.{single_holds, single_ends, conversion_holds, conversion_single}
-use Rattle.ep_intervals.specs.Laws.Lawful.{interval_laws}
+use Rattle.ep_interval_laws.proofs.Simple.{single_holds, single_ends, conversion_holds, conversion_single}
+use Rattle.ep_interval_laws.proofs.Lawful.{interval_laws}
 use Rattle.ep_small_iterator.specs.declared.plain.Cell.{Cell}
 use Rattle.ep_small_iterator.specs.declared.plain.Cell.TheVariants.{Undefined, Number}
 use Rattle.ep_small_iterator.specs.Plain.{Cells, cell_of, read_as, find}

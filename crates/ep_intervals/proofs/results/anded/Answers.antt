@@ -1,7 +1,7 @@
 use Rattle.std.proofs.Common.{rules, FitsSigned, ◌∙◌, sym, ap, true, false, pos}
 use mir.Syntax.{w128}
 use Rattle.std.proofs.lemmas.Int.{to_z-of_z}
-use Rattle.ep_intervals.specs.Interval.{between}
+use Rattle.ep_interval_laws.specs.Interval.{between}
 use Rattle.ep_intervals.proofs.Machine.{anded_at}
 use Rattle.ep_intervals.proofs.results.anded.Goals as goal
 

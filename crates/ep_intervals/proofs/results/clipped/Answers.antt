@@ -3,7 +3,7 @@ use mir.Syntax.{w128}
 use Rattle.std.proofs.lemmas.Int.{to_z-of_z}
 use Rattle.std.specs.Int.{int_min, int_max}
 use Rattle.ep_int.specs.Types.{least_of}
-use Rattle.ep_intervals.specs.Interval.{between}
+use Rattle.ep_interval_laws.specs.Interval.{between}
 use Rattle.ep_intervals.proofs.results.clipped.Goals as goal
 
 pub returns : goal.returns

@@ -2,7 +2,7 @@ use Rattle.std.proofs.Common.{rules, FitsSigned, ◌∙◌, sym, ap, true, false
 use mir.Syntax.{w128}
 use Rattle.std.proofs.lemmas.Int.{to_z-of_z}
 use Rattle.std.specs.Prelude.{int_le}
-use Rattle.ep_intervals.specs.Results.{clipped, quotients, hull, negative_part}
+use Rattle.ep_interval_laws.specs.Results.{clipped, quotients, hull, negative_part}
 use Rattle.ep_intervals.proofs.Machine.{divided_at}
 use Rattle.ep_intervals.proofs.results.divided.Goals as goal
 

@@ -5,8 +5,8 @@ use Rattle.std.specs.Prelude.{unsigned_abs}
 use Rattle.ep_int.specs.Types.{is_signed, bits_of}
 use Rattle.ep_domain.proofs.FaultCode.{in_long}
 use Rattle.ep_domain.proofs.FaultCode as fault
-use Rattle.ep_intervals.specs.Interval.{between}
-use Rattle.ep_intervals.specs.Results.{clipped}
+use Rattle.ep_interval_laws.specs.Interval.{between}
+use Rattle.ep_interval_laws.specs.Results.{clipped}
 use Rattle.ep_intervals.proofs.Machine.{clipped_is}
 use Rattle.ep_intervals.proofs.Products.{product_fits, products_are, reduced_products, whole_products, size_is, cast_is}
 use Rattle.ep_intervals.proofs.results.multiplied.Goals as goal

@@ -3,8 +3,8 @@ use mir.Syntax.{w128}
 use Rattle.std.proofs.lemmas.Int.{to_z-of_z}
 use Rattle.std.specs.Int.{int_max}
 use Rattle.ep_int.specs.Arith.{IsOfSomeType}
-use Rattle.ep_intervals.specs.Interval.{between}
-use Rattle.ep_intervals.specs.Results.{ones_over}
+use Rattle.ep_interval_laws.specs.Interval.{between}
+use Rattle.ep_interval_laws.specs.Results.{ones_over}
 use Rattle.ep_intervals.proofs.Machine.{ored_at, greater_number}
 use Rattle.ep_intervals.proofs.results.ored.Goals as goal
 

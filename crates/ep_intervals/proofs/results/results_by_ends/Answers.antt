@@ -3,7 +3,7 @@ use mir.Syntax.{w128}
 use Rattle.std.proofs.lemmas.Int.{to_z-of_z}
 use Rattle.ep_domain.specs.Laws.Types.{number_of}
 use Rattle.ep_domain.proofs.FaultCode.{sum_fits, difference_fits, right_number}
-use Rattle.ep_intervals.specs.Results.{results_of}
+use Rattle.ep_interval_laws.specs.Results.{results_of}
 use Rattle.ep_intervals.proofs.Machine.{sum_taken_fits, difference_taken_fits}
 use Rattle.ep_intervals.proofs.results.results_by_ends.Goals as goal
 

@@ -2,7 +2,7 @@ use Rattle.std.proofs.Common.{rules, FitsSigned, ◌∙◌, sym, ap}
 use mir.Syntax.{w128}
 use Rattle.std.proofs.lemmas.Int.{to_z-of_z}
 use Rattle.ep_int.specs.Types.{least_of}
-use Rattle.ep_intervals.specs.Interval.{overlap}
+use Rattle.ep_interval_laws.specs.Interval.{overlap}
 use Rattle.ep_intervals.proofs.results.right_operands.Goals as goal
 
 pub returns-else-is_shift : goal.returns-else-is_shift

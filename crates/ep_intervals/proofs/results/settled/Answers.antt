@@ -1,7 +1,7 @@
 use Rattle.std.proofs.Common.{rules, FitsSigned, ◌∙◌, sym, ap, ℤ}
 use mir.Syntax.{w128}
 use Rattle.std.proofs.lemmas.Int.{to_z-of_z}
-use Rattle.ep_intervals.specs.Interval.{between}
+use Rattle.ep_interval_laws.specs.Interval.{between}
 use Rattle.ep_intervals.proofs.Machine.{reduced_is}
 use Rattle.ep_intervals.proofs.results.settled.Goals as goal
 

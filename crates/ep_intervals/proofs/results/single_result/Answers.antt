@@ -1,7 +1,7 @@
 use Rattle.std.proofs.Common.{rules, FitsSigned, ◌∙◌, sym, ap}
 use mir.Syntax.{w128}
 use Rattle.std.proofs.lemmas.Int.{to_z-of_z}
-use Rattle.ep_intervals.specs.Results.{single_result}
+use Rattle.ep_interval_laws.specs.Results.{single_result}
 use Rattle.ep_intervals.proofs.results.single_result.Goals as goal
 
 pub returns-in-Ok : goal.returns-in-Ok

@@ -1,8 +1,8 @@
 use Rattle.std.proofs.Common.{rules, FitsSigned, ◌∙◌, sym, ap, pos}
 use mir.Syntax.{w128}
 use Rattle.std.proofs.lemmas.Int.{to_z-of_z}
-use Rattle.ep_intervals.specs.Interval.{between}
-use Rattle.ep_intervals.specs.Results.{ones_over}
+use Rattle.ep_interval_laws.specs.Interval.{between}
+use Rattle.ep_interval_laws.specs.Results.{ones_over}
 use Rattle.ep_intervals.proofs.Machine.{xored_at}
 use Rattle.ep_intervals.proofs.results.xored.Goals as goal
 

@@ -1,6 +1,6 @@
 use Rattle.std.proofs.Common.{subst, sym}
-use Rattle.ep_intervals.specs.Least.{IsLeastOf, IsResult}
-use Rattle.ep_intervals.proofs.Least.{value_least}
+use Rattle.ep_interval_laws.specs.Least.{IsLeastOf, IsResult}
+use Rattle.ep_interval_laws.proofs.Least.{value_least}
 use Rattle.ep_intervals.proofs.interval.IntervalNum.op.Goals as goal
 
 pub returns-clause-least : goal.returns-clause-least

@@ -13,13 +13,12 @@ use Rattle.ep_domain.specs.Ranges.{LiesIn}
 use Rattle.ep_domain.specs.Faults.{is_ordered}
 use Rattle.ep_domain.specs.Laws.Comparisons.{le_true, le_trans}
 use Rattle.ep_domain.specs.Laws.Types.{number_low, number_high, from_in_range}
-use Rattle.ep_intervals.specs.declared.interval.Interval.{Interval}
-use Rattle.ep_intervals.specs.Ends.{in_one_stretch, wrapped_low, wrapped_high}
-use Rattle.ep_intervals.specs.Interval.{HasNumber, between}
-use Rattle.ep_intervals.specs.Results.{clipped, settled_between, negative_part, positive_part, quotients, hull, divided}
-use Rattle.ep_intervals.specs.Laws.Between.{between_holds}
-use Rattle.ep_intervals.specs.Laws.Simple.{wrapped_ends_hold}
-use Rattle.ep_intervals.specs.Laws.Division.{quotient_of_positive, quotient_of_negative}
+use Rattle.ep_interval_laws.specs.Ends.{in_one_stretch, wrapped_low, wrapped_high}
+use Rattle.ep_interval_laws.specs.Interval.{Interval, HasNumber, between}
+use Rattle.ep_interval_laws.specs.Results.{clipped, settled_between, negative_part, positive_part, quotients, hull, divided}
+use Rattle.ep_interval_laws.proofs.Between.{between_holds}
+use Rattle.ep_interval_laws.proofs.Simple.{wrapped_ends_hold}
+use Rattle.ep_interval_laws.proofs.Division.{quotient_of_positive, quotient_of_negative}
 
 abbrev pub HaveNumber : Option Interval → ℤ → Type 0
 HaveNumber o v = IsSomeAnd o (λ c. HasNumber c v)

@@ -9,7 +9,7 @@ use Rattle.ep_int.specs.declared.types.IntType.TheVariants.{I8, U8, I16, U16, I3
 use Rattle.ep_int.specs.Types.{bits_of, greatest_of, representation, represented}
 use Rattle.ep_int.proofs.Wrapping.{represented_representation}
 use Rattle.ep_domain.specs.Laws.Types.{least_negative}
-use Rattle.ep_intervals.specs.Results.{length_in_bits, ones_over}
+use Rattle.ep_interval_laws.specs.Results.{length_in_bits, ones_over}
 
 -- the greatest number of a type is a run of ones
 ones_of : IntType → ℕ

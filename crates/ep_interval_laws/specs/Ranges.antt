@@ -11,7 +11,7 @@ use Rattle.ep_int.proofs.Wrapping.{wrapped_in_range}
 use Rattle.ep_domain.specs.Ranges.{IsRange}
 use Rattle.ep_domain.specs.Laws.Comparisons.{le_true, from_le_true, from_lt_true, from_lt_false, from_between, le_trans, le_self}
 use Rattle.ep_domain.specs.Laws.Types.{number_low, number_high, ends_ordered}
-use Rattle.ep_intervals.specs.Ends.{is_range, nearest_number, low_limit, high_limit, lowered, raised, in_one_stretch, wrapped_low, wrapped_high}
+use Rattle.ep_interval_laws.specs.Ends.{is_range, nearest_number, low_limit, high_limit, lowered, raised, in_one_stretch, wrapped_low, wrapped_high}
 
 pub is_range_true : (lo hi : ℤ) → is_range lo hi ≡ true → IsRange lo hi
 is_range_true lo hi e =

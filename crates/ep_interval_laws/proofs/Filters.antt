@@ -10,10 +10,9 @@ use Rattle.ep_int.specs.declared.types.Cmp.TheVariants.{Eq, Ne, Lt, Le, Gt, Ge}
 use Rattle.ep_int.specs.Types.{least_of, greatest_of}
 use Rattle.ep_int.specs.Arith.{int_eq, compares}
 use Rattle.ep_domain.specs.Laws.Comparisons.{between_true, from_between, from_between_false, from_le_true, from_le_false, from_lt_true, from_lt_false, le_self, le_antisym}
-use Rattle.ep_intervals.specs.declared.interval.Interval.{Interval}
-use Rattle.ep_intervals.specs.Interval.{HasNumber, ends_of, between, apart_from, filter_of}
-use Rattle.ep_intervals.specs.Laws.Between.{between_none, between_holds}
-use Rattle.ep_intervals.specs.Laws.Simple.{has_low, has_high, overlap_holds, cut_single_away, first_of_pair, second_of_pair}
+use Rattle.ep_interval_laws.specs.Interval.{Interval, HasNumber, ends_of, between, apart_from, filter_of}
+use Rattle.ep_interval_laws.proofs.Between.{between_none, between_holds}
+use Rattle.ep_interval_laws.proofs.Simple.{has_low, has_high, overlap_holds, cut_single_away, first_of_pair, second_of_pair}
 
 equal : (x y : ℤ) → int_eq x y ≡ true → x ≡ y
 equal x y e = let p = from_between x y y x e in le_antisym x y p.0 p.1

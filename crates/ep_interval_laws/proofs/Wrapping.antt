@@ -10,7 +10,7 @@ use Rattle.ep_int.proofs.Wrapping.{wrapped_in_range, wrapped_congruent}
 use Rattle.ep_domain.specs.Laws.Comparisons.{from_between, between_true, from_lt_true, from_lt_false, le_antisym, le_self}
 use Rattle.ep_domain.specs.Laws.Types.{ends_ordered}
 use Rattle.ep_domain.specs.Laws.Corners.{product_up}
-use Rattle.ep_intervals.specs.Ends.{in_one_stretch}
+use Rattle.ep_interval_laws.specs.Ends.{in_one_stretch}
 
 -- a type has as many numbers as its width says
 pub width : (t : IntType) → (greatest_of t +ℤ pos 1) ≡ (least_of t +ℤ pos (2 ^ bits_of t))

@@ -1,7 +1,6 @@
--- The laws of intervals, as lemmas on their definitions.
 pub mod Wrapping
-pub mod Ranges
 pub mod Between
+pub mod Stored
 pub mod Ranks
 pub mod Simple
 pub mod Filters
@@ -11,3 +10,4 @@ pub mod Results
 pub mod Operators
 pub mod Outcomes
 pub mod Lawful
+pub mod Least

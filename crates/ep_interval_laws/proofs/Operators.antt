@@ -21,14 +21,13 @@ use Rattle.ep_domain.specs.Laws.Comparisons.{le_true, lt_true, from_le_true, le_
 use Rattle.ep_domain.specs.Laws.Types.{number_low, number_high, from_in_range}
 use Rattle.ep_domain.specs.Laws.FaultAt.{each_shown}
 use Rattle.ep_domain.specs.Laws.Undefined.{amount_from, nearest_above, bits_positive}
-use Rattle.ep_intervals.specs.declared.interval.Interval.{Interval}
-use Rattle.ep_intervals.specs.Interval.{HasNumber, ends_of, between}
-use Rattle.ep_intervals.specs.Results.{divided, remainders, greatest_size, whole, anded, ored, xored, ones_over, has_amount, powers, shifted_left, shifted_right, results_of}
-use Rattle.ep_intervals.specs.Laws.Between.{between_holds}
-use Rattle.ep_intervals.specs.Laws.Results.{HaveNumber, ok_same, ok_if, settled_holds, divided_holds}
-use Rattle.ep_intervals.specs.Laws.Simple.{has_low, has_high, range_encloses}
-use Rattle.ep_intervals.specs.Laws.Division.{remainder_between, shift_between, shift_above, shift_below}
-use Rattle.ep_intervals.specs.Laws.Bits.{and_left_part, and_right_part, or_is, xor_is, ones_below, or_below, xor_below}
+use Rattle.ep_interval_laws.specs.Interval.{Interval, HasNumber, ends_of, between}
+use Rattle.ep_interval_laws.specs.Results.{divided, remainders, greatest_size, whole, anded, ored, xored, ones_over, has_amount, powers, shifted_left, shifted_right, results_of}
+use Rattle.ep_interval_laws.proofs.Between.{between_holds}
+use Rattle.ep_interval_laws.proofs.Results.{HaveNumber, ok_same, ok_if, settled_holds, divided_holds}
+use Rattle.ep_interval_laws.proofs.Simple.{has_low, has_high, range_encloses}
+use Rattle.ep_interval_laws.proofs.Division.{remainder_between, shift_between, shift_above, shift_below}
+use Rattle.ep_interval_laws.proofs.Bits.{and_left_part, and_right_part, or_is, xor_is, ones_below, or_below, xor_below}
 
 -- ---- remainders
 

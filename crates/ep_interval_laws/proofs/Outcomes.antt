@@ -16,14 +16,13 @@ use Rattle.ep_domain.specs.Domain.{ShowsPart}
 use Rattle.ep_domain.specs.Laws.Comparisons.{between_true, from_between, le_self, le_trans, le_antisym}
 use Rattle.ep_domain.specs.Laws.Types.{number_of}
 use Rattle.ep_domain.specs.Laws.RangeFaults.{fault_is_found, fault_is_shown}
-use Rattle.ep_intervals.specs.declared.interval.Interval.{Interval}
-use Rattle.ep_intervals.specs.Interval.{HasNumber, interval, ends_of, overlap}
-use Rattle.ep_intervals.specs.Results.{single_result, results_of, results_between, right_operands, value_of, outcome_of}
-use Rattle.ep_intervals.specs.Domain.{interval_ops}
-use Rattle.ep_intervals.specs.Laws.Between.{between_holds, between_some}
-use Rattle.ep_intervals.specs.Laws.Simple.{has_low, has_high, overlap_holds, cut_single, range_encloses, first_of_pair, second_of_pair}
-use Rattle.ep_intervals.specs.Laws.Results.{HaveNumber}
-use Rattle.ep_intervals.specs.Laws.Operators.{results_hold}
+use Rattle.ep_interval_laws.specs.Interval.{Interval, HasNumber, interval, ends_of, overlap}
+use Rattle.ep_interval_laws.specs.Results.{single_result, results_of, results_between, right_operands, value_of, outcome_of}
+use Rattle.ep_interval_laws.specs.Domain.{interval_ops}
+use Rattle.ep_interval_laws.proofs.Between.{between_holds, between_some}
+use Rattle.ep_interval_laws.proofs.Simple.{has_low, has_high, overlap_holds, cut_single, range_encloses, first_of_pair, second_of_pair}
+use Rattle.ep_interval_laws.proofs.Results.{HaveNumber}
+use Rattle.ep_interval_laws.proofs.Operators.{results_hold}
 
 same_number : (l h x : ℤ) → int_eq l h ≡ true → l ≤ℤ x → x ≤ℤ h → x ≡ l
 same_number l h x e p q = let r = from_between l h h l e in le_antisym x l (le_trans _ _ _ q r.1) p

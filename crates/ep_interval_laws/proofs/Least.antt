@@ -17,15 +17,14 @@ use Rattle.ep_domain.specs.Faults.{Takes, shown_of, shown_range}
 use Rattle.ep_domain.specs.Laws.Comparisons.{between_true, le_self}
 use Rattle.ep_domain.specs.Laws.Types.{in_range_true}
 use Rattle.ep_domain.specs.Laws.FaultAt.{ShownAt, low_shown, high_shown}
-use Rattle.ep_intervals.specs.declared.interval.Interval.{Interval}
-use Rattle.ep_intervals.specs.Ends.{in_one_stretch, wrapped_low, wrapped_high}
-use Rattle.ep_intervals.specs.Interval.{HasNumber, ends_of, between, overlap, join_of, meet_of, conversion_of}
-use Rattle.ep_intervals.specs.Results.{clipped, settled_between, single_result, results_of, results_between, value_of}
-use Rattle.ep_intervals.specs.Least.{IsLeast, IsLeastOf, IsResult, IsConverted, HasLeast, IsCommon}
-use Rattle.ep_intervals.specs.Laws.Between.{between_parts}
-use Rattle.ep_intervals.specs.Laws.Wrapping.{Passes, passes}
-use Rattle.ep_intervals.specs.Laws.Simple as simple
-use Rattle.ep_intervals.specs.Laws.Outcomes.{value_holds}
+use Rattle.ep_interval_laws.specs.Ends.{in_one_stretch, wrapped_low, wrapped_high}
+use Rattle.ep_interval_laws.specs.Interval.{Interval, HasNumber, ends_of, between, overlap, join_of, meet_of, conversion_of}
+use Rattle.ep_interval_laws.specs.Results.{clipped, settled_between, single_result, results_of, results_between, value_of}
+use Rattle.ep_interval_laws.specs.Least.{IsLeast, IsLeastOf, IsResult, IsConverted, HasLeast, IsCommon}
+use Rattle.ep_interval_laws.proofs.Between.{between_parts}
+use Rattle.ep_interval_laws.proofs.Wrapping.{Passes, passes}
+use Rattle.ep_interval_laws.proofs.Simple as simple
+use Rattle.ep_interval_laws.proofs.Outcomes.{value_holds}
 
 -- an interval whose ends are such numbers is the least
 ends_least : (P : ℤ → Type 0) (c : Interval) → ((v : ℤ) → P v → HasNumber c v) → P c.lo → P c.hi → IsLeast P c

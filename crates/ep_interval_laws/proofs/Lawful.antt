@@ -1,12 +1,12 @@
 -- Intervals are a lawful domain.
 use Rattle.ep_domain.specs.Domain.{Lawful}
 use Rattle.ep_domain.specs.Laws.Comparisons.{between_true}
-use Rattle.ep_intervals.specs.Interval.{widening_of}
-use Rattle.ep_intervals.specs.Domain.{interval_ops}
-use Rattle.ep_intervals.specs.Laws.Ranks.{rank_bound}
-use Rattle.ep_intervals.specs.Laws.Simple as simple
-use Rattle.ep_intervals.specs.Laws.Filters.{filter_holds, filter_single}
-use Rattle.ep_intervals.specs.Laws.Outcomes.{outcome_holds, outcome_faults, outcome_shows, outcome_single}
+use Rattle.ep_interval_laws.specs.Interval.{widening_of}
+use Rattle.ep_interval_laws.specs.Domain.{interval_ops}
+use Rattle.ep_interval_laws.proofs.Ranks.{rank_bound}
+use Rattle.ep_interval_laws.proofs.Simple as simple
+use Rattle.ep_interval_laws.proofs.Filters.{filter_holds, filter_single}
+use Rattle.ep_interval_laws.proofs.Outcomes.{outcome_holds, outcome_faults, outcome_shows, outcome_single}
 
 pub interval_laws : Lawful interval_ops
 interval_laws = record {

@@ -10,13 +10,12 @@ use Rattle.ep_int.specs.Arith.{IsOfSomeType}
 use Rattle.ep_int.proofs.Wrapping.{wrapped_in_range}
 use Rattle.ep_domain.specs.Ranges.{IsRange, LiesIn, Encloses}
 use Rattle.ep_domain.specs.Laws.Comparisons.{between_true, from_between, from_lt_true, from_between_false, le_trans, le_self, le_antisym}
-use Rattle.ep_intervals.specs.declared.interval.Interval.{Interval}
-use Rattle.ep_intervals.specs.Ends.{nearest_number, low_limit, high_limit, in_one_stretch, wrapped_low, wrapped_high}
-use Rattle.ep_intervals.specs.Interval.{HasNumber, interval, ends_of, between, single_of, is_within, join_of, overlap, edges_of, widening_of, rank_of, conversion_of}
-use Rattle.ep_intervals.specs.Laws.Ranges.{lowered_kept, lowered_new, raised_kept, raised_new}
-use Rattle.ep_intervals.specs.Laws.Between.{same_ends, between_some, between_none, between_parts, between_holds}
-use Rattle.ep_intervals.specs.Laws.Ranks.{lowered_falls, lowered_stays, raised_falls, raised_stays}
-use Rattle.ep_intervals.specs.Laws.Wrapping.{wrapped_between}
+use Rattle.ep_interval_laws.specs.Ends.{nearest_number, low_limit, high_limit, in_one_stretch, wrapped_low, wrapped_high}
+use Rattle.ep_interval_laws.specs.Interval.{Interval, HasNumber, interval, ends_of, between, single_of, is_within, join_of, overlap, edges_of, widening_of, rank_of, conversion_of}
+use Rattle.ep_interval_laws.specs.Ranges.{lowered_kept, lowered_new, raised_kept, raised_new}
+use Rattle.ep_interval_laws.proofs.Between.{same_ends, between_some, between_none, between_parts, between_holds}
+use Rattle.ep_interval_laws.proofs.Ranks.{lowered_falls, lowered_stays, raised_falls, raised_stays}
+use Rattle.ep_interval_laws.proofs.Wrapping.{wrapped_between}
 
 pub has_low : (a : Interval) (z : ℤ) → HasNumber a z → a.lo ≤ℤ z
 has_low a z h = (from_between a.lo z z a.hi h).0

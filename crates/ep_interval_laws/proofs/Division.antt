@@ -8,7 +8,7 @@ use Rattle.std.proofs.lemmas.Nat.{le-div, pow_pos}
 use Rattle.std.proofs.lemmas.Int.{ints, clamps}
 use Rattle.ep_domain.specs.Ranges.{LiesIn}
 use Rattle.ep_domain.specs.Faults.{least_of_four, greatest_of_four}
-use Rattle.ep_intervals.specs.Results.{quotients, greatest_size}
+use Rattle.ep_interval_laws.specs.Results.{quotients, greatest_size}
 
 -- ---- natural numbers
 
