@@ -91,13 +91,15 @@ module _ (p : Program) where
 -- ---- calls
 
 module _ (o : Order) (p : Program) where
-  -- A call up to its body: the result becomes undefined, the arguments are evaluated, and then the parameters and locals
+  -- A call up to its body: the result becomes undefined, the arguments are evaluated, and then the parameters and
+  -- locals
   -- become undefined and the parameters get their values.
   abbrev pub passes : Function → List Expr → (line : ℕ) → Going
   passes f es l n s =
       given_all (values o p es (without (first_of (option_to_list f.result)) s).memory) l
       (without (first_of (option_to_list f.result)) s)
-      (λ vs. bound o p f.params vs l (without (frame_of f) (without (first_of (option_to_list f.result)) s)) (leaves on n))
+      (λ vs. bound o p f.params vs l (without (frame_of f) (without (first_of (option_to_list f.result)) s))
+      (leaves on n))
 
 -- ---- runs
 
@@ -109,7 +111,8 @@ pub record EndAlike (x y : Run) : Type 0 where
 
 -- ---- laws, on machines of these byte orders
 
-pub record Lawful (p : Program) (ord : Side → Order) {S : Type 0} (o : StateOps S) (In : S → Memory → Memory → Type 0) : Type 0 where
+pub record Lawful (p : Program) (ord : Side → Order) {S : Type 0} (o : StateOps S) (In : S → Memory → Memory → Type 0) :
+    Type 0 where
   -- the machines begin main as the entry says
   pub entry_in : In o.entry (initial (ord left) p) (initial (ord right) p)
   -- without a fault, both machines go on as a typed statement's state says
@@ -142,7 +145,8 @@ pub record Lawful (p : Program) (ord : Side → Order) {S : Type 0} (o : StateOp
   pub arguments_sound : (k : ℕ) (f : Function) → slice_get p.functions k ≡ Some f → (es : List Expr) (seen : List ℕ)
       → arguments_fit p.types p.blocks seen f.params es ≡ true
       → (l n m : ℕ) (s : S) (x y : State) → Kept p In s x y → (o.arguments Both f es s).faults ≡ []
-      → Meets p In on (o.arguments Both f es s).next n m (passes (ord left) p f es l n x) (passes (ord right) p f es l m y)
+      → Meets p In on (o.arguments Both f es s).next n m (passes (ord left) p f es l n x)
+      (passes (ord right) p f es l m y)
   pub arguments_alone : (m : Side) (k : ℕ) (f : Function) → slice_get p.functions k ≡ Some f
       → (es : List Expr) (seen : List ℕ) → arguments_fit p.types p.blocks seen f.params es ≡ true
       → (l n : ℕ) (s : S) (x y : State) → KeptBeside p In m s x y → (o.arguments (One m) f es s).faults ≡ []
@@ -176,4 +180,5 @@ pub record Lawful (p : Program) (ord : Side → Order) {S : Type 0} (o : StateOp
   pub empty_in : (m k : Memory) → In o.empty m k
   -- without a fault, both machines end main alike
   pub ended_sound : (f : Function) → slice_get p.functions p.main ≡ Some f → (s : S) (x y : State) → Kept p In s x y
-      → o.ended f s ≡ [] → EndAlike (main_ends (ord left) p f.result f.line x) (main_ends (ord right) p f.result f.line y)
+      → o.ended f s ≡ [] → EndAlike (main_ends (ord left) p f.result f.line x)
+      (main_ends (ord right) p f.result f.line y)

@@ -17,7 +17,9 @@ ghost use Rattle.ep_pass_laws.specs.Agreement.{AgreeInTheEnd};
 /// which memories of the machines one stands, and that the operations keep this.
 pub trait States {
     ghost ops: { Program → (Side → Order) → StateOps Self };
+
     ghost In: { Program → (Side → Order) → Self → Memory → Memory → Type 0 };
+
     ghost laws: { (p : Program) (ord : Side → Order) → is_well_formed p ≡ true → is_order (ord left) (ord right) ≡ false → Lawful p ord (ops p ord) (In p ord) };
 }
 
