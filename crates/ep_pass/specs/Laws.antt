@@ -1,10 +1,10 @@
 -- What the operations on states keep, of memories and machines: the usual conditions of abstract interpretation (Cousot
 -- and Cousot 1977). They speak of one operation each, and none of loops, ways out or lists of alarms.
-use Rattle.std.specs.Prelude.{◌≡◌, ℕ, Bool, true, List, [], Option, Some, None, slice_get, option_to_list}
+use Rattle.std.specs.Prelude.{◌≡◌, ℕ, Bool, true, false, List, [], Option, Some, None, slice_get, option_to_list}
 use Rattle.ep_int.specs.declared.types.Order.{Order}
 use Rattle.ep_int.specs.Memory.{Memory, has, killed, Value}
 use Rattle.ep_core.specs.Program.{Expr, Dest, Simple, Function, Program}
-use Rattle.ep_core.specs.Exec.{State, Way, on, Outcome, leaves, no_input, Going, uncounted, is_true, given_all, first_of, frame_of, without, value, values, bound, does, received}
+use Rattle.ep_core.specs.Exec.{State, Way, on, Outcome, leaves, no_input, Going, uncounted, is_true, is_order, given_all, first_of, frame_of, without, value, values, bound, does, received}
 use Rattle.ep_core.specs.Runs.{Side, left, right, Run, IsDefined, initial, main_ends}
 use Rattle.ep_core.specs.WellFormed.{result_type, is_tested, simple_fits, arguments_fit, takes_result}
 use Rattle.ep_core.specs.Typed.{StateFits}
@@ -92,8 +92,7 @@ module _ (p : Program) where
 
 module _ (o : Order) (p : Program) where
   -- A call up to its body: the result becomes undefined, the arguments are evaluated, and then the parameters and
-  -- locals
-  -- become undefined and the parameters get their values.
+  -- locals become undefined and the parameters get their values.
   abbrev pub passes : Function → List Expr → (line : ℕ) → Going
   passes f es l n s =
       given_all (values o p es (without (first_of (option_to_list f.result)) s).memory) l
@@ -110,6 +109,10 @@ pub record EndAlike (x y : Run) : Type 0 where
   pub outputs : x.outputs ≡ y.outputs
 
 -- ---- laws, on machines of these byte orders
+
+-- the two sides have different ones
+abbrev pub AreOther : (Side → Order) → Type 0
+AreOther ord = is_order (ord left) (ord right) ≡ false
 
 pub record Lawful (p : Program) (ord : Side → Order) {S : Type 0} (o : StateOps S) (In : S → Memory → Memory → Type 0) :
     Type 0 where

@@ -105,8 +105,7 @@ abbrev pub simple_pass : {S : Type 0} → Way → (line : ℕ) → Gives S → P
 simple_pass k l g = left_by k g.next (logged (alarms_at l g.faults) 0 [])
 
 -- ---- Where the sides go different ways, the right's arm is gone through from each way out of the left's. Equal ways
--- go
--- on; each other one that is reached is an alarm, and ends.
+-- go on; each other one that is reached is an alarm, and ends.
 
 abbrev pub only_on : {S : Type 0} → ℕ → Pass S → Pass S
 only_on l p =

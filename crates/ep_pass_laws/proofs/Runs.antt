@@ -70,8 +70,7 @@ pub record Covered (x y : Run) : Type 0 where
 
 module _ (p : Program) where
   -- By turns: with more than u of them the first machine's run is defined, and the second's comes as far, with more
-  -- than
-  -- u turns beyond these.
+  -- than u turns beyond these.
   abbrev pub IsCovered : (u : ℕ) → (a b : Order) → Type 0
   IsCovered u a b =
       (inputs : List ℕ) (n m : ℕ) → u < n → n + u < m
