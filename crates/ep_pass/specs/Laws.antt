@@ -1,10 +1,10 @@
 -- What the operations on states keep, of memories and machines: the usual conditions of abstract interpretation (Cousot
 -- and Cousot 1977). They speak of one operation each, and none of loops, ways out or lists of alarms.
-use Rattle.std.specs.Prelude.{◌≡◌, ℕ, Bool, true, List, [], Option, Some, None, slice_get, option_to_list}
+use Rattle.std.specs.Prelude.{◌≡◌, ℕ, Bool, true, false, List, [], Option, Some, None, slice_get, option_to_list}
 use Rattle.ep_int.specs.declared.types.Order.{Order}
 use Rattle.ep_int.specs.Memory.{Memory, has, killed, Value}
 use Rattle.ep_core.specs.Program.{Expr, Dest, Simple, Function, Program}
-use Rattle.ep_core.specs.Exec.{State, Way, on, Outcome, leaves, no_input, Going, uncounted, is_true, given_all, first_of, frame_of, without, value, values, bound, does, received}
+use Rattle.ep_core.specs.Exec.{State, Way, on, Outcome, leaves, no_input, Going, uncounted, is_true, is_order, given_all, first_of, frame_of, without, value, values, bound, does, received}
 use Rattle.ep_core.specs.Runs.{Side, left, right, Run, IsDefined, initial, main_ends}
 use Rattle.ep_core.specs.WellFormed.{result_type, is_tested, simple_fits, arguments_fit, takes_result}
 use Rattle.ep_core.specs.Typed.{StateFits}
@@ -91,13 +91,14 @@ module _ (p : Program) where
 -- ---- calls
 
 module _ (o : Order) (p : Program) where
-  -- A call up to its body: the result becomes undefined, the arguments are evaluated, and then the parameters and locals
-  -- become undefined and the parameters get their values.
+  -- A call up to its body: the result becomes undefined, the arguments are evaluated, and then the parameters and
+  -- locals become undefined and the parameters get their values.
   abbrev pub passes : Function → List Expr → (line : ℕ) → Going
   passes f es l n s =
       given_all (values o p es (without (first_of (option_to_list f.result)) s).memory) l
       (without (first_of (option_to_list f.result)) s)
-      (λ vs. bound o p f.params vs l (without (frame_of f) (without (first_of (option_to_list f.result)) s)) (leaves on n))
+      (λ vs. bound o p f.params vs l (without (frame_of f) (without (first_of (option_to_list f.result)) s))
+      (leaves on n))
 
 -- ---- runs
 
@@ -109,7 +110,12 @@ pub record EndAlike (x y : Run) : Type 0 where
 
 -- ---- laws, on machines of these byte orders
 
-pub record Lawful (p : Program) (ord : Side → Order) {S : Type 0} (o : StateOps S) (In : S → Memory → Memory → Type 0) : Type 0 where
+-- the two sides have different ones
+abbrev pub AreOther : (Side → Order) → Type 0
+AreOther ord = is_order (ord left) (ord right) ≡ false
+
+pub record Lawful (p : Program) (ord : Side → Order) {S : Type 0} (o : StateOps S) (In : S → Memory → Memory → Type 0) :
+    Type 0 where
   -- the machines begin main as the entry says
   pub entry_in : In o.entry (initial (ord left) p) (initial (ord right) p)
   -- without a fault, both machines go on as a typed statement's state says
@@ -142,7 +148,8 @@ pub record Lawful (p : Program) (ord : Side → Order) {S : Type 0} (o : StateOp
   pub arguments_sound : (k : ℕ) (f : Function) → slice_get p.functions k ≡ Some f → (es : List Expr) (seen : List ℕ)
       → arguments_fit p.types p.blocks seen f.params es ≡ true
       → (l n m : ℕ) (s : S) (x y : State) → Kept p In s x y → (o.arguments Both f es s).faults ≡ []
-      → Meets p In on (o.arguments Both f es s).next n m (passes (ord left) p f es l n x) (passes (ord right) p f es l m y)
+      → Meets p In on (o.arguments Both f es s).next n m (passes (ord left) p f es l n x)
+      (passes (ord right) p f es l m y)
   pub arguments_alone : (m : Side) (k : ℕ) (f : Function) → slice_get p.functions k ≡ Some f
       → (es : List Expr) (seen : List ℕ) → arguments_fit p.types p.blocks seen f.params es ≡ true
       → (l n : ℕ) (s : S) (x y : State) → KeptBeside p In m s x y → (o.arguments (One m) f es s).faults ≡ []
@@ -176,4 +183,5 @@ pub record Lawful (p : Program) (ord : Side → Order) {S : Type 0} (o : StateOp
   pub empty_in : (m k : Memory) → In o.empty m k
   -- without a fault, both machines end main alike
   pub ended_sound : (f : Function) → slice_get p.functions p.main ≡ Some f → (s : S) (x y : State) → Kept p In s x y
-      → o.ended f s ≡ [] → EndAlike (main_ends (ord left) p f.result f.line x) (main_ends (ord right) p f.result f.line y)
+      → o.ended f s ≡ [] → EndAlike (main_ends (ord left) p f.result f.line x)
+      (main_ends (ord right) p f.result f.line y)

@@ -1,5 +1,5 @@
--- What the analysis reports of a program: a pass through its statements, with one case for each kind. The rules are this
--- project's.
+-- What the analysis reports of a program: a pass through its statements, with one case for each kind. The rules are
+-- this project's.
 use Rattle.std.specs.Prelude.{ℕ, zero, suc, ◌+◌, ◌-◌, pos, Bool, true, false, if◌then◌else◌, nat_eq, List, [], ◌∷◌, ◌++◌, slice_get, Option, Some, None}
 use Rattle.ep_int.specs.declared.types.Order.{Order}
 use Rattle.ep_alarms.specs.declared.types.Alarm.{Alarm}
@@ -104,8 +104,8 @@ way_of w = way_if (is_return w)
 abbrev pub simple_pass : {S : Type 0} → Way → (line : ℕ) → Gives S → Pass S
 simple_pass k l g = left_by k g.next (logged (alarms_at l g.faults) 0 [])
 
--- ---- Where the sides go different ways, the right's arm is gone through from each way out of the left's. Equal ways go
--- on; each other one that is reached is an alarm, and ends.
+-- ---- Where the sides go different ways, the right's arm is gone through from each way out of the left's. Equal ways
+-- go on; each other one that is reached is an alarm, and ends.
 
 abbrev pub only_on : {S : Type 0} → ℕ → Pass S → Pass S
 only_on l p =
@@ -208,7 +208,8 @@ module _ {S : Type 0} (o : StateOps S) where
   leave_call p = passed (join_on p.ways.returned p.on) none p.log
 
   -- A call of this function, whose body is gone through so. No well-formed program calls a function that isn't there.
-  abbrev pub call_pass : Option Function → Mode → List Expr → Option Dest → (line : ℕ) → (body : S → Pass S) → S → Pass S
+  abbrev pub call_pass : Option Function → Mode → List Expr → Option Dest → (line : ℕ) → (body : S → Pass S) → S
+      → Pass S
   call_pass None m es d l body s = ends []
   call_pass (Some f) m es d l body s =
       then_pass
@@ -256,7 +257,8 @@ module _ {S : Type 0} (o : StateOps S) where
 
   -- A test, and what follows for each pair of truths. Each state is joined by itself to what came before: in a loop,
   -- the ways out so far.
-  abbrev pub tested : Pass S → Mode → Expr → (line : ℕ) → (both left_alone right_alone neither : S → Pass S) → S → Pass S
+  abbrev pub tested : Pass S → Mode → Expr → (line : ℕ) → (both left_alone right_alone neither : S → Pass S) → S
+      → Pass S
   tested a m e l p q r t s =
       after (logged (alarms_at l (o.test m e s).faults) 0 []) (decided a m (o.test m e s).verdict e p q r t s)
 

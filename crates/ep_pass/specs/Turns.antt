@@ -78,7 +78,8 @@ module _ (u limit : ℕ) (ord : Side → Order) (p : Program) where
   abbrev pub most_before : (n : ℕ) → ℕ → ℕ
   most_before zero k = 0
   most_before (suc n) k =
-      number_of (nat_eq k n) (most_body (slice_get p.functions n) (alone_most_before n) (most_before n)) (most_before n k)
+      number_of (nat_eq k n) (most_body (slice_get p.functions n) (alone_most_before n) (most_before n))
+      (most_before n k)
 
   -- of a program
   abbrev pub most_turns : ℕ

@@ -1,12 +1,12 @@
 -- A pass goes through bodies at most so often, whatever the operations do.
-use Rattle.std.proofs.Common.{◌≡◌, ℕ, zero, suc, ◌+◌, ◌-◌, ◌*◌, ◌≤◌, List, [], ◌∷◌, refl, subst, Option, Some, None, Bool, true, false, if◌then◌else◌, nat_eq, slice_get, arith}
+use Rattle.std.proofs.Common.{◌≡◌, ℕ, zero, suc, ◌+◌, ◌-◌, ◌*◌, ◌≤◌, List, [], refl, subst, Option, Some, None, Bool, true, false, if◌then◌else◌, nat_eq, slice_get, arith}
 use Rattle.std.proofs.Math.Nat.{suc-mul, zero-mul, add-mul, one-mul, mul-le-mul_right}
 use Rattle.ep_int.specs.declared.types.Order.{Order}
 use Rattle.ep_core.specs.Program.{Expr, Dest, What, simple, call, if_else, loop, break_loop, continue_loop, by_order, scope, Stmts, stop, more, Function, Program}
-use Rattle.ep_core.specs.Exec.{Way, on, broken, continued, returned, is_order, callee_of, frame_of, result_in}
+use Rattle.ep_core.specs.Exec.{Way, on, broken, continued, returned, is_order, callee_of, frame_of}
 use Rattle.ep_core.specs.Runs.{Side, left, right}
 use Rattle.ep_pass.specs.States.{Mode, Both, One, Gives, Verdict, stuck, same, differs, StateOps}
-use Rattle.ep_pass.specs.Pass.{Ways, none, Log, logged, Pass, passed, ends, so_far, branch, too_long, jumps, way_of, simple_pass, go_on, join_ways, then_pass, rowed, either_pass, leave_call, scope_pass, call_pass, next_pass, body_ends, decided, tested, parted, apart, arm_of, by_order_pass, unrolled, in_body, one_turn, cut_turn, one_rounds, entered, lone, joint_turn, is_stable, next_head, dropped, settled, from_head, last_turns, joint_rounds, loop_pass, pass, pass_all, body_pass, bodies_pass, turns_of}
+use Rattle.ep_pass.specs.Pass.{Ways, none, Log, Pass, ends, so_far, branch, too_long, jumps, way_of, simple_pass, go_on, join_ways, then_pass, rowed, either_pass, leave_call, scope_pass, call_pass, next_pass, body_ends, decided, tested, parted, apart, arm_of, unrolled, in_body, one_turn, cut_turn, one_rounds, entered, lone, joint_turn, is_stable, next_head, dropped, settled, from_head, last_turns, joint_rounds, loop_pass, pass, pass_all, body_pass, bodies_pass, turns_of}
 use Rattle.ep_pass.specs.Turns.{number_of, alone_most, alone_most_all, most, most_all, alone_most_body, most_body, alone_most_before, most_before, most_turns}
 
 abbrev pub Within : {S : Type 0} → ℕ → Pass S → Type 0
@@ -17,27 +17,37 @@ module _ {S : Type 0} (o : StateOps S) where
   branch_within k None go h = omega arith
   branch_within k (Some s) go h = h s
 
-  go_on_within : (k j n : ℕ) (u : Option S) (w : Ways S) (g : Log S) (go : S → Ways S → Pass S) → n ≡ k + j → g.count ≤ k → ((s : S) (w : Ways S) → Within j (go s w)) → Within n (go_on o u w g go)
+  go_on_within : (k j n : ℕ) (u : Option S) (w : Ways S) (g : Log S) (go : S → Ways S → Pass S) → n ≡ k + j
+      → g.count ≤ k → ((s : S) (w : Ways S) → Within j (go s w)) → Within n (go_on o u w g go)
   go_on_within k j n None w g go e h i = omega (arith, e, h)
   go_on_within k j n (Some s) w g go e h i = let r = i s w in omega (arith, e, h, r)
 
-  then_within : (k j n : ℕ) (p : Pass S) (w : Ways S) (go : S → Ways S → Pass S) → n ≡ k + j → Within k p → ((s : S) (w : Ways S) → Within j (go s w)) → Within n (then_pass o p w go)
+  then_within : (k j n : ℕ) (p : Pass S) (w : Ways S) (go : S → Ways S → Pass S) → n ≡ k + j → Within k p
+      → ((s : S) (w : Ways S) → Within j (go s w)) → Within n (then_pass o p w go)
   then_within k j n p w go e h i = go_on_within k j n p.on (join_ways o w p.ways) p.log go e h i
 
   two_within : (k j n : ℕ) (p q : Pass S) → n ≡ k + j → Within k p → Within j q → Within n (either_pass o p q)
   two_within k j n p q e h i = omega (arith, e, h, i)
 
-  tested_alone_within : (a : Pass S) → Within 0 a → (m : Side) (e : Expr) (l k j n : ℕ) (p q r t : S → Pass S) (s : S) → n ≡ k + j → ((s : S) → Within k (p s)) → ((s : S) → Within j (t s)) → Within n (tested o a (One m) e l p q r t s)
-  tested_alone_within a z m e l k j n p q r t s sum h i = let z = by_verdict (o.test (One m) e s).verdict in omega (arith, z)
+  tested_alone_within : (a : Pass S) → Within 0 a → (m : Side) (e : Expr) (l k j n : ℕ) (p q r t : S → Pass S) (s : S)
+      → n ≡ k + j → ((s : S) → Within k (p s)) → ((s : S) → Within j (t s))
+      → Within n (tested o a (One m) e l p q r t s)
+  tested_alone_within a z m e l k j n p q r t s sum h i = let z =
+      by_verdict (o.test (One m) e s).verdict in omega (arith, z)
     where
       by_verdict : (v : Verdict) → Within n (decided o a (One m) v e p q r t s)
       by_verdict stuck = omega (arith, z)
-      by_verdict same = let x = branch_within k (o.assume_one m e true s) p h in let y = branch_within j (o.assume_one m e false s) t i in omega (arith, sum, x, y, z)
-      by_verdict differs = let x = branch_within k (o.assume_one m e true s) p h in let y = branch_within j (o.assume_one m e false s) t i in omega (arith, sum, x, y, z)
+      by_verdict same = let x = branch_within k (o.assume_one m e true s) p h in let y =
+          branch_within j (o.assume_one m e false s) t i in omega (arith, sum, x, y, z)
+      by_verdict differs = let x = branch_within k (o.assume_one m e true s) p h in let y =
+          branch_within j (o.assume_one m e false s) t i in omega (arith, sum, x, y, z)
 
-  tested_within : (f : Pass S) → Within 0 f → (e : Expr) (l a b c d n : ℕ) (p q r t : S → Pass S) (s : S) → n ≡ ((a + b) + c) + d → ((s : S) → Within a (p s)) → ((s : S) → Within b (q s)) → ((s : S) → Within c (r s)) → ((s : S) → Within d (t s))
+  tested_within : (f : Pass S) → Within 0 f → (e : Expr) (l a b c d n : ℕ) (p q r t : S → Pass S) (s : S) → n
+      ≡ ((a + b) + c) + d → ((s : S) → Within a (p s)) → ((s : S) → Within b (q s)) → ((s : S) → Within c (r s))
+      → ((s : S) → Within d (t s))
       → Within n (tested o f Both e l p q r t s)
-  tested_within f none e l a b c d n p q r t s sum hp hq hr ht = let z = by_verdict (o.test Both e s).verdict in omega (arith, z)
+  tested_within f none e l a b c d n p q r t s sum hp hq hr ht = let z =
+      by_verdict (o.test Both e s).verdict in omega (arith, z)
     where
       by_verdict : (v : Verdict) → Within n (decided o f Both v e p q r t s)
       by_verdict stuck = omega (arith, none)
@@ -52,7 +62,8 @@ module _ {S : Type 0} (o : StateOps S) where
           let w = branch_within d (o.assume e false false s) t ht in
           omega (arith, sum, x, y, z, w, none)
 
-  parted_within : (l k j n : ℕ) (p : Pass S) (go : S → Pass S) → n ≡ k + 4 * j → Within k p → ((s : S) → Within j (go s)) → Within n (parted o l p go)
+  parted_within : (l k j n : ℕ) (p : Pass S) (go : S → Pass S) → n ≡ k + 4 * j → Within k p
+      → ((s : S) → Within j (go s)) → Within n (parted o l p go)
   parted_within l k j n p go sum h i =
       let a = branch_within j p.on go i in
       let b = branch_within j p.ways.broken go i in
@@ -60,11 +71,14 @@ module _ {S : Type 0} (o : StateOps S) where
       let d = branch_within j p.ways.returned go i in
       omega (arith, sum, h, a, b, c, d)
 
-  unrolled_within : (turn last : Ways S → S → Pass S) (k j : ℕ) → ((w : Ways S) (s : S) → Within k (turn w s)) → ((w : Ways S) (s : S) → Within j (last w s)) → (u n : ℕ) → n ≡ u * k + j → (s : S) (w : Ways S) → Within n (unrolled o turn last u s w)
+  unrolled_within : (turn last : Ways S → S → Pass S) (k j : ℕ) → ((w : Ways S) (s : S) → Within k (turn w s))
+      → ((w : Ways S) (s : S) → Within j (last w s)) → (u n : ℕ) → n ≡ u * k + j → (s : S) (w : Ways S)
+      → Within n (unrolled o turn last u s w)
   unrolled_within turn last k j h i zero n sum s w = let z = zero-mul k in let y = i w s in omega (arith, sum, z, y)
   unrolled_within turn last k j h i (suc u) n sum s w =
       let z = suc-mul u k in
-      go_on_within k (u * k + j) n (turn w s).on (turn w s).ways (turn w s).log (unrolled o turn last u) (omega (arith, sum, z)) (h w s) (unrolled_within turn last k j h i u (u * k + j) refl)
+      go_on_within k (u * k + j) n (turn w s).on (turn w s).ways (turn w s).log (unrolled o turn last u)
+      (omega (arith, sum, z)) (h w s) (unrolled_within turn last k j h i u (u * k + j) refl)
 
 -- ---- sums
 
@@ -89,72 +103,93 @@ one_sum j = one-mul j
 -- ---- statements
 
 module _ {S : Type 0} (o : StateOps S) (u limit : ℕ) (some : 1 ≤ limit) where
-  module _ (l : ℕ) (e : Expr) (body : Mode → S → Pass S) (k : ℕ) (h : (m : Side) (s : S) → Within k (body (One m) s)) where
-    in_within : (m : Side) (s : S) → Within (suc k) (in_body o u limit l e body (One m) s)
-    in_within m s = let z = h m s in omega (arith, z)
+  module _ (l : ℕ) (e : Expr) (body : Mode → S → Pass S) (k : ℕ) (h : (m : Side) (s : S) → Within k (body (One m) s))
+    where
+      in_within : (m : Side) (s : S) → Within (suc k) (in_body o u limit l e body (One m) s)
+      in_within m s = let z = h m s in omega (arith, z)
 
-    one_within : (m : Side) (w : Ways S) (s : S) → Within (suc k) (one_turn o u limit l e body m w s)
-    one_within m w s = tested_alone_within o (so_far w) (omega arith) m e l (suc k) 0 (suc k) (in_body o u limit l e body (One m)) (λ s. ends []) (λ s. ends []) (jumps broken) s (omega arith) (in_within m) (λ s. omega arith)
+      one_within : (m : Side) (w : Ways S) (s : S) → Within (suc k) (one_turn o u limit l e body m w s)
+      one_within m w s = tested_alone_within o (so_far w) (omega arith) m e l (suc k) 0 (suc k)
+          (in_body o u limit l e body (One m)) (λ s. ends []) (λ s. ends []) (jumps broken) s (omega arith)
+          (in_within m)
+          (λ s. omega arith)
 
-    cut_within : (m : Side) (w : Ways S) (s : S) → Within 0 (cut_turn o u limit l e body m w s)
-    cut_within m w s = tested_alone_within o (so_far w) (omega arith) m e l 0 0 0 (λ s. ends (too_long l)) (λ s. ends []) (λ s. ends []) (jumps broken) s (omega arith) (λ s. omega arith) (λ s. omega arith)
+      cut_within : (m : Side) (w : Ways S) (s : S) → Within 0 (cut_turn o u limit l e body m w s)
+      cut_within m w s = tested_alone_within o (so_far w) (omega arith) m e l 0 0 0 (λ s. ends (too_long l))
+          (λ s. ends []) (λ s. ends []) (jumps broken) s (omega arith) (λ s. omega arith) (λ s. omega arith)
 
-    rounds_within : (m : Side) (j : ℕ) (s : S) (w : Ways S) → Within (j * suc k) (one_rounds o u limit l e body m j s w)
-    rounds_within m j s w = unrolled_within o (one_turn o u limit l e body m) (cut_turn o u limit l e body m) (suc k) 0 (one_within m) (cut_within m) j (j * suc k) (omega arith) s w
+      rounds_within : (m : Side) (j : ℕ) (s : S) (w : Ways S)
+          → Within (j * suc k) (one_rounds o u limit l e body m j s w)
+      rounds_within m j s w = unrolled_within o (one_turn o u limit l e body m) (cut_turn o u limit l e body m)
+          (suc k) 0
+          (one_within m) (cut_within m) j (j * suc k) (omega arith) s w
 
-    entered_within : (m : Side) (j : ℕ) (s : S) → Within (j * suc k) (entered o u limit l e body m j s)
-    entered_within m zero s = omega arith
-    entered_within m (suc j) s = let z = suc-mul j (suc k) in then_within o (suc k) (j * suc k) (suc j * suc k) (in_body o u limit l e body (One m) s) none (one_rounds o u limit l e body m j) (omega (arith, z)) (in_within m s) (rounds_within m j)
+      entered_within : (m : Side) (j : ℕ) (s : S) → Within (j * suc k) (entered o u limit l e body m j s)
+      entered_within m zero s = omega arith
+      entered_within m (suc j) s = let z =
+          suc-mul j (suc k) in then_within o (suc k) (j * suc k) (suc j * suc k) (in_body o u limit l e body (One m) s)
+          none (one_rounds o u limit l e body m j) (omega (arith, z)) (in_within m s) (rounds_within m j)
 
-    loop_alone_within : (m : Side) (first : Bool) (s : S) → Within (u * suc k) (loop_pass o u limit l e body (One m) first s)
-    loop_alone_within m true s = rounds_within m u s none
-    loop_alone_within m false s = entered_within m u s
+      loop_alone_within : (m : Side) (first : Bool) (s : S)
+          → Within (u * suc k) (loop_pass o u limit l e body (One m) first s)
+      loop_alone_within m true s = rounds_within m u s none
+      loop_alone_within m false s = entered_within m u s
 
-    module _ (b : ℕ) (i : (s : S) → Within b (body Both s)) where
-      abbrev j : ℕ
-      j = suc (b + 2 * (u * suc k))
+      module _ (b : ℕ) (i : (s : S) → Within b (body Both s)) where
+        abbrev j : ℕ
+        j = suc (b + 2 * (u * suc k))
 
-      both_within : (s : S) → Within (suc b) (in_body o u limit l e body Both s)
-      both_within s = let z = i s in omega (arith, z)
+        both_within : (s : S) → Within (suc b) (in_body o u limit l e body Both s)
+        both_within s = let z = i s in omega (arith, z)
 
-      lone_within : (m : Side) (s : S) → Within (u * suc k) (lone o u limit l e body m s)
-      lone_within m s = let z = entered_within m u s in omega (arith, z)
+        lone_within : (m : Side) (s : S) → Within (u * suc k) (lone o u limit l e body m s)
+        lone_within m s = let z = entered_within m u s in omega (arith, z)
 
-      turn_within : (w : Ways S) (s : S) → Within j (joint_turn o u limit l e body w s)
-      turn_within w s =
-          tested_within o (so_far w) (omega arith) e l (suc b) (u * suc k) (u * suc k) 0 j (in_body o u limit l e body Both) (lone o u limit l e body left) (lone o u limit l e body right) (jumps broken) s
-          (four (u * suc k)) both_within (lone_within left) (lone_within right) (λ s. omega arith)
-        where
-          four : (z : ℕ) → suc (b + 2 * z) ≡ ((suc b + z) + z) + 0
-          four z = omega arith
+        turn_within : (w : Ways S) (s : S) → Within j (joint_turn o u limit l e body w s)
+        turn_within w s =
+            tested_within o (so_far w) (omega arith) e l (suc b) (u * suc k) (u * suc k) 0 j
+            (in_body o u limit l e body Both) (lone o u limit l e body left) (lone o u limit l e body right)
+            (jumps broken) s
+            (four (u * suc k)) both_within (lone_within left) (lone_within right) (λ s. omega arith)
+          where
+            four : (z : ℕ) → suc (b + 2 * z) ≡ ((suc b + z) + z) + 0
+            four z = omega arith
 
-      settled_within : (w : Ways S) (n : ℕ) (h : S) → Within (suc n * j) (settled o u limit l e body (joint_turn o u limit l e body w) n h)
-      settled_within w zero h = let z = turn_within w o.empty in let y = one_sum j in omega (arith, z, y)
-      settled_within w (suc n) h =
-          let t = joint_turn o u limit l e body w in
-          let g = next_head o u limit l e body h (t h).on in
-          by_stable (is_stable o u limit l e body h (t h).on) (settled o u limit l e body t n g) (settled_within w n g)
-        where
-          by_stable : (z : Bool) (q : Pass S) → Within (suc n * j) q
-              → Within (suc (suc n) * j) (if z then from_head h (joint_turn o u limit l e body w h) else dropped (joint_turn o u limit l e body w h) q)
-          by_stable true q r = let z = turn_within w h in let y = suc-mul (suc n) j in omega (arith, z, y)
-          by_stable false q r = let z = turn_within w h in let y = suc-mul (suc n) j in omega (arith, z, y, r)
+        settled_within : (w : Ways S) (n : ℕ) (h : S)
+            → Within (suc n * j) (settled o u limit l e body (joint_turn o u limit l e body w) n h)
+        settled_within w zero h = let z = turn_within w o.empty in let y = one_sum j in omega (arith, z, y)
+        settled_within w (suc n) h =
+            let t = joint_turn o u limit l e body w in
+            let g = next_head o u limit l e body h (t h).on in
+            by_stable (is_stable o u limit l e body h (t h).on) (settled o u limit l e body t n g)
+            (settled_within w n g)
+          where
+            by_stable : (z : Bool) (q : Pass S) → Within (suc n * j) q
+                → Within (suc (suc n) * j)
+                (if z then from_head h (joint_turn o u limit l e body w h) else dropped
+                (joint_turn o u limit l e body w h) q)
+            by_stable true q r = let z = turn_within w h in let y = suc-mul (suc n) j in omega (arith, z, y)
+            by_stable false q r = let z = turn_within w h in let y = suc-mul (suc n) j in omega (arith, z, y, r)
 
-      last_within : (w : Ways S) (s : S) → Within (limit * j) (last_turns o u limit l e body w s)
-      last_within w s = let c : suc (limit - 1) ≡ limit = omega (arith, some) in subst (λ n. Within (n * j) (last_turns o u limit l e body w s)) c (settled_within w (limit - 1) (o.reshared s))
+        last_within : (w : Ways S) (s : S) → Within (limit * j) (last_turns o u limit l e body w s)
+        last_within w s = let c : suc (limit - 1) ≡ limit =
+            omega (arith, some) in subst (λ n. Within (n * j) (last_turns o u limit l e body w s)) c
+            (settled_within w (limit - 1) (o.reshared s))
 
-      joint_within : (n : ℕ) (s : S) (w : Ways S) → Within (n * j + limit * j) (joint_rounds o u limit l e body n s w)
-      joint_within n s w = unrolled_within o (joint_turn o u limit l e body) (last_turns o u limit l e body) j (limit * j) turn_within last_within n (n * j + limit * j) refl s w
+        joint_within : (n : ℕ) (s : S) (w : Ways S) → Within (n * j + limit * j) (joint_rounds o u limit l e body n s w)
+        joint_within n s w = unrolled_within o (joint_turn o u limit l e body) (last_turns o u limit l e body) j
+            (limit * j) turn_within last_within n (n * j + limit * j) refl s w
 
-      loop_within : (first : Bool) (s : S) → Within ((u + (limit + 1)) * j) (loop_pass o u limit l e body Both first s)
-      loop_within true s = let z = joint_within u s none in let y = while_sum u limit j in omega (arith, z, y)
-      loop_within false s =
-          let p = in_body o u limit l e body Both s in
-          let n = (u - 1) * j + limit * j in
-          let z = then_within o (suc b) n (suc b + n) p none (joint_rounds o u limit l e body (u - 1)) refl (both_within s) (joint_within (u - 1)) in
-          let y = do_sum u limit j (suc b) (omega arith) in
-          omega (arith, z, y)
-
+        loop_within : (first : Bool) (s : S) → Within ((u + (limit + 1)) * j)
+            (loop_pass o u limit l e body Both first s)
+        loop_within true s = let z = joint_within u s none in let y = while_sum u limit j in omega (arith, z, y)
+        loop_within false s =
+            let p = in_body o u limit l e body Both s in
+            let n = (u - 1) * j + limit * j in
+            let z = then_within o (suc b) n (suc b + n) p none (joint_rounds o u limit l e body (u - 1)) refl
+            (both_within s) (joint_within (u - 1)) in
+            let y = do_sum u limit j (suc b) (omega arith) in
+            omega (arith, z, y)
 
   simple_within : (k : Way) (l : ℕ) (g : Gives S) → Within 0 (simple_pass k l g)
   simple_within on l g = omega arith
@@ -304,7 +339,8 @@ module _ {S : Type 0} (o : StateOps S) (u limit : ℕ) (some : 1 ≤ limit) wher
     bodies_alone_within (suc n) m i s =
         let f = slice_get p.functions n in
         chosen_within (nat_eq i n) (body_pass o u limit ord p f n (ps_before n)) (ps_before n i)
-        (alone_most_body u limit ord p f (alone_most_before u limit ord p n)) (alone_most_before u limit ord p n i) (One m)
+        (alone_most_body u limit ord p f (alone_most_before u limit ord p n)) (alone_most_before u limit ord p n i)
+        (One m)
         s (body_alone_within f n (ps_before n) (alone_most_before u limit ord p n) (bodies_alone_within n) m s)
         (bodies_alone_within n m i s)
 

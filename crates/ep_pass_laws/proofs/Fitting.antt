@@ -1,14 +1,14 @@
 -- Memories go on to be as the types of the program say.
-use Rattle.std.proofs.Common.{◌≡◌, ℕ, List, [], ◌∷◌, refl, sym, subst, Option, Some, None, option_to_list, Bool, true, false, ◌&&◌, slice_get}
+use Rattle.std.proofs.Common.{◌≡◌, ℕ, List, [], ◌∷◌, refl, sym, subst, Option, Some, None, option_to_list, true, false, slice_get}
 use Rattle.std.specs.List.{list_all}
-use Rattle.std.proofs.lemmas.Bool.{and_parts, and_from}
+use Rattle.std.proofs.lemmas.Bool.{and_from}
 use Rattle.ep_int.specs.declared.types.Order.{Order}
 use Rattle.ep_int.specs.declared.types.Scalar.{Scalar}
-use Rattle.ep_int.specs.Memory.{Memory, Value, int, null, pointer, Kind, Found, has, faults, killed, loaded, stored, store_fault}
+use Rattle.ep_int.specs.Memory.{Memory, Value, int, null, pointer, Kind, Found, has, faults, loaded, stored, store_fault}
 use Rattle.ep_core.specs.Program.{Expr, Dest, Simple, simple, Function, Program}
-use Rattle.ep_core.specs.Exec.{State, on, Outcome, leaves, Going, uncounted, given, unless, at_place, remembers, converted, without, Values, have, stops, first_and, given_all, first_of, frame_of, result_in, model, size_at, value, address, values, put_at, put_to, put_dest, does, bound, received}
+use Rattle.ep_core.specs.Exec.{State, on, Outcome, leaves, uncounted, given, unless, at_place, remembers, converted, without, Values, have, stops, first_and, given_all, first_of, frame_of, result_in, model, size_at, value, address, values, put_at, put_dest, does, bound, received}
 use Rattle.ep_core.specs.WellFormed.{holds_scalar, result_type, arguments_fit, takes_result, simple_fits, is_well_formed}
-use Rattle.ep_core.specs.Typed.{ValueFits, IfHas, MemoryFits, StateFits, OutcomeFits, ArgumentsFit, ReceivedFits}
+use Rattle.ep_core.specs.Typed.{ValueFits, IfHas, StateFits, OutcomeFits, ArgumentsFit, ReceivedFits}
 use Rattle.ep_core.proofs.Bytes.{stored_bytes, killed_bytes}
 use Rattle.ep_core.proofs.Fitting.{leaves_keeps, exec_keeps}
 use Rattle.ep_core.proofs.Operands.{Holds, call_operands, sizes, fits_at, holds_at}
@@ -90,7 +90,8 @@ module _ (p : Program) where
     bound_fits (b ∷ params) (v ∷ vs) l n s f h =
         put_fits b.1 b.0 0 v l s _ f.0 h (λ r k. bound_fits params vs l n r f.1 k)
 
-    to_dest_fits : (d : Dest) (v : Value) (l n : ℕ) (s : State) → ValueFits p d.what (converted d.what v) → StateFits p s
+    to_dest_fits : (d : Dest) (v : Value) (l n : ℕ) (s : State) → ValueFits p d.what (converted d.what v)
+        → StateFits p s
         → OutcomeFits p (put_dest o p (Some d) v l n s)
     to_dest_fits d v l n s f h =
         given_fits (address o p d.place s.memory) l s _ (λ w. Unit {0}) h (any_has (address o p d.place s.memory))
@@ -134,7 +135,8 @@ module _ (p : Program) where
           given_all_fits (values o p es r.memory) l r _ (FitAll f.params) i (values_have f.params es r.memory t.0)
           (λ vs j. bound_fits f.params vs l n (without (frame_of f) r) j (without_fits (frame_of f) r i))
 
-      bare_holds : (k : ℕ) (f g : Function) → slice_get p.functions k ≡ Some f → Some (record f { params = [] }) ≡ Some g
+      bare_holds : (k : ℕ) (f g : Function) → slice_get p.functions k ≡ Some f → Some (record f { params = [] })
+          ≡ Some g
           → Holds p g
       bare_holds k f g e d =
           let q : record f { params = [] } ≡ g = cc in
@@ -144,7 +146,8 @@ module _ (p : Program) where
           → takes_result p.types p.blocks seen (result_type p.blocks f.result) d ≡ true → (l n : ℕ) (s : State)
           → StateFits p s → OutcomeFits p (received o p f.result d l n s)
       result_fits k f e d seen fits l n s h =
-          let t = call_operands o p (sizes p formed) s.memory h.memory seen 0 None (Some (record f { params = [] })) [] d
+          let t = call_operands o p (sizes p formed) s.memory h.memory seen 0 None (Some (record f { params = [] })) []
+          d
           (λ g q. bare_holds k f g e q)
           (and_from true (takes_result p.types p.blocks seen (result_type p.blocks f.result) d) refl fits) in
           received_fits f.result d l n s t.1 h

@@ -1,19 +1,19 @@
 -- The laws of operations on memories, told of whole machines whose memories fit.
-use Rattle.std.proofs.Common.{◌≡◌, ℕ, Bool, true, List, [], ◌∷◌, refl, Option, Some, None, slice_get}
+use Rattle.std.proofs.Common.{◌≡◌, ℕ, true, List, refl, Option, Some, None}
 use Rattle.ep_int.specs.declared.types.Order.{Order}
 use Rattle.ep_int.specs.Memory.{Memory}
 use Rattle.ep_core.specs.Program.{Program}
-use Rattle.ep_core.specs.Exec.{State, Way, Outcome, leaves, no_input, without}
-use Rattle.ep_core.specs.Runs.{Side, left, right, start, initial}
+use Rattle.ep_core.specs.Exec.{State, Way, Outcome, without}
+use Rattle.ep_core.specs.Runs.{Side, left, right, start}
 use Rattle.ep_core.specs.WellFormed.{is_well_formed}
 use Rattle.ep_core.specs.Typed.{StateFits, OutcomeFits}
 use Rattle.ep_core.proofs.Bytes.{initial_bytes}
 use Rattle.ep_core.proofs.Operands.{first_values_fit}
 use Rattle.ep_pass.specs.States.{Both, One, StateOps}
-use Rattle.ep_pass.specs.Laws.{Stands, Kept, KeptBeside, InBeside, Lawful}
+use Rattle.ep_pass.specs.Laws.{Kept, KeptBeside, Lawful}
 use Rattle.ep_pass.specs.Laws.{Reaches as StandsAt, ReachesBeside as StandsBeside, Meets as Goes, meet, meet_starved, MeetsAlone as GoesAlone, meet_alone}
 use Rattle.ep_pass_laws.proofs.Fitting.{without_fits, does_fits, passes_fit, result_fits}
-use Rattle.ep_pass_laws.proofs.Sure.{IsTest, told, Reaches, Seen, Beside, Meets, meet_on, meet_none, MeetsAlone, meet_one, Sure}
+use Rattle.ep_pass_laws.proofs.Sure.{told, Reaches, Seen, Beside, Meets, meet_on, meet_none, MeetsAlone, meet_one, Sure}
 
 module _ (p : Program) {S : Type 0} (In : S → Memory → Memory → Type 0) where
   abbrev K : S → State → State → Type 0

@@ -1,14 +1,12 @@
 -- What statements come to, told in parts: a loop as a row of turns, a call as a row of three.
-use Rattle.std.proofs.Common.{◌≡◌, ℕ, zero, suc, List, [], ◌∷◌, refl, sym, ap, ◌∙◌, subst, Option, Some, None, option_to_list, Bool, true, false}
+use Rattle.std.proofs.Common.{◌≡◌, ℕ, zero, suc, List, [], ◌∷◌, refl, ap, ◌∙◌, Option, Some, None, option_to_list, Bool, true, false}
 use Rattle.ep_int.specs.declared.types.Order.{Order}
 use Rattle.ep_int.specs.declared.types.Scalar.{Scalar}
 use Rattle.ep_int.specs.Memory.{Memory, Value, Kind, Found, has, faults, store_fault, stored}
 use Rattle.ep_core.specs.Program.{Expr, Dest, Function, Program}
-use Rattle.ep_core.specs.Exec.{State, Way, on, broken, continued, returned, Outcome, leaves, running, no_input, undefined_at, Going, given, unless, uncounted, and_then, remembers, listed, code_of_test, is_true, either, turned, turn, looped, first_turn, scope_left, arm_left, Values, have, stops, given_all, first_of, frame_of, without, model, size_at, values, put_at, bound, received, called, entered, call_of}
-use Rattle.ep_core.specs.Runs.{Begins}
+use Rattle.ep_core.specs.Exec.{State, on, broken, continued, returned, Outcome, leaves, running, no_input, undefined_at, Going, given, unless, uncounted, and_then, remembers, listed, code_of_test, is_true, either, turned, turn, looped, first_turn, scope_left, Values, have, stops, given_all, first_of, frame_of, without, model, size_at, values, bound, received, called, call_of}
 use Rattle.ep_core.specs.Ways.{end_alone}
 use Rattle.ep_core.specs.Laws.{IsAmong}
-use Rattle.ep_core.proofs.Prefixes.{begins_refl}
 use Rattle.ep_core.proofs.Grows.{later_refl, Grows, Growing, grows_from, leaves_grows, given_grows, given_all_grows, and_then_grows, either_grows, scope_grows, bound_grows}
 use Rattle.ep_pass.specs.Laws.{passes}
 
@@ -205,7 +203,8 @@ rounds_grow zero test l f g n s = later_refl s
 rounds_grow (suc k) test l f g n s =
     given_grows (test s.memory) l n s _
     (λ v. either_grows (is_true v) (λ n s. and_then (f n s) (rounds k test l f)) (leaves broken)
-    (λ n s. and_then_grows s n (f n s) (rounds k test l f) (g n s) (rounds_grow k test l f g)) (leaves_grows broken) n s)
+    (λ n s. and_then_grows s n (f n s) (rounds k test l f) (g n s) (rounds_grow k test l f g))
+    (leaves_grows broken) n s)
 
 body_grows : (s : State) (n : ℕ) (x : Outcome) → Grows s n x → Grows s n (body_end x)
 body_grows s n (leaves on k r) g = g
@@ -309,7 +308,8 @@ module _ (o : Order) (p : Program) where
 
       whole : (vs : List Value)
           → bound o p f.params vs l q (λ s. called o p f d l (body n s))
-          ≡ and_then (and_then (bound o p f.params vs l q (leaves on n)) (run_called f body)) (received o p f.result d l)
+          ≡ and_then (and_then (bound o p f.params vs l q (leaves on n)) (run_called f body))
+          (received o p f.result d l)
       whole vs =
           bound_then f.params vs l n q (λ n s. called o p f d l (body n s))
           ∙ then_same (bound o p f.params vs l q (leaves on n)) (λ n s. called o p f d l (body n s))

@@ -1,5 +1,5 @@
 -- A pass has no state for a way out that the text doesn't have.
-use Rattle.std.proofs.Common.{◌≡◌, ◌⊎◌, inl, inr, ℕ, zero, suc, ◌-◌, ◌&&◌, ◌||◌, List, [], ◌∷◌, refl, sym, subst, Option, Some, None, Bool, true, false, if◌then◌else◌, slice_get}
+use Rattle.std.proofs.Common.{◌≡◌, ◌⊎◌, inl, inr, ℕ, zero, suc, ◌-◌, ◌&&◌, ◌||◌, List, [], refl, sym, subst, Option, Some, None, Bool, true, false, if◌then◌else◌, slice_get}
 use Rattle.ep_int.specs.declared.types.Order.{Order}
 use Rattle.ep_core.specs.Program.{Expr, Dest, Simple, nothing, eval, assign, clear, copy_aggregate, copy_bytes, fill, input, output, read_bytes, write_bytes, returns, What, simple, call, if_else, loop, break_loop, continue_loop, by_order, scope, Stmts, stop, more, Function, Program}
 use Rattle.ep_core.specs.Exec.{Way, on, broken, continued, returned, is_order, result_in, callee_of, frame_of}
@@ -7,7 +7,7 @@ use Rattle.ep_core.specs.Runs.{Side, left, right}
 use Rattle.ep_core.specs.Ways.{one_way, end_alone, has_way, either_way, then_ways, ways_of_simple, ways_of, ways_of_all}
 use Rattle.ep_core.specs.Ways.{Ways as TextWays}
 use Rattle.ep_pass.specs.States.{Mode, Both, One, Gives, Verdict, stuck, same, differs, StateOps}
-use Rattle.ep_pass.specs.Pass.{Ways, none, Log, logged, Pass, passed, after, ends, so_far, branch, too_long, jumps, way_of, simple_pass, only_on, only_broken, only_continued, only_returned, leave_loop, join_on, go_on, join_ways, then_pass, rowed, either_pass, leave_call, call_pass, next_pass, body_ends, leave_on, scope_pass, agreed, decided, tested, parted, apart, arm_of, by_order_pass, unrolled, in_body, one_turn, cut_turn, one_rounds, entered, lone, joint_turn, is_stable, next_head, dropped, settled, from_head, last_turns, joint_rounds, loop_pass, pass, pass_all}
+use Rattle.ep_pass.specs.Pass.{Ways, none, Log, logged, Pass, passed, after, ends, so_far, branch, too_long, jumps, way_of, simple_pass, only_on, only_broken, only_continued, only_returned, join_on, go_on, join_ways, then_pass, rowed, either_pass, leave_call, call_pass, next_pass, body_ends, leave_on, scope_pass, agreed, decided, tested, parted, apart, arm_of, by_order_pass, unrolled, in_body, one_turn, cut_turn, one_rounds, entered, lone, joint_turn, is_stable, next_head, dropped, settled, from_head, last_turns, joint_rounds, loop_pass, pass, pass_all}
 use Rattle.ep_pass_laws.proofs.Reaching.{way, at}
 
 or_left : (a b : Bool) → (a || b) ≡ false → a ≡ false
@@ -25,7 +25,8 @@ module _ {S : Type 0} (o : StateOps S) where
   join_never None v p q = q
   join_never (Some s) v p q = absurd cc
 
-  pub branch_never : (k : Way) (u : Option S) (go : S → Pass S) → ((s : S) → at k (go s) ≡ None) → at k (branch u go) ≡ None
+  pub branch_never : (k : Way) (u : Option S) (go : S → Pass S) → ((s : S) → at k (go s) ≡ None) → at k (branch u go)
+      ≡ None
   branch_never on None go h = refl
   branch_never broken None go h = refl
   branch_never continued None go h = refl
@@ -66,33 +67,44 @@ module _ {S : Type 0} (o : StateOps S) where
   abbrev Rowed : Way → (S → Ways S → Pass S) → Type 0
   Rowed k go = (s : S) (w : Ways S) → way k w ≡ None → at k (go s w) ≡ None
 
-  go_on_never : (k : Way) (u : Option S) (w : Ways S) (g : Log S) (go : S → Ways S → Pass S) → way k w ≡ None → Rowed k go → at k (go_on o u w g go) ≡ None
+  go_on_never : (k : Way) (u : Option S) (w : Ways S) (g : Log S) (go : S → Ways S → Pass S) → way k w ≡ None
+      → Rowed k go → at k (go_on o u w g go) ≡ None
   go_on_never k None w g go h i = ended_never k w g h
   go_on_never k (Some s) w g go h i = after_never k g (go s w) (i s w h)
 
-  then_never : (k : Way) (p : Pass S) (w : Ways S) (go : S → Ways S → Pass S) → way k w ≡ None → way k p.ways ≡ None → Rowed k go → at k (then_pass o p w go) ≡ None
+  then_never : (k : Way) (p : Pass S) (w : Ways S) (go : S → Ways S → Pass S) → way k w ≡ None → way k p.ways ≡ None
+      → Rowed k go → at k (then_pass o p w go) ≡ None
   then_never k p w go h i r = go_on_never k p.on (join_ways o w p.ways) p.log go (ways_never k w p.ways h i) r
 
-  stop_never : (k : Way) (p : Pass S) (w : Ways S) (go : S → Ways S → Pass S) → way k w ≡ None → way k p.ways ≡ None → p.on ≡ None → at k (then_pass o p w go) ≡ None
-  stop_never k p w go h i e = subst (λ u. at k (go_on o u (join_ways o w p.ways) p.log go) ≡ None) (sym e) (ended_never k (join_ways o w p.ways) p.log (ways_never k w p.ways h i))
+  stop_never : (k : Way) (p : Pass S) (w : Ways S) (go : S → Ways S → Pass S) → way k w ≡ None → way k p.ways ≡ None
+      → p.on ≡ None → at k (then_pass o p w go) ≡ None
+  stop_never k p w go h i e = subst (λ u. at k (go_on o u (join_ways o w p.ways) p.log go) ≡ None) (sym e)
+      (ended_never k (join_ways o w p.ways) p.log (ways_never k w p.ways h i))
 
   abbrev Turned : Way → (Ways S → S → Pass S) → Type 0
   Turned k turn = (w : Ways S) (s : S) → way k w ≡ None → way k (turn w s).ways ≡ None
 
-  unrolled_never : (k : Way) (turn last : Ways S → S → Pass S) → Turned k turn → Turned k last → (u : ℕ) → Rowed k (unrolled o turn last u)
+  unrolled_never : (k : Way) (turn last : Ways S → S → Pass S) → Turned k turn → Turned k last → (u : ℕ)
+      → Rowed k (unrolled o turn last u)
   unrolled_never k turn last h i zero s w e = ended_never k (last w s).ways (last w s).log (i w s e)
-  unrolled_never k turn last h i (suc u) s w e = go_on_never k (turn w s).on (turn w s).ways (turn w s).log (unrolled o turn last u) (h w s e) (unrolled_never k turn last h i u)
+  unrolled_never k turn last h i (suc u) s w e =
+      go_on_never k (turn w s).on (turn w s).ways (turn w s).log (unrolled o turn last u) (h w s e)
+      (unrolled_never k turn last h i u)
 
   -- ---- of a decision each way comes from a part
-  decided_never : (k : Way) (a : Pass S) → at k a ≡ None → (m : Mode) (v : Verdict) (e : Expr) (p q r t : S → Pass S) (s : S) → ((s : S) → at k (p s) ≡ None) → ((s : S) → at k (q s) ≡ None) → ((s : S) → at k (r s) ≡ None)
+  decided_never : (k : Way) (a : Pass S) → at k a ≡ None → (m : Mode) (v : Verdict) (e : Expr) (p q r t : S → Pass S)
+      (s : S) → ((s : S) → at k (p s) ≡ None) → ((s : S) → at k (q s) ≡ None) → ((s : S) → at k (r s) ≡ None)
       → ((s : S) → at k (t s) ≡ None) → at k (decided o a m v e p q r t s) ≡ None
   decided_never k a n m stuck e p q r t s hp hq hr ht = n
   decided_never k a n m same e p q r t s hp hq hr ht =
       let p1 = branch (agreed o m e true s) p in
-      either_never k (either_pass o a p1) (branch (agreed o m e false s) t) (either_never k a p1 n (branch_never k (agreed o m e true s) p hp)) (branch_never k (agreed o m e false s) t ht)
+      either_never k (either_pass o a p1) (branch (agreed o m e false s) t)
+      (either_never k a p1 n (branch_never k (agreed o m e true s) p hp)) (branch_never k (agreed o m e false s) t ht)
   decided_never k a n (One m) differs e p q r t s hp hq hr ht =
       let p1 = branch (agreed o (One m) e true s) p in
-      either_never k (either_pass o a p1) (branch (agreed o (One m) e false s) t) (either_never k a p1 n (branch_never k (agreed o (One m) e true s) p hp)) (branch_never k (agreed o (One m) e false s) t ht)
+      either_never k (either_pass o a p1) (branch (agreed o (One m) e false s) t)
+      (either_never k a p1 n (branch_never k (agreed o (One m) e true s) p hp))
+      (branch_never k (agreed o (One m) e false s) t ht)
   decided_never k a n Both differs e p q r t s hp hq hr ht =
       let p1 = branch (o.assume e true true s) p in
       let p2 = branch (o.assume e true false s) q in
@@ -101,22 +113,31 @@ module _ {S : Type 0} (o : StateOps S) where
       let a1 = either_pass o a p1 in
       let a2 = either_pass o a1 p2 in
       either_never k (either_pass o a2 p3) p4
-      (either_never k a2 p3 (either_never k a1 p2 (either_never k a p1 n (branch_never k (o.assume e true true s) p hp)) (branch_never k (o.assume e true false s) q hq)) (branch_never k (o.assume e false true s) r hr))
+      (either_never k a2 p3
+      (either_never k a1 p2 (either_never k a p1 n (branch_never k (o.assume e true true s) p hp))
+      (branch_never k (o.assume e true false s) q hq)) (branch_never k (o.assume e false true s) r hr))
       (branch_never k (o.assume e false false s) t ht)
 
-  tested_never : (k : Way) (a : Pass S) → at k a ≡ None → (m : Mode) (e : Expr) (l : ℕ) (p q r t : S → Pass S) (s : S) → ((s : S) → at k (p s) ≡ None) → ((s : S) → at k (q s) ≡ None) → ((s : S) → at k (r s) ≡ None) → ((s : S) → at k (t s) ≡ None)
+  tested_never : (k : Way) (a : Pass S) → at k a ≡ None → (m : Mode) (e : Expr) (l : ℕ) (p q r t : S → Pass S) (s : S)
+      → ((s : S) → at k (p s) ≡ None) → ((s : S) → at k (q s) ≡ None) → ((s : S) → at k (r s) ≡ None)
+      → ((s : S) → at k (t s) ≡ None)
       → at k (tested o a m e l p q r t s) ≡ None
-  tested_never k a n m e l p q r t s hp hq hr ht = after_never k (logged _ 0 []) (decided o a m (o.test m e s).verdict e p q r t s) (decided_never k a n m (o.test m e s).verdict e p q r t s hp hq hr ht)
+  tested_never k a n m e l p q r t s hp hq hr ht =
+      after_never k (logged _ 0 []) (decided o a m (o.test m e s).verdict e p q r t s)
+      (decided_never k a n m (o.test m e s).verdict e p q r t s hp hq hr ht)
 
   -- where the sides part, a way that goes on is one of the right's arm
-  parted_never : (k : Way) (l : ℕ) (p : Pass S) (go : S → Pass S) → ((s : S) → at k (go s) ≡ None) → at k (parted o l p go) ≡ None
+  parted_never : (k : Way) (l : ℕ) (p : Pass S) (go : S → Pass S) → ((s : S) → at k (go s) ≡ None)
+      → at k (parted o l p go) ≡ None
   parted_never k l p go h =
       let q1 = only_on l (branch p.on go) in
       let q2 = only_broken l (branch p.ways.broken go) in
       let q3 = only_continued l (branch p.ways.continued go) in
       let q4 = only_returned l (branch p.ways.returned go) in
       after_never k p.log (either_pass o (either_pass o (either_pass o q1 q2) q3) q4)
-      (either_never k (either_pass o (either_pass o q1 q2) q3) q4 (either_never k (either_pass o q1 q2) q3 (either_never k q1 q2 (first k h) (second k h)) (third k h)) (fourth k h))
+      (either_never k (either_pass o (either_pass o q1 q2) q3) q4
+      (either_never k (either_pass o q1 q2) q3 (either_never k q1 q2 (first k h) (second k h)) (third k h))
+      (fourth k h))
     where
       first : (k : Way) → ((s : S) → at k (go s) ≡ None) → at k (only_on l (branch p.on go)) ≡ None
       first on h = branch_never on p.on go h
@@ -225,7 +246,8 @@ module _ {S : Type 0} (o : StateOps S) where
   simple_only (write_bytes e n) l g = at_end_only l g
   simple_only (returns e) l g = by_return_only l g
 
-  call_never : (k : Way) (f : Function) (m : Mode) (es : List Expr) (d : Option Dest) (l : ℕ) (body : S → Pass S) (s : S)
+  call_never : (k : Way) (f : Function) (m : Mode) (es : List Expr) (d : Option Dest) (l : ℕ) (body : S → Pass S)
+      (s : S)
       → way k (none {S = S}) ≡ None → Rowed o k (rowed o (λ s. leave_call o (scope_pass o m (frame_of f) (body s))))
       → Rowed o k (rowed o (λ s. simple_pass on l (o.result m f d s)))
       → way k (simple_pass on l (o.arguments m f es s)).ways ≡ None

@@ -1,13 +1,13 @@
 -- Where a run by turns is stopped, enough steps come as far: what was put out by then is put out.
-use Rattle.std.proofs.Common.{◌≡◌, ℕ, zero, suc, ◌+◌, ◌-◌, ◌≤◌, List, [], ◌∷◌, refl, sym, subst, ap, Option, Some, None, option_to_list, arith, nat_eq, slice_get, Bool, true, false}
+use Rattle.std.proofs.Common.{◌≡◌, ℕ, zero, suc, ◌+◌, ◌-◌, ◌≤◌, List, [], ◌∷◌, sym, subst, Option, Some, None, option_to_list, arith, nat_eq, slice_get, Bool, true, false}
 use Rattle.ep_int.specs.declared.types.Scalar.{Scalar}
 use Rattle.ep_int.specs.declared.types.Order.{Order}
 use Rattle.ep_int.specs.Memory.{Memory, Value, Kind, Found, has, faults, stored, store_fault}
 use Rattle.ep_core.specs.Program.{Expr, Dest, What, simple, call, if_else, loop, break_loop, continue_loop, by_order, scope, Stmts, stop, more, Function, Program}
-use Rattle.ep_core.specs.Exec.{State, Way, on, broken, continued, returned, Outcome, leaves, running, no_input, undefined_at, Going, given, unless, counted, uncounted, step, and_then, remembers, without, is_true, either, turned, turn, looped, around, first_turn, scope_left, is_order, chosen, arm_left, Values, have, stops, given_all, first_of, frame_of, result_in, callee_of, model, size_at, value, values, put_at, does, bound, received, called, call_of, exec, exec_all, body_of, bodies}
+use Rattle.ep_core.specs.Exec.{State, Way, on, broken, continued, returned, Outcome, leaves, running, no_input, undefined_at, Going, given, unless, counted, uncounted, step, and_then, remembers, without, is_true, either, turned, turn, looped, around, first_turn, scope_left, is_order, chosen, arm_left, Values, have, stops, given_all, first_of, frame_of, result_in, callee_of, model, size_at, value, values, bound, received, called, call_of, exec, exec_all, body_of, bodies}
 use Rattle.ep_core.specs.Runs.{Begins}
 use Rattle.ep_core.proofs.Prefixes.{begins_refl, begins_trans}
-use Rattle.ep_core.proofs.Grows.{state_in, grown, Growing, and_then_grows, leaves_grows, looped_grows, all_grow, received_grows}
+use Rattle.ep_core.proofs.Grows.{state_in, grown, Growing, and_then_grows, looped_grows, all_grow, received_grows}
 use Rattle.ep_core.proofs.Around.{around_is, first_is}
 use Rattle.ep_core.proofs.Reached.{Enough, Reached, Reaching, exec_reached, all_reached, body_reaching, bodies_reaching}
 use Rattle.ep_pass_laws.proofs.Reaching.{then_begins, scope_ends, arms_end}
@@ -281,7 +281,8 @@ module _ (o : Order) (p : Program) where
       pub exec_passed : (w : What) (l n : ℕ) (s : State)
           → Passed (λ left. exec o p counted here bs w l left s) (exec o p uncounted here bs' w l n s)
       exec_passed (simple w) l n s =
-          never_stops (λ left. exec o p counted here bs (simple w) l left s) (exec o p uncounted here bs' (simple w) l n s)
+          never_stops (λ left. exec o p counted here bs (simple w) l left s)
+          (exec o p uncounted here bs' (simple w) l n s)
           (does_stops o p (result_in (slice_get p.functions here)) w l n s)
       exec_passed (call k es d) l n s =
           step_passed s (λ left. call_of o p (callee_of p here k) (bs k) es d l left s)

@@ -1,9 +1,8 @@
 -- Alarms stand where the text allows their kind.
 use Rattle.std.proofs.Common.{◌≡◌, ◌⊎◌, inl, inr, ℕ, zero, suc, ◌-◌, List, [], ◌∷◌, ◌++◌, refl, fold, Option, Some, None, Bool, true, false, ◌&&◌, ◌||◌, if◌then◌else◌, nat_eq, slice_get, arith}
 use Rattle.std.specs.List.{AllByRecursion}
-use Rattle.std.proofs.lemmas.Bool.{or_left, or_right, and_from, and_parts}
+use Rattle.std.proofs.lemmas.Bool.{or_left, or_right, and_from}
 use Rattle.ep_int.specs.declared.types.Order.{Order}
-use Rattle.ep_int.specs.declared.types.Scalar.{Scalar}
 use Rattle.ep_alarms.specs.declared.types.Alarm.{Alarm}
 use Rattle.ep_alarms.specs.declared.types.AlarmKind.{AlarmKind}
 use Rattle.ep_alarms.specs.declared.types.AlarmKind.TheVariants.{E1, E2, E3, E4}
@@ -15,7 +14,7 @@ use Rattle.ep_core.specs.Runs.{Side, left, right}
 use Rattle.ep_core.specs.Ways.{has_way, ways_of_all}
 use Rattle.ep_core.specs.Ways.{Ways as TextWays}
 use Rattle.ep_pass.specs.States.{Mode, Both, One, Fault, Gives, Verdict, stuck, same, differs, StateOps}
-use Rattle.ep_pass.specs.Pass.{Ways, none, Log, logged, Pass, passed, ends, so_far, branch, alarms_at, differ, too_long, jumps, way_of, simple_pass, only_on, only_broken, only_continued, only_returned, join_on, go_on, join_ways, then_pass, rowed, either_pass, leave_call, scope_pass, call_pass, next_pass, body_ends, agreed, decided, tested, parted, apart, arm_of, by_order_pass, unrolled, in_body, one_turn, cut_turn, one_rounds, entered, lone, joint_turn, is_stable, next_head, dropped, settled, from_head, last_turns, joint_rounds, loop_pass, pass, pass_all, body_pass, bodies_pass, main_pass, faults_at_end, all_faults, report_of}
+use Rattle.ep_pass.specs.Pass.{Ways, none, Log, Pass, ends, so_far, branch, alarms_at, differ, too_long, jumps, way_of, simple_pass, only_on, only_broken, only_continued, only_returned, join_on, go_on, join_ways, then_pass, rowed, either_pass, leave_call, scope_pass, call_pass, next_pass, body_ends, agreed, decided, tested, parted, apart, arm_of, by_order_pass, unrolled, in_body, one_turn, cut_turn, one_rounds, entered, lone, joint_turn, is_stable, next_head, dropped, settled, from_head, last_turns, joint_rounds, loop_pass, pass, pass_all, body_pass, bodies_pass, main_pass, faults_at_end, all_faults, report_of}
 use Rattle.ep_pass.specs.Places.{is_one_of, kinds_if, is_kind, expr_may, exprs_may, dest_may, simple_may, result_may, may_differ, what_may, stmts_may, body_may, answer_if, bodies_may, end_may, may_stand}
 use Rattle.ep_pass.specs.Honest.{is_alone, AreOf, Honest}
 use Rattle.ep_pass_laws.proofs.Reaching.{at}
@@ -202,7 +201,8 @@ module _ (P : ℕ → AlarmKind → Type 0) {S : Type 0} (o : StateOps S) where
 
       rounds_tells : (m : Side) (j : ℕ) (s : S) (w : Ways S) → Tells (one_rounds o u limit l e body m j s w)
       rounds_tells m j s w =
-          unrolled_tells (one_turn o u limit l e body m) (cut_turn o u limit l e body m) (one_tells m) (cut_tells m) j s w
+          unrolled_tells (one_turn o u limit l e body m) (cut_turn o u limit l e body m) (one_tells m)
+          (cut_tells m) j s w
 
       entered_tells : (m : Side) (j : ℕ) (s : S) → Tells (entered o u limit l e body m j s)
       entered_tells m zero s = (of_e4, tt)
@@ -231,7 +231,8 @@ module _ (P : ℕ → AlarmKind → Type 0) {S : Type 0} (o : StateOps S) where
       settled_tells w (suc n) g =
           let t = joint_turn o u limit l e body w in
           let next = next_head o u limit l e body g (t g).on in
-          by_stable (is_stable o u limit l e body g (t g).on) (settled o u limit l e body t n next) (settled_tells w n next)
+          by_stable (is_stable o u limit l e body g (t g).on) (settled o u limit l e body t n next)
+          (settled_tells w n next)
         where
           by_stable : (y : Bool) (q : Pass S) → Tells q
               → Tells
@@ -326,7 +327,8 @@ module _ {S : Type 0} (o : StateOps S) (honest : Honest o) (u limit : ℕ) (ord 
         → ((m : Mode) (s : S) → Tells P o (arm a m s)) → ((m : Mode) (s : S) → Tells P o (arm b m s))
         → Tells P o (apart o l (arm a) (arm b) s)
     arms_tell P l a b s may h i =
-        parted_tells P o l (ways_of_all a) (ways_of_all b) (arm a (One left) s) (arm b (One right)) (only a (One left) s)
+        parted_tells P o l (ways_of_all a) (ways_of_all b) (arm a (One left) s) (arm b (One right))
+        (only a (One left) s)
         (only b (One right)) may (h (One left) s) (i (One right))
 
     order_tells : (P : ℕ → AlarmKind → Type 0) (m : Mode) (l : ℕ) (named : Order) (a b : Stmts) (s : S)
@@ -348,7 +350,8 @@ module _ {S : Type 0} (o : StateOps S) (honest : Honest o) (u limit : ℕ) (ord 
         by_arm true = h (One m) s
         by_arm false = i (One m) s
 
-    call_tells : (P : ℕ → AlarmKind → Type 0) (f : Option Function) (m : Mode) (es : List Expr) (d : Option Dest) (l : ℕ)
+    call_tells : (P : ℕ → AlarmKind → Type 0) (f : Option Function) (m : Mode) (es : List Expr) (d : Option Dest)
+        (l : ℕ)
         (body : S → Pass S) (s : S) → ((k : AlarmKind) → (exprs_may k es || result_may k d) ≡ true → P l k)
         → ((s : S) → Tells P o (body s)) → Tells P o (call_pass o f m es d l body s)
     call_tells P None m es d l body s h i = tt
@@ -398,7 +401,8 @@ module _ {S : Type 0} (o : StateOps S) (honest : Honest o) (u limit : ℕ) (ord 
           (λ s. arms_tell P l a b s
           (λ k j d y z. of_parting e a b alone l (differ_true (ways_of_all a) (ways_of_all b) k j d y z)) h i)
           (λ s. arms_tell P l b a s
-          (λ k j d y z. of_parting e a b alone l (differ_true (ways_of_all a) (ways_of_all b) j k (back k j d) z y)) i h)
+          (λ k j d y z. of_parting e a b alone l (differ_true (ways_of_all a) (ways_of_all b) j k (back k j d) z y)) i
+          h)
           (i m)
       pass_tells (loop first e a b) m alone ok l s =
           let P = W alone (loop first e a b) l in
@@ -410,7 +414,8 @@ module _ {S : Type 0} (o : StateOps S) (honest : Honest o) (u limit : ℕ) (ord 
           (all_tells b m true (allowed_true m) s none) in
           loop_tells P o honest l e
           (λ k z. or_left _ _
-          (at_line l (expr_may k e || (is_kind E4 k || is_kind E3 k && (ways_of_all a).by_return)) (or_left _ _ z))) u limit
+          (at_line l (expr_may k e || (is_kind E4 k || is_kind E3 k && (ways_of_all a).by_return)) (or_left _ _ z))) u
+          limit
           (λ n s. next_pass o (arm a n s) (arm b n)) (ways_of_all a).by_return
           (λ z m s. next_returns o (arm a m s) (arm b m)
           (all_only o u limit ord p here ps a m returned z s none refl))

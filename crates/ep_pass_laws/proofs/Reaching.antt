@@ -1,10 +1,9 @@
 -- Passes beside outcomes of both machines, and of one while the other stands still.
 use Rattle.std.proofs.Common.{◌≡◌, ℕ, List, [], ◌∷◌, ◌++◌, refl, sym, subst, Option, Some, None, Bool, true, false}
 use Rattle.ep_int.specs.declared.types.Order.{Order}
-use Rattle.ep_int.specs.Memory.{Value, Found, has, faults}
-use Rattle.ep_alarms.specs.declared.types.Alarm.{Alarm}
+use Rattle.ep_int.specs.Memory.{Value, Found, has}
 use Rattle.ep_core.specs.Program.{Expr, Program}
-use Rattle.ep_core.specs.Exec.{State, Way, on, broken, continued, returned, Outcome, leaves, running, no_input, undefined_at, Going, is_true, given, and_then, listed, code_of_test, either, scope_left, without, arm_left, code_of_way, value}
+use Rattle.ep_core.specs.Exec.{State, Way, on, broken, continued, returned, Outcome, leaves, running, no_input, undefined_at, Going, is_true, given, and_then, listed, either, scope_left, without, arm_left, code_of_way, value}
 use Rattle.ep_core.specs.Runs.{Side, left, right, Begins}
 use Rattle.ep_core.proofs.Prefixes.{begins_refl, begins_trans}
 use Rattle.ep_core.proofs.Grows.{state_in, Growing, grown}
@@ -46,7 +45,8 @@ no_alarms l (f ∷ fs) e = absurd cc
 abbrev pub IsQuiet : {S : Type 0} → Pass S → Type 0
 IsQuiet p = p.log.faults ≡ []
 
--- The machine that may be stopped in a turn that the other need not make; what it put out begins what the other puts out.
+-- The machine that may be stopped in a turn that the other need not make; what it put out begins what the other puts
+-- out.
 pub data Cut : Side → Outcome → Outcome → Type 0 where
   left_cut : {x : State} {d : Outcome} → Begins x.outputs (state_in d).outputs → Cut left (running x) d
   right_cut : {c : Outcome} {y : State} → Begins y.outputs (state_in c).outputs → Cut right c (running y)
@@ -193,18 +193,21 @@ module _ {S : Type 0} (In : S → State → State → Type 0) where
     Sound1 m go f = (s : S) (x y : State) → Seen In m s x y → IsQuiet (go s) → Alone m (go s) y (f (b m) x)
 
     abbrev pub After1 : Side → (S → Ways S → Pass S) → Going → Type 0
-    After1 m go f = (s : S) (w : Ways S) (x y : State) → Seen In m s x y → IsQuiet (go s w) → Alone m (go s w) y (f (b m) x)
+    After1 m go f = (s : S) (w : Ways S) (x y : State) → Seen In m s x y → IsQuiet (go s w)
+        → Alone m (go s w) y (f (b m) x)
 
     pub alone_below : (m : Side) (p q : Pass S) (y : State) (c : Outcome) → PassLess p q → Alone m p y c → Alone m q y c
     alone_below m p q y c h (alone k {x} i) = alone k (beside_less m (at k p) (at k q) x y (h k) i)
 
-    pub alone_branch : (m : Side) (u : Option S) (go : S → Pass S) (f : Going) (x y : State) → Sound1 m go f → IsQuiet (branch u go) → Beside In m u x y → Alone m (branch u go) y (f (b m) x)
+    pub alone_branch : (m : Side) (u : Option S) (go : S → Pass S) (f : Going) (x y : State) → Sound1 m go f
+        → IsQuiet (branch u go) → Beside In m u x y → Alone m (branch u go) y (f (b m) x)
     alone_branch m None go f x y h e i = absurd (beside_none m x y i)
     alone_branch m (Some s) go f x y h e i = h s x y (beside_some m s x y i) e
 
     module _ (slow : Side) where
       pub data Together (p : Pass S) : Outcome → Outcome → Type 0 where
-        both_leave : (k : Way) {x y : State} → Reaches In (at k p) x y → Together p (leaves k (b left) x) (leaves k (b right) y)
+        both_leave : (k : Way) {x y : State} → Reaches In (at k p) x y → Together p (leaves k (b left) x)
+            (leaves k (b right) y)
         both_starved : {x y : State} → x.outputs ≡ y.outputs → Together p (no_input x) (no_input y)
         one_cut : {c d : Outcome} → Cut slow c d → Together p c d
 
@@ -212,27 +215,32 @@ module _ {S : Type 0} (In : S → State → State → Type 0) where
       Sound2 go f g = (s : S) (x y : State) → In s x y → IsQuiet (go s) → Together (go s) (f (b left) x) (g (b right) y)
 
       abbrev pub After2 : (S → Ways S → Pass S) → Going → Going → Type 0
-      After2 go f g = (s : S) (w : Ways S) (x y : State) → In s x y → IsQuiet (go s w) → Together (go s w) (f (b left) x) (g (b right) y)
+      After2 go f g = (s : S) (w : Ways S) (x y : State) → In s x y → IsQuiet (go s w)
+          → Together (go s w) (f (b left) x) (g (b right) y)
 
       pub below : (p q : Pass S) (c d : Outcome) → PassLess p q → Together p c d → Together q c d
       below p q c d h (both_leave k {x} {y} i) = both_leave k (h k x y i)
       below p q c d h (both_starved e) = both_starved e
       below p q c d h (one_cut t) = one_cut t
 
-      pub branch_together : (u : Option S) (go : S → Pass S) (f g : Going) (x y : State) → Sound2 go f g → IsQuiet (branch u go) → Reaches In u x y → Together (branch u go) (f (b left) x) (g (b right) y)
+      pub branch_together : (u : Option S) (go : S → Pass S) (f g : Going) (x y : State) → Sound2 go f g
+          → IsQuiet (branch u go) → Reaches In u x y → Together (branch u go) (f (b left) x) (g (b right) y)
       branch_together None go f g x y h e i = absurd i
       branch_together (Some s) go f g x y h e i = h s x y i e
 
-module _ (prog : Program) (ord : Side → Order) {S : Type 0} (o : StateOps S) (In : S → State → State → Type 0) (law : Sure prog ord o In) where
+module _ (prog : Program) (ord : Side → Order) {S : Type 0} (o : StateOps S) (In : S → State → State → Type 0)
+    (law : Sure prog ord o In) where
   pub less_left : (u v : Option S) → Less In u (join_on o u v)
   less_left None v x y i = absurd i
   less_left (Some s) None x y i = i
-  less_left (Some s) (Some t) x y i = law.joined_left (o.unified s t).0 (o.unified s t).1 x y (law.unified_left s t x y i)
+  less_left (Some s) (Some t) x y i =
+      law.joined_left (o.unified s t).0 (o.unified s t).1 x y (law.unified_left s t x y i)
 
   pub less_right : (u v : Option S) → Less In v (join_on o u v)
   less_right None v x y i = i
   less_right (Some s) None x y i = absurd i
-  less_right (Some s) (Some t) x y i = law.joined_right (o.unified s t).0 (o.unified s t).1 x y (law.unified_right s t x y i)
+  less_right (Some s) (Some t) x y i =
+      law.joined_right (o.unified s t).0 (o.unified s t).1 x y (law.unified_right s t x y i)
 
   pub ways_left : (v w : Ways S) → WaysLess In v (join_ways o v w)
   ways_left v w on x y i = absurd i
@@ -258,7 +266,8 @@ module _ (prog : Program) (ord : Side → Order) {S : Type 0} (o : StateOps S) (
   either_right p q continued x y i = less_right p.ways.continued q.ways.continued x y i
   either_right p q returned x y i = less_right p.ways.returned q.ways.returned x y i
 
-  decided_keeps : (a : Pass S) (m : Mode) (v : Verdict) (e : Expr) (p q r t : S → Pass S) (s : S) → PassLess In a (decided o a m v e p q r t s)
+  decided_keeps : (a : Pass S) (m : Mode) (v : Verdict) (e : Expr) (p q r t : S → Pass S) (s : S)
+      → PassLess In a (decided o a m v e p q r t s)
   decided_keeps a m stuck e p q r t s k x y i = i
   decided_keeps a m same e p q r t s k x y i =
       let p1 = branch (agreed o m e true s) p in
@@ -270,26 +279,37 @@ module _ (prog : Program) (ord : Side → Order) {S : Type 0} (o : StateOps S) (
       let a1 = either_pass o a (branch (o.assume e true true s) p) in
       let a2 = either_pass o a1 (branch (o.assume e true false s) q) in
       let a3 = either_pass o a2 (branch (o.assume e false true s) r) in
-      either_left a3 (branch (o.assume e false false s) t) k x y (either_left a2 (branch (o.assume e false true s) r) k x y (either_left a1 (branch (o.assume e true false s) q) k x y (either_left a (branch (o.assume e true true s) p) k x y i)))
+      either_left a3 (branch (o.assume e false false s) t) k x y
+      (either_left a2 (branch (o.assume e false true s) r) k x y
+      (either_left a1 (branch (o.assume e true false s) q) k x y
+      (either_left a (branch (o.assume e true true s) p) k x y i)))
 
   -- what came before a test stays
-  pub tested_keeps : (w : Ways S) (m : Mode) (e : Expr) (l : ℕ) (p q r t : S → Pass S) (s : S) → WaysLess In w (tested o (so_far w) m e l p q r t s).ways
+  pub tested_keeps : (w : Ways S) (m : Mode) (e : Expr) (l : ℕ) (p q r t : S → Pass S) (s : S)
+      → WaysLess In w (tested o (so_far w) m e l p q r t s).ways
   tested_keeps w m e l p q r t s on x y i = absurd i
-  tested_keeps w m e l p q r t s broken x y i = decided_keeps (so_far w) m (o.test m e s).verdict e p q r t s broken x y i
-  tested_keeps w m e l p q r t s continued x y i = decided_keeps (so_far w) m (o.test m e s).verdict e p q r t s continued x y i
-  tested_keeps w m e l p q r t s returned x y i = decided_keeps (so_far w) m (o.test m e s).verdict e p q r t s returned x y i
+  tested_keeps w m e l p q r t s broken x y i =
+      decided_keeps (so_far w) m (o.test m e s).verdict e p q r t s broken x y i
+  tested_keeps w m e l p q r t s continued x y i =
+      decided_keeps (so_far w) m (o.test m e s).verdict e p q r t s continued x y i
+  tested_keeps w m e l p q r t s returned x y i =
+      decided_keeps (so_far w) m (o.test m e s).verdict e p q r t s returned x y i
 
-  pub go_on_keeps : (u : Option S) (w : Ways S) (g : Log S) (go : S → Ways S → Pass S) → Keeps In go → WaysLess In w (go_on o u w g go).ways
+  pub go_on_keeps : (u : Option S) (w : Ways S) (g : Log S) (go : S → Ways S → Pass S) → Keeps In go
+      → WaysLess In w (go_on o u w g go).ways
   go_on_keeps None w g go h k x y i = i
   go_on_keeps (Some s) w g go h k x y i = h s w k x y i
 
-  pub then_keeps : (p : Pass S) (go : S → Ways S → Pass S) → Keeps In go → (w : Ways S) → WaysLess In w (then_pass o p w go).ways
+  pub then_keeps : (p : Pass S) (go : S → Ways S → Pass S) → Keeps In go → (w : Ways S)
+      → WaysLess In w (then_pass o p w go).ways
   then_keeps p go h w k x y i = go_on_keeps p.on (join_ways o w p.ways) p.log go h k x y (ways_left w p.ways k x y i)
 
-  pub then_ways : (p : Pass S) (w : Ways S) (go : S → Ways S → Pass S) → Keeps In go → WaysLess In p.ways (then_pass o p w go).ways
+  pub then_ways : (p : Pass S) (w : Ways S) (go : S → Ways S → Pass S) → Keeps In go
+      → WaysLess In p.ways (then_pass o p w go).ways
   then_ways p w go h k x y i = go_on_keeps p.on (join_ways o w p.ways) p.log go h k x y (ways_right w p.ways k x y i)
 
-  pub go_on_front : (u : Option S) (w : Ways S) (g : Log S) (go : S → Ways S → Pass S) → IsQuiet (go_on o u w g go) → g.faults ≡ []
+  pub go_on_front : (u : Option S) (w : Ways S) (g : Log S) (go : S → Ways S → Pass S) → IsQuiet (go_on o u w g go)
+      → g.faults ≡ []
   go_on_front None w g go e = e
   go_on_front (Some s) w g go e = front_empty g.faults _ e
 
@@ -311,23 +331,35 @@ module _ (prog : Program) (ord : Side → Order) {S : Type 0} (o : StateOps S) (
 
     -- ---- one side
 
-    pub after_alone : (m : Side) (g : Log S) (p : Pass S) (y : State) (c : Outcome) → Alone In b m p y c → Alone In b m (after g p) y c
+    pub after_alone : (m : Side) (g : Log S) (p : Pass S) (y : State) (c : Outcome) → Alone In b m p y c
+        → Alone In b m (after g p) y c
     after_alone m g p y c h = alone_below In b m p (after g p) y c (same_at g p) h
 
     -- what a pass comes to, and what comes next
-    pub goes_on_alone : (m : Side) (p r : Pass S) (y : State) (c : Outcome) (f : Going) → ((x : State) → Beside In m p.on x y → Alone In b m r y (f (b m) x)) → WaysLess In p.ways r.ways → Alone In b m p y c → Alone In b m r y (and_then c f)
+    pub goes_on_alone : (m : Side) (p r : Pass S) (y : State) (c : Outcome) (f : Going)
+        → ((x : State) → Beside In m p.on x y → Alone In b m r y (f (b m) x)) → WaysLess In p.ways r.ways
+        → Alone In b m p y c → Alone In b m r y (and_then c f)
     goes_on_alone m p r y c f h k (alone on {x} i) = h x i
-    goes_on_alone m p r y c f h k (alone broken {x} i) = alone broken (beside_less In m p.ways.broken r.ways.broken x y (k broken) i)
-    goes_on_alone m p r y c f h k (alone continued {x} i) = alone continued (beside_less In m p.ways.continued r.ways.continued x y (k continued) i)
-    goes_on_alone m p r y c f h k (alone returned {x} i) = alone returned (beside_less In m p.ways.returned r.ways.returned x y (k returned) i)
+    goes_on_alone m p r y c f h k (alone broken {x} i) =
+        alone broken (beside_less In m p.ways.broken r.ways.broken x y (k broken) i)
+    goes_on_alone m p r y c f h k (alone continued {x} i) =
+        alone continued (beside_less In m p.ways.continued r.ways.continued x y (k continued) i)
+    goes_on_alone m p r y c f h k (alone returned {x} i) =
+        alone returned (beside_less In m p.ways.returned r.ways.returned x y (k returned) i)
 
-    pub go_on_alone : (m : Side) (u : Option S) (w : Ways S) (g : Log S) (go : S → Ways S → Pass S) (f : Going) (x y : State) → After1 In b m go f → IsQuiet (go_on o u w g go) → Beside In m u x y → Alone In b m (go_on o u w g go) y (f (b m) x)
+    pub go_on_alone : (m : Side) (u : Option S) (w : Ways S) (g : Log S) (go : S → Ways S → Pass S) (f : Going)
+        (x y : State) → After1 In b m go f → IsQuiet (go_on o u w g go) → Beside In m u x y
+        → Alone In b m (go_on o u w g go) y (f (b m) x)
     go_on_alone m None w g go f x y h e i = absurd (beside_none In m x y i)
-    go_on_alone m (Some s) w g go f x y h e i = after_alone m g (go s w) y _ (h s w x y (beside_some In m s x y i) (back_empty g.faults _ e))
+    go_on_alone m (Some s) w g go f x y h e i =
+        after_alone m g (go s w) y _ (h s w x y (beside_some In m s x y i) (back_empty g.faults _ e))
 
-    pub then_alone : (m : Side) (p : Pass S) (w : Ways S) (go : S → Ways S → Pass S) (y : State) (c : Outcome) (f : Going) → After1 In b m go f → Keeps In go → IsQuiet (then_pass o p w go) → Alone In b m p y c
+    pub then_alone : (m : Side) (p : Pass S) (w : Ways S) (go : S → Ways S → Pass S) (y : State) (c : Outcome)
+        (f : Going) → After1 In b m go f → Keeps In go → IsQuiet (then_pass o p w go) → Alone In b m p y c
         → Alone In b m (then_pass o p w go) y (and_then c f)
-    then_alone m p w go y c f h k e a = goes_on_alone m p (then_pass o p w go) y c f (λ x i. go_on_alone m p.on (join_ways o w p.ways) p.log go f x y h e i) (then_ways p w go k) a
+    then_alone m p w go y c f h k e a =
+        goes_on_alone m p (then_pass o p w go) y c f
+        (λ x i. go_on_alone m p.on (join_ways o w p.ways) p.log go f x y h e i) (then_ways p w go k) a
 
     pub leave_loop_alone : (m : Side) (p : Pass S) (y : State) (c : Outcome) → p.on ≡ None → IsTurn c
         → Alone In b m p y c → Alone In b m (leave_loop p) y (loop_left c)
@@ -337,15 +369,22 @@ module _ (prog : Program) (ord : Side → Order) {S : Type 0} (o : StateOps S) (
     leave_loop_alone m p y c e h (alone continued {x} i) = absurd h
     leave_loop_alone m p y c e h (alone returned {x} i) = alone returned i
 
-    pub rowed_alone : (m : Side) (p : Pass S) (w : Ways S) (y : State) (c : Outcome) → p.ways ≡ none → Alone In b m p y c → Alone In b m (passed p.on w p.log) y c
+    pub rowed_alone : (m : Side) (p : Pass S) (w : Ways S) (y : State) (c : Outcome) → p.ways ≡ none
+        → Alone In b m p y c → Alone In b m (passed p.on w p.log) y c
     rowed_alone m p w y c e (alone on {x} i) = alone on i
-    rowed_alone m p w y c e (alone broken {x} i) = absurd (beside_none In m x y (subst (λ (v : Ways S). Beside In m v.broken x y) e i))
-    rowed_alone m p w y c e (alone continued {x} i) = absurd (beside_none In m x y (subst (λ (v : Ways S). Beside In m v.continued x y) e i))
-    rowed_alone m p w y c e (alone returned {x} i) = absurd (beside_none In m x y (subst (λ (v : Ways S). Beside In m v.returned x y) e i))
+    rowed_alone m p w y c e (alone broken {x} i) =
+        absurd (beside_none In m x y (subst (λ (v : Ways S). Beside In m v.broken x y) e i))
+    rowed_alone m p w y c e (alone continued {x} i) =
+        absurd (beside_none In m x y (subst (λ (v : Ways S). Beside In m v.continued x y) e i))
+    rowed_alone m p w y c e (alone returned {x} i) =
+        absurd (beside_none In m x y (subst (λ (v : Ways S). Beside In m v.returned x y) e i))
 
-    body_ends_alone : (m : Side) (p : Pass S) (y : State) (c : Outcome) → Alone In b m p y c → Alone In b m (body_ends o p) y (body_end c)
-    body_ends_alone m p y c (alone on {x} i) = alone on (beside_less In m p.on (body_ends o p).on x y (less_right p.ways.continued p.on) i)
-    body_ends_alone m p y c (alone continued {x} i) = alone on (beside_less In m p.ways.continued (body_ends o p).on x y (less_left p.ways.continued p.on) i)
+    body_ends_alone : (m : Side) (p : Pass S) (y : State) (c : Outcome) → Alone In b m p y c
+        → Alone In b m (body_ends o p) y (body_end c)
+    body_ends_alone m p y c (alone on {x} i) =
+        alone on (beside_less In m p.on (body_ends o p).on x y (less_right p.ways.continued p.on) i)
+    body_ends_alone m p y c (alone continued {x} i) =
+        alone on (beside_less In m p.ways.continued (body_ends o p).on x y (less_left p.ways.continued p.on) i)
     body_ends_alone m p y c (alone broken {x} i) = alone broken i
     body_ends_alone m p y c (alone returned {x} i) = alone returned i
 
@@ -368,7 +407,8 @@ module _ (prog : Program) (ord : Side → Order) {S : Type 0} (o : StateOps S) (
     left_alone : (m : Side) (bs : List ℕ) (u : Option S) (x y : State) → Beside In m u x y
         → Beside In m (leave_on o (One m) bs u) (without bs x) y
     left_alone m bs None x y i = absurd (beside_none In m x y i)
-    left_alone m bs (Some s) x y i = seen_some In m (o.leave (One m) bs s) (without bs x) y (law.leave_alone m bs s x y (beside_some In m s x y i))
+    left_alone m bs (Some s) x y i =
+        seen_some In m (o.leave (One m) bs s) (without bs x) y (law.leave_alone m bs s x y (beside_some In m s x y i))
 
     pub scope_alone : (m : Side) (bs : List ℕ) (p : Pass S) (y : State) (c : Outcome) → Alone In b m p y c
         → Alone In b m (scope_pass o (One m) bs p) y (scope_left bs c)
@@ -425,7 +465,8 @@ module _ (prog : Program) (ord : Side → Order) {S : Type 0} (o : StateOps S) (
         two : (z : Bool) → Beside In m (o.assume_one m e z s) x y → IsQuiet (two_ways o a (One m) e p t s)
             → Alone In b m (two_ways o a (One m) e p t s) y (either z f f' (b m) x)
         two true j quiet =
-            alone_below In b m p1 _ y _ (λ w x y i. either_left (either_pass o a p1) p2 w x y (either_right a p1 w x y i))
+            alone_below In b m p1 _ y _
+            (λ w x y i. either_left (either_pass o a p1) p2 w x y (either_right a p1 w x y i))
             (alone_branch In b m (o.assume_one m e true s) p f (listed 1 x) y h
             (back_empty a.log.faults _ (front_empty (a.log.faults ++ p1.log.faults) _ quiet))
             (beside_retold m (o.assume_one m e true s) x y (x.tests ++ 1 ∷ []) (x.joint_tests ++ 1 ∷ []) j))
@@ -457,7 +498,9 @@ module _ (prog : Program) (ord : Side → Order) {S : Type 0} (o : StateOps S) (
       pub right_arm : (p q : Pass S) (c d : Outcome) → Tog q c d → Tog (either_pass o p q) c d
       right_arm p q c d h = below In b slow q (either_pass o p q) c d (either_right p q) h
 
-      pub goes_on : (p r : Pass S) (c d : Outcome) (f g : Going) → Growing f → Growing g → ((x y : State) → Reaches In p.on x y → Tog r (f (b left) x) (g (b right) y)) → WaysLess In p.ways r.ways → Tog p c d → Tog r (and_then c f) (and_then d g)
+      pub goes_on : (p r : Pass S) (c d : Outcome) (f g : Going) → Growing f → Growing g
+          → ((x y : State) → Reaches In p.on x y → Tog r (f (b left) x) (g (b right) y)) → WaysLess In p.ways r.ways
+          → Tog p c d → Tog r (and_then c f) (and_then d g)
       goes_on p r c d f g fg gg h k (both_leave on {x} {y} i) = h x y i
       goes_on p r c d f g fg gg h k (both_leave broken {x} {y} i) = both_leave broken (k broken x y i)
       goes_on p r c d f g fg gg h k (both_leave continued {x} {y} i) = both_leave continued (k continued x y i)
@@ -465,13 +508,19 @@ module _ (prog : Program) (ord : Side → Order) {S : Type 0} (o : StateOps S) (
       goes_on p r c d f g fg gg h k (both_starved e) = both_starved e
       goes_on p r c d f g fg gg h k (one_cut t) = one_cut (cut_then slow c d f g fg gg t)
 
-      pub go_on_together : (u : Option S) (w : Ways S) (g : Log S) (go : S → Ways S → Pass S) (f f' : Going) (x y : State) → After2 In b slow go f f' → IsQuiet (go_on o u w g go) → Reaches In u x y → Tog (go_on o u w g go) (f (b left) x) (f' (b right) y)
+      pub go_on_together : (u : Option S) (w : Ways S) (g : Log S) (go : S → Ways S → Pass S) (f f' : Going)
+          (x y : State) → After2 In b slow go f f' → IsQuiet (go_on o u w g go) → Reaches In u x y
+          → Tog (go_on o u w g go) (f (b left) x) (f' (b right) y)
       go_on_together None w g go f f' x y h e i = absurd i
-      go_on_together (Some s) w g go f f' x y h e i = after_together g (go s w) _ _ (h s w x y i (back_empty g.faults _ e))
+      go_on_together (Some s) w g go f f' x y h e i =
+          after_together g (go s w) _ _ (h s w x y i (back_empty g.faults _ e))
 
-      pub then_together : (p : Pass S) (w : Ways S) (go : S → Ways S → Pass S) (c d : Outcome) (f g : Going) → Growing f → Growing g → After2 In b slow go f g → Keeps In go → IsQuiet (then_pass o p w go) → Tog p c d
+      pub then_together : (p : Pass S) (w : Ways S) (go : S → Ways S → Pass S) (c d : Outcome) (f g : Going) → Growing f
+          → Growing g → After2 In b slow go f g → Keeps In go → IsQuiet (then_pass o p w go) → Tog p c d
           → Tog (then_pass o p w go) (and_then c f) (and_then d g)
-      then_together p w go c d f g fg gg h k e a = goes_on p (then_pass o p w go) c d f g fg gg (λ x y i. go_on_together p.on (join_ways o w p.ways) p.log go f g x y h e i) (then_ways p w go k) a
+      then_together p w go c d f g fg gg h k e a =
+          goes_on p (then_pass o p w go) c d f g fg gg
+          (λ x y i. go_on_together p.on (join_ways o w p.ways) p.log go f g x y h e i) (then_ways p w go k) a
 
       pub leave_loop_together : (p : Pass S) (c d : Outcome) → p.on ≡ None → IsTurn c → Tog p c d
           → Tog (leave_loop p) (loop_left c) (loop_left d)
@@ -501,11 +550,15 @@ module _ (prog : Program) (ord : Side → Order) {S : Type 0} (o : StateOps S) (
       plain_together p w c d h (both_starved m) = both_starved m
       plain_together p w c d h (one_cut t) = one_cut t
 
-      pub rowed_together : (p : Pass S) (w : Ways S) (c d : Outcome) → p.ways ≡ none → Tog p c d → Tog (passed p.on w p.log) c d
+      pub rowed_together : (p : Pass S) (w : Ways S) (c d : Outcome) → p.ways ≡ none → Tog p c d
+          → Tog (passed p.on w p.log) c d
       rowed_together p w c d e (both_leave on {x} {y} i) = both_leave on i
-      rowed_together p w c d e (both_leave broken {x} {y} i) = absurd (subst (λ (v : Ways S). Reaches In v.broken x y) e i)
-      rowed_together p w c d e (both_leave continued {x} {y} i) = absurd (subst (λ (v : Ways S). Reaches In v.continued x y) e i)
-      rowed_together p w c d e (both_leave returned {x} {y} i) = absurd (subst (λ (v : Ways S). Reaches In v.returned x y) e i)
+      rowed_together p w c d e (both_leave broken {x} {y} i) =
+          absurd (subst (λ (v : Ways S). Reaches In v.broken x y) e i)
+      rowed_together p w c d e (both_leave continued {x} {y} i) =
+          absurd (subst (λ (v : Ways S). Reaches In v.continued x y) e i)
+      rowed_together p w c d e (both_leave returned {x} {y} i) =
+          absurd (subst (λ (v : Ways S). Reaches In v.returned x y) e i)
       rowed_together p w c d e (both_starved m) = both_starved m
       rowed_together p w c d e (one_cut t) = one_cut t
 
@@ -534,10 +587,12 @@ module _ (prog : Program) (ord : Side → Order) {S : Type 0} (o : StateOps S) (
           → Tog (scope_pass o Both bs p) (scope_left bs c) (scope_left bs d)
       scope_together bs p c d (both_leave on {x} {y} i) = both_leave on (left_in bs p.on x y i)
       scope_together bs p c d (both_leave broken {x} {y} i) = both_leave broken (left_in bs p.ways.broken x y i)
-      scope_together bs p c d (both_leave continued {x} {y} i) = both_leave continued (left_in bs p.ways.continued x y i)
+      scope_together bs p c d (both_leave continued {x} {y} i) =
+          both_leave continued (left_in bs p.ways.continued x y i)
       scope_together bs p c d (both_leave returned {x} {y} i) = both_leave returned (left_in bs p.ways.returned x y i)
       scope_together bs p c d (both_starved m) = both_starved m
-      scope_together bs p c d (one_cut t) = one_cut (cut_ends slow (scope_left bs) (scope_left bs) (scope_ends bs) (scope_ends bs) c d t)
+      scope_together bs p c d (one_cut t) =
+          one_cut (cut_ends slow (scope_left bs) (scope_left bs) (scope_ends bs) (scope_ends bs) c d t)
 
       -- ---- tests of both
 
@@ -571,7 +626,9 @@ module _ (prog : Program) (ord : Side → Order) {S : Type 0} (o : StateOps S) (
           (h v.on_left v.on_right v.fits (law.assume_in e typed v.on_left v.on_right s x y i a c)))
 
       -- a part of a pass, from the states of two machines
-      branch_into : (x y : State) (T : Type 0) (whole : Pass S) (u : Option S) (go : S → Pass S) → ((s : S) → In s x y → IsQuiet (go s) → PassLess In (go s) whole → T) → IsQuiet (branch u go) → PassLess In (branch u go) whole → Reaches In u x y → T
+      branch_into : (x y : State) (T : Type 0) (whole : Pass S) (u : Option S) (go : S → Pass S)
+          → ((s : S) → In s x y → IsQuiet (go s) → PassLess In (go s) whole → T) → IsQuiet (branch u go)
+          → PassLess In (branch u go) whole → Reaches In u x y → T
       branch_into x y T whole None go h e less i = absurd i
       branch_into x y T whole (Some s) go h e less i = h s i e less
 
@@ -604,23 +661,36 @@ module _ (prog : Program) (ord : Side → Order) {S : Type 0} (o : StateOps S) (
         abbrev pub Into : Verdict → (S → Pass S) → Type 0 → Type 0
         Into v go T = (s' : S) → In s' x y → IsQuiet (go s') → PassLess In (go s') (decided o a Both v e p q r t s) → T
 
-        pub decided_into : (T : Bool → Bool → Type 0) (v : Verdict) (z z' : Bool) → Into v p (T true true) → Into v q (T true false) → Into v r (T false true) → Into v t (T false false)
+        pub decided_into : (T : Bool → Bool → Type 0) (v : Verdict) (z z' : Bool) → Into v p (T true true)
+            → Into v q (T true false) → Into v r (T false true) → Into v t (T false false)
             → Fits v z z' → Reaches In (at_truths z z') x y → IsQuiet (decided o a Both v e p q r t s) → T z z'
         decided_into T stuck z z' hp hq hr ht g j k = absurd g
         decided_into T same true true hp hq hr ht g j k =
-            branch_into x y (T true true) (either_pass o a1 p4) (at_truths true true) p hp (back_empty a.log.faults _ (front_empty a1.log.faults _ k)) (λ w x y i. either_left a1 p4 w x y (either_right a p1 w x y i)) j
+            branch_into x y (T true true) (either_pass o a1 p4) (at_truths true true) p hp
+            (back_empty a.log.faults _ (front_empty a1.log.faults _ k))
+            (λ w x y i. either_left a1 p4 w x y (either_right a p1 w x y i)) j
         decided_into T same true false hp hq hr ht g j k = absurd cc
         decided_into T same false true hp hq hr ht g j k = absurd cc
-        decided_into T same false false hp hq hr ht g j k = branch_into x y (T false false) (either_pass o a1 p4) (at_truths false false) t ht (back_empty a1.log.faults _ k) (either_right a1 p4) j
+        decided_into T same false false hp hq hr ht g j k =
+            branch_into x y (T false false) (either_pass o a1 p4) (at_truths false false) t ht
+            (back_empty a1.log.faults _ k) (either_right a1 p4) j
         decided_into T differs true true hp hq hr ht g j k =
-            branch_into x y (T true true) (either_pass o a3 p4) (at_truths true true) p hp (back_empty a.log.faults _ (front_empty a1.log.faults _ (front_empty a2.log.faults _ (front_empty a3.log.faults _ k))))
-            (λ w x y i. either_left a3 p4 w x y (either_left a2 p3 w x y (either_left a1 p2 w x y (either_right a p1 w x y i)))) j
+            branch_into x y (T true true) (either_pass o a3 p4) (at_truths true true) p hp
+            (back_empty a.log.faults _
+            (front_empty a1.log.faults _ (front_empty a2.log.faults _ (front_empty a3.log.faults _ k))))
+            (λ w x y i. either_left a3 p4 w x y
+            (either_left a2 p3 w x y (either_left a1 p2 w x y (either_right a p1 w x y i)))) j
         decided_into T differs true false hp hq hr ht g j k =
-            branch_into x y (T true false) (either_pass o a3 p4) (at_truths true false) q hq (back_empty a1.log.faults _ (front_empty a2.log.faults _ (front_empty a3.log.faults _ k)))
+            branch_into x y (T true false) (either_pass o a3 p4) (at_truths true false) q hq
+            (back_empty a1.log.faults _ (front_empty a2.log.faults _ (front_empty a3.log.faults _ k)))
             (λ w x y i. either_left a3 p4 w x y (either_left a2 p3 w x y (either_right a1 p2 w x y i))) j
         decided_into T differs false true hp hq hr ht g j k =
-            branch_into x y (T false true) (either_pass o a3 p4) (at_truths false true) r hr (back_empty a2.log.faults _ (front_empty a3.log.faults _ k)) (λ w x y i. either_left a3 p4 w x y (either_right a2 p3 w x y i)) j
-        decided_into T differs false false hp hq hr ht g j k = branch_into x y (T false false) (either_pass o a3 p4) (at_truths false false) t ht (back_empty a3.log.faults _ k) (either_right a3 p4) j
+            branch_into x y (T false true) (either_pass o a3 p4) (at_truths false true) r hr
+            (back_empty a2.log.faults _ (front_empty a3.log.faults _ k))
+            (λ w x y i. either_left a3 p4 w x y (either_right a2 p3 w x y i)) j
+        decided_into T differs false false hp hq hr ht g j k =
+            branch_into x y (T false false) (either_pass o a3 p4) (at_truths false false) t ht
+            (back_empty a3.log.faults _ k) (either_right a3 p4) j
 
       pub tested_together : (a : Pass S) (e : Expr) → IsTest prog e → (l : ℕ) (p q r t : S → Pass S)
           (f f' g g' : Going) → Sound2 In b slow p f g → Sound2 In b slow q f g' → Sound2 In b slow r f' g
@@ -649,31 +719,60 @@ module _ (prog : Program) (ord : Side → Order) {S : Type 0} (o : StateOps S) (
 
       -- ---- the sides go different ways
 
-      only_on_together : (l : ℕ) (p : Pass S) (c : State) (d : Outcome) → IsQuiet (only_on l p) → Alone In b right p c d → Tog (only_on l p) (leaves on (b left) c) d
+      only_on_together : (l : ℕ) (p : Pass S) (c : State) (d : Outcome) → IsQuiet (only_on l p) → Alone In b right p c d
+          → Tog (only_on l p) (leaves on (b left) c) d
       only_on_together l p c d e (alone on {x} i) = both_leave on i
-      only_on_together l p c d e (alone broken {x} i) = absurd (no_differ In right l p.ways.broken x c (front_empty (differ l p.ways.broken) _ (back_empty p.log.faults _ e)) i)
-      only_on_together l p c d e (alone continued {x} i) = absurd (no_differ In right l p.ways.continued x c (front_empty (differ l p.ways.continued) _ (back_empty (differ l p.ways.broken) _ (back_empty p.log.faults _ e))) i)
-      only_on_together l p c d e (alone returned {x} i) = absurd (no_differ In right l p.ways.returned x c (back_empty (differ l p.ways.continued) _ (back_empty (differ l p.ways.broken) _ (back_empty p.log.faults _ e))) i)
+      only_on_together l p c d e (alone broken {x} i) =
+          absurd (no_differ In right l p.ways.broken x c
+          (front_empty (differ l p.ways.broken) _ (back_empty p.log.faults _ e)) i)
+      only_on_together l p c d e (alone continued {x} i) =
+          absurd (no_differ In right l p.ways.continued x c
+          (front_empty (differ l p.ways.continued) _
+          (back_empty (differ l p.ways.broken) _ (back_empty p.log.faults _ e))) i)
+      only_on_together l p c d e (alone returned {x} i) =
+          absurd (no_differ In right l p.ways.returned x c
+          (back_empty (differ l p.ways.continued) _
+          (back_empty (differ l p.ways.broken) _ (back_empty p.log.faults _ e))) i)
 
-      only_broken_together : (l : ℕ) (p : Pass S) (c : State) (d : Outcome) → IsQuiet (only_broken l p) → Alone In b right p c d → Tog (only_broken l p) (leaves broken (b left) c) d
-      only_broken_together l p c d e (alone on {x} i) = absurd (no_differ In right l p.on x c (front_empty (differ l p.on) _ (back_empty p.log.faults _ e)) i)
+      only_broken_together : (l : ℕ) (p : Pass S) (c : State) (d : Outcome) → IsQuiet (only_broken l p)
+          → Alone In b right p c d → Tog (only_broken l p) (leaves broken (b left) c) d
+      only_broken_together l p c d e (alone on {x} i) =
+          absurd (no_differ In right l p.on x c (front_empty (differ l p.on) _ (back_empty p.log.faults _ e)) i)
       only_broken_together l p c d e (alone broken {x} i) = both_leave broken i
-      only_broken_together l p c d e (alone continued {x} i) = absurd (no_differ In right l p.ways.continued x c (front_empty (differ l p.ways.continued) _ (back_empty (differ l p.on) _ (back_empty p.log.faults _ e))) i)
-      only_broken_together l p c d e (alone returned {x} i) = absurd (no_differ In right l p.ways.returned x c (back_empty (differ l p.ways.continued) _ (back_empty (differ l p.on) _ (back_empty p.log.faults _ e))) i)
+      only_broken_together l p c d e (alone continued {x} i) =
+          absurd (no_differ In right l p.ways.continued x c
+          (front_empty (differ l p.ways.continued) _ (back_empty (differ l p.on) _ (back_empty p.log.faults _ e))) i)
+      only_broken_together l p c d e (alone returned {x} i) =
+          absurd (no_differ In right l p.ways.returned x c
+          (back_empty (differ l p.ways.continued) _ (back_empty (differ l p.on) _ (back_empty p.log.faults _ e))) i)
 
-      only_continued_together : (l : ℕ) (p : Pass S) (c : State) (d : Outcome) → IsQuiet (only_continued l p) → Alone In b right p c d → Tog (only_continued l p) (leaves continued (b left) c) d
-      only_continued_together l p c d e (alone on {x} i) = absurd (no_differ In right l p.on x c (front_empty (differ l p.on) _ (back_empty p.log.faults _ e)) i)
-      only_continued_together l p c d e (alone broken {x} i) = absurd (no_differ In right l p.ways.broken x c (front_empty (differ l p.ways.broken) _ (back_empty (differ l p.on) _ (back_empty p.log.faults _ e))) i)
+      only_continued_together : (l : ℕ) (p : Pass S) (c : State) (d : Outcome) → IsQuiet (only_continued l p)
+          → Alone In b right p c d → Tog (only_continued l p) (leaves continued (b left) c) d
+      only_continued_together l p c d e (alone on {x} i) =
+          absurd (no_differ In right l p.on x c (front_empty (differ l p.on) _ (back_empty p.log.faults _ e)) i)
+      only_continued_together l p c d e (alone broken {x} i) =
+          absurd (no_differ In right l p.ways.broken x c
+          (front_empty (differ l p.ways.broken) _ (back_empty (differ l p.on) _ (back_empty p.log.faults _ e))) i)
       only_continued_together l p c d e (alone continued {x} i) = both_leave continued i
-      only_continued_together l p c d e (alone returned {x} i) = absurd (no_differ In right l p.ways.returned x c (back_empty (differ l p.ways.broken) _ (back_empty (differ l p.on) _ (back_empty p.log.faults _ e))) i)
+      only_continued_together l p c d e (alone returned {x} i) =
+          absurd (no_differ In right l p.ways.returned x c
+          (back_empty (differ l p.ways.broken) _ (back_empty (differ l p.on) _ (back_empty p.log.faults _ e))) i)
 
-      only_returned_together : (l : ℕ) (p : Pass S) (c : State) (d : Outcome) → IsQuiet (only_returned l p) → Alone In b right p c d → Tog (only_returned l p) (leaves returned (b left) c) d
-      only_returned_together l p c d e (alone on {x} i) = absurd (no_differ In right l p.on x c (front_empty (differ l p.on) _ (back_empty p.log.faults _ e)) i)
-      only_returned_together l p c d e (alone broken {x} i) = absurd (no_differ In right l p.ways.broken x c (front_empty (differ l p.ways.broken) _ (back_empty (differ l p.on) _ (back_empty p.log.faults _ e))) i)
-      only_returned_together l p c d e (alone continued {x} i) = absurd (no_differ In right l p.ways.continued x c (back_empty (differ l p.ways.broken) _ (back_empty (differ l p.on) _ (back_empty p.log.faults _ e))) i)
+      only_returned_together : (l : ℕ) (p : Pass S) (c : State) (d : Outcome) → IsQuiet (only_returned l p)
+          → Alone In b right p c d → Tog (only_returned l p) (leaves returned (b left) c) d
+      only_returned_together l p c d e (alone on {x} i) =
+          absurd (no_differ In right l p.on x c (front_empty (differ l p.on) _ (back_empty p.log.faults _ e)) i)
+      only_returned_together l p c d e (alone broken {x} i) =
+          absurd (no_differ In right l p.ways.broken x c
+          (front_empty (differ l p.ways.broken) _ (back_empty (differ l p.on) _ (back_empty p.log.faults _ e))) i)
+      only_returned_together l p c d e (alone continued {x} i) =
+          absurd (no_differ In right l p.ways.continued x c
+          (back_empty (differ l p.ways.broken) _ (back_empty (differ l p.on) _ (back_empty p.log.faults _ e))) i)
       only_returned_together l p c d e (alone returned {x} i) = both_leave returned i
 
-      parted_together : (l : ℕ) (p : Pass S) (go : S → Pass S) (c : Outcome) (g : Going) (y : State) → Sound1 In b right go g → IsQuiet (parted o l p go) → Alone In b left p y c → Tog (parted o l p go) c (g (b right) y)
+      parted_together : (l : ℕ) (p : Pass S) (go : S → Pass S) (c : Outcome) (g : Going) (y : State)
+          → Sound1 In b right go g → IsQuiet (parted o l p go) → Alone In b left p y c → Tog (parted o l p go) c
+          (g (b right) y)
       parted_together l p go c g y h e a = after_together p.log (either_pass o q123 q4) c _ (by_way c a)
         where
           q1 : Pass S
@@ -700,16 +799,30 @@ module _ (prog : Program) (ord : Side → Order) {S : Type 0} (o : StateOps S) (
           by_way : (c : Outcome) → Alone In b left p y c → Tog (either_pass o q123 q4) c (g (b right) y)
           by_way c (alone on {x} i) =
               let k = front_empty q1.log.faults _ (front_empty q12.log.faults _ (front_empty q123.log.faults _ arms)) in
-              left_arm q123 q4 _ _ (left_arm q12 q3 _ _ (left_arm q1 q2 _ _ (only_on_together l (branch p.on go) x _ k (alone_branch In b right p.on go g y x h (front_empty (branch p.on go).log.faults _ k) i))))
+              left_arm q123 q4 _ _ (left_arm q12 q3 _ _
+              (left_arm q1 q2 _ _ (only_on_together l (branch p.on go) x _ k
+              (alone_branch In b right p.on go g y x h (front_empty (branch p.on go).log.faults _ k) i))))
           by_way c (alone broken {x} i) =
               let k = back_empty q1.log.faults _ (front_empty q12.log.faults _ (front_empty q123.log.faults _ arms)) in
-              left_arm q123 q4 _ _ (left_arm q12 q3 _ _ (right_arm q1 q2 _ _ (only_broken_together l (branch p.ways.broken go) x _ k (alone_branch In b right p.ways.broken go g y x h (front_empty (branch p.ways.broken go).log.faults _ k) i))))
+              left_arm q123 q4 _ _ (left_arm q12 q3 _ _
+              (right_arm q1 q2 _ _ (only_broken_together l (branch p.ways.broken go) x _ k
+              (alone_branch In b right p.ways.broken go g y x h (front_empty (branch p.ways.broken go).log.faults _ k)
+              i))))
           by_way c (alone continued {x} i) =
               let k = back_empty q12.log.faults _ (front_empty q123.log.faults _ arms) in
-              left_arm q123 q4 _ _ (right_arm q12 q3 _ _ (only_continued_together l (branch p.ways.continued go) x _ k (alone_branch In b right p.ways.continued go g y x h (front_empty (branch p.ways.continued go).log.faults _ k) i)))
+              left_arm q123 q4 _ _ (right_arm q12 q3 _ _
+              (only_continued_together l (branch p.ways.continued go) x _ k
+              (alone_branch In b right p.ways.continued go g y x h
+              (front_empty (branch p.ways.continued go).log.faults _ k) i)))
           by_way c (alone returned {x} i) =
               let k = back_empty q123.log.faults _ arms in
-              right_arm q123 q4 _ _ (only_returned_together l (branch p.ways.returned go) x _ k (alone_branch In b right p.ways.returned go g y x h (front_empty (branch p.ways.returned go).log.faults _ k) i))
+              right_arm q123 q4 _ _
+              (only_returned_together l (branch p.ways.returned go) x _ k
+              (alone_branch In b right p.ways.returned go g y x h
+              (front_empty (branch p.ways.returned go).log.faults _ k) i))
 
-      pub apart_together : (l : ℕ) (p q : Mode → S → Pass S) (f g : Going) → Sound1 In b left (p (One left)) f → Sound1 In b right (q (One right)) g → Sound2 In b slow (apart o l p q) f g
-      apart_together l p q f g h k s x y i e = parted_together l (p (One left) s) (q (One right)) _ g y k e (h s x y i (front_empty (p (One left) s).log.faults _ e))
+      pub apart_together : (l : ℕ) (p q : Mode → S → Pass S) (f g : Going) → Sound1 In b left (p (One left)) f
+          → Sound1 In b right (q (One right)) g → Sound2 In b slow (apart o l p q) f g
+      apart_together l p q f g h k s x y i e =
+          parted_together l (p (One left) s) (q (One right)) _ g y k e
+          (h s x y i (front_empty (p (One left) s).log.faults _ e))

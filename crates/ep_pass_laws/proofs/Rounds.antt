@@ -1,5 +1,5 @@
 -- Joint loops: turns one by one, and heads.
-use Rattle.std.proofs.Common.{◌≡◌, ◌⊎◌, inl, inr, ℕ, zero, suc, ◌+◌, ◌-◌, ◌≤◌, ◌<◌, List, [], ◌∷◌, ◌++◌, refl, sym, subst, Option, Some, None, Bool, true, false, if◌then◌else◌, arith}
+use Rattle.std.proofs.Common.{◌≡◌, ◌⊎◌, inl, inr, ℕ, zero, suc, ◌+◌, ◌-◌, ◌≤◌, ◌<◌, [], ◌∷◌, ◌++◌, refl, sym, subst, Option, Some, None, Bool, true, false, if◌then◌else◌, arith}
 use Rattle.ep_int.specs.declared.types.Order.{Order}
 use Rattle.ep_core.specs.Program.{Expr, Program}
 use Rattle.ep_core.specs.Exec.{State, on, broken, continued, returned, Outcome, leaves, running, Going, and_then, listed, either, value}
@@ -18,14 +18,18 @@ abbrev pub Ahead : (alone : ℕ) → (slow : Side) → (lefts rights : ℕ) → 
 Ahead u left k j = k + u < j
 Ahead u right k j = j + u < k
 
-module _ (prog : Program) (ord : Side → Order) {S : Type 0} (o : StateOps S) (In : S → State → State → Type 0) (law : Sure prog ord o In) (b : Side → ℕ) (slow : Side) where
+module _ (prog : Program) (ord : Side → Order) {S : Type 0} (o : StateOps S) (In : S → State → State → Type 0)
+    (law : Sure prog ord o In) (b : Side → ℕ) (slow : Side) where
   less_ways : (p q : Pass S) → PassLess In p q → WaysLess In p.ways q.ways
   less_ways p q h on x y i = absurd i
   less_ways p q h broken x y i = h broken x y i
   less_ways p q h continued x y i = h continued x y i
   less_ways p q h returned x y i = h returned x y i
 
-  module _ (u limit l : ℕ) (e : Expr) (typed : IsTest prog e) (body : Mode → S → Pass S) (f g : Going) (fg : Growing f) (gg : Growing g) (ft : (n : ℕ) (x : State) → IsTurn (f n x)) (gt : (n : ℕ) (x : State) → IsTurn (g n x)) (sound : Sound2 In b slow (body Both) f g) (on_left : Sound1 In b left (body (One left)) f) (on_right : Sound1 In b right (body (One right)) g) where
+  module _ (u limit l : ℕ) (e : Expr) (typed : IsTest prog e) (body : Mode → S → Pass S) (f g : Going) (fg : Growing f)
+      (gg : Growing g) (ft : (n : ℕ) (x : State) → IsTurn (f n x)) (gt : (n : ℕ) (x : State) → IsTurn (g n x))
+      (sound : Sound2 In b slow (body Both) f g) (on_left : Sound1 In b left (body (One left)) f)
+      (on_right : Sound1 In b right (body (One right)) g) where
     abbrev Tog : Pass S → Outcome → Outcome → Type 0
     Tog = Together In b slow
 
@@ -64,32 +68,41 @@ module _ (prog : Program) (ord : Side → Order) {S : Type 0} (o : StateOps S) (
 
     -- ---- where one is left
 
-    left_out : (r : Pass S) (w : Option S) (c : Outcome) (y : State) → Less In w r.ways.broken → Outs prog ord o In law b slow left w y c → Tog r c (leaves broken (b right) y)
+    left_out : (r : Pass S) (w : Option S) (c : Outcome) (y : State) → Less In w r.ways.broken
+        → Outs prog ord o In law b slow left w y c → Tog r c (leaves broken (b right) y)
     left_out r w c y h (outs {x} i) = both_leave broken (h x y i)
-    left_out r w c y h (stops {x} is p) = one_cut (subst (λ m. Cut m (running x) (leaves broken (b right) y)) is (left_cut p))
+    left_out r w c y h (stops {x} is p) =
+        one_cut (subst (λ m. Cut m (running x) (leaves broken (b right) y)) is (left_cut p))
 
-    right_out : (r : Pass S) (w : Option S) (d : Outcome) (z : State) → Less In w r.ways.broken → Outs prog ord o In law b slow right w z d → Tog r (leaves broken (b left) z) d
+    right_out : (r : Pass S) (w : Option S) (d : Outcome) (z : State) → Less In w r.ways.broken
+        → Outs prog ord o In law b slow right w z d → Tog r (leaves broken (b left) z) d
     right_out r w d z h (outs {x} i) = both_leave broken (h z x i)
-    right_out r w d z h (stops {x} is p) = one_cut (subst (λ m. Cut m (leaves broken (b left) z) (running x)) is (right_cut p))
+    right_out r w d z h (stops {x} is p) =
+        one_cut (subst (λ m. Cut m (leaves broken (b left) z) (running x)) is (right_cut p))
 
     -- ---- where a machine may make no more turns
 
-    left_stops : (r : Pass S) (m : Side) → m ≡ slow → (j : ℕ) → Ahead u m 0 j → (s : S) (x y : State) → In s x y → Tog r (running x) (rights j (b right) y)
+    left_stops : (r : Pass S) (m : Side) → m ≡ slow → (j : ℕ) → Ahead u m 0 j → (s : S) (x y : State) → In s x y
+        → Tog r (running x) (rights j (b right) y)
     left_stops r left is j h s x y i =
         one_cut (subst (λ m. Cut m (running x) (rights j (b right) y)) is
-        (left_cut (subst (λ z. Begins z (state_in (rights j (b right) y)).outputs) (sym (law.same_outputs s x y i)) (grown y (b right) _ (rights_grow j (b right) y)).0)))
+        (left_cut (subst (λ z. Begins z (state_in (rights j (b right) y)).outputs) (sym (law.same_outputs s x y i))
+        (grown y (b right) _ (rights_grow j (b right) y)).0)))
     left_stops r right is j h s x y i = absurd (omega arith)
 
-    right_stops : (r : Pass S) (m : Side) → m ≡ slow → (k : ℕ) → Ahead u m k 0 → (s : S) (x y : State) → In s x y → Tog r (lefts k (b left) x) (running y)
+    right_stops : (r : Pass S) (m : Side) → m ≡ slow → (k : ℕ) → Ahead u m k 0 → (s : S) (x y : State) → In s x y
+        → Tog r (lefts k (b left) x) (running y)
     right_stops r left is k h s x y i = absurd (omega arith)
     right_stops r right is k h s x y i =
         one_cut (subst (λ m. Cut m (lefts k (b left) x) (running y)) is
-        (right_cut (subst (λ z. Begins z (state_in (lefts k (b left) x)).outputs) (law.same_outputs s x y i) (grown x (b left) _ (lefts_grow k (b left) x)).0)))
+        (right_cut (subst (λ z. Begins z (state_in (lefts k (b left) x)).outputs) (law.same_outputs s x y i)
+        (grown x (b left) _ (lefts_grow k (b left) x)).0)))
 
     -- ---- a turn, and what comes next
 
     turn_keeps : (w : Ways S) (s : S) → WaysLess In w (turn w s).ways
-    turn_keeps w s = tested_keeps prog ord o In law w Both e l (in_body o u limit l e body Both) (alone_in left) (alone_in right) (jumps broken) s
+    turn_keeps w s = tested_keeps prog ord o In law w Both e l (in_body o u limit l e body Both) (alone_in left)
+        (alone_in right) (jumps broken) s
 
     listed_both : (c d : ℕ) (s : S) (x y : State) → In s x y → In s (listed c x) (listed d y)
     listed_both c d s x y i =
@@ -120,7 +133,8 @@ module _ (prog : Program) (ord : Side → Order) {S : Type 0} (o : StateOps S) (
         (sound s' (listed 1 x) (listed 1 y) (listed_both 1 1 s' x y i) q)))
         (λ s' i q less. left_out r (alone_in left s').ways.broken _ (listed 0 y)
         (λ x y i. out broken x y (less broken x y i))
-        (lone_outs prog ord o In law b slow u limit l e typed body left f fg ft on_left k (left_enough slow k j ahead) s'
+        (lone_outs prog ord o In law b slow u limit l e typed body left f fg ft on_left k (left_enough slow k j ahead)
+        s'
         (listed 1 x) (listed 0 y) (listed_both 1 0 s' x y i) q))
         (λ s' i q less. right_out r (alone_in right s').ways.broken _ (listed 0 x)
         (λ x y i. out broken x y (less broken x y i))
@@ -139,56 +153,94 @@ module _ (prog : Program) (ord : Side → Order) {S : Type 0} (o : StateOps S) (
       pub ways : WaysLess In (turn before head).ways p.ways
       pub quiet : IsQuiet p → IsQuiet (turn before head)
 
-    stable_in : (h : S) (w : Option S) → is_stable o u limit l e body h w ≡ true → (x y : State) → Reaches In w x y → In h x y
+    stable_in : (h : S) (w : Option S) → is_stable o u limit l e body h w ≡ true → (x y : State) → Reaches In w x y
+        → In h x y
     stable_in h None k x y i = absurd i
     stable_in h (Some s) k x y i = law.leq_in (o.unified h s).1 h x y k (law.unified_right h s x y i)
 
     next_in : (h : S) (w : Option S) (x y : State) → In h x y → In (next_head o u limit l e body h w) x y
     next_in h None x y i = i
-    next_in h (Some s) x y i = law.reshared_in _ x y (law.widened_left (o.unified h s).0 (o.unified h s).1 x y (law.unified_left h s x y i))
+    next_in h (Some s) x y i =
+        law.reshared_in _ x y (law.widened_left (o.unified h s).0 (o.unified h s).1 x y (law.unified_left h s x y i))
 
     empty_keeps : (w : Option S) (x y : State) → Reaches In w x y → In o.empty x y
     empty_keeps None x y i = absurd i
     empty_keeps (Some s) x y i = law.empty_in s x y i
 
-    settled_by : (before : Ways S) (h : S) (t : Bool) (q : Pass S) → is_stable o u limit l e body h (turn before h).on ≡ t → Settled before q (next_head o u limit l e body h (turn before h).on)
+    settled_by : (before : Ways S) (h : S) (t : Bool) (q : Pass S) → is_stable o u limit l e body h (turn before h).on
+        ≡ t → Settled before q (next_head o u limit l e body h (turn before h).on)
         → Settled before (if t then from_head h (turn before h) else dropped (turn before h) q) h
-    settled_by before h true q k m = record { head = h; holds = λ x y i. i; stable = stable_in h (turn before h).on k; ways = λ w x y i. i; quiet = λ e. e }
-    settled_by before h false q k m = record { head = m.head; holds = λ x y i. m.holds x y (next_in h (turn before h).on x y i); stable = m.stable; ways = m.ways; quiet = m.quiet }
+    settled_by before h true q k m =
+        record {
+          head = h;
+          holds = λ x y i. i;
+          stable = stable_in h (turn before h).on k;
+          ways = λ w x y i. i;
+          quiet =
+              λ e. e;
+        }
+    settled_by before h false q k m =
+        record {
+          head = m.head;
+          holds = λ x y i. m.holds x y (next_in h (turn before h).on x y i);
+          stable =
+              m.stable;
+          ways = m.ways;
+          quiet = m.quiet;
+        }
 
     settled_is : (before : Ways S) (k : ℕ) (h : S) → Settled before (settled o u limit l e body (turn before) k h) h
-    settled_is before zero h = record { head = o.empty; holds = λ x y i. law.empty_in h x y i; stable = empty_keeps (turn before o.empty).on; ways = λ w x y i. i; quiet = λ e. e }
+    settled_is before zero h =
+        record {
+          head = o.empty;
+          holds = λ x y i. law.empty_in h x y i;
+          stable =
+              empty_keeps (turn before o.empty).on;
+          ways = λ w x y i. i;
+          quiet = λ e. e;
+        }
     settled_is before (suc k) h =
         let n = next_head o u limit l e body h (turn before h).on in
-        settled_by before h (is_stable o u limit l e body h (turn before h).on) (settled o u limit l e body (turn before) k n) refl (settled_is before k n)
+        settled_by before h (is_stable o u limit l e body h (turn before h).on)
+        (settled o u limit l e body (turn before) k n) refl (settled_is before k n)
 
     -- round and round from a head that is kept
-    head_together : (before : Ways S) (r : Pass S) (h : S) → IsQuiet (turn before h) → ((x y : State) → Reaches In (turn before h).on x y → In h x y) → WaysLess In (turn before h).ways r.ways
+    head_together : (before : Ways S) (r : Pass S) (h : S) → IsQuiet (turn before h)
+        → ((x y : State) → Reaches In (turn before h).on x y → In h x y) → WaysLess In (turn before h).ways r.ways
         → (k j : ℕ) → Ahead u slow k j → (x y : State) → In h x y → Tog r (lefts k (b left) x) (rights j (b right) y)
     head_together before r h q st out zero j ahead x y i = left_stops r slow refl j ahead h x y i
     head_together before r h q st out (suc k) zero ahead x y i = right_stops r slow refl (suc k) ahead h x y i
-    head_together before r h q st out (suc k) (suc j) ahead x y i = turn_together before r k j ahead h x y i q (λ x y i. head_together before r h q st out k j (ahead_next slow k j ahead) x y (st x y i)) out
+    head_together before r h q st out (suc k) (suc j) ahead x y i =
+        turn_together before r k j ahead h x y i q
+        (λ x y i. head_together before r h q st out k j (ahead_next slow k j ahead) x y (st x y i)) out
 
-    last_together : (s : S) (w : Ways S) (k j : ℕ) → Ahead u slow k j → (x y : State) → In s x y → IsQuiet (last_pass o (last w s)) → Tog (last_pass o (last w s)) (lefts k (b left) x) (rights j (b right) y)
+    last_together : (s : S) (w : Ways S) (k j : ℕ) → Ahead u slow k j → (x y : State) → In s x y
+        → IsQuiet (last_pass o (last w s)) → Tog (last_pass o (last w s)) (lefts k (b left) x) (rights j (b right) y)
     last_together s w k j ahead x y i q =
         let m = settled_is w (limit - 1) (o.reshared s) in
-        head_together w (last_pass o (last w s)) m.head (m.quiet q) m.stable m.ways k j ahead x y (m.holds x y (law.reshared_in s x y i))
+        head_together w (last_pass o (last w s)) m.head (m.quiet q) m.stable m.ways k j ahead x y
+        (m.holds x y (law.reshared_in s x y i))
 
     last_keeps : (w : Ways S) (s : S) → WaysLess In w (last w s).ways
-    last_keeps w s k x y i = let m = settled_is w (limit - 1) (o.reshared s) in m.ways k x y (turn_keeps w m.head k x y i)
+    last_keeps w s k x y i = let m =
+        settled_is w (limit - 1) (o.reshared s) in m.ways k x y (turn_keeps w m.head k x y i)
 
     abbrev rounds_of : ℕ → S → Ways S → Pass S
     rounds_of n = joint_rounds o u limit l e body n
 
-    pub unrolled_together : (n k j : ℕ) → Ahead u slow k j → (s : S) (w : Ways S) (x y : State) → In s x y → IsQuiet (rounds_of n s w) → Tog (rounds_of n s w) (lefts k (b left) x) (rights j (b right) y)
+    pub unrolled_together : (n k j : ℕ) → Ahead u slow k j → (s : S) (w : Ways S) (x y : State) → In s x y
+        → IsQuiet (rounds_of n s w) → Tog (rounds_of n s w) (lefts k (b left) x) (rights j (b right) y)
     unrolled_together zero k j ahead s w x y i q = last_together s w k j ahead x y i q
     unrolled_together (suc n) zero j ahead s w x y i q = left_stops _ slow refl j ahead s x y i
     unrolled_together (suc n) (suc k) zero ahead s w x y i q = right_stops _ slow refl (suc k) ahead s x y i
     unrolled_together (suc n) (suc k) (suc j) ahead s w x y i q =
         let p = turn w s in
-        turn_together w (turn_then o p (rounds_of n)) k j ahead s x y i (go_on_front prog ord o In law p.on p.ways p.log (rounds_of n) q)
-        (λ x y i. go_on_together prog ord o In law b slow p.on p.ways p.log (rounds_of n) (lefts k) (rights j) x y (λ s w x y i q. unrolled_together n k j (ahead_next slow k j ahead) s w x y i q) q i)
-        (go_on_keeps prog ord o In law p.on p.ways p.log (rounds_of n) (unrolled_keeps prog ord o In law turn last turn_keeps last_keeps n))
+        turn_together w (turn_then o p (rounds_of n)) k j ahead s x y i
+        (go_on_front prog ord o In law p.on p.ways p.log (rounds_of n) q)
+        (λ x y i. go_on_together prog ord o In law b slow p.on p.ways p.log (rounds_of n) (lefts k) (rights j) x y
+        (λ s w x y i q. unrolled_together n k j (ahead_next slow k j ahead) s w x y i q) q i)
+        (go_on_keeps prog ord o In law p.on p.ways p.log (rounds_of n)
+        (unrolled_keeps prog ord o In law turn last turn_keeps last_keeps n))
 
     -- a joint loop
     pub loop_together : (first : Bool) → Ahead u slow (suc (b left)) (suc (b right)) → (s : S) (x y : State)

@@ -1,18 +1,18 @@
 -- Whole runs: from runs by turns to agreement by steps, along each interleaving, and in the end.
-use Rattle.std.proofs.Common.{◌≡◌, ℕ, suc, ◌+◌, ◌≤◌, ◌<◌, List, refl, sym, ap, ◌∙◌, subst, arith}
+use Rattle.std.proofs.Common.{ℕ, suc, ◌+◌, ◌≤◌, ◌<◌, List, refl, sym, ap, ◌∙◌, subst, arith}
 use Rattle.ep_int.specs.declared.types.Order.{Order}
 use Rattle.ep_int.specs.declared.types.Scalar.{Scalar}
 use Rattle.ep_int.specs.Memory.{int, null, pointer, Found, has, faults, loaded}
-use Rattle.std.proofs.Common.{Option, Some, None, slice_get}
+use Rattle.std.proofs.Common.{Option, Some, None}
 use Rattle.ep_core.specs.Program.{Program}
-use Rattle.ep_core.specs.Exec.{State, Outcome, leaves, running, no_input, undefined_at, uncounted, counted, model, size_at, result_in, body_of, bodies}
-use Rattle.ep_core.specs.Runs.{Ending, still_running, ended, wants_input, undefined_on, Run, run_of, result_out, main_function, main_ends, line_of, finished, start, main_from, run_by, run, IsDefined, IsOver, Begins, Agree}
+use Rattle.ep_core.specs.Exec.{State, Outcome, leaves, running, no_input, undefined_at, uncounted, counted, model, size_at, result_in, bodies}
+use Rattle.ep_core.specs.Runs.{Ending, still_running, ended, wants_input, undefined_on, Run, result_out, main_function, main_ends, line_of, finished, start, main_from, run_by, run, IsDefined, IsOver, Begins, Agree}
 use Rattle.ep_core.specs.Laws.{Continues}
 use Rattle.ep_core.proofs.Prefixes.{begins_refl, begins_trans, begins_more, begins_either}
 use Rattle.ep_core.proofs.Grows.{state_in}
 use Rattle.ep_core.proofs.Whole.{turns_go_on, steps_reach, agrees_along}
 use Rattle.ep_pass_laws.specs.Agreement.{ComesAsFar, Follows, AgreeInTheEnd}
-use Rattle.ep_pass_laws.proofs.Passing.{Puts, Passed, body_passing, bodies_passing}
+use Rattle.ep_pass_laws.proofs.Passing.{Passed, body_passing, bodies_passing}
 
 -- ---- outputs of a whole run
 
@@ -69,8 +69,8 @@ pub record Covered (x y : Run) : Type 0 where
   pub far : ComesAsFar x y
 
 module _ (p : Program) where
-  -- By turns: with more than u of them the first machine's run is defined, and the second's comes as far, with more than
-  -- u turns beyond these.
+  -- By turns: with more than u of them the first machine's run is defined, and the second's comes as far, with more
+  -- than u turns beyond these.
   abbrev pub IsCovered : (u : ℕ) → (a b : Order) → Type 0
   IsCovered u a b =
       (inputs : List ℕ) (n m : ℕ) → u < n → n + u < m
@@ -101,7 +101,8 @@ module _ (p : Program) where
       → Passed (λ left. main_from o p counted inputs left) y
       → (IsOver (finished o p y).ending → (m : ℕ) × ComesAsFar (finished o p y) (run p o inputs m))
       → (m : ℕ) × ComesAsFar (finished o p y) (run p o inputs m)
-  stopped_by_steps o inputs (leaves w n s) d h = h (left_over o (result_in (main_function o p)) (line_of o p (main_function o p)) s)
+  stopped_by_steps o inputs (leaves w n s) d h =
+      h (left_over o (result_in (main_function o p)) (line_of o p (main_function o p)) s)
   stopped_by_steps o inputs (running s) d h = (
     d.from,
     record {

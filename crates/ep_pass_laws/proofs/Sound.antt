@@ -1,13 +1,13 @@
 -- A report that is empty means that the machines agree.
-use Rattle.std.proofs.Common.{◌≡◌, ℕ, suc, ◌+◌, ◌≤◌, ◌<◌, List, [], ◌∷◌, ◌++◌, refl, sym, subst, Option, Some, None, Bool, true, false, slice_get, fold, arith, if◌then◌else◌}
+use Rattle.std.proofs.Common.{◌≡◌, ℕ, suc, ◌≤◌, ◌<◌, List, [], ◌∷◌, refl, sym, subst, Option, Some, None, Bool, true, false, slice_get, fold, arith, if◌then◌else◌}
 use Rattle.ep_int.specs.declared.types.Order.{Order}
 use Rattle.ep_int.specs.Memory.{Memory}
 use Rattle.ep_alarms.specs.declared.types.Alarm.{Alarm}
 use Rattle.ep_alarms.specs.Alarm.{before, joined}
 use Rattle.ep_alarms.specs.Report.{added, gathered}
 use Rattle.ep_core.specs.Program.{Function, Program}
-use Rattle.ep_core.specs.Exec.{State, on, broken, continued, returned, Outcome, leaves, running, no_input, undefined_at, uncounted, result_in, frame_of, body_of, bodies}
-use Rattle.ep_core.specs.Runs.{Side, left, right, Ending, still_running, ended, wants_input, Run, run_of, main_function, main_ends, line_of, finished, start, main_from, IsDefined, IsOver, Begins}
+use Rattle.ep_core.specs.Exec.{State, on, broken, continued, returned, Outcome, uncounted, result_in, frame_of, body_of, bodies}
+use Rattle.ep_core.specs.Runs.{Side, left, right, still_running, wants_input, Run, run_of, main_function, main_ends, line_of, finished, start, main_from, IsDefined, Begins}
 use Rattle.ep_core.specs.WellFormed.{is_well_formed, result_type}
 use Rattle.ep_core.proofs.Prefixes.{begins_refl, begins_trans}
 use Rattle.ep_core.proofs.Grows.{state_in}
@@ -15,11 +15,11 @@ use Rattle.ep_core.proofs.Operands.{fits_at}
 use Rattle.ep_pass.specs.States.{StateOps}
 use Rattle.ep_pass.specs.Pass.{Pass, join_on, main_pass, faults_at_end, all_faults, report_of}
 use Rattle.ep_pass.specs.Laws.{Kept, EndAlike, Lawful}
-use Rattle.ep_pass_laws.specs.Agreement.{ComesAsFar, AgreeInTheEnd}
+use Rattle.ep_pass_laws.specs.Agreement.{AgreeInTheEnd}
 use Rattle.ep_pass_laws.proofs.Outcomes.{IsCall}
 use Rattle.ep_pass_laws.proofs.Text.{call_part}
 use Rattle.ep_pass_laws.proofs.Sure.{Reaches, Sure}
-use Rattle.ep_pass_laws.proofs.Reaching.{front_empty, back_empty, no_alarms, at, Cut, left_cut, right_cut, Together, both_leave, both_starved, one_cut, less_left, less_right}
+use Rattle.ep_pass_laws.proofs.Reaching.{front_empty, back_empty, no_alarms, Cut, left_cut, right_cut, Together, both_leave, both_starved, one_cut, less_left, less_right}
 use Rattle.ep_pass_laws.proofs.Rounds.{Ahead}
 use Rattle.ep_pass_laws.proofs.Statements.{main_together}
 use Rattle.ep_pass_laws.proofs.Keeping.{sure, start_in}
@@ -127,7 +127,8 @@ module _ (prog : Program) (formed : is_well_formed prog ≡ true) (ord : Side �
   left_cut_covers : (c d : Outcome) → Cut left c d → Covered (finished (ord left) prog c) (finished (ord right) prog d)
   left_cut_covers p q (left_cut {x} {d} e) = stopped (ord left) (ord right) x d e
 
-  right_cut_covers : (c d : Outcome) → Cut right c d → Covered (finished (ord right) prog d) (finished (ord left) prog c)
+  right_cut_covers : (c d : Outcome) → Cut right c d → Covered (finished (ord right) prog d)
+      (finished (ord left) prog c)
   right_cut_covers p q (right_cut {c} {y} e) = stopped (ord right) (ord left) y c e
 
   module _ (b : Side → ℕ) where

@@ -1,21 +1,20 @@
 -- A pass that is quiet has the outcomes of both machines.
-use Rattle.std.proofs.Common.{◌≡◌, ℕ, zero, suc, ◌≤◌, List, [], ◌∷◌, ◌++◌, refl, sym, subst, Option, Some, None, Bool, true, false, ◌&&◌, slice_get, nat_eq}
+use Rattle.std.proofs.Common.{◌≡◌, ℕ, zero, suc, ◌≤◌, List, [], ◌++◌, refl, sym, subst, Option, Some, None, Bool, true, false, ◌&&◌, slice_get, nat_eq}
 use Rattle.std.proofs.lemmas.Bool.{and_parts}
 use Rattle.ep_int.specs.declared.types.Order.{Order}
-use Rattle.ep_int.specs.declared.types.Scalar.{Scalar}
 use Rattle.ep_core.specs.Program.{Expr, Dest, Simple, What, simple, call, if_else, loop, break_loop, continue_loop, by_order, scope, Stmts, stop, more, Function, Program}
-use Rattle.ep_core.specs.Exec.{State, Way, on, broken, continued, returned, Outcome, leaves, Going, uncounted, and_then, is_order, chosen, arm_left, scope_left, result_in, callee_of, frame_of, without, value, does, received, call_of, exec, exec_all, body_of, bodies}
+use Rattle.ep_core.specs.Exec.{State, Way, on, broken, continued, returned, Outcome, Going, uncounted, and_then, is_order, chosen, scope_left, result_in, callee_of, frame_of, without, value, does, received, call_of, exec, exec_all, body_of, bodies}
 use Rattle.ep_core.specs.Runs.{Side, left, right, main_from, start}
 use Rattle.ep_core.specs.WellFormed.{result_type, is_tested, are_plain, arguments_fit, takes_result, call_fits, simple_fits, what_fits, stmts_fit, is_well_formed}
 use Rattle.ep_core.proofs.Grows.{Growing, leaves_grows, received_grows, all_grow, bodies_grow}
 use Rattle.ep_core.proofs.Operands.{fits_at}
 use Rattle.ep_core.proofs.Sorts.{three}
 use Rattle.ep_pass.specs.States.{Mode, Both, One, Gives, StateOps}
-use Rattle.ep_pass.specs.Pass.{Ways, none, logged, Pass, passed, ends, jumps, way_of, simple_pass, then_pass, rowed, leave_call, scope_pass, call_pass, next_pass, apart, arm_of, by_order_pass, pass, pass_all, body_pass, bodies_pass, main_pass}
+use Rattle.ep_pass.specs.Pass.{none, Pass, ends, way_of, simple_pass, then_pass, rowed, leave_call, scope_pass, call_pass, next_pass, apart, arm_of, pass, pass_all, body_pass, bodies_pass, main_pass}
 use Rattle.ep_pass.specs.Laws.{passes}
-use Rattle.ep_pass_laws.proofs.Outcomes.{with_next, IsCall, IsPlain, next_turn, loop_is, called_end, run_called, run_called_grows, next_grows, passes_grow, call_is, scope_call}
-use Rattle.ep_pass_laws.proofs.Text.{plain_part, call_part, bodies_call, callee_at}
-use Rattle.ep_pass_laws.proofs.Sure.{IsTest, Reaches, Seen, Beside, Meets, meet_on, meet_none, MeetsAlone, meet_one, Sure}
+use Rattle.ep_pass_laws.proofs.Outcomes.{with_next, IsCall, IsPlain, next_turn, loop_is, run_called, run_called_grows, next_grows, call_is, scope_call}
+use Rattle.ep_pass_laws.proofs.Text.{plain_part, bodies_call, callee_at}
+use Rattle.ep_pass_laws.proofs.Sure.{Seen, Meets, meet_on, meet_none, MeetsAlone, meet_one, Sure}
 use Rattle.ep_pass_laws.proofs.Reaching.{no_alarms, IsQuiet, Keeps, seen_some, Alone, alone, Sound1, After1, Together, both_leave, both_starved, Sound2, After2, then_keeps, then_front, next_front, then_alone, rowed_alone, next_alone, scope_alone, leave_call_alone, arm_alone, tested_alone, then_together, rowed_together, next_together, scope_together, leave_call_together, arm_together, tested_together, apart_together}
 use Rattle.ep_pass_laws.proofs.Turns.{one_loop}
 use Rattle.ep_pass_laws.proofs.Rounds.{loop_together, Ahead}
@@ -35,7 +34,8 @@ module _ (prog : Program) (formed : is_well_formed prog ≡ true) (ord : Side �
       → Keeps In (pass_all o u limit ord prog here ps ss m)
   all_keep here ps m stop s w k x y i = i
   all_keep here ps m (more l a rest) s w k x y i =
-      then_keeps prog ord o In law (pass o u limit ord prog here ps a m l s) (pass_all o u limit ord prog here ps rest m)
+      then_keeps prog ord o In law (pass o u limit ord prog here ps a m l s)
+      (pass_all o u limit ord prog here ps rest m)
       (all_keep here ps m rest) w k x y i
 
   module _ (b : Side → ℕ) where
@@ -151,7 +151,8 @@ module _ (prog : Program) (formed : is_well_formed prog ≡ true) (ord : Side �
             let t = and_parts (stmts_fit prog here own a seen j) (stmts_fit prog here own c seen j) fits in
             arm_alone prog ord o In law b m x.joint_tests (one (by_order named a c) l s) y _
             (chosen_alone m (is_order (ord m) named) (one_all a) (one_all c) (does_all a) (does_all c)
-            (λ s x y i q. alone_all a seen j t.0 s none x y i q) (λ s x y i q. alone_all c seen j t.1 s none x y i q) s x y i
+            (λ s x y i q. alone_all a seen j t.0 s none x y i q) (λ s x y i q. alone_all c seen j t.1 s none x y i q) s
+            x y i
             q)
         alone_pass (scope bs a) seen j fits l s x y i q =
             scope_alone prog ord o In law b m bs (one_all a (One m) (o.enter (One m) bs s)) y _
@@ -238,7 +239,8 @@ module _ (prog : Program) (formed : is_well_formed prog ≡ true) (ord : Side �
               let q1 = then_front prog ord o In law p none go2 q in
               let on_left = call_is (ord left) prog f (bs left k) es d l (b left) x in
               let on_right = call_is (ord right) prog f (bs right k) es d l (b right) y in
-              subst (λ z. Tog (then_pass o p none go2) z (call_of (ord right) prog (Some f) (bs right k) es d l (b right) y))
+              subst (λ z. Tog (then_pass o p none go2) z
+              (call_of (ord right) prog (Some f) (bs right k) es d l (b right) y))
               (sym on_left)
               (subst (Tog (then_pass o p none go2) _) (sym on_right)
               (then_together prog ord o In law b slow p none go2
@@ -246,13 +248,15 @@ module _ (prog : Program) (formed : is_well_formed prog ≡ true) (ord : Side �
               (and_then (passes (ord right) prog f es l (b right) y) (run_called f (bs right k)))
               (received (ord left) prog f.result d l) (received (ord right) prog f.result d l)
               (received_grows (ord left) prog f.result d l) (received_grows (ord right) prog f.result d l)
-              (λ s w x y i q. rowed_together prog ord o In law b slow (simple_pass on l (o.result Both f d s)) w _ _ refl
+              (λ s w x y i q. rowed_together prog ord o In law b slow (simple_pass on l (o.result Both f d s)) w _ _
+              refl
               (simple_two on l (o.result Both f d s) _ _
               (law.result_sound k f c d seen t.1 l (b left) (b right) s x y i (no_alarms l _ q))))
               (λ s w k x y i. i) q
               (then_together prog ord o In law b slow a none go1 (passes (ord left) prog f es l (b left) x)
               (passes (ord right) prog f es l (b right) y) (run_called f (bs left k)) (run_called f (bs right k))
-              (run_called_grows f (bs left k) (known.grows left k)) (run_called_grows f (bs right k) (known.grows right k))
+              (run_called_grows f (bs left k) (known.grows left k))
+              (run_called_grows f (bs right k) (known.grows right k))
               (λ s w x y i q. rowed_together prog ord o In law b slow (inner s) w _ _ refl
               (leave_call_together prog ord o In law b slow (scope_pass o Both (frame_of f) (ps k Both s))
               (scope_left (frame_of f) (bs left k (b left) x)) (scope_left (frame_of f) (bs right k (b right) y))
@@ -265,7 +269,8 @@ module _ (prog : Program) (formed : is_well_formed prog ≡ true) (ord : Side �
 
           simple_both : (w : Simple) (seen : List ℕ) → simple_fits prog here kind w seen ≡ true → (l : ℕ) (s : S)
               (x y : State) → In s x y → IsQuiet (two (simple w) l s)
-              → Tog (two (simple w) l s) (runs_one (simple w) l left (b left) x) (runs_one (simple w) l right (b right) y)
+              → Tog (two (simple w) l s) (runs_one (simple w) l left (b left) x)
+              (runs_one (simple w) l right (b right) y)
           simple_both w seen fits l s x y i =
               subst
               (λ g. IsQuiet (simple_pass (way_of w) l (o.simple Both (result_in g) w s))
@@ -285,7 +290,8 @@ module _ (prog : Program) (formed : is_well_formed prog ≡ true) (ord : Side �
             sound_pass (if_else e a c) seen j fits l s x y i q =
                 let t = three (is_tested prog.types prog.blocks seen e) (stmts_fit prog here kind a seen j)
                 (stmts_fit prog here kind c seen j) fits in
-                tested_together prog ord o In law b slow (ends []) e (record { seen = seen; fits = t.0 }) l (goes a Both)
+                tested_together prog ord o In law b slow (ends []) e (record { seen = seen; fits = t.0 }) l
+                (goes a Both)
                 (apart o l (goes a) (goes c)) (apart o l (goes c) (goes a)) (goes c Both) (runs a left) (runs c left)
                 (runs a right) (runs c right) (λ s x y i q. sound_all a seen j t.1 s none x y i q)
                 (apart_together prog ord o In law b slow l (goes a) (goes c) (runs a left) (runs c right)
@@ -313,18 +319,21 @@ module _ (prog : Program) (formed : is_well_formed prog ≡ true) (ord : Side �
                 (next_grows (runs a right) (runs c right) (run_grows a right) (run_grows c right))
                 (next_turn (runs a left) (runs c left) (plain left))
                 (next_turn (runs a right) (runs c right) (plain right))
-                (λ s x y i q. next_together prog ord o In law b slow (goes a Both s) (goes c Both) (runs a left (b left) x)
+                (λ s x y i q. next_together prog ord o In law b slow (goes a Both s) (goes c Both)
+                (runs a left (b left) x)
                 (runs a right (b right) y) (runs c left) (runs c right) (run_grows c left) (run_grows c right)
                 (λ s x y i q. sound_all c seen j r.1 s none x y i q) (plain left) q
                 (sound_all a seen true t.1 s none x y i
                 (next_front prog ord o In law (goes a Both s) (goes c Both) q)))
-                (turn_alone a c seen j t.1 r.1 left (plain left)) (turn_alone a c seen j t.1 r.1 right (plain right)) first
+                (turn_alone a c seen j t.1 r.1 left (plain left)) (turn_alone a c seen j t.1 r.1 right (plain right))
+                first
                 ahead s x y i q))
               where
                 turn_alone : (a c : Stmts) (seen : List ℕ) (j : Bool) → stmts_fit prog here kind a seen true ≡ true
                     → stmts_fit prog here kind c seen j ≡ true → (m : Side)
                     → ((n : ℕ) (x : State) → IsPlain (runs c m n x))
-                    → Sound1 In b m (λ s. next_pass o (goes a (One m) s) (goes c (One m))) (with_next (runs a m) (runs c m))
+                    → Sound1 In b m (λ s. next_pass o (goes a (One m) s) (goes c (One m)))
+                    (with_next (runs a m) (runs c m))
                 turn_alone a c seen j h k m plain s x y i q =
                     next_alone prog ord o In law b m (goes a (One m) s) (goes c (One m)) y (runs a m (b m) x) (runs c m)
                     (each_alone c seen j k m) plain q
@@ -339,7 +348,8 @@ module _ (prog : Program) (formed : is_well_formed prog ≡ true) (ord : Side �
                 (apart_together prog ord o In law b slow l (arm_of o (at left) (goes a) (goes c))
                 (arm_of o (at right) (goes a) (goes c)) (chosen (at left) (runs a left) (runs c left))
                 (chosen (at right) (runs a right) (runs c right))
-                (chosen_alone left (at left) (goes a) (goes c) (runs a left) (runs c left) (each_alone a seen j t.0 left)
+                (chosen_alone left (at left) (goes a) (goes c) (runs a left) (runs c left)
+                (each_alone a seen j t.0 left)
                 (each_alone c seen j t.1 left))
                 (chosen_alone right (at right) (goes a) (goes c) (runs a right) (runs c right)
                 (each_alone a seen j t.0 right) (each_alone c seen j t.1 right)) s x y i q)
@@ -411,7 +421,8 @@ module _ (prog : Program) (formed : is_well_formed prog ≡ true) (ord : Side �
             }
 
         -- main
-        pub main_together : (inputs : List ℕ) → In o.entry (start (ord left) prog inputs) (start (ord right) prog inputs)
+        pub main_together : (inputs : List ℕ) → In o.entry (start (ord left) prog inputs)
+            (start (ord right) prog inputs)
             → IsQuiet (main_pass o u limit ord prog)
             → Tog (main_pass o u limit ord prog) (main_from (ord left) prog uncounted inputs (b left))
             (main_from (ord right) prog uncounted inputs (b right))

@@ -1,5 +1,5 @@
 -- A run by turns is stopped in loops alone: no statement without statements in it is.
-use Rattle.std.proofs.Common.{ℕ, zero, suc, ◌+◌, ◌%◌, ℤ, pos, List, [], ◌∷◌, Option, Some, None, nat_eq, ◌&&◌, Bool, true, false}
+use Rattle.std.proofs.Common.{ℕ, zero, suc, ◌+◌, ◌%◌, ℤ, pos, List, [], ◌∷◌, Option, Some, None, nat_eq, ◌&&◌, Bool, false}
 use Rattle.ep_int.specs.declared.types.Scalar.{Scalar}
 use Rattle.ep_int.specs.declared.types.Order.{Order}
 use Rattle.ep_int.specs.Types.{wrapped}

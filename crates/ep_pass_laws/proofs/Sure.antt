@@ -1,11 +1,11 @@
 -- The laws of operations, told of whole machines.
-use Rattle.std.proofs.Common.{◌≡◌, ℕ, Bool, true, List, [], ◌∷◌, Option, Some, None, slice_get}
+use Rattle.std.proofs.Common.{◌≡◌, ℕ, Bool, true, List, [], Option, Some, None, slice_get}
 use Rattle.ep_int.specs.declared.types.Order.{Order}
 use Rattle.ep_core.specs.Program.{Expr, Dest, Simple, Function, Program}
 use Rattle.ep_core.specs.Exec.{State, Way, on, Outcome, leaves, no_input, uncounted, without, does, received}
 use Rattle.ep_core.specs.Runs.{Side, left, right}
 use Rattle.ep_core.specs.WellFormed.{result_type, is_tested, simple_fits, arguments_fit, takes_result}
-use Rattle.ep_pass.specs.States.{Both, One, Verdict, StateOps}
+use Rattle.ep_pass.specs.States.{Both, One, StateOps}
 use Rattle.ep_pass.specs.Pass.{way_of}
 use Rattle.ep_pass.specs.Laws.{passes, Truths, TruthAlone, IsTruth}
 
@@ -64,7 +64,8 @@ pub record Sure (p : Program) (ord : Side → Order) {S : Type 0} (o : StateOps 
   pub arguments_sound : (k : ℕ) (f : Function) → slice_get p.functions k ≡ Some f → (es : List Expr) (seen : List ℕ)
       → arguments_fit p.types p.blocks seen f.params es ≡ true
       → (l n m : ℕ) (s : S) (x y : State) → In s x y → (o.arguments Both f es s).faults ≡ []
-      → Meets In on (o.arguments Both f es s).next n m (passes (ord left) p f es l n x) (passes (ord right) p f es l m y)
+      → Meets In on (o.arguments Both f es s).next n m (passes (ord left) p f es l n x)
+      (passes (ord right) p f es l m y)
   pub arguments_alone : (m : Side) (k : ℕ) (f : Function) → slice_get p.functions k ≡ Some f
       → (es : List Expr) (seen : List ℕ) → arguments_fit p.types p.blocks seen f.params es ≡ true
       → (l n : ℕ) (s : S) (x y : State) → Seen In m s x y → (o.arguments (One m) f es s).faults ≡ []

@@ -9,7 +9,7 @@ use Rattle.ep_pass.specs.States.{Mode, One, Verdict, stuck, same, differs, State
 use Rattle.ep_pass.specs.Pass.{Ways, none, Log, logged, Pass, ends, so_far, branch, too_long, jumps, join_on, join_ways, go_on, last_pass, turn_then, unrolled, in_body, one_turn, cut_turn, one_rounds, entered, loop_pass, two_ways, decided}
 use Rattle.ep_pass_laws.proofs.Outcomes.{rounds, first_rounds, loop_left, IsTurn, rounds_turn, first_turns}
 use Rattle.ep_pass_laws.proofs.Sure.{IsTest, Seen, Beside, Sure}
-use Rattle.ep_pass_laws.proofs.Reaching.{IsQuiet, WaysLess, Keeps, seen_some, beside_none, Alone, alone, Sound1, After1, tested_keeps, go_on_keeps, go_on_front, go_on_alone, then_front, after_alone, goes_on_alone, then_alone, leave_loop_alone, tested_alone, seen_retold}
+use Rattle.ep_pass_laws.proofs.Reaching.{IsQuiet, WaysLess, Keeps, seen_some, beside_none, Alone, alone, Sound1, After1, tested_keeps, go_on_keeps, go_on_front, go_on_alone, then_front, after_alone, goes_on_alone, then_alone, leave_loop_alone, tested_alone}
 
 -- one turn of a loop, after its test
 abbrev pub once : (test : Memory → Found) → (line : ℕ) → (body : Going) → Going
@@ -32,24 +32,30 @@ rounds_once k test l f n x = by_test (test x.memory)
     by_test (has v) = by_truth (is_true v)
     by_test (faults k) = refl
 
-module _ (prog : Program) (ord : Side → Order) {S : Type 0} (o : StateOps S) (In : S → State → State → Type 0) (law : Sure prog ord o In) where
+module _ (prog : Program) (ord : Side → Order) {S : Type 0} (o : StateOps S) (In : S → State → State → Type 0)
+    (law : Sure prog ord o In) where
   -- ---- turns one by one
 
   abbrev pub TurnKeeps : (Ways S → S → Pass S) → Type 0
   TurnKeeps turn = (w : Ways S) (s : S) → WaysLess In w (turn w s).ways
 
-  pub unrolled_keeps : (turn last : Ways S → S → Pass S) → TurnKeeps turn → TurnKeeps last → (k : ℕ) → Keeps In (unrolled o turn last k)
+  pub unrolled_keeps : (turn last : Ways S → S → Pass S) → TurnKeeps turn → TurnKeeps last → (k : ℕ)
+      → Keeps In (unrolled o turn last k)
   unrolled_keeps turn last h i zero s w j x y r = i w s j x y r
   unrolled_keeps turn last h i (suc k) s w j x y r =
-      go_on_keeps prog ord o In law (turn w s).on (turn w s).ways (turn w s).log (unrolled o turn last k) (unrolled_keeps turn last h i k) j x y (h w s j x y r)
+      go_on_keeps prog ord o In law (turn w s).on (turn w s).ways (turn w s).log (unrolled o turn last k)
+      (unrolled_keeps turn last h i k) j x y (h w s j x y r)
 
-  pub go_on_none : (u : Option S) (w : Ways S) (g : Log S) (go : S → Ways S → Pass S) → ((s : S) (w : Ways S) → (go s w).on ≡ None) → (go_on o u w g go).on ≡ None
+  pub go_on_none : (u : Option S) (w : Ways S) (g : Log S) (go : S → Ways S → Pass S)
+      → ((s : S) (w : Ways S) → (go s w).on ≡ None) → (go_on o u w g go).on ≡ None
   go_on_none None w g go h = refl
   go_on_none (Some s) w g go h = h s w
 
-  pub unrolled_none : (turn last : Ways S → S → Pass S) (k : ℕ) (s : S) (w : Ways S) → (unrolled o turn last k s w).on ≡ None
+  pub unrolled_none : (turn last : Ways S → S → Pass S) (k : ℕ) (s : S) (w : Ways S) → (unrolled o turn last k s w).on
+      ≡ None
   unrolled_none turn last zero s w = refl
-  unrolled_none turn last (suc k) s w = go_on_none (turn w s).on (turn w s).ways (turn w s).log (unrolled o turn last k) (unrolled_none turn last k)
+  unrolled_none turn last (suc k) s w = go_on_none (turn w s).on (turn w s).ways (turn w s).log (unrolled o turn last k)
+      (unrolled_none turn last k)
 
   branch_none : (u : Option S) (go : S → Pass S) → ((s : S) → (go s).on ≡ None) → (branch u go).on ≡ None
   branch_none None go h = refl
@@ -59,10 +65,14 @@ module _ (prog : Program) (ord : Side → Order) {S : Type 0} (o : StateOps S) (
   join_none None v p q = q
   join_none (Some s) v p q = absurd cc
 
-  two_none : (w : Ways S) (m : Side) (e : Expr) (p t : S → Pass S) (s : S) → ((s : S) → (p s).on ≡ None) → ((s : S) → (t s).on ≡ None) → (two_ways o (so_far w) (One m) e p t s).on ≡ None
-  two_none w m e p t s h k = join_none (branch (o.assume_one m e true s) p).on (branch (o.assume_one m e false s) t).on (branch_none (o.assume_one m e true s) p h) (branch_none (o.assume_one m e false s) t k)
+  two_none : (w : Ways S) (m : Side) (e : Expr) (p t : S → Pass S) (s : S) → ((s : S) → (p s).on ≡ None)
+      → ((s : S) → (t s).on ≡ None) → (two_ways o (so_far w) (One m) e p t s).on ≡ None
+  two_none w m e p t s h k = join_none (branch (o.assume_one m e true s) p).on (branch (o.assume_one m e false s) t).on
+      (branch_none (o.assume_one m e true s) p h) (branch_none (o.assume_one m e false s) t k)
 
-  decided_none : (w : Ways S) (m : Side) (v : Verdict) (e : Expr) (p q r t : S → Pass S) (s : S) → ((s : S) → (p s).on ≡ None) → ((s : S) → (t s).on ≡ None) → (decided o (so_far w) (One m) v e p q r t s).on ≡ None
+  decided_none : (w : Ways S) (m : Side) (v : Verdict) (e : Expr) (p q r t : S → Pass S) (s : S)
+      → ((s : S) → (p s).on ≡ None) → ((s : S) → (t s).on ≡ None) → (decided o (so_far w) (One m) v e p q r t s).on
+      ≡ None
   decided_none w m stuck e p q r t s h k = refl
   decided_none w m same e p q r t s h k = two_none w m e p t s h k
   decided_none w m differs e p q r t s h k = two_none w m e p t s h k
@@ -81,45 +91,60 @@ module _ (prog : Program) (ord : Side → Order) {S : Type 0} (o : StateOps S) (
       cut w s = cut_turn o u limit l e body m w s
 
       turn_sound : (w : Ways S) → Sound1 In b m (turn w) (once test l f)
-      turn_sound w = tested_alone prog ord o In law b (so_far w) m e typed l (in_body o u limit l e body (One m)) (λ s. ends []) (λ s. ends []) (jumps broken) f (leaves broken)
-          (λ s x y i q. after_alone prog ord o In law b m (logged [] 1 []) (body (One m) s) y _ (sound s x y i q)) (λ s x y i q. alone broken (seen_some In m s x y i))
+      turn_sound w = tested_alone prog ord o In law b (so_far w) m e typed l (in_body o u limit l e body (One m))
+          (λ s. ends []) (λ s. ends []) (jumps broken) f (leaves broken)
+          (λ s x y i q. after_alone prog ord o In law b m (logged [] 1 []) (body (One m) s) y _ (sound s x y i q))
+          (λ s x y i q. alone broken (seen_some In m s x y i))
 
       never : Sound1 In b m (λ s. ends (too_long l)) f
       never s x y i q = absurd cc
 
       cut_sound : (w : Ways S) → Sound1 In b m (cut w) (once test l f)
-      cut_sound w = tested_alone prog ord o In law b (so_far w) m e typed l (λ s. ends (too_long l)) (λ s. ends []) (λ s. ends []) (jumps broken) f (leaves broken) never (λ s x y i q. alone broken (seen_some In m s x y i))
+      cut_sound w = tested_alone prog ord o In law b (so_far w) m e typed l (λ s. ends (too_long l)) (λ s. ends [])
+          (λ s. ends []) (jumps broken) f (leaves broken) never (λ s x y i q. alone broken (seen_some In m s x y i))
 
       turn_keeps : TurnKeeps turn
-      turn_keeps w s = tested_keeps prog ord o In law w (One m) e l (in_body o u limit l e body (One m)) (λ s. ends []) (λ s. ends []) (jumps broken) s
+      turn_keeps w s = tested_keeps prog ord o In law w (One m) e l (in_body o u limit l e body (One m)) (λ s. ends [])
+          (λ s. ends []) (jumps broken) s
 
       cut_keeps : TurnKeeps cut
-      cut_keeps w s = tested_keeps prog ord o In law w (One m) e l (λ s. ends (too_long l)) (λ s. ends []) (λ s. ends []) (jumps broken) s
+      cut_keeps w s = tested_keeps prog ord o In law w (One m) e l (λ s. ends (too_long l)) (λ s. ends [])
+          (λ s. ends []) (jumps broken) s
 
       cut_none : (w : Ways S) (s : S) (x y : State) → Beside In m (cut w s).on x y → ⊥
-      cut_none w s x y i = beside_none In m x y (subst (λ u. Beside In m u x y) (decided_none w m (o.test (One m) e s).verdict e (λ s. ends (too_long l)) (λ s. ends []) (λ s. ends []) (jumps broken) s (λ s. refl) (λ s. refl)) i)
+      cut_none w s x y i = beside_none In m x y
+          (subst (λ u. Beside In m u x y)
+          (decided_none w m (o.test (One m) e s).verdict e (λ s. ends (too_long l)) (λ s. ends []) (λ s. ends [])
+          (jumps broken) s (λ s. refl) (λ s. refl)) i)
 
       pub rounds_alone : (j k : ℕ) → j < k → After1 In b m (one_rounds o u limit l e body m j) (rounds k test l f)
       rounds_alone j zero lt s w x y i q = absurd (omega arith)
       rounds_alone zero (suc k) lt s w x y i q =
           subst (Alone In b m (last_pass o (cut w s)) y) (sym (rounds_once k test l f (b m) x))
-          (goes_on_alone prog ord o In law b m (cut w s) (last_pass o (cut w s)) y (once test l f (b m) x) (rounds k test l f) (λ x' i. absurd (cut_none w s x' y i)) (λ k x y i. i) (cut_sound w s x y i q))
+          (goes_on_alone prog ord o In law b m (cut w s) (last_pass o (cut w s)) y (once test l f (b m) x)
+          (rounds k test l f) (λ x' i. absurd (cut_none w s x' y i)) (λ k x y i. i) (cut_sound w s x y i q))
       rounds_alone (suc j) (suc k) lt s w x y i q =
           let t = turn w s in
           let go = one_rounds o u limit l e body m j in
           subst (Alone In b m (turn_then o t go) y) (sym (rounds_once k test l f (b m) x))
           (goes_on_alone prog ord o In law b m t (turn_then o t go) y (once test l f (b m) x) (rounds k test l f)
-          (λ x i. go_on_alone prog ord o In law b m t.on t.ways t.log go (rounds k test l f) x y (rounds_alone j k (omega arith)) q i)
-          (go_on_keeps prog ord o In law t.on t.ways t.log go (unrolled_keeps turn cut turn_keeps cut_keeps j)) (turn_sound w s x y i (go_on_front prog ord o In law t.on t.ways t.log go q)))
+          (λ x i. go_on_alone prog ord o In law b m t.on t.ways t.log go (rounds k test l f) x y
+          (rounds_alone j k (omega arith)) q i)
+          (go_on_keeps prog ord o In law t.on t.ways t.log go (unrolled_keeps turn cut turn_keeps cut_keeps j))
+          (turn_sound w s x y i (go_on_front prog ord o In law t.on t.ways t.log go q)))
 
       -- from the body on
-      pub entered_alone : (j k : ℕ) → j ≤ k → (s : S) (x y : State) → Seen In m s x y → IsQuiet (entered o u limit l e body m j s) → Alone In b m (entered o u limit l e body m j s) y (and_then (f (b m) x) (rounds k test l f))
+      pub entered_alone : (j k : ℕ) → j ≤ k → (s : S) (x y : State) → Seen In m s x y
+          → IsQuiet (entered o u limit l e body m j s) → Alone In b m (entered o u limit l e body m j s) y
+          (and_then (f (b m) x) (rounds k test l f))
       entered_alone zero k le s x y i q = absurd cc
       entered_alone (suc j) k le s x y i q =
           let t = in_body o u limit l e body (One m) s in
           let go = one_rounds o u limit l e body m j in
-          then_alone prog ord o In law b m t none go y (f (b m) x) (rounds k test l f) (rounds_alone j k (omega arith)) (unrolled_keeps turn cut turn_keeps cut_keeps j) q
-          (after_alone prog ord o In law b m (logged [] 1 []) (body (One m) s) y _ (sound s x y i (then_front prog ord o In law t none go q)))
+          then_alone prog ord o In law b m t none go y (f (b m) x) (rounds k test l f) (rounds_alone j k (omega arith))
+          (unrolled_keeps turn cut turn_keeps cut_keeps j) q
+          (after_alone prog ord o In law b m (logged [] 1 []) (body (One m) s) y _
+          (sound s x y i (then_front prog ord o In law t none go q)))
 
       pub entered_none : (j : ℕ) (s : S) → (entered o u limit l e body m j s).on ≡ None
       entered_none zero s = refl

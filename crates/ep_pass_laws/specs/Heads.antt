@@ -1,5 +1,5 @@
 -- Heads of a loop, one after another.
-use Rattle.std.specs.Prelude.{◌≡◌, ℕ, zero, suc, ◌+◌, Bool, false, [], List}
+use Rattle.std.specs.Prelude.{◌≡◌, ℕ, zero, suc, ◌+◌, false, []}
 use Rattle.ep_core.specs.Program.{Expr}
 use Rattle.ep_pass.specs.States.{Mode, StateOps}
 use Rattle.ep_pass.specs.Pass.{logged, Pass, after, is_stable, next_head}
@@ -31,4 +31,3 @@ module _ {S : Type 0} (o : StateOps S) (u limit l : ℕ) (e : Expr) (body : Mode
   abbrev pub NoneKept : ℕ → S → Type 0
   NoneKept zero h = Unit {0}
   NoneKept (suc d) h = IsTriedAgain h × NoneKept d (next_of h)
-

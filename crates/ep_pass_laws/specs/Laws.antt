@@ -1,10 +1,14 @@
 -- What holds of each report, whatever is kept of a state.
-use Rattle.std.specs.Prelude.{◌≡◌, ℕ, ◌+◌, ◌*◌, ◌≤◌, List, IsTrue}
+use Rattle.std.specs.Prelude.{◌≡◌, ℕ, ◌+◌, ◌*◌, ◌≤◌, [], IsTrue}
 use Rattle.std.specs.List.{AllByRecursion}
 use Rattle.ep_int.specs.declared.types.Order.{Order}
 use Rattle.ep_alarms.specs.declared.types.Alarm.{Alarm}
 use Rattle.ep_core.specs.Program.{Expr, Program}
-use Rattle.ep_core.specs.Runs.{Side}
+use Rattle.ep_int.specs.Memory.{Memory}
+use Rattle.ep_core.specs.Runs.{Side, left, right}
+use Rattle.ep_core.specs.WellFormed.{is_well_formed}
+use Rattle.ep_pass.specs.Laws.{AreOther, Lawful}
+use Rattle.ep_pass_laws.specs.Agreement.{AgreeInTheEnd}
 use Rattle.ep_pass.specs.States.{Mode, StateOps}
 use Rattle.ep_pass.specs.Pass.{Pass, from_head, settled, report_of, turns_of}
 use Rattle.ep_pass.specs.Turns.{most_turns}
@@ -14,6 +18,22 @@ use Rattle.ep_pass_laws.specs.Heads.{more_turns, IsTriedAgain, next_of, head_aft
 
 -- with states of this type
 module _ (S : Type 0) where
+  -- operations on states of each program, for each two byte orders
+  abbrev pub Operations : Type 0
+  Operations = Program → (Side → Order) → StateOps S
+
+  -- On states for two byte orders that differ, the operations keep their laws.
+  abbrev pub AreLawful : Operations → (In : Program → (Side → Order) → S → Memory → Memory → Type 0) → Type 0
+  AreLawful ops In =
+      (p : Program) (ord : Side → Order) → IsTrue (is_well_formed p) → AreOther ord → Lawful p ord (ops p ord) (In p ord)
+
+  -- Where the report on a well-formed program is empty, the machines of the two byte orders agree on it, however many
+  -- turns are unrolled and heads are tried.
+  abbrev pub EmptyReportsAgree : Operations → Type 0
+  EmptyReportsAgree ops =
+      (p : Program) (ord : Side → Order) → IsTrue (is_well_formed p) → AreOther ord → (u limit : ℕ)
+      → report_of (ops p ord) u limit ord p ≡ [] → AgreeInTheEnd p (ord left) (ord right)
+
   -- Bodies of loops are gone through at most so often, whatever the operations do.
   abbrev pub TurnsAreBounded : Type 0
   TurnsAreBounded =

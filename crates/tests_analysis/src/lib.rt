@@ -1,0 +1,2 @@
+//! Tests of the definitions of the analysis.
+#![tactic(auto)]
