@@ -11,7 +11,7 @@ use Rattle.ep_domain.specs.Domain.{Ops}
 use Rattle.ep_cells.specs.declared.cell.Cell.{Cell}
 use Rattle.ep_cells.specs.declared.cell.Value.{Value}
 use Rattle.ep_cells.specs.declared.cell.Value.TheVariants.{Num}
-use Rattle.ep_cells.specs.Cells.{is_same_side, is_same_scalar, each_becomes}
+use Rattle.ep_cells.specs.Cells.{is_same_side, is_same_scalar, put, each_becomes}
 use Rattle.ep_cells.specs.Forms.{Fate, reformed, have_same_form, common_form}
 
 -- whether a range is that of one number
@@ -47,15 +47,9 @@ reshared_cell D l r = record l {
   form = common_form l.form r.form;
 }
 
--- the Left cell becomes the Shared one, and the Right one is gone
-abbrev pub left_by_side : {N : Type 0} → Ops N → Cell N → Cell N → Cell N → Side → List (Cell N)
-left_by_side D l r x Left = reshared_cell D l r ∷ []
-left_by_side D l r x Right = []
-left_by_side D l r x Shared = x ∷ []
-
-abbrev pub left_by_reshare : {N : Type 0} → Ops N → Cell N → Cell N → Cell N → List (Cell N)
-left_by_reshare D l r x =
-    if nat_eq x.block l.block && nat_eq x.offset l.offset then left_by_side D l r x x.side else x ∷ []
+-- the cells of the place are gone
+abbrev pub left_by_reshare : {N : Type 0} → Cell N → Cell N → List (Cell N)
+left_by_reshare l x = if nat_eq x.block l.block && nat_eq x.offset l.offset then [] else x ∷ []
 
 -- mentions of both become mentions of it, or go where it may be undefined
 abbrev pub fate_by_side : (maybe : Bool) → CellName → Side → Option CellName
@@ -81,7 +75,9 @@ abbrev pub reshared_pair : {N : Type 0} → Ops N → Option (Cell N) → Option
 reshared_pair D None r cs = cs
 reshared_pair D (Some l) None cs = cs
 reshared_pair D (Some l) (Some r) cs =
-    if are_same D l r then map (reformed (fate_by_reshare l r)) (each_becomes (left_by_reshare D l r) cs) else cs
+    if are_same D l r
+    then map (reformed (fate_by_reshare l r)) (put (reshared_cell D l r) (each_becomes (left_by_reshare l) cs))
+    else cs
 
 abbrev pub reshared_at : {N : Type 0} → Ops N → (block offset : ℕ) → List (Cell N) → List (Cell N)
 reshared_at D b q cs = reshared_pair D (cell_from Left b q cs) (cell_from Right b q cs) cs

@@ -349,7 +349,7 @@ both_there f d xs ys n a p t u =
       sure = or_from t.cell.maybe r.right.maybe t.sure sure;
     }
 
-form_at : {N : Type 0} (cs : List (Cell N)) (x : Cell N) (ss : List Segment) → HasForm cs x → x.form ≡ Some ss → IsFormOf cs x ss
+pub form_at : {N : Type 0} (cs : List (Cell N)) (x : Cell N) (ss : List Segment) → HasForm cs x → x.form ≡ Some ss → IsFormOf cs x ss
 form_at cs x ss h e = subst (λ o. IfSome o (IsFormOf cs x)) e h
 
 both_form : {N : Type 0} (f : N → N → N) (d : Model) (xs ys : List (Cell N)) (x y : Cell N) → HaveCellsAlike xs ys → EachPair (AreApart d) ys

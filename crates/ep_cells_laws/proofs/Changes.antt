@@ -64,7 +64,7 @@ kept_form D os d m n cs x y k h = subst (HasForm cs) (sym k.is) (form_on cs x k.
 -- ---- their numbers
 
 -- what is known of a sure integer cell
-datum_of : {N : Type 0} (D : Ops N) (d : Model) (x : Cell N) (t : IntType) (v : Option Datum) → Fits d x → x.what ≡ Int t → x.maybe ≡ false
+pub datum_of : {N : Type 0} (D : Ops N) (d : Model) (x : Cell N) (t : IntType) (v : Option Datum) → Fits d x → x.what ≡ Int t → x.maybe ≡ false
     → Allows D x.what x.value x.maybe v → IsNumber t v
 datum_of D d x t v f w s a =
     sure_number D t x.value v (subst (λ z. IsOfSort z x.value) w f.sort)

@@ -51,7 +51,7 @@ unshared_right s t e h =
     false_from_ne_true (on_right s) (λ k. both_ways (share_memory s t) e (or_right (on_left s && on_left t) (on_right s && on_right t) (and_from (on_right s) (on_right t) k h)))
 
 -- a side with no memory of s is left by it
-rest_of_unshared : (s t q : Side) → share_memory s t ≡ false → Within t q → IsRest s q t
+pub rest_of_unshared : (s t q : Side) → share_memory s t ≡ false → Within t q → IsRest s q t
 rest_of_unshared s t q e w = record { left = unshared_left s t e; right = unshared_right s t e; within = w; apart = e }
 
 -- a part has one memory

@@ -8,4 +8,7 @@ pub mod Both
 pub mod Kept
 pub mod Entry
 pub mod Kill
+pub mod Beside
+pub mod Weaken
+pub mod Reshare
 pub mod Gathered

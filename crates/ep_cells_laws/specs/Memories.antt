@@ -1,6 +1,7 @@
 -- Memories after an operation, byte by byte.
 use Rattle.std.specs.Prelude.{◌≡◌, ℕ, ◌+◌, Bool, true, false, ◌&&◌, nat_eq, nat_le, nat_lt, [], ◌∷◌}
-use Rattle.ep_int.specs.Memory.{Memory, killed}
+use Rattle.ep_int.specs.declared.types.Model.{Model}
+use Rattle.ep_int.specs.Memory.{Memory, broken, killed}
 use Rattle.ep_bitslice.specs.declared.cell.Side.{Side}
 use Rattle.ep_cells.specs.Cells.{Place, on_left, on_right}
 use Rattle.ep_cells.specs.Meaning.{Memories}
@@ -26,3 +27,8 @@ pub record IsKilled (block : ℕ) (dead : Bool) (m n : Memory) : Type 0 where
 pub record AreKilled (s : Side) (block : ℕ) (m n : Memories) : Type 0 where
   pub left : IsKilled block (on_left s) m.left n.left
   pub right : IsKilled block (on_right s) m.right n.right
+
+-- Outside of a place a memory is as it was, but that pointers that lie partly in the place are undefined (d is the data
+-- model).
+pub record IsBroken (d : Model) (p : Place) (m n : Memory) : Type 0 where
+  pub beside : (b q : ℕ) → is_byte_of p b q ≡ false → n b q ≡ broken d m p.block p.offset p.bytes b q
