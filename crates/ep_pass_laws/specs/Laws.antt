@@ -25,7 +25,8 @@ module _ (S : Type 0) where
   -- On states for two byte orders that differ, the operations keep their laws.
   abbrev pub AreLawful : Operations → (In : Program → (Side → Order) → S → Memory → Memory → Type 0) → Type 0
   AreLawful ops In =
-      (p : Program) (ord : Side → Order) → IsTrue (is_well_formed p) → AreOther ord → Lawful p ord (ops p ord) (In p ord)
+      (p : Program) (ord : Side → Order) → IsTrue (is_well_formed p) → AreOther ord → Lawful p ord (ops p ord)
+      (In p ord)
 
   -- Where the report on a well-formed program is empty, the machines of the two byte orders agree on it, however many
   -- turns are unrolled and heads are tried.

@@ -1,16 +1,16 @@
 -- A plain representation of states, to try definitions with: pairs of machines as they are, from given inputs. It is no
 -- lawful one, since `empty` stands for nothing here.
-use Rattle.std.specs.Prelude.{ℕ, zero, suc, ◌+◌, ℤ, pos, Bool, true, false, ◌&&◌, ◌||◌, not, if◌then◌else◌, nat_eq, List, [], ◌∷◌, ◌++◌, map, length, drop, slice_index_or, Option, Some, None}
+use Rattle.std.specs.Prelude.{ℕ, zero, suc, ◌+◌, pos, Bool, true, false, ◌&&◌, ◌||◌, not, nat_eq, List, [], ◌∷◌, ◌++◌, length, drop, Option, Some, None}
 use Rattle.ep_int.specs.declared.types.Order.{Order}
 use Rattle.ep_int.specs.declared.types.Scalar.{Scalar}
 use Rattle.ep_int.specs.Arith.{int_eq}
-use Rattle.ep_int.specs.Memory.{Byte, undefined, number, fragment, Memory, Value, Found, has, faults, Kind, overflow, division, shift, uninitialised, bounds, null_pointer, alignment, pointer_mix, overlap, pointer_part}
+use Rattle.ep_int.specs.Memory.{Byte, undefined, number, fragment, Memory, Found, has, faults, Kind, overflow, division, shift, uninitialised, bounds, null_pointer, alignment, pointer_mix, overlap, pointer_part}
 use Rattle.ep_alarms.specs.declared.types.AlarmKind.{AlarmKind}
 use Rattle.ep_alarms.specs.declared.types.AlarmKind.TheVariants.{U1, U2, U3, U4, U5, U6, U7, U8, U9, U10, E1, E2}
-use Rattle.ep_core.specs.Program.{Expr, Dest, Simple, nothing, eval, assign, clear, copy_aggregate, copy_bytes, fill, input, output, read_bytes, write_bytes, returns, Block, Function, Program}
+use Rattle.ep_core.specs.Program.{Expr, Simple, nothing, eval, assign, clear, copy_aggregate, copy_bytes, fill, input, output, read_bytes, write_bytes, returns, Block, Function, Program}
 use Rattle.ep_core.specs.Exec.{Output, State, Outcome, leaves, running, no_input, undefined_at, uncounted, is_true, without, value, does, received}
-use Rattle.ep_core.specs.Runs.{Side, left, right, Ending, still_running, ended, wants_input, undefined_on, Run, start, main_ends}
-use Rattle.ep_pass.specs.States.{Mode, Both, One, Fault, Gives, Verdict, stuck, same, differs, Tested, StateOps}
+use Rattle.ep_core.specs.Runs.{Side, left, right, Run, start, main_ends}
+use Rattle.ep_pass.specs.States.{Mode, Both, One, Fault, Gives, Verdict, stuck, same, differs, StateOps}
 use Rattle.ep_pass.specs.Laws.{passes}
 
 -- ---- a machine with its memory written out
@@ -243,7 +243,7 @@ module _ (p : Program) (ord : Side → Order) (inputs : List (List ℕ)) where
   starts [] = []
   starts (vs ∷ more) =
       record { on_left = machine p (start (ord left) p vs); on_right = machine p (start (ord right) p vs) } ∷ starts
-          more
+      more
 
   abbrev pub in_mode : Mode → (Side → State → Outcome) → (Pair → Machine → Machine → List Fault)
       → (alone : List Fault) → Pair → Went
@@ -293,15 +293,16 @@ module _ (p : Program) (ord : Side → Order) (inputs : List (List ℕ)) where
       record { on_left = machine p (without bs (state_of x.on_left)); on_right = x.on_right } ∷ changed (One left) bs xs
   changed (One right) bs (x ∷ xs) =
       record { on_left = x.on_left; on_right = machine p (without bs (state_of x.on_right)) } ∷ changed
-          (One right) bs xs
+      (One right) bs xs
 
-  abbrev end_fault : Run → Run → List Fault
-  end_fault x y = output_faults x.outputs y.outputs
+  -- the result of main alone is compared
+  abbrev end_fault : Machine → Machine → Run → Run → List Fault
+  end_fault c d x y = output_faults (drop (length c.outputs) x.outputs) (drop (length d.outputs) y.outputs)
 
   abbrev ends : Function → List Pair → List Fault
   ends f [] = []
   ends f (x ∷ xs) =
-      end_fault (main_ends (ord left) p f.result f.line (state_of x.on_left))
+      end_fault x.on_left x.on_right (main_ends (ord left) p f.result f.line (state_of x.on_left))
       (main_ends (ord right) p f.result f.line (state_of x.on_right))
       ++ ends f xs
 

@@ -1,20 +1,15 @@
 -- Small programs, as sources of a few lines mean them.
-use Rattle.std.specs.Prelude.{◌≡◌, ℕ, ℤ, pos, true, false, List, [], ◌∷◌, map, Option, Some, None}
-use Rattle.ep_int.specs.declared.types.BinOp.TheVariants.{Add, Sub, And, Or, Shl, Shr}
-use Rattle.ep_int.specs.declared.types.Cmp.TheVariants.{Lt, Ne}
-use Rattle.ep_int.specs.declared.types.IntType.{IntType}
+use Rattle.std.specs.Prelude.{ℕ, pos, false, List, [], ◌∷◌, Some}
 use Rattle.ep_int.specs.declared.types.IntType.TheVariants.{U8, U16, I32, U32}
 use Rattle.ep_int.specs.declared.types.Model.TheVariants.{Ilp32}
 use Rattle.ep_int.specs.declared.types.Order.{Order}
-use Rattle.ep_int.specs.declared.types.Order.TheVariants.{Little, Big, SwappedWords}
-use Rattle.ep_int.specs.declared.types.Scalar.{Scalar}
+use Rattle.ep_int.specs.declared.types.Order.TheVariants.{Little, Big}
 use Rattle.ep_int.specs.declared.types.Scalar.TheVariants.{Int}
 use Rattle.ep_alarms.specs.declared.types.Alarm.{Alarm}
 use Rattle.ep_alarms.specs.declared.types.AlarmKind.{AlarmKind}
-use Rattle.ep_alarms.specs.declared.types.AlarmKind.TheVariants.{E1, E2, E3, E4}
-use Rattle.ep_core.specs.Program.{Place, block, member, element, Expr, const, load, addr_of, binary, convert, compare, Dest, Simple, nothing, assign, input, output, read_bytes, write_bytes, returns, What, simple, call, if_else, loop, break_loop, continue_loop, by_order, scope, Stmts, stop, more, Block, Function, Program}
+use Rattle.ep_core.specs.Program.{Place, block, member, element, Expr, const, load, assign, input, output, What, simple, Stmts, Block, Function, Program}
 use Rattle.ep_core.specs.Runs.{Side, left, right}
-use Rattle.ep_pass.specs.Pass.{report_of, turns_of, heads_of}
+use Rattle.ep_pass.specs.Pass.{report_of, turns_of}
 use Rattle.tests_analysis.specs.Exact.{exact}
 
 -- ---- parts
