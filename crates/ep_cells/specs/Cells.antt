@@ -9,6 +9,7 @@ use Rattle.ep_bitslice.specs.declared.cell.Side.TheVariants.{Left, Right, Shared
 use Rattle.ep_bitslice.specs.declared.cell.CellName.{CellName}
 use Rattle.ep_bitslice.specs.Bits.{side_number, type_number}
 use Rattle.ep_cells.specs.declared.cell.Cell.{Cell}
+use Rattle.ep_cells.specs.declared.place.Place.{Place}
 
 -- ---- sides
 
@@ -38,13 +39,6 @@ side_without Right Shared = Some Left
 side_without Shared q = None
 
 -- ---- places
-
--- so many bytes of a block
-pub record Place : Type 0 where
-  pub side : Side
-  pub block : ℕ
-  pub offset : ℕ
-  pub bytes : ℕ
 
 -- where a cell lies (d is the data model)
 abbrev pub place_of : {N : Type 0} → Model → Cell N → Place

@@ -6,7 +6,8 @@ use Rattle.ep_int.specs.Types.{size_of}
 use Rattle.ep_bitslice.specs.declared.cell.Side.{Side}
 use Rattle.ep_bitslice.specs.declared.cell.Side.TheVariants.{Shared}
 use Rattle.ep_cells.specs.declared.cell.Cell.{Cell}
-use Rattle.ep_cells.specs.Cells.{Place, place_of, is_same_side, is_partly_in}
+use Rattle.ep_cells.specs.declared.place.Place.{Place}
+use Rattle.ep_cells.specs.Cells.{place_of, is_same_side, is_partly_in}
 
 -- whether a cell of that side, or a Shared one, has the byte
 abbrev pub covers : {N : Type 0} → Model → Side → (block byte : ℕ) → Cell N → Bool

@@ -8,7 +8,8 @@ use Rattle.ep_bitslice.specs.declared.cell.Side.TheVariants.{Left, Right, Shared
 use Rattle.ep_domain.specs.Domain.{Ops}
 use Rattle.ep_cells.specs.declared.cell.Cell.{Cell}
 use Rattle.ep_cells.specs.declared.cell.Value.TheVariants.{Num}
-use Rattle.ep_cells.specs.Cells.{Place, place_of, place_of_name, touches, share_memory, parts_of, is_same_place, each_becomes}
+use Rattle.ep_cells.specs.declared.place.Place.{Place}
+use Rattle.ep_cells.specs.Cells.{place_of, place_of_name, touches, share_memory, parts_of, is_same_place, each_becomes}
 use Rattle.ep_cells.specs.Forms.{Fate, reformed}
 use Rattle.ep_cells.specs.Both.{value_of_both}
 

@@ -3,7 +3,8 @@ use Rattle.std.specs.Prelude.{if◌then◌else◌, List, [], ◌∷◌, map, Som
 use Rattle.std.specs.Option.{option_map}
 use Rattle.ep_int.specs.declared.types.Model.{Model}
 use Rattle.ep_cells.specs.declared.cell.Cell.{Cell}
-use Rattle.ep_cells.specs.Cells.{Place, place_of, place_of_name, touches, side_without, with_side, put, each_becomes}
+use Rattle.ep_cells.specs.declared.place.Place.{Place}
+use Rattle.ep_cells.specs.Cells.{place_of, place_of_name, touches, side_without, with_side, put, each_becomes}
 use Rattle.ep_cells.specs.Forms.{Fate, reformed}
 
 -- A cell in the place is gone on the sides written. A Shared one that is overwritten on one side is one of the other

@@ -2,5 +2,7 @@
 #![tactic(auto)]
 
 mod cell;
+mod place;
 
 pub use cell::{Cell, Value};
+pub use place::Place;

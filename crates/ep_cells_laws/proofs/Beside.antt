@@ -1,42 +1,28 @@
 -- Bytes and cells that a weak write leaves as they are.
-use Rattle.std.proofs.Common.{◌≡◌, ℕ, zero, suc, ◌+◌, ◌-◌, ◌*◌, ◌^◌, ◌<◌, ◌≤◌, ℤ, Bool, true, false, ◌&&◌, ◌||◌, not, nat_eq, nat_le, nat_lt, cond, List, [], ◌∷◌, ◌++◌, map, ◌⊎◌, inl, inr, ⊎_elim, Option, Some, None, IfSome, refl, sym, ◌∙◌, ap, subst, arith}
-use Rattle.std.proofs.lemmas.Bool.{and_parts, and_from, and_left, and_right, and_cases, eqb-true, eq-eqb, lt-ltb, ltb-true, leb-true, false_from_ne_true, both_ways, cases_Bool, cases_lt}
+use Rattle.std.proofs.Common.{◌≡◌, ℕ, ◌+◌, ◌<◌, Bool, true, false, ◌&&◌, not, nat_eq, nat_le, nat_lt, cond, Option, Some, None, refl, sym, ◌∙◌, ap, subst, arith}
+use Rattle.std.proofs.lemmas.Bool.{and_parts, and_from, and_right, lt-ltb, ltb-true, false_from_ne_true, both_ways}
 use Rattle.ep_int.specs.declared.types.Order.{Order}
 use Rattle.ep_int.specs.declared.types.Model.{Model}
-use Rattle.ep_int.specs.declared.types.IntType.{IntType}
 use Rattle.ep_int.specs.declared.types.Scalar.{Scalar}
 use Rattle.ep_int.specs.declared.types.Scalar.TheVariants.{Int, Pointer}
-use Rattle.ep_int.specs.Types.{bytes_of, bits_of, size_of, pointer_bytes, InRange}
-use Rattle.ep_int.specs.Encoding.{place, encoded, decoded, sum_of_bytes}
-use Rattle.ep_int.specs.Memory.{Byte, undefined, number, fragment, Memory, Value as Datum, int, null, pointer, is_number, number_in, lies_partly, broken, bytes_of_value}
-use Rattle.ep_int.proofs.Wrapping.{represented_in_range}
-use Rattle.ep_int.proofs.Places.{width_of, place_below}
-use Rattle.ep_int.proofs.Encodings.{byte_below, bytes_pow, sum_of_bytes_below, encoded_decoded}
+use Rattle.ep_int.specs.Types.{size_of, pointer_bytes}
+use Rattle.ep_int.specs.Memory.{Byte, undefined, number, fragment, Memory, Value as Datum, pointer, is_number, lies_partly, broken}
 use Rattle.ep_bitslice.specs.declared.cell.Side.{Side}
-use Rattle.ep_bitslice.specs.declared.cell.Side.TheVariants.{Left, Right, Shared}
-use Rattle.ep_bitslice.specs.declared.cell.CellName.{CellName}
-use Rattle.ep_bitslice.specs.declared.segment.Segment.{Segment}
-use Rattle.ep_bitslice.specs.Segments.{number as form_number}
-use Rattle.ep_domain.specs.Domain.{Ops, Lawful}
+use Rattle.ep_domain.specs.Domain.{Ops}
 use Rattle.ep_cells.specs.declared.cell.Cell.{Cell}
 use Rattle.ep_cells.specs.declared.cell.Value.{Value}
 use Rattle.ep_cells.specs.declared.cell.Value.TheVariants.{Num, Ptr}
-use Rattle.ep_cells.specs.Cells.{on_left, on_right, share_memory, Place, place_of, place_of_name, touches, meets, is_same_scalar, is_same_place, IsNamed, IsIn, first, later, each_becomes, parts_on, parts_of}
-use Rattle.ep_cells.specs.Forms.{Fate, reformed}
-use Rattle.ep_cells.specs.States.{Known, IsOfSort, HasRisingBlocks, Fits, IsThere, IsFormOf, HasForm, EachPair, AreApart, IsCell, AreCells, AreAlike}
-use Rattle.ep_cells.specs.Meaning.{Memories, Allows, HasBytes, HasNumbersOf, StandsAt, Says, numbers_of, HasNumber, FormSays, In}
-use Rattle.ep_cells.specs.Weaken.{blurred, with_join, weak_cell, weak_part, left_by_weak_write, first_part, fate_by_weak_write, weakened}
-use Rattle.ep_cells.specs.Both.{value_of_both}
-use Rattle.ep_cells_laws.specs.Memories.{is_byte_of, IsBroken}
+use Rattle.ep_cells.specs.declared.place.Place.{Place}
+use Rattle.ep_cells.specs.Cells.{on_left, on_right, place_of, touches}
+use Rattle.ep_cells.specs.States.{Known}
+use Rattle.ep_cells.specs.Meaning.{Memories, Allows}
+use Rattle.ep_cells_laws.specs.Memories.{is_byte_of}
 use Rattle.ep_cells_laws.specs.Sound.{MayBeWritten, as_it_was, rewritten, MayBeWeaklyWritten, each_side, neither, both_sides}
-use Rattle.ep_cells_laws.proofs.Lists.{From, in_each, each_in, pairs_each}
 use Rattle.ep_cells_laws.proofs.Bytes.{SameBytes, bytes_same}
 use Rattle.ep_cells_laws.proofs.Kept.{KeepsByte, byte_same, KeepsBytes, bytes_kept}
-use Rattle.ep_cells_laws.proofs.Places.{at, Within, within_itself, IsRest, IsMadeFrom, apart_made}
-use Rattle.ep_cells_laws.proofs.Changes.{IsKept, kept_says, IsChange, Holds, change_cells, change_holds}
-use Rattle.ep_cells_laws.proofs.Write.{both_have, keeps_kept, numbers_kept, Follows, place_named}
-use Rattle.ep_cells_laws.proofs.Both.{Unites, join_unites, scalar_same, sort_both, rising_both, undefined_both, allowed_left, allowed_right, bytes_weaker, stands_alike}
-use Rattle.ep_cells_laws.proofs.Kill.{rest_of_unshared, IsPart, part_is, parts_apart}
+use Rattle.ep_cells_laws.proofs.Places.{at, within_itself, IsRest}
+use Rattle.ep_cells_laws.proofs.Changes.{IsKept}
+use Rattle.ep_cells_laws.proofs.Write.{both_have}
 
 -- ---- bytes of cells that the place doesn't touch
 
@@ -81,9 +67,9 @@ byte_broken d m p s b q size j v t w = record {
   nothing = λ h. nothing_stays d m p.block p.offset p.bytes b (q + j) h;
   others = λ h. others_by (nat_eq p.block b && lies_partly d p.offset p.bytes (m b (q + j)) (q + j)) (m b (q + j)) h;
   parts = λ c o e h.
-    ap (λ z. cond z undefined (m b (q + j)))
+      ap (λ z. cond z undefined (m b (q + j)))
       (part_kept d m p s b q j c o (subst (λ (k : ℕ). touches p (at s b q k) ≡ false) (w.wide c o e) t) h)
-    ∙ h;
+      ∙ h;
 }
 
 not_in : (p : Place) (s : Side) (b q size j : ℕ) → touches p (at s b q size) ≡ false → j < size → is_byte_of p b (q + j) ≡ false
@@ -94,8 +80,8 @@ bytes_beside : {N : Type 0} (D : Ops N) (o : Order) (d : Model) (c : Cell N) (wr
 bytes_beside D o d c written m n s b q size v (as_it_was e) t w = record { at = λ j l. byte_same v j (m b (q + j)) (n b (q + j)) (e b (q + j)) }
 bytes_beside D o d c written m n s b q size v (rewritten f r u a h) t w = record {
   at = λ j l.
-    subst (KeepsByte v j (m b (q + j))) (sym (r.beside b (q + j) (not_in (place_of d c) s b q size j t l)))
-    (byte_broken d m (place_of d c) s b q size j v t w);
+      subst (KeepsByte v j (m b (q + j))) (sym (r.beside b (q + j) (not_in (place_of d c) s b q size j t l)))
+      (byte_broken d m (place_of d c) s b q size j v t w);
 }
 
 -- what is written of one memory
@@ -136,9 +122,9 @@ kept_beside D os d c x m n s t = record {
   within = within_itself x.side;
   stands = λ v a h. record {
     left = λ e. bytes_kept os.0 m.left n.left (size_of d x.what) x.what x.maybe x.block x.offset v
-      (bytes_beside D os.0 d c (on_left c.side) m.left n.left x.side x.block x.offset (size_of d x.what) v s.left t (wide_of D d x.what x.value x.maybe v a)) (h.left e);
+        (bytes_beside D os.0 d c (on_left c.side) m.left n.left x.side x.block x.offset (size_of d x.what) v s.left t (wide_of D d x.what x.value x.maybe v a)) (h.left e);
     right = λ e. bytes_kept os.1 m.right n.right (size_of d x.what) x.what x.maybe x.block x.offset v
-      (bytes_beside D os.1 d c (on_right c.side) m.right n.right x.side x.block x.offset (size_of d x.what) v s.right t (wide_of D d x.what x.value x.maybe v a)) (h.right e);
+        (bytes_beside D os.1 d c (on_right c.side) m.right n.right x.side x.block x.offset (size_of d x.what) v s.right t (wide_of D d x.what x.value x.maybe v a)) (h.right e);
   };
 }
 
@@ -153,9 +139,8 @@ kept_other D os d c x m n t s i = record {
   within = i.within;
   stands = λ v a h. record {
     left = λ e. bytes_same os.0 m.left n.left (size_of d x.what) x.what x.maybe x.block x.offset v
-      (unwritten D os.0 d c (on_left c.side) m.left n.left x.block x.offset (size_of d x.what) s.left (i.left e)) (h.left (i.within.left e));
+        (unwritten D os.0 d c (on_left c.side) m.left n.left x.block x.offset (size_of d x.what) s.left (i.left e)) (h.left (i.within.left e));
     right = λ e. bytes_same os.1 m.right n.right (size_of d x.what) x.what x.maybe x.block x.offset v
-      (unwritten D os.1 d c (on_right c.side) m.right n.right x.block x.offset (size_of d x.what) s.right (i.right e)) (h.right (i.within.right e));
+        (unwritten D os.1 d c (on_right c.side) m.right n.right x.block x.offset (size_of d x.what) s.right (i.right e)) (h.right (i.within.right e));
   };
 }
-

@@ -1,11 +1,9 @@
 -- Joins and widenings hold of the memories of both states, and inclusion is inclusion.
-use Rattle.std.proofs.Common.{◌≡◌, ℕ, zero, suc, ◌+◌, ◌*◌, ◌^◌, ◌<◌, ◌≤◌, ℤ, pos, Bool, true, false, ◌&&◌, ◌||◌, not, nat_eq, nat_lt, cond, List, [], ◌∷◌, ◌⊎◌, inl, inr, ⊎_elim, Option, Some, None, IfSome, IsTrue, refl, sym, ◌∙◌, ap, subst, arith}
+use Rattle.std.proofs.Common.{◌≡◌, ℕ, zero, suc, ◌^◌, ℤ, Bool, true, false, ◌&&◌, ◌||◌, not, nat_eq, cond, List, [], ◌∷◌, inl, Option, Some, None, IfSome, refl, sym, ◌∙◌, ap, subst, arith}
 use Rattle.std.specs.Option.{option_map_or}
-use Rattle.std.specs.List.{list_all}
-use Rattle.std.proofs.lemmas.Bool.{and_parts, and_from, or_left, or_right, or_from, eqb-true, both_ways}
+use Rattle.std.proofs.lemmas.Bool.{and_parts, or_left, or_right, or_from, eqb-true}
 use Rattle.ep_int.specs.declared.types.Order.{Order}
 use Rattle.ep_int.specs.declared.types.Model.{Model}
-use Rattle.ep_int.specs.declared.types.IntType.{IntType}
 use Rattle.ep_int.specs.declared.types.IntType.TheVariants.{I8, U8, I16, U16, I32, U32, I64, U64}
 use Rattle.ep_int.specs.declared.types.Scalar.{Scalar}
 use Rattle.ep_int.specs.declared.types.Scalar.TheVariants.{Int, Pointer}
@@ -15,24 +13,23 @@ use Rattle.ep_bitslice.specs.declared.cell.Side.{Side}
 use Rattle.ep_bitslice.specs.declared.cell.CellName.{CellName}
 use Rattle.ep_bitslice.specs.declared.segment.Segment.{Segment}
 use Rattle.ep_bitslice.specs.declared.segment.Segment.TheVariants.{Bits, Fixed}
-use Rattle.ep_bitslice.specs.Bits.{side_number, mentions, is_same_cell as is_same_name}
-use Rattle.ep_bitslice.specs.Segments.{bits, width, number}
+use Rattle.ep_bitslice.specs.Bits.{side_number, is_same_cell as is_same_name}
+use Rattle.ep_bitslice.specs.Segments.{number}
 use Rattle.ep_bitslice.proofs.Joining.{same_cell, cell_at}
 use Rattle.ep_domain.specs.Domain.{Ops, Lawful}
 use Rattle.ep_domain.specs.Domain.{Holds as HoldsNumber}
-use Rattle.ep_pointers.specs.Value.{Pointers, pointers, IsRising, together, HoldsPointer, HoldsBoth, null_pointer, into, is_within}
-use Rattle.ep_pointers.specs.Laws.{PointerLaws}
+use Rattle.ep_pointers.specs.Value.{Pointers, pointers, IsRising, together, HoldsBoth, null_pointer, into}
 use Rattle.ep_pointers.proofs.Gathered.{pointer_laws}
 use Rattle.ep_cells.specs.declared.cell.Cell.{Cell}
 use Rattle.ep_cells.specs.declared.cell.Value.{Value}
 use Rattle.ep_cells.specs.declared.cell.Value.TheVariants.{Num, Ptr}
-use Rattle.ep_cells.specs.Cells.{on_left, on_right, place_of, meets, scalar_number, is_same_scalar, is_same_side, is_same_place, is_same_cell, IsNamed, IsIn, first, later, comes_before, key_of}
+use Rattle.ep_cells.specs.Cells.{on_left, on_right, scalar_number, is_same_scalar, is_same_side, is_same_place, is_same_cell, IsIn, first, later, key_of}
 use Rattle.ep_cells.specs.Forms.{is_same_segment, are_same_segments, have_same_form, common_form}
-use Rattle.ep_cells.specs.States.{Known, IsOfSort, HasRisingBlocks, Fits, IsThere, HasWidth, IsFormOf, HasForm, Each, EachPair, AreApart, IsCell, AreCells, AreAlike, HaveCellsAlike}
-use Rattle.ep_cells.specs.Meaning.{Memories, Allows, HasBytes, IsUndefined, StandsAt, Says, numbers_of, name_of, HasNumber, FormSays, In}
+use Rattle.ep_cells.specs.States.{IsOfSort, HasRisingBlocks, IsThere, IsFormOf, HasForm, EachPair, AreApart, IsCell, AreCells, AreAlike, HaveCellsAlike}
+use Rattle.ep_cells.specs.Meaning.{Memories, Allows, HasBytes, StandsAt, Says, numbers_of, HasNumber, FormSays, In}
 use Rattle.ep_cells.specs.Both.{value_of_both, cell_of_both, cells_of_both, is_value_within, is_form_kept, is_cell_within, cell_like, are_within}
 use Rattle.ep_cells_laws.proofs.Lists.{each_at, each_from}
-use Rattle.ep_cells_laws.proofs.Places.{Within, within_itself, IsMadeFrom, apart_made, Before, before_true, not_both, side_back}
+use Rattle.ep_cells_laws.proofs.Places.{Before, before_true, not_both, side_back}
 
 -- ---- sameness
 
@@ -150,7 +147,7 @@ alike_sym x y a = record { side = sym a.side; block = sym a.block; offset = sym 
 pub only_one : {N : Type 0} (d : Model) (x y : Cell N) (cs : List (Cell N)) → EachPair (AreApart d) cs → IsIn x cs → IsIn y cs → AreAlike x y → x ≡ y
 only_one d x y cs p h k a =
     elim (one_order (AreApart d) x y cs p h k) [
-      one e ↦ e
+      | one e ↦ e
       | left_first r ↦ absurd (not_before d x y a r)
       | right_first r ↦ absurd (not_before d y x (alike_sym x y a) r)
     ]
@@ -322,13 +319,14 @@ both_in f (z ∷ xs) (y ∷ ys) x a (later _ _ h) =
 both_pairs : {N : Type 0} (f : N → N → N) (d : Model) (xs ys : List (Cell N)) → HaveCellsAlike xs ys → EachPair (AreApart d) xs → EachPair (AreApart d) (cells_of_both f xs ys)
 both_pairs f d [] ys a p = tt
 both_pairs f d (x ∷ xs) [] a p = tt
-both_pairs f d (x ∷ xs) (y ∷ ys) a p =
-    (each_from (AreApart d (cell_of_both f x y)) (cells_of_both f xs ys)
-    (λ z k.
-    let r = in_both f xs ys z a.1 k in
-    let q = each_at (AreApart d x) r.left xs p.0 r.in_left in
-    subst (AreApart d (cell_of_both f x y)) (sym r.is) (let s : AreApart d (cell_of_both f x y) (cell_of_both f r.left r.right) = record { ordered = q.ordered; apart = q.apart } in s)),
-    both_pairs f d xs ys a.1 p.1)
+both_pairs f d (x ∷ xs) (y ∷ ys) a p = (
+  each_from (AreApart d (cell_of_both f x y)) (cells_of_both f xs ys)
+      (λ z k.
+      let r = in_both f xs ys z a.1 k in
+      let q = each_at (AreApart d x) r.left xs p.0 r.in_left in
+      subst (AreApart d (cell_of_both f x y)) (sym r.is) (let s : AreApart d (cell_of_both f x y) (cell_of_both f r.left r.right) = record { ordered = q.ordered; apart = q.apart } in s)),
+  both_pairs f d xs ys a.1 p.1,
+)
 
 both_there : {N : Type 0} (f : N → N → N) (d : Model) (xs ys : List (Cell N)) (n : CellName) → HaveCellsAlike xs ys → EachPair (AreApart d) ys
     → IsThere n xs → IsThere n ys → IsThere n (cells_of_both f xs ys)
@@ -370,23 +368,23 @@ both_form f d xs ys x y a p h k (Some ss) e =
 pub both_cells : {N : Type 0} (D : Ops N) (f : N → N → N) → Unites D f → (d : Model) (xs ys : List (Cell N)) → AreCells d xs → AreCells d ys → HaveCellsAlike xs ys → AreCells d (cells_of_both f xs ys)
 both_cells D f un d xs ys p q a = record {
   each = λ z h.
-    let r = in_both f xs ys z a h in
-    let l = p.each r.left r.in_left in
-    let k = q.each r.right r.in_right in
-    subst (IsCell d) (sym r.is)
-    (let s : IsCell d (cell_of_both f r.left r.right) = record {
-      fits = record {
-        sort = sort_both f r.left.what r.left.value r.right.value l.fits.sort (subst (λ (w : Scalar). IsOfSort w r.right.value) (sym r.alike.what) k.fits.sort);
-        undefined = undefined_both f r.left.value r.right.value r.left.maybe r.right.maybe l.fits.undefined;
-        last = l.fits.last;
-      };
-      rising = rising_both D f un r.left.value r.right.value l.rising k.rising;
-    } in s);
+      let r = in_both f xs ys z a h in
+      let l = p.each r.left r.in_left in
+      let k = q.each r.right r.in_right in
+      subst (IsCell d) (sym r.is)
+      (let s : IsCell d (cell_of_both f r.left r.right) = record {
+        fits = record {
+          sort = sort_both f r.left.what r.left.value r.right.value l.fits.sort (subst (λ (w : Scalar). IsOfSort w r.right.value) (sym r.alike.what) k.fits.sort);
+          undefined = undefined_both f r.left.value r.right.value r.left.maybe r.right.maybe l.fits.undefined;
+          last = l.fits.last;
+        };
+        rising = rising_both D f un r.left.value r.right.value l.rising k.rising;
+      } in s);
   pairs = both_pairs f d xs ys a p.pairs;
   forms = λ z h.
-    let r = in_both f xs ys z a h in
-    subst (HasForm (cells_of_both f xs ys)) (sym r.is)
-    (both_form f d xs ys r.left r.right a q.pairs (p.forms r.left r.in_left) (q.forms r.right r.in_right) (common_form r.left.form r.right.form) refl);
+      let r = in_both f xs ys z a h in
+      subst (HasForm (cells_of_both f xs ys)) (sym r.is)
+      (both_form f d xs ys r.left r.right a q.pairs (p.forms r.left r.in_left) (q.forms r.right r.in_right) (common_form r.left.form r.right.form) refl);
 }
 
 -- ---- that they hold
@@ -433,7 +431,7 @@ right_says : {N : Type 0} (D : Ops N) (f : N → N → N) → Unites D f → (os
 right_says D f un os d m x y p q a s = record {
   datum = s.datum;
   allowed = allowed_right D f un x.what x.value y.value x.maybe y.maybe s.datum p.fits.sort (subst (λ (w : Scalar). IsOfSort w y.value) (sym a.what) q.fits.sort) p.rising q.rising q.fits.undefined
-    (subst (λ (w : Scalar). Allows D w y.value y.maybe s.datum) (sym a.what) s.allowed);
+      (subst (λ (w : Scalar). Allows D w y.value y.maybe s.datum) (sym a.what) s.allowed);
   stands = stands_alike os d m y (cell_of_both f x y) s.datum (record { side = sym a.side; block = sym a.block; offset = sym a.offset; what = sym a.what }) (λ e. or_right x.maybe y.maybe e) s.stands;
 }
 
@@ -441,22 +439,22 @@ pub both_left : {N : Type 0} (D : Ops N) (f : N → N → N) → Unites D f → 
     → In D (record { orders = os; model = d; cells = xs }) m → In D (record { orders = os; model = d; cells = cells_of_both f xs ys }) m
 both_left D f un os d m xs ys p q a i = record {
   cells = λ z h.
-    let r = in_both f xs ys z a h in
-    subst (Says D os d m) (sym r.is) (left_says D f un os d m r.left r.right (p.each r.left r.in_left) (q.each r.right r.in_right) r.alike (i.cells r.left r.in_left));
+      let r = in_both f xs ys z a h in
+      subst (Says D os d m) (sym r.is) (left_says D f un os d m r.left r.right (p.each r.left r.in_left) (q.each r.right r.in_right) r.alike (i.cells r.left r.in_left));
   forms = λ z h.
-    let r = in_both f xs ys z a h in
-    subst (λ c. IfSome c.form (FormSays os m c)) (sym r.is) (left_form f os m r.left r.right (i.forms r.left r.in_left) (common_form r.left.form r.right.form) refl);
+      let r = in_both f xs ys z a h in
+      subst (λ c. IfSome c.form (FormSays os m c)) (sym r.is) (left_form f os m r.left r.right (i.forms r.left r.in_left) (common_form r.left.form r.right.form) refl);
 }
 
 pub both_right : {N : Type 0} (D : Ops N) (f : N → N → N) → Unites D f → (os : Order × Order) (d : Model) (m : Memories) (xs ys : List (Cell N)) → AreCells d xs → AreCells d ys → HaveCellsAlike xs ys
     → In D (record { orders = os; model = d; cells = ys }) m → In D (record { orders = os; model = d; cells = cells_of_both f xs ys }) m
 both_right D f un os d m xs ys p q a i = record {
   cells = λ z h.
-    let r = in_both f xs ys z a h in
-    subst (Says D os d m) (sym r.is) (right_says D f un os d m r.left r.right (p.each r.left r.in_left) (q.each r.right r.in_right) r.alike (i.cells r.right r.in_right));
+      let r = in_both f xs ys z a h in
+      subst (Says D os d m) (sym r.is) (right_says D f un os d m r.left r.right (p.each r.left r.in_left) (q.each r.right r.in_right) r.alike (i.cells r.right r.in_right));
   forms = λ z h.
-    let r = in_both f xs ys z a h in
-    subst (λ c. IfSome c.form (FormSays os m c)) (sym r.is) (right_form f os m r.left r.right r.alike (i.forms r.right r.in_right) (common_form r.left.form r.right.form) refl);
+      let r = in_both f xs ys z a h in
+      subst (λ c. IfSome c.form (FormSays os m c)) (sym r.is) (right_form f os m r.left r.right r.alike (i.forms r.right r.in_right) (common_form r.left.form r.right.form) refl);
 }
 
 -- ---- inclusion
@@ -528,20 +526,20 @@ pub within_in : {N : Type 0} (D : Ops N) → Lawful D → (os : Order × Order) 
     → In D (record { orders = os; model = d; cells = xs }) m → In D (record { orders = os; model = d; cells = ys }) m
 within_in D law os d m xs ys p h i = record {
   cells = λ y k.
-    let r = all_found D xs ys y h k in
-    let c = and_parts (is_value_within D r.cell.value y.value) ((not r.cell.maybe || y.maybe) && is_form_kept r.cell.form y.form) r.is_within in
-    let e = and_parts (not r.cell.maybe || y.maybe) (is_form_kept r.cell.form y.form) c.1 in
-    let s = i.cells r.cell r.is_in in
-    let maybe = implied r.cell.maybe y.maybe e.0 in
-    record {
-      datum = s.datum;
-      allowed = allowed_within D law y.what r.cell.value y.value r.cell.maybe y.maybe s.datum (p.each r.cell r.is_in).fits.undefined maybe c.0
-        (subst (λ (w : Scalar). Allows D w r.cell.value r.cell.maybe s.datum) r.alike.what s.allowed);
-      stands = stands_alike os d m r.cell y s.datum r.alike maybe s.stands;
-    };
+      let r = all_found D xs ys y h k in
+      let c = and_parts (is_value_within D r.cell.value y.value) ((not r.cell.maybe || y.maybe) && is_form_kept r.cell.form y.form) r.is_within in
+      let e = and_parts (not r.cell.maybe || y.maybe) (is_form_kept r.cell.form y.form) c.1 in
+      let s = i.cells r.cell r.is_in in
+      let maybe = implied r.cell.maybe y.maybe e.0 in
+      record {
+        datum = s.datum;
+        allowed = allowed_within D law y.what r.cell.value y.value r.cell.maybe y.maybe s.datum (p.each r.cell r.is_in).fits.undefined maybe c.0
+            (subst (λ (w : Scalar). Allows D w r.cell.value r.cell.maybe s.datum) r.alike.what s.allowed);
+        stands = stands_alike os d m r.cell y s.datum r.alike maybe s.stands;
+      };
   forms = λ y k.
-    let r = all_found D xs ys y h k in
-    let c = and_parts (is_value_within D r.cell.value y.value) ((not r.cell.maybe || y.maybe) && is_form_kept r.cell.form y.form) r.is_within in
-    let e = and_parts (not r.cell.maybe || y.maybe) (is_form_kept r.cell.form y.form) c.1 in
-    kept_form os m r.cell y y.form r.alike e.1 (i.forms r.cell r.is_in);
+      let r = all_found D xs ys y h k in
+      let c = and_parts (is_value_within D r.cell.value y.value) ((not r.cell.maybe || y.maybe) && is_form_kept r.cell.form y.form) r.is_within in
+      let e = and_parts (not r.cell.maybe || y.maybe) (is_form_kept r.cell.form y.form) c.1 in
+      kept_form os m r.cell y y.form r.alike e.1 (i.forms r.cell r.is_in);
 }

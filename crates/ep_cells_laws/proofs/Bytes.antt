@@ -1,5 +1,5 @@
 -- The bytes of cells, and the numbers that they are.
-use Rattle.std.proofs.Common.{◌≡◌, ℕ, ◌+◌, ◌<◌, ℤ, Bool, true, false, ◌⊎◌, inl, inr, ⊎_elim, Option, Some, None, refl, sym, ◌∙◌, ap, subst, arith}
+use Rattle.std.proofs.Common.{◌≡◌, ℕ, ◌+◌, ◌<◌, ℤ, Bool, true, false, inl, inr, ⊎_elim, Option, Some, None, refl, ◌∙◌, ap, subst}
 use Rattle.ep_int.specs.declared.types.Order.{Order}
 use Rattle.ep_int.specs.declared.types.Model.{Model}
 use Rattle.ep_int.specs.declared.types.IntType.{IntType}
@@ -7,18 +7,17 @@ use Rattle.ep_int.specs.declared.types.Scalar.{Scalar}
 use Rattle.ep_int.specs.declared.types.Scalar.TheVariants.{Int, Pointer}
 use Rattle.ep_int.specs.Types.{bytes_of, size_of, InRange}
 use Rattle.ep_int.specs.Encoding.{encoded, decoded}
-use Rattle.ep_int.specs.Memory.{Memory, Value as Datum, int, null, pointer, number_in, is_number, bytes_of_value}
+use Rattle.ep_int.specs.Memory.{Memory, Value as Datum, int, null, pointer, number_in, is_number}
 use Rattle.ep_int.proofs.Encodings.{decoded_same, decoded_encoded}
 use Rattle.ep_bitslice.specs.declared.cell.Side.{Side}
 use Rattle.ep_bitslice.specs.declared.cell.Side.TheVariants.{Left, Right, Shared}
-use Rattle.ep_bitslice.specs.declared.cell.CellName.{CellName}
 use Rattle.ep_domain.specs.Domain.{Ops}
 use Rattle.ep_cells.specs.declared.cell.Cell.{Cell}
 use Rattle.ep_cells.specs.declared.cell.Value.{Value}
 use Rattle.ep_cells.specs.declared.cell.Value.TheVariants.{Num, Ptr}
-use Rattle.ep_cells.specs.Cells.{on_left, on_right, IsNamed}
-use Rattle.ep_cells.specs.States.{IsOfSort, Fits}
-use Rattle.ep_cells.specs.Meaning.{Memories, Allows, Has, HasBytes, IsUndefined, StandsAt, Says, number_at, number_on, numbers_of, name_of}
+use Rattle.ep_cells.specs.Cells.{on_left, on_right}
+use Rattle.ep_cells.specs.States.{IsOfSort}
+use Rattle.ep_cells.specs.Meaning.{Memories, Allows, Has, HasBytes, StandsAt, number_on, numbers_of, name_of}
 
 -- two memories have the same bytes at a place
 pub record SameBytes (m n : Memory) (b q size : ℕ) : Type 0 where

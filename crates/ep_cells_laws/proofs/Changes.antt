@@ -1,5 +1,5 @@
 -- An operation that makes cells of cells: what it leaves is in order and apart, and holds.
-use Rattle.std.proofs.Common.{◌≡◌, ℕ, ◌^◌, Bool, true, false, List, map, Option, Some, None, IfSome, refl, sym, ◌∙◌, ap, subst}
+use Rattle.std.proofs.Common.{◌≡◌, ℕ, ◌^◌, true, false, List, map, Option, Some, None, IfSome, refl, sym, ◌∙◌, ap, subst}
 use Rattle.std.specs.Option.{option_map}
 use Rattle.ep_int.specs.declared.types.Order.{Order}
 use Rattle.ep_int.specs.declared.types.Model.{Model}
@@ -11,17 +11,16 @@ use Rattle.ep_int.specs.Memory.{Value as Datum, int}
 use Rattle.ep_bitslice.specs.declared.cell.Side.{Side}
 use Rattle.ep_bitslice.specs.declared.cell.CellName.{CellName}
 use Rattle.ep_bitslice.specs.declared.segment.Segment.{Segment}
-use Rattle.ep_bitslice.specs.Bits.{Bit, Numbers, number_of_bits, mentions}
-use Rattle.ep_bitslice.specs.Segments.{bits, width, number, normal, IsForm}
+use Rattle.ep_bitslice.specs.Bits.{Bit, number_of_bits, mentions}
+use Rattle.ep_bitslice.specs.Segments.{bits, number, normal}
 use Rattle.ep_bitslice.proofs.Joining.{cell_at}
 use Rattle.ep_bitslice.proofs.Appending.{bits-normal}
 use Rattle.ep_bitslice.proofs.Numbers.{number-bits}
 use Rattle.ep_domain.specs.Domain.{Ops}
 use Rattle.ep_cells.specs.declared.cell.Cell.{Cell}
-use Rattle.ep_cells.specs.declared.cell.Value.{Value}
 use Rattle.ep_cells.specs.Cells.{IsNamed, IsIn}
 use Rattle.ep_cells.specs.Forms.{Fate, bits_after, form_after, reformed}
-use Rattle.ep_cells.specs.States.{Known, IsOfSort, Fits, IsThere, HasWidth, IsFormOf, HasForm, EachPair, AreApart, IsCell, AreCells}
+use Rattle.ep_cells.specs.States.{IsOfSort, Fits, IsThere, HasWidth, IsFormOf, HasForm, EachPair, AreApart, IsCell, AreCells}
 use Rattle.ep_cells.specs.Meaning.{Memories, Allows, StandsAt, Says, numbers_of, name_of, HasNumber, FormSays, In}
 use Rattle.ep_cells_laws.proofs.Lists.{in_map, map_in, pairs_map}
 use Rattle.ep_cells_laws.proofs.Forms.{KeepsNumbers, number_after, mentioned_after, form_after_is, width_after}
@@ -121,8 +120,8 @@ form_left d cs l f x ss g c h (Some bs) e = record {
   wide = subst (HasWidth x.what) (sym (width_after f ss bs e)) h.wide;
   form = form_after_is f ss bs h.form e;
   mentioned = λ n k.
-    let r = mentioned_after f (bits ss) bs n e (subst (λ z. mentions n z ≡ true) (bits-normal bs) k) in
-    there_reformed f n l (c.fates r.name n (h.mentioned r.name r.mentioned) r.fate);
+      let r = mentioned_after f (bits ss) bs n e (subst (λ z. mentions n z ≡ true) (bits-normal bs) k) in
+      there_reformed f n l (c.fates r.name n (h.mentioned r.name r.mentioned) r.fate);
 }
 
 form_by : {N : Type 0} (d : Model) (cs l : List (Cell N)) (f : Fate) (x : Cell N) (g : Option (List Segment)) → IsChange d cs l f
@@ -133,18 +132,18 @@ form_by d cs l f x g c (Some ss) h = form_left d cs l f x ss g c h (bits_after f
 pub change_cells : {N : Type 0} (d : Model) (cs l : List (Cell N)) (f : Fate) → IsChange d cs l f → AreCells d (map (reformed f) l)
 change_cells d cs l f c = record {
   each = λ y h.
-    let r = in_map (reformed f) y l h in
-    let e = c.each r.origin r.is_in in
-    subst (IsCell d) (sym r.is)
-    (let k : IsCell d (reformed f r.origin) = record {
-      fits = record { sort = e.fits.sort; undefined = e.fits.undefined; last = e.fits.last };
-      rising = e.rising;
-    } in k);
+      let r = in_map (reformed f) y l h in
+      let e = c.each r.origin r.is_in in
+      subst (IsCell d) (sym r.is)
+      (let k : IsCell d (reformed f r.origin) = record {
+        fits = record { sort = e.fits.sort; undefined = e.fits.undefined; last = e.fits.last };
+        rising = e.rising;
+      } in k);
   pairs = pairs_map (AreApart d) (reformed f) l c.pairs (λ x y a. record { ordered = a.ordered; apart = a.apart });
   forms = λ y h.
-    let r = in_map (reformed f) y l h in
-    subst (HasForm (map (reformed f) l)) (sym r.is)
-    (form_by d cs l f r.origin (form_after f r.origin.form) c r.origin.form (c.forms r.origin r.is_in));
+      let r = in_map (reformed f) y l h in
+      subst (HasForm (map (reformed f) l)) (sym r.is)
+      (form_by d cs l f r.origin (form_after f r.origin.form) c r.origin.form (c.forms r.origin r.is_in));
 }
 
 -- ---- and that they hold
@@ -182,16 +181,16 @@ pub change_holds : {N : Type 0} (D : Ops N) (os : Order × Order) (d : Model) (m
     → IsChange d cs l f → Holds D os d m n cs l f → In D (record { orders = os; model = d; cells = map (reformed f) l }) n
 change_holds D os d m n cs l f c h = record {
   cells = λ y i.
-    let r = in_map (reformed f) y l i in
-    let s = h.says r.origin r.is_in in
-    subst (Says D os d n) (sym r.is)
-    (let k : Says D os d n (reformed f r.origin) = record {
-      datum = s.datum;
-      allowed = s.allowed;
-      stands = record { left = s.stands.left; right = s.stands.right };
-    } in k);
+      let r = in_map (reformed f) y l i in
+      let s = h.says r.origin r.is_in in
+      subst (Says D os d n) (sym r.is)
+      (let k : Says D os d n (reformed f r.origin) = record {
+        datum = s.datum;
+        allowed = s.allowed;
+        stands = record { left = s.stands.left; right = s.stands.right };
+      } in k);
   forms = λ y i.
-    let r = in_map (reformed f) y l i in
-    subst (λ z. IfSome z.form (FormSays os n z)) (sym r.is)
-    (number_by d os m n cs f r.origin (form_after f r.origin.form) h.keeps r.origin.form (c.forms r.origin r.is_in) (h.numbers r.origin r.is_in));
+      let r = in_map (reformed f) y l i in
+      subst (λ z. IfSome z.form (FormSays os n z)) (sym r.is)
+      (number_by d os m n cs f r.origin (form_after f r.origin.form) h.keeps r.origin.form (c.forms r.origin r.is_in) (h.numbers r.origin r.is_in));
 }

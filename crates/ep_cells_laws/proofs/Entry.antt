@@ -1,39 +1,20 @@
 -- The cells of a block that is entered: they lie inside of it, and apart.
-use Rattle.std.proofs.Common.{◌≡◌, ℕ, zero, suc, ◌+◌, ◌*◌, ◌^◌, ◌<◌, ◌≤◌, pos, Bool, true, false, ◌&&◌, ◌||◌, nat_eq, nat_le, nat_lt, cond, List, [], ◌∷◌, ◌++◌, map, ◌⊎◌, inl, inr, ⊎_elim, Option, Some, None, IfSome, IsSomeAnd, refl, sym, ◌∙◌, ap, subst, arith}
-use Rattle.std.specs.Option.{option_map}
-use Rattle.std.specs.List.{list_any, filter}
-use Rattle.std.proofs.lemmas.Bool.{and_parts, and_from, and_left, and_right, or_parts, or_left, or_right, or_cases, eqb-true, eq-eqb, ne_eqb, le-leb, lt-ltb, le-ltb, cases_lt, false_from_ne_true, both_ways, cases_Bool}
-use Rattle.ep_int.specs.declared.types.Order.{Order}
+use Rattle.std.proofs.Common.{◌≡◌, ℕ, zero, suc, ◌+◌, ◌*◌, ◌<◌, ◌≤◌, Bool, true, false, ◌&&◌, nat_eq, nat_le, nat_lt, cond, List, [], ◌∷◌, ⊎_elim, Option, Some, None, refl, sym, ◌∙◌, ap, subst, arith}
+use Rattle.std.proofs.lemmas.Bool.{and_from, and_right, or_left, or_right, eqb-true, ne_eqb, le-leb, lt-ltb, le-ltb, cases_lt, both_ways}
 use Rattle.ep_int.specs.declared.types.Model.{Model}
-use Rattle.ep_int.specs.declared.types.IntType.{IntType}
 use Rattle.ep_int.specs.declared.types.IntType.TheVariants.{U8}
 use Rattle.ep_int.specs.declared.types.Scalar.{Scalar}
-use Rattle.ep_int.specs.declared.types.Scalar.TheVariants.{Int, Pointer}
+use Rattle.ep_int.specs.declared.types.Scalar.TheVariants.{Int}
 use Rattle.ep_int.specs.Types.{size_of}
-use Rattle.ep_int.specs.Memory.{undefined, fragment, Memory, Value as Datum, int, null, pointer}
 use Rattle.ep_layout.specs.declared.types.Leaf.{Leaf}
 use Rattle.ep_bitslice.specs.declared.cell.Side.{Side}
-use Rattle.ep_bitslice.specs.declared.cell.Side.TheVariants.{Left, Right, Shared}
-use Rattle.ep_bitslice.specs.declared.cell.CellName.{CellName}
-use Rattle.ep_bitslice.specs.declared.segment.Segment.{Segment}
 use Rattle.ep_bitslice.specs.Bits.{side_number}
-use Rattle.ep_bitslice.specs.Segments.{number}
-use Rattle.ep_domain.specs.Domain.{Ops, Lawful}
-use Rattle.ep_domain.specs.Domain.{Holds as HoldsNumber}
-use Rattle.ep_pointers.specs.Value.{Target, Pointers, IsRising, offset_at, HoldsPointer, null_pointer, into, IsInto, without, LosesBlock}
-use Rattle.ep_pointers.proofs.Gathered.{pointer_laws}
 use Rattle.ep_cells.specs.declared.cell.Cell.{Cell}
-use Rattle.ep_cells.specs.declared.cell.Value.{Value}
-use Rattle.ep_cells.specs.declared.cell.Value.TheVariants.{Num, Ptr}
-use Rattle.ep_cells.specs.Cells.{on_left, on_right, share_memory, side_without, place_of, touches, meets, IsNamed, IsIn, first, later, comes_before, put, put_all, each_becomes, with_side, parts_on, parts_of}
-use Rattle.ep_cells.specs.Forms.{Fate, reformed}
-use Rattle.ep_cells.specs.States.{Known, IsOfSort, HasRisingBlocks, Fits, IsThere, IsFormOf, HasForm, Each, EachPair, AreApart, IsCell, AreCells}
-use Rattle.ep_cells.specs.Meaning.{Memories, Allows, HasBytes, IsUndefined, StandsAt, Says, numbers_of, HasNumber, FormSays, In}
-use Rattle.ep_cells.specs.Kill.{undefined_cell, leaf_at, is_in_leaf, cell_here, cells_from, entry_cells, AreLeavesIn, has_target, some_pointer, value_without, without_target, killed_part, killed_pointer, left_by_kill, fate_by_kill, killed_cells}
-use Rattle.ep_cells_laws.specs.Memories.{IsKilled, AreKilled}
-use Rattle.ep_cells_laws.proofs.Lists.{From, in_each, each_in, in_append, in_map, in_put, in_put_all, put_all_keeps, each_at, pairs_append, pairs_each, pairs_put, Image}
-use Rattle.ep_cells_laws.proofs.Bytes.{SameBytes, bytes_same}
-use Rattle.ep_cells_laws.proofs.Places.{at, size_positive, before_from, Before, in_block, by_block, Within, within_itself, within_shared, IsRest, rest_is, IsMadeFrom, apart_made, before_rest, put_before_cell, put_after_cell}
+use Rattle.ep_cells.specs.Cells.{share_memory, touches, IsIn, first, later}
+use Rattle.ep_cells.specs.States.{EachPair, AreApart}
+use Rattle.ep_cells.specs.Kill.{undefined_cell, leaf_at, is_in_leaf, cell_here, cells_from, AreLeavesIn}
+use Rattle.ep_cells_laws.proofs.Lists.{in_append, pairs_append}
+use Rattle.ep_cells_laws.proofs.Places.{at, size_positive, before_from, in_block}
 
 -- ---- the block's new cells
 
@@ -97,7 +78,7 @@ inside_by d e size p q l leaves w true f a lo hi rest h =
     record {
       none = ap (λ t. cond t (Some l.what) (leaf_at leaves q)) far ∙ past_leaves d (l.offset + size_of d l.what) size q leaves a.1 top;
       inside = or_left (nat_le l.offset q && nat_lt q (l.offset + size_of d l.what)) (is_in_leaf d leaves q)
-        (and_from (nat_le l.offset q) (nat_lt q (l.offset + size_of d l.what)) (le-leb l.offset q (omega arith)) (lt-ltb q (l.offset + size_of d l.what) top));
+          (and_from (nat_le l.offset q) (nat_lt q (l.offset + size_of d l.what)) (le-leb l.offset q (omega arith)) (lt-ltb q (l.offset + size_of d l.what) top));
     }
 inside_by d e size p q l leaves w false f a lo hi rest h =
     let r = rest h in
@@ -170,7 +151,7 @@ apart_after : {N : Type 0} (d : Model) (s : Side) (b p q : ℕ) (v w : Scalar) �
 apart_after d s b p q v w l = record {
   ordered = before_from b (3 * p + side_number s) b (3 * q + side_number s) (in_block refl (omega (arith, size_positive d v)));
   apart = and_right (share_memory s s) (touches (at s b p (size_of d v)) (at s b q (size_of d w)))
-    (and_right (nat_eq b b) (nat_lt p (q + size_of d w) && nat_lt q (p + size_of d v))
+      (and_right (nat_eq b b) (nat_lt p (q + size_of d w) && nat_lt q (p + size_of d v))
       (and_right (nat_lt p (q + size_of d w)) (nat_lt q (p + size_of d v)) (le-ltb q (p + size_of d v) l)));
 }
 

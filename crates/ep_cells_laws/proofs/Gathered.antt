@@ -1,7 +1,10 @@
 -- The laws, gathered.
 use Rattle.ep_domain.specs.Domain.{Ops, Lawful}
-use Rattle.ep_cells_laws.specs.Laws.{WriteLaws, JoinLaws, InclusionLaws}
+use Rattle.ep_cells_laws.specs.Laws.{WriteLaws, JoinLaws, InclusionLaws, WeakWriteLaws, KillLaws, ReshareLaws}
 use Rattle.ep_cells_laws.proofs.Write.{write_cells, write_holds}
+use Rattle.ep_cells_laws.proofs.Weaken.{weak_cells, weak_holds}
+use Rattle.ep_cells_laws.proofs.Kill.{kill_cells, kill_holds}
+use Rattle.ep_cells_laws.proofs.Reshare.{reshared_goes_on}
 use Rattle.ep_cells_laws.proofs.Both.{join_unites, widen_unites, both_cells, both_left, both_right, within_in}
 
 pub of_writes : {N : Type 0} (D : Ops N) → WriteLaws D
@@ -30,4 +33,22 @@ of_joins D law =
 pub of_inclusion : {N : Type 0} (D : Ops N) → Lawful D → InclusionLaws D
 of_inclusion D law = record {
   within_holds = λ k ys p h m i. within_in D law k.orders k.model m k.cells ys p h i;
+}
+
+pub of_weak_writes : {N : Type 0} (D : Ops N) → Lawful D → WeakWriteLaws D
+of_weak_writes D law = record {
+  cells = λ d c stays cs a f r s. weak_cells D law d c stays cs a (record { fits = f; rising = r }) s;
+  holds = λ k c stays a f r s m n i w. weak_holds D law k m n c stays a (record { fits = f; rising = r }) s i w;
+}
+
+pub of_kills : {N : Type 0} (D : Ops N) → Lawful D → KillLaws D
+of_kills D law = record {
+  cells = λ d s b leaves size cs a l h. kill_cells D law d s b size leaves cs a l h;
+  holds = λ k s b leaves size a l h m n i w. kill_holds D law k.orders k.model m n s b size leaves k.cells a l h i w;
+}
+
+pub of_resharing : {N : Type 0} (D : Ops N) → Lawful D → ReshareLaws D
+of_resharing D law = record {
+  cells = λ d cs a. (reshared_goes_on D law d cs a).cells;
+  holds = λ k a m i. (reshared_goes_on D law k.model k.cells a).holds k.orders m i;
 }

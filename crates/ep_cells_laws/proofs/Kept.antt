@@ -1,5 +1,5 @@
 -- Bytes that keep what they say of a value.
-use Rattle.std.proofs.Common.{◌≡◌, ℕ, ◌+◌, ◌<◌, ℤ, Bool, true, false, ◌||◌, nat_eq, cond, [], ◌∷◌, ◌⊎◌, inl, inr, ⊎_elim, Option, Some, None, refl, sym, ◌∙◌, ap, subst}
+use Rattle.std.proofs.Common.{◌≡◌, ℕ, ◌+◌, ◌<◌, Bool, true, false, ◌||◌, nat_eq, cond, [], ◌∷◌, inl, inr, ⊎_elim, Option, Some, None, refl, sym, ◌∙◌, ap, subst}
 use Rattle.std.proofs.lemmas.Bool.{eq-eqb}
 use Rattle.ep_int.specs.declared.types.Order.{Order}
 use Rattle.ep_int.specs.declared.types.Scalar.{Scalar}
@@ -62,9 +62,9 @@ part_forgotten b c o k j v true e i = record {
   nothing = λ h. refl;
   others = λ h. refl;
   parts = λ a p g h.
-    let same : c ≡ a = let f : fragment c o k ≡ fragment a p j = h in cc in
-    let far : nat_eq c b ≡ false = subst (λ z. nat_eq z b ≡ false) (sym same) (i.other a p g) in
-    absurd (let w : true ≡ false = sym e ∙ contains_one c b false far in cc);
+      let same : c ≡ a = let f : fragment c o k ≡ fragment a p j = h in cc in
+      let far : nat_eq c b ≡ false = subst (λ z. nat_eq z b ≡ false) (sym same) (i.other a p g) in
+      absurd (let w : true ≡ false = sym e ∙ contains_one c b false far in cc);
 }
 part_forgotten b c o k j v false e i = byte_same v j (fragment c o k) (fragment c o k) refl
 

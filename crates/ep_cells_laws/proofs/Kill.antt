@@ -1,41 +1,37 @@
 -- Killed blocks: what is left of cells, the block's new cells, and that all of it holds.
-use Rattle.std.proofs.Common.{◌≡◌, ℕ, zero, suc, ◌+◌, ◌*◌, ◌^◌, ◌<◌, ◌≤◌, pos, Bool, true, false, ◌&&◌, ◌||◌, nat_eq, nat_le, nat_lt, cond, List, [], ◌∷◌, ◌++◌, map, ◌⊎◌, inl, inr, ⊎_elim, Option, Some, None, IfSome, IsSomeAnd, refl, sym, ◌∙◌, ap, subst, arith}
-use Rattle.std.specs.Option.{option_map}
-use Rattle.std.specs.List.{list_any, filter}
-use Rattle.std.proofs.lemmas.Bool.{and_parts, and_from, and_left, and_right, or_parts, or_left, or_right, or_cases, eqb-true, eq-eqb, ne_eqb, le-leb, lt-ltb, le-ltb, cases_lt, false_from_ne_true, both_ways, cases_Bool}
+use Rattle.std.proofs.Common.{◌≡◌, ℕ, ◌+◌, ◌*◌, ◌^◌, ◌≤◌, pos, Bool, true, false, ◌&&◌, ◌||◌, nat_eq, nat_lt, cond, List, [], ◌∷◌, map, ⊎_elim, Option, Some, None, IfSome, IsSomeAnd, refl, sym, ◌∙◌, ap, subst, arith}
+use Rattle.std.specs.List.{list_any}
+use Rattle.std.proofs.lemmas.Bool.{and_from, and_left, and_right, or_parts, or_left, or_right, eqb-true, eq-eqb, ne_eqb, false_from_ne_true, both_ways, cases_Bool}
 use Rattle.ep_int.specs.declared.types.Order.{Order}
 use Rattle.ep_int.specs.declared.types.Model.{Model}
 use Rattle.ep_int.specs.declared.types.IntType.{IntType}
-use Rattle.ep_int.specs.declared.types.IntType.TheVariants.{U8}
 use Rattle.ep_int.specs.declared.types.Scalar.{Scalar}
 use Rattle.ep_int.specs.declared.types.Scalar.TheVariants.{Int, Pointer}
 use Rattle.ep_int.specs.Types.{size_of}
-use Rattle.ep_int.specs.Memory.{undefined, fragment, Memory, Value as Datum, int, null, pointer}
+use Rattle.ep_int.specs.Memory.{undefined, Memory, Value as Datum, int, null, pointer}
 use Rattle.ep_layout.specs.declared.types.Leaf.{Leaf}
 use Rattle.ep_bitslice.specs.declared.cell.Side.{Side}
 use Rattle.ep_bitslice.specs.declared.cell.Side.TheVariants.{Left, Right, Shared}
 use Rattle.ep_bitslice.specs.declared.cell.CellName.{CellName}
 use Rattle.ep_bitslice.specs.declared.segment.Segment.{Segment}
-use Rattle.ep_bitslice.specs.Bits.{side_number}
 use Rattle.ep_bitslice.specs.Segments.{number}
 use Rattle.ep_domain.specs.Domain.{Ops, Lawful}
 use Rattle.ep_domain.specs.Domain.{Holds as HoldsNumber}
-use Rattle.ep_pointers.specs.Value.{Target, Pointers, IsRising, offset_at, HoldsPointer, null_pointer, into, IsInto, without, LosesBlock}
+use Rattle.ep_pointers.specs.Value.{Target, Pointers, IsRising, offset_at, HoldsPointer, null_pointer, into, without}
 use Rattle.ep_pointers.proofs.Gathered.{pointer_laws}
 use Rattle.ep_cells.specs.declared.cell.Cell.{Cell}
 use Rattle.ep_cells.specs.declared.cell.Value.{Value}
 use Rattle.ep_cells.specs.declared.cell.Value.TheVariants.{Num, Ptr}
-use Rattle.ep_cells.specs.Cells.{on_left, on_right, share_memory, side_without, place_of, touches, meets, IsNamed, IsIn, first, later, comes_before, put, put_all, each_becomes, with_side, parts_on, parts_of}
-use Rattle.ep_cells.specs.Forms.{Fate, reformed}
-use Rattle.ep_cells.specs.States.{Known, IsOfSort, HasRisingBlocks, Fits, IsThere, IsFormOf, HasForm, Each, EachPair, AreApart, IsCell, AreCells}
+use Rattle.ep_cells.specs.Cells.{on_left, on_right, share_memory, side_without, place_of, touches, meets, IsNamed, IsIn, first, later, put_all, each_becomes, with_side, parts_on, parts_of}
+use Rattle.ep_cells.specs.States.{IsOfSort, HasRisingBlocks, Fits, IsThere, IsFormOf, HasForm, EachPair, AreApart, IsCell, AreCells}
 use Rattle.ep_cells.specs.Meaning.{Memories, Allows, HasBytes, IsUndefined, StandsAt, Says, numbers_of, HasNumber, FormSays, In}
-use Rattle.ep_cells.specs.Kill.{undefined_cell, leaf_at, is_in_leaf, cell_here, cells_from, entry_cells, AreLeavesIn, has_target, some_pointer, value_without, without_target, killed_part, killed_pointer, left_by_kill, fate_by_kill, killed_cells}
+use Rattle.ep_cells.specs.Kill.{undefined_cell, entry_cells, AreLeavesIn, has_target, some_pointer, value_without, without_target, killed_part, killed_pointer, left_by_kill, fate_by_kill, killed_cells}
 use Rattle.ep_cells_laws.specs.Memories.{IsKilled, AreKilled}
-use Rattle.ep_cells_laws.proofs.Lists.{From, in_each, each_in, in_append, in_map, in_put, in_put_all, put_all_keeps, each_at, pairs_append, pairs_each, pairs_put, Image}
+use Rattle.ep_cells_laws.proofs.Lists.{in_each, each_in, in_map, in_put_all, put_all_keeps, each_at, pairs_each, pairs_put}
 use Rattle.ep_cells_laws.proofs.Bytes.{SameBytes, bytes_same}
-use Rattle.ep_cells_laws.proofs.Kept.{KeepsBytes, bytes_kept, NotInto, bytes_killed, killed_there, part_killed}
-use Rattle.ep_cells_laws.proofs.Places.{at, size_positive, before_from, Before, in_block, by_block, Within, within_itself, within_shared, IsRest, rest_is, IsMadeFrom, apart_made, before_rest, put_before_cell, put_after_cell}
-use Rattle.ep_cells_laws.proofs.Changes.{IsKept, kept_made, kept_says, kept_cell, kept_form, IsChange, Holds, change_cells, change_holds}
+use Rattle.ep_cells_laws.proofs.Kept.{bytes_kept, NotInto, bytes_killed, killed_there, part_killed}
+use Rattle.ep_cells_laws.proofs.Places.{at, before_from, in_block, Within, within_itself, within_shared, IsRest, rest_is, IsMadeFrom, apart_made, before_rest, put_before_cell, put_after_cell}
+use Rattle.ep_cells_laws.proofs.Changes.{IsKept, kept_says, IsChange, change_cells, change_holds}
 use Rattle.ep_cells_laws.proofs.Write.{keeps_kept, numbers_kept, Follows, follows_by}
 use Rattle.ep_cells_laws.proofs.Entry.{new_from, new_pairs}
 use Rattle.ep_cells_laws.proofs.Both.{bytes_weaker}
@@ -128,9 +124,9 @@ kept_away D os d m n s b x k e t = record {
   within = within_itself x.side;
   stands = λ v a h. record {
     left = λ i. bytes_kept os.0 m.left n.left (size_of d x.what) x.what x.maybe x.block x.offset v
-      (bytes_killed b x.block x.offset (size_of d x.what) v m.left n.left (on_left s) k.left e (not_into D x.what x.value x.maybe b v a t)) (h.left i);
+        (bytes_killed b x.block x.offset (size_of d x.what) v m.left n.left (on_left s) k.left e (not_into D x.what x.value x.maybe b v a t)) (h.left i);
     right = λ i. bytes_kept os.1 m.right n.right (size_of d x.what) x.what x.maybe x.block x.offset v
-      (bytes_killed b x.block x.offset (size_of d x.what) v m.right n.right (on_right s) k.right e (not_into D x.what x.value x.maybe b v a t)) (h.right i);
+        (bytes_killed b x.block x.offset (size_of d x.what) v m.right n.right (on_right s) k.right e (not_into D x.what x.value x.maybe b v a t)) (h.right i);
   };
 }
 
@@ -145,9 +141,9 @@ kept_alive D os d m n s b x r k i = record {
   within = i.within;
   stands = λ v a h. record {
     left = λ e. bytes_same os.0 m.left n.left (size_of d x.what) x.what x.maybe x.block x.offset v
-      (same_alive b (on_left s) m.left n.left x.block x.offset (size_of d x.what) k.left (i.left e)) (h.left (i.within.left e));
+        (same_alive b (on_left s) m.left n.left x.block x.offset (size_of d x.what) k.left (i.left e)) (h.left (i.within.left e));
     right = λ e. bytes_same os.1 m.right n.right (size_of d x.what) x.what x.maybe x.block x.offset v
-      (same_alive b (on_right s) m.right n.right x.block x.offset (size_of d x.what) k.right (i.right e)) (h.right (i.within.right e));
+        (same_alive b (on_right s) m.right n.right x.block x.offset (size_of d x.what) k.right (i.right e)) (h.right (i.within.right e));
   };
 }
 
@@ -527,13 +523,13 @@ kill_change : {N : Type 0} (D : Ops N) → Lawful D → (d : Model) (s : Side) (
     → IsChange d cs (put_all (entry_cells d s b leaves size) (rest_of s b cs)) (fate_by_kill s b)
 kill_change {N = N} D law d s b size leaves cs c a l = record {
   each = by_origin d s b size leaves cs (IsCell d) a
-    (λ q w h. let r : IsCell {N = N} d (undefined_cell s b q w) = record { fits = record { sort = tt; undefined = λ e. refl; last = omega (arith, l, h) }; rising = tt } in r)
-    (λ x y i k. after_cell D law d s b x y k (c.each x i));
+      (λ q w h. let r : IsCell {N = N} d (undefined_cell s b q w) = record { fits = record { sort = tt; undefined = λ e. refl; last = omega (arith, l, h) }; rising = tt } in r)
+      (λ x y i k. after_cell D law d s b x y k (c.each x i));
   pairs = pairs_put_all d (entry_cells d s b leaves size) (rest_of s b cs) (new_pairs N d s b 0 size size leaves a) (rest_pairs d s b cs c.pairs)
-    (λ y z i j.
-    let r = new_from d s b 0 size size leaves y a (omega arith) i in
-    let q = in_each (left_by_kill s b) z cs j in
-    subst (λ x. meets (place_of d x) (place_of d z) ≡ false) (sym r.is) (new_away d s b r.offset r.what q.origin z (after_kill s b q.origin z q.becomes)));
+      (λ y z i j.
+      let r = new_from d s b 0 size size leaves y a (omega arith) i in
+      let q = in_each (left_by_kill s b) z cs j in
+      subst (λ x. meets (place_of d x) (place_of d z) ≡ false) (sym r.is) (new_away d s b r.offset r.what q.origin z (after_kill s b q.origin z q.becomes)));
   forms = by_origin d s b size leaves cs (HasForm cs) a (λ q w h. tt) (λ x y i k. after_form cs s b x y k (c.forms x i));
   fates = λ x e t h. there_after d s b size leaves cs x e c t h;
 }
@@ -563,8 +559,8 @@ kill_holds {N = N} D law os d m n s b size leaves cs c a l i k =
     change_holds D os d m n cs (put_all (entry_cells d s b leaves size) (rest_of s b cs)) (fate_by_kill s b) (kill_change D law d s b size leaves cs c a l)
     (record {
       says = by_origin d s b size leaves cs (Says D os d n) a (λ q w h. new_says N D os d m n s b q w k)
-        (λ x y j r. after_says D law os d m n s b x y k (c.each x j).fits.sort r (i.cells x j));
+          (λ x y j r. after_says D law os d m n s b x y k (c.each x j).fits.sort r (i.cells x j));
       numbers = by_origin d s b size leaves cs (λ y. IfSome y.form (λ ss. HasNumber os n y y.what (number (numbers_of os m) ss))) a (λ q w h. tt)
-        (λ x y j r. after_number D os d m n cs s b x y k (c.each x j).fits r (i.cells x j) (c.forms x j) (i.forms x j));
+          (λ x y j r. after_number D os d m n cs s b x y k (c.each x j).fits r (i.cells x j) (c.forms x j) (i.forms x j));
       keeps = λ x e t h. kill_keeps D os d m n s b cs x e c i.cells k t h;
     })

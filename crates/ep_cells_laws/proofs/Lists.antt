@@ -111,9 +111,10 @@ each_from P (x ∷ cs) h = (h x (first cs), each_from P cs (λ y k. h y (later x
 pub pairs_append : {N : Type 0} (R : Cell N → Cell N → Type 0) (xs ys : List (Cell N)) → EachPair R xs → EachPair R ys
     → ((x y : Cell N) → IsIn x xs → IsIn y ys → R x y) → EachPair R (xs ++ ys)
 pairs_append R [] ys p q h = q
-pairs_append R (x ∷ xs) ys p q h =
-    (each_from (R x) (xs ++ ys) (λ z k. ⊎_elim (λ j. each_at (R x) z xs p.0 j) (λ j. h x z (first xs) j) (in_append z xs ys k)),
-    pairs_append R xs ys p.1 q (λ y z j k. h y z (later x xs j) k))
+pairs_append R (x ∷ xs) ys p q h = (
+  each_from (R x) (xs ++ ys) (λ z k. ⊎_elim (λ j. each_at (R x) z xs p.0 j) (λ j. h x z (first xs) j) (in_append z xs ys k)),
+  pairs_append R xs ys p.1 q (λ y z j k. h y z (later x xs j) k),
+)
 
 -- cells become cells that stand to one another as they do
 pub pairs_each : {N : Type 0} (R : Cell N → Cell N → Type 0) (f : Cell N → List (Cell N)) (cs : List (Cell N)) → EachPair R cs
@@ -128,10 +129,11 @@ pairs_each R f (x ∷ cs) p own h =
 pub pairs_map : {N : Type 0} (R : Cell N → Cell N → Type 0) (f : Cell N → Cell N) (cs : List (Cell N)) → EachPair R cs
     → ((x y : Cell N) → R x y → R (f x) (f y)) → EachPair R (map f cs)
 pairs_map R f [] p h = tt
-pairs_map R f (x ∷ cs) p h =
-    (each_from (R (f x)) (map f cs)
-    (λ y k. let r = in_map f y cs k in subst (R (f x)) (sym r.is) (h x r.origin (each_at (R x) r.origin cs p.0 r.is_in))),
-    pairs_map R f cs p.1 h)
+pairs_map R f (x ∷ cs) p h = (
+  each_from (R (f x)) (map f cs)
+      (λ y k. let r = in_map f y cs k in subst (R (f x)) (sym r.is) (h x r.origin (each_at (R x) r.origin cs p.0 r.is_in))),
+  pairs_map R f cs p.1 h,
+)
 
 -- A cell is put where it belongs: each other one stands to it as the order says, and one that comes after it has only
 -- such behind it.
@@ -140,9 +142,11 @@ pairs_put_by : {N : Type 0} (R : Cell N → Cell N → Type 0) (c x : Cell N) (c
     → ((y : Cell N) → IsIn y (x ∷ cs) → b ≡ true → R c y) → (b ≡ false → R x c)
     → EachPair R (cond b (c ∷ x ∷ cs) (x ∷ put c cs))
 pairs_put_by R c x cs true p q after before = (each_from (R c) (x ∷ cs) (λ y k. after y k refl), p)
-pairs_put_by R c x cs false p q after before =
-    (each_from (R x) (put c cs)
-    (λ y k. ⊎_elim (λ e. subst (R x) (sym e) (before refl)) (λ j. each_at (R x) y cs p.0 j) (in_put c y cs k)), q)
+pairs_put_by R c x cs false p q after before = (
+  each_from (R x) (put c cs)
+      (λ y k. ⊎_elim (λ e. subst (R x) (sym e) (before refl)) (λ j. each_at (R x) y cs p.0 j) (in_put c y cs k)),
+  q,
+)
 
 behind : {N : Type 0} (R : Cell N → Cell N → Type 0) (c x y : Cell N) (cs : List (Cell N)) → Each (R x) cs
     → ((x y : Cell N) → R x y → comes_before c x ≡ true → comes_before c y ≡ true)

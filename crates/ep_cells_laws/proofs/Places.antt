@@ -1,6 +1,6 @@
 -- Places of cells and their order: cells that lie where others did lie apart as they did.
-use Rattle.std.proofs.Common.{◌≡◌, ℕ, ◌+◌, ◌*◌, ◌<◌, ◌≤◌, Bool, true, false, ◌&&◌, ◌||◌, nat_eq, nat_lt, ◌⊎◌, inl, inr, ⊎_elim, Option, Some, None, IfSome, List, refl, sym, ◌∙◌, ap, subst, arith}
-use Rattle.std.proofs.lemmas.Bool.{and_parts, and_cases, and_from, and_left, and_right, or_cases, or_parts, or_from, or_left, or_right, ltb-true, ltb-false, eqb-true, eqb-false, eq-eqb, lt-ltb, le-ltb, ne_eqb, cases_order, cases_Bool, false_from_ne_true, both_ways}
+use Rattle.std.proofs.Common.{◌≡◌, ℕ, ◌+◌, ◌*◌, ◌<◌, ◌≤◌, Bool, true, false, ◌&&◌, ◌||◌, nat_eq, nat_lt, ⊎_elim, Option, IfSome, List, refl, sym, ◌∙◌, subst, arith}
+use Rattle.std.proofs.lemmas.Bool.{and_parts, and_cases, and_from, and_left, and_right, or_cases, or_left, or_right, ltb-true, eqb-true, eq-eqb, lt-ltb, cases_order, false_from_ne_true, both_ways}
 use Rattle.ep_int.specs.declared.types.Model.{Model}
 use Rattle.ep_int.specs.declared.types.Model.TheVariants.{Ilp32, Lp64}
 use Rattle.ep_int.specs.declared.types.Scalar.{Scalar}
@@ -13,7 +13,8 @@ use Rattle.ep_bitslice.specs.declared.segment.Segment.{Segment}
 use Rattle.ep_bitslice.specs.Bits.{side_number}
 use Rattle.ep_cells.specs.declared.cell.Cell.{Cell}
 use Rattle.ep_cells.specs.declared.cell.Value.{Value}
-use Rattle.ep_cells.specs.Cells.{on_left, on_right, share_memory, side_without, Place, place_of, touches, meets, comes_before, key_of}
+use Rattle.ep_cells.specs.declared.place.Place.{Place}
+use Rattle.ep_cells.specs.Cells.{on_left, on_right, share_memory, side_without, place_of, touches, meets, comes_before, key_of}
 use Rattle.ep_cells.specs.States.{AreApart}
 
 pub size_positive : (d : Model) (w : Scalar) → 0 < size_of d w
@@ -193,12 +194,12 @@ order_within s t u v b q n c r k hn hk a w x (in_block e l) =
 pub apart_at : (s t u v : Side) (b q n c r k : ℕ) → 0 < n → 0 < k → Apart u v b q n c r k → Within s u → Within t v → Apart s t b q n c r k
 apart_at s t u v b q n c r k hn hk a w x = record {
   ordered = before_from b (3 * q + side_number s) c (3 * r + side_number t)
-    (order_within s t u v b q n c r k hn hk a w x (before_true b (3 * q + side_number u) c (3 * r + side_number v) a.ordered));
+      (order_within s t u v b q n c r k hn hk a w x (before_true b (3 * q + side_number u) c (3 * r + side_number v) a.ordered));
   apart =
-    ⊎_elim
-    (λ f. and_left (share_memory s t) (touches (at s b q n) (at t c r k)) (apart_within s t u v w x f))
-    (λ f. and_right (share_memory s t) (touches (at s b q n) (at t c r k)) f)
-    (and_cases (share_memory u v) (touches (at u b q n) (at v c r k)) a.apart);
+      ⊎_elim
+      (λ f. and_left (share_memory s t) (touches (at s b q n) (at t c r k)) (apart_within s t u v w x f))
+      (λ f. and_right (share_memory s t) (touches (at s b q n) (at t c r k)) f)
+      (and_cases (share_memory u v) (touches (at u b q n) (at v c r k)) a.apart);
 }
 
 touches_sym : (s t : Side) (b q n c r k : ℕ) → touches (at s b q n) (at t c r k) ≡ true → touches (at t c r k) (at s b q n) ≡ true
@@ -222,13 +223,13 @@ pub other_order : (s t : Side) (b q n c r k : ℕ) → 0 < n → 0 < k → meets
     → before_at c (3 * r + side_number t) b (3 * q + side_number s) ≡ true
 other_order s t b q n c r k hn hk e h =
     elim (tri b (3 * q + side_number s) c (3 * r + side_number t)) [
-      before p ↦ absurd (both_ways (before_at b (3 * q + side_number s) c (3 * r + side_number t)) h (before_from b (3 * q + side_number s) c (3 * r + side_number t) p))
+      | before p ↦ absurd (both_ways (before_at b (3 * q + side_number s) c (3 * r + side_number t)) h (before_from b (3 * q + side_number s) c (3 * r + side_number t) p))
       | after p ↦ before_from c (3 * r + side_number t) b (3 * q + side_number s) p
       | alike f g ↦
-      let sides : side_number s ≡ side_number t = omega (arith, side_below s, side_below t) in
-      let same : q ≡ r = omega (arith, side_below s, side_below t) in
-      let far : meets (at s b q n) (at t b q k) ≡ false = subst (λ z. meets (at s b q n) (at t z q k) ≡ false) (sym f) (subst (λ z. meets (at s b q n) (at t c z k) ≡ false) (sym same) e) in
-      absurd (both_ways (share_memory s t) (no_share s t b q n k hn hk far) (subst (λ z. share_memory s z ≡ true) (side_back s t sides) (share_itself s)))
+          let sides : side_number s ≡ side_number t = omega (arith, side_below s, side_below t) in
+          let same : q ≡ r = omega (arith, side_below s, side_below t) in
+          let far : meets (at s b q n) (at t b q k) ≡ false = subst (λ z. meets (at s b q n) (at t z q k) ≡ false) (sym f) (subst (λ z. meets (at s b q n) (at t c z k) ≡ false) (sym same) e) in
+          absurd (both_ways (share_memory s t) (no_share s t b q n k hn hk far) (subst (λ z. share_memory s z ≡ true) (side_back s t sides) (share_itself s)))
     ]
 
 -- ---- cells
@@ -269,6 +270,6 @@ put_before_cell d c y m h = record { ordered = h; apart = m }
 pub put_after_cell : {N : Type 0} (d : Model) (c y : Cell N) → meets (place_of d c) (place_of d y) ≡ false → comes_before c y ≡ false → AreApart d y c
 put_after_cell d c y m h = record {
   ordered = other_order c.side y.side c.block c.offset (size_of d c.what) y.block y.offset (size_of d y.what)
-    (size_positive d c.what) (size_positive d y.what) m h;
+      (size_positive d c.what) (size_positive d y.what) m h;
   apart = meets_sym c.side y.side c.block c.offset (size_of d c.what) y.block y.offset (size_of d y.what) m;
 }

@@ -1,8 +1,8 @@
 -- Resharing: a Left and a Right cell that surely hold one number are one Shared cell.
-use Rattle.std.proofs.Common.{◌≡◌, ℕ, ◌+◌, ◌*◌, ◌%◌, ◌^◌, ◌<◌, ◌≤◌, ℤ, Bool, true, false, ◌&&◌, ◌||◌, nat_eq, nat_lt, cond, List, [], ◌∷◌, map, ◌⊎◌, inl, inr, ⊎_elim, Option, Some, None, IfSome, IsSomeAnd, refl, sym, ◌∙◌, ap, subst, arith}
+use Rattle.std.proofs.Common.{◌≡◌, ℕ, ◌+◌, ◌%◌, ◌^◌, ℤ, Bool, true, false, ◌&&◌, ◌||◌, nat_eq, nat_lt, cond, List, [], ◌∷◌, map, ◌⊎◌, inl, inr, ⊎_elim, Option, Some, None, IfSome, IsSomeAnd, refl, sym, ◌∙◌, ap, subst, arith}
 use Rattle.std.specs.Option.{option_map_or}
 use Rattle.std.specs.Ordering.{int_eq}
-use Rattle.std.proofs.lemmas.Bool.{and_parts, and_from, and_left, and_right, and_cases, or_left, or_right, or_from, or_parts, or_cases, eqb-true, eqb-false, eq-eqb, lt-ltb, false_from_ne_true, both_ways, cases_Bool}
+use Rattle.std.proofs.lemmas.Bool.{and_parts, and_from, and_right, and_cases, or_left, or_right, or_from, or_parts, or_cases, eqb-true, eq-eqb, lt-ltb, both_ways}
 use Rattle.std.proofs.lemmas.Bool.Decides.{Decides-int_eq}
 use Rattle.std.proofs.lemmas.Int.{ints}
 use Rattle.ep_int.specs.declared.types.Order.{Order}
@@ -10,8 +10,8 @@ use Rattle.ep_int.specs.declared.types.Model.{Model}
 use Rattle.ep_int.specs.declared.types.IntType.{IntType}
 use Rattle.ep_int.specs.declared.types.Scalar.{Scalar}
 use Rattle.ep_int.specs.declared.types.Scalar.TheVariants.{Int, Pointer}
-use Rattle.ep_int.specs.Types.{bytes_of, bits_of, size_of, residue, representation, represented, InRange}
-use Rattle.ep_int.specs.Memory.{Memory, Value as Datum, int, null, pointer, undefined, is_number}
+use Rattle.ep_int.specs.Types.{bits_of, size_of, residue, represented, InRange}
+use Rattle.ep_int.specs.Memory.{Memory, Value as Datum, int, null, pointer, is_number}
 use Rattle.ep_int.proofs.Wrapping.{represented_representation}
 use Rattle.ep_bitslice.specs.declared.cell.Side.{Side}
 use Rattle.ep_bitslice.specs.declared.cell.Side.TheVariants.{Left, Right, Shared}
@@ -26,15 +26,15 @@ use Rattle.ep_cells.specs.declared.cell.Cell.{Cell}
 use Rattle.ep_cells.specs.declared.cell.Value.{Value}
 use Rattle.ep_cells.specs.declared.cell.Value.TheVariants.{Num, Ptr}
 use Rattle.ep_cells.specs.Cells.{on_left, on_right, share_memory, place_of, touches, meets, is_same_side, is_same_scalar, IsNamed, IsIn, first, later, put, each_becomes}
-use Rattle.ep_cells.specs.Forms.{Fate, reformed, have_same_form, common_form}
-use Rattle.ep_cells.specs.States.{Known, IsOfSort, HasRisingBlocks, Fits, IsThere, IsFormOf, HasForm, EachPair, AreApart, IsCell, AreCells, AreAlike}
+use Rattle.ep_cells.specs.Forms.{reformed, have_same_form, common_form}
+use Rattle.ep_cells.specs.States.{IsOfSort, HasRisingBlocks, IsThere, IsFormOf, HasForm, EachPair, AreApart, IsCell, AreCells}
 use Rattle.ep_cells.specs.Meaning.{Memories, Allows, HasBytes, StandsAt, Says, numbers_of, name_of, number_on, HasNumber, FormSays, In}
 use Rattle.ep_cells.specs.Reshare.{is_single, are_one_number, is_integer, are_same, met_value, reshared_cell, left_by_reshare, fate_by_side, fate_by_reshare, cell_from, reshared_pair, reshared_at, reshared_each, places, reshared}
-use Rattle.ep_cells_laws.proofs.Lists.{From, in_each, each_in, in_put, put_there, put_keeps, pairs_each, pairs_put}
-use Rattle.ep_cells_laws.proofs.Bytes.{IsNumber, number_of_cell}
-use Rattle.ep_cells_laws.proofs.Places.{at, size_positive, before_rest, put_before_cell, put_after_cell, side_back, meets_sym, share_itself}
-use Rattle.ep_cells_laws.proofs.Changes.{IsKept, datum_of, IsChange, Holds, change_cells, change_holds, name_is}
-use Rattle.ep_cells_laws.proofs.Both.{scalar_same, BothHave, common_is, same_forms, bytes_weaker, OneOrder, one, left_first, right_first, one_order, only_one, form_at}
+use Rattle.ep_cells_laws.proofs.Lists.{in_each, each_in, in_put, put_there, put_keeps, pairs_each, pairs_put}
+use Rattle.ep_cells_laws.proofs.Bytes.{number_of_cell}
+use Rattle.ep_cells_laws.proofs.Places.{at, size_positive, before_rest, put_before_cell, put_after_cell, side_back, meets_sym}
+use Rattle.ep_cells_laws.proofs.Changes.{datum_of, IsChange, change_cells, change_holds, name_is}
+use Rattle.ep_cells_laws.proofs.Both.{scalar_same, BothHave, common_is, same_forms, bytes_weaker, one, left_first, right_first, one_order, form_at}
 
 -- a Left and a Right integer cell of one place and type, among these cells
 pub record IsPair {N : Type 0} (cs : List (Cell N)) (l r : Cell N) : Type 0 where
@@ -65,7 +65,7 @@ meets_same d x y a = meets_sym x.side y.side x.block x.offset (size_of d x.what)
 one_or_apart : {N : Type 0} (d : Model) (x y : Cell N) (cs : List (Cell N)) → EachPair (AreApart d) cs → IsIn x cs → IsIn y cs → (x ≡ y) ⊎ (meets (place_of d x) (place_of d y) ≡ false)
 one_or_apart d x y cs p h k =
     elim (one_order (AreApart d) x y cs p h k) [
-      one e ↦ inl e
+      | one e ↦ inl e
       | left_first r ↦ inr r.apart
       | right_first r ↦ inr (meets_same d y x r)
     ]
@@ -230,7 +230,7 @@ met_none D t a (Some c) maybe e = e
 
 -- a number in a range of one number is that number
 lies_single : (v z : ℤ) → LiesIn (v, v) z → z ≡ v
-lies_single v z h = omega (arith, ints, h.0, h.1)
+lies_single v z h = omega (arith, ints, h.low, h.high)
 
 one_number : {N : Type 0} (D : Ops N) → Lawful D → (a : N) (v z : ℤ) → D.range a ≡ (v, v) → HoldsNumber D a z → z ≡ v
 one_number D law a v z e h = lies_single v z (subst (λ r. LiesIn r z) e (law.range_encloses a z h))
@@ -361,38 +361,38 @@ shared_says {N = N} D os d m cs l r q x y hx hy (both_numbers z e f a) = record 
   datum = Some (int z);
   allowed = subst (λ (w : Scalar). Allows D w (met_value D l.value r.value) (l.maybe || r.maybe) (Some (int z))) (sym q.integer) a;
   stands = shared_stands D os d m l r (Some (int z))
-    (bytes_weaker os.0 m.left (size_of d l.what) l.what l.maybe (l.maybe || r.maybe) l.block l.offset (Some (int z)) (λ g. or_left l.maybe r.maybe g)
+      (bytes_weaker os.0 m.left (size_of d l.what) l.what l.maybe (l.maybe || r.maybe) l.block l.offset (Some (int z)) (λ g. or_left l.maybe r.maybe g)
       (subst (HasBytes os.0 m.left (size_of d l.what) l.what l.maybe l.block l.offset) e (hx.left (ap on_left q.left))))
-    (bytes_weaker os.1 m.right (size_of d l.what) l.what r.maybe (l.maybe || r.maybe) l.block l.offset (Some (int z)) (λ g. or_right l.maybe r.maybe g)
+      (bytes_weaker os.1 m.right (size_of d l.what) l.what r.maybe (l.maybe || r.maybe) l.block l.offset (Some (int z)) (λ g. or_right l.maybe r.maybe g)
       (bytes_at os.1 d m.right l r (Some (int z)) q.block q.offset q.what (subst (HasBytes os.1 m.right (size_of d r.what) r.what r.maybe r.block r.offset) f (hy.right (ap on_right q.right)))));
 }
 shared_says D os d m cs l r q x y hx hy (left_number z e f g a) = record {
   datum = Some (int z);
   allowed = subst (λ (w : Scalar). Allows D w (met_value D l.value r.value) (l.maybe || r.maybe) (Some (int z))) (sym q.integer) a;
   stands = shared_stands D os d m l r (Some (int z))
-    (bytes_weaker os.0 m.left (size_of d l.what) l.what l.maybe (l.maybe || r.maybe) l.block l.offset (Some (int z)) (λ i. or_left l.maybe r.maybe i)
+      (bytes_weaker os.0 m.left (size_of d l.what) l.what l.maybe (l.maybe || r.maybe) l.block l.offset (Some (int z)) (λ i. or_left l.maybe r.maybe i)
       (subst (HasBytes os.0 m.left (size_of d l.what) l.what l.maybe l.block l.offset) e (hx.left (ap on_left q.left))))
-    (no_numbers os.1 m.right (size_of d l.what) l.what q.t (l.maybe || r.maybe) l.block l.offset z q.integer (or_right l.maybe r.maybe g)
+      (no_numbers os.1 m.right (size_of d l.what) l.what q.t (l.maybe || r.maybe) l.block l.offset z q.integer (or_right l.maybe r.maybe g)
       (bytes_weaker os.1 m.right (size_of d l.what) l.what r.maybe (l.maybe || r.maybe) l.block l.offset None (λ i. or_right l.maybe r.maybe i)
-        (bytes_at os.1 d m.right l r None q.block q.offset q.what (subst (HasBytes os.1 m.right (size_of d r.what) r.what r.maybe r.block r.offset) f (hy.right (ap on_right q.right))))));
+      (bytes_at os.1 d m.right l r None q.block q.offset q.what (subst (HasBytes os.1 m.right (size_of d r.what) r.what r.maybe r.block r.offset) f (hy.right (ap on_right q.right))))));
 }
 shared_says D os d m cs l r q x y hx hy (right_number z e f g a) = record {
   datum = Some (int z);
   allowed = subst (λ (w : Scalar). Allows D w (met_value D l.value r.value) (l.maybe || r.maybe) (Some (int z))) (sym q.integer) a;
   stands = shared_stands D os d m l r (Some (int z))
-    (no_numbers os.0 m.left (size_of d l.what) l.what q.t (l.maybe || r.maybe) l.block l.offset z q.integer (or_left l.maybe r.maybe g)
+      (no_numbers os.0 m.left (size_of d l.what) l.what q.t (l.maybe || r.maybe) l.block l.offset z q.integer (or_left l.maybe r.maybe g)
       (bytes_weaker os.0 m.left (size_of d l.what) l.what l.maybe (l.maybe || r.maybe) l.block l.offset None (λ i. or_left l.maybe r.maybe i)
-        (subst (HasBytes os.0 m.left (size_of d l.what) l.what l.maybe l.block l.offset) e (hx.left (ap on_left q.left)))))
-    (bytes_weaker os.1 m.right (size_of d l.what) l.what r.maybe (l.maybe || r.maybe) l.block l.offset (Some (int z)) (λ i. or_right l.maybe r.maybe i)
+      (subst (HasBytes os.0 m.left (size_of d l.what) l.what l.maybe l.block l.offset) e (hx.left (ap on_left q.left)))))
+      (bytes_weaker os.1 m.right (size_of d l.what) l.what r.maybe (l.maybe || r.maybe) l.block l.offset (Some (int z)) (λ i. or_right l.maybe r.maybe i)
       (bytes_at os.1 d m.right l r (Some (int z)) q.block q.offset q.what (subst (HasBytes os.1 m.right (size_of d r.what) r.what r.maybe r.block r.offset) f (hy.right (ap on_right q.right)))));
 }
 shared_says D os d m cs l r q x y hx hy (none e f a) = record {
   datum = None;
   allowed = subst (λ (w : Scalar). Allows D w (met_value D l.value r.value) (l.maybe || r.maybe) None) (sym q.integer) a;
   stands = shared_stands D os d m l r None
-    (bytes_weaker os.0 m.left (size_of d l.what) l.what l.maybe (l.maybe || r.maybe) l.block l.offset None (λ i. or_left l.maybe r.maybe i)
+      (bytes_weaker os.0 m.left (size_of d l.what) l.what l.maybe (l.maybe || r.maybe) l.block l.offset None (λ i. or_left l.maybe r.maybe i)
       (subst (HasBytes os.0 m.left (size_of d l.what) l.what l.maybe l.block l.offset) e (hx.left (ap on_left q.left))))
-    (bytes_weaker os.1 m.right (size_of d l.what) l.what r.maybe (l.maybe || r.maybe) l.block l.offset None (λ i. or_right l.maybe r.maybe i)
+      (bytes_weaker os.1 m.right (size_of d l.what) l.what r.maybe (l.maybe || r.maybe) l.block l.offset None (λ i. or_right l.maybe r.maybe i)
       (bytes_at os.1 d m.right l r None q.block q.offset q.what (subst (HasBytes os.1 m.right (size_of d r.what) r.what r.maybe r.block r.offset) f (hy.right (ap on_right q.right)))));
 }
 
@@ -472,7 +472,7 @@ there_by D d cs l r a e true p q t f h =
       cell = reshared_cell D l r;
       is_in = put_there (reshared_cell D l r) (rest_of l cs);
       named = subst (λ z. IsNamed z (reshared_cell D l r)) (sym g.is)
-        (record { side = refl; block = sym at.0 ∙ t.named.block; offset = sym at.1 ∙ t.named.offset; what = what_is cs l r t.cell q o ∙ t.named.what });
+          (record { side = refl; block = sym at.0 ∙ t.named.block; offset = sym at.1 ∙ t.named.offset; what = what_is cs l r t.cell q o ∙ t.named.what });
       sure = g.sure;
     }
 there_by D d cs l r a e false p q t f h =
@@ -547,9 +547,9 @@ pair_holds D law os d m cs l r a q h i =
     (record {
       says = by_origin D l r cs (Says D os d m) (shared_says D os d m cs l r q x.datum y.datum x.stands y.stands g) (λ z k e. i.cells z k);
       numbers = by_origin D l r cs (λ z. IfSome z.form (λ ss. HasNumber os m z z.what (number (numbers_of os m) ss)))
-        (shared_holds D os m l r q.left (i.forms l q.in_left) (common_form l.form r.form) refl) (λ z k e. i.forms z k);
+          (shared_holds D os m l r q.left (i.forms l q.in_left) (common_form l.form r.form) refl) (λ z k e. i.forms z k);
       keeps = λ c e t f. keeps_by D os d m cs l r c e (nat_eq c.block l.block && nat_eq c.offset l.offset) a.pairs q t
-        (λ s. let p = or_parts l.maybe r.maybe s in pair_by D os d m cs l r a q x y p.0 p.1 g) refl f;
+          (λ s. let p = or_parts l.maybe r.maybe s in pair_by D os d m cs l r a q x y p.0 p.1 g) refl f;
     })
 
 -- ---- all places
@@ -583,8 +583,15 @@ pair_is b q cs l r f g h =
     let p = and_parts (is_integer l.what) (is_same_scalar l.what r.what) h in
     let t = integer_is l.what p.0 in
     record {
-      in_left = f.is_in; in_right = g.is_in; left = f.side; right = g.side;
-      block = g.block ∙ sym f.block; offset = g.offset ∙ sym f.offset; what = scalar_same l.what r.what p.1; t = t.0; integer = t.1;
+      in_left = f.is_in;
+      in_right = g.is_in;
+      left = f.side;
+      right = g.side;
+      block = g.block ∙ sym f.block;
+      offset = g.offset ∙ sym f.offset;
+      what = scalar_same l.what r.what p.1;
+      t = t.0;
+      integer = t.1;
     }
 
 -- cells that are in order and apart stay so, and what they say goes on to hold

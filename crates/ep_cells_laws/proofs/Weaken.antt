@@ -1,14 +1,14 @@
 -- What weak writes leave of cells, and that it holds.
-use Rattle.std.proofs.Common.{◌≡◌, ℕ, zero, suc, ◌+◌, ◌-◌, ◌*◌, ◌^◌, ◌<◌, ◌≤◌, ℤ, Bool, true, false, ◌&&◌, ◌||◌, not, nat_eq, nat_le, nat_lt, cond, List, [], ◌∷◌, ◌++◌, map, ◌⊎◌, inl, inr, ⊎_elim, Option, Some, None, IfSome, refl, sym, ◌∙◌, ap, subst, arith}
-use Rattle.std.proofs.lemmas.Bool.{and_parts, and_from, and_left, and_right, and_cases, or_left, or_right, eqb-true, eq-eqb, lt-ltb, ltb-true, leb-true, false_from_ne_true, both_ways, cases_Bool, cases_lt}
+use Rattle.std.proofs.Common.{◌≡◌, ℕ, ◌+◌, ◌-◌, ◌^◌, ◌<◌, ℤ, Bool, true, false, ◌&&◌, ◌||◌, not, nat_eq, nat_le, nat_lt, cond, List, [], ◌∷◌, ◌⊎◌, inl, inr, ⊎_elim, Option, Some, None, IfSome, refl, sym, ◌∙◌, ap, subst, arith}
+use Rattle.std.proofs.lemmas.Bool.{and_parts, and_from, or_left, or_right, eqb-true, ltb-true, leb-true, both_ways, cases_Bool}
 use Rattle.ep_int.specs.declared.types.Order.{Order}
 use Rattle.ep_int.specs.declared.types.Model.{Model}
 use Rattle.ep_int.specs.declared.types.IntType.{IntType}
 use Rattle.ep_int.specs.declared.types.Scalar.{Scalar}
 use Rattle.ep_int.specs.declared.types.Scalar.TheVariants.{Int, Pointer}
-use Rattle.ep_int.specs.Types.{bytes_of, bits_of, size_of, pointer_bytes, InRange}
+use Rattle.ep_int.specs.Types.{bytes_of, size_of, InRange}
 use Rattle.ep_int.specs.Encoding.{place, encoded, decoded, sum_of_bytes}
-use Rattle.ep_int.specs.Memory.{Byte, undefined, number, fragment, Memory, Value as Datum, int, null, pointer, is_number, number_in, lies_partly, broken, bytes_of_value}
+use Rattle.ep_int.specs.Memory.{Byte, undefined, number, fragment, Memory, Value as Datum, int, null, pointer, is_number, number_in, lies_partly, bytes_of_value}
 use Rattle.ep_int.proofs.Wrapping.{represented_in_range}
 use Rattle.ep_int.proofs.Places.{width_of, place_below}
 use Rattle.ep_int.proofs.Encodings.{byte_below, bytes_pow, sum_of_bytes_below, encoded_decoded}
@@ -19,23 +19,21 @@ use Rattle.ep_bitslice.specs.declared.segment.Segment.{Segment}
 use Rattle.ep_bitslice.specs.Segments.{number as form_number}
 use Rattle.ep_domain.specs.Domain.{Ops, Lawful}
 use Rattle.ep_cells.specs.declared.cell.Cell.{Cell}
-use Rattle.ep_cells.specs.declared.cell.Value.{Value}
-use Rattle.ep_cells.specs.declared.cell.Value.TheVariants.{Num, Ptr}
-use Rattle.ep_cells.specs.Cells.{on_left, on_right, share_memory, Place, place_of, place_of_name, touches, meets, is_same_scalar, is_same_place, IsNamed, IsIn, first, later, each_becomes, parts_on, parts_of}
-use Rattle.ep_cells.specs.Forms.{Fate, reformed}
-use Rattle.ep_cells.specs.States.{Known, IsOfSort, HasRisingBlocks, Fits, IsThere, IsFormOf, HasForm, EachPair, AreApart, IsCell, AreCells, AreAlike}
-use Rattle.ep_cells.specs.Meaning.{Memories, Allows, HasBytes, HasNumbersOf, StandsAt, Says, numbers_of, HasNumber, FormSays, In}
+use Rattle.ep_cells.specs.declared.cell.Value.TheVariants.{Num}
+use Rattle.ep_cells.specs.declared.place.Place.{Place}
+use Rattle.ep_cells.specs.Cells.{on_left, on_right, share_memory, place_of, place_of_name, touches, is_same_scalar, is_same_place, IsNamed, IsIn, first, later, each_becomes, parts_on, parts_of}
+use Rattle.ep_cells.specs.States.{Known, IsOfSort, Fits, IsThere, IsFormOf, HasForm, EachPair, AreApart, IsCell, AreCells, AreAlike}
+use Rattle.ep_cells.specs.Meaning.{Memories, Allows, HasBytes, HasNumbersOf, Says, numbers_of, HasNumber, FormSays, In}
 use Rattle.ep_cells.specs.Weaken.{blurred, with_join, weak_cell, weak_part, left_by_weak_write, first_part, fate_by_weak_write, weakened}
 use Rattle.ep_cells.specs.Both.{value_of_both}
-use Rattle.ep_cells_laws.specs.Memories.{is_byte_of, IsBroken}
+use Rattle.ep_cells_laws.specs.Memories.{is_byte_of}
 use Rattle.ep_cells_laws.specs.Sound.{MayBeWritten, as_it_was, rewritten, MayBeWeaklyWritten, each_side, neither, both_sides}
-use Rattle.ep_cells_laws.proofs.Lists.{From, in_each, each_in, pairs_each}
+use Rattle.ep_cells_laws.proofs.Lists.{in_each, each_in, pairs_each}
 use Rattle.ep_cells_laws.proofs.Bytes.{SameBytes, bytes_same}
-use Rattle.ep_cells_laws.proofs.Kept.{KeepsByte, byte_same, KeepsBytes, bytes_kept}
-use Rattle.ep_cells_laws.proofs.Places.{at, Within, within_itself, within_shared, IsRest, IsMadeFrom, apart_made}
-use Rattle.ep_cells_laws.proofs.Changes.{IsKept, kept_says, IsChange, Holds, change_cells, change_holds}
-use Rattle.ep_cells_laws.proofs.Write.{both_have, keeps_kept, numbers_kept, Follows, place_named}
-use Rattle.ep_cells_laws.proofs.Both.{Unites, join_unites, scalar_same, sort_both, rising_both, undefined_both, allowed_left, allowed_right, bytes_weaker, stands_alike}
+use Rattle.ep_cells_laws.proofs.Places.{Within, within_itself, within_shared, IsRest, IsMadeFrom, apart_made}
+use Rattle.ep_cells_laws.proofs.Changes.{IsKept, kept_says, IsChange, change_cells, change_holds}
+use Rattle.ep_cells_laws.proofs.Write.{keeps_kept, numbers_kept, Follows, place_named}
+use Rattle.ep_cells_laws.proofs.Both.{join_unites, scalar_same, sort_both, rising_both, undefined_both, allowed_left, allowed_right, bytes_weaker}
 use Rattle.ep_cells_laws.proofs.Kill.{rest_of_unshared, IsPart, part_is, parts_apart}
 use Rattle.ep_cells_laws.proofs.Beside.{Sides, left_of, right_of, kept_beside, kept_other}
 
@@ -322,12 +320,12 @@ from_old D law os d m n c x s e p q w l r says =
     record {
       datum = says.datum;
       allowed = allowed_left D D.join (join_unites D law) x.what x.value c.value x.maybe c.maybe says.datum q.fits.sort
-        (subst (λ (z : Scalar). IsOfSort z c.value) a.what p.fits.sort) q.rising p.rising q.fits.undefined says.allowed;
+          (subst (λ (z : Scalar). IsOfSort z c.value) a.what p.fits.sort) q.rising p.rising q.fits.undefined says.allowed;
       stands = record {
         left = λ g. bytes_weaker os.0 n.left (size_of d x.what) x.what x.maybe (x.maybe || c.maybe) x.block x.offset says.datum (λ h. or_left x.maybe c.maybe h)
-          (bytes_same os.0 m.left n.left (size_of d x.what) x.what x.maybe x.block x.offset says.datum (l g) (says.stands.left (w.left g)));
+            (bytes_same os.0 m.left n.left (size_of d x.what) x.what x.maybe x.block x.offset says.datum (l g) (says.stands.left (w.left g)));
         right = λ g. bytes_weaker os.1 n.right (size_of d x.what) x.what x.maybe (x.maybe || c.maybe) x.block x.offset says.datum (λ h. or_left x.maybe c.maybe h)
-          (bytes_same os.1 m.right n.right (size_of d x.what) x.what x.maybe x.block x.offset says.datum (r g) (says.stands.right (w.right g)));
+            (bytes_same os.1 m.right n.right (size_of d x.what) x.what x.maybe x.block x.offset says.datum (r g) (says.stands.right (w.right g)));
       };
     }
 
@@ -348,8 +346,8 @@ from_new D law os d n c x s v e p q allowed l r =
     record {
       datum = v;
       allowed = allowed_right D D.join (join_unites D law) x.what x.value c.value x.maybe c.maybe v q.fits.sort
-        (subst (λ (z : Scalar). IsOfSort z c.value) a.what p.fits.sort) q.rising p.rising p.fits.undefined
-        (subst (λ (z : Scalar). Allows D z c.value c.maybe v) a.what allowed);
+          (subst (λ (z : Scalar). IsOfSort z c.value) a.what p.fits.sort) q.rising p.rising p.fits.undefined
+          (subst (λ (z : Scalar). Allows D z c.value c.maybe v) a.what allowed);
       stands = record {
         left = λ g. new_bytes os.0 d n.left c x v a (l g);
         right = λ g. new_bytes os.1 d n.right c x v a (r g);
@@ -603,7 +601,7 @@ weak_change : {N : Type 0} (D : Ops N) → Lawful D → (d : Model) (c : Cell N)
 weak_change D law d c stays cs a p s = record {
   each = by_origin D d c stays cs (IsCell d) s (λ x y k w. after_cell D law d c stays x y p w (a.each x k));
   pairs = pairs_each (AreApart d) (left_by_weak_write D d c stays) cs a.pairs (λ x k. own_touch D d c x stays (touches (place_of d c) (place_of d x)))
-    (λ x y u v r i j. apart_made d x y u v r (after_made D d c stays x u (after_weak D d c x u stays s i)) (after_made D d c stays y v (after_weak D d c y v stays s j)));
+      (λ x y u v r i j. apart_made d x y u v r (after_made D d c stays x u (after_weak D d c x u stays s i)) (after_made D d c stays y v (after_weak D d c y v stays s j)));
   forms = by_origin D d c stays cs (HasForm cs) s (λ x y k w. after_form D d cs c stays x y w (a.forms x k));
   fates = λ n e t h. there_after D d c stays cs n e s t h;
 }
@@ -620,6 +618,6 @@ weak_holds D law k m n c stays a p s i w =
     (record {
       says = by_origin D k.model c stays k.cells (Says D k.orders k.model n) s (λ x y j r. after_says D law k m n c x y stays p (a.each x j) w r (i.cells x j));
       numbers = by_origin D k.model c stays k.cells (λ y. IfSome y.form (λ ss. HasNumber k.orders n y y.what (form_number (numbers_of k.orders m) ss))) s
-        (λ x y j r. after_number D k.orders k.model m n k.cells c x y stays sides (a.each x j).fits r (i.cells x j) (a.forms x j) (i.forms x j));
+          (λ x y j r. after_number D k.orders k.model m n k.cells c x y stays sides (a.each x j).fits r (i.cells x j) (a.forms x j) (i.forms x j));
       keeps = λ x e t h. weak_keeps D k.orders k.model m n c stays k.cells x e a i.cells s sides t h;
     })

@@ -1,31 +1,30 @@
 -- Writes: what is left of cells, and that it holds.
-use Rattle.std.proofs.Common.{◌≡◌, ℕ, ◌+◌, ◌<◌, ◌≤◌, Bool, true, false, ◌&&◌, nat_eq, nat_le, nat_lt, cond, List, [], ◌∷◌, map, ◌⊎◌, inl, inr, ⊎_elim, Option, Some, None, IfSome, refl, sym, ◌∙◌, ap, subst, arith}
+use Rattle.std.proofs.Common.{◌≡◌, ℕ, ◌+◌, ◌<◌, Bool, true, false, ◌&&◌, nat_eq, nat_le, nat_lt, cond, List, [], ◌∷◌, ⊎_elim, Option, Some, None, IfSome, refl, sym, ◌∙◌, ap, subst, arith}
 use Rattle.std.specs.Option.{option_map}
-use Rattle.std.proofs.lemmas.Bool.{and_parts, and_from, and_left, and_right, and_cases, leb-true, ltb-true, lt-ltb, false_from_ne_true, both_ways, cases_Bool}
+use Rattle.std.proofs.lemmas.Bool.{and_parts, and_from, and_left, and_right, leb-true, ltb-true, lt-ltb, false_from_ne_true, both_ways}
 use Rattle.ep_int.specs.declared.types.Order.{Order}
 use Rattle.ep_int.specs.declared.types.Model.{Model}
 use Rattle.ep_int.specs.declared.types.IntType.{IntType}
 use Rattle.ep_int.specs.declared.types.Scalar.{Scalar}
 use Rattle.ep_int.specs.declared.types.Scalar.TheVariants.{Int}
 use Rattle.ep_int.specs.Types.{bytes_of, size_of}
-use Rattle.ep_int.specs.Memory.{Memory, Value as Datum}
+use Rattle.ep_int.specs.Memory.{Memory}
 use Rattle.ep_bitslice.specs.declared.cell.Side.{Side}
 use Rattle.ep_bitslice.specs.declared.cell.CellName.{CellName}
 use Rattle.ep_bitslice.specs.declared.segment.Segment.{Segment}
 use Rattle.ep_bitslice.specs.Segments.{number}
 use Rattle.ep_domain.specs.Domain.{Ops}
 use Rattle.ep_cells.specs.declared.cell.Cell.{Cell}
-use Rattle.ep_cells.specs.Cells.{on_left, on_right, share_memory, side_without, Place, place_of, place_of_name, touches, meets, IsNamed, IsIn, first, later, comes_before, put, each_becomes, with_side}
-use Rattle.ep_cells.specs.Forms.{Fate, reformed}
-use Rattle.ep_cells.specs.States.{Known, Fits, IsThere, IsFormOf, HasForm, EachPair, AreApart, IsCell, AreCells, CanWrite, HasRisingBlocks}
-use Rattle.ep_cells.specs.Meaning.{Memories, StandsAt, Says, numbers_of, name_of, HasNumber, FormSays, In}
+use Rattle.ep_cells.specs.declared.place.Place.{Place}
+use Rattle.ep_cells.specs.Cells.{on_left, on_right, share_memory, side_without, place_of, place_of_name, touches, meets, IsNamed, IsIn, first, later, put, each_becomes, with_side}
+use Rattle.ep_cells.specs.States.{Fits, IsThere, IsFormOf, HasForm, EachPair, AreApart, IsCell, AreCells, CanWrite, HasRisingBlocks}
+use Rattle.ep_cells.specs.Meaning.{Memories, Says, numbers_of, name_of, HasNumber, FormSays, In}
 use Rattle.ep_cells.specs.Write.{left_by_write, fate_by_write, written}
 use Rattle.ep_cells_laws.specs.Memories.{is_byte_of, IsRewritten, AreRewritten}
-use Rattle.ep_cells_laws.specs.Sound.{SaysNew}
-use Rattle.ep_cells_laws.proofs.Lists.{From, in_each, each_in, in_put, put_there, put_keeps, pairs_each, pairs_put}
+use Rattle.ep_cells_laws.proofs.Lists.{in_each, each_in, in_put, put_keeps, pairs_each, pairs_put}
 use Rattle.ep_cells_laws.proofs.Bytes.{SameBytes, bytes_same}
 use Rattle.ep_cells_laws.proofs.Places.{at, Within, within_itself, IsRest, rest_is, IsMadeFrom, apart_made, before_rest, put_before_cell, put_after_cell}
-use Rattle.ep_cells_laws.proofs.Changes.{IsKept, kept_made, kept_says, kept_cell, kept_form, kept_number, name_is, number_on_kept, IsChange, Holds, change_cells, change_holds}
+use Rattle.ep_cells_laws.proofs.Changes.{IsKept, kept_says, kept_number, name_is, number_on_kept, IsChange, change_cells, change_holds}
 
 -- ---- bytes that are as they were
 
@@ -42,7 +41,7 @@ both_have p s b q n j l h =
 pub same_beside : (p : Place) (written : Bool) (m n : Memory) (s : Side) (b q size : ℕ) → IsRewritten p written m n → touches p (at s b q size) ≡ false → SameBytes m n b q size
 same_beside p written m n s b q size r t = record {
   same = λ j l. r.elsewhere b (q + j) (and_right written (is_byte_of p b (q + j))
-    (false_from_ne_true (is_byte_of p b (q + j)) (λ h. both_ways (touches p (at s b q size)) t (both_have p s b q size j l h))));
+      (false_from_ne_true (is_byte_of p b (q + j)) (λ h. both_ways (touches p (at s b q size)) t (both_have p s b q size j l h))));
 }
 
 pub same_unwritten : (p : Place) (written : Bool) (m n : Memory) (b q size : ℕ) → IsRewritten p written m n → written ≡ false → SameBytes m n b q size
@@ -60,9 +59,9 @@ kept_beside D os d m n p x r t = record {
   within = within_itself x.side;
   stands = λ v a h. record {
     left = λ e. bytes_same os.0 m.left n.left (size_of d x.what) x.what x.maybe x.block x.offset v
-      (same_beside p (on_left p.side) m.left n.left x.side x.block x.offset (size_of d x.what) r.left t) (h.left e);
+        (same_beside p (on_left p.side) m.left n.left x.side x.block x.offset (size_of d x.what) r.left t) (h.left e);
     right = λ e. bytes_same os.1 m.right n.right (size_of d x.what) x.what x.maybe x.block x.offset v
-      (same_beside p (on_right p.side) m.right n.right x.side x.block x.offset (size_of d x.what) r.right t) (h.right e);
+        (same_beside p (on_right p.side) m.right n.right x.side x.block x.offset (size_of d x.what) r.right t) (h.right e);
   };
 }
 
@@ -74,9 +73,9 @@ kept_rest D os d m n p x s r i = record {
   within = i.within;
   stands = λ v a h. record {
     left = λ e. bytes_same os.0 m.left n.left (size_of d x.what) x.what x.maybe x.block x.offset v
-      (same_unwritten p (on_left p.side) m.left n.left x.block x.offset (size_of d x.what) r.left (i.left e)) (h.left (i.within.left e));
+        (same_unwritten p (on_left p.side) m.left n.left x.block x.offset (size_of d x.what) r.left (i.left e)) (h.left (i.within.left e));
     right = λ e. bytes_same os.1 m.right n.right (size_of d x.what) x.what x.maybe x.block x.offset v
-      (same_unwritten p (on_right p.side) m.right n.right x.block x.offset (size_of d x.what) r.right (i.right e)) (h.right (i.within.right e));
+        (same_unwritten p (on_right p.side) m.right n.right x.block x.offset (size_of d x.what) r.right (i.right e)) (h.right (i.within.right e));
   };
 }
 
@@ -272,6 +271,6 @@ write_holds D os d m n c cs a can r i w new form =
     (record {
       says = by_origin d c cs (Says D os d n) new (λ x y k l. kept_says D os d m n x y (l.kept D os m n w) (i.cells x k));
       numbers = by_origin d c cs (λ y. IfSome y.form (λ ss. HasNumber os n y y.what (number (numbers_of os m) ss))) form
-        (λ x y k l. numbers_kept D os d m n cs x y l.side l.is (l.kept D os m n w) (a.each x k).fits (i.cells x k) (a.forms x k) (i.forms x k));
+          (λ x y k l. numbers_kept D os d m n cs x y l.side l.is (l.kept D os m n w) (a.each x k).fits (i.cells x k) (a.forms x k) (i.forms x k));
       keeps = λ b e t h. write_keeps D os d m n c cs b e a i.cells w t h;
     })

@@ -3,7 +3,8 @@ use Rattle.std.specs.Prelude.{◌≡◌, ℕ, ◌+◌, Bool, true, false, ◌&&�
 use Rattle.ep_int.specs.declared.types.Model.{Model}
 use Rattle.ep_int.specs.Memory.{Memory, broken, killed}
 use Rattle.ep_bitslice.specs.declared.cell.Side.{Side}
-use Rattle.ep_cells.specs.Cells.{Place, on_left, on_right}
+use Rattle.ep_cells.specs.declared.place.Place.{Place}
+use Rattle.ep_cells.specs.Cells.{on_left, on_right}
 use Rattle.ep_cells.specs.Meaning.{Memories}
 
 -- whether a byte is one of a place's

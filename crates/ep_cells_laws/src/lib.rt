@@ -1,7 +1,7 @@
 //! That each operation on cells is sound, and keeps cells in order and apart.
 #![tactic(auto)]
 
-ghost use Rattle.ep_cells_laws.specs.Laws.{WriteLaws, JoinLaws, InclusionLaws};
+ghost use Rattle.ep_cells_laws.specs.Laws.{WriteLaws, WeakWriteLaws, JoinLaws, InclusionLaws, KillLaws, ReshareLaws};
 
 use ep_domain::Num;
 
@@ -18,4 +18,19 @@ pub fn join_laws<N: Num>()
 /// Does nothing: its contract is that inclusion is inclusion, over every domain.
 pub fn inclusion_laws<N: Num>()
     ensures { InclusionLaws N.ops }
+{}
+
+/// Does nothing: its contract is the laws of weak writes, over every domain.
+pub fn weak_write_laws<N: Num>()
+    ensures { WeakWriteLaws N.ops }
+{}
+
+/// Does nothing: its contract is the laws of killed blocks, over every domain.
+pub fn kill_laws<N: Num>()
+    ensures { KillLaws N.ops }
+{}
+
+/// Does nothing: its contract is the laws of resharing, over every domain.
+pub fn reshare_laws<N: Num>()
+    ensures { ReshareLaws N.ops }
 {}
