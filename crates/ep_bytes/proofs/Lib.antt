@@ -1,8 +1,9 @@
 pub mod Sums
 pub mod Written
-pub mod Spans
+pub mod Spanned
 pub mod Breaks
 pub mod Readings
 pub mod Stores
 pub mod Laid
 pub mod Places
+pub mod Pages

@@ -1,9 +1,9 @@
 -- Bytes written one by one.
-use Rattle.std.proofs.Common.{◌≡◌, ℕ, ◌+◌, ◌<◌, ◌≤◌, ◌≢◌, ◌⊎◌, ⊎_elim, inl, inr, List, length, slice_set, refl, sym, ◌∙◌, ap, subst, arith, below_more, length-set, get_or-set_same, get_or-set_other}
+use Rattle.std.proofs.Common.{◌≡◌, ℕ, ◌+◌, ◌<◌, ◌≤◌, ◌≢◌, ⊎_elim, inl, inr, List, length, slice_set, refl, sym, ◌∙◌, ap, subst, arith, below_more, length-set, get_or-set_same, get_or-set_other}
 use Rattle.ep_bytes.specs.declared.types.Byte.{Byte}
 use Rattle.ep_bytes.specs.declared.types.Byte.TheVariants.{Undefined}
 use Rattle.std.proofs.lemmas.Bool.{cases_lt}
-use Rattle.ep_bytes.specs.Cells.{cell_at, without, IsWritten}
+use Rattle.ep_bytes.specs.Cells.{cell_at, without, IsForgotten, IsWritten}
 
 pub written_none : (cells : List Byte) (at : ℕ) (f : ℕ → Byte) → IsWritten cells cells at 0 f
 written_none cells at f = record {
@@ -28,12 +28,6 @@ written_more old new at k f x w h e =
           get_or-set_other new (at + k) i x Undefined apart
           ∙ w.outside i (⊎_elim (λ b. inl b) (λ b. inr (omega arith)) o));
     }
-
--- among the places from one on and before another no cell points to the block, and all others are as they were
-pub record IsForgotten (block from to : ℕ) (old new : List Byte) : Type 0 where
-  pub same_length : length new ≡ length old
-  pub inside : (i : ℕ) → from ≤ i → i < to → cell_at new i ≡ without block (cell_at old i)
-  pub outside : (i : ℕ) → (i < from) ⊎ (to ≤ i) → cell_at new i ≡ cell_at old i
 
 pub forgotten_none : (block from : ℕ) (cells : List Byte) → IsForgotten block from from cells cells
 forgotten_none block from cells = record {

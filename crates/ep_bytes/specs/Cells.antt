@@ -1,5 +1,6 @@
 -- A list of bytes, and what a change of some of them leaves.
-use Rattle.std.specs.Prelude.{◌≡◌, ℕ, ◌+◌, ◌-◌, ◌<◌, ◌≤◌, ◌⊎◌, Bool, true, false, nat_eq, nat_lt, if◌then◌else◌, List, length, slice_index, slice_index_or}
+use Rattle.std.specs.Prelude.{◌≡◌, ℕ, ◌+◌, ◌-◌, ◌/◌, ◌%◌, ◌<◌, ◌≤◌, ◌⊎◌, Bool, true, false, nat_eq, nat_lt, if◌then◌else◌, List, length, slice_index, slice_index_or}
+use Rattle.std.specs.Int.{bit_at}
 use Rattle.ep_int.specs.declared.types.Model.{Model}
 use Rattle.ep_int.specs.Memory.{lies_partly}
 use Rattle.ep_bytes.specs.declared.types.Byte.{Byte}
@@ -7,7 +8,7 @@ use Rattle.ep_bytes.specs.declared.types.Byte.TheVariants.{Undefined, Number, Fr
 use Rattle.ep_bytes.specs.declared.cells.Content.{Content}
 use Rattle.ep_bytes.specs.declared.cells.Content.TheVariants as content
 use Rattle.ep_bytes.specs.declared.cells.Place.{Place}
-use Rattle.ep_bytes.specs.declared.cells.Span.{Span}
+use Rattle.ep_bytes.specs.declared.spans.Span.{Span}
 use Rattle.ep_bytes.specs.Shown.{byte_in}
 
 abbrev pub cell_at : List Byte → ℕ → Byte
@@ -69,13 +70,20 @@ pub record IsReplaced (d : Model) (old new : List Byte) (s : Place) (size : ℕ)
       → cell_at new (s.start + p) ≡ unbroken d s.here s.count (cell_at old (s.start + p)) p
   pub outside : (i : ℕ) → (i < s.start) ⊎ (s.start + size ≤ i) → cell_at new i ≡ cell_at old i
 
+-- among the places from one on and before another no cell points to the block, and all others are as they were
+pub record IsForgotten (block from to : ℕ) (old new : List Byte) : Type 0 where
+  pub same_length : length new ≡ length old
+  pub inside : (i : ℕ) → from ≤ i → i < to → cell_at new i ≡ without block (cell_at old i)
+  pub outside : (i : ℕ) → (i < from) ⊎ (to ≤ i) → cell_at new i ≡ cell_at old i
+
 -- ---- where pointers may be
 
+-- A place lies on a page of 1024, and pages are marked by their number modulo 64.
 abbrev pub IsIn : Span → ℕ → Type 0
-IsIn s i = (s.from ≤ i) × (i < s.to)
+IsIn s i = (s.from ≤ i) × (i < s.to) × (bit_at s.pages (i / 1024 % 64) ≡ 1)
 
 abbrev pub nowhere : Span
-nowhere = record { from = 0; to = 0 }
+nowhere = record { from = 0; to = 0; pages = 0 }
 
 abbrev pub span_of : List Span → ℕ → Span
 span_of spans b = slice_index_or spans b nowhere

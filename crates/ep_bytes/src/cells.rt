@@ -1,22 +1,16 @@
 //! A flat buffer of bytes, which knows where pointers to a block may be.
 
-ghost use Rattle.std.specs.Prelude.{◌≡◌, ℕ, ◌+◌, ◌-◌, ◌<◌, ◌≤◌, ◌⊎◌, ◌^◌, [], ◌∷◌, ◌++◌, length, take, drop, slice_set, OnOk, IfOk, true, ◌&&◌, nat_lt};
+ghost use Rattle.std.specs.Prelude.{◌≡◌, ℕ, ◌+◌, ◌-◌, ◌<◌, ◌≤◌, ◌⊎◌, ◌^◌, [], ◌∷◌, ◌++◌, length, take, drop, slice_set, OnOk, IfOk, ◌&&◌, nat_lt};
 ghost use Rattle.ep_int.specs.Memory.{lies_partly};
 ghost use Rattle.ep_bytes.specs.declared.types.Byte.TheVariants.{Undefined};
 ghost use Rattle.ep_bytes.specs.Shown.{byte_in};
-ghost use Rattle.ep_bytes.specs.Cells.{cell_at, part_of, points_to, without, unbroken, content_at, taken_from, cut_by, IsWritten, IsBroken, IsReplaced, IsIn, span_of};
+ghost use Rattle.ep_bytes.specs.Cells.{cell_at, part_of, without, unbroken, content_at, taken_from, cut_by, IsWritten, IsBroken, IsReplaced};
 
+use crate::spans::{Span, cover, forget_in, forget_run};
 use crate::types::Byte;
 use ep_int::{Model as DataModel, pointer_bytes};
 use std::alloc::{AllocError, Global};
 use std::marker::Model;
-
-/// The places from one on and before another.
-#[derive(Clone, Copy, Debug, Drop)]
-pub(crate) struct Span {
-    pub(crate) from: usize,
-    pub(crate) to: usize,
-}
 
 /// The bytes of all blocks.
 #[derive(Debug, Drop)]
@@ -147,6 +141,7 @@ impl Cells {
         Ok(())
     }
 
+    /// How many bytes there are. Its clauses are what sums of places and parts of pointers rest on.
     pub(crate) fn len(&self) -> usize
         ensures value { result ≡ length self.now }
         ensures small { length self.now < 2 ^ 63 }
@@ -231,8 +226,8 @@ impl Cells {
         }
     }
 
-    // Makes undefined each pointer that lies partly in the place, beside it. A pointer has at most 8 bytes, and a block
-    // of `size` bytes no others.
+    // Makes undefined each pointer that lies partly in the place, beside it. A pointer has at most 8 bytes, so no other
+    // byte of the block is a part of one.
     fn break_beside(&mut self, model: DataModel, place: &Place, size: usize)
         requires fits { place.now.here + place.now.count ≤ size }
         requires inside { place.now.start + size ≤ length self.old }
@@ -293,76 +288,8 @@ impl Cells {
             forget_in(&mut self.bytes, self.spans[b], block);
             self.spans[b] = Span::NOWHERE;
         } else {
-            let all = Span {
-                from: 0,
-                to: self.bytes.len(),
-            };
-            forget_in(&mut self.bytes, all, block);
+            let end = self.bytes.len();
+            forget_run(&mut self.bytes, 0, end, block);
         }
-    }
-}
-
-impl Span {
-    const NOWHERE: Span = Span { from: 0, to: 0 };
-
-    /// A span that has one place more.
-    fn with(self, at: usize) -> Span
-        requires { at < 2 ^ 63 }
-        ensures own { IsIn result at }
-        ensures others { (i : ℕ) → IsIn self i → IsIn result i }
-    {
-        if self.from < self.to {
-            Span {
-                from: self.from.min(at),
-                to: self.to.max(at + 1),
-            }
-        } else {
-            Span {
-                from: at,
-                to: at + 1,
-            }
-        }
-    }
-}
-
-// Notes that a byte comes to a place.
-fn cover(spans: &mut Vec<Span>, at: usize, byte: Byte)
-    requires { at < 2 ^ 63 }
-    ensures len { length spans.new.items ≡ length spans.old.items }
-    ensures own { (b : ℕ) → b < length spans.old.items → points_to b byte ≡ true → IsIn (span_of spans.new.items b) at }
-    ensures others { (b i : ℕ) → IsIn (span_of spans.old.items b) i → IsIn (span_of spans.new.items b) i }
-{
-    match byte {
-        Byte::Undefined | Byte::Number(_) => {}
-        Byte::Fragment(block, _, _) => {
-            let b = block as usize;
-            if b < spans.len() {
-                let wider = spans[b].with(at);
-                spans[b] = wider;
-            }
-        }
-    }
-}
-
-// Makes undefined, among the places of the span, every part of a pointer to the block.
-fn forget_in(bytes: &mut Vec<Byte>, span: Span, block: u32)
-    ensures len { length bytes.new.items ≡ length bytes.old.items }
-    ensures inside { (i : ℕ) → IsIn span i → cell_at bytes.new.items i ≡ without block (cell_at bytes.old.items i) }
-    ensures outside { (i : ℕ) → ¬ (IsIn span i) → cell_at bytes.new.items i ≡ cell_at bytes.old.items i }
-{
-    let to = span.to.min(bytes.len());
-    let from = span.from.min(to);
-    for i in from..to {
-        let left = without_pointer(bytes[i], block);
-        bytes[i] = left;
-    }
-}
-
-fn without_pointer(byte: Byte, block: u32) -> Byte
-    ensures { result ≡ without block byte }
-{
-    match byte {
-        Byte::Undefined | Byte::Number(_) => byte,
-        Byte::Fragment(b, _, _) => { if b == block { Byte::Undefined } else { byte } }
     }
 }

@@ -4,6 +4,7 @@
 mod cells;
 mod numbers;
 mod reads;
+mod spans;
 mod store;
 mod types;
 

@@ -1,5 +1,5 @@
 use Rattle.std.proofs.Common.{◌<◌, length, subst, sym}
-use Rattle.ep_bytes.proofs.Spans.{spanned_set}
+use Rattle.ep_bytes.proofs.Spanned.{spanned_set}
 use Rattle.ep_bytes.proofs.cells.Cells.put.Goals as goal
 
 pub invariant_of-self : goal.invariant_of-self

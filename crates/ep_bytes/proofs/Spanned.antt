@@ -3,7 +3,7 @@ use Rattle.std.proofs.Common.{◌≡◌, ℕ, ◌<◌, ◌≢◌, ◌⊎◌, ⊎
 use Rattle.std.proofs.lemmas.Bool.{cases_lt}
 use Rattle.ep_bytes.specs.declared.types.Byte.{Byte}
 use Rattle.ep_bytes.specs.declared.types.Byte.TheVariants.{Undefined}
-use Rattle.ep_bytes.specs.declared.cells.Span.{Span}
+use Rattle.ep_bytes.specs.declared.spans.Span.{Span}
 use Rattle.ep_bytes.specs.Cells.{cell_at, part_of, points_to, span_of, IsIn, AreSpanned}
 
 same_or_not : (i j : ℕ) → (i ≡ j) ⊎ (i ≢ j)
