@@ -6,7 +6,7 @@ use Rattle.ep_core.specs.Program.{Expr, Dest, What, simple, call, if_else, loop,
 use Rattle.ep_core.specs.Exec.{Way, on, broken, continued, returned, is_order, callee_of, frame_of}
 use Rattle.ep_core.specs.Runs.{Side, left, right}
 use Rattle.ep_pass.specs.States.{Mode, Both, One, Gives, Verdict, stuck, same, differs, StateOps}
-use Rattle.ep_pass.specs.Pass.{Ways, none, Log, Pass, ends, so_far, branch, too_long, jumps, way_of, simple_pass, go_on, join_ways, then_pass, rowed, either_pass, leave_call, scope_pass, call_pass, next_pass, body_ends, decided, tested, parted, apart, arm_of, unrolled, in_body, one_turn, cut_turn, one_rounds, entered, lone, joint_turn, is_stable, next_head, dropped, settled, from_head, last_turns, joint_rounds, loop_pass, pass, pass_all, body_pass, bodies_pass, turns_of}
+use Rattle.ep_pass.specs.Pass.{Ways, none, Log, Pass, ends, so_far, branch, too_long, jumps, way_of, simple_pass, go_on, join_ways, then_pass, rowed, leave_call, scope_pass, call_pass, next_pass, body_ends, decided, tested, parted, apart, arm_of, unrolled, in_body, one_turn, cut_turn, one_rounds, entered, lone, joint_turn, is_stable, next_head, dropped, settled, from_head, last_turns, joint_rounds, loop_pass, pass, pass_all, body_pass, bodies_pass, turns_of}
 use Rattle.ep_pass.specs.Turns.{number_of, alone_most, alone_most_all, most, most_all, alone_most_body, most_body, alone_most_before, most_before, most_turns}
 
 abbrev pub Within : {S : Type 0} → ℕ → Pass S → Type 0
@@ -25,9 +25,6 @@ module _ {S : Type 0} (o : StateOps S) where
   then_within : (k j n : ℕ) (p : Pass S) (w : Ways S) (go : S → Ways S → Pass S) → n ≡ k + j → Within k p
       → ((s : S) (w : Ways S) → Within j (go s w)) → Within n (then_pass o p w go)
   then_within k j n p w go e h i = go_on_within k j n p.on (join_ways o w p.ways) p.log go e h i
-
-  two_within : (k j n : ℕ) (p q : Pass S) → n ≡ k + j → Within k p → Within j q → Within n (either_pass o p q)
-  two_within k j n p q e h i = omega (arith, e, h, i)
 
   tested_alone_within : (a : Pass S) → Within 0 a → (m : Side) (e : Expr) (l k j n : ℕ) (p q r t : S → Pass S) (s : S)
       → n ≡ k + j → ((s : S) → Within k (p s)) → ((s : S) → Within j (t s))

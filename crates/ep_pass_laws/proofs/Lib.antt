@@ -1,5 +1,6 @@
 pub mod Outcomes
 pub mod Sure
+pub mod Cuts
 pub mod Reaching
 pub mod Turns
 pub mod Lone

@@ -11,7 +11,8 @@ use Rattle.ep_pass.specs.States.{Mode, One, StateOps}
 use Rattle.ep_pass.specs.Pass.{Pass, comes_after, entered, lone}
 use Rattle.ep_pass_laws.proofs.Outcomes.{rounds, IsTurn, rounds_turn, then_turn, rounds_grow}
 use Rattle.ep_pass_laws.proofs.Sure.{IsTest, Seen, Beside, Sure}
-use Rattle.ep_pass_laws.proofs.Reaching.{front_empty, back_empty, IsQuiet, beside_none, no_differ, Alone, alone, Sound1}
+use Rattle.ep_pass_laws.proofs.Cuts.{front_empty, back_empty}
+use Rattle.ep_pass_laws.proofs.Reaching.{IsQuiet, beside_none, no_differ, Alone, alone, Sound1}
 use Rattle.ep_pass_laws.proofs.Turns.{entered_alone, entered_none}
 
 -- With more turns a loop that was stopped goes on, and another does the same.

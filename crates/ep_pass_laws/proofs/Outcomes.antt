@@ -7,7 +7,7 @@ use Rattle.ep_core.specs.Program.{Expr, Dest, Function, Program}
 use Rattle.ep_core.specs.Exec.{State, on, broken, continued, returned, Outcome, leaves, running, no_input, undefined_at, Going, given, unless, uncounted, and_then, remembers, listed, code_of_test, is_true, either, turned, turn, looped, first_turn, scope_left, Values, have, stops, given_all, first_of, frame_of, without, model, size_at, values, bound, received, called, call_of}
 use Rattle.ep_core.specs.Ways.{end_alone}
 use Rattle.ep_core.specs.Laws.{IsAmong}
-use Rattle.ep_core.proofs.Grows.{later_refl, Grows, Growing, grows_from, leaves_grows, given_grows, given_all_grows, and_then_grows, either_grows, scope_grows, bound_grows}
+use Rattle.ep_core.proofs.Grows.{later_refl, Grows, Growing, leaves_grows, given_grows, and_then_grows, either_grows, scope_grows}
 use Rattle.ep_pass.specs.Laws.{passes}
 
 -- ---- loops
@@ -269,14 +269,6 @@ then_same (no_input s) f g h = refl
 then_same (undefined_at l k s) f g h = refl
 
 module _ (o : Order) (p : Program) where
-  pub passes_grow : (f : Function) (es : List Expr) (l : ℕ) → Growing (passes o p f es l)
-  passes_grow f es l n s =
-      let r : State = without (first_of (option_to_list f.result)) s in
-      grows_from s r n _ (later_refl s)
-      (given_all_grows (values o p es r.memory) l n r _
-      (λ vs. grows_from r (without (frame_of f) r) n _ (later_refl r)
-      (bound_grows o p f.params vs l n (without (frame_of f) r) (leaves on n) (λ q. leaves_grows on n q))))
-
   bound_then : (ps : List (ℕ × Scalar)) (vs : List Value) (l n : ℕ) (s : State) (go : Going)
       → bound o p ps vs l s (go n) ≡ and_then (bound o p ps vs l s (leaves on n)) go
   bound_then [] vs l n s go = refl

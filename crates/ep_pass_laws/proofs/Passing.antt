@@ -10,7 +10,7 @@ use Rattle.ep_core.proofs.Prefixes.{begins_refl, begins_trans}
 use Rattle.ep_core.proofs.Grows.{state_in, grown, Growing, and_then_grows, looped_grows, all_grow, received_grows}
 use Rattle.ep_core.proofs.Around.{around_is, first_is}
 use Rattle.ep_core.proofs.Reached.{Enough, Reached, Reaching, exec_reached, all_reached, body_reaching, bodies_reaching}
-use Rattle.ep_pass_laws.proofs.Reaching.{then_begins, scope_ends, arms_end}
+use Rattle.ep_pass_laws.proofs.Cuts.{then_begins, scope_ends, arms_end}
 use Rattle.ep_pass_laws.proofs.Stopping.{Stops, received_stops, does_stops}
 
 -- with so many steps or more, f puts out what s did

@@ -1,29 +1,16 @@
 -- Passes beside outcomes of both machines, and of one while the other stands still.
-use Rattle.std.proofs.Common.{◌≡◌, ℕ, List, [], ◌∷◌, ◌++◌, refl, sym, subst, Option, Some, None, Bool, true, false}
+use Rattle.std.proofs.Common.{◌≡◌, ℕ, List, [], ◌∷◌, ◌++◌, refl, subst, Option, Some, None, Bool, true, false}
 use Rattle.ep_int.specs.declared.types.Order.{Order}
-use Rattle.ep_int.specs.Memory.{Value, Found, has}
 use Rattle.ep_core.specs.Program.{Expr, Program}
-use Rattle.ep_core.specs.Exec.{State, Way, on, broken, continued, returned, Outcome, leaves, running, no_input, undefined_at, Going, is_true, given, and_then, listed, either, scope_left, without, arm_left, code_of_way, value}
-use Rattle.ep_core.specs.Runs.{Side, left, right, Begins}
-use Rattle.ep_core.proofs.Prefixes.{begins_refl, begins_trans}
-use Rattle.ep_core.proofs.Grows.{state_in, Growing, grown}
+use Rattle.ep_core.specs.Exec.{State, Way, on, broken, continued, returned, Outcome, leaves, no_input, Going, is_true, given, and_then, listed, either, scope_left, without, arm_left, code_of_way, value}
+use Rattle.ep_core.specs.Runs.{Side, left, right}
+use Rattle.ep_core.proofs.Grows.{Growing}
 use Rattle.ep_pass.specs.States.{Mode, Both, One, Fault, Verdict, stuck, same, differs, StateOps}
 use Rattle.ep_pass.specs.Pass.{Ways, none, Log, logged, Pass, passed, after, so_far, branch, alarms_at, differ, only_on, only_broken, only_continued, only_returned, leave_loop, join_on, join_ways, go_on, then_pass, either_pass, leave_call, body_ends, next_pass, rowed, leave_on, scope_pass, agreed, two_ways, decided, tested, parted, apart}
 use Rattle.ep_pass.specs.Laws.{Fits, GoesOn}
 use Rattle.ep_pass_laws.proofs.Outcomes.{loop_left, body_end, called_end, IsTurn, IsPlain, IsCall}
+use Rattle.ep_pass_laws.proofs.Cuts.{front_empty, back_empty, Cut, cut_then, cut_ends, loop_ends, bodies_end, scope_ends, calls_end, arms_end, with_truth}
 use Rattle.ep_pass_laws.proofs.Sure.{IsTest, told, Reaches, Seen, Beside, Sure}
-
-pub front_empty : {X : Type 0} (xs ys : List X) → xs ++ ys ≡ [] → xs ≡ []
-front_empty [] ys e = refl
-front_empty (x ∷ xs) ys e = cc
-
-pub back_empty : {X : Type 0} (xs ys : List X) → xs ++ ys ≡ [] → ys ≡ []
-back_empty [] ys e = e
-back_empty (x ∷ xs) ys e = cc
-
-abbrev pub other : Side → Side
-other left = right
-other right = left
 
 -- the state in which a pass is left so
 abbrev pub way : {S : Type 0} → Way → Ways S → Option S
@@ -44,108 +31,6 @@ no_alarms l (f ∷ fs) e = absurd cc
 
 abbrev pub IsQuiet : {S : Type 0} → Pass S → Type 0
 IsQuiet p = p.log.faults ≡ []
-
--- The machine that may be stopped in a turn that the other need not make; what it put out begins what the other puts
--- out.
-pub data Cut : Side → Outcome → Outcome → Type 0 where
-  left_cut : {x : State} {d : Outcome} → Begins x.outputs (state_in d).outputs → Cut left (running x) d
-  right_cut : {c : Outcome} {y : State} → Begins y.outputs (state_in c).outputs → Cut right c (running y)
-
--- what a machine puts out by the end of something
-pub then_begins : (x : Outcome) (f : Going) → Growing f → Begins (state_in x).outputs (state_in (and_then x f)).outputs
-then_begins (leaves on n s) f g = (grown s n (f n s) (g n s)).0
-then_begins (leaves broken n s) f g = begins_refl _
-then_begins (leaves continued n s) f g = begins_refl _
-then_begins (leaves returned n s) f g = begins_refl _
-then_begins (running s) f g = begins_refl _
-then_begins (no_input s) f g = begins_refl _
-then_begins (undefined_at l k s) f g = begins_refl _
-
-pub cut_then : (slow : Side) (c d : Outcome) (f g : Going) → Growing f → Growing g → Cut slow c d
-    → Cut slow (and_then c f) (and_then d g)
-cut_then left p q f g h k (left_cut {x} {d} e) = left_cut (begins_trans _ _ _ e (then_begins d g k))
-cut_then right p q f g h k (right_cut {c} {y} e) = right_cut (begins_trans _ _ _ e (then_begins c f h))
-
--- what changes the way out alone, or the memory and the tests
-pub record Ends (to : Outcome → Outcome) : Type 0 where
-  pub puts : (x : Outcome) → Begins (state_in x).outputs (state_in (to x)).outputs
-  pub runs : (s : State) → (r : State) × ((to (running s) ≡ running r) × (r.outputs ≡ s.outputs))
-
-cut_left : (from to : Outcome → Outcome) → Ends from → Ends to → (x : State) (d : Outcome)
-    → Begins x.outputs (state_in d).outputs → Cut left (from (running x)) (to d)
-cut_left from to h k x d e =
-    let r = h.runs x in
-    subst (λ c. Cut left c (to d)) (sym r.1.0)
-    (left_cut (subst (λ os. Begins os (state_in (to d)).outputs) (sym r.1.1) (begins_trans _ _ _ e (k.puts d))))
-
-cut_right : (from to : Outcome → Outcome) → Ends from → Ends to → (c : Outcome) (y : State)
-    → Begins y.outputs (state_in c).outputs → Cut right (from c) (to (running y))
-cut_right from to h k c y e =
-    let r = k.runs y in
-    subst (λ d. Cut right (from c) d) (sym r.1.0)
-    (right_cut (subst (λ os. Begins os (state_in (from c)).outputs) (sym r.1.1) (begins_trans _ _ _ e (h.puts c))))
-
-pub cut_ends : (slow : Side) (from to : Outcome → Outcome) → Ends from → Ends to → (c d : Outcome) → Cut slow c d
-    → Cut slow (from c) (to d)
-cut_ends left from to h k p q (left_cut {x} {d} e) = cut_left from to h k x d e
-cut_ends right from to h k p q (right_cut {c} {y} e) = cut_right from to h k c y e
-
-pub loop_ends : Ends loop_left
-loop_ends = record { puts = puts; runs = λ s. (s, (refl, refl)) }
-  where
-    puts : (x : Outcome) → Begins (state_in x).outputs (state_in (loop_left x)).outputs
-    puts (leaves on n s) = begins_refl _
-    puts (leaves broken n s) = begins_refl _
-    puts (leaves continued n s) = begins_refl _
-    puts (leaves returned n s) = begins_refl _
-    puts (running s) = begins_refl _
-    puts (no_input s) = begins_refl _
-    puts (undefined_at l k s) = begins_refl _
-
-pub bodies_end : Ends body_end
-bodies_end = record { puts = puts; runs = λ s. (s, (refl, refl)) }
-  where
-    puts : (x : Outcome) → Begins (state_in x).outputs (state_in (body_end x)).outputs
-    puts (leaves on n s) = begins_refl _
-    puts (leaves broken n s) = begins_refl _
-    puts (leaves continued n s) = begins_refl _
-    puts (leaves returned n s) = begins_refl _
-    puts (running s) = begins_refl _
-    puts (no_input s) = begins_refl _
-    puts (undefined_at l k s) = begins_refl _
-
-pub scope_ends : (bs : List ℕ) → Ends (scope_left bs)
-scope_ends bs = record { puts = puts; runs = λ s. (s, (refl, refl)) }
-  where
-    puts : (x : Outcome) → Begins (state_in x).outputs (state_in (scope_left bs x)).outputs
-    puts (leaves w n s) = begins_refl _
-    puts (running s) = begins_refl _
-    puts (no_input s) = begins_refl _
-    puts (undefined_at l k s) = begins_refl _
-
-pub calls_end : Ends called_end
-calls_end = record { puts = puts; runs = λ s. (s, (refl, refl)) }
-  where
-    puts : (x : Outcome) → Begins (state_in x).outputs (state_in (called_end x)).outputs
-    puts (leaves w n s) = begins_refl _
-    puts (running s) = begins_refl _
-    puts (no_input s) = begins_refl _
-    puts (undefined_at l k s) = begins_refl _
-
-pub arms_end : (joint : List ℕ) → Ends (arm_left joint)
-arms_end joint = record { puts = puts; runs = λ s. (told s.tests joint s, (refl, refl)) }
-  where
-    puts : (x : Outcome) → Begins (state_in x).outputs (state_in (arm_left joint x)).outputs
-    puts (leaves w n s) = begins_refl _
-    puts (running s) = begins_refl _
-    puts (no_input s) = begins_refl _
-    puts (undefined_at l k s) = begins_refl _
-
--- a test that has a value of this truth
-pub with_truth : (T : Outcome → Type 0) (u : Found) (w : Value) (t : Bool) (l : ℕ) (x : State) (f : Bool → Outcome)
-    → u ≡ has w → is_true w ≡ t → T (f t) → T (given u l x (λ v. f (is_true v)))
-with_truth T u w t l x f e d h =
-    subst (λ u. T (given u l x (λ v. f (is_true v)))) (sym e) (subst (λ b. T (f b)) (sym d) h)
 
 module _ {S : Type 0} (In : S → State → State → Type 0) where
   -- where the first is reached, so is the second, which stands for as much
@@ -222,11 +107,6 @@ module _ {S : Type 0} (In : S → State → State → Type 0) where
       below p q c d h (both_leave k {x} {y} i) = both_leave k (h k x y i)
       below p q c d h (both_starved e) = both_starved e
       below p q c d h (one_cut t) = one_cut t
-
-      pub branch_together : (u : Option S) (go : S → Pass S) (f g : Going) (x y : State) → Sound2 go f g
-          → IsQuiet (branch u go) → Reaches In u x y → Together (branch u go) (f (b left) x) (g (b right) y)
-      branch_together None go f g x y h e i = absurd i
-      branch_together (Some s) go f g x y h e i = h s x y i e
 
 module _ (prog : Program) (ord : Side → Order) {S : Type 0} (o : StateOps S) (In : S → State → State → Type 0)
     (law : Sure prog ord o In) where

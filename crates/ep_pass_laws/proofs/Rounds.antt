@@ -9,7 +9,8 @@ use Rattle.ep_pass.specs.States.{Mode, Both, One, StateOps}
 use Rattle.ep_pass.specs.Pass.{Ways, none, logged, Pass, so_far, jumps, alarms_at, from_head, join_ways, then_pass, decided, last_pass, turn_then, in_body, lone, joint_turn, is_stable, next_head, dropped, settled, last_turns, joint_rounds, loop_pass}
 use Rattle.ep_pass_laws.proofs.Outcomes.{rounds, first_rounds, loop_left, IsTurn, rounds_turn, first_turns, rounds_grow}
 use Rattle.ep_pass_laws.proofs.Sure.{IsTest, Reaches, Sure}
-use Rattle.ep_pass_laws.proofs.Reaching.{front_empty, back_empty, no_alarms, IsQuiet, Cut, left_cut, right_cut, Less, WaysLess, PassLess, Sound1, Together, both_leave, one_cut, Sound2, tested_keeps, go_on_keeps, go_on_front, then_front, after_together, goes_on, go_on_together, then_together, leave_loop_together, test_cases, decided_into}
+use Rattle.ep_pass_laws.proofs.Cuts.{front_empty, back_empty, Cut, left_cut, right_cut}
+use Rattle.ep_pass_laws.proofs.Reaching.{no_alarms, IsQuiet, Less, WaysLess, PassLess, Sound1, Together, both_leave, one_cut, Sound2, tested_keeps, go_on_keeps, go_on_front, then_front, after_together, goes_on, go_on_together, then_together, leave_loop_together, test_cases, decided_into}
 use Rattle.ep_pass_laws.proofs.Turns.{unrolled_none, unrolled_keeps, go_on_none}
 use Rattle.ep_pass_laws.proofs.Lone.{Outs, outs, stops, lone_outs}
 

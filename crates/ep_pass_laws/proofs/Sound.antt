@@ -19,7 +19,8 @@ use Rattle.ep_pass_laws.specs.Agreement.{AgreeInTheEnd}
 use Rattle.ep_pass_laws.proofs.Outcomes.{IsCall}
 use Rattle.ep_pass_laws.proofs.Text.{call_part}
 use Rattle.ep_pass_laws.proofs.Sure.{Reaches, Sure}
-use Rattle.ep_pass_laws.proofs.Reaching.{front_empty, back_empty, no_alarms, Cut, left_cut, right_cut, Together, both_leave, both_starved, one_cut, less_left, less_right}
+use Rattle.ep_pass_laws.proofs.Cuts.{front_empty, back_empty, Cut, left_cut, right_cut}
+use Rattle.ep_pass_laws.proofs.Reaching.{no_alarms, Together, both_leave, both_starved, one_cut, less_left, less_right}
 use Rattle.ep_pass_laws.proofs.Rounds.{Ahead}
 use Rattle.ep_pass_laws.proofs.Statements.{main_together}
 use Rattle.ep_pass_laws.proofs.Keeping.{sure, start_in}
