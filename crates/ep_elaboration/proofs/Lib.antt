@@ -16,3 +16,4 @@ mod GivenRows
 mod ScopeRows
 mod ArmRows
 mod LoopRows
+mod RunRows

@@ -1,12 +1,16 @@
 -- The definitions opened for the rows, which compute.
-use Rattle.std.proofs.Common.{ℕ, List, map}
+use Rattle.std.proofs.Common.{ℕ, ℤ, List, map, Option, Some, None}
 use Rattle.std.specs.Prelude.{Bool, false, Result, Ok, Err}
 use Rattle.std.specs.List.{list_all}
+use Rattle.ep_int.specs.declared.types.IntType.{IntType}
 use Rattle.ep_int.specs.declared.types.Model.{Model}
+use Rattle.ep_int.specs.declared.types.Order.{Order}
 use Rattle.ep_ast.specs.declared.refusals.Refusal.{Refusal}
 use Rattle.ep_ast.specs.Statement.{Item}
 use Rattle.ep_core.specs.Program as core
 use Rattle.ep_core.specs.WellFormed.{is_well_formed}
+use Rattle.ep_core.specs.Exec.{Output}
+use Rattle.ep_core.specs.Runs.{Ending, Run, run}
 use Rattle.ep_layout.specs.Table.{at_depth}
 use Rattle.ep_typing.specs.Types.{type_within, with_pointers, pointer_number}
 use Rattle.ep_typing.specs.Names.{words_type, named_type, mentioned_name, mentioned, mentioned_all}
@@ -70,3 +74,18 @@ is_sound m is = well_formed (program m is)
 unfoldable pub all_sound : Model → List (List Item) → Bool
 unfolding is_sound
 all_sound m ps = list_all (is_sound m) ps
+
+abbrev pub puts : IntType → ℤ → Output
+puts t v = record { t = t; value = v }
+
+abbrev pub seen : Run → Ending × List Output
+seen r = (r.ending, r.outputs)
+
+abbrev pub run_of : (core.Program → Run) → Result core.Program Refusal → Option (Ending × List Output)
+run_of go (Ok p) = Some (seen (go p))
+run_of go (Err r) = None
+
+-- how a run of what a program means ends, and what it puts out
+unfoldable pub ran : Model → Order → (inputs : List ℕ) → (steps : ℕ) → List Item → Option (Ending × List Output)
+unfolding program at_depth
+ran m o inputs steps is = run_of (λ p. run p o inputs steps) (program m is)

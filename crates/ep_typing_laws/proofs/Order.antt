@@ -17,7 +17,7 @@ use Rattle.ep_typing_laws.proofs.Firsts.{Clean, both, in_front, past, none_first
 abbrev done : {A : Type 0} → A → Result A Refusal
 done x = Ok x
 
-ok_is : {A : Type 0} (x y : A) → done x ≡ done y → x ≡ y
+pub ok_is : {A : Type 0} (x y : A) → done x ≡ done y → x ≡ y
 ok_is x y e = cc
 
 pub bind_ok : {A B : Type 0} (r : Result A Refusal) (f : A → Result B Refusal) (y : B)
@@ -56,7 +56,7 @@ meant G e z (is_element {a = a} {b = b} x u y p hx q h) = rw (meant G a x p, hx,
 meant G e z (is_member {a = a} x p h) = rw (meant G a x p, h) refl
 meant G e z (is_member_behind {a = a} x p h) = rw (meant G a x p, h) refl
 
-meant_all : (G : Env) (l : ℕ) (es : Exprs) (vs : List Value) → HaveValues G es vs → typed_all G l es ≡ Ok vs
+pub meant_all : (G : Env) (l : ℕ) (es : Exprs) (vs : List Value) → HaveValues G es vs → typed_all G l es ≡ Ok vs
 unfolding typed
 meant_all G l es vs no_values = refl
 meant_all G l es vs (more_values {e = e} {es = more} {vs = ws} x p hx q) =
@@ -151,7 +151,7 @@ means G (post_decrement l a) z e = let p = bind_ok (typed G a) _ z e in absurd (
 means G (id l t) z e = is_name (at_ok l (named G t) z e)
 means G (number l n) z e = subst (Means G (number l n)) (ok_is _ _ e) is_number
 
-means_all : (G : Env) (l : ℕ) (es : Exprs) (vs : List Value) → typed_all G l es ≡ Ok vs → HaveValues G es vs
+pub means_all : (G : Env) (l : ℕ) (es : Exprs) (vs : List Value) → typed_all G l es ≡ Ok vs → HaveValues G es vs
 unfolding typed
 means_all G l no_exprs vs e = subst (HaveValues G no_exprs) (ok_is [] vs e) no_values
 means_all G l (more_exprs e0 es) vs e =
@@ -400,7 +400,7 @@ mutual
   refused G (id l t) r e = breaks_here G l (node (id l t)) (named G t) r e (λ k h. bad_name h)
   refused G (number l n) r e = absurd cc
 
-  refused_all : (G : Env) (l : ℕ) (es : Exprs) (r : Refusal) → typed_all G l es ≡ Err r
+  pub refused_all : (G : Env) (l : ℕ) (es : Exprs) (r : Refusal) → typed_all G l es ≡ Err r
       → First (Breaks G) (order_all l es) r
   refused_all G l no_exprs r e = absurd cc
   refused_all G l (more_exprs e0 es) r e =
@@ -425,3 +425,14 @@ first_at G e (Err s) r h f =
 
 pub first : (G : Env) (e : Expr) (r : Refusal) → First (Breaks G) (order e) r → typed G e ≡ Err r
 first G e r f = first_at G e (typed G e) r refl f
+
+first_all_at : (G : Env) (l : ℕ) (es : Exprs) (t : Result (List Value) Refusal) (r : Refusal) → typed_all G l es ≡ t
+    → First (Breaks G) (order_all l es) r → t ≡ Err r
+first_all_at G l es (Ok vs) r h f = absurd (none_first (Breaks G) (order_all l es) r (clean_all G l es vs h) f)
+first_all_at G l es (Err s) r h f =
+    ap (λ (d : Refusal). Err d)
+    (only_first (Breaks G) (one_refusal G) (order_all l es) s r (refused_all G l es s h) f)
+
+pub first_all : (G : Env) (l : ℕ) (es : Exprs) (r : Refusal) → First (Breaks G) (order_all l es) r
+    → typed_all G l es ≡ Err r
+first_all G l es r f = first_all_at G l es (typed_all G l es) r refl f

@@ -1,0 +1,10 @@
+use Rattle.ep_elaboration_laws.proofs.GivenOrder.{means_declaration, meant_declaration, refused_declaration, offended_declaration}
+use Rattle.ep_elaboration_laws.proofs.declarations.Goals as goal
+
+pub returns : goal.returns
+returns c0 = λ G global c d. record {
+  means = means_declaration G global c d;
+  meant = λ x h. meant_declaration h;
+  refused = refused_declaration G global c d;
+  first = λ r h. offended_declaration h;
+}

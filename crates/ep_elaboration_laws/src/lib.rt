@@ -1,0 +1,29 @@
+//! What the definition of meaning and refusal comes to for declarations, statements and programs, apart from any order
+//! of work.
+#![tactic(auto)]
+
+ghost use Rattle.ep_elaboration_laws.specs.Laws.{WholeStatements, Declarations, Statements, Programs, OneMeaning, OneOfBoth, NeverBoth};
+
+/// What an expression means as a whole statement is what the rules say, and it is refused for the first offence.
+pub fn whole_statements()
+    ensures { WholeStatements }
+{}
+
+/// The same of declarations of variables.
+pub fn declarations()
+    ensures { Declarations }
+{}
+
+/// The same of statements.
+pub fn statements()
+    ensures { Statements }
+{}
+
+/// The same of whole programs. A program means one core program at most, and either it means one or it offends, never
+/// both.
+pub fn programs()
+    ensures rules { Programs }
+    ensures one { OneMeaning }
+    ensures either { OneOfBoth }
+    ensures never_both { NeverBoth }
+{}
