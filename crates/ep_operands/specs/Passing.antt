@@ -1,0 +1,15 @@
+-- Arguments one after another.
+use Rattle.std.specs.Prelude.{ℕ, min, List, ◌++◌, Option, Some, None, Result, Ok, Err}
+use Rattle.ep_core.specs.Program.{Expr}
+
+-- the lower one of two kinds, of which the first may be missing
+abbrev pub lower : Option ℕ → ℕ → ℕ
+lower None k = k
+lower (Some j) k = min j k
+
+-- what the rest comes to behind arguments that were passed, of which the lowest kind may be wrong
+abbrev pub after : Option ℕ → List Expr → Result (List Expr) ℕ → Result (List Expr) ℕ
+after None done (Ok es) = Ok (done ++ es)
+after None done (Err k) = Err k
+after (Some j) done (Ok es) = Err j
+after (Some j) done (Err k) = Err (min j k)
