@@ -21,17 +21,43 @@ use Rattle.ep_cells.specs.Kill.{killed_cells}
 
 -- a short of block 0 and its name
 abbrev short : {N : Type 0} → Side → N → Option (List Segment) → Cell N
-short s a f = record { side = s; block = 0; offset = 0; what = Int U16; value = Some (Num a); maybe = false; form = f }
+short s a f = record {
+  side = s;
+  block = 0;
+  offset = 0;
+  what = Int U16;
+  value = Some (Num a);
+  maybe = false;
+  form = f;
+}
 
 abbrev name : Side → CellName
 name s = record { side = s; block = 0; offset = 0; t = U16 }
 
 -- a short of block 1 that has a form
 abbrev user : {N : Type 0} → N → Option (List Segment) → Cell N
-user a f = record { side = Shared; block = 1; offset = 0; what = Int U16; value = Some (Num a); maybe = false; form = f }
+user a f = record {
+  side = Shared;
+  block = 1;
+  offset = 0;
+  what = Int U16;
+  value = Some (Num a);
+  maybe = false;
+  form =
+      f;
+}
 
 abbrev half : {N : Type 0} → Side → (offset : ℕ) → N → Cell N
-half s q a = record { side = s; block = 0; offset = q; what = Int U8; value = Some (Num a); maybe = false; form = None }
+half s q a = record {
+  side = s;
+  block = 0;
+  offset = q;
+  what = Int U8;
+  value = Some (Num a);
+  maybe = false;
+  form =
+      None;
+}
 
 -- ---- writes
 
@@ -49,7 +75,8 @@ both_write a b c = refl
 
 -- the new cell's own form that mentions what it overwrites follows it or goes
 own_form : {N : Type 0} (a c : N)
-    → written Ilp32 (short Left c (Some (Bits (name Shared) 8 16 ∷ Bits (name Shared) 0 8 ∷ []))) (short Shared a None ∷ [])
+    → written Ilp32 (short Left c (Some (Bits (name Shared) 8 16 ∷ Bits (name Shared) 0 8 ∷ []))) (short Shared a
+    None ∷ [])
     ≡ (short Left c (Some (Bits (name Right) 8 16 ∷ Bits (name Right) 0 8 ∷ [])) ∷ short Right a None ∷ [])
 own_form a c = refl
 
@@ -67,7 +94,8 @@ over_bytes a b c = refl
 -- ---- weak writes
 
 weak_stays : {N : Type 0} (D : Ops N) (a b c : N)
-    → weakened D Ilp32 (short Shared c None) true (short Shared a None ∷ user b (Some (Bits (name Shared) 0 16 ∷ [])) ∷ [])
+    → weakened D Ilp32 (short Shared c None) true (short Shared a None ∷ user b (Some (Bits (name Shared) 0 16 ∷ []))
+    ∷ [])
     ≡ (short Shared (D.join a c) None ∷ user b None ∷ [])
 weak_stays D a b c = refl
 
@@ -78,20 +106,30 @@ weak_parts D a c = refl
 
 -- on the right alone: the Left part keeps what it had, and mentions are of it
 weak_right : {N : Type 0} (D : Ops N) (a b c : N)
-    → weakened D Ilp32 (short Right c None) false (short Shared a None ∷ user b (Some (Bits (name Shared) 0 16 ∷ [])) ∷ [])
+    → weakened D Ilp32 (short Right c None) false (short Shared a None ∷ user b (Some (Bits (name Shared) 0 16 ∷ []))
+    ∷ [])
     ≡ (short Left a None ∷ short Right (D.join a c) None ∷ user b (Some (Bits (name Left) 0 16 ∷ [])) ∷ [])
 weak_right D a b c = refl
 
 -- a cell that isn't the one written
 weak_byte : {N : Type 0} (D : Ops N) (a c : N)
     → weakened D Ilp32 (half Left 1 c) false (short Left a None ∷ [])
-    ≡ (record { side = Left; block = 0; offset = 0; what = Int U16; value = Some (Num (D.top U16)); maybe = true; form = None } ∷ [])
+    ≡ (record {
+      side = Left;
+      block = 0;
+      offset = 0;
+      what = Int U16;
+      value = Some (Num (D.top U16));
+      maybe = true;
+      form = None;
+    } ∷ [])
 weak_byte D a c = refl
 
 -- ---- joins
 
 join_forms : {N : Type 0} (D : Ops N) (a b c e : N)
-    → joined D (short Left a None ∷ user c (Some (Bits (name Left) 0 16 ∷ [])) ∷ []) (short Left b None ∷ user e (Some (Bits (name Left) 0 16 ∷ [])) ∷ [])
+    → joined D (short Left a None ∷ user c (Some (Bits (name Left) 0 16 ∷ [])) ∷ []) (short Left b None ∷ user e
+    (Some (Bits (name Left) 0 16 ∷ [])) ∷ [])
     ≡ (short Left (D.join a b) None ∷ user (D.join c e) (Some (Bits (name Left) 0 16 ∷ [])) ∷ [])
 join_forms D a b c e = refl
 
@@ -111,7 +149,8 @@ lost_cell s v b = record { side = s; block = b; offset = 0; what = Pointer; valu
 -- on the left: what was Shared is of the right, and a pointer into the block is parted
 kill_left : {N : Type 0} (a b : N)
     → killed_cells Ilp32 Left 0 (record { offset = 0; what = Int U16 } ∷ []) 3
-    (short Shared a None ∷ user a (Some (Bits (name Shared) 0 16 ∷ [])) ∷ pointer_cell Shared (Some (Ptr (pointers true ((0, b) ∷ [])))) 2 ∷ [])
+    (short Shared a None ∷ user a (Some (Bits (name Shared) 0 16 ∷ [])) ∷ pointer_cell Shared (Some (Ptr (pointers
+    true ((0, b) ∷ [])))) 2 ∷ [])
     ≡ (record { side = Left; block = 0; offset = 0; what = Int U16; value = None; maybe = true; form = None }
     ∷ short Right a None
     ∷ record { side = Left; block = 0; offset = 2; what = Int U8; value = None; maybe = true; form = None }
@@ -122,22 +161,27 @@ kill_left a b = refl
 
 -- on both sides: a pointer that is left without anything has no value
 kill_both : {N : Type 0} (a b : N)
-    → killed_cells Ilp32 Shared 0 [] 1 (half Left 0 a ∷ half Right 0 a ∷ pointer_cell Shared (Some (Ptr (pointers false ((0, b) ∷ [])))) 2 ∷ [])
-    ≡ (record { side = Shared; block = 0; offset = 0; what = Int U8; value = None; maybe = true; form = None } ∷ lost_cell Shared None 2 ∷ [])
+    → killed_cells Ilp32 Shared 0 [] 1 (half Left 0 a ∷ half Right 0 a ∷ pointer_cell Shared (Some (Ptr (pointers
+    false ((0, b) ∷ [])))) 2 ∷ [])
+    ≡ (record { side = Shared; block = 0; offset = 0; what = Int U8; value = None; maybe = true; form = None } ∷
+    lost_cell Shared None 2 ∷ [])
 kill_both a b = refl
 
 -- ---- looks
 
-look_right : {N : Type 0} (a b : N) → cell_at Ilp32 Right 0 1 (half Left 1 a ∷ half Right 1 b ∷ []) ≡ Some (half Right 1 b)
+look_right : {N : Type 0} (a b : N)
+    → cell_at Ilp32 Right 0 1 (half Left 1 a ∷ half Right 1 b ∷ []) ≡ Some (half Right 1 b)
 look_right a b = refl
 
 look_past : {N : Type 0} (a : N) → cell_at Ilp32 Right 0 2 (half Left 1 a ∷ short Shared a None ∷ []) ≡ None
 look_past a = refl
 
 partly_byte : {N : Type 0} (a : N)
-    → is_some_partly_in Ilp32 (record { side = Left; block = 0; offset = 1; bytes = 1 }) (short Shared a None ∷ []) ≡ true
+    → is_some_partly_in Ilp32 (record { side = Left; block = 0; offset = 1; bytes = 1 }) (short Shared a None ∷ []) ≡
+    true
 partly_byte a = refl
 
 not_partly : {N : Type 0} (a : N)
-    → is_some_partly_in Ilp32 (record { side = Left; block = 0; offset = 0; bytes = 4 }) (short Shared a None ∷ []) ≡ false
+    → is_some_partly_in Ilp32 (record { side = Left; block = 0; offset = 0; bytes = 4 }) (short Shared a None ∷ []) ≡
+    false
 not_partly a = refl

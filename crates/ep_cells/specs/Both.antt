@@ -18,7 +18,8 @@ abbrev pub value_of_both : {N : Type 0} → (N → N → N) → Option (Value N)
 value_of_both f None v = v
 value_of_both f (Some u) None = Some u
 value_of_both f (Some (Num a)) (Some (Num b)) = Some (Num (f a b))
-value_of_both f (Some (Ptr p)) (Some (Ptr q)) = Some (Ptr (pointers (p.null || q.null) (together f p.targets q.targets)))
+value_of_both f (Some (Ptr p)) (Some (Ptr q)) = Some (Ptr (pointers (p.null || q.null) (together f p.targets
+    q.targets)))
 value_of_both f (Some (Num a)) (Some (Ptr q)) = Some (Num a)
 value_of_both f (Some (Ptr p)) (Some (Num b)) = Some (Ptr p)
 

@@ -1,4 +1,5 @@
--- A block is killed on a side, or on both: it is as it is when its scope is entered, and pointers into it are undefined.
+-- A block is killed on a side, or on both: it is as it is when its scope is entered, and pointers into it are
+-- undefined.
 use Rattle.std.specs.Prelude.{ℕ, zero, suc, ◌+◌, ◌≤◌, Bool, true, false, ◌&&◌, ◌||◌, nat_eq, nat_lt, nat_le, if◌then◌else◌, List, [], ◌∷◌, ◌++◌, map, Option, Some, None}
 use Rattle.std.specs.Option.{option_map}
 use Rattle.std.specs.List.{list_any}
@@ -91,6 +92,7 @@ abbrev pub fate_by_kill : Side → (block : ℕ) → Fate
 fate_by_kill s b n =
     if nat_eq n.block b then option_map (λ r. record n { side = r }) (side_without s n.side) else Some n
 
-abbrev pub killed_cells : {N : Type 0} → Model → Side → (block : ℕ) → List Leaf → (size : ℕ) → List (Cell N) → List (Cell N)
+abbrev pub killed_cells : {N : Type 0} → Model → Side → (block : ℕ) → List Leaf → (size : ℕ) → List (Cell N)
+    → List (Cell N)
 killed_cells d s b leaves size cs =
     map (reformed (fate_by_kill s b)) (put_all (entry_cells d s b leaves size) (each_becomes (left_by_kill s b) cs))

@@ -1,4 +1,5 @@
--- What cells and forms say of two memories (this project's rules, after Miné 2006 and Delmas, Ouadjaout and Miné 2021).
+-- What cells and forms say of two memories (this project's rules, after Miné 2006 and Delmas, Ouadjaout and Miné
+-- 2021).
 -- The orders are those of the left and of the right memory, d is the data model, D the domain.
 use Rattle.std.specs.Prelude.{◌≡◌, ℕ, ◌+◌, ◌%◌, ◌^◌, ◌<◌, ℤ, Bool, true, false, ◌⊎◌, List, Option, Some, None, IfSome}
 use Rattle.ep_int.specs.declared.types.Order.{Order}
@@ -52,14 +53,16 @@ HasNumbersOf o m w b q n v = (p : ℕ) → p < n
     → (m b (q + p) ≡ bytes_of_value o w v p) ⊎ (is_number (m b (q + p)) ≡ false)
 
 -- the bytes of a cell's place in one memory, where this value stands there, or nothing
-abbrev pub HasBytes : Order → Memory → (bytes : ℕ) → Scalar → (maybe : Bool) → (block offset : ℕ) → Option Datum → Type 0
+abbrev pub HasBytes : Order → Memory → (bytes : ℕ) → Scalar → (maybe : Bool) → (block offset : ℕ) → Option Datum
+    → Type 0
 HasBytes o m n w maybe b q None = IsUndefined m b q n
 HasBytes o m n w false b q (Some v) = Has o m w b q n v
 HasBytes o m n (Int t) true b q (Some v) = HasNumbersOf o m (Int t) b q n v
 HasBytes o m n Pointer true b q (Some v) = Has o m Pointer b q n v ⊎ IsUndefined m b q n
 
 -- the bytes of the memories that the cell speaks of are those of one and the same value, each in its own order
-pub record StandsAt {N : Type 0} (os : Order × Order) (d : Model) (m : Memories) (c : Cell N) (v : Option Datum) : Type 0 where
+pub record StandsAt {N : Type 0} (os : Order × Order) (d : Model) (m : Memories) (c : Cell N) (v : Option Datum) :
+    Type 0 where
   pub left : on_left c.side ≡ true → HasBytes os.0 m.left (size_of d c.what) c.what c.maybe c.block c.offset v
   pub right : on_right c.side ≡ true → HasBytes os.1 m.right (size_of d c.what) c.what c.maybe c.block c.offset v
 

@@ -13,7 +13,8 @@ use Rattle.ep_cells.specs.Cells.{place_of, place_of_name, touches, share_memory,
 use Rattle.ep_cells.specs.Forms.{Fate, reformed}
 use Rattle.ep_cells.specs.Both.{value_of_both}
 
--- An integer cell that is met and isn't the cell itself may have any value, or be undefined. A pointer cell is gone, for
+-- An integer cell that is met and isn't the cell itself may have any value, or be undefined. A pointer cell is gone,
+-- for
 -- pointers have no top.
 abbrev pub blurred : {N : Type 0} → Ops N → Cell N → Scalar → List (Cell N)
 blurred D x (Int t) = record x { value = Some (Num (D.top t)); maybe = true; form = None } ∷ []

@@ -15,7 +15,8 @@ left_by_write d p x = if touches p (place_of d x) then with_side x (side_without
 -- mentions follow the cell, or go with it
 abbrev pub fate_by_write : Place → Fate
 fate_by_write p n =
-    if touches p (place_of_name n) then option_map (λ s. record n { side = s }) (side_without p.side n.side) else Some n
+    if touches p (place_of_name n) then option_map (λ s. record n { side = s }) (side_without p.side n.side) else
+    Some n
 
 abbrev pub written : {N : Type 0} → Model → Cell N → List (Cell N) → List (Cell N)
 written d c cs =

@@ -35,10 +35,12 @@ bytes_same o m n size Pointer true b q (Some v) e h =
 
 -- ---- numbers
 
-pub number_stands : (o : Order) (m : Memory) (t : IntType) (b q : ℕ) (z : ℤ) → InRange t z → Has o m (Int t) b q (bytes_of t) (int z)
+pub number_stands : (o : Order) (m : Memory) (t : IntType) (b q : ℕ) (z : ℤ) → InRange t z
+    → Has o m (Int t) b q (bytes_of t) (int z)
     → decoded o t (λ p. number_in (m b (q + p))) ≡ z
 number_stands o m t b q z r h =
-    decoded_same o t (λ p. number_in (m b (q + p))) (encoded o t z) (λ p l. ap number_in (h p l)) ∙ decoded_encoded o t z r
+    decoded_same o t (λ p. number_in (m b (q + p))) (encoded o t z) (λ p l. ap number_in (h p l)) ∙ decoded_encoded o
+    t z r
 
 -- a sure integer cell has a number of its type
 pub record IsNumber (t : IntType) (v : Option Datum) : Type 0 where
@@ -46,7 +48,8 @@ pub record IsNumber (t : IntType) (v : Option Datum) : Type 0 where
   pub is : v ≡ Some (int number)
   pub in_range : InRange t number
 
-pub sure_number : {N : Type 0} (D : Ops N) (t : IntType) (u : Option (Value N)) (v : Option Datum) → IsOfSort (Int t) u
+pub sure_number : {N : Type 0} (D : Ops N) (t : IntType) (u : Option (Value N)) (v : Option Datum)
+    → IsOfSort (Int t) u
     → (u ≡ None → false ≡ true) → Allows D (Int t) u false v → IsNumber t v
 sure_number D t None v s h a = absurd (let e : false ≡ true = h refl in cc)
 sure_number D t (Some (Ptr p)) v s h a = absurd s
@@ -65,7 +68,8 @@ stands_on os m Right t b q z r l h = number_stands os.1 m.right t b q z r (h ref
 stands_on os m Shared t b q z r l h = number_stands os.0 m.left t b q z r (l refl)
 
 pub number_of_cell : {N : Type 0} (os : Order × Order) (d : Model) (m : Memories) (c : Cell N) (t : IntType) (z : ℤ)
-    → c.what ≡ Int t → c.maybe ≡ false → InRange t z → StandsAt os d m c (Some (int z)) → numbers_of os m (name_of c t) ≡ z
+    → c.what ≡ Int t → c.maybe ≡ false → InRange t z → StandsAt os d m c (Some (int z)) → numbers_of os m (name_of c
+    t) ≡ z
 number_of_cell os d m c t z w s r h =
     stands_on os m c.side t c.block c.offset z r
     (λ e. by os.0 m.left (h.left e)) (λ e. by os.1 m.right (h.right e))

@@ -30,21 +30,36 @@ use Rattle.ep_cells_laws.proofs.Places.{Within, IsMadeFrom}
 -- ---- cells that are kept
 
 -- y is x on some of its sides, and what stood at x in the one pair of memories stands at y in the other
-pub record IsKept {N : Type 0} (D : Ops N) (os : Order × Order) (d : Model) (m n : Memories) (x y : Cell N) : Type 0 where
-  pub side : Side
-  pub is : y ≡ record x { side = side }
-  pub within : Within side x.side
-  pub stands : (v : Option Datum) → Allows D x.what x.value x.maybe v → StandsAt os d m x v → StandsAt os d n (record x { side = side }) v
+pub record IsKept {N : Type 0} (D : Ops N) (os : Order × Order) (d : Model) (m n : Memories) (x y : Cell N) : Type 0
+  where
+    pub side : Side
+    pub is : y ≡ record x { side = side }
+    pub within : Within side x.side
+    pub stands : (v : Option Datum) → Allows D x.what x.value x.maybe v → StandsAt os d m x v
+        → StandsAt os d n (record x { side = side }) v
 
-pub kept_made : {N : Type 0} (D : Ops N) (os : Order × Order) (d : Model) (m n : Memories) (x y : Cell N) → IsKept D os d m n x y → IsMadeFrom x y
-kept_made D os d m n x y k = record { side = k.side; value = x.value; maybe = x.maybe; form = x.form; is = k.is; within = k.within }
+pub kept_made : {N : Type 0} (D : Ops N) (os : Order × Order) (d : Model) (m n : Memories) (x y : Cell N)
+    → IsKept D os d m n x y → IsMadeFrom x y
+kept_made D os d m n x y k = record {
+  side = k.side;
+  value = x.value;
+  maybe = x.maybe;
+  form = x.form;
+  is = k.is;
+  within = k.within;
+}
 
 pub kept_says : {N : Type 0} (D : Ops N) (os : Order × Order) (d : Model) (m n : Memories) (x y : Cell N)
     → IsKept D os d m n x y → Says D os d m x → Says D os d n y
 kept_says D os d m n x y k s =
-    subst (Says D os d n) (sym k.is) (let r : Says D os d n (record x { side = k.side }) = record { datum = s.datum; allowed = s.allowed; stands = k.stands s.datum s.allowed s.stands } in r)
+    subst (Says D os d n) (sym k.is) (let r : Says D os d n (record x { side = k.side }) = record {
+      datum = s.datum;
+      allowed = s.allowed;
+      stands = k.stands s.datum s.allowed s.stands;
+    } in r)
 
-pub kept_cell : {N : Type 0} (D : Ops N) (os : Order × Order) (d : Model) (m n : Memories) (x y : Cell N) → IsKept D os d m n x y → IsCell d x → IsCell d y
+pub kept_cell : {N : Type 0} (D : Ops N) (os : Order × Order) (d : Model) (m n : Memories) (x y : Cell N)
+    → IsKept D os d m n x y → IsCell d x → IsCell d y
 kept_cell D os d m n x y k c =
     subst (IsCell d) (sym k.is)
     (let r : IsCell d (record x { side = k.side }) = record {
@@ -52,25 +67,29 @@ kept_cell D os d m n x y k c =
       rising = c.rising;
     } in r)
 
-form_on : {N : Type 0} (cs : List (Cell N)) (x : Cell N) (s : Side) (o : Option (List Segment)) → IfSome o (IsFormOf cs x) → IfSome o (IsFormOf cs (record x { side = s }))
+form_on : {N : Type 0} (cs : List (Cell N)) (x : Cell N) (s : Side) (o : Option (List Segment))
+    → IfSome o (IsFormOf cs x) → IfSome o (IsFormOf cs (record x { side = s }))
 form_on cs x s None h = tt
 form_on cs x s (Some ss) h = record { sure = h.sure; wide = h.wide; form = h.form; mentioned = h.mentioned }
 
-pub kept_form : {N : Type 0} (D : Ops N) (os : Order × Order) (d : Model) (m n : Memories) (cs : List (Cell N)) (x y : Cell N)
+pub kept_form : {N : Type 0} (D : Ops N) (os : Order × Order) (d : Model) (m n : Memories) (cs : List (Cell N)) (x y
+    : Cell N)
     → IsKept D os d m n x y → HasForm cs x → HasForm cs y
 kept_form D os d m n cs x y k h = subst (HasForm cs) (sym k.is) (form_on cs x k.side x.form h)
 
 -- ---- their numbers
 
 -- what is known of a sure integer cell
-pub datum_of : {N : Type 0} (D : Ops N) (d : Model) (x : Cell N) (t : IntType) (v : Option Datum) → Fits d x → x.what ≡ Int t → x.maybe ≡ false
+pub datum_of : {N : Type 0} (D : Ops N) (d : Model) (x : Cell N) (t : IntType) (v : Option Datum) → Fits d x
+    → x.what ≡ Int t → x.maybe ≡ false
     → Allows D x.what x.value x.maybe v → IsNumber t v
 datum_of D d x t v f w s a =
     sure_number D t x.value v (subst (λ z. IsOfSort z x.value) w f.sort)
     (λ e. sym s ∙ f.undefined e)
     (subst (λ z. Allows D (Int t) x.value z v) s (subst (λ z. Allows D z x.value x.maybe v) w a))
 
-pub kept_number : {N : Type 0} (D : Ops N) (os : Order × Order) (d : Model) (m n : Memories) (x y : Cell N) (t : IntType)
+pub kept_number : {N : Type 0} (D : Ops N) (os : Order × Order) (d : Model) (m n : Memories) (x y : Cell N) (t :
+    IntType)
     → IsKept D os d m n x y → Fits d x → x.what ≡ Int t → x.maybe ≡ false → Says D os d m x
     → numbers_of os n (name_of y t) ≡ numbers_of os m (name_of x t)
 kept_number D os d m n x y t k f w s says =
@@ -103,7 +122,8 @@ pub record IsChange {N : Type 0} (d : Model) (cs l : List (Cell N)) (f : Fate) :
   pub forms : (y : Cell N) → IsIn y l → HasForm cs y
   pub fates : (c e : CellName) → IsThere c cs → f c ≡ Some e → IsThere e l
 
-there_reformed : {N : Type 0} (f : Fate) (e : CellName) (l : List (Cell N)) → IsThere e l → IsThere e (map (reformed f) l)
+there_reformed : {N : Type 0} (f : Fate) (e : CellName) (l : List (Cell N)) → IsThere e l
+    → IsThere e (map (reformed f) l)
 there_reformed f e l t = record {
   cell = reformed f t.cell;
   is_in = map_in (reformed f) t.cell l t.is_in;
@@ -111,7 +131,8 @@ there_reformed f e l t = record {
   sure = t.sure;
 }
 
-form_left : {N : Type 0} (d : Model) (cs l : List (Cell N)) (f : Fate) (x : Cell N) (ss : List Segment) (g : Option (List Segment)) → IsChange d cs l f
+form_left : {N : Type 0} (d : Model) (cs l : List (Cell N)) (f : Fate) (x : Cell N) (ss : List Segment) (g : Option
+    (List Segment)) → IsChange d cs l f
     → IsFormOf cs x ss → (o : Option (List Bit)) → bits_after f (bits ss) ≡ o
     → IfSome (option_map normal o) (IsFormOf (map (reformed f) l) (record x { form = g }))
 form_left d cs l f x ss g c h None e = tt
@@ -124,12 +145,15 @@ form_left d cs l f x ss g c h (Some bs) e = record {
       there_reformed f n l (c.fates r.name n (h.mentioned r.name r.mentioned) r.fate);
 }
 
-form_by : {N : Type 0} (d : Model) (cs l : List (Cell N)) (f : Fate) (x : Cell N) (g : Option (List Segment)) → IsChange d cs l f
-    → (o : Option (List Segment)) → IfSome o (IsFormOf cs x) → IfSome (form_after f o) (IsFormOf (map (reformed f) l) (record x { form = g }))
+form_by : {N : Type 0} (d : Model) (cs l : List (Cell N)) (f : Fate) (x : Cell N) (g : Option (List Segment))
+    → IsChange d cs l f
+    → (o : Option (List Segment)) → IfSome o (IsFormOf cs x) → IfSome (form_after f o) (IsFormOf (map (reformed f) l)
+    (record x { form = g }))
 form_by d cs l f x g c None h = tt
 form_by d cs l f x g c (Some ss) h = form_left d cs l f x ss g c h (bits_after f (bits ss)) refl
 
-pub change_cells : {N : Type 0} (d : Model) (cs l : List (Cell N)) (f : Fate) → IsChange d cs l f → AreCells d (map (reformed f) l)
+pub change_cells : {N : Type 0} (d : Model) (cs l : List (Cell N)) (f : Fate) → IsChange d cs l f
+    → AreCells d (map (reformed f) l)
 change_cells d cs l f c = record {
   each = λ y h.
       let r = in_map (reformed f) y l h in
@@ -150,19 +174,24 @@ change_cells d cs l f c = record {
 
 -- What the cells of l say holds of n, and their forms have in m the numbers that the cells have in n. Names by which
 -- mentions go on are of cells with the same number.
-pub record Holds {N : Type 0} (D : Ops N) (os : Order × Order) (d : Model) (m n : Memories) (cs l : List (Cell N)) (f : Fate) : Type 0 where
+pub record Holds {N : Type 0} (D : Ops N) (os : Order × Order) (d : Model) (m n : Memories) (cs l : List (Cell N)) (f
+    : Fate) : Type 0 where
   pub says : (y : Cell N) → IsIn y l → Says D os d n y
   pub numbers : (y : Cell N) → IsIn y l → IfSome y.form (λ ss. HasNumber os n y y.what (number (numbers_of os m) ss))
   pub keeps : (c e : CellName) → IsThere c cs → f c ≡ Some e → numbers_of os n e ≡ numbers_of os m c
 
-number_left : {N : Type 0} (d : Model) (os : Order × Order) (m n : Memories) (cs : List (Cell N)) (f : Fate) (x : Cell N) (ss : List Segment) (g : Option (List Segment))
+number_left : {N : Type 0} (d : Model) (os : Order × Order) (m n : Memories) (cs : List (Cell N)) (f : Fate) (x :
+    Cell N) (ss : List Segment) (g : Option (List Segment))
     → ((c e : CellName) → IsThere c cs → f c ≡ Some e → numbers_of os n e ≡ numbers_of os m c)
     → IsFormOf cs x ss → HasNumber os n x x.what (number (numbers_of os m) ss)
     → (o : Option (List Bit)) → bits_after f (bits ss) ≡ o
     → IfSome (option_map normal o) (FormSays os n (record x { form = g }))
 number_left d os m n cs f x ss g k h s None e = tt
 number_left d os m n cs f x ss g k h s (Some bs) e =
-    let keeps : KeepsNumbers f (numbers_of os m) (numbers_of os n) (bits ss) = record { keeps = λ c e' i j. k c e' (h.mentioned c i) j } in
+    let keeps : KeepsNumbers f (numbers_of os m) (numbers_of os n) (bits ss) = record {
+      keeps = λ c e' i j. k c e'
+          (h.mentioned c i) j;
+    } in
     let same : number (numbers_of os n) (normal bs) ≡ number (numbers_of os m) ss =
     number-bits (numbers_of os n) (normal bs) (form_after_is f ss bs h.form e).segments
     ∙ ap (number_of_bits (numbers_of os n)) (bits-normal bs)
@@ -170,15 +199,22 @@ number_left d os m n cs f x ss g k h s (Some bs) e =
     ∙ sym (number-bits (numbers_of os m) ss h.form.segments) in
     subst (HasNumber os n x x.what) (sym same) s
 
-number_by : {N : Type 0} (d : Model) (os : Order × Order) (m n : Memories) (cs : List (Cell N)) (f : Fate) (x : Cell N) (g : Option (List Segment))
+number_by : {N : Type 0} (d : Model) (os : Order × Order) (m n : Memories) (cs : List (Cell N)) (f : Fate) (x : Cell
+    N) (g : Option (List Segment))
     → ((c e : CellName) → IsThere c cs → f c ≡ Some e → numbers_of os n e ≡ numbers_of os m c)
-    → (o : Option (List Segment)) → IfSome o (IsFormOf cs x) → IfSome o (λ ss. HasNumber os n x x.what (number (numbers_of os m) ss))
+    → (o : Option (List Segment)) → IfSome o (IsFormOf cs x) → IfSome o (λ ss. HasNumber os n x x.what (number
+    (numbers_of os m) ss))
     → IfSome (form_after f o) (FormSays os n (record x { form = g }))
 number_by d os m n cs f x g k None h s = tt
 number_by d os m n cs f x g k (Some ss) h s = number_left d os m n cs f x ss g k h s (bits_after f (bits ss)) refl
 
-pub change_holds : {N : Type 0} (D : Ops N) (os : Order × Order) (d : Model) (m n : Memories) (cs l : List (Cell N)) (f : Fate)
-    → IsChange d cs l f → Holds D os d m n cs l f → In D (record { orders = os; model = d; cells = map (reformed f) l }) n
+pub change_holds : {N : Type 0} (D : Ops N) (os : Order × Order) (d : Model) (m n : Memories) (cs l : List (Cell N))
+    (f : Fate)
+    → IsChange d cs l f → Holds D os d m n cs l f → In D (record {
+      orders = os;
+      model = d;
+      cells = map (reformed f) l;
+    }) n
 change_holds D os d m n cs l f c h = record {
   cells = λ y i.
       let r = in_map (reformed f) y l i in
@@ -192,5 +228,6 @@ change_holds D os d m n cs l f c h = record {
   forms = λ y i.
       let r = in_map (reformed f) y l i in
       subst (λ z. IfSome z.form (FormSays os n z)) (sym r.is)
-      (number_by d os m n cs f r.origin (form_after f r.origin.form) h.keeps r.origin.form (c.forms r.origin r.is_in) (h.numbers r.origin r.is_in));
+      (number_by d os m n cs f r.origin (form_after f r.origin.form) h.keeps r.origin.form (c.forms r.origin r.is_in)
+      (h.numbers r.origin r.is_in));
 }

@@ -26,7 +26,8 @@ byte_same v j x y e = record {
 pub record KeepsBytes (v : Option Datum) (m n : Memory) (b q size : ℕ) : Type 0 where
   pub at : (j : ℕ) → j < size → KeepsByte v j (m b (q + j)) (n b (q + j))
 
-value_byte : (o : Order) (w : Scalar) (v : Datum) (j : ℕ) (x y : Byte) → KeepsByte (Some v) j x y → x ≡ bytes_of_value o w v j → y ≡ bytes_of_value o w v j
+value_byte : (o : Order) (w : Scalar) (v : Datum) (j : ℕ) (x y : Byte) → KeepsByte (Some v) j x y
+    → x ≡ bytes_of_value o w v j → y ≡ bytes_of_value o w v j
 value_byte o (Int t) (int z) j x y k h = k.numbers _ h
 value_byte o (Int t) null j x y k h = k.nothing h
 value_byte o (Int t) (pointer c q) j x y k h = k.nothing h
@@ -37,9 +38,11 @@ value_byte o Pointer (pointer c q) j x y k h = k.parts c q refl h
 pub bytes_kept : (o : Order) (m n : Memory) (size : ℕ) (w : Scalar) (maybe : Bool) (b q : ℕ) (v : Option Datum)
     → KeepsBytes v m n b q size → HasBytes o m size w maybe b q v → HasBytes o n size w maybe b q v
 bytes_kept o m n size w maybe b q None k h = λ j l. (k.at j l).nothing (h j l)
-bytes_kept o m n size w false b q (Some v) k h = λ j l. value_byte o w v j (m b (q + j)) (n b (q + j)) (k.at j l) (h j l)
+bytes_kept o m n size w false b q (Some v) k h = λ j l. value_byte o w v j (m b (q + j)) (n b (q + j)) (k.at j l) (h
+    j l)
 bytes_kept o m n size (Int t) true b q (Some v) k h = λ j l.
-    ⊎_elim (λ e. inl (value_byte o (Int t) v j (m b (q + j)) (n b (q + j)) (k.at j l) e)) (λ e. inr ((k.at j l).others e)) (h j l)
+    ⊎_elim (λ e. inl (value_byte o (Int t) v j (m b (q + j)) (n b (q + j)) (k.at j l) e)) (λ e. inr ((k.at j
+    l).others e)) (h j l)
 bytes_kept o m n size Pointer true b q (Some v) k h =
     ⊎_elim
     (λ e. inl (λ j l. value_byte o Pointer v j (m b (q + j)) (n b (q + j)) (k.at j l) (e j l)))
@@ -80,16 +83,20 @@ pub killed_there : (b c q : ℕ) (m : Memory) → nat_eq c b ≡ true → killed
 killed_there b c q m e = ap (λ t. cond t undefined (forgotten (b ∷ []) (m c q))) (contains_one c b true e)
 
 -- a byte of another block
-pub byte_killed : (b c q j : ℕ) (v : Option Datum) (m n : Memory) (dead : Bool) → IsKilled b dead m n → nat_eq c b ≡ false → NotInto b v → KeepsByte v j (m c q) (n c q)
+pub byte_killed : (b c q j : ℕ) (v : Option Datum) (m n : Memory) (dead : Bool) → IsKilled b dead m n
+    → nat_eq c b ≡ false → NotInto b v → KeepsByte v j (m c q) (n c q)
 byte_killed b c q j v m n true k e i =
-    subst (KeepsByte v j (m c q)) (sym (k.gone refl c q ∙ killed_elsewhere b c q m e)) (byte_forgotten b j v (m c q) i)
+    subst (KeepsByte v j (m c q)) (sym (k.gone refl c q ∙ killed_elsewhere b c q m e)) (byte_forgotten b j v (m c q)
+    i)
 byte_killed b c q j v m n false k e i = byte_same v j (m c q) (n c q) (k.alive refl c q)
 
-pub bytes_killed : (b c q size : ℕ) (v : Option Datum) (m n : Memory) (dead : Bool) → IsKilled b dead m n → nat_eq c b ≡ false → NotInto b v → KeepsBytes v m n c q size
+pub bytes_killed : (b c q size : ℕ) (v : Option Datum) (m n : Memory) (dead : Bool) → IsKilled b dead m n
+    → nat_eq c b ≡ false → NotInto b v → KeepsBytes v m n c q size
 bytes_killed b c q size v m n dead k e i = record { at = λ j l. byte_killed b c (q + j) j v m n dead k e i }
 
 -- a part of a pointer into the block
-pub part_killed : (b c q o k : ℕ) (m n : Memory) → IsKilled b true m n → nat_eq c b ≡ false → m c q ≡ fragment b o k → n c q ≡ undefined
+pub part_killed : (b c q o k : ℕ) (m n : Memory) → IsKilled b true m n → nat_eq c b ≡ false
+    → m c q ≡ fragment b o k → n c q ≡ undefined
 part_killed b c q o k m n i e h =
     i.gone refl c q ∙ killed_elsewhere b c q m e ∙ ap (forgotten (b ∷ [])) h
     ∙ ap (λ t. cond t undefined (fragment b o k)) (contains_one b b true (eq-eqb b b refl))

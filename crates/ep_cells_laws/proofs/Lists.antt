@@ -25,7 +25,8 @@ pub record From {N : Type 0} (f : Cell N → List (Cell N)) (cs : List (Cell N))
   pub is_in : IsIn origin cs
   pub becomes : IsIn y (f origin)
 
-pub in_each : {N : Type 0} (f : Cell N → List (Cell N)) (y : Cell N) (cs : List (Cell N)) → IsIn y (each_becomes f cs) → From f cs y
+pub in_each : {N : Type 0} (f : Cell N → List (Cell N)) (y : Cell N) (cs : List (Cell N))
+    → IsIn y (each_becomes f cs) → From f cs y
 in_each f y [] h = elim h [ ]
 in_each f y (x ∷ cs) h =
     ⊎_elim
@@ -33,7 +34,8 @@ in_each f y (x ∷ cs) h =
     (λ k. let r = in_each f y cs k in record { origin = r.origin; is_in = later x cs r.is_in; becomes = r.becomes })
     (in_append y (f x) (each_becomes f cs) h)
 
-pub each_in : {N : Type 0} (f : Cell N → List (Cell N)) (x y : Cell N) (cs : List (Cell N)) → IsIn x cs → IsIn y (f x) → IsIn y (each_becomes f cs)
+pub each_in : {N : Type 0} (f : Cell N → List (Cell N)) (x y : Cell N) (cs : List (Cell N)) → IsIn x cs
+    → IsIn y (f x) → IsIn y (each_becomes f cs)
 each_in f x y [] k h = elim k [ ]
 each_in f x y (_ ∷ cs) (first _) h = in_left y (f x) (each_becomes f cs) h
 each_in f x y (z ∷ cs) (later _ _ k) h = in_right y (f z) (each_becomes f cs) (each_in f x y cs k h)
@@ -67,7 +69,8 @@ in_put c y [] (first _) = inl refl
 in_put c y [] (later _ _ h) = inr h
 in_put c y (x ∷ cs) h = in_put_by c y x cs (put c cs) (comes_before c x) (λ k. in_put c y cs k) h
 
-put_there_by : {N : Type 0} (c x : Cell N) (cs rest : List (Cell N)) (b : Bool) → IsIn c rest → IsIn c (cond b (c ∷ x ∷ cs) (x ∷ rest))
+put_there_by : {N : Type 0} (c x : Cell N) (cs rest : List (Cell N)) (b : Bool) → IsIn c rest
+    → IsIn c (cond b (c ∷ x ∷ cs) (x ∷ rest))
 put_there_by c x cs rest true h = first (x ∷ cs)
 put_there_by c x cs rest false h = later x rest h
 
@@ -85,7 +88,8 @@ pub put_keeps : {N : Type 0} (c y : Cell N) (cs : List (Cell N)) → IsIn y cs �
 put_keeps c y [] h = elim h [ ]
 put_keeps c y (x ∷ cs) h = put_keeps_by c y x cs (put c cs) (comes_before c x) (λ k. put_keeps c y cs k) h
 
-pub in_put_all : {N : Type 0} (more : List (Cell N)) (y : Cell N) (cs : List (Cell N)) → IsIn y (put_all more cs) → IsIn y more ⊎ IsIn y cs
+pub in_put_all : {N : Type 0} (more : List (Cell N)) (y : Cell N) (cs : List (Cell N)) → IsIn y (put_all more cs)
+    → IsIn y more ⊎ IsIn y cs
 in_put_all [] y cs h = inr h
 in_put_all (c ∷ more) y cs h =
     ⊎_elim
@@ -93,7 +97,8 @@ in_put_all (c ∷ more) y cs h =
     (λ k. ⊎_elim (λ j. inl (later c more j)) (λ j. inr j) (in_put_all more y cs k))
     (in_put c y (put_all more cs) h)
 
-pub put_all_keeps : {N : Type 0} (more : List (Cell N)) (y : Cell N) (cs : List (Cell N)) → IsIn y cs → IsIn y (put_all more cs)
+pub put_all_keeps : {N : Type 0} (more : List (Cell N)) (y : Cell N) (cs : List (Cell N)) → IsIn y cs
+    → IsIn y (put_all more cs)
 put_all_keeps [] y cs h = h
 put_all_keeps (c ∷ more) y cs h = put_keeps c y (put_all more cs) (put_all_keeps more y cs h)
 
@@ -112,18 +117,21 @@ pub pairs_append : {N : Type 0} (R : Cell N → Cell N → Type 0) (xs ys : List
     → ((x y : Cell N) → IsIn x xs → IsIn y ys → R x y) → EachPair R (xs ++ ys)
 pairs_append R [] ys p q h = q
 pairs_append R (x ∷ xs) ys p q h = (
-  each_from (R x) (xs ++ ys) (λ z k. ⊎_elim (λ j. each_at (R x) z xs p.0 j) (λ j. h x z (first xs) j) (in_append z xs ys k)),
+  each_from (R x) (xs ++ ys) (λ z k. ⊎_elim (λ j. each_at (R x) z xs p.0 j) (λ j. h x z (first xs) j) (in_append z xs
+      ys k)),
   pairs_append R xs ys p.1 q (λ y z j k. h y z (later x xs j) k),
 )
 
 -- cells become cells that stand to one another as they do
-pub pairs_each : {N : Type 0} (R : Cell N → Cell N → Type 0) (f : Cell N → List (Cell N)) (cs : List (Cell N)) → EachPair R cs
+pub pairs_each : {N : Type 0} (R : Cell N → Cell N → Type 0) (f : Cell N → List (Cell N)) (cs : List (Cell N))
+    → EachPair R cs
     → ((x : Cell N) → IsIn x cs → EachPair R (f x))
     → ((x y a b : Cell N) → R x y → IsIn a (f x) → IsIn b (f y) → R a b)
     → EachPair R (each_becomes f cs)
 pairs_each R f [] p own h = tt
 pairs_each R f (x ∷ cs) p own h =
-    pairs_append R (f x) (each_becomes f cs) (own x (first cs)) (pairs_each R f cs p.1 (λ y k. own y (later x cs k)) h)
+    pairs_append R (f x) (each_becomes f cs) (own x (first cs)) (pairs_each R f cs p.1 (λ y k. own y (later x cs k))
+    h)
     (λ a b j k. let r = in_each f b cs k in h x r.origin a b (each_at (R x) r.origin cs p.0 r.is_in) j r.becomes)
 
 pub pairs_map : {N : Type 0} (R : Cell N → Cell N → Type 0) (f : Cell N → Cell N) (cs : List (Cell N)) → EachPair R cs
@@ -131,7 +139,8 @@ pub pairs_map : {N : Type 0} (R : Cell N → Cell N → Type 0) (f : Cell N → 
 pairs_map R f [] p h = tt
 pairs_map R f (x ∷ cs) p h = (
   each_from (R (f x)) (map f cs)
-      (λ y k. let r = in_map f y cs k in subst (R (f x)) (sym r.is) (h x r.origin (each_at (R x) r.origin cs p.0 r.is_in))),
+      (λ y k. let r = in_map f y cs k in subst (R (f x)) (sym r.is) (h x r.origin (each_at (R x) r.origin cs p.0
+      r.is_in))),
   pairs_map R f cs p.1 h,
 )
 

@@ -44,12 +44,26 @@ pub record IsSmall (x : Byte) : Type 0 where
   pub small : (k : ℕ) → x ≡ number k → k < 256
 
 small_value : (o : Order) (w : Scalar) (v : Datum) (j : ℕ) (x : Byte) → x ≡ bytes_of_value o w v j → IsSmall x
-small_value o (Int t) (int z) j x h = record { small = λ k e. let i : encoded o t z j ≡ k = let f : number (encoded o t z j) ≡ number k = sym h ∙ e in cc in subst (λ (y : ℕ). y < 256) i (byte_below _ _) }
+small_value o (Int t) (int z) j x h = record {
+  small = λ k e. let i : encoded o t z j ≡ k = let f : number (encoded o
+      t z j) ≡ number k = sym h ∙ e in cc in subst (λ (y : ℕ). y < 256) i (byte_below _ _);
+}
 small_value o (Int t) null j x h = record { small = λ k e. absurd (let f : undefined ≡ number k = sym h ∙ e in cc) }
-small_value o (Int t) (pointer c q) j x h = record { small = λ k e. absurd (let f : undefined ≡ number k = sym h ∙ e in cc) }
-small_value o Pointer (int z) j x h = record { small = λ k e. absurd (let f : undefined ≡ number k = sym h ∙ e in cc) }
-small_value o Pointer null j x h = record { small = λ k e. let i : 0 ≡ k = let f : number 0 ≡ number k = sym h ∙ e in cc in subst (λ (y : ℕ). y < 256) i (omega arith) }
-small_value o Pointer (pointer c q) j x h = record { small = λ k e. absurd (let f : fragment c q j ≡ number k = sym h ∙ e in cc) }
+small_value o (Int t) (pointer c q) j x h = record {
+  small = λ k e. absurd (let f : undefined ≡ number k = sym h ∙ e
+      in cc);
+}
+small_value o Pointer (int z) j x h = record {
+  small = λ k e. absurd (let f : undefined ≡ number k = sym h ∙ e in cc);
+}
+small_value o Pointer null j x h = record {
+  small = λ k e. let i : 0 ≡ k = let f : number 0 ≡ number k = sym h ∙ e in
+      cc in subst (λ (y : ℕ). y < 256) i (omega arith);
+}
+small_value o Pointer (pointer c q) j x h = record {
+  small = λ k e. absurd (let f : fragment c q j ≡ number k = sym h
+      ∙ e in cc);
+}
 
 small_undefined : (x : Byte) → x ≡ undefined → IsSmall x
 small_undefined x h = record { small = λ k e. absurd (let f : undefined ≡ number k = sym h ∙ e in cc) }
@@ -57,32 +71,40 @@ small_undefined x h = record { small = λ k e. absurd (let f : undefined ≡ num
 small_other : (x : Byte) → is_number x ≡ false → IsSmall x
 small_other x h = record { small = λ k e. absurd (let f : true ≡ false = sym (ap is_number e) ∙ h in cc) }
 
-pub small_bytes : (o : Order) (m : Memory) (size : ℕ) (w : Scalar) (maybe : Bool) (b q : ℕ) (v : Option Datum) → HasBytes o m size w maybe b q v → (j : ℕ) → j < size → IsSmall (m b (q + j))
+pub small_bytes : (o : Order) (m : Memory) (size : ℕ) (w : Scalar) (maybe : Bool) (b q : ℕ) (v : Option Datum)
+    → HasBytes o m size w maybe b q v → (j : ℕ) → j < size → IsSmall (m b (q + j))
 small_bytes o m size w maybe b q None h j l = small_undefined (m b (q + j)) (h j l)
 small_bytes o m size w false b q (Some v) h j l = small_value o w v j (m b (q + j)) (h j l)
-small_bytes o m size (Int t) true b q (Some v) h j l = ⊎_elim (λ e. small_value o (Int t) v j (m b (q + j)) e) (λ e. small_other (m b (q + j)) e) (h j l)
-small_bytes o m size Pointer true b q (Some v) h j l = ⊎_elim (λ e. small_value o Pointer v j (m b (q + j)) (e j l)) (λ e. small_undefined (m b (q + j)) (e j l)) h
+small_bytes o m size (Int t) true b q (Some v) h j l = ⊎_elim (λ e. small_value o (Int t) v j (m b (q + j)) e) (λ e.
+    small_other (m b (q + j)) e) (h j l)
+small_bytes o m size Pointer true b q (Some v) h j l = ⊎_elim (λ e. small_value o Pointer v j (m b (q + j)) (e j l))
+    (λ e. small_undefined (m b (q + j)) (e j l)) h
 
 small_broken : (t : Bool) (x : Byte) → IsSmall x → IsSmall (cond t undefined x)
 small_broken true x h = small_undefined undefined refl
 small_broken false x h = h
 
 -- the byte j of a place is byte i of another
-small_in : (p : Place) (n : Memory) (b q j : ℕ) → ((i : ℕ) → i < p.bytes → IsSmall (n p.block (p.offset + i))) → is_byte_of p b (q + j) ≡ true → IsSmall (n b (q + j))
+small_in : (p : Place) (n : Memory) (b q j : ℕ) → ((i : ℕ) → i < p.bytes → IsSmall (n p.block (p.offset + i)))
+    → is_byte_of p b (q + j) ≡ true → IsSmall (n b (q + j))
 small_in p n b q j h e =
     let x = and_parts (nat_eq p.block b) (nat_le p.offset (q + j) && nat_lt (q + j) (p.offset + p.bytes)) e in
     let y = and_parts (nat_le p.offset (q + j)) (nat_lt (q + j) (p.offset + p.bytes)) x.1 in
     let low = leb-true p.offset (q + j) y.0 in
     let high = ltb-true (q + j) (p.offset + p.bytes) y.1 in
     let i : p.offset + (q + j - p.offset) ≡ q + j = omega arith in
-    subst (λ (k : ℕ). IsSmall (n k (q + j))) (eqb-true p.block b x.0) (subst (λ (k : ℕ). IsSmall (n p.block k)) i (h (q + j - p.offset) (omega arith)))
+    subst (λ (k : ℕ). IsSmall (n k (q + j))) (eqb-true p.block b x.0) (subst (λ (k : ℕ). IsSmall (n p.block k)) i (h
+    (q + j - p.offset) (omega arith)))
 
-small_after : {N : Type 0} (D : Ops N) (o : Order) (d : Model) (c : Cell N) (written : Bool) (m n : Memory) (b q j : ℕ) → MayBeWritten D o d c written m n → IsSmall (m b (q + j)) → IsSmall (n b (q + j))
+small_after : {N : Type 0} (D : Ops N) (o : Order) (d : Model) (c : Cell N) (written : Bool) (m n : Memory) (b q j :
+    ℕ) → MayBeWritten D o d c written m n → IsSmall (m b (q + j)) → IsSmall (n b (q + j))
 small_after D o d c written m n b q j (as_it_was e) h = subst IsSmall (sym (e b (q + j))) h
 small_after D o d c written m n b q j (rewritten f r u a k) h =
     ⊎_elim
-    (λ e. small_in (place_of d c) n b q j (λ i l. small_bytes o n (size_of d c.what) c.what c.maybe c.block c.offset u k i l) e)
-    (λ e. subst IsSmall (sym (r.beside b (q + j) e)) (small_broken (nat_eq c.block b && lies_partly d c.offset (size_of d c.what) (m b (q + j)) (q + j)) (m b (q + j)) h))
+    (λ e. small_in (place_of d c) n b q j (λ i l. small_bytes o n (size_of d c.what) c.what c.maybe c.block c.offset
+    u k i l) e)
+    (λ e. subst IsSmall (sym (r.beside b (q + j) e)) (small_broken (nat_eq c.block b && lies_partly d c.offset
+    (size_of d c.what) (m b (q + j)) (q + j)) (m b (q + j)) h))
     (cases_Bool (is_byte_of (place_of d c) b (q + j)))
 
 -- some number of the type has the bytes of a place that are numbers
@@ -99,16 +121,19 @@ number_byte (fragment c o i) k e = inr refl
 abbrev number_here : Order → IntType → Memory → (b q : ℕ) → ℤ
 number_here o t n b q = decoded o t (λ j. number_in (n b (q + j)))
 
-some_number : (o : Order) (t : IntType) (n : Memory) (b q : ℕ) → ((j : ℕ) → j < bytes_of t → IsSmall (n b (q + j))) → HasNumbersOf o n (Int t) b q (bytes_of t) (int (number_here o t n b q))
+some_number : (o : Order) (t : IntType) (n : Memory) (b q : ℕ) → ((j : ℕ) → j < bytes_of t → IsSmall (n b (q + j)))
+    → HasNumbersOf o n (Int t) b q (bytes_of t) (int (number_here o t n b q))
 some_number o t n b q h = λ j l.
     number_byte (n b (q + j)) (encoded o t (number_here o t n b q) j)
     (encoded_decoded o t (λ i. number_in (n b (q + i))) j (λ i k. number_small (n b (q + i)) (h i k)) l)
 
-some_in_range : (o : Order) (t : IntType) (n : Memory) (b q : ℕ) → ((j : ℕ) → j < bytes_of t → IsSmall (n b (q + j))) → InRange t (number_here o t n b q)
+some_in_range : (o : Order) (t : IntType) (n : Memory) (b q : ℕ) → ((j : ℕ) → j < bytes_of t
+    → IsSmall (n b (q + j))) → InRange t (number_here o t n b q)
 some_in_range o t n b q h =
     let w = bytes_of t in
     let f : ℕ → ℕ = λ k. number_in (n b (q + place o w k)) in
-    let below : sum_of_bytes f w < 256 ^ w = sum_of_bytes_below f w (λ k l. number_small (n b (q + place o w k)) (h (place o w k) (place_below o w k (width_of t) l))) in
+    let below : sum_of_bytes f w < 256 ^ w = sum_of_bytes_below f w (λ k l. number_small (n b (q + place o w k)) (h
+    (place o w k) (place_below o w k (width_of t) l))) in
     represented_in_range t (sum_of_bytes f w) (subst (λ (z : ℕ). sum_of_bytes f w < z) (bytes_pow w) below)
 
 -- ---- what becomes of a cell
@@ -127,7 +152,15 @@ pub record IsBlurred {N : Type 0} (D : Ops N) (c : Cell N) (x y : Cell N) : Type
   pub side : Side
   pub t : IntType
   pub what : x.what ≡ Int t
-  pub is : y ≡ record { side = side; block = x.block; offset = x.offset; what = x.what; value = Some (Num (D.top t)); maybe = true; form = None }
+  pub is : y ≡ record {
+    side = side;
+    block = x.block;
+    offset = x.offset;
+    what = x.what;
+    value = Some (Num (D.top t));
+    maybe = true;
+    form = None;
+  }
   pub within : Within side x.side
   pub shared : share_memory c.side side ≡ true
   pub one : (on_left side && on_right side) ≡ false
@@ -139,7 +172,8 @@ pub data AfterWeak {N : Type 0} (D : Ops N) (d : Model) (c : Cell N) (stays : Bo
   blurry : IsBlurred D c x y → AfterWeak D d c stays x y
 
 -- a part of a cell has one memory
-one_part : {N : Type 0} (x z : Cell N) (q : Side) → x.side ≡ q → IsIn z (parts_on x q) → (on_left z.side && on_right z.side) ≡ false
+one_part : {N : Type 0} (x z : Cell N) (q : Side) → x.side ≡ q → IsIn z (parts_on x q)
+    → (on_left z.side && on_right z.side) ≡ false
 one_part x _ Left e (first _) = ap (λ (s : Side). on_left s && on_right s) e
 one_part x z Left e (later _ _ h) = elim h [ ]
 one_part x _ Right e (first _) = ap (λ (s : Side). on_left s && on_right s) e
@@ -148,40 +182,67 @@ one_part x _ Shared e (first _) = refl
 one_part x _ Shared e (later _ _ (first _)) = refl
 one_part x z Shared e (later _ _ (later _ _ h)) = elim h [ ]
 
-blurred_by : {N : Type 0} (D : Ops N) (d : Model) (c x y : Cell N) (stays : Bool) (s : Side) (w : Scalar) → x.what ≡ w → Within s x.side → share_memory c.side s ≡ true
+blurred_by : {N : Type 0} (D : Ops N) (d : Model) (c x y : Cell N) (stays : Bool) (s : Side) (w : Scalar)
+    → x.what ≡ w → Within s x.side → share_memory c.side s ≡ true
     → (on_left s && on_right s) ≡ false → IsIn y (blurred D (record x { side = s }) w) → AfterWeak D d c stays x y
-blurred_by D d c x _ stays s (Int t) e w g o (first _) = blurry (record { side = s; t = t; what = e; is = refl; within = w; shared = g; one = o })
+blurred_by D d c x _ stays s (Int t) e w g o (first _) = blurry (record {
+  side = s;
+  t = t;
+  what = e;
+  is = refl;
+  within = w;
+  shared = g;
+  one = o;
+})
 blurred_by D d c x y stays s (Int t) e w g o (later _ _ h) = elim h [ ]
 blurred_by D d c x y stays s Pointer e w g o h = elim h [ ]
 
-cell_by : {N : Type 0} (D : Ops N) (d : Model) (c x y : Cell N) (stays : Bool) (s : Side) (b : Bool) → is_same_place c x ≡ b → Within s x.side → Within s c.side → share_memory c.side s ≡ true
-    → (on_left s && on_right s) ≡ false → IsIn y (cond b (with_join D c (record x { side = s }) ∷ []) (blurred D (record x { side = s }) x.what)) → AfterWeak D d c stays x y
-cell_by D d c x _ stays s true e w v g o (first _) = joined (record { side = s; is = refl; within = w; written = v; shared = g; same = e; one = λ h. o })
+cell_by : {N : Type 0} (D : Ops N) (d : Model) (c x y : Cell N) (stays : Bool) (s : Side) (b : Bool)
+    → is_same_place c x ≡ b → Within s x.side → Within s c.side → share_memory c.side s ≡ true
+    → (on_left s && on_right s) ≡ false → IsIn y (cond b (with_join D c (record x { side = s }) ∷ []) (blurred D
+    (record x { side = s }) x.what)) → AfterWeak D d c stays x y
+cell_by D d c x _ stays s true e w v g o (first _) = joined (record {
+  side = s;
+  is = refl;
+  within = w;
+  written = v;
+  shared = g;
+  same = e;
+  one = λ h. o;
+})
 cell_by D d c x y stays s true e w v g o (later _ _ h) = elim h [ ]
 cell_by D d c x y stays s false e w v g o h = blurred_by D d c x y stays s x.what refl w g o h
 
-part_by : {N : Type 0} (D : Ops N) (d : Model) (c x y : Cell N) (stays : Bool) (s : Side) (b : Bool) → share_memory c.side s ≡ b → Within s x.side → (share_memory c.side s ≡ true → Within s c.side)
-    → (on_left s && on_right s) ≡ false → IsIn y (cond b (weak_cell D c (record x { side = s })) (record x { side = s } ∷ [])) → AfterWeak D d c stays x y
+part_by : {N : Type 0} (D : Ops N) (d : Model) (c x y : Cell N) (stays : Bool) (s : Side) (b : Bool)
+    → share_memory c.side s ≡ b → Within s x.side → (share_memory c.side s ≡ true → Within s c.side)
+    → (on_left s && on_right s) ≡ false → IsIn y (cond b (weak_cell D c (record x { side = s })) (record x {
+      side = s;
+    } ∷ [])) → AfterWeak D d c stays x y
 part_by D d c x y stays s true g w v o h = cell_by D d c x y stays s (is_same_place c x) refl w (v g) g o h
 part_by D d c x _ stays s false g w v o (first _) = other s refl (rest_of_unshared c.side s x.side g w)
 part_by D d c x y stays s false g w v o (later _ _ h) = elim h [ ]
 
-part_after : {N : Type 0} (D : Ops N) (d : Model) (c x y z : Cell N) (stays : Bool) → IsPart x z → (on_left z.side && on_right z.side) ≡ false → IsIn y (weak_part D c z) → AfterWeak D d c stays x y
+part_after : {N : Type 0} (D : Ops N) (d : Model) (c x y z : Cell N) (stays : Bool) → IsPart x z
+    → (on_left z.side && on_right z.side) ≡ false → IsIn y (weak_part D c z) → AfterWeak D d c stays x y
 part_after D d c x y z stays p o h =
     part_by D d c x y stays p.side (share_memory c.side p.side) refl p.within (p.covered c.side)
     (subst (λ q. (on_left q.side && on_right q.side) ≡ false) p.is o) (subst (λ q. IsIn y (weak_part D c q)) p.is h)
 
-parts_after : {N : Type 0} (D : Ops N) (d : Model) (c x y : Cell N) (stays : Bool) → IsIn y (each_becomes (weak_part D c) (parts_of x)) → AfterWeak D d c stays x y
+parts_after : {N : Type 0} (D : Ops N) (d : Model) (c x y : Cell N) (stays : Bool)
+    → IsIn y (each_becomes (weak_part D c) (parts_of x)) → AfterWeak D d c stays x y
 parts_after D d c x y stays h =
     let r = in_each (weak_part D c) y (parts_of x) h in
-    part_after D d c x y r.origin stays (part_is x r.origin r.is_in) (one_part x r.origin x.side refl r.is_in) r.becomes
+    part_after D d c x y r.origin stays (part_is x r.origin r.is_in) (one_part x r.origin x.side refl r.is_in)
+    r.becomes
 
 shared_all : (s : Side) → share_memory Shared s ≡ true
 shared_all Left = refl
 shared_all Right = refl
 shared_all Shared = refl
 
-whole_by : {N : Type 0} (D : Ops N) (d : Model) (c x y : Cell N) (b : Bool) → c.side ≡ Shared → is_same_place c x ≡ b → b ≡ true → IsIn y (cond b (with_join D c x ∷ []) (blurred D x x.what)) → AfterWeak D d c true x y
+whole_by : {N : Type 0} (D : Ops N) (d : Model) (c x y : Cell N) (b : Bool) → c.side ≡ Shared
+    → is_same_place c x ≡ b → b ≡ true → IsIn y (cond b (with_join D c x ∷ []) (blurred D x x.what))
+    → AfterWeak D d c true x y
 whole_by D d c x _ true s e f (first _) = joined (record {
   side = x.side;
   is = refl;
@@ -194,26 +255,63 @@ whole_by D d c x _ true s e f (first _) = joined (record {
 whole_by D d c x y true s e f (later _ _ h) = elim h [ ]
 whole_by D d c x y false s e f h = absurd (cc)
 
-stays_by : {N : Type 0} (D : Ops N) (d : Model) (c x y : Cell N) (stays b : Bool) → (stays ≡ true → c.side ≡ Shared) → (stays && is_same_place c x) ≡ b
+stays_by : {N : Type 0} (D : Ops N) (d : Model) (c x y : Cell N) (stays b : Bool) → (stays ≡ true
+    → c.side ≡ Shared) → (stays && is_same_place c x) ≡ b
     → IsIn y (cond b (weak_cell D c x) (each_becomes (weak_part D c) (parts_of x))) → AfterWeak D d c stays x y
 stays_by D d c x y true true s e h = whole_by D d c x y (is_same_place c x) (s refl) refl e h
 stays_by D d c x y false true s e h = absurd (cc)
 stays_by D d c x y stays false s e h = parts_after D d c x y stays h
 
-touch_by : {N : Type 0} (D : Ops N) (d : Model) (c x y : Cell N) (stays b : Bool) → (stays ≡ true → c.side ≡ Shared) → touches (place_of d c) (place_of d x) ≡ b
-    → IsIn y (cond (not b) (x ∷ []) (cond (stays && is_same_place c x) (weak_cell D c x) (each_becomes (weak_part D c) (parts_of x)))) → AfterWeak D d c stays x y
+touch_by : {N : Type 0} (D : Ops N) (d : Model) (c x y : Cell N) (stays b : Bool) → (stays ≡ true
+    → c.side ≡ Shared) → touches (place_of d c) (place_of d x) ≡ b
+    → IsIn y (cond (not b) (x ∷ []) (cond (stays && is_same_place c x) (weak_cell D c x) (each_becomes (weak_part D
+    c) (parts_of x)))) → AfterWeak D d c stays x y
 touch_by D d c x y stays true s e h = stays_by D d c x y stays (stays && is_same_place c x) s refl h
 touch_by D d c x _ stays false s e (first _) = beside refl e
 touch_by D d c x y stays false s e (later _ _ h) = elim h [ ]
 
-pub after_weak : {N : Type 0} (D : Ops N) (d : Model) (c x y : Cell N) (stays : Bool) → (stays ≡ true → c.side ≡ Shared) → IsIn y (left_by_weak_write D d c stays x) → AfterWeak D d c stays x y
+pub after_weak : {N : Type 0} (D : Ops N) (d : Model) (c x y : Cell N) (stays : Bool) → (stays ≡ true
+    → c.side ≡ Shared) → IsIn y (left_by_weak_write D d c stays x) → AfterWeak D d c stays x y
 after_weak D d c x y stays s h = touch_by D d c x y stays (touches (place_of d c) (place_of d x)) s refl h
 
-after_made : {N : Type 0} (D : Ops N) (d : Model) (c : Cell N) (stays : Bool) (x y : Cell N) → AfterWeak D d c stays x y → IsMadeFrom x y
-after_made D d c stays x y (beside e t) = record { side = x.side; value = x.value; maybe = x.maybe; form = x.form; is = e; within = within_itself x.side }
-after_made D d c stays x y (other t e i) = record { side = t; value = x.value; maybe = x.maybe; form = x.form; is = e; within = i.within }
-after_made D d c stays x y (joined j) = record { side = j.side; value = value_of_both D.join x.value c.value; maybe = x.maybe || c.maybe; form = None; is = j.is; within = j.within }
-after_made D d c stays x y (blurry j) = record { side = j.side; value = Some (Num (D.top j.t)); maybe = true; form = None; is = j.is; within = j.within }
+after_made : {N : Type 0} (D : Ops N) (d : Model) (c : Cell N) (stays : Bool) (x y : Cell N)
+    → AfterWeak D d c stays x y → IsMadeFrom x y
+after_made D d c stays x y (beside e t) = record {
+  side = x.side;
+  value = x.value;
+  maybe = x.maybe;
+  form = x.form;
+  is
+      = e;
+  within = within_itself x.side;
+}
+after_made D d c stays x y (other t e i) = record {
+  side = t;
+  value = x.value;
+  maybe = x.maybe;
+  form = x.form;
+  is =
+      e;
+  within = i.within;
+}
+after_made D d c stays x y (joined j) = record {
+  side = j.side;
+  value = value_of_both D.join x.value c.value;
+  maybe =
+      x.maybe || c.maybe;
+  form = None;
+  is = j.is;
+  within = j.within;
+}
+after_made D d c stays x y (blurry j) = record {
+  side = j.side;
+  value = Some (Num (D.top j.t));
+  maybe = true;
+  form =
+      None;
+  is = j.is;
+  within = j.within;
+}
 
 -- ---- pairs
 
@@ -221,11 +319,13 @@ own_blurred : {N : Type 0} (D : Ops N) (d : Model) (x : Cell N) (w : Scalar) →
 own_blurred D d x (Int t) = (tt, tt)
 own_blurred D d x Pointer = tt
 
-own_cell : {N : Type 0} (D : Ops N) (d : Model) (c x : Cell N) (b : Bool) → EachPair (AreApart d) (cond b (with_join D c x ∷ []) (blurred D x x.what))
+own_cell : {N : Type 0} (D : Ops N) (d : Model) (c x : Cell N) (b : Bool)
+    → EachPair (AreApart d) (cond b (with_join D c x ∷ []) (blurred D x x.what))
 own_cell D d c x true = (tt, tt)
 own_cell D d c x false = own_blurred D d x x.what
 
-own_part : {N : Type 0} (D : Ops N) (d : Model) (c x : Cell N) (b : Bool) → EachPair (AreApart d) (cond b (weak_cell D c x) (x ∷ []))
+own_part : {N : Type 0} (D : Ops N) (d : Model) (c x : Cell N) (b : Bool)
+    → EachPair (AreApart d) (cond b (weak_cell D c x) (x ∷ []))
 own_part D d c x true = own_cell D d c x (is_same_place c x)
 own_part D d c x false = (tt, tt)
 
@@ -235,75 +335,136 @@ parts_pairs d x Right = (tt, tt)
 parts_pairs d x Shared = ((parts_apart d x x.value x.value x.maybe x.maybe x.form x.form, tt), (tt, tt))
 
 made_blurred : {N : Type 0} (D : Ops N) (x y : Cell N) (w : Scalar) → IsIn y (blurred D x w) → IsMadeFrom x y
-made_blurred D x _ (Int t) (first _) = record { side = x.side; value = Some (Num (D.top t)); maybe = true; form = None; is = refl; within = within_itself x.side }
+made_blurred D x _ (Int t) (first _) = record {
+  side = x.side;
+  value = Some (Num (D.top t));
+  maybe = true;
+  form =
+      None;
+  is = refl;
+  within = within_itself x.side;
+}
 made_blurred D x y (Int t) (later _ _ h) = elim h [ ]
 made_blurred D x y Pointer h = elim h [ ]
 
-made_cell : {N : Type 0} (D : Ops N) (c x y : Cell N) (b : Bool) → IsIn y (cond b (with_join D c x ∷ []) (blurred D x x.what)) → IsMadeFrom x y
-made_cell D c x _ true (first _) = record { side = x.side; value = value_of_both D.join x.value c.value; maybe = x.maybe || c.maybe; form = None; is = refl; within = within_itself x.side }
+made_cell : {N : Type 0} (D : Ops N) (c x y : Cell N) (b : Bool)
+    → IsIn y (cond b (with_join D c x ∷ []) (blurred D x x.what)) → IsMadeFrom x y
+made_cell D c x _ true (first _) = record {
+  side = x.side;
+  value = value_of_both D.join x.value c.value;
+  maybe =
+      x.maybe || c.maybe;
+  form = None;
+  is = refl;
+  within = within_itself x.side;
+}
 made_cell D c x y true (later _ _ h) = elim h [ ]
 made_cell D c x y false h = made_blurred D x y x.what h
 
-made_part : {N : Type 0} (D : Ops N) (c x y : Cell N) (b : Bool) → IsIn y (cond b (weak_cell D c x) (x ∷ [])) → IsMadeFrom x y
+made_part : {N : Type 0} (D : Ops N) (c x y : Cell N) (b : Bool) → IsIn y (cond b (weak_cell D c x) (x ∷ []))
+    → IsMadeFrom x y
 made_part D c x y true h = made_cell D c x y (is_same_place c x) h
-made_part D c x _ false (first _) = record { side = x.side; value = x.value; maybe = x.maybe; form = x.form; is = refl; within = within_itself x.side }
+made_part D c x _ false (first _) = record {
+  side = x.side;
+  value = x.value;
+  maybe = x.maybe;
+  form = x.form;
+  is =
+      refl;
+  within = within_itself x.side;
+}
 made_part D c x y false (later _ _ h) = elim h [ ]
 
-own_parts : {N : Type 0} (D : Ops N) (d : Model) (c x : Cell N) → EachPair (AreApart d) (each_becomes (weak_part D c) (parts_of x))
+own_parts : {N : Type 0} (D : Ops N) (d : Model) (c x : Cell N)
+    → EachPair (AreApart d) (each_becomes (weak_part D c) (parts_of x))
 own_parts D d c x =
-    pairs_each (AreApart d) (weak_part D c) (parts_of x) (parts_pairs d x x.side) (λ z h. own_part D d c z (share_memory c.side z.side))
-    (λ u v a b r i j. apart_made d u v a b r (made_part D c u a (share_memory c.side u.side) i) (made_part D c v b (share_memory c.side v.side) j))
+    pairs_each (AreApart d) (weak_part D c) (parts_of x) (parts_pairs d x x.side) (λ z h. own_part D d c z
+    (share_memory c.side z.side))
+    (λ u v a b r i j. apart_made d u v a b r (made_part D c u a (share_memory c.side u.side) i) (made_part D c v b
+    (share_memory c.side v.side) j))
 
-own_stays : {N : Type 0} (D : Ops N) (d : Model) (c x : Cell N) (b : Bool) → EachPair (AreApart d) (cond b (weak_cell D c x) (each_becomes (weak_part D c) (parts_of x)))
+own_stays : {N : Type 0} (D : Ops N) (d : Model) (c x : Cell N) (b : Bool)
+    → EachPair (AreApart d) (cond b (weak_cell D c x) (each_becomes (weak_part D c) (parts_of x)))
 own_stays D d c x true = own_cell D d c x (is_same_place c x)
 own_stays D d c x false = own_parts D d c x
 
 own_touch : {N : Type 0} (D : Ops N) (d : Model) (c x : Cell N) (stays b : Bool)
-    → EachPair (AreApart d) (cond (not b) (x ∷ []) (cond (stays && is_same_place c x) (weak_cell D c x) (each_becomes (weak_part D c) (parts_of x))))
+    → EachPair (AreApart d) (cond (not b) (x ∷ []) (cond (stays && is_same_place c x) (weak_cell D c x) (each_becomes
+    (weak_part D c) (parts_of x))))
 own_touch D d c x stays true = own_stays D d c x (stays && is_same_place c x)
 own_touch D d c x stays false = (tt, tt)
 
 -- ---- cells that fit
 
-same_fields : {N : Type 0} (c x : Cell N) (s : Side) → is_same_place c x ≡ true → AreAlike (record c { side = s }) (record x { side = s })
+same_fields : {N : Type 0} (c x : Cell N) (s : Side) → is_same_place c x ≡ true
+    → AreAlike (record c { side = s }) (record x { side = s })
 same_fields c x s h =
     let q = and_parts (nat_eq c.block x.block) (nat_eq c.offset x.offset && is_same_scalar c.what x.what) h in
     let r = and_parts (nat_eq c.offset x.offset) (is_same_scalar c.what x.what) q.1 in
-    record { side = refl; block = eqb-true c.block x.block q.0; offset = eqb-true c.offset x.offset r.0; what = scalar_same c.what x.what r.1 }
+    record {
+      side = refl;
+      block = eqb-true c.block x.block q.0;
+      offset = eqb-true c.offset x.offset r.0;
+      what =
+          scalar_same c.what x.what r.1;
+    }
 
 cell_side : {N : Type 0} (d : Model) (x : Cell N) (s : Side) → IsCell d x → IsCell d (record x { side = s })
-cell_side d x s c = record { fits = record { sort = c.fits.sort; undefined = c.fits.undefined; last = c.fits.last }; rising = c.rising }
+cell_side d x s c = record {
+  fits = record { sort = c.fits.sort; undefined = c.fits.undefined; last = c.fits.last };
+  rising = c.rising;
+}
 
-form_side : {N : Type 0} (cs : List (Cell N)) (x : Cell N) (s : Side) (o : Option (List Segment)) → IfSome o (IsFormOf cs x) → IfSome o (IsFormOf cs (record x { side = s }))
+form_side : {N : Type 0} (cs : List (Cell N)) (x : Cell N) (s : Side) (o : Option (List Segment))
+    → IfSome o (IsFormOf cs x) → IfSome o (IsFormOf cs (record x { side = s }))
 form_side cs x s None h = tt
 form_side cs x s (Some ss) h = record { sure = h.sure; wide = h.wide; form = h.form; mentioned = h.mentioned }
 
-joined_cell : {N : Type 0} (D : Ops N) → Lawful D → (d : Model) (c x : Cell N) (s : Side) → is_same_place c x ≡ true → IsCell d c → IsCell d x → IsCell d (with_join D c (record x { side = s }))
+joined_cell : {N : Type 0} (D : Ops N) → Lawful D → (d : Model) (c x : Cell N) (s : Side)
+    → is_same_place c x ≡ true → IsCell d c → IsCell d x → IsCell d (with_join D c (record x { side = s }))
 joined_cell D law d c x s e p q =
     let a = same_fields c x s e in
     record {
       fits = record {
-        sort = sort_both D.join x.what x.value c.value q.fits.sort (subst (λ (w : Scalar). IsOfSort w c.value) a.what p.fits.sort);
+        sort = sort_both D.join x.what x.value c.value q.fits.sort (subst (λ (w : Scalar). IsOfSort w c.value) a.what
+            p.fits.sort);
         undefined = undefined_both D.join x.value c.value x.maybe c.maybe q.fits.undefined;
         last = q.fits.last;
       };
       rising = rising_both D D.join (join_unites D law) x.value c.value q.rising p.rising;
     }
 
-blurred_cell : {N : Type 0} (D : Ops N) (d : Model) (x : Cell N) (s : Side) (t : IntType) → x.what ≡ Int t → IsCell d x
-    → IsCell d (record { side = s; block = x.block; offset = x.offset; what = x.what; value = Some (Num (D.top t)); maybe = true; form = None })
+blurred_cell : {N : Type 0} (D : Ops N) (d : Model) (x : Cell N) (s : Side) (t : IntType) → x.what ≡ Int t
+    → IsCell d x
+    → IsCell d (record {
+      side = s;
+      block = x.block;
+      offset = x.offset;
+      what = x.what;
+      value = Some (Num (D.top t));
+      maybe = true;
+      form = None;
+    })
 blurred_cell {N = N} D d x s t e c = record {
-  fits = record { sort = subst (λ (w : Scalar). IsOfSort {N = N} w (Some (Num (D.top t)))) (sym e) tt; undefined = λ f. refl; last = c.fits.last };
+  fits = record {
+    sort = subst (λ (w : Scalar). IsOfSort {N = N} w (Some (Num (D.top t)))) (sym e) tt;
+    undefined = λ
+        f. refl;
+    last = c.fits.last;
+  };
   rising = tt;
 }
 
-after_cell : {N : Type 0} (D : Ops N) → Lawful D → (d : Model) (c : Cell N) (stays : Bool) (x y : Cell N) → IsCell d c → AfterWeak D d c stays x y → IsCell d x → IsCell d y
+after_cell : {N : Type 0} (D : Ops N) → Lawful D → (d : Model) (c : Cell N) (stays : Bool) (x y : Cell N)
+    → IsCell d c → AfterWeak D d c stays x y → IsCell d x → IsCell d y
 after_cell D law d c stays x y p (beside e t) q = subst (IsCell d) (sym e) q
 after_cell D law d c stays x y p (other t e i) q = subst (IsCell d) (sym e) (cell_side d x t q)
-after_cell D law d c stays x y p (joined j) q = subst (IsCell d) (sym j.is) (joined_cell D law d c x j.side j.same p q)
+after_cell D law d c stays x y p (joined j) q = subst (IsCell d) (sym j.is) (joined_cell D law d c x j.side j.same p
+    q)
 after_cell D law d c stays x y p (blurry j) q = subst (IsCell d) (sym j.is) (blurred_cell D d x j.side j.t j.what q)
 
-after_form : {N : Type 0} (D : Ops N) (d : Model) (cs : List (Cell N)) (c : Cell N) (stays : Bool) (x y : Cell N) → AfterWeak D d c stays x y → HasForm cs x → HasForm cs y
+after_form : {N : Type 0} (D : Ops N) (d : Model) (cs : List (Cell N)) (c : Cell N) (stays : Bool) (x y : Cell N)
+    → AfterWeak D d c stays x y → HasForm cs x → HasForm cs y
 after_form D d cs c stays x y (beside e t) h = subst (HasForm cs) (sym e) h
 after_form D d cs c stays x y (other t e i) h = subst (HasForm cs) (sym e) (form_side cs x t x.form h)
 after_form D d cs c stays x y (joined j) h = subst (HasForm cs) (sym j.is) tt
@@ -312,35 +473,51 @@ after_form D d cs c stays x y (blurry j) h = subst (HasForm cs) (sym j.is) tt
 -- ---- what they say
 
 -- the cell itself, where its bytes are as they were
-from_old : {N : Type 0} (D : Ops N) → Lawful D → (os : Order × Order) (d : Model) (m n : Memories) (c x : Cell N) (s : Side) → is_same_place c x ≡ true → IsCell d c → IsCell d x → Within s x.side
-    → (on_left s ≡ true → SameBytes m.left n.left x.block x.offset (size_of d x.what)) → (on_right s ≡ true → SameBytes m.right n.right x.block x.offset (size_of d x.what))
+from_old : {N : Type 0} (D : Ops N) → Lawful D
+    → (os : Order × Order) (d : Model) (m n : Memories) (c x : Cell N) (s : Side) → is_same_place c x ≡ true
+    → IsCell d c → IsCell d x → Within s x.side
+    → (on_left s ≡ true → SameBytes m.left n.left x.block x.offset (size_of d x.what)) → (on_right s ≡ true →
+    SameBytes m.right n.right x.block x.offset (size_of d x.what))
     → Says D os d m x → Says D os d n (with_join D c (record x { side = s }))
 from_old D law os d m n c x s e p q w l r says =
     let a = same_fields c x s e in
     record {
       datum = says.datum;
-      allowed = allowed_left D D.join (join_unites D law) x.what x.value c.value x.maybe c.maybe says.datum q.fits.sort
-          (subst (λ (z : Scalar). IsOfSort z c.value) a.what p.fits.sort) q.rising p.rising q.fits.undefined says.allowed;
+      allowed = allowed_left D D.join (join_unites D law) x.what x.value c.value x.maybe c.maybe says.datum
+          q.fits.sort
+          (subst (λ (z : Scalar). IsOfSort z c.value) a.what p.fits.sort) q.rising p.rising q.fits.undefined
+          says.allowed;
       stands = record {
-        left = λ g. bytes_weaker os.0 n.left (size_of d x.what) x.what x.maybe (x.maybe || c.maybe) x.block x.offset says.datum (λ h. or_left x.maybe c.maybe h)
-            (bytes_same os.0 m.left n.left (size_of d x.what) x.what x.maybe x.block x.offset says.datum (l g) (says.stands.left (w.left g)));
-        right = λ g. bytes_weaker os.1 n.right (size_of d x.what) x.what x.maybe (x.maybe || c.maybe) x.block x.offset says.datum (λ h. or_left x.maybe c.maybe h)
-            (bytes_same os.1 m.right n.right (size_of d x.what) x.what x.maybe x.block x.offset says.datum (r g) (says.stands.right (w.right g)));
+        left = λ g. bytes_weaker os.0 n.left (size_of d x.what) x.what x.maybe (x.maybe || c.maybe) x.block x.offset
+            says.datum (λ h. or_left x.maybe c.maybe h)
+            (bytes_same os.0 m.left n.left (size_of d x.what) x.what x.maybe x.block x.offset says.datum (l g)
+            (says.stands.left (w.left g)));
+        right = λ g. bytes_weaker os.1 n.right (size_of d x.what) x.what x.maybe (x.maybe || c.maybe) x.block
+            x.offset says.datum (λ h. or_left x.maybe c.maybe h)
+            (bytes_same os.1 m.right n.right (size_of d x.what) x.what x.maybe x.block x.offset says.datum (r g)
+            (says.stands.right (w.right g)));
       };
     }
 
 -- the bytes of the cell that is written, at the cell itself
-new_bytes : {N : Type 0} (o : Order) (d : Model) (n : Memory) (c x : Cell N) (v : Option Datum) → AreAlike (record c { side = Left }) (record x { side = Left })
-    → HasBytes o n (size_of d c.what) c.what c.maybe c.block c.offset v → HasBytes o n (size_of d x.what) x.what (x.maybe || c.maybe) x.block x.offset v
+new_bytes : {N : Type 0} (o : Order) (d : Model) (n : Memory) (c x : Cell N) (v : Option Datum)
+    → AreAlike (record c { side = Left }) (record x { side = Left })
+    → HasBytes o n (size_of d c.what) c.what c.maybe c.block c.offset v → HasBytes o n (size_of d x.what) x.what
+    (x.maybe || c.maybe) x.block x.offset v
 new_bytes o d n c x v a h =
-    bytes_weaker o n (size_of d x.what) x.what c.maybe (x.maybe || c.maybe) x.block x.offset v (λ g. or_right x.maybe c.maybe g)
+    bytes_weaker o n (size_of d x.what) x.what c.maybe (x.maybe || c.maybe) x.block x.offset v (λ g. or_right x.maybe
+    c.maybe g)
     (subst (λ (q : ℕ). HasBytes o n (size_of d x.what) x.what c.maybe x.block q v) a.offset
     (subst (λ (b : ℕ). HasBytes o n (size_of d x.what) x.what c.maybe b c.offset v) a.block
     (subst (λ (w : Scalar). HasBytes o n (size_of d w) w c.maybe c.block c.offset v) a.what h)))
 
-from_new : {N : Type 0} (D : Ops N) → Lawful D → (os : Order × Order) (d : Model) (n : Memories) (c x : Cell N) (s : Side) (v : Option Datum) → is_same_place c x ≡ true → IsCell d c → IsCell d x
-    → Allows D c.what c.value c.maybe v → (on_left s ≡ true → HasBytes os.0 n.left (size_of d c.what) c.what c.maybe c.block c.offset v)
-    → (on_right s ≡ true → HasBytes os.1 n.right (size_of d c.what) c.what c.maybe c.block c.offset v) → Says D os d n (with_join D c (record x { side = s }))
+from_new : {N : Type 0} (D : Ops N) → Lawful D
+    → (os : Order × Order) (d : Model) (n : Memories) (c x : Cell N) (s : Side) (v : Option Datum)
+    → is_same_place c x ≡ true → IsCell d c → IsCell d x
+    → Allows D c.what c.value c.maybe v → (on_left s ≡ true → HasBytes os.0 n.left (size_of d c.what) c.what c.maybe
+    c.block c.offset v)
+    → (on_right s ≡ true → HasBytes os.1 n.right (size_of d c.what) c.what c.maybe c.block c.offset v) → Says D os d
+    n (with_join D c (record x { side = s }))
 from_new D law os d n c x s v e p q allowed l r =
     let a = same_fields c x Left e in
     record {
@@ -360,69 +537,125 @@ one_memory a b h e f = both_ways (a && b) h (and_from a b e f)
 all_same : (m n : Memory) (b q size : ℕ) → ((c p : ℕ) → n c p ≡ m c p) → SameBytes m n b q size
 all_same m n b q size e = record { same = λ j l. e b (q + j) }
 
-left_joined : {N : Type 0} (D : Ops N) → Lawful D → (os : Order × Order) (d : Model) (m n : Memories) (c x : Cell N) (s : Side) → is_same_place c x ≡ true → IsCell d c → IsCell d x → Within s x.side
-    → (on_right s ≡ true → ⊥) → MayBeWritten D os.0 d c (on_left c.side) m.left n.left → Says D os d m x → Says D os d n (with_join D c (record x { side = s }))
+left_joined : {N : Type 0} (D : Ops N) → Lawful D
+    → (os : Order × Order) (d : Model) (m n : Memories) (c x : Cell N) (s : Side) → is_same_place c x ≡ true
+    → IsCell d c → IsCell d x → Within s x.side
+    → (on_right s ≡ true → ⊥) → MayBeWritten D os.0 d c (on_left c.side) m.left n.left → Says D os d m x → Says D os
+    d n (with_join D c (record x { side = s }))
 left_joined D law os d m n c x s e p q w off (as_it_was h) says =
-    from_old D law os d m n c x s e p q w (λ g. all_same m.left n.left x.block x.offset (size_of d x.what) h) (λ g. absurd (off g)) says
-left_joined D law os d m n c x s e p q w off (rewritten f r v a h) says = from_new D law os d n c x s v e p q a (λ g. h) (λ g. absurd (off g))
+    from_old D law os d m n c x s e p q w (λ g. all_same m.left n.left x.block x.offset (size_of d x.what) h) (λ g.
+    absurd (off g)) says
+left_joined D law os d m n c x s e p q w off (rewritten f r v a h) says = from_new D law os d n c x s v e p q a (λ g.
+    h) (λ g. absurd (off g))
 
-right_joined : {N : Type 0} (D : Ops N) → Lawful D → (os : Order × Order) (d : Model) (m n : Memories) (c x : Cell N) (s : Side) → is_same_place c x ≡ true → IsCell d c → IsCell d x → Within s x.side
-    → (on_left s ≡ true → ⊥) → MayBeWritten D os.1 d c (on_right c.side) m.right n.right → Says D os d m x → Says D os d n (with_join D c (record x { side = s }))
+right_joined : {N : Type 0} (D : Ops N) → Lawful D
+    → (os : Order × Order) (d : Model) (m n : Memories) (c x : Cell N) (s : Side) → is_same_place c x ≡ true
+    → IsCell d c → IsCell d x → Within s x.side
+    → (on_left s ≡ true → ⊥) → MayBeWritten D os.1 d c (on_right c.side) m.right n.right → Says D os d m x → Says D
+    os d n (with_join D c (record x { side = s }))
 right_joined D law os d m n c x s e p q w off (as_it_was h) says =
-    from_old D law os d m n c x s e p q w (λ g. absurd (off g)) (λ g. all_same m.right n.right x.block x.offset (size_of d x.what) h) says
-right_joined D law os d m n c x s e p q w off (rewritten f r v a h) says = from_new D law os d n c x s v e p q a (λ g. absurd (off g)) (λ g. h)
+    from_old D law os d m n c x s e p q w (λ g. absurd (off g)) (λ g. all_same m.right n.right x.block x.offset
+    (size_of d x.what) h) says
+right_joined D law os d m n c x s e p q w off (rewritten f r v a h) says = from_new D law os d n c x s v e p q a (λ
+    g. absurd (off g)) (λ g. h)
 
-joined_by : {N : Type 0} (D : Ops N) → Lawful D → (k : Known N) (m n : Memories) (c x : Cell N) (stays : Bool) (s : Side) → is_same_place c x ≡ true → IsCell k.model c → IsCell k.model x → Within s x.side
+joined_by : {N : Type 0} (D : Ops N) → Lawful D
+    → (k : Known N) (m n : Memories) (c x : Cell N) (stays : Bool) (s : Side) → is_same_place c x ≡ true
+    → IsCell k.model c → IsCell k.model x → Within s x.side
     → Within s c.side → (stays ≡ false → (on_left s && on_right s) ≡ false)
-    → MayBeWeaklyWritten D k c stays m n → Says D k.orders k.model m x → Says D k.orders k.model n (with_join D c (record x { side = s }))
+    → MayBeWeaklyWritten D k c stays m n → Says D k.orders k.model m x → Says D k.orders k.model n (with_join D c
+    (record x { side = s }))
 joined_by D law k m n c x stays s e p q w v one (each_side f l r) says =
     ⊎_elim
-    (λ h. left_joined D law k.orders k.model m n c x s e p q w (λ g. one_memory (on_left s) (on_right s) (one f) h g) l says)
+    (λ h. left_joined D law k.orders k.model m n c x s e p q w (λ g. one_memory (on_left s) (on_right s) (one f) h g)
+    l says)
     (λ h. right_joined D law k.orders k.model m n c x s e p q w (λ g. both_ways (on_left s) h g) r says)
     (cases_Bool (on_left s))
 joined_by D law k m n c x stays s e p q w v one (neither l r) says =
     from_old D law k.orders k.model m n c x s e p q w
-    (λ g. all_same m.left n.left x.block x.offset (size_of k.model x.what) l) (λ g. all_same m.right n.right x.block x.offset (size_of k.model x.what) r) says
+    (λ g. all_same m.left n.left x.block x.offset (size_of k.model x.what) l) (λ g. all_same m.right n.right x.block
+    x.offset (size_of k.model x.what) r) says
 joined_by D law k m n c x stays s e p q w v one (both_sides f l r new) says =
-    from_new D law k.orders k.model n c x s new.datum e p q new.allowed (λ g. new.stands.left (v.left g)) (λ g. new.stands.right (v.right g))
+    from_new D law k.orders k.model n c x s new.datum e p q new.allowed (λ g. new.stands.left (v.left g)) (λ g.
+    new.stands.right (v.right g))
 
 -- a cell to which anything may have been written
-blurred_bytes : (o : Order) (d : Model) (n : Memory) (w : Scalar) (t : IntType) (b q : ℕ) → w ≡ Int t → ((j : ℕ) → j < size_of d w → IsSmall (n b (q + j)))
+blurred_bytes : (o : Order) (d : Model) (n : Memory) (w : Scalar) (t : IntType) (b q : ℕ) → w ≡ Int t → ((j : ℕ)
+    → j < size_of d w → IsSmall (n b (q + j)))
     → HasBytes o n (size_of d w) w true b q (Some (int (number_here o t n b q)))
 blurred_bytes o d n w t b q e h =
     subst (λ (z : Scalar). HasBytes o n (size_of d z) z true b q (Some (int (number_here o t n b q)))) (sym e)
     (some_number o t n b q (subst (λ (z : Scalar). (j : ℕ) → j < size_of d z → IsSmall (n b (q + j))) e h))
 
-blurred_allowed : {N : Type 0} (D : Ops N) → Lawful D → (o : Order) (d : Model) (n : Memory) (w : Scalar) (t : IntType) (b q : ℕ) → w ≡ Int t → ((j : ℕ) → j < size_of d w → IsSmall (n b (q + j)))
+blurred_allowed : {N : Type 0} (D : Ops N) → Lawful D
+    → (o : Order) (d : Model) (n : Memory) (w : Scalar) (t : IntType) (b q : ℕ) → w ≡ Int t → ((j : ℕ)
+    → j < size_of d w → IsSmall (n b (q + j)))
     → Allows D w (Some (Num (D.top t))) true (Some (int (number_here o t n b q)))
 blurred_allowed D law o d n w t b q e h =
     let r = some_in_range o t n b q (subst (λ (z : Scalar). (j : ℕ) → j < size_of d z → IsSmall (n b (q + j))) e h) in
-    subst (λ (z : Scalar). Allows D z (Some (Num (D.top t))) true (Some (int (number_here o t n b q)))) (sym e) (r, law.top_holds t (number_here o t n b q) r)
+    subst (λ (z : Scalar). Allows D z (Some (Num (D.top t))) true (Some (int (number_here o t n b q)))) (sym e) (
+      r,
+      law.top_holds t (number_here o t n b q) r,
+    )
 
-blurred_left : {N : Type 0} (D : Ops N) → Lawful D → (os : Order × Order) (d : Model) (m n : Memories) (c x : Cell N) (s : Side) (t : IntType) → x.what ≡ Int t → Within s x.side
-    → on_left s ≡ true → (on_right s ≡ true → ⊥) → MayBeWritten D os.0 d c (on_left c.side) m.left n.left → Says D os d m x
-    → Says D os d n (record { side = s; block = x.block; offset = x.offset; what = x.what; value = Some (Num (D.top t)); maybe = true; form = None })
+blurred_left : {N : Type 0} (D : Ops N) → Lawful D
+    → (os : Order × Order) (d : Model) (m n : Memories) (c x : Cell N) (s : Side) (t : IntType) → x.what ≡ Int t
+    → Within s x.side
+    → on_left s ≡ true → (on_right s ≡ true → ⊥) → MayBeWritten D os.0 d c (on_left c.side) m.left n.left → Says D os
+    d m x
+    → Says D os d n (record {
+      side = s;
+      block = x.block;
+      offset = x.offset;
+      what = x.what;
+      value = Some (Num (D.top
+          t));
+      maybe = true;
+      form = None;
+    })
 blurred_left D law os d m n c x s t e w on off h says =
     let small : (j : ℕ) → j < size_of d x.what → IsSmall (n.left x.block (x.offset + j)) = λ j l.
     small_after D os.0 d c (on_left c.side) m.left n.left x.block x.offset j h
-    (small_bytes os.0 m.left (size_of d x.what) x.what x.maybe x.block x.offset says.datum (says.stands.left (w.left on)) j l) in
+    (small_bytes os.0 m.left (size_of d x.what) x.what x.maybe x.block x.offset says.datum (says.stands.left (w.left
+    on)) j l) in
     record {
       datum = Some (int (number_here os.0 t n.left x.block x.offset));
       allowed = blurred_allowed D law os.0 d n.left x.what t x.block x.offset e small;
-      stands = record { left = λ g. blurred_bytes os.0 d n.left x.what t x.block x.offset e small; right = λ g. absurd (off g) };
+      stands = record {
+        left = λ g. blurred_bytes os.0 d n.left x.what t x.block x.offset e small;
+        right = λ g.
+            absurd (off g);
+      };
     }
 
-blurred_right : {N : Type 0} (D : Ops N) → Lawful D → (os : Order × Order) (d : Model) (m n : Memories) (c x : Cell N) (s : Side) (t : IntType) → x.what ≡ Int t → Within s x.side
-    → on_right s ≡ true → (on_left s ≡ true → ⊥) → MayBeWritten D os.1 d c (on_right c.side) m.right n.right → Says D os d m x
-    → Says D os d n (record { side = s; block = x.block; offset = x.offset; what = x.what; value = Some (Num (D.top t)); maybe = true; form = None })
+blurred_right : {N : Type 0} (D : Ops N) → Lawful D
+    → (os : Order × Order) (d : Model) (m n : Memories) (c x : Cell N) (s : Side) (t : IntType) → x.what ≡ Int t
+    → Within s x.side
+    → on_right s ≡ true → (on_left s ≡ true → ⊥) → MayBeWritten D os.1 d c (on_right c.side) m.right n.right → Says D
+    os d m x
+    → Says D os d n (record {
+      side = s;
+      block = x.block;
+      offset = x.offset;
+      what = x.what;
+      value = Some (Num (D.top
+          t));
+      maybe = true;
+      form = None;
+    })
 blurred_right D law os d m n c x s t e w on off h says =
     let small : (j : ℕ) → j < size_of d x.what → IsSmall (n.right x.block (x.offset + j)) = λ j l.
     small_after D os.1 d c (on_right c.side) m.right n.right x.block x.offset j h
-    (small_bytes os.1 m.right (size_of d x.what) x.what x.maybe x.block x.offset says.datum (says.stands.right (w.right on)) j l) in
+    (small_bytes os.1 m.right (size_of d x.what) x.what x.maybe x.block x.offset says.datum (says.stands.right
+    (w.right on)) j l) in
     record {
       datum = Some (int (number_here os.1 t n.right x.block x.offset));
       allowed = blurred_allowed D law os.1 d n.right x.what t x.block x.offset e small;
-      stands = record { left = λ g. absurd (off g); right = λ g. blurred_bytes os.1 d n.right x.what t x.block x.offset e small };
+      stands = record {
+        left = λ g. absurd (off g);
+        right = λ g. blurred_bytes os.1 d n.right x.what t x.block
+            x.offset e small;
+      };
     }
 
 some_memory : (s : Side) → on_left s ≡ false → on_right s ≡ true
@@ -430,35 +663,57 @@ some_memory Left e = absurd (cc)
 some_memory Right e = refl
 some_memory Shared e = absurd (cc)
 
-blurred_says : {N : Type 0} (D : Ops N) → Lawful D → (os : Order × Order) (d : Model) (m n : Memories) (c x : Cell N) (s : Side) (t : IntType) → x.what ≡ Int t → Within s x.side
+blurred_says : {N : Type 0} (D : Ops N) → Lawful D
+    → (os : Order × Order) (d : Model) (m n : Memories) (c x : Cell N) (s : Side) (t : IntType) → x.what ≡ Int t
+    → Within s x.side
     → (on_left s && on_right s) ≡ false → Sides D os d c m n → Says D os d m x
-    → Says D os d n (record { side = s; block = x.block; offset = x.offset; what = x.what; value = Some (Num (D.top t)); maybe = true; form = None })
+    → Says D os d n (record {
+      side = s;
+      block = x.block;
+      offset = x.offset;
+      what = x.what;
+      value = Some (Num (D.top
+          t));
+      maybe = true;
+      form = None;
+    })
 blurred_says D law os d m n c x s t e w one h says =
     ⊎_elim
     (λ on. blurred_left D law os d m n c x s t e w on (λ g. one_memory (on_left s) (on_right s) one on g) h.left says)
-    (λ off. blurred_right D law os d m n c x s t e w (some_memory s off) (λ g. both_ways (on_left s) off g) h.right says)
+    (λ off. blurred_right D law os d m n c x s t e w (some_memory s off) (λ g. both_ways (on_left s) off g) h.right
+    says)
     (cases_Bool (on_left s))
 
-sides_of : {N : Type 0} (D : Ops N) (k : Known N) (c : Cell N) (stays : Bool) (m n : Memories) → MayBeWeaklyWritten D k c stays m n → Sides D k.orders k.model c m n
+sides_of : {N : Type 0} (D : Ops N) (k : Known N) (c : Cell N) (stays : Bool) (m n : Memories)
+    → MayBeWeaklyWritten D k c stays m n → Sides D k.orders k.model c m n
 sides_of D k c stays m n w = record { left = left_of D k c stays m n w; right = right_of D k c stays m n w }
 
-after_says : {N : Type 0} (D : Ops N) → Lawful D → (k : Known N) (m n : Memories) (c x y : Cell N) (stays : Bool) → IsCell k.model c → IsCell k.model x → MayBeWeaklyWritten D k c stays m n
+after_says : {N : Type 0} (D : Ops N) → Lawful D → (k : Known N) (m n : Memories) (c x y : Cell N) (stays : Bool)
+    → IsCell k.model c → IsCell k.model x → MayBeWeaklyWritten D k c stays m n
     → AfterWeak D k.model c stays x y → Says D k.orders k.model m x → Says D k.orders k.model n y
 after_says D law k m n c x y stays p q w (beside e t) says =
-    subst (Says D k.orders k.model n) (sym e) (kept_says D k.orders k.model m n x x (kept_beside D k.orders k.model c x m n (sides_of D k c stays m n w) t) says)
+    subst (Says D k.orders k.model n) (sym e) (kept_says D k.orders k.model m n x x (kept_beside D k.orders k.model c
+    x m n (sides_of D k c stays m n w) t) says)
 after_says D law k m n c x y stays p q w (other t e i) says =
-    subst (Says D k.orders k.model n) (sym e) (kept_says D k.orders k.model m n x (record x { side = t }) (kept_other D k.orders k.model c x m n t (sides_of D k c stays m n w) i) says)
+    subst (Says D k.orders k.model n) (sym e) (kept_says D k.orders k.model m n x (record x { side = t }) (kept_other
+    D k.orders k.model c x m n t (sides_of D k c stays m n w) i) says)
 after_says D law k m n c x y stays p q w (joined j) says =
-    subst (Says D k.orders k.model n) (sym j.is) (joined_by D law k m n c x stays j.side j.same p q j.within j.written j.one w says)
+    subst (Says D k.orders k.model n) (sym j.is) (joined_by D law k m n c x stays j.side j.same p q j.within
+    j.written j.one w says)
 after_says D law k m n c x y stays p q w (blurry j) says =
-    subst (Says D k.orders k.model n) (sym j.is) (blurred_says D law k.orders k.model m n c x j.side j.t j.what j.within j.one (sides_of D k c stays m n w) says)
+    subst (Says D k.orders k.model n) (sym j.is) (blurred_says D law k.orders k.model m n c x j.side j.t j.what
+    j.within j.one (sides_of D k c stays m n w) says)
 
-after_number : {N : Type 0} (D : Ops N) (os : Order × Order) (d : Model) (m n : Memories) (cs : List (Cell N)) (c x y : Cell N) (stays : Bool) → Sides D os d c m n → Fits d x
-    → AfterWeak D d c stays x y → Says D os d m x → HasForm cs x → IfSome x.form (FormSays os m x) → IfSome y.form (λ ss. HasNumber os n y y.what (form_number (numbers_of os m) ss))
+after_number : {N : Type 0} (D : Ops N) (os : Order × Order) (d : Model) (m n : Memories) (cs : List (Cell N)) (c x y
+    : Cell N) (stays : Bool) → Sides D os d c m n → Fits d x
+    → AfterWeak D d c stays x y → Says D os d m x → HasForm cs x → IfSome x.form (FormSays os m x) → IfSome y.form (λ
+    ss. HasNumber os n y y.what (form_number (numbers_of os m) ss))
 after_number D os d m n cs c x y stays w f (beside e t) says form holds =
-    numbers_kept D os d m n cs x y x.side e (subst (IsKept D os d m n x) (sym e) (kept_beside D os d c x m n w t)) f says form holds
+    numbers_kept D os d m n cs x y x.side e (subst (IsKept D os d m n x) (sym e) (kept_beside D os d c x m n w t)) f
+    says form holds
 after_number D os d m n cs c x y stays w f (other t e i) says form holds =
-    numbers_kept D os d m n cs x y t e (subst (IsKept D os d m n x) (sym e) (kept_other D os d c x m n t w i)) f says form holds
+    numbers_kept D os d m n cs x y t e (subst (IsKept D os d m n x) (sym e) (kept_other D os d c x m n t w i)) f says
+    form holds
 after_number D os d m n cs c x y stays w f (joined j) says form holds =
     subst (λ z. IfSome z.form (λ ss. HasNumber os n z z.what (form_number (numbers_of os m) ss))) (sym j.is) tt
 after_number D os d m n cs c x y stays w f (blurry j) says form holds =
@@ -472,28 +727,34 @@ first_in x Right e = subst (λ (s : Side). IsIn (record x { side = s }) (x ∷ [
 first_in x Shared e = first _
 
 not_shared : (s t : Side) → share_memory s t ≡ false → s ≡ Shared → ⊥
-not_shared s t h e = both_ways (share_memory Shared t) (subst (λ (q : Side). share_memory q t ≡ false) e h) (shared_all t)
+not_shared s t h e = both_ways (share_memory Shared t) (subst (λ (q : Side). share_memory q t ≡ false) e h)
+    (shared_all t)
 
 stays_false : (stays : Bool) (s t : Side) → (stays ≡ true → s ≡ Shared) → share_memory s t ≡ false → stays ≡ false
 stays_false true s t i h = absurd (not_shared s t h (i refl))
 stays_false false s t i h = refl
 
-own_part_in : {N : Type 0} (D : Ops N) (c z : Cell N) (b : Bool) → b ≡ false → IsIn z (cond b (weak_cell D c z) (z ∷ []))
+own_part_in : {N : Type 0} (D : Ops N) (c z : Cell N) (b : Bool) → b ≡ false
+    → IsIn z (cond b (weak_cell D c z) (z ∷ []))
 own_part_in D c z true e = absurd (cc)
 own_part_in D c z false e = first []
 
-part_in : {N : Type 0} (D : Ops N) (c x : Cell N) → share_memory c.side (first_part x.side) ≡ false → IsIn (record x { side = first_part x.side }) (each_becomes (weak_part D c) (parts_of x))
+part_in : {N : Type 0} (D : Ops N) (c x : Cell N) → share_memory c.side (first_part x.side) ≡ false
+    → IsIn (record x { side = first_part x.side }) (each_becomes (weak_part D c) (parts_of x))
 part_in D c x h =
     let z = record x { side = first_part x.side } in
-    each_in (weak_part D c) z z (parts_of x) (first_in x x.side refl) (own_part_in D c z (share_memory c.side (first_part x.side)) h)
+    each_in (weak_part D c) z z (parts_of x) (first_in x x.side refl) (own_part_in D c z (share_memory c.side
+    (first_part x.side)) h)
 
-stays_in : {N : Type 0} (D : Ops N) (c x z : Cell N) (stays b : Bool) → stays ≡ false → (stays && is_same_place c x) ≡ b → IsIn z (each_becomes (weak_part D c) (parts_of x))
+stays_in : {N : Type 0} (D : Ops N) (c x z : Cell N) (stays b : Bool) → stays ≡ false
+    → (stays && is_same_place c x) ≡ b → IsIn z (each_becomes (weak_part D c) (parts_of x))
     → IsIn z (cond b (weak_cell D c x) (each_becomes (weak_part D c) (parts_of x)))
 stays_in D c x z true b e f h = absurd (cc)
 stays_in D c x z false true e f h = absurd (cc)
 stays_in D c x z false false e f h = h
 
-shared_by : {N : Type 0} (x : Cell N) (l : List (Cell N)) (a e : CellName) (q : Side) (b : Bool) → IsNamed a x → share_memory q (first_part a.side) ≡ b
+shared_by : {N : Type 0} (x : Cell N) (l : List (Cell N)) (a e : CellName) (q : Side) (b : Bool) → IsNamed a x
+    → share_memory q (first_part a.side) ≡ b
     → (share_memory q (first_part x.side) ≡ false → IsIn (record x { side = first_part x.side }) l)
     → cond b None (Some (record a { side = first_part a.side })) ≡ Some e → Follows x l e
 shared_by x l a e q true i f h k = absurd (cc)
@@ -502,44 +763,64 @@ shared_by x l a e q false i f h k =
     record {
       side = first_part x.side;
       is_in = h (subst (λ (s : Side). share_memory q (first_part s) ≡ false) (sym i.side) f);
-      named = subst (λ z. IsNamed z (record x { side = first_part x.side })) is (record { side = ap first_part i.side; block = i.block; offset = i.offset; what = i.what });
+      named = subst (λ z. IsNamed z (record x { side = first_part x.side })) is (record {
+        side = ap first_part
+            i.side;
+        block = i.block;
+        offset = i.offset;
+        what = i.what;
+      });
     }
 
-touched_by : {N : Type 0} (D : Ops N) (d : Model) (c x : Cell N) (stays : Bool) (a e : CellName) (b : Bool) → IsNamed a x → (stays ≡ true → c.side ≡ Shared)
-    → cond b (cond (share_memory c.side (first_part a.side)) None (Some (record a { side = first_part a.side }))) (Some a) ≡ Some e
-    → Follows x (cond (not b) (x ∷ []) (cond (stays && is_same_place c x) (weak_cell D c x) (each_becomes (weak_part D c) (parts_of x)))) e
+touched_by : {N : Type 0} (D : Ops N) (d : Model) (c x : Cell N) (stays : Bool) (a e : CellName) (b : Bool)
+    → IsNamed a x → (stays ≡ true → c.side ≡ Shared)
+    → cond b (cond (share_memory c.side (first_part a.side)) None (Some (record a { side = first_part a.side })))
+    (Some a) ≡ Some e
+    → Follows x (cond (not b) (x ∷ []) (cond (stays && is_same_place c x) (weak_cell D c x) (each_becomes (weak_part
+    D c) (parts_of x)))) e
 touched_by D d c x stays a e true i s h =
-    shared_by x (cond (stays && is_same_place c x) (weak_cell D c x) (each_becomes (weak_part D c) (parts_of x))) a e c.side (share_memory c.side (first_part a.side)) i refl
-    (λ f. stays_in D c x (record x { side = first_part x.side }) stays (stays && is_same_place c x) (stays_false stays c.side (first_part x.side) s f) refl (part_in D c x f)) h
+    shared_by x (cond (stays && is_same_place c x) (weak_cell D c x) (each_becomes (weak_part D c) (parts_of x))) a e
+    c.side (share_memory c.side (first_part a.side)) i refl
+    (λ f. stays_in D c x (record x { side = first_part x.side }) stays (stays && is_same_place c x) (stays_false
+    stays c.side (first_part x.side) s f) refl (part_in D c x f)) h
 touched_by D d c x stays a e false i s h =
     let is : a ≡ e = cc in
     record { side = x.side; is_in = first []; named = subst (λ z. IsNamed z x) is i }
 
-follows_weak : {N : Type 0} (D : Ops N) (d : Model) (c x : Cell N) (stays : Bool) (a e : CellName) → IsNamed a x → (stays ≡ true → c.side ≡ Shared)
+follows_weak : {N : Type 0} (D : Ops N) (d : Model) (c x : Cell N) (stays : Bool) (a e : CellName) → IsNamed a x
+    → (stays ≡ true → c.side ≡ Shared)
     → fate_by_weak_write (place_of d c) a ≡ Some e → Follows x (left_by_weak_write D d c stays x) e
 follows_weak D d c x stays a e i s h =
-    subst (λ z. Follows x (cond (not (touches (place_of d c) z)) (x ∷ []) (cond (stays && is_same_place c x) (weak_cell D c x) (each_becomes (weak_part D c) (parts_of x)))) e) (sym (place_named d a x i))
+    subst (λ z. Follows x (cond (not (touches (place_of d c) z)) (x ∷ []) (cond (stays && is_same_place c x)
+    (weak_cell D c x) (each_becomes (weak_part D c) (parts_of x)))) e) (sym (place_named d a x i))
     (touched_by D d c x stays a e (touches (place_of d c) (place_of_name a)) i s h)
 
 -- the cell that a mention follows is kept: where the place touches it, its side isn't written
-apart_by : (p : Place) (a e : CellName) (b : Bool) → share_memory p.side (first_part a.side) ≡ b → cond b None (Some (record a { side = first_part a.side })) ≡ Some e
+apart_by : (p : Place) (a e : CellName) (b : Bool) → share_memory p.side (first_part a.side) ≡ b
+    → cond b None (Some (record a { side = first_part a.side })) ≡ Some e
     → share_memory p.side e.side ≡ false
 apart_by p a e true f k = absurd (cc)
-apart_by p a e false f k = let is : record a { side = first_part a.side } ≡ e = cc in subst (λ z. share_memory p.side z.side ≡ false) is f
+apart_by p a e false f k = let is : record a { side = first_part a.side } ≡ e = cc in subst (λ z. share_memory p.side
+    z.side ≡ false) is f
 
-touched_apart : (p : Place) (a e : CellName) (b : Bool) → b ≡ true → cond b (cond (share_memory p.side (first_part a.side)) None (Some (record a { side = first_part a.side }))) (Some a) ≡ Some e
+touched_apart : (p : Place) (a e : CellName) (b : Bool) → b ≡ true
+    → cond b (cond (share_memory p.side (first_part a.side)) None (Some (record a { side = first_part a.side })))
+    (Some a) ≡ Some e
     → share_memory p.side e.side ≡ false
 touched_apart p a e true g h = apart_by p a e (share_memory p.side (first_part a.side)) refl h
 touched_apart p a e false g h = absurd (cc)
 
-kept_after : {N : Type 0} (D : Ops N) (os : Order × Order) (d : Model) (m n : Memories) (c x : Cell N) (s : Side) (stays : Bool) → Sides D os d c m n
-    → (touches (place_of d c) (place_of d x) ≡ true → share_memory c.side s ≡ false) → Within s x.side → s ≡ x.side ⊎ (touches (place_of d c) (place_of d x) ≡ true) → IsKept D os d m n x (record x { side = s })
+kept_after : {N : Type 0} (D : Ops N) (os : Order × Order) (d : Model) (m n : Memories) (c x : Cell N) (s : Side)
+    (stays : Bool) → Sides D os d c m n
+    → (touches (place_of d c) (place_of d x) ≡ true → share_memory c.side s ≡ false) → Within s x.side → s ≡ x.side ⊎
+    (touches (place_of d c) (place_of d x) ≡ true) → IsKept D os d m n x (record x { side = s })
 kept_after D os d m n c x s stays w h i (inl e) =
     ⊎_elim
     (λ t. kept_other D os d c x m n s w (rest_of_unshared c.side s x.side (h t) i))
     (λ t. subst (λ (q : Side). IsKept D os d m n x (record x { side = q })) (sym e) (kept_beside D os d c x m n w t))
     (cases_Bool (touches (place_of d c) (place_of d x)))
-kept_after D os d m n c x s stays w h i (inr t) = kept_other D os d c x m n s w (rest_of_unshared c.side s x.side (h t) i)
+kept_after D os d m n c x s stays w h i (inr t) = kept_other D os d c x m n s w (rest_of_unshared c.side s x.side (h
+    t) i)
 
 first_within : (s : Side) → Within (first_part s) s
 first_within Left = within_itself Left
@@ -547,7 +828,8 @@ first_within Right = within_itself Right
 first_within Shared = within_shared Left
 
 -- which side it is on
-side_by : (p : Place) (a e : CellName) (b c : Bool) → cond b (cond c None (Some (record a { side = first_part a.side }))) (Some a) ≡ Some e
+side_by : (p : Place) (a e : CellName) (b c : Bool)
+    → cond b (cond c None (Some (record a { side = first_part a.side }))) (Some a) ≡ Some e
     → ((e.side ≡ a.side) ⊎ (b ≡ true)) × Within e.side a.side
 side_by p a e true true h = absurd (cc)
 side_by p a e true false h =
@@ -557,8 +839,10 @@ side_by p a e false c h =
     let is : a ≡ e = cc in
     (inl (ap (λ z. z.side) (sym is)), subst (λ z. Within z.side a.side) is (within_itself a.side))
 
-weak_keeps : {N : Type 0} (D : Ops N) (os : Order × Order) (d : Model) (m n : Memories) (c : Cell N) (stays : Bool) (cs : List (Cell N)) (a e : CellName) → AreCells d cs
-    → ((x : Cell N) → IsIn x cs → Says D os d m x) → (stays ≡ true → c.side ≡ Shared) → Sides D os d c m n → IsThere a cs → fate_by_weak_write (place_of d c) a ≡ Some e → numbers_of os n e ≡ numbers_of os m a
+weak_keeps : {N : Type 0} (D : Ops N) (os : Order × Order) (d : Model) (m n : Memories) (c : Cell N) (stays : Bool)
+    (cs : List (Cell N)) (a e : CellName) → AreCells d cs
+    → ((x : Cell N) → IsIn x cs → Says D os d m x) → (stays ≡ true → c.side ≡ Shared) → Sides D os d c m n → IsThere
+    a cs → fate_by_weak_write (place_of d c) a ≡ Some e → numbers_of os n e ≡ numbers_of os m a
 weak_keeps D os d m n c stays cs a e cells says s w t h =
     let f = follows_weak D d c t.cell stays a e t.named s h in
     let y = record t.cell { side = f.side } in
@@ -569,9 +853,11 @@ weak_keeps D os d m n c stays cs a e cells says s w t h =
     let apart : touches (place_of d c) (place_of d t.cell) ≡ true → share_memory c.side f.side ≡ false = λ g.
     subst (λ (q : Side). share_memory c.side q ≡ false) (sym same)
     (touched_apart (place_of d c) a e b (subst (λ z. touches (place_of d c) z ≡ true) place g) h) in
-    let within : Within f.side t.cell.side = subst (λ (q : Side). Within q t.cell.side) (sym same) (subst (Within e.side) (sym t.named.side) side.1) in
+    let within : Within f.side t.cell.side = subst (λ (q : Side). Within q t.cell.side) (sym same) (subst (Within
+    e.side) (sym t.named.side) side.1) in
     let where_it_is : (f.side ≡ t.cell.side) ⊎ (touches (place_of d c) (place_of d t.cell) ≡ true) =
-    ⊎_elim (λ g. inl (same ∙ g ∙ sym t.named.side)) (λ g. inr (subst (λ z. touches (place_of d c) z ≡ true) (sym place) g)) side.0 in
+    ⊎_elim (λ g. inl (same ∙ g ∙ sym t.named.side)) (λ g. inr (subst (λ z. touches (place_of d c) z ≡ true) (sym
+    place) g)) side.0 in
     keeps_kept D os d m n t.cell y a e (kept_after D os d m n c t.cell f.side stays w apart within where_it_is)
     (cells.each t.cell t.is_in).fits t.sure (says t.cell t.is_in) refl t.named f.named
 
@@ -580,12 +866,16 @@ weak_keeps D os d m n c stays cs a e cells says s w t h =
 abbrev all_left : {N : Type 0} → Ops N → Model → Cell N → Bool → List (Cell N) → List (Cell N)
 all_left D d c stays cs = each_becomes (left_by_weak_write D d c stays) cs
 
-by_origin : {N : Type 0} (D : Ops N) (d : Model) (c : Cell N) (stays : Bool) (cs : List (Cell N)) (P : Cell N → Type 0) → (stays ≡ true → c.side ≡ Shared)
-    → ((x y : Cell N) → IsIn x cs → AfterWeak D d c stays x y → P y) → (y : Cell N) → IsIn y (all_left D d c stays cs) → P y
+by_origin : {N : Type 0} (D : Ops N) (d : Model) (c : Cell N) (stays : Bool) (cs : List (Cell N)) (P : Cell N
+    → Type 0) → (stays ≡ true → c.side ≡ Shared)
+    → ((x y : Cell N) → IsIn x cs → AfterWeak D d c stays x y → P y) → (y : Cell N) → IsIn y (all_left D d c stays
+    cs) → P y
 by_origin D d c stays cs P s old y h =
-    let r = in_each (left_by_weak_write D d c stays) y cs h in old r.origin y r.is_in (after_weak D d c r.origin y stays s r.becomes)
+    let r = in_each (left_by_weak_write D d c stays) y cs h in old r.origin y r.is_in (after_weak D d c r.origin y
+    stays s r.becomes)
 
-there_after : {N : Type 0} (D : Ops N) (d : Model) (c : Cell N) (stays : Bool) (cs : List (Cell N)) (a e : CellName) → (stays ≡ true → c.side ≡ Shared) → IsThere a cs
+there_after : {N : Type 0} (D : Ops N) (d : Model) (c : Cell N) (stays : Bool) (cs : List (Cell N)) (a e : CellName)
+    → (stays ≡ true → c.side ≡ Shared) → IsThere a cs
     → fate_by_weak_write (place_of d c) a ≡ Some e → IsThere e (all_left D d c stays cs)
 there_after D d c stays cs a e s t h =
     let f = follows_weak D d c t.cell stays a e t.named s h in
@@ -596,28 +886,38 @@ there_after D d c stays cs a e s t h =
       sure = t.sure;
     }
 
-weak_change : {N : Type 0} (D : Ops N) → Lawful D → (d : Model) (c : Cell N) (stays : Bool) (cs : List (Cell N)) → AreCells d cs → IsCell d c → (stays ≡ true → c.side ≡ Shared)
+weak_change : {N : Type 0} (D : Ops N) → Lawful D → (d : Model) (c : Cell N) (stays : Bool) (cs : List (Cell N))
+    → AreCells d cs → IsCell d c → (stays ≡ true → c.side ≡ Shared)
     → IsChange d cs (all_left D d c stays cs) (fate_by_weak_write (place_of d c))
 weak_change D law d c stays cs a p s = record {
   each = by_origin D d c stays cs (IsCell d) s (λ x y k w. after_cell D law d c stays x y p w (a.each x k));
-  pairs = pairs_each (AreApart d) (left_by_weak_write D d c stays) cs a.pairs (λ x k. own_touch D d c x stays (touches (place_of d c) (place_of d x)))
-      (λ x y u v r i j. apart_made d x y u v r (after_made D d c stays x u (after_weak D d c x u stays s i)) (after_made D d c stays y v (after_weak D d c y v stays s j)));
+  pairs = pairs_each (AreApart d) (left_by_weak_write D d c stays) cs a.pairs (λ x k. own_touch D d c x stays
+      (touches (place_of d c) (place_of d x)))
+      (λ x y u v r i j. apart_made d x y u v r (after_made D d c stays x u (after_weak D d c x u stays s i))
+      (after_made D d c stays y v (after_weak D d c y v stays s j)));
   forms = by_origin D d c stays cs (HasForm cs) s (λ x y k w. after_form D d cs c stays x y w (a.forms x k));
   fates = λ n e t h. there_after D d c stays cs n e s t h;
 }
 
-pub weak_cells : {N : Type 0} (D : Ops N) → Lawful D → (d : Model) (c : Cell N) (stays : Bool) (cs : List (Cell N)) → AreCells d cs → IsCell d c → (stays ≡ true → c.side ≡ Shared)
+pub weak_cells : {N : Type 0} (D : Ops N) → Lawful D → (d : Model) (c : Cell N) (stays : Bool) (cs : List (Cell N))
+    → AreCells d cs → IsCell d c → (stays ≡ true → c.side ≡ Shared)
     → AreCells d (weakened D d c stays cs)
-weak_cells D law d c stays cs a p s = change_cells d cs (all_left D d c stays cs) (fate_by_weak_write (place_of d c)) (weak_change D law d c stays cs a p s)
+weak_cells D law d c stays cs a p s = change_cells d cs (all_left D d c stays cs) (fate_by_weak_write (place_of d c))
+    (weak_change D law d c stays cs a p s)
 
-pub weak_holds : {N : Type 0} (D : Ops N) → Lawful D → (k : Known N) (m n : Memories) (c : Cell N) (stays : Bool) → AreCells k.model k.cells → IsCell k.model c → (stays ≡ true → c.side ≡ Shared)
+pub weak_holds : {N : Type 0} (D : Ops N) → Lawful D → (k : Known N) (m n : Memories) (c : Cell N) (stays : Bool)
+    → AreCells k.model k.cells → IsCell k.model c → (stays ≡ true → c.side ≡ Shared)
     → In D k m → MayBeWeaklyWritten D k c stays m n → In D (record k { cells = weakened D k.model c stays k.cells }) n
 weak_holds D law k m n c stays a p s i w =
     let sides = sides_of D k c stays m n w in
-    change_holds D k.orders k.model m n k.cells (all_left D k.model c stays k.cells) (fate_by_weak_write (place_of k.model c)) (weak_change D law k.model c stays k.cells a p s)
+    change_holds D k.orders k.model m n k.cells (all_left D k.model c stays k.cells) (fate_by_weak_write (place_of
+    k.model c)) (weak_change D law k.model c stays k.cells a p s)
     (record {
-      says = by_origin D k.model c stays k.cells (Says D k.orders k.model n) s (λ x y j r. after_says D law k m n c x y stays p (a.each x j) w r (i.cells x j));
-      numbers = by_origin D k.model c stays k.cells (λ y. IfSome y.form (λ ss. HasNumber k.orders n y y.what (form_number (numbers_of k.orders m) ss))) s
-          (λ x y j r. after_number D k.orders k.model m n k.cells c x y stays sides (a.each x j).fits r (i.cells x j) (a.forms x j) (i.forms x j));
+      says = by_origin D k.model c stays k.cells (Says D k.orders k.model n) s (λ x y j r. after_says D law k m n c x
+          y stays p (a.each x j) w r (i.cells x j));
+      numbers = by_origin D k.model c stays k.cells (λ y. IfSome y.form (λ ss. HasNumber k.orders n y y.what
+          (form_number (numbers_of k.orders m) ss))) s
+          (λ x y j r. after_number D k.orders k.model m n k.cells c x y stays sides (a.each x j).fits r (i.cells x j)
+          (a.forms x j) (i.forms x j));
       keeps = λ x e t h. weak_keeps D k.orders k.model m n c stays k.cells x e a i.cells s sides t h;
     })

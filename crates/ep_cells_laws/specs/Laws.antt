@@ -15,20 +15,24 @@ use Rattle.ep_cells.specs.Reshare.{reshared}
 use Rattle.ep_cells_laws.specs.Sound.{WriteHolds, WeakWriteHolds, KillHolds, HoldsOfBoth, HoldsOfMore}
 
 pub record WriteLaws {N : Type 0} (D : Ops N) : Type 0 where
-  pub cells : (d : Model) (c : Cell N) (cs : List (Cell N)) → AreCells d cs → CanWrite d c cs → HasRisingBlocks c.value
+  pub cells : (d : Model) (c : Cell N) (cs : List (Cell N)) → AreCells d cs → CanWrite d c cs
+      → HasRisingBlocks c.value
       → AreCells d (written d c cs)
-  pub holds : (k : Known N) (c : Cell N) → AreCells k.model k.cells → CanWrite k.model c k.cells → HasRisingBlocks c.value
+  pub holds : (k : Known N) (c : Cell N) → AreCells k.model k.cells → CanWrite k.model c k.cells
+      → HasRisingBlocks c.value
       → WriteHolds D k c (record k { cells = written k.model c k.cells })
 
 -- k and the cells ys are of two states that have cells of the same sides, places and types
 pub record JoinLaws {N : Type 0} (D : Ops N) : Type 0 where
   pub join_cells : (d : Model) (xs ys : List (Cell N)) → AreCells d xs → AreCells d ys → HaveCellsAlike xs ys
       → AreCells d (joined D xs ys)
-  pub join_holds : (k : Known N) (ys : List (Cell N)) → AreCells k.model k.cells → AreCells k.model ys → HaveCellsAlike k.cells ys
+  pub join_holds : (k : Known N) (ys : List (Cell N)) → AreCells k.model k.cells → AreCells k.model ys
+      → HaveCellsAlike k.cells ys
       → HoldsOfBoth D k ys (joined D k.cells ys)
   pub widen_cells : (d : Model) (xs ys : List (Cell N)) → AreCells d xs → AreCells d ys → HaveCellsAlike xs ys
       → AreCells d (widened D xs ys)
-  pub widen_holds : (k : Known N) (ys : List (Cell N)) → AreCells k.model k.cells → AreCells k.model ys → HaveCellsAlike k.cells ys
+  pub widen_holds : (k : Known N) (ys : List (Cell N)) → AreCells k.model k.cells → AreCells k.model ys
+      → HaveCellsAlike k.cells ys
       → HoldsOfBoth D k ys (widened D k.cells ys)
 
 pub record InclusionLaws {N : Type 0} (D : Ops N) : Type 0 where
@@ -37,10 +41,15 @@ pub record InclusionLaws {N : Type 0} (D : Ops N) : Type 0 where
 
 -- Shared cells stay only under a Shared cell.
 pub record WeakWriteLaws {N : Type 0} (D : Ops N) : Type 0 where
-  pub cells : (d : Model) (c : Cell N) (stays : Bool) (cs : List (Cell N)) → AreCells d cs → Fits d c → HasRisingBlocks c.value
+  pub cells : (d : Model) (c : Cell N) (stays : Bool) (cs : List (Cell N)) → AreCells d cs → Fits d c
+      → HasRisingBlocks c.value
       → (stays ≡ true → c.side ≡ Shared) → AreCells d (weakened D d c stays cs)
-  pub holds : (k : Known N) (c : Cell N) (stays : Bool) → AreCells k.model k.cells → Fits k.model c → HasRisingBlocks c.value
-      → (stays ≡ true → c.side ≡ Shared) → WeakWriteHolds D k c stays (record k { cells = weakened D k.model c stays k.cells })
+  pub holds : (k : Known N) (c : Cell N) (stays : Bool) → AreCells k.model k.cells → Fits k.model c
+      → HasRisingBlocks c.value
+      → (stays ≡ true → c.side ≡ Shared) → WeakWriteHolds D k c stays (record k {
+        cells = weakened D k.model c stays
+            k.cells;
+      })
 
 -- The leaves rise, don't overlap and end inside the size, which is one of 32 bits.
 pub record KillLaws {N : Type 0} (D : Ops N) : Type 0 where

@@ -29,7 +29,8 @@ pub record AreKilled (s : Side) (block : ℕ) (m n : Memories) : Type 0 where
   pub left : IsKilled block (on_left s) m.left n.left
   pub right : IsKilled block (on_right s) m.right n.right
 
--- Outside of a place a memory is as it was, but that pointers that lie partly in the place are undefined (d is the data
+-- Outside of a place a memory is as it was, but that pointers that lie partly in the place are undefined (d is the
+-- data
 -- model).
 pub record IsBroken (d : Model) (p : Place) (m n : Memory) : Type 0 where
   pub beside : (b q : ℕ) → is_byte_of p b q ≡ false → n b q ≡ broken d m p.block p.offset p.bytes b q
