@@ -16,4 +16,5 @@ mod GivenRows
 mod ScopeRows
 mod ArmRows
 mod LoopRows
+mod OrderRows
 mod RunRows
