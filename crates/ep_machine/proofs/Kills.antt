@@ -1,5 +1,6 @@
 -- Blocks that become undefined, one after another.
-use Rattle.std.proofs.Common.{◌≡◌, ℕ, zero, suc, ◌+◌, ◌<◌, ◌≤◌, ◌||◌, Bool, true, false, List, [], ◌∷◌, ◌++◌, length, nat_eq, nat_lt, get_or, drop, map}
+use Rattle.std.proofs.Common.{◌≡◌, ℕ, zero, suc, ◌+◌, ◌<◌, ◌≤◌, ◌||◌, Bool, true, false, List, [], ◌∷◌, ◌++◌, length}
+use Rattle.std.proofs.Common.{nat_eq, nat_lt, get_or, drop, map}
 use Rattle.std.proofs.Common.{refl, sym, ap, ◌∙◌, if◌then◌else◌, arith}
 use Rattle.std.specs.List.{list_any}
 use Rattle.std.proofs.Math.Seq.{drop-cons}
@@ -29,7 +30,8 @@ killed_byte : (b : ℕ) (bs : List ℕ) (m : Memory) (c p : ℕ)
     → killed bs (killed (b ∷ []) m) c p ≡ killed (b ∷ bs) m c p
 killed_byte b bs m c p = by_test (nat_eq c b) (contains c bs)
   where
-    by_test : (t u : Bool) → (if u then undefined else forgotten bs (if t || false then undefined else forgotten (b ∷ []) (m c p)))
+    by_test : (t u : Bool) → (if u then undefined
+        else forgotten bs (if t || false then undefined else forgotten (b ∷ []) (m c p)))
         ≡ (if t || u then undefined else forgotten (b ∷ bs) (m c p))
     by_test true true = refl
     by_test true false = refl
@@ -106,7 +108,8 @@ killed_next i bs b d s r x h e k w =
 
 pub killed_end : (i : ℕ) (bs : List ℕ) (s x : State) → length bs ≤ i → without (drop i bs) s ≡ x → s ≡ x
 killed_end i bs s x h w =
-    ap (λ m. record s { memory = m }) (sym (killed_none s.memory)) ∙ ap (λ ds. without ds s) (sym (drop_past i bs h)) ∙ w
+    ap (λ m. record s { memory = m }) (sym (killed_none s.memory)) ∙ ap (λ ds. without ds s) (sym (drop_past i bs h))
+    ∙ w
 
 pub first_killed_next : (i : ℕ) (ps : List (ℕ × Scalar)) (p d : ℕ × Scalar) (s r x : State) → i < length ps
     → p ≡ get_or ps i d → r ≡ without (p.0 ∷ []) s → without (first_of (drop i ps)) s ≡ x

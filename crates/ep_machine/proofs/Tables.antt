@@ -1,5 +1,6 @@
 -- Types that a table doesn't have.
-use Rattle.std.proofs.Common.{◌≡◌, ℕ, zero, suc, ◌+◌, ◌≤◌, length, List, [], ◌∷◌, slice_get, Option, Some, None, refl, ap}
+use Rattle.std.proofs.Common.{◌≡◌, ℕ, zero, suc, ◌+◌, ◌≤◌, length, List, [], ◌∷◌, slice_get, Option, Some, None, refl}
+use Rattle.std.proofs.Common.{ap}
 use Rattle.std.proofs.Common.{unwrap_or, arith}
 use Rattle.std.specs.Option.{option_map}
 use Rattle.ep_layout.specs.Layout.{Layout}

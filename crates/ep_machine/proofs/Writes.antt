@@ -1,10 +1,12 @@
 -- Writes into a store, as steps of a machine.
 use Rattle.std.proofs.Common.{◌≡◌, ℕ, ◌+◌, ◌<◌, ℤ, pos, Bool, true, false, ◌&&◌, not, nat_eq, nat_lt, if◌then◌else◌}
-use Rattle.std.proofs.Common.{List, [], ◌∷◌, unsigned_abs, Option, Some, None, Result, Ok, Err, OnOk, OnErr, refl, sym, ap, ◌∙◌, subst}
+use Rattle.std.proofs.Common.{List, [], ◌∷◌, unsigned_abs, Option, Some, None, Result, Ok, Err, OnOk, OnErr, refl, sym}
+use Rattle.std.proofs.Common.{ap, ◌∙◌, subst}
 use Rattle.std.specs.Prelude.{⊤}
 use Rattle.ep_int.specs.declared.types.Model.{Model}
 use Rattle.ep_int.specs.declared.types.Scalar.{Scalar}
-use Rattle.ep_int.specs.Memory.{Memory, Value, Kind, bounds, overlap, copied, filled, is_outside, killed, overlaps, range_fault}
+use Rattle.ep_int.specs.Memory.{Memory, Value, Kind, bounds, overlap, copied, filled, is_outside, killed, overlaps}
+use Rattle.ep_int.specs.Memory.{range_fault}
 use Rattle.ep_int.specs.Memory.{replaced, store_fault, stored, undefined}
 use Rattle.ep_alarms.specs.declared.types.AlarmKind.{AlarmKind}
 use Rattle.ep_bytes.specs.Shown.{alarm_of, fault_at, written_as}
@@ -48,7 +50,8 @@ pub write_done : (f : Option Kind) (a : Result ⊤ AlarmKind) (r : Result ⊤ Fa
     → unless f l (state_in k) (go (remembers x (state_in k)))
     ≡ done r l (remembers (memory_in new) (state_in k)) (go (remembers (memory_in new) (state_in k)))
 write_done None a r ea er k old new x eo ok err l go =
-    let o : OnOk (written_as None) (memory_in new ≡ x) = subst (λ (z : Result ⊤ AlarmKind). OnOk z (memory_in new ≡ x)) ea ok in
+    let o : OnOk (written_as None) (memory_in new ≡ x) = subst (λ (z : Result ⊤ AlarmKind). OnOk z (memory_in new ≡ x))
+    ea ok in
     ap (λ y. go (remembers y (state_in k))) (sym o) ∙ sym (answered r l _ _ None er)
 write_done (Some y) a r ea er k old new x eo ok err l go =
     let o : OnErr (written_as (Some y)) (new ≡ old)
@@ -97,7 +100,8 @@ module _ (m : Setting) {v now : Kept} (view : v ≡ now) (runs : Runs m now) (ne
   kept_fits : MemoryFits (program_in m) (memory_in v.store)
   kept_fits = subst (λ (k : Kept). MemoryFits (program_in m) (memory_in k.store)) (sym view) runs.fits
 
-  written_runs : (x : Memory) → OnOk a (memory_in new ≡ x) → MemoryFits (program_in m) x → Runs m (record v { store = new })
+  written_runs : (x : Memory) → OnOk a (memory_in new ≡ x) → MemoryFits (program_in m) x
+      → Runs m (record v { store = new })
   written_runs x ok h = record {
     laid = like_laid m v.store new kept_laid like;
     fits = fits_after (MemoryFits (program_in m)) v.store new a x ok err kept_fits h;

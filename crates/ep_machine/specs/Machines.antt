@@ -1,8 +1,9 @@
 -- What a machine in memory stands for.
-use Rattle.std.specs.Prelude.{◌≡◌, ℕ, List, [], map, Option, Some, None, Result, Ok, Err}
-use Rattle.ep_int.specs.Memory.{Kind, Memory}
+use Rattle.std.specs.Prelude.{◌≡◌, ℕ, List, [], map, Option, Some, None, Result, Ok, Err, ⊤, Bool}
+use Rattle.ep_int.specs.Memory.{Kind, Memory, Value}
+use Rattle.ep_int.specs.declared.types.Scalar.{Scalar}
 use Rattle.ep_bytes.specs.Held.{Held, memory_in}
-use Rattle.ep_core.specs.Exec.{Output, State, Outcome, no_input, undefined_at}
+use Rattle.ep_core.specs.Exec.{Output, State, Outcome, leaves, on, no_input, undefined_at, change, copy_at, put_at}
 use Rattle.ep_core.specs.Typed.{MemoryFits}
 use Rattle.ep_values.specs.declared.fault.Fault.{Fault}
 use Rattle.ep_values.specs.declared.setting.Setting.{Setting}
@@ -62,3 +63,23 @@ after_input (Some v) s go = go v s
 abbrev pub fault_by : {A : Type 0} → Result A Fault → Option Kind
 fault_by (Ok u) = None
 fault_by (Err k) = Some (kind_of k)
+
+-- ---- writes of a machine of this setting: from the one state to the other, with this answer
+
+module _ (m : Setting) (old : State) (r : Result ⊤ Fault) (new : State) where
+  -- a value is stored, and what comes next
+  abbrev pub Puts : Scalar → (block here : ℕ) → Value → Type 0
+  Puts what b q v =
+      (l : ℕ) (go : State → Outcome)
+      → put_at m.order (program_in m) what b q v l old go ≡ done r l new (go new)
+
+  -- n bytes become those of another memory
+  abbrev pub Changes : (block here n : ℕ) → Memory → Type 0
+  Changes b q n x =
+      (l left : ℕ) → change m.order (program_in m) b q n x l left old ≡ done r l new (leaves on left new)
+
+  -- n bytes are copied; where it is the same place, nothing changes
+  abbrev pub Copies : (to from : ℕ × ℕ) → (n : ℕ) → (same : Bool) → Type 0
+  Copies to from n same =
+      (l left : ℕ) → copy_at m.order (program_in m) to.0 to.1 from.0 from.1 n same l left old
+      ≡ done r l new (leaves on left new)

@@ -1,18 +1,22 @@
 //! A machine in a run.
 
-ghost use Rattle.std.specs.Prelude.{◌≡◌, ◌+◌, ◌<◌, ◌≤◌, ◌^◌, ◌&&◌, ◌++◌, [], ◌∷◌, ℕ, ℤ, Bool, Option, IfOk, OnOk, drop, length, map};
+ghost use Rattle.std.specs.Prelude.{◌≡◌, ◌+◌, ◌<◌, ◌≤◌, ◌^◌, ◌&&◌, ◌++◌, [], ◌∷◌, ℕ, ℤ, Bool, Option, IfOk, OnOk, drop};
+ghost use Rattle.std.specs.Prelude.{length, map};
 ghost use Rattle.std.specs.Prelude.{nat_eq, take as front, unwrap_or, vec_len, slice_get};
 ghost use Rattle.ep_int.specs.Memory.{filled, replaced, undefined};
 ghost use Rattle.ep_bytes.specs.Held.{memory_in};
 ghost use Rattle.ep_bytes.specs.Shown.{value_in, written_as};
-ghost use Rattle.ep_core.specs.Exec.{State, Outcome, Output as PlainOutput, leaves, on as at_end, byte_out, bytes_in as bytes_of_type};
-ghost use Rattle.ep_core.specs.Exec.{change, cleared, copy_at, first_of, listed, put_at, put_out, taken, unless, without};
+ghost use Rattle.ep_core.specs.Exec.{State, Outcome, Output as PlainOutput, leaves, on as at_end, byte_out};
+ghost use Rattle.ep_core.specs.Exec.{bytes_in as bytes_of_type};
+ghost use Rattle.ep_core.specs.Exec.{change, cleared, copy_at, first_of, listed, put_at, put_out, taken, unless};
+ghost use Rattle.ep_core.specs.Exec.{without};
 ghost use Rattle.ep_core.specs.Typed.{ValueFits};
 ghost use Rattle.ep_core.specs.View.{shown_expr, shown_place};
 ghost use Rattle.ep_int.specs.Memory.{range_fault, Kind};
 ghost use Rattle.ep_values.specs.Faults.{found_by};
 ghost use Rattle.ep_values.specs.Settings.{address_on, loaded_on, program_in, size_on, value_on, ExprFits, PlaceFits};
-ghost use Rattle.ep_machine.specs.Machines.{after_input, begun, done, fault_by, state_in, Kept, Runs};
+ghost use Rattle.ep_machine.specs.Machines.{after_input, begun, done, fault_by, state_in};
+ghost use Rattle.ep_machine.specs.Machines.{Changes, Copies, Kept, Puts, Runs};
 
 use crate::output::Output;
 use ep_alarms::AlarmKind;
@@ -108,7 +112,7 @@ impl Machine {
         requires runs { Runs on.now self.old }
         requires fits { ValueFits (program_in on.now) what (value_in v) }
         ensures runs { Runs on.now self.new }
-        ensures puts { (l : ℕ) (go : State → Outcome) → put_at on.now.order (program_in on.now) what block here (value_in v) l (state_in self.old) go ≡ done result l (state_in self.new) (go (state_in self.new)) }
+        ensures puts { Puts on.now (state_in self.old) result (state_in self.new) what block here (value_in v) }
     {
         if block as usize >= on.program.blocks.len() {
             return Err(Fault::Bounds);
@@ -128,7 +132,8 @@ impl Machine {
         requires runs { Runs on.now self.old }
         requires there { block < length (program_in on.now).blocks }
         ensures runs { Runs on.now self.new }
-        ensures fills { (l left : ℕ) → change on.now.order (program_in on.now) block here n (filled self.old.store.model (memory_in self.old.store) block here n byte) l left (state_in self.old) ≡ done result l (state_in self.new) (leaves at_end left (state_in self.new)) }
+        ensures fills { Changes on.now (state_in self.old) result (state_in self.new) block here n
+            (filled self.old.store.model (memory_in self.old.store) block here n byte) }
     {
         written(self.store.fill((block, i64::from(here)), byte, n))
     }
@@ -146,7 +151,8 @@ impl Machine {
         requires to { to.0 < length (program_in on.now).blocks }
         requires from { from.0 < length (program_in on.now).blocks }
         ensures runs { Runs on.now self.new }
-        ensures copies { (l left : ℕ) → copy_at on.now.order (program_in on.now) to.0 to.1 from.0 from.1 n (is_assignment && (nat_eq to.0 from.0 && nat_eq to.1 from.1)) l left (state_in self.old) ≡ done result l (state_in self.new) (leaves at_end left (state_in self.new)) }
+        ensures copies { Copies on.now (state_in self.old) result (state_in self.new) to from n
+            (is_assignment && (nat_eq to.0 from.0 && nat_eq to.1 from.1)) }
     {
         let target = (to.0, i64::from(to.1));
         let source = (from.0, i64::from(from.1));
@@ -158,7 +164,8 @@ impl Machine {
         requires runs { Runs on.now self.old }
         requires there { block < length (program_in on.now).blocks }
         ensures runs { Runs on.now self.new }
-        ensures clears { (l left : ℕ) → change on.now.order (program_in on.now) block here n (replaced self.old.store.model (memory_in self.old.store) block here n (λ k. undefined)) l left (state_in self.old) ≡ done result l (state_in self.new) (leaves at_end left (state_in self.new)) }
+        ensures clears { Changes on.now (state_in self.old) result (state_in self.new) block here n
+            (replaced self.old.store.model (memory_in self.old.store) block here n (λ k. undefined)) }
     {
         written(self.store.clear((block, i64::from(here)), n))
     }
@@ -199,7 +206,8 @@ impl Machine {
     /// The next input.
     pub fn take(&mut self) -> Option<u64>
         ensures store { self.new.store ≡ self.old.store }
-        ensures takes { (go : ℕ → State → Outcome) → taken self.old.inputs (state_in self.old) go ≡ after_input result (state_in self.new) go }
+        ensures takes { (go : ℕ → State → Outcome) → taken self.old.inputs (state_in self.old) go
+            ≡ after_input result (state_in self.new) go }
     {
         if self.used >= self.inputs.len() {
             return None;
@@ -228,7 +236,9 @@ impl Machine {
         requires runs { Runs on.now self.old }
         requires inside { here < size_on on.now block }
         ensures store { IfOk result (λ r. self.new.store ≡ self.old.store) }
-        ensures puts { IfOk result (λ r. (l : ℕ) (go : State → Outcome) → byte_out (memory_in self.old.store block here) l (state_in self.old) go ≡ done r l (state_in self.new) (go (state_in self.new))) }
+        ensures puts { IfOk result (λ r. (l : ℕ) (go : State → Outcome)
+            → byte_out (memory_in self.old.store block here) l (state_in self.old) go
+            ≡ done r l (state_in self.new) (go (state_in self.new))) }
     {
         match self.load(on, Scalar::Int(IntType::U8), block, here) {
             Err(k) => Ok(Err(k)),
@@ -260,7 +270,10 @@ impl Machine {
     /// Lists the way out of an arm. Of the joint tests since the arm began it alone stays.
     pub fn leave_arm(&mut self, count: usize, code: u8) -> Result<(), Memory>
         ensures store { OnOk result (self.new.store ≡ self.old.store) }
-        ensures lists { OnOk result (state_in self.new ≡ record (state_in self.old) { tests = self.old.tests ++ code ∷ []; joint_tests = front count self.old.joint_tests ++ code ∷ [] }) }
+        ensures lists { OnOk result (state_in self.new ≡ record (state_in self.old) {
+          tests = self.old.tests ++ code ∷ [];
+          joint_tests = front count self.old.joint_tests ++ code ∷ [];
+        }) }
     {
         self.tests.push(code).map_err(|_| Memory)?;
         self.joint_tests.truncate(count);
@@ -289,7 +302,8 @@ fn written(answer: Result<(), AlarmKind>) -> Result<(), Fault>
 
 /// Whether so many bytes lie in their block.
 pub fn check(on: &Setting, block: u32, here: u32, n: u32) -> Result<(), Fault>
-    ensures answer { (l : ℕ) (s : State) (x : Outcome) → unless (range_fault (size_on on.now block) here n) l s x ≡ done result l s x }
+    ensures answer { (l : ℕ) (s : State) (x : Outcome)
+        → unless (range_fault (size_on on.now block) here n) l s x ≡ done result l s x }
     ensures inside { OnOk result (here + n ≤ size_on on.now block) }
     ensures small { OnOk result (here + n < 2 ^ 32) }
 {

@@ -3,7 +3,8 @@ use Rattle.std.specs.Prelude.{ℕ, ◌^◌, ℤ, pos, negsuc, ◌≤ℤ◌, Resu
 use Rattle.ep_int.specs.Memory.{Kind, overflow, division, shift, uninitialised, bounds, null_pointer, alignment}
 use Rattle.ep_int.specs.Memory.{pointer_mix, overlap, pointer_part, Found, has, faults}
 use Rattle.ep_alarms.specs.declared.types.AlarmKind.{AlarmKind}
-use Rattle.ep_alarms.specs.declared.types.AlarmKind.TheVariants.{U1, U2, U3, U4, U5, U6, U7, U8, U9, U10, E1, E2, E3, E4}
+use Rattle.ep_alarms.specs.declared.types.AlarmKind.TheVariants.{U1, U2, U3, U4, U5, U6, U7, U8, U9, U10, E1, E2, E3}
+use Rattle.ep_alarms.specs.declared.types.AlarmKind.TheVariants.{E4}
 use Rattle.ep_bytes.specs.declared.types.Datum.{Datum}
 use Rattle.ep_bytes.specs.Shown.{value_in}
 use Rattle.ep_values.specs.declared.fault.Fault.{Fault}

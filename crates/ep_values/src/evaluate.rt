@@ -120,7 +120,8 @@ pub fn address(on: &Setting, store: &Store, a: &Place) -> Result<Datum, Fault>
 fn number(on: &Setting, store: &Store, e: &Expr) -> Result<i128, Fault>
     requires laid { IsLaid on.now store.now }
     requires typed { ExprFits on.now (memory_in store.now) (shown_expr e.now) }
-    ensures with { (go : ℤ → Found) → with_number (value_on on.now (shown_expr e.now) (memory_in store.now)) go ≡ with_number_by result go }
+    ensures with { (go : ℤ → Found) → with_number (value_on on.now (shown_expr e.now) (memory_in store.now)) go
+        ≡ with_number_by result go }
     ensures is { IfOk result (λ v. value_on on.now (shown_expr e.now) (memory_in store.now) ≡ has (int v)) }
 {
     match value(on, store, e) {
@@ -136,7 +137,8 @@ fn number(on: &Setting, store: &Store, e: &Expr) -> Result<i128, Fault>
 fn target(on: &Setting, store: &Store, a: &Place) -> Result<(u32, u32), Fault>
     requires laid { IsLaid on.now store.now }
     requires typed { PlaceFits on.now (memory_in store.now) (shown_place a.now) }
-    ensures { (go : ℕ → ℕ → Found) → with_place (address_on on.now (shown_place a.now) (memory_in store.now)) go ≡ with_place_by result go }
+    ensures { (go : ℕ → ℕ → Found) → with_place (address_on on.now (shown_place a.now) (memory_in store.now)) go
+        ≡ with_place_by result go }
 {
     match address(on, store, a) {
         Ok(Datum::Int(_)) => Err(Fault::NullPointer),

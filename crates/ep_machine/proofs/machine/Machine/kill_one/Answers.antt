@@ -19,5 +19,6 @@ returns-else-block-len-clause-killed c =
     let len = c.len.ensures in
     let past = c.if-block-len.false in
     ap (λ m. remembers m (state_in c.args.self.now))
-    (killed_nothing (program_in c.args.on.now) c.args.self.now.store c.args.block c.requires.laid.count (omega (arith, n, len, past))
+    (killed_nothing (program_in c.args.on.now) c.args.self.now.store c.args.block c.requires.laid.count
+    (omega (arith, n, len, past))
     c.requires.fits)
