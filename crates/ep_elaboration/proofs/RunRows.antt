@@ -3,14 +3,14 @@ use Rattle.std.proofs.Common.{pos, negsuc, ◌≡◌, [], ◌∷◌, List, refl,
 use Rattle.std.specs.Prelude.{codes}
 use Rattle.ep_int.specs.declared.types.Model.TheVariants.{Ilp32, Lp64}
 use Rattle.ep_ast.specs.Mark as mark
-use Rattle.ep_ast.specs.Expression.{word, typedef_name, tagged, assign, conditional, binary, step, unary, sizeof_type, index, call, post_increment, id, to_exprs}
+use Rattle.ep_ast.specs.Expression.{typedef_name, tagged, assign, conditional, binary, step, unary, index, call, post_increment, id, to_exprs}
 use Rattle.ep_ast.specs.Declaration.{plain, aggregate, member, to_specs, to_members, single, listed, to_values, void, some_params}
 use Rattle.ep_ast.specs.Statement.{evaluates, block, evaluate, while_loop, do_loop, for_loop, return_value, declares_in, states, to_parts, Item, defines, declares_all, completes, functions_by_order}
-use Rattle.ep_elaboration.proofs.Trees.{literal, number, type_name, declarator, init, declaration, param, head, block_at, function, int_words, int_word_at, variable, pointer, member_of}
+use Rattle.ep_elaboration.proofs.Trees.{literal, number, declarator, init, declaration, param, head, block_at, function, int_words, int_word_at, variable, pointer, member_of}
 use Rattle.ep_int.specs.declared.types.IntType.TheVariants.{U8, I16, I32}
 use Rattle.ep_int.specs.declared.types.Order.TheVariants.{Little, Big, SwappedWords}
 use Rattle.ep_ast.specs.declared.orders.NamedOrder.TheVariants as named
-use Rattle.ep_int.specs.Memory.{overflow, division, shift, uninitialised, null_pointer, overlap}
+use Rattle.ep_int.specs.Memory.{overflow, division, shift, uninitialised, null_pointer}
 use Rattle.ep_core.specs.Runs.{still_running, ended, wants_input, undefined_on}
 use Rattle.ep_elaboration.proofs.Opened.{ran, puts}
 
@@ -494,7 +494,11 @@ run_19 =
     (Some (call 1 (id 1 (codes "ep_out_u8")) (to_exprs ((id 1 (codes "y")) ∷ [])))))) ∷
     [])))) ∷ [])
 
-run_19_ends : (ran Ilp32 Little [] 9 run_19 ≡ Some (ended, (puts I16 (negsuc 32767) ∷ puts U8 (pos 255) ∷ puts I32 (pos 0) ∷ [])))
+run_19_ends : (ran Ilp32 Little [] 9 run_19 ≡ Some (
+  ended,
+  (puts I16 (negsuc 32767) ∷ puts U8 (pos 255)
+      ∷ puts I32 (pos 0) ∷ []),
+))
     × (ran Ilp32 Big [] 9 run_19 ≡ Some (ended, (puts I16 (negsuc 32767) ∷ puts U8 (pos 255) ∷ puts I32 (pos 0) ∷ [])))
 unfolding ran
 run_19_ends = (refl, refl)
@@ -561,8 +565,16 @@ run_22 =
     (call 1 (id 1 (codes "ep_write"))
     (to_exprs ((id 1 (codes "a")) ∷ (number 1 3) ∷ [])))))) ∷ [])))) ∷ [])
 
-run_22_ends : (ran Ilp32 Little (1 ∷ 2 ∷ 259 ∷ []) 6 run_22 ≡ Some (ended, (puts U8 (pos 1) ∷ puts U8 (pos 2) ∷ puts U8 (pos 3) ∷ puts I32 (pos 0) ∷ [])))
-    × (ran Ilp32 Big (1 ∷ 2 ∷ 259 ∷ []) 6 run_22 ≡ Some (ended, (puts U8 (pos 1) ∷ puts U8 (pos 2) ∷ puts U8 (pos 3) ∷ puts I32 (pos 0) ∷ [])))
+run_22_ends : (ran Ilp32 Little (1 ∷ 2 ∷ 259 ∷ []) 6 run_22 ≡ Some (
+  ended,
+  (puts U8 (pos 1) ∷ puts U8 (pos 2)
+      ∷ puts U8 (pos 3) ∷ puts I32 (pos 0) ∷ []),
+))
+    × (ran Ilp32 Big (1 ∷ 2 ∷ 259 ∷ []) 6 run_22 ≡ Some (
+      ended,
+      (puts U8 (pos 1) ∷ puts U8 (pos 2)
+          ∷ puts U8 (pos 3) ∷ puts I32 (pos 0) ∷ []),
+    ))
 unfolding ran
 run_22_ends = (refl, refl)
 
@@ -708,60 +720,27 @@ run_27 =
     (Some (call 10 (id 10 (codes "ep_out_u8")) (to_exprs ((id 10 (codes "i")) ∷ [])))))) ∷
     [])))) ∷ [])
 
-run_27_ends : (ran Ilp32 Little (3 ∷ 0 ∷ 9 ∷ 5 ∷ 1 ∷ 7 ∷ 4 ∷ 6 ∷ []) 120 run_27 ≡ Some (still_running, (puts U8 (pos 5) ∷ puts U8 (pos 7) ∷ puts U8 (pos 6) ∷ puts U8 (pos 4) ∷ puts U8 (pos 1) ∷ puts U8 (pos 0) ∷ puts U8 (pos 3) ∷ puts U8 (pos 5) ∷ puts U8 (pos 7) ∷ puts U8 (pos 6) ∷ puts U8 (pos 4) ∷ puts U8 (pos 1) ∷ puts U8 (pos 0) ∷ puts U8 (pos 3) ∷ puts U8 (pos 5) ∷ puts U8 (pos 7) ∷ puts U8 (pos 6) ∷ puts U8 (pos 4) ∷ puts U8 (pos 1) ∷ puts U8 (pos 0) ∷ puts U8 (pos 3) ∷ puts U8 (pos 5) ∷ puts U8 (pos 7) ∷ puts U8 (pos 6) ∷ puts U8 (pos 4) ∷ puts U8 (pos 1) ∷ puts U8 (pos 0) ∷ puts U8 (pos 3) ∷ puts U8 (pos 5) ∷ puts U8 (pos 7) ∷ puts U8 (pos 6) ∷ puts U8 (pos 4) ∷ puts U8 (pos 1) ∷ puts U8 (pos 0) ∷ puts U8 (pos 3) ∷ puts U8 (pos 5) ∷ puts U8 (pos 7) ∷ [])))
-    × (ran Lp64 Little (3 ∷ 0 ∷ 9 ∷ 5 ∷ 1 ∷ 2 ∷ 4 ∷ 6 ∷ []) 20 run_27 ≡ Some (ended, (puts U8 (pos 5) ∷ puts U8 (pos 2) ∷ puts U8 (pos 9) ∷ puts U8 (pos 9) ∷ puts I32 (pos 0) ∷ [])))
-    × (ran Ilp32 SwappedWords (3 ∷ 0 ∷ 9 ∷ 5 ∷ 1 ∷ 2 ∷ 4 ∷ 6 ∷ []) 20 run_27 ≡ Some (ended, (puts U8 (pos 5) ∷ puts U8 (pos 2) ∷ puts U8 (pos 9) ∷ puts U8 (pos 9) ∷ puts I32 (pos 0) ∷ [])))
+run_27_ends : (ran Ilp32 Little (3 ∷ 0 ∷ 9 ∷ 5 ∷ 1 ∷ 7 ∷ 4 ∷ 6 ∷ []) 120 run_27
+    ≡ Some (
+      still_running,
+      (puts U8 (pos 5) ∷ puts U8 (pos 7) ∷ puts U8 (pos 6) ∷ puts U8 (pos 4)
+          ∷ puts U8 (pos 1) ∷ puts U8 (pos 0) ∷ puts U8 (pos 3) ∷ puts U8 (pos 5) ∷ puts U8 (pos 7)
+          ∷ puts U8 (pos 6) ∷ puts U8 (pos 4) ∷ puts U8 (pos 1) ∷ puts U8 (pos 0) ∷ puts U8 (pos 3)
+          ∷ puts U8 (pos 5) ∷ puts U8 (pos 7) ∷ puts U8 (pos 6) ∷ puts U8 (pos 4) ∷ puts U8 (pos 1)
+          ∷ puts U8 (pos 0) ∷ puts U8 (pos 3) ∷ puts U8 (pos 5) ∷ puts U8 (pos 7) ∷ puts U8 (pos 6)
+          ∷ puts U8 (pos 4) ∷ puts U8 (pos 1) ∷ puts U8 (pos 0) ∷ puts U8 (pos 3) ∷ puts U8 (pos 5)
+          ∷ puts U8 (pos 7) ∷ puts U8 (pos 6) ∷ puts U8 (pos 4) ∷ puts U8 (pos 1) ∷ puts U8 (pos 0)
+          ∷ puts U8 (pos 3) ∷ puts U8 (pos 5) ∷ puts U8 (pos 7) ∷ []),
+    ))
+    × (ran Lp64 Little (3 ∷ 0 ∷ 9 ∷ 5 ∷ 1 ∷ 2 ∷ 4 ∷ 6 ∷ []) 20 run_27 ≡ Some (
+      ended,
+      (puts U8 (pos 5)
+          ∷ puts U8 (pos 2) ∷ puts U8 (pos 9) ∷ puts U8 (pos 9) ∷ puts I32 (pos 0) ∷ []),
+    ))
+    × (ran Ilp32 SwappedWords (3 ∷ 0 ∷ 9 ∷ 5 ∷ 1 ∷ 2 ∷ 4 ∷ 6 ∷ []) 20 run_27 ≡ Some (
+      ended,
+      (puts U8 (pos 5)
+          ∷ puts U8 (pos 2) ∷ puts U8 (pos 9) ∷ puts U8 (pos 9) ∷ puts I32 (pos 0) ∷ []),
+    ))
 unfolding ran
 run_27_ends = (refl, refl, refl)
-
--- int main(void) {
---   uint8_t b[16];
---   ep_read(b, 12);
---   memcpy(b + 4, b, 4);
---   ep_write(b, 8);
---   memcpy(b + 4, b, sizeof(long));
---   ep_write(b, 8);
--- }
-abbrev run_28 : List Item
-run_28 =
-    ((defines
-    (function (head 1 (int_words 1) [] (codes "main") (Some (void 1)))
-    (block_at 1
-    ((declares_in
-    (declaration 2 ((plain (typedef_name 2 (codes "uint8_t"))) ∷ [])
-    ((init (declarator 2 [] (codes "b") ((Some (number 2 16)) ∷ [])) None) ∷ []))) ∷
-    (states
-    (evaluate 3
-    (Some
-    (call 3 (id 3 (codes "ep_read"))
-    (to_exprs ((id 3 (codes "b")) ∷ (number 3 12) ∷ [])))))) ∷
-    (states
-    (evaluate 4
-    (Some
-    (call 4 (id 4 (codes "memcpy"))
-    (to_exprs
-    ((binary 4 mark.plus (id 4 (codes "b")) (number 4 4)) ∷
-    (id 4 (codes "b")) ∷ (number 4 4) ∷ [])))))) ∷
-    (states
-    (evaluate 5
-    (Some
-    (call 5 (id 5 (codes "ep_write"))
-    (to_exprs ((id 5 (codes "b")) ∷ (number 5 8) ∷ [])))))) ∷
-    (states
-    (evaluate 6
-    (Some
-    (call 6 (id 6 (codes "memcpy"))
-    (to_exprs
-    ((binary 6 mark.plus (id 6 (codes "b")) (number 6 4)) ∷
-    (id 6 (codes "b")) ∷
-    (sizeof_type 6 (type_name 6 ((word 6 mark.long_word) ∷ []) [])) ∷
-    [])))))) ∷
-    (states
-    (evaluate 7
-    (Some
-    (call 7 (id 7 (codes "ep_write"))
-    (to_exprs ((id 7 (codes "b")) ∷ (number 7 8) ∷ [])))))) ∷ [])))) ∷ [])
-
-run_28_ends : ran Lp64 SwappedWords (1 ∷ 2 ∷ 3 ∷ 4 ∷ 5 ∷ 6 ∷ 7 ∷ 8 ∷ 9 ∷ 10 ∷ 11 ∷ 12 ∷ []) 22 run_28 ≡ Some ((undefined_on 6 overlap), (puts U8 (pos 1) ∷ puts U8 (pos 2) ∷ puts U8 (pos 3) ∷ puts U8 (pos 4) ∷ puts U8 (pos 1) ∷ puts U8 (pos 2) ∷ puts U8 (pos 3) ∷ puts U8 (pos 4) ∷ []))
-unfolding ran
-run_28_ends = refl

@@ -5,3 +5,4 @@ pub mod StatementOrder
 pub mod FunctionOrder
 pub mod ProgramOrder
 pub mod Meanings
+pub mod Growing

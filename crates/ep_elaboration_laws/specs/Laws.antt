@@ -1,12 +1,15 @@
 -- That the functions of the definition and the rules say the same: a meaning where there is one, and else the first
 -- offence.
-use Rattle.std.specs.Prelude.{◌≡◌, ◌⊎◌, Bool, List, Result, Ok, Err}
+use Rattle.std.specs.Prelude.{◌≡◌, ℕ, ◌++◌, ◌⊎◌, Bool, true, List, Result, Ok, Err}
+use Rattle.ep_int.specs.Memory.{contains}
 use Rattle.ep_int.specs.declared.types.Model.{Model}
 use Rattle.ep_ast.specs.declared.refusals.Refusal.{Refusal}
 use Rattle.ep_ast.specs.Expression.{Expr}
 use Rattle.ep_ast.specs.Declaration.{Declaration}
 use Rattle.ep_ast.specs.Statement.{Stmt, Item}
-use Rattle.ep_core.specs.Program.{Program}
+use Rattle.ep_core.specs.Program.{Block, Expr as Computed, Place, Program}
+use Rattle.ep_core.specs.WellFormed.{Sort, has_sort, place_has}
+use Rattle.ep_layout.specs.Table.{Table, Grows}
 use Rattle.ep_typing.specs.declared.types.CType.{CType}
 use Rattle.ep_typing.specs.Env.{Env}
 use Rattle.ep_typing.specs.Typing.{whole_statement}
@@ -58,3 +61,19 @@ OneOfBoth = (m : Model) (is : List Item)
 -- and never both
 abbrev pub NeverBoth : Type 0
 NeverBoth = (m : Model) (is : List Item) (p : Program) (r : Refusal) → MeansProgram m is p → ProgramOffends m is r → ⊥
+
+-- ---- growth
+
+-- What can be named before can be named later.
+abbrev pub Names : (seen wider : List ℕ) → Type 0
+Names seen wider = (b : ℕ) → contains b seen ≡ true → contains b wider ≡ true
+
+-- an expression keeps its sort where the table grows, blocks come, and more blocks can be named
+abbrev pub SortsStay : Type 0
+SortsStay = (t u : Table) → Grows t u → (bs more : List Block) (seen wider : List ℕ) → Names seen wider
+    → (e : Computed) (x : Sort) → has_sort t bs seen e x ≡ true → has_sort u (bs ++ more) wider e x ≡ true
+
+-- and so does a place its type
+abbrev pub PlacesStay : Type 0
+PlacesStay = (t u : Table) → Grows t u → (bs more : List Block) (seen wider : List ℕ) → Names seen wider
+    → (a : Place) (ty : ℕ) → place_has t bs seen a ty ≡ true → place_has u (bs ++ more) wider a ty ≡ true

@@ -2,7 +2,7 @@
 //! of work.
 #![tactic(auto)]
 
-ghost use Rattle.ep_elaboration_laws.specs.Laws.{WholeStatements, Declarations, Statements, Programs, OneMeaning, OneOfBoth, NeverBoth};
+ghost use Rattle.ep_elaboration_laws.specs.Laws.{WholeStatements, Declarations, Statements, Programs, OneMeaning, OneOfBoth, NeverBoth, SortsStay, PlacesStay};
 
 /// What an expression means as a whole statement is what the rules say, and it is refused for the first offence.
 pub fn whole_statements()
@@ -26,4 +26,10 @@ pub fn programs()
     ensures one { OneMeaning }
     ensures either { OneOfBoth }
     ensures never_both { NeverBoth }
+{}
+
+/// What is typed stays typed while a program goes on: its table grows, blocks come, and scopes let more be named.
+pub fn growth()
+    ensures sorts { SortsStay }
+    ensures places { PlacesStay }
 {}
