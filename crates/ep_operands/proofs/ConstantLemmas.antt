@@ -83,7 +83,7 @@ pub binary_fits : (op : BinOp) (t : IntType) (a b : Expr) (x y : ℤ) → InRang
 binary_fits op t a b x y h =
     each (core.binary op t a b) (no_fault (arith_of op t x y))
     (λ u n. same_fits (InRange t) (no_fault (arith_of op t x y)) t u (same_int t u (both_true (is_same_type t u) _ n).0)
-      (no_fault_fits t (arith_of op t x y) (λ z. arith_in_range op t x y z h)))
+    (no_fault_fits t (arith_of op t x y) (λ z. arith_in_range op t x y z h)))
 
 pub const_fits : (t : IntType) (v : ℤ) → Fits (core.const t v) v
 const_fits t v u n =

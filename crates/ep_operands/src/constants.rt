@@ -9,8 +9,8 @@ ghost use Rattle.ep_typing.specs.Constant as rule;
 ghost use Rattle.ep_operands.specs.Numbers.{IsNumber, IsSomeNumber};
 ghost use Rattle.ep_operands.specs.Seen as seen;
 
-use crate::value::Value;
 use crate::types::is_integer;
+use crate::value::Value;
 use ep_core::tree::Expr;
 use ep_int::{Cmp, Undef, arith, wrap};
 

@@ -7,13 +7,15 @@ ghost use Rattle.ep_typing.specs.Results.{at};
 ghost use Rattle.ep_operands.specs.Gives.{Gives};
 ghost use Rattle.ep_operands.specs.Seen as seen;
 
-use crate::kinds::{INCOMPATIBLE_POINTERS, INCOMPLETE_TYPE, POINTER_TO_INTEGER, TYPE_MISMATCH, refused};
+use crate::kinds::{
+    INCOMPATIBLE_POINTERS, INCOMPLETE_TYPE, POINTER_TO_INTEGER, TYPE_MISMATCH, refused,
+};
 use crate::operand::Operand;
-use crate::value::Value;
 use crate::types::{
     element_of, int_of, is_aggregate, is_array, is_integer, is_pointer, is_scalar, is_void,
     is_void_pointer, pointer_to, scalar_of,
 };
+use crate::value::Value;
 use ep_ast::Halt;
 use ep_core::tree::{Expr, Place};
 use ep_int::{IntType, promote};

@@ -1,9 +1,9 @@
 //! The kinds of refusals of expressions.
 
-use ep_ast::{Halt, Refusal};
-
 ghost use Rattle.std.specs.Prelude.{◌≡◌};
 ghost use Rattle.ep_ast.specs.declared.refusals.Halt.TheVariants as halts;
+
+use ep_ast::{Halt, Refusal};
 
 /// A call that stands neither as a whole statement nor as all of the right side of one.
 pub const CALL_IN_EXPRESSION: u8 = 18;

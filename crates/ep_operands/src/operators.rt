@@ -18,10 +18,10 @@ use crate::conversions::{
 use crate::kinds::{
     INCOMPATIBLE_POINTERS, INCOMPLETE_TYPE, POINTER_TO_INTEGER, TYPE_MISMATCH, refused,
 };
-use crate::value::Value;
 use crate::types::{
     int_of, is_integer, is_pointer, is_scalar, is_void_pointer, size_of_type, target, void_pointer,
 };
+use crate::value::Value;
 use ep_ast::{Halt, marks};
 use ep_core::tree::Expr;
 use ep_int::{BinOp, Cmp, IntType, common, wrap};
@@ -180,10 +180,7 @@ fn compared(alloc: Global, how: Cmp, a: Value, b: Value) -> Result<Value, AllocE
     let left = Box::new(alloc, left)?;
     let right = converted(alloc, t, b)?;
     let right = Box::new(alloc, right)?;
-    Ok(Value::int(
-        Expr::Compare(how, t, left, right),
-        IntType::I32,
-    ))
+    Ok(Value::int(Expr::Compare(how, t, left, right), IntType::I32))
 }
 
 /// A pointer as it is compared.

@@ -17,12 +17,12 @@ use crate::kinds::{
     INCOMPLETE_TYPE, NO_MEMBER, NOT_AN_LVALUE, POINTER_TO_INTEGER, TYPE_MISMATCH, refused,
 };
 use crate::operand::{Callee, Operand};
-use crate::value::Value;
 use crate::operators::{moved, unary_operated};
 use crate::types::{
     bound_of, element_of, int_type, is_aggregate, is_array, is_integer, is_pointer, number_of,
     number_type, pointer_to, size_of_type, size_type, target, type_of, void_pointer,
 };
+use crate::value::Value;
 use ep_ast::{Halt, Literal, marks};
 use ep_core::tree::{Expr, Place};
 use ep_int::{IntType, Model};

@@ -11,15 +11,13 @@ ghost use Rattle.ep_operands.specs.Seen as seen;
 ghost use Rattle.ep_operands.specs.Stores.{put_to, simply, updated_with};
 
 use crate::conversions::{are_scalars, fitted, is_mixed, value_of};
-use crate::kinds::{
-    INCOMPLETE_TYPE, NOT_AN_LVALUE, POINTER_TO_INTEGER, TYPE_MISMATCH, refused,
-};
+use crate::kinds::{INCOMPLETE_TYPE, NOT_AN_LVALUE, POINTER_TO_INTEGER, TYPE_MISMATCH, refused};
 use crate::operand::Operand;
-use crate::value::Value;
 use crate::operators::operated;
 use crate::types::{
     is_aggregate, is_array, is_pointer, is_void, known_number, number_of, scalar_of, size_of_type,
 };
+use crate::value::Value;
 use ep_ast::{Halt, marks};
 use ep_core::tree::{Dest, Expr, Place, What};
 use ep_layout::{Ty, Types};

@@ -246,8 +246,14 @@ pub fn type_of(types: &Types, number: u32) -> CType
     let mut stars: u32 = 0;
     for i in 0..types.type_count() {
         match row(types, n) {
-            None => return CType { base: Base::Void, stars },
-            Some(Ty::Void) => return CType { base: Base::Void, stars },
+            None => return CType {
+                base: Base::Void,
+                stars,
+            },
+            Some(Ty::Void) => return CType {
+                base: Base::Void,
+                stars,
+            },
             Some(Ty::Int(t)) => {
                 return CType {
                     base: Base::Int(t),

@@ -21,7 +21,7 @@ returns-in-None-get c =
     let h : length c.args.parameters.now ≤ c.loop-value.place = grind (arith, nat_tests, c.in-None-get.ensures.lookup) in
     stops_at all c.args.line (lower c.loop-value.kind 39) c.refused.result
     (too_many c.loop-value.kind (map shown_expr c.loop-value.arguments.items) c.loop-value.place c.args.parameters.now c.in-Some.value
-      (into_iter_items c.loop-value.value-iterator) (into_iter_items c.next.new.self) all c.in-Some.ensures.steps.0 c.loop-value.invariant.means h)
+    (into_iter_items c.loop-value.value-iterator) (into_iter_items c.next.new.self) all c.in-Some.ensures.steps.0 c.loop-value.invariant.means h)
     (c.refused.ensures ∙ ap (λ (k : ℕ). halts.Refused (record { kind = k; line = c.args.line; word = 0 })) c.lower.ensures)
 
 pub loop-value-preserved : goal.loop-value-preserved
@@ -29,7 +29,7 @@ loop-value-preserved c =
     let all = rule.all_passed (map seen.parameter c.args.parameters.now) (map seen.value c.args.values.items) in
     let below : c.loop-value.place < length c.args.parameters.now = grind (arith, nat_tests, c.in-Some-get.ensures.lookup.0) in
     let row : slice_get c.args.parameters.now c.loop-value.place ≡ Some c.in-Some-get.parameter.now =
-        slice_get-get_or c.args.parameters.now c.loop-value.place _ below ∙ ap Some (sym c.in-Some-get.ensures.lookup.1) in
+    slice_get-get_or c.args.parameters.now c.loop-value.place _ below ∙ ap Some (sym c.in-Some-get.ensures.lookup.1) in
     record {
       within = omega (arith, below);
       means = passed_on c.loop-value.kind (map shown_expr c.loop-value.arguments.items) c.loop-value.place c.args.parameters.now c.in-Some.value
@@ -43,9 +43,9 @@ returns-then-place-parameters c =
     let none : into_iter_items c.loop-value.value-iterator ≡ [] = nil_from_length (into_iter_items c.loop-value.value-iterator) (sym c.loop-value.value-iterator.rest.ok.0 ∙ c.in-None.ensures.steps.0) in
     stops_at all c.args.line (lower c.loop-value.kind 39) c.refused-then-place-parameters.result
     (too_few c.loop-value.kind (map shown_expr c.loop-value.arguments.items) c.loop-value.place c.args.parameters.now
-      (into_iter_items c.loop-value.value-iterator) all none c.loop-value.invariant.means AnyPointer c.if-place-parameters.true)
+    (into_iter_items c.loop-value.value-iterator) all none c.loop-value.invariant.means AnyPointer c.if-place-parameters.true)
     (c.refused-then-place-parameters.ensures
-      ∙ ap (λ (k : ℕ). halts.Refused (record { kind = k; line = c.args.line; word = 0 })) c.lower-then-place-parameters.ensures)
+    ∙ ap (λ (k : ℕ). halts.Refused (record { kind = k; line = c.args.line; word = 0 })) c.lower-then-place-parameters.ensures)
 
 pub returns-in-Some-kind : goal.returns-in-Some-kind
 returns-in-Some-kind c =
@@ -54,7 +54,7 @@ returns-in-Some-kind c =
     let none : into_iter_items c.loop-value.value-iterator ≡ [] = nil_from_length (into_iter_items c.loop-value.value-iterator) (sym c.loop-value.value-iterator.rest.ok.0 ∙ c.in-None.ensures.steps.0) in
     stops_at all c.args.line c.in-Some-kind.k c.refused-in-Some-kind.result
     (sym (enough c.loop-value.kind done c.loop-value.place c.args.parameters.now (into_iter_items c.loop-value.value-iterator) all none
-      c.loop-value.invariant.means c.if-place-parameters.false) ∙ ap (λ (o : Option ℕ). after o done (Ok [])) c.in-Some-kind.is)
+    c.loop-value.invariant.means c.if-place-parameters.false) ∙ ap (λ (o : Option ℕ). after o done (Ok [])) c.in-Some-kind.is)
     c.refused-in-Some-kind.ensures
 
 pub returns-in-None-kind : goal.returns-in-None-kind
@@ -64,5 +64,5 @@ returns-in-None-kind c =
     let none : into_iter_items c.loop-value.value-iterator ≡ [] = nil_from_length (into_iter_items c.loop-value.value-iterator) (sym c.loop-value.value-iterator.rest.ok.0 ∙ c.in-None.ensures.steps.0) in
     ap (λ (r : Result (List Expr) ℕ). at c.args.line r)
     (sym (enough c.loop-value.kind done c.loop-value.place c.args.parameters.now (into_iter_items c.loop-value.value-iterator) all none
-      c.loop-value.invariant.means c.if-place-parameters.false) ∙ ap (λ (o : Option ℕ). after o done (Ok [])) c.in-None-kind.is
-      ∙ ap (λ (es : List Expr). Ok es) (append-nil done))
+    c.loop-value.invariant.means c.if-place-parameters.false) ∙ ap (λ (o : Option ℕ). after o done (Ok [])) c.in-None-kind.is
+    ∙ ap (λ (es : List Expr). Ok es) (append-nil done))

@@ -17,7 +17,7 @@ arith-requires-clause-right t c =
     let h = subst (λ (e : Expr). IsSomeNumber (shown_expr e)) c.in-Bin.is c.requires in
     let f : FitsSigned w128 c.in_ok-y-in-Bin.y = search rules in
     simp to_z-of_z (right_in_range c.in-Bin.op c.in-Bin.t (shown_expr c.in-Bin.a.value) (shown_expr c.in-Bin.b.value) h c.in_ok-y-in-Bin.y
-      (subst (λ (e : Expr). Fits (shown_expr e) c.in_ok-y-in-Bin.y) c.deref-in-Bin.ensures c.in_ok-y-in-Bin.ensures.of_type))
+    (subst (λ (e : Expr). Fits (shown_expr e) c.in_ok-y-in-Bin.y) c.deref-in-Bin.ensures c.in_ok-y-in-Bin.ensures.of_type))
 
 pub returns-in_ok-y-in-Bin-clause-of_type : goal.returns-in_ok-y-in-Bin-clause-of_type
 returns-in_ok-y-in-Bin-clause-of_type t c =
@@ -27,46 +27,46 @@ returns-in_ok-y-in-Bin-clause-of_type t c =
     let e = simp to_z-of_z at c.arith.ensures in
     subst (λ (o : Option ℤ). IfSome o (Fits (shown_expr c.args.e.now))) (sym (c.no_fault.ensures ∙ ap no_fault e))
     (subst (λ (x : Expr). IfSome (no_fault (arith_of c.in-Bin.op c.in-Bin.t c.in_ok-x-in-Bin.x c.in_ok-y-in-Bin.y)) (Fits (shown_expr x))) (sym c.in-Bin.is)
-      (binary_fits c.in-Bin.op c.in-Bin.t (shown_expr c.in-Bin.a.value) (shown_expr c.in-Bin.b.value) c.in_ok-x-in-Bin.x c.in_ok-y-in-Bin.y
-        (left_in_range c.in-Bin.op c.in-Bin.t (shown_expr c.in-Bin.a.value) (shown_expr c.in-Bin.b.value) h c.in_ok-x-in-Bin.x
-          (subst (λ (x : Expr). Fits (shown_expr x) c.in_ok-x-in-Bin.x) c.deref.ensures c.in_ok-x-in-Bin.ensures.of_type))))
+    (binary_fits c.in-Bin.op c.in-Bin.t (shown_expr c.in-Bin.a.value) (shown_expr c.in-Bin.b.value) c.in_ok-x-in-Bin.x c.in_ok-y-in-Bin.y
+    (left_in_range c.in-Bin.op c.in-Bin.t (shown_expr c.in-Bin.a.value) (shown_expr c.in-Bin.b.value) h c.in_ok-x-in-Bin.x
+    (subst (λ (x : Expr). Fits (shown_expr x) c.in_ok-x-in-Bin.x) c.deref.ensures c.in_ok-x-in-Bin.ensures.of_type))))
 
 pub returns-in_ok-x-in-Convert-clause-of_type : goal.returns-in_ok-x-in-Convert-clause-of_type
 returns-in_ok-x-in-Convert-clause-of_type t c = λ u n.
     let f : FitsSigned w128 c.wrap.result = search rules in
     simp to_z-of_z (convert_fits c.in-Convert.t (shown_expr c.in-Convert.a.value) c.wrap.result c.wrap.ensures.in_range u
-      (subst (λ (e : Expr). IsNumber (shown_expr e) u) c.in-Convert.is n))
+    (subst (λ (e : Expr). IsNumber (shown_expr e) u) c.in-Convert.is n))
 
 pub returns-in_ok-y-in-Compare-clause-of_type : goal.returns-in_ok-y-in-Compare-clause-of_type
 returns-in_ok-y-in-Compare-clause-of_type t c = λ u n.
     let f : FitsSigned w128 c.truth.result = search rules in
     simp to_z-of_z (subst (InRange u) (sym c.truth.ensures)
-      (compare_fits c.in-Compare.how c.in-Compare.field-1 (shown_expr c.in-Compare.a.value) (shown_expr c.in-Compare.b.value) _ u
-        (subst (λ (e : Expr). IsNumber (shown_expr e) u) c.in-Compare.is n)))
+    (compare_fits c.in-Compare.how c.in-Compare.field-1 (shown_expr c.in-Compare.a.value) (shown_expr c.in-Compare.b.value) _ u
+    (subst (λ (e : Expr). IsNumber (shown_expr e) u) c.in-Compare.is n)))
 
 pub returns-then-is_true-clause-of_type : goal.returns-then-is_true-clause-of_type
 returns-then-is_true-clause-of_type t c = λ u n.
     let f : FitsSigned w128 c.truth-then-is_true.result = search rules in
     simp to_z-of_z (subst (InRange u) (sym c.truth-then-is_true.ensures)
-      (and_fits (shown_expr c.in-And.a.value) (shown_expr c.in-And.b.value) _ u (subst (λ (e : Expr). IsNumber (shown_expr e) u) c.in-And.is n)))
+    (and_fits (shown_expr c.in-And.a.value) (shown_expr c.in-And.b.value) _ u (subst (λ (e : Expr). IsNumber (shown_expr e) u) c.in-And.is n)))
 
 pub returns-in_ok-y-in-Or-clause-of_type : goal.returns-in_ok-y-in-Or-clause-of_type
 returns-in_ok-y-in-Or-clause-of_type t c = λ u n.
     let f : FitsSigned w128 c.truth-in-Or.result = search rules in
     simp to_z-of_z (subst (InRange u) (sym c.truth-in-Or.ensures)
-      (or_fits (shown_expr c.in-Or.a.value) (shown_expr c.in-Or.b.value) _ u (subst (λ (e : Expr). IsNumber (shown_expr e) u) c.in-Or.is n)))
+    (or_fits (shown_expr c.in-Or.a.value) (shown_expr c.in-Or.b.value) _ u (subst (λ (e : Expr). IsNumber (shown_expr e) u) c.in-Or.is n)))
 
 pub returns-then-is_true-3-clause-of_type : goal.returns-then-is_true-3-clause-of_type
 returns-then-is_true-3-clause-of_type t c =
     subst (λ (e : Expr). IfSome c.number_of-then-is_true-3.result (Fits (shown_expr e))) (sym c.in-Cond.is)
     (yes_fits (shown_expr c.in-Cond.test.value) (shown_expr c.in-Cond.a.value) (shown_expr c.in-Cond.b.value) c.number_of-then-is_true-3.result
-      (subst (λ (e : Expr). IfSome c.number_of-then-is_true-3.result (Fits (shown_expr e))) c.deref-then-is_true-3.ensures c.number_of-then-is_true-3.ensures.of_type))
+    (subst (λ (e : Expr). IfSome c.number_of-then-is_true-3.result (Fits (shown_expr e))) c.deref-then-is_true-3.ensures c.number_of-then-is_true-3.ensures.of_type))
 
 pub returns-else-is_true-3-clause-of_type : goal.returns-else-is_true-3-clause-of_type
 returns-else-is_true-3-clause-of_type t c =
     subst (λ (e : Expr). IfSome c.number_of-in-Cond-2.result (Fits (shown_expr e))) (sym c.in-Cond.is)
     (no_fits (shown_expr c.in-Cond.test.value) (shown_expr c.in-Cond.a.value) (shown_expr c.in-Cond.b.value) c.number_of-in-Cond-2.result
-      (subst (λ (e : Expr). IfSome c.number_of-in-Cond-2.result (Fits (shown_expr e))) c.deref-in-Cond-2.ensures c.number_of-in-Cond-2.ensures.of_type))
+    (subst (λ (e : Expr). IfSome c.number_of-in-Cond-2.result (Fits (shown_expr e))) c.deref-in-Cond-2.ensures c.number_of-in-Cond-2.ensures.of_type))
 
 pub number_of-requires : goal.number_of-requires
 number_of-requires t c =

@@ -13,5 +13,5 @@ int-requires c =
     let b = value c.args.b in
     shift_number c.args.op c.promoted_type-t.result (promoted_type b) (shown_expr c.in_ok-left-2.left.value) (shown_expr c.in_ok-right-2.right.value) c.requires.shifts
     (subst (λ (t : IntType). IsNumber (shown_expr c.in_ok-left-2.left.value) t) (sym c.promoted_type-t.ensures)
-      (is_converted _ (promoted_type a) a (ap shown_expr c.in_ok-left-2.ensures.ok ∙ c.in_ok-left.ensures) c.args.a.sound (left_number a b c.requires.integers)))
+    (is_converted _ (promoted_type a) a (ap shown_expr c.in_ok-left-2.ensures.ok ∙ c.in_ok-left.ensures) c.args.a.sound (left_number a b c.requires.integers)))
     (is_converted _ (promoted_type b) b (ap shown_expr c.in_ok-right-2.ensures.ok ∙ c.in_ok-right.ensures) c.args.b.sound (right_number a b c.requires.integers))

@@ -14,4 +14,4 @@ returns-in_ok-v-in-Value c =
 pub returns-in-Function : goal.returns-in-Function
 returns-in-Function c =
     absurd (no_function (operand c.args.x) (callee c.in-Function.field-0) c.args.line
-      (c.in_ok-to.ensures ∙ ap (λ (z : Operand). Ok (operand z)) c.in-Function.is))
+    (c.in_ok-to.ensures ∙ ap (λ (z : Operand). Ok (operand z)) c.in-Function.is))

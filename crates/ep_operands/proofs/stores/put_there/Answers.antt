@@ -13,14 +13,14 @@ returns-then-moves_aggregate c =
     subst (λ (y : Operand). Gives shown_what (at c.args.line (simply (put_to c.args.types.now (shown_place c.args.to) c.args.c (operand y)))) c.copied.result)
     (sym c.in-Place.is)
     (moved_gives c.args.types.now (shown_place c.args.to) (shown_place c.in-Place.from) c.args.c c.in-Place.d c.args.line c.copied.result
-      (sym c.moves_aggregate.ensures ∙ c.if-moves_aggregate.true) c.copied.ensures)
+    (sym c.moves_aggregate.ensures ∙ c.if-moves_aggregate.true) c.copied.ensures)
 
 pub returns-in_ok-v-in-Place : goal.returns-in_ok-v-in-Place
 returns-in_ok-v-in-Place c =
     subst (λ (y : Operand). Gives shown_what (at c.args.line (simply (put_to c.args.types.now (shown_place c.args.to) c.args.c (operand y)))) c.stored.result)
     (sym c.in-Place.is)
     (stored_gives c.args.types.now (shown_place c.args.to) (shown_place c.in-Place.from) c.args.c c.in-Place.d (value c.in_ok-v-in-Place.v) c.args.line
-      c.stored.result (sym c.moves_aggregate.ensures ∙ c.if-moves_aggregate.false) c.in_ok-v-in-Place.ensures c.stored.ensures)
+    c.stored.result (sym c.moves_aggregate.ensures ∙ c.if-moves_aggregate.false) c.in_ok-v-in-Place.ensures c.stored.ensures)
 
 pub returns-in-Value : goal.returns-in-Value
 returns-in-Value c =
