@@ -1,0 +1,138 @@
+-- Maps and the stack of them, as scopes.
+use Rattle.std.proofs.Common.{◌≡◌, ℕ, ◌+◌, ◌≤◌, ◌-◌, vec_len, option_to_list, arith, length, drop, Bool, true, false, cond, List, [], ◌∷◌, ◌++◌, map, Option, Some, None, refl, sym, ap, ◌∙◌}
+use Rattle.std.specs.Option.{option_map}
+use Rattle.std.specs.Str.{bytes_eq}
+use Rattle.std.specs.Global.{Vec}
+use Rattle.std.proofs.lemmas.List.{drop_all, nil_from_length}
+use Rattle.std.proofs.lemmas.Option.{slice_get_within}
+use Rattle.std.specs.Prelude.{slice_get, slice_range, is_some, MatchOption}
+use Rattle.indexmap.proofs.MapLemmas.{split_last}
+use Rattle.std.specs.Map.{lookup}
+use Rattle.indexmap.specs.IndexMap.{insert_entry}
+use Rattle.ep_typing.specs.Env as rule
+use Rattle.ep_scopes.specs.declared.scopes.Meaning.{Meaning}
+use Rattle.ep_scopes.specs.declared.scopes.Scope.{Scope}
+use Rattle.ep_scopes.specs.Seen as seen
+
+-- ---- one map
+
+name_at_test : (b : Bool) (v : Meaning) (o : Option Meaning)
+    → option_map seen.meaning (cond b (Some v) o) ≡ cond b (Some (seen.meaning v)) (option_map seen.meaning o)
+name_at_test true v o = refl
+name_at_test false v o = refl
+
+pub name_looks : (t : List ℕ) (es : List (Vec ℕ × Meaning))
+    → option_map seen.meaning (lookup (λ k. bytes_eq t k.items) es) ≡ rule.entry t (map seen.entry es)
+name_looks t [] = refl
+name_looks t (e ∷ es) =
+    name_at_test (bytes_eq t e.0.items) e.1 (lookup (λ k. bytes_eq t k.items) es)
+    ∙ ap (λ (r : Option rule.Meaning). cond (bytes_eq t e.0.items) (Some (seen.meaning e.1)) r) (name_looks t es)
+
+pub tag_looks : (t : List ℕ) (es : List (Vec ℕ × ℕ)) → lookup (λ k. bytes_eq t k.items) es ≡ rule.entry t (map seen.tag es)
+tag_looks t [] = refl
+tag_looks t (e ∷ es) = ap (λ (r : Option ℕ). cond (bytes_eq t e.0.items) (Some e.1) r) (tag_looks t es)
+
+name_step : (b : Bool) (e : Vec ℕ × Meaning) (x : rule.Meaning) (o : Option rule.Meaning) (xs ys : List (Vec ℕ × Meaning)) (zs : List (List ℕ × rule.Meaning))
+    → cond b (Some x) o ≡ None → (o ≡ None → map seen.entry ys ≡ zs) → map seen.entry (cond b xs (e ∷ ys)) ≡ seen.entry e ∷ zs
+name_step true e x o xs ys zs h f = absurd cc
+name_step false e x o xs ys zs h f = ap (λ (ws : List (List ℕ × rule.Meaning)). seen.entry e ∷ ws) (f h)
+
+pub name_added : (k : Vec ℕ) (v : Meaning) (es : List (Vec ℕ × Meaning)) → rule.entry k.items (map seen.entry es) ≡ None
+    → map seen.entry (insert_entry (λ p q. bytes_eq p.items q.items) es k v) ≡ map seen.entry es ++ (k.items, seen.meaning v) ∷ []
+name_added k v [] h = refl
+name_added k v (e ∷ es) h =
+    name_step (bytes_eq k.items e.0.items) e (seen.meaning e.1) (rule.entry k.items (map seen.entry es)) ((e.0, v) ∷ es)
+    (insert_entry (λ p q. bytes_eq p.items q.items) es k v) (map seen.entry es ++ (k.items, seen.meaning v) ∷ []) h (name_added k v es)
+
+tag_step : (b : Bool) (e : Vec ℕ × ℕ) (x : ℕ) (o : Option ℕ) (xs ys : List (Vec ℕ × ℕ)) (zs : List (List ℕ × ℕ))
+    → cond b (Some x) o ≡ None → (o ≡ None → map seen.tag ys ≡ zs) → map seen.tag (cond b xs (e ∷ ys)) ≡ seen.tag e ∷ zs
+tag_step true e x o xs ys zs h f = absurd cc
+tag_step false e x o xs ys zs h f = ap (λ (ws : List (List ℕ × ℕ)). seen.tag e ∷ ws) (f h)
+
+pub tag_added : (k : Vec ℕ) (v : ℕ) (es : List (Vec ℕ × ℕ)) → rule.entry k.items (map seen.tag es) ≡ None
+    → map seen.tag (insert_entry (λ p q. bytes_eq p.items q.items) es k v) ≡ map seen.tag es ++ (k.items, v) ∷ []
+tag_added k v [] h = refl
+tag_added k v (e ∷ es) h =
+    tag_step (bytes_eq k.items e.0.items) e e.1 (rule.entry k.items (map seen.tag es)) ((e.0, v) ∷ es)
+    (insert_entry (λ p q. bytes_eq p.items q.items) es k v) (map seen.tag es ++ (k.items, v) ∷ []) h (tag_added k v es)
+
+-- ---- the stack
+
+-- what is found in the end, where o was found before these scopes
+abbrev pub through : List ℕ → List Scope → Option rule.Meaning → Option rule.Meaning
+through t [] o = o
+through t (s ∷ ss) o = through t ss (rule.first_of (rule.entry t (seen.scope s).names) o)
+
+abbrev pub tag_through : List ℕ → List Scope → Option ℕ → Option ℕ
+tag_through t [] o = o
+tag_through t (s ∷ ss) o = tag_through t ss (rule.first_of (rule.entry t (seen.scope s).tags) o)
+
+pub snoc : (G : List rule.Scope) (ss : List Scope) (s : Scope) → seen.stacked G (ss ++ s ∷ []) ≡ seen.scope s ∷ seen.stacked G ss
+snoc G [] s = refl
+snoc G (n ∷ ss) s = snoc (seen.scope n ∷ G) ss s
+
+goes_through : (t : List ℕ) (G : List rule.Scope) (ss : List Scope) → rule.look_up t (seen.stacked G ss) ≡ through t ss (rule.look_up t G)
+goes_through t G [] = refl
+goes_through t G (s ∷ ss) = goes_through t (seen.scope s ∷ G) ss
+
+tag_goes_through : (t : List ℕ) (G : List rule.Scope) (ss : List Scope) → rule.look_up_tag t (seen.stacked G ss) ≡ tag_through t ss (rule.look_up_tag t G)
+tag_goes_through t G [] = refl
+tag_goes_through t G (s ∷ ss) = tag_goes_through t (seen.scope s ∷ G) ss
+
+pub ends : (t : List ℕ) (ss : List Scope) (i : ℕ) (o : Option rule.Meaning) → length ss ≤ i → through t (drop i ss) o ≡ through t ss None
+    → o ≡ rule.look_up t (seen.stacked [] ss)
+ends t ss i o h e =
+    let none : drop i ss ≡ [] = drop_all i ss h in
+    sym (ap (λ (rest : List Scope). through t rest o) none) ∙ e ∙ sym (goes_through t [] ss)
+
+pub tag_ends : (t : List ℕ) (ss : List Scope) (i : ℕ) (o : Option ℕ) → length ss ≤ i → tag_through t (drop i ss) o ≡ tag_through t ss None
+    → o ≡ rule.look_up_tag t (seen.stacked [] ss)
+tag_ends t ss i o h e =
+    let none : drop i ss ≡ [] = drop_all i ss h in
+    sym (ap (λ (rest : List Scope). tag_through t rest o) none) ∙ e ∙ sym (tag_goes_through t [] ss)
+
+-- what was pushed last
+pub pushed : (ss ns : List Scope) (s : Scope) → ns ≡ ss ++ s ∷ [] → seen.stacked [] ns ≡ seen.scope s ∷ seen.stacked [] ss
+pushed ss ns s e = ap (seen.stacked []) e ∙ snoc [] ss s
+
+module _ (ss ns : List Scope) (s : Scope) (e : ss ≡ ns ++ s ∷ []) where
+  pub is_last : seen.innermost (seen.stacked [] ss) ≡ seen.scope s
+  is_last = ap seen.innermost (pushed ns ss s e)
+
+  pub without_last : seen.stacked [] ns ≡ seen.outer (seen.stacked [] ss)
+  without_last = sym (ap seen.outer (pushed ns ss s e))
+
+  -- the last one is put back with a name more
+  pub with_last_name : (os : List Scope) (n : Scope) (t : List ℕ) (m : rule.Meaning) → os ≡ ns ++ n ∷ []
+      → (seen.scope n).names ≡ (seen.scope s).names ++ (t, m) ∷ [] → (seen.scope n).tags ≡ (seen.scope s).tags
+      → seen.stacked [] os ≡ seen.name_in (seen.stacked [] ss) t m
+  with_last_name os n t m f h k =
+      pushed ns os n f
+      ∙ ap (λ (x : List (List ℕ × rule.Meaning)). record { names = x; tags = (seen.scope n).tags } ∷ seen.stacked [] ns) h
+      ∙ ap (λ (x : List (List ℕ × ℕ)). record { names = (seen.scope s).names ++ (t, m) ∷ []; tags = x } ∷ seen.stacked [] ns) k
+      ∙ sym (ap (λ (G : List rule.Scope). seen.name_in G t m) (pushed ns ss s e))
+
+  pub with_last_tag : (os : List Scope) (n : Scope) (t : List ℕ) (a : ℕ) → os ≡ ns ++ n ∷ []
+      → (seen.scope n).tags ≡ (seen.scope s).tags ++ (t, a) ∷ [] → (seen.scope n).names ≡ (seen.scope s).names
+      → seen.stacked [] os ≡ rule.tag_in (seen.stacked [] ss) t a
+  with_last_tag os n t a f h k =
+      pushed ns os n f
+      ∙ ap (λ (x : List (List ℕ × ℕ)). record { names = (seen.scope n).names; tags = x } ∷ seen.stacked [] ns) h
+      ∙ ap (λ (x : List (List ℕ × rule.Meaning)). record { names = x; tags = (seen.scope s).tags ++ (t, a) ∷ [] } ∷ seen.stacked [] ns) k
+      ∙ sym (ap (λ (G : List rule.Scope). rule.tag_in G t a) (pushed ns ss s e))
+
+pub last_is : (ss : List Scope) (s : Scope) → slice_get ss (length ss - 1) ≡ Some s → seen.innermost (seen.stacked [] ss) ≡ seen.scope s
+last_is ss s e = is_last ss (slice_range ss 0 (length ss - 1)) s (split_last ss s e (omega (arith, slice_get_within ss (length ss - 1) s e)))
+
+pub there : (o : Option Meaning) → is_some o ≡ is_some (option_map seen.meaning o)
+there (Some v) = refl
+there None = refl
+
+pub left_is : (o : Option Scope) (v w : Vec Scope) → v.items ≡ w.items ++ option_to_list o
+    → MatchOption o ((vec_len v ≡ 0) × (vec_len w ≡ 0)) (λ _. vec_len w + 1 ≡ vec_len v)
+    → seen.stacked [] w.items ≡ seen.outer (seen.stacked [] v.items)
+left_is (Some s) v w e h = without_last v.items w.items s e
+left_is None v w e h =
+    let p : length v.items ≡ 0 = first_of (grind (arith, v.ok, h.0), omega (arith, h.0)) in
+    let q : length w.items ≡ 0 = first_of (grind (arith, w.ok, h.1), omega (arith, h.1)) in
+    ap (seen.stacked []) (nil_from_length w.items q) ∙ sym (ap (λ (ss : List Scope). seen.outer (seen.stacked [] ss)) (nil_from_length v.items p))

@@ -1,0 +1,134 @@
+//! What stands round an expression.
+
+ghost use Rattle.std.specs.Prelude.{◌≡◌, ◌<◌, IfOk, OnOk, IsTrue, None, length};
+ghost use Rattle.ep_layout.specs.Table as table;
+ghost use Rattle.ep_typing.specs.Env as rule;
+ghost use Rattle.ep_typing.specs.Types as types_of;
+ghost use Rattle.ep_scopes.specs.Known.{IsKnown, IsKnownBase};
+ghost use Rattle.ep_scopes.specs.Seen as seen;
+
+use crate::scopes::Scopes;
+use ep_core::program::BlockInfo;
+use ep_int::{Memory, Model};
+use ep_layout::{Ty, Types};
+use ep_typing::{Base, CType};
+use std::alloc::{AllocError, Global};
+
+/// A function that was declared, with the types of its parameters; the result of one without is void.
+#[derive(Debug, Drop)]
+pub struct Signature {
+    pub name: Vec<u8>,
+    pub params: Vec<CType>,
+    pub result: CType,
+}
+
+/// Names, tags, blocks, functions and types so far.
+#[derive(Drop)]
+pub struct Env {
+    pub types: Types,
+    pub scopes: Scopes,
+    pub blocks: Vec<BlockInfo>,
+    pub functions: Vec<Signature>,
+    pub alloc: Global,
+}
+
+fn opened(alloc: Global) -> Result<Scopes, AllocError>
+    ensures { IfOk result (λ s. seen.scopes s ≡ (rule.start Model.Ilp32).scopes) }
+{
+    let mut scopes = Scopes::new(alloc);
+    scopes.enter()?;
+    Ok(scopes)
+}
+
+impl Env {
+    /// The file's scope, with nothing in it.
+    pub fn new(alloc: Global, model: Model) -> Result<Env, AllocError>
+        ensures { IfOk result (λ e. seen.env e ≡ rule.start model) }
+    {
+        let scopes = opened(alloc)?;
+        Ok(Env {
+            types: Types::new(alloc, model),
+            scopes,
+            blocks: Vec::new(alloc),
+            functions: Vec::new(alloc),
+            alloc,
+        })
+    }
+}
+
+// The number of a type that is no array.
+fn add_row(types: &mut Types, ty: Ty) -> Result<u32, Memory>
+    requires { IsTrue (table.names_known types.old ty) }
+    ensures number { IfOk result (λ n. n ≡ types_of.known_number types.new ty) }
+    ensures inside { IfOk result (λ n. n < length types.new.types) }
+    ensures grown { OnOk result (types.new ≡ table.type_added types.old ty) }
+{
+    if types.type_count() >= 1 << 31 {
+        return Err(Memory);
+    }
+    match types.add(ty) {
+        Ok(n) => Ok(n),
+        Err(_) => Err(Memory),
+    }
+}
+
+fn add_base(types: &mut Types, base: Base) -> Result<u32, Memory>
+    requires { IsKnownBase types.old base }
+    ensures number { IfOk result (λ n. n ≡ types_of.base_number types.new base) }
+    ensures inside { IfOk result (λ n. n < length types.new.types) }
+    ensures grown { OnOk result (types.new ≡ types_of.with_base types.old base) }
+{
+    match base {
+        Base::Void => add_row(types, Ty::Void),
+        Base::Int(t) => add_row(types, Ty::Int(t)),
+        Base::Array(n) => Ok(n),
+        Base::Aggregate(a) => add_row(types, Ty::Aggregate(a)),
+    }
+}
+
+/// A type comes into the table: its base, then each of its pointers.
+pub fn add_type(types: &mut Types, c: CType) -> Result<(), Memory>
+    requires { IsKnown types.old c }
+    ensures { OnOk result (types.new ≡ types_of.with_c_type types.old c) }
+{
+    let mut number = add_base(types, c.base)?;
+    for i in 0..c.stars {
+        number = add_row(types, Ty::Ptr(number))?;
+    }
+    Ok(())
+}
+
+// A struct or union without members takes the next number.
+fn add_aggregate(types: &mut Types, tag: Vec<u8>, is_union: bool) -> Result<u32, Memory>
+    ensures number { IfOk result (λ n. n ≡ length types.old.aggregates) }
+    ensures grown { OnOk result (types.new ≡ table.declared types.old tag.items is_union) }
+{
+    if types.aggregate_count() >= 1 << 31 {
+        return Err(Memory);
+    }
+    types.declare(tag, is_union)
+}
+
+impl Env {
+    fn text(&self, name: &[u8]) -> Result<Vec<u8>, Memory>
+        ensures { IfOk result (λ v. v.items ≡ name.now) }
+    {
+        match Vec::from_slice(self.alloc, name) {
+            Ok(text) => Ok(text),
+            Err(_) => Err(Memory),
+        }
+    }
+
+    /// A tag that no scope has is declared in the innermost one.
+    pub fn declare_tag(&mut self, tag: &[u8], is_union: bool) -> Result<(), Memory>
+        requires { rule.look_up_tag tag.now (seen.env self.old).scopes ≡ None }
+        ensures { OnOk result (seen.env self.new ≡ rule.with_tag (seen.env self.old) tag.now is_union) }
+    {
+        let text = self.text(tag)?;
+        let number = add_aggregate(&mut self.types, text, is_union)?;
+        match self.scopes.declare_tag(tag, number) {
+            Ok(()) => Ok(()),
+            Err(_) => Err(Memory),
+        }
+    }
+}

@@ -1,0 +1,167 @@
+//! What names stand for, and the types that type names mention.
+
+ghost use Rattle.std.specs.Prelude.{◌≡◌, map, OnOk, IfOk, Option};
+ghost use Rattle.std.specs.Option.{option_map};
+ghost use Rattle.ep_ast.specs.Expression.{type_name, type_word};
+ghost use Rattle.ep_layout.specs.Table.{is_union};
+ghost use Rattle.ep_typing.specs.Env.{entry, look_up, look_up_tag};
+ghost use Rattle.ep_typing.specs.Names as rule;
+ghost use Rattle.ep_typing.specs.Parts as parts;
+ghost use Rattle.ep_typing.specs.Results.{at};
+ghost use Rattle.ep_operands.specs.Gives.{Gives};
+ghost use Rattle.ep_operands.specs.Seen as operands;
+ghost use Rattle.ep_scopes.specs.Known.{IsKnownEnv};
+ghost use Rattle.ep_scopes.specs.Seen as seen;
+
+use crate::env::{Env, add_type};
+use crate::scopes::Meaning;
+use crate::words::{built_in_type, integer_of, whole_word};
+use ep_ast::{Halt, TypeNameTree, TypeWordTree, words};
+use ep_core::tree::Place;
+use ep_int::Memory;
+use ep_operands::kinds::{REDECLARED, UNKNOWN_NAME, refused};
+use ep_operands::{Callee, Operand, built_in};
+use ep_typing::{Base, CType};
+
+/// What a name stands for.
+#[tactic(auto, unfolding(ep_typing::specs::Parts::named))]
+pub fn named(env: &Env, line: u32, name: &[u8]) -> Result<Operand, Halt>
+    ensures { Gives operands.operand (at line (parts.named (seen.env env.now) name.now)) result }
+{
+    match env.scopes.get(name) {
+        Some(Meaning::Variable(block, c)) => Ok(Operand::Place(Place::Block(block), c)),
+        Some(Meaning::Function(number)) => Ok(Operand::Function(Callee::Declared(number))),
+        Some(Meaning::TypeName(_)) => Err(refused(UNKNOWN_NAME, line)),
+        None => match built_in(name) {
+            Some(operand) => Ok(operand),
+            None => Err(refused(UNKNOWN_NAME, line)),
+        },
+    }
+}
+
+// The type of a typedef name.
+fn meant_type(env: &Env, line: u32, name: &[u8]) -> Result<CType, Halt>
+    ensures { Gives (λ c. c) (at line (rule.meant_type (look_up name.now (seen.env env.now).scopes) (entry name.now (rule.built_in_types (seen.env env.now).types.model)))) result }
+{
+    match env.scopes.get(name) {
+        Some(Meaning::Variable(_, _)) => Err(refused(UNKNOWN_NAME, line)),
+        Some(Meaning::Function(_)) => Err(refused(UNKNOWN_NAME, line)),
+        Some(Meaning::TypeName(c)) => Ok(c),
+        None => match built_in_type(env.types.model(), name) {
+            Some(t) => Ok(CType {
+                base: Base::Int(t),
+                stars: 0,
+            }),
+            None => Err(refused(UNKNOWN_NAME, line)),
+        },
+    }
+}
+
+fn is_union(env: &Env, aggregate: u32) -> bool
+    ensures { result ≡ is_union (seen.env env.now).types aggregate }
+{
+    if aggregate < env.types.aggregate_count() {
+        env.types.is_union(aggregate)
+    } else {
+        false
+    }
+}
+
+// The aggregate of a tag, which was declared with the same word.
+fn meant_tag(env: &Env, line: u32, with_union: bool, tag: &[u8]) -> Result<CType, Halt>
+    ensures { Gives (λ c. c) (at line (rule.meant_tag (seen.env env.now) with_union (look_up_tag tag.now (seen.env env.now).scopes))) result }
+{
+    match env.scopes.tag(tag) {
+        Some(aggregate) => {
+            if is_union(env, aggregate) == with_union {
+                return Ok(CType {
+                    base: Base::Aggregate(aggregate),
+                    stars: 0,
+                });
+            }
+            Err(refused(REDECLARED, line))
+        }
+        None => Err(refused(UNKNOWN_NAME, line)),
+    }
+}
+
+/// The type of words.
+#[tactic(auto, unfolding(ep_typing::specs::Names::words_type))]
+pub fn words_type(env: &Env, all: &[TypeWordTree]) -> Result<CType, Halt>
+    ensures { Gives (λ c. c) (rule.words_type (seen.env env.now) (map type_word all.now)) result }
+{
+    match whole_word(all) {
+        None => Ok(CType {
+            base: Base::Int(integer_of(env.types.model(), all)),
+            stars: 0,
+        }),
+        Some(word) => match word {
+            TypeWordTree::Word(_, _) => Ok(CType {
+                base: Base::Void,
+                stars: 0,
+            }),
+            TypeWordTree::Name(line, name) => meant_type(env, *line, name),
+            TypeWordTree::Tag(line, code, tag) => {
+                meant_tag(env, *line, *code == words::UNION, tag)
+            }
+        },
+    }
+}
+
+/// The type of a type name.
+#[tactic(auto, unfolding(ep_typing::specs::Names::named_type))]
+pub fn named_type(env: &Env, name: &TypeNameTree) -> Result<CType, Halt>
+    ensures { Gives (λ c. c) (rule.named_type (seen.env env.now) (type_name name.now)) result }
+{
+    let c = words_type(env, &name.specs)?;
+    let Ok(stars) = u32::try_from(name.stars.len()) else {
+        return Err(Halt::Memory);
+    };
+    match c.stars.checked_add(stars) {
+        Some(stars) => Ok(CType {
+            base: c.base,
+            stars,
+        }),
+        None => Err(Halt::Memory),
+    }
+}
+
+// A tag that no scope has is declared where it is mentioned.
+fn mention_word(env: &mut Env, word: &TypeWordTree) -> Result<(), Memory>
+    ensures { OnOk result (seen.env env.new ≡ rule.mentioned_word (seen.env env.old) (type_word word.now)) }
+{
+    match word {
+        TypeWordTree::Word(_, _) => Ok(()),
+        TypeWordTree::Name(_, _) => Ok(()),
+        TypeWordTree::Tag(_, code, tag) => {
+            match env.scopes.tag(tag) {
+                Some(_) => Ok(()),
+                None => env.declare_tag(tag, *code == words::UNION),
+            }
+        }
+    }
+}
+
+fn mention_words(env: &mut Env, all: &[TypeWordTree]) -> Result<(), Memory>
+    ensures { OnOk result (seen.env env.new ≡ rule.mentioned_words (seen.env env.old) (map type_word all.now)) }
+{
+    for word in all {
+        mention_word(env, word)?;
+    }
+    Ok(())
+}
+
+/// A type name declares its tags, and its type comes into the table.
+#[tactic(auto, unfolding(ep_typing::specs::Names::mentioned_name))]
+pub fn mention_name(env: &mut Env, name: &TypeNameTree) -> Result<(), Memory>
+    requires { IsKnownEnv (seen.env env.old) }
+    ensures means { OnOk result (seen.env env.new ≡ rule.mentioned_name (seen.env env.old) (type_name name.now)) }
+    ensures known { OnOk result (IsKnownEnv (seen.env env.new)) }
+{
+    mention_words(env, &name.specs)?;
+    match named_type(env, name) {
+        Ok(c) => add_type(&mut env.types, c),
+        Err(Halt::Refused(_)) => Ok(()),
+        Err(Halt::Memory) => Err(Memory),
+    }
+}

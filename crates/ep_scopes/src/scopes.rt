@@ -1,0 +1,190 @@
+//! The names and tags in scope.
+
+ghost use Rattle.std.specs.Prelude.{◌≡◌, [], ◌∷◌, ◌++◌, OnOk, OnErr, None, is_some};
+ghost use Rattle.std.specs.Option.{option_map};
+ghost use Rattle.ep_typing.specs.Env as rule;
+ghost use Rattle.ep_scopes.specs.Seen as seen;
+
+use ep_typing::CType;
+use indexmap::IndexMap;
+use std::alloc::{AllocError, Global};
+
+/// What a name means: a variable by its block, a function by its number, or a type.
+#[derive(Clone, Copy, Debug)]
+pub enum Meaning {
+    Variable(u32, CType),
+    Function(u32),
+    TypeName(CType),
+}
+
+/// The names of a scope, and its tags with the numbers of their aggregates.
+#[derive(Drop)]
+pub(crate) struct Scope {
+    pub names: IndexMap<Vec<u8>, Meaning>,
+    pub tags: IndexMap<Vec<u8>, u32>,
+}
+
+/// The scopes that are open; the innermost is the last.
+#[derive(Drop)]
+pub struct Scopes {
+    pub(crate) all: Vec<Scope>,
+    pub(crate) alloc: Global,
+}
+
+impl Scope {
+    fn new(alloc: Global) -> Scope
+        ensures { seen.scope result ≡ rule.no_names }
+    {
+        Scope {
+            names: IndexMap::new(alloc),
+            tags: IndexMap::new(alloc),
+        }
+    }
+
+    fn name(&self, name: &[u8]) -> Option<Meaning>
+        ensures { option_map seen.meaning result ≡ rule.entry name.now (seen.scope self.now).names }
+    {
+        self.names.get(name).copied()
+    }
+
+    fn tag(&self, tag: &[u8]) -> Option<u32>
+        ensures { result ≡ rule.entry tag.now (seen.scope self.now).tags }
+    {
+        self.tags.get(tag).copied()
+    }
+
+    fn add_name(&mut self, alloc: Global, name: &[u8], meaning: Meaning) -> Result<(), AllocError>
+        requires { rule.entry name.now (seen.scope self.old).names ≡ None }
+        ensures names { OnOk result ((seen.scope self.new).names ≡ (seen.scope self.old).names ++ (name.now, seen.meaning meaning) ∷ []) }
+        ensures tags { OnOk result ((seen.scope self.new).tags ≡ (seen.scope self.old).tags) }
+    {
+        let text = Vec::from_slice(alloc, name)?;
+        self.names.insert(text, meaning)?;
+        Ok(())
+    }
+
+    fn add_tag(&mut self, alloc: Global, tag: &[u8], number: u32) -> Result<(), AllocError>
+        requires { rule.entry tag.now (seen.scope self.old).tags ≡ None }
+        ensures tags { OnOk result ((seen.scope self.new).tags ≡ (seen.scope self.old).tags ++ (tag.now, number) ∷ []) }
+        ensures names { OnOk result ((seen.scope self.new).names ≡ (seen.scope self.old).names) }
+    {
+        let text = Vec::from_slice(alloc, tag)?;
+        self.tags.insert(text, number)?;
+        Ok(())
+    }
+}
+
+fn look_up(scopes: &[Scope], name: &[u8]) -> Option<Meaning>
+    ensures { option_map seen.meaning result ≡ rule.look_up name.now (seen.stacked [] scopes.now) }
+{
+    let mut found = None;
+    for scope in scopes {
+        if let Some(meaning) = scope.name(name) {
+            found = Some(meaning);
+        }
+    }
+    found
+}
+
+fn look_up_tag(scopes: &[Scope], tag: &[u8]) -> Option<u32>
+    ensures { result ≡ rule.look_up_tag tag.now (seen.stacked [] scopes.now) }
+{
+    let mut found = None;
+    for scope in scopes {
+        if let Some(number) = scope.tag(tag) {
+            found = Some(number);
+        }
+    }
+    found
+}
+
+impl Scopes {
+    /// No scope at all.
+    pub fn new(alloc: Global) -> Scopes
+        ensures { seen.scopes result ≡ [] }
+    {
+        Scopes {
+            all: Vec::new(alloc),
+            alloc,
+        }
+    }
+
+    /// What a name means; an inner scope hides an outer one.
+    pub fn get(&self, name: &[u8]) -> Option<Meaning>
+        ensures { option_map seen.meaning result ≡ rule.look_up name.now (seen.scopes self.now) }
+    {
+        look_up(&self.all, name)
+    }
+
+    /// The aggregate of a tag.
+    pub fn tag(&self, tag: &[u8]) -> Option<u32>
+        ensures { result ≡ rule.look_up_tag tag.now (seen.scopes self.now) }
+    {
+        look_up_tag(&self.all, tag)
+    }
+
+    /// Opens a scope inside the others.
+    pub fn enter(&mut self) -> Result<(), AllocError>
+        ensures { OnOk result (seen.scopes self.new ≡ rule.no_names ∷ seen.scopes self.old) }
+    {
+        self.all.push(Scope::new(self.alloc))?;
+        Ok(())
+    }
+
+    /// Leaves the innermost scope.
+    pub fn leave(&mut self)
+        ensures { seen.scopes self.new ≡ seen.outer (seen.scopes self.old) }
+    {
+        self.all.pop();
+    }
+
+    /// Whether the innermost scope has the name.
+    pub fn has(&self, name: &[u8]) -> bool
+        ensures { result ≡ is_some (rule.entry name.now (seen.innermost (seen.scopes self.now)).names) }
+    {
+        match self.all.last() {
+            Some(scope) => scope.name(name).is_some(),
+            None => false,
+        }
+    }
+
+    /// The aggregate of a tag of the innermost scope.
+    pub fn tag_here(&self, tag: &[u8]) -> Option<u32>
+        ensures { result ≡ rule.entry tag.now (seen.innermost (seen.scopes self.now)).tags }
+    {
+        match self.all.last() {
+            Some(scope) => scope.tag(tag),
+            None => None,
+        }
+    }
+
+    /// Adds a name to the innermost scope.
+    pub fn declare(&mut self, name: &[u8], meaning: Meaning) -> Result<(), AllocError>
+        requires { rule.entry name.now (seen.innermost (seen.scopes self.old)).names ≡ None }
+        ensures { OnOk result (seen.scopes self.new ≡ seen.name_in (seen.scopes self.old) name.now (seen.meaning meaning)) }
+    {
+        match self.all.pop() {
+            Some(mut scope) => {
+                scope.add_name(self.alloc, name, meaning)?;
+                self.all.push(scope)?;
+                Ok(())
+            }
+            None => Ok(()),
+        }
+    }
+
+    /// Adds a tag to the innermost scope.
+    pub fn declare_tag(&mut self, tag: &[u8], number: u32) -> Result<(), AllocError>
+        requires { rule.entry tag.now (seen.innermost (seen.scopes self.old)).tags ≡ None }
+        ensures { OnOk result (seen.scopes self.new ≡ rule.tag_in (seen.scopes self.old) tag.now number) }
+    {
+        match self.all.pop() {
+            Some(mut scope) => {
+                scope.add_tag(self.alloc, tag, number)?;
+                self.all.push(scope)?;
+                Ok(())
+            }
+            None => Ok(()),
+        }
+    }
+}
