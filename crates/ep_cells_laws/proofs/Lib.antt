@@ -7,8 +7,10 @@ pub mod Write
 pub mod Both
 pub mod Kept
 pub mod Entry
+pub mod Parts
 pub mod Kill
 pub mod Beside
+pub mod WeakCells
 pub mod Weaken
 pub mod Reshare
 pub mod Gathered
