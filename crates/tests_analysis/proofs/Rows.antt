@@ -9,7 +9,8 @@ use Rattle.ep_alarms.specs.declared.types.AlarmKind.TheVariants.{E1, E2, E3, E4}
 use Rattle.ep_core.specs.Program.{block, element, Expr, const, addr_of, binary, convert, compare, nothing, assign, output, read_bytes, write_bytes, returns, What, simple, call, if_else, loop, break_loop, by_order, Stmts, stop, more, Program}
 use Rattle.ep_pass.specs.Pass.{report_of, heads_of}
 use Rattle.tests_analysis.specs.Exact.{Pair, exact}
-use Rattle.tests_analysis.specs.Samples.{sized, main_of, program, number, unsigned, u32, u16, set32, set16, put32, take32, first_byte, orders, usual, told, passes_in}
+use Rattle.tests_analysis.specs.Samples.{sized, main_of, program, number, unsigned, u32, u16, set32, set16, put32, take32, first_byte, orders, usual, places, told, passes_in}
+use Rattle.tests_analysis.specs.Unknown.{unknown}
 
 -- ---- byte-order conditionals: uint16_t x, y; ep_read(&x, 2); (statements) ep_out_u16(y);
 
@@ -243,6 +244,13 @@ never_left = refl
 
 first_and_head : passes_in 0 ([] ∷ []) for_ever ≡ 2
 first_and_head = refl
+
+-- while (1) break; over states that know nothing, from the empty head on: that main's result may differ is the only alarm
+abbrev broken_off : Program
+broken_off = joint (more 3 (loop true (number 1) (more 3 break_loop stop) stop) stop)
+
+after_the_empty_head : places (report_of unknown 0 1 usual broken_off) ≡ (E1, 1) ∷ []
+after_the_empty_head = refl
 
 -- ---- order, counts and heads
 
