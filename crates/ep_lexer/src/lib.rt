@@ -13,6 +13,3 @@ mod words;
 pub use ep_ast::Literal;
 pub use lexer::lex;
 pub use tokens::{Token, TokenKind, Tokens};
-
-#[cfg(test)]
-mod tests;

@@ -5,3 +5,7 @@
 mod expressions;
 #[cfg(test)]
 mod programs;
+#[cfg(test)]
+mod refusals;
+#[cfg(test)]
+mod tokens;

@@ -1,5 +1,5 @@
-use crate::{Token, TokenKind, lex};
 use ep_ast::Halt;
+use ep_lexer::{Token, TokenKind, lex};
 use std::alloc::{AllocError, Global};
 use std::fmt::Write;
 use std::test::Fail;
