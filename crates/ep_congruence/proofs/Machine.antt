@@ -1,30 +1,40 @@
 -- What the code of congruences needs.
-use Rattle.std.proofs.Common.{◌≡◌, ℕ, ◌+◌, ◌*◌, ◌^◌, ◌<◌, ◌≤◌, ℤ, pos, negsuc, ◌+ℤ◌, ◌-ℤ◌, ◌*ℤ◌, ◌≤ℤ◌, ◌<ℤ◌, Bool, true, false, cond, ◌&&◌, ◌⊎◌, inl, inr, Option, Some, None, FitsSigned, to_z, of_z, nat_eq, nat_le, refl, sym, ap, ◌∙◌, subst, arith}
-use Rattle.std.specs.Prelude.{int_le, int_lt, unsigned_abs, IfSome, IsSome}
-use Rattle.std.specs.Option.{unwrap_or, option_map, option_zip}
+use Rattle.std.proofs.Common.{◌≡◌, ℕ, ◌*◌, ◌^◌, ◌<◌, ◌≤◌, ℤ, pos, negsuc, ◌*ℤ◌, ◌≤ℤ◌, ◌<ℤ◌, Bool, true, false, cond, ◌&&◌, ◌⊎◌, inl, inr, Option, Some, None, FitsSigned, of_z, nat_eq, nat_le, refl, sym, ap, ◌∙◌, subst, arith}
+use Rattle.std.specs.Prelude.{int_le, unsigned_abs, IfSome, IsSome}
+use Rattle.std.specs.Option.{unwrap_or}
 use Rattle.std.specs.Int.{w128}
-use Rattle.std.proofs.lemmas.Int.{ints, to_z-of_z, fits_signed_mul}
+use Rattle.std.proofs.lemmas.Int.{ints, fits_signed_mul}
 use Rattle.std.proofs.Math.Nat.{mul-le-mul_left, mul-le-mul_right, mod-eq_of_lt}
 use Rattle.std.proofs.lemmas.Bool.Decides.{nat_tests}
-use Rattle.std.proofs.lemmas.Bool.{and_parts, and_from}
+use Rattle.std.proofs.lemmas.Bool.{and_parts}
 use Rattle.ep_int.specs.declared.types.IntType.{IntType}
-use Rattle.ep_int.specs.declared.types.IntType.TheVariants.{I64, U64}
+use Rattle.ep_int.specs.declared.types.IntType.TheVariants.{I64}
 use Rattle.ep_int.specs.declared.types.BinOp.{BinOp}
 use Rattle.ep_int.specs.declared.types.BinOp.TheVariants.{Add, Sub, Mul, Div, Rem, And, Or, Xor, Shl, Shr}
-use Rattle.ep_int.specs.Types.{bits_of, least_of, greatest_of, residue, InRange}
+use Rattle.ep_int.specs.Types.{least_of, greatest_of, residue, InRange}
 use Rattle.ep_int.specs.Arith.{int_eq, is_amount, IsOfSomeType, IsRightOperand}
 use Rattle.ep_domain.specs.Laws.Types.{number_low, number_high, ends_ordered}
-use Rattle.ep_domain.specs.Laws.Comparisons.{le_true, between_true, between_false, from_le_true, from_le_false, le_antisym, le_trans, le_self}
+use Rattle.ep_domain.specs.Laws.Comparisons.{between_true, from_le_true, from_le_false, le_antisym, le_trans, le_self}
 use Rattle.ep_congruence_laws.specs.Multiples.{gcd}
-use Rattle.ep_congruence_laws.specs.Classes as classes
 use Rattle.ep_congruence_laws.specs.Classes.{Class, class, everything, one, is_one, is_class, reduced, edges_of, cut_at, cut_of, greatest_modulus}
 use Rattle.ep_congruence_laws.specs.Results.{greatest_product, kept_modulus, limited, are_small, multiples_of, past_limits, products, product_at, product_of, product_modulus, product_leaves, ends_of, shifted_of, results_of, left_operand, right_operand}
 use Rattle.ep_congruence_laws.proofs.Classes.{zero_from, nonzero_from, class_one, class_remainder, class_small, class_has, class_with, le_from, le_test, reduced_zero, reduced_more}
 use Rattle.ep_congruence_laws.proofs.Operations.{In, Is, AreEdges, remainder_bounds}
 use Rattle.ep_congruence_laws.proofs.Cuts.{IsCut, cut_is, cut_away, edges_within}
-use Rattle.ep_congruence.specs.declared.congruence.Congruence.{Congruence}
-use Rattle.ep_congruence.specs.Congruence.{class_of, formed, formed_at, common_divisor, amount_of, twice, AreOfClass}
-use Rattle.ep_congruence.specs.Laws.Formed.{formed_some}
+use Rattle.ep_congruence.specs.declared.congruence.Congruence.TheInside.{Inside}
+use Rattle.ep_congruence_domain.specs.Congruence.{Congruence, formed, formed_at, common_divisor, amount_of, AreOfClass}
+use Rattle.ep_congruence_domain.proofs.Formed.{formed_some, formed_keeps}
+
+-- the fields of a congruence as its value
+abbrev pub seen : Inside → Congruence
+seen i = record { remainder = i.remainder; modulus = i.modulus; valid = i.valid }
+
+-- greatest common divisors of the moduli of values that are shown
+pub gcd_shown : {a b : Congruence} (n : ℕ) → a ≡ b → gcd a.modulus n ≡ gcd b.modulus n
+gcd_shown n e = ap (λ (k : Congruence). gcd k.modulus n) e
+
+pub gcd_both : {a b d k : Congruence} → a ≡ b → d ≡ k → gcd a.modulus d.modulus ≡ gcd b.modulus k.modulus
+gcd_both {a = a} {b = b} {d = d} {k = k} e f = gcd_shown d.modulus e ∙ ap (λ (m : Congruence). gcd b.modulus m.modulus) f
 
 pub least_number : (t : IntType) → IsOfSomeType (least_of t)
 least_number t = record { low = number_low t; high = le_trans _ _ _ (ends_ordered t) (number_high t) }
@@ -278,6 +288,12 @@ of_code r (pos k) n o p e f =
     let g : o ≡ formed (class r k) = f ∙ ap (λ (m : ℕ). formed (class r m)) e in
     (λ s. class_given r k (formed_class (class r k) (subst IsSome g s)), λ s. subst IsSome (sym (g ∙ formed_some (class r k) (given_class r k s))) refl)
 
+pub of_parts : (r m : ℤ) (n : ℕ) (o : Option Congruence) → pos 0 ≤ℤ m → n ≡ unsigned_abs m → o ≡ formed (class r n) → IfSome o (λ c. (c.remainder ≡ r) × (pos c.modulus ≡ m))
+of_parts r (negsuc k) n o p e f = absurd (omega (arith, ints))
+of_parts r (pos k) n o p e f =
+    subst (λ o. IfSome o (λ c. (c.remainder ≡ r) × (pos c.modulus ≡ pos k))) (sym (f ∙ ap (λ (m : ℕ). formed (class r m)) e))
+    (formed_keeps (λ d. (d.remainder ≡ r) × (pos d.modulus ≡ pos k)) (class r k) (refl, refl))
+
 pub others : (o : BinOp) (t : IntType) (a b : Class) → ((o ≡ Div) ⊎ ((o ≡ Rem) ⊎ ((o ≡ And) ⊎ ((o ≡ Or) ⊎ ((o ≡ Xor) ⊎ (o ≡ Shr)))))) → results_of o t a b ≡ everything
 others o t a b (inl e) = ap (λ p. results_of p t a b) e
 others o t a b (inr (inl e)) = ap (λ p. results_of p t a b) e
@@ -285,9 +301,3 @@ others o t a b (inr (inr (inl e))) = ap (λ p. results_of p t a b) e
 others o t a b (inr (inr (inr (inl e)))) = ap (λ p. results_of p t a b) e
 others o t a b (inr (inr (inr (inr (inl e))))) = ap (λ p. results_of p t a b) e
 others o t a b (inr (inr (inr (inr (inr e))))) = ap (λ p. results_of p t a b) e
-
--- ---- comparisons
-
-pub zipped_twice : (o : Option Congruence) → option_zip o o ≡ option_map twice o
-zipped_twice None = refl
-zipped_twice (Some c) = refl

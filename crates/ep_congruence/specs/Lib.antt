@@ -1,3 +1,2 @@
-pub mod Congruence
-pub mod Domain
-pub mod Laws
+pub use Rattle.ep_congruence_domain.specs.Congruence
+pub use Rattle.ep_congruence_domain.specs.Domain

@@ -8,6 +8,7 @@ use crate::numbers::{is_class, is_number, residue, turn};
 use crate::operators;
 use ep_domain::{Num, Outcome};
 use ep_int::{BinOp, Cmp, IntType, greatest, least, wrap};
+use std::marker::Model;
 
 /// The numbers of the integer types that have one remainder at a modulus. Of the modulus 0 it is the remainder alone,
 /// of the modulus 1 every number.
@@ -18,6 +19,19 @@ pub struct Congruence {
     ghost valid: { IsTrue (is_class remainder modulus) },
 }
 
+impl Model for Congruence {
+    ghost use Rattle.ep_congruence_domain.specs.Congruence.{Congruence as Valid};
+    ghost use Rattle.ep_congruence_domain.proofs.Stored.{congruence_code};
+
+    ghost Value = { Valid };
+
+    ghost coded = { congruence_code };
+
+    ghost view = { λ c. record { remainder = c.remainder; modulus = c.modulus; valid = c.valid } };
+
+    ghost inverse = { λ c. record { remainder = c.remainder; modulus = c.modulus; valid = c.valid } };
+}
+
 impl Congruence {
     ghost use Rattle.std.specs.Prelude.{IsSome, IfSome, ◌↔◌, ◌≤◌, ◌<◌, ◌^◌, pos, ◌≤ℤ◌};
     ghost use Rattle.std.specs.Option.{option_map};
@@ -26,7 +40,7 @@ impl Congruence {
     ghost use Rattle.ep_int.specs.Types.{bits_of, least_of, greatest_of, residue};
     ghost use Rattle.ep_congruence_laws.specs.Classes as classes;
     ghost use Rattle.ep_congruence_laws.specs.Classes.{class, is_one, distance, greatest_modulus};
-    ghost use Rattle.ep_congruence.specs.Congruence.{AreOfClass, IsValid, class_of, formed};
+    ghost use Rattle.ep_congruence_domain.specs.Congruence.{AreOfClass, IsValid, class_of, formed};
 
     /// The class of a remainder and a modulus. `None` where the modulus is negative or above 2^65 - 1, where it isn't 0
     /// and the remainder isn't from 0 to the modulus less one, and where no number from -2^63 to 2^64 - 1 is in it.
@@ -265,8 +279,8 @@ impl Congruence {
 
 impl Num for Congruence {
     ghost use Rattle.std.specs.Prelude.{refl};
-    ghost use Rattle.ep_congruence.specs.Domain.{congruence_ops};
-    ghost use Rattle.ep_congruence.specs.Laws.Lawful.{congruence_laws};
+    ghost use Rattle.ep_congruence_domain.specs.Domain.{congruence_ops};
+    ghost use Rattle.ep_congruence_domain.proofs.Lawful.{congruence_laws};
 
     ghost ops = { congruence_ops };
 
@@ -329,8 +343,8 @@ impl Num for Congruence {
 
     fn filter(c: Cmp, x: &Self, y: &Self) -> Option<(Self, Self)> {
         if c == Cmp::Eq {
-            let both = x.met(y);
-            return both.zip(both);
+            let both = x.met(y)?;
+            return Some((both, both));
         }
         if operators::are_apart(c, x, y) {
             None

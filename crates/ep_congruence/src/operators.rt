@@ -6,7 +6,7 @@ ghost use Rattle.ep_int.specs.Types.{InRange};
 ghost use Rattle.ep_int.specs.Arith.{IsRightOperand, arith_of, compares};
 ghost use Rattle.ep_congruence_laws.specs.Classes.{is_one};
 ghost use Rattle.ep_congruence_laws.specs.Results.{left_operand, right_operand, single_result, results_of, results_between, value_of};
-ghost use Rattle.ep_congruence.specs.Congruence.{class_of, formed, fault_of, are_apart};
+ghost use Rattle.ep_congruence_domain.specs.Congruence.{class_of, formed, fault_of, are_apart};
 
 use crate::Congruence;
 use crate::results::{difference, product_of, shifted_of, sum};

@@ -1,4 +1,4 @@
-use Rattle.std.proofs.Common.{arith, ap, ◌∙◌, ◌*◌, ◌^◌, ◌%◌}
+use Rattle.std.proofs.Common.{arith, ap, ◌∙◌, ◌^◌}
 use Rattle.std.proofs.lemmas.Nat.{one_shl}
 use Rattle.ep_congruence.proofs.numbers.turn.Goals as goal
 

@@ -1,6 +1,6 @@
 use Rattle.std.proofs.Common.{◌≡◌, ap, sym, ◌∙◌, subst}
 use Rattle.ep_congruence_laws.specs.Results.{results_of}
-use Rattle.ep_congruence.specs.Congruence.{class_of, formed}
+use Rattle.ep_congruence_domain.specs.Congruence.{class_of, formed}
 use Rattle.ep_congruence.proofs.Machine.{others}
 use Rattle.ep_congruence.proofs.operators.results_of.Goals as goal
 

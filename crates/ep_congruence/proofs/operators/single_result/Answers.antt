@@ -1,9 +1,9 @@
-use Rattle.std.proofs.Common.{◌≡◌, FitsSigned, ap, sym, ◌∙◌, rules}
+use Rattle.std.proofs.Common.{FitsSigned, ap, sym, ◌∙◌, rules}
 use Rattle.std.specs.Int.{w128}
 use Rattle.std.specs.Option.{option_and_then}
 use Rattle.std.proofs.lemmas.Int.{to_z-of_z}
 use Rattle.ep_congruence_laws.specs.Results.{single_result}
-use Rattle.ep_congruence.specs.Congruence.{formed}
+use Rattle.ep_congruence_domain.specs.Congruence.{formed}
 use Rattle.ep_congruence.proofs.operators.single_result.Goals as goal
 
 pub returns-in-Ok : goal.returns-in-Ok

@@ -1,6 +1,6 @@
 use Rattle.std.proofs.Common.{ap, sym, ◌∙◌}
 use Rattle.std.specs.Option.{option_map}
-use Rattle.ep_congruence.specs.Congruence.{class_of}
+use Rattle.ep_congruence_domain.specs.Congruence.{class_of}
 use Rattle.ep_congruence.proofs.Machine.{left_taken, right_taken}
 use Rattle.ep_congruence.proofs.operators.value.Goals as goal
 

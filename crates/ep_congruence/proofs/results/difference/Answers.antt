@@ -1,12 +1,12 @@
-use Rattle.std.proofs.Common.{◌≡◌, ℤ, ◌-ℤ◌, FitsSigned, ap, sym, ◌∙◌, rules, arith}
+use Rattle.std.proofs.Common.{ℤ, ◌-ℤ◌, FitsSigned, ap, ◌∙◌, rules, arith}
 use Rattle.std.specs.Prelude.{int_lt}
 use Rattle.std.specs.Int.{w128}
 use Rattle.std.proofs.lemmas.Int.{ints, to_z-of_z}
 use Rattle.ep_int.specs.Types.{least_of}
 use Rattle.ep_domain.proofs.FaultCode.{fits_number, difference_fits}
 use Rattle.ep_congruence_laws.specs.Results.{ends_of}
-use Rattle.ep_congruence.specs.Congruence.{class_of}
-use Rattle.ep_congruence.proofs.Machine.{results_code}
+use Rattle.ep_congruence_domain.specs.Congruence.{class_of}
+use Rattle.ep_congruence.proofs.Machine.{gcd_both, results_code}
 use Rattle.ep_congruence.proofs.results.difference.Goals as goal
 
 pub returns : goal.returns
@@ -26,7 +26,7 @@ returns c =
     results_code c.args.t c.reduced.result (c.remainder.result -ℤ c.remainder-2.result) (a.remainder -ℤ b.remainder) c.limited-modulus.result c.kept_modulus.result c.gcd.result _
     (int_lt (c.ends_of.result.0 -ℤ c.ends_of-2.result.1) c.least.result) _ d
     (ap (λ z. z -ℤ c.remainder-2.result) c.remainder.ensures.value ∙ ap (λ z. a.remainder -ℤ z) c.remainder-2.ensures.value)
-    c.limited-modulus.ensures.value k c.gcd.ensures
+    c.limited-modulus.ensures.value k (c.gcd.ensures ∙ gcd_both c.x.view_is c.y.view_is)
     (ap (λ z. int_lt (c.ends_of.result.0 -ℤ c.ends_of-2.result.1) z) c.least.ensures
     ∙ ap (λ (e : ℤ × ℤ). int_lt (e.0 -ℤ c.ends_of-2.result.1) (least_of c.args.t)) c.ends_of.ensures.value
     ∙ ap (λ (e : ℤ × ℤ). int_lt ((ends_of c.args.t a).0 -ℤ e.1) (least_of c.args.t)) c.ends_of-2.ensures.value)

@@ -1,10 +1,10 @@
-use Rattle.std.proofs.Common.{◌≡◌, ℕ, ◌≤◌, pos, true, ap, sym, ◌∙◌, subst}
+use Rattle.std.proofs.Common.{ℕ, ◌≤◌, pos, true, ap, sym, ◌∙◌, subst}
 use Rattle.std.specs.Prelude.{unsigned_abs}
 use Rattle.std.proofs.lemmas.Int.{to_z-of_z}
 use Rattle.ep_congruence_laws.specs.Classes.{greatest_modulus, reduced}
 use Rattle.ep_congruence_laws.specs.Results.{kept_modulus}
 use Rattle.ep_congruence_laws.proofs.Results.{kept_small, size_small}
-use Rattle.ep_congruence.specs.Congruence.{formed}
+use Rattle.ep_congruence_domain.specs.Congruence.{formed}
 use Rattle.ep_congruence.proofs.results.multiples_of.Goals as goal
 
 pub reduced-requires : goal.reduced-requires

@@ -1,8 +1,8 @@
-use Rattle.std.proofs.Common.{◌≡◌, ℤ, ◌*ℤ◌, FitsSigned, ap, sym, ◌∙◌, subst, arith}
+use Rattle.std.proofs.Common.{◌≡◌, ◌*ℤ◌, FitsSigned, ap, sym, ◌∙◌, subst, arith}
 use Rattle.std.specs.Int.{w128}
 use Rattle.std.proofs.lemmas.Int.{ints, to_z-of_z}
 use Rattle.ep_congruence_laws.specs.Classes.{reduced}
-use Rattle.ep_congruence.specs.Congruence.{class_of, formed}
+use Rattle.ep_congruence_domain.specs.Congruence.{class_of, formed}
 use Rattle.ep_congruence.proofs.Machine.{at_small, at_great}
 use Rattle.ep_congruence.proofs.results.product_at.Goals as goal
 

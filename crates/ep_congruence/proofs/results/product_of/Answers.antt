@@ -1,10 +1,10 @@
-use Rattle.std.proofs.Common.{◌≡◌, ℤ, ◌*ℤ◌, ap, sym, ◌∙◌}
+use Rattle.std.proofs.Common.{ℤ, ◌*ℤ◌, ap, sym, ◌∙◌}
 use Rattle.std.specs.Prelude.{int_lt}
 use Rattle.std.proofs.lemmas.Int.{to_z-of_z}
 use Rattle.ep_int.specs.Types.{greatest_of}
 use Rattle.ep_domain.proofs.FaultCode.{fits_number}
 use Rattle.ep_congruence_laws.specs.Results.{ends_of}
-use Rattle.ep_congruence.specs.Congruence.{class_of}
+use Rattle.ep_congruence_domain.specs.Congruence.{class_of}
 use Rattle.ep_congruence.proofs.Machine.{products_fit, product_code, past_code}
 use Rattle.ep_congruence.proofs.results.product_of.Goals as goal
 

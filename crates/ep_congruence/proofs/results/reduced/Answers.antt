@@ -1,8 +1,8 @@
-use Rattle.std.proofs.Common.{◌≡◌, ℤ, pos, of_z, to_z, arith}
+use Rattle.std.proofs.Common.{◌≡◌, pos, of_z, to_z, arith}
 use Rattle.std.specs.Int.{w128}
 use Rattle.std.proofs.lemmas.Int.{ints, to_z-of_z}
 use Rattle.ep_int.specs.Types.{residue}
-use Rattle.ep_congruence.specs.Laws.Formed.{reduced_code, one_code}
+use Rattle.ep_congruence_domain.proofs.Formed.{reduced_code, one_code}
 use Rattle.ep_congruence.proofs.results.reduced.Goals as goal
 
 pub returns-then-m-eq0 : goal.returns-then-m-eq0

@@ -1,7 +1,7 @@
-use Rattle.std.proofs.Common.{◌≡◌, FitsSigned, sym, ◌∙◌, rules}
+use Rattle.std.proofs.Common.{FitsSigned, sym, ◌∙◌, rules}
 use Rattle.std.specs.Int.{w128}
 use Rattle.std.proofs.lemmas.Int.{to_z-of_z}
-use Rattle.ep_congruence.specs.Congruence.{class_of}
+use Rattle.ep_congruence_domain.specs.Congruence.{class_of}
 use Rattle.ep_congruence.proofs.Machine.{shifted_code, unshifted_code}
 use Rattle.ep_congruence.proofs.results.shifted_of.Goals as goal
 

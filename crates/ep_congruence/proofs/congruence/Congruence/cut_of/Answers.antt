@@ -1,7 +1,7 @@
 use Rattle.std.proofs.Common.{ap, sym, ◌∙◌, of_z}
 use Rattle.std.specs.Int.{w128}
 use Rattle.std.proofs.lemmas.Int.{to_z-of_z}
-use Rattle.ep_congruence.specs.Congruence.{class_of}
+use Rattle.ep_congruence_domain.specs.Congruence.{class_of}
 use Rattle.ep_congruence.proofs.Machine.{cut_itself}
 use Rattle.ep_congruence.proofs.congruence.Congruence.cut_of.Goals as goal
 

@@ -1,7 +1,7 @@
 use Rattle.std.proofs.Common.{sym, ◌∙◌}
 use Rattle.std.proofs.lemmas.Int.{to_z-of_z}
 use Rattle.ep_congruence_laws.proofs.Operations.{edges_more}
-use Rattle.ep_congruence.specs.Congruence.{class_of}
+use Rattle.ep_congruence_domain.specs.Congruence.{class_of}
 use Rattle.ep_congruence.proofs.congruence.Congruence.edges_from.Goals as goal
 
 pub returns : goal.returns

@@ -2,7 +2,7 @@ use Rattle.std.proofs.Common.{◌≡◌, ℤ, rules, sym, subst}
 use Rattle.std.specs.Prelude.{IfSome}
 use Rattle.ep_int.specs.Arith.{IsOfSomeType}
 use Rattle.ep_congruence_laws.specs.Classes.{edges_of}
-use Rattle.ep_congruence.specs.Congruence.{class_of}
+use Rattle.ep_congruence_domain.specs.Congruence.{class_of}
 use Rattle.ep_congruence.proofs.Machine.{edges_numbers}
 use Rattle.ep_congruence.proofs.congruence.Congruence.edges_of.Goals as goal
 

@@ -1,4 +1,4 @@
-use Rattle.std.proofs.Common.{◌≡◌, ℤ, pos, ◌+ℤ◌, ◌-ℤ◌, FitsSigned, rules, arith, ap, ◌∙◌}
+use Rattle.std.proofs.Common.{pos, ◌+ℤ◌, ◌-ℤ◌, FitsSigned, arith, ap, ◌∙◌}
 use Rattle.std.specs.Int.{w128}
 use Rattle.std.proofs.lemmas.Int.{ints, to_z-of_z}
 use Rattle.ep_int.specs.Types.{residue}

@@ -1,6 +1,6 @@
 use Rattle.std.specs.Int.{w128}
 use Rattle.std.proofs.lemmas.Int.{to_z-of_z}
-use Rattle.ep_congruence.specs.Laws.Formed.{formed_code}
+use Rattle.ep_congruence_domain.proofs.Formed.{formed_code}
 use Rattle.ep_congruence.proofs.congruence.Congruence.formed.Goals as goal
 
 pub returns-then-is_class : goal.returns-then-is_class

@@ -1,10 +1,10 @@
-use Rattle.std.proofs.Common.{◌≡◌, ℤ, FitsSigned, rules, arith, ap, ◌∙◌}
+use Rattle.std.proofs.Common.{◌≡◌, FitsSigned, rules, arith, ◌∙◌}
 use Rattle.std.specs.Int.{w128}
 use Rattle.std.proofs.lemmas.Int.{ints, to_z-of_z}
 use Rattle.ep_congruence_laws.specs.Classes.{joined_modulus}
 use Rattle.ep_congruence_laws.proofs.Operations.{join_class}
-use Rattle.ep_congruence.specs.Congruence.{class_of}
-use Rattle.ep_congruence.specs.Laws.Formed.{same_valid}
+use Rattle.ep_congruence_domain.specs.Congruence.{class_of}
+use Rattle.ep_congruence_domain.proofs.Formed.{same_valid}
 use Rattle.ep_congruence.proofs.congruence.Congruence.joined.Goals as goal
 
 pub reduced-requires : goal.reduced-requires

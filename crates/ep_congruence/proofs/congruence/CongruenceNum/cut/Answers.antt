@@ -1,7 +1,7 @@
 use Rattle.std.proofs.lemmas.Int.{to_z-of_z}
 use Rattle.ep_congruence_laws.specs.Classes.{cut_of}
-use Rattle.ep_congruence.specs.Congruence.{class_of}
-use Rattle.ep_congruence.specs.Laws.Formed.{formed_is}
+use Rattle.ep_congruence_domain.specs.Congruence.{class_of}
+use Rattle.ep_congruence_domain.proofs.Formed.{formed_is}
 use Rattle.ep_congruence.proofs.congruence.CongruenceNum.cut.Goals as goal
 
 pub returns : goal.returns

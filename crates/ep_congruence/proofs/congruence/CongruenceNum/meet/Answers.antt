@@ -1,6 +1,6 @@
 use Rattle.ep_congruence_laws.specs.Classes.{meet_of}
-use Rattle.ep_congruence.specs.Congruence.{class_of}
-use Rattle.ep_congruence.specs.Laws.Formed.{formed_is}
+use Rattle.ep_congruence_domain.specs.Congruence.{class_of}
+use Rattle.ep_congruence_domain.proofs.Formed.{formed_is}
 use Rattle.ep_congruence.proofs.congruence.CongruenceNum.meet.Goals as goal
 
 pub returns : goal.returns

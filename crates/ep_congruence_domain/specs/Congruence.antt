@@ -14,9 +14,14 @@ use Rattle.ep_congruence_laws.specs.Classes as classes
 use Rattle.ep_congruence_laws.specs.Classes.{Class, class, everything, one, is_one, is_class, greatest_modulus}
 use Rattle.ep_congruence_laws.specs.Results.{value_of, left_operand, right_operand, are_small}
 use Rattle.ep_congruence_laws.specs.Multiples.{IsMultiple, gcd}
-use Rattle.ep_congruence_laws.proofs.Operations.{Is, join_class}
+use Rattle.ep_congruence_laws.proofs.Operations.{join_class}
 use Rattle.ep_congruence_laws.proofs.Cuts.{one_class, conversion_class}
-use Rattle.ep_congruence.specs.declared.congruence.Congruence.{Congruence}
+
+-- the remainder and the modulus of a class that has a number of some integer type
+pub record Congruence : Type 0 where
+  pub remainder : ℤ
+  pub modulus : ℕ
+  pub valid : IsTrue (is_class remainder modulus)
 
 abbrev pub class_of : Congruence → Class
 class_of c = class c.remainder c.modulus

@@ -1,5 +1,5 @@
--- The laws of congruences.
 pub mod Formed
+pub mod Stored
 pub mod Simple
 pub mod Outcomes
 pub mod Strides

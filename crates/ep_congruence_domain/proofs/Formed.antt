@@ -8,8 +8,7 @@ use Rattle.ep_congruence_laws.specs.Classes.{Class, class, is_class, reduced}
 use Rattle.ep_int.specs.Types.{residue}
 use Rattle.ep_congruence_laws.proofs.Classes.{zero_test, nonzero_test, reduced_zero, reduced_more}
 use Rattle.ep_congruence_laws.proofs.Operations.{Is}
-use Rattle.ep_congruence.specs.declared.congruence.Congruence.{Congruence}
-use Rattle.ep_congruence.specs.Congruence.{class_of, made, formed_at, formed}
+use Rattle.ep_congruence_domain.specs.Congruence.{Congruence, class_of, made, formed_at, formed}
 
 test_prop : (b : Bool) → IsProp (b ≡ true)
 test_prop b = Prim.hlevel props

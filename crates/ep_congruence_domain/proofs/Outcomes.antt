@@ -1,5 +1,5 @@
 -- The laws of operators.
-use Rattle.std.specs.Prelude.{◌≡◌, ℕ, ℤ, pos, ◌≤ℤ◌, ◌⊎◌, Bool, true, false, cond, Option, Some, None, Result, Ok, Err, IsTrue, IfSome, IsSomeAnd, MatchResult, is_some, is_err, refl}
+use Rattle.std.specs.Prelude.{◌≡◌, ℤ, pos, ◌≤ℤ◌, ◌⊎◌, true, Option, Some, None, Result, Ok, Err, IsTrue, IfSome, IsSomeAnd, MatchResult, is_some, is_err, refl}
 use Rattle.std.specs.Option.{unwrap_or, option_and_then}
 use Rattle.std.proofs.Common.{ap, sym, ◌∙◌, subst, inl, inr}
 use Rattle.ep_int.specs.declared.types.IntType.{IntType}
@@ -9,7 +9,7 @@ use Rattle.ep_int.specs.declared.types.Undef.{Undef}
 use Rattle.ep_int.specs.Types.{least_of, greatest_of, InRange}
 use Rattle.ep_int.specs.Arith.{arith_of, IsOfSomeType, IsRightOperand}
 use Rattle.ep_int.proofs.Arithmetic.{arith_in_range}
-use Rattle.ep_domain.specs.Ranges.{IsRange, LiesIn, Encloses}
+use Rattle.ep_domain.specs.Ranges.{LiesIn, Encloses}
 use Rattle.ep_domain.specs.Faults.{Takes, MayFault, range_fault_of}
 use Rattle.ep_domain.specs.Domain.{ShowsPart}
 use Rattle.ep_domain.specs.Laws.Types.{number_of}
@@ -22,13 +22,12 @@ use Rattle.ep_congruence_laws.specs.Classes.{Class, class, one, is_class}
 use Rattle.ep_congruence_laws.specs.Results.{single_result, results_between, left_operand, right_operand, value_of}
 use Rattle.ep_congruence_laws.proofs.Operations as operations
 use Rattle.ep_congruence_laws.proofs.Operations.{In, Is, one_member}
-use Rattle.ep_congruence_laws.proofs.Cuts.{IsCut, cut_is, one_class, itself_in}
-use Rattle.ep_congruence_laws.proofs.Results.{Gives, between_give}
-use Rattle.ep_congruence.specs.declared.congruence.Congruence.{Congruence}
-use Rattle.ep_congruence.specs.Congruence.{class_of, formed, holds_of, range_of, fault_between, fault_of, outcome_of}
-use Rattle.ep_congruence.specs.Domain.{congruence_ops}
-use Rattle.ep_congruence.specs.Laws.Formed.{formed_some, then_formed}
-use Rattle.ep_congruence.specs.Laws.Simple.{holds, held_some, HasClass, class_range, single_of_range, single_number, cut_valid, cut_one}
+use Rattle.ep_congruence_laws.proofs.Cuts.{IsCut, cut_is, one_class}
+use Rattle.ep_congruence_laws.proofs.Results.{between_give}
+use Rattle.ep_congruence_domain.specs.Congruence.{Congruence, class_of, formed, holds_of, range_of, fault_between, outcome_of}
+use Rattle.ep_congruence_domain.specs.Domain.{congruence_ops}
+use Rattle.ep_congruence_domain.proofs.Formed.{formed_some, then_formed}
+use Rattle.ep_congruence_domain.proofs.Simple.{holds, held_some, HasClass, class_range, single_of_range, single_number, cut_valid, cut_one}
 
 -- What an operand cut to the numbers that arithmetic takes is: a class that a value may be, inside the range of the operand, with each of its numbers that arithmetic takes.
 record Taken (P : ℤ → Type 0) (k d : Class) : Type 0 where

@@ -1,12 +1,12 @@
 -- Congruences are a lawful domain.
 use Rattle.ep_domain.specs.Domain.{Lawful}
 use Rattle.ep_congruence_laws.proofs.Operations as operations
-use Rattle.ep_congruence.specs.Congruence.{class_of, join_of}
-use Rattle.ep_congruence.specs.Domain.{congruence_ops}
-use Rattle.ep_congruence.specs.Laws.Formed.{same_class}
-use Rattle.ep_congruence.specs.Laws.Simple as simple
-use Rattle.ep_congruence.specs.Laws.Outcomes.{outcome_holds, outcome_faults, outcome_shows, outcome_single}
-use Rattle.ep_congruence.specs.Laws.Strides.{stride_holds, stride_divides, congruence_strides}
+use Rattle.ep_congruence_domain.specs.Congruence.{class_of, join_of}
+use Rattle.ep_congruence_domain.specs.Domain.{congruence_ops}
+use Rattle.ep_congruence_domain.proofs.Formed.{same_class}
+use Rattle.ep_congruence_domain.proofs.Simple as simple
+use Rattle.ep_congruence_domain.proofs.Outcomes.{outcome_holds, outcome_faults, outcome_shows, outcome_single}
+use Rattle.ep_congruence_domain.proofs.Strides.{stride_holds, stride_divides, congruence_strides}
 
 pub congruence_laws : Lawful congruence_ops
 congruence_laws = record {

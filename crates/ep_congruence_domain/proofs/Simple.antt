@@ -1,24 +1,22 @@
 -- The laws of what does not depend on an operator.
-use Prim.Native.Nat.{◌∣◌}
-use Rattle.std.specs.Prelude.{◌≡◌, ◌≢◌, ℕ, ◌+◌, ◌*◌, ◌%◌, ◌<◌, ◌≤◌, ℤ, pos, ◌-ℤ◌, ◌+ℤ◌, ◌≤ℤ◌, ◌<ℤ◌, ◌⊎◌, Bool, true, false, cond, ◌&&◌, not, Option, Some, None, IsTrue, IfSome, IsSomeAnd, nat_eq, refl}
+use Rattle.std.specs.Prelude.{◌≡◌, ℕ, ℤ, pos, ◌-ℤ◌, ◌+ℤ◌, ◌≤ℤ◌, ◌<ℤ◌, ◌⊎◌, Bool, true, false, cond, ◌&&◌, not, Option, Some, None, IsTrue, IfSome, IsSomeAnd, nat_eq, refl}
 use Rattle.std.specs.Option.{option_map, option_and_then}
 use Rattle.std.proofs.Common.{arith, ap, sym, ◌∙◌, subst, inl, inr}
-use Rattle.std.proofs.lemmas.Int.{ints, clamps}
+use Rattle.std.proofs.lemmas.Int.{ints}
 use Rattle.std.proofs.lemmas.Bool.{and_parts, and_from}
 use Rattle.ep_int.specs.declared.types.IntType.{IntType}
 use Rattle.ep_int.specs.declared.types.IntType.TheVariants.{I64, U64}
 use Rattle.ep_int.specs.declared.types.Cmp.{Cmp}
 use Rattle.ep_int.specs.declared.types.Cmp.TheVariants.{Eq, Ne, Lt, Le, Gt, Ge}
-use Rattle.ep_int.specs.Types.{least_of, greatest_of, InRange, residue, wrapped}
+use Rattle.ep_int.specs.Types.{least_of, greatest_of, InRange, wrapped}
 use Rattle.ep_int.specs.Arith.{int_eq, compares, IsOfSomeType}
 use Rattle.ep_int.proofs.Wrapping.{wrapped_in_range}
-use Rattle.ep_domain.specs.Ranges.{IsRange, LiesIn, Encloses, nearest_number}
-use Rattle.ep_domain.specs.Domain.{IsStride}
+use Rattle.ep_domain.specs.Ranges.{IsRange, LiesIn, Encloses}
 use Rattle.ep_domain.specs.Laws.Types.{number_of}
-use Rattle.ep_domain.specs.Laws.Shared.{pair, same_pair, from_eq, eq_true, nearest_of_some_type, nearest_same}
-use Rattle.ep_domain.specs.Laws.Comparisons.{le_self, le_antisym, le_trans}
+use Rattle.ep_domain.specs.Laws.Shared.{pair, same_pair, from_eq, nearest_same}
+use Rattle.ep_domain.specs.Laws.Comparisons.{le_self}
 use Rattle.ep_domain.specs.Laws.Options.{weaken}
-use Rattle.ep_congruence_laws.specs.Multiples.{IsMultiple, is_multiple}
+use Rattle.ep_congruence_laws.specs.Multiples.{IsMultiple}
 use Rattle.ep_congruence_laws.specs.Classes as classes
 use Rattle.ep_congruence_laws.specs.Classes.{Class, class, everything, one, is_one, is_class, Has}
 use Rattle.ep_congruence_laws.proofs.Classes.{zero_from, zero_test, nonzero_from, has_from, has_test, class_one}
@@ -28,9 +26,8 @@ use Rattle.ep_congruence_laws.proofs.Operations.{In, Is, one_member, range_one, 
 use Rattle.ep_congruence_laws.proofs.Cuts as cuts
 use Rattle.ep_congruence_laws.proofs.Cuts.{itself_in, IsCut, cut_is}
 use Rattle.ep_congruence_laws.proofs.Results.{of_one}
-use Rattle.ep_congruence.specs.declared.congruence.Congruence.{Congruence}
-use Rattle.ep_congruence.specs.Congruence.{class_of, made, formed, holds_of, top_of, single_of, range_of, is_within, join_of, meet_of, conversion_of, edges_of, cut_of, twice, are_apart, kept_unless, filter_of}
-use Rattle.ep_congruence.specs.Laws.Formed.{formed_some, formed_gives, then_formed, then_kept}
+use Rattle.ep_congruence_domain.specs.Congruence.{Congruence, class_of, formed, holds_of, top_of, single_of, range_of, is_within, join_of, meet_of, conversion_of, edges_of, cut_of, twice, are_apart, kept_unless, filter_of}
+use Rattle.ep_congruence_domain.proofs.Formed.{then_formed, then_kept}
 
 pub holds : (c : Congruence) (z : ℤ) → IsTrue (holds_of c z) → Has (class_of c) z
 holds c z h = has_from (class_of c) z h

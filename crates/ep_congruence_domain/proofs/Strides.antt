@@ -1,34 +1,29 @@
 -- The strides of congruences.
-use Prim.Native.Nat.{◌∣◌}
-use Rattle.std.specs.Prelude.{◌≡◌, ℕ, zero, suc, ◌+◌, ◌*◌, ◌%◌, ◌<◌, ◌≤◌, ℤ, pos, ◌-ℤ◌, ◌≤ℤ◌, ◌⊎◌, Bool, true, false, cond, Option, Some, None, IsTrue, IfSome, IsSomeAnd, unsigned_abs, refl}
+use Rattle.std.specs.Prelude.{◌≡◌, ℕ, zero, suc, ◌+◌, ◌*◌, ◌%◌, ◌<◌, ◌≤◌, ℤ, pos, ◌-ℤ◌, ◌≤ℤ◌, ◌⊎◌, true, Option, Some, None, IsTrue, IfSome, unsigned_abs, refl}
 use Rattle.std.specs.Option.{option_and_then}
 use Rattle.std.proofs.Common.{arith, ap, sym, ◌∙◌, subst, inl, inr}
-use Rattle.std.proofs.lemmas.Int.{ints}
 use Rattle.std.proofs.Math.Nat.{dvd-mul_right}
-use Rattle.ep_int.specs.declared.types.IntType.{IntType}
 use Rattle.ep_int.specs.declared.types.IntType.TheVariants.{I64}
 use Rattle.ep_int.specs.declared.types.BinOp.{BinOp}
 use Rattle.ep_int.specs.declared.types.BinOp.TheVariants.{Add, Sub, Mul}
 use Rattle.ep_int.specs.Types.{least_of, greatest_of, residue}
 use Rattle.ep_int.specs.Arith.{IsOfSomeType}
 use Rattle.ep_domain.specs.Domain.{IsStride, KeepsStrides}
-use Rattle.ep_domain.specs.Laws.Options.{then_if}
 use Rattle.ep_domain.specs.Laws.Shared.{pair}
 use Rattle.ep_congruence_laws.specs.Multiples.{IsMultiple, gcd}
 use Rattle.ep_congruence_laws.specs.Classes as classes
 use Rattle.ep_congruence_laws.specs.Classes.{Class, class, one, distance, joined_modulus}
 use Rattle.ep_congruence_laws.specs.Results.{results_between, left_operand, value_of}
-use Rattle.ep_congruence_laws.proofs.Multiples.{multiple_sum, multiple_difference, size_of_multiple}
+use Rattle.ep_congruence_laws.proofs.Multiples.{size_of_multiple}
 use Rattle.ep_congruence_laws.proofs.Classes.{residue_multiple, chain, turn}
 use Rattle.ep_congruence_laws.proofs.Operations.{In, Is, one_member, gcd_greatest}
 use Rattle.ep_congruence_laws.proofs.Cuts as cuts
 use Rattle.ep_congruence_laws.proofs.Cuts.{HasStride, stride_from, stride_test, stride_of, IsCut, cut_is}
 use Rattle.ep_congruence_laws.proofs.Strides.{add_stride, sub_stride, mul_stride, one_stride}
-use Rattle.ep_congruence.specs.declared.congruence.Congruence.{Congruence}
-use Rattle.ep_congruence.specs.Congruence.{class_of, formed, holds_of, single_of, join_of, cut_of, outcome_of, range_of}
-use Rattle.ep_congruence.specs.Domain.{congruence_ops}
-use Rattle.ep_congruence.specs.Laws.Formed.{then_kept}
-use Rattle.ep_congruence.specs.Laws.Simple.{holds, single_class, single_of_range}
+use Rattle.ep_congruence_domain.specs.Congruence.{Congruence, class_of, holds_of, single_of, join_of, cut_of, outcome_of, range_of}
+use Rattle.ep_congruence_domain.specs.Domain.{congruence_ops}
+use Rattle.ep_congruence_domain.proofs.Formed.{then_kept}
+use Rattle.ep_congruence_domain.proofs.Simple.{holds, single_class, single_of_range}
 
 positive : (r s : ℕ) → IsStride r s → 0 < s
 positive r s i = let b = i.below in omega arith
