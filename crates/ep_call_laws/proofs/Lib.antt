@@ -1,0 +1,4 @@
+pub mod Paths
+pub mod Turns
+pub mod Behind
+pub mod Labels
