@@ -1,3 +1,4 @@
 pub mod Kills
+pub mod Parts
 pub mod Writes
 pub mod Tables

@@ -1,26 +1,25 @@
 -- Writes into a store, as steps of a machine.
 use Rattle.std.proofs.Common.{◌≡◌, ℕ, ◌+◌, ◌<◌, ℤ, pos, Bool, true, false, ◌&&◌, not, nat_eq, nat_lt, if◌then◌else◌}
-use Rattle.std.proofs.Common.{List, [], ◌∷◌, unsigned_abs, Option, Some, None, Result, Ok, Err, OnOk, OnErr, refl, sym}
+use Rattle.std.proofs.Common.{[], ◌∷◌, unsigned_abs, Option, Some, None, Result, Ok, Err, OnOk, OnErr, refl, sym}
 use Rattle.std.proofs.Common.{ap, ◌∙◌, subst}
 use Rattle.std.specs.Prelude.{⊤}
-use Rattle.ep_int.specs.declared.types.Model.{Model}
 use Rattle.ep_int.specs.declared.types.Scalar.{Scalar}
-use Rattle.ep_int.specs.Memory.{Memory, Value, Kind, bounds, overlap, copied, filled, is_outside, killed, overlaps}
+use Rattle.ep_int.specs.Memory.{Memory, Value, Kind, bounds, overlap, copied, filled, killed, overlaps}
 use Rattle.ep_int.specs.Memory.{range_fault}
 use Rattle.ep_int.specs.Memory.{replaced, store_fault, stored, undefined}
 use Rattle.ep_alarms.specs.declared.types.AlarmKind.{AlarmKind}
-use Rattle.ep_bytes.specs.Shown.{alarm_of, fault_at, written_as}
+use Rattle.ep_bytes.specs.Shown.{fault_at, written_as}
 use Rattle.ep_bytes.specs.Held.{Held, copy_fault, first_fault, is_same, memory_in, place_fault, size_in, IsLike}
-use Rattle.ep_core.specs.Exec.{State, Outcome, leaves, on, change, copy_at, model, put_at, remembers, size_at, unless}
+use Rattle.ep_core.specs.Exec.{State, Outcome, leaves, on, change, copy_at, model, put_at, remembers, unless}
 use Rattle.ep_core.specs.Exec.{undefined_at}
 use Rattle.ep_core.specs.Exec.{copy_fault as plain_fault}
 use Rattle.ep_core.specs.Typed.{MemoryFits, ValueFits}
 use Rattle.ep_core.proofs.Bytes.{replaced_bytes, stored_bytes, filled_bytes, copied_bytes, killed_bytes}
 use Rattle.ep_values.specs.declared.fault.Fault.{Fault}
 use Rattle.ep_values.specs.declared.setting.Setting.{Setting}
-use Rattle.ep_values.specs.Faults.{kind_of}
 use Rattle.ep_values.specs.Settings.{program_in, size_on, IsLaid}
-use Rattle.ep_machine.specs.Machines.{done, fault_by, state_in, Kept, Runs}
+use Rattle.ep_machine.specs.Machines.{done, fault_by, state_in, ArePartsOf, Kept, Runs}
+use Rattle.ep_machine.proofs.Parts.{replaced_parts, stored_parts, filled_parts, copied_parts, killed_parts}
 
 -- a store that keeps its blocks
 pub like_laid : (m : Setting) (old new : Held) → IsLaid m old → IsLike old new → IsLaid m new
@@ -100,11 +99,21 @@ module _ (m : Setting) {v now : Kept} (view : v ≡ now) (runs : Runs m now) (ne
   kept_fits : MemoryFits (program_in m) (memory_in v.store)
   kept_fits = subst (λ (k : Kept). MemoryFits (program_in m) (memory_in k.store)) (sym view) runs.fits
 
-  written_runs : (x : Memory) → OnOk a (memory_in new ≡ x) → MemoryFits (program_in m) x
+  kept_parts : ArePartsOf (model m.order (program_in m)) (memory_in v.store)
+  kept_parts =
+      subst (λ (k : Kept). ArePartsOf (model m.order (program_in m)) (memory_in k.store)) (sym view) runs.parts
+
+  -- in the model of the store, which is that of the program
+  store_parts : ArePartsOf v.store.model (memory_in v.store)
+  store_parts = subst (λ d. ArePartsOf d (memory_in v.store)) (sym kept_laid.model) kept_parts
+
+  written_runs : (x : Memory) → OnOk a (memory_in new ≡ x) → MemoryFits (program_in m) x → ArePartsOf v.store.model x
       → Runs m (record v { store = new })
-  written_runs x ok h = record {
+  written_runs x ok h i = record {
     laid = like_laid m v.store new kept_laid like;
     fits = fits_after (MemoryFits (program_in m)) v.store new a x ok err kept_fits h;
+    parts = fits_after (ArePartsOf (model m.order (program_in m))) v.store new a x ok err kept_parts
+        (subst (λ d. ArePartsOf d x) kept_laid.model i);
   }
 
   pub put_runs : (what : Scalar) (b q : ℕ) (w : Value) → ValueFits (program_in m) what w
@@ -112,11 +121,13 @@ module _ (m : Setting) {v now : Kept} (view : v ≡ now) (runs : Runs m now) (ne
       → Runs m (record v { store = new })
   put_runs what b q w h ok =
       written_runs _ ok (stored_bytes (program_in m) m.order v.store.model (memory_in v.store) what b q w kept_fits h)
+      (stored_parts m.order v.store.model (memory_in v.store) what b q w store_parts)
 
   pub fill_runs : (b q n byte : ℕ) → byte < 256
       → OnOk a (memory_in new ≡ filled v.store.model (memory_in v.store) b q n byte) → Runs m (record v { store = new })
   fill_runs b q n byte h ok =
       written_runs _ ok (filled_bytes (program_in m) v.store.model (memory_in v.store) b q n byte h kept_fits)
+      (filled_parts v.store.model (memory_in v.store) b q n byte store_parts)
 
   pub clear_runs : (b q n : ℕ)
       → OnOk a (memory_in new ≡ replaced v.store.model (memory_in v.store) b q n (λ k. undefined))
@@ -124,13 +135,15 @@ module _ (m : Setting) {v now : Kept} (view : v ≡ now) (runs : Runs m now) (ne
   clear_runs b q n ok =
       written_runs _ ok
       (replaced_bytes (program_in m) v.store.model (memory_in v.store) b q n (λ k. undefined) kept_fits (λ k. tt))
+      (replaced_parts v.store.model (memory_in v.store) b q n (λ k. undefined) store_parts (λ k l. tt))
 
   pub copy_runs : (t : Bool) (b q c r n : ℕ)
       → OnOk a (memory_in new ≡ (if t then memory_in v.store else copied v.store.model (memory_in v.store) b q c r n))
       → Runs m (record v { store = new })
-  copy_runs true b q c r n ok = written_runs (memory_in v.store) ok kept_fits
+  copy_runs true b q c r n ok = written_runs (memory_in v.store) ok kept_fits store_parts
   copy_runs false b q c r n ok =
       written_runs _ ok (copied_bytes (program_in m) v.store.model (memory_in v.store) b q c r n kept_fits)
+      (copied_parts v.store.model (memory_in v.store) b q c r n store_parts)
 
   module _ (r : Result ⊤ Fault) (written : (f : Option Kind) → a ≡ written_as f → fault_by r ≡ f) where
     abbrev Then : (k : Kept) → Option Kind → Memory → Type 0
@@ -208,7 +221,10 @@ pub kill_runs : (m : Setting) {v now : Kept} (view : v ≡ now) (b : ℕ) (new :
 kill_runs m {v} {now} view b new runs like e =
     let laid = subst (λ (k : Kept). IsLaid m k.store) (sym view) runs.laid in
     let fits = subst (λ (k : Kept). MemoryFits (program_in m) (memory_in k.store)) (sym view) runs.fits in
+    let parts = subst (λ (k : Kept). ArePartsOf (model m.order (program_in m)) (memory_in k.store)) (sym view) runs.parts in
     record {
       laid = like_laid m v.store new laid like;
       fits = subst (MemoryFits (program_in m)) (sym e) (killed_bytes (program_in m) (b ∷ []) (memory_in v.store) fits);
+      parts = subst (ArePartsOf (model m.order (program_in m))) (sym e)
+          (killed_parts (model m.order (program_in m)) (b ∷ []) (memory_in v.store) parts);
     }

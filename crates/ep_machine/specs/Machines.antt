@@ -1,9 +1,12 @@
 -- What a machine in memory stands for.
-use Rattle.std.specs.Prelude.{◌≡◌, ℕ, List, [], map, Option, Some, None, Result, Ok, Err, ⊤, Bool}
-use Rattle.ep_int.specs.Memory.{Kind, Memory, Value}
+use Rattle.std.specs.Prelude.{◌≡◌, ℕ, ◌<◌, List, [], map, Option, Some, None, Result, Ok, Err, ⊤, Bool}
+use Rattle.ep_int.specs.Memory.{Byte, undefined, number, fragment, Kind, Memory, Value}
+use Rattle.ep_int.specs.declared.types.Model.{Model}
+use Rattle.ep_int.specs.Types.{pointer_bytes}
 use Rattle.ep_int.specs.declared.types.Scalar.{Scalar}
 use Rattle.ep_bytes.specs.Held.{Held, memory_in}
-use Rattle.ep_core.specs.Exec.{Output, State, Outcome, leaves, on, no_input, undefined_at, change, copy_at, put_at}
+use Rattle.ep_core.specs.Exec.{Output, State, Outcome, leaves, on, model, no_input, undefined_at, change, copy_at}
+use Rattle.ep_core.specs.Exec.{put_at}
 use Rattle.ep_core.specs.Typed.{MemoryFits}
 use Rattle.ep_values.specs.declared.fault.Fault.{Fault}
 use Rattle.ep_values.specs.declared.setting.Setting.{Setting}
@@ -44,10 +47,20 @@ begun m inputs = record {
   joint_tests = [];
 }
 
+-- Parts of pointers are counted up to the size of a pointer.
+abbrev pub IsPart : Model → Byte → Type 0
+IsPart d undefined = Unit {0}
+IsPart d (number v) = Unit {0}
+IsPart d (fragment b o k) = k < pointer_bytes d
+
+abbrev pub ArePartsOf : Model → Memory → Type 0
+ArePartsOf d m = (b q : ℕ) → IsPart d (m b q)
+
 -- a machine that runs this program
 pub record Runs (on : Setting) (k : Kept) : Type 0 where
   pub laid : IsLaid on k.store
   pub fits : MemoryFits (program_in on) (memory_in k.store)
+  pub parts : ArePartsOf (model on.order (program_in on)) (memory_in k.store)
 
 -- what comes after something that was done, or was a fault
 abbrev pub done : {A : Type 0} → Result A Fault → (line : ℕ) → State → Outcome → Outcome

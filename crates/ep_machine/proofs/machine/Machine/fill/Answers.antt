@@ -1,6 +1,4 @@
 use Rattle.std.proofs.Common.{◌≡◌, pos, to_z, of_z, w64, rules}
-use Rattle.ep_bytes.specs.Held.{is_same}
-use Rattle.ep_bytes.specs.Shown.{value_in}
 use Rattle.ep_machine.proofs.Writes.{fill_runs, fill_comes}
 use Rattle.ep_machine.proofs.machine.Machine.fill.Goals as goal
 
