@@ -1,0 +1,4 @@
+pub mod Same
+pub mod Renaming
+pub mod Settled
+pub mod Order
