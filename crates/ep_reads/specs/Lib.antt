@@ -1,0 +1,4 @@
+pub mod Bytes
+pub mod Read
+pub mod Split
+pub mod Unify
