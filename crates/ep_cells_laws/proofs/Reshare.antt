@@ -21,7 +21,7 @@ use Rattle.ep_bitslice.specs.Bits.{side_number}
 use Rattle.ep_bitslice.specs.Segments.{number}
 use Rattle.ep_domain.specs.Domain.{Ops, Lawful}
 use Rattle.ep_domain.specs.Domain.{Holds as HoldsNumber}
-use Rattle.ep_domain.specs.Ranges.{LiesIn}
+use Rattle.ep_range_laws.specs.Ranges.{LiesIn}
 use Rattle.ep_cells.specs.declared.cell.Cell.{Cell}
 use Rattle.ep_cells.specs.declared.cell.Value.{Value}
 use Rattle.ep_cells.specs.declared.cell.Value.TheVariants.{Num, Ptr}

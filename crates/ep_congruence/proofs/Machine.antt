@@ -13,8 +13,8 @@ use Rattle.ep_int.specs.declared.types.BinOp.{BinOp}
 use Rattle.ep_int.specs.declared.types.BinOp.TheVariants.{Add, Sub, Mul, Div, Rem, And, Or, Xor, Shl, Shr}
 use Rattle.ep_int.specs.Types.{least_of, greatest_of, residue, InRange}
 use Rattle.ep_int.specs.Arith.{int_eq, is_amount, IsOfSomeType, IsRightOperand}
-use Rattle.ep_domain.specs.Laws.Types.{number_low, number_high, ends_ordered}
-use Rattle.ep_domain.specs.Laws.Comparisons.{between_true, from_le_true, from_le_false, le_antisym, le_trans, le_self}
+use Rattle.ep_range_laws.proofs.Types.{number_low, number_high, ends_ordered}
+use Rattle.ep_range_laws.proofs.Comparisons.{between_true, from_le_true, from_le_false, le_antisym, le_trans, le_self}
 use Rattle.ep_congruence_laws.specs.Multiples.{gcd}
 use Rattle.ep_congruence_laws.specs.Classes.{Class, class, everything, one, is_one, is_class, reduced, edges_of, cut_at, cut_of, greatest_modulus}
 use Rattle.ep_congruence_laws.specs.Results.{greatest_product, kept_modulus, limited, are_small, multiples_of, past_limits, products, product_at, product_of, product_modulus, product_leaves, ends_of, shifted_of, results_of, left_operand, right_operand}

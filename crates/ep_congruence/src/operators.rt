@@ -5,7 +5,8 @@ ghost use Rattle.std.specs.Option.{option_map, option_and_then};
 ghost use Rattle.ep_int.specs.Types.{InRange};
 ghost use Rattle.ep_int.specs.Arith.{IsRightOperand, arith_of, compares};
 ghost use Rattle.ep_congruence_laws.specs.Classes.{is_one};
-ghost use Rattle.ep_congruence_laws.specs.Results.{left_operand, right_operand, single_result, results_of, results_between, value_of};
+ghost use Rattle.ep_congruence_laws.specs.Results.{left_operand, right_operand, single_result, results_of};
+ghost use Rattle.ep_congruence_laws.specs.Results.{results_between, value_of};
 ghost use Rattle.ep_congruence_domain.specs.Congruence.{class_of, formed, fault_of, are_apart};
 
 use crate::Congruence;

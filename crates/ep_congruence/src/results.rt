@@ -1,12 +1,15 @@
 //! What an operator gives of two congruences.
 
-ghost use Rattle.std.specs.Prelude.{◌≡◌, ◌≤◌, ◌<◌, ◌≤ℤ◌, ◌*ℤ◌, ◌&&◌, false, pos, int_lt, IfSome, FitsSigned, if◌then◌else◌};
+ghost use Rattle.std.specs.Prelude.{◌≡◌, ◌≤◌, ◌<◌, ◌≤ℤ◌, ◌*ℤ◌, ◌&&◌, false, pos, int_lt, IfSome, FitsSigned};
+ghost use Rattle.std.specs.Prelude.{if◌then◌else◌};
 ghost use Rattle.std.specs.Int.{w128};
 ghost use Rattle.ep_int.specs.Types.{greatest_of};
 ghost use Rattle.ep_int.specs.Arith.{IsOfSomeType};
 ghost use Rattle.ep_congruence_laws.specs.Classes as classes;
 ghost use Rattle.ep_congruence_laws.specs.Classes.{greatest_modulus, is_one};
-ghost use Rattle.ep_congruence_laws.specs.Results.{ends_of, kept_modulus, limited, sum_leaves, difference_leaves, sum_of, difference_of, multiples_of, past_limits, products, product_at, product_of, shifted_of};
+ghost use Rattle.ep_congruence_laws.specs.Results.{ends_of, kept_modulus, limited, sum_leaves, difference_leaves};
+ghost use Rattle.ep_congruence_laws.specs.Results.{sum_of, difference_of, multiples_of, past_limits, products};
+ghost use Rattle.ep_congruence_laws.specs.Results.{product_at, product_of, shifted_of};
 ghost use Rattle.ep_congruence_domain.specs.Congruence.{class_of, formed, common_divisor, amount_of};
 
 use crate::Congruence;

@@ -3,7 +3,7 @@ use Rattle.std.specs.Prelude.{◌≡◌, ℕ, ◌<◌, ℤ, pos, Bool, true, fal
 use Rattle.std.specs.Option.{option_map, option_and_then}
 use Rattle.std.proofs.Common.{ap, sym, ◌∙◌, subst}
 use Rattle.std.proofs.Props.{props}
-use Rattle.ep_domain.specs.Laws.Options.{then_some, then_if}
+use Rattle.ep_range_laws.proofs.Options.{then_some, then_if}
 use Rattle.ep_congruence_laws.specs.Classes.{Class, class, is_class, reduced}
 use Rattle.ep_int.specs.Types.{residue}
 use Rattle.ep_congruence_laws.proofs.Classes.{zero_test, nonzero_test, reduced_zero, reduced_more}

@@ -9,14 +9,14 @@ use Rattle.ep_int.specs.declared.types.Undef.{Undef}
 use Rattle.ep_int.specs.Types.{least_of, greatest_of, InRange}
 use Rattle.ep_int.specs.Arith.{arith_of, IsOfSomeType, IsRightOperand}
 use Rattle.ep_int.proofs.Arithmetic.{arith_in_range}
-use Rattle.ep_domain.specs.Ranges.{LiesIn, Encloses}
-use Rattle.ep_domain.specs.Faults.{Takes, MayFault, range_fault_of}
+use Rattle.ep_range_laws.specs.Ranges.{LiesIn, Encloses}
+use Rattle.ep_range_laws.specs.Faults.{Takes, MayFault, range_fault_of}
 use Rattle.ep_domain.specs.Domain.{ShowsPart}
-use Rattle.ep_domain.specs.Laws.Types.{number_of}
-use Rattle.ep_domain.specs.Laws.RangeFaults.{fault_is_found, fault_is_shown}
-use Rattle.ep_domain.specs.Laws.Options.{then_some, weaken}
+use Rattle.ep_range_laws.proofs.Types.{number_of}
+use Rattle.ep_range_laws.proofs.RangeFaults.{fault_is_found, fault_is_shown}
+use Rattle.ep_range_laws.proofs.Options.{then_some, weaken}
 use Rattle.ep_domain.specs.Laws.Shared.{pair}
-use Rattle.ep_domain.specs.Laws.Comparisons.{le_self, le_trans}
+use Rattle.ep_range_laws.proofs.Comparisons.{le_self, le_trans}
 use Rattle.ep_congruence_laws.specs.Classes as classes
 use Rattle.ep_congruence_laws.specs.Classes.{Class, class, one, is_class}
 use Rattle.ep_congruence_laws.specs.Results.{single_result, results_between, left_operand, right_operand, value_of}

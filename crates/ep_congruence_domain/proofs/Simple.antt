@@ -11,11 +11,11 @@ use Rattle.ep_int.specs.declared.types.Cmp.TheVariants.{Eq, Ne, Lt, Le, Gt, Ge}
 use Rattle.ep_int.specs.Types.{least_of, greatest_of, InRange, wrapped}
 use Rattle.ep_int.specs.Arith.{int_eq, compares, IsOfSomeType}
 use Rattle.ep_int.proofs.Wrapping.{wrapped_in_range}
-use Rattle.ep_domain.specs.Ranges.{IsRange, LiesIn, Encloses}
-use Rattle.ep_domain.specs.Laws.Types.{number_of}
+use Rattle.ep_range_laws.specs.Ranges.{IsRange, LiesIn, Encloses}
+use Rattle.ep_range_laws.proofs.Types.{number_of}
 use Rattle.ep_domain.specs.Laws.Shared.{pair, same_pair, from_eq, nearest_same}
-use Rattle.ep_domain.specs.Laws.Comparisons.{le_self}
-use Rattle.ep_domain.specs.Laws.Options.{weaken}
+use Rattle.ep_range_laws.proofs.Comparisons.{le_self}
+use Rattle.ep_range_laws.proofs.Options.{weaken}
 use Rattle.ep_congruence_laws.specs.Multiples.{IsMultiple}
 use Rattle.ep_congruence_laws.specs.Classes as classes
 use Rattle.ep_congruence_laws.specs.Classes.{Class, class, everything, one, is_one, is_class, Has}

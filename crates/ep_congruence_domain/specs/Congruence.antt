@@ -1,5 +1,6 @@
 -- Congruences as values: classes that have a number of some integer type.
-use Rattle.std.specs.Prelude.{◌≡◌, ℕ, ℤ, pos, ◌-ℤ◌, ◌≤ℤ◌, ◌<ℤ◌, Bool, true, false, ◌&&◌, not, if◌then◌else◌, Option, Some, None, is_some, IsTrue, unsigned_abs, refl}
+use Rattle.std.specs.Prelude.{◌≡◌, ℕ, ℤ, pos, ◌-ℤ◌, ◌≤ℤ◌, ◌<ℤ◌, Bool, true, false, ◌&&◌, not, if◌then◌else◌, Option}
+use Rattle.std.specs.Prelude.{Some, None, is_some, IsTrue, unsigned_abs, refl}
 use Rattle.std.specs.Option.{option_map, option_and_then, unwrap_or}
 use Rattle.ep_int.specs.declared.types.IntType.{IntType}
 use Rattle.ep_int.specs.declared.types.BinOp.{BinOp}
@@ -7,8 +8,8 @@ use Rattle.ep_int.specs.declared.types.Cmp.{Cmp}
 use Rattle.ep_int.specs.declared.types.Cmp.TheVariants.{Eq, Ne, Lt, Le, Gt, Ge}
 use Rattle.ep_int.specs.Arith.{compares, is_amount, IsOfSomeType}
 use Rattle.ep_domain.specs.declared.outcome.Outcome.{Outcome}
-use Rattle.ep_domain.specs.Ranges.{nearest_number}
-use Rattle.ep_domain.specs.Faults.{range_fault_of}
+use Rattle.ep_range_laws.specs.Ranges.{nearest_number}
+use Rattle.ep_range_laws.specs.Faults.{range_fault_of}
 use Rattle.ep_domain.specs.Laws.Shared.{nearest_of_some_type}
 use Rattle.ep_congruence_laws.specs.Classes as classes
 use Rattle.ep_congruence_laws.specs.Classes.{Class, class, everything, one, is_one, is_class, greatest_modulus}

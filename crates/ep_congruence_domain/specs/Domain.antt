@@ -2,7 +2,9 @@
 use Rattle.std.specs.Prelude.{true}
 use Rattle.ep_domain.specs.Domain.{Ops}
 use Rattle.ep_congruence_laws.specs.Classes.{has_stride}
-use Rattle.ep_congruence_domain.specs.Congruence.{Congruence, class_of, holds_of, top_of, single_of, range_of, is_within, join_of, meet_of, outcome_of, conversion_of, filter_of, rank_of, edges_of, cut_of}
+use Rattle.ep_congruence_domain.specs.Congruence.{Congruence, class_of, holds_of, top_of, single_of, range_of}
+use Rattle.ep_congruence_domain.specs.Congruence.{is_within, join_of, meet_of, outcome_of, conversion_of, filter_of}
+use Rattle.ep_congruence_domain.specs.Congruence.{rank_of, edges_of, cut_of}
 
 -- Widening is the join: a chain of classes that grow has at most 66 of them.
 abbrev pub congruence_ops : Ops Congruence

@@ -1,24 +1,21 @@
 -- Laws of congruence classes.
 use Prim.Native.Nat.{◌∣◌}
-use Rattle.std.proofs.Common.{◌≡◌, ◌≢◌, ℕ, zero, suc, ◌+◌, ◌-◌, ◌*◌, ◌/◌, ◌%◌, ◌^◌, ◌<◌, ◌≤◌, ℤ, pos, negsuc, ◌+ℤ◌, ◌-ℤ◌, ◌*ℤ◌, ◌≤ℤ◌, ◌<ℤ◌, neg_ℤ, Bool, true, false, cond, ◌&&◌, ◌||◌, ◌⊎◌, inl, inr, IsTrue, Option, Some, None, nat_eq, nat_le, arith, refl, sym, ap, ◌∙◌, subst}
-use Rattle.std.specs.Prelude.{unsigned_abs, int_le, int_lt, IfSome, IsSomeAnd}
-use Rattle.std.specs.Int.{IsGcd, int_min, int_max}
+use Rattle.std.proofs.Common.{◌≡◌, ℕ, zero, suc, ◌/◌, ◌<◌, ◌≤◌, ℤ, pos, negsuc, ◌+ℤ◌, ◌-ℤ◌, ◌*ℤ◌, ◌≤ℤ◌, ◌<ℤ◌, neg_ℤ, Bool, true, false, cond, ◌&&◌, ◌||◌, ◌⊎◌, inl, inr, nat_eq, nat_le, arith, refl, sym, ap, ◌∙◌, subst}
+use Rattle.std.specs.Prelude.{unsigned_abs, int_le, int_lt}
 use Rattle.std.proofs.Math.IntN.{zero-*ℤ, *ℤ_comm}
-use Rattle.std.proofs.lemmas.Int.{ints, clamps}
+use Rattle.std.proofs.lemmas.Int.{ints}
 use Rattle.std.proofs.lemmas.Nat.{div-add-mod', mod_below}
-use Rattle.std.proofs.lemmas.Nat.Gcd.{dvd_refl, dvd-zero, dvd_trans, le_of_dvd, dvd_of_mod-eq-zero, mod-eq-zero_of_dvd}
+use Rattle.std.proofs.lemmas.Nat.Gcd.{le_of_dvd}
 use Rattle.std.proofs.lemmas.Bool.{and_parts, and_from, or_cases, or_left, or_right}
 use Rattle.std.proofs.lemmas.Bool.Decides.{nat_tests}
-use Rattle.ep_int.specs.declared.types.IntType.{IntType}
 use Rattle.ep_int.specs.declared.types.IntType.TheVariants.{I64, U64}
-use Rattle.ep_int.specs.Types.{bits_of, least_of, greatest_of, residue, wrapped}
-use Rattle.ep_int.specs.Arith.{int_eq, IsOfSomeType}
-use Rattle.ep_int.proofs.Wrapping.{residue_below, wrapped_congruent}
-use Rattle.ep_domain.specs.Ranges.{IsRange, LiesIn, Encloses}
-use Rattle.ep_domain.specs.Laws.Comparisons.{le_true, le_false, from_le_true, from_le_false, lt_true, from_lt_true, between_true, from_between, le_self, le_antisym, le_trans}
-use Rattle.ep_congruence_laws.specs.Multiples.{IsMultiple, is_multiple, gcd}
-use Rattle.ep_congruence_laws.specs.Classes.{Class, class, one, is_one, is_number, has, Has, greatest_modulus, is_class, reduced, distance, is_within, joined_modulus, join_of, range_of, edges_from, first_from, last_to, edges_of, cut_at, cut_of, conversion_of, meeting, meet_of, has_stride}
-use Rattle.ep_congruence_laws.proofs.Multiples.{multiple_sum, multiple_difference, multiple_of, multiple_by_size, size_of_multiple, none_of, itself, of_dvd, test_multiple, multiple_test, is_gcd}
+use Rattle.ep_int.specs.Types.{least_of, greatest_of, residue}
+use Rattle.ep_int.specs.Arith.{IsOfSomeType}
+use Rattle.ep_int.proofs.Wrapping.{residue_below}
+use Rattle.ep_range_laws.proofs.Comparisons.{le_true, from_le_true, from_le_false, lt_true, from_lt_true, between_true, from_between, le_trans}
+use Rattle.ep_congruence_laws.specs.Multiples.{IsMultiple, is_multiple}
+use Rattle.ep_congruence_laws.specs.Classes.{Class, class, one, is_number, has, Has, greatest_modulus, is_class, reduced}
+use Rattle.ep_congruence_laws.proofs.Multiples.{multiple_sum, multiple_difference, size_of_multiple, none_of, itself, test_multiple, multiple_test}
 
 pub zero_from : (n : ℕ) → nat_eq n 0 ≡ true → n ≡ 0
 zero_from n h = grind (arith, nat_tests)

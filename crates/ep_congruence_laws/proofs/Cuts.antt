@@ -1,7 +1,7 @@
 -- Laws of cuts, conversions, meets and strides.
 use Prim.Native.Nat.{◌∣◌}
-use Rattle.std.proofs.Common.{◌≡◌, ℕ, zero, suc, ◌+◌, ◌-◌, ◌*◌, ◌/◌, ◌%◌, ◌^◌, ◌<◌, ◌≤◌, ℤ, pos, ◌+ℤ◌, ◌-ℤ◌, ◌*ℤ◌, ◌≤ℤ◌, ◌<ℤ◌, Bool, true, false, cond, ◌&&◌, ◌⊎◌, inl, inr, Option, Some, None, nat_eq, nat_le, arith, refl, sym, ap, ◌∙◌, subst}
-use Rattle.std.specs.Prelude.{unsigned_abs, int_le, IfSome, IsSomeAnd}
+use Rattle.std.proofs.Common.{◌≡◌, ℕ, ◌*◌, ◌%◌, ◌^◌, ◌<◌, ◌≤◌, ℤ, pos, ◌+ℤ◌, ◌-ℤ◌, ◌*ℤ◌, ◌≤ℤ◌, ◌<ℤ◌, Bool, true, false, cond, ◌⊎◌, inl, inr, Option, Some, None, nat_eq, nat_le, arith, refl, sym, ap, ◌∙◌, subst}
+use Rattle.std.specs.Prelude.{IfSome, IsSomeAnd}
 use Rattle.std.specs.Int.{int_min, int_max}
 use Rattle.std.proofs.lemmas.Int.{ints, clamps}
 use Rattle.std.proofs.lemmas.Nat.{pow_pos}
@@ -14,16 +14,15 @@ use Rattle.ep_int.specs.declared.types.IntType.TheVariants.{I8, U8, I16, U16, I3
 use Rattle.ep_int.specs.Types.{bits_of, least_of, greatest_of, residue, wrapped}
 use Rattle.ep_int.specs.Arith.{int_eq, IsOfSomeType}
 use Rattle.ep_int.proofs.Wrapping.{wrapped_congruent, wrapped_in_range}
-use Rattle.ep_domain.specs.Ranges.{LiesIn, Encloses}
-use Rattle.ep_domain.specs.Domain.{IsStride}
-use Rattle.ep_domain.specs.Laws.Types.{number_of}
-use Rattle.ep_domain.specs.Laws.Shared.{pair, same_pair, eq_true, from_eq}
-use Rattle.ep_domain.specs.Laws.Comparisons.{le_self, le_antisym, le_trans}
+use Rattle.ep_range_laws.specs.Ranges.{LiesIn}
+use Rattle.ep_range_laws.proofs.Types.{number_of}
+use Rattle.ep_domain.specs.Laws.Shared.{eq_true, from_eq}
+use Rattle.ep_range_laws.proofs.Comparisons.{le_trans}
 use Rattle.ep_congruence_laws.specs.Multiples.{IsMultiple, is_multiple, gcd}
-use Rattle.ep_congruence_laws.specs.Classes.{Class, class, one, is_one, has, Has, greatest_modulus, is_class, reduced, distance, join_of, joined_modulus, range_of, edges_from, edges_of, cut_at, cut_of, conversion_of, meeting, meet_of, has_stride}
-use Rattle.ep_congruence_laws.proofs.Multiples.{multiple_sum, multiple_difference, multiple_of, multiple_by_size, size_of_multiple, none_of, of_dvd, test_multiple, multiple_test, is_gcd}
-use Rattle.ep_congruence_laws.proofs.Classes.{zero_from, zero_test, nonzero_from, nonzero_test, residue_multiple, residue_same, chain, turn, in_reduced, reduced_modulus, class_with, class_small, class_has}
-use Rattle.ep_congruence_laws.proofs.Operations.{In, Is, gcd_left, gcd_right, gcd_greatest, gcd_small, one_member, range_encloses, range_one, AreEdges, edges_are, edges_enclose}
+use Rattle.ep_congruence_laws.specs.Classes.{Class, class, one, greatest_modulus, reduced, distance, edges_of, cut_at, cut_of, conversion_of, meeting, meet_of, has_stride}
+use Rattle.ep_congruence_laws.proofs.Multiples.{multiple_of, none_of, test_multiple, multiple_test}
+use Rattle.ep_congruence_laws.proofs.Classes.{zero_from, zero_test, nonzero_from, residue_multiple, residue_same, chain, turn, in_reduced, reduced_modulus, class_with, class_has}
+use Rattle.ep_congruence_laws.proofs.Operations.{In, Is, gcd_left, gcd_right, gcd_small, one_member, AreEdges, edges_are, edges_enclose}
 
 pub itself_in : (r : ℤ) (m : ℕ) → IsMultiple m (r -ℤ r)
 itself_in r m = subst (IsMultiple m) (sym (nothing r)) (none_of m)

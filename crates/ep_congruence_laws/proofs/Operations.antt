@@ -1,29 +1,27 @@
 -- Laws of what does not depend on an operator.
 use Prim.Native.Nat.{◌∣◌}
-use Rattle.std.proofs.Common.{◌≡◌, ◌≢◌, ℕ, zero, suc, ◌+◌, ◌-◌, ◌*◌, ◌/◌, ◌%◌, ◌^◌, ◌<◌, ◌≤◌, ℤ, pos, negsuc, ◌+ℤ◌, ◌-ℤ◌, ◌*ℤ◌, ◌≤ℤ◌, ◌<ℤ◌, neg_ℤ, Bool, true, false, cond, ◌&&◌, ◌||◌, ◌⊎◌, inl, inr, IsTrue, Option, Some, None, nat_eq, nat_le, arith, refl, sym, ap, ◌∙◌, subst}
-use Rattle.std.specs.Prelude.{unsigned_abs, int_le, int_lt, IfSome, IsSomeAnd, nat_lt}
-use Rattle.std.specs.Int.{w128, leading_zeros, IsGcd, int_min, int_max}
-use Rattle.std.proofs.lemmas.Int.{ints, clamps}
-use Rattle.std.proofs.lemmas.Nat.{div-add-mod', mod_below, leading_top}
+use Rattle.std.proofs.Common.{◌≡◌, ℕ, zero, suc, ◌+◌, ◌-◌, ◌*◌, ◌/◌, ◌%◌, ◌^◌, ◌<◌, ◌≤◌, ℤ, pos, negsuc, ◌+ℤ◌, ◌-ℤ◌, ◌*ℤ◌, ◌≤ℤ◌, ◌<ℤ◌, neg_ℤ, Bool, true, false, cond, ◌&&◌, Some, None, nat_eq, nat_le, arith, refl, sym, ap, ◌∙◌, subst}
+use Rattle.std.specs.Prelude.{unsigned_abs, int_le, IfSome, IsSomeAnd, nat_lt}
+use Rattle.std.specs.Int.{w128, leading_zeros}
+use Rattle.std.proofs.lemmas.Int.{ints}
+use Rattle.std.proofs.lemmas.Nat.{div-add-mod', leading_top}
 use Rattle.std.proofs.Math.Pow.{pow_mono}
 use Rattle.std.proofs.Math.IntN.{*ℤ_comm, zero-*ℤ}
 use Rattle.std.proofs.Math.Nat.{eq-zero_of_zero-dvd, mod-eq_of_lt}
 use Rattle.std.proofs.lemmas.Bool.Decides.{nat_tests}
-use Rattle.std.proofs.lemmas.Nat.Gcd.{dvd_refl, dvd-zero, dvd_trans, le_of_dvd, dvd_of_mod-eq-zero, mod-eq-zero_of_dvd}
-use Rattle.std.proofs.lemmas.Bool.{and_parts, and_from, or_cases, or_left, or_right}
-use Rattle.ep_int.specs.declared.types.IntType.{IntType}
+use Rattle.std.proofs.lemmas.Nat.Gcd.{dvd_trans, le_of_dvd, mod-eq-zero_of_dvd}
+use Rattle.std.proofs.lemmas.Bool.{and_parts, and_from}
 use Rattle.ep_int.specs.declared.types.IntType.TheVariants.{I64, U64}
-use Rattle.ep_int.specs.Types.{bits_of, least_of, greatest_of, residue, wrapped}
-use Rattle.ep_int.specs.Arith.{int_eq, IsOfSomeType}
-use Rattle.ep_int.proofs.Wrapping.{residue_below, wrapped_congruent, wrapped_in_range}
-use Rattle.ep_domain.specs.Ranges.{IsRange, LiesIn, Encloses}
-use Rattle.ep_domain.specs.Laws.Types.{number_of}
-use Rattle.ep_domain.specs.Laws.Shared.{pair, same_pair, eq_true, from_eq}
-use Rattle.ep_domain.specs.Laws.Comparisons.{le_true, le_false, from_le_true, from_le_false, lt_true, from_lt_true, between_true, from_between, le_self, le_antisym, le_trans}
+use Rattle.ep_int.specs.Types.{least_of, greatest_of, residue}
+use Rattle.ep_int.specs.Arith.{IsOfSomeType}
+use Rattle.ep_int.proofs.Wrapping.{residue_below}
+use Rattle.ep_range_laws.specs.Ranges.{LiesIn, Encloses}
+use Rattle.ep_domain.specs.Laws.Shared.{pair}
+use Rattle.ep_range_laws.proofs.Comparisons.{le_false, from_le_true, from_le_false, between_true, from_between, le_self}
 use Rattle.ep_congruence_laws.specs.Multiples.{IsMultiple, is_multiple, gcd_steps, gcd}
-use Rattle.ep_congruence_laws.specs.Classes.{Class, class, one, is_one, is_number, has, Has, greatest_modulus, is_class, reduced, distance, is_within, joined_modulus, join_of, range_of, rank_of, edges_from, first_from, last_to, edges_of, cut_at, cut_of, conversion_of, meeting, meet_of, has_stride}
-use Rattle.ep_congruence_laws.proofs.Multiples.{multiple_sum, multiple_difference, multiple_of, multiple_by_size, size_of_multiple, none_of, itself, of_dvd, test_multiple, multiple_test, is_gcd}
-use Rattle.ep_congruence_laws.proofs.Classes.{zero_from, zero_test, nonzero_from, nonzero_test, le_from, le_test, residue_multiple, small_multiple, residue_same, chain, turn, in_reduced, from_reduced, reduced_modulus, class_with, class_small, class_remainder, class_one, class_has}
+use Rattle.ep_congruence_laws.specs.Classes.{Class, class, one, greatest_modulus, is_class, reduced, distance, is_within, joined_modulus, join_of, range_of, rank_of, edges_from, first_from, last_to}
+use Rattle.ep_congruence_laws.proofs.Multiples.{multiple_of, multiple_by_size, size_of_multiple, none_of, of_dvd, test_multiple, multiple_test, is_gcd}
+use Rattle.ep_congruence_laws.proofs.Classes.{zero_from, zero_test, nonzero_from, nonzero_test, le_from, residue_multiple, small_multiple, chain, turn, in_reduced, reduced_modulus, class_with, class_small, class_remainder, class_one, class_has}
 
 -- the number is in the class, of whichever size it is
 abbrev pub In : Class → ℤ → Type 0

@@ -1,34 +1,34 @@
 -- Laws of operators on classes.
 use Prim.Native.Nat.{◌∣◌}
-use Rattle.std.proofs.Common.{◌≡◌, ℕ, zero, suc, ◌+◌, ◌-◌, ◌*◌, ◌%◌, ◌^◌, ◌<◌, ◌≤◌, ℤ, pos, negsuc, ◌+ℤ◌, ◌-ℤ◌, ◌*ℤ◌, ◌≤ℤ◌, ◌<ℤ◌, neg_ℤ, Bool, true, false, cond, ◌&&◌, ◌⊎◌, inl, inr, Option, Some, None, Result, Ok, Err, nat_eq, nat_le, arith, refl, sym, ap, ◌∙◌, subst}
-use Rattle.std.specs.Prelude.{unsigned_abs, int_le, int_lt, IfSome, IsSomeAnd}
+use Rattle.std.proofs.Common.{◌≡◌, ℕ, ◌*◌, ◌^◌, ◌≤◌, ℤ, pos, negsuc, ◌+ℤ◌, ◌-ℤ◌, ◌*ℤ◌, ◌≤ℤ◌, ◌<ℤ◌, Bool, true, false, cond, ◌&&◌, Option, Some, None, Result, Ok, Err, nat_eq, nat_le, arith, refl, sym, ap, ◌∙◌, subst}
+use Rattle.std.specs.Prelude.{unsigned_abs, int_le, int_lt, IsSomeAnd}
 use Rattle.std.specs.Option.{unwrap_or}
 use Rattle.std.proofs.Math.IntN.{*ℤ_comm, pos-*ℤ-pos}
 use Rattle.std.proofs.lemmas.Int.{ints}
 use Rattle.std.proofs.Math.Pow.{pow_mono}
-use Rattle.std.proofs.lemmas.Nat.Gcd.{dvd_refl, dvd-zero, dvd_trans}
-use Rattle.std.proofs.Math.Nat.{one-dvd, dvd-mul_left, dvd-mul_left_of_dvd}
-use Rattle.std.proofs.lemmas.Bool.{and_parts, and_from}
+use Rattle.std.proofs.lemmas.Nat.Gcd.{dvd_refl, dvd_trans}
+use Rattle.std.proofs.Math.Nat.{one-dvd}
+use Rattle.std.proofs.lemmas.Bool.{and_parts}
 use Rattle.ep_int.specs.declared.types.IntType.{IntType}
 use Rattle.ep_int.specs.declared.types.IntType.TheVariants.{I8, U8, I16, U16, I32, U32, I64, U64}
 use Rattle.ep_int.specs.declared.types.BinOp.{BinOp}
 use Rattle.ep_int.specs.declared.types.BinOp.TheVariants.{Add, Sub, Mul, Div, Rem, And, Or, Xor, Shl, Shr}
 use Rattle.ep_int.specs.declared.types.Undef.{Undef}
-use Rattle.ep_int.specs.declared.types.Undef.TheVariants.{Overflow, Division, Shift}
-use Rattle.ep_int.specs.Types.{bits_of, is_signed, least_of, greatest_of, InRange, residue, wrapped}
+use Rattle.ep_int.specs.declared.types.Undef.TheVariants.{Overflow, Shift}
+use Rattle.ep_int.specs.Types.{bits_of, is_signed, least_of, greatest_of, InRange, wrapped}
 use Rattle.ep_int.specs.Arith.{is_in_range, settled, is_amount, arith_of, IsOfSomeType, IsRightOperand}
 use Rattle.ep_int.proofs.Wrapping.{wrapped_same}
 use Rattle.ep_int.proofs.Arithmetic.{arith_in_range}
-use Rattle.ep_domain.specs.Ranges.{LiesIn}
-use Rattle.ep_domain.specs.Laws.Types.{number_of, least_unsigned, number_low, number_high}
-use Rattle.ep_domain.specs.Laws.Corners.{product_up}
-use Rattle.ep_domain.specs.Laws.Comparisons.{from_le_true, from_lt_true, from_lt_false, le_self, le_trans}
-use Rattle.ep_congruence_laws.specs.Multiples.{IsMultiple, is_multiple, gcd}
-use Rattle.ep_congruence_laws.specs.Classes.{Class, class, everything, one, is_one, greatest_modulus, is_class, reduced, edges_of}
+use Rattle.ep_range_laws.specs.Ranges.{LiesIn}
+use Rattle.ep_range_laws.proofs.Types.{number_of, least_unsigned}
+use Rattle.ep_range_laws.proofs.Corners.{product_up}
+use Rattle.ep_range_laws.proofs.Comparisons.{from_le_true, from_lt_true, from_lt_false, le_self, le_trans}
+use Rattle.ep_congruence_laws.specs.Multiples.{IsMultiple, gcd}
+use Rattle.ep_congruence_laws.specs.Classes.{Class, everything, one, is_one, greatest_modulus, is_class, reduced, edges_of}
 use Rattle.ep_congruence_laws.specs.Results.{ends_of, sum_leaves, difference_leaves, product_leaves, kept_modulus, limited, sum_of, difference_of, products, are_small, multiples_of, past_limits, product_at, product_modulus, product_of, shifted_of, single_result, results_of, results_between}
-use Rattle.ep_congruence_laws.proofs.Multiples.{times_sum, times_difference, times_assoc, multiple_sum, multiple_difference, multiple_product, multiple_of, multiple_by_size, none_of}
-use Rattle.ep_congruence_laws.proofs.Classes.{zero_from, zero_test, nonzero_from, le_from, chain, turn, in_reduced, reduced_modulus, class_with, class_small, class_one}
-use Rattle.ep_congruence_laws.proofs.Operations.{In, Is, gcd_left, gcd_right, gcd_greatest, gcd_small, one_member}
+use Rattle.ep_congruence_laws.proofs.Multiples.{times_difference, times_assoc, multiple_sum, multiple_difference, multiple_product, multiple_of, multiple_by_size}
+use Rattle.ep_congruence_laws.proofs.Classes.{zero_from, le_from, chain, turn, in_reduced, class_with, class_one}
+use Rattle.ep_congruence_laws.proofs.Operations.{In, Is, gcd_left, gcd_right, one_member}
 use Rattle.ep_congruence_laws.proofs.Cuts.{itself_in, edges_hold, wrapped_apart, turn_small, one_class}
 
 -- a result: a class that a value may be, with the number

@@ -1,24 +1,23 @@
 -- Strides of the results of operators.
 use Prim.Native.Nat.{◌∣◌}
-use Rattle.std.proofs.Common.{◌≡◌, ℕ, zero, suc, ◌+◌, ◌-◌, ◌*◌, ◌%◌, ◌^◌, ◌<◌, ◌≤◌, ℤ, pos, negsuc, ◌+ℤ◌, ◌-ℤ◌, ◌*ℤ◌, ◌≤ℤ◌, Bool, true, false, cond, ◌&&◌, Option, Some, None, Result, Ok, Err, nat_eq, nat_le, arith, refl, sym, ap, ◌∙◌, subst}
-use Rattle.std.specs.Prelude.{unsigned_abs, IfSome, IsSomeAnd}
+use Rattle.std.proofs.Common.{◌≡◌, ℕ, ◌+◌, ◌*◌, ◌%◌, ◌<◌, ◌≤◌, ℤ, pos, ◌+ℤ◌, ◌-ℤ◌, ◌*ℤ◌, Bool, true, false, cond, ◌&&◌, Option, Some, Result, Ok, Err, nat_le, arith, refl, sym, ap, ◌∙◌, subst}
+use Rattle.std.specs.Prelude.{unsigned_abs, IfSome}
 use Rattle.std.proofs.Math.IntN.{*ℤ_comm}
 use Rattle.std.proofs.lemmas.Int.{ints}
-use Rattle.std.proofs.lemmas.Nat.Gcd.{dvd_refl, dvd-zero, dvd_trans}
+use Rattle.std.proofs.lemmas.Nat.Gcd.{dvd-zero, dvd_trans}
 use Rattle.std.proofs.Math.Nat.{dvd-mul_left, mod-eq_of_lt}
-use Rattle.std.proofs.lemmas.Bool.{and_parts}
-use Rattle.ep_int.specs.declared.types.IntType.TheVariants.{I64, U64}
+use Rattle.ep_int.specs.declared.types.IntType.TheVariants.{I64}
 use Rattle.ep_int.specs.declared.types.BinOp.TheVariants.{Add, Sub, Mul}
 use Rattle.ep_int.specs.declared.types.Undef.{Undef}
 use Rattle.ep_int.specs.declared.types.Undef.TheVariants.{Overflow}
 use Rattle.ep_int.specs.Types.{residue}
-use Rattle.ep_int.specs.Arith.{settled, arith_of}
+use Rattle.ep_int.specs.Arith.{arith_of}
 use Rattle.ep_congruence_laws.specs.Multiples.{IsMultiple, gcd}
-use Rattle.ep_congruence_laws.specs.Classes.{Class, class, one, is_one, greatest_modulus, is_class, reduced}
-use Rattle.ep_congruence_laws.specs.Results.{limited, products, are_small, multiples_of, past_limits, product_at, product_modulus, product_of, sum_of, difference_of, single_result, results_of, results_between}
-use Rattle.ep_congruence_laws.proofs.Multiples.{multiple_sum, multiple_difference, multiple_product, multiple_of, multiple_by_size, none_of, itself}
-use Rattle.ep_congruence_laws.proofs.Classes.{zero_from, zero_test, nonzero_from, le_test, residue_multiple, residue_same, turn, class_small}
-use Rattle.ep_congruence_laws.proofs.Operations.{In, Is, gcd_greatest, gcd_small}
+use Rattle.ep_congruence_laws.specs.Classes.{Class, one, is_one, greatest_modulus, reduced}
+use Rattle.ep_congruence_laws.specs.Results.{limited, products, are_small, multiples_of, past_limits, product_at, product_modulus, product_of, single_result, results_of, results_between}
+use Rattle.ep_congruence_laws.proofs.Multiples.{multiple_sum, multiple_difference, multiple_product, multiple_of, none_of, itself}
+use Rattle.ep_congruence_laws.proofs.Classes.{le_test, residue_multiple, residue_same, class_small}
+use Rattle.ep_congruence_laws.proofs.Operations.{Is, gcd_greatest, gcd_small}
 use Rattle.ep_congruence_laws.proofs.Cuts.{HasStride, stride_of}
 use Rattle.ep_congruence_laws.proofs.Results.{signed_result}
 

@@ -12,12 +12,12 @@ use Rattle.ep_int.specs.declared.types.BinOp.{BinOp}
 use Rattle.ep_int.specs.declared.types.BinOp.TheVariants.{Add, Sub, Mul, Div, Rem, And, Or, Xor, Shl, Shr}
 use Rattle.ep_int.specs.Types.{is_signed, greatest_of, InRange}
 use Rattle.ep_int.specs.Arith.{IsOfSomeType, IsRightOperand}
-use Rattle.ep_domain.specs.Ranges.{IsRange, LiesIn}
-use Rattle.ep_domain.specs.Faults.{least_of_four, greatest_of_four, shown_range, may_overflow, may_not_shift, may_fault, nearest_amount, right_part, fault_between}
-use Rattle.ep_domain.specs.Laws.Comparisons.{le_true, lt_false, from_lt_false, le_trans}
-use Rattle.ep_domain.specs.Laws.Parts.{right_is_right}
-use Rattle.ep_domain.specs.Laws.FaultAt.{low_lies, high_lies}
-use Rattle.ep_domain.specs.Laws.Types.{number_of, number_low}
+use Rattle.ep_range_laws.specs.Ranges.{IsRange, LiesIn}
+use Rattle.ep_range_laws.specs.Faults.{least_of_four, greatest_of_four, shown_range, may_overflow, may_not_shift, may_fault, nearest_amount, right_part, fault_between}
+use Rattle.ep_range_laws.proofs.Comparisons.{le_true, lt_false, from_lt_false, le_trans}
+use Rattle.ep_range_laws.proofs.Parts.{right_is_right}
+use Rattle.ep_range_laws.proofs.FaultAt.{low_lies, high_lies}
+use Rattle.ep_range_laws.proofs.Types.{number_of, number_low}
 
 -- a test that the code made on 128 bits
 pub passed : (a b : ℤ) → FitsSigned w128 a → FitsSigned w128 b → int_lt (to_z w128 (of_z w128 b)) (to_z w128 (of_z w128 a)) ≡ false → a ≤ℤ b

@@ -16,7 +16,8 @@ common_range d e a b = common_part (d.range a) (e.range b)
 abbrev pub is_shared : {A B : Type 0} → Ops A → Ops B → A → B → ℤ × ℤ → Bool
 is_shared d e a b r = int_lt r.0 r.1 || (int_eq r.0 r.1 && (d.holds a r.0 && e.holds b r.0))
 
--- Two values of which the ranges have a number in common can be a pair. Where they have one alone, both have to hold it.
+-- Two values of which the ranges have a number in common can be a pair. Where they have one alone, both have to hold
+-- it.
 abbrev pub may_pair : {A B : Type 0} → Ops A → Ops B → A → B → Bool
 may_pair d e a b = is_shared d e a b (common_range d e a b)
 

@@ -1,13 +1,4 @@
 -- Laws, as lemmas on definitions.
-pub mod Comparisons
-pub mod Corners
-pub mod Types
-pub mod Parts
-pub mod Undefined
-pub mod FaultAt
-pub mod FaultFound
-pub mod RangeFaults
-pub mod Options
 pub mod Shared
 pub mod Narrowed
 pub mod PairTops

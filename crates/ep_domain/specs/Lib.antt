@@ -1,5 +1,5 @@
-pub mod Ranges
-pub mod Faults
+pub use Rattle.ep_range_laws.specs.Ranges
+pub use Rattle.ep_range_laws.specs.Faults
 pub mod Domain
 pub mod Common
 pub mod Pairs

@@ -4,7 +4,8 @@ use Rattle.ep_domain.specs.Domain.{Ops}
 use Rattle.ep_domain.specs.Common.{sum_of_ranks}
 use Rattle.ep_domain.specs.declared.num.Num.{Ghosts}
 use Rattle.ep_domain.specs.declared.pair.Pair.{Pair}
-use Rattle.ep_domain.specs.Pairs.{holds_of, top_of, single_of, range_of, is_within, join_of, widening_of, meet_of, outcome_of, conversion_of, filter_of, rank_of, edges_of, cut_of, has_stride_of}
+use Rattle.ep_domain.specs.Pairs.{holds_of, top_of, single_of, range_of, is_within, join_of, widening_of, meet_of}
+use Rattle.ep_domain.specs.Pairs.{outcome_of, conversion_of, filter_of, rank_of, edges_of, cut_of, has_stride_of}
 
 module _ {A B : Type 0} {f : Ghosts A} {g : Ghosts B} where
   abbrev pub pair_ops : Ops (Pair A B f g)

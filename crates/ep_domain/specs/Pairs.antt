@@ -1,4 +1,5 @@
--- The reduced product of two domains: both parts of a value, each cut to what the other leaves of its range (this project's rules, after Cousot and Cousot 1979).
+-- The reduced product of two domains: both parts of a value, each cut to what the other leaves of its range (this
+-- project's rules, after Cousot and Cousot 1979).
 use Rattle.std.specs.Prelude.{◌≡◌, ℕ, ℤ, pos, Bool, true, false, ◌&&◌, if◌then◌else◌, Option, Some, None, is_some, refl}
 use Rattle.std.specs.Option.{option_and_then, option_zip, unwrap_or}
 use Rattle.ep_int.specs.declared.types.IntType.{IntType}
@@ -8,8 +9,8 @@ use Rattle.ep_int.specs.Arith.{int_eq, IsOfSomeType}
 use Rattle.ep_domain.specs.declared.num.Num.{Ghosts}
 use Rattle.ep_domain.specs.declared.outcome.Outcome.{Outcome}
 use Rattle.ep_domain.specs.declared.pair.Pair.{Pair}
-use Rattle.ep_domain.specs.Faults.{range_fault_of}
-use Rattle.ep_domain.specs.Ranges.{nearest_number}
+use Rattle.ep_range_laws.specs.Faults.{range_fault_of}
+use Rattle.ep_range_laws.specs.Ranges.{nearest_number}
 use Rattle.ep_domain.specs.Common.{common_part, common_range, edges_between, common_edges, may_pair, sum_of_ranks}
 use Rattle.ep_domain.specs.Laws.Shared.{nearest_of_some_type, tops_shared, singles_shared, widened_shared}
 
@@ -58,7 +59,11 @@ module _ {A B : Type 0} {f : Ghosts A} {g : Ghosts B} where
   top_of t = unwrap_or (narrowed (f.ops.top t) (g.ops.top t)) (tops t)
 
   abbrev pub singles : (v : ℤ) → IsOfSomeType v → Pair A B f g
-  singles v h = record { left = f.ops.single v; right = g.ops.single v; may_pair = λ law too. singles_shared f.ops g.ops law too v h }
+  singles v h = record {
+    left = f.ops.single v;
+    right = g.ops.single v;
+    may_pair = λ law too. singles_shared f.ops g.ops law too v h;
+  }
 
   abbrev pub single_at : (v : ℤ) → IsOfSomeType v → Pair A B f g
   single_at v h = unwrap_or (narrowed (f.ops.single v) (g.ops.single v)) (singles v h)
@@ -108,19 +113,24 @@ module _ {A B : Type 0} {f : Ghosts A} {g : Ghosts B} where
     shown = unwrap_or r (pos 0, pos 0);
   }
 
-  abbrev pub outcome_between : BinOp → IntType → Option (ℤ × ℤ) → Option (Pair A B f g) → Option (Pair A B f g) → Outcome (Pair A B f g)
+  abbrev pub outcome_between : BinOp → IntType → Option (ℤ × ℤ) → Option (Pair A B f g) → Option (Pair A B f g) →
+      Outcome (Pair A B f g)
   outcome_between o t r (Some p) (Some q) = outcome_with r (f.ops.op o t p.left q.left) (g.ops.op o t p.right q.right)
   outcome_between o t r (Some p) None = no_outcome
   outcome_between o t r None q = no_outcome
 
-  -- There is a fault where both parts have one, and the narrowed common ranges of both operands hold a pair of which arithmetic is undefined.
-  abbrev pub outcome_at : BinOp → IntType → Pair A B f g → Pair A B f g → Option (ℤ × ℤ) → Option (ℤ × ℤ) → Outcome (Pair A B f g)
-  outcome_at o t p q (Some r) (Some s) = outcome_between o t (range_fault_of o t r s) (cut_to p.left p.right r) (cut_to q.left q.right s)
+  -- There is a fault where both parts have one, and the narrowed common ranges of both operands hold a pair of which
+  -- arithmetic is undefined.
+  abbrev pub outcome_at : BinOp → IntType → Pair A B f g → Pair A B f g → Option (ℤ × ℤ) → Option (ℤ × ℤ) →
+      Outcome (Pair A B f g)
+  outcome_at o t p q (Some r) (Some s) =
+      outcome_between o t (range_fault_of o t r s) (cut_to p.left p.right r) (cut_to q.left q.right s)
   outcome_at o t p q (Some r) None = no_outcome
   outcome_at o t p q None s = no_outcome
 
   abbrev pub outcome_of : BinOp → IntType → Pair A B f g → Pair A B f g → Outcome (Pair A B f g)
-  outcome_of o t p q = outcome_at o t p q (common_edges f.ops g.ops p.left p.right) (common_edges f.ops g.ops q.left q.right)
+  outcome_of o t p q =
+      outcome_at o t p q (common_edges f.ops g.ops p.left p.right) (common_edges f.ops g.ops q.left q.right)
 
   abbrev pub pairs_of : Option (A × A) → Option (B × B) → Option (Pair A B f g × Pair A B f g)
   pairs_of (Some x) (Some y) = option_zip (narrowed x.0 y.0) (narrowed x.1 y.1)

@@ -3,8 +3,10 @@
 ghost use Rattle.std.specs.Prelude.{◌≡◌, ◌↔◌, ◌<◌, ◌^◌, pos, IsSome, IfSome, if◌then◌else◌, ◌≤ℤ◌};
 ghost use Rattle.ep_int.specs.Types.{InRange, is_signed};
 ghost use Rattle.ep_int.specs.Arith.{IsRightOperand};
-ghost use Rattle.ep_domain.specs.Ranges.{IsRange};
-ghost use Rattle.ep_domain.specs.Faults.{is_shift, part_of, lies_in, shown_range, may_overflow, may_not_divide, may_pass_width, may_not_shift, nearest_amount, right_part, fault_between, range_fault_of, MayFault, ShowsRange};
+ghost use Rattle.ep_range_laws.specs.Ranges.{IsRange};
+ghost use Rattle.ep_range_laws.specs.Faults.{is_shift, part_of, lies_in, shown_range, may_overflow, may_not_divide};
+ghost use Rattle.ep_range_laws.specs.Faults.{may_pass_width, may_not_shift, nearest_amount, right_part, fault_between};
+ghost use Rattle.ep_range_laws.specs.Faults.{range_fault_of, MayFault, ShowsRange};
 
 use crate::ranges::{is_shift, nearest_amount, power_of_two, products};
 use ep_int::{BinOp, IntType, bits, greatest, is_signed, least};

@@ -8,8 +8,8 @@ use crate::{Num, Outcome, product};
 use ep_int::{BinOp, Cmp, IntType};
 use std::alloc::AllocError;
 
-/// What each of two domains says of a number. A pair holds the numbers that both parts hold, and its range is what their
-/// ranges have in common: more numbers than one, or one that both parts hold.
+/// What each of two domains says of a number. A pair holds the numbers that both parts hold, and its range is what
+/// their ranges have in common: more numbers than one, or one that both parts hold.
 pub struct Pair<A: Num, B: Num> {
     pub(crate) left: A,
     pub(crate) right: B,

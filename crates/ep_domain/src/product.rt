@@ -1,10 +1,12 @@
 //! The operations of a reduced product: those of both parts, narrowed.
 
 ghost use Rattle.std.specs.Prelude.{◌≡◌, ◌&&◌, IfSome};
-ghost use Rattle.ep_domain.specs.Ranges.{IsRange};
-ghost use Rattle.ep_domain.specs.Faults.{range_fault_of};
+ghost use Rattle.ep_range_laws.specs.Ranges.{IsRange};
+ghost use Rattle.ep_range_laws.specs.Faults.{range_fault_of};
 ghost use Rattle.ep_domain.specs.Common.{common_part, common_range, common_edges, edges_between, may_pair};
-ghost use Rattle.ep_domain.specs.Pairs.{cut_to, narrowed, narrowed_both, no_outcome, outcome_with, outcome_between, outcome_of, pairs_of, filter_of, settled, conversion_of, join_of, edges_of, cut_of};
+ghost use Rattle.ep_domain.specs.Pairs.{cut_to, narrowed, narrowed_both, no_outcome, outcome_with, outcome_between};
+ghost use Rattle.ep_domain.specs.Pairs.{outcome_of, pairs_of, filter_of, settled, conversion_of, join_of, edges_of};
+ghost use Rattle.ep_domain.specs.Pairs.{cut_of};
 
 use crate::{Num, Outcome, Pair, range_fault};
 use ep_int::{BinOp, Cmp, IntType};

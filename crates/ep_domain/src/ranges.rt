@@ -2,7 +2,7 @@
 
 ghost use Rattle.std.specs.Prelude.{◌≡◌, ◌<◌, ◌^◌, ◌*ℤ◌, pos, FitsSigned};
 ghost use Rattle.std.specs.Int.{w128};
-ghost use Rattle.ep_domain.specs.Faults.{is_shift, least_of_four, greatest_of_four, shown_range, nearest_amount};
+ghost use Rattle.ep_range_laws.specs.Faults.{is_shift, least_of_four, greatest_of_four, shown_range, nearest_amount};
 
 use ep_int::{BinOp, IntType, bits};
 

@@ -15,7 +15,7 @@ use Rattle.ep_bitslice.specs.declared.segment.Segment.{Segment}
 use Rattle.ep_bitslice.specs.Bits.{Numbers}
 use Rattle.ep_domain.specs.Domain.{Ops, Lawful}
 use Rattle.ep_domain.specs.Domain.{Holds as HoldsNumber}
-use Rattle.ep_domain.specs.Ranges.{LiesIn}
+use Rattle.ep_range_laws.specs.Ranges.{LiesIn}
 use Rattle.ep_pointers.specs.Value.{Pointers, Target, offset_at, HoldsPointer, into}
 use Rattle.ep_cells.specs.declared.cell.Value.{Value}
 use Rattle.ep_cells.specs.declared.cell.Value.TheVariants.{Num, Ptr}

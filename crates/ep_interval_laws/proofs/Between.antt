@@ -4,8 +4,8 @@ use Rattle.std.proofs.Common.{ap, sym, subst}
 use Rattle.std.proofs.Props.{props}
 use Rattle.ep_int.specs.declared.types.IntType.TheVariants.{I64, U64}
 use Rattle.ep_int.specs.Types.{least_of, greatest_of}
-use Rattle.ep_domain.specs.Ranges.{IsRange}
-use Rattle.ep_domain.specs.Laws.Comparisons.{between_true, le_true, le_false, le_trans}
+use Rattle.ep_range_laws.specs.Ranges.{IsRange}
+use Rattle.ep_range_laws.proofs.Comparisons.{between_true, le_true, le_false, le_trans}
 use Rattle.ep_interval_laws.specs.Ends.{is_range}
 use Rattle.ep_interval_laws.specs.Interval.{Interval, interval, between_at, between, holds_of}
 use Rattle.ep_interval_laws.specs.Ranges.{is_range_true, is_range_from}

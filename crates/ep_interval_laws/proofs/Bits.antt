@@ -8,7 +8,7 @@ use Rattle.ep_int.specs.declared.types.IntType.{IntType}
 use Rattle.ep_int.specs.declared.types.IntType.TheVariants.{I8, U8, I16, U16, I32, U32, I64, U64}
 use Rattle.ep_int.specs.Types.{bits_of, greatest_of, representation, represented}
 use Rattle.ep_int.proofs.Wrapping.{represented_representation}
-use Rattle.ep_domain.specs.Laws.Types.{least_negative}
+use Rattle.ep_range_laws.proofs.Types.{least_negative}
 use Rattle.ep_interval_laws.specs.Results.{length_in_bits, ones_over}
 
 -- the greatest number of a type is a run of ones

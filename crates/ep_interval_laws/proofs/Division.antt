@@ -6,8 +6,8 @@ use Rattle.std.proofs.Math.Nat.{div-le_self, div-mul-le_self, mul-le-mul_left, m
 use Rattle.std.proofs.Math.IntN.{neg_ℤ-neg_ℤ}
 use Rattle.std.proofs.lemmas.Nat.{le-div, pow_pos}
 use Rattle.std.proofs.lemmas.Int.{ints, clamps}
-use Rattle.ep_domain.specs.Ranges.{LiesIn}
-use Rattle.ep_domain.specs.Faults.{least_of_four, greatest_of_four}
+use Rattle.ep_range_laws.specs.Ranges.{LiesIn}
+use Rattle.ep_range_laws.specs.Faults.{least_of_four, greatest_of_four}
 use Rattle.ep_interval_laws.specs.Results.{quotients, greatest_size}
 
 -- ---- natural numbers

@@ -9,7 +9,7 @@ use Rattle.ep_int.specs.declared.types.Cmp.{Cmp}
 use Rattle.ep_int.specs.declared.types.Cmp.TheVariants.{Eq, Ne, Lt, Le, Gt, Ge}
 use Rattle.ep_int.specs.Types.{least_of, greatest_of}
 use Rattle.ep_int.specs.Arith.{int_eq, compares}
-use Rattle.ep_domain.specs.Laws.Comparisons.{between_true, from_between, from_between_false, from_le_true, from_le_false, from_lt_true, from_lt_false, le_self, le_antisym}
+use Rattle.ep_range_laws.proofs.Comparisons.{between_true, from_between, from_between_false, from_le_true, from_le_false, from_lt_true, from_lt_false, le_self, le_antisym}
 use Rattle.ep_interval_laws.specs.Interval.{Interval, HasNumber, ends_of, between, apart_from, filter_of}
 use Rattle.ep_interval_laws.proofs.Between.{between_none, between_holds}
 use Rattle.ep_interval_laws.proofs.Simple.{has_low, has_high, overlap_holds, cut_single_away, first_of_pair, second_of_pair}

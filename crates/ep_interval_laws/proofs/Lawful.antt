@@ -1,6 +1,6 @@
 -- Intervals are a lawful domain.
 use Rattle.ep_domain.specs.Domain.{Lawful}
-use Rattle.ep_domain.specs.Laws.Comparisons.{between_true}
+use Rattle.ep_range_laws.proofs.Comparisons.{between_true}
 use Rattle.ep_interval_laws.specs.Interval.{widening_of}
 use Rattle.ep_interval_laws.specs.Domain.{interval_ops}
 use Rattle.ep_interval_laws.proofs.Ranks.{rank_bound}

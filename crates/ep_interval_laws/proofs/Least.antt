@@ -12,11 +12,11 @@ use Rattle.ep_int.specs.declared.types.Undef.TheVariants.{Overflow}
 use Rattle.ep_int.specs.Types.{is_signed, least_of, greatest_of, InRange, wrapped}
 use Rattle.ep_int.specs.Arith.{arith_of, settled, is_in_range, int_eq}
 use Rattle.ep_int.proofs.Wrapping.{wrapped_same}
-use Rattle.ep_domain.specs.Ranges.{IsRange, LiesIn}
-use Rattle.ep_domain.specs.Faults.{Takes, shown_of, shown_range}
-use Rattle.ep_domain.specs.Laws.Comparisons.{between_true, le_self}
-use Rattle.ep_domain.specs.Laws.Types.{in_range_true}
-use Rattle.ep_domain.specs.Laws.FaultAt.{ShownAt, low_shown, high_shown}
+use Rattle.ep_range_laws.specs.Ranges.{IsRange, LiesIn}
+use Rattle.ep_range_laws.specs.Faults.{Takes, shown_of, shown_range}
+use Rattle.ep_range_laws.proofs.Comparisons.{between_true, le_self}
+use Rattle.ep_range_laws.proofs.Types.{in_range_true}
+use Rattle.ep_range_laws.proofs.FaultAt.{ShownAt, low_shown, high_shown}
 use Rattle.ep_interval_laws.specs.Ends.{in_one_stretch, wrapped_low, wrapped_high}
 use Rattle.ep_interval_laws.specs.Interval.{Interval, HasNumber, ends_of, between, overlap, join_of, meet_of, conversion_of}
 use Rattle.ep_interval_laws.specs.Results.{clipped, settled_between, single_result, results_of, results_between, value_of}

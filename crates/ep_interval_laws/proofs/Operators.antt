@@ -15,12 +15,12 @@ use Rattle.ep_int.specs.declared.types.Undef.TheVariants.{Overflow, Division, Sh
 use Rattle.ep_int.specs.Types.{bits_of, least_of, greatest_of, InRange, representation, represented}
 use Rattle.ep_int.specs.Arith.{arith_of, settled, is_in_range, is_divisible, is_amount, int_eq, IsRightOperand}
 use Rattle.ep_int.proofs.Arithmetic.{arith_in_range}
-use Rattle.ep_domain.specs.Ranges.{LiesIn}
-use Rattle.ep_domain.specs.Faults.{shown_range, least_of_four, greatest_of_four, nearest_amount}
-use Rattle.ep_domain.specs.Laws.Comparisons.{le_true, lt_true, from_le_true, le_trans}
-use Rattle.ep_domain.specs.Laws.Types.{number_low, number_high, from_in_range}
-use Rattle.ep_domain.specs.Laws.FaultAt.{each_shown}
-use Rattle.ep_domain.specs.Laws.Undefined.{amount_from, nearest_above, bits_positive}
+use Rattle.ep_range_laws.specs.Ranges.{LiesIn}
+use Rattle.ep_range_laws.specs.Faults.{shown_range, least_of_four, greatest_of_four, nearest_amount}
+use Rattle.ep_range_laws.proofs.Comparisons.{le_true, lt_true, from_le_true, le_trans}
+use Rattle.ep_range_laws.proofs.Types.{number_low, number_high, from_in_range}
+use Rattle.ep_range_laws.proofs.FaultAt.{each_shown}
+use Rattle.ep_range_laws.proofs.Undefined.{amount_from, nearest_above, bits_positive}
 use Rattle.ep_interval_laws.specs.Interval.{Interval, HasNumber, ends_of, between}
 use Rattle.ep_interval_laws.specs.Results.{divided, remainders, greatest_size, whole, anded, ored, xored, ones_over, has_amount, powers, shifted_left, shifted_right, results_of}
 use Rattle.ep_interval_laws.proofs.Between.{between_holds}

@@ -10,12 +10,12 @@ use Rattle.ep_int.specs.declared.types.Undef.{Undef}
 use Rattle.ep_int.specs.Types.{least_of, greatest_of, InRange}
 use Rattle.ep_int.specs.Arith.{arith_of, int_eq, IsRightOperand}
 use Rattle.ep_int.proofs.Arithmetic.{arith_in_range}
-use Rattle.ep_domain.specs.Ranges.{IsRange}
-use Rattle.ep_domain.specs.Faults.{Takes, MayFault, range_fault_of}
+use Rattle.ep_range_laws.specs.Ranges.{IsRange}
+use Rattle.ep_range_laws.specs.Faults.{Takes, MayFault, range_fault_of}
 use Rattle.ep_domain.specs.Domain.{ShowsPart}
-use Rattle.ep_domain.specs.Laws.Comparisons.{between_true, from_between, le_self, le_trans, le_antisym}
-use Rattle.ep_domain.specs.Laws.Types.{number_of}
-use Rattle.ep_domain.specs.Laws.RangeFaults.{fault_is_found, fault_is_shown}
+use Rattle.ep_range_laws.proofs.Comparisons.{between_true, from_between, le_self, le_trans, le_antisym}
+use Rattle.ep_range_laws.proofs.Types.{number_of}
+use Rattle.ep_range_laws.proofs.RangeFaults.{fault_is_found, fault_is_shown}
 use Rattle.ep_interval_laws.specs.Interval.{Interval, HasNumber, interval, ends_of, overlap}
 use Rattle.ep_interval_laws.specs.Results.{single_result, results_of, results_between, right_operands, value_of, outcome_of}
 use Rattle.ep_interval_laws.specs.Domain.{interval_ops}

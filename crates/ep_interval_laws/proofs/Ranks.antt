@@ -4,7 +4,7 @@ use Rattle.std.proofs.Common.{arith, ap, sym, subst}
 use Rattle.std.proofs.lemmas.Int.{ints}
 use Rattle.ep_int.specs.declared.types.IntType.TheVariants.{I64, U64}
 use Rattle.ep_int.specs.Types.{least_of, greatest_of}
-use Rattle.ep_domain.specs.Laws.Comparisons.{lt_true, from_lt_true, from_le_true}
+use Rattle.ep_range_laws.proofs.Comparisons.{lt_true, from_lt_true, from_le_true}
 use Rattle.ep_interval_laws.specs.Ends.{low_limit, high_limit, one_if, low_rank, high_rank, lowered, raised}
 
 counted : (a b : ℤ) → a <ℤ b → one_if (int_lt a b) ≡ 1

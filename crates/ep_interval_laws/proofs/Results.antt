@@ -9,10 +9,10 @@ use Rattle.ep_int.specs.declared.types.Undef.{Undef}
 use Rattle.ep_int.specs.Types.{is_signed, least_of, greatest_of, InRange, wrapped}
 use Rattle.ep_int.specs.Arith.{settled, is_in_range, int_eq}
 use Rattle.ep_int.proofs.Wrapping.{wrapped_in_range}
-use Rattle.ep_domain.specs.Ranges.{LiesIn}
-use Rattle.ep_domain.specs.Faults.{is_ordered}
-use Rattle.ep_domain.specs.Laws.Comparisons.{le_true, le_trans}
-use Rattle.ep_domain.specs.Laws.Types.{number_low, number_high, from_in_range}
+use Rattle.ep_range_laws.specs.Ranges.{LiesIn}
+use Rattle.ep_range_laws.specs.Faults.{is_ordered}
+use Rattle.ep_range_laws.proofs.Comparisons.{le_true, le_trans}
+use Rattle.ep_range_laws.proofs.Types.{number_low, number_high, from_in_range}
 use Rattle.ep_interval_laws.specs.Ends.{in_one_stretch, wrapped_low, wrapped_high}
 use Rattle.ep_interval_laws.specs.Interval.{Interval, HasNumber, between}
 use Rattle.ep_interval_laws.specs.Results.{clipped, settled_between, negative_part, positive_part, quotients, hull, divided}

@@ -8,8 +8,8 @@ use Rattle.ep_int.specs.declared.types.IntType.{IntType}
 use Rattle.ep_int.specs.Types.{least_of, greatest_of, wrapped}
 use Rattle.ep_int.specs.Arith.{IsOfSomeType}
 use Rattle.ep_int.proofs.Wrapping.{wrapped_in_range}
-use Rattle.ep_domain.specs.Ranges.{IsRange, LiesIn, Encloses}
-use Rattle.ep_domain.specs.Laws.Comparisons.{between_true, from_between, from_lt_true, from_between_false, le_trans, le_self, le_antisym}
+use Rattle.ep_range_laws.specs.Ranges.{IsRange, LiesIn, Encloses}
+use Rattle.ep_range_laws.proofs.Comparisons.{between_true, from_between, from_lt_true, from_between_false, le_trans, le_self, le_antisym}
 use Rattle.ep_interval_laws.specs.Ends.{nearest_number, low_limit, high_limit, in_one_stretch, wrapped_low, wrapped_high}
 use Rattle.ep_interval_laws.specs.Interval.{Interval, HasNumber, interval, ends_of, between, single_of, is_within, join_of, overlap, edges_of, widening_of, rank_of, conversion_of}
 use Rattle.ep_interval_laws.specs.Ranges.{lowered_kept, lowered_new, raised_kept, raised_new}

@@ -7,9 +7,9 @@ use Rattle.ep_int.specs.declared.types.IntType.{IntType}
 use Rattle.ep_int.specs.declared.types.IntType.TheVariants.{I8, U8, I16, U16, I32, U32, I64, U64}
 use Rattle.ep_int.specs.Types.{bits_of, least_of, greatest_of, InRange, wrapped}
 use Rattle.ep_int.proofs.Wrapping.{wrapped_in_range, wrapped_congruent}
-use Rattle.ep_domain.specs.Laws.Comparisons.{from_between, between_true, from_lt_true, from_lt_false, le_antisym, le_self}
-use Rattle.ep_domain.specs.Laws.Types.{ends_ordered}
-use Rattle.ep_domain.specs.Laws.Corners.{product_up}
+use Rattle.ep_range_laws.proofs.Comparisons.{from_between, between_true, from_lt_true, from_lt_false, le_antisym, le_self}
+use Rattle.ep_range_laws.proofs.Types.{ends_ordered}
+use Rattle.ep_range_laws.proofs.Corners.{product_up}
 use Rattle.ep_interval_laws.specs.Ends.{in_one_stretch}
 
 -- a type has as many numbers as its width says

@@ -7,7 +7,7 @@ use Rattle.ep_int.specs.declared.types.Cmp.{Cmp}
 use Rattle.ep_int.specs.declared.types.Cmp.TheVariants.{Eq, Ne, Lt, Le, Gt, Ge}
 use Rattle.ep_int.specs.Types.{least_of, greatest_of}
 use Rattle.ep_int.specs.Arith.{int_eq}
-use Rattle.ep_domain.specs.Ranges.{IsRange}
+use Rattle.ep_range_laws.specs.Ranges.{IsRange}
 use Rattle.ep_interval_laws.specs.Ends.{is_range, nearest_number, lowered, raised, low_rank, high_rank, wrapped_low, wrapped_high, low_apart, high_apart}
 use Rattle.ep_interval_laws.specs.Ranges.{is_range_true, range_of_type, range_of_one, range_of_join, range_of_widening, range_of_conversion}
 

@@ -5,7 +5,7 @@ use Rattle.ep_int.specs.declared.types.BinOp.{BinOp}
 use Rattle.ep_int.specs.declared.types.BinOp.TheVariants.{Add, Sub, Mul}
 use Rattle.ep_int.specs.Types.{InRange, wrapped}
 use Rattle.ep_int.specs.Arith.{arith_of}
-use Rattle.ep_domain.specs.Faults.{Takes}
+use Rattle.ep_range_laws.specs.Faults.{Takes}
 use Rattle.ep_interval_laws.specs.Interval.{Interval, HasNumber, is_within}
 
 -- The interval has each of these numbers, and lies within every interval that has each of them.

@@ -8,9 +8,9 @@ use Rattle.ep_int.specs.declared.types.IntType.{IntType}
 use Rattle.ep_int.specs.declared.types.IntType.TheVariants.{I64, U64}
 use Rattle.ep_int.specs.Types.{least_of, greatest_of, wrapped}
 use Rattle.ep_int.proofs.Wrapping.{wrapped_in_range}
-use Rattle.ep_domain.specs.Ranges.{IsRange}
-use Rattle.ep_domain.specs.Laws.Comparisons.{le_true, from_le_true, from_lt_true, from_lt_false, from_between, le_trans, le_self}
-use Rattle.ep_domain.specs.Laws.Types.{number_low, number_high, ends_ordered}
+use Rattle.ep_range_laws.specs.Ranges.{IsRange}
+use Rattle.ep_range_laws.proofs.Comparisons.{le_true, from_le_true, from_lt_true, from_lt_false, from_between, le_trans, le_self}
+use Rattle.ep_range_laws.proofs.Types.{number_low, number_high, ends_ordered}
 use Rattle.ep_interval_laws.specs.Ends.{is_range, nearest_number, low_limit, high_limit, lowered, raised, in_one_stretch, wrapped_low, wrapped_high}
 
 pub is_range_true : (lo hi : ℤ) → is_range lo hi ≡ true → IsRange lo hi

@@ -9,7 +9,7 @@ use Rattle.ep_int.specs.declared.types.Undef.{Undef}
 use Rattle.ep_int.specs.Types.{bits_of, is_signed, least_of, greatest_of}
 use Rattle.ep_int.specs.Arith.{int_eq, arith_of}
 use Rattle.ep_domain.specs.declared.outcome.Outcome.{Outcome}
-use Rattle.ep_domain.specs.Faults.{is_shift, is_ordered, least_of_four, greatest_of_four, shown_range, nearest_amount, range_fault_of}
+use Rattle.ep_range_laws.specs.Faults.{is_shift, is_ordered, least_of_four, greatest_of_four, shown_range, nearest_amount, range_fault_of}
 use Rattle.ep_interval_laws.specs.Ends.{wrapped_low, wrapped_high}
 use Rattle.ep_interval_laws.specs.Interval.{Interval, ends_of, between, overlap}
 

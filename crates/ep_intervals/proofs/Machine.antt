@@ -11,15 +11,15 @@ use Rattle.ep_int.specs.declared.types.BinOp.{BinOp}
 use Rattle.ep_int.specs.declared.types.BinOp.TheVariants.{Add, Sub, Mul, Div, Rem, And, Or, Xor, Shl, Shr}
 use Rattle.ep_int.specs.Types.{is_signed, least_of, greatest_of, wrapped, InRange}
 use Rattle.ep_int.specs.Arith.{int_eq, IsOfSomeType, IsRightOperand}
-use Rattle.ep_domain.specs.Ranges.{IsRange}
-use Rattle.ep_domain.specs.Laws.Comparisons.{between_true, from_between, le_self, le_trans, le_antisym}
+use Rattle.ep_range_laws.specs.Ranges.{IsRange}
+use Rattle.ep_range_laws.proofs.Comparisons.{between_true, from_between, le_self, le_trans, le_antisym}
 use Rattle.ep_domain.proofs.FaultCode.{fits_number, sum_fits, difference_fits}
 use Rattle.ep_intervals.specs.declared.interval.Interval.TheInside.{Inside}
 use Rattle.ep_interval_laws.specs.Ends.{in_one_stretch, wrapped_low, wrapped_high, low_apart, high_apart}
 use Rattle.ep_interval_laws.specs.Interval.{Interval, interval, between, overlap, apart_from, filter_of}
 use Rattle.ep_interval_laws.specs.Results.{clipped, settled_between, negative_part, positive_part, quotients, hull, divided, greatest_size, remainders, anded, ored, xored, ones_over, whole, has_amount, powers, shifted_left, shifted_right, shifted_right_between, results_between, right_operands, value_of}
-use Rattle.ep_domain.specs.Faults.{is_ordered, least_of_four, greatest_of_four, shown_range, nearest_amount}
-use Rattle.ep_domain.specs.Laws.Types.{number_of, number_low, number_high, least_unsigned}
+use Rattle.ep_range_laws.specs.Faults.{is_ordered, least_of_four, greatest_of_four, shown_range, nearest_amount}
+use Rattle.ep_range_laws.proofs.Types.{number_of, number_low, number_high, least_unsigned}
 use Rattle.ep_int.proofs.Wrapping.{wrapped_in_range}
 use Rattle.std.proofs.Math.Nat.{pow-le-pow_right, div-le_self}
 use Rattle.ep_interval_laws.proofs.Between.{same_ends, between_some, between_parts}

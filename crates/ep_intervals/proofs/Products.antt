@@ -9,9 +9,9 @@ use Rattle.ep_int.specs.declared.types.IntType.{IntType}
 use Rattle.ep_int.specs.declared.types.BinOp.TheVariants.{Mul}
 use Rattle.ep_int.specs.Types.{bits_of, is_signed, least_of, greatest_of, InRange, wrapped}
 use Rattle.ep_int.specs.Arith.{int_eq}
-use Rattle.ep_domain.specs.Faults.{shown_range, least_of_four, greatest_of_four}
-use Rattle.ep_domain.specs.Laws.Comparisons.{between_true, from_between, le_self, le_antisym}
-use Rattle.ep_domain.specs.Laws.Types.{least_unsigned, number_high}
+use Rattle.ep_range_laws.specs.Faults.{shown_range, least_of_four, greatest_of_four}
+use Rattle.ep_range_laws.proofs.Comparisons.{between_true, from_between, le_self, le_antisym}
+use Rattle.ep_range_laws.proofs.Types.{least_unsigned, number_high}
 use Rattle.ep_interval_laws.specs.Ends.{in_one_stretch, wrapped_low}
 use Rattle.ep_interval_laws.specs.Interval.{Interval, between}
 use Rattle.ep_interval_laws.specs.Results.{settled_between, whole}

@@ -2,7 +2,7 @@
 
 ghost use Rattle.std.specs.Prelude.{◌≡◌, ◌⊎◌, refl};
 ghost use Rattle.ep_int.specs.Arith.{int_eq};
-ghost use Rattle.ep_domain.specs.Ranges.{IsRange};
+ghost use Rattle.ep_range_laws.specs.Ranges.{IsRange};
 
 use crate::{ends, results};
 use ep_domain::{Num, Outcome, range_fault};

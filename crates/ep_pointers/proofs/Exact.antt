@@ -3,8 +3,8 @@ use Rattle.std.proofs.Common.{◌≡◌, ℕ, ◌<◌, ℤ, pos, negsuc, ◌+ℤ
 use Rattle.std.specs.Int.{w128}
 use Rattle.std.proofs.lemmas.Int.{ints}
 use Rattle.ep_int.specs.Arith.{IsOfSomeType}
-use Rattle.ep_domain.specs.Ranges.{IsRange}
-use Rattle.ep_domain.specs.Laws.Corners.{product_up}
+use Rattle.ep_range_laws.specs.Ranges.{IsRange}
+use Rattle.ep_range_laws.proofs.Corners.{product_up}
 
 pub record Fits (o y : ℤ) (u : ℕ) : Type 0 where
   pub product : FitsSigned w128 (y *ℤ pos u)

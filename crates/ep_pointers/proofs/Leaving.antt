@@ -5,8 +5,8 @@ use Rattle.std.specs.List.{list_any}
 use Rattle.std.specs.Int.{int_min, int_max}
 use Rattle.std.proofs.lemmas.Int.{ints, clamps}
 use Rattle.ep_domain.specs.Domain.{Ops, Lawful}
-use Rattle.ep_domain.specs.Ranges.{LiesIn}
-use Rattle.ep_domain.specs.Laws.Corners.{product_up}
+use Rattle.ep_range_laws.specs.Ranges.{LiesIn}
+use Rattle.ep_range_laws.proofs.Corners.{product_up}
 use Rattle.ep_pointers.specs.Value.{Target, AreAbove, IsRising, offset_at}
 use Rattle.ep_pointers.specs.Sum.{move, exact_at, IsOutside, exact_range, leaves, may_leave, hull, shown_of, IsResult, MayLeave, ShowsResults}
 use Rattle.ep_pointers.proofs.Lists.{Order, less, equals, more, order, same, none_above}

@@ -10,7 +10,7 @@ use Rattle.ep_int.specs.declared.types.Undef.TheVariants.{Overflow}
 use Rattle.ep_int.specs.Types.{InRange}
 use Rattle.ep_int.specs.Arith.{is_in_range, IsOfSomeType}
 use Rattle.ep_domain.specs.Domain.{Ops, Holds, Lawful}
-use Rattle.ep_domain.specs.Laws.Comparisons.{le_true, from_le_true}
+use Rattle.ep_range_laws.proofs.Comparisons.{le_true, from_le_true}
 use Rattle.std.proofs.lemmas.Bool.{and_from, and_parts}
 use Rattle.ep_pointers.specs.declared.sum.Move.{Move}
 use Rattle.ep_pointers.specs.Value.{Target, Pointers, pointers, AreAbove, IsRising, offset_at, HoldsPointer, into}

@@ -10,7 +10,7 @@ use Rattle.ep_int.specs.declared.types.Undef.TheVariants.{Overflow}
 use Rattle.ep_int.specs.Types.{InRange, residue}
 use Rattle.ep_int.specs.Arith.{is_in_range}
 use Rattle.ep_domain.specs.Domain.{Ops, IsSingle, Lawful, IsStride, KeepsStrides}
-use Rattle.ep_domain.specs.Ranges.{LiesIn}
+use Rattle.ep_range_laws.specs.Ranges.{LiesIn}
 use Rattle.ep_pointers.specs.declared.sum.Move.{Move}
 use Rattle.ep_pointers.specs.Value.{Target, Pointers, IsRising, offset_at, HaveStride}
 use Rattle.ep_pointers.specs.Sum.{exact_at, cut_to, offsets_and, bytes_of, moved_offset, put, moved_targets, of_targets, moved, IsPlaceAt, MovesOne, KeepsStride}

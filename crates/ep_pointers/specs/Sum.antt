@@ -7,7 +7,7 @@ use Rattle.ep_int.specs.declared.types.BinOp.{BinOp}
 use Rattle.ep_int.specs.declared.types.BinOp.TheVariants.{Add, Sub, Mul}
 use Rattle.ep_domain.specs.Domain.{Ops, Holds, IsSingle, IsStride}
 use Rattle.ep_int.specs.Types.{InRange}
-use Rattle.ep_domain.specs.Ranges.{LiesIn}
+use Rattle.ep_range_laws.specs.Ranges.{LiesIn}
 use Rattle.ep_pointers.specs.declared.sum.Move.{Move}
 use Rattle.ep_pointers.specs.Value.{Target, Pointers, pointers, offset_at, HoldsPointer, into, null_alone, one_target, HaveStride}
 

@@ -18,7 +18,7 @@ use Rattle.ep_int.specs.Encoding.{place, byte_of, encoded}
 use Rattle.ep_int.proofs.Encodings.{bytes_pow}
 use Rattle.ep_int.proofs.Places.{width_of, place_below}
 use Rattle.ep_domain.specs.Domain.{IsSingle}
-use Rattle.ep_domain.specs.Laws.Comparisons.{le_antisym}
+use Rattle.ep_range_laws.proofs.Comparisons.{le_antisym}
 use Rattle.ep_alarms.specs.declared.types.Alarm.{Alarm}
 use Rattle.ep_intervals.specs.declared.interval.Interval.{Interval}
 use Rattle.ep_intervals.specs.Interval.{HasNumber, ends_of, single_of, conversion_of}

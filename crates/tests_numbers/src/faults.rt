@@ -1,6 +1,6 @@
 // Where two ranges hold numbers of which arithmetic is undefined.
 ghost use Rattle.std.specs.Prelude.{◌↔◌, IsTrue};
-ghost use Rattle.ep_domain.specs.Ranges.{IsRange};
+ghost use Rattle.ep_range_laws.specs.Ranges.{IsRange};
 
 use crate::words::{Ends, ends, int_type, maybe_ends, operator};
 use ep_domain::range_fault;

@@ -1,22 +1,19 @@
 -- The laws of narrowing.
-use Rattle.std.specs.Prelude.{◌≡◌, ℕ, ℤ, pos, ◌≤ℤ◌, ◌<ℤ◌, ◌⊎◌, Bool, true, false, ◌&&◌, ◌||◌, Option, Some, None, IsTrue, IsSomeAnd, IfSome, int_lt, refl}
-use Rattle.std.specs.Option.{option_and_then}
-use Rattle.std.specs.Int.{int_min, int_max}
-use Rattle.std.proofs.Common.{arith, ap, sym, ◌∙◌, subst, inl, inr}
+use Rattle.std.specs.Prelude.{◌≡◌, ℤ, ◌≤ℤ◌, Bool, true, false, Option, Some, None, IsTrue, IsSomeAnd, IfSome, refl}
+use Rattle.std.proofs.Common.{arith, ap, sym, ◌∙◌, subst}
 use Rattle.std.proofs.Props.{props}
 use Rattle.std.proofs.lemmas.Int.{ints, clamps}
-use Rattle.std.proofs.lemmas.Bool.{and_parts, and_from, or_cases, or_left, or_right}
-use Rattle.ep_int.specs.Arith.{int_eq}
-use Rattle.ep_domain.specs.Ranges.{IsRange, LiesIn, Encloses}
-use Rattle.ep_domain.specs.Domain.{Ops, Holds, IsSingle, Lawful}
-use Rattle.ep_domain.specs.Common.{common_part, common_range, edges_between, common_edges, is_shared, may_pair}
+use Rattle.std.proofs.lemmas.Bool.{and_from}
+use Rattle.ep_range_laws.specs.Ranges.{IsRange, LiesIn, Encloses}
+use Rattle.ep_domain.specs.Domain.{Holds, IsSingle, Lawful}
+use Rattle.ep_domain.specs.Common.{common_part, common_range, edges_between, common_edges, may_pair}
 use Rattle.ep_domain.specs.declared.num.Num.{Ghosts}
 use Rattle.ep_domain.specs.declared.pair.Pair.{Pair}
 use Rattle.ep_domain.specs.Pairs.{pair_at, pair_of, holds_of, range_of, cut_to, narrowed, narrowed_both}
 use Rattle.ep_domain.specs.Laws.Shared.{pair, same_pair, same_ends, held_shared, shared_single, shared_ends}
 use Rattle.ep_domain.specs.Laws.Shared as shared
-use Rattle.ep_domain.specs.Laws.Options.{then_some, then_if, both_if, weaken, always}
-use Rattle.ep_domain.specs.Laws.Comparisons.{le_self, le_antisym, le_trans, lt_true, from_lt_true, from_lt_false, between_true, from_between}
+use Rattle.ep_range_laws.proofs.Options.{then_some, then_if, both_if, weaken, always}
+use Rattle.ep_range_laws.proofs.Comparisons.{le_self, le_trans}
 
 module _ {A B : Type 0} (f : Ghosts A) (g : Ghosts B) where
   pub shared_prop : (a : A) (b : B) → IsProp (Lawful f.ops → Lawful g.ops → may_pair f.ops g.ops a b ≡ true)

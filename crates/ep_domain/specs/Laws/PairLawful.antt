@@ -1,8 +1,7 @@
 -- The reduced product of two lawful domains is a lawful domain.
-use Rattle.std.specs.Prelude.{◌≡◌, ℕ, ℤ, pos, ◌≤ℤ◌, ◌<ℤ◌, ◌⊎◌, Bool, true, false, cond, Option, Some, None, IsTrue, IfSome, IsSomeAnd, Result, Ok, Err, MatchResult, refl}
+use Rattle.std.specs.Prelude.{◌≡◌, ℕ, ℤ, ◌≤ℤ◌, ◌<ℤ◌, ◌⊎◌, Bool, true, false, cond, Option, Some, None, IsTrue, IfSome, IsSomeAnd, Result, Ok, Err, MatchResult, refl}
 use Rattle.std.specs.Option.{option_and_then, unwrap_or}
-use Rattle.std.specs.Int.{int_min, int_max}
-use Rattle.std.proofs.Common.{arith, ap, sym, ◌∙◌, subst, inl, inr}
+use Rattle.std.proofs.Common.{arith, ap, sym, ◌∙◌, subst}
 use Rattle.std.proofs.lemmas.Int.{ints, clamps}
 use Rattle.std.proofs.lemmas.Bool.{and_parts, and_from}
 use Rattle.ep_int.specs.declared.types.IntType.{IntType}
@@ -10,16 +9,16 @@ use Rattle.ep_int.specs.declared.types.BinOp.{BinOp}
 use Rattle.ep_int.specs.declared.types.Undef.{Undef}
 use Rattle.ep_int.specs.Types.{InRange, wrapped}
 use Rattle.ep_int.specs.Arith.{int_eq, IsOfSomeType, arith_of}
-use Rattle.ep_domain.specs.Ranges.{LiesIn, Encloses}
-use Rattle.ep_domain.specs.Faults.{Takes}
+use Rattle.ep_range_laws.specs.Ranges.{LiesIn, Encloses}
+use Rattle.ep_range_laws.specs.Faults.{Takes}
 use Rattle.ep_domain.specs.Domain.{Holds, IsSingle, ShowsPart, Lawful}
 use Rattle.ep_domain.specs.Common.{common_part, sum_of_ranks}
 use Rattle.ep_domain.specs.declared.num.Num.{Ghosts}
 use Rattle.ep_domain.specs.declared.pair.Pair.{Pair}
 use Rattle.ep_domain.specs.Pairs.{holds_of, range_of, tops, top_of, singles, single_at, single_of, is_within, narrowed, narrowed_both, narrowed_pair, join_of, settled, converted, conversion_of, outcome_of, edges_of, cut_pair, cut_of}
 use Rattle.ep_domain.specs.PairDomain.{pair_ops}
-use Rattle.ep_domain.specs.Laws.Comparisons.{le_self, le_trans, le_antisym}
-use Rattle.ep_domain.specs.Laws.Options.{then_some, then_if, then_none, default_holds, to_if, weaken}
+use Rattle.ep_range_laws.proofs.Comparisons.{le_antisym}
+use Rattle.ep_range_laws.proofs.Options.{then_some, then_none, default_holds, to_if, weaken}
 use Rattle.ep_domain.specs.Laws.Shared.{pair, common_lies, eq_true, nearest_of_some_type, nearest_same, common_encloses}
 use Rattle.ep_domain.specs.Laws.Narrowed.{HoldsPair, BothSingle, common_holds, single_holds, single_range, range_ends, edges_enclose, edges_inside, narrowed_holds, narrowed_both_holds, singles_narrowed}
 use Rattle.ep_domain.specs.Laws.PairTops.{single_is_there}

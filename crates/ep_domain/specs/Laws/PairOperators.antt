@@ -1,26 +1,25 @@
 -- The laws of operators and comparisons of pairs.
-use Rattle.std.specs.Prelude.{◌≡◌, ℤ, pos, ◌≤ℤ◌, Bool, true, false, ◌&&◌, Option, Some, None, Result, Ok, Err, IsTrue, IfSome, IsSomeAnd, MatchResult, is_some, is_err, refl}
+use Rattle.std.specs.Prelude.{◌≡◌, ℤ, pos, ◌≤ℤ◌, true, false, ◌&&◌, Option, Some, None, Result, Ok, Err, IsTrue, IfSome, IsSomeAnd, MatchResult, is_some, is_err, refl}
 use Rattle.std.specs.Option.{option_zip, unwrap_or}
-use Rattle.std.proofs.Common.{ap, sym, ◌∙◌, subst}
+use Rattle.std.proofs.Common.{ap}
 use Rattle.std.proofs.lemmas.Bool.{and_parts, and_from}
 use Rattle.ep_int.specs.declared.types.IntType.{IntType}
 use Rattle.ep_int.specs.declared.types.BinOp.{BinOp}
 use Rattle.ep_int.specs.declared.types.Cmp.{Cmp}
 use Rattle.ep_int.specs.declared.types.Undef.{Undef}
 use Rattle.ep_int.specs.Arith.{arith_of, compares}
-use Rattle.ep_domain.specs.Ranges.{IsRange, LiesIn, Encloses}
-use Rattle.ep_domain.specs.Faults.{Takes, MayFault, range_fault_of}
+use Rattle.ep_range_laws.specs.Ranges.{IsRange, LiesIn, Encloses}
+use Rattle.ep_range_laws.specs.Faults.{Takes, MayFault, range_fault_of}
 use Rattle.ep_domain.specs.Domain.{Holds, IsSingle, Lawful}
-use Rattle.ep_domain.specs.Common.{common_range, common_edges}
+use Rattle.ep_domain.specs.Common.{common_edges}
 use Rattle.ep_domain.specs.declared.num.Num.{Ghosts}
 use Rattle.ep_domain.specs.declared.outcome.Outcome.{Outcome}
 use Rattle.ep_domain.specs.declared.pair.Pair.{Pair}
-use Rattle.ep_domain.specs.Pairs.{holds_of, range_of, cut_to, narrowed, narrowed_both, narrowed_pair, outcome_with, outcome_between, outcome_at, outcome_of, pairs_of, filter_between, filter_of}
-use Rattle.ep_domain.specs.Laws.Comparisons.{le_self, le_trans}
-use Rattle.ep_domain.specs.Laws.RangeFaults.{fault_is_found, fault_is_shown}
-use Rattle.ep_domain.specs.Laws.Options.{weaken}
+use Rattle.ep_domain.specs.Pairs.{holds_of, range_of, cut_to, narrowed, narrowed_both, narrowed_pair, outcome_between, outcome_at, outcome_of, pairs_of, filter_between, filter_of}
+use Rattle.ep_range_laws.proofs.Comparisons.{le_trans}
+use Rattle.ep_range_laws.proofs.RangeFaults.{fault_is_found, fault_is_shown}
 use Rattle.ep_domain.specs.Laws.Shared.{pair}
-use Rattle.ep_domain.specs.Laws.Narrowed.{HoldsPair, BothSingle, single_holds, range_ends, common_holds, edges_enclose, edges_inside, edges_single, cut_keeps_number, narrowed_holds, narrowed_single, narrowed_both_holds, singles_narrowed}
+use Rattle.ep_domain.specs.Laws.Narrowed.{BothSingle, single_holds, range_ends, common_holds, edges_enclose, edges_inside, edges_single, cut_keeps_number, narrowed_holds, narrowed_single, narrowed_both_holds, singles_narrowed}
 
 module _ {A B : Type 0} (f : Ghosts A) (g : Ghosts B) (law : Lawful f.ops) (too : Lawful g.ops) where
   Has : ℤ → Pair A B f g → Type 0

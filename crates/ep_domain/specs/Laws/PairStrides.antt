@@ -1,7 +1,6 @@
 -- Strides of pairs. A part whose domain keeps them keeps the same in a pair, and of the other part nothing is asked.
 use Rattle.std.specs.Prelude.{◌≡◌, ℕ, ◌+◌, ◌*◌, ◌%◌, ◌<◌, ◌≤◌, ℤ, pos, ◌-ℤ◌, Bool, true, false, cond, ◌||◌, Option, Some, None, IsTrue, IfSome, IsSomeAnd, refl}
-use Rattle.std.specs.Option.{option_and_then}
-use Rattle.std.proofs.Common.{arith, ap, sym, ◌∙◌, subst}
+use Rattle.std.proofs.Common.{arith, ap, sym, subst}
 use Rattle.std.proofs.lemmas.Bool.{and_parts}
 use Rattle.std.proofs.lemmas.Nat.{mod_below}
 use Rattle.ep_int.specs.declared.types.IntType.{IntType}
@@ -11,15 +10,14 @@ use Rattle.ep_int.specs.declared.types.BinOp.TheVariants.{Add, Sub, Mul}
 use Rattle.ep_int.specs.Types.{residue}
 use Rattle.ep_int.specs.Arith.{IsOfSomeType}
 use Rattle.ep_int.proofs.Wrapping.{residue_below}
-use Rattle.ep_domain.specs.Ranges.{nearest_number}
+use Rattle.ep_range_laws.specs.Ranges.{nearest_number}
 use Rattle.ep_domain.specs.Domain.{Ops, IsSingle, IsStride, KeepsStrides, Lawful}
 use Rattle.ep_domain.specs.Common.{common_edges}
 use Rattle.ep_domain.specs.declared.num.Num.{Ghosts}
-use Rattle.ep_domain.specs.declared.outcome.Outcome.{Outcome}
 use Rattle.ep_domain.specs.declared.pair.Pair.{Pair}
-use Rattle.ep_domain.specs.Pairs.{holds_of, range_of, singles, single_at, single_of, cut_to, narrowed, narrowed_both, narrowed_pair, join_of, widening_of, cut_pair, cut_of, outcome_between, outcome_at, outcome_of, has_stride_of}
+use Rattle.ep_domain.specs.Pairs.{holds_of, singles, single_at, single_of, cut_to, narrowed, narrowed_both, narrowed_pair, widening_of, cut_pair, outcome_between, outcome_at, has_stride_of}
 use Rattle.ep_domain.specs.PairDomain.{pair_ops}
-use Rattle.ep_domain.specs.Laws.Options.{then_if, default_if, to_if, always}
+use Rattle.ep_range_laws.proofs.Options.{then_if, default_if, to_if, always}
 use Rattle.ep_domain.specs.Laws.Narrowed.{BothSingle, cut_keeps, narrowed_keeps}
 use Rattle.ep_domain.specs.Laws.Shared.{nearest_of_some_type, nearest_same}
 use Rattle.ep_domain.specs.Laws.PairOperators.{edges_to_single}

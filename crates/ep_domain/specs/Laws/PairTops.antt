@@ -3,13 +3,13 @@ use Rattle.std.specs.Prelude.{◌≡◌, ℤ, pos, Option, Some, IsSomeAnd}
 use Rattle.std.proofs.Common.{sym, subst}
 use Rattle.ep_int.specs.declared.types.IntType.{IntType}
 use Rattle.ep_int.specs.Arith.{IsOfSomeType}
-use Rattle.ep_domain.specs.Ranges.{nearest_number}
+use Rattle.ep_range_laws.specs.Ranges.{nearest_number}
 use Rattle.ep_domain.specs.Domain.{Lawful}
 use Rattle.ep_domain.specs.declared.num.Num.{Ghosts}
 use Rattle.ep_domain.specs.declared.pair.Pair.{Pair}
 use Rattle.ep_domain.specs.Pairs.{narrowed, singles, single_of}
 use Rattle.ep_domain.specs.Laws.Shared.{zero_of, nearest_of_some_type, nearest_same}
-use Rattle.ep_domain.specs.Laws.Options.{unwrapped}
+use Rattle.ep_range_laws.proofs.Options.{unwrapped}
 use Rattle.ep_domain.specs.Laws.Narrowed.{HoldsPair, BothSingle, narrowed_holds, singles_narrowed}
 
 module _ {A B : Type 0} (f : Ghosts A) (g : Ghosts B) (law : Lawful f.ops) (too : Lawful g.ops) where

@@ -1,20 +1,14 @@
 -- The laws of ranges, inclusion and widening of pairs.
-use Rattle.std.specs.Prelude.{◌≡◌, ◌≢◌, ℕ, ◌+◌, ◌<◌, ◌≤◌, ℤ, ◌≤ℤ◌, ◌<ℤ◌, ◌⊎◌, Bool, true, false, ◌&&◌, IsTrue, IsSomeAnd, int_lt, nat_lt, min, refl}
-use Rattle.std.specs.Int.{int_min, int_max}
-use Rattle.std.proofs.Common.{arith, ap, sym, ◌∙◌, subst, inl, inr}
-use Rattle.std.proofs.Props.{props}
-use Rattle.std.proofs.lemmas.Int.{ints, clamps}
+use Rattle.std.specs.Prelude.{◌≡◌, ◌≢◌, ℕ, ◌+◌, ◌<◌, ◌≤◌, ℤ, ◌⊎◌, Bool, true, false, ◌&&◌, IsTrue, nat_lt, min, refl}
+use Rattle.std.proofs.Common.{arith, ap, subst, inl, inr}
 use Rattle.std.proofs.lemmas.Bool.Decides.{nat_tests}
-use Rattle.std.proofs.lemmas.Bool.{and_parts, and_from, or_left, or_right}
-use Rattle.ep_int.specs.Arith.{int_eq}
-use Rattle.ep_domain.specs.Ranges.{LiesIn, Encloses}
-use Rattle.ep_domain.specs.Domain.{Ops, Holds, Lawful}
-use Rattle.ep_domain.specs.Common.{common_part, common_range, is_shared, may_pair, sum_of_ranks}
+use Rattle.std.proofs.lemmas.Bool.{and_parts, and_from}
+use Rattle.ep_range_laws.specs.Ranges.{Encloses}
+use Rattle.ep_domain.specs.Domain.{Ops, Lawful}
+use Rattle.ep_domain.specs.Common.{may_pair, sum_of_ranks}
 use Rattle.ep_domain.specs.declared.num.Num.{Ghosts}
 use Rattle.ep_domain.specs.declared.pair.Pair.{Pair}
-use Rattle.ep_domain.specs.Pairs.{pair_at, pair_of, holds_of, range_of, is_within, widening_of, rank_of}
-use Rattle.ep_domain.specs.Laws.Comparisons.{le_self, le_antisym, le_trans, from_lt_false}
-use Rattle.ep_domain.specs.Laws.Options.{default_holds}
+use Rattle.ep_domain.specs.Pairs.{holds_of, range_of, is_within, widening_of, rank_of}
 use Rattle.ep_domain.specs.Laws.Shared.{common_encloses}
 use Rattle.ep_domain.specs.Laws.Narrowed.{shared_prop}
 

@@ -1,17 +1,16 @@
 -- What two values of lawful domains have in common.
-use Rattle.std.specs.Prelude.{◌≡◌, ℤ, pos, ◌≤ℤ◌, ◌<ℤ◌, ◌⊎◌, Bool, true, false, ◌&&◌, ◌||◌, IsTrue, int_lt, refl}
-use Rattle.std.specs.Int.{int_min, int_max}
+use Rattle.std.specs.Prelude.{◌≡◌, ℤ, pos, ◌≤ℤ◌, ◌<ℤ◌, ◌⊎◌, Bool, true, false, ◌&&◌, int_lt, refl}
 use Rattle.std.proofs.Common.{arith, ap, ◌∙◌, subst, inl, inr}
 use Rattle.std.proofs.lemmas.Int.{ints, clamps}
 use Rattle.std.proofs.lemmas.Bool.{and_parts, and_from, or_cases, or_left, or_right}
 use Rattle.ep_int.specs.declared.types.IntType.{IntType}
 use Rattle.ep_int.specs.Types.{InRange}
 use Rattle.ep_int.specs.Arith.{int_eq, IsOfSomeType}
-use Rattle.ep_domain.specs.Ranges.{IsRange, LiesIn, Encloses, nearest_number}
-use Rattle.ep_domain.specs.Domain.{Ops, Holds, IsSingle, Lawful}
+use Rattle.ep_range_laws.specs.Ranges.{IsRange, LiesIn, Encloses, nearest_number}
+use Rattle.ep_domain.specs.Domain.{Ops, Holds, Lawful}
 use Rattle.ep_domain.specs.Common.{common_part, common_range, is_shared, may_pair}
-use Rattle.ep_domain.specs.Laws.Comparisons.{le_self, le_antisym, le_trans, from_lt_true, from_lt_false, between_true, from_between}
-use Rattle.ep_domain.specs.Laws.Types.{least_negative, greatest_positive}
+use Rattle.ep_range_laws.proofs.Comparisons.{le_self, le_antisym, le_trans, from_lt_true, from_lt_false, between_true, from_between}
+use Rattle.ep_range_laws.proofs.Types.{least_negative, greatest_positive}
 
 abbrev pub pair : ℤ → ℤ → ℤ × ℤ
 pair a b = (a, b)

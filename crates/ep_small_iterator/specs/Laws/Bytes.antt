@@ -22,7 +22,7 @@ use Rattle.ep_int.specs.Encoding.{place, byte_of, encoded}
 use Rattle.ep_int.proofs.Encodings.{bytes_pow}
 use Rattle.ep_int.proofs.Places.{width_of, place_below}
 use Rattle.ep_domain.specs.Domain.{Ops, Holds, Lawful}
-use Rattle.ep_domain.specs.Ranges.{LiesIn}
+use Rattle.ep_range_laws.specs.Ranges.{LiesIn}
 use Rattle.ep_small_iterator.specs.Plain.{are_one, byte_at, byte_fault, differs_at}
 use Rattle.ep_small_iterator.specs.Laws.Found.{HasValue, has_value}
 

@@ -13,7 +13,7 @@ use Rattle.ep_int.specs.Types.{InRange}
 use Rattle.ep_int.proofs.Arithmetic.{in_range_some_type}
 use Rattle.ep_int.proofs.Wrapping.{wrapped_same}
 use Rattle.ep_domain.specs.Domain.{Ops, Holds, Lawful}
-use Rattle.ep_domain.specs.Faults.{Takes}
+use Rattle.ep_range_laws.specs.Faults.{Takes}
 use Rattle.ep_small_iterator.specs.Plain.{opposite, with_truth, truths, may_compare}
 
 pub front_empty : {X : Type 0} (xs ys : List X) → xs ++ ys ≡ [] → xs ≡ []

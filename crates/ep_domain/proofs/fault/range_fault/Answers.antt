@@ -1,7 +1,7 @@
 use Rattle.std.proofs.Common.{◌≡◌, rules, is_some, sym, subst, true, IfSome}
-use Rattle.ep_domain.specs.Faults.{range_fault_of, ShowsRange}
+use Rattle.ep_range_laws.specs.Faults.{range_fault_of, ShowsRange}
 use Rattle.ep_domain.proofs.FaultCode.{right_ends}
-use Rattle.ep_domain.specs.Laws.RangeFaults.{fault_is_found, fault_is_shown, range_is_exact}
+use Rattle.ep_range_laws.proofs.RangeFaults.{fault_is_found, fault_is_shown, range_is_exact}
 use Rattle.ep_domain.proofs.fault.range_fault.Goals as goal
 
 pub fault_between-requires-clause-right : goal.fault_between-requires-clause-right

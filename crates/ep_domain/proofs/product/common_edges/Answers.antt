@@ -1,6 +1,6 @@
 use Rattle.std.proofs.Common.{ℤ, sym, ◌∙◌, ap, subst}
 use Rattle.std.specs.Prelude.{IfSome}
-use Rattle.ep_domain.specs.Ranges.{IsRange}
+use Rattle.ep_range_laws.specs.Ranges.{IsRange}
 use Rattle.ep_domain.specs.Common.{edges_between}
 use Rattle.ep_domain.specs.Laws.Narrowed.{common_edges_ends}
 use Rattle.ep_domain.proofs.product.common_edges.Goals as goal

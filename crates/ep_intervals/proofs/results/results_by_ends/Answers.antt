@@ -1,7 +1,7 @@
 use Rattle.std.proofs.Common.{◌≡◌, rules, FitsSigned, sym, subst}
 use mir.Syntax.{w128}
 use Rattle.std.proofs.lemmas.Int.{to_z-of_z}
-use Rattle.ep_domain.specs.Laws.Types.{number_of}
+use Rattle.ep_range_laws.proofs.Types.{number_of}
 use Rattle.ep_domain.proofs.FaultCode.{sum_fits, difference_fits, right_number}
 use Rattle.ep_interval_laws.specs.Results.{results_of}
 use Rattle.ep_intervals.proofs.Machine.{sum_taken_fits, difference_taken_fits}

@@ -2,7 +2,7 @@ use Rattle.std.proofs.Common.{◌≡◌, ◌^◌, FitsSigned, nat_eq, false, con
 use Rattle.std.specs.Int.{w128}
 use Rattle.std.proofs.lemmas.Int.{ints, to_z-of_z}
 use Rattle.ep_int.specs.Types.{bits_of, wrapped}
-use Rattle.ep_domain.specs.Laws.Types.{number_of}
+use Rattle.ep_range_laws.proofs.Types.{number_of}
 use Rattle.ep_congruence_laws.specs.Multiples.{gcd}
 use Rattle.ep_congruence_laws.specs.Classes.{one, reduced}
 use Rattle.ep_congruence_laws.proofs.Cuts.{turned_class}

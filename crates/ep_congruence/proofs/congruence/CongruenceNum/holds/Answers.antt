@@ -3,7 +3,7 @@ use Rattle.std.specs.Int.{w128}
 use Rattle.std.proofs.lemmas.Int.{ints, to_z-of_z}
 use Rattle.ep_int.specs.declared.types.IntType.TheVariants.{I64, U64}
 use Rattle.ep_int.specs.Types.{least_of, greatest_of}
-use Rattle.ep_domain.specs.Laws.Comparisons.{from_between}
+use Rattle.ep_range_laws.proofs.Comparisons.{from_between}
 use Rattle.ep_congruence_laws.specs.Multiples.{is_multiple}
 use Rattle.ep_congruence_laws.specs.Classes.{is_number}
 use Rattle.ep_congruence_domain.specs.Congruence.{Congruence}

@@ -1,5 +1,5 @@
 use Rattle.std.proofs.lemmas.Int.{to_z-of_z}
-use Rattle.ep_domain.specs.Laws.Options.{some_from}
+use Rattle.ep_range_laws.proofs.Options.{some_from}
 use Rattle.ep_domain.specs.Laws.Narrowed.{BothSingle}
 use Rattle.ep_domain.specs.Laws.PairTops.{single_is_there, single_value}
 use Rattle.ep_domain.proofs.pair.PairNum.single.Goals as goal

@@ -1,6 +1,5 @@
-use Rattle.std.proofs.Common.{◌∙◌, sym}
 use Rattle.std.specs.Prelude.{pos}
-use Rattle.ep_domain.specs.Laws.Options.{some_from, unwrapped}
+use Rattle.ep_range_laws.proofs.Options.{some_from, unwrapped}
 use Rattle.ep_domain.specs.Pairs.{tops}
 use Rattle.ep_domain.specs.Laws.Narrowed.{HoldsPair}
 use Rattle.ep_domain.specs.Laws.PairTops.{top_is_there}

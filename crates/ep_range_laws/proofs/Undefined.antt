@@ -9,9 +9,9 @@ use Rattle.ep_int.specs.declared.types.IntType.TheVariants.{I8, U8, I16, U16, I3
 use Rattle.ep_int.specs.declared.types.Undef.{Undef}
 use Rattle.ep_int.specs.Types.{bits_of, is_signed, least_of, greatest_of, InRange, wrapped}
 use Rattle.ep_int.specs.Arith.{is_in_range, settled, is_divisible, is_amount}
-use Rattle.ep_domain.specs.Faults.{nearest_amount}
-use Rattle.ep_domain.specs.Laws.Comparisons.{le_true, le_false, lt_true, lt_false, from_le_true, from_le_false, from_lt_true, from_lt_false, between_false, from_between_false}
-use Rattle.ep_domain.specs.Laws.Types.{least_negative, greatest_positive, least_signed, least_unsigned, reach, in_range_true}
+use Rattle.ep_range_laws.specs.Faults.{nearest_amount}
+use Rattle.ep_range_laws.proofs.Comparisons.{le_true, le_false, lt_true, lt_false, from_le_true, from_le_false, from_lt_true, from_lt_false, between_false, from_between_false}
+use Rattle.ep_range_laws.proofs.Types.{least_negative, greatest_positive, least_signed, least_unsigned, reach, in_range_true}
 
 -- ---- exact results
 

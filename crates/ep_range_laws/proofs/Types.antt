@@ -5,7 +5,7 @@ use Rattle.ep_int.specs.declared.types.IntType.{IntType}
 use Rattle.ep_int.specs.declared.types.IntType.TheVariants.{I8, U8, I16, U16, I32, U32, I64, U64}
 use Rattle.ep_int.specs.Types.{is_signed, least_of, greatest_of, InRange}
 use Rattle.ep_int.specs.Arith.{is_in_range, IsOfSomeType}
-use Rattle.ep_domain.specs.Laws.Comparisons.{between_true, from_between, le_trans}
+use Rattle.ep_range_laws.proofs.Comparisons.{between_true, from_between, le_trans}
 
 pub least_negative : (t : IntType) → least_of t ≤ℤ pos 0
 least_negative I8 = omega (arith, ints)

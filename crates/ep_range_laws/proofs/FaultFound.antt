@@ -11,13 +11,13 @@ use Rattle.ep_int.specs.declared.types.Undef.{Undef}
 use Rattle.ep_int.specs.declared.types.Undef.TheVariants.{Overflow, Division, Shift}
 use Rattle.ep_int.specs.Types.{bits_of, is_signed, least_of, greatest_of, InRange}
 use Rattle.ep_int.specs.Arith.{arith_of, settled, is_divisible, is_amount}
-use Rattle.ep_domain.specs.Ranges.{LiesIn}
-use Rattle.ep_domain.specs.Faults.{shown_range, lies_in, may_overflow, may_not_divide, may_pass_width, may_not_shift, may_fault, nearest_amount}
-use Rattle.ep_domain.specs.Laws.Comparisons.{le_true, le_false, lt_true, from_le_true, from_le_false, from_lt_true, between_true, from_between, outside_true, from_outside}
-use Rattle.ep_domain.specs.Laws.Corners.{product_up}
-use Rattle.ep_domain.specs.Laws.Types.{least_negative, least_unsigned}
-use Rattle.ep_domain.specs.Laws.Undefined.{IsOut, settled_out, out_settled, error_if, if_error, IsLeastByMinusOne, undivided, not_by_zero, not_by_minus_one, no_amount, amount_false, nearest_same, nearest_above}
-use Rattle.ep_domain.specs.Laws.FaultAt.{FaultAt, ShownAt, low_lies, high_lies, low_shown, high_shown, each_shown}
+use Rattle.ep_range_laws.specs.Ranges.{LiesIn}
+use Rattle.ep_range_laws.specs.Faults.{shown_range, lies_in, may_overflow, may_not_divide, may_pass_width, may_not_shift, may_fault, nearest_amount}
+use Rattle.ep_range_laws.proofs.Comparisons.{le_true, le_false, lt_true, from_le_true, from_le_false, from_lt_true, between_true, from_between, outside_true, from_outside}
+use Rattle.ep_range_laws.proofs.Corners.{product_up}
+use Rattle.ep_range_laws.proofs.Types.{least_negative, least_unsigned}
+use Rattle.ep_range_laws.proofs.Undefined.{IsOut, settled_out, out_settled, error_if, if_error, IsLeastByMinusOne, undivided, not_by_zero, not_by_minus_one, no_amount, amount_false, nearest_same, nearest_above}
+use Rattle.ep_range_laws.proofs.FaultAt.{FaultAt, ShownAt, low_lies, high_lies, low_shown, high_shown, each_shown}
 
 -- ---- exact results
 

@@ -6,9 +6,9 @@ use Rattle.ep_int.specs.declared.types.BinOp.{BinOp}
 use Rattle.ep_int.specs.declared.types.BinOp.TheVariants.{Add, Sub, Mul, Div, Rem, And, Or, Xor, Shl, Shr}
 use Rattle.ep_int.specs.Types.{InRange}
 use Rattle.ep_int.specs.Arith.{IsOfSomeType, IsRightOperand}
-use Rattle.ep_domain.specs.Ranges.{IsRange, LiesIn}
-use Rattle.ep_domain.specs.Faults.{is_shift, part_of, right_part}
-use Rattle.ep_domain.specs.Laws.Comparisons.{le_trans}
+use Rattle.ep_range_laws.specs.Ranges.{IsRange, LiesIn}
+use Rattle.ep_range_laws.specs.Faults.{is_shift, part_of, right_part}
+use Rattle.ep_range_laws.proofs.Comparisons.{le_trans}
 
 pub part_in_range : (t : IntType) (r : ℤ × ℤ) (x : ℤ) → LiesIn (part_of t r) x → InRange t x
 part_in_range t r x h = record { low = let p = h.low in omega (arith, ints, clamps); high = let p = h.high in omega (arith, ints, clamps) }

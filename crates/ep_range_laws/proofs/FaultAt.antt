@@ -6,10 +6,10 @@ use Rattle.ep_int.specs.declared.types.IntType.{IntType}
 use Rattle.ep_int.specs.declared.types.BinOp.{BinOp}
 use Rattle.ep_int.specs.declared.types.BinOp.TheVariants.{Add, Sub, Mul, Div, Rem, And, Or, Xor, Shl, Shr}
 use Rattle.ep_int.specs.Arith.{arith_of}
-use Rattle.ep_domain.specs.Ranges.{LiesIn}
-use Rattle.ep_domain.specs.Faults.{shown_of, shown_range}
-use Rattle.ep_domain.specs.Laws.Comparisons.{min_is, max_is, le_self}
-use Rattle.ep_domain.specs.Laws.Corners.{product_high, product_low}
+use Rattle.ep_range_laws.specs.Ranges.{LiesIn}
+use Rattle.ep_range_laws.specs.Faults.{shown_of, shown_range}
+use Rattle.ep_range_laws.proofs.Comparisons.{min_is, max_is, le_self}
+use Rattle.ep_range_laws.proofs.Corners.{product_high, product_low}
 
 -- a pair of two ranges of which arithmetic is undefined
 pub record FaultAt (o : BinOp) (t : IntType) (r s : ℤ × ℤ) : Type 0 where

@@ -1,12 +1,14 @@
--- Which pairs of numbers arithmetic takes, where a pair of two ranges is undefined, and the number that an alarm shows of it (this project's rules).
-use Rattle.std.specs.Prelude.{◌≡◌, ℕ, ◌-◌, ◌^◌, ℤ, pos, negsuc, ◌+ℤ◌, ◌-ℤ◌, ◌*ℤ◌, Bool, true, false, ◌&&◌, ◌||◌, if◌then◌else◌, Option, Some, None, int_le, int_lt, unsigned_abs, is_err}
+-- Which pairs of numbers arithmetic takes, where a pair of two ranges is undefined, and the number that an alarm shows
+-- of it (this project's rules).
+use Rattle.std.specs.Prelude.{◌≡◌, ℕ, ◌-◌, ◌^◌, ℤ, pos, negsuc, ◌+ℤ◌, ◌-ℤ◌, ◌*ℤ◌, Bool, true, false, ◌&&◌, ◌||◌}
+use Rattle.std.specs.Prelude.{if◌then◌else◌, Option, Some, None, int_le, int_lt, unsigned_abs, is_err}
 use Rattle.std.specs.Int.{int_min, int_max}
 use Rattle.ep_int.specs.declared.types.IntType.{IntType}
 use Rattle.ep_int.specs.declared.types.BinOp.{BinOp}
 use Rattle.ep_int.specs.declared.types.BinOp.TheVariants.{Add, Sub, Mul, Div, Rem, And, Or, Xor, Shl, Shr}
 use Rattle.ep_int.specs.Types.{bits_of, is_signed, least_of, greatest_of, InRange}
 use Rattle.ep_int.specs.Arith.{arith_of, IsRightOperand}
-use Rattle.ep_domain.specs.Ranges.{LiesIn}
+use Rattle.ep_range_laws.specs.Ranges.{LiesIn}
 
 abbrev pub is_shift : BinOp → Bool
 is_shift Add = false
@@ -68,7 +70,10 @@ greatest_of_four a b c d = int_max (int_max a b) (int_max c d)
 abbrev pub shown_range : BinOp → ℤ × ℤ → ℤ × ℤ → ℤ × ℤ
 shown_range Add r s = (r.0 +ℤ s.0, r.1 +ℤ s.1)
 shown_range Sub r s = (r.0 -ℤ s.1, r.1 -ℤ s.0)
-shown_range Mul r s = (least_of_four (r.0 *ℤ s.0) (r.0 *ℤ s.1) (r.1 *ℤ s.0) (r.1 *ℤ s.1), greatest_of_four (r.0 *ℤ s.0) (r.0 *ℤ s.1) (r.1 *ℤ s.0) (r.1 *ℤ s.1))
+shown_range Mul r s = (
+  least_of_four (r.0 *ℤ s.0) (r.0 *ℤ s.1) (r.1 *ℤ s.0) (r.1 *ℤ s.1),
+  greatest_of_four (r.0 *ℤ s.0) (r.0 *ℤ s.1) (r.1 *ℤ s.0) (r.1 *ℤ s.1),
+)
 shown_range o r s = s
 
 abbrev pub is_ordered : ℤ × ℤ → Bool
@@ -95,7 +100,8 @@ nearest_amount t y = unsigned_abs (int_max (pos 0) (int_min y (pos (bits_of t - 
 
 -- what is shifted to the left may be negative, or leave the range
 abbrev pub may_not_shift : IntType → ℤ × ℤ → ℤ × ℤ → Bool
-may_not_shift t r s = is_signed t && (int_lt r.0 (pos 0) || int_lt (greatest_of t) (r.1 *ℤ pos (2 ^ nearest_amount t s.1)))
+may_not_shift t r s =
+    is_signed t && (int_lt r.0 (pos 0) || int_lt (greatest_of t) (r.1 *ℤ pos (2 ^ nearest_amount t s.1)))
 
 -- whether two ranges of numbers that arithmetic takes hold a pair of which it is undefined
 abbrev pub may_fault : BinOp → IntType → ℤ × ℤ → ℤ × ℤ → Bool

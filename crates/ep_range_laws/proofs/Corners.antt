@@ -4,7 +4,7 @@ use Rattle.std.specs.Int.{int_min, int_max}
 use Rattle.std.proofs.Math.Nat.{mul-le-mul_right}
 use Rattle.std.proofs.Math.IntN.{*ℤ_comm}
 use Rattle.std.proofs.lemmas.Int.{ints, clamps}
-use Rattle.ep_domain.specs.Faults.{least_of_four, greatest_of_four}
+use Rattle.ep_range_laws.specs.Faults.{least_of_four, greatest_of_four}
 
 le_pos : (m n : ℕ) → m ≤ n → pos m ≤ℤ pos n
 le_pos m n h = omega (arith, ints)

@@ -1,0 +1,9 @@
+pub mod Comparisons
+pub mod Corners
+pub mod Types
+pub mod Parts
+pub mod Undefined
+pub mod FaultAt
+pub mod FaultFound
+pub mod RangeFaults
+pub mod Options
