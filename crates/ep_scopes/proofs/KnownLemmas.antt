@@ -17,7 +17,7 @@ use Rattle.ep_typing.specs.declared.types.Base.TheVariants as bases
 use Rattle.ep_typing.specs.declared.types.CType.{CType}
 use Rattle.ep_typing.specs.Env.{Env, Scope, Meaning, variable, function, type_name, entry, first_of, look_up, look_up_tag, tag_in, with_tag}
 use Rattle.ep_typing.specs.Results.{◌>>=◌, at}
-use Rattle.ep_typing.specs.Types.{known_number, with_base, with_pointers, with_c_type, base_number}
+use Rattle.ep_typing.specs.Types.{known_number, with_base, with_pointers, with_c_type, base_number, pointer_number}
 use Rattle.ep_typing.specs.Names.{built_in_types, integer_of, is_whole, meant_tag, meant_type, mentioned, mentioned_all, mentioned_name, mentioned_tag, mentioned_word, mentioned_words, named_type, of_whole, with_type_of, words_type}
 use Rattle.ep_scopes.specs.Known.{IsKnownBase, IsKnown, IsKnownMeaning, AreKnownNames, AreKnownTags, AreKnownScopes, IsKnownEnv}
 
@@ -225,6 +225,17 @@ unfolding with_pointers
 one_pointer t u n m k j all e g f h =
     ap (λ (x : ℕ). with_pointers u x j) f ∙ ap (λ (v : Table). with_pointers v (known_number v (rows.Ptr n)) j) g
     ∙ sym (ap (with_pointers t n) e) ∙ h
+
+-- ---- the number of a type that is there
+
+pub no_stars : (t : Table) (n k all : ℕ) → k ≡ 0 → pointer_number t n k ≡ all → n ≡ all
+unfolding pointer_number
+no_stars t n k all e h = sym (ap (pointer_number t n) e) ∙ h
+
+pub one_star : (t : Table) (n m k j all : ℕ) → k ≡ suc j → m ≡ known_number t (rows.Ptr n) → pointer_number t n k ≡ all
+    → pointer_number t m j ≡ all
+unfolding pointer_number
+one_star t n m k j all e f h = ap (λ (x : ℕ). pointer_number t x j) f ∙ sym (ap (pointer_number t n) e) ∙ h
 
 pub on_known : {T E : Type 0} (r : Result T E) (t u v : Table) (ss : List Scope) → OnOk r (u ≡ v) → IsGreater t v → AreKnownScopes t ss
     → OnOk r (AreKnownScopes u ss)

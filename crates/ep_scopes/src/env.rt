@@ -11,6 +11,7 @@ use crate::scopes::Scopes;
 use ep_core::program::BlockInfo;
 use ep_int::{Memory, Model};
 use ep_layout::{Ty, Types};
+use ep_operands::known_number;
 use ep_typing::{Base, CType};
 use std::alloc::{AllocError, Global};
 
@@ -96,6 +97,28 @@ pub fn add_type(types: &mut Types, c: CType) -> Result<(), Memory>
         number = add_row(types, Ty::Ptr(number))?;
     }
     Ok(())
+}
+
+fn base_number(types: &Types, base: Base) -> u32
+    ensures { result ≡ types_of.base_number types.now base }
+{
+    match base {
+        Base::Void => known_number(types, Ty::Void),
+        Base::Int(t) => known_number(types, Ty::Int(t)),
+        Base::Array(n) => n,
+        Base::Aggregate(a) => known_number(types, Ty::Aggregate(a)),
+    }
+}
+
+/// The number of a type that is in the table.
+pub fn type_number(types: &Types, c: CType) -> u32
+    ensures { result ≡ types_of.c_type_number types.now c }
+{
+    let mut number = base_number(types, c.base);
+    for i in 0..c.stars {
+        number = known_number(types, Ty::Ptr(number));
+    }
+    number
 }
 
 // A struct or union without members takes the next number.

@@ -6,6 +6,6 @@ mod names;
 mod scopes;
 mod words;
 
-pub use env::{Env, Signature};
-pub use names::{mention_name, named, named_type};
+pub use env::{Env, Signature, add_type, type_number};
+pub use names::{mention_name, named, named_type, words_type};
 pub use scopes::{Meaning, Scopes};
