@@ -25,7 +25,7 @@ use crate::types::{
 use crate::value::Value;
 use ep_ast::{Halt, Literal, marks};
 use ep_core::tree::{Expr, Place};
-use ep_int::{IntType, Model};
+use ep_int::{IntType, Model, wrap};
 use ep_layout::{Member, Types};
 use ep_typing::CType;
 use std::alloc::{AllocError, Global};
@@ -38,7 +38,7 @@ pub fn numbered(model: Model, n: Literal) -> Operand
 {
     let t = number_type(model, n);
     Operand::Value(Value {
-        expr: Expr::Const(t, i128::from(n.value)),
+        expr: Expr::Const(t, wrap(t, i128::from(n.value))),
         ty: int_type(t),
         is_null: n.value == 0,
     })
