@@ -1,6 +1,6 @@
 //! A table of types, and what it answers of each.
 
-ghost use Rattle.std.specs.Prelude.{◌≡◌, ◌≢◌, ◌+◌, ◌<◌, ◌≤◌, ◌^◌, [], Some, None, Ok, Err, IsTrue, IsOk, IsSome, IfOk, IfErr, IfSome, OnOk, OnErr, option_map, slice_get, length, unwrap_or};
+ghost use Rattle.std.specs.Prelude.{◌≡◌, ◌≢◌, ◌+◌, ◌<◌, ◌≤◌, ◌^◌, [], Some, None, Ok, Err, IsTrue, IsOk, IsSome, IfOk, IfErr, IfSome, OnOk, OnErr, option_map, slice_get, length, unwrap_or, is_some};
 ghost use Rattle.std.specs.List.{list_all};
 ghost use Rattle.ep_layout.specs.declared.types.LayoutStop.{LayoutStop};
 ghost use Rattle.ep_layout.specs.declared.table.Body.{Body};
@@ -39,6 +39,12 @@ pub(crate) struct AggregateEntry {
 }
 
 impl AggregateEntry {
+    fn is_complete(&self) -> bool
+        ensures { result ≡ is_some (option_map (λ (b : Body). b.members) self.now.body) }
+    {
+        self.body.is_some()
+    }
+
     fn extent(&self) -> Option<Extent>
         ensures { result ≡ option_map (λ (b : Body). b.extent) self.now.body }
     {
@@ -121,6 +127,14 @@ impl Types {
         ensures { result ≡ table.is_union self.now aggregate }
     {
         self.aggregates[aggregate as usize].is_union
+    }
+
+    /// Whether an aggregate has its members.
+    pub fn is_completed(&self, aggregate: u32) -> bool
+        requires { aggregate < length self.now.aggregates }
+        ensures { result ≡ table.is_completed self.now aggregate }
+    {
+        self.aggregates[aggregate as usize].is_complete()
     }
 
     /// The members of an aggregate in their order. One that isn't completed has none.

@@ -24,5 +24,9 @@ pub use parts::{
     unary_typed,
 };
 pub use stores::{assigned, operator_of, taken, updated};
-pub use types::{int_type, known_number, pointer_to, size_of_type, type_of, void_type};
+pub use types::{
+    bound_of, element_of, int_of, int_type, is_aggregate, is_array, is_integer, is_pointer,
+    is_void, known_number, number_of, pointer_to, scalar_of, size_of_type, type_of, void_type,
+    whole,
+};
 pub use value::Value;

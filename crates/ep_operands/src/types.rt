@@ -11,7 +11,7 @@ use ep_layout::{Ty, Types};
 use ep_typing::{Base, CType};
 use std::alloc::AllocError;
 
-pub(crate) fn whole(base: Base) -> CType
+pub fn whole(base: Base) -> CType
     ensures { result ≡ rule.whole base }
 {
     CType { base, stars: 0 }
@@ -62,7 +62,7 @@ pub(crate) fn target(c: CType) -> CType
     }
 }
 
-pub(crate) fn is_pointer(c: CType) -> bool
+pub fn is_pointer(c: CType) -> bool
     ensures { result ≡ rule.is_pointer c }
 {
     0 < c.stars
@@ -112,7 +112,7 @@ fn is_aggregate_base(base: Base) -> bool
     }
 }
 
-pub(crate) fn is_void(c: CType) -> bool
+pub fn is_void(c: CType) -> bool
     ensures { result ≡ rule.is_void c }
 {
     if is_pointer(c) {
@@ -122,7 +122,7 @@ pub(crate) fn is_void(c: CType) -> bool
     }
 }
 
-pub(crate) fn is_integer(c: CType) -> bool
+pub fn is_integer(c: CType) -> bool
     ensures { result ≡ rule.is_integer c }
 {
     if is_pointer(c) {
@@ -132,7 +132,7 @@ pub(crate) fn is_integer(c: CType) -> bool
     }
 }
 
-pub(crate) fn is_array(c: CType) -> bool
+pub fn is_array(c: CType) -> bool
     ensures { result ≡ rule.is_array c }
 {
     if is_pointer(c) {
@@ -142,7 +142,7 @@ pub(crate) fn is_array(c: CType) -> bool
     }
 }
 
-pub(crate) fn is_aggregate(c: CType) -> bool
+pub fn is_aggregate(c: CType) -> bool
     ensures { result ≡ rule.is_aggregate c }
 {
     if is_pointer(c) {
@@ -174,7 +174,7 @@ pub(crate) fn is_void_pointer(c: CType) -> bool
 }
 
 /// The integer type that a type is; of another type any.
-pub(crate) fn int_of(c: CType) -> IntType
+pub fn int_of(c: CType) -> IntType
     ensures { result ≡ rule.int_of c }
 {
     match c.base {
@@ -197,13 +197,13 @@ fn number_in(base: Base) -> u32
 }
 
 /// The number of an array type or of an aggregate, where a type is one.
-pub(crate) fn number_of(c: CType) -> u32
+pub fn number_of(c: CType) -> u32
     ensures { result ≡ rule.number_in c.base }
 {
     number_in(c.base)
 }
 
-pub(crate) fn scalar_of(c: CType) -> Scalar
+pub fn scalar_of(c: CType) -> Scalar
     ensures { result ≡ rule.scalar_of c }
 {
     if is_pointer(c) {
@@ -284,7 +284,7 @@ pub fn type_of(types: &Types, number: u32) -> CType
     }
 }
 
-pub(crate) fn element_of(types: &Types, c: CType) -> CType
+pub fn element_of(types: &Types, c: CType) -> CType
     ensures { result ≡ rule.element_of types.now c }
 {
     match elements_of(types, number_in(c.base)) {
@@ -293,7 +293,7 @@ pub(crate) fn element_of(types: &Types, c: CType) -> CType
     }
 }
 
-pub(crate) fn bound_of(types: &Types, c: CType) -> u32
+pub fn bound_of(types: &Types, c: CType) -> u32
     ensures { result ≡ rule.bound_of types.now c }
 {
     match elements_of(types, number_in(c.base)) {

@@ -51,7 +51,7 @@ scopes_stay t u g (s ∷ ss) h = (names_stay t u g s.names h.0, (tags_stay t u g
 
 -- ---- tables that grow
 
-greater_itself : (t : Table) → IsGreater t t
+pub greater_itself : (t : Table) → IsGreater t t
 greater_itself t = record { types = omega arith; aggregates = omega arith }
 
 pub greater_on : (t u v : Table) → IsGreater t u → IsGreater u v → IsGreater t v
@@ -68,13 +68,13 @@ added_by t u ty (Some n) e h =
 pub added_greater : (t : Table) (ty : Ty) → IsGreater t (type_added t ty)
 added_greater t ty = added_by t (type_added t ty) ty (number_of t ty) refl refl
 
-base_greater : (t : Table) (b : Base) → IsGreater t (with_base t b)
+pub base_greater : (t : Table) (b : Base) → IsGreater t (with_base t b)
 base_greater t bases.Void = added_greater t rows.Void
 base_greater t (bases.Int i) = added_greater t (rows.Int i)
 base_greater t (bases.Array n) = greater_itself t
 base_greater t (bases.Aggregate a) = added_greater t (rows.Aggregate a)
 
-pointers_greater : (t : Table) (n k : ℕ) → IsGreater t (with_pointers t n k)
+pub pointers_greater : (t : Table) (n k : ℕ) → IsGreater t (with_pointers t n k)
 unfolding with_pointers
 pointers_greater t n zero = greater_itself t
 pointers_greater t n (suc k) =
@@ -87,7 +87,7 @@ type_greater t c =
     let u : Table = with_base t c.base in
     greater_on t u (with_pointers u (base_number u c.base) c.stars) (base_greater t c.base) (pointers_greater u (base_number u c.base) c.stars)
 
-declared_greater : (t : Table) (tag : List ℕ) (is_union : Bool) → IsGreater t (declared t tag is_union)
+pub declared_greater : (t : Table) (tag : List ℕ) (is_union : Bool) → IsGreater t (declared t tag is_union)
 declared_greater t tag is_union =
     record { types = omega arith; aggregates = omega (arith, length_push t.aggregates (record { tag = tag; is_union = is_union; members = None })) }
 
@@ -117,7 +117,7 @@ found_tag : (t : Table) (b : Bool) (m x : ℕ) (o : Option ℕ) → cond b (Some
 found_tag t true m x o e h f = let same : m ≡ x = cc in subst (λ (k : ℕ). k < length t.aggregates) same h
 found_tag t false m x o e h f = f e
 
-tag_entry_known : (t : Table) (n : List ℕ) (es : List (List ℕ × ℕ)) (x : ℕ) → AreKnownTags t es → entry n es ≡ Some x → x < length t.aggregates
+pub tag_entry_known : (t : Table) (n : List ℕ) (es : List (List ℕ × ℕ)) (x : ℕ) → AreKnownTags t es → entry n es ≡ Some x → x < length t.aggregates
 tag_entry_known t n [] x h e = absurd cc
 tag_entry_known t n (p ∷ es) x h e = found_tag t (bytes_eq n p.0) p.1 x (entry n es) e h.0 (tag_entry_known t n es x h.1)
 
@@ -133,7 +133,7 @@ tag_known t n (s ∷ ss) x h e =
 
 -- ---- types of words are known
 
-at_ok : {A : Type 0} (l : ℕ) (r : Result A ℕ) (x : A) → at l r ≡ Ok x → r ≡ Ok x
+pub at_ok : {A : Type 0} (l : ℕ) (r : Result A ℕ) (x : A) → at l r ≡ Ok x → r ≡ Ok x
 at_ok l (Ok y) x h = let same : y ≡ x = cc in ap (λ z. Ok z) same
 at_ok l (Err k) x h = absurd cc
 

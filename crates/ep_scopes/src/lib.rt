@@ -7,5 +7,5 @@ mod scopes;
 mod words;
 
 pub use env::{Env, Signature, add_type, type_number};
-pub use names::{mention_name, named, named_type, words_type};
+pub use names::{mention_name, mention_words, named, named_type, words_type};
 pub use scopes::{Meaning, Scopes};

@@ -142,7 +142,8 @@ fn mention_word(env: &mut Env, word: &TypeWordTree) -> Result<(), Memory>
     }
 }
 
-fn mention_words(env: &mut Env, all: &[TypeWordTree]) -> Result<(), Memory>
+/// Words declare the tags that no scope has.
+pub fn mention_words(env: &mut Env, all: &[TypeWordTree]) -> Result<(), Memory>
     ensures { OnOk result (seen.env env.new ≡ rule.mentioned_words (seen.env env.old) (map type_word all.now)) }
 {
     for word in all {

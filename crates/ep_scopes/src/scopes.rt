@@ -148,6 +148,16 @@ impl Scopes {
         }
     }
 
+    /// What a name of the innermost scope means.
+    pub fn name_here(&self, name: &[u8]) -> Option<Meaning>
+        ensures { option_map seen.meaning result ≡ rule.entry name.now (seen.innermost (seen.scopes self.now)).names }
+    {
+        match self.all.last() {
+            Some(scope) => scope.name(name),
+            None => None,
+        }
+    }
+
     /// The aggregate of a tag of the innermost scope.
     pub fn tag_here(&self, tag: &[u8]) -> Option<u32>
         ensures { result ≡ rule.entry tag.now (seen.innermost (seen.scopes self.now)).tags }
