@@ -28,7 +28,11 @@ stopped m stop.AtEnd s =
 stopped m stop.NoInput s = run_of runs.wants_input s
 stopped m (stop.Faulty l k) s = run_of (runs.undefined_on l (kind_of k)) s
 
+-- how a run is found where what is done now and then comes to its end with so many steps
+abbrev pub found_with : Setting → List Frame → Now → (steps : ℕ) → State → Run
+found_with m fs n left s = finished m.order (program_in m) (piled m fs (now_of m n left s))
+
 -- Where nothing is left to do, how the run stops. Else a step is due: without one it is still running.
 abbrev pub Stops : Setting → List Frame → Now → Option Stop → Type 0
-Stops m fs n None = (s : State) → IsAlike (finished m.order (program_in m) (piled m fs (now_of m n 0 s))) (stopped m stop.Running s)
-Stops m fs n (Some x) = (left : ℕ) (s : State) → IsAlike (finished m.order (program_in m) (piled m fs (now_of m n left s))) (stopped m x s)
+Stops m fs n None = (s : State) → IsAlike (found_with m fs n 0 s) (stopped m stop.Running s)
+Stops m fs n (Some x) = (left : ℕ) (s : State) → IsAlike (found_with m fs n left s) (stopped m x s)

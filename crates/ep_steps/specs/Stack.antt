@@ -1,5 +1,6 @@
 -- What a stack of frames means.
-use Rattle.std.specs.Prelude.{◌≡◌, ℕ, ◌+◌, ◌<◌, ◌≤◌, ◌^◌, Bool, true, false, List, [], ◌∷◌, ◌++◌, length, take, slice_get, Option, None}
+use Rattle.std.specs.Prelude.{◌≡◌, ℕ, ◌+◌, ◌<◌, ◌≤◌, ◌^◌, Bool, true, false, List, [], ◌∷◌, ◌++◌, length, take}
+use Rattle.std.specs.Prelude.{slice_get, Option, None}
 use Rattle.std.specs.Option.{option_map}
 use Rattle.ep_int.specs.declared.types.Scalar.{Scalar}
 use Rattle.ep_int.specs.Memory.{Memory}
@@ -8,7 +9,8 @@ use Rattle.ep_core.specs.Program.{Simple, What, simple, call, if_else, loop, bre
 use Rattle.ep_core.specs.Exec.{State, Way, on, broken, continued, returned, Outcome, leaves, running, no_input}
 use Rattle.ep_core.specs.Exec.{undefined_at, Going, counted, and_then, bytewise, turned, turn, around, scope_left}
 use Rattle.ep_core.specs.Exec.{code_of_way, result_in, out_of, into, does, called, exec, exec_all, bodies}
-use Rattle.ep_core.specs.Typed.{MemoryFits, OperandsFit, ReceivedFits, SimpleOperandsFit, WhatOperandsFit, AllOperandsFit}
+use Rattle.ep_core.specs.Typed.{MemoryFits, OperandsFit, ReceivedFits, SimpleOperandsFit, WhatOperandsFit}
+use Rattle.ep_core.specs.Typed.{AllOperandsFit}
 use Rattle.ep_core.specs.View.{shown_expr, shown_what, shown_stmts, shown_function, shown_dest}
 use Rattle.ep_values.specs.declared.setting.Setting.{Setting}
 use Rattle.ep_values.specs.Faults.{kind_of}
