@@ -1,0 +1,28 @@
+-- Values that are found on the way.
+use Rattle.std.specs.Prelude.{ℕ, List, [], ◌∷◌, map, Result, Ok, Err}
+use Rattle.std.specs.declared.alloc.Global.{Global}
+use Rattle.std.specs.declared.vec.Vec.{Vec}
+use Rattle.ep_int.specs.declared.types.Scalar.{Scalar}
+use Rattle.ep_bytes.specs.declared.types.Datum.{Datum}
+use Rattle.ep_bytes.specs.Shown.{value_in}
+use Rattle.ep_core.specs.Program.{Program}
+use Rattle.ep_core.specs.Exec.{State, Outcome, undefined_at, Values, have, stops}
+use Rattle.ep_core.specs.Typed.{ValueFits}
+use Rattle.ep_values.specs.declared.fault.Fault.{Fault}
+use Rattle.ep_values.specs.Faults.{kind_of}
+
+-- what comes where a place was found, or was a fault
+abbrev pub at_found : Result (ℕ × ℕ) Fault → (line : ℕ) → State → (ℕ → ℕ → Outcome) → Outcome
+at_found (Ok x) l s go = go x.0 x.1
+at_found (Err k) l s go = undefined_at l (kind_of k) s
+
+-- the values of arguments
+abbrev pub values_by : Result (Vec Datum Global) Fault → Values
+values_by (Ok v) = have (map value_in v.items)
+values_by (Err k) = stops (kind_of k)
+
+-- for each parameter that has an argument, one that is of it
+abbrev pub AreBound : Program → List (ℕ × Scalar) → List Datum → Type 0
+AreBound p [] vs = Unit {0}
+AreBound p (b ∷ bs) [] = Unit {0}
+AreBound p (b ∷ bs) (v ∷ vs) = ValueFits p b.1 (value_in v) × AreBound p bs vs
