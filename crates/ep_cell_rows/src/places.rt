@@ -103,8 +103,8 @@ pub fn place_of_name(n: &CellName) -> Place
     }
 }
 
-// Where a place ends.
-fn end(p: &Place) -> u64
+/// Where a place ends.
+pub fn end(p: &Place) -> u64
     ensures { result ≡ p.now.offset + p.now.bytes }
 {
     u64::from(p.offset) + u64::from(p.bytes)
@@ -115,6 +115,13 @@ pub fn touches(p: &Place, q: &Place) -> bool
     ensures { result ≡ touches p.now q.now }
 {
     p.block == q.block && u64::from(p.offset) < end(q) && u64::from(q.offset) < end(p)
+}
+
+/// Whether two places have a byte in common.
+pub fn meets(p: &Place, q: &Place) -> bool
+    ensures { result ≡ meets p.now q.now }
+{
+    share_memory(p.side, q.side) && touches(p, q)
 }
 
 /// Whether the second has bytes in the first, and others.
@@ -154,7 +161,8 @@ fn type_number(t: IntType) -> u8
     }
 }
 
-fn side_number(s: Side) -> u8
+/// The number by which cells of one offset stand in order.
+pub fn side_number(s: Side) -> u8
     ensures value { result ≡ side_number s }
     ensures within { result ≤ 2 }
 {
@@ -191,7 +199,8 @@ pub fn is_same_cell<N>(x: &Cell<N>, y: &Cell<N>) -> bool
     is_same_side(x.side, y.side) && is_same_place(x, y)
 }
 
-fn key<N>(c: &Cell<N>) -> u64
+/// The number by which cells of a block stand in order.
+pub fn key<N>(c: &Cell<N>) -> u64
     ensures { result ≡ key_of c.now }
 {
     3 * u64::from(c.offset) + u64::from(side_number(c.side))

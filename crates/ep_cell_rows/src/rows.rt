@@ -2,14 +2,14 @@
 
 ghost use Rattle.std.specs.Prelude.{◌≡◌, ◌≤◌, ◌++◌, ◌∷◌, [], length, map, take, drop, IfOk, false};
 ghost use Rattle.std.specs.Option.{option_map, option_map_or};
-ghost use Rattle.ep_cells.specs.Cells.{place_of, put, each_becomes, with_side};
+ghost use Rattle.ep_cells.specs.Cells.{place_of, put, put_all, each_becomes, with_side};
 ghost use Rattle.ep_cells.specs.Forms.{reformed};
 ghost use Rattle.ep_cells.specs.Look.{cell_at, is_some_partly_in};
 ghost use Rattle.ep_cells.specs.Both.{cell_of_both, cells_of_both, is_cell_within, cell_like, are_within};
-ghost use Rattle.ep_cells.specs.Write.{left_by_write};
+ghost use Rattle.ep_cells.specs.Write.{left_by_write, written};
 ghost use Rattle.ep_cell_rows.specs.Parts.{united, fate_of};
 
-use crate::cell::{copy_cell, reformed_on};
+use crate::cell::{self, copy_cell, reformed_on};
 use crate::change::Change;
 use crate::places::{
     comes_before, covers, is_partly_in, is_same_cell, place_of, side_without, touches,
@@ -21,7 +21,8 @@ use ep_domain::Num;
 use ep_int::{Memory, Model};
 use std::alloc::Global;
 
-fn push<N: Num>(out: &mut Vec<Cell<N>>, c: Cell<N>) -> Result<(), Memory>
+/// Puts a cell behind all others.
+pub fn push<N: Num>(out: &mut Vec<Cell<N>>, c: Cell<N>) -> Result<(), Memory>
     ensures { IfOk result (λ _. out.new.items ≡ out.old.items ++ c ∷ []) }
 {
     out.push(c).map_err(|_| Memory)
@@ -34,6 +35,21 @@ pub fn copied<N: Num>(alloc: Global, cells: &[Cell<N>]) -> Result<Vec<Cell<N>>, 
     let mut out = Vec::new(alloc);
     for c in cells {
         push(&mut out, copy_cell(c)?)?;
+    }
+    Ok(out)
+}
+
+/// The cells with their forms under new names.
+pub fn all_reformed<N: Num>(
+    alloc: Global,
+    change: Change,
+    cells: &[Cell<N>],
+) -> Result<Vec<Cell<N>>, Memory>
+    ensures { IfOk result (λ v. v.items ≡ map (reformed (fate_of change)) cells.now) }
+{
+    let mut out = Vec::new(alloc);
+    for x in cells {
+        push(&mut out, reformed_on(change, x, x.side)?)?;
     }
     Ok(out)
 }
@@ -138,8 +154,19 @@ pub fn put<N: Num>(cells: &mut Vec<Cell<N>>, c: Cell<N>) -> Result<(), Memory>
     cells.insert(i, c).map_err(|_| Memory)
 }
 
-// What is left of a cell on this side, with its form under new names.
-fn push_side<N: Num>(
+/// Puts cells into their places.
+pub fn put_all<N: Num>(cells: &mut Vec<Cell<N>>, more: Vec<Cell<N>>) -> Result<(), Memory>
+    ensures { IfOk result (λ _. cells.new.items ≡ put_all more.items cells.old.items) }
+{
+    let mut more = more;
+    while let Some(c) = more.pop() {
+        put(cells, c)?;
+    }
+    Ok(())
+}
+
+/// Puts behind what is left of a cell on this side, with its form under new names.
+pub fn push_side<N: Num>(
     out: &mut Vec<Cell<N>>,
     change: Change,
     x: &Cell<N>,
@@ -185,4 +212,19 @@ pub fn left_by_write<N: Num>(
         push_left_by_write(&mut out, model, p, x)?;
     }
     Ok(out)
+}
+
+/// The cells where one is written.
+pub fn written<N: Num>(
+    alloc: Global,
+    model: Model,
+    c: Cell<N>,
+    cells: &[Cell<N>],
+) -> Result<Vec<Cell<N>>, Memory>
+    ensures { IfOk result (λ v. v.items ≡ written model c cells.now) }
+{
+    let place = place_of(model, &c);
+    let mut left = left_by_write(alloc, model, place, cells)?;
+    put(&mut left, cell::reformed(Change::Write(place), c))?;
+    Ok(left)
 }
