@@ -40,14 +40,20 @@ module _ (cs : List Call) where
   with_last : (before fs : List ℕ) (f : ℕ) → AreInOrder cs before fs → contains f (before ++ fs) ≡ false
       → ((g : ℕ) → DoesCall cs f g → contains g (before ++ fs) ≡ true) → AreInOrder cs before (fs ++ f ∷ [])
   with_last before [] f o new come =
-      let e : before ++ [] ≡ before = nil_right before in
-      (subst (λ (xs : List ℕ). contains f xs ≡ false) e new,
-      (λ g h. subst (λ (xs : List ℕ). contains g xs ≡ true) e (come g h), tt))
+      let e : before ++ [] ≡ before = nil_right before in (
+        subst (λ (xs : List ℕ). contains f xs ≡ false) e new,
+        (λ g h. subst (λ (xs : List ℕ). contains g xs ≡ true) e (come g h), tt),
+      )
   with_last before (x ∷ fs) f o new come =
-      let e : before ++ (x ∷ fs) ≡ (before ++ x ∷ []) ++ fs = sym (append_assoc before (x ∷ []) fs) in
-      (o.0, (o.1.0, with_last (before ++ x ∷ []) fs f o.1.1
-      (subst (λ (xs : List ℕ). contains f xs ≡ false) e new)
-      (λ g h. subst (λ (xs : List ℕ). contains g xs ≡ true) e (come g h))))
+      let e : before ++ (x ∷ fs) ≡ (before ++ x ∷ []) ++ fs = sym (append_assoc before (x ∷ []) fs) in (
+        o.0,
+        (
+          o.1.0,
+          with_last (before ++ x ∷ []) fs f o.1.1
+              (subst (λ (xs : List ℕ). contains f xs ≡ false) e new)
+              (λ g h. subst (λ (xs : List ℕ). contains g xs ≡ true) e (come g h)),
+        ),
+      )
 
   module _ (n : ℕ) (rank : ℕ → ℕ) (d : Descends cs n rank) where
     -- what a function brings to those that have come: itself, and others of at most its rank
@@ -66,22 +72,23 @@ module _ (cs : List Call) where
     all one r (f ∷ fs) e done o =
         let here = e f (left_is (nat_eq f f) (contains f fs) (same f)) in
         let first = here.1 done o in
-        let rest = all one r fs (λ g h. e g (right_is (nat_eq g f) (contains g fs) h)) (one done f) first.0.ordered in
-        (record {
-          ordered = rest.0.ordered;
-          keeps = λ g h. rest.0.keeps g (first.0.keeps g h);
-          adds = λ g h. elim (rest.0.adds g h) [
-            | inr k ↦ inr k
-            | inl k ↦ elim (first.0.adds g k) [
-              | inl w ↦ inl w
-              | inr l ↦ let s : rank f < r = here.0 in let t : rank g < suc (rank f) = l in let u : rank g < r = omega arith in inr u
-            ]
-          ];
-        },
-        λ g h. elim (either_is (nat_eq g f) (contains g fs) h) [
-          | inl q ↦ rest.0.keeps g (subst (λ (x : ℕ). contains x (one done f) ≡ true) (sym (equal g f q)) first.1)
-          | inr k ↦ rest.1 g k
-        ])
+        let rest = all one r fs (λ g h. e g (right_is (nat_eq g f) (contains g fs) h)) (one done f) first.0.ordered in (
+          record {
+            ordered = rest.0.ordered;
+            keeps = λ g h. rest.0.keeps g (first.0.keeps g h);
+            adds = λ g h. elim (rest.0.adds g h) [
+              | inr k ↦ inr k
+              | inl k ↦ elim (first.0.adds g k) [
+                | inl w ↦ inl w
+                | inr l ↦ let s : rank f < r = here.0 in let t : rank g < suc (rank f) = l in let u : rank g < r = omega arith in inr u
+              ]
+            ];
+          },
+          λ g h. elim (either_is (nat_eq g f) (contains g fs) h) [
+            | inl q ↦ rest.0.keeps g (subst (λ (x : ℕ). contains x (one done f) ≡ true) (sym (equal g f q)) first.1)
+            | inr k ↦ rest.1 g k
+          ],
+        )
 
     one_is : (k f : ℕ) → rank f < k → One (with_function cs k) f
     unfolding with_function
@@ -95,19 +102,22 @@ module _ (cs : List Call) where
             → Brings done (suc (rank f)) (cond b done (one_after_another (with_function cs k) done (callees cs f) ++ f ∷ []))
             × (contains f (cond b done (one_after_another (with_function cs k) done (callees cs f) ++ f ∷ [])) ≡ true)
         at_done true q inside = (record { ordered = o; keeps = λ g h. h; adds = λ g h. inl h }, q)
-        at_done false q inside = (record {
-          ordered = with_last [] (one_after_another (with_function cs k) done (callees cs f)) f inside.0.ordered
-              (no_or_yes (contains f (one_after_another (with_function cs k) done (callees cs f))) (λ y. elim (inside.0.adds f y) [
-                | inl w ↦ never (sym q ∙ w)
-                | inr m ↦ absurd (omega arith)
-              ]))
-              inside.1;
-          keeps = λ g h. in_left g (one_after_another (with_function cs k) done (callees cs f)) (f ∷ []) (inside.0.keeps g h);
-          adds = λ g h. elim (in_last g (one_after_another (with_function cs k) done (callees cs f)) f h) [
-            | inl w ↦ elim (inside.0.adds g w) [ inl v ↦ inl v | inr m ↦ let u : rank g < suc (rank f) = omega arith in inr u ]
-            | inr e ↦ let u : rank g < suc (rank f) = rw e (omega arith) in inr u
-          ];
-        }, last_in (one_after_another (with_function cs k) done (callees cs f)) f)
+        at_done false q inside = (
+          record {
+            ordered = with_last [] (one_after_another (with_function cs k) done (callees cs f)) f inside.0.ordered
+                (no_or_yes (contains f (one_after_another (with_function cs k) done (callees cs f))) (λ y. elim (inside.0.adds f y) [
+                  | inl w ↦ never (sym q ∙ w)
+                  | inr m ↦ absurd (omega arith)
+                ]))
+                inside.1;
+            keeps = λ g h. in_left g (one_after_another (with_function cs k) done (callees cs f)) (f ∷ []) (inside.0.keeps g h);
+            adds = λ g h. elim (in_last g (one_after_another (with_function cs k) done (callees cs f)) f h) [
+              | inl w ↦ elim (inside.0.adds g w) [ inl v ↦ inl v | inr m ↦ let u : rank g < suc (rank f) = omega arith in inr u ]
+              | inr e ↦ let u : rank g < suc (rank f) = rw e (omega arith) in inr u
+            ];
+          },
+          last_in (one_after_another (with_function cs k) done (callees cs f)) f,
+        )
 
     pub in_order : (fs : List ℕ) → AreInOrder cs [] (one_after_another (with_function cs n) [] fs)
     in_order fs = (all (with_function cs n) n fs (λ f h. (d.small f, one_is n f (d.small f))) [] tt).0.ordered

@@ -66,9 +66,9 @@ module _ (cs : List Call) (n : ℕ) (label : ℕ → ℕ) (among : AreAmong n cs
       at_labels : (b : Bool) → nat_eq (label g) (label f) ≡ b → reaches cs n g f ≡ b
       at_labels true e = enough cs n among g f (among f g c).1 (i.back f g c (equal (label g) (label f) e))
       at_labels false e = no_or_yes (reaches cs n g f) (λ r.
-        let a : label f ≤ label g = down (callees cs) label i f g (leads cs n g f r) in
-        let b : label g ≤ label f = i.not_up f g c in
-        never (sym e ∙ eq-eqb (label g) (label f) (omega arith)))
+          let a : label f ≤ label g = down (callees cs) label i f g (leads cs n g f r) in
+          let b : label g ≤ label f = i.not_up f g c in
+          never (sym e ∙ eq-eqb (label g) (label f) (omega arith)))
 
   abbrev smaller : ℕ → ℕ → Bool
   smaller f h = nat_lt (label h) (label f)
@@ -85,7 +85,7 @@ module _ (cs : List Call) (n : ℕ) (label : ℕ → ℕ) (among : AreAmong n cs
         at_f true e =
             let l : f < n = ltb-true f n e in
             let a : tally n (smaller f) < tally n (λ x. true) =
-                tally_less n f (smaller f) (λ x. true) (λ x h. refl) l (not_below (label f)) refl in
+            tally_less n f (smaller f) (λ x. true) (λ x h. refl) l (not_below (label f)) refl in
             let b : tally n (λ x. true) ≡ n = tally_all n in omega arith
 
     rank_down : (f g : ℕ) → DoesCall cs f g → rank g < rank f

@@ -35,7 +35,6 @@ module _ (cs : List Call) (n : ℕ) (rank : ℕ → ℕ) (d : Descends cs n rank
 
 -- ---- depths
 
-
 in_front : (f : ℕ) (c : Call) (cs : List Call) (g : ℕ) → contains g (callees cs f) ≡ true
     → contains g (callees (c ∷ cs) f) ≡ true
 in_front f c cs g h = at_c (nat_eq c.caller f)
@@ -65,6 +64,7 @@ same_deepest below other f (p ∷ ps) e =
     callee_is None q c = refl
     callee_is (Some g) q c =
         e g (subst (λ (o : Option ℕ). contains g (callees (call_at p o ++ calls_of ps) f) ≡ true) (sym q) (at_place f p ps g c))
+
     at_p : (b : Bool) → nat_eq p.caller f ≡ b → deepest below (places_in ps f) ≡ deepest other (places_in ps f)
         → deepest below (cond b (p ∷ places_in ps f) (places_in ps f))
         ≡ deepest other (cond b (p ∷ places_in ps f) (places_in ps f))
