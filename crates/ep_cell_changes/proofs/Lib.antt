@@ -1,0 +1,4 @@
+pub mod Turns
+pub mod Entries
+pub mod Together
+pub mod Checked
