@@ -99,8 +99,10 @@ mark_more old now new path n m d f p l h c inv e x = at_x (nat_eq x f) refl
   where
     is : mark_of old f ≡ Open m
     is = p.placed m f h
+
     inside : f < length now
     inside = let a : f < length old = within old f (λ q. let z : Open m ≡ New = sym is ∙ q in cc) in omega arith
+
     at_x : (b : Bool) → nat_eq x f ≡ b → mark_of new x ≡ closed_between n (m + 1) d (mark_of old x)
     at_x true q =
         let s : x ≡ f = equal x f q in
