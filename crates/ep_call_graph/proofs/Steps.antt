@@ -1,9 +1,9 @@
 -- Steps of the search of cycles.
-use Rattle.std.proofs.Common.{◌≡◌, ℕ, zero, suc, ◌+◌, ◌<◌, ◌≤◌, ◌≢◌, nat_eq, Bool, true, false, cond, ◌⊎◌, inl, inr, List, [], ◌∷◌, ◌++◌, length, get_or, set, Option, Some, None, refl, sym, ap, ◌∙◌, subst, arith, eq-eqb, get_or-set_same, get_or-set_other, length-append, nat_lt, lt-ltb, le-ltb, map, take, drop}
+use Rattle.std.proofs.Common.{◌≡◌, ℕ, zero, suc, ◌+◌, ◌<◌, ◌≤◌, ◌≢◌, nat_eq, Bool, true, false, inl, inr, List, [], ◌∷◌, ◌++◌, length, set, Some, None, refl, sym, ap, ◌∙◌, subst, arith, eq-eqb, get_or-set_same, get_or-set_other, length-append, lt-ltb, le-ltb, map, take, drop}
 use Rattle.ep_call_graph.specs.declared.cycles.Search.{Search}
 use Rattle.ep_call_graph.proofs.Lists.{lt_or_le}
 use Rattle.ep_call_graph.proofs.Marks.{parts, short, pushed}
-use Rattle.std.specs.Prelude.{slice_get, slice_index, slice_index_or}
+use Rattle.std.specs.Prelude.{slice_get, slice_index}
 use Rattle.std.proofs.lemmas.Option.{slice_get_within}
 use Rattle.ep_int.specs.Memory.{contains}
 use Rattle.ep_call_laws.specs.Leads.{Leads, is_there, calls, IsLabelled}
@@ -12,7 +12,7 @@ use Rattle.ep_call_graph.specs.declared.cycles.Mark.{Mark}
 use Rattle.ep_call_graph.specs.declared.cycles.Mark.TheVariants.{New, Open, Done}
 use Rattle.ep_call_graph.specs.declared.cycles.Group.{Group}
 use Rattle.ep_call_graph.specs.Search.{mark_of, Fit, IsOver, IsUnder, IsLast, Asks, Settled, waits, is_done, is_open, Closed, StandsBut, Stands, IsCalled, IsWaiting, closed_from, tops, AreAll, GoesOn, label_of}
-use Rattle.ep_call_graph.proofs.Lists.{in_front, behind, Part, first, second, part_of, only, place_of, placed_in}
+use Rattle.ep_call_graph.proofs.Lists.{in_front, behind, first, second, part_of, only, place_of, placed_in}
 
 -- ---- ways
 

@@ -1,4 +1,4 @@
-use Rattle.std.proofs.Common.{◌≡◌, ℕ, ◌<◌, ◌≤◌, [], List, length, arith, ap, sym, ◌∙◌, subst, map, rules}
+use Rattle.std.proofs.Common.{ℕ, [], List, length, arith, ap, sym, ◌∙◌, subst, map, rules}
 use Rattle.std.specs.Prelude.{slice_index}
 use Rattle.ep_call_laws.specs.Leads.{IsLabelled}
 use Rattle.ep_call_graph.specs.declared.cycles.Group.{Group}

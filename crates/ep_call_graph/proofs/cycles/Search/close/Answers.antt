@@ -1,4 +1,4 @@
-use Rattle.std.proofs.Common.{◌≡◌, ℕ, ◌+◌, ap, sym, ◌∙◌, subst, List}
+use Rattle.std.proofs.Common.{ℕ, ◌+◌, sym, subst, List}
 use Rattle.std.specs.Global.{Vec}
 use Rattle.ep_call_graph.specs.declared.cycles.Group.{Group}
 use Rattle.ep_call_graph.specs.Search.{Stands, tops}

@@ -1,4 +1,4 @@
-use Rattle.std.proofs.Common.{sym, arith, length}
+use Rattle.std.proofs.Common.{sym}
 use Rattle.ep_call_graph.specs.Search.{tops}
 use Rattle.ep_call_graph.specs.Seen.{listed}
 use Rattle.ep_call_graph.proofs.Steps.{taken, leads_to, settled_done}

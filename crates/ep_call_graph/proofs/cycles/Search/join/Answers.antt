@@ -1,4 +1,4 @@
-use Rattle.std.proofs.Common.{◌≡◌, ap, sym, ◌∙◌, subst, Some, List, ◌∷◌, ℕ}
+use Rattle.std.proofs.Common.{◌≡◌, sym, subst, Some, List, ◌∷◌, ℕ}
 use Rattle.std.specs.Prelude.{slice_get}
 use Rattle.std.specs.Global.{Vec}
 use Rattle.ep_call_graph.specs.declared.cycles.Group.{Group}
