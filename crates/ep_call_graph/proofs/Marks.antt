@@ -1,9 +1,8 @@
 -- Lists of marks and of groups.
-use Rattle.std.proofs.Common.{◌≡◌, ℕ, zero, suc, ◌+◌, ◌-◌, ◌<◌, ◌≤◌, ◌≢◌, nat_eq, nat_lt, Bool, true, false, cond, ◌⊎◌, inl, inr, List, [], ◌∷◌, ◌++◌, length, get_or, set, take, drop, Option, Some, None, refl, sym, ap, ◌∙◌, subst, arith, eq-eqb, lt-ltb, le-ltb, get_or-set_same, get_or-set_other}
+use Rattle.std.proofs.Common.{◌≡◌, ℕ, zero, suc, ◌+◌, ◌-◌, ◌<◌, ◌≤◌, ◌≢◌, nat_eq, nat_lt, Bool, true, false, cond, inl, inr, List, [], ◌∷◌, ◌++◌, length, set, take, drop, Option, Some, None, refl, sym, ap, ◌∙◌, subst, arith, eq-eqb, lt-ltb, le-ltb, get_or-set_same, get_or-set_other}
 use Rattle.std.specs.Prelude.{slice_get, vec_len, MatchOption, option_to_list}
 use Rattle.std.specs.Global.{Vec}
 use Rattle.std.proofs.lemmas.List.{nil_from_length}
-use Rattle.std.proofs.lemmas.Option.{slice_get_within, slice_get_past, slice_get-get_or}
 use Rattle.ep_call_laws.proofs.Paths.{never, equal}
 use Rattle.ep_call_graph.specs.declared.cycles.Mark.{Mark}
 use Rattle.ep_call_graph.specs.declared.cycles.Mark.TheVariants.{New, Open, Done}
@@ -99,8 +98,10 @@ mark_more old now new path n m d f p l h c inv e x = at_x (nat_eq x f) refl
   where
     is : mark_of old f ≡ Open m
     is = p.placed m f h
+
     inside : f < length now
     inside = let a : f < length old = within old f (λ q. let z : Open m ≡ New = sym is ∙ q in cc) in omega arith
+
     at_x : (b : Bool) → nat_eq x f ≡ b → mark_of new x ≡ closed_between n (m + 1) d (mark_of old x)
     at_x true q =
         let s : x ≡ f = equal x f q in

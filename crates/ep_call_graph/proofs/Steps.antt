@@ -1,9 +1,9 @@
 -- Steps of the search of cycles.
-use Rattle.std.proofs.Common.{◌≡◌, ℕ, zero, suc, ◌+◌, ◌<◌, ◌≤◌, ◌≢◌, nat_eq, Bool, true, false, cond, ◌⊎◌, inl, inr, List, [], ◌∷◌, ◌++◌, length, get_or, set, Option, Some, None, refl, sym, ap, ◌∙◌, subst, arith, eq-eqb, get_or-set_same, get_or-set_other, length-append, nat_lt, lt-ltb, le-ltb, map, take, drop}
+use Rattle.std.proofs.Common.{◌≡◌, ℕ, zero, suc, ◌+◌, ◌<◌, ◌≤◌, ◌≢◌, nat_eq, Bool, true, false, inl, inr, List, [], ◌∷◌, ◌++◌, length, set, Some, None, refl, sym, ap, ◌∙◌, subst, arith, eq-eqb, get_or-set_same, get_or-set_other, length-append, lt-ltb, le-ltb, map, take, drop}
 use Rattle.ep_call_graph.specs.declared.cycles.Search.{Search}
 use Rattle.ep_call_graph.proofs.Lists.{lt_or_le}
 use Rattle.ep_call_graph.proofs.Marks.{parts, short, pushed}
-use Rattle.std.specs.Prelude.{slice_get, slice_index, slice_index_or}
+use Rattle.std.specs.Prelude.{slice_get, slice_index}
 use Rattle.std.proofs.lemmas.Option.{slice_get_within}
 use Rattle.ep_int.specs.Memory.{contains}
 use Rattle.ep_call_laws.specs.Leads.{Leads, is_there, calls, IsLabelled}
@@ -12,7 +12,7 @@ use Rattle.ep_call_graph.specs.declared.cycles.Mark.{Mark}
 use Rattle.ep_call_graph.specs.declared.cycles.Mark.TheVariants.{New, Open, Done}
 use Rattle.ep_call_graph.specs.declared.cycles.Group.{Group}
 use Rattle.ep_call_graph.specs.Search.{mark_of, Fit, IsOver, IsUnder, IsLast, Asks, Settled, waits, is_done, is_open, Closed, StandsBut, Stands, IsCalled, IsWaiting, closed_from, tops, AreAll, GoesOn, label_of}
-use Rattle.ep_call_graph.proofs.Lists.{in_front, behind, Part, first, second, part_of, only, place_of, placed_in}
+use Rattle.ep_call_graph.proofs.Lists.{in_front, behind, first, second, part_of, only, place_of, placed_in}
 
 -- ---- ways
 
@@ -182,9 +182,9 @@ module _ (next : ℕ → List ℕ) (marks : List Mark) (path : List ℕ) (groups
       | last e q ↦ ap (mark_of marks') q ∙ here ∙ ap (λ (k : ℕ). Open k) (sym e)
     ];
     fit = rw (g_is, p_is, w_is) (
-      let a : length (path ++ f ∷ []) ≡ length path + 1 = length-append path (f ∷ []) in
-      let b : length (pending ++ next f) ≡ length pending + length (next f) = length-append pending (next f) in
-      (omega arith, (omega arith, s.fit)));
+        let a : length (path ++ f ∷ []) ≡ length path + 1 = length-append path (f ∷ []) in
+        let b : length (pending ++ next f) ≡ length pending + length (next f) = length-append pending (next f) in
+        (omega arith, (omega arith, s.fit)));
     joined = joined_on;
     asked = asked_on;
     followed = followed_on;
@@ -217,7 +217,7 @@ module _ (next : ℕ → List ℕ) (marks : List Mark) (path : List ℕ) (g : Gr
     | inr l ↦
         let c : g.first ≤ called.place = called.last in
         let to_caller : Leads next called.caller x =
-            s.joined i called.place x called.caller h called.at (over_last (g ∷ gs) (length path) (length pending) i called.place s.fit c) in
+        s.joined i called.place x called.caller h called.at (over_last (g ∷ gs) (length path) (length pending) i called.place s.fit c) in
         let to_callee : Leads next v x = one_on next v called.caller x to_caller called.calls in
         let from_callee : Leads next y v = s.joined p j v y at k ((λ q. absurd (omega arith)), over_any gs g.first g.pending i p j s.fit.1.1 l o) in
         through next y v x to_callee from_callee
@@ -329,9 +329,11 @@ taken next marks path (g ∷ gs) pending rest done v e w s = (
     shorter =
         let a : length pending ≡ length rest + 1 = ap (λ (xs : List ℕ). length xs) e ∙ length-append rest (v ∷ []) in
         let b : g.pending < length pending = w in omega arith
+
     r : Asks next path (g ∷ gs) (length rest) v
     r = s.asked (length rest) v
         (subst (λ (xs : List ℕ). slice_get xs (length rest) ≡ Some v) (sym e) (behind rest (v ∷ []) 0 (length rest) v (omega arith) refl))
+
     settled : (i y : ℕ) → (Some v ≡ Some y → ⊥) → Settled marks path (g ∷ gs) pending i y
         → Settled marks path (g ∷ gs) rest i y
     settled i y n (waits k h u) = elim (part_of rest (v ∷ []) k y (subst (λ (xs : List ℕ). slice_get xs k ≡ Some y) e h)) [
@@ -434,9 +436,9 @@ module _ (next : ℕ → List ℕ) (marks marks' : List Mark) (path rest : List 
     placed = λ i f h. m_is f ∙ ap (closed_from (length path) done) (s.placed i f (on_path i f h))
         ∙ still i (slice_get_within path i f h);
     fit = rw cut (
-      let a : g.pending ≤ length pending = s.fit.1.0 in
-      let b : g.pending ≡ length pending = omega arith in
-      subst (λ (k : ℕ). Fit gs g.first k) b s.fit.1.1);
+        let a : g.pending ≤ length pending = s.fit.1.0 in
+        let b : g.pending ≡ length pending = omega arith in
+        subst (λ (k : ℕ). Fit gs g.first k) b s.fit.1.1);
     joined = λ i j x y h k o. s.joined i j x y (on_path i x h) (on_path j y k)
         ((λ q. absurd (let z : i < length path = slice_get_within path i x h in omega arith)), o);
     asked = λ k x h. let r = s.asked k x h in elim (lt_or_le r.place (length path)) [
@@ -476,12 +478,12 @@ pub close_is : (next : ℕ → List ℕ) (marks marks' : List Mark) (path path' 
 close_is next marks marks' path path' groups left g pending done e s none p m =
     let q : tops groups ≡ g ∷ tops left = pushed left groups g e in
     let t : Stands next marks path (g ∷ tops left) pending done =
-        subst (λ (gs : List Group). Stands next marks path gs pending done) q s in
+    subst (λ (gs : List Group). Stands next marks path gs pending done) q s in
     let l : g.first ≤ length path = t.fit.0 in
     let cut : length (take g.first path) ≡ g.first = short g.first path l in
     let whole : path ≡ take g.first path ++ drop g.first path = sym (parts g.first path) in
     let u : Stands next marks (take g.first path ++ drop g.first path) (g ∷ tops left) pending done =
-        subst (λ (xs : List ℕ). Stands next marks xs (g ∷ tops left) pending done) whole t in
+    subst (λ (xs : List ℕ). Stands next marks xs (g ∷ tops left) pending done) whole t in
     let n : length pending ≤ g.pending = elim (lt_or_le g.pending (length pending)) [
       | inl a ↦ absurd (none (subst (λ (gs : List Group). IsWaiting gs (length pending)) (sym q) a))
       | inr a ↦ a

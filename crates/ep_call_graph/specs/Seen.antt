@@ -1,5 +1,5 @@
 -- Statements and calls in memory, seen as the definitions speak of them.
-use Rattle.std.specs.Prelude.{◌≡◌, ℕ, zero, suc, ◌<◌, List, [], ◌∷◌, map, Option, Some, None}
+use Rattle.std.specs.Prelude.{ℕ, zero, suc, ◌<◌, List, [], ◌∷◌, map, Option, Some, None}
 use Rattle.std.specs.Global.{Vec}
 use Rattle.ep_elaboration.specs.Calls as rule
 use Rattle.ep_call_graph.specs.declared.places.Place.{Place}

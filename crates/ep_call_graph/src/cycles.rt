@@ -115,7 +115,8 @@ impl Search {
     fn join(&mut self, callees: &[Vec<u32>], callee: u32, place: usize)
         requires stands { search_in.IsSearchBut (Some callee) (seen.listed callees.now) self.old }
         requires at { slice_get self.old.path.items place ≡ Some callee }
-        requires called { search_in.IsCalled (seen.listed callees.now) self.old.path.items (search_in.tops self.old.groups.items) callee }
+        requires called { search_in.IsCalled (seen.listed callees.now) self.old.path.items
+            (search_in.tops self.old.groups.items) callee }
         ensures stands { search_in.IsSearch (seen.listed callees.now) self.new }
         ensures goes_on { self.new.marks ≡ self.old.marks }
     {
@@ -151,7 +152,8 @@ impl Search {
     // The functions from this place on are done, and leave the path.
     fn finish(&mut self, first: usize)
         requires { search_in.ArePlaced self.old.marks.items self.old.path.items }
-        ensures marks { (f : ℕ) → search_in.mark_of self.new.marks.items f ≡ search_in.closed_from first self.old.done (search_in.mark_of self.old.marks.items f) }
+        ensures marks { (f : ℕ) → search_in.mark_of self.new.marks.items f
+            ≡ search_in.closed_from first self.old.done (search_in.mark_of self.old.marks.items f) }
         ensures count { length self.new.marks.items ≡ length self.old.marks.items }
         ensures path { self.new.path.items ≡ take first self.old.path.items }
         ensures groups { self.new.groups ≡ self.old.groups }
@@ -168,7 +170,8 @@ impl Search {
     // The functions of the last group are done.
     fn close(&mut self, callees: &[Vec<u32>]) -> Result<(), AllocError>
         requires stands { search_in.IsSearch (seen.listed callees.now) self.old }
-        requires none_waits { search_in.IsWaiting (search_in.tops self.old.groups.items) (length self.old.pending.items) → ⊥ }
+        requires none_waits { search_in.IsWaiting (search_in.tops self.old.groups.items)
+            (length self.old.pending.items) → ⊥ }
         ensures stands { OnOk result (search_in.IsSearch (seen.listed callees.now) self.new) }
         ensures goes_on { OnOk result (search_in.GoesOn self.old self.new) }
     {
@@ -184,8 +187,10 @@ impl Search {
     }
 
     fn is_waiting(&self) -> bool
-        ensures waits { result ≡ true → search_in.IsWaiting (search_in.tops self.now.groups.items) (length self.now.pending.items) }
-        ensures none { result ≡ false → search_in.IsWaiting (search_in.tops self.now.groups.items) (length self.now.pending.items) → ⊥ }
+        ensures waits { result ≡ true → search_in.IsWaiting (search_in.tops self.now.groups.items)
+            (length self.now.pending.items) }
+        ensures none { result ≡ false → search_in.IsWaiting (search_in.tops self.now.groups.items)
+            (length self.now.pending.items) → ⊥ }
     {
         match self.top() {
             Some(group) => group.pending < self.pending.len(),

@@ -31,7 +31,8 @@ pub(crate) fn empty_lists(alloc: Global, count: usize) -> Result<Vec<Vec<u32>>, 
 fn add(lists: &mut Vec<Vec<u32>>, at: u32, item: u32) -> Result<(), AllocError>
     requires { at < vec_len lists.old }
     ensures count { OnOk result (vec_len lists.new ≡ vec_len lists.old) }
-    ensures added { OnOk result ((f : ℕ) → seen.listed lists.new.items f ≡ seen.listed lists.old.items f ++ (if at == f then item ∷ [] else [])) }
+    ensures added { OnOk result ((f : ℕ) → seen.listed lists.new.items f
+        ≡ seen.listed lists.old.items f ++ (if at == f then item ∷ [] else [])) }
 {
     let list = &mut lists[at as usize];
     list.push(item)?;
@@ -41,7 +42,8 @@ fn add(lists: &mut Vec<Vec<u32>>, at: u32, item: u32) -> Result<(), AllocError>
 fn add_call(lists: &mut Vec<Vec<u32>>, place: Place) -> Result<(), AllocError>
     requires { place.caller < vec_len lists.old }
     ensures count { OnOk result (vec_len lists.new ≡ vec_len lists.old) }
-    ensures added { OnOk result ((f : ℕ) → seen.listed lists.new.items f ≡ seen.listed lists.old.items f ++ rule.callees (rule.call_at (seen.place place) place.callee) f) }
+    ensures added { OnOk result ((f : ℕ) → seen.listed lists.new.items f
+        ≡ seen.listed lists.old.items f ++ rule.callees (rule.call_at (seen.place place) place.callee) f) }
 {
     match place.callee {
         None => Ok(()),
@@ -53,7 +55,8 @@ fn add_call(lists: &mut Vec<Vec<u32>>, place: Place) -> Result<(), AllocError>
 pub fn callees(alloc: Global, count: usize, places: &[Place]) -> Result<Vec<Vec<u32>>, AllocError>
     requires { seen.AreWithin count (seen.places places.now) }
     ensures count { IfOk result (λ v. vec_len v ≡ count) }
-    ensures lists { IfOk result (λ v. (f : ℕ) → seen.listed v.items f ≡ rule.callees (rule.calls_of (seen.places places.now)) f) }
+    ensures lists { IfOk result (λ v. (f : ℕ) → seen.listed v.items f
+        ≡ rule.callees (rule.calls_of (seen.places places.now)) f) }
 {
     let mut lists = empty_lists(alloc, count)?;
     for place in places {

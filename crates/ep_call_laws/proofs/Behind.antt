@@ -1,9 +1,8 @@
 -- Each function comes behind those that it calls, and none comes twice.
-use Rattle.std.proofs.Common.{◌≡◌, ℕ, zero, suc, ◌+◌, ◌<◌, ◌≤◌, nat_eq, Bool, true, false, ◌||◌, cond, ◌⊎◌, inl, inr, List, [], ◌∷◌, ◌++◌, refl, sym, ap, ◌∙◌, subst, arith, append_assoc}
-use Rattle.std.specs.List.{list_any}
+use Rattle.std.proofs.Common.{◌≡◌, ℕ, zero, suc, ◌<◌, nat_eq, Bool, true, false, cond, ◌⊎◌, inl, inr, List, [], ◌∷◌, ◌++◌, refl, sym, ap, ◌∙◌, subst, arith, append_assoc}
 use Rattle.std.proofs.lemmas.List.Folds.{list_any-append}
 use Rattle.ep_int.specs.Memory.{contains}
-use Rattle.ep_elaboration.specs.Calls.{Call, callees, one_after_another, unless_come, with_function}
+use Rattle.ep_elaboration.specs.Calls.{Call, callees, one_after_another, with_function}
 use Rattle.ep_call_laws.specs.Leads.{DoesCall, Descends, AreInOrder}
 use Rattle.ep_call_laws.proofs.Paths.{never, either_is, left_is, right_is, same, equal}
 

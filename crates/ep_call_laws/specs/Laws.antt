@@ -1,5 +1,5 @@
 -- That the numbers of calls up to which the definitions look are enough.
-use Rattle.std.specs.Prelude.{◌≡◌, ℕ, ◌<◌, nat_eq, Bool, true, false, List, []}
+use Rattle.std.specs.Prelude.{◌≡◌, ℕ, ◌<◌, nat_eq, true, false, List, []}
 use Rattle.ep_elaboration.specs.Calls.{Call, Place, callees, calls_of, deepest, function_depth, one_after_another, places_in, reaches, unless_come, with_function}
 use Rattle.ep_call_laws.specs.Leads.{DoesCall, Leads, IsLabelled, AreAmong, Descends, AreInOrder}
 

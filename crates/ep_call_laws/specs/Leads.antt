@@ -1,5 +1,5 @@
 -- Where calls lead, by however many of them.
-use Rattle.std.specs.Prelude.{◌≡◌, ℕ, ◌<◌, ◌≤◌, Bool, true, false, List, [], ◌∷◌, ◌++◌}
+use Rattle.std.specs.Prelude.{◌≡◌, ℕ, ◌<◌, ◌≤◌, true, false, List, [], ◌∷◌, ◌++◌}
 use Rattle.ep_int.specs.Memory.{contains}
 use Rattle.ep_elaboration.specs.Calls.{Call, callees}
 

@@ -1,4 +1,4 @@
-use Rattle.std.proofs.Common.{rules, arith}
+use Rattle.std.proofs.Common.{rules}
 use Rattle.ep_call_graph.proofs.Lists.{listed_more}
 use Rattle.ep_call_graph.proofs.places.empty_lists.Goals as goal
 

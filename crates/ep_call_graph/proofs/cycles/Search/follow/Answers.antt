@@ -1,4 +1,4 @@
-use Rattle.std.proofs.Common.{sym, arith, length}
+use Rattle.std.proofs.Common.{sym}
 use Rattle.ep_call_graph.specs.Search.{tops}
 use Rattle.ep_call_graph.specs.Seen.{listed}
 use Rattle.ep_call_graph.proofs.Steps.{taken, leads_to, settled_done}
@@ -12,13 +12,13 @@ open-requires-clause-stands c =
 pub open-requires-clause-inside : goal.open-requires-clause-inside
 open-requires-clause-inside c =
     let t = taken (listed c.args.callees.now) c.args.self.now.marks.items c.args.self.now.path.items (tops c.args.self.now.groups.items)
-        c.args.self.now.pending.items c.pop.new.self.items c.args.self.now.done c.in-Some.callee c.in-Some.ensures.items c.requires.waits c.requires.stands in
+    c.args.self.now.pending.items c.pop.new.self.items c.args.self.now.done c.in-Some.callee c.in-Some.ensures.items c.requires.waits c.requires.stands in
     (c.requires.all t.1.caller c.in-Some.callee t.1.calls).1
 
 pub open-requires-clause-led : goal.open-requires-clause-led
 open-requires-clause-led c =
     let t = taken (listed c.args.callees.now) c.args.self.now.marks.items c.args.self.now.path.items (tops c.args.self.now.groups.items)
-        c.args.self.now.pending.items c.pop.new.self.items c.args.self.now.done c.in-Some.callee c.in-Some.ensures.items c.requires.waits c.requires.stands in
+    c.args.self.now.pending.items c.pop.new.self.items c.args.self.now.done c.in-Some.callee c.in-Some.ensures.items c.requires.waits c.requires.stands in
     leads_to (listed c.args.callees.now) c.args.self.now.marks.items c.args.self.now.path.items (tops c.args.self.now.groups.items)
     c.pop.new.self.items c.args.self.now.done c.in-Some.callee t.0 t.1
 

@@ -1,4 +1,4 @@
-use Rattle.std.proofs.Common.{◌≡◌, ap, sym, ◌∙◌, ℕ, List, ◌∷◌, length, set}
+use Rattle.std.proofs.Common.{◌≡◌, ap, sym, ◌∙◌, ℕ, ◌∷◌, length, set}
 use Rattle.ep_call_graph.specs.declared.cycles.Mark.TheVariants.{Open}
 use Rattle.ep_call_graph.specs.declared.cycles.Group.{Group}
 use Rattle.ep_call_graph.specs.Search.{tops}
