@@ -1,12 +1,10 @@
 -- Arrays come into a table as they are stated, and are known there.
-use Rattle.std.proofs.Common.{◌≡◌, ℕ, zero, suc, ◌+◌, ◌<◌, ◌≤◌, Bool, true, List, [], ◌∷◌, ◌++◌, length, take, drop, Option, Some, None, option_map, Result, Ok, Err, refl, sym, ap, ◌∙◌, subst, arith, position, rules, IsTrue}
-use Rattle.std.specs.Prelude.{unwrap_or, ◌⊎◌}
+use Rattle.std.proofs.Common.{◌≡◌, ℕ, zero, suc, ◌+◌, ◌<◌, ◌≤◌, List, [], ◌∷◌, ◌++◌, length, take, drop, Option, Some, None, Result, Ok, Err, refl, sym, ap, ◌∙◌, subst, arith}
+use Rattle.std.specs.Prelude.{unwrap_or}
 use Rattle.std.proofs.Common.{drop-cons, get_or}
 use Rattle.std.proofs.lemmas.List.{drop_all, length_push, take-append-drop}
 use Rattle.std.proofs.Common.{inl, inr}
-use Rattle.ep_ast.specs.declared.refusals.Refusal.{Refusal}
 use Rattle.ep_ast.specs.declared.refusals.Halt.{Halt}
-use Rattle.ep_ast.specs.declared.refusals.Halt.TheVariants as halts
 use Rattle.ep_layout.specs.declared.types.Ty.{Ty}
 use Rattle.ep_layout.specs.declared.types.Ty.TheVariants as rows
 use Rattle.ep_layout.specs.declared.types.LayoutStop.{LayoutStop}
@@ -19,10 +17,10 @@ use Rattle.ep_typing.specs.declared.types.Base.{Base}
 use Rattle.ep_typing.specs.declared.types.Base.TheVariants as bases
 use Rattle.ep_typing.specs.declared.types.CType.{CType}
 use Rattle.ep_typing.specs.Results.{◌>>=◌, at}
-use Rattle.ep_typing.specs.Types.{base_number, c_type_number, known_number, pointer_number, whole, with_base, with_c_type, with_pointers}
+use Rattle.ep_typing.specs.Types.{base_number, c_type_number, known_number, pointer_number, whole, with_base, with_c_type}
 use Rattle.ep_operands.specs.Gives.{Stops}
 use Rattle.ep_scopes.specs.Known.{IsKnown, IsKnownBase}
-use Rattle.ep_scopes.proofs.KnownLemmas.{IsGreater, added_greater, greater_itself, greater_on, pointers_greater, type_greater}
+use Rattle.ep_scopes.proofs.KnownLemmas.{IsGreater, added_greater, greater_on, pointers_greater, type_greater}
 use Rattle.ep_elaboration.specs.Declarators.{array_of, arrays_of, made}
 use Rattle.ep_declared.specs.Stops.{halt_of}
 use Rattle.ep_declared.specs.Growth.{Came}

@@ -1,5 +1,5 @@
 -- Functions by their names.
-use Rattle.std.proofs.Common.{◌≡◌, ℕ, suc, ◌+◌, Bool, true, false, cond, not, nat_lt, List, [], ◌∷◌, ◌++◌, length, map, position, Option, Some, None, option_map, Result, Ok, Err, refl, sym, ap, ◌∙◌, subst}
+use Rattle.std.proofs.Common.{◌≡◌, ℕ, ◌+◌, Bool, true, false, cond, not, List, [], ◌∷◌, ◌++◌, length, map, position, Option, Some, None, Result, Ok, Err, refl, sym, ap, ◌∙◌, subst}
 use Rattle.std.specs.Prelude.{◌&&◌, bytes_eq}
 use lib.Pointwise.{pointwise}
 use Rattle.std.specs.Global.{Vec}
@@ -9,9 +9,8 @@ use Rattle.indexmap.specs.IndexSet.{insert_key}
 use Rattle.ep_layout.proofs.Positions.{none_any}
 use Rattle.ep_typing.specs.declared.types.CType.{CType}
 use Rattle.ep_typing.specs.Types.{is_same}
-use Rattle.ep_typing.specs.Env.{Env, Meaning, Scope, Signature, entry, function}
+use Rattle.ep_typing.specs.Env.{Env, Meaning, Scope, Signature, entry}
 use Rattle.ep_scopes.specs.Seen as scoped
-use Rattle.ep_elaboration.specs.Declarators.{with_name}
 use Rattle.ep_elaboration.specs.Functions.{are_same, file_names, fits_main, function_declared, named_function, number_of_function, numbered_function, stands_against}
 use Rattle.ep_declared.specs.Names.{AreNamesOf, named_as, with_function}
 use Rattle.ep_declared.specs.Seen.{text}

@@ -1,40 +1,32 @@
 -- Members and bodies of structs and unions.
-use Rattle.std.proofs.Common.{◌≡◌, ℕ, zero, suc, ◌+◌, ◌<◌, ◌≤◌, Bool, true, false, cond, not, List, [], ◌∷◌, ◌++◌, length, map, slice_get, slice_set, Option, Some, None, option_map, Result, Ok, Err, refl, sym, ap, ◌∙◌, subst, arith, IsTrue, nat_lt, inl, inr}
-use Rattle.std.specs.Prelude.{◌||◌, ◌&&◌, is_some, unwrap_or}
+use Rattle.std.proofs.Common.{◌≡◌, ℕ, zero, suc, ◌<◌, ◌≤◌, Bool, true, false, List, [], ◌∷◌, ◌++◌, length, slice_get, slice_set, Option, Some, None, Result, Ok, Err, refl, sym, ap, ◌∙◌, subst, arith, IsTrue, nat_lt, inl, inr}
+use Rattle.std.specs.Prelude.{◌&&◌, is_some}
 use Rattle.std.specs.Global.{Vec}
 use Rattle.std.specs.List.{list_all}
-use Rattle.std.specs.Option.{option_and_then}
 use Rattle.std.proofs.lemmas.Bool.Decides.{nat_tests}
-use Rattle.std.proofs.lemmas.List.{length_push}
-use Rattle.ep_int.specs.Memory.{contains}
 use Rattle.ep_ast.specs.declared.refusals.Halt.{Halt}
 use Rattle.ep_layout.specs.declared.types.LayoutStop.{LayoutStop}
 use Rattle.ep_layout.specs.declared.types.LayoutStop.TheVariants as stops
-use Rattle.ep_layout.specs.SameTypes.{is_same_sign}
 use Rattle.ep_layout.specs.Stops.{IsStop}
-use Rattle.ep_layout.specs.Table.{AggregateRow, Table, completed_with, declared, is_completed, is_type, is_union, laid_out, members_stop}
+use Rattle.ep_layout.specs.Table.{AggregateRow, Table, completed_with, is_type, is_union, laid_out, members_stop}
 use Rattle.ep_layout.specs.Views.{view_named}
 use Rattle.ep_typing.specs.declared.types.Base.TheVariants as bases
 use Rattle.ep_typing.specs.declared.types.CType.{CType}
 use Rattle.ep_typing.specs.Results.{◌>>=◌, at, needed}
 use Rattle.ep_typing.specs.Types.{c_type_number, size_of_type, whole, with_c_type}
-use Rattle.ep_typing.specs.Env.{Env, Scope, entry, look_up_tag, tag_in, with_tag}
+use Rattle.ep_typing.specs.Env.{Env, Scope, entry}
 use Rattle.ep_operands.specs.Gives.{Stops}
 use Rattle.ep_scopes.specs.Known.{AreKnownScopes, IsKnown, IsKnownEnv}
 use Rattle.ep_scopes.specs.Seen as scoped
 use Rattle.ep_scopes.proofs.KnownLemmas.{IsGreater, greater_itself, greater_on, scopes_stay, tag_entry_known, type_greater}
-use Rattle.ep_elaboration.specs.Aggregates.{Named, body_of, closed, has_body, sized_member, tags_here, with_member}
+use Rattle.ep_elaboration.specs.Aggregates.{Named, closed, sized_member, with_member}
 use Rattle.ep_elaboration.specs.Declarators.{arrays_of, with_types}
 use Rattle.ep_declared.specs.Stops.{halt_of}
-use Rattle.ep_declared.specs.Tags.{AreMembersKnown, opened_tag}
-use Rattle.ep_declared.proofs.ArrayLemmas.{arrays_came, known_still, number_inside}
-use Rattle.ep_declared.proofs.Refusals.{Ended, ended, first_after, same_pair, tested_ok, then_after}
+use Rattle.ep_declared.specs.Tags.{AreMembersKnown}
+use Rattle.ep_declared.proofs.ArrayLemmas.{arrays_came, number_inside}
+use Rattle.ep_declared.proofs.Refusals.{ended, first_after, same_pair, tested_ok, then_after}
 
 -- ---- tags
-
-pub tags_are : (ss : List Scope) → (scoped.innermost ss).tags ≡ tags_here ss
-tags_are [] = refl
-tags_are (s ∷ ss) = refl
 
 -- a tag of the innermost scope names what is there
 pub tag_there : (G : Env) (t : List ℕ) (a : ℕ) → IsKnownEnv G → entry t (scoped.innermost G.scopes).tags ≡ Some a
@@ -44,20 +36,6 @@ tag_there G t a k h = inner G.scopes k h
     inner : (ss : List Scope) → AreKnownScopes G.types ss → entry t (scoped.innermost ss).tags ≡ Some a → a < length G.types.aggregates
     inner [] k h = absurd cc
     inner (s ∷ ss) k h = tag_entry_known G.types t s.tags a k.1.0 h
-
-module _ (G : Env) (us : List ℕ) (u : Bool) (t : List ℕ) where
-  tag_as : (o : Option ℕ) → o ≡ entry t (scoped.innermost G.scopes).tags → opened_tag G us u t ≡ body_of G us u t o
-  tag_as o e = ap (body_of G us u t) (ap (entry t) (sym (tags_are G.scopes)) ∙ sym e)
-
-  pub tag_closed : (a : ℕ) → Some a ≡ entry t (scoped.innermost G.scopes).tags → has_body G us u a ≡ true → opened_tag G us u t ≡ Err 31
-  tag_closed a e h = tag_as (Some a) e ∙ ap (λ (b : Bool). cond b (Err 31) (Ok (a, G))) h
-
-  pub tag_open : (a : ℕ) → Some a ≡ entry t (scoped.innermost G.scopes).tags → has_body G us u a ≡ false
-      → opened_tag G us u t ≡ Ok (a, G)
-  tag_open a e h = tag_as (Some a) e ∙ ap (λ (b : Bool). cond b (Err 31) (Ok (a, G))) h
-
-  pub tag_new : None ≡ entry t (scoped.innermost G.scopes).tags → opened_tag G us u t ≡ Ok (length G.types.aggregates, with_tag G t u)
-  tag_new e = tag_as None e
 
 -- ---- members
 

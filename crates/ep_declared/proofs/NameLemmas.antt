@@ -1,40 +1,19 @@
 -- Names that are declared, and what environments know then.
-use Rattle.std.proofs.Common.{◌≡◌, ℕ, Bool, true, false, cond, List, [], ◌∷◌, ◌++◌, Option, Some, None, Result, Ok, Err, refl, sym, ap, ◌∙◌, subst}
-use Rattle.std.specs.Prelude.{◌||◌, is_some}
+use Rattle.std.proofs.Common.{◌≡◌, ℕ, Bool, true, false, List, [], ◌∷◌, ◌++◌, Option, Some, None, Result, Ok, Err, refl, ap, subst}
 use Rattle.ep_ast.specs.declared.refusals.Halt.{Halt}
 use Rattle.ep_layout.specs.Table.{Table}
-use Rattle.ep_core.specs.Program as core
 use Rattle.ep_typing.specs.declared.types.CType.{CType}
 use Rattle.ep_typing.specs.Results.{◌>>=◌, at, needed}
 use Rattle.ep_typing.specs.Types.{size_of_type}
-use Rattle.ep_typing.specs.Env.{Env, Meaning, Scope, entry, type_name, variable}
-use Rattle.ep_typing.specs.Parts.{built_in}
+use Rattle.ep_typing.specs.Env.{Env, Meaning, Scope, type_name, variable}
 use Rattle.ep_operands.specs.Gives.{Stops}
 use Rattle.ep_scopes.specs.Known.{AreKnownNames, AreKnownScopes, IsKnown, IsKnownEnv, IsKnownMeaning}
-use Rattle.ep_scopes.specs.Seen as scoped
 use Rattle.ep_scopes.proofs.KnownLemmas.{IsGreater, scopes_stay}
 use Rattle.ep_elaboration.specs.Declarators.{Object, arrays_of, declared_object, declared_type, is_taken, name_in, named_type_of, object_of, sized_object, with_name, with_types}
 use Rattle.ep_declared.proofs.ArrayLemmas.{arrays_came}
-use Rattle.ep_declared.proofs.Refusals.{Ended, ended, first_after, same_ok, tested_ok, then_after}
+use Rattle.ep_declared.proofs.Refusals.{ended, first_after, same_ok, tested_ok, then_after}
 
 -- ---- names
-
-pub taken_is : (t : List ℕ) (ss : List Scope)
-    → (is_some (entry t (scoped.innermost ss).names) || is_some (entry t built_in)) ≡ is_taken t ss
-taken_is t [] = refl
-taken_is t (s ∷ ss) = refl
-
-not_there : {A : Type 0} (o : Option A) (b : Bool) → (is_some o || b) ≡ false → o ≡ None
-not_there None b h = refl
-not_there (Some x) b h = absurd cc
-
-pub free : (t : List ℕ) (ss : List Scope) → is_taken t ss ≡ false → entry t (scoped.innermost ss).names ≡ None
-free t [] h = refl
-free t (s ∷ ss) h = not_there (entry t s.names) (is_some (entry t built_in)) h
-
-pub named : (t : List ℕ) (m : Meaning) (ss : List Scope) → scoped.name_in ss t m ≡ name_in ss t m
-named t m [] = refl
-named t m (s ∷ ss) = refl
 
 names_more : (u : Table) (t : List ℕ) (m : Meaning) → IsKnownMeaning u m → (es : List (List ℕ × Meaning)) → AreKnownNames u es
     → AreKnownNames u (es ++ (t, m) ∷ [])

@@ -1,6 +1,6 @@
 -- Parameters come into an environment as they are stated.
-use Rattle.std.proofs.Common.{◌≡◌, ℕ, zero, suc, ◌<◌, length, Bool, true, false, cond, List, Option, Some, None, Result, Ok, Err, refl, sym, ap, ◌∙◌, subst, arith, IsTrue, slice_get}
-use Rattle.std.specs.Prelude.{unwrap_or, if◌then◌else◌}
+use Rattle.std.proofs.Common.{◌≡◌, ℕ, zero, suc, length, true, false, List, Option, Some, None, Result, Ok, Err, refl, sym, ap, ◌∙◌, subst, arith, slice_get}
+use Rattle.std.specs.Prelude.{if◌then◌else◌}
 use Rattle.std.proofs.lemmas.Bool.Decides.{nat_tests}
 use Rattle.std.proofs.lemmas.Option.{slice_get_within}
 use Rattle.ep_ast.specs.declared.refusals.Halt.{Halt}
@@ -8,20 +8,19 @@ use Rattle.ep_layout.specs.declared.types.Ty.{Ty}
 use Rattle.ep_layout.specs.declared.types.Ty.TheVariants as rows
 use Rattle.ep_layout.specs.Table.{IsBuilt, Table}
 use Rattle.ep_layout.proofs.Sizes.{known}
-use Rattle.ep_typing.specs.declared.types.Base.TheVariants as bases
 use Rattle.ep_typing.specs.declared.types.CType.{CType}
 use Rattle.ep_typing.specs.Results.{◌>>=◌, at}
-use Rattle.ep_typing.specs.Types.{element_of, is_aggregate, is_array, is_void, of_row, pointer_to, type_of, type_within, with_c_type}
+use Rattle.ep_typing.specs.Types.{element_of, is_aggregate, is_array, is_void, of_row, pointer_to, type_within, with_c_type}
 use Rattle.ep_typing.specs.Env.{Env, variable}
 use Rattle.ep_operands.specs.Gives.{Stops}
-use Rattle.ep_scopes.specs.Known.{IsKnown, IsKnownBase, IsKnownEnv}
-use Rattle.ep_scopes.proofs.KnownLemmas.{IsGreater, greater_on, scopes_stay, type_greater}
-use Rattle.ep_elaboration.specs.Declarators.{arrays_of, is_taken, with_types}
-use Rattle.ep_elaboration.specs.Functions.{is_name_taken, named_param, param_type, passable, passed_param, with_param}
+use Rattle.ep_scopes.specs.Known.{IsKnown, IsKnownEnv}
+use Rattle.ep_scopes.proofs.KnownLemmas.{scopes_stay}
+use Rattle.ep_elaboration.specs.Declarators.{arrays_of, with_types}
+use Rattle.ep_elaboration.specs.Functions.{is_name_taken, named_param, param_type, passable, with_param}
 use Rattle.ep_declared.specs.Growth.{Came}
 use Rattle.ep_declared.proofs.ArrayLemmas.{came_on, type_came}
 use Rattle.ep_declared.proofs.NameLemmas.{name_known}
-use Rattle.ep_declared.proofs.Refusals.{first_stops, then_stops}
+use Rattle.ep_declared.proofs.Refusals.{first_stops}
 
 -- ---- the type of a number is in the table
 

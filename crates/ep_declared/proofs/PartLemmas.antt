@@ -1,9 +1,9 @@
 -- Members that a list gives values.
-use Rattle.std.proofs.Common.{◌≡◌, ℕ, ◌<◌, ◌≤◌, Bool, true, false, cond, List, [], ◌∷◌, length, nat_lt, slice_get, Option, Some, None, refl, sym, ap, ◌∙◌, subst, arith}
+use Rattle.std.proofs.Common.{◌≡◌, ℕ, ◌≤◌, Bool, true, false, cond, List, [], ◌∷◌, length, nat_lt, slice_get, None, refl, sym, subst, arith}
 use Rattle.std.specs.Prelude.{◌&&◌}
 use Rattle.std.proofs.lemmas.Bool.Decides.{nat_tests}
 use Rattle.std.proofs.lemmas.Option.{slice_get_past}
-use Rattle.ep_layout.specs.Table.{AggregateRow, MemberRow, Table, is_union, members_of}
+use Rattle.ep_layout.specs.Table.{MemberRow, Table, is_union, members_of}
 use Rattle.ep_elaboration.specs.Given.{first_member, given_members}
 
 first_at : (ms : List MemberRow) → slice_get (first_member ms) 0 ≡ slice_get ms 0

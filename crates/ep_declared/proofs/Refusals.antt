@@ -32,9 +32,6 @@ module _ {A B : Type 0} (k : ℕ) (b : Bool) (x : Result A ℕ) (f : A → Resul
   pub tested_ok : (y : A) (z : Result B ℕ) → b ≡ false → x ≡ Ok y → f y ≡ z → cond b (Err k) (x >>= f) ≡ z
   tested_ok y z untaken same h = ap (λ (t : Bool). cond t (Err k) (x >>= f)) untaken ∙ then_ok x f y z same h
 
-  pub fails_test : b ≡ true → cond b (Err k) (x >>= f) ≡ Err k
-  fails_test holds = ap (λ (t : Bool). cond t (Err k) (x >>= f)) holds
-
   pub first_after : (l : ℕ) (e : Halt) → b ≡ false → Stops (at l x) e → Stops (at l (cond b (Err k) (x >>= f))) e
   first_after l e untaken h =
       subst (λ (t : Bool). Stops (at l (cond t (Err k) (x >>= f))) e) (sym untaken) (first_stops l x f e h)

@@ -1,5 +1,5 @@
 -- What the code keeps of declarations, seen as what the definitions speak of.
-use Rattle.std.specs.Prelude.{ℕ, List, [], ◌∷◌, map, Option, Some, None}
+use Rattle.std.specs.Prelude.{ℕ, List, [], ◌∷◌, Option, Some, None}
 use Rattle.std.specs.Global.{Vec}
 use Rattle.ep_core.specs.Program as core
 use Rattle.ep_core.specs.View.{shown_init, shown_place}

@@ -94,7 +94,8 @@ fn fits_main(s: &Signature) -> bool
 
 /// What a head says, with the function's name.
 pub fn signature_of(alloc: Global, name: &[u8], headed: &Headed) -> Result<Signature, AllocError>
-    ensures { IfOk result (λ s. scoped.signature s ≡ record { name = name.now; params = headed.now.params.items; result = headed.now.result }) }
+    ensures { IfOk result (λ s. scoped.signature s
+        ≡ record { name = name.now; params = headed.now.params.items; result = headed.now.result }) }
 {
     let name = Vec::from_slice(alloc, name)?;
     let params = Vec::from_slice(alloc, &headed.params)?;

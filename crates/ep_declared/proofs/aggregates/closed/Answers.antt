@@ -1,11 +1,9 @@
-use Rattle.std.proofs.Common.{◌≡◌, ◌∙◌, ◌<◌, Ok, ap, length, subst, sym}
+use Rattle.std.proofs.Common.{subst, sym}
 use Rattle.ep_ast.specs.declared.refusals.Halt.{Halt}
-use Rattle.ep_layout.specs.Table.{completed_with, is_union, members_stop}
+use Rattle.ep_layout.specs.Table.{is_union, members_stop}
 use Rattle.ep_layout.specs.Views.{view_named}
-use Rattle.ep_typing.specs.declared.types.Base.TheVariants as bases
 use Rattle.ep_typing.specs.declared.types.CType.{CType}
 use Rattle.ep_typing.specs.Results.{at}
-use Rattle.ep_typing.specs.Types.{whole}
 use Rattle.ep_operands.specs.Gives.{Stops}
 use Rattle.ep_scopes.specs.Known.{IsKnown}
 use Rattle.ep_scopes.specs.Seen as scoped

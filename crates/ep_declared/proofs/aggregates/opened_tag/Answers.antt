@@ -1,6 +1,6 @@
 use Rattle.std.proofs.Common.{sym}
 use Rattle.ep_scopes.specs.Seen as scoped
-use Rattle.ep_declared.proofs.MemberLemmas.{tag_closed, tag_new, tag_open, tag_there}
+use Rattle.ep_declared.proofs.MemberLemmas.{tag_there}
 use Rattle.ep_declared.proofs.aggregates.opened_tag.Goals as goal
 
 pub has_body-requires : goal.has_body-requires

@@ -1,4 +1,4 @@
-use Rattle.std.proofs.Common.{◌∙◌, ap, sym, subst, Ok, Result}
+use Rattle.std.proofs.Common.{◌∙◌, ap, sym, subst, Ok}
 use Rattle.ep_layout.specs.Table.{type_stop}
 use Rattle.ep_ast.specs.declared.refusals.Halt.{Halt}
 use Rattle.ep_typing.specs.Results.{at}

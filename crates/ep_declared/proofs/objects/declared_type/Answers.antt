@@ -1,6 +1,6 @@
-use Rattle.std.proofs.Common.{◌≡◌, ◌∙◌, ℕ, List, Ok, Result, ap, false, sym, true}
+use Rattle.std.proofs.Common.{◌∙◌, ℕ, List, Ok, Result, ap, sym}
 use Rattle.std.proofs.lemmas.Result.{err_from_is_err_and}
-use Rattle.ep_typing.specs.Env.{Env, Scope, type_name}
+use Rattle.ep_typing.specs.Env.{Env, Scope}
 use Rattle.ep_scopes.specs.Seen as scoped
 use Rattle.ep_elaboration.specs.Declarators as rule
 use Rattle.ep_declared.proofs.NameLemmas.{type_is, type_known, type_stops, type_taken}

@@ -1,4 +1,4 @@
-use Rattle.std.proofs.Common.{◌≡◌, ◌∙◌, ◌≤◌, arith, length}
+use Rattle.std.proofs.Common.{◌∙◌, ◌≤◌, arith, length}
 use Rattle.ep_declared.proofs.PartLemmas.{given_here, given_nowhere}
 use Rattle.ep_declared.proofs.parts.given_member.Goals as goal
 

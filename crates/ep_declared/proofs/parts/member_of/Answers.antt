@@ -1,8 +1,7 @@
-use Rattle.std.proofs.Common.{◌≡◌, ◌∙◌, ◌<◌, ◌≤◌, List, None, Option, Some, ap, arith, length, slice_get, sym}
+use Rattle.std.proofs.Common.{◌∙◌, ◌<◌, ◌≤◌, List, Some, ap, arith, length, slice_get, sym}
 use Rattle.std.specs.Option.{option_map}
 use Rattle.std.proofs.lemmas.Bool.Decides.{nat_tests}
 use Rattle.std.proofs.lemmas.Option.{slice_get-get_or, slice_get-map, slice_get_past}
-use Rattle.ep_layout.specs.declared.types.Member.{Member}
 use Rattle.ep_layout.specs.Table.{MemberRow}
 use Rattle.ep_layout.specs.Views.{view_member}
 use Rattle.ep_declared.proofs.parts.member_of.Goals as goal
