@@ -1,0 +1,9 @@
+//! What expressions mean, or for what they are refused, and what they declare.
+#![tactic(auto)]
+
+mod mentions;
+mod nodes;
+mod walk;
+
+pub use mentions::{mention, mention_all};
+pub use walk::{meaning, typed, typed_all};
