@@ -65,10 +65,12 @@ members_declared G ms c (d ∷ ds) = do
 
 -- ---- bodies
 
--- 37: past 65,536 bytes, at the closing brace, on the line of the word
+-- 33: without members, as no body in a source is (C11 6.7.2.1p8). 37: past 65,536 bytes, at the closing brace, on the
+-- line of the word.
 abbrev pub closed : Env → ℕ → Named → Option LayoutStop → Result (CType × Env) ℕ
-closed G a ms (Some s) = Err (stop_kind s)
-closed G a ms None = let H = record G { types = completed_with G.types a ms } in
+closed G a [] s = Err 33
+closed G a (m ∷ ms) (Some s) = Err (stop_kind s)
+closed G a (m ∷ ms) None = let H = record G { types = completed_with G.types a (m ∷ ms) } in
     let c = whole (bases.Aggregate a) in Ok (c, record H { types = with_c_type H.types c })
 
 -- the type of words without a body

@@ -133,17 +133,24 @@ is_main t = bytes_eq (codes "main") t
 abbrev pub fits_main : Signature → Bool
 fits_main s = not (is_main s.name) || is_same_signature s (record { name = []; params = []; result = int_type I32 })
 
--- 31: another sort of name, or another type than it had (C11 6.7p4), or a second body (6.9p3)
+-- a function keeps the number that it had first
+abbrev pub number_of_function : List Signature → List ℕ → Option ℕ
+number_of_function fs t = position (λ (s : Signature). bytes_eq t s.name) fs
+
+-- whether the function of a number, if there is one, has another type
+abbrev pub is_unlike : Env → Signature → Option ℕ → Bool
+is_unlike G s None = false
+is_unlike G s (Some n) = not (is_same_signature (signature G n) s)
+
+-- 31: another sort of name, or another type than it had (C11 6.7p4), or a second body (6.9p3). A function keeps its type
+-- also where its name isn't seen, as that of a first arm in the second.
 abbrev pub stands_against : Env → (defined : List ℕ) → (with_body : Bool) → Signature → Option Meaning → Bool
 stands_against G defined with_body s (Some (env.function n)) =
     not (is_same_signature (signature G n) s) || (with_body && contains n defined)
 stands_against G defined with_body s (Some (env.variable b c)) = true
 stands_against G defined with_body s (Some (env.type_name c)) = true
-stands_against G defined with_body s None = is_some (entry s.name built_in)
-
--- a function keeps the number that it had first
-abbrev pub number_of_function : List Signature → List ℕ → Option ℕ
-number_of_function fs t = position (λ (s : Signature). bytes_eq t s.name) fs
+stands_against G defined with_body s None =
+    is_some (entry s.name built_in) || is_unlike G s (number_of_function G.functions s.name)
 
 abbrev pub numbered_function : Env → Signature → Option ℕ → ℕ × Env
 numbered_function G s (Some n) = (n, G)

@@ -3,6 +3,7 @@ use Rattle.std.specs.Prelude.{ℕ, ◌==◌, Bool, false, ◌&&◌, not, if◌th
 use Rattle.ep_int.specs.declared.types.IntType.{IntType}
 use Rattle.ep_int.specs.declared.types.IntType.TheVariants.{I8, U8, I16, U16, I32, U32, I64, U64}
 use Rattle.ep_int.specs.declared.types.Model.{Model}
+use Rattle.ep_int.specs.Types.{wrapped}
 use Rattle.ep_ast.specs.declared.expressions.Literal.{Literal}
 use Rattle.ep_ast.specs.Mark as mark
 use Rattle.ep_layout.specs.Table.{Table, MemberRow, member_named}
@@ -21,10 +22,11 @@ an_operand (Err k) = Err k
 
 -- ---- numbers and names
 
--- a number has its type, and 0 is a null constant however it is written (C11 6.4.4.1p5 and 6.3.2.3p3)
+-- A number has its type, and 0 is a null constant however it is written (C11 6.4.4.1p5 and 6.3.2.3p3). The reader takes
+-- no number that its type doesn't hold.
 abbrev pub numbered : Model → Literal → Operand
 numbered m n = let t = number_type m n in
-    value (record { expr = core.const t (pos n.value); ty = int_type t; is_null = n.value == 0 })
+    value (record { expr = core.const t (wrapped t (pos n.value)); ty = int_type t; is_null = n.value == 0 })
 
 -- the integer types by the ends of the names of inputs and outputs
 abbrev pub ends : List (List ℕ × IntType)
