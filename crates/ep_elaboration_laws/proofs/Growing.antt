@@ -103,12 +103,12 @@ module _ (t u : Table) (g : Grows t u) where
       subst (λ (m : Model). by_type (layout_rules m) u ty ≡ Some l) (sym g.model)
       (by_type_grows (layout_rules t.model) t u g ty l h)
 
-  size_is : (ty m : ℕ) → size t ty ≡ Some m → size u ty ≡ Some m
+  pub size_is : (ty m : ℕ) → size t ty ≡ Some m → size u ty ≡ Some m
   size_is ty m h =
       let s = map_some (λ (l : Layout). l.size) (layout_of t ty) m h in
       rw (layout_on ty s.0 s.1) (ap (λ (k : ℕ). Some k) s.2)
 
-  size_on : (ty n : ℕ) → is_number (size t ty) n ≡ true → is_number (size u ty) n ≡ true
+  pub size_on : (ty n : ℕ) → is_number (size t ty) n ≡ true → is_number (size u ty) n ≡ true
   size_on ty n h = size_at (size t ty) refl h
     where
       size_at : (o : Option ℕ) → size t ty ≡ o → is_number o n ≡ true → is_number (size u ty) n ≡ true

@@ -4,3 +4,4 @@ pub mod PassingLemmas
 pub mod ConstantLemmas
 pub mod PartLemmas
 pub mod StoreLemmas
+pub mod LiteralLemmas

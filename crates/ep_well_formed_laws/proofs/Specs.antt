@@ -1,0 +1,379 @@
+-- Type words and the bodies of structs and unions leave an environment in which all that is named is there.
+use Rattle.std.proofs.Common.{◌≡◌, ℕ, zero, suc, ◌<◌, ◌≤◌, ◌==◌, nat_eq, Bool, true, false, true≢false, ◌||◌, not, List, [], ◌∷◌, ◌++◌, length, length-append, slice_get, Option, Some, None, option_map, is_some, unwrap_or, Result, Ok, refl, sym, ap, ◌∙◌, subst, inl, inr, arith}
+use Rattle.std.specs.List.{list_all}
+use Rattle.std.proofs.lemmas.Bool.Decides.{nat_tests}
+use Rattle.std.proofs.lemmas.Bool.{and_parts}
+use Rattle.ep_int.specs.Memory.{contains}
+use Rattle.ep_ast.specs.Expression.{TypeWord}
+use Rattle.ep_ast.specs.Declaration.{Aggregate, Declarator, Members, Specs}
+use Rattle.ep_ast.specs.Mark.{union_word}
+use Rattle.ep_layout.specs.declared.types.Ty.TheVariants as rows
+use Rattle.ep_layout.specs.declared.types.LayoutStop.{LayoutStop}
+use Rattle.ep_layout.specs.SameTypes.{is_same_sign}
+use Rattle.ep_layout.specs.Table.{AggregateRow, Grows, MemberRow, Table, completed_with, declared, is_completed, is_type, is_union, laid_out, members_stop}
+use Rattle.ep_layout.specs.Table.IsBuilt.{members_more}
+use Rattle.ep_layout.proofs.Options.{get_front, get_last, get_set, get_set_other}
+use Rattle.ep_layout.proofs.Laid.{completed_is, grows_with_members, with_members}
+use Rattle.ep_layout.proofs.Recursion.{kept_by_itself}
+use Rattle.ep_core.specs.WellFormed.{is_length}
+use Rattle.ep_core.proofs.Sorts.{never}
+use Rattle.ep_typing.specs.declared.types.Base.TheVariants as bases
+use Rattle.ep_typing.specs.declared.types.CType.{CType}
+use Rattle.ep_typing.specs.Results.{needed}
+use Rattle.ep_typing.specs.Types.{c_type_number, size_of_type, whole, with_c_type, with_stars}
+use Rattle.ep_typing.specs.Env.{Env, Scope, entry, tag_in, with_tag}
+use Rattle.ep_typing.specs.Names.{mentioned_words}
+use Rattle.ep_elaboration.specs.Declarators.{arrays_of, with_types}
+use Rattle.ep_elaboration.specs.Aggregates.{Named, body_of, closed, has_body, opened, tags_here, with_member}
+use Rattle.ep_elaboration_laws.specs.DeclaratorRules.{MeansBody, MeansMemberName, MeansMemberNames, MeansMembers, MeansSpecs, MeansWords, has_body as is_bodied, is_body, is_member_name, is_plain, is_words, more_member_names, no_member_names, no_more_members, one_member_more, one_word_more}
+use Rattle.ep_well_formed_laws.specs.Numbers.{HasNumber, IsTable}
+use Rattle.ep_well_formed_laws.specs.Environments.{EachTag, IsDeclared, IsTyped}
+use Rattle.ep_well_formed_laws.proofs.Additions.{IsKnownBase, c_number_is, type_number_stays}
+use Rattle.ep_well_formed_laws.proofs.Objects.{AreLengths, arrays_come, bounds_are}
+use Rattle.ep_well_formed_laws.proofs.Scopes.{each_same, names_tagged, same_names, tag_entry_is, tag_push}
+use Rattle.ep_well_formed_laws.proofs.Mentions.{Declares, IsOpen, declares_mentions, declares_on, known_base, mentions_on, more_aggregates, more_types, same_rows_open, table_declared, table_mentioned, type_mentioned, with_table, words_known, words_mentioned, below_aggregate}
+use Rattle.ep_well_formed_laws.proofs.Tests.{after, and_is, is_so, left_is, right_is, unless}
+use Rattle.ep_well_formed_laws.proofs.Values.{number_below}
+
+abbrev pub fine : {A : Type 0} → A → Result A ℕ
+fine x = Ok x
+
+pub fine_is : {A : Type 0} (x y : A) → fine x ≡ fine y → x ≡ y
+fine_is x y e = cc
+
+eq_self : (n : ℕ) → nat_eq n n ≡ true
+eq_self n = grind (arith, nat_tests)
+
+same_row : (g h : AggregateRow) → Some g ≡ Some h → g ≡ h
+same_row g h e = cc
+
+-- aggregates whose bodies stand round this stay open
+abbrev pub StayRound : List ℕ → Env → Env → Type 0
+StayRound round G H = (a : ℕ) → contains a round ≡ true → IsOpen G.types a → IsOpen H.types a
+
+pub record IsSpecified (G H : Env) (round : List ℕ) (c : CType) : Type 0 where
+  pub declares : Declares G H
+  pub number : HasNumber H.types c
+  pub round_stays : StayRound round G H
+
+pub words_specified : (G : Env) (round : List ℕ) (ws : List TypeWord) (c : CType × Env) → IsDeclared G → MeansWords G ws c
+    → IsSpecified G c.1 round c.0
+words_specified G round ws c h (is_words d e) =
+    let K = mentioned_words G ws in
+    let m = (words_mentioned G ws h).0 in
+    let t = type_mentioned K d m.declared (words_known K ws d m.declared e) in
+    let n = mentions_on G K (record K { types = with_c_type K.types d }) m t.0 in
+    record { declares = declares_mentions G _ n; number = t.1; round_stays = λ a k o. n.open_stay a o }
+
+-- ---- tags
+
+-- a tag that comes to the innermost scope, where it may hide another
+tag_declares : (G : Env) (t : List ℕ) (u : Bool) → IsDeclared G → Declares G (with_tag G t u)
+tag_declares G t u h =
+    let m = table_declared G t u h in
+    let a = length G.types.aggregates in
+    let l : a < length (declared G.types t u).aggregates =
+    omega (arith, length-append G.types.aggregates ((record { tag = t; is_union = u; members = None }) ∷ [])) in
+    record {
+      declared = record {
+        table = m.declared.table;
+        names = each_same (IsTyped (declared G.types t u)) G.scopes (tag_in G.scopes t a) (names_tagged G.scopes t a)
+            m.declared.names;
+        tags = tag_push (λ k. k < length (declared G.types t u).aggregates) G.scopes t a m.declared.tags l;
+        functions = m.declared.functions;
+      };
+      grows = m.grows;
+      names = names_tagged G.scopes t a;
+      blocks = refl;
+      functions = refl;
+    }
+
+-- the aggregate of a body is open, and none of those round it
+record IsOpened (G H : Env) (round : List ℕ) (u : Bool) (a : ℕ) : Type 0 where
+  declares : Declares G H
+  row : AggregateRow
+  here : slice_get H.types.aggregates a ≡ Some row
+  unset : row.members ≡ None
+  union : row.is_union ≡ u
+  round_stays : StayRound round G H
+  other : (b : ℕ) → contains b round ≡ true → IsOpen G.types b → b ≡ a → ⊥
+
+below_of : {X : Type 0} (xs : List X) (n : ℕ) (x : X) → slice_get xs n ≡ Some x → n < length xs
+below_of [] n x h = absurd cc
+below_of (y ∷ ys) zero x h = omega arith
+below_of (y ∷ ys) (suc n) x h = omega (arith, below_of ys n x h)
+
+opened_new : (G H : Env) (t : List ℕ) (u : Bool) (round : List ℕ) → Declares G H → H.types ≡ declared G.types t u
+    → IsOpened G H round u (length G.types.aggregates)
+opened_new G H t u round d e = record {
+  declares = d;
+  row = record { tag = t; is_union = u; members = None };
+  here = ap (λ (x : Table). slice_get x.aggregates (length G.types.aggregates)) e
+      ∙ get_last G.types.aggregates (record { tag = t; is_union = u; members = None });
+  unset = refl;
+  union = refl;
+  round_stays = λ a k o. later a o;
+  other = λ b k o same. absurd (omega (arith, same, below_of G.types.aggregates b o.0 o.1));
+}
+  where
+    later : (a : ℕ) → IsOpen G.types a → IsOpen H.types a
+    later a o = subst (λ (x : Table). IsOpen x a) (sym e)
+        (o.0, get_front G.types.aggregates (record { tag = t; is_union = u; members = None }) o.0 a o.1, o.2)
+
+same_sign : (a b : Bool) → is_same_sign a b ≡ true → a ≡ b
+same_sign true true h = refl
+same_sign true false h = never h
+same_sign false true h = never h
+same_sign false false h = refl
+
+not_either : (a b : Bool) → (a || b) ≡ false → (a ≡ false) × (b ≡ false)
+not_either true b h = absurd (true≢false h)
+not_either false b h = (refl, h)
+
+opened_before : (G : Env) (round : List ℕ) (u : Bool) (a : ℕ) → IsDeclared G → a < length G.types.aggregates
+    → has_body G round u a ≡ false → IsOpened G G round u a
+opened_before G round u a h l e =
+    let p = not_either (contains a round || is_completed G.types a) (not (is_same_sign (is_union G.types a) u)) e in
+    let q = not_either (contains a round) (is_completed G.types a) p.0 in
+    let r = below_aggregate G.types.aggregates a l in
+    let s = same_sign (is_union G.types a) u (is_so _ p.1) in
+    record {
+      declares = record { declared = h; grows = kept_by_itself G.types; names = same_names G.scopes; blocks = refl; functions = refl };
+      row = r.0;
+      here = r.1;
+      unset = by_members r.0 r.1 r.0.members refl q.1;
+      union = sym (ap (λ (o : Option AggregateRow). unwrap_or (option_map (λ (g : AggregateRow). g.is_union) o) false) r.1) ∙ s;
+      round_stays = λ b k o. o;
+      other = λ b k o same. both_ways b k same q.0;
+    }
+  where
+    by_members : (g : AggregateRow) → slice_get G.types.aggregates a ≡ Some g → (o : Option (List MemberRow)) → g.members ≡ o
+        → is_completed G.types a ≡ false → g.members ≡ None
+    by_members g q None m k = m
+    by_members g q (Some ms) m k =
+        let done : is_completed G.types a ≡ true = rw (q, m) refl in absurd (true≢false (sym done ∙ k))
+
+    both_ways : (b : ℕ) → contains b round ≡ true → b ≡ a → contains a round ≡ false → ⊥
+    both_ways b k same n = absurd (true≢false (sym (subst (λ (j : ℕ). contains j round ≡ true) same k) ∙ n))
+
+opened_is : (G : Env) (round : List ℕ) (u : Bool) (tag : Option (List ℕ)) (o : ℕ × Env) → IsDeclared G
+    → opened G round u tag ≡ Ok o → IsOpened G o.1 round u o.0
+unfolding opened
+opened_is G round u None o h e =
+    let H : Env = record G { types = declared G.types [] u } in
+    let same = fine_is {A = ℕ × Env} (length G.types.aggregates, H) o e in
+    subst (λ (x : ℕ × Env). IsOpened G x.1 round u x.0) same
+    (opened_new G H [] u round (declares_mentions G H (table_declared G [] u h)) refl)
+opened_is G round u (Some t) o h e = by (entry t (tags_here G.scopes)) refl e
+  where
+    tag_below : (ss : List Scope) (a : ℕ) → EachTag (λ k. k < length G.types.aggregates) ss → entry t (tags_here ss) ≡ Some a
+        → a < length G.types.aggregates
+    tag_below [] a k q = absurd cc
+    tag_below (s ∷ ss) a k q = tag_entry_is (λ k. k < length G.types.aggregates) t s.tags a k.0 q
+
+    by : (x : Option ℕ) → entry t (tags_here G.scopes) ≡ x → body_of G round u t x ≡ Ok o → IsOpened G o.1 round u o.0
+    by None q m =
+        let same = fine_is {A = ℕ × Env} (length G.types.aggregates, with_tag G t u) o m in
+        subst (λ (x : ℕ × Env). IsOpened G x.1 round u x.0) same
+        (opened_new G (with_tag G t u) t u round (tag_declares G t u h) refl)
+    by (Some a) q m =
+        let r = unless (has_body G round u a) 31 _ o m in
+        let same = fine_is {A = ℕ × Env} (a, G) o r.1 in
+        subst (λ (x : ℕ × Env). IsOpened G x.1 round u x.0) same
+        (opened_before G round u a h (tag_below G.scopes a h.tags q) r.0)
+
+-- ---- members
+
+abbrev AreKnown : Table → Named → Type 0
+AreKnown t ms = list_all (λ (m : List ℕ × ℕ). is_type t m.1) ms ≡ true
+
+known_more : (t u : Table) → length t.types ≤ length u.types → (ms : Named) → AreKnown t ms → AreKnown u ms
+known_more t u l [] h = refl
+known_more t u l (m ∷ ms) h =
+    let p = and_parts (is_type t m.1) (list_all (λ (m : List ℕ × ℕ). is_type t m.1) ms) h in
+    and_is _ _ (below_more m.1 p.0) (known_more t u l ms p.1)
+  where
+    below_more : (n : ℕ) → is_type t n ≡ true → is_type u n ≡ true
+    below_more n q = grind (arith, nat_tests)
+
+known_push : (t : Table) (ms : Named) (n : List ℕ) (k : ℕ) → AreKnown t ms → k < length t.types → AreKnown t (ms ++ (n, k) ∷ [])
+known_push t [] n k h l = and_is _ _ (below k l) refl
+  where
+    below : (k : ℕ) → k < length t.types → is_type t k ≡ true
+    below k l = grind (arith, nat_tests)
+known_push t (m ∷ ms) n k h l =
+    let p = and_parts (is_type t m.1) (list_all (λ (m : List ℕ × ℕ). is_type t m.1) ms) h in
+    and_is _ _ p.0 (known_push t ms n k p.1 l)
+
+record AreMembers (G H : Env) (round : List ℕ) (ms : Named) : Type 0 where
+  declares : Declares G H
+  known : AreKnown H.types ms
+  round_stays : StayRound round G H
+
+members_on : (G H I : Env) (round : List ℕ) (ms : Named) → Declares G H → StayRound round G H → AreMembers H I round ms
+    → AreMembers G I round ms
+members_on G H I round ms d r m = record {
+  declares = declares_on G H I d m.declares;
+  known = m.known;
+  round_stays = λ a k o. m.round_stays a k (r a k o);
+}
+
+with_member_is : (G : Env) (round : List ℕ) (ms : Named) (n : List ℕ) (c : CType) (ns : List ℕ) (x : Named × Env) → IsDeclared G
+    → IsKnownBase G.types c.base → AreLengths ns → AreKnown G.types ms → with_member G ms n c ns ≡ Ok x
+    → AreMembers G x.1 round x.0
+unfolding with_member
+with_member_is G round ms n c ns x h k l known e =
+    let a = unless (is_some (entry n ms)) 31 _ x e in
+    let r = after (arrays_of G.types c ns) _ x a.1 in
+    let t = arrays_come G.types c ns r.0 h.table k l r.1 in
+    let z = after (needed 33 (size_of_type r.0.1 r.0.0)) _ x r.2 in
+    let H = with_types G r.0.1 in
+    let m = table_mentioned G r.0.1 h t.grows t.table (same_rows_open G.types r.0.1 t.rows) in
+    let same = fine_is {A = Named × Env} (ms ++ (n, c_type_number r.0.1 r.0.0) ∷ [], H) x z.2 in
+    let i = c_number_is r.0.1 r.0.0 t.number.0 t.number.1 in
+    let l : c_type_number r.0.1 r.0.0 < length r.0.1.types =
+    subst (λ (j : ℕ). j < length r.0.1.types) (sym i) (number_below r.0.1 r.0.0 t.number.0 t.number.1) in
+    subst (λ (y : Named × Env). AreMembers G y.1 round y.0) same (record {
+      declares = declares_mentions G H m;
+      known = known_push r.0.1 ms n (c_type_number r.0.1 r.0.0)
+          (known_more G.types r.0.1 (more_types G.types r.0.1 t.grows) ms known) l;
+      round_stays = λ a k o. m.open_stay a o;
+    })
+
+member_name_is : (G : Env) (round : List ℕ) (ms : Named) (c : CType) (d : Declarator) (x : Named × Env) → IsDeclared G
+    → HasNumber G.types c → AreKnown G.types ms → MeansMemberName G ms c d x → AreMembers G x.1 round x.0
+member_name_is G round ms c d x h k known (is_member_name ns y m e) =
+    let b = bounds_are G d.line d.bounds ns h m in
+    let H = ns.1 in
+    let i = b.mentions.declared in
+    let number : HasNumber H.types c = (k.0, type_number_stays G.types H.types b.mentions.grows i.table.built c k.0 k.1) in
+    let w = with_member_is H round ms d.name (with_stars c (length d.stars)) ns.0 x i (known_base H.types c number i.table)
+    b.lengths (known_more G.types H.types (more_types G.types H.types b.mentions.grows) ms known) e in
+    members_on G H x.1 round x.0 (declares_mentions G H b.mentions) (λ a q o. b.mentions.open_stay a o) w
+
+member_names_are : (G : Env) (round : List ℕ) (ms : Named) (c : CType) (ds : List Declarator) (x : Named × Env) → IsDeclared G
+    → HasNumber G.types c → AreKnown G.types ms → MeansMemberNames G ms c ds x → AreMembers G x.1 round x.0
+member_names_are G round ms c ds x h k known no_member_names = record {
+  declares = record { declared = h; grows = kept_by_itself G.types; names = same_names G.scopes; blocks = refl; functions = refl };
+  known = known;
+  round_stays = λ a q o. o;
+}
+member_names_are G round ms c ds x h k known (more_member_names {d = d} {ds = es} y z m n) =
+    let a = member_name_is G round ms c d y h k known m in
+    let H = y.1 in
+    let number : HasNumber H.types c =
+    (k.0, type_number_stays G.types H.types a.declares.grows a.declares.declared.table.built c k.0 k.1) in
+    members_on G H z.1 round z.0 a.declares a.round_stays
+    (member_names_are H round y.0 c es z a.declares.declared number a.known n)
+
+-- ---- bodies
+
+-- a table with a body that was closed
+closed_table : (t : Table) (a : ℕ) (g : AggregateRow) (m : List ℕ × ℕ) (ms : Named) → IsTable t
+    → slice_get t.aggregates a ≡ Some g → g.members ≡ None → AreKnown t (m ∷ ms)
+    → members_stop t g.is_union (m ∷ ms) ≡ None → IsTable (completed_with t a (m ∷ ms))
+closed_table t a g m ms h here none known fits = record {
+  built = members_more t a g (m ∷ ms) h.built here none known fits;
+  arrays = subst (λ (u : Table). (n e k : ℕ) → slice_get u.types n ≡ Some (rows.Array e k) → is_length k ≡ true)
+      (sym (completed_is t a g (m ∷ ms) here)) h.arrays;
+  bodies = subst (λ (u : Table). (b : ℕ) (r : AggregateRow) (xs : List MemberRow) → slice_get u.aggregates b ≡ Some r
+      → r.members ≡ Some xs → (x : MemberRow) × (rest : List MemberRow) × (xs ≡ x ∷ rest))
+      (sym (completed_is t a g (m ∷ ms) here)) bodies;
+}
+  where
+    some_row : (u : Bool) → (x : MemberRow) × (rest : List MemberRow) × (laid_out t u (m ∷ ms) ≡ x ∷ rest)
+    some_row true = (_, _, refl)
+    some_row false = (_, _, refl)
+
+    bodies : (b : ℕ) (r : AggregateRow) (xs : List MemberRow)
+        → slice_get (with_members t a g (laid_out t g.is_union (m ∷ ms))).aggregates b ≡ Some r → r.members ≡ Some xs
+        → (x : MemberRow) × (rest : List MemberRow) × (xs ≡ x ∷ rest)
+    bodies b r xs q p = elim (get_set t.aggregates a b (record g { members = Some (laid_out t g.is_union (m ∷ ms)) }) r q) [
+      | inl new ↦
+          let s = some_row g.is_union in
+          let same : Some (laid_out t g.is_union (m ∷ ms)) ≡ Some xs = ap (λ (x : AggregateRow). x.members) new.1 ∙ p in
+          let e : laid_out t g.is_union (m ∷ ms) ≡ xs = cc in
+          (s.0, s.1, sym e ∙ s.2)
+      | inr old ↦ h.bodies b r xs old p
+    ]
+
+closed_grows : (t : Table) (a : ℕ) (g : AggregateRow) (ms : Named) → slice_get t.aggregates a ≡ Some g → g.members ≡ None
+    → Grows t (completed_with t a ms)
+closed_grows t a g ms here none =
+    subst (Grows t) (sym (completed_is t a g ms here)) (grows_with_members t a g (laid_out t g.is_union ms) here none)
+
+closed_open : (t : Table) (a : ℕ) (g : AggregateRow) (ms : Named) → slice_get t.aggregates a ≡ Some g → (b : ℕ)
+    → (b ≡ a → ⊥) → IsOpen t b → IsOpen (completed_with t a ms) b
+closed_open t a g ms here b other o =
+    subst (λ (u : Table). IsOpen u b) (sym (completed_is t a g ms here))
+    (elim (get_set_other t.aggregates a b (record g { members = Some (laid_out t g.is_union ms) }) o.0 o.1) [
+      | inl same ↦ absurd (other same)
+      | inr p ↦ (o.0, p, o.2)
+    ])
+
+record IsClosed (G H : Env) (a : ℕ) (c : CType) : Type 0 where
+  declares : Declares G H
+  number : HasNumber H.types c
+  others : (b : ℕ) → (b ≡ a → ⊥) → IsOpen G.types b → IsOpen H.types b
+
+closed_is : (G : Env) (a : ℕ) (u : Bool) (ms : Named) (o : Option LayoutStop) (c : CType × Env) → IsDeclared G
+    → (g : AggregateRow) → slice_get G.types.aggregates a ≡ Some g → g.members ≡ None → g.is_union ≡ u → AreKnown G.types ms
+    → members_stop G.types u ms ≡ o → closed G a ms o ≡ Ok c → IsClosed G c.1 a c.0
+closed_is G a u [] o c h g here none union known fits e = absurd cc
+closed_is G a u (m ∷ ms) (Some s) c h g here none union known fits e = absurd cc
+closed_is G a u (m ∷ ms) None c h g here none union known fits e =
+    let t = completed_with G.types a (m ∷ ms) in
+    let H : Env = record G { types = t } in
+    let grows = closed_grows G.types a g (m ∷ ms) here none in
+    let stop = subst (λ (b : Bool). members_stop G.types b (m ∷ ms) ≡ None) (sym union) fits in
+    let d = with_table G t h grows (closed_table G.types a g m ms h.table here none known stop) in
+    let l : a < length t.aggregates = omega (arith, below_of G.types.aggregates a g here, more_aggregates G.types t grows) in
+    let k = type_mentioned H (whole (bases.Aggregate a)) d l in
+    let same = fine_is {A = CType × Env} (whole (bases.Aggregate a), record H { types = with_c_type t (whole (bases.Aggregate a)) }) c e in
+    subst (λ (x : CType × Env). IsClosed G x.1 a x.0) same (record {
+      declares = declares_on G H _
+          (record { declared = d; grows = grows; names = same_names G.scopes; blocks = refl; functions = refl })
+          (declares_mentions H _ k.0);
+      number = k.1;
+      others = λ b other p. k.0.open_stay b (closed_open G.types a g (m ∷ ms) here b other p);
+    })
+
+mutual
+  pub specified : (G : Env) (round : List ℕ) (ws : List TypeWord) (ss : Specs) (c : CType × Env) → IsDeclared G
+      → MeansSpecs G round ws ss c → IsSpecified G c.1 round c.0
+  specified G round ws ss c h (is_plain d m) = words_specified G round ws c h m
+  specified G round ws ss c h (one_word_more {w = w} {ss = rest} d m) = specified G round (ws ++ w ∷ []) rest c h m
+  specified G round ws ss c h (is_bodied {a = a} d m) = body_specified G round a c h m
+
+  pub body_specified : (G : Env) (round : List ℕ) (a : Aggregate) (c : CType × Env) → IsDeclared G → MeansBody G round a c
+      → IsSpecified G c.1 round c.0
+  body_specified G round a c h (is_body {l = l} {w = w} {tag = tag} {ms = ms} o x d p m q) =
+      let u = w == union_word in
+      let k = opened_is G round u tag o h p in
+      let n = members_specified o.1 (o.0 ∷ round) [] ms x k.declares.declared refl m in
+      let open_now = n.round_stays o.0 (left_is (nat_eq o.0 o.0) _ (eq_self o.0)) (k.row, k.here, k.unset) in
+      let grown = n.declares.grows.aggregates o.0 k.row k.here in
+      let union : open_now.0.is_union ≡ u =
+      ap (λ (g : AggregateRow). g.is_union) (same_row open_now.0 grown.0 (sym open_now.1 ∙ grown.1)) ∙ grown.2 ∙ k.union in
+      let z = closed_is x.1 o.0 u x.0 (members_stop x.1.types u x.0) c n.declares.declared open_now.0 open_now.1 open_now.2
+      union n.known refl q in
+      record {
+        declares = declares_on G o.1 c.1 k.declares (declares_on o.1 x.1 c.1 n.declares z.declares);
+        number = z.number;
+        round_stays = λ b e i.
+            z.others b (k.other b e i) (n.round_stays b (right_is (nat_eq b o.0) _ e) (k.round_stays b e i));
+      }
+
+  members_specified : (G : Env) (round : List ℕ) (ns : Named) (ms : Members) (x : Named × Env) → IsDeclared G
+      → AreKnown G.types ns → MeansMembers G round ns ms x → AreMembers G x.1 round x.0
+  members_specified G round ns ms x h k no_more_members = record {
+    declares = record { declared = h; grows = kept_by_itself G.types; names = same_names G.scopes; blocks = refl; functions = refl };
+    known = k;
+    round_stays = λ a q o. o;
+  }
+  members_specified G round ns ms x h k (one_member_more {ss = ss} {ds = ds} {rest = rest} c y z m n r) =
+      let s = specified G round [] ss c h m in
+      let a = member_names_are c.1 round ns c.0 ds y s.declares.declared s.number
+      (known_more G.types c.1.types (more_types G.types c.1.types s.declares.grows) ns k) n in
+      let b = members_specified y.1 round y.0 rest x a.declares.declared a.known r in
+      members_on G c.1 x.1 round x.0 s.declares s.round_stays (members_on c.1 y.1 x.1 round x.0 a.declares a.round_stays b)

@@ -1,0 +1,5 @@
+pub mod Numbers
+pub mod Environments
+pub mod Operands
+pub mod Statements
+pub mod Laws
