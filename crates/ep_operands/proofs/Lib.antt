@@ -4,4 +4,3 @@ pub mod PassingLemmas
 pub mod ConstantLemmas
 pub mod PartLemmas
 pub mod StoreLemmas
-pub mod LiteralLemmas

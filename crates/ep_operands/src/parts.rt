@@ -33,7 +33,6 @@ use std::alloc::{AllocError, Global};
 // ---- numbers and names
 
 /// A number as it is written. 0 is a null constant.
-#[tactic(auto, using(crate::proofs::LiteralLemmas::literal_fits))]
 pub fn numbered(model: Model, n: Literal) -> Operand
     ensures { seen.operand result ≡ rule.numbered model n }
 {
