@@ -79,7 +79,8 @@ pub fn is_some_partly_in<N: Num>(model: Model, p: &Place, cells: &[Cell<N>]) -> 
     cells.iter().any(|c| is_partly_in(p, &place_of(model, c)))
 }
 
-fn cell_of_both<N: Num>(union: Union, x: &Cell<N>, y: &Cell<N>) -> Result<Cell<N>, Memory>
+/// Two cells of one side, place and type, put together.
+pub fn cell_of_both<N: Num>(union: Union, x: &Cell<N>, y: &Cell<N>) -> Result<Cell<N>, Memory>
     ensures { IfOk result (λ z. z ≡ cell_of_both (united N.ops union) x.now y.now) }
 {
     Ok(Cell {
@@ -110,7 +111,8 @@ pub fn cells_of_both<N: Num>(
     Ok(out)
 }
 
-fn is_cell_within<N: Num>(x: &Cell<N>, y: &Cell<N>) -> bool
+/// Whether a cell says all that the other does.
+pub fn is_cell_within<N: Num>(x: &Cell<N>, y: &Cell<N>) -> bool
     ensures { result ≡ is_cell_within N.ops x.now y.now }
 {
     is_value_within(&x.value, &y.value) && (!x.maybe || y.maybe) && is_form_kept(&x.form, &y.form)

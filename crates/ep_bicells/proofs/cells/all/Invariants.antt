@@ -1,0 +1,6 @@
+use Rattle.std.proofs.Common.{◌≡◌, ◌++◌, map, drop}
+use Rattle.ep_bicells.specs.Spread.{all_items}
+use Rattle.ep_bicells.proofs.cells.all.Given as goal
+
+abbrev pub invariant-loop-part : goal.invariant-loop-part
+invariant-loop-part g l = map (λ r. r.now) l.out.items ++ all_items (drop l.part-index l.parts) ≡ all_items l.parts
