@@ -120,7 +120,8 @@ fn are_from<T: Numbered>(items: &[T], k: u64) -> bool
 
 // Whether a part may be halved so, where the second half starts at this number.
 fn may_part<T: Numbered>(start: u64, left: &[T], right: &[T], k: u64) -> bool
-    ensures { IsTrue result → (start ≤ k) × (0 < length right.now) × AreBelow k (map T.number left.now) × AreFrom k (map T.number right.now) }
+    ensures { IsTrue result
+        → (start ≤ k) × (0 < length right.now) × AreBelow k (map T.number left.now) × AreFrom k (map T.number right.now) }
 {
     if start > k {
         return false;
@@ -191,7 +192,8 @@ fn halve<T: Numbered>(alloc: Global, parts: &mut Vec<Part<T>>, i: usize) -> Resu
     requires within { i < length parts.old.items }
     ensures spread { AreSpread (outlines T.number parts.new.items) }
     ensures items { all_items parts.new.items ≡ all_items parts.old.items }
-    ensures starts { (k : ℕ) → 0 < parts_to k (outlines T.number parts.old.items) → 0 < parts_to k (outlines T.number parts.new.items) }
+    ensures starts { (k : ℕ) → 0 < parts_to k (outlines T.number parts.old.items)
+        → 0 < parts_to k (outlines T.number parts.new.items) }
 {
     if parts[i].items.len() < FULL {
         return Ok(());

@@ -143,7 +143,8 @@ fn is_sure_cell<N: Num>(n: &CellName, c: &Cell<N>) -> bool
 fn place_of_name<N: Num>(n: &CellName, cells: &[Cell<N>]) -> usize
     requires { AreInOrder cells.now }
     ensures within { result ≤ length cells.now }
-    ensures point { IsPartitionPoint (λ c. is_before_name n.now c ≡ true) (λ c. is_before_name n.now c ≡ false) cells.now result }
+    ensures point { IsPartitionPoint (λ c. is_before_name n.now c ≡ true) (λ c. is_before_name n.now c ≡ false)
+        cells.now result }
 {
     cells.partition_point(|c| is_before_name(n, c))
 }

@@ -54,8 +54,10 @@ fn push_killed_both<N: Num>(
     x: &Cell<N>,
 ) -> Result<(), Memory>
     ensures { IfOk result (λ _. out.new.items ≡ (out.old.items
-        ++ reformed (fate_of (Change.Kill side block)) (killed_part side block (record x.now { side = Side.Left })) ∷ [])
-        ++ reformed (fate_of (Change.Kill side block)) (killed_part side block (record x.now { side = Side.Right })) ∷ []) }
+        ++ reformed (fate_of (Change.Kill side block))
+        (killed_part side block (record x.now { side = Side.Left })) ∷ [])
+        ++ reformed (fate_of (Change.Kill side block))
+        (killed_part side block (record x.now { side = Side.Right })) ∷ []) }
 {
     push(out, killed_part(side, block, x, Side::Left)?)?;
     push(out, killed_part(side, block, x, Side::Right)?)

@@ -125,7 +125,8 @@ pub fn reshared_at<N: Num>(
     offset: u32,
     cells: &[Cell<N>],
 ) -> Result<Option<Vec<Cell<N>>>, Memory>
-    ensures { IfOk result (λ o. option_map_or (λ v. v.items) o cells.now ≡ reshared_at N.ops block offset cells.now) }
+    ensures { IfOk result (λ o. option_map_or (λ v. v.items) o cells.now
+        ≡ reshared_at N.ops block offset cells.now) }
 {
     let Some(l) = cell_from(Side::Left, block, offset, cells) else {
         return Ok(None);

@@ -150,7 +150,8 @@ fn push_left<N: Num>(
     x: &Cell<N>,
 ) -> Result<(), Memory>
     ensures { IfOk result (λ _. out.new.items ≡ out.old.items
-        ++ map (reformed (fate_of (Change.WeakWrite (the_place model c.now)))) (left_by_weak_write N.ops model c.now stays x.now)) }
+        ++ map (reformed (fate_of (Change.WeakWrite (the_place model c.now))))
+        (left_by_weak_write N.ops model c.now stays x.now)) }
 {
     let place = place_of(model, c);
     let change = Change::WeakWrite(place);

@@ -54,7 +54,8 @@ fn fate_by_write(p: &Place, n: &CellName) -> Option<CellName>
 }
 
 fn touched_weakly(p: &Place, n: &CellName) -> Option<CellName>
-    ensures { result ≡ (if share p.now.side (first_of n.now.side) then None else Some (record n.now { side = first_of n.now.side })) }
+    ensures { result
+        ≡ (if share p.now.side (first_of n.now.side) then None else Some (record n.now { side = first_of n.now.side })) }
 {
     if share_memory(p.side, first_part(n.side)) {
         None
