@@ -1,0 +1,4 @@
+pub mod Firsts
+pub mod Starts
+pub mod Ends
+pub mod Texts
