@@ -1,8 +1,9 @@
 -- From what was read and reported to the text and the status.
 use Rattle.std.proofs.Common.{◌≡◌, refl, ap, ◌∙◌, ℕ, true, ◌⊎◌, inl, inr, List, [], ◌∷◌, ◌++◌, codes, decimal, Option, Some, None, IfSome, Result, Ok, Err, IfOk}
 use Rattle.endport.specs.declared.refusal.Refusal.{Refusal}
-use Rattle.endport.specs.declared.status.Status.{Status}
-use Rattle.endport.specs.declared.status.Status.TheVariants.{Done, Alarms, Refused, Usage, ReadFault, WriteFault, Memory, TooLong}
+use Rattle.ep_words.specs.Words.{Command, check, layout, run}
+use Rattle.ep_jobs.specs.declared.status.Status.{Status}
+use Rattle.ep_jobs.specs.declared.status.Status.TheVariants.{Done, Alarms, Refused, Usage, ReadFault, WriteFault, Memory, TooLong, StepsUsedUp, Undefined, InputEnded}
 use Rattle.ep_alarms.specs.declared.types.Alarm.{Alarm}
 use Rattle.ep_alarms.specs.Text.{report_text_of}
 use Rattle.ep_small_core.specs.Program.{Program}
@@ -15,39 +16,7 @@ use Rattle.ep_io.specs.Bytes.{Appended, FrontAppended}
 use Rattle.ep_io.specs.Faults.{Rose}
 use Rattle.endport.specs.Answers.{not_built}
 use Rattle.endport.specs.Form.{First}
-use Rattle.endport.specs.Top.{alarms_of, report_status, refusal_line, Reports, Refuses, IsJob, TextOf, Written}
-
--- the bytes under the file are those that were read
-told_as : (told : Option (List ℕ)) (bytes read : List ℕ) → IfSome told (λ standing. standing ≡ bytes) → bytes ≡ read → IfSome told (λ standing. standing ≡ read)
-told_as None bytes read t e = tt
-told_as (Some standing) bytes read t e = t ∙ e
-
-reports_as : (told : Option (List ℕ)) (bytes : List ℕ) (status : Status) (text : List ℕ) → IfSome told (λ standing. standing ≡ bytes) → Reports (Some bytes) status text → Reports told status text
-reports_as told bytes status text t r = record {
-  bytes = r.bytes;
-  are = told_as told bytes r.bytes t r.are;
-  program = r.program;
-  form = r.form;
-  only = r.only;
-  text_is = r.text_is;
-  status_is = r.status_is;
-  portable = r.portable;
-  interleaved = r.interleaved;
-  complete = r.complete;
-}
-
-refuses_as : (told : Option (List ℕ)) (bytes : List ℕ) (text : List ℕ) → IfSome told (λ standing. standing ≡ bytes) → Refuses (Some bytes) text → Refuses told text
-refuses_as told bytes text t r = record { bytes = r.bytes; are = told_as told bytes r.bytes t r.are; no_form = r.no_form; text_is = r.text_is }
-
-pub text_of : (file : List ℕ) (told : Option (List ℕ)) (bytes : List ℕ) (status : Status) (text : List ℕ) → IfSome told (λ standing. standing ≡ bytes) → IsJob bytes status text → TextOf (Some file) told status text
-text_of file told bytes Done text t j = reports_as told bytes Done text t j
-text_of file told bytes Alarms text t j = reports_as told bytes Alarms text t j
-text_of file told bytes Refused text t j = refuses_as told bytes text t j
-text_of file told bytes Usage text t j = absurd j
-text_of file told bytes ReadFault text t j = absurd j
-text_of file told bytes WriteFault text t j = absurd j
-text_of file told bytes Memory text t j = absurd j
-text_of file told bytes TooLong text t j = absurd j
+use Rattle.endport.specs.Top.{alarms_of, report_status, refusal_line, Reports, IsReport, IsJob, TextOf, Written, IsTooLong, StopsSo}
 
 -- a report on the one program of the bytes
 pub record Read (bytes : List ℕ) (program : Program) : Type 0 where
@@ -69,11 +38,9 @@ none_is_done : (alarms : List Alarm) → report_status alarms ≡ Done → alarm
 none_is_done [] e = refl
 none_is_done (a ∷ more) e = absurd cc
 
-reports : (bytes : List ℕ) (program : Program) (alarms : List Alarm) (text : List ℕ) → Read bytes program → Found program alarms → text ≡ report_text_of alarms
-    → Reports (Some bytes) (report_status alarms) text
+reports : (bytes : List ℕ) (program : Program) (alarms : List Alarm) (text : List ℕ) → Read bytes program
+    → Found program alarms → text ≡ report_text_of alarms → Reports bytes (report_status alarms) text
 reports bytes program alarms text r f e = record {
-  bytes = bytes;
-  are = refl;
   program = program;
   form = r.form;
   only = r.only;
@@ -84,8 +51,8 @@ reports bytes program alarms text r f e = record {
   complete = λ s a. ap report_status (f.complete s a);
 }
 
-pub job_of : (bytes : List ℕ) (program : Program) (alarms : List Alarm) (text : List ℕ) → Read bytes program → Found program alarms → text ≡ report_text_of alarms
-    → IsJob bytes (report_status alarms) text
+pub job_of : (bytes : List ℕ) (program : Program) (alarms : List Alarm) (text : List ℕ) → Read bytes program
+    → Found program alarms → text ≡ report_text_of alarms → IsReport bytes (report_status alarms) text
 job_of bytes program [] text r f e = reports bytes program [] text r f e
 job_of bytes program (a ∷ more) text r f e = reports bytes program (a ∷ more) text r f e
 
@@ -94,18 +61,69 @@ line_of r e = rw e refl
 
 -- ---- what was written
 
-whole : (file told : Option (List ℕ)) (status : Status) (text : List ℕ) (before after : Option (List ℕ)) → TextOf file told status text → Appended before text after → Written file told status before after
-whole file told Done text before after t a = (text, t, a)
-whole file told Alarms text before after t a = (text, t, a)
-whole file told Refused text before after t a = (text, t, a)
-whole file told Usage text before after t a = (text, t, a)
-whole file told ReadFault text before after t a = absurd t
-whole file told WriteFault text before after t a = absurd t
-whole file told Memory text before after t a = absurd t
-whole file told TooLong text before after t a = absurd t
+-- ---- no job comes to a status without a text
 
-pub written : (file told : Option (List ℕ)) (status result : Status) (text : List ℕ) (before after : Option (List ℕ)) (was now : ℕ) → TextOf file told status text
+never_read_fault : (c : Command) (bytes text : List ℕ) → IsJob c bytes ReadFault text → ⊥
+never_read_fault (check file) bytes text j = j
+never_read_fault (layout model file) bytes text j = j
+never_read_fault (run order steps model file inputs) bytes text j = j
+
+never_write_fault : (c : Command) (bytes text : List ℕ) → IsJob c bytes WriteFault text → ⊥
+never_write_fault (check file) bytes text j = j
+never_write_fault (layout model file) bytes text j = j
+never_write_fault (run order steps model file inputs) bytes text j = j
+
+never_memory : (c : Command) (bytes text : List ℕ) → IsJob c bytes Memory text → ⊥
+never_memory (check file) bytes text j = j
+never_memory (layout model file) bytes text j = j
+never_memory (run order steps model file inputs) bytes text j = j
+
+never_too_long : (c : Command) (bytes text : List ℕ) → IsJob c bytes TooLong text → ⊥
+never_too_long (check file) bytes text j = j
+never_too_long (layout model file) bytes text j = j
+never_too_long (run order steps model file inputs) bytes text j = j
+
+whole_of : (c : Command) (told : Option (List ℕ)) (status : Status) (text : List ℕ) (before after : Option (List ℕ))
+    → TextOf (Some c) told status text → Appended before text after → Written (Some c) told status before after
+whole_of c told Done text before after t a = (text, t, a)
+whole_of c told Alarms text before after t a = (text, t, a)
+whole_of c told Refused text before after t a = (text, t, a)
+whole_of c told Usage text before after t a = (text, t, a)
+whole_of c told ReadFault text before after t a = absurd (never_read_fault c t.bytes text t.is_job)
+whole_of c told WriteFault text before after t a = absurd (never_write_fault c t.bytes text t.is_job)
+whole_of c told Memory text before after t a = absurd (never_memory c t.bytes text t.is_job)
+whole_of c told TooLong text before after t a = absurd (never_too_long c t.bytes text t.is_job)
+whole_of c told StepsUsedUp text before after t a = (text, t, a)
+whole_of c told Undefined text before after t a = (text, t, a)
+whole_of c told InputEnded text before after t a = (text, t, a)
+
+whole : (c : Option Command) (told : Option (List ℕ)) (status : Status) (text : List ℕ)
+    (before after : Option (List ℕ)) → TextOf c told status text → Appended before text after
+    → Written c told status before after
+whole (Some c) told status text before after t a = whole_of c told status text before after t a
+whole None told status text before after t a =
+    rw (t.0) (text, (refl, t.1), a)
+
+pub written : (c : Option Command) (told : Option (List ℕ)) (status result : Status) (text : List ℕ)
+    (before after : Option (List ℕ)) (was now : ℕ) → TextOf c told status text
     → ((result ≡ status) × Appended before text after) ⊎ ((result ≡ WriteFault) × FrontAppended before text after × Rose was now)
-    → Written file told result before after
-written file told status result text before after was now t (inl (e, a)) = rw e (whole file told status text before after t a)
-written file told status result text before after was now t (inr (e, f, r)) = rw e (status, text, t, f)
+    → Written c told result before after
+written c told status result text before after was now t (inl (e, a)) = rw e (whole c told status text before after t a)
+written c told status result text before after was now t (inr (e, f, r)) = rw e (status, text, t, f)
+
+-- ---- why there is no text
+
+pub too_long : (told : Option (List ℕ)) (before after : ℕ) (s : Status) → StopsSo told before after s
+    → IfSome told (λ bytes. IsTooLong bytes → (s ≡ TooLong) ⊎ (s ≡ Memory) ⊎ Rose before after)
+too_long None before after s h = tt
+too_long (Some bytes) before after Done h = absurd h
+too_long (Some bytes) before after Alarms h = absurd h
+too_long (Some bytes) before after Refused h = absurd h
+too_long (Some bytes) before after Usage h = absurd h
+too_long (Some bytes) before after ReadFault h = λ l. inr (inr h)
+too_long (Some bytes) before after WriteFault h = absurd h
+too_long (Some bytes) before after Memory h = λ l. inr (inl refl)
+too_long (Some bytes) before after TooLong h = λ l. inl refl
+too_long (Some bytes) before after StepsUsedUp h = absurd h
+too_long (Some bytes) before after Undefined h = absurd h
+too_long (Some bytes) before after InputEnded h = absurd h

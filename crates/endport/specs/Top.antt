@@ -1,9 +1,9 @@
 -- What the program does, from its words to what it writes. This project's rules.
-use Rattle.std.specs.Prelude.{◌≡◌, ℕ, ◌<◌, ◌==◌, ◌&&◌, not, Bool, true, false, if◌then◌else◌, List, [], ◌∷◌, ◌++◌}
-use Rattle.std.specs.Prelude.{length, codes, decimal, Option, Some, None, IfSome, bytes_eq}
-use Rattle.endport.specs.declared.status.Status.{Status}
-use Rattle.endport.specs.declared.status.Status.TheVariants.{Done, Alarms, Refused, Usage, ReadFault, WriteFault}
-use Rattle.endport.specs.declared.status.Status.TheVariants.{Memory, TooLong}
+use Rattle.std.specs.Prelude.{◌≡◌, ℕ, ◌<◌, true, List, [], ◌∷◌, ◌++◌, length, codes, decimal, Option, Some, None, IfSome}
+use Rattle.ep_words.specs.Words.{Command, check, layout, run}
+use Rattle.ep_jobs.specs.Jobs.{IsLayout, IsRun}
+use Rattle.ep_jobs.specs.declared.status.Status.{Status}
+use Rattle.ep_jobs.specs.declared.status.Status.TheVariants.{Done, Alarms, Refused, Usage, ReadFault, WriteFault, Memory, TooLong, StepsUsedUp, Undefined, InputEnded}
 use Rattle.ep_alarms.specs.declared.types.Alarm.{Alarm}
 use Rattle.ep_alarms.specs.Text.{report_text_of}
 use Rattle.ep_small_core.specs.Program.{Program}
@@ -18,41 +18,25 @@ use Rattle.ep_small_pass.specs.Pass.{report_of}
 use Rattle.endport.specs.Answers.{not_built}
 use Rattle.endport.specs.Form.{First}
 
--- the exit code of a status
-abbrev pub code_of : Status → ℕ
-code_of Done = 0
-code_of Alarms = 1
-code_of Refused = 2
-code_of Usage = 3
-code_of ReadFault = 4
-code_of WriteFault = 5
-code_of Memory = 6
-code_of TooLong = 7
-
 -- ---- words
 
--- a name that isn't empty and doesn't begin as an option does
-abbrev pub is_file : List ℕ → Bool
-is_file [] = false
-is_file (b ∷ bs) = not (b == 45)
-
--- the file that plain words name: they are the program's name, `check` and the file
-abbrev pub plain_file : List (List ℕ) → Option (List ℕ)
-plain_file [] = None
-plain_file (name ∷ []) = None
-plain_file (name ∷ command ∷ []) = None
-plain_file (name ∷ command ∷ file ∷ []) = if bytes_eq command (codes "check") && is_file file then Some file else None
-plain_file (name ∷ command ∷ file ∷ word ∷ words) = None
+abbrev pub file_of : Command → List ℕ
+file_of (check file) = file
+file_of (layout model file) = file
+file_of (run order steps model file inputs) = file
 
 -- the bytes that stand under the file, where the words name one and the source tells them
-abbrev pub under : Option (List ℕ) → (List ℕ → Option (List ℕ)) → Option (List ℕ)
+abbrev pub under : Option Command → (List ℕ → Option (List ℕ)) → Option (List ℕ)
 under None standing = None
-under (Some file) standing = standing file
+under (Some c) standing = standing (file_of c)
 
 -- ---- texts
 
 abbrev pub usage_text : List ℕ
-usage_text = codes "usage:\n  endport check FILE\n"
+usage_text =
+    codes "usage:\n  endport check FILE\n"
+    ++ codes "  endport run --order little|big|swapped-words --steps N [--model ilp32|lp64] FILE [INPUT..]\n"
+    ++ codes "  endport layout [--model ilp32|lp64] FILE\n"
 
 -- 1: refused 50 not-built
 abbrev pub refusal_line : List ℕ
@@ -63,18 +47,16 @@ abbrev pub report_status : List Alarm → Status
 report_status [] = Done
 report_status (a ∷ more) = Alarms
 
--- ---- what is written
+-- ---- reports
 
 -- the alarms of a program, by intervals; no turn of a loop is gone through by itself
 abbrev pub alarms_of : Program → List Alarm
 alarms_of p = report_of (cells_ops interval_ops Little Big p) 0 p
 
--- The text and the status of a report: the bytes are a source of the form that is read, they are those that stand under
--- the file where these are told, and the text is the report on their one program. Where it has no alarms the two
--- machines agree on this program. Where they agree on a program without operators, tests, loops and jumps, it has none.
-pub record Reports (told : Option (List ℕ)) (status : Status) (text : List ℕ) : Type 0 where
-  pub bytes : List ℕ
-  pub are : IfSome told (λ standing. standing ≡ bytes)
+-- The text and the status of a report: the bytes are a source of the form that is read, and the text is the report on
+-- their one program. Where it has no alarms the two machines agree on this program. Where they agree on a program
+-- without operators, tests, loops and jumps, it has none.
+pub record Reports (bytes : List ℕ) (status : Status) (text : List ℕ) : Type 0 where
   pub program : Program
   pub form : First bytes program
   pub only : (p : Program) → First bytes p → p ≡ program
@@ -85,45 +67,61 @@ pub record Reports (told : Option (List ℕ)) (status : Status) (text : List ℕ
   pub complete : is_straight program ≡ true → Agree program Little Big → status ≡ Done
 
 -- the refusal of a source that is not of this form
-pub record Refuses (told : Option (List ℕ)) (text : List ℕ) : Type 0 where
-  pub bytes : List ℕ
-  pub are : IfSome told (λ standing. standing ≡ bytes)
+pub record NoForm (bytes text : List ℕ) : Type 0 where
   pub no_form : (p : Program) → First bytes p → ⊥
   pub text_is : text ≡ refusal_line
 
--- what comes of bytes that were read
-abbrev pub IsJob : List ℕ → Status → List ℕ → Type 0
-IsJob bytes Done text = Reports (Some bytes) Done text
-IsJob bytes Alarms text = Reports (Some bytes) Alarms text
-IsJob bytes Refused text = Refuses (Some bytes) text
-IsJob bytes Usage text = ⊥
-IsJob bytes ReadFault text = ⊥
-IsJob bytes WriteFault text = ⊥
-IsJob bytes Memory text = ⊥
-IsJob bytes TooLong text = ⊥
+-- what `check` comes to
+abbrev pub IsReport : List ℕ → Status → List ℕ → Type 0
+IsReport bytes Done text = Reports bytes Done text
+IsReport bytes Alarms text = Reports bytes Alarms text
+IsReport bytes Refused text = NoForm bytes text
+IsReport bytes Usage text = ⊥
+IsReport bytes ReadFault text = ⊥
+IsReport bytes WriteFault text = ⊥
+IsReport bytes Memory text = ⊥
+IsReport bytes TooLong text = ⊥
+IsReport bytes StepsUsedUp text = ⊥
+IsReport bytes Undefined text = ⊥
+IsReport bytes InputEnded text = ⊥
+
+-- ---- what is written
+
+-- what a command comes to on bytes that were read
+abbrev pub IsJob : Command → List ℕ → Status → List ℕ → Type 0
+IsJob (check file) bytes status text = IsReport bytes status text
+IsJob (layout model file) bytes status text = IsLayout model bytes status text
+IsJob (run order steps model file inputs) bytes status text =
+    IsRun (record { model = model; order = order; steps = steps; inputs = inputs }) bytes status text
+
+-- the bytes are those that stand under the file, where these are told
+pub record Comes (c : Command) (told : Option (List ℕ)) (status : Status) (text : List ℕ) : Type 0 where
+  pub bytes : List ℕ
+  pub are : IfSome told (λ standing. standing ≡ bytes)
+  pub is_job : IsJob c bytes status text
 
 -- the text that a status stands for, with these words and these bytes under the file
-abbrev pub TextOf : Option (List ℕ) → Option (List ℕ) → Status → List ℕ → Type 0
-TextOf file told Done text = Reports told Done text
-TextOf file told Alarms text = Reports told Alarms text
-TextOf file told Refused text = Refuses told text
-TextOf file told Usage text = (file ≡ None) × (text ≡ usage_text)
-TextOf file told ReadFault text = ⊥
-TextOf file told WriteFault text = ⊥
-TextOf file told Memory text = ⊥
-TextOf file told TooLong text = ⊥
+abbrev pub TextOf : Option Command → Option (List ℕ) → Status → List ℕ → Type 0
+TextOf None told status text = (status ≡ Usage) × (text ≡ usage_text)
+TextOf (Some c) told status text = Comes c told status text
 
 -- what was written when the program ends so: the whole text; after a write fault a front of a text; else nothing
-abbrev pub Written : Option (List ℕ) → Option (List ℕ) → Status → Option (List ℕ) → Option (List ℕ) → Type 0
-Written file told Done old new = (text : List ℕ) × TextOf file told Done text × Appended old text new
-Written file told Alarms old new = (text : List ℕ) × TextOf file told Alarms text × Appended old text new
-Written file told Refused old new = (text : List ℕ) × TextOf file told Refused text × Appended old text new
-Written file told Usage old new = (text : List ℕ) × TextOf file told Usage text × Appended old text new
-Written file told ReadFault old new = new ≡ old
-Written file told WriteFault old new =
-    (status : Status) × (text : List ℕ) × TextOf file told status text × FrontAppended old text new
-Written file told Memory old new = new ≡ old
-Written file told TooLong old new = new ≡ old
+abbrev pub WholeText : Option Command → Option (List ℕ) → Status → (old new : Option (List ℕ)) → Type 0
+WholeText c told status old new = (text : List ℕ) × TextOf c told status text × Appended old text new
+
+abbrev pub Written : Option Command → Option (List ℕ) → Status → (old new : Option (List ℕ)) → Type 0
+Written c told Done old new = WholeText c told Done old new
+Written c told Alarms old new = WholeText c told Alarms old new
+Written c told Refused old new = WholeText c told Refused old new
+Written c told Usage old new = WholeText c told Usage old new
+Written c told ReadFault old new = new ≡ old
+Written c told WriteFault old new =
+    (status : Status) × (text : List ℕ) × TextOf c told status text × FrontAppended old text new
+Written c told Memory old new = new ≡ old
+Written c told TooLong old new = new ≡ old
+Written c told StepsUsedUp old new = WholeText c told StepsUsedUp old new
+Written c told Undefined old new = WholeText c told Undefined old new
+Written c told InputEnded old new = WholeText c told InputEnded old new
 
 -- ---- when there is no text
 
@@ -140,6 +138,9 @@ StopsSo told before after ReadFault = Rose before after
 StopsSo told before after WriteFault = ⊥
 StopsSo told before after Memory = Unit {0}
 StopsSo told before after TooLong = IfSome told IsTooLong
+StopsSo told before after StepsUsedUp = ⊥
+StopsSo told before after Undefined = ⊥
+StopsSo told before after InputEnded = ⊥
 
 -- a file was begun and read to its end
 abbrev pub WasRead : Status → Type 0
@@ -151,6 +152,9 @@ WasRead ReadFault = ⊥
 WasRead WriteFault = Unit {0}
 WasRead Memory = ⊥
 WasRead TooLong = ⊥
+WasRead StepsUsedUp = Unit {0}
+WasRead Undefined = Unit {0}
+WasRead InputEnded = Unit {0}
 
 -- nothing is written at all
 abbrev pub IsSilent : Status → Type 0
@@ -162,3 +166,6 @@ IsSilent ReadFault = Unit {0}
 IsSilent WriteFault = ⊥
 IsSilent Memory = Unit {0}
 IsSilent TooLong = Unit {0}
+IsSilent StepsUsedUp = ⊥
+IsSilent Undefined = ⊥
+IsSilent InputEnded = ⊥

@@ -3,9 +3,7 @@
 
 pub mod form;
 pub mod refusal;
-pub mod status;
 mod top;
-mod words;
 
-pub use status::Status;
+pub use ep_jobs::Status;
 pub use top::endport;

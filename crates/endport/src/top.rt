@@ -1,26 +1,29 @@
 // The top call.
 ghost use Rattle.std.specs.Prelude.{◌≡◌, true, ◌++◌, ◌<◌, ◌≤◌, ◌⊎◌, [], None, Some, IfErr, IfOk, IfSome, IsSome, OnOk};
-ghost use Rattle.std.specs.Prelude.{codes, decimal, length, map, string_bytes, vec_len};
+ghost use Rattle.std.specs.Prelude.{codes, decimal, length, vec_len};
+ghost use Rattle.ep_words.specs.Seen as words_seen;
+ghost use Rattle.ep_words.specs.Words.{plain};
 ghost use Rattle.endport.specs.Answers.{not_built};
-ghost use Rattle.endport.specs.Top.{IsJob, IsSilent, IsTooLong, StopsSo, TextOf, WasRead, Written, alarms_of};
-ghost use Rattle.endport.specs.Top.{plain_file, refusal_line, report_status, under};
+ghost use Rattle.endport.specs.Top.{IsJob, IsReport, IsSilent, IsTooLong, StopsSo, TextOf, WasRead, Written, alarms_of};
+ghost use Rattle.endport.specs.Top.{file_of, refusal_line, report_status, under};
 ghost use Rattle.ep_small_core.specs.Agree.{Agree, AgreeAlong};
 ghost use Rattle.ep_small_core.specs.Shown.{shown};
 ghost use Rattle.ep_int.specs.declared.types.Order.TheVariants.{Little, Big};
+ghost use Rattle.ep_jobs.specs.Jobs.{IsLayout};
 ghost use Rattle.ep_io.specs.Bytes.{Appended, FrontAppended, NoneLeft};
 ghost use Rattle.ep_io.specs.Faults.{NeverFalls, Rose};
 ghost use Rattle.ep_small_iterator.specs.Straight.{is_straight};
 
 use crate::form::read_form;
 use crate::refusal::{Halt, Refusal};
-use crate::status::Status;
-use crate::words::plain_file;
 use ep_alarms::{Alarms, report_text};
-use ep_int::Memory;
+use ep_int::{Memory, Model};
 use ep_intervals::Interval;
 use ep_io::{ReadStop, Sink, Source, read_all, write_all};
+use ep_jobs::{Job, RunAsked, Status, layout_job, run_job};
 use ep_small_core::program::CoreProgram;
 use ep_small_iterator::{Report, Steps, analyse};
+use ep_words::{Command, RunWords, asked, input_numbers};
 use itoa::Buffer;
 use std::alloc::{AllocError, Global};
 use std::marker::Brand;
@@ -30,17 +33,14 @@ use std::sync::ledger::{Blank, Ledger};
 const LIMIT: u32 = 1_048_576;
 
 /// What is written where the words aren't plain.
-const USAGE: &[u8] = b"usage:\n  endport check FILE\n";
+const USAGE: &[u8] = b"usage:
+  endport check FILE
+  endport run --order little|big|swapped-words --steps N [--model ilp32|lp64] FILE [INPUT..]
+  endport layout [--model ilp32|lp64] FILE
+";
 
-// What the call comes to where the sink doesn't fail: a status, and the whole text.
-#[derive(Drop)]
-struct Job {
-    status: Status,
-    text: Vec<u8>,
-}
-
-/// Checks a file for two machines that differ in byte order alone. The words are the program's name,
-/// `check` and the file's name; `src` has the file, and the report goes to `out`.
+/// Does what the words ask of a file: a report on two machines that differ in byte order alone, a run on one machine, or
+/// the layouts of its types. `src` has the file, and the text goes to `out`.
 pub fn endport<S: Source, K: Sink>(
     alloc: Global,
     words: &Vec<String>,
@@ -48,31 +48,31 @@ pub fn endport<S: Source, K: Sink>(
     out: &mut K,
 ) -> Status
     // What is written, and what it says of the bytes under the file.
-    ensures written { let file = plain_file (map string_bytes words.now.items) in
-        Written file (under file (S.standing src.old)) result (K.written out.old) (K.written out.new) }
+    ensures written { let asked = plain (words_seen.words words.now.items) in
+        Written asked (under asked (S.standing src.old)) result (K.written out.old) (K.written out.new) }
 
     ensures silent { IsSilent result → out.new ≡ out.old }
 
     // When each status comes.
-    ensures usage { plain_file (map string_bytes words.now.items) ≡ None → (result ≡ Status.Usage) ⊎ (result ≡ Status.WriteFault) }
+    ensures usage { plain (words_seen.words words.now.items) ≡ None → (result ≡ Status.Usage) ⊎ (result ≡ Status.WriteFault) }
     ensures read_fault { result ≡ Status.ReadFault → Rose (S.faults src.old) (S.faults src.new) }
     ensures write_fault { result ≡ Status.WriteFault → Rose (K.faults out.old) (K.faults out.new) }
-    ensures too_long { result ≡ Status.TooLong → IfSome (under (plain_file (map string_bytes words.now.items)) (S.standing src.old))
+    ensures too_long { result ≡ Status.TooLong → IfSome (under (plain (words_seen.words words.now.items)) (S.standing src.old))
         IsTooLong }
-    ensures always_too_long { IfSome (under (plain_file (map string_bytes words.now.items)) (S.standing src.old)) (λ bytes.
+    ensures always_too_long { IfSome (under (plain (words_seen.words words.now.items)) (S.standing src.old)) (λ bytes.
         IsTooLong bytes → (result ≡ Status.TooLong) ⊎ (result ≡ Status.Memory) ⊎ Rose (S.faults src.old) (S.faults src.new)) }
 
     // What becomes of the source and the counts.
     ensures standing { S.standing src.new ≡ S.standing src.old }
-    ensures unread { plain_file (map string_bytes words.now.items) ≡ None → src.new ≡ src.old }
-    ensures to_its_end { IsSome (plain_file (map string_bytes words.now.items)) → WasRead result → NoneLeft (S.left src.new) }
+    ensures unread { plain (words_seen.words words.now.items) ≡ None → src.new ≡ src.old }
+    ensures to_its_end { IsSome (plain (words_seen.words words.now.items)) → WasRead result → NoneLeft (S.left src.new) }
     ensures read_faults { NeverFalls (S.faults src.old) (S.faults src.new) }
     ensures write_faults { NeverFalls (K.faults out.old) (K.faults out.new) }
 {
-    let Some(file) = plain_file(words) else {
+    let Some(command) = asked(words) else {
         return put(out, USAGE, Status::Usage);
     };
-    match read_and_report(alloc, file, src) {
+    match read_and_do(alloc, &command, src) {
         Ok(job) => put(out, &job.text, job.status),
         Err(status) => status,
     }
@@ -90,17 +90,73 @@ fn put<K: Sink>(out: &mut K, text: &[u8], status: Status) -> Status
     }
 }
 
-// Reads the file, and does what it asks for.
-fn read_and_report<S: Source>(alloc: Global, file: &str, src: &mut S) -> Result<Job, Status>
-    ensures ok { IfOk result (λ j. TextOf (Some file.now) (S.standing src.old file.now) j.status j.text.items) }
-    ensures within { OnOk result (IfSome (S.standing src.old file.now) (λ bytes. length bytes ≤ 1048576)) }
+fn file_of<'a>(command: &Command<'a>) -> &'a str
+    ensures { result.now ≡ file_of (words_seen.command command.now) }
+{
+    match command {
+        Command::Check(file) => file,
+        Command::Layout(_, file) => file,
+        Command::Run(run) => run.file,
+    }
+}
+
+// Reads the file, and does what is asked of it.
+fn read_and_do<S: Source>(alloc: Global, command: &Command, src: &mut S) -> Result<Job, Status>
+    ensures ok { IfOk result (λ j. let c = words_seen.command command.now in
+        TextOf (Some c) (S.standing src.old (file_of c)) j.status j.text.items) }
+    ensures within { OnOk result (IfSome (S.standing src.old (file_of (words_seen.command command.now)))
+        (λ bytes. length bytes ≤ 1048576)) }
     ensures end { OnOk result (NoneLeft (S.left src.new)) }
-    ensures stop { IfErr result (λ s. StopsSo (S.standing src.old file.now) (S.faults src.old) (S.faults src.new) s) }
+    ensures stop { IfErr result (λ s. StopsSo (S.standing src.old (file_of (words_seen.command command.now)))
+        (S.faults src.old) (S.faults src.new) s) }
     ensures standing { S.standing src.new ≡ S.standing src.old }
     ensures never_falls { NeverFalls (S.faults src.old) (S.faults src.new) }
 {
-    let bytes = read_file(alloc, file, src)?;
-    Ok(report_on(alloc, &bytes)?)
+    let bytes = read_file(alloc, file_of(command), src)?;
+    Ok(done(alloc, command, &bytes)?)
+}
+
+// What a command comes to on a source.
+fn done(alloc: Global, command: &Command, bytes: &[u8]) -> Result<Job, Status>
+    requires { length bytes.now ≤ 1048576 }
+    ensures ok { IfOk result (λ j. IsJob (words_seen.command command.now) bytes.now j.status j.text.items) }
+    ensures memory { IfErr result (λ s. s ≡ Status.Memory) }
+{
+    match command {
+        Command::Check(_) => report_on(alloc, bytes),
+        Command::Layout(model, _) => layouts_of(alloc, bytes, *model),
+        Command::Run(run) => run_of(alloc, bytes, run),
+    }
+}
+
+fn layouts_of(alloc: Global, bytes: &[u8], model: Model) -> Result<Job, Status>
+    requires { length bytes.now ≤ 1048576 }
+    ensures ok { IfOk result (λ j. IsLayout model bytes.now j.status j.text.items) }
+    ensures memory { IfErr result (λ s. s ≡ Status.Memory) }
+{
+    match layout_job(alloc, bytes, model) {
+        Ok(job) => Ok(job),
+        Err(Memory) => Err(Status::Memory),
+    }
+}
+
+fn run_of(alloc: Global, bytes: &[u8], run: &RunWords) -> Result<Job, Status>
+    requires { length bytes.now ≤ 1048576 }
+    ensures ok { IfOk result (λ j. IsJob (words_seen.running run.now) bytes.now j.status j.text.items) }
+    ensures memory { IfErr result (λ s. s ≡ Status.Memory) }
+{
+    let Ok(inputs) = input_numbers(alloc, run.inputs) else {
+        return Err(Status::Memory);
+    };
+    let asked = RunAsked {
+        model: run.model,
+        order: run.order,
+        steps: run.steps,
+    };
+    match run_job(alloc, bytes, asked, &inputs) {
+        Ok(job) => Ok(job),
+        Err(Memory) => Err(Status::Memory),
+    }
 }
 
 // All bytes that stand under the file.
@@ -126,7 +182,7 @@ fn read_file<S: Source>(alloc: Global, file: &str, src: &mut S) -> Result<Vec<u8
 // The report on a source, or its refusal.
 fn report_on(alloc: Global, bytes: &[u8]) -> Result<Job, Status>
     requires { length bytes.now ≤ 1048576 }
-    ensures ok { IfOk result (λ j. IsJob bytes.now j.status j.text.items) }
+    ensures ok { IfOk result (λ j. IsReport bytes.now j.status j.text.items) }
     ensures memory { IfErr result (λ s. s ≡ Status.Memory) }
 {
     let program = match read_form(alloc, bytes) {

@@ -9,6 +9,9 @@ ghost use Rattle.ep_bicells.specs.Steps.{after_step, IsPlan};
 
 use crate::parts::{Edit, Part, push, span};
 use crate::uses::{Use, users};
+use ep_bitslice::Side;
+use ep_cell_changes::kill::left_by_kill;
+use ep_cell_changes::weak::left_by_weak_write;
 use ep_cell_rows::rows;
 use ep_cells::{Cell, Place};
 use ep_domain::Num;
@@ -16,28 +19,30 @@ use ep_int::{Memory, Model};
 use std::alloc::Global;
 use std::rc::Rc;
 
-/// A change of the cells that touch a place.
+/// A change of cells, one by one.
 #[derive(Drop)]
-pub enum Step {
+pub enum Step<N> {
+    /// A place is written.
     Write(Place),
+    /// A cell may be written. Set where Shared cells stay.
+    WeakWrite(Cell<N>, bool),
+    /// A block is killed on a side.
+    Kill(Side, u32),
 }
 
-impl Step {
-    fn after<N: Num>(
-        &self,
-        alloc: Global,
-        model: Model,
-        cells: &[Cell<N>],
-    ) -> Result<Vec<Cell<N>>, Memory>
+impl<N: Num> Step<N> {
+    fn after(&self, alloc: Global, model: Model, cells: &[Cell<N>]) -> Result<Vec<Cell<N>>, Memory>
         ensures { IfOk result (λ v. v.items ≡ after_step N.ops model self.now cells.now) }
     {
         match self {
             Step::Write(p) => rows::left_by_write(alloc, model, *p, cells),
+            Step::WeakWrite(c, stays) => left_by_weak_write(alloc, model, c, *stays, cells),
+            Step::Kill(side, block) => left_by_kill(alloc, *side, *block, cells),
         }
     }
 
     /// A part after the step.
-    pub fn part_after<N: Num>(
+    pub fn part_after(
         &self,
         alloc: Global,
         model: Model,
@@ -61,9 +66,10 @@ fn is_edited<N: Num>(edits: &[Edit<Cell<N>>], i: usize) -> bool
     edits.iter().any(|e| e.at == i)
 }
 
-fn push_edit<N: Num>(
+/// Adds the part at this index as it is after the step, if it isn't there.
+pub fn push_edit<N: Num>(
     out: &mut Vec<Edit<Cell<N>>>,
-    step: &Step,
+    step: &Step<N>,
     model: Model,
     parts: &[Part<Cell<N>>],
     i: usize,
@@ -84,7 +90,7 @@ fn push_edit<N: Num>(
 
 fn push_edits<N: Num>(
     out: &mut Vec<Edit<Cell<N>>>,
-    step: &Step,
+    step: &Step<N>,
     model: Model,
     parts: &[Part<Cell<N>>],
     range: (u64, u64),
@@ -105,7 +111,7 @@ fn push_edits<N: Num>(
 
 fn push_users<N: Num>(
     out: &mut Vec<Edit<Cell<N>>>,
-    step: &Step,
+    step: &Step<N>,
     model: Model,
     parts: &[Part<Cell<N>>],
     users: &[u64],
@@ -125,7 +131,7 @@ fn push_users<N: Num>(
 
 /// The parts that a step changes, as they are after it, where these are the numbers of what may touch its place.
 pub fn plan<N: Num>(
-    step: &Step,
+    step: &Step<N>,
     model: Model,
     parts: &[Part<Cell<N>>],
     uses: &[Part<Use>],

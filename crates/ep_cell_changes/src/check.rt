@@ -39,7 +39,8 @@ fn is_of_sort<N: Num>(what: Scalar, v: &Option<Value<N>>) -> bool
     }
 }
 
-fn is_cell<N: Num>(model: Model, c: &Cell<N>) -> bool
+/// Whether a cell fits, but for its form.
+pub fn is_cell<N: Num>(model: Model, c: &Cell<N>) -> bool
     ensures { IsTrue result ↔ IsCell model c.now }
 {
     rises(&c.value);
@@ -196,7 +197,8 @@ fn is_form_of<N: Num>(f: &Form, c: &Cell<N>, cells: &[Cell<N>]) -> bool
     !c.maybe & has_width(c.what, f.width()) & are_there(f.segments(), cells)
 }
 
-fn has_form<N: Num>(c: &Cell<N>, cells: &[Cell<N>]) -> bool
+/// Whether a cell's form may be one among these cells, if it has one.
+pub fn has_form<N: Num>(c: &Cell<N>, cells: &[Cell<N>]) -> bool
     requires { AreInOrder cells.now }
     ensures { IsTrue result ↔ HasForm cells.now c.now }
 {

@@ -139,8 +139,20 @@ whole_parts (whole d) = d
 pub whole_derives : (xs : List Tok) (is : List Item) → Takes Whole xs is [] → Programs xs is
 whole_derives xs is t = whole_parts t.holds
 
+programs_of : {xs : List Tok} {is : List Item} → Whole xs [] is → Programs xs is
+programs_of (whole p) = p
+
 pub whole_alone : (xs : List Tok) (is js : List Item) → Takes Whole xs is [] → Programs xs js → js ≡ is
 whole_alone xs is js t d = (t.only js [] (whole d)).0
+
+-- what is whole and not too deep offends in no way
+pub faultless : (xs : List Tok) (is : List Item) → None ≡ brackets_past 0 xs → Takes Whole xs is [] → Clear HasBitField xs
+    → too_deep is ≡ None → (r : Refusal) → Offends xs r → ⊥
+faultless xs is n t c d r (offences.too_many_brackets e) = absurd cc
+faultless xs is n t c d r (offences.bit_field {l = l} e h) = c l h
+faultless xs is n t c d r (offences.no_program e f g) = g is (programs_of t.holds)
+faultless xs is n t c d r (offences.too_deep_inside {l = l} {is = js} e p q) =
+    let h = whole_alone xs is js t p in let k : too_deep is ≡ Some l = rw (← h) q in absurd cc
 
 refusal_is : (f : Refusal) (k : ℕ) → f.kind ≡ k → f.word ≡ 0 → refusal k f.line ≡ f
 refusal_is f k e h = rw (← e) (rw (← h) refl)

@@ -6,6 +6,7 @@ ghost use Rattle.ep_ast.specs.ProgramGrammar.{Programs};
 ghost use Rattle.ep_ast.specs.Depth.{brackets_past, too_deep};
 ghost use Rattle.ep_ast.specs.Offence.{Offends};
 ghost use Rattle.ep_ast.specs.Refusal.{IfRefused};
+ghost use Rattle.ep_ast.specs.declared.refusals.Refusal.{Refusal};
 ghost use Rattle.ep_lexer.specs.Tokens.{view, view_all};
 ghost use Rattle.ep_decls.specs.Answer.{ReadsAll};
 
@@ -44,6 +45,7 @@ pub fn program(alloc: Global, tokens: &Tokens) -> Result<ProgramTree, Halt>
     ensures only { IfOk result (λ t. (is : List Item) → Programs (view_all tokens.now) is → is ≡ program_of t) }
     ensures fits { IfOk result (λ t. (brackets_past 0 (view_all tokens.now) ≡ None)
         × (too_deep (program_of t) ≡ None)) }
+    ensures faultless { IfOk result (λ _. (r : Refusal) → Offends (view_all tokens.now) r → ⊥) }
     ensures refused { IfErr result (λ e. IfRefused e (Offends (view_all tokens.now))) }
 {
     let all = tokens.list.as_slice();

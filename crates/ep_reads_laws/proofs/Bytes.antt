@@ -54,7 +54,7 @@ own_mentions n c k p h =
     (or_cases (mentions n (run_bits c 0 (k - 0))) (mentions n []) (sym (mentions-append n (run_bits c 0 (k - 0)) []) ∙
     h)))
 
-own_is_form : {N : Type 0} (cs : List (Cell N)) (x : Cell N) (t : IntType) → IsIn x cs → x.what ≡ Int t
+pub own_is_form : {N : Type 0} (cs : List (Cell N)) (x : Cell N) (t : IntType) → IsIn x cs → x.what ≡ Int t
     → x.maybe ≡ false → IsFormOf cs x (Bits (name_of x t) 0 (bits_of t) ∷ [])
 own_is_form cs x t i w e =
     let positive : 0 < bits_of t = omega (arith, bytes_of_positive t) in
@@ -96,7 +96,7 @@ own_number r m p h =
     let e : r / 1 + p * 0 ≡ r = omega arith in
     sym (ap (λ x. x % m) e ∙ mod-eq_of_lt h)
 
-form_says_by : {N : Type 0} (os : Order × Order) (m : Memories) (x : Cell N) (g : Option (List Segment)) (w : Scalar)
+pub form_says_by : {N : Type 0} (os : Order × Order) (m : Memories) (x : Cell N) (g : Option (List Segment)) (w : Scalar)
     (maybe : Bool) → IfSome g (λ ss. HasNumber os m x w (form_number (numbers_of os m) ss))
     → IfSome (cond maybe None (form_or g (own_form x w))) (λ ss. HasNumber os m x w (form_number (numbers_of os m) ss))
 form_says_by os m x g w true h = tt
@@ -153,7 +153,7 @@ byte_form_says n ss t z k f w h e =
     ∙ ap (λ v. v / 2 ^ (8 * k) % 256) is
     ∙ ap (λ v. residue (2 ^ bits_of t) z / v % 256) (sym (bytes_pow k))
 
-bytes_say : {N : Type 0} (n : Numbers) (cs : List (Cell N)) (x : Cell N) (t : IntType) (z : ℤ) (k : ℕ) (o : Option
+pub bytes_say : {N : Type 0} (n : Numbers) (cs : List (Cell N)) (x : Cell N) (t : IntType) (z : ℤ) (k : ℕ) (o : Option
     (List Segment)) → x.what ≡ Int t → k < bytes_of t → IfSome o (IsFormOf cs x)
     → IfSome o (λ ss. residue (2 ^ bits_of t) z ≡ form_number n ss % 2 ^ bits_of t)
     → IfSome (option_map (byte_form k) o) (λ ss. form_number n ss ≡ byte_of k (representation t z))

@@ -1,15 +1,18 @@
 -- Maps and the stack of them, as scopes.
-use Rattle.std.proofs.Common.{◌≡◌, ℕ, ◌+◌, ◌≤◌, ◌-◌, vec_len, option_to_list, arith, length, drop, Bool, true, false, cond, List, [], ◌∷◌, ◌++◌, map, Option, Some, None, refl, sym, ap, ◌∙◌}
+use Rattle.std.proofs.Common.{◌≡◌, ℕ, suc, ◌+◌, ◌<◌, ◌≤◌, ◌-◌, Bor, vec_len, option_to_list, arith, length, drop, drop-cons, take, Bool, true, false, cond, List, [], ◌∷◌, ◌++◌, map, Option, Some, None, refl, sym, ap, ◌∙◌}
 use Rattle.std.specs.Option.{option_map}
 use Rattle.std.specs.Str.{bytes_eq}
 use Rattle.std.specs.Global.{Vec}
-use Rattle.std.proofs.lemmas.List.{drop_all, nil_from_length}
-use Rattle.std.proofs.lemmas.Option.{slice_get_within}
-use Rattle.std.specs.Prelude.{slice_get, slice_range, is_some, MatchOption}
-use Rattle.indexmap.proofs.MapLemmas.{split_last}
-use Rattle.std.specs.Map.{lookup}
+use Rattle.std.proofs.lemmas.List.{drop_all, length-map, map_push, nil_from_length, take-map}
+use Rattle.std.proofs.lemmas.Option.{get_or_from_slice_get, slice_get-map, slice_get_within}
+use Rattle.std.specs.Prelude.{slice_get, slice_range, is_some, position, nat_lt, not, MatchOption}
+use Rattle.std.specs.List.{position_or_len}
+use Rattle.indexmap.proofs.MapLemmas.{Missing-position, insert_entry-absent, split_last}
+use Rattle.std.specs.Map.{keys_of, lookup}
 use Rattle.indexmap.specs.IndexMap.{insert_entry}
 use Rattle.ep_typing.specs.Env as rule
+use Rattle.std.specs.Map.Iter.{deref_pair}
+use Rattle.ep_scopes.specs.declared.env.FunctionType.{FunctionType}
 use Rattle.ep_scopes.specs.declared.scopes.Meaning.{Meaning}
 use Rattle.ep_scopes.specs.declared.scopes.Scope.{Scope}
 use Rattle.ep_scopes.specs.Seen as seen
@@ -136,3 +139,86 @@ left_is None v w e h =
     let p : length v.items ≡ 0 = first_of (grind (arith, v.ok, h.0), omega (arith, h.0)) in
     let q : length w.items ≡ 0 = first_of (grind (arith, w.ok, h.1), omega (arith, h.1)) in
     ap (seen.stacked []) (nil_from_length w.items q) ∙ sym (ap (λ (ss : List Scope). seen.outer (seen.stacked [] ss)) (nil_from_length v.items p))
+
+-- ---- first names and tags alone, and the blocks behind them
+
+pub with_last_cut : (ss ns os : List Scope) (s n : Scope) (a b : ℕ) → ss ≡ ns ++ s ∷ [] → os ≡ ns ++ n ∷ []
+    → seen.scope n ≡ seen.cut a b (seen.scope s) → seen.stacked [] os ≡ seen.rewound a b (seen.stacked [] ss)
+with_last_cut ss ns os s n a b e f h =
+    pushed ns os n f ∙ ap (λ (x : rule.Scope). x ∷ seen.stacked [] ns) h
+    ∙ sym (ap (seen.rewound a b) (pushed ns ss s e))
+
+pub cut_is : (s : Scope) (a b : ℕ) (es : List (Vec ℕ × Meaning)) (ts : List (Vec ℕ × ℕ)) → es ≡ take a s.names.entries
+    → ts ≡ take b s.tags.entries
+    → ◌≡◌ {A = rule.Scope} (record { names = map seen.entry es; tags = map seen.tag ts }) (seen.cut a b (seen.scope s))
+cut_is s a b es ts h k =
+    let names : map seen.entry es ≡ take a (map seen.entry s.names.entries) =
+    ap (map seen.entry) h ∙ sym (take-map seen.entry a s.names.entries) in
+    let tags : map seen.tag ts ≡ take b (map seen.tag s.tags.entries) =
+    ap (map seen.tag) k ∙ sym (take-map seen.tag b s.tags.entries) in
+    ap (λ (x : List (List ℕ × rule.Meaning)). record { names = x; tags = map seen.tag ts }) names
+    ∙ ap (λ (x : List (List ℕ × ℕ)). record { names = take a (map seen.entry s.names.entries); tags = x }) tags
+
+named_block : (xs : List (List ℕ × rule.Meaning)) (i : ℕ) (x : List ℕ × rule.Meaning) → slice_get xs i ≡ Some x
+    → seen.blocks_of (drop i xs) ≡ seen.block_of x.1 ++ seen.blocks_of (drop (i + 1) xs)
+named_block xs i x e =
+    let h : i < length xs = slice_get_within xs i x e in
+    let more : suc i ≡ i + 1 = omega arith in
+    ap seen.blocks_of (drop-cons xs i x h)
+    ∙ ap (λ (y : List ℕ × rule.Meaning). seen.block_of y.1 ++ seen.blocks_of (drop (suc i) xs)) (get_or_from_slice_get xs i x x e)
+    ∙ ap (λ (n : ℕ). seen.block_of x.1 ++ seen.blocks_of (drop n xs)) more
+
+pub block_here : (es : List (Vec ℕ × Meaning)) (i : ℕ) (k : Vec ℕ) (m : Meaning) (o : Option ℕ) → slice_get es i ≡ Some (k, m)
+    → option_to_list o ≡ seen.block_of (seen.meaning m)
+    → seen.blocks_of (drop i (map seen.entry es)) ≡ option_to_list o ++ seen.blocks_of (drop (i + 1) (map seen.entry es))
+block_here es i k m o e h =
+    named_block (map seen.entry es) i (k.items, seen.meaning m) (slice_get-map seen.entry es i ∙ ap (option_map seen.entry) e)
+    ∙ sym (ap (λ (bs : List ℕ). bs ++ seen.blocks_of (drop (i + 1) (map seen.entry es))) h)
+
+pub none_here : (es : List (Vec ℕ × Meaning)) (i : ℕ) → length es ≤ i
+    → seen.blocks_of (drop i (map seen.entry es)) ≡ seen.blocks_of (drop (i + 1) (map seen.entry es))
+none_here es i h =
+    let n : length (map seen.entry es) ≤ i = rw (length-map es seen.entry) h in
+    ap seen.blocks_of (drop_all i (map seen.entry es) n)
+    ∙ sym (ap seen.blocks_of (drop_all (i + 1) (map seen.entry es) (omega (arith, n))))
+
+-- ---- functions by their names
+
+places_alike : (t : List ℕ) (es : List (Vec ℕ × FunctionType))
+    → position_or_len (λ (k : Vec ℕ). bytes_eq t k.items) (keys_of es)
+    ≡ position_or_len (λ (s : rule.Signature). bytes_eq t s.name) (map seen.signature es)
+places_alike t [] = refl
+places_alike t (e ∷ es) = ap (λ (n : ℕ). cond (not (bytes_eq t e.0.items)) (1 + n) 0) (places_alike t es)
+
+lengths_alike : (es : List (Vec ℕ × FunctionType)) → length (keys_of es) ≡ length (map seen.signature es)
+lengths_alike es = length-map es (λ (e : Vec ℕ × FunctionType). e.0) ∙ sym (length-map es seen.signature)
+
+pub function_at : (t : List ℕ) (es : List (Vec ℕ × FunctionType))
+    → position (λ (k : Vec ℕ). bytes_eq t k.items) (keys_of es)
+    ≡ position (λ (s : rule.Signature). bytes_eq t s.name) (map seen.signature es)
+function_at t es =
+    ap (λ (n : ℕ). cond (nat_lt n (length (keys_of es))) (Some n) None) (places_alike t es)
+    ∙ ap (λ (l : ℕ). let n = position_or_len (λ (s : rule.Signature). bytes_eq t s.name) (map seen.signature es) in cond (nat_lt n l) (Some n) None) (lengths_alike es)
+
+pub function_added : (k : Vec ℕ) (f : FunctionType) (es ns : List (Vec ℕ × FunctionType))
+    → position (λ (s : rule.Signature). bytes_eq k.items s.name) (map seen.signature es) ≡ None
+    → ns ≡ insert_entry (λ p q. bytes_eq p.items q.items) es k f
+    → map seen.signature ns ≡ map seen.signature es ++ seen.signature (k, f) ∷ []
+function_added k f es ns h e =
+    let absent = Missing-position (λ (q : Vec ℕ). bytes_eq k.items q.items) es (function_at k.items es ∙ h) in
+    ap (map seen.signature) (e ∙ insert_entry-absent (λ (p : Vec ℕ) (q : Vec ℕ). bytes_eq p.items q.items) k f es absent.absent)
+    ∙ map_push seen.signature es (k, f)
+
+pub function_typed : (r : Option (Bor (Vec ℕ) × Bor FunctionType)) (es : List (Vec ℕ × FunctionType)) (n : ℕ)
+    → option_map deref_pair r ≡ slice_get es n
+    → option_map (λ (p : Bor (Vec ℕ) × Bor FunctionType). seen.function_type p.1.now) r
+    ≡ option_map seen.type_of (slice_get (map seen.signature es) n)
+function_typed r es n e =
+    of r ∙ ap (λ (o : Option (Vec ℕ × FunctionType)). option_map seen.type_of (option_map seen.signature o)) e
+    ∙ sym (ap (option_map seen.type_of) (slice_get-map seen.signature es n))
+  where
+    of : (r : Option (Bor (Vec ℕ) × Bor FunctionType))
+        → option_map (λ (p : Bor (Vec ℕ) × Bor FunctionType). seen.function_type p.1.now) r
+        ≡ option_map seen.type_of (option_map seen.signature (option_map deref_pair r))
+    of None = refl
+    of (Some p) = refl

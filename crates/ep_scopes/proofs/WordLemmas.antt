@@ -1,8 +1,7 @@
 -- Words of a type, one by one.
-use Rattle.std.proofs.Common.{◌≡◌, ℕ, zero, suc, ◌+◌, ◌<◌, ◌≤◌, nat_eq, Bool, true, false, cond, ◌||◌, List, [], ◌∷◌, map, length, drop, get_or, find, Option, Some, None, Bor, refl, sym, ap, ◌∙◌, arith, drop-cons}
+use Rattle.std.proofs.Common.{◌≡◌, ℕ, suc, ◌+◌, ◌<◌, ◌≤◌, nat_eq, Bool, true, false, cond, ◌||◌, List, [], ◌∷◌, map, length, drop, get_or, find, Some, None, Bor, refl, sym, ap, ◌∙◌, arith, drop-cons}
 use Rattle.std.specs.Prelude.{count_by}
 use Rattle.std.specs.List.{list_any}
-use Rattle.std.specs.Option.{option_map}
 use Rattle.std.specs.Str.{bytes_eq}
 use Rattle.std.proofs.lemmas.Bool.Decides.{nat_tests}
 use Rattle.std.proofs.lemmas.List.{drop_all}
@@ -13,7 +12,7 @@ use Rattle.ep_ast.specs.declared.expressions.TypeWordTree.{TypeWordTree}
 use Rattle.ep_ast.specs.Expression as source
 use Rattle.ep_ast.specs.Expression.{TypeWord, type_word}
 use Rattle.ep_ast.specs.Mark.{char_word, int_word, long_word, short_word, signed_word, unsigned_word, void_word}
-use Rattle.ep_ast.specs.TypeWords.{Bag, all_joined, joined, no_bag, with_word}
+use Rattle.ep_ast.specs.TypeWords.{Bag, all_joined, joined, no_bag}
 use Rattle.ep_typing.specs.Env.{Env, entry}
 use Rattle.ep_typing.specs.Names.{integer_of, is_unsigned, is_whole, mentioned_word, mentioned_words}
 use Rattle.ep_scopes.specs.Words.{is_word, listed, picked}

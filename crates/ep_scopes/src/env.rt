@@ -1,6 +1,7 @@
 //! What stands round an expression.
 
-ghost use Rattle.std.specs.Prelude.{◌≡◌, ◌<◌, IfOk, OnOk, IsTrue, None, length};
+ghost use Rattle.std.specs.Prelude.{◌≡◌, ◌<◌, IfOk, OnOk, IsTrue, None, bytes_eq, length, position, slice_get};
+ghost use Rattle.std.specs.Option.{option_map};
 ghost use Rattle.ep_layout.specs.Table as table;
 ghost use Rattle.ep_typing.specs.Env as rule;
 ghost use Rattle.ep_typing.specs.Types as types_of;
@@ -13,23 +14,23 @@ use ep_int::{Memory, Model};
 use ep_layout::{Ty, Types};
 use ep_operands::known_number;
 use ep_typing::{Base, CType};
+use indexmap::IndexMap;
 use std::alloc::{AllocError, Global};
 
-/// A function that was declared, with the types of its parameters; the result of one without is void.
+/// The types of a function's parameters and of its result; the result of one without is void.
 #[derive(Debug, Drop)]
-pub struct Signature {
-    pub name: Vec<u8>,
+pub struct FunctionType {
     pub params: Vec<CType>,
     pub result: CType,
 }
 
-/// Names, tags, blocks, functions and types so far.
+/// Names, tags, blocks, functions and types so far. Functions are numbered in their order.
 #[derive(Drop)]
 pub struct Env {
     pub types: Types,
     pub scopes: Scopes,
     pub blocks: Vec<BlockInfo>,
-    pub functions: Vec<Signature>,
+    pub functions: IndexMap<Vec<u8>, FunctionType>,
     pub alloc: Global,
 }
 
@@ -51,7 +52,7 @@ impl Env {
             types: Types::new(alloc, model),
             scopes,
             blocks: Vec::new(alloc),
-            functions: Vec::new(alloc),
+            functions: IndexMap::new(alloc),
             alloc,
         })
     }
@@ -151,6 +152,40 @@ impl Env {
         let number = add_aggregate(&mut self.types, text, is_union)?;
         match self.scopes.declare_tag(tag, number) {
             Ok(()) => Ok(()),
+            Err(_) => Err(Memory),
+        }
+    }
+
+    /// The number of the function of a name that was declared, whether a scope has it or not.
+    pub fn function_number(&self, name: &[u8]) -> Option<usize>
+        ensures { result ≡ position (λ (s : rule.Signature). bytes_eq name.now s.name) (seen.env self.now).functions }
+    {
+        self.functions.get_index_of(name)
+    }
+
+    /// The types of the function of a number.
+    pub fn function(&self, number: u32) -> Option<&FunctionType>
+        ensures { option_map (λ t. seen.function_type t.now) result
+            ≡ option_map seen.type_of (slice_get (seen.env self.now).functions number) }
+    {
+        match self.functions.get_index(number as usize) {
+            Some((_, ty)) => Some(ty),
+            None => None,
+        }
+    }
+
+    /// A function whose name none has takes the next number, which no scope has a name for.
+    pub fn add_function(&mut self, name: &[u8], ty: FunctionType) -> Result<u32, Memory>
+        requires { position (λ (s : rule.Signature). bytes_eq name.now s.name) (seen.env self.old).functions ≡ None }
+        ensures number { IfOk result (λ n. n ≡ length (seen.env self.old).functions) }
+        ensures grown { OnOk result (seen.env self.new ≡ seen.with_function (seen.env self.old) name.now (seen.function_type ty)) }
+    {
+        let Ok(number) = u32::try_from(self.functions.len()) else {
+            return Err(Memory);
+        };
+        let text = self.text(name)?;
+        match self.functions.insert(text, ty) {
+            Ok(_) => Ok(number),
             Err(_) => Err(Memory),
         }
     }

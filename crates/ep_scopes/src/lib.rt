@@ -6,6 +6,6 @@ mod names;
 mod scopes;
 mod words;
 
-pub use env::{Env, Signature, add_type, type_number};
+pub use env::{Env, FunctionType, add_type, type_number};
 pub use names::{mention_name, mention_words, named, named_type, words_type};
-pub use scopes::{Meaning, Scopes};
+pub use scopes::{Mark, Meaning, Scope, Scopes};

@@ -1,7 +1,7 @@
 //! The names and tags in scope.
 
-ghost use Rattle.std.specs.Prelude.{◌≡◌, [], ◌∷◌, ◌++◌, OnOk, OnErr, None, is_some};
-ghost use Rattle.std.specs.Option.{option_map};
+ghost use Rattle.std.specs.Prelude.{◌≡◌, [], ◌∷◌, ◌++◌, IfOk, OnOk, OnErr, None, drop, is_some, length, ◌+◌};
+ghost use Rattle.std.specs.Option.{option_map, option_to_list};
 ghost use Rattle.ep_typing.specs.Env as rule;
 ghost use Rattle.ep_scopes.specs.Seen as seen;
 
@@ -19,9 +19,16 @@ pub enum Meaning {
 
 /// The names of a scope, and its tags with the numbers of their aggregates.
 #[derive(Drop)]
-pub(crate) struct Scope {
-    pub names: IndexMap<Vec<u8>, Meaning>,
-    pub tags: IndexMap<Vec<u8>, u32>,
+pub struct Scope {
+    pub(crate) names: IndexMap<Vec<u8>, Meaning>,
+    pub(crate) tags: IndexMap<Vec<u8>, u32>,
+}
+
+/// How many names and tags a scope has.
+#[derive(Clone, Copy, Debug)]
+pub struct Mark {
+    pub names: usize,
+    pub tags: usize,
 }
 
 /// The scopes that are open; the innermost is the last.
@@ -71,6 +78,55 @@ impl Scope {
         let text = Vec::from_slice(alloc, tag)?;
         self.tags.insert(text, number)?;
         Ok(())
+    }
+
+    fn mark(&self) -> Mark
+        ensures names { result.names ≡ length (seen.scope self.now).names }
+        ensures tags { result.tags ≡ length (seen.scope self.now).tags }
+    {
+        Mark {
+            names: self.names.len(),
+            tags: self.tags.len(),
+        }
+    }
+
+    fn cut(&mut self, mark: Mark)
+        ensures { seen.scope self.new ≡ seen.cut mark.names mark.tags (seen.scope self.old) }
+    {
+        self.names.truncate(mark.names);
+        self.tags.truncate(mark.tags);
+    }
+
+    fn block_at(&self, place: usize) -> Option<u32>
+        ensures { seen.blocks_of (drop place (seen.scope self.now).names)
+            ≡ option_to_list result ++ seen.blocks_of (drop (place + 1) (seen.scope self.now).names) }
+    {
+        match self.names.get_index(place) {
+            Some((_, meaning)) => block_of(*meaning),
+            None => None,
+        }
+    }
+
+    fn blocks_behind(&self, alloc: Global, names: usize) -> Result<Vec<u32>, AllocError>
+        ensures { IfOk result (λ v. v.items ≡ seen.blocks_of (drop names (seen.scope self.now).names)) }
+    {
+        let mut blocks = Vec::new(alloc);
+        for place in names..self.names.len() {
+            if let Some(block) = self.block_at(place) {
+                blocks.push(block)?;
+            }
+        }
+        Ok(blocks)
+    }
+}
+
+fn block_of(meaning: Meaning) -> Option<u32>
+    ensures { option_to_list result ≡ seen.block_of (seen.meaning meaning) }
+{
+    match meaning {
+        Meaning::Variable(block, _) => Some(block),
+        Meaning::Function(_) => None,
+        Meaning::TypeName(_) => None,
     }
 }
 
@@ -138,6 +194,25 @@ impl Scopes {
         self.all.pop();
     }
 
+    /// Takes the innermost scope away, to be put back.
+    pub fn take(&mut self) -> Scope
+        ensures taken { seen.scope result ≡ seen.innermost (seen.scopes self.old) }
+        ensures left { seen.scopes self.new ≡ seen.outer (seen.scopes self.old) }
+    {
+        match self.all.pop() {
+            Some(scope) => scope,
+            None => Scope::new(self.alloc),
+        }
+    }
+
+    /// Puts a scope inside the others.
+    pub fn put(&mut self, scope: Scope) -> Result<(), AllocError>
+        ensures { OnOk result (seen.scopes self.new ≡ seen.scope scope ∷ seen.scopes self.old) }
+    {
+        self.all.push(scope)?;
+        Ok(())
+    }
+
     /// Whether the innermost scope has the name.
     pub fn has(&self, name: &[u8]) -> bool
         ensures { result ≡ is_some (rule.entry name.now (seen.innermost (seen.scopes self.now)).names) }
@@ -195,6 +270,41 @@ impl Scopes {
                 Ok(())
             }
             None => Ok(()),
+        }
+    }
+
+    /// How many names and tags the innermost scope has.
+    pub fn mark(&self) -> Mark
+        ensures names { result.names ≡ length (seen.innermost (seen.scopes self.now)).names }
+        ensures tags { result.tags ≡ length (seen.innermost (seen.scopes self.now)).tags }
+    {
+        match self.all.last() {
+            Some(scope) => scope.mark(),
+            None => Mark { names: 0, tags: 0 },
+        }
+    }
+
+    /// The innermost scope goes back to its first names and tags, as many as it had at a mark.
+    pub fn rewind(&mut self, mark: Mark) -> Result<(), AllocError>
+        ensures { OnOk result (seen.scopes self.new ≡ seen.rewound mark.names mark.tags (seen.scopes self.old)) }
+    {
+        match self.all.pop() {
+            Some(mut scope) => {
+                scope.cut(mark);
+                self.all.push(scope)?;
+                Ok(())
+            }
+            None => Ok(()),
+        }
+    }
+
+    /// The blocks of the innermost scope's names behind so many first ones.
+    pub fn blocks_behind(&self, names: usize) -> Result<Vec<u32>, AllocError>
+        ensures { IfOk result (λ v. v.items ≡ seen.blocks_of (drop names (seen.innermost (seen.scopes self.now)).names)) }
+    {
+        match self.all.last() {
+            Some(scope) => scope.blocks_behind(self.alloc, names),
+            None => Ok(Vec::new(self.alloc)),
         }
     }
 }

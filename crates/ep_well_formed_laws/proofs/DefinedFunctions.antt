@@ -122,7 +122,7 @@ get_behind f (y ∷ ys) xs j x h =
     subst (λ (k : ℕ). slice_get (y ∷ (ys ++ map f xs)) k ≡ Some (f x)) (sym e) (get_behind f ys xs j x h)
 
 -- the blocks that come are those of the result, if there is one, and of the parameters
-param_get : (h : Headed) (ys : List Block) (f : CType → Block) (j : ℕ) (c : CType) → slice_get h.params j ≡ Some c
+pub param_get : (h : Headed) (ys : List Block) (f : CType → Block) (j : ℕ) (c : CType) → slice_get h.params j ≡ Some c
     → slice_get (ys ++ map f (results h ++ h.params)) (behind_result (length ys) h.result + j) ≡ Some (f c)
 param_get h ys f j c e = by (is_void h.result) refl
   where
@@ -134,7 +134,7 @@ param_get h ys f j c e = by (is_void h.result) refl
         rw q (subst (λ (k : ℕ). slice_get (ys ++ map f (h.result ∷ h.params)) k ≡ Some (f c)) (sym same)
         (get_behind f ys (h.result ∷ h.params) (suc j) c e))
 
-result_get : (h : Headed) (ys : List Block) (f : CType → Block) → is_void h.result ≡ false
+pub result_get : (h : Headed) (ys : List Block) (f : CType → Block) → is_void h.result ≡ false
     → slice_get (ys ++ map f (results h ++ h.params)) (length ys) ≡ Some (f h.result)
 result_get h ys f q =
     let same : length ys + 0 ≡ length ys = omega arith in
@@ -163,25 +163,25 @@ own_fits t c h p =
     (sym z.1) (block_of_type t c z.0 false h p.1 z.1)
 
 -- what stands in two lists, one behind the other
-get_either : {X : Type 0} (xs ys : List X) (k : ℕ) (x : X) → slice_get (xs ++ ys) k ≡ Some x
+pub get_either : {X : Type 0} (xs ys : List X) (k : ℕ) (x : X) → slice_get (xs ++ ys) k ≡ Some x
     → (slice_get xs k ≡ Some x) ⊎ ((j : ℕ) × (slice_get ys j ≡ Some x))
 get_either [] ys k x h = inr (k, h)
 get_either (y ∷ xs) ys zero x h = inl h
 get_either (y ∷ xs) ys (suc k) x h = get_either xs ys k x h
 
-own_all_fit : (t : Table) (cs : List CType) (j : ℕ) (x : Block) → IsTable t → ArePassed t cs
+pub own_all_fit : (t : Table) (cs : List CType) (j : ℕ) (x : Block) → IsTable t → ArePassed t cs
     → slice_get (map (own_block t) cs) j ≡ Some x → block_fits t x ≡ true
 own_all_fit t [] j x h p e = absurd cc
 own_all_fit t (c ∷ cs) zero x h p e =
     let same : own_block t c ≡ x = cc in subst (λ (b : Block). block_fits t b ≡ true) same (own_fits t c h p.0)
 own_all_fit t (c ∷ cs) (suc j) x h p e = own_all_fit t cs j x h p.1 e
 
-passed_at : (t : Table) (cs : List CType) (j : ℕ) (c : CType) → ArePassed t cs → slice_get cs j ≡ Some c → IsPassed t c
+pub passed_at : (t : Table) (cs : List CType) (j : ℕ) (c : CType) → ArePassed t cs → slice_get cs j ≡ Some c → IsPassed t c
 passed_at t [] j c p e = absurd cc
 passed_at t (d ∷ cs) zero c p e = let same : d ≡ c = cc in subst (IsPassed t) same p.0
 passed_at t (d ∷ cs) (suc j) c p e = passed_at t cs j c p.1 e
 
-own_passed : (t : Table) (h : Headed) → ArePassed t h.params → (h.result ≡ void_type) ⊎ IsPassed t h.result
+pub own_passed : (t : Table) (h : Headed) → ArePassed t h.params → (h.result ≡ void_type) ⊎ IsPassed t h.result
     → ArePassed t (results h ++ h.params)
 own_passed t h p r = by (is_void h.result) refl r
   where
@@ -193,7 +193,7 @@ own_passed t h p r = by (is_void h.result) refl r
 -- ---- the environment of a body
 
 -- the environment behind a head, without the scope of its parameters
-behind_head : (G H : Env) (b : ℕ) (r : Headed) → IsEnv G → HeadComes G H b r → IsEnv (left H)
+pub behind_head : (G H : Env) (b : ℕ) (r : Headed) → IsEnv G → HeadComes G H b r → IsEnv (left H)
 behind_head G H b r h k =
     let o : outer H.scopes ≡ k.scopes = ap outer k.is in
     env_declares G (left H) h (record {
@@ -210,7 +210,7 @@ behind_head G H b r h k =
       functions = k.functions;
     })
 
-param_placed : (t : Table) (bs : List Block) (fs : List Signature) (b : ℕ) (cs : List CType)
+pub param_placed : (t : Table) (bs : List Block) (fs : List Signature) (b : ℕ) (cs : List CType)
     → ((j : ℕ) (c : CType) → slice_get cs j ≡ Some c → IsPlaced t bs fs (variable (b + j) c)) → (m : Meaning) → IsParamName b cs m
     → IsPlaced t bs fs m
 param_placed t bs fs b cs f (variable k c) h =
@@ -219,7 +219,7 @@ param_placed t bs fs b cs f (function n) h = absurd h
 param_placed t bs fs b cs f (type_name c) h = absurd h
 
 -- the environment of a body: parameters innermost, over their blocks
-body_is : (K : Env) (h : Headed) (inner : Scope) → IsEnv K → EachName (IsTyped K.types) inner.names
+pub body_is : (K : Env) (h : Headed) (inner : Scope) → IsEnv K → EachName (IsTyped K.types) inner.names
     → EachOf (λ a. a < length K.types.aggregates) inner.tags
     → EachName (IsParamName (behind_result (length K.blocks) h.result) h.params) inner.names → ArePassed K.types h.params
     → (h.result ≡ void_type) ⊎ IsPassed K.types h.result → IsEnv (body_env (with_blocks K (results h ++ h.params)) inner)
@@ -265,7 +265,7 @@ global_later bs more b h = by (slice_get bs b) refl h
     by None q e = never e
     by (Some x) q e = rw (front bs more b x q) e
 
-globals_later : (bs more : List Block) (seen : List ℕ) (m : Meaning) → CanName bs [] m → CanName (bs ++ more) seen m
+pub globals_later : (bs more : List Block) (seen : List ℕ) (m : Meaning) → CanName bs [] m → CanName (bs ++ more) seen m
 globals_later bs more seen (variable b c) h = elim (either_is (is_global (slice_get bs b)) false h) [
   | inl g ↦ or_left (is_global (slice_get (bs ++ more) b)) (contains b seen) (global_later bs more b g)
   | inr g ↦ never g
@@ -297,7 +297,7 @@ param_named bs b cs more (variable k c) h =
 param_named bs b cs more (function n) h = absurd h
 param_named bs b cs more (type_name c) h = absurd h
 
-names_both : (P : Meaning → Type 0) (xs ys : List (List ℕ × Meaning)) → EachName P xs → EachName P ys → EachName P (xs ++ ys)
+pub names_both : (P : Meaning → Type 0) (xs ys : List (List ℕ × Meaning)) → EachName P xs → EachName P ys → EachName P (xs ++ ys)
 names_both P [] ys h k = k
 names_both P (x ∷ xs) ys h k = (h.0, names_both P xs ys h.1 k)
 
@@ -306,7 +306,7 @@ drop_front [] ys = refl
 drop_front (x ∷ xs) ys = drop_front xs ys
 
 -- behind the names of the parameters stand those of the body's outer block
-locals_are : (H : Env) (n : ℕ) (s : Scope) (ss : List Scope) (xs : List (List ℕ × Meaning)) (names : List (List ℕ × Meaning))
+pub locals_are : (H : Env) (n : ℕ) (s : Scope) (ss : List Scope) (xs : List (List ℕ × Meaning)) (names : List (List ℕ × Meaning))
     → H.scopes ≡ s ∷ ss → names ++ xs ≡ s.names → n ≡ length names → blocks_behind n H ≡ blocks_of xs
 locals_are H n s ss xs names e p q =
     let i : innermost H ≡ s = rw e refl in
@@ -318,7 +318,7 @@ no_more [] = refl
 no_more (x ∷ xs) = ap (λ ys. x ∷ ys) (no_more xs)
 
 -- all that is in scope behind a body can be named by the frame of its function
-frame_covers : (bs kept more : List Block) (b : ℕ) (cs : List CType) (inner s : Scope) (ks ss : List Scope)
+pub frame_covers : (bs kept more : List Block) (b : ℕ) (cs : List CType) (inner s : Scope) (ks ss : List Scope)
     (xs : List (List ℕ × Meaning)) → bs ≡ kept ++ more → inner.names ++ xs ≡ s.names → HaveNames ks ss
     → EachName (IsParamName b cs) inner.names → EachMeaning (CanName kept []) ks
     → EachMeaning (CanName bs (first_of (numbered_from b cs) ++ blocks_of xs)) (s ∷ ss)
@@ -352,16 +352,16 @@ holds_at t bs table some k c x e s n = rw e (scalar_row t bs [] table some c x.t
 -- ---- definitions
 
 -- scopes of which names came to the innermost
-grown_scopes : (i : Scope) (ks us : List Scope) → NamesGrow (i ∷ ks) us
+pub grown_scopes : (i : Scope) (ks us : List Scope) → NamesGrow (i ∷ ks) us
     → (s : Scope) × (ss : List Scope) × (xs : List (List ℕ × Meaning)) × (us ≡ s ∷ ss) × (i.names ++ xs ≡ s.names) × HaveNames ks ss
 grown_scopes i ks [] n = absurd n
 grown_scopes i ks (u ∷ us) n = (u, us, n.0.0, refl, n.0.1, n.1)
 
 -- the number of the type of a result
-result_number : Table → CType → Option ℕ
+unfoldable pub result_number : Table → CType → Option ℕ
 result_number t c = if is_void c then None else Some (c_type_number t c)
 
-result_is : (t : Table) (c : CType) → (c ≡ void_type) ⊎ IsPassed t c → IsResultOf t c (result_number t c)
+pub result_is : (t : Table) (c : CType) → (c ≡ void_type) ⊎ IsPassed t c → IsResultOf t c (result_number t c)
 unfolding result_number
 result_is t c r = by (is_void c) refl r
   where
@@ -372,7 +372,7 @@ result_is t c r = by (is_void c) refl r
     by false q (inr p) = a_result p.1.0 p.0 p.1.1 (rw q (ap (λ (n : ℕ). Some n) (c_number_is t c p.1.0 p.1.1)))
 
 -- the block of a result holds its scalar, and has the number of its type
-result_part : (t u : Table) (bs : List Block) (h : Headed) (b : ℕ)
+pub result_part : (t u : Table) (bs : List Block) (h : Headed) (b : ℕ)
     → (is_void h.result ≡ false → slice_get bs b ≡ Some (own_block t h.result)) → (table : IsTable u) → 0 < length u.types
     → (h.result ≡ void_type) ⊎ IsPassed t h.result
     → ((c : CType) → IsPassed t c → type_number u c ≡ Some (c_type_number t c))
@@ -392,19 +392,19 @@ result_part t u bs h b get table some result number = by (is_void h.result) refl
         rw q (and_is (holds_scalar u bs (b, scalar_of h.result)) true held refl, ap block_type w)
 
 -- what stands before a body: the function's name is known, and its blocks are there
-record BodyComes (G K : Env) (b : ℕ) (h : Headed) (inner : Scope) : Type 0 where
-  env : IsEnv K
-  grows : Grows G.types K.types
-  blocks : K.blocks ≡ G.blocks
-  typed : EachName (IsTyped K.types) inner.names
-  tags : EachOf (λ a. a < length K.types.aggregates) inner.tags
-  named : EachName (IsParamName (behind_result (length K.blocks) h.result) h.params) inner.names
-  passed : ArePassed K.types h.params
-  result : (h.result ≡ void_type) ⊎ IsPassed K.types h.result
-  some : 0 < length K.types.types
-  covers : Covers [] K
+pub record BodyComes (G K : Env) (b : ℕ) (h : Headed) (inner : Scope) : Type 0 where
+  pub env : IsEnv K
+  pub grows : Grows G.types K.types
+  pub blocks : K.blocks ≡ G.blocks
+  pub typed : EachName (IsTyped K.types) inner.names
+  pub tags : EachOf (λ a. a < length K.types.aggregates) inner.tags
+  pub named : EachName (IsParamName (behind_result (length K.blocks) h.result) h.params) inner.names
+  pub passed : ArePassed K.types h.params
+  pub result : (h.result ≡ void_type) ⊎ IsPassed K.types h.result
+  pub some : 0 < length K.types.types
+  pub covers : Covers [] K
 
-before_body : (G : Env) (ds : List ℕ) (f : Function) (x : Headed × Env) (n : ℕ × Env) → IsEnv G → Covers [] G
+pub before_body : (G : Env) (ds : List ℕ) (f : Function) (x : Headed × Env) (n : ℕ × Env) → IsEnv G → Covers [] G
     → HeadComes G x.1 (length G.blocks) x.0 → function_declared (left x.1) ds true (signature_of f.head x.0) ≡ Ok n
     → BodyComes G n.1 (length G.blocks) x.0 (innermost x.1)
 before_body G ds f x n h c k e =

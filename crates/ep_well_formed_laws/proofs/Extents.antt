@@ -22,7 +22,7 @@ use Rattle.ep_well_formed_laws.proofs.Tables.{base_again, row_at, target_number}
 
 -- ---- by number and by type
 
-layout_at : (t : Table) → IsBuilt t → (n : ℕ) (ty : Ty) → slice_get t.types n ≡ Some ty
+pub layout_at : (t : Table) → IsBuilt t → (n : ℕ) (ty : Ty) → slice_get t.types n ≡ Some ty
     → layout_of t n ≡ at_type (layout_rules t.model) t (layout_of t) ty
 layout_at t b n ty h = by_type_is (layout_rules t.model) t b n
     ∙ ap (option_and_then (at_type (layout_rules t.model) t (layout_of t))) h

@@ -261,19 +261,19 @@ module _ (seen : List ℕ) (result : Option ℕ) where
 
 -- what first values mention, whatever can be named
 mutual
-  given_mentions : (G : Env) (global c : Bool) (l : ℕ) (o : Option Object) (v : tree.Value) (g : Given × Env) → IsDeclared G
+  pub given_mentions : (G : Env) (global c : Bool) (l : ℕ) (o : Option Object) (v : tree.Value) (g : Given × Env) → IsDeclared G
       → MeansGiven G global c l o v g → Mentions G g.1
   given_mentions G global c l o v g h (is_single {e = e} d m) = (expression_mentioned G e h).mentions
   given_mentions G global c l o v g h (is_listed {vs = vs} x d p m) = all_given_mentions G global x 0 vs g h m
 
-  all_given_mentions : (G : Env) (global : Bool) (x : Object) (i : ℕ) (vs : Values) (g : Given × Env) → IsDeclared G
+  pub all_given_mentions : (G : Env) (global : Bool) (x : Object) (i : ℕ) (vs : Values) (g : Given × Env) → IsDeclared G
       → MeansAllGiven G global x i vs g → Mentions G g.1
   all_given_mentions G global x i vs g h no_values_given = mentions_none G h
   all_given_mentions G global x i vs g h (more_values_given {v = v} {vs = us} a b m n) =
       let p = given_mentions G global false (line_of_value v) (part_at G.types x i) v a h m in
       mentions_on G a.1 b.1 p (all_given_mentions a.1 global x (suc i) us b p.declared n)
 
-first_mentions : (G : Env) (global c : Bool) (l : ℕ) (x : Object) (v : Option tree.Value) (g : Given × Env) → IsDeclared G
+pub first_mentions : (G : Env) (global c : Bool) (l : ℕ) (x : Object) (v : Option tree.Value) (g : Given × Env) → IsDeclared G
     → MeansFirstValue G global c l x v g → Mentions G g.1
 first_mentions G global c l x v g h no_first_value = mentions_none G h
 first_mentions G global c l x v g h (is_first_value {v = w} d m) = given_mentions G global c l (Some x) w d h m

@@ -292,7 +292,7 @@ pub record HeadComes (G H : Env) (b : ℕ) (r : Headed) : Type 0 where
   pub result : (r.result ≡ void_type) ⊎ IsPassed H.types r.result
   pub some : 0 < length H.types.types
 
-void_is : (c : CType) → is_void c ≡ true → c ≡ void_type
+pub void_is : (c : CType) → is_void c ≡ true → c ≡ void_type
 void_is c h =
     let p = of_base c (is_void_base c.base) h in sym (base_again c p.0) ∙ ap (λ (b : Base). record { base = b; stars = 0 }) (by c.base p.1)
   where

@@ -17,11 +17,11 @@ const DIFFERS: &str = "4: E1 output-differs left [0,255] right [0,255]\n1 alarms
 
 /// What a call is given: its words, what stands under `file.c`, and the calls of source and sink that fail.
 #[derive(Clone, Copy)]
-struct Case<'a> {
-    words: &'a [&'a str],
-    source: &'a [u8],
-    failing_read: Option<u32>,
-    failing_write: Option<u32>,
+pub(crate) struct Case<'a> {
+    pub words: &'a [&'a str],
+    pub source: &'a [u8],
+    pub failing_read: Option<u32>,
+    pub failing_write: Option<u32>,
 }
 
 impl<'a> Case<'a> {
@@ -61,7 +61,7 @@ fn call(rt: &impl Abort, alloc: Global, case: &Case) -> Result<(Status, Vec<u8>)
     Ok((status, Vec::from_slice(alloc, sink.bytes())?))
 }
 
-fn expect(
+pub(crate) fn expect(
     rt: &impl Abort,
     alloc: Global,
     case: &Case,
@@ -246,7 +246,11 @@ fn operators_tests_and_loops(rt: HostRuntime) -> Result<(), Fail> {
     Ok(())
 }
 
-const USAGE_TEXT: &str = "usage:\n  endport check FILE\n";
+pub(crate) const USAGE_TEXT: &str = "usage:
+  endport check FILE
+  endport run --order little|big|swapped-words --steps N [--model ilp32|lp64] FILE [INPUT..]
+  endport layout [--model ilp32|lp64] FILE
+";
 
 #[test]
 fn words_and_the_usage_text(rt: HostRuntime) -> Result<(), Fail> {

@@ -1,11 +1,11 @@
 use Rattle.std.proofs.Common.{◌≡◌, List, [], map, Some, None, sym, ap, ◌∙◌}
 use Rattle.std.proofs.lemmas.Result.{err_from_is_err_and}
 use Rattle.ep_ast.specs.BitField.{HasBitField}
-use Rattle.ep_ast.specs.Depth.{brackets_past}
+use Rattle.ep_ast.specs.Depth.{brackets_past, too_deep}
 use Rattle.ep_ast.specs.Reading.{Takes}
 use Rattle.ep_lexer.specs.declared.tokens.Token.{Token}
 use Rattle.ep_lexer.specs.Tokens.{view, view_all}
-use Rattle.ep_reading.specs.Answer.{Fails}
+use Rattle.ep_reading.specs.Answer.{Clear, Fails}
 use Rattle.ep_decls.specs.Answer.{Whole}
 use Rattle.ep_decls.proofs.ProgramLemmas as programs
 use Rattle.ep_decls.proofs.top.program.Goals as goal
@@ -41,3 +41,15 @@ returns-in-Err-clause-refused c =
     let q = c.in_ok-found.ensures.reads in
     let t : Takes Whole (view_all c.args.tokens.now) q.0 [] = rw c.as_slice-all.ensures.value at q.2 in
     programs.depth_offends (view_all c.args.tokens.now) c.in-Err.refusal q.0 n t (c.in-Err.ensures q.0 q.1)
+
+pub returns-in-Ok-clause-faultless : goal.returns-in-Ok-clause-faultless
+returns-in-Ok-clause-faultless c =
+    let n : None ≡ brackets_past 0 (view_all c.args.tokens.now) =
+    sym c.in_default.is ∙ c.brackets_past.ensures ∙ ap (λ (ts : List Token). brackets_past 0 (map view ts))
+    c.as_slice-all.ensures.value in
+    let q = c.in_ok-found.ensures.reads in
+    let t : Takes Whole (view_all c.args.tokens.now) q.0 [] = rw c.as_slice-all.ensures.value at q.2 in
+    let d : Clear HasBitField (view_all c.args.tokens.now) = rw c.as_slice-all.ensures.value at q.3 in
+    let w = c.in-Ok.ensures q.0 q.1 in
+    let f : too_deep q.0 ≡ None = w.1 in
+    programs.faultless (view_all c.args.tokens.now) q.0 n t d f

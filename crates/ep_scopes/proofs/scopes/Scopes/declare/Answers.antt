@@ -1,4 +1,4 @@
-use Rattle.std.proofs.Common.{◌≡◌, ◌∙◌, sym, ap, None}
+use Rattle.std.proofs.Common.{◌∙◌, sym, ap}
 use Rattle.ep_typing.specs.Env.{Scope, entry}
 use Rattle.ep_scopes.proofs.ScopeLemmas.{is_last, with_last_name}
 use Rattle.ep_scopes.proofs.scopes.Scopes.declare.Goals as goal

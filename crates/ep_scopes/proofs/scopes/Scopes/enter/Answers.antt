@@ -1,4 +1,4 @@
-use Rattle.std.proofs.Common.{◌∷◌, List, ap, ◌∙◌}
+use Rattle.std.proofs.Common.{◌∷◌, ap, ◌∙◌}
 use Rattle.ep_typing.specs.Env.{Scope}
 use Rattle.ep_scopes.specs.Seen.{scopes}
 use Rattle.ep_scopes.proofs.ScopeLemmas.{pushed}

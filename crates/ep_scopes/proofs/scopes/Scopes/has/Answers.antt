@@ -1,6 +1,6 @@
 use Rattle.std.proofs.Common.{◌≡◌, ◌-◌, length, Some, ◌∙◌, sym, ap}
 use Rattle.std.specs.Prelude.{slice_get, is_some}
-use Rattle.ep_typing.specs.Env.{Meaning, Scope, entry}
+use Rattle.ep_typing.specs.Env.{Scope, entry}
 use Rattle.ep_scopes.proofs.ScopeLemmas.{last_is, there}
 use Rattle.ep_scopes.proofs.scopes.Scopes.has.Goals as goal
 

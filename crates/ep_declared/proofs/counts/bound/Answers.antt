@@ -1,0 +1,18 @@
+use Rattle.std.proofs.Common.{subst, sym}
+use Rattle.ep_ast.specs.Expression.{expr}
+use Rattle.ep_typing.specs.Env.{Env}
+use Rattle.ep_scopes.specs.Seen.{env}
+use Rattle.ep_declared.proofs.Growth.{IsMore, mentioned_more}
+use Rattle.ep_declared.proofs.counts.bound.Goals as goal
+
+pub returns-clause-grown : goal.returns-clause-grown
+returns-clause-grown c =
+    let m = subst (λ (H : Env). IsMore c.args.env.now.types H.types) (sym c.in_ok-mention.ensures.means)
+    (mentioned_more (env c.args.env.now) (expr c.args.tree.now)) in
+    m.grows
+
+pub returns-clause-stay : goal.returns-clause-stay
+returns-clause-stay c =
+    let m = subst (λ (H : Env). IsMore c.args.env.now.types H.types) (sym c.in_ok-mention.ensures.means)
+    (mentioned_more (env c.args.env.now) (expr c.args.tree.now)) in
+    m.stay

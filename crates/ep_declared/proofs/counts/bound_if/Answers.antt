@@ -1,0 +1,8 @@
+use Rattle.ep_scopes.specs.Seen.{env}
+use Rattle.ep_declared.proofs.Growth.{follows_ok}
+use Rattle.ep_declared.proofs.counts.bound_if.Goals as goal
+
+pub returns-in-Some-clause-after : goal.returns-in-Some-clause-after
+returns-in-Some-clause-after c =
+    follows_ok c.bound.result (env c.args.env.now) (env c.bound.new.env) c.bound.ensures.known c.bound.ensures.grown
+    c.bound.ensures.stay

@@ -1,0 +1,5 @@
+pub mod Gives
+pub mod Seen
+pub mod Open
+pub mod Counts
+pub mod Stopped

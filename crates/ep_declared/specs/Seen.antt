@@ -1,0 +1,13 @@
+-- What the code keeps of objects and members, seen as what the definitions speak of.
+use Rattle.std.specs.Prelude.{ℕ, List, map}
+use Rattle.ep_core.specs.View.{shown_place}
+use Rattle.ep_scopes.specs.Seen.{tag}
+use Rattle.ep_elaboration.specs.Declarators as rule
+use Rattle.ep_declared.specs.declared.members.Named.{Named}
+use Rattle.ep_declared.specs.declared.objects.Object.{Object}
+
+abbrev pub object : Object → rule.Object
+object o = record { place = shown_place o.place; block = o.block; offset = o.offset; ty = o.ty }
+
+abbrev pub named : Named → List (List ℕ × ℕ)
+named n = map tag n.types.entries

@@ -1,0 +1,98 @@
+//! Types of arrays and of pointers.
+
+ghost use Rattle.std.specs.Prelude.{◌≡◌, ◌<◌, length, IsTrue, IfOk, OnOk};
+ghost use Rattle.ep_layout.specs.Table as table;
+ghost use Rattle.ep_layout.specs.Table.{Grows};
+ghost use Rattle.ep_typing.specs.Results.{at};
+ghost use Rattle.ep_typing.specs.Types as types_of;
+ghost use Rattle.ep_elaboration.specs.Declarators as rule;
+ghost use Rattle.ep_declared.specs.Gives.{GivesIn};
+ghost use Rattle.ep_declared.specs.Open.{StaysOpen};
+ghost use Rattle.ep_declared.specs.Stopped.{halted};
+ghost use Rattle.ep_scopes.specs.Known.{IsKnown};
+
+use crate::kinds::TOO_LARGE;
+use ep_ast::Halt;
+use ep_int::Memory;
+use ep_layout::{LayoutStop, Ty, Types};
+use ep_operands::kinds::{INCOMPLETE_TYPE, refused};
+use ep_operands::whole;
+use ep_scopes::{add_type, type_number};
+use ep_typing::{Base, CType};
+
+/// So many pointers, one to the other, to a type.
+pub(crate) fn with_stars(c: CType, count: usize) -> Result<CType, Memory>
+    ensures { IfOk result (λ d. d ≡ types_of.with_stars c count) }
+{
+    let Ok(stars) = u32::try_from(count) else {
+        return Err(Memory);
+    };
+    match c.stars.checked_add(stars) {
+        Some(stars) => Ok(CType {
+            base: c.base,
+            stars,
+        }),
+        None => Err(Memory),
+    }
+}
+
+/// What a table answers of a type or a body that it doesn't take.
+pub(crate) fn stopped(line: u32, stop: LayoutStop) -> Halt
+    ensures { result ≡ halted line stop }
+{
+    match stop {
+        LayoutStop::Incomplete => refused(INCOMPLETE_TYPE, line),
+        LayoutStop::TooLarge => refused(TOO_LARGE, line),
+        LayoutStop::Memory => Halt::Memory,
+    }
+}
+
+// An array whose elements are in the table.
+fn add_array(types: &mut Types, line: u32, row: Ty) -> Result<CType, Halt>
+    requires { IsTrue (table.names_known types.old row) }
+    ensures means { GivesIn (λ d. d) (at line (rule.made types.old row (table.type_stop types.old row)))
+        types.new result }
+    ensures there { IfOk result (λ d. types_of.c_type_number types.new d < length types.new.types) }
+    ensures inside { IfOk result (λ d. IsKnown types.new d) }
+    ensures grown { OnOk result (types.new ≡ table.type_added types.old row) }
+{
+    if types.type_count() >= 1 << 31 {
+        return Err(Halt::Memory);
+    }
+    match types.add(row) {
+        Ok(n) => Ok(whole(Base::Array(n))),
+        Err(stop) => Err(stopped(line, stop)),
+    }
+}
+
+#[tactic(auto, unfolding(ep_elaboration::specs::Declarators::array_of))]
+fn array_of(types: &mut Types, line: u32, c: CType, count: u32) -> Result<CType, Halt>
+    requires { IsKnown types.old c }
+    ensures means { GivesIn (λ d. d) (at line (rule.array_of types.old c count)) types.new result }
+    ensures there { IfOk result (λ d. types_of.c_type_number types.new d < length types.new.types) }
+    ensures inside { IfOk result (λ d. IsKnown types.new d) }
+    ensures grown { OnOk result (Grows types.old types.new) }
+    ensures stay { OnOk result (StaysOpen types.old types.new) }
+{
+    add_type(types, c)?;
+    let element = type_number(types, c);
+    add_array(types, line, Ty::Array(element, count))
+}
+
+/// An array of arrays; the last count is that of the innermost elements. Without counts it is the type itself.
+#[tactic(auto, unfolding(ep_elaboration::specs::Declarators::arrays_of))]
+pub fn arrays_of(types: &mut Types, c: CType, line: u32, counts: &[u32]) -> Result<CType, Halt>
+    requires { IsKnown types.old c }
+    ensures means { GivesIn (λ d. d) (at line (rule.arrays_of types.old c counts.now)) types.new result }
+    ensures there { IfOk result (λ d. types_of.c_type_number types.new d < length types.new.types) }
+    ensures inside { IfOk result (λ d. IsKnown types.new d) }
+    ensures grown { OnOk result (Grows types.old types.new) }
+    ensures stay { OnOk result (StaysOpen types.old types.new) }
+{
+    add_type(types, c)?;
+    let mut array = c;
+    for i in (0..counts.len()).rev() {
+        array = array_of(types, line, array, counts[i])?;
+    }
+    Ok(array)
+}

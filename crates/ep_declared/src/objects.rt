@@ -1,0 +1,150 @@
+//! Objects, each with a block of its own.
+
+ghost use Rattle.std.specs.Prelude.{◌≡◌, IfOk, OnOk, IsFalse, length};
+ghost use Rattle.ep_ast.specs.Declaration.{declarator};
+ghost use Rattle.ep_layout.specs.Table.{Grows};
+ghost use Rattle.ep_typing.specs.Results.{at};
+ghost use Rattle.ep_elaboration.specs.Declarators as rule;
+ghost use Rattle.ep_declared.specs.Gives.{GivesIn};
+ghost use Rattle.ep_declared.specs.Open.{Follows, StaysOpen};
+ghost use Rattle.ep_declared.specs.Seen as seen;
+ghost use Rattle.ep_scopes.specs.Known.{IsKnown, IsKnownEnv};
+ghost use Rattle.ep_scopes.specs.Seen.{env as around};
+
+use crate::arrays::{arrays_of, with_stars};
+use crate::counts::object_bounds;
+use crate::naming::{declare_name, is_taken};
+use ep_ast::{DeclaratorTree, Halt};
+use ep_core::program::BlockInfo;
+use ep_core::tree::Place;
+use ep_int::Memory;
+use ep_operands::kinds::{INCOMPLETE_TYPE, REDECLARED, refused};
+use ep_operands::size_of_type;
+use ep_scopes::{Env, Meaning, type_number};
+use ep_typing::CType;
+
+/// An object, or a part of one: its place, and how many bytes behind the start of which block it lies.
+#[derive(Debug, Drop)]
+pub struct Object {
+    pub place: Place,
+    pub block: u32,
+    pub offset: u32,
+    pub ty: CType,
+}
+
+// The next block.
+fn add_block(env: &mut Env, size: u32, ty: u32, global: bool) -> Result<u32, Memory>
+    ensures number { IfOk result (λ b. b ≡ length (around env.old).blocks) }
+    ensures means { OnOk result (around env.new
+        ≡ rule.with_block (around env.old) (record { size = size; ty = ty; global = global })) }
+{
+    let block = env.blocks.len();
+    if block >= 1 << 31 {
+        return Err(Memory);
+    }
+    match env.blocks.push(BlockInfo { size, ty, global }) {
+        Ok(()) => Ok(block as u32),
+        Err(_) => Err(Memory),
+    }
+}
+
+// A variable with a block of its own.
+fn object_of(
+    env: &mut Env,
+    global: bool,
+    name: &[u8],
+    c: CType,
+    size: u32,
+) -> Result<Object, Memory>
+    requires free { IsFalse (rule.is_taken name.now (around env.old).scopes) }
+    requires known { IsKnownEnv (around env.old) }
+    requires inside { IsKnown (around env.old).types c }
+    ensures means { IfOk result (λ o. rule.object_of (around env.old) global name.now c size
+        ≡ (seen.object o, around env.new)) }
+    ensures after { OnOk result (Follows (around env.old) (around env.new)) }
+    ensures inside { IfOk result (λ o. IsKnown (around env.new).types o.ty) }
+{
+    let ty = type_number(&env.types, c);
+    let block = add_block(env, size, ty, global)?;
+    declare_name(env, name, Meaning::Variable(block, c))?;
+    Ok(Object {
+        place: Place::Block(block),
+        block,
+        offset: 0,
+        ty: c,
+    })
+}
+
+// An object of a type that is there.
+#[tactic(auto, unfolding(ep_elaboration::specs::Declarators::sized_object))]
+fn sized_object(
+    env: &mut Env,
+    line: u32,
+    global: bool,
+    name: &[u8],
+    c: CType,
+) -> Result<Object, Halt>
+    requires free { IsFalse (rule.is_taken name.now (around env.old).scopes) }
+    requires known { IsKnownEnv (around env.old) }
+    requires inside { IsKnown (around env.old).types c }
+    ensures means { GivesIn seen.object
+        (at line (rule.sized_object (around env.old) global name.now (c, (around env.old).types))) (around env.new) result }
+    ensures after { OnOk result (Follows (around env.old) (around env.new)) }
+    ensures inside { IfOk result (λ o. IsKnown (around env.new).types o.ty) }
+{
+    match size_of_type(&env.types, c) {
+        None => Err(refused(INCOMPLETE_TYPE, line)),
+        Some(size) => {
+            let object = object_of(env, global, name, c, size)?;
+            Ok(object)
+        }
+    }
+}
+
+#[tactic(auto, unfolding(ep_elaboration::specs::Declarators::declared_object))]
+fn declared_object(
+    env: &mut Env,
+    line: u32,
+    global: bool,
+    name: &[u8],
+    c: CType,
+    counts: &[u32],
+) -> Result<Object, Halt>
+    requires known { IsKnownEnv (around env.old) }
+    requires inside { IsKnown (around env.old).types c }
+    ensures means { GivesIn seen.object (at line (rule.declared_object (around env.old) global name.now c counts.now))
+        (around env.new) result }
+    ensures after { OnOk result (Follows (around env.old) (around env.new)) }
+    ensures inside { IfOk result (λ o. IsKnown (around env.new).types o.ty) }
+{
+    if is_taken(env, name) {
+        return Err(refused(REDECLARED, line));
+    }
+    let array = arrays_of(&mut env.types, c, line, counts)?;
+    let object = sized_object(env, line, global, name, array)?;
+    Ok(object)
+}
+
+/// An object by its declarator, the type of the words before it, and how many values a list gives it.
+#[tactic(auto, unfolding(ep_elaboration::specs::Declarators::object_declared))]
+pub fn object_declared(
+    env: &mut Env,
+    global: bool,
+    listed: Option<usize>,
+    c: CType,
+    d: &DeclaratorTree,
+) -> Result<Object, Halt>
+    requires known { IsKnownEnv (around env.old) }
+    requires inside { IsKnown (around env.old).types c }
+    ensures means { GivesIn seen.object (rule.object_declared (around env.old) global listed c (declarator d.now))
+        (around env.new) result }
+    ensures known { OnOk result (IsKnownEnv (around env.new)) }
+    ensures inside { IfOk result (λ o. IsKnown (around env.new).types o.ty) }
+    ensures grown { OnOk result (Grows (around env.old).types (around env.new).types) }
+    ensures stay { OnOk result (StaysOpen (around env.old).types (around env.new).types) }
+{
+    let counts = object_bounds(env, d.line, listed, &d.bounds)?;
+    let pointer = with_stars(c, d.stars.len())?;
+    let object = declared_object(env, d.line, global, &d.name, pointer, &counts)?;
+    Ok(object)
+}

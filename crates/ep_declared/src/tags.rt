@@ -1,0 +1,172 @@
+//! Structs and unions by their tags, and the ends of their bodies.
+
+ghost use Rattle.std.specs.Prelude.{◌≡◌, ◌<◌, ◌∷◌, None, length, IfOk, IsFalse, OnOk};
+ghost use Rattle.std.specs.Option.{option_map};
+ghost use Rattle.ep_ast.specs.Declaration.{text_of};
+ghost use Rattle.ep_layout.specs.Table as table;
+ghost use Rattle.ep_layout.specs.Table.{Grows};
+ghost use Rattle.ep_typing.specs.Env.{entry, with_tag};
+ghost use Rattle.ep_typing.specs.Results.{at};
+ghost use Rattle.ep_elaboration.specs.Aggregates as rule;
+ghost use Rattle.ep_declared.specs.Gives.{GivesIn};
+ghost use Rattle.ep_declared.specs.Open.{AreTypes, Follows, IsOpened, OthersStayOpen};
+ghost use Rattle.ep_declared.specs.Seen as seen;
+ghost use Rattle.ep_scopes.specs.Known.{IsKnown, IsKnownEnv};
+ghost use Rattle.ep_scopes.specs.Seen.{env as around};
+
+use crate::arrays::stopped;
+use crate::members::Named;
+use ep_ast::Halt;
+use ep_int::Memory;
+use ep_layout::Types;
+use ep_operands::kinds::{INCOMPLETE_TYPE, REDECLARED, refused};
+use ep_operands::whole;
+use ep_scopes::{Env, add_type};
+use ep_typing::{Base, CType};
+use std::alloc::{AllocError, Global};
+
+fn is_completed(types: &Types, aggregate: u32) -> bool
+    ensures { result ≡ table.is_completed types.now aggregate }
+{
+    if aggregate < types.aggregate_count() {
+        types.is_completed(aggregate)
+    } else {
+        false
+    }
+}
+
+fn is_union(types: &Types, aggregate: u32) -> bool
+    ensures { result ≡ table.is_union types.now aggregate }
+{
+    if aggregate < types.aggregate_count() {
+        types.is_union(aggregate)
+    } else {
+        false
+    }
+}
+
+fn has_body(env: &Env, unclosed: &[u32], with_union: bool, aggregate: u32) -> bool
+    ensures { result ≡ rule.has_body (around env.now) unclosed.now with_union aggregate }
+{
+    unclosed.contains(&aggregate)
+        | is_completed(&env.types, aggregate)
+        | (is_union(&env.types, aggregate) != with_union)
+}
+
+// A struct or union without members takes the next number.
+fn add_aggregate(
+    types: &mut Types,
+    alloc: Global,
+    tag: &[u8],
+    with_union: bool,
+) -> Result<u32, Memory>
+    ensures number { IfOk result (λ n. n ≡ length types.old.aggregates) }
+    ensures grown { OnOk result (types.new ≡ table.declared types.old tag.now with_union) }
+{
+    if types.aggregate_count() >= 1 << 31 {
+        return Err(Memory);
+    }
+    match Vec::from_slice(alloc, tag) {
+        Ok(text) => types.declare(text, with_union),
+        Err(_) => Err(Memory),
+    }
+}
+
+// The aggregate of a tag of the innermost scope.
+#[tactic(auto, using(crate::proofs::TagLemmas::here_is))]
+fn tag_here(env: &Env, tag: &[u8]) -> Option<u32>
+    ensures { result ≡ entry tag.now (rule.tags_here (around env.now).scopes) }
+{
+    env.scopes.tag_here(tag)
+}
+
+// A tag that the innermost scope doesn't have.
+fn declare_tag(env: &mut Env, tag: &[u8], with_union: bool) -> Result<u32, Memory>
+    requires { entry tag.now (rule.tags_here (around env.old).scopes) ≡ None }
+    ensures number { IfOk result (λ n. n ≡ length (around env.old).types.aggregates) }
+    ensures means { OnOk result (around env.new ≡ with_tag (around env.old) tag.now with_union) }
+{
+    let number = add_aggregate(&mut env.types, env.alloc, tag, with_union)?;
+    match env.scopes.declare_tag(tag, number) {
+        Ok(()) => Ok(number),
+        Err(_) => Err(Memory),
+    }
+}
+
+/// The aggregate of a body, by its tag, if it has one.
+#[tactic(auto, unfolding(ep_elaboration::specs::Aggregates::opened))]
+pub(crate) fn opened(
+    env: &mut Env,
+    line: u32,
+    unclosed: &[u32],
+    with_union: bool,
+    tag: &Option<Vec<u8>>,
+) -> Result<u32, Halt>
+    requires { IsKnownEnv (around env.old) }
+    ensures means { GivesIn (λ a. a)
+        (at line (rule.opened (around env.old) unclosed.now with_union (option_map text_of tag.now))) (around env.new) result }
+    ensures after { OnOk result (Follows (around env.old) (around env.new)) }
+    ensures opened { IfOk result (λ a.
+        IsOpened unclosed.now with_union a (around env.old).types (around env.new).types) }
+{
+    match tag {
+        None => {
+            let number = add_aggregate(&mut env.types, env.alloc, b"", with_union)?;
+            Ok(number)
+        }
+        Some(tag) => match tag_here(env, tag) {
+            None => {
+                let number = declare_tag(env, tag, with_union)?;
+                Ok(number)
+            }
+            Some(aggregate) => {
+                if has_body(env, unclosed, with_union, aggregate) {
+                    return Err(refused(REDECLARED, line));
+                }
+                Ok(aggregate)
+            }
+        },
+    }
+}
+
+/// An aggregate before those that are open round it.
+pub(crate) fn inside(
+    alloc: Global,
+    aggregate: u32,
+    unclosed: &[u32],
+) -> Result<Vec<u32>, AllocError>
+    ensures { IfOk result (λ v. v.items ≡ aggregate ∷ unclosed.now) }
+{
+    let mut all = Vec::new(alloc);
+    all.push(aggregate)?;
+    all.extend_from_slice(unclosed)?;
+    Ok(all)
+}
+
+/// A body ends.
+pub(crate) fn closed(env: &mut Env, line: u32, aggregate: u32, named: Named) -> Result<CType, Halt>
+    requires known { IsKnownEnv (around env.old) }
+    requires exists { aggregate < length (around env.old).types.aggregates }
+    requires empty { IsFalse (table.is_completed (around env.old).types aggregate) }
+    requires members { AreTypes (around env.old).types (seen.named named) }
+    ensures means { GivesIn (λ c. c) (at line (rule.closed (around env.old) aggregate (seen.named named)
+        (table.members_stop (around env.old).types (table.is_union (around env.old).types aggregate)
+        (seen.named named)))) (around env.new) result }
+    ensures known { OnOk result (IsKnownEnv (around env.new)) }
+    ensures inside { IfOk result (λ c. IsKnown (around env.new).types c) }
+    ensures grown { OnOk result (Grows (around env.old).types (around env.new).types) }
+    ensures stay { OnOk result (OthersStayOpen aggregate (around env.old).types (around env.new).types) }
+{
+    if named.is_empty() {
+        return Err(refused(INCOMPLETE_TYPE, line));
+    }
+    let members = named.into_list(env.alloc)?;
+    match env.types.complete(aggregate, members) {
+        Ok(()) => {
+            let c = whole(Base::Aggregate(aggregate));
+            add_type(&mut env.types, c)?;
+            Ok(c)
+        }
+        Err(stop) => Err(stopped(line, stop)),
+    }
+}

@@ -1,0 +1,67 @@
+//! Names of types.
+
+ghost use Rattle.std.specs.Prelude.{map, OnOk};
+ghost use Rattle.ep_ast.specs.Declaration.{declarator};
+ghost use Rattle.ep_layout.specs.Table.{Grows};
+ghost use Rattle.ep_typing.specs.Results.{at};
+ghost use Rattle.ep_elaboration.specs.Declarators as rule;
+ghost use Rattle.ep_declared.specs.Gives.{Adds};
+ghost use Rattle.ep_declared.specs.Open.{Follows};
+ghost use Rattle.ep_scopes.specs.Known.{IsKnown, IsKnownEnv};
+ghost use Rattle.ep_scopes.specs.Seen.{env as around};
+
+use crate::arrays::{arrays_of, with_stars};
+use crate::counts::bounds;
+use crate::naming::{declare_name, is_taken};
+use ep_ast::{DeclaratorTree, Halt};
+use ep_operands::kinds::{REDECLARED, refused};
+use ep_scopes::{Env, Meaning};
+use ep_typing::CType;
+
+#[tactic(auto, unfolding(ep_elaboration::specs::Declarators::declared_type))]
+fn declared_type(
+    env: &mut Env,
+    line: u32,
+    name: &[u8],
+    c: CType,
+    counts: &[u32],
+) -> Result<(), Halt>
+    requires known { IsKnownEnv (around env.old) }
+    requires inside { IsKnown (around env.old).types c }
+    ensures means { Adds (at line (rule.declared_type (around env.old) name.now c counts.now)) (around env.new) result }
+    ensures after { OnOk result (Follows (around env.old) (around env.new)) }
+{
+    if is_taken(env, name) {
+        return Err(refused(REDECLARED, line));
+    }
+    let array = arrays_of(&mut env.types, c, line, counts)?;
+    declare_name(env, name, Meaning::TypeName(array))?;
+    Ok(())
+}
+
+#[tactic(auto, unfolding(ep_elaboration::specs::Declarators::type_declared))]
+fn type_declared(env: &mut Env, c: CType, d: &DeclaratorTree) -> Result<(), Halt>
+    requires known { IsKnownEnv (around env.old) }
+    requires inside { IsKnown (around env.old).types c }
+    ensures means { Adds (rule.type_declared (around env.old) c (declarator d.now)) (around env.new) result }
+    ensures after { OnOk result (Follows (around env.old) (around env.new)) }
+{
+    let counts = bounds(env, d.line, &d.bounds)?;
+    let pointer = with_stars(c, d.stars.len())?;
+    declared_type(env, d.line, &d.name, pointer, &counts)?;
+    Ok(())
+}
+
+/// Typedefs one after another, by their declarators and the type of the words before them.
+pub fn types_declared(env: &mut Env, c: CType, list: &[DeclaratorTree]) -> Result<(), Halt>
+    requires known { IsKnownEnv (around env.old) }
+    requires inside { IsKnown (around env.old).types c }
+    ensures means { Adds (rule.types_declared (around env.old) c (map declarator list.now)) (around env.new) result }
+    ensures known { OnOk result (IsKnownEnv (around env.new)) }
+    ensures grown { OnOk result (Grows (around env.old).types (around env.new).types) }
+{
+    for d in list {
+        type_declared(env, c, d)?;
+    }
+    Ok(())
+}

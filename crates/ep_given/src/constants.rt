@@ -1,0 +1,86 @@
+//! Constants, which the first values of globals are.
+
+ghost use Rattle.std.specs.Prelude.{◌≡◌, pos};
+ghost use Rattle.std.specs.Option.{option_map, option_to_list};
+ghost use Rattle.ep_core.specs.View.{shown_init};
+ghost use Rattle.ep_declared.specs.Seen as seen;
+ghost use Rattle.ep_elaboration.specs.Given as rule;
+ghost use Rattle.ep_operands.specs.Gives.{Gives};
+ghost use Rattle.ep_operands.specs.Seen as operands;
+ghost use Rattle.ep_typer_effects.specs.Seen as effects;
+ghost use Rattle.ep_typing.specs.Results.{at};
+ghost use Rattle.ep_typing.specs.Typing.{an_object};
+
+use ep_ast::Halt;
+use ep_core::program::InitByte;
+use ep_declared::Object;
+use ep_int::wrap;
+use ep_layout::Types;
+use ep_operands::kinds::refused;
+use ep_operands::{Operand, Value, constant_of, copy_operand, int_of, is_pointer, value_of};
+use ep_typer_effects::Right;
+use std::alloc::Global;
+
+/// A first value of a global that is no constant.
+pub(crate) const NO_CONSTANT: u8 = 45;
+
+fn constant_value(line: u32, x: &Object, v: &Value) -> Result<Option<InitByte>, Halt>
+    ensures { Gives (λ o. option_to_list (option_map shown_init o))
+        (at line (rule.constant_value (seen.object x.now) (operands.value v.now))) result }
+{
+    if is_pointer(x.ty) {
+        if v.is_null {
+            return Ok(None);
+        }
+        return Err(refused(NO_CONSTANT, line));
+    }
+    match constant_of(v) {
+        Some(n) => {
+            let t = int_of(x.ty);
+            Ok(Some(InitByte {
+                block: x.block,
+                offset: x.offset,
+                t,
+                value: wrap(t, n),
+            }))
+        }
+        None => Err(refused(NO_CONSTANT, line)),
+    }
+}
+
+fn operand_constant(
+    alloc: Global,
+    types: &Types,
+    line: u32,
+    x: &Object,
+    y: &Operand,
+) -> Result<Option<InitByte>, Halt>
+    ensures { Gives (λ o. option_to_list (option_map shown_init o))
+        (at line (rule.constant_given types.now (seen.object x.now) (an_object (operands.operand y.now)))) result }
+{
+    let copy = copy_operand(alloc, y)?;
+    let v = value_of(alloc, types, line, copy)?;
+    constant_value(line, x, &v)
+}
+
+/// The number that an object begins with, which is asked of a global alone. A pointer that is null has none.
+#[tactic(auto, unfolding(ep_elaboration::specs::Given::first_values))]
+pub(crate) fn first_value(
+    alloc: Global,
+    types: &Types,
+    global: bool,
+    line: u32,
+    x: &Object,
+    right: &Right,
+) -> Result<Option<InitByte>, Halt>
+    ensures { Gives (λ o. option_to_list (option_map shown_init o))
+        (at line (rule.first_values global types.now (seen.object x.now) (effects.right right.now))) result }
+{
+    if !global {
+        return Ok(None);
+    }
+    match right {
+        Right::Object(y) => operand_constant(alloc, types, line, x, y),
+        Right::Result(_) => Err(refused(NO_CONSTANT, line)),
+    }
+}

@@ -1,0 +1,188 @@
+//! First values: an expression, or a list in braces.
+
+ghost use Rattle.std.specs.Prelude.{◌≡◌, Bool, false, map, None, Some, OnOk};
+ghost use Rattle.std.specs.Option.{option_map};
+ghost use Rattle.ep_ast.specs.Declaration as shape;
+ghost use Rattle.ep_ast.specs.Expression as source;
+ghost use Rattle.ep_declared.specs.Gives.{GivesIn};
+ghost use Rattle.ep_declared.specs.Seen as objects;
+ghost use Rattle.ep_elaboration.specs.Given as rule;
+ghost use Rattle.ep_elaboration.specs.Given.{both_given};
+ghost use Rattle.ep_given.specs.Behind.{all_behind, behind};
+ghost use Rattle.ep_given.specs.Seen as seen;
+ghost use Rattle.ep_layout.specs.Table.{Grows};
+ghost use Rattle.ep_operands.specs.Gives.{Gives, Stops};
+ghost use Rattle.ep_scopes.specs.Known.{IsKnownEnv};
+ghost use Rattle.ep_scopes.specs.Seen.{env as around};
+ghost use Rattle.ep_typing.specs.Results.{at};
+
+use crate::constants::first_value;
+use crate::lists::Given;
+use crate::parts::{copy_object, part_at};
+use ep_ast::{ExprTree, Halt, ValueTree};
+use ep_declared::Object;
+use ep_operands::kinds::{TYPE_MISMATCH, refused};
+use ep_operands::{Operand, is_aggregate, is_array};
+use ep_scopes::Env;
+use ep_typer_effects::{assigned_from, right_side};
+use ep_typer_exprs::{mention, typed};
+
+// An expression that an object begins as.
+#[tactic(auto, unfolding(ep_elaboration::specs::Given::expression_given))]
+fn expression_given(
+    env: &Env,
+    global: bool,
+    may_call: bool,
+    line: u32,
+    x: Object,
+    tree: &ExprTree,
+    given: &mut Given,
+) -> Result<(), Halt>
+    ensures { Gives (λ u. seen.given given.new) (behind both_given (seen.given given.old) (rule.expression_given
+        (around env.now) global may_call line (Some (objects.object x)) (source.expr tree.now))) result }
+{
+    let right = right_side(env, may_call, tree)?;
+    let value = first_value(env.alloc, &env.types, global, line, &x, &right);
+    let to = Operand::Place(x.place, x.ty);
+    let statement = assigned_from(env.alloc, &env.types, line, to, right)?;
+    let value = value?;
+    given.add(statement, value)?;
+    Ok(())
+}
+
+// An expression that there is no object for.
+#[tactic(auto, unfolding(ep_elaboration::specs::Given::expression_given))]
+fn expression_refused(env: &Env, line: u32, tree: &ExprTree) -> Halt
+    ensures { (global may_call : Bool) → Stops
+        (rule.expression_given (around env.now) global may_call line None (source.expr tree.now)) result }
+{
+    match typed(env, tree) {
+        Ok(_) => refused(TYPE_MISMATCH, line),
+        Err(halt) => halt,
+    }
+}
+
+// An expression, after the tags and types that it mentions.
+fn single_given(
+    env: &mut Env,
+    global: bool,
+    may_call: bool,
+    line: u32,
+    x: Option<Object>,
+    tree: &ExprTree,
+    given: &mut Given,
+) -> Result<(), Halt>
+    requires { IsKnownEnv (around env.old) }
+    ensures means { GivesIn (λ u. seen.given given.new) (all_behind both_given (seen.given given.old)
+        (rule.value_given (around env.old) global may_call line (option_map objects.object x)
+        (shape.single (source.expr tree.now))))
+        (around env.new) result }
+    ensures known { OnOk result (IsKnownEnv (around env.new)) }
+    ensures grown { OnOk result (Grows (around env.old).types (around env.new).types) }
+{
+    mention(env, tree)?;
+    match x {
+        Some(object) => expression_given(env, global, may_call, line, object, tree, given),
+        None => Err(expression_refused(env, line, tree)),
+    }
+}
+
+// An object that a list may give values.
+fn with_parts(line: u32, x: Option<Object>) -> Result<Object, Halt>
+    ensures { Gives objects.object (at line (rule.with_parts (option_map objects.object x))) result }
+{
+    match x {
+        Some(object) => {
+            if is_array(object.ty) | is_aggregate(object.ty) {
+                return Ok(object);
+            }
+            Err(refused(TYPE_MISMATCH, line))
+        }
+        None => Err(refused(TYPE_MISMATCH, line)),
+    }
+}
+
+fn line_of_value(value: &ValueTree) -> u32
+    ensures { result ≡ rule.line_of_value (shape.value_of value.now) }
+{
+    match value {
+        ValueTree::Expr(tree) => tree.line(),
+        ValueTree::List(line, _) => *line,
+    }
+}
+
+// A first value comes behind others.
+#[cycle(given)]
+#[tactic(auto, unfolding(ep_elaboration::specs::Given::value_given))]
+fn add_value(
+    env: &mut Env,
+    global: bool,
+    may_call: bool,
+    line: u32,
+    x: Option<Object>,
+    value: &ValueTree,
+    given: &mut Given,
+) -> Result<(), Halt>
+    requires { IsKnownEnv (around env.old) }
+    ensures means { GivesIn (λ u. seen.given given.new) (all_behind both_given (seen.given given.old)
+        (rule.value_given (around env.old) global may_call line (option_map objects.object x)
+        (shape.value_of value.now)))
+        (around env.new) result }
+    ensures known { OnOk result (IsKnownEnv (around env.new)) }
+    ensures grown { OnOk result (Grows (around env.old).types (around env.new).types) }
+{
+    match value {
+        ValueTree::Expr(tree) => single_given(env, global, may_call, line, x, tree, given),
+        ValueTree::List(_, values) => {
+            let whole = with_parts(line, x)?;
+            add_values(env, global, &whole, values, given)
+        }
+    }
+}
+
+// The values of a list, each for a part of the object.
+#[cycle(given)]
+#[tactic(auto, unfolding(ep_elaboration::specs::Given::all_given))]
+fn add_values(
+    env: &mut Env,
+    global: bool,
+    whole: &Object,
+    values: &[ValueTree],
+    given: &mut Given,
+) -> Result<(), Halt>
+    requires { IsKnownEnv (around env.old) }
+    ensures means { GivesIn (λ u. seen.given given.new) (all_behind both_given (seen.given given.old)
+        (rule.all_given (around env.old) global (objects.object whole.now) 0
+        (shape.to_values (map shape.value_of values.now))))
+        (around env.new) result }
+    ensures known { OnOk result (IsKnownEnv (around env.new)) }
+    ensures grown { OnOk result (Grows (around env.old).types (around env.new).types) }
+{
+    for (number, value) in values.iter().enumerate() {
+        let part = part_at(env.alloc, &env.types, whole, number)?;
+        add_value(env, global, false, line_of_value(value), part, value, given)?;
+    }
+    Ok(())
+}
+
+/// The first values of an object, whose declarator's name is on the line; of an expression that is a call only where
+/// one may stand.
+pub fn value_given(
+    env: &mut Env,
+    global: bool,
+    may_call: bool,
+    line: u32,
+    x: &Object,
+    value: &ValueTree,
+) -> Result<Given, Halt>
+    requires { IsKnownEnv (around env.old) }
+    ensures means { GivesIn seen.given (rule.value_given (around env.old) global may_call line
+        (Some (objects.object x.now)) (shape.value_of value.now)) (around env.new) result }
+    ensures known { OnOk result (IsKnownEnv (around env.new)) }
+    ensures grown { OnOk result (Grows (around env.old).types (around env.new).types) }
+{
+    let mut given = Given::new(env.alloc);
+    let copy = copy_object(env.alloc, x)?;
+    add_value(env, global, may_call, line, Some(copy), value, &mut given)?;
+    Ok(given)
+}

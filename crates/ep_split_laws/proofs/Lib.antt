@@ -1,0 +1,11 @@
+pub mod Sides
+pub mod Steps
+pub mod ByteCells
+pub mod OneSplit
+pub mod Broken
+pub mod Splits
+pub mod Same
+pub mod Parted
+pub mod Crossed
+pub mod Lacks
+pub mod Unified

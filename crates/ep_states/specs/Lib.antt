@@ -1,0 +1,5 @@
+pub mod Kept
+pub mod Writes
+pub mod Weakened
+pub mod Killed
+pub mod Alike

@@ -1,0 +1,326 @@
+//! What is known of the cells of two memories, in parts that copies share.
+
+ghost use Rattle.std.specs.Prelude.{◌≡◌, ◌↔◌, IsTrue, true, [], IfOk, OnOk, OnErr, IfSome, IfNone};
+ghost use Rattle.std.specs.Option.{option_map};
+ghost use Rattle.ep_cells.specs.Cells.{put_all};
+ghost use Rattle.ep_cells.specs.Look.{cell_at, is_some_partly_in};
+ghost use Rattle.ep_cells.specs.States.{Fits, AreCells, CanWrite, HaveCellsAlike};
+ghost use Rattle.ep_cells.specs.Write.{written};
+ghost use Rattle.ep_cells.specs.Weaken.{weakened};
+ghost use Rattle.ep_cells.specs.Both.{cells_of_both, joined, widened, are_within};
+ghost use Rattle.ep_cells.specs.Kill.{AreLeavesIn, killed_cells};
+ghost use Rattle.ep_cells.specs.Reshare.{reshared};
+ghost use Rattle.ep_cell_rows.specs.Parts.{united as of_union};
+
+use crate::building::{index, spread};
+use crate::conditions::{are_alike, can_write};
+use crate::kills::killed;
+use crate::places::{are_different, places};
+use crate::unions::united;
+use crate::weak_writes::weaken_at;
+use crate::writes::write_at;
+use ep_bicells::cells;
+use ep_bicells::parts::{Part, shared};
+use ep_bicells::uses::Use;
+use ep_bitslice::Side;
+use ep_cell_changes::check::{are_cells, in_order};
+use ep_cell_changes::reshare::reshared;
+use ep_cell_rows::values::Union;
+use ep_cells::{Cell, Place};
+use ep_cells_laws::reshare_laws;
+use ep_domain::Num;
+use ep_int::{Memory, Model, Order};
+use ep_layout::Leaf;
+use std::alloc::Global;
+
+/// What is known of the cells of two memories.
+#[derive(Drop)]
+pub struct State<N> {
+    orders: (Order, Order),
+    model: Model,
+    parts: Vec<Part<Cell<N>>>,
+    uses: Vec<Part<Use>>,
+}
+
+impl<N> std::marker::Model for State<N> {
+    ghost use Rattle.ep_cells.specs.States.{Known};
+    ghost use Rattle.ep_bicells.specs.Spread.{all_items};
+    ghost use Rattle.ep_states.specs.Kept.{AreKept};
+
+    ghost Value = { Known N };
+
+    ghost view = { λ s. record { orders = s.orders; model = s.model; cells = all_items s.parts.items } };
+
+    ghost invariant = { λ s. AreKept s.model s.parts.items s.uses.items };
+}
+
+fn made<N: Num>(
+    alloc: Global,
+    orders: (Order, Order),
+    model: Model,
+    cells: Vec<Cell<N>>,
+) -> Result<State<N>, Memory>
+    requires { AreCells model cells.items }
+    ensures { IfOk result (λ s. s ≡ record { orders = orders; model = model; cells = cells.items }) }
+{
+    let uses = index(alloc, &cells)?;
+    let parts = spread(alloc, cells)?;
+    Ok(State {
+        orders,
+        model,
+        parts,
+        uses,
+    })
+}
+
+impl<N: Num> State<N> {
+    /// Nothing is known. Takes no memory.
+    pub fn empty(alloc: Global, orders: (Order, Order), model: Model) -> Self
+        ensures { result ≡ record { orders = orders; model = model; cells = [] } }
+    {
+        State {
+            orders,
+            model,
+            parts: Vec::new(alloc),
+            uses: Vec::new(alloc),
+        }
+    }
+
+    /// The state of these cells, in whatever order they are given. None where they are none of a state.
+    pub fn of_cells(
+        alloc: Global,
+        orders: (Order, Order),
+        model: Model,
+        cells: Vec<Cell<N>>,
+    ) -> Result<Option<State<N>>, Memory>
+        ensures some { IfOk result (λ o. IfSome o (λ s. s
+            ≡ record { orders = orders; model = model; cells = put_all cells.items [] })) }
+        ensures none { IfOk result (λ o. IfNone o (AreCells model (put_all cells.items []) → ⊥)) }
+    {
+        let cells = in_order(alloc, cells)?;
+        if are_cells(model, &cells) {
+            Ok(Some(made(alloc, orders, model, cells)?))
+        } else {
+            Ok(None)
+        }
+    }
+
+    /// The same. Takes a count for each part.
+    pub fn copy(&self) -> Result<Self, Memory>
+        ensures { IfOk result (λ s. s ≡ self.now) }
+    {
+        let alloc = *self.parts.allocator();
+        Ok(State {
+            orders: self.orders,
+            model: self.model,
+            parts: shared(alloc, &self.parts)?,
+            uses: shared(alloc, &self.uses)?,
+        })
+    }
+
+    /// The byte orders of the left and of the right memory.
+    pub fn orders(&self) -> (Order, Order)
+        ensures { result ≡ self.now.orders }
+    {
+        self.orders
+    }
+
+    /// The data model. Its contract has that the cells are those of a state, too.
+    pub fn model(&self) -> Model
+        ensures value { result ≡ self.now.model }
+        ensures cells { AreCells self.now.model self.now.cells }
+    {
+        self.model
+    }
+
+    /// The cells in order.
+    pub fn cells(&self) -> Result<Vec<Cell<N>>, Memory>
+        ensures { IfOk result (λ v. v.items ≡ self.now.cells) }
+    {
+        cells::copied(*self.parts.allocator(), &self.parts)
+    }
+
+    /// The cell of that side, or Shared, that has the byte. Takes no memory.
+    pub fn cell_at(&self, side: Side, block: u32, byte: u32) -> Option<&Cell<N>>
+        ensures { option_map (λ c. c.now) result ≡ cell_at self.now.model side block byte self.now.cells }
+    {
+        cells::cell_at(self.model, side, block, byte, &self.parts)
+    }
+
+    /// Whether some cell has bytes in the place, and others. Takes no memory.
+    pub fn partly(&self, place: &Place) -> bool
+        ensures { result ≡ is_some_partly_in self.now.model place.now self.now.cells }
+    {
+        cells::is_some_partly_in(self.model, place, &self.parts)
+    }
+
+    /// Whether it has each cell of the other, within it. Takes no memory.
+    pub fn leq(&self, other: &State<N>) -> bool
+        ensures { result ≡ are_within N.ops self.now.cells other.now.cells }
+    {
+        cells::are_within(&self.parts, &other.parts)
+    }
+
+    /// Whether a cell may be written. Looks at all cells.
+    pub fn can_write(&self, c: &Cell<N>) -> Result<bool, Memory>
+        ensures { IfOk result (λ b. IsTrue b ↔ CanWrite self.now.model c.now self.now.cells) }
+    {
+        let model = self.model();
+        let cells = self.cells()?;
+        Ok(can_write(model, c, &cells))
+    }
+
+    /// Whether both have cells of the same sides, places and types. Looks at all cells.
+    pub fn is_like(&self, other: &State<N>) -> Result<bool, Memory>
+        ensures { IfOk result (λ b. IsTrue b ↔ HaveCellsAlike self.now.cells other.now.cells) }
+    {
+        let cells = self.cells()?;
+        let others = other.cells()?;
+        Ok(are_alike(&cells, &others))
+    }
+
+    /// Writes a cell: what was in its place on the sides written is gone. Costs the parts with cells that touch the
+    /// place or mention such, and a search in the list of parts.
+    pub fn write(&mut self, c: Cell<N>) -> Result<(), Memory>
+        requires { CanWrite self.old.model c self.old.cells }
+        ensures ok { OnOk result (self.new ≡ record self.old { cells = written self.old.model c self.old.cells }) }
+        ensures err { OnErr result (self.new ≡ self.old) }
+    {
+        let alloc = *self.parts.allocator();
+        write_at(alloc, self.model, &mut self.parts, &mut self.uses, c)
+    }
+
+    /// A cell may be written: a weak write at one of several possible places. `shared_stays` where both memories have
+    /// it written or neither. Costs what a write does.
+    pub fn weaken(&mut self, c: &Cell<N>, shared_stays: bool) -> Result<(), Memory>
+        requires fits { Fits self.old.model c.now }
+        requires stays { shared_stays ≡ true → c.now.side ≡ Side.Shared }
+        ensures ok { OnOk result (self.new
+            ≡ record self.old { cells = weakened N.ops self.old.model c.now shared_stays self.old.cells }) }
+        ensures err { OnErr result (self.new ≡ self.old) }
+    {
+        let alloc = *self.parts.allocator();
+        weaken_at(
+            alloc,
+            self.model,
+            &mut self.parts,
+            &self.uses,
+            c,
+            shared_stays,
+        )
+    }
+
+    fn united(&self, union: Union, other: &State<N>) -> Result<State<N>, Memory>
+        requires model { self.now.model ≡ other.now.model }
+        requires alike { HaveCellsAlike self.now.cells other.now.cells }
+        ensures { IfOk result (λ s. s
+            ≡ record self.now { cells = cells_of_both (of_union N.ops union) self.now.cells other.now.cells }) }
+    {
+        other.model();
+        let others = other.cells()?;
+        let alloc = *self.parts.allocator();
+        let model = self.model;
+        let parts = united(alloc, model, union, &self.parts, &self.uses, &others)?;
+        Ok(State {
+            orders: self.orders,
+            model,
+            parts,
+            uses: shared(alloc, &self.uses)?,
+        })
+    }
+
+    /// What both say, where both have cells of the same sides, places and types.
+    pub fn join(&self, other: &State<N>) -> Result<State<N>, Memory>
+        requires model { self.now.model ≡ other.now.model }
+        requires alike { HaveCellsAlike self.now.cells other.now.cells }
+        ensures { IfOk result (λ s. s
+            ≡ record self.now { cells = joined N.ops self.now.cells other.now.cells }) }
+    {
+        self.united(Union::Join, other)
+    }
+
+    /// The same with the domain's widening in place of its join.
+    pub fn widen(&self, other: &State<N>) -> Result<State<N>, Memory>
+        requires model { self.now.model ≡ other.now.model }
+        requires alike { HaveCellsAlike self.now.cells other.now.cells }
+        ensures { IfOk result (λ s. s
+            ≡ record self.now { cells = widened N.ops self.now.cells other.now.cells }) }
+    {
+        self.united(Union::Widen, other)
+    }
+
+    fn killed(&self, side: Side, block: u32, leaves: &[Leaf], size: u32) -> Result<State<N>, Memory>
+        requires { AreLeavesIn self.now.model 0 size leaves.now }
+        ensures { IfOk result (λ s. s
+            ≡ record self.now { cells = killed_cells self.now.model side block leaves.now size self.now.cells }) }
+    {
+        let alloc = *self.parts.allocator();
+        let model = self.model;
+        let parts = killed(
+            alloc,
+            model,
+            &self.parts,
+            &self.uses,
+            side,
+            block,
+            leaves,
+            size,
+        )?;
+        Ok(State {
+            orders: self.orders,
+            model,
+            parts,
+            uses: shared(alloc, &self.uses)?,
+        })
+    }
+
+    /// A block of these leaves and this size is killed on a side, or on both: its cells are as on entry, and pointers
+    /// into it are undefined. Looks at all cells, and makes anew the parts that it touches alone.
+    pub fn kill_block(
+        &mut self,
+        side: Side,
+        block: u32,
+        leaves: &[Leaf],
+        size: u32,
+    ) -> Result<(), Memory>
+        requires { AreLeavesIn self.old.model 0 size leaves.now }
+        ensures ok { OnOk result (self.new
+            ≡ record self.old { cells = killed_cells self.old.model side block leaves.now size self.old.cells }) }
+        ensures err { OnErr result (self.new ≡ self.old) }
+    {
+        let after = self.killed(side, block, leaves, size)?;
+        *self = after;
+        Ok(())
+    }
+
+    fn reshared(&self) -> Result<State<N>, Memory>
+        ensures { IfOk result (λ s. s ≡ record self.now { cells = reshared N.ops self.now.cells }) }
+    {
+        let alloc = *self.parts.allocator();
+        let before = self.cells()?;
+        reshare_laws::<N>();
+        let cells = reshared(alloc, before)?;
+        made(alloc, self.orders, self.model, cells)
+    }
+
+    // Whether no Left cell is surely the same as a Right one, so that resharing leaves all cells as they are.
+    fn is_reshared(&self) -> Result<bool, Memory>
+        ensures { IfOk result (λ b. IsTrue b → self.now.cells ≡ reshared N.ops self.now.cells) }
+    {
+        let places = places(*self.parts.allocator(), &self.parts)?;
+        Ok(are_different(&places, &self.parts))
+    }
+
+    /// Left and Right integer cells of one place and type that are surely the same become Shared ones.
+    pub fn reshare(&mut self) -> Result<(), Memory>
+        ensures ok { OnOk result (self.new ≡ record self.old { cells = reshared N.ops self.old.cells }) }
+        ensures err { OnErr result (self.new ≡ self.old) }
+    {
+        if self.is_reshared()? {
+            return Ok(());
+        }
+        let after = self.reshared()?;
+        *self = after;
+        Ok(())
+    }
+}

@@ -1,0 +1,8 @@
+use Rattle.ep_synthesis.proofs.Partings.{second_is}
+use Rattle.ep_synthesis.proofs.both.parted_once.Goals as goal
+
+pub returns-clause-right : goal.returns-clause-right
+returns-clause-right g c =
+    second_is c.args.model c.in_ok-left.left.items c.in_ok-right.right.items c.args.p.now.left.items
+    c.args.p.now.right.items _ _ _ _ c.in_ok-right.ensures c.deref-3.ensures.value c.deref-4.ensures.value
+    c.in_ok-left.ensures c.deref.ensures.value c.deref-2.ensures.value

@@ -1,0 +1,10 @@
+use Rattle.ep_synthesis.proofs.Bytes.{drop_at}
+use Rattle.ep_synthesis.proofs.Crossing.{cross_turn}
+use Rattle.ep_synthesis.proofs.cross.crossed_all.Goals as goal
+
+pub loop-x-preserved : goal.loop-x-preserved
+loop-x-preserved g c =
+    cross_turn g.N.Num.ops c.args.machines c.x-item.result c.args.xs.now c.loop-x.cells.items
+    c.in_ok-cells.cells.items _
+    c.loop-x.x-index (drop_at c.args.xs.now c.loop-x.x-index c.x-item.result c.x-item.is c.loop-x-test.true)
+    c.in_ok-cells.ensures c.loop-x.invariant

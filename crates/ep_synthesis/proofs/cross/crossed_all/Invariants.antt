@@ -1,0 +1,11 @@
+use Rattle.std.proofs.Common.{◌≡◌, [], drop}
+use Rattle.ep_cells.specs.States.{Each}
+use Rattle.ep_reads.specs.Unify.{crossed_all}
+use Rattle.ep_synthesis.specs.Parts.{known, IsSized}
+use Rattle.ep_synthesis.proofs.cross.crossed_all.Given as goal
+
+abbrev pub invariant-loop-x : goal.invariant-loop-x
+invariant-loop-x g l =
+    (crossed_all g.N.Num.ops (known l.machines []) (drop l.x-index l.xs) l.cells.items ≡ crossed_all g.N.Num.ops (known
+    l.machines []) l.xs l.fn.cells.items)
+    × Each (IsSized l.machines.model) l.cells.items

@@ -1,0 +1,15 @@
+use Rattle.std.proofs.Common.{◌∙◌, sym}
+use Rattle.ep_synthesis.proofs.Splitting.{form_moved, form_gone}
+use Rattle.ep_synthesis.proofs.split.form_by_integer.Goals as goal
+
+pub returns-in-None : goal.returns-in-None
+returns-in-None g c =
+    form_gone c.args.side c.args.x.now c.args.t c.args.form.now c.name_on-name.result c.form_without.result c.requires
+    (sym c.side_without.ensures ∙ c.in-None.is) c.name_on-name.ensures c.form_without.ensures.normal
+    c.form_without.ensures.value
+
+pub returns-in-Some : goal.returns-in-Some
+returns-in-Some g c =
+    form_moved c.args.side c.args.x.now c.args.t c.in-Some.rest c.args.form.now c.rename.result c.name_on-name.result
+    c.name_on.result c.requires (sym c.side_without.ensures ∙ c.in-Some.is) c.name_on-name.ensures c.name_on.ensures
+    c.rename.ensures.value

@@ -1,0 +1,21 @@
+use Rattle.std.proofs.Common.{◌∙◌, ◌++◌, ap, List}
+use Rattle.ep_typing.specs.Env as rule
+use Rattle.ep_elaboration.specs.Functions.{results}
+use Rattle.ep_scopes.specs.Seen.{env, scope, scopes}
+use Rattle.ep_typer_functions.specs.Seen.{headed, signature}
+use Rattle.ep_typer_bodies.proofs.Outside.{all_done, outside_known, same_outer}
+use Rattle.ep_typer_bodies.proofs.functions.named_outside.Goals as goal
+
+pub returns-clause-known : goal.returns-clause-known
+returns-clause-known c =
+    let all = all_done c.args.done.now in
+    let G : rule.Env = env c.args.env.now in
+    let K : rule.Env = env c.add_blocks_if.new.env in
+    outside_known G (record G { scopes = scopes c.take-scope.new.self }) (env c.function_declared.new.env) K
+    (record K { scopes = scopes c.put.new.self }) c.args.own all.0 c.args.head.now.line c.in_ok-number.number
+    (scope c.take-scope.result) (signature c.deref.result.now c.args.ty.now)
+    (results (headed c.args.ty.now) ++ c.args.ty.now.params.items) c.requires c.take-scope.ensures.taken
+    (ap (λ (ss : List rule.Scope). record G { scopes = ss })
+    (c.take-scope.ensures.left ∙ same_outer (scopes c.args.env.now.scopes))) (c.in_ok-number.ensures.means all.0 all.1)
+    c.in_ok-add_blocks_if.ensures.means c.in_ok-add_blocks_if.ensures.known
+    (ap (λ (ss : List rule.Scope). record K { scopes = ss }) c.in_ok-put.ensures)

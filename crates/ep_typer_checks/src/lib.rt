@@ -1,0 +1,13 @@
+//! What is checked of a whole program, and its functions in their order.
+#![tactic(auto)]
+
+mod bodies;
+mod checks;
+mod cycles;
+mod depths;
+pub mod kinds;
+mod order;
+mod renumbered;
+
+pub use checks::{CallOrder, checked};
+pub use order::{OrderedFunctions, ordered};

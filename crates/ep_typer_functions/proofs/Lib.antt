@@ -1,0 +1,3 @@
+pub mod ParamLemmas
+pub mod SignatureLemmas
+pub mod Taken

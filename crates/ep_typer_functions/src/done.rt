@@ -1,0 +1,47 @@
+//! Which functions have a body.
+
+ghost use Rattle.std.specs.Prelude.{◌≡◌, ℕ, ◌==◌, ◌||◌, false, OnOk};
+ghost use Rattle.ep_typer_functions.specs.Seen.{has_body};
+
+use ep_int::Memory;
+use std::alloc::Global;
+
+/// Which functions have a body, by their numbers.
+#[derive(Drop)]
+pub struct Done {
+    pub marks: Vec<bool>,
+}
+
+impl Done {
+    /// No function.
+    pub fn new(alloc: Global) -> Done
+        ensures { (n : ℕ) → has_body result n ≡ false }
+    {
+        Done {
+            marks: Vec::new(alloc),
+        }
+    }
+
+    pub fn has(&self, number: u32) -> bool
+        ensures { result ≡ has_body self.now number }
+    {
+        match self.marks.get(number as usize) {
+            Some(mark) => *mark,
+            None => false,
+        }
+    }
+
+    /// One function more.
+    pub fn add(&mut self, number: u32) -> Result<(), Memory>
+        ensures { OnOk result ((n : ℕ) → has_body self.new n ≡ (n == number || has_body self.old n)) }
+    {
+        while self.marks.len() <= number as usize {
+            match self.marks.push(false) {
+                Ok(()) => {}
+                Err(_) => return Err(Memory),
+            }
+        }
+        self.marks[number as usize] = true;
+        Ok(())
+    }
+}

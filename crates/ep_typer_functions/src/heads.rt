@@ -1,0 +1,100 @@
+//! Heads of functions.
+
+ghost use Rattle.std.specs.Prelude.{◌≡◌, map, IfOk, OnOk};
+ghost use Rattle.std.specs.Option.{option_map};
+ghost use Rattle.ep_ast.specs.Declaration as shape;
+ghost use Rattle.ep_typing.specs.Results.{at};
+ghost use Rattle.ep_declared.specs.Gives.{GivesIn};
+ghost use Rattle.ep_elaboration.specs.Functions as rule;
+ghost use Rattle.ep_elaboration.specs.Statements.{entered};
+ghost use Rattle.ep_operands.specs.Gives.{Gives};
+ghost use Rattle.ep_elaboration.specs.Declarators.{with_types};
+ghost use Rattle.ep_typing.specs.Types.{with_c_type};
+ghost use Rattle.ep_scopes.specs.Known.{IsKnown, IsKnownEnv};
+ghost use Rattle.ep_scopes.specs.Seen.{env as around};
+ghost use Rattle.ep_typer_functions.specs.Seen as seen;
+
+use crate::kinds::NOT_PASSED;
+use crate::params::{add, params_declared, with_stars};
+use ep_ast::{Halt, HeadTree, ParamTree, ParamsTree};
+use ep_declared::specs_declared;
+use ep_int::Memory;
+use ep_operands::kinds::refused;
+use ep_operands::{is_aggregate, is_array, is_void};
+use ep_scopes::{Env, FunctionType};
+use ep_typing::CType;
+
+fn given_back(line: u32, c: CType) -> Result<CType, Halt>
+    ensures { Gives (λ d. d) (at line (rule.given_back c)) result }
+{
+    if is_aggregate(c) {
+        return Err(refused(NOT_PASSED, line));
+    }
+    if is_array(c) {
+        return Err(refused(NOT_PASSED, line));
+    }
+    Ok(c)
+}
+
+fn params_of(params: &Option<ParamsTree>) -> &[ParamTree]
+    ensures { map shape.param_of result.now ≡ rule.params_of (option_map shape.params_of params.now) }
+{
+    match params {
+        None => &[],
+        Some(list) => match list {
+            ParamsTree::Void(_) => &[],
+            ParamsTree::List(_, all) => all,
+        },
+    }
+}
+
+/// The block of the first parameter behind that of the result, if there is one.
+pub fn behind_result(block: u32, c: CType) -> Result<u32, Memory>
+    ensures { IfOk result (λ n. n ≡ rule.behind_result block c) }
+{
+    if is_void(c) {
+        return Ok(block);
+    }
+    match block.checked_add(1) {
+        Some(next) => Ok(next),
+        None => Err(Memory),
+    }
+}
+
+fn with_type(env: &mut Env, c: CType) -> Result<(), Memory>
+    requires known { IsKnownEnv (around env.old) }
+    requires inside { IsKnown (around env.old).types c }
+    ensures means { OnOk result (around env.new ≡ with_types (around env.old) (with_c_type (around env.old).types c)) }
+    ensures known { OnOk result (IsKnownEnv (around env.new)) }
+{
+    add(&mut env.types, c)?;
+    Ok(())
+}
+
+fn enter(env: &mut Env) -> Result<(), Memory>
+    requires { IsKnownEnv (around env.old) }
+    ensures means { OnOk result (around env.new ≡ entered (around env.old)) }
+    ensures known { OnOk result (IsKnownEnv (around env.new)) }
+{
+    match env.scopes.enter() {
+        Ok(()) => Ok(()),
+        Err(_) => Err(Memory),
+    }
+}
+
+/// What a head says. The scope of its parameters stays open.
+#[tactic(auto, unfolding(ep_elaboration::specs::Functions::headed))]
+pub fn headed(env: &mut Env, block: u32, head: &HeadTree) -> Result<FunctionType, Halt>
+    requires { IsKnownEnv (around env.old) }
+    ensures means { GivesIn seen.headed (rule.headed (around env.old) block (shape.head_of head.now)) (around env.new) result }
+    ensures known { OnOk result (IsKnownEnv (around env.new)) }
+{
+    let c = specs_declared(env, &head.specs)?;
+    let c = with_stars(c, &head.stars)?;
+    let r = given_back(head.line, c)?;
+    with_type(env, r)?;
+    enter(env)?;
+    let first = behind_result(block, r)?;
+    let params = params_declared(env, first, params_of(&head.params))?;
+    Ok(FunctionType { params, result: r })
+}

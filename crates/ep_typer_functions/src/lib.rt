@@ -1,0 +1,12 @@
+//! What heads of functions mean, or for what they are refused, and functions by their names.
+#![tactic(auto)]
+
+mod done;
+mod heads;
+mod kinds;
+mod names;
+mod params;
+
+pub use done::Done;
+pub use heads::{behind_result, headed};
+pub use names::function_declared;

@@ -1,0 +1,143 @@
+//! Functions by their names.
+
+ghost use Rattle.std.specs.Prelude.{◌≡◌, ℕ, List, IfOk, OnOk};
+ghost use Rattle.ep_typing.specs.Calls as calls;
+ghost use Rattle.ep_typing.specs.Env.{entry};
+ghost use Rattle.ep_typing.specs.Results.{at};
+ghost use Rattle.ep_declared.specs.Gives.{GivesIn};
+ghost use Rattle.ep_elaboration.specs.Functions as rule;
+ghost use Rattle.ep_scopes.specs.Known.{IsKnownEnv};
+ghost use Rattle.ep_scopes.specs.Seen.{env as around};
+ghost use Rattle.ep_typer_functions.specs.Seen as seen;
+ghost use Rattle.ep_typer_functions.specs.Seen.{AreDone};
+
+use crate::done::Done;
+use ep_ast::Halt;
+use ep_declared::{declare_name, is_taken};
+use ep_int::{IntType, Memory};
+use ep_operands::kinds::{REDECLARED, TYPE_MISMATCH, refused};
+use ep_operands::{int_type, void_type};
+use ep_scopes::{Env, FunctionType, Meaning};
+use ep_typing::CType;
+
+fn are_same(a: &[CType], b: &[CType]) -> bool
+    ensures { result ≡ rule.are_same a.now b.now }
+{
+    *a == *b
+}
+
+fn is_same_signature(a: &FunctionType, b: &FunctionType) -> bool
+    ensures { (s t : List ℕ) → result ≡ rule.is_same_signature (seen.signature s a.now) (seen.signature t b.now) }
+{
+    (a.result == b.result) & are_same(&a.params, &b.params)
+}
+
+// Whether the function of a number has this type.
+fn has_type(env: &Env, number: u32, ty: &FunctionType) -> bool
+    ensures { (t : List ℕ) → result
+        ≡ rule.is_same_signature (calls.signature (around env.now) number) (seen.signature t ty.now) }
+{
+    match env.function(number) {
+        Some(own) => is_same_signature(own, ty),
+        None => (void_type() == ty.result) & are_same(&[], &ty.params),
+    }
+}
+
+// Whether the function that was declared by a name has another type.
+fn is_unlike(env: &Env, name: &[u8], ty: &FunctionType) -> bool
+    ensures { result ≡ rule.is_unlike (around env.now) (seen.signature name.now ty.now)
+        (rule.number_of_function (around env.now).functions name.now) }
+{
+    match env.function_number(name) {
+        None => false,
+        Some(n) => match env.functions.get_index(n) {
+            None => false,
+            Some((_, own)) => !is_same_signature(own, ty),
+        },
+    }
+}
+
+fn stands_against(env: &Env, done: &Done, with_body: bool, name: &[u8], ty: &FunctionType) -> bool
+    ensures { (ds : List ℕ) → AreDone done.now ds → result
+        ≡ rule.stands_against (around env.now) ds with_body (seen.signature name.now ty.now)
+        (entry name.now (rule.file_names (around env.now))) }
+{
+    match env.scopes.name_here(name) {
+        Some(Meaning::Variable(_, _)) => true,
+        Some(Meaning::TypeName(_)) => true,
+        Some(Meaning::Function(n)) => !has_type(env, n, ty) | (with_body & done.has(n)),
+        None => is_taken(env, name) | is_unlike(env, name, ty),
+    }
+}
+
+fn fits_main(name: &[u8], ty: &FunctionType) -> bool
+    ensures { result ≡ rule.fits_main (seen.signature name.now ty.now) }
+{
+    (b"main".as_slice() != name)
+        | ((ty.result == int_type(IntType::I32)) & are_same(&ty.params, &[]))
+}
+
+// The number that a function has, or takes.
+fn numbered(env: &mut Env, name: &[u8], ty: &FunctionType) -> Result<u32, Memory>
+    requires { IsKnownEnv (around env.old) }
+    ensures means { IfOk result (λ n. (n, around env.new) ≡ rule.numbered_function (around env.old) (seen.signature name.now ty.now)
+        (rule.number_of_function (around env.old).functions name.now)) }
+    ensures scopes { OnOk result ((around env.new).scopes ≡ (around env.old).scopes) }
+    ensures known { OnOk result (IsKnownEnv (around env.new)) }
+{
+    match env.function_number(name) {
+        Some(n) => match u32::try_from(n) {
+            Ok(n) => Ok(n),
+            Err(_) => Err(Memory),
+        },
+        None => {
+            let params = match Vec::from_slice(env.alloc, &ty.params) {
+                Ok(params) => params,
+                Err(_) => return Err(Memory),
+            };
+            let own = FunctionType {
+                params,
+                result: ty.result,
+            };
+            env.add_function(name, own)
+        }
+    }
+}
+
+/// A function comes into the scope of the file, if it isn't there.
+#[tactic(auto, unfolding(ep_elaboration::specs::Functions::function_declared))]
+pub fn function_declared(
+    env: &mut Env,
+    done: &Done,
+    with_body: bool,
+    line: u32,
+    name: &[u8],
+    ty: &FunctionType,
+) -> Result<u32, Halt>
+    requires { IsKnownEnv (around env.old) }
+    ensures means { (ds : List ℕ) → AreDone done.now ds → GivesIn (λ n. n)
+        (at line (rule.function_declared (around env.old) ds with_body (seen.signature name.now ty.now))) (around env.new) result }
+    ensures known { OnOk result (IsKnownEnv (around env.new)) }
+{
+    if stands_against(env, done, with_body, name, ty) {
+        return Err(refused(REDECLARED, line));
+    }
+    if !fits_main(name, ty) {
+        return Err(refused(TYPE_MISMATCH, line));
+    }
+    match env.scopes.name_here(name) {
+        Some(_) => {
+            let n = numbered(env, name, ty)?;
+            Ok(n)
+        }
+        None => {
+            // (what is no name of this scope is a built-in one, which was refused)
+            if is_taken(env, name) {
+                return Err(refused(REDECLARED, line));
+            }
+            let n = numbered(env, name, ty)?;
+            declare_name(env, name, Meaning::Function(n))?;
+            Ok(n)
+        }
+    }
+}

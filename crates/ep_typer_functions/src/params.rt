@@ -1,0 +1,221 @@
+//! Parameters of functions.
+
+ghost use Rattle.std.specs.Prelude.{◌≡◌, map, IfErr, IfOk, IsFalse, OnOk, length};
+ghost use Rattle.ep_ast.specs.declared.refusals.Halt.TheVariants as halts;
+ghost use Rattle.std.specs.Option.{option_map};
+ghost use Rattle.ep_ast.specs.Declaration.{param_of, text_of};
+ghost use Rattle.ep_ast.specs.Expression as source;
+ghost use Rattle.ep_layout.specs.Table.{Grows};
+ghost use Rattle.ep_typing.specs.Results.{at};
+ghost use Rattle.ep_declared.specs.Gives.{GivesIn};
+ghost use Rattle.ep_elaboration.specs.Functions as rule;
+ghost use Rattle.ep_operands.specs.Gives.{Gives};
+ghost use Rattle.ep_scopes.specs.Known.{IsKnown, IsKnownEnv};
+ghost use Rattle.ep_scopes.specs.Seen.{env as around};
+ghost use Rattle.ep_typing.specs.Types as types_of;
+ghost use Rattle.ep_typer_functions.specs.Seen.{adjusted, counts_of, passable_type};
+
+use crate::kinds::NOT_PASSED;
+use ep_ast::{ExprTree, Halt, ParamTree};
+use ep_declared::{arrays_of, bound, bounds, declare_name, is_taken, words_declared};
+use ep_int::Memory;
+use ep_layout::Types;
+use ep_operands::kinds::{INCOMPLETE_TYPE, REDECLARED, refused};
+use ep_operands::{element_of, is_aggregate, is_array, is_void, pointer_to};
+use ep_scopes::{Env, Meaning, add_type};
+use ep_typing::CType;
+
+// The counts of an array, or nothing where the parameter is none.
+#[tactic(auto, unfolding(ep_elaboration::specs::Functions::param_bounds))]
+fn param_bounds(
+    env: &mut Env,
+    line: u32,
+    list: &[Option<ExprTree>],
+) -> Result<Option<Vec<u32>>, Halt>
+    requires { IsKnownEnv (around env.old) }
+    ensures means { GivesIn counts_of (rule.param_bounds (around env.old) line (map (option_map source.expr) list.now))
+        (around env.new) result }
+    ensures known { OnOk result (IsKnownEnv (around env.new)) }
+    ensures grown { OnOk result (Grows (around env.old).types (around env.new).types) }
+{
+    match list.split_first() {
+        None => Ok(None),
+        Some((first, rest)) => match first {
+            None => {
+                let counts = bounds(env, line, rest)?;
+                Ok(Some(counts))
+            }
+            Some(e) => {
+                bound(env, line, e)?;
+                let counts = bounds(env, line, rest)?;
+                Ok(Some(counts))
+            }
+        },
+    }
+}
+
+// A type comes into the table, which goes on to have what it had.
+pub(crate) fn add(types: &mut Types, c: CType) -> Result<(), Memory>
+    requires { IsKnown types.old c }
+    ensures means { OnOk result (types.new ≡ types_of.with_c_type types.old c) }
+    ensures inside { OnOk result (IsKnown types.new c) }
+    ensures grown { OnOk result (Grows types.old types.new) }
+{
+    add_type(types, c)?;
+    Ok(())
+}
+
+// The type of a parameter that isn't declared as an array.
+fn adjusted(types: &Types, c: CType) -> Result<CType, Halt>
+    requires { IsKnown types.now c }
+    ensures means { IfOk result (λ d. d ≡ adjusted types.now c) }
+    ensures inside { IfOk result (IsKnown types.now) }
+    ensures wants { IfErr result (λ e. e ≡ halts.Memory) }
+{
+    // What the table's elements are made of is in the table, since it was built: this call says so.
+    types.model();
+    if is_array(c) {
+        let d = pointer_to(element_of(types, c))?;
+        return Ok(d);
+    }
+    Ok(c)
+}
+
+#[tactic(auto, unfolding(ep_elaboration::specs::Functions::param_type))]
+fn param_type(
+    types: &mut Types,
+    line: u32,
+    c: CType,
+    counts: &Option<Vec<u32>>,
+) -> Result<CType, Halt>
+    requires { IsKnown types.old c }
+    ensures means { GivesIn (λ d. d) (at line (rule.param_type types.old c (counts_of counts.now))) types.new result }
+    ensures inside { IfOk result (λ d. IsKnown types.new d) }
+    ensures grown { OnOk result (Grows types.old types.new) }
+{
+    match counts {
+        Some(counts) => {
+            let elements = arrays_of(types, c, line, counts)?;
+            let d = pointer_to(elements)?;
+            add(types, d)?;
+            Ok(d)
+        }
+        None => {
+            let d = adjusted(types, c)?;
+            add(types, d)?;
+            Ok(d)
+        }
+    }
+}
+
+// The lowest of 33 and 43 where a type isn't passed.
+fn passable(line: u32, c: CType) -> Result<CType, Halt>
+    ensures { Gives (λ d. d) (at line (passable_type c)) result }
+{
+    if is_void(c) {
+        return Err(refused(INCOMPLETE_TYPE, line));
+    }
+    if is_aggregate(c) {
+        return Err(refused(NOT_PASSED, line));
+    }
+    Ok(c)
+}
+
+fn is_name_taken(env: &Env, name: &Option<Vec<u8>>) -> bool
+    ensures { result ≡ rule.is_name_taken (around env.now) (option_map text_of name.now) }
+{
+    match name {
+        None => false,
+        Some(text) => is_taken(env, text),
+    }
+}
+
+fn name_param(env: &mut Env, name: &Option<Vec<u8>>, block: u32, c: CType) -> Result<(), Memory>
+    requires free { IsFalse (rule.is_name_taken (around env.old) (option_map text_of name.now)) }
+    requires known { IsKnownEnv (around env.old) }
+    requires inside { IsKnown (around env.old).types c }
+    ensures means { OnOk result ((c, around env.new) ≡ rule.named_param (option_map text_of name.now) block (c, around env.old)) }
+    ensures known { OnOk result (IsKnownEnv (around env.new)) }
+{
+    match name {
+        None => Ok(()),
+        Some(text) => declare_name(env, text, Meaning::Variable(block, c)),
+    }
+}
+
+#[tactic(auto, unfolding(ep_elaboration::specs::Functions::with_param))]
+fn with_param(
+    env: &mut Env,
+    block: u32,
+    tree: &ParamTree,
+    c: CType,
+    counts: &Option<Vec<u32>>,
+) -> Result<CType, Halt>
+    requires known { IsKnownEnv (around env.old) }
+    requires inside { IsKnown (around env.old).types c }
+    ensures means { GivesIn (λ d. d)
+        (at tree.now.line (rule.with_param (around env.old) (option_map text_of tree.now.name) block c (counts_of counts.now)))
+        (around env.new) result }
+    ensures known { OnOk result (IsKnownEnv (around env.new)) }
+{
+    if is_name_taken(env, &tree.name) {
+        return Err(refused(REDECLARED, tree.line));
+    }
+    let d = param_type(&mut env.types, tree.line, c, counts)?;
+    passable(tree.line, d)?;
+    name_param(env, &tree.name, block, d)?;
+    Ok(d)
+}
+
+pub(crate) fn with_stars(c: CType, stars: &[u32]) -> Result<CType, Memory>
+    ensures { IfOk result (λ d. d ≡ types_of.with_stars c (length stars.now)) }
+{
+    let Ok(more) = u32::try_from(stars.len()) else {
+        return Err(Memory);
+    };
+    match c.stars.checked_add(more) {
+        Some(stars) => Ok(CType {
+            base: c.base,
+            stars,
+        }),
+        None => Err(Memory),
+    }
+}
+
+#[tactic(auto, unfolding(ep_elaboration::specs::Functions::param_declared))]
+fn param_declared(env: &mut Env, block: u32, tree: &ParamTree) -> Result<CType, Halt>
+    requires { IsKnownEnv (around env.old) }
+    ensures means { GivesIn (λ d. d) (rule.param_declared (around env.old) block (param_of tree.now)) (around env.new) result }
+    ensures known { OnOk result (IsKnownEnv (around env.new)) }
+{
+    let c = words_declared(env, &tree.specs)?;
+    let counts = param_bounds(env, tree.line, &tree.bounds)?;
+    let c = with_stars(c, &tree.stars)?;
+    let d = with_param(env, block, tree, c, &counts)?;
+    Ok(d)
+}
+
+/// Parameters whose blocks have the numbers from this one on.
+#[tactic(auto, unfolding(ep_elaboration::specs::Functions::params_declared))]
+pub(crate) fn params_declared(
+    env: &mut Env,
+    first: u32,
+    list: &[ParamTree],
+) -> Result<Vec<CType>, Halt>
+    requires { IsKnownEnv (around env.old) }
+    ensures means { GivesIn (λ v. v.items) (rule.params_declared (around env.old) first (map param_of list.now))
+        (around env.new) result }
+    ensures known { OnOk result (IsKnownEnv (around env.new)) }
+{
+    let mut all = Vec::new(env.alloc);
+    let mut block = first;
+    for tree in list {
+        let c = param_declared(env, block, tree)?;
+        all.push(c)?;
+        match block.checked_add(1) {
+            Some(next) => block = next,
+            None => return Err(Halt::Memory),
+        }
+    }
+    Ok(all)
+}

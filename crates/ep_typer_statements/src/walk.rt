@@ -1,0 +1,251 @@
+//! Statements and the parts of blocks.
+
+ghost use Rattle.std.specs.Prelude.{◌≡◌, map, false, OnOk};
+ghost use Rattle.ep_ast.specs.Statement as shape;
+ghost use Rattle.ep_core.specs.View.{shown_what};
+ghost use Rattle.ep_declared.specs.Gives.{GivesIn};
+ghost use Rattle.ep_elaboration.specs.Statements as rule;
+ghost use Rattle.ep_scopes.specs.Known.{IsKnownEnv};
+ghost use Rattle.ep_scopes.specs.Seen.{env as around};
+ghost use Rattle.ep_typer_statements.specs.Seen.{closed};
+ghost use Rattle.ep_typer_statements.specs.Seen.{lines as seen_lines};
+
+use crate::headings::{first_inside, for_lines};
+use crate::nodes::{branched, by_order, looped, one_line, scoped};
+use crate::scoping::{blocks_here, enter, leave};
+use crate::simple::{
+    evaluated_if, evaluated_in, jump, nothing_returned, returned, tested_if, tested_in,
+    tested_inside,
+};
+use ep_ast::{BlockItemTree, Halt, HeadingTree, NamedOrder, StmtTree};
+use ep_core::tree::{Expr, Stmt, What};
+use ep_scopes::Env;
+use ep_typer_declarations::declaration;
+use ep_typing::CType;
+
+// A statement that had two scopes, one inside the other.
+fn closed(env: &mut Env, line: u32, what: What) -> Result<Vec<Stmt>, Halt>
+    requires { IsKnownEnv (around env.old) }
+    ensures means { GivesIn seen_lines (closed (around env.old) line (shown_what what)) (around env.new) result }
+    ensures known { OnOk result (IsKnownEnv (around env.new)) }
+{
+    leave(env);
+    leave(env);
+    let lines = one_line(env.alloc, line, what)?;
+    Ok(lines)
+}
+
+/// A statement in a scope of its own, which stays open.
+#[cycle(walk)]
+fn inside(
+    env: &mut Env,
+    result_type: CType,
+    in_loop: bool,
+    tree: &StmtTree,
+) -> Result<Vec<Stmt>, Halt>
+    requires { IsKnownEnv (around env.old) }
+    ensures means { GivesIn seen_lines
+        (rule.statement (rule.entered (around env.old)) result_type in_loop (shape.stmt_of tree.now)) (around env.new) result }
+    ensures known { OnOk result (IsKnownEnv (around env.new)) }
+{
+    enter(env)?;
+    let lines = statement(env, result_type, in_loop, tree)?;
+    Ok(lines)
+}
+
+#[cycle(walk)]
+#[tactic(auto, unfolding(ep_elaboration::specs::Statements::statement))]
+fn statement(
+    env: &mut Env,
+    result_type: CType,
+    in_loop: bool,
+    tree: &StmtTree,
+) -> Result<Vec<Stmt>, Halt>
+    requires { IsKnownEnv (around env.old) }
+    ensures means { GivesIn seen_lines
+        (rule.statement (around env.old) result_type in_loop (shape.stmt_of tree.now)) (around env.new) result }
+    ensures known { OnOk result (IsKnownEnv (around env.new)) }
+{
+    match tree {
+        StmtTree::Block(line, list) => {
+            enter(env)?;
+            let body = part_list(env, result_type, in_loop, list)?;
+            let blocks = blocks_here(env)?;
+            leave(env);
+            let lines = one_line(env.alloc, *line, scoped(blocks, body))?;
+            Ok(lines)
+        }
+        StmtTree::Expr(line, e) => match e {
+            None => {
+                let lines = one_line(env.alloc, *line, What::Nothing)?;
+                Ok(lines)
+            }
+            Some(e) => evaluated_in(env, true, *line, e),
+        },
+        StmtTree::If(line, e, then, otherwise) => {
+            let test = tested_inside(env, e)?;
+            let a = inside(env, result_type, in_loop, then)?;
+            match otherwise {
+                None => closed(env, *line, branched(test, a, Vec::new(env.alloc))),
+                Some(u) => {
+                    leave(env);
+                    let b = inside(env, result_type, in_loop, u)?;
+                    closed(env, *line, branched(test, a, b))
+                }
+            }
+        }
+        StmtTree::While(line, e, turn) => {
+            let test = tested_inside(env, e)?;
+            let a = inside(env, result_type, true, turn)?;
+            closed(env, *line, looped(true, test, a, Vec::new(env.alloc)))
+        }
+        StmtTree::Do(line, turn, e) => {
+            enter(env)?;
+            let a = inside(env, result_type, true, turn)?;
+            leave(env);
+            let test = tested_in(env, e)?;
+            leave(env);
+            let lines = one_line(
+                env.alloc,
+                *line,
+                looped(false, test, a, Vec::new(env.alloc)),
+            )?;
+            Ok(lines)
+        }
+        StmtTree::For(line, heading, turn) => {
+            let before = first_inside(env, &heading.first)?;
+            let test = tested_if(env, &heading.test)?;
+            let next = evaluated_if(env, &heading.next)?;
+            let a = inside(env, result_type, true, turn)?;
+            leave(env);
+            let blocks = blocks_here(env)?;
+            leave(env);
+            let what = looped(true, test, a, next);
+            let lines = for_lines(env.alloc, &heading.first, *line, before, what, blocks)?;
+            Ok(lines)
+        }
+        StmtTree::Break(line) => jump(env.alloc, in_loop, *line, What::Break),
+        StmtTree::Continue(line) => jump(env.alloc, in_loop, *line, What::Continue),
+        StmtTree::Return(line, e) => match e {
+            None => {
+                let what = nothing_returned(*line, result_type)?;
+                let lines = one_line(env.alloc, *line, what)?;
+                Ok(lines)
+            }
+            Some(e) => returned(env, *line, result_type, e),
+        },
+    }
+}
+
+#[cycle(walk)]
+#[tactic(auto, unfolding(ep_elaboration::specs::Statements::statements))]
+fn statements(
+    env: &mut Env,
+    result_type: CType,
+    in_loop: bool,
+    list: &[StmtTree],
+) -> Result<Vec<Stmt>, Halt>
+    requires { IsKnownEnv (around env.old) }
+    ensures means { GivesIn seen_lines
+        (rule.statements (around env.old) result_type in_loop (shape.to_stmts (map shape.stmt_of list.now)))
+        (around env.new) result }
+    ensures known { OnOk result (IsKnownEnv (around env.new)) }
+{
+    let mut lines = Vec::new(env.alloc);
+    for tree in list {
+        let mut more = statement(env, result_type, in_loop, tree)?;
+        lines.append(&mut more)?;
+    }
+    Ok(lines)
+}
+
+/// Statements in a scope of their own, which stays open.
+#[cycle(walk)]
+fn arm(
+    env: &mut Env,
+    result_type: CType,
+    in_loop: bool,
+    list: &[StmtTree],
+) -> Result<Vec<Stmt>, Halt>
+    requires { IsKnownEnv (around env.old) }
+    ensures means { GivesIn seen_lines
+        (rule.statements (rule.entered (around env.old)) result_type in_loop (shape.to_stmts (map shape.stmt_of list.now)))
+        (around env.new) result }
+    ensures known { OnOk result (IsKnownEnv (around env.new)) }
+{
+    enter(env)?;
+    let lines = statements(env, result_type, in_loop, list)?;
+    Ok(lines)
+}
+
+#[cycle(walk)]
+#[tactic(auto, unfolding(ep_elaboration::specs::Statements::part))]
+fn part(
+    env: &mut Env,
+    result_type: CType,
+    in_loop: bool,
+    tree: &BlockItemTree,
+) -> Result<Vec<Stmt>, Halt>
+    requires { IsKnownEnv (around env.old) }
+    ensures means { GivesIn seen_lines
+        (rule.part (around env.old) result_type in_loop (shape.part_of tree.now)) (around env.new) result }
+    ensures known { OnOk result (IsKnownEnv (around env.new)) }
+{
+    match tree {
+        BlockItemTree::Declaration(d) => {
+            let made = declaration(env, false, true, d)?;
+            Ok(made.lines)
+        }
+        BlockItemTree::Statement(s) => statement(env, result_type, in_loop, s),
+        BlockItemTree::Arms(line, order, then, otherwise) => {
+            let a = arm(env, result_type, in_loop, then)?;
+            leave(env);
+            match otherwise {
+                None => {
+                    let what = by_order(*order, a, Vec::new(env.alloc));
+                    let lines = one_line(env.alloc, *line, what)?;
+                    Ok(lines)
+                }
+                Some(list) => {
+                    let b = arm(env, result_type, in_loop, list)?;
+                    leave(env);
+                    let lines = one_line(env.alloc, *line, by_order(*order, a, b))?;
+                    Ok(lines)
+                }
+            }
+        }
+    }
+}
+
+#[cycle(walk)]
+#[tactic(auto, unfolding(ep_elaboration::specs::Statements::parts))]
+fn part_list(
+    env: &mut Env,
+    result_type: CType,
+    in_loop: bool,
+    list: &[BlockItemTree],
+) -> Result<Vec<Stmt>, Halt>
+    requires { IsKnownEnv (around env.old) }
+    ensures means { GivesIn seen_lines
+        (rule.parts (around env.old) result_type in_loop (shape.to_parts (map shape.part_of list.now)))
+        (around env.new) result }
+    ensures known { OnOk result (IsKnownEnv (around env.new)) }
+{
+    let mut lines = Vec::new(env.alloc);
+    for tree in list {
+        let mut more = part(env, result_type, in_loop, tree)?;
+        lines.append(&mut more)?;
+    }
+    Ok(lines)
+}
+
+/// The parts of a function's body, with the function's result.
+pub fn parts(env: &mut Env, result_type: CType, list: &[BlockItemTree]) -> Result<Vec<Stmt>, Halt>
+    requires { IsKnownEnv (around env.old) }
+    ensures means { GivesIn seen_lines
+        (rule.parts (around env.old) result_type false (shape.to_parts (map shape.part_of list.now)))
+        (around env.new) result }
+    ensures known { OnOk result (IsKnownEnv (around env.new)) }
+{
+    part_list(env, result_type, false, list)
+}

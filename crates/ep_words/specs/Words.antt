@@ -1,0 +1,167 @@
+-- The words of the command line. This project's rules.
+use Rattle.std.specs.Prelude.{ℕ, ◌+◌, ◌*◌, ◌-◌, nat_le, ◌==◌, Bool, false, ◌&&◌, not, if◌then◌else◌, List, [], ◌∷◌, length, map, Option, Some, None, is_none, is_some, bytes_eq, codes, option_and_then, unwrap_or}
+use Rattle.std.specs.List.{list_all}
+use Rattle.ep_int.specs.declared.types.Model.{Model}
+use Rattle.ep_int.specs.declared.types.Model.TheVariants as models
+use Rattle.ep_int.specs.declared.types.Order.{Order}
+use Rattle.ep_int.specs.declared.types.Order.TheVariants as orders
+
+abbrev pub Word : Type 0
+Word = List ℕ
+
+-- ---- files
+
+abbrev pub is_dash : ℕ → Bool
+is_dash b = b == 45
+
+-- a name that isn't empty and doesn't begin as an option does
+abbrev pub is_file : Word → Bool
+is_file [] = false
+is_file (b ∷ bs) = not (is_dash b)
+
+-- ---- numbers
+
+abbrev pub is_digit : ℕ → Bool
+is_digit b = nat_le 48 b && nat_le b 57
+
+-- the number of decimal digits, behind those of this number
+abbrev pub digits_from : ℕ → Word → ℕ
+digits_from n [] = n
+digits_from n (b ∷ bs) = digits_from (n * 10 + (b - 48)) bs
+
+abbrev pub digits_value : Word → ℕ
+digits_value w = digits_from 0 w
+
+-- 1 to 20 decimal digits
+abbrev pub are_digits : Word → Bool
+are_digits w = not (length w == 0) && nat_le (length w) 20 && list_all is_digit w
+
+-- a number that is no greater than this
+abbrev pub number : (most : ℕ) → Word → Option ℕ
+number most w = if are_digits w && nat_le (digits_value w) most then Some (digits_value w) else None
+
+-- ---- values of options
+
+abbrev pub order_named : Word → Option Order
+order_named w =
+    if bytes_eq w (codes "little") then Some orders.Little
+    else if bytes_eq w (codes "big") then Some orders.Big
+    else if bytes_eq w (codes "swapped-words") then Some orders.SwappedWords
+    else None
+
+abbrev pub model_named : Word → Option Model
+model_named w =
+    if bytes_eq w (codes "ilp32") then Some models.Ilp32
+    else if bytes_eq w (codes "lp64") then Some models.Lp64
+    else None
+
+abbrev pub most_steps : ℕ
+most_steps = 1000000
+
+-- ---- options: two words each, each once at most, before the positional words
+
+pub record Options : Type 0 where
+  pub order : Option Order
+  pub steps : Option ℕ
+  pub model : Option Model
+
+abbrev pub no_options : Options
+no_options = record { order = None; steps = None; model = None }
+
+abbrev pub with_order : Options → Option Order → Option Options
+with_order o None = None
+with_order o (Some x) = if is_none o.order then Some (record o { order = Some x }) else None
+
+abbrev pub with_steps : Options → Option ℕ → Option Options
+with_steps o None = None
+with_steps o (Some n) = if is_none o.steps then Some (record o { steps = Some n }) else None
+
+abbrev pub with_model : Options → Option Model → Option Options
+with_model o None = None
+with_model o (Some m) = if is_none o.model then Some (record o { model = Some m }) else None
+
+-- an option more, if there is one of this name and its value is one
+abbrev pub with_option : Options → (name value : Word) → Option Options
+with_option o name value =
+    if bytes_eq name (codes "--order") then with_order o (order_named value)
+    else if bytes_eq name (codes "--steps") then with_steps o (number most_steps value)
+    else if bytes_eq name (codes "--model") then with_model o (model_named value)
+    else None
+
+abbrev pub begins_as_option : Word → Bool
+begins_as_option [] = false
+begins_as_option (b ∷ bs) = is_dash b
+
+-- the options that stand first, and the words behind them
+unfoldable pub options : Options → List Word → Option (Options × List Word)
+options o [] = Some (o, [])
+options o (w ∷ []) = Some (o, w ∷ [])
+options o (name ∷ value ∷ words) =
+    if begins_as_option name then option_and_then (λ p. options p words) (with_option o name value)
+    else Some (o, name ∷ value ∷ words)
+
+-- ---- commands
+
+pub data Command : Type 0 where
+  check : (file : Word) → Command
+  layout : (model : Model) (file : Word) → Command
+  run : (order : Order) (steps : ℕ) (model : Model) (file : Word) (inputs : List ℕ) → Command
+
+abbrev pub check_of : List Word → Option Command
+check_of [] = None
+check_of (file ∷ []) = if is_file file then Some (check file) else None
+check_of (file ∷ word ∷ words) = None
+
+-- the model that is named, else ilp32
+abbrev pub model_of : Options → Model
+model_of o = unwrap_or o.model models.Ilp32
+
+abbrev pub layout_of : Options → List Word → Option Command
+layout_of o [] = None
+layout_of o (file ∷ []) =
+    if is_none o.order && is_none o.steps && is_file file then Some (layout (model_of o) file) else None
+layout_of o (file ∷ word ∷ words) = None
+
+abbrev pub greatest_input : ℕ
+greatest_input = 18446744073709551615
+
+abbrev pub is_input : Word → Bool
+is_input w = is_some (number greatest_input w)
+
+-- the number of an input
+abbrev pub input : Word → ℕ
+input w = unwrap_or (number greatest_input w) 0
+
+abbrev pub are_inputs : List Word → Bool
+are_inputs ws = list_all is_input ws
+
+abbrev pub most_inputs : ℕ
+most_inputs = 65536
+
+abbrev pub run_with : Option Order → Option ℕ → Model → Word → List ℕ → Option Command
+run_with None steps m file inputs = None
+run_with (Some o) None m file inputs = None
+run_with (Some o) (Some n) m file inputs = Some (run o n m file inputs)
+
+abbrev pub run_of : Options → List Word → Option Command
+run_of o [] = None
+run_of o (file ∷ words) =
+    if is_file file && nat_le (length words) most_inputs && are_inputs words
+    then run_with o.order o.steps (model_of o) file (map input words)
+    else None
+
+abbrev pub with_options : (Options → List Word → Option Command) → List Word → Option Command
+with_options f ws = option_and_then (λ (r : Options × List Word). f r.0 r.1) (options no_options ws)
+
+abbrev pub named : (command : Word) → List Word → Option Command
+named command words =
+    if bytes_eq command (codes "check") then check_of words
+    else if bytes_eq command (codes "layout") then with_options layout_of words
+    else if bytes_eq command (codes "run") then with_options run_of words
+    else None
+
+-- What plain words ask: the program's name, a command, its options, and its positional words.
+abbrev pub plain : List Word → Option Command
+plain [] = None
+plain (name ∷ []) = None
+plain (name ∷ command ∷ words) = named command words

@@ -1,0 +1,177 @@
+//! What the words ask.
+
+ghost use Rattle.std.specs.Prelude.{◌≡◌, IfOk, map};
+ghost use Rattle.std.specs.Option.{option_map};
+ghost use Rattle.ep_words.specs.Seen as seen;
+ghost use Rattle.ep_words.specs.Words as rule;
+
+use crate::numbers::number;
+use crate::options::{Options, leading};
+use ep_int::{Memory, Model, Order};
+use std::alloc::{AllocError, Global};
+
+/// The most inputs of a run.
+const MOST_INPUTS: usize = 65_536;
+
+/// A run of a file on one machine. The words of the inputs are numbers.
+#[derive(Clone, Copy)]
+pub struct RunWords<'a> {
+    pub order: Order,
+    /// At most.
+    pub steps: u64,
+    pub model: Model,
+    pub file: &'a str,
+    pub inputs: &'a [String],
+}
+
+/// What plain words ask.
+#[derive(Clone, Copy)]
+pub enum Command<'a> {
+    /// A report on a file.
+    Check(&'a str),
+    /// The layouts of a file's types.
+    Layout(Model, &'a str),
+    Run(RunWords<'a>),
+}
+
+// A name that isn't empty and doesn't begin as an option does.
+fn is_file(word: &str) -> bool
+    ensures { result ≡ rule.is_file word.now }
+{
+    match word.as_bytes() {
+        [] => false,
+        [first, ..] => *first != b'-',
+    }
+}
+
+fn check_of(words: &[String]) -> Option<Command<'_>>
+    ensures { option_map seen.command result ≡ rule.check_of (seen.words words.now) }
+{
+    match words {
+        [file] if is_file(file.as_str()) => Some(Command::Check(file.as_str())),
+        _ => None,
+    }
+}
+
+fn layout_of(given: Options, words: &[String]) -> Option<Command<'_>>
+    ensures { option_map seen.command result ≡ rule.layout_of (seen.options given) (seen.words words.now) }
+{
+    match words {
+        [file] if given.order.is_none() && given.steps.is_none() && is_file(file.as_str()) => {
+            Some(Command::Layout(given.model(), file.as_str()))
+        }
+        _ => None,
+    }
+}
+
+fn is_input(word: &str) -> bool
+    ensures { result ≡ rule.is_input word.now }
+{
+    number(u64::MAX, word).is_some()
+}
+
+fn are_inputs(words: &[String]) -> bool
+    ensures { result ≡ rule.are_inputs (seen.words words.now) }
+{
+    for word in words {
+        if !is_input(word.as_str()) {
+            return false;
+        }
+    }
+    true
+}
+
+// A run, where it has an order and steps.
+fn run_with<'a>(given: Options, file: &'a str, inputs: &'a [String]) -> Option<Command<'a>>
+    ensures { option_map seen.command result ≡ rule.run_with given.order given.steps (rule.model_of (seen.options given))
+        file.now (map rule.input (seen.words inputs.now)) }
+{
+    let order = given.order?;
+    let steps = given.steps?;
+    Some(Command::Run(RunWords {
+        order,
+        steps,
+        model: given.model(),
+        file,
+        inputs,
+    }))
+}
+
+fn run_of(given: Options, words: &[String]) -> Option<Command<'_>>
+    ensures { option_map seen.command result ≡ rule.run_of (seen.options given) (seen.words words.now) }
+{
+    match words {
+        [file, inputs @ ..]
+            if is_file(file.as_str()) && inputs.len() <= MOST_INPUTS && are_inputs(inputs) => {
+            run_with(given, file.as_str(), inputs)
+        }
+        _ => None,
+    }
+}
+
+fn layout_words(words: &[String]) -> Option<Command<'_>>
+    ensures { option_map seen.command result ≡ rule.with_options rule.layout_of (seen.words words.now) }
+{
+    match leading(Options::none(), words) {
+        Some((given, rest)) => layout_of(given, rest),
+        None => None,
+    }
+}
+
+fn run_words(words: &[String]) -> Option<Command<'_>>
+    ensures { option_map seen.command result ≡ rule.with_options rule.run_of (seen.words words.now) }
+{
+    match leading(Options::none(), words) {
+        Some((given, rest)) => run_of(given, rest),
+        None => None,
+    }
+}
+
+// What the words behind a command ask.
+fn named<'a>(command: &str, words: &'a [String]) -> Option<Command<'a>>
+    ensures { option_map seen.command result ≡ rule.named command.now (seen.words words.now) }
+{
+    match command {
+        "check" => check_of(words),
+        "layout" => layout_words(words),
+        "run" => run_words(words),
+        _ => None,
+    }
+}
+
+/// What the words ask, where they are plain. The first is the program's name.
+pub fn asked(words: &[String]) -> Option<Command<'_>>
+    ensures { option_map seen.command result ≡ rule.plain (seen.words words.now) }
+{
+    match words {
+        [_, command, rest @ ..] => named(command.as_str(), rest),
+        [_] => None,
+        [] => None,
+    }
+}
+
+/// The numbers of the inputs of a run.
+pub fn input_numbers(alloc: Global, words: &[String]) -> Result<Vec<u64>, Memory>
+    ensures { IfOk result (λ v. v.items ≡ map rule.input (seen.words words.now)) }
+{
+    match collected(alloc, words) {
+        Ok(numbers) => Ok(numbers),
+        Err(_) => Err(Memory),
+    }
+}
+
+fn input(word: &str) -> u64
+    ensures { result ≡ rule.input word.now }
+{
+    number(u64::MAX, word).unwrap_or(0)
+}
+
+fn collected(alloc: Global, words: &[String]) -> Result<Vec<u64>, AllocError>
+    ensures { IfOk result (λ v. v.items ≡ map rule.input (seen.words words.now)) }
+{
+    let mut numbers = Vec::new(alloc);
+    for word in words {
+        numbers.push(input(word.as_str()))?;
+    }
+    Ok(numbers)
+}

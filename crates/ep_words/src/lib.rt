@@ -1,0 +1,8 @@
+//! The words of the command line: what they ask, or that they aren't plain.
+#![tactic(auto)]
+
+mod command;
+mod numbers;
+mod options;
+
+pub use command::{Command, RunWords, asked, input_numbers};

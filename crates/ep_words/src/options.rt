@@ -1,0 +1,144 @@
+//! The options before the positional words.
+
+ghost use Rattle.std.specs.Prelude.{◌≡◌, IsTrue};
+ghost use Rattle.std.specs.Option.{option_map};
+ghost use Rattle.ep_words.specs.Seen as seen;
+ghost use Rattle.ep_words.specs.Words as rule;
+
+use crate::numbers::number;
+use ep_int::{Model, Order};
+
+/// The most steps of a run.
+const MOST_STEPS: u64 = 1_000_000;
+
+/// The options that were given.
+#[derive(Clone, Copy)]
+pub(crate) struct Options {
+    pub order: Option<Order>,
+    pub steps: Option<u64>,
+    pub model: Option<Model>,
+}
+
+fn order_named(word: &str) -> Option<Order>
+    ensures { result ≡ rule.order_named word.now }
+{
+    match word {
+        "little" => Some(Order::Little),
+        "big" => Some(Order::Big),
+        "swapped-words" => Some(Order::SwappedWords),
+        _ => None,
+    }
+}
+
+fn model_named(word: &str) -> Option<Model>
+    ensures { result ≡ rule.model_named word.now }
+{
+    match word {
+        "ilp32" => Some(Model::Ilp32),
+        "lp64" => Some(Model::Lp64),
+        _ => None,
+    }
+}
+
+impl Options {
+    pub fn none() -> Options
+        ensures { seen.options result ≡ rule.no_options }
+    {
+        Options {
+            order: None,
+            steps: None,
+            model: None,
+        }
+    }
+
+    fn with_order(self, order: Option<Order>) -> Option<Options>
+        ensures { option_map seen.options result ≡ rule.with_order (seen.options self) order }
+    {
+        let order = order?;
+        if self.order.is_some() {
+            return None;
+        }
+        Some(Options {
+            order: Some(order),
+            steps: self.steps,
+            model: self.model,
+        })
+    }
+
+    fn with_steps(self, steps: Option<u64>) -> Option<Options>
+        ensures { option_map seen.options result ≡ rule.with_steps (seen.options self) steps }
+    {
+        let steps = steps?;
+        if self.steps.is_some() {
+            return None;
+        }
+        Some(Options {
+            order: self.order,
+            steps: Some(steps),
+            model: self.model,
+        })
+    }
+
+    fn with_model(self, model: Option<Model>) -> Option<Options>
+        ensures { option_map seen.options result ≡ rule.with_model (seen.options self) model }
+    {
+        let model = model?;
+        if self.model.is_some() {
+            return None;
+        }
+        Some(Options {
+            order: self.order,
+            steps: self.steps,
+            model: Some(model),
+        })
+    }
+
+    // One more, if there is one of this name and its value is one.
+    fn with(self, name: &str, value: &str) -> Option<Options>
+        ensures { option_map seen.options result ≡ rule.with_option (seen.options self) name.now value.now }
+    {
+        match name {
+            "--order" => self.with_order(order_named(value)),
+            "--steps" => self.with_steps(number(MOST_STEPS, value)),
+            "--model" => self.with_model(model_named(value)),
+            _ => None,
+        }
+    }
+
+    /// The model that is named, else ilp32.
+    pub fn model(self) -> Model
+        ensures { result ≡ rule.model_of (seen.options self) }
+    {
+        self.model.unwrap_or(Model::Ilp32)
+    }
+}
+
+fn begins_as_option(word: &str) -> bool
+    ensures { result ≡ rule.begins_as_option word.now }
+{
+    match word.as_bytes() {
+        [] => false,
+        [first, ..] => *first == b'-',
+    }
+}
+
+/// The options that stand first, behind those found, and the words behind them.
+#[tactic(auto, unfolding(crate::specs::Words::options))]
+pub(crate) fn leading(found: Options, words: &[String]) -> Option<(Options, &[String])>
+    ensures { option_map (λ r. (seen.options r.0, seen.words r.1.now)) result
+        ≡ rule.options (seen.options found) (seen.words words.now) }
+{
+    match words {
+        [name, value, rest @ ..] => {
+            if !begins_as_option(name.as_str()) {
+                return Some((found, words));
+            }
+            match found.with(name.as_str(), value.as_str()) {
+                Some(more) => leading(more, rest),
+                None => None,
+            }
+        }
+        [_] => Some((found, words)),
+        [] => Some((found, words)),
+    }
+}

@@ -1,0 +1,188 @@
+// The commands `layout` and `run`, over a source and a sink in memory.
+use crate::calls::{Case, USAGE_TEXT, expect};
+use endport::Status;
+use std::alloc::Global;
+use std::process::Abort;
+use std::test::Fail;
+
+const ITEM: &str = "struct item { uint8_t tag; uint32_t *p; };\nint main(void) { return 0; }\n";
+
+const SWAP: &str = "int main(void) {\n  uint32_t x;\n  x = ep_in_u32();\n  ep_write(&x, 4);\n}\n";
+
+/// The words, the status and the text.
+type Row = (&'static [&'static str], Status, &'static str);
+
+fn expect_all(rt: &impl Abort, alloc: Global, source: &str, table: &[Row]) -> Result<(), Fail> {
+    for (words, status, text) in table.iter() {
+        let case = Case {
+            words,
+            source: source.as_bytes(),
+            failing_read: None,
+            failing_write: None,
+        };
+        expect(rt, alloc, &case, *status, text)?;
+    }
+    Ok(())
+}
+
+#[test]
+fn layouts(rt: HostRuntime) -> Result<(), Fail> {
+    let narrow = "struct item size 8 align 4\n  tag offset 0 size 1\n  p offset 4 size 4\n";
+    let wide = "struct item size 16 align 8\n  tag offset 0 size 1\n  p offset 8 size 8\n";
+    let table: [Row; 3] = [
+        (&["endport", "layout", "file.c"], Status::Done, narrow),
+        (
+            &["endport", "layout", "--model", "ilp32", "file.c"],
+            Status::Done,
+            narrow,
+        ),
+        (
+            &["endport", "layout", "--model", "lp64", "file.c"],
+            Status::Done,
+            wide,
+        ),
+    ];
+    expect_all(&rt, rt.alloc(), ITEM, &table)?;
+    let refused: [Row; 1] = [(
+        &["endport", "layout", "file.c"],
+        Status::Refused,
+        "3: refused 30 unknown-name\n",
+    )];
+    expect_all(
+        &rt,
+        rt.alloc(),
+        "int main(void) {\n  int x;\n  x = y;\n}\n",
+        &refused,
+    )
+}
+
+#[test]
+fn runs(rt: HostRuntime) -> Result<(), Fail> {
+    let table: [Row; 6] = [
+        (
+            &[
+                "endport",
+                "run",
+                "--order",
+                "little",
+                "--steps",
+                "5",
+                "file.c",
+                "168496141",
+            ],
+            Status::Done,
+            "u8 13\nu8 12\nu8 11\nu8 10\ni32 0\nended\n",
+        ),
+        (
+            &[
+                "endport",
+                "run",
+                "--steps",
+                "00005",
+                "--order",
+                "big",
+                "file.c",
+                "168496141",
+                "7",
+            ],
+            Status::Done,
+            "u8 10\nu8 11\nu8 12\nu8 13\ni32 0\nended\n",
+        ),
+        (
+            &[
+                "endport",
+                "run",
+                "--model",
+                "lp64",
+                "--order",
+                "swapped-words",
+                "--steps",
+                "5",
+                "file.c",
+                "168496141",
+            ],
+            Status::Done,
+            "u8 11\nu8 10\nu8 13\nu8 12\ni32 0\nended\n",
+        ),
+        (
+            &[
+                "endport", "run", "--order", "little", "--steps", "1", "file.c", "1",
+            ],
+            Status::StepsUsedUp,
+            "running\n",
+        ),
+        (
+            &[
+                "endport", "run", "--order", "little", "--steps", "5", "file.c",
+            ],
+            Status::InputEnded,
+            "no-input\n",
+        ),
+        (
+            &[
+                "endport", "run", "--order", "little", "--steps", "0", "file.c",
+            ],
+            Status::StepsUsedUp,
+            "running\n",
+        ),
+    ];
+    expect_all(&rt, rt.alloc(), SWAP, &table)?;
+    let undefined: [Row; 1] = [(
+        &["endport", "run", "--order", "big", "--steps", "9", "file.c"],
+        Status::Undefined,
+        "undefined 3 U2 division\n",
+    )];
+    expect_all(
+        &rt,
+        rt.alloc(),
+        "int main(void) {\n  int x = 0;\n  x = 1 / x;\n}\n",
+        &undefined,
+    )
+}
+
+#[test]
+fn words_that_are_not_plain(rt: HostRuntime) -> Result<(), Fail> {
+    let table: [&[&str]; 14] = [
+        &["endport", "layout"],
+        &["endport", "layout", "-file.c"],
+        &["endport", "layout", "file.c", "file.c"],
+        &["endport", "layout", "--model", "lp65", "file.c"],
+        &[
+            "endport", "layout", "--model", "lp64", "--model", "lp64", "file.c",
+        ],
+        &["endport", "layout", "file.c", "--model", "lp64"],
+        &["endport", "layout", "--order", "big", "file.c"],
+        &["endport", "run", "--order", "big", "file.c"],
+        &["endport", "run", "--steps", "5", "file.c"],
+        &[
+            "endport", "run", "--order", "big", "--steps", "1000001", "file.c",
+        ],
+        &[
+            "endport", "run", "--order", "big", "--steps", "+5", "file.c",
+        ],
+        &[
+            "endport",
+            "run",
+            "--order",
+            "big",
+            "--steps",
+            "5",
+            "file.c",
+            "18446744073709551616",
+        ],
+        &[
+            "endport", "run", "--order", "big", "--steps", "5", "file.c", "-1",
+        ],
+        &["endport", "sample", "0", "1"],
+    ];
+    for words in table.iter() {
+        let case = Case {
+            words,
+            source: b"",
+            failing_read: None,
+            failing_write: None,
+        };
+        expect(&rt, rt.alloc(), &case, Status::Usage, USAGE_TEXT)?;
+    }
+    Ok(())
+}
