@@ -12,4 +12,5 @@ pub mod Texts
 pub mod Ordered
 pub mod Rows
 pub mod Steps
+pub mod Copies
 mod Worked

@@ -1,13 +1,13 @@
 //! The types of a table in the order of their coming, each once.
 
-ghost use Rattle.std.specs.Prelude.{◌≡◌, List, [], ◌∷◌, ◌++◌, length, ◌<◌, IfSome, OnOk, OnErr, Some, None, slice_get, position};
+ghost use Rattle.std.specs.Prelude.{◌≡◌, List, [], ◌∷◌, ◌++◌, length, ◌<◌, IfSome, OnOk, OnErr, IfOk, Some, None, slice_get, position};
 ghost use Rattle.ep_layout.specs.declared.types.Ty.{Ty};
 ghost use Rattle.ep_layout.specs.SameTypes.{is_same_type};
 
 use crate::types::Ty;
 use ep_int::Memory;
 use indexmap::IndexSet;
-use std::alloc::Global;
+use std::alloc::{AllocError, Global};
 use std::marker::Model;
 
 /// Types by number, each once.
@@ -61,5 +61,14 @@ impl TypeList {
             return Err(Memory);
         }
         Ok(())
+    }
+
+    /// The same types under the same numbers.
+    pub fn copy(&self) -> Result<TypeList, AllocError>
+        ensures { IfOk result (λ s. s ≡ self.now) }
+    {
+        Ok(TypeList {
+            types: self.types.clone()?,
+        })
     }
 }

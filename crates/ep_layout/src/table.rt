@@ -11,6 +11,7 @@ ghost use Rattle.ep_layout.specs.Extents.{IsExtent, extent_of, kept_extent};
 ghost use Rattle.ep_layout.specs.Views.{view_member, view_members, view_named};
 
 mod bodies;
+mod copies;
 mod growth;
 mod leaves;
 mod text;

@@ -1,6 +1,6 @@
 //! The names and tags in scope.
 
-ghost use Rattle.std.specs.Prelude.{◌≡◌, [], ◌∷◌, ◌++◌, IfOk, OnOk, OnErr, None, drop, is_some, length, ◌+◌};
+ghost use Rattle.std.specs.Prelude.{◌≡◌, [], ◌∷◌, ◌++◌, IfOk, OnOk, OnErr, None, drop, is_some, length, ◌+◌, map};
 ghost use Rattle.std.specs.Option.{option_map, option_to_list};
 ghost use Rattle.ep_typing.specs.Env as rule;
 ghost use Rattle.ep_scopes.specs.Seen as seen;
@@ -46,6 +46,15 @@ impl Scope {
             names: IndexMap::new(alloc),
             tags: IndexMap::new(alloc),
         }
+    }
+
+    fn copy(&self) -> Result<Scope, AllocError>
+        ensures { IfOk result (λ s. seen.scope s ≡ seen.scope self.now) }
+    {
+        Ok(Scope {
+            names: self.names.clone()?,
+            tags: self.tags.clone()?,
+        })
     }
 
     fn name(&self, name: &[u8]) -> Option<Meaning>
@@ -154,6 +163,17 @@ fn look_up_tag(scopes: &[Scope], tag: &[u8]) -> Option<u32>
     found
 }
 
+fn copied_scopes(alloc: Global, scopes: &[Scope]) -> Result<Vec<Scope>, AllocError>
+    ensures { IfOk result (λ v. map seen.scope v.items ≡ map seen.scope scopes.now) }
+{
+    let mut copies = Vec::new(alloc);
+    for scope in scopes {
+        let copy = scope.copy()?;
+        copies.push(copy)?;
+    }
+    Ok(copies)
+}
+
 impl Scopes {
     /// No scope at all.
     pub fn new(alloc: Global) -> Scopes
@@ -163,6 +183,16 @@ impl Scopes {
             all: Vec::new(alloc),
             alloc,
         }
+    }
+
+    /// The same names and tags.
+    pub fn copy(&self) -> Result<Scopes, AllocError>
+        ensures { IfOk result (λ s. seen.scopes s ≡ seen.scopes self.now) }
+    {
+        Ok(Scopes {
+            all: copied_scopes(self.alloc, &self.all)?,
+            alloc: self.alloc,
+        })
     }
 
     /// What a name means; an inner scope hides an outer one.
