@@ -1,6 +1,6 @@
 //! Which functions have a body.
 
-ghost use Rattle.std.specs.Prelude.{◌≡◌, ℕ, ◌==◌, ◌||◌, false, OnOk};
+ghost use Rattle.std.specs.Prelude.{◌≡◌, ℕ, ◌==◌, ◌||◌, false, IfOk, OnOk};
 ghost use Rattle.ep_typer_functions.specs.Seen.{has_body};
 
 use ep_int::Memory;
@@ -19,6 +19,16 @@ impl Done {
     {
         Done {
             marks: Vec::new(alloc),
+        }
+    }
+
+    /// The same functions.
+    pub fn copy(&self, alloc: Global) -> Result<Done, Memory>
+        ensures { IfOk result (λ d. (n : ℕ) → has_body d n ≡ has_body self.now n) }
+    {
+        match Vec::from_slice(alloc, &self.marks) {
+            Ok(marks) => Ok(Done { marks }),
+            Err(_) => Err(Memory),
         }
     }
 
