@@ -9,7 +9,7 @@ use Rattle.ep_core.specs.Program.{Program}
 use Rattle.ep_core.specs.Runs as runs
 use Rattle.ep_core.specs.Runs.{run}
 use Rattle.ep_concrete.specs.Text.{run_text_of}
-use Rattle.ep_source.specs.Source.{Means, Offends, Refuses}
+use Rattle.ep_source.specs.Source.{Means, Offends}
 use Rattle.ep_jobs.specs.declared.status.Status.{Status}
 use Rattle.ep_jobs.specs.declared.status.Status.TheVariants.{Done, Alarms, Refused, Usage, ReadFault, WriteFault, Memory, TooLong, StepsUsedUp, Undefined, InputEnded}
 
@@ -30,7 +30,7 @@ code_of InputEnded = 10
 -- the one line that refuses a source
 pub record IsRefused (m : Model) (source text : List ℕ) : Type 0 where
   pub refusal : Refusal
-  pub refuses : Refuses m source refusal
+  pub offends : Offends m source refusal
   pub text_is : text ≡ refusal_line refusal
 
 -- The source means this program and no other, and nothing of it offends.

@@ -1,5 +1,5 @@
 -- What offends in one of the three stages offends in the source, and what offends in none doesn't.
-use Rattle.std.proofs.Common.{◌≡◌, ℕ, subst, List, Some}
+use Rattle.std.proofs.Common.{◌≡◌, ℕ, subst, List}
 use Rattle.ep_int.specs.declared.types.Model.{Model}
 use Rattle.ep_ast.specs.declared.refusals.Refusal.{Refusal}
 use Rattle.ep_ast.specs.declared.refusals.Halt.{Halt}
@@ -12,26 +12,22 @@ use Rattle.ep_ast.specs.Cut as bytes
 use Rattle.ep_ast.specs.Offence as tokens
 use Rattle.ep_ast.specs.ProgramGrammar.{Programs}
 use Rattle.ep_elaboration_laws.specs.ProgramRules.{ProgramOffends}
-use Rattle.ep_source.specs.Source.{Offends, in_bytes, in_tokens, in_program, Refuses, offends, not_built, by_order, first_by_order}
+use Rattle.ep_source.specs.Source.{Offends, in_bytes, in_tokens, in_program}
 
-pub cut_offends : (m : Model) (bs : List ℕ) (e : Halt) → IfRefused e (bytes.Offends start bs) → IfRefused e (Refuses m bs)
+pub cut_offends : (m : Model) (bs : List ℕ) (e : Halt) → IfRefused e (bytes.Offends start bs) → IfRefused e (Offends m bs)
 cut_offends m bs halts.Memory h = tt
-cut_offends m bs (halts.Refused r) h = offends (in_bytes h)
+cut_offends m bs (halts.Refused r) h = in_bytes h
 
 pub tokens_offend : (m : Model) (bs : List ℕ) (ts : List Tok) (e : Halt) → Spells bs ts → IfRefused e (tokens.Offends ts)
-    → IfRefused e (Refuses m bs)
+    → IfRefused e (Offends m bs)
 tokens_offend m bs ts halts.Memory s h = tt
-tokens_offend m bs ts (halts.Refused r) s h = offends (in_tokens ts s h)
+tokens_offend m bs ts (halts.Refused r) s h = in_tokens ts s h
 
 pub program_offends : (m : Model) (bs : List ℕ) (ts : List Tok) (is : List Item) (e : Halt) → Spells bs ts
     → ((r : Refusal) → tokens.Offends ts r → ⊥) → Programs ts is → IfRefused e (ProgramOffends m is)
-    → IfRefused e (Refuses m bs)
+    → IfRefused e (Offends m bs)
 program_offends m bs ts is halts.Memory s f p h = tt
-program_offends m bs ts is (halts.Refused r) s f p h = offends (in_program ts is s f p h)
-
-pub not_yet : (m : Model) (bs : List ℕ) (ts : List Tok) (is : List Item) (l : ℕ) (r : Refusal) → Spells bs ts
-    → ((q : Refusal) → tokens.Offends ts q → ⊥) → Programs ts is → first_by_order is ≡ Some l → r ≡ record { kind = 50; line = l; word = 0 } → Refuses m bs r
-not_yet m bs ts is l r s t p f e = rw e (not_built (by_order ts is s t p f))
+program_offends m bs ts is (halts.Refused r) s f p h = in_program ts is s f p h
 
 pub faultless : (m : Model) (bs : List ℕ) (ts : List Tok) (is : List Item) → ((r : Refusal) → bytes.Offends start bs r → ⊥)
     → ((us : List Tok) → Spells bs us → us ≡ ts) → ((r : Refusal) → tokens.Offends ts r → ⊥)

@@ -1,9 +1,9 @@
 -- What a source means in a data model, from its bytes on, and for what it is refused: C11 5.1.1.2 and 6.9.
-use Rattle.std.specs.Prelude.{◌≡◌, ℕ, List, [], ◌∷◌, Option, Some, None}
+use Rattle.std.specs.Prelude.{ℕ, List}
 use Rattle.ep_int.specs.declared.types.Model.{Model}
 use Rattle.ep_ast.specs.declared.refusals.Refusal.{Refusal}
 use Rattle.ep_ast.specs.Token.{Tok}
-use Rattle.ep_ast.specs.Statement.{Item, typedefs, defines, prototype, declares_all, completes, functions_by_order}
+use Rattle.ep_ast.specs.Statement.{Item}
 use Rattle.ep_ast.specs.Cut.{Spells, start}
 use Rattle.ep_ast.specs.Cut as bytes
 use Rattle.ep_ast.specs.Offence as tokens
@@ -30,26 +30,3 @@ pub data Offends (m : Model) (source : List ℕ) : Refusal → Type 0 where
   in_tokens : {r : Refusal} (ts : List Tok) → Spells source ts → tokens.Offends ts r → Offends m source r
   in_program : {r : Refusal} (ts : List Tok) (tree : List Item) → Spells source ts
       → ((q : Refusal) → tokens.Offends ts q → ⊥) → Programs ts tree → ProgramOffends m tree r → Offends m source r
-
--- ---- what isn't read yet
-
--- the line of the first `#if` at file scope
-abbrev pub first_by_order : List Item → Option ℕ
-first_by_order [] = None
-first_by_order (functions_by_order l o fs gs ∷ is) = Some l
-first_by_order (typedefs t ∷ is) = first_by_order is
-first_by_order (defines f ∷ is) = first_by_order is
-first_by_order (prototype h ∷ is) = first_by_order is
-first_by_order (declares_all d ∷ is) = first_by_order is
-first_by_order (completes a ∷ is) = first_by_order is
-
--- 50: functions by byte order at file scope, in a source of which nothing offends before its types are looked at
-pub data NotBuilt (source : List ℕ) : Refusal → Type 0 where
-  by_order : {l : ℕ} (ts : List Tok) (tree : List Item) → Spells source ts
-      → ((q : Refusal) → tokens.Offends ts q → ⊥) → Programs ts tree → first_by_order tree ≡ Some l
-      → NotBuilt source (record { kind = 50; line = l; word = 0 })
-
--- the source is refused for an offence, or for what isn't read yet
-pub data Refuses (m : Model) (source : List ℕ) : Refusal → Type 0 where
-  offends : {r : Refusal} → Offends m source r → Refuses m source r
-  not_built : {r : Refusal} → NotBuilt source r → Refuses m source r

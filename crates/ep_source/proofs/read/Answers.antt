@@ -1,13 +1,11 @@
-use Rattle.std.proofs.Common.{◌≡◌, ◌≤◌, length, arith, List, map, Some, sym, ap, ◌∙◌}
+use Rattle.std.proofs.Common.{◌≡◌, ◌≤◌, length, arith}
 use Rattle.std.proofs.lemmas.List.{length-map}
 use Rattle.std.proofs.lemmas.Result.{err_from_is_err_and, IfOk-weaker, IfErr-weaker}
 use Rattle.ep_ast.specs.Cut.{start}
-use Rattle.ep_ast.specs.declared.statements.ItemTree.{ItemTree}
-use Rattle.ep_ast.specs.Statement.{item_of, program_of}
-use Rattle.ep_source.specs.Source.{first_by_order}
+use Rattle.ep_ast.specs.Statement.{program_of}
 use Rattle.ep_lexer.specs.Tokens.{view, view_all}
 use Rattle.ep_source.proofs.Counts.{few}
-use Rattle.ep_source.proofs.Stages.{cut_offends, tokens_offend, program_offends, not_yet, faultless}
+use Rattle.ep_source.proofs.Stages.{cut_offends, tokens_offend, program_offends, faultless}
 use Rattle.ep_source.proofs.read.Goals as goal
 
 pub returns-in_err-tokens-clause-refused : goal.returns-in_err-tokens-clause-refused
@@ -40,10 +38,3 @@ returns-clause-refused c =
     IfErr-weaker c.elaborate.result _ _ (λ e h. program_offends c.args.model c.args.source.now
     (view_all c.in_ok-tokens.tokens) (program_of c.in_ok-tree.tree) e c.in_ok-tokens.ensures.spells
     c.in_ok-tree.ensures.faultless c.in_ok-tree.ensures.derives h) c.elaborate.ensures.offends
-
-pub returns-in-Some-clause-refused : goal.returns-in-Some-clause-refused
-returns-in-Some-clause-refused c =
-    let f : first_by_order (program_of c.in_ok-tree.tree) ≡ Some c.in-Some.line =
-    ap (λ (is : List ItemTree). first_by_order (map item_of is)) (sym c.deref.ensures.value) ∙ sym c.in-Some.ensures in
-    not_yet c.args.model c.args.source.now (view_all c.in_ok-tokens.tokens) (program_of c.in_ok-tree.tree) c.in-Some.line
-    c.not_built.result c.in_ok-tokens.ensures.spells c.in_ok-tree.ensures.faultless c.in_ok-tree.ensures.derives f c.not_built.ensures
