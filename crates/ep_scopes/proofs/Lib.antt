@@ -1,3 +1,4 @@
 pub mod ScopeLemmas
 pub mod KnownLemmas
 pub mod WordLemmas
+mod Copies

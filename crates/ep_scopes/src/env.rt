@@ -162,13 +162,21 @@ fn copied_blocks(alloc: Global, blocks: &[BlockInfo]) -> Result<Vec<BlockInfo>, 
     Ok(copies)
 }
 
+fn copied_types(types: &Types) -> Result<Types, AllocError>
+    ensures { IfOk result (λ t. t ≡ types.now) }
+{
+    match types.copy() {
+        Ok(copy) => Ok(copy),
+        Err(_) => Err(AllocError),
+    }
+}
+
 impl Env {
     fn copied(&self) -> Result<Env, AllocError>
         ensures { IfOk result (λ e. seen.env e ≡ seen.env self.now) }
     {
-        let types = self.types.copy().map_err(|_| AllocError)?;
         Ok(Env {
-            types,
+            types: copied_types(&self.types)?,
             scopes: self.scopes.copy()?,
             blocks: copied_blocks(self.alloc, &self.blocks)?,
             functions: self.functions.clone()?,

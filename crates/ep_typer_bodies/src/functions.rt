@@ -26,7 +26,8 @@ use ep_typer_statements::parts;
 use ep_typing::CType;
 use std::alloc::{AllocError, Global};
 
-fn next_block(env: &Env) -> Result<u32, Memory>
+/// The number of the next block.
+pub fn next_block(env: &Env) -> Result<u32, Memory>
     ensures { IfOk result (λ n. n ≡ length (around env.now).blocks) }
 {
     match u32::try_from(env.blocks.len()) {

@@ -3,4 +3,4 @@
 
 mod functions;
 
-pub use functions::{Body, Typed, function_defined, function_typed, prototype};
+pub use functions::{Body, Typed, function_defined, function_typed, next_block, prototype};

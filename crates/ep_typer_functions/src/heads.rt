@@ -36,7 +36,8 @@ fn given_back(line: u32, c: CType) -> Result<CType, Halt>
     Ok(c)
 }
 
-fn params_of(params: &Option<ParamsTree>) -> &[ParamTree]
+/// The parameters of a head; one that says `void` has none.
+pub fn params_of(params: &Option<ParamsTree>) -> &[ParamTree]
     ensures { map shape.param_of result.now ≡ rule.params_of (option_map shape.params_of params.now) }
 {
     match params {

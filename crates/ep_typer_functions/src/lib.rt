@@ -8,5 +8,5 @@ mod names;
 mod params;
 
 pub use done::Done;
-pub use heads::{behind_result, headed};
-pub use names::function_declared;
+pub use heads::{behind_result, headed, params_of};
+pub use names::{function_declared, is_same_signature};

@@ -26,7 +26,8 @@ fn are_same(a: &[CType], b: &[CType]) -> bool
     *a == *b
 }
 
-fn is_same_signature(a: &FunctionType, b: &FunctionType) -> bool
+/// Whether two functions have the same type.
+pub fn is_same_signature(a: &FunctionType, b: &FunctionType) -> bool
     ensures { (s t : List ℕ) → result ≡ rule.is_same_signature (seen.signature s a.now) (seen.signature t b.now) }
 {
     (a.result == b.result) & are_same(&a.params, &b.params)

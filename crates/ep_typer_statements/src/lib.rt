@@ -7,4 +7,5 @@ mod scoping;
 mod simple;
 mod walk;
 
+pub use nodes::order_of;
 pub use walk::parts;

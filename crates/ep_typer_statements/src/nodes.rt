@@ -43,7 +43,8 @@ pub(crate) fn scoped(blocks: Vec<u32>, body: Vec<Stmt>) -> What
     What::Scope(blocks, body)
 }
 
-fn order_of(order: NamedOrder) -> Order
+/// The byte order of a name in a conditional.
+pub fn order_of(order: NamedOrder) -> Order
     ensures { result ≡ rule.order_of order }
 {
     match order {
