@@ -8,6 +8,7 @@ ghost use Rattle.ep_defined.specs.Seen as shown;
 ghost use Rattle.ep_elaboration.specs.Functions.{numbers_of};
 ghost use Rattle.ep_elaboration.specs.Programs as rule;
 ghost use Rattle.ep_scopes.specs.Known.{IsKnownEnv};
+ghost use Rattle.ep_typer_arms.specs.Behind.{IsBehind};
 ghost use Rattle.ep_typer_functions.specs.Seen.{AreDone};
 
 use crate::kept::{add_function, add_functions, add_values, functions_in};
@@ -95,6 +96,7 @@ fn defines_by_order(
     then: &[FunctionTree],
     otherwise: &[FunctionTree],
 ) -> Result<(), Halt>
+    requires behind { IsBehind (shown.sofar sofar.old) }
     requires known { IsKnownEnv (shown.sofar sofar.old).env }
     requires done { AreDone done.old (numbers_of (shown.sofar sofar.old).defined) }
     ensures means { (arm : Option (List tree_of.Function))
@@ -110,8 +112,9 @@ fn defines_by_order(
     Ok(())
 }
 
-/// An item, behind those before it.
+/// An item, behind those of its text before it.
 pub fn item(sofar: &mut Sofar, done: &mut Done, tree: &ItemTree) -> Result<(), Halt>
+    requires behind { IsBehind (shown.sofar sofar.old) }
     requires known { IsKnownEnv (shown.sofar sofar.old).env }
     requires done { AreDone done.old (numbers_of (shown.sofar sofar.old).defined) }
     ensures means { Adds (rule.item (shown.sofar sofar.old) (tree_of.item_of tree.now)) (shown.sofar sofar.new) result }
@@ -147,13 +150,15 @@ pub fn item(sofar: &mut Sofar, done: &mut Done, tree: &ItemTree) -> Result<(), H
     }
 }
 
-/// Items one after another.
+/// Items one after another, behind those of their text before them.
 #[tactic(auto, unfolding(ep_elaboration::specs::Programs::items))]
 pub fn items(sofar: &mut Sofar, done: &mut Done, list: &[ItemTree]) -> Result<(), Halt>
+    requires behind { IsBehind (shown.sofar sofar.old) }
     requires known { IsKnownEnv (shown.sofar sofar.old).env }
     requires done { AreDone done.old (numbers_of (shown.sofar sofar.old).defined) }
     ensures means { Adds (rule.items (shown.sofar sofar.old) (map tree_of.item_of list.now)) (shown.sofar sofar.new)
         result }
+    ensures behind { OnOk result (IsBehind (shown.sofar sofar.new)) }
     ensures known { OnOk result (IsKnownEnv (shown.sofar sofar.new).env) }
     ensures done { OnOk result (AreDone done.new (numbers_of (shown.sofar sofar.new).defined)) }
 {

@@ -4,12 +4,14 @@ use Rattle.ep_defined.specs.Seen.{sofar}
 use Rattle.ep_elaboration.specs.Functions.{numbers_of}
 use Rattle.ep_elaboration.specs.Programs.{items}
 use Rattle.ep_scopes.specs.Known.{IsKnownEnv}
+use Rattle.ep_typer_arms.specs.Behind.{IsBehind}
 use Rattle.ep_typer_functions.specs.Seen.{AreDone}
 use Rattle.ep_typer_items.proofs.walk.items.Given as goal
 
 abbrev pub invariant-loop-tree : goal.invariant-loop-tree
 invariant-loop-tree l = record {
   known : IsKnownEnv (sofar l.sofar).env;
+  behind : IsBehind (sofar l.sofar);
   done : AreDone l.done (numbers_of (sofar l.sofar).defined);
   means : items (sofar l.sofar) (map item_of (drop l.tree-index l.list)) ≡ items (sofar l.fn.sofar) (map item_of l.list);
 }

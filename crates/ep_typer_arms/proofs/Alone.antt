@@ -1,0 +1,102 @@
+-- Heads where they stand by themselves.
+use Rattle.std.proofs.Common.{◌≡◌, ℕ, Bool, true, false, cond, List, length, Option, Some, None, Result, Ok, Err, refl, sym, ap, ◌∙◌, subst}
+use Rattle.ep_ast.specs.declared.refusals.Refusal.{Refusal}
+use Rattle.ep_ast.specs.declared.refusals.Halt.{Halt}
+use Rattle.ep_ast.specs.declared.refusals.Halt.TheVariants as halts
+use Rattle.ep_ast.specs.Declaration.{Head}
+use Rattle.ep_layout.specs.Table.{Table}
+use Rattle.ep_typing.specs.Env.{Env, Meaning, Signature, entry}
+use Rattle.ep_typing.specs.Results.{◌>>=◌, at}
+use Rattle.ep_operands.specs.Gives.{Stops}
+use Rattle.ep_elaboration.specs.Declarators.{with_types}
+use Rattle.ep_elaboration.specs.Functions.{Headed, are_alike, are_typed_alike, file_names, fits_main, function_declared, headed, is_alike, named_function, number_of_function, numbered_function, signature_of, stands_against, stands_alone}
+use Rattle.ep_elaboration.specs.Statements.{left}
+use Rattle.ep_typing_laws.proofs.Order.{at_ok}
+
+-- ---- a function that is declared brings no types
+
+numbered_types : (G : Env) (s : Signature) (o : Option ℕ) → (numbered_function G s o).1.types ≡ G.types
+numbered_types G s (Some n) = refl
+numbered_types G s None = refl
+
+named_types : (s : Signature) (o : Option Meaning) (r : ℕ × Env) → (named_function s o r).1.types ≡ r.1.types
+named_types s (Some m) r = refl
+named_types s None r = refl
+
+declared_by : (a b : Bool) (x p : ℕ × Env)
+    → ◌≡◌ {A = Result (ℕ × Env) ℕ} (cond a (Err 31) (cond b (Ok x) (Err 32))) (Ok p) → x ≡ p
+declared_by true b x p e = absurd cc
+declared_by false true x p e = let same : x ≡ p = cc in same
+declared_by false false x p e = absurd cc
+
+declared_types : (G : Env) (ds : List ℕ) (b : Bool) (s : Signature) (p : ℕ × Env) → function_declared G ds b s ≡ Ok p
+    → p.1.types ≡ G.types
+unfolding function_declared
+declared_types G ds b s p e =
+    let m : Option Meaning = entry s.name (file_names G) in
+    let r : ℕ × Env = numbered_function G s (number_of_function G.functions s.name) in
+    let same : named_function s m r ≡ p =
+    declared_by (stands_against G ds b s m) (fits_main s) (named_function s m r) p e in
+    sym (ap (λ (q : ℕ × Env). q.1.types) same) ∙ named_types s m r
+    ∙ numbered_types G s (number_of_function G.functions s.name)
+
+-- ---- a head from its parts
+
+module _ (G : Env) (ds : List ℕ) (h : Head) (b : ℕ) (first : b ≡ length G.blocks) where
+  abbrev ended : Headed × Env → Result (Headed × Env) Refusal
+  ended r = at h.line (function_declared (left r.1) ds true (signature_of h r.0))
+      >>= (λ (n : ℕ × Env). Ok (r.0, with_types G r.1.types))
+
+  at_first : stands_alone G ds h ≡ (headed G b h >>= ended)
+  at_first = ap (λ (k : ℕ). headed G k h >>= ended) (sym first)
+
+  pub head_stops : (e : Halt) → Stops (headed G b h) e → Stops (stands_alone G ds h) e
+  head_stops halts.Memory k = tt
+  head_stops (halts.Refused r) k = at_first ∙ ap (λ (o : Result (Headed × Env) Refusal). o >>= ended) k
+
+  module _ (r : Headed) (E L : Env) (m : headed G b h ≡ Ok (r, E)) (out : L ≡ left E) where
+    abbrev kept : Result (ℕ × Env) Refusal → Result (Headed × Env) Refusal
+    kept o = o >>= (λ (n : ℕ × Env). Ok (r, with_types G E.types))
+
+    behind_head : stands_alone G ds h ≡ kept (at h.line (function_declared L ds true (signature_of h r)))
+    behind_head =
+        at_first ∙ ap (λ (o : Result (Headed × Env) Refusal). o >>= ended) m
+        ∙ sym (ap (λ (K : Env). kept (at h.line (function_declared K ds true (signature_of h r)))) out)
+
+    pub name_stops : (e : Halt) → Stops (at h.line (function_declared L ds true (signature_of h r))) e
+        → Stops (stands_alone G ds h) e
+    name_stops halts.Memory k = tt
+    name_stops (halts.Refused s) k = behind_head ∙ ap kept k
+
+    pub alone_is : (n : ℕ) (F : Env) → at h.line (function_declared L ds true (signature_of h r)) ≡ Ok (n, F)
+        → stands_alone G ds h ≡ Ok (r, with_types G F.types)
+    alone_is n F k =
+        let same : F.types ≡ E.types =
+        declared_types L ds true (signature_of h r) (n, F)
+        (at_ok h.line (function_declared L ds true (signature_of h r)) (n, F) k) ∙ ap (λ (K : Env). K.types) out in
+        behind_head ∙ ap kept k ∙ ap (λ (t : Table). Ok (r, with_types G t)) (sym same)
+
+-- ---- two heads
+
+pub first_refused : (G K : Env) (ds : List ℕ) (h k : Head) (e : Halt) (r : Refusal) → K ≡ G → e ≡ halts.Refused r
+    → Stops (stands_alone K ds h) e → true ≡ are_alike G ds h k
+unfolding are_alike
+first_refused G K ds h k e r same is stop =
+    let refused : stands_alone K ds h ≡ Err r = subst (Stops (stands_alone K ds h)) is stop in
+    sym (ap (λ (o : Result (Headed × Env) Refusal). are_typed_alike G ds h o k) refused)
+    ∙ ap (λ (E : Env). are_typed_alike G ds h (stands_alone E ds h) k) same
+
+pub in_copy : (G K : Env) (ds : List ℕ) (h : Head) (r : Headed) (t : Table) → K ≡ G
+    → stands_alone K ds h ≡ Ok (r, with_types K t) → stands_alone G ds h ≡ Ok (r, with_types G t)
+in_copy G K ds h r t same e = subst (λ (E : Env). stands_alone E ds h ≡ Ok (r, with_types E t)) same e
+
+pub compared : (G T : Env) (ds : List ℕ) (h k : Head) (r : Headed) (u : Table) → stands_alone G ds h ≡ Ok (r, with_types G u)
+    → T ≡ with_types G u → is_alike h (r, G) k (stands_alone T ds k) ≡ are_alike G ds h k
+unfolding are_alike
+compared G T ds h k r u e t =
+    ap (λ (K : Env). is_alike h (r, G) k (stands_alone K ds k)) t ∙ by (stands_alone (with_types G u) ds k)
+    ∙ sym (ap (λ (o : Result (Headed × Env) Refusal). are_typed_alike G ds h o k) e)
+  where
+    by : (o : Result (Headed × Env) Refusal) → is_alike h (r, G) k o ≡ is_alike h (r, with_types G u) k o
+    by (Ok q) = refl
+    by (Err s) = refl

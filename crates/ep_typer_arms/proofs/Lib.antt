@@ -1,0 +1,7 @@
+pub mod Pairs
+pub mod PairedHeads
+pub mod Alone
+pub mod Grown
+pub mod Gathering
+pub mod Both
+pub mod WholeArms

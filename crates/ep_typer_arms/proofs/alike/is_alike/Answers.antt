@@ -1,0 +1,10 @@
+use Rattle.std.proofs.Common.{sym, ap, ◌∙◌}
+use Rattle.ep_ast.specs.Declaration.{head_of}
+use Rattle.ep_elaboration.specs.Functions.{is_alike}
+use Rattle.ep_typer_functions.specs.Seen.{headed}
+use Rattle.ep_typer_arms.proofs.alike.is_alike.Goals as goal
+
+pub returns-in-Ok : goal.returns-in-Ok
+returns-in-Ok c ds done h G =
+    c.is_same_type.ensures h.name (head_of c.args.second.now).name
+    ∙ sym (ap (is_alike h (headed c.args.ty.now, G) (head_of c.args.second.now)) (c.in-Ok.ensures ds done))

@@ -1,0 +1,119 @@
+//! The functions of two arms.
+
+ghost use Rattle.std.specs.Prelude.{◌≡◌, ℕ, List, drop, map, OnOk};
+ghost use Rattle.ep_ast.specs.Statement.{function_of};
+ghost use Rattle.ep_declared.specs.Gives.{GivesIn};
+ghost use Rattle.ep_defined.specs.Seen.{defined as seen_defined};
+ghost use Rattle.ep_elaboration.specs.Functions as rule;
+ghost use Rattle.ep_scopes.specs.Known.{IsKnownEnv};
+ghost use Rattle.ep_scopes.specs.Seen.{env as around};
+ghost use Rattle.ep_typer_arms.specs.Behind.{IsFileEnv, first_arm};
+ghost use Rattle.ep_typer_bodies.specs.Seen as bodies;
+ghost use Rattle.ep_typer_functions.specs.Seen.{AreDone};
+
+use crate::alike::arms_agree;
+use crate::joining::all_joined;
+use ep_ast::{FunctionTree, Halt, NamedOrder};
+use ep_defined::Defined;
+use ep_operands::kinds::refused;
+use ep_scopes::Env;
+use ep_typer_bodies::{Body, function_defined, function_typed};
+use ep_typer_functions::Done;
+
+/// Arms that don't define the same functions.
+const UNLIKE_ARMS: u8 = 38;
+
+// The functions of the first arm.
+fn functions_defined(
+    env: &mut Env,
+    done: &Done,
+    list: &[FunctionTree],
+) -> Result<Vec<Defined>, Halt>
+    requires { IsKnownEnv (around env.old) }
+    ensures means { (ds : List ℕ) → AreDone done.now ds → GivesIn (λ v. map seen_defined v.items)
+        (rule.functions_defined (around env.old) ds (map function_of list.now)) (around env.new) result }
+    ensures known { OnOk result (IsKnownEnv (around env.new)) }
+{
+    let mut marked = done.copy(env.alloc)?;
+    let mut all = Vec::new(env.alloc);
+    for tree in list {
+        let one = function_defined(env, &marked, tree)?;
+        marked.add(one.number)?;
+        all.push(one)?;
+    }
+    Ok(all)
+}
+
+// The same with the scopes that were there before.
+fn first_defined(env: &mut Env, done: &Done, list: &[FunctionTree]) -> Result<Vec<Defined>, Halt>
+    requires known { IsKnownEnv (around env.old) }
+    requires file { IsFileEnv (around env.old) }
+    ensures means { (ds : List ℕ) → AreDone done.now ds → GivesIn (λ v. map seen_defined v.items)
+        (first_arm (around env.old) ds (map function_of list.now)) (around env.new) result }
+    ensures known { OnOk result (IsKnownEnv (around env.new)) }
+{
+    let before = env.scopes.copy()?;
+    let all = functions_defined(env, done, list)?;
+    env.scopes = before;
+    Ok(all)
+}
+
+// The first block of a function of the first arm, or 0 where there is none.
+fn first_block(defined: &[Defined], place: usize) -> u32
+    ensures { result ≡ rule.first_block (map seen_defined (drop place defined.now)) }
+{
+    match defined.get(place) {
+        Some(one) => one.first,
+        None => 0,
+    }
+}
+
+// The bodies of the second arm, each over the blocks of the function that it stands for.
+fn others_typed(
+    env: &mut Env,
+    done: &Done,
+    defined: &[Defined],
+    list: &[FunctionTree],
+) -> Result<Vec<Body>, Halt>
+    requires { IsKnownEnv (around env.old) }
+    ensures means { (ds : List ℕ) → AreDone done.now ds → GivesIn (λ v. map bodies.body v.items)
+        (rule.others_typed (around env.old) ds (map seen_defined defined.now) (map function_of list.now))
+        (around env.new) result }
+    ensures known { OnOk result (IsKnownEnv (around env.new)) }
+{
+    let mut marked = done.copy(env.alloc)?;
+    let mut all = Vec::new(env.alloc);
+    for (place, tree) in list.iter().enumerate() {
+        let typed = function_typed(env, first_block(defined, place), false, &marked, tree)?;
+        marked.add(typed.number)?;
+        all.push(typed.body)?;
+    }
+    Ok(all)
+}
+
+/// The functions of two arms by byte order, each pair as one function. The environment has to be that of a text's
+/// items so far, since the scopes that stood before the first arm come back behind it.
+pub fn arms_defined(
+    env: &mut Env,
+    done: &Done,
+    line: u32,
+    order: NamedOrder,
+    first: &[FunctionTree],
+    second: &[FunctionTree],
+) -> Result<Vec<Defined>, Halt>
+    requires known { IsKnownEnv (around env.old) }
+    requires file { IsFileEnv (around env.old) }
+    ensures means { (ds : List ℕ) → AreDone done.now ds
+        → GivesIn (λ v. map seen_defined v.items) (rule.arms_defined (around env.old) ds line order
+        (map function_of first.now) (map function_of second.now)) (around env.new) result }
+    ensures known { OnOk result (IsKnownEnv (around env.new)) }
+{
+    let agree = arms_agree(env, done, first, second)?;
+    if !agree {
+        return Err(refused(UNLIKE_ARMS, line));
+    }
+    let defined = first_defined(env, done, first)?;
+    let bodies = others_typed(env, done, &defined, second)?;
+    let all = all_joined(env.alloc, line, order, first, defined, bodies)?;
+    Ok(all)
+}
