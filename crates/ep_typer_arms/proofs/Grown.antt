@@ -1,5 +1,5 @@
 -- Names go on to have their types while a text's types grow.
-use Rattle.std.proofs.Common.{◌≡◌, ℕ, List, [], ◌∷◌, length, Ok, subst}
+use Rattle.std.proofs.Common.{◌≡◌, ℕ, true, List, [], ◌∷◌, length, Ok, subst}
 use Rattle.ep_ast.specs.Declaration.{Head}
 use Rattle.ep_ast.specs.Statement.{Function}
 use Rattle.ep_layout.specs.Table.{Grows, Table}
