@@ -1,6 +1,6 @@
 //! Whether two arms define the same functions.
 
-ghost use Rattle.std.specs.Prelude.{◌≡◌, ◌&&◌, ℕ, List, length, map, IfOk};
+ghost use Rattle.std.specs.Prelude.{◌≡◌, ◌&&◌, ℕ, List, map, IfOk};
 ghost use Rattle.ep_ast.specs.Declaration.{Head, head_of};
 ghost use Rattle.ep_ast.specs.Statement.{function_of};
 ghost use Rattle.ep_typing.specs.Env.{Env as Around};
@@ -10,36 +10,15 @@ ghost use Rattle.ep_elaboration.specs.Functions as rule;
 ghost use Rattle.ep_scopes.specs.Known.{IsKnownEnv};
 ghost use Rattle.ep_scopes.specs.Seen.{env as around};
 ghost use Rattle.ep_typer_arms.specs.Behind.{IsFileEnv};
-ghost use Rattle.ep_typer_functions.specs.Seen.{AreDone, headed as seen_headed, signature as seen_signature};
+ghost use Rattle.ep_typer_functions.specs.Seen.{AreDone, headed as seen_headed};
 
 use crate::heads::are_named_alike;
 use ep_ast::{FunctionTree, Halt, HeadTree};
 use ep_int::Memory;
 use ep_layout::Types;
 use ep_scopes::{Env, FunctionType};
-use ep_typer_functions::{Done, function_declared, headed};
-use ep_typing::CType;
-
-fn next_block(env: &Env) -> Result<u32, Memory>
-    ensures { IfOk result (λ n. n ≡ length (around env.now).blocks) }
-{
-    match u32::try_from(env.blocks.len()) {
-        Ok(n) => Ok(n),
-        Err(_) => Err(Memory),
-    }
-}
-
-fn are_same(a: &[CType], b: &[CType]) -> bool
-    ensures { result ≡ rule.are_same a.now b.now }
-{
-    *a == *b
-}
-
-fn is_same_type(a: &FunctionType, b: &FunctionType) -> bool
-    ensures { (s t : List ℕ) → result ≡ rule.is_same_signature (seen_signature s a.now) (seen_signature t b.now) }
-{
-    (a.result == b.result) & are_same(&a.params, &b.params)
-}
+use ep_typer_bodies::next_block;
+use ep_typer_functions::{Done, function_declared, headed, is_same_signature};
 
 // The type of a function by its head alone. Only the types of the environment stay as they are then.
 fn stands_alone(env: &mut Env, done: &Done, head: &HeadTree) -> Result<FunctionType, Halt>
@@ -77,7 +56,7 @@ fn is_alike(
         (rule.stands_alone (around env.old) ds (head_of second.now))) }
 {
     match stands_alone(env, done, second) {
-        Ok(other) => Ok(is_same_type(ty, &other)),
+        Ok(other) => Ok(is_same_signature(ty, &other)),
         Err(stop) => match stop {
             Halt::Refused(_) => Ok(true),
             Halt::Memory => Err(Memory),

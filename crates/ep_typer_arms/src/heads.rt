@@ -5,19 +5,8 @@ ghost use Rattle.std.specs.Option.{option_map};
 ghost use Rattle.ep_ast.specs.Declaration as shape;
 ghost use Rattle.ep_elaboration.specs.Functions as rule;
 
-use ep_ast::{HeadTree, ParamTree, ParamsTree};
-
-fn params_of(params: &Option<ParamsTree>) -> &[ParamTree]
-    ensures { map shape.param_of result.now ≡ rule.params_of (option_map shape.params_of params.now) }
-{
-    match params {
-        None => &[],
-        Some(list) => match list {
-            ParamsTree::Void(_) => &[],
-            ParamsTree::List(_, all) => all,
-        },
-    }
-}
+use ep_ast::{HeadTree, ParamTree};
+use ep_typer_functions::params_of;
 
 fn is_same_text(a: &Option<Vec<u8>>, b: &Option<Vec<u8>>) -> bool
     ensures { result ≡ rule.is_same_text (option_map shape.text_of a.now) (option_map shape.text_of b.now) }

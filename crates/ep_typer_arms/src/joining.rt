@@ -13,18 +13,9 @@ use ep_ast::{FunctionTree, NamedOrder};
 use ep_core::program::Function;
 use ep_core::tree::{Stmt, What};
 use ep_defined::Defined;
-use ep_int::Order;
 use ep_typer_bodies::Body;
+use ep_typer_statements::order_of;
 use std::alloc::{AllocError, Global};
-
-fn order_of(order: NamedOrder) -> Order
-    ensures { result ≡ order_of order }
-{
-    match order {
-        NamedOrder::Little => Order::Little,
-        NamedOrder::Big => Order::Big,
-    }
-}
 
 fn by_order(order: NamedOrder, then: Vec<Stmt>, otherwise: Vec<Stmt>) -> What
     ensures { shown_what result

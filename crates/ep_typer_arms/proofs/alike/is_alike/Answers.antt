@@ -6,5 +6,5 @@ use Rattle.ep_typer_arms.proofs.alike.is_alike.Goals as goal
 
 pub returns-in-Ok : goal.returns-in-Ok
 returns-in-Ok c ds done h G =
-    c.is_same_type.ensures h.name (head_of c.args.second.now).name
+    c.is_same_signature.ensures h.name (head_of c.args.second.now).name
     ∙ sym (ap (is_alike h (headed c.args.ty.now, G) (head_of c.args.second.now)) (c.in-Ok.ensures ds done))
