@@ -50,10 +50,6 @@ module _ (G : Env) (ds : List ℕ) (h : Head) (b : ℕ) (first : b ≡ length G.
   at_first : stands_alone G ds h ≡ (headed G b h >>= ended)
   at_first = ap (λ (k : ℕ). headed G k h >>= ended) (sym first)
 
-  pub head_stops : (e : Halt) → Stops (headed G b h) e → Stops (stands_alone G ds h) e
-  head_stops halts.Memory k = tt
-  head_stops (halts.Refused r) k = at_first ∙ ap (λ (o : Result (Headed × Env) Refusal). o >>= ended) k
-
   module _ (r : Headed) (E L : Env) (m : headed G b h ≡ Ok (r, E)) (out : L ≡ left E) where
     abbrev kept : Result (ℕ × Env) Refusal → Result (Headed × Env) Refusal
     kept o = o >>= (λ (n : ℕ × Env). Ok (r, with_types G E.types))
@@ -62,11 +58,6 @@ module _ (G : Env) (ds : List ℕ) (h : Head) (b : ℕ) (first : b ≡ length G.
     behind_head =
         at_first ∙ ap (λ (o : Result (Headed × Env) Refusal). o >>= ended) m
         ∙ sym (ap (λ (K : Env). kept (at h.line (function_declared K ds true (signature_of h r)))) out)
-
-    pub name_stops : (e : Halt) → Stops (at h.line (function_declared L ds true (signature_of h r))) e
-        → Stops (stands_alone G ds h) e
-    name_stops halts.Memory k = tt
-    name_stops (halts.Refused s) k = behind_head ∙ ap kept k
 
     pub alone_is : (n : ℕ) (F : Env) → at h.line (function_declared L ds true (signature_of h r)) ≡ Ok (n, F)
         → stands_alone G ds h ≡ Ok (r, with_types G F.types)

@@ -3,5 +3,4 @@ pub mod PairedHeads
 pub mod Alone
 pub mod Grown
 pub mod Gathering
-pub mod Both
 pub mod WholeArms

@@ -20,7 +20,7 @@ use ep_scopes::{Env, FunctionType};
 use ep_typer_bodies::next_block;
 use ep_typer_functions::{Done, function_declared, headed, is_same_signature};
 
-// The type of a function by its head alone. Only the types of the environment stay as they are then.
+// The type of a function by its head alone. Of what this leaves in the environment only the types are of use.
 fn stands_alone(env: &mut Env, done: &Done, head: &HeadTree) -> Result<FunctionType, Halt>
     requires { IsKnownEnv (around env.old) }
     ensures { (ds : List ℕ) → AreDone done.now ds

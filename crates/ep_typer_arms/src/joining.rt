@@ -6,7 +6,7 @@ ghost use Rattle.ep_core.specs.Program as core;
 ghost use Rattle.ep_core.specs.View.{shown_stmts, shown_what};
 ghost use Rattle.ep_defined.specs.Seen.{defined as seen_defined};
 ghost use Rattle.ep_elaboration.specs.Functions as rule;
-ghost use Rattle.ep_elaboration.specs.Statements.{order_of};
+ghost use Rattle.ep_elaboration.specs.Statements as statements;
 ghost use Rattle.ep_typer_bodies.specs.Seen as seen;
 
 use ep_ast::{FunctionTree, NamedOrder};
@@ -19,7 +19,7 @@ use std::alloc::{AllocError, Global};
 
 fn by_order(order: NamedOrder, then: Vec<Stmt>, otherwise: Vec<Stmt>) -> What
     ensures { shown_what result
-        ≡ core.by_order (order_of order) (shown_stmts then.items) (shown_stmts otherwise.items) }
+        ≡ core.by_order (statements.order_of order) (shown_stmts then.items) (shown_stmts otherwise.items) }
 {
     What::ByOrder(order_of(order), then, otherwise)
 }

@@ -1,4 +1,4 @@
-use Rattle.std.proofs.Common.{◌≡◌, ◌∙◌, ap, List, map, sym, subst, Ok}
+use Rattle.std.proofs.Common.{◌≡◌, ◌∙◌, List, map, sym, subst, Ok}
 use Rattle.std.proofs.lemmas.Result.{err_from_is_err_and}
 use Rattle.ep_ast.specs.Statement.{function_of}
 use Rattle.ep_defined.specs.declared.sofar.Defined.{Defined}

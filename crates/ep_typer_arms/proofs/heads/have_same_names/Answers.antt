@@ -1,4 +1,4 @@
-use Rattle.std.proofs.Common.{List, Bool, map, refl}
+use Rattle.std.proofs.Common.{List, map, refl}
 use Rattle.ep_ast.specs.declared.declarations.ParamTree.{ParamTree}
 use Rattle.ep_ast.specs.Declaration.{param_of}
 use Rattle.ep_elaboration.specs.Functions.{have_same_names, is_same_text}

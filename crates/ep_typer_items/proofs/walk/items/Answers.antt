@@ -1,4 +1,4 @@
-use Rattle.std.proofs.Common.{arith, rules}
+use Rattle.std.proofs.Common.{arith}
 use Rattle.std.proofs.lemmas.Grind.{common_steps}
 use Rattle.ep_ast.specs.Statement.{item_of}
 use Rattle.ep_defined.specs.Seen.{sofar}
