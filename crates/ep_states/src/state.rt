@@ -54,25 +54,6 @@ impl<N> std::marker::Model for State<N> {
     ghost invariant = { λ s. AreKept s.model s.parts.items s.uses.items };
 }
 
-fn made<N: Num>(
-    alloc: Global,
-    orders: (Order, Order),
-    model: Model,
-    cells: Vec<Cell<N>>,
-) -> Result<State<N>, Memory>
-    requires { AreCells model cells.items }
-    ensures { IfOk result (λ s. s ≡ record { orders = orders; model = model; cells = cells.items }) }
-{
-    let uses = index(alloc, &cells)?;
-    let parts = spread(alloc, cells)?;
-    Ok(State {
-        orders,
-        model,
-        parts,
-        uses,
-    })
-}
-
 impl<N: Num> State<N> {
     /// Nothing is known. Takes no memory.
     pub fn empty(alloc: Global, orders: (Order, Order), model: Model) -> Self
@@ -84,6 +65,26 @@ impl<N: Num> State<N> {
             parts: Vec::new(alloc),
             uses: Vec::new(alloc),
         }
+    }
+
+    /// The state of cells that are in order. Costs a search for each of them and for each of their mentions.
+    pub fn with_cells(
+        alloc: Global,
+        orders: (Order, Order),
+        model: Model,
+        cells: Vec<Cell<N>>,
+    ) -> Result<State<N>, Memory>
+        requires { AreCells model cells.items }
+        ensures { IfOk result (λ s. s ≡ record { orders = orders; model = model; cells = cells.items }) }
+    {
+        let uses = index(alloc, &cells)?;
+        let parts = spread(alloc, cells)?;
+        Ok(State {
+            orders,
+            model,
+            parts,
+            uses,
+        })
     }
 
     /// The state of these cells, in whatever order they are given. None where they are none of a state.
@@ -99,7 +100,7 @@ impl<N: Num> State<N> {
     {
         let cells = in_order(alloc, cells)?;
         if are_cells(model, &cells) {
-            Ok(Some(made(alloc, orders, model, cells)?))
+            Ok(Some(State::with_cells(alloc, orders, model, cells)?))
         } else {
             Ok(None)
         }
@@ -116,6 +117,11 @@ impl<N: Num> State<N> {
             parts: shared(alloc, &self.parts)?,
             uses: shared(alloc, &self.uses)?,
         })
+    }
+
+    /// The allocator of its parts.
+    pub fn allocator(&self) -> Global {
+        *self.parts.allocator()
     }
 
     /// The byte orders of the left and of the right memory.
@@ -300,11 +306,12 @@ impl<N: Num> State<N> {
         let before = self.cells()?;
         reshare_laws::<N>();
         let cells = reshared(alloc, before)?;
-        made(alloc, self.orders, self.model, cells)
+        State::with_cells(alloc, self.orders, self.model, cells)
     }
 
-    // Whether no Left cell is surely the same as a Right one, so that resharing leaves all cells as they are.
-    fn is_reshared(&self) -> Result<bool, Memory>
+    /// Whether no Left cell is surely the same as a Right one, so that resharing leaves all cells as they are. Takes
+    /// memory for the places of Left cells, and two searches for each.
+    pub fn is_reshared(&self) -> Result<bool, Memory>
         ensures { IfOk result (λ b. IsTrue b → self.now.cells ≡ reshared N.ops self.now.cells) }
     {
         let places = places(*self.parts.allocator(), &self.parts)?;

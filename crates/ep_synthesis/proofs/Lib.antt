@@ -1,7 +1,6 @@
-mod Bytes
+pub mod Bytes
 mod Splitting
-mod Local
 mod Unifying
 mod Crossing
-mod Partings
-mod Unifieds
+pub mod Partings
+pub mod Unifieds

@@ -38,7 +38,7 @@ uncrossed_known : {N : Type 0} (D : Ops N) (m : Machines) (us vs ys xs : List (C
     → uncrossed D (known m us) ys xs ≡ uncrossed D (known m vs) ys xs
 uncrossed_known D m us vs ys xs = crossed_known D m us vs (filter (is_crossed m.model ys) xs) xs
 
-pair_is : {N : Type 0} (a b c d : List (Cell N)) → a ≡ c → b ≡ d
+pub pair_is : {N : Type 0} (a b c d : List (Cell N)) → a ≡ c → b ≡ d
     → (let p : List (Cell N) × List (Cell N) = (a, b) in p) ≡ (c, d)
 pair_is {N = N} a b c d e f =
     ap (λ z. let p : List (Cell N) × List (Cell N) = (z, b) in p) e

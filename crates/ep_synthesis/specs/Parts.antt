@@ -8,12 +8,9 @@ use Rattle.ep_int.specs.Types.{bytes_of, size_of}
 use Rattle.ep_bitslice.specs.declared.segment.Segment.{Segment}
 use Rattle.ep_bitslice.specs.Segments.{width, form_of}
 use Rattle.ep_cells.specs.declared.cell.Cell.{Cell}
-use Rattle.ep_domain.specs.Domain.{Ops}
-use Rattle.ep_bitslice.specs.declared.cell.Side.{Side}
-use Rattle.ep_cells.specs.Look.{cell_at}
 use Rattle.ep_cells.specs.States.{Known, HasWidth}
 use Rattle.ep_reads.specs.declared.read.ReadValue.{ReadValue}
-use Rattle.ep_reads.specs.Read.{appended, bits_of_all, read}
+use Rattle.ep_reads.specs.Read.{appended, bits_of_all}
 use Rattle.ep_synthesis.specs.declared.machines.Machines.{Machines}
 
 -- what is known of the memories of two machines
@@ -44,10 +41,3 @@ form_with f rs = option_and_then form_of (appended f (bits_of_all rs))
 
 abbrev pub form_of_all : {N : Type 0} → List (ReadValue N) → Option (List Segment)
 form_of_all rs = option_and_then form_of (bits_of_all rs)
-
--- What is read of a scalar is the same of all cells of which each byte of the scalar has that cell.
-abbrev pub ReadsAs : {N : Type 0} → Ops N → Machines → Side → (block offset : ℕ) → Scalar → List (Cell N) → ReadValue N
-    → Type 0
-ReadsAs {N = N} D m s b q w cs r = (all : List (Cell N))
-    → ((p : ℕ) → q ≤ p → p < q + size_of m.model w → cell_at m.model s b p cs ≡ cell_at m.model s b p all)
-    → r ≡ read D (known m all) s b q w

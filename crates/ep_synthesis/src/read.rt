@@ -1,23 +1,17 @@
-//! What is read of a scalar on a side.
+//! What is read of a scalar: of one cell that has it, or from its bytes.
 
-ghost use Rattle.std.specs.Prelude.{◌≡◌, ◌<◌, ◌≤◌, ◌+◌, ◌^◌, ◌++◌, ◌∷◌, [], length, pos, IfOk, IfSome, IsTrue, None, Some};
+ghost use Rattle.std.specs.Prelude.{◌≡◌, ◌<◌, ◌≤◌, ◌^◌, length, pos, IfOk, IfSome, None, Some};
 ghost use Rattle.std.specs.List.{list_all, list_any};
 ghost use Rattle.std.specs.Option.{option_map, option_and_then};
-ghost use Rattle.ep_int.specs.Types.{size_of};
-ghost use Rattle.ep_int.specs.Encoding.{is_width, place as the_place};
 ghost use Rattle.ep_bitslice.specs.Segments.{width, concat_of, IsForm};
-ghost use Rattle.ep_cells.specs.States.{Each};
-ghost use Rattle.ep_cells.specs.Look.{cell_at, covers};
-ghost use Rattle.ep_reads.specs.Read.{is_same_sort, is_exact, converted, whole_read, byte_there, bytes_there, bytes_from, may_be_undefined, may_be_mixed, unsigned_of, weighted, plus, sum_after, sum_of, integer_read, is_zero_value, is_undefined_byte, pointer_read, read_from_bytes, read_in_parts, read};
+ghost use Rattle.ep_reads.specs.Read.{is_same_sort, is_exact, converted, whole_read, may_be_undefined, may_be_mixed, unsigned_of, weighted, plus, sum_after, sum_of, integer_read, is_zero_value, is_undefined_byte, pointer_read, read_from_bytes};
 ghost use Rattle.ep_int.specs.declared.types.IntType.TheVariants.{U8};
-ghost use Rattle.ep_synthesis.specs.Parts.{known, HasFittingForm, HaveByteForms, form_with, form_of_all, ReadsAs};
+ghost use Rattle.ep_synthesis.specs.Parts.{HaveByteForms, form_with, form_of_all};
 
-use crate::byte::{byte_of_cell, form_of_cell, order_on, unknown_byte};
-use crate::machines::Machines;
-use ep_bitslice::{Form, Side};
-use ep_cell_rows::places::is_same_side;
+use crate::byte::form_of_cell;
+use ep_bitslice::Form;
 use ep_cell_rows::values::{copy_form, copy_value};
-use ep_cells::{Cell, Place, Value};
+use ep_cells::{Cell, Value};
 use ep_domain::Num;
 use ep_int::{BinOp, IntType, Memory, Model, Scalar};
 use ep_pointers::PtrValue;
@@ -89,7 +83,8 @@ fn converted<N: Num>(what: Scalar, v: &Option<Value<N>>) -> Result<Option<Value<
     }
 }
 
-fn whole_read<N: Num>(what: Scalar, x: &Cell<N>) -> Result<ReadValue<N>, Memory>
+/// What is read of a scalar of which a cell has all, and nothing else.
+pub fn whole_read<N: Num>(what: Scalar, x: &Cell<N>) -> Result<ReadValue<N>, Memory>
     ensures { IfOk result (λ r. r ≡ whole_read N.ops what x.now) }
 {
     Ok(ReadValue {
@@ -101,82 +96,6 @@ fn whole_read<N: Num>(what: Scalar, x: &Cell<N>) -> Result<ReadValue<N>, Memory>
 }
 
 // ---- bytes
-
-// Whether a cell of that side, or a Shared one, has the byte.
-fn covers<N: Num>(model: Model, side: Side, block: u32, byte: u64, c: &Cell<N>) -> bool
-    ensures { result ≡ covers model side block byte c.now }
-{
-    (is_same_side(c.side, side) || is_same_side(c.side, Side::Shared))
-        && c.block == block
-        && u64::from(c.offset) <= byte
-        && byte < u64::from(c.offset) + u64::from(ep_int::size(model, c.what))
-}
-
-/// The cell of that side, or Shared, that has the byte.
-pub fn cell_at<N: Num>(
-    model: Model,
-    side: Side,
-    block: u32,
-    byte: u64,
-    cells: &[Cell<N>],
-) -> Option<&Cell<N>>
-    ensures { option_map (λ c. c.now) result ≡ cell_at model side block byte cells.now }
-{
-    for c in cells {
-        if covers(model, side, block, byte, c) {
-            return Some(c);
-        }
-    }
-    None
-}
-
-fn byte_there<N: Num>(
-    machines: Machines,
-    side: Side,
-    block: u32,
-    byte: u64,
-    cells: &[Cell<N>],
-) -> ReadValue<N>
-    requires { Each HasFittingForm cells.now }
-    ensures value { result ≡ byte_there N.ops (known machines cells.now) side block byte }
-    ensures form { HaveByteForms (result ∷ []) }
-{
-    match cell_at(machines.model, side, block, byte, cells) {
-        None => unknown_byte(),
-        Some(x) => byte_of_cell(
-            order_on(side, machines.orders),
-            x,
-            (byte - u64::from(x.offset)) as u32,
-        ),
-    }
-}
-
-fn push<N: Num>(out: &mut Vec<ReadValue<N>>, r: ReadValue<N>) -> Result<(), Memory>
-    ensures { IfOk result (λ _. out.new.items ≡ out.old.items ++ r ∷ []) }
-{
-    out.push(r).map_err(|_| Memory)
-}
-
-fn bytes_there<N: Num>(
-    alloc: Global,
-    machines: Machines,
-    p: Place,
-    cells: &[Cell<N>],
-) -> Result<Vec<ReadValue<N>>, Memory>
-    requires width { IsTrue (is_width p.bytes) }
-    requires forms { Each HasFittingForm cells.now }
-    ensures value { IfOk result (λ v. v.items
-        ≡ bytes_there N.ops (known machines cells.now) p.side p.block p.offset p.bytes) }
-    ensures forms { IfOk result (λ v. HaveByteForms v.items) }
-{
-    let mut out = Vec::new(alloc);
-    let order = order_on(p.side, machines.orders);
-    for i in 0..p.bytes {
-        let byte = u64::from(p.offset) + u64::from(ep_int::place(order, p.bytes, i));
-        push(&mut out, byte_there(machines, p.side, p.block, byte, cells))?;
-    }
-    Ok(out)
-}
 
 fn may_be_undefined<N: Num>(bytes: &[ReadValue<N>]) -> bool
     ensures { result ≡ may_be_undefined bytes.now }
@@ -447,7 +366,8 @@ fn pointer_read<N: Num>(alloc: Global, bytes: &[ReadValue<N>]) -> ReadValue<N>
 
 // ---- any scalar
 
-fn read_from_bytes<N: Num>(alloc: Global, what: Scalar, bytes: &[ReadValue<N>]) -> ReadValue<N>
+/// What is read of a scalar with these bytes, the lowest first.
+pub fn read_from_bytes<N: Num>(alloc: Global, what: Scalar, bytes: &[ReadValue<N>]) -> ReadValue<N>
     requires some { 0 < length bytes.now }
     requires few { length bytes.now ≤ 8 }
     requires forms { HaveByteForms bytes.now }
@@ -457,69 +377,4 @@ fn read_from_bytes<N: Num>(alloc: Global, what: Scalar, bytes: &[ReadValue<N>]) 
         Scalar::Int(t) => integer_read(t, bytes),
         Scalar::Pointer => pointer_read(alloc, bytes),
     }
-}
-
-fn read_in_parts<N: Num>(
-    alloc: Global,
-    machines: Machines,
-    p: Place,
-    what: Scalar,
-    cells: &[Cell<N>],
-) -> Result<ReadValue<N>, Memory>
-    requires size { p.bytes ≡ size_of machines.model what }
-    requires forms { Each HasFittingForm cells.now }
-    ensures { IfOk result (λ r. r
-        ≡ read_in_parts N.ops (known machines cells.now) p.side p.block p.offset what) }
-{
-    let bytes = bytes_there(alloc, machines, p, cells)?;
-    Ok(read_from_bytes(alloc, what, &bytes))
-}
-
-fn read_with<N: Num>(
-    alloc: Global,
-    machines: Machines,
-    p: Place,
-    what: Scalar,
-    cells: &[Cell<N>],
-) -> Result<ReadValue<N>, Memory>
-    requires size { p.bytes ≡ size_of machines.model what }
-    requires forms { Each HasFittingForm cells.now }
-    ensures { IfOk result (λ r. r ≡ read N.ops (known machines cells.now) p.side p.block p.offset what) }
-{
-    let Some(x) = cell_at(machines.model, p.side, p.block, u64::from(p.offset), cells) else {
-        let parts = read_in_parts(alloc, machines, p, what, cells)?;
-        return Ok(parts);
-    };
-    if is_exact(machines.model, what, p.offset, x) {
-        let whole = whole_read(what, x)?;
-        return Ok(whole);
-    }
-    let parts = read_in_parts(alloc, machines, p, what, cells)?;
-    Ok(parts)
-}
-
-/// What is read of a scalar on a side, Left or Right, from these cells. Those that have no byte of the scalar don't
-/// matter.
-pub fn read<N: Num>(
-    alloc: Global,
-    machines: Machines,
-    side: Side,
-    block: u32,
-    offset: u32,
-    what: Scalar,
-    cells: &[Cell<N>],
-) -> Result<ReadValue<N>, Memory>
-    requires { Each HasFittingForm cells.now }
-    ensures value { IfOk result (λ r. r ≡ read N.ops (known machines cells.now) side block offset what) }
-    ensures all { IfOk result (λ r. ReadsAs N.ops machines side block offset what cells.now r) }
-{
-    let bytes = ep_int::size(machines.model, what);
-    let place = Place {
-        side,
-        block,
-        offset,
-        bytes,
-    };
-    let value = read_with(alloc, machines, place, what, cells)?;
-    Ok(value)
 }

@@ -20,14 +20,15 @@ pub(crate) struct Setting {
     pub(crate) model: Model,
 }
 
-fn state(setting: Setting, words: &str) -> Option<State<Numbers>>
-    ensures { IfSome result (λ s. s.model ≡ setting.model) }
+pub(crate) fn state(setting: Setting, words: &str) -> Option<State<Numbers>>
+    ensures orders { IfSome result (λ s. s.orders ≡ setting.orders) }
+    ensures model { IfSome result (λ s. s.model ≡ setting.model) }
 {
     let cells = reading::cells(setting.alloc, words)?;
     State::of_cells(setting.alloc, setting.orders, setting.model, cells).ok()?
 }
 
-fn text(setting: Setting, state: &State<Numbers>) -> Option<String> {
+pub(crate) fn text(setting: Setting, state: &State<Numbers>) -> Option<String> {
     let cells = state.cells().ok()?;
     writing::cells(setting.alloc, &cells).ok()
 }

@@ -5,7 +5,7 @@ use ep_cells::{Cell, Value};
 use ep_domain::Num;
 use ep_int::{IntType, Scalar};
 use ep_pointers::PtrValue;
-use ep_synthesis::ReadValue;
+use ep_state_synthesis::ReadValue;
 use std::alloc::{AllocError, Global};
 
 fn side(side: Side) -> &'static str {

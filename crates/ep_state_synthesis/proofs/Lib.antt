@@ -1,0 +1,4 @@
+mod Bytes
+mod Splits
+mod Alike
+mod Unified

@@ -1,0 +1,61 @@
+//! Cells that lie partly in a place become cells of single bytes.
+
+ghost use Rattle.std.specs.Prelude.{◌≡◌, false, IfOk, OnOk, OnErr};
+ghost use Rattle.ep_cells.specs.Cells.{is_same_side};
+ghost use Rattle.ep_cells.specs.Look.{is_some_partly_in};
+ghost use Rattle.ep_reads.specs.Split.{split};
+ghost use Rattle.ep_split_laws.specs.Laws.{SplitHolds};
+ghost use Rattle.ep_state_synthesis.specs.Calls.{place_at};
+
+use crate::machines::machines_of;
+use ep_bitslice::Side;
+use ep_cells::Place;
+use ep_domain::Num;
+use ep_int::Memory;
+use ep_split_laws::split_laws;
+use ep_states::State;
+
+fn split_at<N: Num>(state: &State<N>, p: Place) -> Result<State<N>, Memory>
+    requires { is_same_side p.side Side.Shared ≡ false }
+    ensures { IfOk result (λ s. s ≡ record state.now { cells = split N.ops state.now p }) }
+{
+    split_laws::<N>();
+    let model = state.model();
+    let before = state.cells()?;
+    let after = ep_synthesis::split::split(state.allocator(), machines_of(state), p, &before)?;
+    let split = State::with_cells(state.allocator(), state.orders(), model, after)?;
+    Ok(split)
+}
+
+/// The cells that lie partly in a place of the left or of the right side become cells of single bytes, as much as is
+/// of that side. Costs a look at the cells by the place where none lies partly in it; else the state is made anew.
+pub fn split<N: Num>(
+    state: &mut State<N>,
+    side: Side,
+    block: u32,
+    offset: u32,
+    bytes: u32,
+) -> Result<(), Memory>
+    requires { is_same_side side Side.Shared ≡ false }
+    ensures ok { OnOk result (state.new
+        ≡ record state.old { cells = split N.ops state.old (place_at side block offset bytes) }) }
+    ensures none_cut { OnOk result (is_some_partly_in state.new.model (place_at side block offset bytes) state.new.cells
+        ≡ false) }
+    ensures holds { OnOk result (SplitHolds N.ops state.old (place_at side block offset bytes) state.new) }
+    ensures err { OnErr result (state.new ≡ state.old) }
+{
+    split_laws::<N>();
+    state.model();
+    let place = Place {
+        side,
+        block,
+        offset,
+        bytes,
+    };
+    if !state.partly(&place) {
+        return Ok(());
+    }
+    let after = split_at(state, place)?;
+    *state = after;
+    Ok(())
+}

@@ -1,0 +1,92 @@
+//! Two states come to have cells of the same sides, places and types.
+
+ghost use Rattle.std.specs.Prelude.{◌≡◌, IfOk, OnOk, OnErr, IsTrue};
+ghost use Rattle.ep_cells.specs.States.{HaveCellsAlike};
+ghost use Rattle.ep_reads.specs.Unify.{unified};
+ghost use Rattle.ep_state_synthesis.specs.Calls.{StaysIn};
+
+use crate::machines::machines_of;
+use ep_domain::Num;
+use ep_int::Memory;
+use ep_split_laws::unify_laws;
+use ep_states::State;
+use ep_synthesis::both::{Both, unified};
+
+// Whether both have cells alike of which none are to be reshared, so that they stay.
+fn are_unified<N: Num>(a: &State<N>, b: &State<N>) -> Result<bool, Memory>
+    requires { a.now.model ≡ b.now.model }
+    ensures { IfOk result (λ t. IsTrue t → unified N.ops a.now b.now ≡ (a.now.cells, b.now.cells)) }
+{
+    a.model();
+    b.model();
+    if !a.is_like(b)? {
+        return Ok(false);
+    }
+    if !a.is_reshared()? {
+        return Ok(false);
+    }
+    let is_so = b.is_reshared()?;
+    Ok(is_so)
+}
+
+#[derive(Drop)]
+struct States<N> {
+    left: State<N>,
+    right: State<N>,
+}
+
+fn unified_cells<N: Num>(a: &State<N>, b: &State<N>) -> Result<Both<N>, Memory>
+    requires orders { a.now.orders ≡ b.now.orders }
+    requires model { a.now.model ≡ b.now.model }
+    ensures left { IfOk result (λ p. p.left.items ≡ (unified N.ops a.now b.now).0) }
+    ensures right { IfOk result (λ p. p.right.items ≡ (unified N.ops a.now b.now).1) }
+{
+    a.model();
+    b.model();
+    let before = Both {
+        left: a.cells()?,
+        right: b.cells()?,
+    };
+    let after = unified(a.allocator(), machines_of(a), before)?;
+    Ok(after)
+}
+
+fn unified_states<N: Num>(a: &State<N>, b: &State<N>) -> Result<States<N>, Memory>
+    requires orders { a.now.orders ≡ b.now.orders }
+    requires model { a.now.model ≡ b.now.model }
+    ensures left { IfOk result (λ s. s.left ≡ record a.now { cells = (unified N.ops a.now b.now).0 }) }
+    ensures right { IfOk result (λ s. s.right ≡ record b.now { cells = (unified N.ops a.now b.now).1 }) }
+{
+    unify_laws::<N>();
+    a.model();
+    b.model();
+    let cells = unified_cells(a, b)?;
+    let left = State::with_cells(a.allocator(), a.orders(), a.model(), cells.left)?;
+    let right = State::with_cells(b.allocator(), b.orders(), b.model(), cells.right)?;
+    Ok(States { left, right })
+}
+
+/// Both come to have cells of the same sides, places and types. Looks at all cells where they have already and none
+/// are to be reshared, and then both stay. Else makes both anew, and compares each cell with all cells of the other.
+pub fn unify<N: Num>(a: &mut State<N>, b: &mut State<N>) -> Result<(), Memory>
+    requires orders { a.old.orders ≡ b.old.orders }
+    requires model { a.old.model ≡ b.old.model }
+    ensures first { OnOk result (a.new ≡ record a.old { cells = (unified N.ops a.old b.old).0 }) }
+    ensures second { OnOk result (b.new ≡ record b.old { cells = (unified N.ops a.old b.old).1 }) }
+    ensures alike { OnOk result (HaveCellsAlike a.new.cells b.new.cells) }
+    ensures first_holds { OnOk result (StaysIn N.ops a.old a.new) }
+    ensures second_holds { OnOk result (StaysIn N.ops b.old b.new) }
+    ensures first_err { OnErr result (a.new ≡ a.old) }
+    ensures second_err { OnErr result (b.new ≡ b.old) }
+{
+    unify_laws::<N>();
+    a.model();
+    b.model();
+    if are_unified(a, b)? {
+        return Ok(());
+    }
+    let after = unified_states(a, b)?;
+    *a = after.left;
+    *b = after.right;
+    Ok(())
+}
