@@ -1,7 +1,7 @@
 -- Two states with cells alike of which none are to be reshared stay as they are where they are unified.
 use Rattle.std.proofs.Common.{◌≡◌, ℕ, ◌+◌, Bool, true, false, ◌&&◌, ◌||◌, not, is_some, cond, List, [], ◌∷◌, ◌++◌, length, map, IfSome, Option, Some, None, refl, sym, ◌∙◌, ap, subst}
 use Rattle.std.specs.List.{list_any, filter}
-use Rattle.std.proofs.lemmas.Bool.{and_left, and_right, or_left, or_right, both_ways}
+use Rattle.std.proofs.lemmas.Bool.{and_right, or_left, or_right, both_ways}
 use Rattle.ep_int.specs.declared.types.Model.{Model}
 use Rattle.ep_int.specs.declared.types.Scalar.{Scalar}
 use Rattle.ep_int.specs.Types.{size_of}
@@ -20,9 +20,9 @@ use Rattle.ep_cells.specs.Both.{cell_like}
 use Rattle.ep_cells.specs.Reshare.{reshared}
 use Rattle.ep_cells.specs.States.{Known, IsFormOf, EachPair, AreApart, AreCells, AreAlike, HaveCellsAlike}
 use Rattle.ep_cells_laws.proofs.Places.{meets_sym}
-use Rattle.ep_cells_laws.proofs.Both.{OneOrder, one, left_first, right_first, one_order, alike_sym}
+use Rattle.ep_cells_laws.proofs.Both.{one, left_first, right_first, one_order, alike_sym}
 use Rattle.ep_reads.specs.Split.{is_name_of}
-use Rattle.ep_reads.specs.Unify.{is_of_one_side, faces, parted_times, parted_both, is_crossed, crossed_all, uncrossed, uncrossed_both, left_by_lack, fate_by_lack, had_by_both, had_both, unified}
+use Rattle.ep_reads.specs.Unify.{is_of_one_side, faces, parted_both, is_crossed, crossed_all, uncrossed, uncrossed_both, left_by_lack, fate_by_lack, had_by_both, had_both, unified}
 use Rattle.ep_split_laws.proofs.Sides.{same_itself, named_same}
 use Rattle.ep_states.proofs.Local.{same_reformed}
 use Rattle.ep_synthesis.proofs.Partings.{none_parted, times_same}

@@ -18,7 +18,6 @@ use Rattle.ep_cells.specs.declared.cell.Cell.{Cell}
 use Rattle.ep_cells.specs.declared.cell.Value.{Value}
 use Rattle.ep_cells.specs.declared.cell.Value.TheVariants.{Num, Ptr}
 use Rattle.ep_cells.specs.declared.place.Place.{Place}
-use Rattle.ep_cells.specs.Cells.{IsIn}
 use Rattle.ep_cells.specs.States.{Known, HasWidth, IsFormOf, AreCells}
 use Rattle.ep_cells.specs.Look.{cell_at}
 use Rattle.ep_reads.specs.declared.read.ReadValue.{ReadValue}

@@ -1,3 +1,5 @@
+//! The machines of a state.
+
 ghost use Rattle.std.specs.Prelude.{◌≡◌};
 ghost use Rattle.ep_state_synthesis.specs.Calls.{machines_of};
 

@@ -66,8 +66,9 @@ fn unified_states<N: Num>(a: &State<N>, b: &State<N>) -> Result<States<N>, Memor
     Ok(States { left, right })
 }
 
-/// Both come to have cells of the same sides, places and types. Looks at all cells where they have already and none
-/// are to be reshared, and then both stay. Else makes both anew, and compares each cell with all cells of the other.
+/// Both come to have cells of the same sides, places and types. Where they have already, and none are to be reshared,
+/// both stay, at the cost of a copy of all cells. Else both are made anew, and each cell is compared with all cells of
+/// the other.
 pub fn unify<N: Num>(a: &mut State<N>, b: &mut State<N>) -> Result<(), Memory>
     requires orders { a.old.orders ≡ b.old.orders }
     requires model { a.old.model ≡ b.old.model }

@@ -1,4 +1,4 @@
-use Rattle.std.proofs.Common.{◌∙◌, sym, subst, refl}
+use Rattle.std.proofs.Common.{◌∙◌, sym, subst}
 use Rattle.ep_cells.specs.States.{AreCells}
 use Rattle.ep_reads.specs.Split.{split}
 use Rattle.ep_synthesis.proofs.Unifieds.{all_sized}

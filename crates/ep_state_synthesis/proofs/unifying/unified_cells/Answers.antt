@@ -1,4 +1,3 @@
-use Rattle.std.proofs.Common.{◌∙◌, sym, ap}
 use Rattle.ep_reads.specs.Unify.{unified}
 use Rattle.ep_state_synthesis.proofs.Unified.{unified_is, first_is, second_is}
 use Rattle.ep_state_synthesis.proofs.unifying.unified_cells.Goals as goal
