@@ -1,0 +1,6 @@
+//! What `check` comes to on the bytes of a file.
+#![tactic(auto)]
+
+mod job;
+
+pub use job::check_job;

@@ -1,0 +1,2 @@
+//! Which core programs `check` analyses today, and as which small programs: definitions alone.
+#![tactic(auto)]

@@ -1,0 +1,31 @@
+//! Whole programs.
+
+ghost use Rattle.std.specs.Prelude.{◌≡◌, None, Some, IfOk, IfErr, OnOk};
+ghost use Rattle.ep_core.specs.Shown.{shown};
+ghost use Rattle.ep_small_core.specs.Shown as small;
+ghost use Rattle.ep_small_part.specs.Part.{small_program, first_unbuilt};
+ghost use Rattle.ep_small_program.specs.Answer.{IfUnbuilt};
+
+use ep_core::program::CoreProgram;
+use std::alloc::Global;
+
+/// Why there is no small program.
+#[derive(Clone, Copy, Debug, PartialEq, Eq)]
+pub enum PartStop {
+    /// The line of the first statement that isn't analysed yet.
+    Unbuilt(u32),
+    Memory,
+}
+
+/// The small program that a core program is, or the line of the first statement that isn't of this part.
+pub fn small_program(
+    alloc: Global,
+    p: &CoreProgram,
+) -> Result<ep_small_core::program::CoreProgram, PartStop>
+    ensures part { IfOk result (λ s. small_program (shown p.now) ≡ Some (small.shown s)) }
+    ensures built { OnOk result (first_unbuilt (shown p.now) ≡ None) }
+    ensures unbuilt { IfErr result (λ e. IfUnbuilt e (λ l. first_unbuilt (shown p.now) ≡ Some l)) }
+    ensures none { IfErr result (λ e. IfUnbuilt e (λ _. small_program (shown p.now) ≡ None)) }
+{
+    Err(PartStop::Memory)
+}
