@@ -27,12 +27,10 @@ abbrev pub report_status : List Alarm → Status
 report_status [] = Done
 report_status (a ∷ more) = Alarms
 
--- The text and the status of a report: the source means one program, which is a small one, and the text is the report
--- on that. Where it has no alarms the two machines agree on the program that the source means. Where they agree on a
--- program without operators, tests, loops and jumps, it has none.
-pub record Reports (m : Model) (source : List ℕ) (status : Status) (text : List ℕ) : Type 0 where
-  pub program : Program
-  pub means : MeansOnly m source program
+-- The text and the status of a report on a program, which is a small one: the report on that. Where it has no alarms the
+-- two machines agree on the program. Where they agree on a program without operators, tests, loops and jumps, it has
+-- none.
+pub record Reports (program : Program) (status : Status) (text : List ℕ) : Type 0 where
   pub part : small.Program
   pub part_is : small_program program ≡ Some part
   pub text_is : text ≡ report_text_of (alarms_of part)
@@ -45,24 +43,33 @@ pub record Reports (m : Model) (source : List ℕ) (status : Status) (text : Lis
 abbrev pub not_built : (line : ℕ) → Refusal
 not_built l = record { kind = 50; line = l; word = 0 }
 
--- The source means a program, and this is the line of its first statement that isn't analysed yet.
-pub record NotBuilt (m : Model) (source text : List ℕ) : Type 0 where
-  pub program : Program
-  pub means : MeansOnly m source program
+-- This is the line of the program's first statement that isn't analysed yet.
+pub record NotBuilt (program : Program) (text : List ℕ) : Type 0 where
   pub line : ℕ
   pub unbuilt : first_unbuilt program ≡ Some line
   pub text_is : text ≡ refusal_line (not_built line)
 
--- what `check` comes to
+-- what `check` comes to on a program
+abbrev pub IsChecked : Program → Status → (text : List ℕ) → Type 0
+IsChecked p Done text = Reports p Done text
+IsChecked p Alarms text = Reports p Alarms text
+IsChecked p Refused text = NotBuilt p text
+IsChecked p Usage text = ⊥
+IsChecked p ReadFault text = ⊥
+IsChecked p WriteFault text = ⊥
+IsChecked p Memory text = ⊥
+IsChecked p TooLong text = ⊥
+IsChecked p StepsUsedUp text = ⊥
+IsChecked p Undefined text = ⊥
+IsChecked p InputEnded text = ⊥
+
+-- what `check` comes to on a source that means one program
+pub record Checks (m : Model) (source : List ℕ) (status : Status) (text : List ℕ) : Type 0 where
+  pub program : Program
+  pub means : MeansOnly m source program
+  pub is_checked : IsChecked program status text
+
+-- what `check` comes to: only a refusal may be that of a source that means no program
 abbrev pub IsCheck : Model → (source : List ℕ) → Status → (text : List ℕ) → Type 0
-IsCheck m source Done text = Reports m source Done text
-IsCheck m source Alarms text = Reports m source Alarms text
-IsCheck m source Refused text = IsRefused m source text ⊎ NotBuilt m source text
-IsCheck m source Usage text = ⊥
-IsCheck m source ReadFault text = ⊥
-IsCheck m source WriteFault text = ⊥
-IsCheck m source Memory text = ⊥
-IsCheck m source TooLong text = ⊥
-IsCheck m source StepsUsedUp text = ⊥
-IsCheck m source Undefined text = ⊥
-IsCheck m source InputEnded text = ⊥
+IsCheck m source Refused text = IsRefused m source text ⊎ Checks m source Refused text
+IsCheck m source status text = Checks m source status text

@@ -35,8 +35,8 @@ pub struct RunAsked {
     pub steps: u64,
 }
 
-// The line of a refusal.
-fn refused(alloc: Global, refusal: &Refusal) -> Result<Job, Memory>
+/// The line of a refusal.
+pub fn refusal_job(alloc: Global, refusal: &Refusal) -> Result<Job, Memory>
     ensures status { IfOk result (λ j. j.status ≡ Status.Refused) }
     ensures text { IfOk result (λ j. j.text.items ≡ refusal_line refusal.now) }
 {
@@ -65,7 +65,7 @@ pub fn layout_job(alloc: Global, source: &[u8], model: Model) -> Result<Job, Mem
 {
     match read(alloc, source, model) {
         Ok(program) => layouts(&program),
-        Err(Halt::Refused(refusal)) => refused(alloc, &refusal),
+        Err(Halt::Refused(refusal)) => refusal_job(alloc, &refusal),
         Err(Halt::Memory) => Err(Memory),
     }
 }
@@ -107,7 +107,7 @@ pub fn run_job(alloc: Global, source: &[u8], asked: RunAsked, inputs: &[u64]) ->
 {
     match read(alloc, source, asked.model) {
         Ok(program) => run_of(alloc, &program, asked, inputs),
-        Err(Halt::Refused(refusal)) => refused(alloc, &refusal),
+        Err(Halt::Refused(refusal)) => refusal_job(alloc, &refusal),
         Err(Halt::Memory) => Err(Memory),
     }
 }

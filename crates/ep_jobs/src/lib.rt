@@ -4,5 +4,5 @@
 mod jobs;
 mod status;
 
-pub use jobs::{Job, RunAsked, layout_job, run_job};
+pub use jobs::{Job, RunAsked, layout_job, refusal_job, run_job};
 pub use status::Status;
