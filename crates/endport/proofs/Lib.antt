@@ -1,14 +1,1 @@
-pub mod Looks
-pub mod Cutting
-pub mod Numbers
-pub mod Listing
-pub mod Naming
-pub mod Phrases
-pub mod Starts
-pub mod Answering
-pub mod Inside
-pub mod Bodies
-pub mod Placing
-pub mod Forming
 pub mod Telling
-pub mod Rows

@@ -1,85 +1,32 @@
--- From what was read and reported to the text and the status.
-use Rattle.std.proofs.Common.{◌≡◌, refl, ap, ◌∙◌, ℕ, true, ◌⊎◌, inl, inr, List, [], ◌∷◌, ◌++◌, codes, decimal, Option, Some, None, IfSome, Result, Ok, Err, IfOk}
-use Rattle.endport.specs.declared.refusal.Refusal.{Refusal}
+-- From what was read and done to the text and the status.
+use Rattle.std.proofs.Common.{◌≡◌, refl, ℕ, ◌⊎◌, inl, inr, List, Option, Some, None, IfSome}
 use Rattle.ep_words.specs.Words.{Command, check, layout, run}
 use Rattle.ep_jobs.specs.declared.status.Status.{Status}
-use Rattle.ep_jobs.specs.declared.status.Status.TheVariants.{Done, Alarms, Refused, Usage, ReadFault, WriteFault, Memory, TooLong, StepsUsedUp, Undefined, InputEnded}
-use Rattle.ep_alarms.specs.declared.types.Alarm.{Alarm}
-use Rattle.ep_alarms.specs.Text.{report_text_of}
-use Rattle.ep_small_core.specs.Program.{Program}
-use Rattle.ep_small_core.specs.Agree.{Agree, AgreeAlong}
-use Rattle.ep_small_core.specs.WellFormed.{is_well_formed}
-use Rattle.ep_int.specs.declared.types.Order.TheVariants.{Little, Big}
-use Rattle.ep_small_iterator.specs.Straight.{is_straight}
-use Rattle.ep_small_iterator.proofs.Straight.{straight_complete}
+use Rattle.ep_jobs.specs.declared.status.Status.TheVariants.{Done, Alarms, Refused, Usage, ReadFault, WriteFault}
+use Rattle.ep_jobs.specs.declared.status.Status.TheVariants.{Memory, TooLong, StepsUsedUp, Undefined, InputEnded}
 use Rattle.ep_io.specs.Bytes.{Appended, FrontAppended}
 use Rattle.ep_io.specs.Faults.{Rose}
-use Rattle.endport.specs.Answers.{not_built}
-use Rattle.endport.specs.Form.{First}
-use Rattle.endport.specs.Top.{alarms_of, report_status, refusal_line, Reports, IsReport, IsJob, TextOf, Written, IsTooLong, StopsSo}
-
--- a report on the one program of the bytes
-pub record Read (bytes : List ℕ) (program : Program) : Type 0 where
-  pub form : First bytes program
-  pub only : (p : Program) → First bytes p → p ≡ program
-
-pub record Found (program : Program) (alarms : List Alarm) : Type 0 where
-  pub exact : alarms ≡ alarms_of program
-  pub sound : alarms ≡ [] → Agree program Little Big
-  pub complete : is_straight program ≡ true → Agree program Little Big → alarms ≡ []
-  pub interleaved : alarms ≡ [] → AgreeAlong program Little Big
-
--- a report that is exact is complete on straight-line programs
-pub complete_of : {R E : Type 0} (alarms : R → List Alarm) (p : Program) (r : Result R E) → is_well_formed p ≡ true → IfOk r (λ x. alarms x ≡ alarms_of p) → IfOk r (λ x. is_straight p ≡ true → Agree p Little Big → alarms x ≡ [])
-complete_of alarms p (Ok x) w e = λ s a. e ∙ straight_complete p w s 0 a
-complete_of alarms p (Err e) w f = tt
-
-none_is_done : (alarms : List Alarm) → report_status alarms ≡ Done → alarms ≡ []
-none_is_done [] e = refl
-none_is_done (a ∷ more) e = absurd cc
-
-reports : (bytes : List ℕ) (program : Program) (alarms : List Alarm) (text : List ℕ) → Read bytes program
-    → Found program alarms → text ≡ report_text_of alarms → Reports bytes (report_status alarms) text
-reports bytes program alarms text r f e = record {
-  program = program;
-  form = r.form;
-  only = r.only;
-  text_is = e ∙ ap report_text_of f.exact;
-  status_is = ap report_status f.exact;
-  portable = λ d. f.sound (none_is_done alarms d);
-  interleaved = λ d. f.interleaved (none_is_done alarms d);
-  complete = λ s a. ap report_status (f.complete s a);
-}
-
-pub job_of : (bytes : List ℕ) (program : Program) (alarms : List Alarm) (text : List ℕ) → Read bytes program
-    → Found program alarms → text ≡ report_text_of alarms → IsReport bytes (report_status alarms) text
-job_of bytes program [] text r f e = reports bytes program [] text r f e
-job_of bytes program (a ∷ more) text r f e = reports bytes program (a ∷ more) text r f e
-
-pub line_of : (r : Refusal) → r ≡ not_built → decimal r.line ++ codes ": refused " ++ decimal r.kind ++ codes " not-built\n" ≡ refusal_line
-line_of r e = rw e refl
-
--- ---- what was written
+use Rattle.endport.specs.Top.{IsJob, TextOf, Written, IsTooLong, StopsSo}
 
 -- ---- no job comes to a status without a text
 
 never_read_fault : (c : Command) (bytes text : List ℕ) → IsJob c bytes ReadFault text → ⊥
-never_read_fault (check file) bytes text j = j
+never_read_fault (check file) bytes text j = j.is_checked
 never_read_fault (layout model file) bytes text j = j
 never_read_fault (run order steps model file inputs) bytes text j = j
 
 never_write_fault : (c : Command) (bytes text : List ℕ) → IsJob c bytes WriteFault text → ⊥
-never_write_fault (check file) bytes text j = j
+never_write_fault (check file) bytes text j = j.is_checked
 never_write_fault (layout model file) bytes text j = j
 never_write_fault (run order steps model file inputs) bytes text j = j
 
 never_memory : (c : Command) (bytes text : List ℕ) → IsJob c bytes Memory text → ⊥
-never_memory (check file) bytes text j = j
+never_memory (check file) bytes text j = j.is_checked
 never_memory (layout model file) bytes text j = j
 never_memory (run order steps model file inputs) bytes text j = j
 
 never_too_long : (c : Command) (bytes text : List ℕ) → IsJob c bytes TooLong text → ⊥
-never_too_long (check file) bytes text j = j
+never_too_long (check file) bytes text j = j.is_checked
 never_too_long (layout model file) bytes text j = j
 never_too_long (run order steps model file inputs) bytes text j = j
 
@@ -106,7 +53,8 @@ whole None told status text before after t a =
 
 pub written : (c : Option Command) (told : Option (List ℕ)) (status result : Status) (text : List ℕ)
     (before after : Option (List ℕ)) (was now : ℕ) → TextOf c told status text
-    → ((result ≡ status) × Appended before text after) ⊎ ((result ≡ WriteFault) × FrontAppended before text after × Rose was now)
+    → ((result ≡ status) × Appended before text after)
+    ⊎ ((result ≡ WriteFault) × FrontAppended before text after × Rose was now)
     → Written c told result before after
 written c told status result text before after was now t (inl (e, a)) = rw e (whole c told status text before after t a)
 written c told status result text before after was now t (inr (e, f, r)) = rw e (status, text, t, f)

@@ -1,12 +1,1 @@
-pub mod Tokens
-pub mod Words
-pub mod Form
-pub mod Answers
-pub mod Fitting
-pub mod Reading
-pub mod Views
-pub mod Parts
-pub mod Pieces
-pub mod Listed
-pub mod Mains
 pub mod Top

@@ -1,22 +1,14 @@
 -- What the program does, from its words to what it writes. This project's rules.
-use Rattle.std.specs.Prelude.{◌≡◌, ℕ, ◌<◌, true, List, [], ◌∷◌, ◌++◌, length, codes, decimal, Option, Some, None, IfSome}
+use Rattle.std.specs.Prelude.{◌≡◌, ℕ, ◌<◌, List, ◌++◌, length, codes, Option, Some, None, IfSome}
 use Rattle.ep_words.specs.Words.{Command, check, layout, run}
+use Rattle.ep_int.specs.declared.types.Model.TheVariants.{Ilp32}
+use Rattle.ep_check.specs.Check.{IsCheck}
 use Rattle.ep_jobs.specs.Jobs.{IsLayout, IsRun}
 use Rattle.ep_jobs.specs.declared.status.Status.{Status}
-use Rattle.ep_jobs.specs.declared.status.Status.TheVariants.{Done, Alarms, Refused, Usage, ReadFault, WriteFault, Memory, TooLong, StepsUsedUp, Undefined, InputEnded}
-use Rattle.ep_alarms.specs.declared.types.Alarm.{Alarm}
-use Rattle.ep_alarms.specs.Text.{report_text_of}
-use Rattle.ep_small_core.specs.Program.{Program}
-use Rattle.ep_small_core.specs.Agree.{Agree, AgreeAlong}
-use Rattle.ep_int.specs.declared.types.Order.TheVariants.{Little, Big}
+use Rattle.ep_jobs.specs.declared.status.Status.TheVariants.{Done, Alarms, Refused, Usage, ReadFault, WriteFault}
+use Rattle.ep_jobs.specs.declared.status.Status.TheVariants.{Memory, TooLong, StepsUsedUp, Undefined, InputEnded}
 use Rattle.ep_io.specs.Bytes.{Appended, FrontAppended}
 use Rattle.ep_io.specs.Faults.{Rose}
-use Rattle.ep_intervals.specs.Domain.{interval_ops}
-use Rattle.ep_small_iterator.specs.Plain.{cells_ops}
-use Rattle.ep_small_iterator.specs.Straight.{is_straight}
-use Rattle.ep_small_pass.specs.Pass.{report_of}
-use Rattle.endport.specs.Answers.{not_built}
-use Rattle.endport.specs.Form.{First}
 
 -- ---- words
 
@@ -38,58 +30,11 @@ usage_text =
     ++ codes "  endport run --order little|big|swapped-words --steps N [--model ilp32|lp64] FILE [INPUT..]\n"
     ++ codes "  endport layout [--model ilp32|lp64] FILE\n"
 
--- 1: refused 50 not-built
-abbrev pub refusal_line : List ℕ
-refusal_line = decimal not_built.line ++ codes ": refused " ++ decimal not_built.kind ++ codes " not-built\n"
-
--- a report is done where it has no alarms
-abbrev pub report_status : List Alarm → Status
-report_status [] = Done
-report_status (a ∷ more) = Alarms
-
--- ---- reports
-
--- the alarms of a program, by intervals; no turn of a loop is gone through by itself
-abbrev pub alarms_of : Program → List Alarm
-alarms_of p = report_of (cells_ops interval_ops Little Big p) 0 p
-
--- The text and the status of a report: the bytes are a source of the form that is read, and the text is the report on
--- their one program. Where it has no alarms the two machines agree on this program. Where they agree on a program
--- without operators, tests, loops and jumps, it has none.
-pub record Reports (bytes : List ℕ) (status : Status) (text : List ℕ) : Type 0 where
-  pub program : Program
-  pub form : First bytes program
-  pub only : (p : Program) → First bytes p → p ≡ program
-  pub text_is : text ≡ report_text_of (alarms_of program)
-  pub status_is : status ≡ report_status (alarms_of program)
-  pub portable : status ≡ Done → Agree program Little Big
-  pub interleaved : status ≡ Done → AgreeAlong program Little Big
-  pub complete : is_straight program ≡ true → Agree program Little Big → status ≡ Done
-
--- the refusal of a source that is not of this form
-pub record NoForm (bytes text : List ℕ) : Type 0 where
-  pub no_form : (p : Program) → First bytes p → ⊥
-  pub text_is : text ≡ refusal_line
-
--- what `check` comes to
-abbrev pub IsReport : List ℕ → Status → List ℕ → Type 0
-IsReport bytes Done text = Reports bytes Done text
-IsReport bytes Alarms text = Reports bytes Alarms text
-IsReport bytes Refused text = NoForm bytes text
-IsReport bytes Usage text = ⊥
-IsReport bytes ReadFault text = ⊥
-IsReport bytes WriteFault text = ⊥
-IsReport bytes Memory text = ⊥
-IsReport bytes TooLong text = ⊥
-IsReport bytes StepsUsedUp text = ⊥
-IsReport bytes Undefined text = ⊥
-IsReport bytes InputEnded text = ⊥
-
 -- ---- what is written
 
 -- what a command comes to on bytes that were read
 abbrev pub IsJob : Command → List ℕ → Status → List ℕ → Type 0
-IsJob (check file) bytes status text = IsReport bytes status text
+IsJob (check file) bytes status text = IsCheck Ilp32 bytes status text
 IsJob (layout model file) bytes status text = IsLayout model bytes status text
 IsJob (run order steps model file inputs) bytes status text =
     IsRun (record { model = model; order = order; steps = steps; inputs = inputs }) bytes status text

@@ -1,8 +1,6 @@
-//! The analyser itself, from the bytes of a source on.
+//! The analyser itself, from the words of a call on.
 #![tactic(auto)]
 
-pub mod form;
-pub mod refusal;
 mod top;
 
 pub use ep_jobs::Status;

@@ -1,33 +1,19 @@
 // The top call.
-ghost use Rattle.std.specs.Prelude.{◌≡◌, true, ◌++◌, ◌<◌, ◌≤◌, ◌⊎◌, [], None, Some, IfErr, IfOk, IfSome, IsSome, OnOk};
-ghost use Rattle.std.specs.Prelude.{codes, decimal, length, vec_len};
+ghost use Rattle.std.specs.Prelude.{◌≡◌, ◌≤◌, ◌⊎◌, None, Some, IfErr, IfOk, IfSome, IsSome, OnOk, length, vec_len};
 ghost use Rattle.ep_words.specs.Seen as words_seen;
 ghost use Rattle.ep_words.specs.Words.{plain};
-ghost use Rattle.endport.specs.Answers.{not_built};
-ghost use Rattle.endport.specs.Top.{IsJob, IsReport, IsSilent, IsTooLong, StopsSo, TextOf, WasRead, Written, alarms_of};
-ghost use Rattle.endport.specs.Top.{file_of, refusal_line, report_status, under};
-ghost use Rattle.ep_small_core.specs.Agree.{Agree, AgreeAlong};
-ghost use Rattle.ep_small_core.specs.Shown.{shown};
-ghost use Rattle.ep_int.specs.declared.types.Order.TheVariants.{Little, Big};
+ghost use Rattle.endport.specs.Top.{IsJob, IsSilent, IsTooLong, StopsSo, TextOf, WasRead, Written, file_of, under};
+ghost use Rattle.ep_check.specs.Check.{IsCheck};
 ghost use Rattle.ep_jobs.specs.Jobs.{IsLayout};
 ghost use Rattle.ep_io.specs.Bytes.{Appended, FrontAppended, NoneLeft};
 ghost use Rattle.ep_io.specs.Faults.{NeverFalls, Rose};
-ghost use Rattle.ep_small_iterator.specs.Straight.{is_straight};
 
-use crate::form::read_form;
-use crate::refusal::{Halt, Refusal};
-use ep_alarms::{Alarms, report_text};
+use ep_check::check_job;
 use ep_int::{Memory, Model};
-use ep_intervals::Interval;
 use ep_io::{ReadStop, Sink, Source, read_all, write_all};
 use ep_jobs::{Job, RunAsked, Status, layout_job, run_job};
-use ep_small_core::program::CoreProgram;
-use ep_small_iterator::{Report, Steps, analyse};
 use ep_words::{Command, RunWords, asked, input_numbers};
-use itoa::Buffer;
-use std::alloc::{AllocError, Global};
-use std::marker::Brand;
-use std::sync::ledger::{Blank, Ledger};
+use std::alloc::Global;
 
 /// The most bytes that a source has.
 const LIMIT: u32 = 1_048_576;
@@ -129,6 +115,17 @@ fn done(alloc: Global, command: &Command, bytes: &[u8]) -> Result<Job, Status>
     }
 }
 
+fn report_on(alloc: Global, bytes: &[u8]) -> Result<Job, Status>
+    requires { length bytes.now ≤ 1048576 }
+    ensures ok { IfOk result (λ j. IsCheck Model.Ilp32 bytes.now j.status j.text.items) }
+    ensures memory { IfErr result (λ s. s ≡ Status.Memory) }
+{
+    match check_job(alloc, bytes, Model::Ilp32) {
+        Ok(job) => Ok(job),
+        Err(Memory) => Err(Status::Memory),
+    }
+}
+
 fn layouts_of(alloc: Global, bytes: &[u8], model: Model) -> Result<Job, Status>
     requires { length bytes.now ≤ 1048576 }
     ensures ok { IfOk result (λ j. IsLayout model bytes.now j.status j.text.items) }
@@ -177,77 +174,4 @@ fn read_file<S: Source>(alloc: Global, file: &str, src: &mut S) -> Result<Vec<u8
         Err(ReadStop::TooLong) => Err(Status::TooLong),
         Err(ReadStop::Memory) => Err(Status::Memory),
     }
-}
-
-// The report on a source, or its refusal.
-fn report_on(alloc: Global, bytes: &[u8]) -> Result<Job, Status>
-    requires { length bytes.now ≤ 1048576 }
-    ensures ok { IfOk result (λ j. IsReport bytes.now j.status j.text.items) }
-    ensures memory { IfErr result (λ s. s ≡ Status.Memory) }
-{
-    let program = match read_form(alloc, bytes) {
-        Ok(program) => program,
-        Err(Halt::Refused(refusal)) => return refused(alloc, refusal),
-        Err(Halt::Memory) => return Err(Status::Memory),
-    };
-    let Ok(report) = uncounted::<Brand>(alloc, &program, Blank::new(1)) else {
-        return Err(Status::Memory);
-    };
-    let Ok(text) = report_text(alloc, &report.alarms) else {
-        return Err(Status::Memory);
-    };
-    Ok(Job {
-        status: status_of(&report.alarms),
-        text,
-    })
-}
-
-fn status_of(alarms: &Alarms) -> Status
-    ensures { result ≡ report_status alarms.now }
-{
-    match alarms.list() {
-        [] => Status::Done,
-        _ => Status::Alarms,
-    }
-}
-
-// An analysis whose steps nobody asks for.
-fn uncounted<L: Ledger>(alloc: Global, p: &CoreProgram, blank: Blank) -> Result<Report, Memory>
-    requires name { blank.name ≡ L.name }
-    requires parts { blank.parts ≡ L.parts }
-    requires some { 0 < blank.parts }
-    ensures exact { IfOk result (λ r. r.alarms ≡ alarms_of (shown p.now)) }
-    ensures sound { IfOk result (λ r. r.alarms ≡ [] → Agree (shown p.now) Little Big) }
-    ensures complete { IfOk result (λ r. is_straight (shown p.now) ≡ true → Agree (shown p.now) Little Big → r.alarms ≡ []) }
-    ensures interleaved { IfOk result (λ r. r.alarms ≡ [] → AgreeAlong (shown p.now) Little Big) }
-{
-    let mut steps: Steps<L> = Steps::new(blank);
-    analyse::<Interval, L>(alloc, p, 0, &mut steps)
-}
-
-// The line of a refusal.
-fn refused(alloc: Global, refusal: Refusal) -> Result<Job, Status>
-    requires { refusal ≡ not_built }
-    ensures ok { IfOk result (λ j. (j.status ≡ Status.Refused) × (j.text.items ≡ refusal_line)) }
-    ensures memory { IfErr result (λ s. s ≡ Status.Memory) }
-{
-    match refusal_text(alloc, refusal) {
-        Ok(text) => Ok(Job {
-            status: Status::Refused,
-            text,
-        }),
-        Err(_) => Err(Status::Memory),
-    }
-}
-
-fn refusal_text(alloc: Global, refusal: Refusal) -> Result<Vec<u8>, AllocError>
-    ensures { IfOk result (λ v. v.items ≡ decimal refusal.line ++ codes ": refused " ++ decimal refusal.kind
-        ++ codes " not-built\n") }
-{
-    let mut number = Buffer::new();
-    let mut text = Vec::from_slice(alloc, number.format(refusal.line).as_bytes())?;
-    text.extend_from_slice(b": refused ")?;
-    text.extend_from_slice(number.format(refusal.kind).as_bytes())?;
-    text.extend_from_slice(b" not-built\n")?;
-    Ok(text)
 }

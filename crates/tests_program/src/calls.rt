@@ -11,8 +11,6 @@ const NUMBER: &str = "int main(void) {\n  uint32_t x;\n  x = ep_in_u32();\n  ep_
 
 const BYTES: &str = "int main(void) {\n  uint32_t x;\n  x = ep_in_u32();\n  ep_write(&x, 4);\n}\n";
 
-const REFUSED: &str = "1: refused 50 not-built\n";
-
 const DIFFERS: &str = "4: E1 output-differs left [0,255] right [0,255]\n1 alarms\n";
 
 /// What a call is given: its words, what stands under `file.c`, and the calls of source and sink that fail.
@@ -25,7 +23,7 @@ pub(crate) struct Case<'a> {
 }
 
 impl<'a> Case<'a> {
-    fn check(source: &'a [u8]) -> Case<'a> {
+    pub(crate) fn check(source: &'a [u8]) -> Case<'a> {
         Case {
             words: CHECK,
             source,
@@ -109,19 +107,27 @@ fn sources_and_their_reports(rt: HostRuntime) -> Result<(), Fail> {
             Status::Alarms,
             "2: E1 output-differs left [1,2] right [0,0]\n1 alarms\n",
         ),
-        ("int main(void){uint32_t a,a;}", Status::Refused, REFUSED),
-        ("int main(void){a=1;uint32_t a;}", Status::Refused, REFUSED),
+        (
+            "int main(void){uint32_t a,a;}",
+            Status::Refused,
+            "1: refused 31 redeclared\n",
+        ),
+        (
+            "int main(void){a=1;uint32_t a;}",
+            Status::Refused,
+            "1: refused 30 unknown-name\n",
+        ),
         (
             "int main(void){uint32_t a;a=1;ep_write(&a,0);}",
             Status::Refused,
-            REFUSED,
+            "1: refused 42 length-not-constant\n",
         ),
         (
-            "int main(void){uint32_t a;a=1;ep_write(&a,5);}",
+            "int main(void){uint32_t a;a=1;\nep_write(&a,5);}",
             Status::Refused,
-            REFUSED,
+            "2: refused 50 not-built\n",
         ),
-        ("", Status::Refused, REFUSED),
+        ("", Status::Refused, "1: refused 36 no-main\n"),
     ];
     for (source, status, text) in table.iter() {
         expect(
@@ -137,7 +143,7 @@ fn sources_and_their_reports(rt: HostRuntime) -> Result<(), Fail> {
         rt.alloc(),
         &Case::check(b"int main(void){\xc8}"),
         Status::Refused,
-        REFUSED,
+        "1: refused 1 byte\n",
     )
 }
 
@@ -222,14 +228,22 @@ fn operators_tests_and_loops(rt: HostRuntime) -> Result<(), Fail> {
             Status::Done,
             "portable\n",
         ),
-        ("break;", Status::Refused, REFUSED),
+        ("break;", Status::Refused, "2: refused 47 stray-jump\n"),
         (
             "uint32_t x; x = 1; if (x) { x = 2; }",
-            Status::Refused,
-            REFUSED,
+            Status::Done,
+            "portable\n",
         ),
-        ("uint32_t x; x = 1 +;", Status::Refused, REFUSED),
-        ("uint32_t x; x <<= 1;", Status::Refused, REFUSED),
+        (
+            "uint32_t x; x = 1 +;",
+            Status::Refused,
+            "2: refused 10 syntax\n",
+        ),
+        (
+            "uint32_t x;\nx <<= 1;",
+            Status::Alarms,
+            "3: U4 uninitialised left [0,0] right [0,0]\n1 alarms\n",
+        ),
     ];
     for (body, status, text) in table.iter() {
         let mut source = String::from_str(rt.alloc(), "int main(void) {\n")?;
@@ -326,15 +340,18 @@ fn as_much_as_fits_and_no_more(rt: HostRuntime) -> Result<(), Fail> {
         rt.alloc(),
         &Case::check(more.as_bytes()),
         Status::Refused,
-        REFUSED,
+        "1: refused 37 too-large\n",
     )?;
-    let mut long = vec![in rt.alloc(); b' '; 1_048_576]?;
+    // with the source's 69 bytes as many as a source has
+    let blanks = vec![in rt.alloc(); b' '; 1_048_507]?;
+    let mut long = Vec::from_slice(rt.alloc(), NUMBER.as_bytes())?;
+    long.extend_from_slice(&blanks)?;
     expect(
         &rt,
         rt.alloc(),
         &Case::check(&long),
-        Status::Refused,
-        REFUSED,
+        Status::Done,
+        "portable\n",
     )?;
     long.push(b' ')?;
     expect(&rt, rt.alloc(), &Case::check(&long), Status::TooLong, "")

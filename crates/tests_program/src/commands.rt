@@ -7,6 +7,9 @@ use std::test::Fail;
 
 const ITEM: &str = "struct item { uint8_t tag; uint32_t *p; };\nint main(void) { return 0; }\n";
 
+const PACKET: &str =
+    "struct packet {\n  uint8_t kind;\n  uint16_t station;\n  uint32_t stamp;\n  uint16_t level[3];\n  uint16_t sum;\n};\nint main(void) { return 0; }\n";
+
 const SWAP: &str = "int main(void) {\n  uint32_t x;\n  x = ep_in_u32();\n  ep_write(&x, 4);\n}\n";
 
 /// The words, the status and the text.
@@ -43,6 +46,12 @@ fn layouts(rt: HostRuntime) -> Result<(), Fail> {
         ),
     ];
     expect_all(&rt, rt.alloc(), ITEM, &table)?;
+    let packet: [Row; 1] = [(
+        &["endport", "layout", "file.c"],
+        Status::Done,
+        "struct packet size 16 align 4\n  kind offset 0 size 1\n  station offset 2 size 2\n  stamp offset 4 size 4\n  level offset 8 size 6\n  sum offset 14 size 2\n",
+    )];
+    expect_all(&rt, rt.alloc(), PACKET, &packet)?;
     let refused: [Row; 1] = [(
         &["endport", "layout", "file.c"],
         Status::Refused,

@@ -4,10 +4,10 @@
 #[cfg(test)]
 mod calls;
 #[cfg(test)]
+mod checks;
+#[cfg(test)]
 mod commands;
 #[cfg(test)]
 mod copies;
-#[cfg(test)]
-mod form;
 #[cfg(test)]
 mod system;

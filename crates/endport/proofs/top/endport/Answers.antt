@@ -6,7 +6,8 @@ use Rattle.endport.proofs.Telling.{written, too_long}
 use Rattle.endport.proofs.top.endport.Goals as goal
 
 pub returns-in_default-clause-written : goal.returns-in_default-clause-written
-returns-in_default-clause-written g c = written _ _ Usage c.put.result usage_text _ _ _ _ (rw (← c.deref.ensures.value, ← c.in_default.ensures) (refl, refl)) c.put.ensures.written
+returns-in_default-clause-written g c = written _ _ Usage c.put.result usage_text _ _ _ _
+    (rw (← c.deref.ensures.value, ← c.in_default.ensures) (refl, refl)) c.put.ensures.written
 
 pub returns-in-Ok-clause-written : goal.returns-in-Ok-clause-written
 returns-in-Ok-clause-written g c =

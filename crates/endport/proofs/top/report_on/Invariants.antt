@@ -1,5 +1,0 @@
-use Rattle.endport.proofs.top.report_on.Given as goal
-
--- The marker's own name and parts.
-abbrev pub ghosts-uncounted : goal.ghosts-uncounted
-ghosts-uncounted a = record { name = a.blank.name; parts = a.blank.parts }

@@ -1,6 +1,0 @@
-use Rattle.ep_small_core.specs.Shown.{shown}
-use Rattle.endport.proofs.Telling.{complete_of}
-use Rattle.endport.proofs.top.uncounted.Goals as goal
-
-pub returns-clause-complete : goal.returns-clause-complete
-returns-clause-complete g c = complete_of (λ r. r.alarms) (shown c.args.p.now) c.analyse.result c.args.p.now.well_formed c.analyse.ensures.exact
