@@ -1,0 +1,10 @@
+pub mod Alike
+pub mod Memories
+pub mod Numbered
+pub mod Parts
+pub mod Expressions
+pub mod Steps
+pub mod Statements
+pub mod Starts
+pub mod Runs
+pub mod Agreeing
