@@ -1,0 +1,12 @@
+mod FormedOptions
+mod FormedBlocks
+mod FormedLists
+mod FormedFirstValues
+mod FormedExpressions
+mod FormedResults
+mod FormedParts
+mod FormedShapes
+mod FormedSimple
+mod FormedStatements
+mod FormedFunctions
+mod Formed
