@@ -8,3 +8,15 @@ pub mod Statements
 pub mod Starts
 pub mod Runs
 pub mod Agreeing
+mod FormedOptions
+mod FormedBlocks
+mod FormedLists
+mod FormedFirstValues
+mod FormedExpressions
+mod FormedResults
+mod FormedParts
+mod FormedShapes
+mod FormedSimple
+mod FormedStatements
+mod FormedFunctions
+pub mod Formed
