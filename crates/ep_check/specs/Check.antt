@@ -28,8 +28,8 @@ report_status [] = Done
 report_status (a ∷ more) = Alarms
 
 -- The text and the status of a report on a program, which is a small one: the report on that. Where it has no alarms the
--- two machines agree on the program. Where they agree on a program without operators, tests, loops and jumps, it has
--- none.
+-- two machines agree on the program. Where they agree on a program without operators, tests, loops, jumps and inner
+-- blocks, it has none.
 pub record Reports (program : Program) (status : Status) (text : List ℕ) : Type 0 where
   pub part : small.Program
   pub part_is : small_program program ≡ Some part
