@@ -1,0 +1,4 @@
+mod FunctionLists
+mod Lists
+mod Making
+mod Whole
