@@ -25,7 +25,7 @@ use Rattle.ep_small_core.specs.Program as small
 use Rattle.ep_small_core.specs.WellFormed as formed
 use Rattle.ep_small_part.specs.Part.{small_block, small_expr}
 use Rattle.ep_small_part_laws.proofs.FormedBlocks.{global_is, holds_is}
-use Rattle.ep_small_part_laws.proofs.FormedOptions.{both_there}
+use Rattle.ep_small_part_laws.proofs.Options.{both_there}
 
 -- ---- types
 

@@ -21,7 +21,7 @@ use Rattle.ep_small_part_laws.proofs.FormedBlocks.{global_is, some_is}
 use Rattle.ep_small_part_laws.proofs.FormedExpressions.{IsAmong}
 use Rattle.ep_small_part_laws.proofs.FormedLists.{IsReordered, all_reordered, both_reordered, contains_reordered}
 use Rattle.ep_small_part_laws.proofs.FormedLists.{different_reordered, none_reordered, own_reordered}
-use Rattle.ep_small_part_laws.proofs.FormedOptions.{both_there}
+use Rattle.ep_small_part_laws.proofs.Options.{both_there}
 use Rattle.ep_small_part_laws.proofs.FormedResults.{int_kept, result_held}
 use Rattle.ep_small_part_laws.proofs.FormedShapes.{all_shaped}
 use Rattle.ep_small_part_laws.proofs.FormedStatements.{all_kept}

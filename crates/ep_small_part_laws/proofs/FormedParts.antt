@@ -10,7 +10,7 @@ use Rattle.ep_core.specs.Program.{ptr_add, cast, Dest, Simple, nothing, eval, as
 use Rattle.ep_core.specs.Program.{fill, input, output, read_bytes, write_bytes, returns, Program}
 use Rattle.ep_small_core.specs.Program as small
 use Rattle.ep_small_part.specs.Part.{has_bytes, small_dest, small_expr, small_simple}
-use Rattle.ep_small_part_laws.proofs.FormedOptions.{there_if}
+use Rattle.ep_small_part_laws.proofs.Options.{there_if}
 
 -- an input goes to an object
 pub record IsObject (d : Dest) (s : small.Dest) : Type 0 where

@@ -9,7 +9,7 @@ use Rattle.ep_core.proofs.Sorts.{never}
 use Rattle.ep_small_core.specs.Program as small
 use Rattle.ep_small_core.specs.WellFormed as formed
 use Rattle.ep_small_part.specs.Part.{small_expr, small_stmts, small_what}
-use Rattle.ep_small_part_laws.proofs.FormedOptions.{both_there, three_there}
+use Rattle.ep_small_part_laws.proofs.Options.{both_there, three_there}
 use Rattle.ep_small_part_laws.proofs.FormedParts.{IsPart, part}
 use Rattle.ep_small_part_laws.proofs.FormedParts.IsPart.{is_nothing, is_eval, is_assign, is_skip, is_input, is_output}
 use Rattle.ep_small_part_laws.proofs.FormedParts.IsPart.{is_bytes, is_end, is_result}

@@ -14,7 +14,7 @@ use Rattle.ep_small_core.specs.Program as small
 use Rattle.ep_small_core.specs.WellFormed as formed
 use Rattle.ep_small_part.specs.Part.{small_expr, small_stmts, small_what}
 use Rattle.ep_small_part_laws.proofs.FormedExpressions.{IsAmong, tested_formed}
-use Rattle.ep_small_part_laws.proofs.FormedOptions.{both_there, three_there}
+use Rattle.ep_small_part_laws.proofs.Options.{both_there, three_there}
 use Rattle.ep_small_part_laws.proofs.FormedShapes.{AreShaped, all_shaped}
 use Rattle.ep_small_part_laws.proofs.FormedSimple.{IsKept, result, simple_kept, small_blocks}
 

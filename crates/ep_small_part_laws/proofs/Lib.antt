@@ -8,7 +8,7 @@ pub mod Statements
 pub mod Starts
 pub mod Runs
 pub mod Agreeing
-mod FormedOptions
+mod Options
 mod FormedBlocks
 mod FormedLists
 mod FormedFirstValues

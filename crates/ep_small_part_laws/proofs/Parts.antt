@@ -18,10 +18,11 @@ use Rattle.ep_core.specs.WellFormed.{result_fits, simple_fits, what_fits, stmts_
 use Rattle.ep_core.proofs.Sorts.{never, three, type_where, int_where, tested_where, typed_where}
 use Rattle.ep_layout.proofs.Options.{map_some}
 use Rattle.ep_small_core.specs.Program as small
-use Rattle.ep_small_part.specs.Part.{both, all_three, small_expr, has_room, number_at, small_dest, small_simple}
+use Rattle.ep_small_part.specs.Part.{small_expr, has_room, number_at, small_dest, small_simple}
 use Rattle.ep_small_part.specs.Part.{small_what, small_stmts}
 use Rattle.ep_small_part_laws.proofs.Alike.{HoldsNumber}
 use Rattle.ep_small_part_laws.proofs.Numbered.{typed_holds}
+use Rattle.ep_small_part_laws.proofs.Options.{both_there, three_there}
 
 -- ---- rules
 
@@ -71,22 +72,7 @@ mutual
     is_more : (l : ℕ) {w : What} {v : small.What} {rest : Stmts} {others : small.Stmts} → IsWhat p w v
         → IsStmts p rest others → IsStmts p (more l w rest) (small.more l v others)
 
--- ---- parts that are there
-
-pub both_some : {A B C : Type 0} (f : A → B → C) (a : Option A) (b : Option B) (c : C) → both f a b ≡ Some c
-    → (x : A) × (y : B) × (a ≡ Some x) × (b ≡ Some y) × (f x y ≡ c)
-both_some f None b c h = absurd (cc)
-both_some f (Some x) None c h = absurd (cc)
-both_some f (Some x) (Some y) c h = let e : f x y ≡ c = cc in (x, y, refl, refl, e)
-
-three_some : {A B C D : Type 0} (f : A → B → C → D) (a : Option A) (b : Option B) (c : Option C) (d : D)
-    → all_three f a b c ≡ Some d
-    → (x : A) × (y : B) × (z : C) × (a ≡ Some x) × (b ≡ Some y) × (c ≡ Some z) × (f x y z ≡ d)
-three_some f None b c d h = absurd (cc)
-three_some f (Some x) b c d h =
-    let s = both_some (f x) b c d h in
-    (x, s.0, s.1, refl, s.2, s.3, s.4)
-
+-- an object with room for bytes holds a number
 room_some : (o : Option IntType) (n : ℕ) (w v : small.What) → (if has_room o n then Some w else None) ≡ Some v
     → (t : IntType) × (o ≡ Some t) × (w ≡ v)
 room_some None n w v h = absurd (cc)
@@ -116,7 +102,7 @@ module _ (p : Program) where
         let scalar = (and_parts (has_scalar (ty_at p.types p.blocks seen s.0) (Number t)) _ s.1).0 in
         subst (IsExpr p (load (Number t) (block b))) e (is_load t b (named_holds b s.0 t scalar s.2))
     expr_is (binary op t a b) c x h i =
-        let q = both_some (small.binary op t) (small_expr a) (small_expr b) c h in
+        let q = both_there (small.binary op t) (small_expr a) (small_expr b) c h in
         let s = three (is_integer x t) (has_sort p.types p.blocks seen a (integer t))
         (is_int (right_type op t (int_type_of b)) (has_sort p.types p.blocks seen b)) i in
         let own = int_where (right_type op t (int_type_of b)) (has_sort p.types p.blocks seen b) s.2 in
@@ -128,7 +114,7 @@ module _ (p : Program) where
         let own = int_where (int_type_of a) (has_sort p.types p.blocks seen a) s.1 in
         subst (IsExpr p (convert t a)) q.2 (is_convert t (expr_is a q.0 (integer own.0) q.1 own.2))
     expr_is (compare k t a b) c x h i =
-        let q = both_some (small.compare k t) (small_expr a) (small_expr b) c h in
+        let q = both_there (small.compare k t) (small_expr a) (small_expr b) c h in
         let s = three (is_integer x I32) (has_sort p.types p.blocks seen a (integer t))
         (has_sort p.types p.blocks seen b (integer t)) i in
         subst (IsExpr p (compare k t a b)) q.4
@@ -211,13 +197,13 @@ module _ (p : Program) where
       what_is (simple w) v seen i h k = is_simple (simple_is seen here result w v h k)
       what_is (call f es d) v seen i h k = absurd (cc)
       what_is (if_else e a b) v seen i h k =
-          let q = three_some small.if_else (small_expr e) (small_stmts p a) (small_stmts p b) v h in
+          let q = three_there small.if_else (small_expr e) (small_stmts p a) (small_stmts p b) v h in
           let s = three (is_tested p.types p.blocks seen e) (stmts_fit p here result a seen i)
           (stmts_fit p here result b seen i) k in
           subst (IsWhat p (if_else e a b)) q.6
           (is_if (tested_is seen e q.0 q.3 s.0) (stmts_is a q.1 seen i q.4 s.1) (stmts_is b q.2 seen i q.5 s.2))
       what_is (loop first e a b) v seen i h k =
-          let q = three_some (small.loop first) (small_expr e) (small_stmts p a) (small_stmts p b) v h in
+          let q = three_there (small.loop first) (small_expr e) (small_stmts p a) (small_stmts p b) v h in
           let s = three (is_tested p.types p.blocks seen e) (stmts_fit p here result a seen true)
           (are_plain b && stmts_fit p here result b seen i) k in
           let step = (and_parts (are_plain b) (stmts_fit p here result b seen i) s.2).1 in
@@ -241,7 +227,7 @@ module _ (p : Program) where
           let e : small.stop ≡ c = cc in
           subst (IsStmts p stop) e is_stop
       stmts_is (more l w rest) c seen i h k =
-          let q = both_some (small.more l) (small_what p w) (small_stmts p rest) c h in
+          let q = both_there (small.more l) (small_what p w) (small_stmts p rest) c h in
           let s = and_parts (what_fits p here result w seen i) (stmts_fit p here result rest seen i) k in
           subst (IsStmts p (more l w rest)) q.4
           (is_more l (what_is w q.0 seen i q.2 s.0) (stmts_is rest q.1 seen i q.3 s.1))

@@ -24,7 +24,8 @@ use Rattle.ep_small_part.specs.Part.{number_result, small_program}
 use Rattle.ep_small_part_laws.proofs.Alike.{found_of, kind_of, output_of, HoldsNumber, IsSameState, IsSameOutcome}
 use Rattle.ep_small_part_laws.proofs.Alike.{both_leave, both_run, both_want, both_offend}
 use Rattle.ep_small_part_laws.proofs.Numbered.{result_holds, sizes_alike}
-use Rattle.ep_small_part_laws.proofs.Parts.{both_some, IsStmts, stmts_is}
+use Rattle.ep_small_part_laws.proofs.Parts.{IsStmts, stmts_is}
+use Rattle.ep_small_part_laws.proofs.Options.{both_there}
 use Rattle.ep_small_part_laws.proofs.Expressions.{read_same}
 use Rattle.ep_small_part_laws.proofs.Steps.{put_out_same}
 use Rattle.ep_small_part_laws.proofs.Statements.{all_same}
@@ -105,11 +106,11 @@ function_at : (p : Program) (fs : List Function) (gs : List small.Function) (k :
     → (g : small.Function) × (slice_get gs k ≡ Some g) × IsFunction p f g
 function_at p [] gs k f h e = absurd (cc)
 function_at p (x ∷ fs) gs zero f h e =
-    let q = both_some ◌∷◌ (small_function p x) (small_functions p fs) gs h in
+    let q = both_there ◌∷◌ (small_function p x) (small_functions p fs) gs h in
     let same : x ≡ f = cc in
     (q.0, ap (λ ys. slice_get ys 0) (sym q.4), subst (λ y. IsFunction p y q.0) same (function_is p x q.0 q.2))
 function_at p (x ∷ fs) gs (suc k) f h e =
-    let q = both_some ◌∷◌ (small_function p x) (small_functions p fs) gs h in
+    let q = both_there ◌∷◌ (small_function p x) (small_functions p fs) gs h in
     let at = function_at p fs q.1 k f q.3 e in
     (at.0, ap (λ ys. slice_get ys (suc k)) (sym q.4) ∙ at.1, at.2)
 
