@@ -9,8 +9,9 @@ ghost use Rattle.ep_cells.specs.Write.{written};
 ghost use Rattle.ep_cells.specs.Weaken.{weakened};
 ghost use Rattle.ep_cells.specs.Both.{cells_of_both, joined, widened, are_within};
 ghost use Rattle.ep_cells.specs.Kill.{AreLeavesIn, killed_cells};
-ghost use Rattle.ep_cells.specs.Reshare.{reshared};
+ghost use Rattle.ep_cells.specs.Reshare.{places, reshared};
 ghost use Rattle.ep_cell_rows.specs.Parts.{united as of_union};
+ghost use Rattle.ep_states.specs.Alike.{are_different};
 
 use crate::building::{index, spread};
 use crate::conditions::{are_alike, can_write};
@@ -312,7 +313,8 @@ impl<N: Num> State<N> {
     /// Whether no Left cell is surely the same as a Right one, so that resharing leaves all cells as they are. Takes
     /// memory for the places of Left cells, and two searches for each.
     pub fn is_reshared(&self) -> Result<bool, Memory>
-        ensures { IfOk result (λ b. IsTrue b → self.now.cells ≡ reshared N.ops self.now.cells) }
+        ensures value { IfOk result (λ b. b ≡ are_different N.ops self.now.cells (places self.now.cells)) }
+        ensures stays { IfOk result (λ b. IsTrue b → self.now.cells ≡ reshared N.ops self.now.cells) }
     {
         let places = places(*self.parts.allocator(), &self.parts)?;
         Ok(are_different(&places, &self.parts))
