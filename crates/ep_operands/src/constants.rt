@@ -95,10 +95,7 @@ fn number_of(e: &Expr) -> Option<i128>
             let y = number_of(b)?;
             no_fault(arith(*op, *t, x, y))
         }
-        Expr::Convert(t, a) => {
-            let x = number_of(a)?;
-            Some(wrap(*t, x))
-        }
+        Expr::Convert(t, a) => Some(wrap(*t, number_of(a)?)),
         Expr::Compare(how, _, a, b) => {
             let x = number_of(a)?;
             let y = number_of(b)?;
@@ -106,28 +103,20 @@ fn number_of(e: &Expr) -> Option<i128>
         }
         Expr::PtrCompare(_, _, _) => None,
         Expr::And(a, b) => {
-            let x = number_of(a)?;
-            if is_true(x) {
-                let y = number_of(b)?;
-                return Some(truth(is_true(y)));
+            if is_true(number_of(a)?) {
+                return Some(truth(is_true(number_of(b)?)));
             }
             Some(0)
         }
         Expr::Or(a, b) => {
-            let x = number_of(a)?;
-            if is_true(x) {
+            if is_true(number_of(a)?) {
                 return Some(1);
             }
-            let y = number_of(b)?;
-            Some(truth(is_true(y)))
+            Some(truth(is_true(number_of(b)?)))
         }
-        Expr::Not(a) => {
-            let x = number_of(a)?;
-            Some(truth(!is_true(x)))
-        }
+        Expr::Not(a) => Some(truth(!is_true(number_of(a)?))),
         Expr::Cond(test, a, b) => {
-            let x = number_of(test)?;
-            if is_true(x) {
+            if is_true(number_of(test)?) {
                 return number_of(a);
             }
             number_of(b)

@@ -17,82 +17,41 @@ pub fn copy_expr(alloc: Global, expr: &Expr) -> Result<Expr, AllocError>
     match expr {
         Expr::Const(t, v) => Ok(Expr::Const(*t, *v)),
         Expr::Null => Ok(Expr::Null),
-        Expr::Load(what, place) => {
-            let place = copy_place(alloc, place)?;
-            let place = Box::new(alloc, place)?;
-            Ok(Expr::Load(*what, place))
-        }
-        Expr::AddrOf(place) => {
-            let place = copy_place(alloc, place)?;
-            let place = Box::new(alloc, place)?;
-            Ok(Expr::AddrOf(place))
-        }
+        Expr::Load(what, place) => Ok(Expr::Load(*what, boxed_place(alloc, place)?)),
+        Expr::AddrOf(place) => Ok(Expr::AddrOf(boxed_place(alloc, place)?)),
         Expr::Bin(op, t, left, right) => {
-            let left = copy_expr(alloc, left)?;
-            let left = Box::new(alloc, left)?;
-            let right = copy_expr(alloc, right)?;
-            let right = Box::new(alloc, right)?;
+            let left = boxed_expr(alloc, left)?;
+            let right = boxed_expr(alloc, right)?;
             Ok(Expr::Bin(*op, *t, left, right))
         }
-        Expr::Convert(t, operand) => {
-            let operand = copy_expr(alloc, operand)?;
-            let operand = Box::new(alloc, operand)?;
-            Ok(Expr::Convert(*t, operand))
-        }
+        Expr::Convert(t, operand) => Ok(Expr::Convert(*t, boxed_expr(alloc, operand)?)),
         Expr::Compare(how, t, left, right) => {
-            let left = copy_expr(alloc, left)?;
-            let left = Box::new(alloc, left)?;
-            let right = copy_expr(alloc, right)?;
-            let right = Box::new(alloc, right)?;
+            let left = boxed_expr(alloc, left)?;
+            let right = boxed_expr(alloc, right)?;
             Ok(Expr::Compare(*how, *t, left, right))
         }
         Expr::PtrCompare(how, left, right) => {
-            let left = copy_expr(alloc, left)?;
-            let left = Box::new(alloc, left)?;
-            let right = copy_expr(alloc, right)?;
-            let right = Box::new(alloc, right)?;
+            let left = boxed_expr(alloc, left)?;
+            let right = boxed_expr(alloc, right)?;
             Ok(Expr::PtrCompare(*how, left, right))
         }
         Expr::And(left, right) => {
-            let left = copy_expr(alloc, left)?;
-            let left = Box::new(alloc, left)?;
-            let right = copy_expr(alloc, right)?;
-            let right = Box::new(alloc, right)?;
-            Ok(Expr::And(left, right))
+            Ok(Expr::And(boxed_expr(alloc, left)?, boxed_expr(alloc, right)?))
         }
-        Expr::Or(left, right) => {
-            let left = copy_expr(alloc, left)?;
-            let left = Box::new(alloc, left)?;
-            let right = copy_expr(alloc, right)?;
-            let right = Box::new(alloc, right)?;
-            Ok(Expr::Or(left, right))
-        }
-        Expr::Not(operand) => {
-            let operand = copy_expr(alloc, operand)?;
-            let operand = Box::new(alloc, operand)?;
-            Ok(Expr::Not(operand))
-        }
+        Expr::Or(left, right) => Ok(Expr::Or(boxed_expr(alloc, left)?, boxed_expr(alloc, right)?)),
+        Expr::Not(operand) => Ok(Expr::Not(boxed_expr(alloc, operand)?)),
         Expr::Cond(test, yes, no) => {
-            let test = copy_expr(alloc, test)?;
-            let test = Box::new(alloc, test)?;
-            let yes = copy_expr(alloc, yes)?;
-            let yes = Box::new(alloc, yes)?;
-            let no = copy_expr(alloc, no)?;
-            let no = Box::new(alloc, no)?;
+            let test = boxed_expr(alloc, test)?;
+            let yes = boxed_expr(alloc, yes)?;
+            let no = boxed_expr(alloc, no)?;
             Ok(Expr::Cond(test, yes, no))
         }
         Expr::PtrAdd(pointer, unit, count, backwards) => {
-            let pointer = copy_expr(alloc, pointer)?;
-            let pointer = Box::new(alloc, pointer)?;
-            let count = copy_expr(alloc, count)?;
-            let count = Box::new(alloc, count)?;
+            let pointer = boxed_expr(alloc, pointer)?;
+            let count = boxed_expr(alloc, count)?;
             Ok(Expr::PtrAdd(pointer, *unit, count, *backwards))
         }
-        Expr::Cast(operand) => {
-            let operand = copy_expr(alloc, operand)?;
-            let operand = Box::new(alloc, operand)?;
-            Ok(Expr::Cast(operand))
-        }
+        Expr::Cast(operand) => Ok(Expr::Cast(boxed_expr(alloc, operand)?)),
     }
 }
 
@@ -103,24 +62,34 @@ pub fn copy_place(alloc: Global, place: &Place) -> Result<Place, AllocError>
 {
     match place {
         Place::Block(b) => Ok(Place::Block(*b)),
-        Place::Deref(pointer) => {
-            let pointer = copy_expr(alloc, pointer)?;
-            let pointer = Box::new(alloc, pointer)?;
-            Ok(Place::Deref(pointer))
-        }
-        Place::Member(whole, offset) => {
-            let whole = copy_place(alloc, whole)?;
-            let whole = Box::new(alloc, whole)?;
-            Ok(Place::Member(whole, *offset))
-        }
+        Place::Deref(pointer) => Ok(Place::Deref(boxed_expr(alloc, pointer)?)),
+        Place::Member(whole, offset) => Ok(Place::Member(boxed_place(alloc, whole)?, *offset)),
         Place::Element(array, bound, unit, index) => {
-            let array = copy_place(alloc, array)?;
-            let array = Box::new(alloc, array)?;
-            let index = copy_expr(alloc, index)?;
-            let index = Box::new(alloc, index)?;
+            let array = boxed_place(alloc, array)?;
+            let index = boxed_expr(alloc, index)?;
             Ok(Place::Element(array, *bound, *unit, index))
         }
     }
+}
+
+// The same expression again, in a box.
+#[cycle(copies)]
+fn boxed_expr(alloc: Global, expr: &Expr) -> Result<Box<Expr>, AllocError>
+    ensures { IfOk result (λ e. shown_expr e.value ≡ shown_expr expr.now) }
+{
+    let expr = copy_expr(alloc, expr)?;
+    let boxed = Box::new(alloc, expr)?;
+    Ok(boxed)
+}
+
+// The same place again, in a box.
+#[cycle(copies)]
+fn boxed_place(alloc: Global, place: &Place) -> Result<Box<Place>, AllocError>
+    ensures { IfOk result (λ p. shown_place p.value ≡ shown_place place.now) }
+{
+    let place = copy_place(alloc, place)?;
+    let boxed = Box::new(alloc, place)?;
+    Ok(boxed)
 }
 
 /// The same operand again.

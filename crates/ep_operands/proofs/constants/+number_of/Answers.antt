@@ -31,8 +31,8 @@ returns-in_ok-y-in-Bin-clause-of_type t c =
     (left_in_range c.in-Bin.op c.in-Bin.t (shown_expr c.in-Bin.a.value) (shown_expr c.in-Bin.b.value) h c.in_ok-x-in-Bin.x
     (subst (λ (x : Expr). Fits (shown_expr x) c.in_ok-x-in-Bin.x) c.deref.ensures c.in_ok-x-in-Bin.ensures.of_type))))
 
-pub returns-in_ok-x-in-Convert-clause-of_type : goal.returns-in_ok-x-in-Convert-clause-of_type
-returns-in_ok-x-in-Convert-clause-of_type t c = λ u n.
+pub returns-in_ok-number_of-in-Convert-clause-of_type : goal.returns-in_ok-number_of-in-Convert-clause-of_type
+returns-in_ok-number_of-in-Convert-clause-of_type t c = λ u n.
     let f : FitsSigned w128 c.wrap.result = search rules in
     simp to_z-of_z (convert_fits c.in-Convert.t (shown_expr c.in-Convert.a.value) c.wrap.result c.wrap.ensures.in_range u
     (subst (λ (e : Expr). IsNumber (shown_expr e) u) c.in-Convert.is n))
@@ -50,8 +50,8 @@ returns-then-is_true-clause-of_type t c = λ u n.
     simp to_z-of_z (subst (InRange u) (sym c.truth-then-is_true.ensures)
     (and_fits (shown_expr c.in-And.a.value) (shown_expr c.in-And.b.value) _ u (subst (λ (e : Expr). IsNumber (shown_expr e) u) c.in-And.is n)))
 
-pub returns-in_ok-y-in-Or-clause-of_type : goal.returns-in_ok-y-in-Or-clause-of_type
-returns-in_ok-y-in-Or-clause-of_type t c = λ u n.
+pub returns-in_ok-number_of-in-Or-2-clause-of_type : goal.returns-in_ok-number_of-in-Or-2-clause-of_type
+returns-in_ok-number_of-in-Or-2-clause-of_type t c = λ u n.
     let f : FitsSigned w128 c.truth-in-Or.result = search rules in
     simp to_z-of_z (subst (InRange u) (sym c.truth-in-Or.ensures)
     (or_fits (shown_expr c.in-Or.a.value) (shown_expr c.in-Or.b.value) _ u (subst (λ (e : Expr). IsNumber (shown_expr e) u) c.in-Or.is n)))
