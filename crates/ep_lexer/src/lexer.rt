@@ -1,5 +1,5 @@
 ghost use Rattle.std.specs.Prelude.{◌≡◌, ◌+◌, ◌-◌, ◌<◌, ◌≤◌, ◌^◌, [], ◌∷◌, ◌++◌, List, map, length, IfOk, IfErr};
-ghost use Rattle.std.specs.Prelude.{IfSome, OnOk};
+ghost use Rattle.std.specs.Prelude.{IfSome, OnOk, ℕ, false};
 ghost use Rattle.ep_ast.specs.Cut as cut;
 ghost use Rattle.ep_lexer.specs.Step as step;
 ghost use Rattle.ep_lexer.specs.Tokens.{view, view_at, view_all};
@@ -57,6 +57,27 @@ fn named(
     Ok(TokenKind::Name(Vec::from_slice(alloc, text)?))
 }
 
+/// The place behind something that ends on this line.
+fn behind(line: u32, arm: Open) -> Place
+    ensures { result ≡ record { line = line; fresh = false; arm = arm } }
+{
+    Place {
+        line,
+        fresh: false,
+        arm,
+    }
+}
+
+/// The token of an `#if` of this order.
+fn opening(order: NamedOrder) -> TokenKind
+    ensures { (l : ℕ) → view_at l result ≡ cut.order_token order l }
+{
+    match order {
+        NamedOrder::Little => TokenKind::IfLittle,
+        NamedOrder::Big => TokenKind::IfBig,
+    }
+}
+
 /// What a directive leaves that ends on this line and whose `#` stands on line `hash`.
 fn apply(
     alloc: Global,
@@ -72,63 +93,18 @@ fn apply(
         line) }
     ensures same { IfOk result (λ p. p.1.line ≡ line) }
 {
-    match effect {
-        Effect::Nothing => Ok((
-            None,
-            Place {
-                line,
-                fresh: false,
-                arm: place.arm,
-            },
-        )),
+    let (what, arm) = match effect {
+        Effect::Nothing => (None, place.arm),
         Effect::Defines(name, number) => {
             definitions.add(alloc, name, number)?;
-            Ok((
-                None,
-                Place {
-                    line,
-                    fresh: false,
-                    arm: place.arm,
-                },
-            ))
+            (None, place.arm)
         }
-        Effect::Opens(order) => {
-            let what = match order {
-                NamedOrder::Little => TokenKind::IfLittle,
-                NamedOrder::Big => TokenKind::IfBig,
-            };
-            Ok((
-                Some(Token { line: hash, what }),
-                Place {
-                    line,
-                    fresh: false,
-                    arm: Open::FirstArm(hash),
-                },
-            ))
-        }
-        Effect::Turns(from) => Ok((
-            Some(Token {
-                line: hash,
-                what: TokenKind::Other,
-            }),
-            Place {
-                line,
-                fresh: false,
-                arm: Open::SecondArm(from),
-            },
-        )),
-        Effect::Closes => Ok((
-            Some(Token {
-                line: hash,
-                what: TokenKind::EndIf,
-            }),
-            Place {
-                line,
-                fresh: false,
-                arm: Open::Outside,
-            },
-        )),
-    }
+        Effect::Opens(order) => (Some(opening(order)), Open::FirstArm(hash)),
+        Effect::Turns(from) => (Some(TokenKind::Other), Open::SecondArm(from)),
+        Effect::Closes => (Some(TokenKind::EndIf), Open::Outside),
+    };
+    let token = what.map(|what| Token { line: hash, what });
+    Ok((token, behind(line, arm)))
 }
 
 /// The end of a line, or of the source.
@@ -198,11 +174,6 @@ fn read_piece<'a>(
     ensures shorter { IfOk result (λ o. IfSome o (λ s. length s.rest.now < length bytes.now)) }
 {
     let next = next_thing(place.line, bytes)?;
-    let behind = Place {
-        line: next.line,
-        fresh: false,
-        arm: place.arm,
-    };
     let what = match next.thing {
         Thing::Over => return Ok(line_end(place, next.line, next.rest)?),
         Thing::Hash => return directive(alloc, place, definitions, next.line, next.rest),
@@ -216,7 +187,7 @@ fn read_piece<'a>(
             line: next.line,
             what,
         }),
-        place: behind,
+        place: behind(next.line, place.arm),
         rest: next.rest,
     }))
 }
