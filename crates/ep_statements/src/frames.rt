@@ -1,12 +1,13 @@
 //! Heads that wait while the statement inside them is read: `if ( e )`, `while ( e )`, `for ( .. )`, `do`.
 
-ghost use Rattle.std.specs.Prelude.{◌≡◌, ◌<◌, ◌^◌, ◌∷◌, length, map, reverse, List, IfOk};
+ghost use Rattle.std.specs.Prelude.{◌≡◌, ◌<◌, ◌^◌, ◌∷◌, ℕ, Bool, length, map, reverse, List, IfOk};
 ghost use Rattle.ep_ast.specs.Token.{Tok};
 ghost use Rattle.ep_lexer.specs.Tokens.{view};
 ghost use Rattle.ep_reading.specs.Names.{is_type};
-ghost use Rattle.ep_reading.specs.Answer.{IsWithin};
+ghost use Rattle.ep_reading.specs.Answer.{IsWithin, after};
 ghost use Rattle.ep_statements.specs.Around.{Stands, Closes, Completes, GivesState, GivesHead, IsPastHead};
 ghost use Rattle.ep_statements.specs.declared.frames.Frame.{Frame as Pending};
+ghost use Rattle.ep_statements.specs.declared.frames.Frame.TheVariants as frames;
 
 use crate::kept::{Counted, do_loop, for_loop, if_else, if_then, while_loop};
 use crate::pieces::{do_end, for_heading, in_parens};
@@ -14,6 +15,7 @@ use ep_ast::words::{DO, ELSE, FOR, IF, WHILE};
 use ep_ast::{ExprTree, Halt, HeadingTree, StmtTree};
 use ep_lexer::Token;
 use ep_reading::{Head, Measured, Part, Reader, at_word, first_of};
+use std::alloc::{AllocError, Global};
 
 /// A head with its line, and what was read of it.
 #[derive(Debug, Drop)]
@@ -87,6 +89,37 @@ pub fn opening<'a>(
     }
 }
 
+/// An `if` with the statement inside it, or with its `else`, where these tokens come after that statement.
+fn close_if<'a>(
+    alloc: Global,
+    line: u32,
+    test: Measured<ExprTree>,
+    inner: Counted<StmtTree>,
+    tokens: &'a [Token],
+) -> Result<Part<'a, Closed>, AllocError>
+    ensures reads { (is_type : List ℕ → Bool) → (xs : List Tok) → (ks : List Pending)
+        → Stands is_type xs (frames.If line test ∷ ks) inner (map view tokens.now)
+        → IfOk result (λ p. Closes is_type xs ks p.value (after p)) }
+    ensures shorter { IfOk result (IsWithin (length tokens.now)) }
+{
+    match at_word(tokens, ELSE) {
+        Some((_, rest)) => {
+            let then = Box::new(alloc, inner)?;
+            Ok(Part {
+                value: Closed::Else(Frame::Else(line, test, then)),
+                rest,
+            })
+        }
+        None => {
+            let whole = if_then(alloc, line, test, inner)?;
+            Ok(Part {
+                value: Closed::More(whole),
+                rest: tokens,
+            })
+        }
+    }
+}
+
 /// What the head is with the statement inside it, where these tokens come after that.
 fn close<'a>(
     reader: &Reader<'_>,
@@ -100,53 +133,31 @@ fn close<'a>(
         → GivesState (Closes (is_type reader.now.names.now) xs ks) (is_type reader.now.names.now) xs result }
     ensures shorter { IfOk result (IsWithin (length tokens.now)) }
 {
-    match frame {
-        Frame::If(line, test) => match at_word(tokens, ELSE) {
-            Some((_, rest)) => {
-                let then = Box::new(reader.alloc, inner)?;
-                Ok(Part {
-                    value: Closed::Else(Frame::Else(line, test, then)),
-                    rest,
-                })
-            }
-            None => {
-                let whole = if_then(reader.alloc, line, test, inner)?;
-                Ok(Part {
-                    value: Closed::More(whole),
-                    rest: tokens,
-                })
-            }
-        },
+    let alloc = reader.alloc;
+    let (whole, rest) = match frame {
+        Frame::If(line, test) => return Ok(close_if(alloc, line, test, inner, tokens)?),
         Frame::Else(line, test, then) => {
-            let whole = if_else(reader.alloc, line, test, Box::into_inner(then), inner)?;
-            Ok(Part {
-                value: Closed::More(whole),
-                rest: tokens,
-            })
+            let whole = if_else(alloc, line, test, Box::into_inner(then), inner)?;
+            (whole, tokens)
         }
         Frame::While(line, test) => {
-            let whole = while_loop(reader.alloc, line, test, inner)?;
-            Ok(Part {
-                value: Closed::More(whole),
-                rest: tokens,
-            })
+            let whole = while_loop(alloc, line, test, inner)?;
+            (whole, tokens)
         }
         Frame::For(line, heading) => {
-            let whole = for_loop(reader.alloc, line, Box::into_inner(heading), inner)?;
-            Ok(Part {
-                value: Closed::More(whole),
-                rest: tokens,
-            })
+            let whole = for_loop(alloc, line, Box::into_inner(heading), inner)?;
+            (whole, tokens)
         }
         Frame::Do(line) => {
             let test = do_end(reader, line, tokens)?;
-            let whole = do_loop(reader.alloc, line, inner, test.value)?;
-            Ok(Part {
-                value: Closed::More(whole),
-                rest: test.rest,
-            })
+            let whole = do_loop(alloc, line, inner, test.value)?;
+            (whole, test.rest)
         }
-    }
+    };
+    Ok(Part {
+        value: Closed::More(whole),
+        rest,
+    })
 }
 
 /// What the statement completes of the heads that wait, the last of which is innermost.

@@ -7,31 +7,12 @@ use Rattle.ep_reading.proofs.PassLemmas.{stops_stop}
 use Rattle.ep_statements.specs.Piece.{DoEnd}
 use Rattle.ep_statements.proofs.StandLemmas as stands
 use Rattle.ep_statements.proofs.frames.close.Goals as goal
+use Rattle.ep_statements.proofs.frames.close.Goals.{in-Else+in_ok-whole-in-Else, in-While+in_ok-whole-in-While}
+use Rattle.ep_statements.proofs.frames.close.Goals.{in-For+in_ok-whole-in-For, in-Do+in_ok-test-in-Do+in_ok-whole-in-Do}
 
-pub returns-in_ok-then-in-Some-clause-reads : goal.returns-in_ok-then-in-Some-clause-reads
-returns-in_ok-then-in-Some-clause-reads c = λ xs ks s. stands.waits_else (is_type c.args.reader.now.names.now) xs
-    (map view c.args.tokens.now) (map view c.in-Some.rest.now) ks c.in-If.line c.in-Some.field-0-0 c.in-If.test
-    c.args.inner c.in_ok-then-in-Some.then c.in_ok-then-in-Some.ensures.ok c.in-Some.ensures.value (rw c.in-If.is at s)
-
-pub returns-in_ok-whole-in-None-clause-reads : goal.returns-in_ok-whole-in-None-clause-reads
-returns-in_ok-whole-in-None-clause-reads c = λ xs ks s. stands.stands_if (is_type c.args.reader.now.names.now) xs
-    (map view c.args.tokens.now) ks c.in-If.line c.in-If.test c.args.inner c.in_ok-whole-in-None.whole
-    c.in_ok-whole-in-None.ensures c.in-None.ensures.value (rw c.in-If.is at s)
-
-pub returns-in_ok-whole-in-Else-clause-reads : goal.returns-in_ok-whole-in-Else-clause-reads
-returns-in_ok-whole-in-Else-clause-reads c = λ xs ks s. stands.stands_else (is_type c.args.reader.now.names.now) xs
-    (map view c.args.tokens.now) ks c.in-Else.line c.in-Else.test c.in-Else.then c.into_inner.result c.args.inner
-    c.in_ok-whole-in-Else.whole c.into_inner.ensures c.in_ok-whole-in-Else.ensures (rw c.in-Else.is at s)
-
-pub returns-in_ok-whole-in-While-clause-reads : goal.returns-in_ok-whole-in-While-clause-reads
-returns-in_ok-whole-in-While-clause-reads c = λ xs ks s. stands.stands_while (is_type c.args.reader.now.names.now) xs
-    (map view c.args.tokens.now) ks c.in-While.line c.in-While.test c.args.inner c.in_ok-whole-in-While.whole
-    c.in_ok-whole-in-While.ensures (rw c.in-While.is at s)
-
-pub returns-in_ok-whole-in-For-clause-reads : goal.returns-in_ok-whole-in-For-clause-reads
-returns-in_ok-whole-in-For-clause-reads c = λ xs ks s. stands.stands_for (is_type c.args.reader.now.names.now) xs
-    (map view c.args.tokens.now) ks c.in-For.line c.in-For.heading c.into_inner-in-For.result c.args.inner
-    c.in_ok-whole-in-For.whole c.into_inner-in-For.ensures c.in_ok-whole-in-For.ensures (rw c.in-For.is at s)
+pub returns-in-If-clause-reads : goal.returns-in-If-clause-reads
+returns-in-If-clause-reads c = λ xs ks s. c.in_ok-close_if-in-If.ensures.reads (is_type c.args.reader.now.names.now) xs
+    ks (rw c.in-If.is at s)
 
 pub returns-in_err-test-in-Do-clause-reads : goal.returns-in_err-test-in-Do-clause-reads
 returns-in_err-test-in-Do-clause-reads c = λ xs ks s.
@@ -41,8 +22,20 @@ returns-in_err-test-in-Do-clause-reads c = λ xs ks s.
     (λ n. stands.do_refused N xs (map view c.args.tokens.now) ks c.in-Do.line c.args.inner (rw c.in-Do.is at s) n)
     c.in_err-test-in-Do.ensures.reads)
 
-pub returns-in_ok-whole-in-Do-clause-reads : goal.returns-in_ok-whole-in-Do-clause-reads
-returns-in_ok-whole-in-Do-clause-reads c = λ xs ks s. stands.stands_do (is_type c.args.reader.now.names.now) xs
-    (map view c.args.tokens.now) (map view c.in_ok-test-in-Do.test.rest.now) ks c.in-Do.line
-    c.in_ok-test-in-Do.test.value c.args.inner c.in_ok-whole-in-Do.whole c.in_ok-whole-in-Do.ensures
-    c.in_ok-test-in-Do.ensures.reads (rw c.in-Do.is at s)
+pub returns-clause-reads : goal.returns-clause-reads
+returns-clause-reads c = λ xs ks s.
+    let N = is_type c.args.reader.now.names.now in
+    elim c.match-frame.branch [
+      | in-Else+in_ok-whole-in-Else w ↦ rw w.whole-is (stands.stands_else N xs (map view c.args.tokens.now) ks w.in-Else.line
+          w.in-Else.test w.in-Else.then w.into_inner.result c.args.inner w.in_ok-whole-in-Else.whole w.into_inner.ensures
+          w.in_ok-whole-in-Else.ensures (rw w.in-Else.is at s))
+      | in-While+in_ok-whole-in-While w ↦ rw w.whole-is (stands.stands_while N xs (map view c.args.tokens.now) ks
+          w.in-While.line w.in-While.test c.args.inner w.in_ok-whole-in-While.whole w.in_ok-whole-in-While.ensures
+          (rw w.in-While.is at s))
+      | in-For+in_ok-whole-in-For w ↦ rw w.whole-is (stands.stands_for N xs (map view c.args.tokens.now) ks w.in-For.line
+          w.in-For.heading w.into_inner-in-For.result c.args.inner w.in_ok-whole-in-For.whole
+          w.into_inner-in-For.ensures w.in_ok-whole-in-For.ensures (rw w.in-For.is at s))
+      | in-Do+in_ok-test-in-Do+in_ok-whole-in-Do w ↦ rw w.whole-is (stands.stands_do N xs (map view c.args.tokens.now)
+          (map view w.in_ok-test-in-Do.test.rest.now) ks w.in-Do.line w.in_ok-test-in-Do.test.value c.args.inner
+          w.in_ok-whole-in-Do.whole w.in_ok-whole-in-Do.ensures w.in_ok-test-in-Do.ensures.reads (rw w.in-Do.is at s))
+    ]
