@@ -12,10 +12,11 @@ ghost use Rattle.ep_scopes.specs.Seen.{env as around};
 use crate::mentions::mention;
 use crate::nodes::{
     cast_to, chosen_from, indexed_by, joined, read_first, selected_behind, size_of, size_of_type,
+    valued,
 };
 use ep_ast::{ExprTree, Halt};
 use ep_operands::kinds::{ASSIGNMENT_IN_EXPRESSION, CALL_IN_EXPRESSION, refused};
-use ep_operands::{Operand, Value, indexable, numbered, selected, unary_typed, value_of};
+use ep_operands::{Operand, Value, indexable, numbered, selected, unary_typed};
 use ep_scopes::{Env, named, named_type};
 
 /// What an expression stands for, where the environment has what it mentions.
@@ -26,51 +27,32 @@ pub fn typed(env: &Env, tree: &ExprTree) -> Result<Operand, Halt>
 {
     match tree {
         ExprTree::Assign(line, mark, a, b) => {
-            let x = typed(env, a)?;
-            read_first(env.alloc, &env.types, *line, *mark, x)?;
+            read_first(env, *line, *mark, typed(env, a)?)?;
             typed(env, b)?;
             Err(refused(ASSIGNMENT_IN_EXPRESSION, *line))
         }
         ExprTree::Conditional(line, test, a, b) => {
-            let test = typed(env, test)?;
-            let test = value_of(env.alloc, &env.types, *line, test)?;
-            let yes = typed(env, a)?;
-            let yes = value_of(env.alloc, &env.types, *line, yes)?;
-            let no = typed(env, b)?;
-            chosen_from(env.alloc, &env.types, *line, test, yes, no)
+            let test = valued(env, *line, typed(env, test)?)?;
+            let yes = valued(env, *line, typed(env, a)?)?;
+            chosen_from(env, *line, test, yes, typed(env, b)?)
         }
         ExprTree::Binary(line, mark, a, b) => {
-            let x = typed(env, a)?;
-            let left = value_of(env.alloc, &env.types, *line, x)?;
-            let right = typed(env, b)?;
-            joined(env.alloc, &env.types, *line, *mark, left, right)
+            let left = valued(env, *line, typed(env, a)?)?;
+            joined(env, *line, *mark, left, typed(env, b)?)
         }
         ExprTree::Cast(line, name, a) => {
             let c = named_type(env, name)?;
-            let x = typed(env, a)?;
-            cast_to(env.alloc, &env.types, *line, c, x)
+            cast_to(env, *line, c, typed(env, a)?)
         }
-        ExprTree::Step(line, _, a) => {
-            typed(env, a)?;
-            Err(refused(ASSIGNMENT_IN_EXPRESSION, *line))
-        }
+        ExprTree::Step(line, _, a) => stepped(env, *line, a),
         ExprTree::Unary(line, mark, a) => {
-            let x = typed(env, a)?;
-            unary_typed(env.alloc, &env.types, *line, *mark, x)
+            unary_typed(env.alloc, &env.types, *line, *mark, typed(env, a)?)
         }
-        ExprTree::SizeofExpr(line, a) => {
-            let x = typed(env, a)?;
-            size_of(&env.types, *line, x)
-        }
-        ExprTree::SizeofType(line, name) => {
-            let c = named_type(env, name)?;
-            size_of_type(&env.types, *line, c)
-        }
+        ExprTree::SizeofExpr(line, a) => size_of(env, *line, typed(env, a)?),
+        ExprTree::SizeofType(line, name) => size_of_type(env, *line, named_type(env, name)?),
         ExprTree::Index(line, a, b) => {
-            let x = typed(env, a)?;
-            let x = indexable(env.alloc, &env.types, *line, x)?;
-            let index = typed(env, b)?;
-            indexed_by(env.alloc, &env.types, *line, x, index)
+            let x = indexable(env.alloc, &env.types, *line, typed(env, a)?)?;
+            indexed_by(env, *line, x, typed(env, b)?)
         }
         ExprTree::Call(line, f, list) => {
             typed(env, f)?;
@@ -78,24 +60,24 @@ pub fn typed(env: &Env, tree: &ExprTree) -> Result<Operand, Halt>
             Err(refused(CALL_IN_EXPRESSION, *line))
         }
         ExprTree::Member(line, a, name) => {
-            let x = typed(env, a)?;
-            selected(env.alloc, &env.types, *line, x, name)
+            selected(env.alloc, &env.types, *line, typed(env, a)?, name)
         }
-        ExprTree::Arrow(line, a, name) => {
-            let x = typed(env, a)?;
-            selected_behind(env.alloc, &env.types, *line, x, name)
-        }
-        ExprTree::PostIncrement(line, a) => {
-            typed(env, a)?;
-            Err(refused(ASSIGNMENT_IN_EXPRESSION, *line))
-        }
-        ExprTree::PostDecrement(line, a) => {
-            typed(env, a)?;
-            Err(refused(ASSIGNMENT_IN_EXPRESSION, *line))
-        }
+        ExprTree::Arrow(line, a, name) => selected_behind(env, *line, typed(env, a)?, name),
+        ExprTree::PostIncrement(line, a) => stepped(env, *line, a),
+        ExprTree::PostDecrement(line, a) => stepped(env, *line, a),
         ExprTree::Id(line, name) => named(env, *line, name),
         ExprTree::Number(_, n) => Ok(numbered(env.types.model(), *n)),
     }
+}
+
+/// `++` or `--`, before an operand or behind it: neither may stand in an expression.
+#[cycle(walk)]
+#[tactic(auto, unfolding(ep_typing::specs::Typing::typed))]
+fn stepped(env: &Env, line: u32, a: &ExprTree) -> Result<Operand, Halt>
+    ensures { Gives seen.operand (rule.typed (around env.now) (source.post_increment line (source.expr a.now))) result }
+{
+    typed(env, a)?;
+    Err(refused(ASSIGNMENT_IN_EXPRESSION, line))
 }
 
 /// The values of a call's arguments.
@@ -108,7 +90,7 @@ pub fn typed_all(env: &Env, line: u32, list: &[ExprTree]) -> Result<Vec<Value>, 
     let mut all = Vec::new(env.alloc);
     for tree in list {
         let x = typed(env, tree)?;
-        let v = value_of(env.alloc, &env.types, line, x)?;
+        let v = valued(env, line, x)?;
         all.push(v)?;
     }
     Ok(all)
