@@ -4,4 +4,5 @@
 mod top;
 
 pub use ep_jobs::Status;
+pub use ep_small_program::first_unbuilt;
 pub use top::endport;

@@ -19,7 +19,7 @@ use ep_jobs::{Job, Status, refusal_job};
 use ep_small_core::program::CoreProgram as SmallProgram;
 use ep_small_iterator::{Report, Steps, analyse};
 use ep_small_part_laws::agreement::agreement;
-use ep_small_program::{PartStop, small_program};
+use ep_small_program::{first_unbuilt, small_program};
 use ep_source::read;
 use std::alloc::Global;
 use std::marker::Brand;
@@ -42,10 +42,12 @@ fn checked(alloc: Global, program: &CoreProgram) -> Result<Job, Memory>
     ensures { IfOk result (λ j. IsChecked (core.shown program.now) j.status j.text.items) }
 {
     agreement();
-    match small_program(alloc, program) {
-        Ok(part) => report_on(alloc, &part),
-        Err(PartStop::Unbuilt(line)) => refusal_job(alloc, &not_built(line)),
-        Err(PartStop::Memory) => Err(Memory),
+    match first_unbuilt(program) {
+        Some(line) => refusal_job(alloc, &not_built(line)),
+        None => {
+            let part = small_program(alloc, program)?;
+            report_on(alloc, &part)
+        }
     }
 }
 

@@ -1,4 +1,7 @@
+mod FirstLines
 mod FunctionLists
 mod Lists
 mod Making
+mod Parts
+mod Seen
 mod Whole

@@ -1,15 +1,13 @@
 //! Functions.
 
-ghost use Rattle.std.specs.Prelude.{◌≡◌, ◌++◌, map, IfOk};
+ghost use Rattle.std.specs.Prelude.{◌≡◌, ◌++◌, map, Some, IfOk, IsSome};
 ghost use Rattle.std.specs.Option.{option_to_list};
 ghost use Rattle.ep_core.specs.Exec.{frame_of};
 ghost use Rattle.ep_core.specs.Shown.{shown};
 ghost use Rattle.ep_core.specs.View.{shown_function};
 ghost use Rattle.ep_small_core.specs.View as small;
 ghost use Rattle.ep_small_part.specs.Part as part;
-ghost use Rattle.ep_small_program.specs.Made.{IsMade};
 
-use crate::program::PartStop;
 use crate::statements::small_stmts;
 use ep_core::program::{CoreProgram, Function};
 use ep_int::Scalar;
@@ -57,9 +55,10 @@ fn locals_of(alloc: Global, f: &Function) -> Result<Vec<u32>, AllocError>
     }
 }
 
-fn small_function(alloc: Global, p: &CoreProgram, f: &Function) -> Result<SmallFunction, PartStop>
-    ensures { IsMade small.shown_function (part.small_function (shown p.now) (shown_function f.now))
-        (part.unbuilt (shown p.now) (shown_function f.now).body) result }
+fn small_function(alloc: Global, p: &CoreProgram, f: &Function) -> Result<SmallFunction, AllocError>
+    requires { IsSome (part.small_function (shown p.now) (shown_function f.now)) }
+    ensures { IfOk result (λ s.
+        part.small_function (shown p.now) (shown_function f.now) ≡ Some (small.shown_function s)) }
 {
     let body = small_stmts(alloc, p, &f.body)?;
     let name = Vec::from_slice(alloc, &f.name)?;
@@ -77,10 +76,10 @@ fn small_function(alloc: Global, p: &CoreProgram, f: &Function) -> Result<SmallF
 pub(crate) fn small_functions(
     alloc: Global,
     p: &CoreProgram,
-) -> Result<Vec<SmallFunction>, PartStop>
-    ensures { IsMade (λ v. map small.shown_function v.items)
-        (part.small_functions (shown p.now) (map shown_function p.now.functions.items))
-        (part.unbuilt_functions (shown p.now) (map shown_function p.now.functions.items)) result }
+) -> Result<Vec<SmallFunction>, AllocError>
+    requires { IsSome (part.small_functions (shown p.now) (map shown_function p.now.functions.items)) }
+    ensures { IfOk result (λ v. part.small_functions (shown p.now) (map shown_function p.now.functions.items)
+        ≡ Some (map small.shown_function v.items)) }
 {
     let mut all = Vec::new(alloc);
     for f in &p.functions {

@@ -1,4 +1,4 @@
-//! The small program that a core program is.
+//! The small program that a core program is, and the first statement that isn't of this part.
 #![tactic(auto)]
 
 mod expressions;
@@ -7,5 +7,7 @@ mod objects;
 mod program;
 mod simple;
 mod statements;
+mod unbuilt;
 
-pub use program::{PartStop, small_program};
+pub use program::small_program;
+pub use unbuilt::first_unbuilt;

@@ -11,3 +11,5 @@ mod commands;
 mod copies;
 #[cfg(test)]
 mod system;
+#[cfg(test)]
+mod unbuilt;
