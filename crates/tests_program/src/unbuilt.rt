@@ -16,8 +16,8 @@ fn first_statements_that_are_not_analysed(rt: HostRuntime) -> Result<(), Fail> {
             Some(5),
         ),
         (
-            "int f(void);\nint main(void) {\n  return f();\n}\nint f(void) {\n  int x = 1;\n  return !x;\n}\n",
-            Some(7),
+            "int f(void);\nint main(void) {\n  int x;\n  x = f();\n}\nint f(void) {\n  int x = 1;\n  return !x;\n}\n",
+            Some(8),
         ),
         (
             "int f(void) {\n  return 1;\n}\nint main(void) {\n  int x;\n  x = f();\n  x = !x;\n}\n",
