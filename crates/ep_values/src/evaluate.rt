@@ -1,10 +1,10 @@
 //! Expressions and places.
 
-ghost use Rattle.std.specs.Prelude.{◌≡◌, ℕ, ℤ, IfOk};
+ghost use Rattle.std.specs.Prelude.{◌≡◌, ℕ, ℤ, IfOk, false, true};
 ghost use Rattle.ep_int.specs.Memory.{Found, has, int, with_place};
 ghost use Rattle.ep_bytes.specs.Held.{memory_in};
 ghost use Rattle.ep_bytes.specs.Shown.{value_in};
-ghost use Rattle.ep_core.specs.Exec.{element_at, with_number};
+ghost use Rattle.ep_core.specs.Exec.{element_at, is_true as truth_of, truth, where_true, with, with_number};
 ghost use Rattle.ep_core.specs.View.{shown_expr, shown_place};
 ghost use Rattle.ep_values.specs.Faults.{IsWithinReach, found_by, with_number_by, with_place_by};
 ghost use Rattle.ep_values.specs.Settings.{
@@ -46,10 +46,7 @@ pub fn value(on: &Setting, store: &Store, e: &Expr) -> Result<Datum, Fault>
             let right = number(on, store, b)?;
             computed(*op, *t, left, right)
         }
-        Expr::Convert(t, a) => {
-            let x = number(on, store, a)?;
-            Ok(Datum::Int(wrap(*t, x)))
-        }
+        Expr::Convert(t, a) => Ok(Datum::Int(wrap(*t, number(on, store, a)?))),
         Expr::Compare(c, _, a, b) => {
             let x = number(on, store, a)?;
             let y = number(on, store, b)?;
@@ -60,24 +57,9 @@ pub fn value(on: &Setting, store: &Store, e: &Expr) -> Result<Datum, Fault>
             let w = value(on, store, b)?;
             pointers_compare(*c, v, w)
         }
-        Expr::And(a, b) => {
-            if !is_true(value(on, store, a)?) {
-                return Ok(truth(false));
-            }
-            let w = value(on, store, b)?;
-            Ok(truth(is_true(w)))
-        }
-        Expr::Or(a, b) => {
-            if is_true(value(on, store, a)?) {
-                return Ok(truth(true));
-            }
-            let w = value(on, store, b)?;
-            Ok(truth(is_true(w)))
-        }
-        Expr::Not(a) => {
-            let v = value(on, store, a)?;
-            Ok(truth(!is_true(v)))
-        }
+        Expr::And(a, b) => conjunction(on, store, value(on, store, a)?, b),
+        Expr::Or(a, b) => disjunction(on, store, value(on, store, a)?, b),
+        Expr::Not(a) => Ok(truth(!is_true(value(on, store, a)?))),
         Expr::Cond(t, a, b) => {
             if is_true(value(on, store, t)?) {
                 return value(on, store, a);
@@ -130,6 +112,36 @@ fn number(on: &Setting, store: &Store, e: &Expr) -> Result<i128, Fault>
         Ok(Datum::Pointer(_, _)) => Err(Fault::PointerPart),
         Err(k) => Err(k),
     }
+}
+
+// What `&&` gives after its first operand.
+#[cycle(evaluate)]
+fn conjunction(on: &Setting, store: &Store, first: Datum, second: &Expr) -> Result<Datum, Fault>
+    requires laid { IsLaid on.now store.now }
+    requires typed { ExprFits on.now (memory_in store.now) (shown_expr second.now) }
+    ensures { found_by result ≡ where_true (truth_of (value_in first)) (truth false)
+        (with (value_on on.now (shown_expr second.now) (memory_in store.now)) (λ v. truth (truth_of v))) }
+{
+    if !is_true(first) {
+        return Ok(truth(false));
+    }
+    let v = value(on, store, second)?;
+    Ok(truth(is_true(v)))
+}
+
+// What `||` gives after its first operand.
+#[cycle(evaluate)]
+fn disjunction(on: &Setting, store: &Store, first: Datum, second: &Expr) -> Result<Datum, Fault>
+    requires laid { IsLaid on.now store.now }
+    requires typed { ExprFits on.now (memory_in store.now) (shown_expr second.now) }
+    ensures { found_by result ≡ where_true (truth_of (value_in first))
+        (with (value_on on.now (shown_expr second.now) (memory_in store.now)) (λ v. truth (truth_of v))) (truth true) }
+{
+    if is_true(first) {
+        return Ok(truth(true));
+    }
+    let v = value(on, store, second)?;
+    Ok(truth(is_true(v)))
 }
 
 // Where a place is.
