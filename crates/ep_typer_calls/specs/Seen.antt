@@ -1,5 +1,5 @@
 -- What the walk through a text adds.
-use Rattle.std.specs.Prelude.{◌≡◌, ℕ, List, ◌++◌, map, Option, None}
+use Rattle.std.specs.Prelude.{◌≡◌, ℕ, suc, List, [], ◌++◌, map, Option, None, Some}
 use Rattle.std.specs.Global.{Vec}
 use Rattle.std.specs.Option.{option_map}
 use Rattle.ep_ast.specs.declared.statements.FunctionTree.{FunctionTree}
@@ -33,9 +33,28 @@ abbrev pub given : (depth : ℕ) → Value → rule.Stand
 given d (single e) = rule.call_in d e
 given d (listed l vs) = rule.calls_none d
 
--- an expression as a statement
-abbrev pub evaluate : Option source.Expr → tree.Stmt
-evaluate e = tree.evaluate 0 e
+-- an expression as a statement, or an empty one
+abbrev pub evaluated : (depth : ℕ) → Option source.Expr → rule.Stand
+evaluated d None = rule.calls_none d
+evaluated d (Some e) = rule.evaluation d e
+
+-- a statement without those in it
+abbrev pub itself : (depth : ℕ) → tree.Stmt → rule.Stand
+itself d (tree.evaluate l e) = evaluated d e
+itself d s = rule.calls_none d
+
+-- the statements in a statement that stands at this depth
+abbrev pub inner : (depth : ℕ) → tree.Stmt → List rule.Stand
+inner d (tree.block l ps) = rule.stands_in_parts d ps
+inner d (tree.evaluate l e) = []
+inner d (tree.if_then l e s) = rule.stands d s
+inner d (tree.if_else l e s u) = rule.stands d s ++ rule.stands d u
+inner d (tree.while_loop l e s) = rule.stands d s
+inner d (tree.do_loop l s e) = rule.stands d s
+inner d (tree.for_loop l f e g s) = rule.first_stands (suc d) f ++ rule.stands d s
+inner d (tree.break_loop l) = []
+inner d (tree.continue_loop l) = []
+inner d (tree.return_value l e) = []
 
 -- a statement with the name of its function
 abbrev pub placed : (number : List ℕ → ℕ) → rule.Placed → rule.Place

@@ -1,17 +1,17 @@
-//! Statements without statements in them.
+//! Statements, each without those in it.
 
 ghost use Rattle.std.specs.Prelude.{◌≡◌, ℕ, List, suc, [], ◌∷◌, map, IfOk, OnOk};
 ghost use Rattle.std.specs.Option.{option_map};
 ghost use Rattle.ep_ast.specs.Declaration.{init_of, value_of};
 ghost use Rattle.ep_ast.specs.Expression.{expr};
-ghost use Rattle.ep_ast.specs.Statement.{first_of};
+ghost use Rattle.ep_ast.specs.Statement.{first_of, stmt_of};
 ghost use Rattle.ep_call_graph.specs.Seen.{place as shown_place};
 ghost use Rattle.ep_elaboration.specs.Calls as rule;
 ghost use Rattle.ep_scopes.specs.Seen.{env as around};
 ghost use Rattle.ep_typer_calls.specs.Seen as seen;
 
 use crate::numbers::number;
-use ep_ast::{ExprTree, ForInitTree, InitTree, ValueTree};
+use ep_ast::{ExprTree, ForInitTree, InitTree, StmtTree, ValueTree};
 use ep_call_graph::Place;
 use ep_operands::built_in;
 use ep_scopes::Env;
@@ -77,6 +77,38 @@ fn evaluation(env: &Env, caller: u32, depth: u32, tree: &ExprTree) -> Result<Pla
     match tree {
         ExprTree::Assign(_, _, _, value) => call_in(env, caller, depth, value),
         _ => call_in(env, caller, depth, tree),
+    }
+}
+
+// An expression as a statement, or an empty one.
+fn evaluated(
+    env: &Env,
+    caller: u32,
+    depth: u32,
+    value: &Option<ExprTree>,
+) -> Result<Place, AllocError>
+    ensures { IfOk result (λ p. shown_place p ≡ seen.place (seen.number (around env.now)) caller
+        (seen.evaluated depth (option_map expr value.now))) }
+{
+    match value {
+        None => Ok(calls_none(caller, depth)),
+        Some(tree) => evaluation(env, caller, depth, tree),
+    }
+}
+
+/// A statement without those in it.
+pub(crate) fn itself(
+    env: &Env,
+    caller: u32,
+    depth: u32,
+    tree: &StmtTree,
+) -> Result<Place, AllocError>
+    ensures { IfOk result (λ p. shown_place p ≡ seen.place (seen.number (around env.now)) caller
+        (seen.itself depth (stmt_of tree.now))) }
+{
+    match tree {
+        StmtTree::Expr(_, value) => evaluated(env, caller, depth, value),
+        _ => Ok(calls_none(caller, depth)),
     }
 }
 
@@ -162,29 +194,4 @@ pub(crate) fn enter(all: &mut Vec<Place>, caller: u32, round: u32) -> Result<u32
     let depth = inside(round)?;
     all.push(calls_none(caller, depth))?;
     Ok(depth)
-}
-
-/// An expression as a statement, or an empty one.
-pub(crate) fn evaluated(
-    env: &Env,
-    all: &mut Vec<Place>,
-    caller: u32,
-    round: u32,
-    value: &Option<ExprTree>,
-) -> Result<(), AllocError>
-    ensures { OnOk result (seen.Adds (seen.place (seen.number (around env.now)) caller) all.old.items all.new.items
-        (rule.stands round (seen.evaluate (option_map expr value.now)))) }
-{
-    let depth = inside(round)?;
-    match value {
-        None => {
-            all.push(calls_none(caller, depth))?;
-            Ok(())
-        }
-        Some(tree) => {
-            let place = evaluation(env, caller, depth, tree)?;
-            all.push(place)?;
-            Ok(())
-        }
-    }
 }

@@ -6,7 +6,7 @@ ghost use Rattle.ep_elaboration.specs.Calls as rule;
 ghost use Rattle.ep_scopes.specs.Seen.{env as around};
 ghost use Rattle.ep_typer_calls.specs.Seen as seen;
 
-use crate::stands::{enter, evaluated, first, initialisations, inside};
+use crate::stands::{enter, first, initialisations, inside, itself};
 use ep_ast::{BlockItemTree, StmtTree};
 use ep_call_graph::Place;
 use ep_scopes::Env;
@@ -24,53 +24,44 @@ fn statement(
     ensures { OnOk result (seen.Adds (seen.place (seen.number (around env.now)) caller) all.old.items all.new.items
         (rule.stands round (stmt_of tree.now))) }
 {
+    let depth = inside(round)?;
+    let place = itself(env, caller, depth, tree)?;
+    all.push(place)?;
+    inner(env, all, caller, depth, tree)
+}
+
+/// The statements in a statement that stands at this depth.
+#[cycle(walk)]
+fn inner(
+    env: &Env,
+    all: &mut Vec<Place>,
+    caller: u32,
+    depth: u32,
+    tree: &StmtTree,
+) -> Result<(), AllocError>
+    ensures { OnOk result (seen.Adds (seen.place (seen.number (around env.now)) caller) all.old.items all.new.items
+        (seen.inner depth (stmt_of tree.now))) }
+{
     match tree {
-        StmtTree::Block(_, items) => {
-            let depth = enter(all, caller, round)?;
-            parts(env, all, caller, depth, items)?;
-            Ok(())
-        }
-        StmtTree::Expr(_, value) => evaluated(env, all, caller, round, value),
+        StmtTree::Block(_, items) => parts(env, all, caller, depth, items),
+        StmtTree::Expr(_, _) => Ok(()),
         StmtTree::If(_, _, then, otherwise) => {
-            let depth = enter(all, caller, round)?;
             statement(env, all, caller, depth, then)?;
             match otherwise {
                 None => Ok(()),
-                Some(other) => {
-                    statement(env, all, caller, depth, other)?;
-                    Ok(())
-                }
+                Some(other) => statement(env, all, caller, depth, other),
             }
         }
-        StmtTree::While(_, _, turn) => {
-            let depth = enter(all, caller, round)?;
-            statement(env, all, caller, depth, turn)?;
-            Ok(())
-        }
-        StmtTree::Do(_, turn, _) => {
-            let depth = enter(all, caller, round)?;
-            statement(env, all, caller, depth, turn)?;
-            Ok(())
-        }
+        StmtTree::While(_, _, turn) => statement(env, all, caller, depth, turn),
+        StmtTree::Do(_, turn, _) => statement(env, all, caller, depth, turn),
         StmtTree::For(_, heading, turn) => {
-            let depth = enter(all, caller, round)?;
             let deeper = inside(depth)?;
             first(env, all, caller, deeper, &heading.first)?;
-            statement(env, all, caller, depth, turn)?;
-            Ok(())
+            statement(env, all, caller, depth, turn)
         }
-        StmtTree::Break(_) => {
-            enter(all, caller, round)?;
-            Ok(())
-        }
-        StmtTree::Continue(_) => {
-            enter(all, caller, round)?;
-            Ok(())
-        }
-        StmtTree::Return(_, _) => {
-            enter(all, caller, round)?;
-            Ok(())
-        }
+        StmtTree::Break(_) => Ok(()),
+        StmtTree::Continue(_) => Ok(()),
+        StmtTree::Return(_, _) => Ok(()),
     }
 }
 
