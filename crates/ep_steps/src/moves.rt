@@ -159,33 +159,20 @@ pub(crate) fn begin<'p>(
         What::Nothing => Ok(Now::Leave(Way::On)),
         What::Eval(e) => Ok(eval(on, machine, e, s.line)),
         What::Assign(what, a, e) => Ok(assign(on, machine, *what, a, e, s.line)),
-        What::Clear(a, ty) => {
-            let n = clear(on, machine, a, *ty, s.line)?;
-            Ok(n)
-        }
+        What::Clear(a, ty) => clear(on, machine, a, *ty, s.line),
         What::CopyAggregate(to, from, ty) => {
             Ok(copy_aggregate(on, machine, to, from, *ty, s.line))
         }
         What::CopyBytes(to, from, n) => Ok(copy_bytes(on, machine, to, from, *n, s.line)),
         What::Fill(to, byte, n) => Ok(fill(on, machine, to, byte, *n, s.line)),
         What::Call(k, arguments, dest) => {
-            let n = call(alloc, on, machine, stack, here, *k, arguments, dest, s.line)?;
-            Ok(n)
+            call(alloc, on, machine, stack, here, *k, arguments, dest, s.line)
         }
         What::Input(t, dest) => Ok(input(on, machine, *t, dest, s.line)),
-        What::Output(t, e) => {
-            let n = output(on, machine, *t, e, s.line)?;
-            Ok(n)
-        }
+        What::Output(t, e) => output(on, machine, *t, e, s.line),
         What::ReadBytes(to, n) => Ok(read_bytes(on, machine, to, *n, s.line)),
-        What::WriteBytes(from, count) => {
-            let n = write_bytes(on, machine, from, *count, s.line)?;
-            Ok(n)
-        }
-        What::If(e, a, b) => {
-            let n = choose(on, machine, here, e, a, b, s.line)?;
-            Ok(n)
-        }
+        What::WriteBytes(from, count) => write_bytes(on, machine, from, *count, s.line),
+        What::If(e, a, b) => choose(on, machine, here, e, a, b, s.line),
         What::Loop(tests_first, e, a, b) => {
             let round = Round {
                 here,
@@ -194,16 +181,12 @@ pub(crate) fn begin<'p>(
                 body: a,
                 next: b,
             };
-            let n = begin_loop(stack, *tests_first, &round)?;
-            Ok(n)
+            begin_loop(stack, *tests_first, &round)
         }
         What::Break => Ok(Now::Leave(Way::Broken)),
         What::Continue => Ok(Now::Leave(Way::Continued)),
         What::Return(e) => Ok(give_back(on, machine, result_of(on, here), e, s.line)),
-        What::ByOrder(named, a, b) => {
-            let n = choose_arm(on, machine, stack, here, *named, a, b)?;
-            Ok(n)
-        }
+        What::ByOrder(named, a, b) => choose_arm(on, machine, stack, here, *named, a, b),
         What::Scope(_, _) => Ok(Now::Leave(Way::On)),
     }
 }

@@ -1,4 +1,5 @@
 use Rattle.std.proofs.Common.{suc, map, refl, sym, ap, ◌∙◌, subst}
+use Rattle.std.proofs.lemmas.Result.{IfOk-weaker}
 use Rattle.std.specs.Option.{option_map}
 use Rattle.ep_bytes.specs.Held.{memory_in}
 use Rattle.ep_core.specs.Exec.{returned_with}
@@ -38,10 +39,11 @@ clear-requires-clause-typed c =
     simple_fits c.args.on.now c.args.here (memory_in c.args.machine.now.store) _ _ (ap shown_what c.in-Clear.is)
     c.requires.runs.fits c.requires.typed
 
-pub returns-in_ok-n-in-Clear-clause-comes : goal.returns-in_ok-n-in-Clear-clause-comes
-returns-in_ok-n-in-Clear-clause-comes c steps left =
+pub returns-in-Clear-clause-comes : goal.returns-in-Clear-clause-comes
+returns-in-Clear-clause-comes c =
+    IfOk-weaker c.clear.result _ _ (λ n comes steps left.
     simple_does c.args.on.now c.args.here _ _ (ap shown_what c.in-Clear.is) c.args.s.now.line left
-    (state_in c.args.machine.now) c.args.stack.now.items _ (c.in_ok-n-in-Clear.ensures.comes left)
+    (state_in c.args.machine.now) c.args.stack.now.items _ (comes left)) c.clear.ensures.comes
 
 pub copy_aggregate-requires-clause-typed : goal.copy_aggregate-requires-clause-typed
 copy_aggregate-requires-clause-typed c =
@@ -88,10 +90,11 @@ output-requires-clause-typed c =
     simple_fits c.args.on.now c.args.here (memory_in c.args.machine.now.store) _ _ (ap shown_what c.in-Output.is)
     c.requires.runs.fits c.requires.typed
 
-pub returns-in_ok-n-in-Output-clause-comes : goal.returns-in_ok-n-in-Output-clause-comes
-returns-in_ok-n-in-Output-clause-comes c steps left =
+pub returns-in-Output-clause-comes : goal.returns-in-Output-clause-comes
+returns-in-Output-clause-comes c =
+    IfOk-weaker c.output.result _ _ (λ n comes steps left.
     simple_does c.args.on.now c.args.here _ _ (ap shown_what c.in-Output.is) c.args.s.now.line left
-    (state_in c.args.machine.now) c.args.stack.now.items _ (c.in_ok-n-in-Output.ensures.comes left)
+    (state_in c.args.machine.now) c.args.stack.now.items _ (comes left)) c.output.ensures.comes
 
 pub read_bytes-requires-clause-typed : goal.read_bytes-requires-clause-typed
 read_bytes-requires-clause-typed c =
@@ -108,10 +111,11 @@ write_bytes-requires-clause-typed c =
     simple_fits c.args.on.now c.args.here (memory_in c.args.machine.now.store) _ _ (ap shown_what c.in-WriteBytes.is)
     c.requires.runs.fits c.requires.typed
 
-pub returns-in_ok-n-in-WriteBytes-clause-comes : goal.returns-in_ok-n-in-WriteBytes-clause-comes
-returns-in_ok-n-in-WriteBytes-clause-comes c steps left =
+pub returns-in-WriteBytes-clause-comes : goal.returns-in-WriteBytes-clause-comes
+returns-in-WriteBytes-clause-comes c =
+    IfOk-weaker c.write_bytes.result _ _ (λ n comes steps left.
     simple_does c.args.on.now c.args.here _ _ (ap shown_what c.in-WriteBytes.is) c.args.s.now.line left
-    (state_in c.args.machine.now) c.args.stack.now.items _ (c.in_ok-n-in-WriteBytes.ensures.comes left)
+    (state_in c.args.machine.now) c.args.stack.now.items _ (comes left)) c.write_bytes.ensures.comes
 
 pub returns-in-Nothing-clause-comes : goal.returns-in-Nothing-clause-comes
 returns-in-Nothing-clause-comes c steps left =
@@ -150,15 +154,16 @@ call-requires-clause-typed c =
     subst (λ xs. OneFits m c.args.here (call c.in-Call.k (map shown_expr xs) (option_map shown_dest c.in-Call.dest)))
     (sym c.deref.ensures.value) (subst (λ w. OneFits m c.args.here (shown_what w)) c.in-Call.is c.requires.typed)
 
-pub returns-in_ok-n-in-Call-clause-comes : goal.returns-in_ok-n-in-Call-clause-comes
-returns-in_ok-n-in-Call-clause-comes c steps left =
+pub returns-in-Call-clause-comes : goal.returns-in-Call-clause-comes
+returns-in-Call-clause-comes c =
     let m = c.args.on.now in
     let s = state_in c.args.machine.now in
     let fs = c.args.stack.now.items in
-    c.in_ok-n-in-Call.ensures.comes left
+    IfOk-weaker c.call.result _ _ (λ n comes steps left. comes left
     ∙ ap (λ xs. piled m fs (one_of m c.args.here (call c.in-Call.k (map shown_expr xs)
     (option_map shown_dest c.in-Call.dest)) c.args.s.now.line (suc left) s)) c.deref.ensures.value
-    ∙ ap (λ w. piled m fs (one_of m c.args.here (shown_what w) c.args.s.now.line (suc left) s)) (sym c.in-Call.is)
+    ∙ ap (λ w. piled m fs (one_of m c.args.here (shown_what w) c.args.s.now.line (suc left) s)) (sym c.in-Call.is))
+    c.call.ensures.comes
 
 pub choose-requires-clause-typed : goal.choose-requires-clause-typed
 choose-requires-clause-typed c =
@@ -183,51 +188,52 @@ choose-requires-clause-no c =
     (if_fits m c.args.here c.in-If.e c.in-If.a c.in-If.b _ _ c.deref-in-If.ensures.value
     c.deref-in-If-2.ensures.value h).1
 
-pub returns-in_ok-n-in-If-clause-comes : goal.returns-in_ok-n-in-If-clause-comes
-returns-in_ok-n-in-If-clause-comes c steps left =
+pub returns-in-If-clause-comes : goal.returns-in-If-clause-comes
+returns-in-If-clause-comes c =
     let m = c.args.on.now in
     let s = state_in c.args.machine.now in
+    IfOk-weaker c.choose.result _ _ (λ n comes steps left.
     ap (piled m c.args.stack.now.items)
-    (c.in_ok-n-in-If.ensures.comes left
+    (comes left
     ∙ if_does m c.args.here c.in-If.e c.in-If.a c.in-If.b _ _ c.deref-in-If.ensures.value
     c.deref-in-If-2.ensures.value c.args.s.now.line left s
-    ∙ sym (ap (λ w. one_of m c.args.here (shown_what w) c.args.s.now.line (suc left) s) c.in-If.is))
+    ∙ sym (ap (λ w. one_of m c.args.here (shown_what w) c.args.s.now.line (suc left) s) c.in-If.is))) c.choose.ensures.comes
 
-pub returns-in_ok-n-in-Loop-clause-comes : goal.returns-in_ok-n-in-Loop-clause-comes
-returns-in_ok-n-in-Loop-clause-comes c steps left =
+pub returns-in-Loop-clause-comes : goal.returns-in-Loop-clause-comes
+returns-in-Loop-clause-comes c =
     let m = c.args.on.now in
     let s = state_in c.args.machine.now in
-    c.in_ok-n-in-Loop.ensures.comes m left s
+    IfOk-weaker c.begin_loop.result _ _ (λ n comes steps left. comes m left s
     ∙ ap (piled m c.args.stack.now.items)
     (loop_does m c.args.here c.in-Loop.tests_first c.in-Loop.e c.in-Loop.a c.in-Loop.b c.deref-in-Loop.result.now
     c.deref-in-Loop-2.result.now c.deref-in-Loop.ensures.value c.deref-in-Loop-2.ensures.value c.args.s.now.line left s
-    ∙ sym (ap (λ w. one_of m c.args.here (shown_what w) c.args.s.now.line (suc left) s) c.in-Loop.is))
+    ∙ sym (ap (λ w. one_of m c.args.here (shown_what w) c.args.s.now.line (suc left) s) c.in-Loop.is))) c.begin_loop.ensures.comes
 
-pub returns-in_ok-n-in-Loop-clause-fits : goal.returns-in_ok-n-in-Loop-clause-fits
-returns-in_ok-n-in-Loop-clause-fits c =
+pub returns-in-Loop-clause-fits : goal.returns-in-Loop-clause-fits
+returns-in-Loop-clause-fits c =
     let m = c.args.on.now in
     let h : OneFits m c.args.here (shown_what (Loop c.in-Loop.tests_first c.in-Loop.e c.in-Loop.a c.in-Loop.b))
     = subst (λ w. OneFits m c.args.here (shown_what w)) c.in-Loop.is c.requires.typed in
     let k = loop_fits m c.args.here c.in-Loop.tests_first c.in-Loop.e c.in-Loop.a c.in-Loop.b
     c.deref-in-Loop.result.now c.deref-in-Loop-2.result.now c.deref-in-Loop.ensures.value c.deref-in-Loop-2.ensures.value h in
-    (c.in_ok-n-in-Loop.ensures.fits m (record {
+    IfOk-weaker c.begin_loop.result _ _ (λ n fits. (fits m (record {
       test = loop_test m c.args.here c.in-Loop.tests_first c.in-Loop.e c.in-Loop.a c.in-Loop.b h;
       body = k.0;
       next = k.1;
-    })).0
+    })).0) c.begin_loop.ensures.fits
 
-pub returns-in_ok-n-in-Loop-clause-pile : goal.returns-in_ok-n-in-Loop-clause-pile
-returns-in_ok-n-in-Loop-clause-pile c =
+pub returns-in-Loop-clause-pile : goal.returns-in-Loop-clause-pile
+returns-in-Loop-clause-pile c =
     let m = c.args.on.now in
     let h : OneFits m c.args.here (shown_what (Loop c.in-Loop.tests_first c.in-Loop.e c.in-Loop.a c.in-Loop.b))
     = subst (λ w. OneFits m c.args.here (shown_what w)) c.in-Loop.is c.requires.typed in
     let k = loop_fits m c.args.here c.in-Loop.tests_first c.in-Loop.e c.in-Loop.a c.in-Loop.b
     c.deref-in-Loop.result.now c.deref-in-Loop-2.result.now c.deref-in-Loop.ensures.value c.deref-in-Loop-2.ensures.value h in
-    (c.in_ok-n-in-Loop.ensures.fits m (record {
+    IfOk-weaker c.begin_loop.result _ _ (λ n fits. (fits m (record {
       test = loop_test m c.args.here c.in-Loop.tests_first c.in-Loop.e c.in-Loop.a c.in-Loop.b h;
       body = k.0;
       next = k.1;
-    })).1
+    })).1) c.begin_loop.ensures.fits
 
 pub choose_arm-requires-clause-yes : goal.choose_arm-requires-clause-yes
 choose_arm-requires-clause-yes c =
@@ -245,13 +251,13 @@ choose_arm-requires-clause-no c =
     (arm_fits m c.args.here c.in-ByOrder.named c.in-ByOrder.a c.in-ByOrder.b _ _ c.deref-in-ByOrder.ensures.value
     c.deref-in-ByOrder-2.ensures.value h).1
 
-pub returns-in_ok-n-in-ByOrder-clause-comes : goal.returns-in_ok-n-in-ByOrder-clause-comes
-returns-in_ok-n-in-ByOrder-clause-comes c steps left =
+pub returns-in-ByOrder-clause-comes : goal.returns-in-ByOrder-clause-comes
+returns-in-ByOrder-clause-comes c =
     let m = c.args.on.now in
     let s = state_in c.args.machine.now in
-    c.in_ok-n-in-ByOrder.ensures.comes left
+    IfOk-weaker c.choose_arm.result _ _ (λ n comes steps left. comes left
     ∙ ap (piled m c.args.stack.now.items)
     (arm_does m c.args.here c.in-ByOrder.named c.in-ByOrder.a c.in-ByOrder.b c.deref-in-ByOrder.result.now
     c.deref-in-ByOrder-2.result.now c.deref-in-ByOrder.ensures.value c.deref-in-ByOrder-2.ensures.value
     c.args.s.now.line left s
-    ∙ sym (ap (λ w. one_of m c.args.here (shown_what w) c.args.s.now.line (suc left) s) c.in-ByOrder.is))
+    ∙ sym (ap (λ w. one_of m c.args.here (shown_what w) c.args.s.now.line (suc left) s) c.in-ByOrder.is))) c.choose_arm.ensures.comes
