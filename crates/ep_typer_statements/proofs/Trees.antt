@@ -1,27 +1,47 @@
--- Blocks and arms by byte order, whose parts stand in a `Vec`.
+-- Statements in memory with their parts, and arms by byte order.
 use Rattle.std.proofs.Common.{◌≡◌, ℕ, Bool, List, [], map, Option, Some, None, Ok, Err, refl, sym, ap, ◌∙◌}
-use Rattle.std.specs.Global.{Vec}
+use Rattle.std.specs.Global.{Box, Vec}
 use Rattle.std.specs.Option.{option_map}
 use Rattle.ep_ast.specs.declared.orders.NamedOrder.{NamedOrder}
 use Rattle.ep_ast.specs.declared.refusals.Halt.{Halt}
 use Rattle.ep_ast.specs.declared.refusals.Halt.TheVariants as halts
 use Rattle.ep_ast.specs.declared.expressions.ExprTree.{ExprTree}
-use Rattle.ep_ast.specs.declared.statements.StmtTree.{StmtTree, Block, Return}
+use Rattle.ep_ast.specs.declared.statements.StmtTree.{StmtTree, Block, While, Do, For}
+use Rattle.ep_ast.specs.declared.statements.HeadingTree.{HeadingTree}
 use Rattle.ep_ast.specs.declared.statements.BlockItemTree.{BlockItemTree, Arms}
 use Rattle.ep_ast.specs.declared.statements.BlockItemTree.TheBlock.{back-BlockItemTree-Arms-3}
 use Rattle.ep_ast.specs.Expression.{expr}
 use Rattle.ep_ast.specs.Statement as shape
-use Rattle.ep_ast.specs.Statement.{Stmts, Parts, stmt_of, part_of, to_stmts, to_parts, held_stmts, make_arms}
+use Rattle.ep_ast.specs.Statement.{Stmts, Parts, first_of, stmt_of, part_of, to_stmts, to_parts, held_stmts, make_arms}
 use Rattle.ep_ast.proofs.Rows.{parts-vec, stmts-option, stmts-vec}
 use Rattle.ep_core.specs.Program as core
 use Rattle.ep_typing.specs.declared.types.CType.{CType}
 use Rattle.ep_typing.specs.Env.{Env}
 use Rattle.ep_operands.specs.Gives.{Stops}
 use Rattle.ep_elaboration.specs.Declarations.{Line}
-use Rattle.ep_elaboration.specs.Statements.{blocks_behind, entered, left, one_line, order_of, part, parts, statement, statements, to_core}
+use Rattle.ep_elaboration.specs.Statements.{entered, left, one_line, order_of, part, statements, to_core}
 
-pub block_tree : (l : ℕ) (v : Vec BlockItemTree) → stmt_of (Block l v) ≡ shape.block l (to_parts (map part_of v.items))
-block_tree l v = ap (λ (ps : Parts). shape.block l ps) (parts-vec v)
+pub block_tree : (l : ℕ) (t : StmtTree) (v : Vec BlockItemTree) (xs : List BlockItemTree) → t ≡ Block l v → xs ≡ v.items
+    → stmt_of t ≡ shape.block l (to_parts (map part_of xs))
+block_tree l t v xs is at =
+    ap stmt_of is ∙ ap (λ (ps : Parts). shape.block l ps) (parts-vec v)
+    ∙ ap (λ (ys : List BlockItemTree). shape.block l (to_parts (map part_of ys))) (sym at)
+
+pub while_tree : (l : ℕ) (t u : StmtTree) (e : ExprTree) (p : Box StmtTree) → t ≡ While l e p → u ≡ p.value
+    → stmt_of t ≡ shape.while_loop l (expr e) (stmt_of u)
+while_tree l t u e p is at = ap stmt_of is ∙ ap (λ (s : StmtTree). shape.while_loop l (expr e) (stmt_of s)) (sym at)
+
+pub do_tree : (l : ℕ) (t u : StmtTree) (e : ExprTree) (p : Box StmtTree) → t ≡ Do l p e → u ≡ p.value
+    → stmt_of t ≡ shape.do_loop l (stmt_of u) (expr e)
+do_tree l t u e p is at = ap stmt_of is ∙ ap (λ (s : StmtTree). shape.do_loop l (stmt_of s) (expr e)) (sym at)
+
+pub for_tree : (l : ℕ) (t u : StmtTree) (h : HeadingTree) (b : Box HeadingTree) (p : Box StmtTree) → t ≡ For l b p
+    → h ≡ b.value → u ≡ p.value
+    → stmt_of t ≡ shape.for_loop l (first_of h.first) (option_map expr h.test) (option_map expr h.next) (stmt_of u)
+for_tree l t u h b p is heading at =
+    ap stmt_of is
+    ∙ ap (λ (g : HeadingTree). shape.for_loop l (first_of g.first) (option_map expr g.test) (option_map expr g.next) (stmt_of p.value)) (sym heading)
+    ∙ ap (λ (s : StmtTree). shape.for_loop l (first_of h.first) (option_map expr h.test) (option_map expr h.next) (stmt_of s)) (sym at)
 
 pub arms_tree : (l : ℕ) (o : NamedOrder) (v : Vec StmtTree) (e : Option (Vec StmtTree))
     → part_of (Arms l o v e) ≡ make_arms l o (shape.statements v) (option_map shape.statements e)
@@ -29,36 +49,7 @@ arms_tree l o v e =
     ap (λ (ss : Stmts). make_arms l o ss (held_stmts (back-BlockItemTree-Arms-3 e))) (stmts-vec v)
     ∙ ap (λ (ts : Option Stmts). make_arms l o (shape.statements v) ts) (stmts-option e)
 
-pub return_tree : (l : ℕ) (t : StmtTree) (o : Option ExprTree) (e : ExprTree) → t ≡ Return l o → o ≡ Some e
-    → stmt_of t ≡ shape.return_value l (Some (expr e))
-return_tree l t o e is some = ap stmt_of is ∙ ap (λ (x : Option ExprTree). shape.return_value l (option_map expr x)) some
-
 module _ (G : Env) (c : CType) (k : Bool) (l : ℕ) where
-  -- ---- a block
-
-  module _ (t : StmtTree) (v : Vec BlockItemTree) (xs : List BlockItemTree) (is : t ≡ Block l v) (at : xs ≡ v.items) where
-    opened : statement G c k (stmt_of t) ≡ statement G c k (shape.block l (to_parts (map part_of xs)))
-    opened =
-        ap (λ (u : StmtTree). statement G c k (stmt_of u)) is ∙ ap (statement G c k) (block_tree l v)
-        ∙ ap (λ (ys : List BlockItemTree). statement G c k (shape.block l (to_parts (map part_of ys)))) (sym at)
-
-    pub block_stops : (H : Env) (e : Halt) → H ≡ entered G → Stops (parts H c k (to_parts (map part_of xs))) e
-        → Stops (statement G c k (stmt_of t)) e
-    unfolding statement
-    block_stops H halts.Memory h n = tt
-    block_stops H (halts.Refused r) h n =
-        opened ∙ (let m : parts (entered G) c k (to_parts (map part_of xs)) ≡ Err r = rw (← h) n in rw m refl)
-
-    pub block_is : (H I K : Env) (ls out : List Line) (bs : List ℕ) (w : core.What) → H ≡ entered G
-        → parts H c k (to_parts (map part_of xs)) ≡ Ok (ls, I) → bs ≡ blocks_behind 0 I → K ≡ left I
-        → w ≡ core.scope bs (to_core ls) → out ≡ one_line l w → statement G c k (stmt_of t) ≡ Ok (out, K)
-    unfolding statement
-    block_is H I K ls out bs w h n b j q p =
-        let m : parts (entered G) c k (to_parts (map part_of xs)) ≡ Ok (ls, I) = rw (← h) n in
-        opened ∙ rw m (rw (p, q, b, j) refl)
-
-  -- ---- arms
-
   module _ (o : NamedOrder) (t : BlockItemTree) (v : Vec StmtTree) (other : Option (Vec StmtTree)) (xs : List StmtTree)
       (is : t ≡ Arms l o v other) (at : xs ≡ v.items) where
     armed : part G c k (part_of t)

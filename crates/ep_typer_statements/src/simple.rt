@@ -1,6 +1,6 @@
 //! Tests, expressions as statements, jumps and returns.
 
-ghost use Rattle.std.specs.Prelude.{◌≡◌, Bool, OnOk, Some};
+ghost use Rattle.std.specs.Prelude.{◌≡◌, Bool, OnOk};
 ghost use Rattle.std.specs.Option.{option_map};
 ghost use Rattle.ep_ast.specs.Expression as source;
 ghost use Rattle.ep_ast.specs.Statement as shape;
@@ -113,9 +113,8 @@ pub(crate) fn jump(alloc: Global, in_loop: bool, line: u32, what: What) -> Resul
     Err(refused(JUMP_OUTSIDE_LOOP, line))
 }
 
-/// A return without a value.
 #[tactic(auto, unfolding(ep_elaboration::specs::Statements::nothing_returned))]
-pub(crate) fn nothing_returned(line: u32, result_type: CType) -> Result<What, Halt>
+fn nothing_returned(line: u32, result_type: CType) -> Result<What, Halt>
     ensures { Gives shown_what (at line (rule.nothing_returned result_type)) result }
 {
     if is_void(result_type) {
@@ -154,23 +153,31 @@ fn operand_returned(
     value_returned(alloc, types, line, result_type, x)
 }
 
-/// A return with a value.
+/// A return.
 #[tactic(auto, unfolding(ep_elaboration::specs::Statements::statement))]
 pub(crate) fn returned(
     env: &mut Env,
     line: u32,
     result_type: CType,
-    tree: &ExprTree,
+    value: &Option<ExprTree>,
 ) -> Result<Vec<Stmt>, Halt>
     requires { IsKnownEnv (around env.old) }
-    ensures means { (in_loop : Bool) → GivesIn seen_lines
-        (rule.statement (around env.old) result_type in_loop (shape.return_value line (Some (source.expr tree.now))))
-        (around env.new) result }
+    ensures means { (in_loop : Bool) → GivesIn seen_lines (rule.statement (around env.old) result_type in_loop
+        (shape.return_value line (option_map source.expr value.now))) (around env.new) result }
     ensures known { OnOk result (IsKnownEnv (around env.new)) }
 {
-    mention(env, tree)?;
-    let x = typed(env, tree)?;
-    let what = operand_returned(env.alloc, &env.types, line, result_type, x)?;
-    let lines = one_line(env.alloc, line, what)?;
-    Ok(lines)
+    match value {
+        None => {
+            let what = nothing_returned(line, result_type)?;
+            let lines = one_line(env.alloc, line, what)?;
+            Ok(lines)
+        }
+        Some(tree) => {
+            mention(env, tree)?;
+            let x = typed(env, tree)?;
+            let what = operand_returned(env.alloc, &env.types, line, result_type, x)?;
+            let lines = one_line(env.alloc, line, what)?;
+            Ok(lines)
+        }
+    }
 }

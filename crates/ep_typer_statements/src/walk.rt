@@ -1,6 +1,8 @@
 //! Statements and the parts of blocks.
 
-ghost use Rattle.std.specs.Prelude.{◌≡◌, map, false, OnOk};
+ghost use Rattle.std.specs.Prelude.{◌≡◌, Bool, map, false, OnOk};
+ghost use Rattle.std.specs.Option.{option_map};
+ghost use Rattle.ep_ast.specs.Expression as source;
 ghost use Rattle.ep_ast.specs.Statement as shape;
 ghost use Rattle.ep_core.specs.View.{shown_what};
 ghost use Rattle.ep_declared.specs.Gives.{GivesIn};
@@ -14,10 +16,9 @@ use crate::headings::{first_inside, for_lines};
 use crate::nodes::{branched, by_order, looped, one_line, scoped};
 use crate::scoping::{blocks_here, enter, leave};
 use crate::simple::{
-    evaluated_if, evaluated_in, jump, nothing_returned, returned, tested_if, tested_in,
-    tested_inside,
+    evaluated_if, evaluated_in, jump, returned, tested_if, tested_in, tested_inside,
 };
-use ep_ast::{BlockItemTree, Halt, HeadingTree, NamedOrder, StmtTree};
+use ep_ast::{BlockItemTree, ExprTree, Halt, HeadingTree, NamedOrder, StmtTree};
 use ep_core::tree::{Expr, Stmt, What};
 use ep_scopes::Env;
 use ep_typer_declarations::declaration;
@@ -67,14 +68,7 @@ fn statement(
     ensures known { OnOk result (IsKnownEnv (around env.new)) }
 {
     match tree {
-        StmtTree::Block(line, list) => {
-            enter(env)?;
-            let body = part_list(env, result_type, in_loop, list)?;
-            let blocks = blocks_here(env)?;
-            leave(env);
-            let lines = one_line(env.alloc, *line, scoped(blocks, body))?;
-            Ok(lines)
-        }
+        StmtTree::Block(line, list) => block(env, result_type, in_loop, *line, list),
         StmtTree::Expr(line, e) => match e {
             None => {
                 let lines = one_line(env.alloc, *line, What::Nothing)?;
@@ -94,47 +88,105 @@ fn statement(
                 }
             }
         }
-        StmtTree::While(line, e, turn) => {
-            let test = tested_inside(env, e)?;
-            let a = inside(env, result_type, true, turn)?;
-            closed(env, *line, looped(true, test, a, Vec::new(env.alloc)))
-        }
-        StmtTree::Do(line, turn, e) => {
-            enter(env)?;
-            let a = inside(env, result_type, true, turn)?;
-            leave(env);
-            let test = tested_in(env, e)?;
-            leave(env);
-            let lines = one_line(
-                env.alloc,
-                *line,
-                looped(false, test, a, Vec::new(env.alloc)),
-            )?;
-            Ok(lines)
-        }
-        StmtTree::For(line, heading, turn) => {
-            let before = first_inside(env, &heading.first)?;
-            let test = tested_if(env, &heading.test)?;
-            let next = evaluated_if(env, &heading.next)?;
-            let a = inside(env, result_type, true, turn)?;
-            leave(env);
-            let blocks = blocks_here(env)?;
-            leave(env);
-            let what = looped(true, test, a, next);
-            let lines = for_lines(env.alloc, &heading.first, *line, before, what, blocks)?;
-            Ok(lines)
-        }
+        StmtTree::While(line, e, turn) => while_loop(env, result_type, *line, turn, e),
+        StmtTree::Do(line, turn, e) => do_loop(env, result_type, *line, turn, e),
+        StmtTree::For(line, heading, turn) => for_loop(env, result_type, *line, heading, turn),
         StmtTree::Break(line) => jump(env.alloc, in_loop, *line, What::Break),
         StmtTree::Continue(line) => jump(env.alloc, in_loop, *line, What::Continue),
-        StmtTree::Return(line, e) => match e {
-            None => {
-                let what = nothing_returned(*line, result_type)?;
-                let lines = one_line(env.alloc, *line, what)?;
-                Ok(lines)
-            }
-            Some(e) => returned(env, *line, result_type, e),
-        },
+        StmtTree::Return(line, e) => returned(env, *line, result_type, e),
     }
+}
+
+#[cycle(walk)]
+#[tactic(auto, unfolding(ep_elaboration::specs::Statements::statement))]
+fn block(
+    env: &mut Env,
+    result_type: CType,
+    in_loop: bool,
+    line: u32,
+    list: &[BlockItemTree],
+) -> Result<Vec<Stmt>, Halt>
+    requires { IsKnownEnv (around env.old) }
+    ensures means { GivesIn seen_lines (rule.statement (around env.old) result_type in_loop
+        (shape.block line (shape.to_parts (map shape.part_of list.now)))) (around env.new) result }
+    ensures known { OnOk result (IsKnownEnv (around env.new)) }
+{
+    enter(env)?;
+    let body = part_list(env, result_type, in_loop, list)?;
+    let blocks = blocks_here(env)?;
+    leave(env);
+    let lines = one_line(env.alloc, line, scoped(blocks, body))?;
+    Ok(lines)
+}
+
+#[cycle(walk)]
+#[tactic(auto, unfolding(ep_elaboration::specs::Statements::statement))]
+fn while_loop(
+    env: &mut Env,
+    result_type: CType,
+    line: u32,
+    turn: &StmtTree,
+    test: &ExprTree,
+) -> Result<Vec<Stmt>, Halt>
+    requires { IsKnownEnv (around env.old) }
+    ensures means { (in_loop : Bool) → GivesIn seen_lines (rule.statement (around env.old) result_type in_loop
+        (shape.while_loop line (source.expr test.now) (shape.stmt_of turn.now))) (around env.new) result }
+    ensures known { OnOk result (IsKnownEnv (around env.new)) }
+{
+    let test = tested_inside(env, test)?;
+    let a = inside(env, result_type, true, turn)?;
+    closed(env, line, looped(true, test, a, Vec::new(env.alloc)))
+}
+
+#[cycle(walk)]
+#[tactic(auto, unfolding(ep_elaboration::specs::Statements::statement))]
+fn do_loop(
+    env: &mut Env,
+    result_type: CType,
+    line: u32,
+    turn: &StmtTree,
+    test: &ExprTree,
+) -> Result<Vec<Stmt>, Halt>
+    requires { IsKnownEnv (around env.old) }
+    ensures means { (in_loop : Bool) → GivesIn seen_lines (rule.statement (around env.old) result_type in_loop
+        (shape.do_loop line (shape.stmt_of turn.now) (source.expr test.now))) (around env.new) result }
+    ensures known { OnOk result (IsKnownEnv (around env.new)) }
+{
+    enter(env)?;
+    let a = inside(env, result_type, true, turn)?;
+    leave(env);
+    let test = tested_in(env, test)?;
+    leave(env);
+    let what = looped(false, test, a, Vec::new(env.alloc));
+    let lines = one_line(env.alloc, line, what)?;
+    Ok(lines)
+}
+
+#[cycle(walk)]
+#[tactic(auto, unfolding(ep_elaboration::specs::Statements::statement))]
+fn for_loop(
+    env: &mut Env,
+    result_type: CType,
+    line: u32,
+    heading: &HeadingTree,
+    turn: &StmtTree,
+) -> Result<Vec<Stmt>, Halt>
+    requires { IsKnownEnv (around env.old) }
+    ensures means { (in_loop : Bool) → GivesIn seen_lines (rule.statement (around env.old) result_type in_loop
+        (shape.for_loop line (shape.first_of heading.now.first) (option_map source.expr heading.now.test)
+        (option_map source.expr heading.now.next) (shape.stmt_of turn.now))) (around env.new) result }
+    ensures known { OnOk result (IsKnownEnv (around env.new)) }
+{
+    let before = first_inside(env, &heading.first)?;
+    let test = tested_if(env, &heading.test)?;
+    let next = evaluated_if(env, &heading.next)?;
+    let a = inside(env, result_type, true, turn)?;
+    leave(env);
+    let blocks = blocks_here(env)?;
+    leave(env);
+    let what = looped(true, test, a, next);
+    let lines = for_lines(env.alloc, &heading.first, line, before, what, blocks)?;
+    Ok(lines)
 }
 
 #[cycle(walk)]

@@ -1,13 +1,13 @@
 use Rattle.std.proofs.Common.{ap, map, sym, subst}
 use Rattle.std.proofs.lemmas.Result.{err_from_is_err_and}
-use Rattle.ep_ast.specs.Statement.{Stmt}
+use Rattle.ep_ast.specs.Statement.{Stmt, stmt_of}
 use Rattle.ep_core.specs.View.{shown_what}
 use Rattle.ep_declared.specs.Gives.{GivesIn}
 use Rattle.ep_elaboration.specs.Statements.{statement}
 use Rattle.ep_scopes.specs.Seen.{env}
 use Rattle.ep_typer_declarations.specs.Seen.{line}
 use Rattle.ep_typer_statements.specs.Seen.{lines}
-use Rattle.ep_typer_statements.proofs.Trees.{arm_is, arms_stop, block_is, block_stops, return_tree, second_stops, two_arms_are}
+use Rattle.ep_typer_statements.proofs.Trees.{arm_is, arms_stop, block_tree, do_tree, for_tree, second_stops, two_arms_are, while_tree}
 use Rattle.ep_typer_statements.proofs.walk.+walk.Goals as goal
 
 pub part-returns-in_err-a-in-Arms-clause-means : goal.part-returns-in_err-a-in-Arms-clause-means
@@ -44,24 +44,32 @@ part-returns-in_ok-lines-in-Some-clause-means t c =
     (shown_what c.by_order.result) c.in_ok-a-in-Arms.ensures.means c.leave.ensures.means
     c.in_ok-b-in-Some.ensures.means c.leave-in-Some.ensures.means c.by_order.ensures c.in_ok-lines-in-Some.ensures
 
-pub statement-returns-in_err-body-in-Block-clause-means : goal.statement-returns-in_err-body-in-Block-clause-means
-statement-returns-in_err-body-in-Block-clause-means t c =
-    let p = err_from_is_err_and c.from_residual-in_err-body-in-Block.result c.from_residual-in_err-body-in-Block.ensures.1 in
-    rw (p.1, p.2) (block_stops (env c.args.env.now) c.args.result_type c.args.in_loop c.in-Block.line c.args.tree.now
-    c.in-Block.list c.deref.result.now c.in-Block.is c.deref.ensures.value (env c.enter.new.env) _
-    c.in_ok-enter-in-Block.ensures.means c.in_err-body-in-Block.ensures.means)
+pub statement-returns-in-Block-clause-means : goal.statement-returns-in-Block-clause-means
+statement-returns-in-Block-clause-means t c =
+    subst (λ (s : Stmt). GivesIn lines (statement (env c.args.env.now) c.args.result_type c.args.in_loop s) (env c.block.new.env) c.block.result)
+    (sym (block_tree c.in-Block.line c.args.tree.now c.in-Block.list c.deref.result.now c.in-Block.is c.deref.ensures.value))
+    c.block.ensures.means
 
-pub statement-returns-in_ok-lines-in-Block-clause-means : goal.statement-returns-in_ok-lines-in-Block-clause-means
-statement-returns-in_ok-lines-in-Block-clause-means t c =
-    block_is (env c.args.env.now) c.args.result_type c.args.in_loop c.in-Block.line c.args.tree.now
-    c.in-Block.list c.deref.result.now c.in-Block.is c.deref.ensures.value (env c.enter.new.env)
-    (env c.part_list.new.env) (env c.leave.new.env) (lines c.in_ok-body-in-Block.body) (lines c.in_ok-lines-in-Block.lines)
-    c.in_ok-blocks-in-Block.blocks.items (shown_what c.scoped.result) c.in_ok-enter-in-Block.ensures.means
-    c.in_ok-body-in-Block.ensures.means c.in_ok-blocks-in-Block.ensures c.leave.ensures.means c.scoped.ensures
-    c.in_ok-lines-in-Block.ensures
+pub statement-returns-in-While-clause-means : goal.statement-returns-in-While-clause-means
+statement-returns-in-While-clause-means t c =
+    subst (λ (s : Stmt). GivesIn lines (statement (env c.args.env.now) c.args.result_type c.args.in_loop s) (env c.while_loop.new.env) c.while_loop.result)
+    (sym (while_tree c.in-While.line c.args.tree.now c.deref-in-While.result.now c.in-While.e c.in-While.turn c.in-While.is c.deref-in-While.ensures))
+    (c.while_loop.ensures.means c.args.in_loop)
 
-pub statement-returns-in-Some-e-clause-means : goal.statement-returns-in-Some-e-clause-means
-statement-returns-in-Some-e-clause-means t c =
+pub statement-returns-in-Do-clause-means : goal.statement-returns-in-Do-clause-means
+statement-returns-in-Do-clause-means t c =
+    subst (λ (s : Stmt). GivesIn lines (statement (env c.args.env.now) c.args.result_type c.args.in_loop s) (env c.do_loop.new.env) c.do_loop.result)
+    (sym (do_tree c.in-Do.line c.args.tree.now c.deref-in-Do.result.now c.in-Do.e c.in-Do.turn c.in-Do.is c.deref-in-Do.ensures))
+    (c.do_loop.ensures.means c.args.in_loop)
+
+pub statement-returns-in-For-clause-means : goal.statement-returns-in-For-clause-means
+statement-returns-in-For-clause-means t c =
+    subst (λ (s : Stmt). GivesIn lines (statement (env c.args.env.now) c.args.result_type c.args.in_loop s) (env c.for_loop.new.env) c.for_loop.result)
+    (sym (for_tree c.in-For.line c.args.tree.now c.deref-in-For-2.result.now c.deref-in-For.result.now c.in-For.heading c.in-For.turn c.in-For.is
+    c.deref-in-For.ensures c.deref-in-For-2.ensures))
+    (c.for_loop.ensures.means c.args.in_loop)
+
+pub statement-returns-in-Return-clause-means : goal.statement-returns-in-Return-clause-means
+statement-returns-in-Return-clause-means t c =
     subst (λ (s : Stmt). GivesIn lines (statement (env c.args.env.now) c.args.result_type c.args.in_loop s) (env c.returned.new.env) c.returned.result)
-    (sym (return_tree c.in-Return.line c.args.tree.now c.in-Return.e c.in-Some-e.e c.in-Return.is c.in-Some-e.is))
-    (c.returned.ensures.means c.args.in_loop)
+    (sym (ap stmt_of c.in-Return.is)) (c.returned.ensures.means c.args.in_loop)
