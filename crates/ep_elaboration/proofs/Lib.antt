@@ -8,8 +8,8 @@ mod WholeRows
 mod StatementRows
 mod MainRows
 mod AcceptedRows
-mod MoreAcceptedRows
-mod LongRows
+mod BothModelRows
+mod ModelRows
 mod LargeRows
 mod PacketRow
 mod GivenRows

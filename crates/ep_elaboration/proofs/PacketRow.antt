@@ -1,15 +1,15 @@
 -- A program that takes a packet apart and writes one, which means a well-formed one in both data models.
-use Rattle.std.proofs.Common.{◌≡◌, [], ◌∷◌, List, refl, true, false, Some, None}
+use Rattle.std.proofs.Common.{List, Some, [], false, refl, true, ◌∷◌, ◌≡◌}
 use Rattle.std.specs.Prelude.{codes}
 use Rattle.ep_int.specs.declared.types.Model.TheVariants.{Ilp32, Lp64}
-use Rattle.ep_ast.specs.declared.orders.NamedOrder.TheVariants.{Little}
-use Rattle.ep_ast.specs.declared.marks.TheConstants as marks
+use Rattle.ep_ast.specs.Declaration.{plain}
+use Rattle.ep_ast.specs.Expression.{arrow, assign, binary, cast, id, index, post_increment, tagged, typedef_name, word}
 use Rattle.ep_ast.specs.Mark as mark
-use Rattle.ep_ast.specs.Expression.{word, typedef_name, tagged, assign, binary, cast, unary, index, call, arrow, post_increment, id, to_exprs}
-use Rattle.ep_ast.specs.Declaration.{plain, aggregate, member, to_specs, to_members, single, void, some_params}
-use Rattle.ep_ast.specs.Statement.{evaluates, block, evaluate, if_then, for_loop, return_value, declares_in, states, to_parts, Item, defines, completes, functions_by_order}
+use Rattle.ep_ast.specs.Statement.{Item, block, completes, defines, evaluate, evaluates, for_loop, functions_by_order, if_then, states, to_parts}
+use Rattle.ep_ast.specs.declared.marks.TheConstants as marks
+use Rattle.ep_ast.specs.declared.orders.NamedOrder.TheVariants.{Little}
 use Rattle.ep_elaboration.proofs.Opened.{is_sound}
-use Rattle.ep_elaboration.proofs.Trees.{literal, number, type_name, declarator, init, declaration, param, head, block_at, function, int_words, variable, member_of}
+use Rattle.ep_elaboration.proofs.Trees.{address_of, array, array_field, block_at, call_of, does_call, field, function, head, int_words, literal, local, member_of, no_params, number, params, returns, sets, struct_at, struct_of, struct_words, takes, takes_pointer, two_words, type_name, typedef_at, typedef_words, variable, variable_of, zero_at}
 
 -- #include <stdint.h>
 -- #include <string.h>
@@ -107,391 +107,173 @@ use Rattle.ep_elaboration.proofs.Trees.{literal, number, type_name, declarator, 
 -- }
 abbrev packet : List Item
 packet =
-    ((completes
-    (aggregate 6 mark.struct_word (Some (codes "packet"))
-    (to_members
-    ((member 7 (to_specs ((plain (typedef_name 7 (codes "uint8_t"))) ∷ []))
-    ((declarator 7 [] (codes "kind") []) ∷ [])) ∷
-    (member 8 (to_specs ((plain (typedef_name 8 (codes "uint16_t"))) ∷ []))
-    ((declarator 8 [] (codes "station") []) ∷ [])) ∷
-    (member 9 (to_specs ((plain (typedef_name 9 (codes "uint32_t"))) ∷ []))
-    ((declarator 9 [] (codes "stamp") []) ∷ [])) ∷
-    (member 10 (to_specs ((plain (typedef_name 10 (codes "uint16_t"))) ∷ []))
-    ((declarator 10 [] (codes "level") ((Some (number 10 3)) ∷ [])) ∷ [])) ∷
-    (member 11 (to_specs ((plain (typedef_name 11 (codes "uint16_t"))) ∷ []))
-    ((declarator 11 [] (codes "sum") []) ∷ [])) ∷ [])))) ∷
-    (functions_by_order 13 Little
-    ((function
-    (head 14
-    ((plain (word 14 mark.static_word)) ∷ (plain (typedef_name 14 (codes "uint32_t"))) ∷ []) []
-    (codes "to_wire")
-    (Some
-    (some_params 14
-    ((param 14 ((typedef_name 14 (codes "uint32_t")) ∷ []) [] (Some (codes "v")) []) ∷
-    []))))
+    completes
+    (struct_of 6 (codes "packet")
+    (field 7 (typedef_words 7 (codes "uint8_t")) (codes "kind") ∷
+    field 8 (typedef_words 8 (codes "uint16_t")) (codes "station") ∷
+    field 9 (typedef_words 9 (codes "uint32_t")) (codes "stamp") ∷
+    array_field 10 (typedef_words 10 (codes "uint16_t")) (codes "level") (number 10 3) ∷
+    field 11 (typedef_words 11 (codes "uint16_t")) (codes "sum") ∷ [])) ∷
+    functions_by_order 13 Little
+    (function
+    (head 14 (plain (word 14 mark.static_word) ∷ plain (typedef_name 14 (codes "uint32_t")) ∷ []) [] (codes "to_wire")
+    (params 14 (takes 14 (typedef_at 14 (codes "uint32_t")) (codes "v") ∷ [])))
     (block_at 15
-    ((states
-    (return_value 16
-    (Some
+    (returns 16
     (binary 16 mark.bar
     (binary 16 mark.bar
-    (binary 16 mark.bar
-    (binary 16 mark.right_shift (id 16 (codes "v")) (number 16 24))
-    (binary 16 mark.ampersand
-    (binary 16 mark.right_shift (id 16 (codes "v"))
-    (number 16 8)) (literal 16 65280 false true 0)))
-    (binary 16 mark.ampersand
-    (binary 16 mark.left_shift (id 16 (codes "v")) (number 16 8))
+    (binary 16 mark.bar (binary 16 mark.right_shift (id 16 (codes "v")) (number 16 24))
+    (binary 16 mark.ampersand (binary 16 mark.right_shift (id 16 (codes "v")) (number 16 8))
+    (literal 16 65280 false true 0)))
+    (binary 16 mark.ampersand (binary 16 mark.left_shift (id 16 (codes "v")) (number 16 8))
     (literal 16 16711680 false true 0)))
-    (binary 16 mark.left_shift (id 16 (codes "v")) (number 16 24)))))) ∷ []))) ∷
-    [])
+    (binary 16 mark.left_shift (id 16 (codes "v")) (number 16 24))) ∷ [])) ∷ [])
     (Some
-    ((function
-    (head 19
-    ((plain (word 19 mark.static_word)) ∷ (plain (typedef_name 19 (codes "uint32_t"))) ∷ [])
-    [] (codes "to_wire")
-    (Some
-    (some_params 19
-    ((param 19 ((typedef_name 19 (codes "uint32_t")) ∷ []) [] (Some (codes "v")) []) ∷
-    []))))
-    (block_at 20 ((states (return_value 21 (Some (id 21 (codes "v"))))) ∷ []))) ∷ []))) ∷
-    (defines
     (function
-    (head 24 ((plain (word 24 mark.static_word)) ∷ (plain (typedef_name 24 (codes "uint16_t"))) ∷ [])
-    [] (codes "get16")
-    (Some
-    (some_params 24
-    ((param 24 ((word 24 mark.const_word) ∷ (typedef_name 24 (codes "uint8_t")) ∷ [])
-    (0 ∷ []) (Some (codes "p")) []) ∷ []))))
+    (head 19 (plain (word 19 mark.static_word) ∷ plain (typedef_name 19 (codes "uint32_t")) ∷ []) [] (codes "to_wire")
+    (params 19 (takes 19 (typedef_at 19 (codes "uint32_t")) (codes "v") ∷ [])))
+    (block_at 20 (returns 21 (id 21 (codes "v")) ∷ [])) ∷ [])) ∷
+    defines
+    (function
+    (head 24 (plain (word 24 mark.static_word) ∷ plain (typedef_name 24 (codes "uint16_t")) ∷ []) [] (codes "get16")
+    (params 24 (takes_pointer 24 (word 24 mark.const_word ∷ typedef_name 24 (codes "uint8_t") ∷ []) (codes "p") ∷ [])))
     (block_at 25
-    ((states
-    (return_value 26
-    (Some
-    (cast 26 (type_name 26 ((typedef_name 26 (codes "uint16_t")) ∷ []) [])
-    (binary 26 mark.bar
-    (binary 26 mark.left_shift
-    (index 26 (id 26 (codes "p")) (literal 26 0 false false 0))
-    (number 26 8)) (index 26 (id 26 (codes "p")) (number 26 1))))))) ∷
-    [])))) ∷
-    (defines
+    (returns 26
+    (cast 26 (type_name 26 (typedef_at 26 (codes "uint16_t")) [])
+    (binary 26 mark.bar (binary 26 mark.left_shift (index 26 (id 26 (codes "p")) (zero_at 26)) (number 26 8))
+    (index 26 (id 26 (codes "p")) (number 26 1)))) ∷ []))) ∷
+    defines
     (function
-    (head 28 ((plain (word 28 mark.static_word)) ∷ (plain (typedef_name 28 (codes "uint32_t"))) ∷ [])
-    [] (codes "get32")
-    (Some
-    (some_params 28
-    ((param 28 ((word 28 mark.const_word) ∷ (typedef_name 28 (codes "uint8_t")) ∷ [])
-    (0 ∷ []) (Some (codes "p")) []) ∷ []))))
+    (head 28 (plain (word 28 mark.static_word) ∷ plain (typedef_name 28 (codes "uint32_t")) ∷ []) [] (codes "get32")
+    (params 28 (takes_pointer 28 (word 28 mark.const_word ∷ typedef_name 28 (codes "uint8_t") ∷ []) (codes "p") ∷ [])))
     (block_at 29
-    ((states
-    (return_value 30
-    (Some
+    (returns 30
     (binary 30 mark.bar
     (binary 30 mark.bar
     (binary 30 mark.bar
     (binary 30 mark.left_shift
-    (cast 30
-    (type_name 30 ((typedef_name 30 (codes "uint32_t")) ∷ [])
-    [])
-    (index 30 (id 30 (codes "p")) (literal 30 0 false false 0)))
+    (cast 30 (type_name 30 (typedef_at 30 (codes "uint32_t")) []) (index 30 (id 30 (codes "p")) (zero_at 30)))
     (number 30 24))
     (binary 30 mark.left_shift
-    (cast 30
-    (type_name 30 ((typedef_name 30 (codes "uint32_t")) ∷ [])
-    []) (index 30 (id 30 (codes "p")) (number 30 1)))
+    (cast 30 (type_name 30 (typedef_at 30 (codes "uint32_t")) []) (index 30 (id 30 (codes "p")) (number 30 1)))
     (number 30 16)))
     (binary 31 mark.left_shift
-    (cast 31
-    (type_name 31 ((typedef_name 31 (codes "uint32_t")) ∷ []) [])
-    (index 31 (id 31 (codes "p")) (number 31 2))) (number 31 8)))
-    (cast 31 (type_name 31 ((typedef_name 31 (codes "uint32_t")) ∷ []) [])
-    (index 31 (id 31 (codes "p")) (number 31 3))))))) ∷ [])))) ∷
-    (defines
+    (cast 31 (type_name 31 (typedef_at 31 (codes "uint32_t")) []) (index 31 (id 31 (codes "p")) (number 31 2)))
+    (number 31 8)))
+    (cast 31 (type_name 31 (typedef_at 31 (codes "uint32_t")) [])
+    (index 31 (id 31 (codes "p")) (number 31 3)))) ∷ []))) ∷
+    defines
     (function
-    (head 33 ((plain (word 33 mark.static_word)) ∷ (plain (word 33 mark.void_word)) ∷ []) []
-    (codes "put16")
-    (Some
-    (some_params 33
-    ((param 33 ((typedef_name 33 (codes "uint8_t")) ∷ []) (0 ∷ []) (Some (codes "p")) []) ∷
-    (param 33 ((typedef_name 33 (codes "uint16_t")) ∷ []) [] (Some (codes "v")) []) ∷
-    []))))
+    (head 33 (two_words 33 mark.static_word mark.void_word) [] (codes "put16")
+    (params 33
+    (takes_pointer 33 (typedef_at 33 (codes "uint8_t")) (codes "p") ∷
+    takes 33 (typedef_at 33 (codes "uint16_t")) (codes "v") ∷ [])))
     (block_at 34
-    ((states
-    (evaluate 35
-    (Some
-    (assign 35 mark.equal
-    (index 35 (id 35 (codes "p")) (literal 35 0 false false 0))
-    (cast 35 (type_name 35 ((typedef_name 35 (codes "uint8_t")) ∷ []) [])
-    (binary 35 mark.right_shift (id 35 (codes "v")) (number 35 8))))))) ∷
-    (states
-    (evaluate 36
-    (Some
-    (assign 36 mark.equal (index 36 (id 36 (codes "p")) (number 36 1))
-    (cast 36 (type_name 36 ((typedef_name 36 (codes "uint8_t")) ∷ []) [])
-    (id 36 (codes "v"))))))) ∷ [])))) ∷
-    (defines
+    (sets 35 (index 35 (id 35 (codes "p")) (zero_at 35))
+    (cast 35 (type_name 35 (typedef_at 35 (codes "uint8_t")) [])
+    (binary 35 mark.right_shift (id 35 (codes "v")) (number 35 8))) ∷
+    sets 36 (index 36 (id 36 (codes "p")) (number 36 1))
+    (cast 36 (type_name 36 (typedef_at 36 (codes "uint8_t")) []) (id 36 (codes "v"))) ∷ []))) ∷
+    defines
     (function
-    (head 39 ((plain (word 39 mark.static_word)) ∷ (plain (typedef_name 39 (codes "uint16_t"))) ∷ [])
-    [] (codes "checksum")
-    (Some
-    (some_params 39
-    ((param 39 ((word 39 mark.const_word) ∷ (typedef_name 39 (codes "uint8_t")) ∷ [])
-    (0 ∷ []) (Some (codes "p")) []) ∷ []))))
+    (head 39 (plain (word 39 mark.static_word) ∷ plain (typedef_name 39 (codes "uint16_t")) ∷ []) [] (codes "checksum")
+    (params 39 (takes_pointer 39 (word 39 mark.const_word ∷ typedef_name 39 (codes "uint8_t") ∷ []) (codes "p") ∷ [])))
     (block_at 40
-    ((declares_in
-    (declaration 41 ((plain (typedef_name 41 (codes "uint32_t"))) ∷ [])
-    ((init (declarator 41 [] (codes "total") [])
-    (Some (single (literal 41 0 false false 0)))) ∷ []))) ∷
-    (declares_in
-    (declaration 42 ((plain (typedef_name 42 (codes "uint32_t"))) ∷ [])
-    (variable 42 (codes "i")))) ∷
-    (states
-    (for_loop 43
-    (evaluates
-    (Some (assign 43 mark.equal (id 43 (codes "i")) (literal 43 0 false false 0))))
-    (Some
-    (binary 43 mark.less (id 43 (codes "i"))
-    (binary 43 mark.minus (number 43 16) (number 43 2))))
+    (local 41 (typedef_words 41 (codes "uint32_t")) (variable_of 41 (codes "total") (zero_at 41)) ∷
+    local 42 (typedef_words 42 (codes "uint32_t")) (variable 42 (codes "i")) ∷
+    states
+    (for_loop 43 (evaluates (Some (assign 43 mark.equal (id 43 (codes "i")) (zero_at 43))))
+    (Some (binary 43 mark.less (id 43 (codes "i")) (binary 43 mark.minus (number 43 16) (number 43 2))))
     (Some (post_increment 43 (id 43 (codes "i"))))
     (evaluate 44
-    (Some
-    (assign 44 marks.PLUS_EQUAL (id 44 (codes "total"))
-    (index 44 (id 44 (codes "p")) (id 44 (codes "i")))))))) ∷
-    (states
-    (return_value 45
-    (Some
-    (cast 45 (type_name 45 ((typedef_name 45 (codes "uint16_t")) ∷ []) [])
-    (id 45 (codes "total")))))) ∷ [])))) ∷
-    (defines
+    (Some (assign 44 marks.PLUS_EQUAL (id 44 (codes "total")) (index 44 (id 44 (codes "p")) (id 44 (codes "i"))))))) ∷
+    returns 45 (cast 45 (type_name 45 (typedef_at 45 (codes "uint16_t")) []) (id 45 (codes "total"))) ∷ []))) ∷
+    defines
     (function
-    (head 47 ((plain (word 47 mark.static_word)) ∷ (plain (word 47 mark.void_word)) ∷ []) []
-    (codes "decode")
-    (Some
-    (some_params 47
-    ((param 47 ((word 47 mark.const_word) ∷ (typedef_name 47 (codes "uint8_t")) ∷ [])
-    (0 ∷ []) (Some (codes "f")) []) ∷
-    (param 47 ((tagged 47 mark.struct_word (codes "packet")) ∷ []) (0 ∷ [])
-    (Some (codes "q")) []) ∷ []))))
+    (head 47 (two_words 47 mark.static_word mark.void_word) [] (codes "decode")
+    (params 47
+    (takes_pointer 47 (word 47 mark.const_word ∷ typedef_name 47 (codes "uint8_t") ∷ []) (codes "f") ∷
+    takes_pointer 47 (struct_at 47 (codes "packet")) (codes "q") ∷ [])))
     (block_at 48
-    ((declares_in
-    (declaration 49 ((plain (typedef_name 49 (codes "uint32_t"))) ∷ [])
-    (variable 49 (codes "i")))) ∷
-    (states
-    (evaluate 50
-    (Some
-    (assign 50 mark.equal (arrow 50 (id 50 (codes "q")) (codes "kind"))
-    (index 50 (id 50 (codes "f")) (number 50 1)))))) ∷
-    (states
-    (evaluate 51
-    (Some
-    (assign 51 mark.equal (arrow 51 (id 51 (codes "q")) (codes "station"))
-    (call 51 (id 51 (codes "get16"))
-    (to_exprs
-    ((binary 51 mark.plus (id 51 (codes "f")) (number 51 2)) ∷ []))))))) ∷
-    (states
-    (evaluate 52
-    (Some
-    (assign 52 mark.equal (arrow 52 (id 52 (codes "q")) (codes "stamp"))
-    (call 52 (id 52 (codes "get32"))
-    (to_exprs
-    ((binary 52 mark.plus (id 52 (codes "f")) (number 52 4)) ∷ []))))))) ∷
-    (states
-    (for_loop 53
-    (evaluates
-    (Some (assign 53 mark.equal (id 53 (codes "i")) (literal 53 0 false false 0))))
-    (Some (binary 53 mark.less (id 53 (codes "i")) (number 53 3)))
-    (Some (post_increment 53 (id 53 (codes "i"))))
+    (local 49 (typedef_words 49 (codes "uint32_t")) (variable 49 (codes "i")) ∷
+    sets 50 (arrow 50 (id 50 (codes "q")) (codes "kind")) (index 50 (id 50 (codes "f")) (number 50 1)) ∷
+    sets 51 (arrow 51 (id 51 (codes "q")) (codes "station"))
+    (call_of 51 (codes "get16") (binary 51 mark.plus (id 51 (codes "f")) (number 51 2) ∷ [])) ∷
+    sets 52 (arrow 52 (id 52 (codes "q")) (codes "stamp"))
+    (call_of 52 (codes "get32") (binary 52 mark.plus (id 52 (codes "f")) (number 52 4) ∷ [])) ∷
+    states
+    (for_loop 53 (evaluates (Some (assign 53 mark.equal (id 53 (codes "i")) (zero_at 53))))
+    (Some (binary 53 mark.less (id 53 (codes "i")) (number 53 3))) (Some (post_increment 53 (id 53 (codes "i"))))
     (evaluate 54
     (Some
-    (assign 54 mark.equal
-    (index 54 (arrow 54 (id 54 (codes "q")) (codes "level"))
-    (id 54 (codes "i")))
-    (call 54 (id 54 (codes "get16"))
-    (to_exprs
-    ((binary 54 mark.plus
-    (binary 54 mark.plus (id 54 (codes "f")) (number 54 8))
-    (binary 54 mark.star (number 54 2) (id 54 (codes "i")))) ∷
-    [])))))))) ∷
-    (states
-    (evaluate 55
-    (Some
-    (assign 55 mark.equal (arrow 55 (id 55 (codes "q")) (codes "sum"))
-    (call 55 (id 55 (codes "get16"))
-    (to_exprs
-    ((binary 55 mark.plus (id 55 (codes "f")) (number 55 14)) ∷ []))))))) ∷
-    [])))) ∷
-    (defines
+    (assign 54 mark.equal (index 54 (arrow 54 (id 54 (codes "q")) (codes "level")) (id 54 (codes "i")))
+    (call_of 54 (codes "get16")
+    (binary 54 mark.plus (binary 54 mark.plus (id 54 (codes "f")) (number 54 8))
+    (binary 54 mark.star (number 54 2) (id 54 (codes "i"))) ∷ [])))))) ∷
+    sets 55 (arrow 55 (id 55 (codes "q")) (codes "sum"))
+    (call_of 55 (codes "get16") (binary 55 mark.plus (id 55 (codes "f")) (number 55 14) ∷ [])) ∷ []))) ∷
+    defines
     (function
-    (head 57 ((plain (word 57 mark.static_word)) ∷ (plain (word 57 mark.void_word)) ∷ []) []
-    (codes "encode")
-    (Some
-    (some_params 57
-    ((param 57
-    ((word 57 mark.const_word) ∷ (tagged 57 mark.struct_word (codes "packet")) ∷ [])
-    (0 ∷ []) (Some (codes "q")) []) ∷
-    (param 57 ((typedef_name 57 (codes "uint8_t")) ∷ []) (0 ∷ []) (Some (codes "f")) []) ∷
-    []))))
+    (head 57 (two_words 57 mark.static_word mark.void_word) [] (codes "encode")
+    (params 57
+    (takes_pointer 57 (word 57 mark.const_word ∷ tagged 57 mark.struct_word (codes "packet") ∷ []) (codes "q") ∷
+    takes_pointer 57 (typedef_at 57 (codes "uint8_t")) (codes "f") ∷ [])))
     (block_at 58
-    ((declares_in
-    (declaration 59 ((plain (typedef_name 59 (codes "uint32_t"))) ∷ [])
-    (variable 59 (codes "i")))) ∷
-    (declares_in
-    (declaration 60 ((plain (typedef_name 60 (codes "uint32_t"))) ∷ [])
-    (variable 60 (codes "w")))) ∷
-    (declares_in
-    (declaration 61 ((plain (typedef_name 61 (codes "uint16_t"))) ∷ [])
-    (variable 61 (codes "s")))) ∷
-    (states
-    (evaluate 62
-    (Some
-    (assign 62 mark.equal
-    (index 62 (id 62 (codes "f")) (literal 62 0 false false 0))
-    (literal 62 90 false false 0))))) ∷
-    (states
-    (evaluate 63
-    (Some
-    (assign 63 mark.equal (index 63 (id 63 (codes "f")) (number 63 1))
-    (arrow 63 (id 63 (codes "q")) (codes "kind")))))) ∷
-    (states
-    (evaluate 64
-    (Some
-    (call 64 (id 64 (codes "put16"))
-    (to_exprs
-    ((binary 64 mark.plus (id 64 (codes "f")) (number 64 2)) ∷
-    (arrow 64 (id 64 (codes "q")) (codes "station")) ∷ [])))))) ∷
-    (states
-    (evaluate 65
-    (Some
-    (assign 65 mark.equal (id 65 (codes "w"))
-    (call 65 (id 65 (codes "to_wire"))
-    (to_exprs ((arrow 65 (id 65 (codes "q")) (codes "stamp")) ∷ []))))))) ∷
-    (states
-    (evaluate 66
-    (Some
-    (call 66 (id 66 (codes "memcpy"))
-    (to_exprs
-    ((binary 66 mark.plus (id 66 (codes "f")) (number 66 4)) ∷
-    (unary 66 mark.ampersand (id 66 (codes "w"))) ∷ (number 66 4) ∷ [])))))) ∷
-    (states
-    (for_loop 67
-    (evaluates
-    (Some (assign 67 mark.equal (id 67 (codes "i")) (literal 67 0 false false 0))))
-    (Some (binary 67 mark.less (id 67 (codes "i")) (number 67 3)))
-    (Some (post_increment 67 (id 67 (codes "i"))))
+    (local 59 (typedef_words 59 (codes "uint32_t")) (variable 59 (codes "i")) ∷
+    local 60 (typedef_words 60 (codes "uint32_t")) (variable 60 (codes "w")) ∷
+    local 61 (typedef_words 61 (codes "uint16_t")) (variable 61 (codes "s")) ∷
+    sets 62 (index 62 (id 62 (codes "f")) (zero_at 62)) (literal 62 90 false false 0) ∷
+    sets 63 (index 63 (id 63 (codes "f")) (number 63 1)) (arrow 63 (id 63 (codes "q")) (codes "kind")) ∷
+    does_call 64 (codes "put16")
+    (binary 64 mark.plus (id 64 (codes "f")) (number 64 2) ∷ arrow 64 (id 64 (codes "q")) (codes "station") ∷ []) ∷
+    sets 65 (id 65 (codes "w")) (call_of 65 (codes "to_wire") (arrow 65 (id 65 (codes "q")) (codes "stamp") ∷ [])) ∷
+    does_call 66 (codes "memcpy")
+    (binary 66 mark.plus (id 66 (codes "f")) (number 66 4) ∷ address_of 66 (codes "w") ∷ number 66 4 ∷ []) ∷
+    states
+    (for_loop 67 (evaluates (Some (assign 67 mark.equal (id 67 (codes "i")) (zero_at 67))))
+    (Some (binary 67 mark.less (id 67 (codes "i")) (number 67 3))) (Some (post_increment 67 (id 67 (codes "i"))))
     (evaluate 68
     (Some
-    (call 68 (id 68 (codes "put16"))
-    (to_exprs
-    ((binary 68 mark.plus
-    (binary 68 mark.plus (id 68 (codes "f")) (number 68 8))
-    (binary 68 mark.star (number 68 2) (id 68 (codes "i")))) ∷
-    (index 68 (arrow 68 (id 68 (codes "q")) (codes "level"))
-    (id 68 (codes "i"))) ∷ []))))))) ∷
-    (states
-    (evaluate 69
-    (Some
-    (assign 69 mark.equal (id 69 (codes "s"))
-    (call 69 (id 69 (codes "checksum")) (to_exprs ((id 69 (codes "f")) ∷ []))))))) ∷
-    (states
-    (evaluate 70
-    (Some
-    (call 70 (id 70 (codes "put16"))
-    (to_exprs
-    ((binary 70 mark.plus (id 70 (codes "f")) (number 70 14)) ∷
-    (id 70 (codes "s")) ∷ [])))))) ∷ [])))) ∷
-    (defines
-    (function (head 72 (int_words 72) [] (codes "main") (Some (void 72)))
+    (call_of 68 (codes "put16")
+    (binary 68 mark.plus (binary 68 mark.plus (id 68 (codes "f")) (number 68 8))
+    (binary 68 mark.star (number 68 2) (id 68 (codes "i"))) ∷
+    index 68 (arrow 68 (id 68 (codes "q")) (codes "level")) (id 68 (codes "i")) ∷ []))))) ∷
+    sets 69 (id 69 (codes "s")) (call_of 69 (codes "checksum") (id 69 (codes "f") ∷ [])) ∷
+    does_call 70 (codes "put16")
+    (binary 70 mark.plus (id 70 (codes "f")) (number 70 14) ∷ id 70 (codes "s") ∷ []) ∷ []))) ∷
+    defines
+    (function (head 72 (int_words 72) [] (codes "main") (no_params 72))
     (block_at 73
-    ((declares_in
-    (declaration 74 ((plain (typedef_name 74 (codes "uint8_t"))) ∷ [])
-    ((init (declarator 74 [] (codes "frame") ((Some (number 74 16)) ∷ [])) None) ∷ []))) ∷
-    (declares_in
-    (declaration 75 ((plain (typedef_name 75 (codes "uint8_t"))) ∷ [])
-    ((init (declarator 75 [] (codes "reply") ((Some (number 75 16)) ∷ [])) None) ∷ []))) ∷
-    (declares_in
-    (declaration 76 ((plain (tagged 76 mark.struct_word (codes "packet"))) ∷ [])
-    (variable 76 (codes "pkt")))) ∷
-    (declares_in
-    (declaration 77 ((plain (typedef_name 77 (codes "uint16_t"))) ∷ [])
-    (variable 77 (codes "want")))) ∷
-    (declares_in
-    (declaration 78 ((plain (typedef_name 78 (codes "uint16_t"))) ∷ [])
-    (variable 78 (codes "have")))) ∷
-    (declares_in
-    (declaration 79 ((plain (typedef_name 79 (codes "uint32_t"))) ∷ [])
-    (variable 79 (codes "i")))) ∷
-    (states
-    (evaluate 80
-    (Some
-    (call 80 (id 80 (codes "ep_read"))
-    (to_exprs ((id 80 (codes "frame")) ∷ (number 80 16) ∷ [])))))) ∷
-    (states
-    (evaluate 81
-    (Some
-    (assign 81 mark.equal (id 81 (codes "want"))
-    (call 81 (id 81 (codes "checksum"))
-    (to_exprs ((id 81 (codes "frame")) ∷ []))))))) ∷
-    (states
-    (evaluate 82
-    (Some
-    (assign 82 mark.equal (id 82 (codes "have"))
-    (call 82 (id 82 (codes "get16"))
-    (to_exprs
-    ((binary 82 mark.plus (id 82 (codes "frame")) (number 82 14)) ∷ []))))))) ∷
-    (states
+    (local 74 (typedef_words 74 (codes "uint8_t")) (array 74 (codes "frame") (number 74 16)) ∷
+    local 75 (typedef_words 75 (codes "uint8_t")) (array 75 (codes "reply") (number 75 16)) ∷
+    local 76 (struct_words 76 (codes "packet")) (variable 76 (codes "pkt")) ∷
+    local 77 (typedef_words 77 (codes "uint16_t")) (variable 77 (codes "want")) ∷
+    local 78 (typedef_words 78 (codes "uint16_t")) (variable 78 (codes "have")) ∷
+    local 79 (typedef_words 79 (codes "uint32_t")) (variable 79 (codes "i")) ∷
+    does_call 80 (codes "ep_read") (id 80 (codes "frame") ∷ number 80 16 ∷ []) ∷
+    sets 81 (id 81 (codes "want")) (call_of 81 (codes "checksum") (id 81 (codes "frame") ∷ [])) ∷
+    sets 82 (id 82 (codes "have"))
+    (call_of 82 (codes "get16") (binary 82 mark.plus (id 82 (codes "frame")) (number 82 14) ∷ [])) ∷
+    states
     (if_then 83
     (binary 83 mark.bar_bar
-    (binary 83 mark.not_equal
-    (index 83 (id 83 (codes "frame")) (literal 83 0 false false 0))
-    (literal 83 90 false false 0))
+    (binary 83 mark.not_equal (index 83 (id 83 (codes "frame")) (zero_at 83)) (literal 83 90 false false 0))
     (binary 83 mark.not_equal (id 83 (codes "have")) (id 83 (codes "want"))))
-    (block 83
-    (to_parts
-    ((states
-    (evaluate 84
-    (Some
-    (call 84 (id 84 (codes "ep_out_u8"))
-    (to_exprs ((literal 84 0 false false 0) ∷ [])))))) ∷
-    (states (return_value 85 (Some (number 85 1)))) ∷ []))))) ∷
-    (states
-    (evaluate 87
-    (Some
-    (call 87 (id 87 (codes "decode"))
-    (to_exprs
-    ((id 87 (codes "frame")) ∷
-    (unary 87 mark.ampersand (id 87 (codes "pkt"))) ∷ [])))))) ∷
-    (states
-    (for_loop 88
-    (evaluates
-    (Some (assign 88 mark.equal (id 88 (codes "i")) (literal 88 0 false false 0))))
-    (Some (binary 88 mark.less (id 88 (codes "i")) (number 88 3)))
-    (Some (post_increment 88 (id 88 (codes "i"))))
+    (block 83 (to_parts (does_call 84 (codes "ep_out_u8") (zero_at 84 ∷ []) ∷ returns 85 (number 85 1) ∷ [])))) ∷
+    does_call 87 (codes "decode") (id 87 (codes "frame") ∷ address_of 87 (codes "pkt") ∷ []) ∷
+    states
+    (for_loop 88 (evaluates (Some (assign 88 mark.equal (id 88 (codes "i")) (zero_at 88))))
+    (Some (binary 88 mark.less (id 88 (codes "i")) (number 88 3))) (Some (post_increment 88 (id 88 (codes "i"))))
     (evaluate 89
     (Some
-    (assign 89 mark.equal
-    (index 89 (member_of 89 (id 89 (codes "pkt")) (codes "level"))
-    (id 89 (codes "i")))
-    (cast 89 (type_name 89 ((typedef_name 89 (codes "uint16_t")) ∷ []) [])
-    (binary 89 mark.plus
-    (index 89 (member_of 89 (id 89 (codes "pkt")) (codes "level"))
-    (id 89 (codes "i"))) (number 89 1)))))))) ∷
-    (states
-    (evaluate 90
-    (Some
-    (call 90 (id 90 (codes "encode"))
-    (to_exprs
-    ((unary 90 mark.ampersand (id 90 (codes "pkt"))) ∷
-    (id 90 (codes "reply")) ∷ [])))))) ∷
-    (states
-    (evaluate 91
-    (Some
-    (call 91 (id 91 (codes "ep_out_u16"))
-    (to_exprs ((member_of 91 (id 91 (codes "pkt")) (codes "station")) ∷ [])))))) ∷
-    (states
-    (evaluate 92
-    (Some
-    (call 92 (id 92 (codes "ep_write"))
-    (to_exprs ((id 92 (codes "reply")) ∷ (number 92 16) ∷ [])))))) ∷
-    (states (return_value 93 (Some (literal 93 0 false false 0)))) ∷ [])))) ∷ [])
+    (assign 89 mark.equal (index 89 (member_of 89 (id 89 (codes "pkt")) (codes "level")) (id 89 (codes "i")))
+    (cast 89 (type_name 89 (typedef_at 89 (codes "uint16_t")) [])
+    (binary 89 mark.plus (index 89 (member_of 89 (id 89 (codes "pkt")) (codes "level")) (id 89 (codes "i")))
+    (number 89 1))))))) ∷
+    does_call 90 (codes "encode") (address_of 90 (codes "pkt") ∷ id 90 (codes "reply") ∷ []) ∷
+    does_call 91 (codes "ep_out_u16") (member_of 91 (id 91 (codes "pkt")) (codes "station") ∷ []) ∷
+    does_call 92 (codes "ep_write") (id 92 (codes "reply") ∷ number 92 16 ∷ []) ∷
+    returns 93 (zero_at 93) ∷ []))) ∷ []
 
 sound_packet : (is_sound Ilp32 packet ≡ true) × (is_sound Lp64 packet ≡ true)
 unfolding is_sound
