@@ -1,7 +1,9 @@
--- What the code keeps of objects and members, seen as what the definitions speak of.
+-- What the code keeps of objects, members and statements, seen as what the definitions speak of.
 use Rattle.std.specs.Prelude.{ℕ, List, map}
-use Rattle.ep_core.specs.View.{shown_place}
+use Rattle.ep_core.specs.View.{shown_place, shown_what}
+use Rattle.ep_core.specs.declared.tree.Stmt.{Stmt}
 use Rattle.ep_scopes.specs.Seen.{tag}
+use Rattle.ep_elaboration.specs.Declarations.{Line}
 use Rattle.ep_elaboration.specs.Declarators as rule
 use Rattle.ep_declared.specs.declared.members.Named.{Named}
 use Rattle.ep_declared.specs.declared.objects.Object.{Object}
@@ -11,3 +13,7 @@ object o = record { place = shown_place o.place; block = o.block; offset = o.off
 
 abbrev pub named : Named → List (List ℕ × ℕ)
 named n = map tag n.types.entries
+
+-- a statement with its line
+abbrev pub line : Stmt → Line
+line s = (s.line, shown_what s.what)

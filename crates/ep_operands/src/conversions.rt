@@ -3,6 +3,7 @@
 ghost use Rattle.std.specs.Prelude.{◌≡◌, IfOk};
 ghost use Rattle.ep_core.specs.View.{shown_expr, shown_place};
 ghost use Rattle.ep_typing.specs.Operand as rule;
+ghost use Rattle.ep_typing.specs.Operators.{bare};
 ghost use Rattle.ep_typing.specs.Results.{at};
 ghost use Rattle.ep_operands.specs.Gives.{Gives};
 ghost use Rattle.ep_operands.specs.Seen as seen;
@@ -56,7 +57,7 @@ pub fn value_of(alloc: Global, types: &Types, line: u32, x: Operand) -> Result<V
 }
 
 /// A number as of a type.
-pub(crate) fn converted(alloc: Global, t: IntType, v: Value) -> Result<Expr, AllocError>
+pub fn converted(alloc: Global, t: IntType, v: Value) -> Result<Expr, AllocError>
     ensures { IfOk result (λ e. shown_expr e ≡ rule.converted t (seen.value v)) }
 {
     let own = int_of(v.ty);
@@ -67,13 +68,13 @@ pub(crate) fn converted(alloc: Global, t: IntType, v: Value) -> Result<Expr, All
     Ok(Expr::Convert(t, expr))
 }
 
-pub(crate) fn promoted_type(v: &Value) -> IntType
+pub fn promoted_type(v: &Value) -> IntType
     ensures { result ≡ rule.promoted_type (seen.value v.now) }
 {
     promote(int_of(v.ty))
 }
 
-pub(crate) fn promoted_value(alloc: Global, v: Value) -> Result<Expr, AllocError>
+pub fn promoted_value(alloc: Global, v: Value) -> Result<Expr, AllocError>
     ensures { IfOk result (λ e. shown_expr e ≡ rule.promoted_value (seen.value v)) }
 {
     let t = promote(int_of(v.ty));
@@ -81,7 +82,7 @@ pub(crate) fn promoted_value(alloc: Global, v: Value) -> Result<Expr, AllocError
 }
 
 /// A pointer, or null, as a pointer of a type.
-pub(crate) fn as_pointer(alloc: Global, c: CType, v: Value) -> Result<Expr, AllocError>
+pub fn as_pointer(alloc: Global, c: CType, v: Value) -> Result<Expr, AllocError>
     ensures { IfOk result (λ e. shown_expr e ≡ rule.as_pointer c (seen.value v)) }
 {
     if v.is_null {
@@ -94,8 +95,15 @@ pub(crate) fn as_pointer(alloc: Global, c: CType, v: Value) -> Result<Expr, Allo
     Ok(Expr::Cast(expr))
 }
 
+/// A pointer as it is compared.
+pub fn bare(v: Value) -> Expr
+    ensures { shown_expr result ≡ bare (seen.value v) }
+{
+    if v.is_null { Expr::Null } else { v.expr }
+}
+
 /// A value as of a scalar type.
-pub(crate) fn as_type(alloc: Global, c: CType, v: Value) -> Result<Expr, AllocError>
+pub fn as_type(alloc: Global, c: CType, v: Value) -> Result<Expr, AllocError>
     ensures { IfOk result (λ e. shown_expr e ≡ rule.as_type c (seen.value v)) }
 {
     if is_pointer(c) {
@@ -105,7 +113,7 @@ pub(crate) fn as_type(alloc: Global, c: CType, v: Value) -> Result<Expr, AllocEr
 }
 
 /// One is a pointer, and the other an integer that is no null constant.
-pub(crate) fn is_mixed(c: CType, v: &Value) -> bool
+pub fn is_mixed(c: CType, v: &Value) -> bool
     ensures { result ≡ rule.is_mixed c (seen.value v.now) }
 {
     if is_pointer(c) {
@@ -115,14 +123,14 @@ pub(crate) fn is_mixed(c: CType, v: &Value) -> bool
     }
 }
 
-pub(crate) fn are_scalars(c: CType, d: CType) -> bool
+pub fn are_scalars(c: CType, d: CType) -> bool
     ensures { result ≡ rule.are_scalars c d }
 {
     is_scalar(c) & is_scalar(d)
 }
 
 /// Of one type, or one of them a pointer to void.
-pub(crate) fn are_compatible(c: CType, d: CType) -> bool
+pub fn are_compatible(c: CType, d: CType) -> bool
     ensures { result ≡ rule.are_compatible c d }
 {
     (c == d) | is_void_pointer(c) | is_void_pointer(d)

@@ -1,32 +1,27 @@
-//! What the nodes of expressions come to: operands, and what operators, members, casts, sizes and calls make of them.
+//! Operands and values of expressions: their types, conversions, constants and copies.
 #![tactic(auto)]
 
-mod calls;
 mod constants;
 mod conversions;
 mod copies;
 pub mod kinds;
+mod names;
 mod operand;
-mod operators;
-mod parts;
-mod stores;
+pub mod pairs;
 mod types;
 mod value;
 
-pub use calls::{Action, Called, Parameter, all_passed, length_at};
 pub use constants::{constant_of, count_of};
-pub use conversions::{fitted, tested, value_of};
-pub use copies::{copy_expr, copy_operand, copy_place};
-pub use operand::{Callee, Operand};
-pub use operators::{chosen, operated};
-pub use parts::{
-    built_in, casted, indexable, indexed, numbered, selected, selected_through, sized, type_sized,
-    unary_typed,
+pub use conversions::{
+    are_compatible, are_scalars, as_pointer, as_type, bare, converted, fitted, is_mixed,
+    promoted_type, promoted_value, tested, value_of,
 };
-pub use stores::{assigned, operator_of, taken, updated};
+pub use copies::{copy_expr, copy_operand, copy_place};
+pub use names::{built_in, numbered};
+pub use operand::{Callee, Operand};
 pub use types::{
     bound_of, element_of, int_of, int_type, is_aggregate, is_array, is_integer, is_pointer,
-    is_void, known_number, number_of, pointer_to, scalar_of, size_of_type, type_of, void_type,
-    whole,
+    is_scalar, is_void, is_void_pointer, known_number, number_of, pointer_to, scalar_of,
+    size_of_type, size_type, target, type_of, void_pointer, void_type, whole,
 };
 pub use value::Value;

@@ -30,7 +30,7 @@ pub fn void_type() -> CType
     whole(Base::Void)
 }
 
-pub(crate) fn void_pointer() -> CType
+pub fn void_pointer() -> CType
     ensures { result ≡ rule.void_pointer }
 {
     CType {
@@ -53,7 +53,7 @@ pub fn pointer_to(c: CType) -> Result<CType, AllocError>
 }
 
 /// What a pointer points to; another type than a pointer stays as it is.
-pub(crate) fn target(c: CType) -> CType
+pub fn target(c: CType) -> CType
     ensures { result ≡ rule.target c }
 {
     CType {
@@ -153,7 +153,7 @@ pub fn is_aggregate(c: CType) -> bool
 }
 
 /// An integer or a pointer.
-pub(crate) fn is_scalar(c: CType) -> bool
+pub fn is_scalar(c: CType) -> bool
     ensures { result ≡ rule.is_scalar c }
 {
     if is_pointer(c) {
@@ -163,7 +163,7 @@ pub(crate) fn is_scalar(c: CType) -> bool
     }
 }
 
-pub(crate) fn is_void_pointer(c: CType) -> bool
+pub fn is_void_pointer(c: CType) -> bool
     ensures { result ≡ rule.is_void_pointer c }
 {
     if is_pointer(c) {
@@ -355,7 +355,7 @@ pub fn known_number(types: &Types, ty: Ty) -> u32
 }
 
 /// What `sizeof` gives.
-pub(crate) fn size_type(model: Model) -> IntType
+pub fn size_type(model: Model) -> IntType
     ensures { result ≡ rule.size_type model }
 {
     match model {

@@ -49,7 +49,8 @@ impl Value {
         }
     }
 
-    pub(crate) fn plain(expr: Expr, ty: CType) -> Value
+    /// Any value that is no null constant.
+    pub fn plain(expr: Expr, ty: CType) -> Value
         requires { IsSound (rule.plain_value (shown_expr expr) ty) }
         ensures { seen.value result ≡ rule.plain_value (shown_expr expr) ty }
     {

@@ -14,7 +14,7 @@ use ep_core::program::Function;
 use ep_core::tree::{Stmt, What};
 use ep_defined::Defined;
 use ep_typer_bodies::Body;
-use ep_typer_statements::order_of;
+use ep_typer_lines::order_of;
 use std::alloc::{AllocError, Global};
 
 fn by_order(order: NamedOrder, then: Vec<Stmt>, otherwise: Vec<Stmt>) -> What

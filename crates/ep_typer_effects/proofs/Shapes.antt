@@ -8,7 +8,7 @@ use Rattle.ep_ast.specs.Expression as source
 use Rattle.ep_ast.specs.Mark.{equal}
 use Rattle.ep_core.specs.Program as core
 use Rattle.ep_layout.specs.Table.{Table}
-use Rattle.ep_operands.specs.Stores.{simply, updated_with}
+use Rattle.ep_stores.specs.Stores.{simply, updated_with}
 use Rattle.ep_typing.specs.Env.{Env}
 use Rattle.ep_typing.specs.Operand.{Operand, Value, value, value_of}
 use Rattle.ep_typing.specs.Parts.{an_operand}

@@ -1,6 +1,6 @@
 -- What stands right of an assignment, seen as what the definitions speak of.
 use Rattle.ep_typing.specs.Typing as rule
-use Rattle.ep_operands.specs.Seen.{called, operand}
+use Rattle.ep_stores.specs.Seen.{called, operand}
 use Rattle.ep_typer_effects.specs.declared.right.Right.{Right}
 use Rattle.ep_typer_effects.specs.declared.right.Right.TheVariants as rights
 

@@ -4,7 +4,7 @@ use Rattle.ep_ast.specs.declared.refusals.Refusal.{Refusal}
 use Rattle.ep_ast.specs.Expression as source
 use Rattle.ep_ast.specs.Mark.{equal}
 use Rattle.ep_core.specs.Program as core
-use Rattle.ep_operands.specs.Stores.{simply, updated_with}
+use Rattle.ep_stores.specs.Stores.{simply, updated_with}
 use Rattle.ep_typing.specs.Results.{◌>>=◌, at}
 use Rattle.ep_typing.specs.Env.{Env}
 use Rattle.ep_typing.specs.Calls.{called_into}

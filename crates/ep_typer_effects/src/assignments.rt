@@ -15,8 +15,9 @@ use crate::right::{assigned_from, right_side};
 use ep_ast::{ExprTree, Halt, marks};
 use ep_core::tree::{Expr, What};
 use ep_int::IntType;
-use ep_operands::{Operand, Value, copy_operand, operator_of, updated, value_of};
+use ep_operands::{Operand, Value, copy_operand, value_of};
 use ep_scopes::Env;
+use ep_stores::{operator_of, updated};
 use ep_typer_exprs::typed;
 
 // `=`.

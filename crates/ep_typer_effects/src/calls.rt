@@ -10,17 +10,16 @@ ghost use Rattle.ep_typing.specs.Operand as operands;
 ghost use Rattle.ep_typing.specs.Results.{at};
 ghost use Rattle.ep_typing.specs.Typing as typing;
 ghost use Rattle.ep_operands.specs.Gives.{Gives};
-ghost use Rattle.ep_operands.specs.Seen as seen;
+ghost use Rattle.ep_stores.specs.Seen as seen;
 ghost use Rattle.ep_scopes.specs.Seen.{env as around};
 
 use ep_ast::{ExprTree, Halt};
 use ep_core::tree::Expr;
 use ep_int::{IntType, Memory};
 use ep_operands::kinds::{TYPE_MISMATCH, refused};
-use ep_operands::{
-    Action, Called, Callee, Operand, Parameter, Value, all_passed, int_type, length_at, void_type,
-};
+use ep_operands::{Callee, Operand, Value, int_type, void_type};
 use ep_scopes::Env;
+use ep_stores::{Action, Called, Parameter, all_passed, length_at};
 use ep_typer_exprs::{typed, typed_all};
 use ep_typing::CType;
 use std::alloc::Global;

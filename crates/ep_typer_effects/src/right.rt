@@ -9,7 +9,7 @@ ghost use Rattle.ep_typing.specs.Operand.{Operand as Operand'};
 ghost use Rattle.ep_typing.specs.Results.{at};
 ghost use Rattle.ep_typing.specs.Typing as rule;
 ghost use Rattle.ep_operands.specs.Gives.{Gives};
-ghost use Rattle.ep_operands.specs.Seen as operands;
+ghost use Rattle.ep_stores.specs.Seen as operands;
 ghost use Rattle.ep_scopes.specs.Seen.{env as around};
 ghost use Rattle.ep_typer_effects.specs.Seen as seen;
 
@@ -17,8 +17,9 @@ use crate::calls::call_typed;
 use ep_ast::{ExprTree, Halt};
 use ep_core::tree::What;
 use ep_layout::Types;
-use ep_operands::{Called, Operand, assigned, taken};
+use ep_operands::Operand;
 use ep_scopes::Env;
+use ep_stores::{Called, assigned, taken};
 use ep_typer_exprs::typed;
 use std::alloc::Global;
 

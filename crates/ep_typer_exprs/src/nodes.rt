@@ -11,10 +11,10 @@ ghost use Rattle.ep_operands.specs.Seen as seen;
 ghost use Rattle.ep_scopes.specs.Seen.{env as around};
 
 use ep_ast::{Halt, marks};
-use ep_operands::{
-    Operand, Value, casted, chosen, indexed, operated, selected_through, sized, type_sized,
-    value_of,
-};
+use ep_comparisons::chosen;
+use ep_operands::{Operand, Value, value_of};
+use ep_operators::operated;
+use ep_places::{casted, indexed, selected_through, sized, type_sized};
 use ep_scopes::Env;
 use ep_typing::CType;
 

@@ -16,7 +16,8 @@ use crate::nodes::{
 };
 use ep_ast::{ExprTree, Halt};
 use ep_operands::kinds::{ASSIGNMENT_IN_EXPRESSION, CALL_IN_EXPRESSION, refused};
-use ep_operands::{Operand, Value, indexable, numbered, selected, unary_typed};
+use ep_operands::{Operand, Value, numbered};
+use ep_places::{indexable, selected, unary_typed};
 use ep_scopes::{Env, named, named_type};
 
 /// What an expression stands for, where the environment has what it mentions.

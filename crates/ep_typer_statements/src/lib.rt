@@ -2,10 +2,6 @@
 #![tactic(auto)]
 
 mod headings;
-mod nodes;
-mod scoping;
-mod simple;
 mod walk;
 
-pub use nodes::order_of;
 pub use walk::parts;

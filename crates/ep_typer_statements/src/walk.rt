@@ -12,16 +12,15 @@ ghost use Rattle.ep_scopes.specs.Seen.{env as around};
 ghost use Rattle.ep_typer_statements.specs.Seen.{closed};
 ghost use Rattle.ep_typer_statements.specs.Seen.{lines as seen_lines};
 
-use crate::headings::{first_inside, for_lines};
-use crate::nodes::{branched, by_order, looped, one_line, scoped};
-use crate::scoping::{blocks_here, enter, leave};
-use crate::simple::{
-    evaluated_if, evaluated_in, jump, returned, tested_if, tested_in, tested_inside,
-};
+use crate::headings::first_inside;
 use ep_ast::{BlockItemTree, ExprTree, Halt, HeadingTree, NamedOrder, StmtTree};
 use ep_core::tree::{Expr, Stmt, What};
 use ep_scopes::Env;
 use ep_typer_declarations::declaration;
+use ep_typer_lines::{
+    blocks_here, branched, by_order, enter, evaluated_if, evaluated_in, for_lines, jump, leave,
+    looped, one_line, returned, scoped, tested_if, tested_in, tested_inside,
+};
 use ep_typing::CType;
 
 // A statement that had two scopes, one inside the other.

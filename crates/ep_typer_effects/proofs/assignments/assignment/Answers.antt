@@ -2,7 +2,7 @@ use Rattle.std.proofs.Common.{◌≡◌, nat_eq, false, arith}
 use Rattle.std.proofs.lemmas.Bool.Decides.{nat_tests}
 use Rattle.ep_ast.specs.Mark.{equal}
 use Rattle.ep_core.specs.View.{shown_what}
-use Rattle.ep_operands.proofs.StoreLemmas.{same_gives}
+use Rattle.ep_stores.proofs.StoreLemmas.{same_gives}
 use Rattle.ep_scopes.specs.Seen.{env}
 use Rattle.ep_typer_effects.proofs.Shapes.{compound_is, plain_is}
 use Rattle.ep_typer_effects.proofs.assignments.assignment.Goals as goal

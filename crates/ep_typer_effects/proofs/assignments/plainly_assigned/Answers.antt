@@ -1,5 +1,5 @@
 use Rattle.ep_core.specs.View.{shown_what}
-use Rattle.ep_operands.proofs.StoreLemmas.{same_gives}
+use Rattle.ep_stores.proofs.StoreLemmas.{same_gives}
 use Rattle.ep_operands.specs.Seen as operands
 use Rattle.ep_scopes.specs.Seen.{env}
 use Rattle.ep_typer_effects.specs.Seen as seen

@@ -1,6 +1,6 @@
 use Rattle.std.proofs.Common.{◌≡◌, map, take}
 use Rattle.ep_typing.specs.Calls as rule
-use Rattle.ep_operands.specs.Seen as seen
+use Rattle.ep_stores.specs.Seen as seen
 use Rattle.ep_typer_effects.proofs.calls.as_parameters.Given as goal
 
 abbrev pub invariant-loop-c : goal.invariant-loop-c

@@ -1,7 +1,7 @@
 use Rattle.std.proofs.Common.{ap}
 use Rattle.ep_ast.specs.Mark.{equal}
 use Rattle.ep_core.specs.View.{shown_what}
-use Rattle.ep_operands.proofs.StoreLemmas.{same_gives}
+use Rattle.ep_stores.proofs.StoreLemmas.{same_gives}
 use Rattle.ep_operands.specs.Seen as operands
 use Rattle.ep_typing.specs.Results.{at}
 use Rattle.ep_typing.specs.Typing.{assigned_from}

@@ -1,6 +1,6 @@
 use Rattle.std.proofs.Common.{true, Bool, ap, ◌∙◌}
 use Rattle.ep_ast.specs.Expression as source
-use Rattle.ep_operands.proofs.StoreLemmas.{same_gives}
+use Rattle.ep_stores.proofs.StoreLemmas.{same_gives}
 use Rattle.ep_scopes.specs.Seen.{env}
 use Rattle.ep_typing.specs.Typing.{right_side}
 use Rattle.ep_typer_effects.specs.Seen as seen

@@ -1,7 +1,7 @@
 use Rattle.std.proofs.Common.{Bool, ap, ◌∙◌}
 use Rattle.ep_ast.specs.Expression as source
 use Rattle.ep_core.specs.View.{shown_what}
-use Rattle.ep_operands.proofs.StoreLemmas.{same_gives}
+use Rattle.ep_stores.proofs.StoreLemmas.{same_gives}
 use Rattle.ep_scopes.specs.Seen.{env}
 use Rattle.ep_typing.specs.Typing.{whole_statement}
 use Rattle.ep_typer_effects.proofs.Shapes.{a_call_alone, a_decrement, a_step, an_increment, called_tree, decrement_tree, increment_tree, step_tree}

@@ -5,7 +5,7 @@ use Rattle.ep_core.specs.View.{shown_what}
 use Rattle.ep_declared.specs.Gives.{GivesIn}
 use Rattle.ep_elaboration.specs.Statements.{statement}
 use Rattle.ep_scopes.specs.Seen.{env}
-use Rattle.ep_typer_declarations.specs.Seen.{line}
+use Rattle.ep_declared.specs.Seen.{line}
 use Rattle.ep_typer_statements.specs.Seen.{lines}
 use Rattle.ep_typer_statements.proofs.Trees.{arm_is, arms_stop, block_tree, do_tree, for_tree, second_stops, two_arms_are, while_tree}
 use Rattle.ep_typer_statements.proofs.walk.+walk.Goals as goal

@@ -1,0 +1,87 @@
+//! One of two values.
+
+ghost use Rattle.std.specs.Prelude.{◌≡◌, IfOk, true};
+ghost use Rattle.ep_core.specs.View.{shown_expr};
+ghost use Rattle.ep_typing.specs.Types.{is_pointer};
+ghost use Rattle.ep_typing.specs.Operators as rule;
+ghost use Rattle.ep_typing.specs.Results.{at};
+ghost use Rattle.ep_operands.specs.Numbers.{IsSomeNumber};
+ghost use Rattle.ep_operands.specs.Gives.{Gives};
+ghost use Rattle.ep_operands.specs.Seen as seen;
+
+use ep_ast::Halt;
+use ep_core::tree::Expr;
+use ep_operands::kinds::{INCOMPATIBLE_POINTERS, POINTER_TO_INTEGER, TYPE_MISMATCH, refused};
+use ep_operands::pairs::{are_foreign, are_integers, are_mixed, are_scalars, common_type};
+use ep_operands::{Value, as_pointer, converted, is_scalar, is_void_pointer, void_pointer};
+use ep_typing::CType;
+use std::alloc::{AllocError, Global};
+
+fn numbers_chosen(alloc: Global, test: Expr, a: Value, b: Value) -> Result<Value, AllocError>
+    requires test { IsSomeNumber (shown_expr test) }
+    requires numbers { rule.are_integers (seen.value a) (seen.value b) ≡ true }
+    ensures { IfOk result (λ v. seen.value v ≡ rule.numbers_chosen (shown_expr test) (seen.value a) (seen.value b)) }
+{
+    let t = common_type(&a, &b);
+    let test = Box::new(alloc, test)?;
+    let yes = converted(alloc, t, a)?;
+    let yes = Box::new(alloc, yes)?;
+    let no = converted(alloc, t, b)?;
+    let no = Box::new(alloc, no)?;
+    Ok(Value::int(Expr::Cond(test, yes, no), t))
+}
+
+// The type of a pointer that is one of two.
+fn chosen_type(a: &Value, b: &Value) -> CType
+    ensures { result ≡ rule.chosen_type (seen.value a.now) (seen.value b.now) }
+{
+    if a.is_null & b.is_null {
+        return void_pointer();
+    }
+    if a.is_null {
+        return b.ty;
+    }
+    if b.is_null {
+        return a.ty;
+    }
+    if is_void_pointer(b.ty) {
+        return b.ty;
+    }
+    a.ty
+}
+
+fn pointers_chosen(alloc: Global, test: Expr, a: Value, b: Value) -> Result<Value, AllocError>
+    requires test { IsSomeNumber (shown_expr test) }
+    requires pointer { is_pointer (rule.chosen_type (seen.value a) (seen.value b)) ≡ true }
+    ensures { IfOk result (λ v. seen.value v ≡ rule.pointers_chosen (shown_expr test) (seen.value a) (seen.value b)) }
+{
+    let c = chosen_type(&a, &b);
+    let test = Box::new(alloc, test)?;
+    let yes = as_pointer(alloc, c, a)?;
+    let yes = Box::new(alloc, yes)?;
+    let no = as_pointer(alloc, c, b)?;
+    let no = Box::new(alloc, no)?;
+    Ok(Value::unknown(Expr::Cond(test, yes, no), c))
+}
+
+/// `? :`: two integers, or two pointers by the rule of `==`.
+#[tactic(auto, unfolding(ep_typing::specs::Operators::chosen))]
+pub fn chosen(alloc: Global, line: u32, test: Value, a: Value, b: Value) -> Result<Value, Halt>
+    ensures { Gives seen.value (at line (rule.chosen (seen.value test) (seen.value a) (seen.value b))) result }
+{
+    if !(is_scalar(test.ty) & are_scalars(&a, &b)) {
+        return Err(refused(TYPE_MISMATCH, line));
+    }
+    if are_integers(&a, &b) {
+        let value = numbers_chosen(alloc, test.expr, a, b)?;
+        return Ok(value);
+    }
+    if are_mixed(&a, &b) {
+        return Err(refused(POINTER_TO_INTEGER, line));
+    }
+    if are_foreign(&a, &b) {
+        return Err(refused(INCOMPATIBLE_POINTERS, line));
+    }
+    let value = pointers_chosen(alloc, test.expr, a, b)?;
+    Ok(value)
+}

@@ -1,0 +1,84 @@
+//! Comparisons.
+
+ghost use Rattle.std.specs.Prelude.{◌≡◌, IfOk, true};
+ghost use Rattle.ep_typing.specs.Operators as rule;
+ghost use Rattle.ep_typing.specs.Results.{at};
+ghost use Rattle.ep_operands.specs.Gives.{Gives};
+ghost use Rattle.ep_operands.specs.Seen as seen;
+
+use ep_ast::Halt;
+use ep_core::tree::Expr;
+use ep_int::{Cmp, IntType};
+use ep_operands::kinds::{INCOMPATIBLE_POINTERS, POINTER_TO_INTEGER, TYPE_MISMATCH, refused};
+use ep_operands::pairs::{
+    are_foreign, are_integers, are_mixed, are_scalars, common_type, is_null_either,
+};
+use ep_operands::{Value, bare, converted};
+use std::alloc::{AllocError, Global};
+
+fn compared(alloc: Global, how: Cmp, a: Value, b: Value) -> Result<Value, AllocError>
+    requires { rule.are_integers (seen.value a) (seen.value b) ≡ true }
+    ensures { IfOk result (λ v. seen.value v ≡ rule.compared how (seen.value a) (seen.value b)) }
+{
+    let t = common_type(&a, &b);
+    let left = converted(alloc, t, a)?;
+    let left = Box::new(alloc, left)?;
+    let right = converted(alloc, t, b)?;
+    let right = Box::new(alloc, right)?;
+    Ok(Value::int(Expr::Compare(how, t, left, right), IntType::I32))
+}
+
+fn pointers_compared(alloc: Global, how: Cmp, a: Value, b: Value) -> Result<Value, AllocError>
+    ensures { IfOk result (λ v. seen.value v ≡ rule.pointers_compared how (seen.value a) (seen.value b)) }
+{
+    let left = Box::new(alloc, bare(a))?;
+    let right = Box::new(alloc, bare(b))?;
+    Ok(Value::int(Expr::PtrCompare(how, left, right), IntType::I32))
+}
+
+// `<`, `>`, `<=` and `>=`: two integers, or two pointers of one type, of which null is none.
+#[tactic(auto, unfolding(ep_typing::specs::Operators::ordered))]
+pub fn ordered(alloc: Global, line: u32, how: Cmp, a: Value, b: Value) -> Result<Value, Halt>
+    ensures { Gives seen.value (at line (rule.ordered how (seen.value a) (seen.value b))) result }
+{
+    if are_integers(&a, &b) {
+        let value = compared(alloc, how, a, b)?;
+        return Ok(value);
+    }
+    if !are_scalars(&a, &b) {
+        return Err(refused(TYPE_MISMATCH, line));
+    }
+    if is_null_either(&a, &b) {
+        return Err(refused(TYPE_MISMATCH, line));
+    }
+    if are_mixed(&a, &b) {
+        return Err(refused(POINTER_TO_INTEGER, line));
+    }
+    if a.ty == b.ty {
+        let value = pointers_compared(alloc, how, a, b)?;
+        return Ok(value);
+    }
+    Err(refused(INCOMPATIBLE_POINTERS, line))
+}
+
+// `==` and `!=`: two integers, or two pointers of one type, or one of them null or to void.
+#[tactic(auto, unfolding(ep_typing::specs::Operators::equated))]
+pub fn equated(alloc: Global, line: u32, how: Cmp, a: Value, b: Value) -> Result<Value, Halt>
+    ensures { Gives seen.value (at line (rule.equated how (seen.value a) (seen.value b))) result }
+{
+    if are_integers(&a, &b) {
+        let value = compared(alloc, how, a, b)?;
+        return Ok(value);
+    }
+    if !are_scalars(&a, &b) {
+        return Err(refused(TYPE_MISMATCH, line));
+    }
+    if are_mixed(&a, &b) {
+        return Err(refused(POINTER_TO_INTEGER, line));
+    }
+    if are_foreign(&a, &b) {
+        return Err(refused(INCOMPATIBLE_POINTERS, line));
+    }
+    let value = pointers_compared(alloc, how, a, b)?;
+    Ok(value)
+}

@@ -1,0 +1,39 @@
+//! Truths that are joined.
+
+ghost use Rattle.std.specs.Prelude.{◌≡◌};
+ghost use Rattle.ep_typing.specs.Operators as rule;
+ghost use Rattle.ep_typing.specs.Results.{at};
+ghost use Rattle.ep_operands.specs.Gives.{Gives};
+ghost use Rattle.ep_operands.specs.Seen as seen;
+
+use ep_ast::Halt;
+use ep_core::tree::Expr;
+use ep_int::IntType;
+use ep_operands::Value;
+use ep_operands::kinds::{TYPE_MISMATCH, refused};
+use ep_operands::pairs::are_scalars;
+use std::alloc::Global;
+
+#[tactic(auto, unfolding(ep_typing::specs::Operators::both))]
+pub fn both(alloc: Global, line: u32, a: Value, b: Value) -> Result<Value, Halt>
+    ensures { Gives seen.value (at line (rule.both (seen.value a) (seen.value b))) result }
+{
+    if are_scalars(&a, &b) {
+        let left = Box::new(alloc, a.expr)?;
+        let right = Box::new(alloc, b.expr)?;
+        return Ok(Value::int(Expr::And(left, right), IntType::I32));
+    }
+    Err(refused(TYPE_MISMATCH, line))
+}
+
+#[tactic(auto, unfolding(ep_typing::specs::Operators::either))]
+pub fn either(alloc: Global, line: u32, a: Value, b: Value) -> Result<Value, Halt>
+    ensures { Gives seen.value (at line (rule.either (seen.value a) (seen.value b))) result }
+{
+    if are_scalars(&a, &b) {
+        let left = Box::new(alloc, a.expr)?;
+        let right = Box::new(alloc, b.expr)?;
+        return Ok(Value::int(Expr::Or(left, right), IntType::I32));
+    }
+    Err(refused(TYPE_MISMATCH, line))
+}

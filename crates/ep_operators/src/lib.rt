@@ -1,0 +1,7 @@
+//! What operators of two values come to.
+#![tactic(auto)]
+
+mod numbers;
+mod operators;
+
+pub use operators::operated;

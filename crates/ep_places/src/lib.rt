@@ -1,0 +1,14 @@
+//! What operators of one operand, elements, members, casts and sizes come to.
+#![tactic(auto)]
+
+mod elements;
+mod members;
+mod pointers;
+mod sizes;
+mod unary;
+
+pub use elements::{indexable, indexed};
+pub use members::{selected, selected_through};
+pub use pointers::moved;
+pub use sizes::{casted, sized, type_sized};
+pub use unary::unary_typed;

@@ -1,0 +1,89 @@
+//! Members.
+
+ghost use Rattle.std.specs.Prelude.{◌≡◌, Option};
+ghost use Rattle.std.specs.Option.{option_map};
+ghost use Rattle.ep_core.specs.View.{shown_place};
+ghost use Rattle.ep_layout.specs.Table.{member_named};
+ghost use Rattle.ep_layout.specs.Views.{view_member};
+ghost use Rattle.ep_typing.specs.Parts as rule;
+ghost use Rattle.ep_typing.specs.Results.{at};
+ghost use Rattle.ep_operands.specs.Gives.{Gives};
+ghost use Rattle.ep_operands.specs.Seen as seen;
+
+use crate::pointers::pointed;
+use ep_ast::Halt;
+use ep_core::tree::Place;
+use ep_layout::{Member, Types};
+use ep_operands::kinds::{NO_MEMBER, TYPE_MISMATCH, refused};
+use ep_operands::{Operand, Value, is_aggregate, number_of, type_of};
+use ep_typing::CType;
+use std::alloc::Global;
+
+fn member_named<'a>(types: &'a Types, aggregate: u32, name: &[u8]) -> Option<&'a Member>
+    ensures { option_map (λ m. view_member m.now) result ≡ member_named types.now aggregate name.now }
+{
+    if aggregate < types.aggregate_count() {
+        types.member(aggregate, name)
+    } else {
+        None
+    }
+}
+
+#[tactic(auto, unfolding(ep_typing::specs::Parts::member_of))]
+fn member_of(
+    alloc: Global,
+    types: &Types,
+    line: u32,
+    whole: Place,
+    c: CType,
+    name: &[u8],
+) -> Result<Operand, Halt>
+    ensures { Gives seen.operand (at line (rule.member_of types.now (shown_place whole) c name.now)) result }
+{
+    match member_named(types, number_of(c), name) {
+        Some(member) => {
+            let whole = Box::new(alloc, whole)?;
+            let ty = type_of(types, member.ty);
+            Ok(Operand::Place(Place::Member(whole, member.offset), ty))
+        }
+        None => Err(refused(NO_MEMBER, line)),
+    }
+}
+
+/// `.`.
+#[tactic(auto, unfolding(ep_typing::specs::Parts::selected))]
+pub fn selected(
+    alloc: Global,
+    types: &Types,
+    line: u32,
+    x: Operand,
+    name: &[u8],
+) -> Result<Operand, Halt>
+    ensures { Gives seen.operand (at line (rule.selected types.now (seen.operand x) name.now)) result }
+{
+    match x {
+        Operand::Place(place, c) => {
+            if is_aggregate(c) {
+                return member_of(alloc, types, line, place, c, name);
+            }
+            Err(refused(TYPE_MISMATCH, line))
+        }
+        Operand::Value(_) => Err(refused(TYPE_MISMATCH, line)),
+        Operand::Function(_) => Err(refused(TYPE_MISMATCH, line)),
+    }
+}
+
+/// `->`.
+#[tactic(auto, unfolding(ep_typing::specs::Parts::selected_through))]
+pub fn selected_through(
+    alloc: Global,
+    types: &Types,
+    line: u32,
+    v: Value,
+    name: &[u8],
+) -> Result<Operand, Halt>
+    ensures { Gives seen.operand (at line (rule.selected_through types.now (seen.value v) name.now)) result }
+{
+    let whole = pointed(alloc, line, v)?;
+    selected(alloc, types, line, whole, name)
+}

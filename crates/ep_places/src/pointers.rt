@@ -1,0 +1,67 @@
+//! Pointers that move, and what they point to.
+
+ghost use Rattle.std.specs.Prelude.{◌≡◌, IfOk};
+ghost use Rattle.ep_core.specs.View.{shown_expr};
+ghost use Rattle.ep_core.specs.Program as core;
+ghost use Rattle.ep_typing.specs.Operand as values;
+ghost use Rattle.ep_typing.specs.Operators as rule;
+ghost use Rattle.ep_typing.specs.Parts.{pointed};
+ghost use Rattle.ep_typing.specs.Results.{at};
+ghost use Rattle.ep_operands.specs.Gives.{Gives};
+ghost use Rattle.ep_operands.specs.Seen as seen;
+
+use ep_ast::Halt;
+use ep_core::tree::{Expr, Place};
+use ep_layout::Types;
+use ep_operands::kinds::{INCOMPLETE_TYPE, TYPE_MISMATCH, refused};
+use ep_operands::{Operand, Value, is_pointer, size_of_type, target};
+use std::alloc::{AllocError, Global};
+
+fn steps(
+    alloc: Global,
+    pointer: Value,
+    unit: u32,
+    count: Value,
+    backwards: bool,
+) -> Result<Value, AllocError>
+    ensures { IfOk result (λ v. seen.value v ≡ values.plain_value (core.ptr_add (shown_expr pointer.expr) unit (shown_expr count.expr) backwards) pointer.ty) }
+{
+    let ty = pointer.ty;
+    let expr = Box::new(alloc, pointer.expr)?;
+    let count = Box::new(alloc, count.expr)?;
+    Ok(Value::unknown(Expr::PtrAdd(expr, unit, count, backwards), ty))
+}
+
+/// A pointer that is moved by a number of what it points to.
+#[tactic(auto, unfolding(ep_typing::specs::Operators::moved))]
+pub fn moved(
+    alloc: Global,
+    types: &Types,
+    line: u32,
+    pointer: Value,
+    count: Value,
+    backwards: bool,
+) -> Result<Value, Halt>
+    ensures { Gives seen.value (at line (rule.moved types.now (seen.value pointer) (seen.value count) backwards)) result }
+{
+    match size_of_type(types, target(pointer.ty)) {
+        Some(unit) => {
+            let value = steps(alloc, pointer, unit, count, backwards)?;
+            Ok(value)
+        }
+        None => Err(refused(INCOMPLETE_TYPE, line)),
+    }
+}
+
+// `*`.
+#[tactic(auto, unfolding(ep_typing::specs::Parts::pointed))]
+pub(crate) fn pointed(alloc: Global, line: u32, v: Value) -> Result<Operand, Halt>
+    ensures { Gives seen.operand (at line (pointed (seen.value v))) result }
+{
+    if is_pointer(v.ty) {
+        let ty = target(v.ty);
+        let expr = Box::new(alloc, v.expr)?;
+        return Ok(Operand::Place(Place::Deref(expr), ty));
+    }
+    Err(refused(TYPE_MISMATCH, line))
+}

@@ -1,0 +1,91 @@
+-- Arguments one after another.
+use Rattle.std.proofs.Common.{◌≡◌, ℕ, suc, ◌+◌, ◌<◌, ◌≤◌, min, List, [], ◌∷◌, ◌++◌, map, length, drop, slice_get, Option, Some, None, Result, Ok, Err, refl, sym, ap, ◌∙◌, append_assoc, drop-cons, subst, arith}
+use Rattle.std.proofs.lemmas.List.{drop_all}
+use Rattle.std.proofs.lemmas.Option.{get_or_from_slice_get, slice_get_within}
+use Rattle.ep_ast.specs.declared.refusals.Refusal.{Refusal}
+use Rattle.ep_ast.specs.declared.refusals.Halt.{Halt}
+use Rattle.ep_ast.specs.declared.refusals.Halt.TheVariants as halts
+use Rattle.ep_core.specs.Program.{Expr}
+use Rattle.ep_typing.specs.Calls.{all_passed, passed}
+use Rattle.ep_typing.specs.Results.{at, lowest}
+use Rattle.ep_stores.specs.declared.calls.Parameter.{Parameter}
+use Rattle.ep_operands.specs.declared.value.Value.{Value}
+use Rattle.ep_operands.specs.Gives.{Stops}
+use Rattle.ep_stores.specs.Passing.{after, lower}
+use Rattle.ep_operands.specs.Seen.{value}
+use Rattle.ep_stores.specs.Seen.{parameter}
+
+pub at_err : {A : Type 0} (l : ℕ) (r : Result A ℕ) (f : Refusal) → at l r ≡ Err f → r ≡ Err f.kind
+at_err l (Ok x) f h = absurd cc
+at_err l (Err k) f h = let same : ◌≡◌ {A = Refusal} (record { kind = k; line = l; word = 0 }) f = cc in ap (λ (g : Refusal). Err g.kind) same
+
+pub at_ok : {A : Type 0} (l : ℕ) (r : Result A ℕ) (x : A) → at l r ≡ Ok x → r ≡ Ok x
+at_ok l (Ok y) x h = let same : y ≡ x = cc in ap (λ z. Ok z) same
+at_ok l (Err k) x h = absurd cc
+
+pub after_err : (kind : Option ℕ) (done : List Expr) (k : ℕ) → after kind done (Err k) ≡ Err (lower kind k)
+after_err None done k = refl
+after_err (Some j) done k = refl
+
+pub one_more : (kind : Option ℕ) (done : List Expr) (e : Expr) (r : Result (List Expr) ℕ)
+    → after kind done (lowest (Ok e) r) ≡ after kind (done ++ e ∷ []) r
+one_more None done e (Ok es) = ap (λ (l : List Expr). Ok l) (sym (append_assoc done (e ∷ []) es))
+one_more None done e (Err k) = refl
+one_more (Some j) done e (Ok es) = refl
+one_more (Some j) done e (Err k) = refl
+
+min_three : (i j k : ℕ) → min i (min j k) ≡ min (min i j) k
+min_three i j k = omega arith
+
+pub one_wrong : (kind : Option ℕ) (done : List Expr) (j : ℕ) (r : Result (List Expr) ℕ)
+    → after kind done (lowest (Err j) r) ≡ after (Some (lower kind j)) done r
+one_wrong None done j (Ok es) = refl
+one_wrong None done j (Err k) = refl
+one_wrong (Some i) done j (Ok es) = refl
+one_wrong (Some i) done j (Err k) = ap (λ (n : ℕ). Err n) (min_three i j k)
+
+-- ---- one step
+
+front : (i : ℕ) (xs : List Parameter) (x : Parameter) → slice_get xs i ≡ Some x → drop i xs ≡ x ∷ drop (i + 1) xs
+front i xs x h =
+    let lt : i < length xs = slice_get_within xs i x h in
+    let more : suc i ≡ i + 1 = omega arith in
+    drop-cons xs i x lt ∙ ap (λ (y : Parameter). y ∷ drop (suc i) xs) (get_or_from_slice_get xs i x x h) ∙ ap (λ (n : ℕ). x ∷ drop n xs) more
+
+module _ (kind : Option ℕ) (done : List Expr) (i : ℕ) (xs : List Parameter) (v : Value) (items vs : List Value) (all : Result (List Expr) ℕ)
+    (is : items ≡ v ∷ vs) (e : after kind done (all_passed (map parameter (drop i xs)) (map value items)) ≡ all) where
+  pub passed_on : (now : Option ℕ) (more : List Expr) (x : Parameter) → slice_get xs i ≡ Some x
+      → ((r : Result (List Expr) ℕ) → after kind done (lowest (passed (parameter x) (value v)) r) ≡ after now more r)
+      → after now more (all_passed (map parameter (drop (i + 1) xs)) (map value vs)) ≡ all
+  unfolding all_passed
+  passed_on now more x h f =
+      sym (f (all_passed (map parameter (drop (i + 1) xs)) (map value vs)))
+      ∙ sym (ap (λ (ys : List Parameter). after kind done (all_passed (map parameter ys) (map value (v ∷ vs)))) (front i xs x h))
+      ∙ sym (ap (λ (ws : List Value). after kind done (all_passed (map parameter (drop i xs)) (map value ws))) is) ∙ e
+
+  pub too_many : length xs ≤ i → all ≡ Err (lower kind 39)
+  unfolding all_passed
+  too_many h =
+      let none : drop i xs ≡ [] = drop_all i xs h in
+      sym e ∙ ap (λ (ws : List Value). after kind done (all_passed (map parameter (drop i xs)) (map value ws))) is
+      ∙ ap (λ (ys : List Parameter). after kind done (all_passed (map parameter ys) (map value (v ∷ vs)))) none ∙ after_err kind done 39
+
+module _ (kind : Option ℕ) (done : List Expr) (i : ℕ) (xs : List Parameter) (items : List Value) (all : Result (List Expr) ℕ)
+    (is : items ≡ []) (e : after kind done (all_passed (map parameter (drop i xs)) (map value items)) ≡ all) where
+  at_end : after kind done (all_passed (map parameter (drop i xs)) []) ≡ all
+  at_end = sym (ap (λ (ws : List Value). after kind done (all_passed (map parameter (drop i xs)) (map value ws))) is) ∙ e
+
+  pub too_few : (d : Parameter) → i < length xs → all ≡ Err (lower kind 39)
+  unfolding all_passed
+  too_few d lt =
+      sym at_end ∙ ap (λ (ys : List Parameter). after kind done (all_passed (map parameter ys) [])) (drop-cons xs i d lt) ∙ after_err kind done 39
+
+  pub enough : length xs ≤ i → after kind done (Ok []) ≡ all
+  unfolding all_passed
+  enough h =
+      let none : drop i xs ≡ [] = drop_all i xs h in
+      sym (ap (λ (ys : List Parameter). after kind done (all_passed (map parameter ys) [])) none) ∙ at_end
+
+pub stops_at : {A : Type 0} (all : Result A ℕ) (l k : ℕ) (e : Halt) → all ≡ Err k → e ≡ halts.Refused (record { kind = k; line = l; word = 0 })
+    → Stops (at l all) e
+stops_at all l k e h p = subst (λ (x : Halt). Stops (at l all) x) (sym p) (ap (at l) h)

@@ -1,0 +1,67 @@
+use Rattle.std.proofs.Common.{◌≡◌, ℕ, ◌≤◌, ◌<◌, ◌∙◌, [], length, map, slice_get, List, Option, Some, Ok, Result, ap, sym, arith}
+use Rattle.std.proofs.lemmas.List.{append-nil, nil_from_length}
+use Rattle.std.specs.Vec.Iter.{into_iter_items}
+use Rattle.std.proofs.lemmas.Bool.Decides.{nat_tests}
+use Rattle.std.proofs.lemmas.Option.{slice_get-get_or}
+use Rattle.ep_ast.specs.declared.refusals.Halt.TheVariants as halts
+use Rattle.ep_core.specs.Program.{Expr}
+use Rattle.ep_core.specs.View.{shown_expr}
+use Rattle.ep_typing.specs.Calls as rule
+use Rattle.ep_typing.specs.Results.{at}
+use Rattle.ep_stores.specs.declared.calls.Parameter.TheVariants.{AnyPointer}
+use Rattle.ep_stores.specs.Passing.{after, lower}
+use Rattle.ep_stores.specs.Seen as seen
+use Rattle.ep_stores.proofs.PassingLemmas.{enough, passed_on, stops_at, too_few, too_many}
+use Rattle.ep_stores.proofs.calls.all_passed.Goals as goal
+
+pub returns-in-None-get : goal.returns-in-None-get
+returns-in-None-get c =
+    let all = rule.all_passed (map seen.parameter c.args.parameters.now) (map seen.value c.args.values.items) in
+    let h : length c.args.parameters.now ≤ c.loop-value.place = grind (arith, nat_tests, c.in-None-get.ensures.lookup) in
+    stops_at all c.args.line (lower c.loop-value.kind 39) c.refused.result
+    (too_many c.loop-value.kind (map shown_expr c.loop-value.arguments.items) c.loop-value.place c.args.parameters.now c.in-Some.value
+    (into_iter_items c.loop-value.value-iterator) (into_iter_items c.next.new.self) all c.in-Some.ensures.steps.0 c.loop-value.invariant.means h)
+    (c.refused.ensures ∙ ap (λ (k : ℕ). halts.Refused (record { kind = k; line = c.args.line; word = 0 })) c.lower.ensures)
+
+pub loop-value-preserved : goal.loop-value-preserved
+loop-value-preserved c =
+    let all = rule.all_passed (map seen.parameter c.args.parameters.now) (map seen.value c.args.values.items) in
+    let below : c.loop-value.place < length c.args.parameters.now = grind (arith, nat_tests, c.in-Some-get.ensures.lookup.0) in
+    let row : slice_get c.args.parameters.now c.loop-value.place ≡ Some c.in-Some-get.parameter.now =
+    slice_get-get_or c.args.parameters.now c.loop-value.place _ below ∙ ap Some (sym c.in-Some-get.ensures.lookup.1) in
+    record {
+      within = omega (arith, below);
+      means = passed_on c.loop-value.kind (map shown_expr c.loop-value.arguments.items) c.loop-value.place c.args.parameters.now c.in-Some.value
+          (into_iter_items c.loop-value.value-iterator) (into_iter_items c.next.new.self) all c.in-Some.ensures.steps.0 c.loop-value.invariant.means
+          c.in_ok-kind-in-Some-get.kind (map shown_expr c.pass.new.arguments.items) c.in-Some-get.parameter.now row c.in_ok-kind-in-Some-get.ensures;
+    }
+
+pub returns-then-place-parameters : goal.returns-then-place-parameters
+returns-then-place-parameters c =
+    let all = rule.all_passed (map seen.parameter c.args.parameters.now) (map seen.value c.args.values.items) in
+    let none : into_iter_items c.loop-value.value-iterator ≡ [] = nil_from_length (into_iter_items c.loop-value.value-iterator) (sym c.loop-value.value-iterator.rest.ok.0 ∙ c.in-None.ensures.steps.0) in
+    stops_at all c.args.line (lower c.loop-value.kind 39) c.refused-then-place-parameters.result
+    (too_few c.loop-value.kind (map shown_expr c.loop-value.arguments.items) c.loop-value.place c.args.parameters.now
+    (into_iter_items c.loop-value.value-iterator) all none c.loop-value.invariant.means AnyPointer c.if-place-parameters.true)
+    (c.refused-then-place-parameters.ensures
+    ∙ ap (λ (k : ℕ). halts.Refused (record { kind = k; line = c.args.line; word = 0 })) c.lower-then-place-parameters.ensures)
+
+pub returns-in-Some-kind : goal.returns-in-Some-kind
+returns-in-Some-kind c =
+    let all = rule.all_passed (map seen.parameter c.args.parameters.now) (map seen.value c.args.values.items) in
+    let done = map shown_expr c.loop-value.arguments.items in
+    let none : into_iter_items c.loop-value.value-iterator ≡ [] = nil_from_length (into_iter_items c.loop-value.value-iterator) (sym c.loop-value.value-iterator.rest.ok.0 ∙ c.in-None.ensures.steps.0) in
+    stops_at all c.args.line c.in-Some-kind.k c.refused-in-Some-kind.result
+    (sym (enough c.loop-value.kind done c.loop-value.place c.args.parameters.now (into_iter_items c.loop-value.value-iterator) all none
+    c.loop-value.invariant.means c.if-place-parameters.false) ∙ ap (λ (o : Option ℕ). after o done (Ok [])) c.in-Some-kind.is)
+    c.refused-in-Some-kind.ensures
+
+pub returns-in-None-kind : goal.returns-in-None-kind
+returns-in-None-kind c =
+    let all = rule.all_passed (map seen.parameter c.args.parameters.now) (map seen.value c.args.values.items) in
+    let done = map shown_expr c.loop-value.arguments.items in
+    let none : into_iter_items c.loop-value.value-iterator ≡ [] = nil_from_length (into_iter_items c.loop-value.value-iterator) (sym c.loop-value.value-iterator.rest.ok.0 ∙ c.in-None.ensures.steps.0) in
+    ap (λ (r : Result (List Expr) ℕ). at c.args.line r)
+    (sym (enough c.loop-value.kind done c.loop-value.place c.args.parameters.now (into_iter_items c.loop-value.value-iterator) all none
+    c.loop-value.invariant.means c.if-place-parameters.false) ∙ ap (λ (o : Option ℕ). after o done (Ok [])) c.in-None-kind.is
+    ∙ ap (λ (es : List Expr). Ok es) (append-nil done))

@@ -1,0 +1,190 @@
+//! What calls are passed, and what they do.
+
+ghost use Rattle.std.specs.Prelude.{◌≡◌, ℕ, map, IfOk, List, Option, Result};
+ghost use Rattle.std.specs.Option.{option_map};
+ghost use Rattle.ep_core.specs.Program as core;
+ghost use Rattle.ep_core.specs.View.{shown_expr, shown_what, shown_dest};
+ghost use Rattle.ep_typing.specs.Calls as rule;
+ghost use Rattle.ep_typing.specs.Results.{at, lowest};
+ghost use Rattle.ep_operands.specs.Gives.{Gives};
+ghost use Rattle.ep_stores.specs.Passing.{after, lower};
+ghost use Rattle.ep_stores.specs.Seen as seen;
+
+use ep_ast::Halt;
+use ep_core::tree::{Dest, Expr, What};
+use ep_int::{IntType, Memory};
+use ep_operands::kinds::{ARITY, LENGTH_NOT_CONSTANT, POINTER_TO_INTEGER, TYPE_MISMATCH, refused};
+use ep_operands::{Value, bare, count_of, fitted, int_type, is_pointer, is_scalar, void_type};
+use ep_typing::CType;
+use std::alloc::Global;
+
+/// What a parameter asks: a value of a type, a pointer of any type, or a length.
+#[derive(Clone, Copy, Debug)]
+pub enum Parameter {
+    OfType(CType),
+    AnyPointer,
+    Length,
+}
+
+/// What a built-in function does that gives nothing. Lengths are in bytes.
+#[derive(Debug, Drop)]
+pub enum Action {
+    Output(IntType, Expr),
+    CopyBytes(Expr, Expr, u32),
+    FillBytes(Expr, Expr, u32),
+    ReadBytes(Expr, u32),
+    WriteBytes(Expr, u32),
+}
+
+/// What a call does: a function by its number with its arguments and the type of its result, an input, or an action.
+#[derive(Debug, Drop)]
+pub enum Called {
+    Function(u32, Vec<Expr>, CType),
+    Input(IntType),
+    Action(Action),
+}
+
+fn as_any_pointer(line: u32, v: Value) -> Result<Expr, Halt>
+    ensures { Gives shown_expr (at line (rule.as_any_pointer (seen.value v))) result }
+{
+    if !is_scalar(v.ty) {
+        return Err(refused(TYPE_MISMATCH, line));
+    }
+    if is_pointer(v.ty) {
+        return Ok(bare(v));
+    }
+    if v.is_null {
+        return Ok(Expr::Null);
+    }
+    Err(refused(POINTER_TO_INTEGER, line))
+}
+
+fn as_length(line: u32, v: Value) -> Result<Expr, Halt>
+    ensures { Gives shown_expr (at line (rule.as_length (seen.value v))) result }
+{
+    if !is_scalar(v.ty) {
+        return Err(refused(TYPE_MISMATCH, line));
+    }
+    if is_pointer(v.ty) {
+        return Err(refused(POINTER_TO_INTEGER, line));
+    }
+    match count_of(&v) {
+        Some(_) => Ok(v.expr),
+        None => Err(refused(LENGTH_NOT_CONSTANT, line)),
+    }
+}
+
+// A value as what a parameter asks.
+#[tactic(auto, unfolding(ep_typing::specs::Calls::passed))]
+fn passed(alloc: Global, line: u32, parameter: Parameter, v: Value) -> Result<Expr, Halt>
+    ensures { Gives shown_expr (at line (rule.passed (seen.parameter parameter) (seen.value v))) result }
+{
+    match parameter {
+        Parameter::OfType(c) => fitted(alloc, line, c, v),
+        Parameter::AnyPointer => as_any_pointer(line, v),
+        Parameter::Length => as_length(line, v),
+    }
+}
+
+fn lower(kind: Option<u8>, other: u8) -> u8
+    ensures { result ≡ lower kind other }
+{
+    match kind {
+        None => other,
+        Some(k) => k.min(other),
+    }
+}
+
+// One argument more, or the lowest kind so far.
+fn pass(
+    alloc: Global,
+    line: u32,
+    parameter: Parameter,
+    value: Value,
+    arguments: &mut Vec<Expr>,
+    kind: Option<u8>,
+) -> Result<Option<u8>, Memory>
+    ensures { IfOk result (λ k. (rest : Result (List core.Expr) ℕ) → after kind (map shown_expr arguments.old.items) (lowest (rule.passed (seen.parameter parameter) (seen.value value)) rest) ≡ after k (map shown_expr arguments.new.items) rest) }
+{
+    match passed(alloc, line, parameter, value) {
+        Ok(argument) => match arguments.push(argument) {
+            Ok(()) => Ok(kind),
+            Err(_) => Err(Memory),
+        },
+        Err(Halt::Refused(refusal)) => Ok(Some(lower(kind, refusal.kind))),
+        Err(Halt::Memory) => Err(Memory),
+    }
+}
+
+/// An argument for each parameter, or the lowest kind of all that is wrong.
+pub fn all_passed(
+    alloc: Global,
+    line: u32,
+    parameters: &[Parameter],
+    values: Vec<Value>,
+) -> Result<Vec<Expr>, Halt>
+    ensures { Gives (λ v. map shown_expr v.items) (at line (rule.all_passed (map seen.parameter parameters.now) (map seen.value values.items))) result }
+{
+    let mut arguments = Vec::new(alloc);
+    let mut kind = None;
+    let mut place: usize = 0;
+    for value in values {
+        match parameters.get(place) {
+            Some(parameter) => {
+                kind = pass(alloc, line, *parameter, value, &mut arguments, kind)?;
+            }
+            None => return Err(refused(lower(kind, ARITY), line)),
+        }
+        place += 1;
+    }
+    if place < parameters.len() {
+        return Err(refused(lower(kind, ARITY), line));
+    }
+    match kind {
+        Some(k) => Err(refused(k, line)),
+        None => Ok(arguments),
+    }
+}
+
+/// The length that a value among these is.
+pub fn length_at(values: &[Value], place: usize) -> u32
+    ensures { result ≡ rule.length_at (map seen.value values.now) place }
+{
+    match values.get(place) {
+        None => 0,
+        Some(value) => match count_of(value) {
+            Some(n) => n,
+            None => 0,
+        },
+    }
+}
+
+impl Called {
+    /// The type of what a call gives; void for an action.
+    pub fn result(&self) -> CType
+        ensures { result ≡ rule.result_of (seen.called self.now) }
+    {
+        match self {
+            Called::Function(_, _, c) => *c,
+            Called::Input(t) => int_type(*t),
+            Called::Action(_) => void_type(),
+        }
+    }
+
+    /// The statement of a call whose result, if it has one, goes there.
+    pub fn into_statement(self, dest: Option<Dest>) -> What
+        ensures { shown_what result ≡ rule.called_into (seen.called self) (option_map shown_dest dest) }
+    {
+        match self {
+            Called::Function(n, arguments, _) => What::Call(n, arguments, dest),
+            Called::Input(t) => What::Input(t, dest),
+            Called::Action(action) => match action {
+                Action::Output(t, e) => What::Output(t, e),
+                Action::CopyBytes(to, from, n) => What::CopyBytes(to, from, n),
+                Action::FillBytes(to, byte, n) => What::Fill(to, byte, n),
+                Action::ReadBytes(to, n) => What::ReadBytes(to, n),
+                Action::WriteBytes(from, n) => What::WriteBytes(from, n),
+            },
+        }
+    }
+}

@@ -1,0 +1,191 @@
+//! Assignments, and where results go.
+
+ghost use Rattle.std.specs.Prelude.{◌≡◌, ◌||◌};
+ghost use Rattle.ep_core.specs.Program as core;
+ghost use Rattle.ep_core.specs.View.{shown_dest, shown_place, shown_what};
+ghost use Rattle.ep_typing.specs.Operand as operands;
+ghost use Rattle.ep_typing.specs.Results.{at};
+ghost use Rattle.ep_typing.specs.Typing as rule;
+ghost use Rattle.ep_operands.specs.Gives.{Gives, Stops};
+ghost use Rattle.ep_operands.specs.Seen as seen;
+ghost use Rattle.ep_stores.specs.Stores.{put_to, simply, updated_with};
+
+use ep_ast::{Halt, marks};
+use ep_core::tree::{Dest, Expr, Place, What};
+use ep_layout::{Ty, Types};
+use ep_operands::kinds::{
+    INCOMPLETE_TYPE, NOT_AN_LVALUE, POINTER_TO_INTEGER, TYPE_MISMATCH, refused,
+};
+use ep_operands::{
+    Operand, Value, are_scalars, fitted, is_aggregate, is_array, is_mixed, is_pointer, is_void,
+    known_number, number_of, scalar_of, size_of_type, value_of,
+};
+use ep_operators::operated;
+use ep_typing::CType;
+use std::alloc::Global;
+
+// What can be assigned to, but that a value isn't an object yet.
+#[tactic(auto, unfolding(ep_typing::specs::Typing::assignable))]
+fn assignable(line: u32, x: Operand) -> Result<Operand, Halt>
+    ensures { Gives seen.operand (at line (rule.assignable (seen.operand x))) result }
+{
+    match x {
+        Operand::Place(place, c) => {
+            if is_void(c) | is_array(c) {
+                return Err(refused(TYPE_MISMATCH, line));
+            }
+            Ok(Operand::Place(place, c))
+        }
+        Operand::Value(v) => Ok(Operand::Value(v)),
+        Operand::Function(_) => Err(refused(TYPE_MISMATCH, line)),
+    }
+}
+
+// Why nothing is stored to a value.
+#[tactic(auto, unfolding(ep_typing::specs::Typing::not_stored))]
+fn not_stored(line: u32, u: &Value, v: &Value) -> Halt
+    ensures store { Stops (at line (simply (rule.not_stored (seen.value u.now) (seen.value v.now)))) result }
+    ensures take { Stops (at line (rule.not_stored {A = core.Dest} (seen.value u.now) (seen.value v.now))) result }
+{
+    if !are_scalars(u.ty, v.ty) {
+        return refused(TYPE_MISMATCH, line);
+    }
+    if is_mixed(u.ty, v) {
+        return refused(POINTER_TO_INTEGER, line);
+    }
+    refused(NOT_AN_LVALUE, line)
+}
+
+// A scalar is stored as of its object's type.
+#[tactic(auto, unfolding(ep_typing::specs::Typing::stored))]
+fn stored(alloc: Global, line: u32, x: Operand, v: Value) -> Result<What, Halt>
+    ensures { Gives shown_what (at line (simply (rule.stored (seen.operand x) (seen.value v)))) result }
+{
+    match x {
+        Operand::Place(place, c) => {
+            let expr = fitted(alloc, line, c, v)?;
+            Ok(What::Assign(scalar_of(c), place, expr))
+        }
+        Operand::Value(u) => Err(not_stored(line, &u, &v)),
+        Operand::Function(_) => Err(refused(TYPE_MISMATCH, line)),
+    }
+}
+
+// A struct or union is copied.
+#[tactic(auto, unfolding(ep_typing::specs::Typing::copied))]
+fn copied(types: &Types, line: u32, c: CType, to: Place, from: Place) -> Result<What, Halt>
+    ensures { Gives shown_what (at line (simply (rule.copied types.now c (shown_place to) (shown_place from)))) result }
+{
+    match size_of_type(types, c) {
+        Some(_) => {
+            let ty = known_number(types, Ty::Aggregate(number_of(c)));
+            Ok(What::CopyAggregate(to, from, ty))
+        }
+        None => Err(refused(INCOMPLETE_TYPE, line)),
+    }
+}
+
+fn moves_aggregate(c: CType, d: CType) -> bool
+    ensures { result ≡ rule.moves_aggregate c d }
+{
+    is_aggregate(c) & (c == d)
+}
+
+// An operand to an object.
+fn put_there(
+    alloc: Global,
+    types: &Types,
+    line: u32,
+    to: Place,
+    c: CType,
+    y: Operand,
+) -> Result<What, Halt>
+    ensures { Gives shown_what (at line (simply (put_to types.now (shown_place to) c (seen.operand y)))) result }
+{
+    match y {
+        Operand::Place(from, d) => {
+            if moves_aggregate(c, d) {
+                return copied(types, line, c, to, from);
+            }
+            let v = value_of(alloc, types, line, Operand::Place(from, d))?;
+            stored(alloc, line, Operand::Place(to, c), v)
+        }
+        Operand::Value(v) => stored(alloc, line, Operand::Place(to, c), v),
+        Operand::Function(_) => Err(refused(TYPE_MISMATCH, line)),
+    }
+}
+
+/// `=`.
+#[tactic(auto, unfolding(ep_typing::specs::Typing::assigned))]
+pub fn assigned(
+    alloc: Global,
+    types: &Types,
+    line: u32,
+    x: Operand,
+    y: Operand,
+) -> Result<What, Halt>
+    ensures { Gives shown_what (at line (simply (rule.assigned types.now (seen.operand x) (seen.operand y)))) result }
+{
+    match assignable(line, x)? {
+        Operand::Place(to, c) => put_there(alloc, types, line, to, c, y),
+        Operand::Value(u) => {
+            let v = value_of(alloc, types, line, y)?;
+            Err(not_stored(line, &u, &v))
+        }
+        Operand::Function(_) => Err(refused(TYPE_MISMATCH, line)),
+    }
+}
+
+/// An operator and `=`, by the operator's mark. `old` is the value of the left side.
+pub fn updated(
+    alloc: Global,
+    types: &Types,
+    line: u32,
+    mark: u8,
+    x: Operand,
+    old: Value,
+    y: Operand,
+) -> Result<What, Halt>
+    ensures { Gives shown_what (at line (simply (updated_with types.now mark (seen.operand x) (seen.value old) (seen.operand y)))) result }
+{
+    let v = value_of(alloc, types, line, y)?;
+    let w = operated(alloc, types, line, mark, old, v)?;
+    assigned(alloc, types, line, x, Operand::Value(w))
+}
+
+/// What takes a result of a type.
+#[tactic(auto, unfolding(ep_typing::specs::Typing::taken))]
+pub fn taken(alloc: Global, line: u32, x: Operand, result_type: CType) -> Result<Dest, Halt>
+    ensures { Gives shown_dest (at line (rule.taken (seen.operand x) result_type)) result }
+{
+    match x {
+        Operand::Place(place, c) => {
+            fitted(alloc, line, c, Value::unknown(Expr::Null, result_type))?;
+            Ok(Dest {
+                what: scalar_of(c),
+                cast: is_pointer(c) & !(c == result_type),
+                place,
+            })
+        }
+        Operand::Value(u) => Err(not_stored(line, &u, &Value::unknown(Expr::Null, result_type))),
+        Operand::Function(_) => Err(refused(TYPE_MISMATCH, line)),
+    }
+}
+
+/// What a compound assignment computes, by its mark.
+pub fn operator_of(mark: u8) -> u8
+    ensures { result ≡ rule.operator_of mark }
+{
+    match mark {
+        marks::PLUS_EQUAL => marks::PLUS,
+        marks::MINUS_EQUAL => marks::MINUS,
+        marks::STAR_EQUAL => marks::STAR,
+        marks::SLASH_EQUAL => marks::SLASH,
+        marks::PERCENT_EQUAL => marks::PERCENT,
+        marks::AMPERSAND_EQUAL => marks::AMPERSAND,
+        marks::BAR_EQUAL => marks::BAR,
+        marks::CARET_EQUAL => marks::CARET,
+        marks::LEFT_SHIFT_EQUAL => marks::LEFT_SHIFT,
+        _ => marks::RIGHT_SHIFT,
+    }
+}

@@ -1,0 +1,61 @@
+//! Statements of the core from their parts.
+
+ghost use Rattle.std.specs.Prelude.{◌≡◌, IfOk};
+ghost use Rattle.ep_core.specs.Program as core;
+ghost use Rattle.ep_core.specs.View.{shown_expr, shown_what};
+ghost use Rattle.ep_elaboration.specs.Statements as rule;
+ghost use Rattle.ep_typer_lines.specs.Seen.{lines as seen_lines};
+
+use ep_ast::NamedOrder;
+use ep_core::tree::{Expr, Stmt, What};
+use ep_int::{Memory, Order};
+use std::alloc::Global;
+
+pub fn one_line(alloc: Global, line: u32, what: What) -> Result<Vec<Stmt>, Memory>
+    ensures { IfOk result (λ v. seen_lines v ≡ rule.one_line line (shown_what what)) }
+{
+    let Ok(mut lines) = Vec::with_capacity(alloc, 1) else {
+        return Err(Memory);
+    };
+    match lines.push(Stmt { line, what }) {
+        Ok(()) => Ok(lines),
+        Err(_) => Err(Memory),
+    }
+}
+
+pub fn branched(test: Expr, then: Vec<Stmt>, otherwise: Vec<Stmt>) -> What
+    ensures { shown_what result
+        ≡ core.if_else (shown_expr test) (rule.to_core (seen_lines then)) (rule.to_core (seen_lines otherwise)) }
+{
+    What::If(test, then, otherwise)
+}
+
+pub fn looped(tests_first: bool, test: Expr, turn: Vec<Stmt>, next: Vec<Stmt>) -> What
+    ensures { shown_what result
+        ≡ core.loop tests_first (shown_expr test) (rule.to_core (seen_lines turn)) (rule.to_core (seen_lines next)) }
+{
+    What::Loop(tests_first, test, turn, next)
+}
+
+pub fn scoped(blocks: Vec<u32>, body: Vec<Stmt>) -> What
+    ensures { shown_what result ≡ core.scope blocks.items (rule.to_core (seen_lines body)) }
+{
+    What::Scope(blocks, body)
+}
+
+/// The byte order of a name in a conditional.
+pub fn order_of(order: NamedOrder) -> Order
+    ensures { result ≡ rule.order_of order }
+{
+    match order {
+        NamedOrder::Little => Order::Little,
+        NamedOrder::Big => Order::Big,
+    }
+}
+
+pub fn by_order(order: NamedOrder, then: Vec<Stmt>, otherwise: Vec<Stmt>) -> What
+    ensures { shown_what result
+        ≡ core.by_order (rule.order_of order) (rule.to_core (seen_lines then)) (rule.to_core (seen_lines otherwise)) }
+{
+    What::ByOrder(order_of(order), then, otherwise)
+}

@@ -1,0 +1,38 @@
+//! Scopes that statements open and leave.
+
+ghost use Rattle.std.specs.Prelude.{◌≡◌, IfOk, OnOk};
+ghost use Rattle.ep_elaboration.specs.Statements as rule;
+ghost use Rattle.ep_scopes.specs.Known.{IsKnownEnv};
+ghost use Rattle.ep_scopes.specs.Seen.{env as around};
+
+use ep_int::Memory;
+use ep_scopes::Env;
+
+pub fn enter(env: &mut Env) -> Result<(), Memory>
+    requires { IsKnownEnv (around env.old) }
+    ensures means { OnOk result (around env.new ≡ rule.entered (around env.old)) }
+    ensures known { OnOk result (IsKnownEnv (around env.new)) }
+{
+    match env.scopes.enter() {
+        Ok(()) => Ok(()),
+        Err(_) => Err(Memory),
+    }
+}
+
+pub fn leave(env: &mut Env)
+    requires { IsKnownEnv (around env.old) }
+    ensures means { around env.new ≡ rule.left (around env.old) }
+    ensures known { IsKnownEnv (around env.new) }
+{
+    env.scopes.leave();
+}
+
+/// The blocks that the innermost scope declares.
+pub fn blocks_here(env: &Env) -> Result<Vec<u32>, Memory>
+    ensures { IfOk result (λ v. v.items ≡ rule.blocks_behind 0 (around env.now)) }
+{
+    match env.scopes.blocks_behind(0) {
+        Ok(blocks) => Ok(blocks),
+        Err(_) => Err(Memory),
+    }
+}

@@ -1,0 +1,183 @@
+//! Tests, expressions as statements, jumps and returns.
+
+ghost use Rattle.std.specs.Prelude.{◌≡◌, Bool, OnOk};
+ghost use Rattle.std.specs.Option.{option_map};
+ghost use Rattle.ep_ast.specs.Expression as source;
+ghost use Rattle.ep_ast.specs.Statement as shape;
+ghost use Rattle.ep_core.specs.View.{shown_expr, shown_what};
+ghost use Rattle.ep_typing.specs.Results.{at};
+ghost use Rattle.ep_declared.specs.Gives.{GivesIn};
+ghost use Rattle.ep_elaboration.specs.Statements as rule;
+ghost use Rattle.ep_operands.specs.Gives.{Gives};
+ghost use Rattle.ep_operands.specs.Seen as operands;
+ghost use Rattle.ep_scopes.specs.Known.{IsKnownEnv};
+ghost use Rattle.ep_scopes.specs.Seen.{env as around};
+ghost use Rattle.ep_typer_lines.specs.Seen.{lines as seen_lines};
+
+use crate::nodes::one_line;
+use crate::scoping::enter;
+use ep_ast::{ExprTree, Halt};
+use ep_core::tree::{Expr, Stmt, What};
+use ep_int::IntType;
+use ep_layout::Types;
+use ep_operands::kinds::{TYPE_MISMATCH, refused};
+use ep_operands::{Operand, fitted, is_void, value_of};
+use ep_scopes::Env;
+use ep_typer_effects::{test, whole_statement};
+use ep_typer_exprs::{mention, typed};
+use ep_typing::CType;
+use std::alloc::Global;
+
+/// A jump that stands in no loop.
+const JUMP_OUTSIDE_LOOP: u8 = 47;
+
+/// The test of an `if` or a loop.
+#[tactic(auto, unfolding(ep_elaboration::specs::Statements::tested_in))]
+pub fn tested_in(env: &mut Env, tree: &ExprTree) -> Result<Expr, Halt>
+    requires { IsKnownEnv (around env.old) }
+    ensures means { GivesIn shown_expr (rule.tested_in (around env.old) (source.expr tree.now)) (around env.new) result }
+    ensures known { OnOk result (IsKnownEnv (around env.new)) }
+{
+    mention(env, tree)?;
+    let w = test(env, tree)?;
+    Ok(w)
+}
+
+/// The same in a scope of its own, which stays open.
+pub fn tested_inside(env: &mut Env, tree: &ExprTree) -> Result<Expr, Halt>
+    requires { IsKnownEnv (around env.old) }
+    ensures means { GivesIn shown_expr (rule.tested_in (rule.entered (around env.old)) (source.expr tree.now))
+        (around env.new) result }
+    ensures known { OnOk result (IsKnownEnv (around env.new)) }
+{
+    enter(env)?;
+    let w = tested_in(env, tree)?;
+    Ok(w)
+}
+
+/// The test of a `for`.
+#[tactic(auto, unfolding(ep_elaboration::specs::Statements::tested_if))]
+pub fn tested_if(env: &mut Env, tree: &Option<ExprTree>) -> Result<Expr, Halt>
+    requires { IsKnownEnv (around env.old) }
+    ensures means { GivesIn shown_expr (rule.tested_if (around env.old) (option_map source.expr tree.now))
+        (around env.new) result }
+    ensures known { OnOk result (IsKnownEnv (around env.new)) }
+{
+    match tree {
+        None => Ok(Expr::Const(IntType::I32, 1)),
+        Some(e) => tested_in(env, e),
+    }
+}
+
+/// An expression as a statement.
+#[tactic(auto, unfolding(ep_elaboration::specs::Statements::evaluated_in))]
+pub fn evaluated_in(
+    env: &mut Env,
+    may_call: bool,
+    line: u32,
+    tree: &ExprTree,
+) -> Result<Vec<Stmt>, Halt>
+    requires { IsKnownEnv (around env.old) }
+    ensures means { GivesIn seen_lines (rule.evaluated_in (around env.old) may_call line (source.expr tree.now))
+        (around env.new) result }
+    ensures known { OnOk result (IsKnownEnv (around env.new)) }
+{
+    mention(env, tree)?;
+    let what = whole_statement(env, may_call, tree)?;
+    let lines = one_line(env.alloc, line, what)?;
+    Ok(lines)
+}
+
+/// An outer part of a `for`.
+#[tactic(auto, unfolding(ep_elaboration::specs::Statements::evaluated_if))]
+pub fn evaluated_if(env: &mut Env, tree: &Option<ExprTree>) -> Result<Vec<Stmt>, Halt>
+    requires { IsKnownEnv (around env.old) }
+    ensures means { GivesIn seen_lines (rule.evaluated_if (around env.old) (option_map source.expr tree.now))
+        (around env.new) result }
+    ensures known { OnOk result (IsKnownEnv (around env.new)) }
+{
+    match tree {
+        None => Ok(Vec::new(env.alloc)),
+        Some(e) => evaluated_in(env, false, e.line(), e),
+    }
+}
+
+/// A jump of a loop.
+pub fn jump(alloc: Global, in_loop: bool, line: u32, what: What) -> Result<Vec<Stmt>, Halt>
+    ensures { Gives seen_lines (at line (rule.jump in_loop line (shown_what what))) result }
+{
+    if in_loop {
+        let lines = one_line(alloc, line, what)?;
+        return Ok(lines);
+    }
+    Err(refused(JUMP_OUTSIDE_LOOP, line))
+}
+
+#[tactic(auto, unfolding(ep_elaboration::specs::Statements::nothing_returned))]
+fn nothing_returned(line: u32, result_type: CType) -> Result<What, Halt>
+    ensures { Gives shown_what (at line (rule.nothing_returned result_type)) result }
+{
+    if is_void(result_type) {
+        return Ok(What::Return(None));
+    }
+    Err(refused(TYPE_MISMATCH, line))
+}
+
+fn value_returned(
+    alloc: Global,
+    types: &Types,
+    line: u32,
+    result_type: CType,
+    x: Operand,
+) -> Result<What, Halt>
+    ensures { Gives shown_what (at line (rule.value_returned types.now result_type (operands.operand x))) result }
+{
+    let v = value_of(alloc, types, line, x)?;
+    let e = fitted(alloc, line, result_type, v)?;
+    Ok(What::Return(Some(e)))
+}
+
+#[tactic(auto, unfolding(ep_elaboration::specs::Statements::operand_returned))]
+fn operand_returned(
+    alloc: Global,
+    types: &Types,
+    line: u32,
+    result_type: CType,
+    x: Operand,
+) -> Result<What, Halt>
+    ensures { Gives shown_what (at line (rule.operand_returned types.now result_type (operands.operand x))) result }
+{
+    if is_void(result_type) {
+        return Err(refused(TYPE_MISMATCH, line));
+    }
+    value_returned(alloc, types, line, result_type, x)
+}
+
+/// A return.
+#[tactic(auto, unfolding(ep_elaboration::specs::Statements::statement))]
+pub fn returned(
+    env: &mut Env,
+    line: u32,
+    result_type: CType,
+    value: &Option<ExprTree>,
+) -> Result<Vec<Stmt>, Halt>
+    requires { IsKnownEnv (around env.old) }
+    ensures means { (in_loop : Bool) → GivesIn seen_lines (rule.statement (around env.old) result_type in_loop
+        (shape.return_value line (option_map source.expr value.now))) (around env.new) result }
+    ensures known { OnOk result (IsKnownEnv (around env.new)) }
+{
+    match value {
+        None => {
+            let what = nothing_returned(line, result_type)?;
+            let lines = one_line(env.alloc, line, what)?;
+            Ok(lines)
+        }
+        Some(tree) => {
+            mention(env, tree)?;
+            let x = typed(env, tree)?;
+            let what = operand_returned(env.alloc, &env.types, line, result_type, x)?;
+            let lines = one_line(env.alloc, line, what)?;
+            Ok(lines)
+        }
+    }
+}

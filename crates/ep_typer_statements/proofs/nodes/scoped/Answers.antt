@@ -1,5 +1,0 @@
-use Rattle.ep_typer_statements.proofs.Rows.{scope_is}
-use Rattle.ep_typer_statements.proofs.nodes.scoped.Goals as goal
-
-pub returns : goal.returns
-returns c = scope_is c.args.blocks c.args.body
