@@ -20,7 +20,7 @@ use Rattle.ep_concrete.specs.declared.types.Ending.TheVariants.{Ended, Undefined
 use Rattle.ep_steps.specs.Results.{stopped, IsAlike}
 use Rattle.ep_concrete.specs.declared.types.RunResult.{RunResult}
 use Rattle.ep_concrete.specs.Results.{main_steps, IsRun, IsTold}
-use Rattle.ep_steps.specs.Stack.{list_of}
+use Rattle.ep_frames.specs.Stack.{list_of}
 
 pub told_so : (e : Ending) (k : Kept) (x y : Run) → IsAlike x y → IsTold e k y → IsTold e k x
 told_so e k x y a t = record {

@@ -1,4 +1,3 @@
-pub mod DepthLemmas
 pub mod HeadLemmas
 pub mod FrameLemmas
 pub mod PieceLemmas

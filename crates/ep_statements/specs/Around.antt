@@ -10,14 +10,14 @@ use Rattle.ep_ast.specs.StatementGrammar.{States, Otherwise}
 use Rattle.ep_ast.specs.Reading.{Stops}
 use Rattle.ep_reading.specs.declared.reader.Part.{Part}
 use Rattle.ep_reading.specs.Answer.{IsTaken, IsPast, after}
-use Rattle.ep_statements.specs.declared.kept.Counted.{Counted}
+use Rattle.ep_statement_parts.specs.declared.kept.Counted.{Counted}
 use Rattle.ep_statements.specs.declared.frames.Frame.{Frame}
 use Rattle.ep_statements.specs.declared.frames.Frame.TheVariants as frames
 use Rattle.ep_statements.specs.declared.frames.Closed.{Closed}
 use Rattle.ep_statements.specs.declared.frames.Closed.TheVariants as closes
 use Rattle.ep_statements.specs.declared.frames.Completed.{Completed}
 use Rattle.ep_statements.specs.declared.frames.Completed.TheVariants as completes
-use Rattle.ep_statements.specs.Shown.{ShowsTest, ShowsHeading, ShowsStmt}
+use Rattle.ep_statement_parts.specs.Shown.{ShowsTest, ShowsHeading, ShowsStmt}
 use Rattle.ep_statements.specs.Piece.{DoEnd, HasNoHead}
 
 pub data Outer : Type 0 where

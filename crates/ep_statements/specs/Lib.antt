@@ -1,4 +1,2 @@
-pub mod Answer
-pub mod Shown
 pub mod Piece
 pub mod Around

@@ -3,7 +3,6 @@
 
 mod blocks;
 mod frames;
-mod kept;
 mod pieces;
 mod simple;
 

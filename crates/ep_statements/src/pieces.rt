@@ -6,10 +6,9 @@ ghost use Rattle.ep_lexer.specs.Tokens.{view};
 ghost use Rattle.ep_exprs.specs.Kept as expressions;
 ghost use Rattle.ep_reading.specs.Names.{is_type};
 ghost use Rattle.ep_reading.specs.Answer.{Gives, IsPast};
-ghost use Rattle.ep_statements.specs.Shown.{ShowsTest, ShowsGiven, ShowsFirst, ShowsHeading};
+ghost use Rattle.ep_statement_parts.specs.Shown.{ShowsTest, ShowsGiven, ShowsFirst, ShowsHeading};
 ghost use Rattle.ep_statements.specs.Piece.{CanClose, ExprThen, DoEnd, Headings};
 
-use crate::kept::{first_declares, first_evaluates, given_of, heading_from, test_of};
 use ep_ast::marks::{LEFT_PAREN, RIGHT_PAREN, SEMICOLON};
 use ep_ast::words::WHILE;
 use ep_ast::{ExprTree, ForInitTree, Halt, HeadingTree};
@@ -17,6 +16,7 @@ use ep_declarations::declaration;
 use ep_exprs::{Kept, begins_type, read_expression};
 use ep_lexer::Token;
 use ep_reading::{Measured, Part, Reader, at_mark, at_word};
+use ep_statement_parts::{first_declares, first_evaluates, given_of, heading_from, test_of};
 
 /// An expression and the mark of this number behind it, `;` or `)`.
 fn expression_then<'a>(

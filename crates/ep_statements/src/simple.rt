@@ -7,16 +7,16 @@ ghost use Rattle.ep_ast.specs.StatementGrammar.{States};
 ghost use Rattle.ep_lexer.specs.Tokens.{view};
 ghost use Rattle.ep_reading.specs.Names.{is_type};
 ghost use Rattle.ep_reading.specs.Answer.{Gives, IsPast};
-ghost use Rattle.ep_statements.specs.Shown.{ShowsStmt};
+ghost use Rattle.ep_statement_parts.specs.Shown.{ShowsStmt};
 ghost use Rattle.ep_statements.specs.Piece.{IsOther, IsSimple};
 
-use crate::kept::{Counted, break_loop, continue_loop, evaluate, return_value};
 use crate::pieces::up_to;
 use ep_ast::marks::SEMICOLON;
 use ep_ast::words::{BREAK, CONTINUE, RETURN};
 use ep_ast::{Halt, StmtTree};
 use ep_lexer::Token;
 use ep_reading::{Head, Part, Reader, at_mark, first_of};
+use ep_statement_parts::{Counted, break_loop, continue_loop, evaluate, return_value};
 
 /// What stands behind a `break` of this line.
 fn break_end<'a>(

@@ -3,7 +3,7 @@ use Rattle.std.proofs.Common.{◌≡◌, ℕ, List, [], ◌∷◌, ◌++◌, tak
 use Rattle.ep_core.specs.Exec.{State, Outcome, leaves, running, no_input, undefined_at, arm_left, code_of_way}
 use Rattle.ep_core.specs.Runs.{Begins}
 use Rattle.ep_core.proofs.Grows.{Grows}
-use Rattle.ep_steps.specs.Stack.{arm_ends}
+use Rattle.ep_frames.specs.Stack.{arm_ends}
 
 taken : (xs ys : List ℕ) → take (length xs) (xs ++ ys) ≡ xs
 taken [] ys = refl

@@ -17,9 +17,9 @@ use Rattle.ep_core.proofs.Around.{first_is}
 use Rattle.ep_core.proofs.Views.{if_is, loop_is, by_order_is}
 use Rattle.ep_values.specs.declared.setting.Setting.{Setting}
 use Rattle.ep_values.specs.Settings.{program_in, value_on}
-use Rattle.ep_steps.specs.declared.frames.Frame.{Frame}
-use Rattle.ep_steps.specs.Stack.{one_of, list_of, piled, result_at, takes_step, InEach, OneFits, ListFits}
-use Rattle.ep_steps.proofs.Rounds.{list_grows}
+use Rattle.ep_frames.specs.declared.frames.Frame.{Frame}
+use Rattle.ep_frames.specs.Stack.{one_of, list_of, piled, result_at, takes_step, InEach, OneFits, ListFits}
+use Rattle.ep_frames.proofs.Rounds.{list_grows}
 
 whole : (xs : List Stmt) → take (length xs) xs ≡ xs
 whole [] = refl

@@ -20,7 +20,7 @@ use Rattle.ep_values.specs.Settings.{program_in, size_on}
 use Rattle.ep_machine.specs.Machines.{IsPart, ArePartsOf, Changes}
 use Rattle.ep_machine.proofs.Tables.{no_layout}
 use Rattle.ep_steps.specs.Zeros.{zeros_in}
-use Rattle.ep_steps.proofs.Bytewise.{range_changed}
+use Rattle.ep_frames.proofs.Bytewise.{range_changed}
 
 -- a byte that is no part of a pointer
 abbrev pub IsPlain : Byte → Type 0

@@ -10,14 +10,14 @@ use Rattle.ep_values.specs.declared.fault.Fault.{Fault}
 use Rattle.ep_values.specs.declared.setting.Setting.{Setting}
 use Rattle.ep_values.specs.Faults.{kind_of}
 use Rattle.ep_values.specs.Settings.{program_in}
-use Rattle.ep_steps.specs.declared.frames.Frame.{Frame}
-use Rattle.ep_steps.specs.declared.frames.Now.{Now}
-use Rattle.ep_steps.specs.declared.frames.Now.TheVariants as now
+use Rattle.ep_frames.specs.declared.frames.Frame.{Frame}
+use Rattle.ep_frames.specs.declared.frames.Now.{Now}
+use Rattle.ep_frames.specs.declared.frames.Now.TheVariants as now
 use Rattle.ep_steps.specs.declared.steps.Stop.TheVariants as stop
 use Rattle.ep_steps.specs.Ready.{IsDue}
 use Rattle.ep_steps.specs.Results.{IsAlike, stopped}
-use Rattle.ep_steps.specs.Stack.{piled, now_of, one_of, takes_step, NowFits}
-use Rattle.ep_steps.proofs.Piles.{pile_running, pile_starved, pile_undefined}
+use Rattle.ep_frames.specs.Stack.{piled, now_of, one_of, takes_step, NowFits}
+use Rattle.ep_frames.proofs.Piles.{pile_running, pile_starved, pile_undefined}
 
 -- a statement that takes a step does nothing without one
 no_step : (m : Setting) (here : ℕ) (w : What) (l : ℕ) (s : State) → takes_step w ≡ true

@@ -1,10 +1,5 @@
-pub mod Piles
-pub mod Rounds
 pub mod Arms
 pub mod Due
-pub mod Entering
 pub mod Begins
-pub mod Binds
 pub mod Inputs
-pub mod Bytewise
 pub mod Clears

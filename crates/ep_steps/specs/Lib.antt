@@ -1,6 +1,4 @@
-pub mod Arguments
 pub mod Zeros
-pub mod Stack
-pub mod Heft
+pub mod Found
 pub mod Ready
 pub mod Results

@@ -4,10 +4,10 @@ use Rattle.std.specs.Borrow.{Bor}
 use Rattle.ep_core.specs.declared.tree.Stmt.{Stmt}
 use Rattle.ep_core.specs.Program.{scope}
 use Rattle.ep_core.specs.View.{shown_what, shown_stmts}
-use Rattle.ep_steps.specs.declared.frames.Frame.{Frame}
-use Rattle.ep_steps.specs.declared.frames.Now.{Now}
-use Rattle.ep_steps.specs.declared.frames.Now.TheVariants as now
-use Rattle.ep_steps.specs.Stack.{takes_step}
+use Rattle.ep_frames.specs.declared.frames.Frame.{Frame}
+use Rattle.ep_frames.specs.declared.frames.Now.{Now}
+use Rattle.ep_frames.specs.declared.frames.Now.TheVariants as now
+use Rattle.ep_frames.specs.Stack.{takes_step}
 
 -- a step comes next, or nothing is left to do
 abbrev pub IsReady : List Frame → Now → Type 0

@@ -6,11 +6,11 @@ use Rattle.ep_core.specs.Runs.{Run, run_of, main_function, main_ends, line_of, f
 use Rattle.ep_values.specs.declared.setting.Setting.{Setting}
 use Rattle.ep_values.specs.Faults.{kind_of}
 use Rattle.ep_values.specs.Settings.{program_in}
-use Rattle.ep_steps.specs.declared.frames.Frame.{Frame}
-use Rattle.ep_steps.specs.declared.frames.Now.{Now}
+use Rattle.ep_frames.specs.declared.frames.Frame.{Frame}
+use Rattle.ep_frames.specs.declared.frames.Now.{Now}
 use Rattle.ep_steps.specs.declared.steps.Stop.{Stop}
 use Rattle.ep_steps.specs.declared.steps.Stop.TheVariants as stop
-use Rattle.ep_steps.specs.Stack.{piled, now_of}
+use Rattle.ep_frames.specs.Stack.{piled, now_of}
 
 -- two runs that differ in their joint tests alone
 pub record IsAlike (x y : Run) : Type 0 where

@@ -1,10 +1,7 @@
 //! Statements of a program on a machine of a byte order, step by step.
 #![tactic(auto)]
 
-mod calls;
 mod clearing;
-mod frames;
-mod leave;
 mod moves;
 mod statements;
 mod steps;

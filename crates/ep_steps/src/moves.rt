@@ -7,20 +7,18 @@ ghost use Rattle.ep_core.specs.Exec.{is_true as truth};
 ghost use Rattle.ep_core.specs.View.{shown_expr, shown_stmts, shown_what};
 ghost use Rattle.ep_values.specs.declared.setting.Setting.{Setting as Plain};
 ghost use Rattle.ep_values.specs.Settings.{value_on, ExprFits};
-ghost use Rattle.ep_steps.specs.Heft.{heft, heft_all, heft_now};
+ghost use Rattle.ep_frames.specs.Heft.{heft, heft_all, heft_now};
 ghost use Rattle.ep_machine.specs.Machines.{state_in, Runs};
 ghost use Rattle.ep_steps.specs.Ready.{IsOpened, IsReady};
-ghost use Rattle.ep_steps.specs.Stack.{again_of, list_of, now_of, one_of, piled, result_at, takes_step};
-ghost use Rattle.ep_steps.specs.Stack.{ComesTo, ListFits, NowFits, OneFits, PileFits, RoundFits};
+ghost use Rattle.ep_frames.specs.Stack.{again_of, list_of, now_of, one_of, piled, result_at, takes_step};
+ghost use Rattle.ep_frames.specs.Stack.{ComesTo, ListFits, NowFits, OneFits, PileFits, RoundFits};
 
-use crate::calls::call;
-use crate::frames::{Frame, Now, Round, Way, push};
-use crate::leave::leave;
 use crate::statements::{
     assign, clear, copy_aggregate, copy_bytes, eval, fill, give_back, input, output, read_bytes,
     write_bytes,
 };
 use ep_core::tree::{Expr, Stmt, What};
+use ep_frames::{Frame, Now, Round, Way, call, leave, push};
 use ep_int::{Memory, Order, Scalar};
 use ep_machine::Machine;
 use ep_values::{Setting, is_true};

@@ -5,15 +5,14 @@ ghost use Rattle.ep_core.specs.Runs.{finished};
 ghost use Rattle.ep_values.specs.declared.setting.Setting.{Setting as Plain};
 ghost use Rattle.ep_values.specs.Settings.{program_in};
 ghost use Rattle.ep_machine.specs.Machines.{state_in, Runs};
-ghost use Rattle.ep_steps.specs.declared.frames.Frame.{Frame};
+ghost use Rattle.ep_frames.specs.declared.frames.Frame.{Frame};
 ghost use Rattle.ep_steps.specs.Ready.{IsDue, IsReady};
 ghost use Rattle.ep_steps.specs.Results.{stopped, IsAlike, Stops};
-ghost use Rattle.ep_steps.specs.Stack.{list_of, now_of, piled, ComesTo, ListFits, NowFits, PileFits};
+ghost use Rattle.ep_frames.specs.Stack.{list_of, now_of, piled, ComesTo, ListFits, NowFits, PileFits};
 
-use crate::frames::{Frame, Now, push};
-use crate::leave::{read_byte, write_byte};
 use crate::moves::{advance, begin};
 use ep_core::tree::Stmt;
+use ep_frames::{Frame, Now, push, read_byte, write_byte};
 use ep_int::Memory;
 use ep_machine::Machine;
 use ep_values::{Fault, Setting};

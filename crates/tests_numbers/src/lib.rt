@@ -1,8 +1,6 @@
-//! Tests of numbers, of layouts, of numeric domains, forms and pointers, and of reports, as tables.
+//! Tests of integers and of numeric domains, as tables.
 #![tactic(auto)]
 
-#[cfg(test)]
-mod alarms;
 #[cfg(test)]
 mod arithmetic;
 #[cfg(test)]
@@ -10,14 +8,8 @@ mod congruences;
 #[cfg(test)]
 mod faults;
 #[cfg(test)]
-mod forms;
-#[cfg(test)]
 mod intervals;
 #[cfg(test)]
-mod layout;
-#[cfg(test)]
 mod pairs;
-#[cfg(test)]
-mod pointers;
 #[cfg(test)]
 mod words;

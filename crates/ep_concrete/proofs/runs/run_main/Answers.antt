@@ -3,8 +3,8 @@ use Rattle.ep_core.specs.Runs.{finished}
 use Rattle.ep_values.specs.Settings.{program_in}
 use Rattle.ep_machine.specs.Machines.{state_in}
 use Rattle.ep_steps.specs.Results.{stopped, IsAlike}
-use Rattle.ep_steps.specs.Stack.{list_of, ListFits}
-use Rattle.ep_steps.proofs.Entering.{body_fits}
+use Rattle.ep_frames.specs.Stack.{list_of, ListFits}
+use Rattle.ep_frames.proofs.Entering.{body_fits}
 use Rattle.ep_concrete.proofs.Ends.{main_is, told_so}
 use Rattle.ep_concrete.proofs.runs.run_main.Goals as goal
 

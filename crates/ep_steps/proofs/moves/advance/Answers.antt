@@ -1,8 +1,8 @@
 use Rattle.std.proofs.Common.{◌∙◌, arith}
 use Rattle.ep_core.specs.Exec.{leaves}
 use Rattle.ep_machine.specs.Machines.{state_in}
-use Rattle.ep_steps.specs.Stack.{way_of}
-use Rattle.ep_steps.proofs.Piles.{popped, popped_heft, popped_fits}
+use Rattle.ep_frames.specs.Stack.{way_of}
+use Rattle.ep_frames.proofs.Piles.{popped, popped_heft, popped_fits}
 use Rattle.ep_steps.proofs.moves.advance.Goals as goal
 
 pub leave-requires-clause-typed : goal.leave-requires-clause-typed

@@ -9,7 +9,7 @@ use Rattle.ep_core.specs.View.{shown_dest, shown_expr, shown_what}
 use Rattle.ep_values.specs.Settings.{program_in}
 use Rattle.ep_machine.specs.Machines.{state_in}
 use Rattle.ep_core.specs.declared.tree.What.TheVariants.{If, Loop, ByOrder}
-use Rattle.ep_steps.specs.Stack.{one_of, piled, OneFits}
+use Rattle.ep_frames.specs.Stack.{one_of, piled, OneFits}
 use Rattle.ep_steps.proofs.Begins.{if_does, loop_does, arm_does, if_fits, loop_fits, arm_fits, if_test, loop_test}
 use Rattle.ep_steps.proofs.Begins.{simple_fits, simple_does}
 use Rattle.ep_steps.proofs.moves.begin.Goals as goal

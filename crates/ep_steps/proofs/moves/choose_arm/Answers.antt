@@ -1,9 +1,9 @@
 use Rattle.std.proofs.Common.{◌≡◌, true, false, sym, ap, ◌∙◌}
 use Rattle.ep_core.specs.Exec.{arm_left, chosen, is_order}
 use Rattle.ep_machine.specs.Machines.{state_in}
-use Rattle.ep_steps.specs.Stack.{arm_ends, list_of, piled}
+use Rattle.ep_frames.specs.Stack.{arm_ends, list_of, piled}
 use Rattle.ep_steps.proofs.Arms.{arm_is}
-use Rattle.ep_steps.proofs.Rounds.{list_grows}
+use Rattle.ep_frames.proofs.Rounds.{list_grows}
 use Rattle.ep_steps.proofs.moves.choose_arm.Goals as goal
 
 pub returns-then-is_same_order-clause-comes : goal.returns-then-is_same_order-clause-comes

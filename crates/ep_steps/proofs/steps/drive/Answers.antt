@@ -4,7 +4,7 @@ use Rattle.ep_values.specs.Settings.{program_in}
 use Rattle.ep_machine.specs.Machines.{state_in}
 use Rattle.ep_steps.specs.declared.steps.Stop.TheVariants.{Running}
 use Rattle.ep_steps.specs.Results.{stopped, IsAlike}
-use Rattle.ep_steps.specs.Stack.{piled, now_of}
+use Rattle.ep_frames.specs.Stack.{piled, now_of}
 use Rattle.ep_steps.proofs.steps.drive.Goals as goal
 
 pub steps-preserved : goal.steps-preserved

@@ -1,7 +1,7 @@
 use Rattle.std.proofs.Common.{◌≡◌}
 use Rattle.ep_machine.specs.Machines.{state_in, Runs}
 use Rattle.ep_steps.specs.Ready.{IsReady}
-use Rattle.ep_steps.specs.Stack.{piled, now_of, NowFits, PileFits}
+use Rattle.ep_frames.specs.Stack.{piled, now_of, NowFits, PileFits}
 use Rattle.ep_steps.proofs.steps.drive.Given as goal
 
 abbrev pub invariant-steps : goal.invariant-steps

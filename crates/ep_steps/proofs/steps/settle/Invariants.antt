@@ -1,7 +1,7 @@
 use Rattle.std.proofs.Common.{◌+◌}
 use Rattle.ep_machine.specs.Machines.{state_in, Runs}
-use Rattle.ep_steps.specs.Heft.{heft_all, heft_now}
-use Rattle.ep_steps.specs.Stack.{piled, now_of, ComesTo, NowFits, PileFits}
+use Rattle.ep_frames.specs.Heft.{heft_all, heft_now}
+use Rattle.ep_frames.specs.Stack.{piled, now_of, ComesTo, NowFits, PileFits}
 use Rattle.ep_steps.proofs.steps.settle.Given as goal
 
 abbrev pub invariant-moves : goal.invariant-moves

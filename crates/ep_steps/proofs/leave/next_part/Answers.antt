@@ -1,4 +1,0 @@
-use Rattle.ep_steps.proofs.leave.next_part.Goals as goal
-
-pub returns-clause-fits : goal.returns-clause-fits
-returns-clause-fits c m h = (h.next, λ g. c.in_ok-push.ensures.fits m g h)
