@@ -1,31 +1,26 @@
 -- What is found by looking at the cells of a list in turn.
-use Rattle.std.proofs.Common.{◌≡◌, ℕ, zero, suc, ◌+◌, ◌-◌, ◌*◌, ◌<◌, ◌≤◌, Bool, true, false, ◌&&◌, ◌||◌, not, nat_eq, nat_lt, nat_le, cond, ◌↔◌, ◌⊎◌, inl, inr, ⊎_elim, List, [], ◌∷◌, ◌++◌, length, get_or, drop, Option, Some, None, IsTrue, refl, sym, ◌∙◌, ap, subst, arith}
+use Rattle.std.proofs.Common.{◌≡◌, ℕ, zero, suc, ◌+◌, ◌-◌, ◌*◌, ◌<◌, ◌≤◌, Bool, true, false, ◌&&◌, ◌||◌, not, nat_eq, nat_lt, nat_le, cond, ◌↔◌, ◌⊎◌, inl, inr, ⊎_elim, List, [], ◌∷◌, length, get_or, drop, IsTrue, refl, sym, ◌∙◌, ap, subst, arith}
 use Rattle.std.specs.List.Sorted.{IsPartitionedBy, IsPartitionPoint}
 use Rattle.std.proofs.lemmas.List.{length-drop}
 use Rattle.std.proofs.lemmas.Bool.{and_from, and_parts, and_left, and_right, leb-true, ltb-true, or_left, or_right, or_cases, both_ways, eqb-true, eq-eqb, ne_eqb, le-ltb, cases_order}
 use Rattle.ep_int.specs.declared.types.Model.{Model}
-use Rattle.ep_int.specs.declared.types.Scalar.{Scalar}
-use Rattle.ep_int.specs.declared.types.Scalar.TheVariants.{Int, Pointer}
+use Rattle.ep_int.specs.declared.types.Scalar.TheVariants.{Int}
 use Rattle.ep_int.specs.Types.{size_of}
-use Rattle.ep_pointers.specs.Value.{Pointers}
 use Rattle.ep_bitslice.specs.declared.cell.Side.{Side}
 use Rattle.ep_bitslice.specs.declared.cell.Side.TheVariants.{Left, Right, Shared}
 use Rattle.ep_bitslice.specs.declared.cell.CellName.{CellName}
 use Rattle.ep_bitslice.specs.declared.segment.Segment.{Segment}
 use Rattle.ep_bitslice.specs.declared.segment.Segment.TheVariants.{Bits, Fixed}
-use Rattle.ep_bitslice.specs.Bits.{side_number, is_same_cell, mentions}
+use Rattle.ep_bitslice.specs.Bits.{side_number, mentions}
 use Rattle.ep_bitslice.specs.Segments.{run_bits, fixed_bits, bits, width, AreSegments, IsForm}
 use Rattle.ep_bitslice.proofs.Joining.{same_cell, cell_itself}
 use Rattle.ep_bitslice.proofs.Pieces.{mentions-fixed, mentions-run, mentions-append}
 use Rattle.ep_cells.specs.declared.cell.Cell.{Cell}
-use Rattle.ep_cells.specs.declared.cell.Value.{Value}
-use Rattle.ep_cells.specs.declared.cell.Value.TheVariants.{Num, Ptr}
-use Rattle.ep_cells.specs.Cells.{place_of, touches, meets, share_memory, key_of, comes_before, is_same_side, is_same_scalar, scalar_number, IsNamed, IsIn, first, later, put, put_all}
+use Rattle.ep_cells.specs.Cells.{place_of, touches, share_memory, key_of, is_same_side, is_same_scalar, scalar_number, IsNamed, IsIn, first, later, put, put_all}
 use Rattle.ep_cells.specs.declared.place.Place.{Place}
-use Rattle.ep_cells.specs.Reshare.{is_integer}
-use Rattle.ep_cells.specs.States.{IsOfSort, IsCell, HasWidth, IsFormOf, HasForm, IsThere, Each, EachPair, AreApart, AreCells}
+use Rattle.ep_cells.specs.States.{IsCell, HasWidth, IsFormOf, HasForm, IsThere, Each, EachPair, AreApart, AreCells}
 use Rattle.ep_cells_laws.proofs.Lists.{each_at, each_from}
-use Rattle.ep_cells_laws.proofs.Places.{side_back, before_at, Before, in_block, by_block, before_true, before_from, before_trans, not_both}
+use Rattle.ep_cells_laws.proofs.Places.{side_back, before_at, Before, in_block, by_block, before_true, before_from, before_trans}
 use Rattle.ep_cells_laws.proofs.Both.{scalar_same}
 use Rattle.ep_cell_changes.proofs.Turns.{next_cell}
 use Rattle.ep_cell_changes.specs.Tests.{IsBefore, AreInOrder, is_before_name, is_sure_cell, AreThere}
@@ -55,7 +50,7 @@ order_more : {N : Type 0} (c x : Cell N) (cs : List (Cell N)) → IsBefore c x �
     → AreInOrder (c ∷ x ∷ cs)
 order_more c x cs h a = ((h, each_more (IsBefore x) (IsBefore c) cs (λ y k. order_trans c x y h k) a.0), a)
 
-nth_before : {N : Type 0} (cs : List (Cell N)) (i j : ℕ) (d : Cell N) → AreInOrder cs → i < j → j < length cs
+pub nth_before : {N : Type 0} (cs : List (Cell N)) (i j : ℕ) (d : Cell N) → AreInOrder cs → i < j → j < length cs
     → IsBefore (get_or cs i d) (get_or cs j d)
 nth_before [] i j d a h l = absurd (omega arith)
 nth_before (c ∷ cs) i zero d a h l = absurd (omega arith)
@@ -64,7 +59,7 @@ nth_before (c ∷ cs) (suc i) (suc j) d a h l = nth_before cs i j d a.1 (omega a
 
 -- ---- overlaps
 
-side_below : (s : Side) → side_number s ≤ 2
+pub side_below : (s : Side) → side_number s ≤ 2
 side_below Left = omega arith
 side_below Right = omega arith
 side_below Shared = omega arith
@@ -142,7 +137,7 @@ not_false : (b : Bool) → not b ≡ true → b ≡ false
 not_false true h = absurd (cc)
 not_false false h = refl
 
-named_from : {N : Type 0} (n : CellName) (c : Cell N) (cs : List (Cell N)) → IsIn c cs → is_sure_cell n c ≡ true
+pub named_from : {N : Type 0} (n : CellName) (c : Cell N) (cs : List (Cell N)) → IsIn c cs → is_sure_cell n c ≡ true
     → IsThere n cs
 named_from n c cs i h =
     let p = and_parts (is_same_side c.side n.side && nat_eq c.block n.block)
@@ -242,7 +237,7 @@ there_found n cs i d a l point t =
 
 -- ---- forms
 
-there_all : {N : Type 0} (cs : List (Cell N)) (ss : List Segment) → AreSegments ss → AreThere cs ss → (n : CellName)
+pub there_all : {N : Type 0} (cs : List (Cell N)) (ss : List Segment) → AreSegments ss → AreThere cs ss → (n : CellName)
     → mentions n (bits ss) ≡ true → IsThere n cs
 there_all cs [] a t n h = absurd (cc)
 there_all cs (Bits c from to ∷ ss) a t n h =
@@ -288,7 +283,7 @@ each_of d cs a = each_from (IsCell d) cs a.each
 forms_of : {N : Type 0} (d : Model) (cs : List (Cell N)) → AreCells d cs → Each (HasForm cs) cs
 forms_of d cs a = each_from (HasForm cs) cs a.forms
 
-order_of : {N : Type 0} (d : Model) (cs : List (Cell N)) → EachPair (AreApart d) cs → AreInOrder cs
+pub order_of : {N : Type 0} (d : Model) (cs : List (Cell N)) → EachPair (AreApart d) cs → AreInOrder cs
 order_of d [] a = tt
 order_of d (c ∷ cs) a = (each_more (AreApart d c) (IsBefore c) cs (λ y h. h.ordered) a.0, order_of d cs a.1)
 

@@ -2,3 +2,4 @@ pub mod Turns
 pub mod Entries
 pub mod Together
 pub mod Checked
+pub mod Beginnings

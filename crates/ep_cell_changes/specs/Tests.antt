@@ -1,5 +1,5 @@
 -- What the tests of lists of cells tell.
-use Rattle.std.specs.Prelude.{◌≡◌, ℕ, ◌+◌, ◌*◌, Bool, true, false, ◌&&◌, ◌||◌, not, nat_eq, nat_lt, List, [], ◌∷◌}
+use Rattle.std.specs.Prelude.{◌≡◌, ◌+◌, ◌*◌, Bool, true, ◌&&◌, ◌||◌, not, nat_eq, nat_lt, List, [], ◌∷◌}
 use Rattle.ep_int.specs.declared.types.Scalar.TheVariants.{Int}
 use Rattle.ep_bitslice.specs.declared.cell.CellName.{CellName}
 use Rattle.ep_bitslice.specs.declared.segment.Segment.{Segment}

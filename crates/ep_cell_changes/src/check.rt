@@ -204,7 +204,7 @@ pub fn has_form<N: Num>(c: &Cell<N>, cells: &[Cell<N>]) -> bool
 {
     match &c.form {
         None => true,
-        Some(f) => is_form_of(f, c, cells),
+        Some(f) => is_form_of(f.form(), c, cells),
     }
 }
 

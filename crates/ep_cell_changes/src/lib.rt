@@ -6,3 +6,4 @@ pub mod entry;
 pub mod kill;
 pub mod reshare;
 pub mod weak;
+pub mod windows;

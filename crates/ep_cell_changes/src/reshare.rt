@@ -13,7 +13,7 @@ use ep_cell_rows::cell::reformed;
 use ep_cell_rows::change::Change;
 use ep_cell_rows::places::{is_same_scalar, is_same_side};
 use ep_cell_rows::rows::{push, push_side, put};
-use ep_cell_rows::values::{are_one_number, common_form, have_same_form, met_value};
+use ep_cell_rows::values::{are_one_number, common_form, keep_same_form, met_value};
 use ep_cells::Cell;
 use ep_domain::Num;
 use ep_int::{Memory, Scalar};
@@ -33,7 +33,7 @@ pub fn are_same<N: Num>(l: &Cell<N>, r: &Cell<N>) -> bool
     ensures { result ≡ are_same N.ops l.now r.now }
 {
     (is_integer(l.what) && is_same_scalar(l.what, r.what))
-        && (have_same_form(&l.form, &r.form) || are_one_number(&l.value, &r.value))
+        && (keep_same_form(&l.form, &r.form) || are_one_number(&l.value, &r.value))
 }
 
 /// The Shared cell that they become.
@@ -47,7 +47,7 @@ pub fn reshared_cell<N: Num>(l: &Cell<N>, r: &Cell<N>) -> Result<Cell<N>, Memory
         what: l.what,
         value: met_value(&l.value, &r.value)?,
         maybe: l.maybe || r.maybe,
-        form: common_form(&l.form, &r.form),
+        form: common_form(&l.form, &r.form)?,
     })
 }
 

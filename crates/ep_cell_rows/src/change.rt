@@ -1,6 +1,6 @@
 //! What becomes of mentions of cells.
 
-ghost use Rattle.std.specs.Prelude.{◌≡◌, None, Some, if◌then◌else◌};
+ghost use Rattle.std.specs.Prelude.{◌≡◌, IfOk, None, Some, if◌then◌else◌};
 ghost use Rattle.std.specs.List.{list_all};
 ghost use Rattle.std.specs.Option.{option_map};
 ghost use Rattle.ep_bitslice.specs.Bits.{renamed};
@@ -14,8 +14,10 @@ ghost use Rattle.ep_cells.specs.Reshare.{fate_by_side};
 ghost use Rattle.ep_cell_rows.specs.Parts.{fate_of, goes_on, name_after, bits_with, bits_with_all};
 
 use crate::places::{first_part, place_of_name, share_memory, side_without, touches};
-use ep_bitslice::{CellName, Form, Segment, Side};
+use crate::values::boxed_like;
+use ep_bitslice::{BoxedForm, CellName, Form, Segment, Side};
 use ep_cells::Place;
+use ep_int::Memory;
 
 /// A change of cells.
 #[derive(Clone, Copy)]
@@ -186,12 +188,31 @@ impl Change {
     }
 
     /// The form with the new names, if every mention goes on.
-    pub fn form(self, form: &Option<Form>) -> Option<Form>
-        ensures { result ≡ form_after (fate_of self) form.now }
+    pub fn form(self, form: &Option<BoxedForm>) -> Result<Option<BoxedForm>, Memory>
+        ensures { IfOk result (λ f. f ≡ form_after (fate_of self) form.now) }
+    {
+        match form {
+            None => Ok(None),
+            Some(form) => boxed_like(form, self.some_form(form.form())),
+        }
+    }
+
+    fn some_form_there(self, form: BoxedForm) -> Option<BoxedForm>
+        ensures { result ≡ form_after (fate_of self) (Some form) }
+    {
+        match self.some_form(form.form()) {
+            None => None,
+            Some(after) => Some(form.replaced(after)),
+        }
+    }
+
+    /// The same in the place of the form.
+    pub fn form_there(self, form: Option<BoxedForm>) -> Option<BoxedForm>
+        ensures { result ≡ form_after (fate_of self) form }
     {
         match form {
             None => None,
-            Some(form) => self.some_form(form),
+            Some(form) => self.some_form_there(form),
         }
     }
 }

@@ -1,6 +1,6 @@
 //! Lists of cells.
 
-ghost use Rattle.std.specs.Prelude.{◌≡◌, ◌≤◌, ◌++◌, ◌∷◌, [], length, map, take, drop, IfOk, false};
+ghost use Rattle.std.specs.Prelude.{◌≡◌, ◌↔◌, ◌≤◌, ◌++◌, ◌∷◌, [], length, map, take, drop, IfOk, IsTrue, false};
 ghost use Rattle.std.specs.Option.{option_map, option_map_or};
 ghost use Rattle.ep_cells.specs.Cells.{place_of, put, put_all, each_becomes, with_side};
 ghost use Rattle.ep_cells.specs.Forms.{reformed};
@@ -9,7 +9,7 @@ ghost use Rattle.ep_cells.specs.Both.{cell_of_both, cells_of_both, is_cell_withi
 ghost use Rattle.ep_cells.specs.Write.{left_by_write, written};
 ghost use Rattle.ep_cell_rows.specs.Parts.{united, fate_of};
 
-use crate::cell::{self, copy_cell, reformed_on};
+use crate::cell::{self, copy_cell, is_equal, reformed_on};
 use crate::change::Change;
 use crate::places::{
     comes_before, covers, is_partly_in, is_same_cell, place_of, side_without, touches,
@@ -37,6 +37,21 @@ pub fn copied<N: Num>(alloc: Global, cells: &[Cell<N>]) -> Result<Vec<Cell<N>>, 
         push(&mut out, copy_cell(c)?)?;
     }
     Ok(out)
+}
+
+/// Whether both are one list.
+pub fn are_equal<N: Num>(xs: &[Cell<N>], ys: &[Cell<N>]) -> bool
+    ensures { IsTrue result ↔ (xs.now ≡ ys.now) }
+{
+    if xs.len() != ys.len() {
+        return false;
+    }
+    for i in 0..xs.len() {
+        if !is_equal(&xs[i], &ys[i]) {
+            return false;
+        }
+    }
+    true
 }
 
 /// The cells with their forms under new names.
@@ -90,7 +105,7 @@ pub fn cell_of_both<N: Num>(union: Union, x: &Cell<N>, y: &Cell<N>) -> Result<Ce
         what: x.what,
         value: union.values(&x.value, &y.value)?,
         maybe: x.maybe || y.maybe,
-        form: common_form(&x.form, &y.form),
+        form: common_form(&x.form, &y.form)?,
     })
 }
 

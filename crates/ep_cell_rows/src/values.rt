@@ -1,6 +1,6 @@
 //! Values and forms of cells.
 
-ghost use Rattle.std.specs.Prelude.{◌≡◌, ◌||◌, IfOk, Some, true, nat_eq};
+ghost use Rattle.std.specs.Prelude.{◌≡◌, ◌↔◌, ◌||◌, IfOk, IsTrue, Some, true, nat_eq};
 ghost use Rattle.std.specs.List.{list_any};
 ghost use Rattle.ep_pointers.specs.Value.{pointers, together};
 ghost use Rattle.ep_cells.specs.Both.{value_of_both, is_value_within, is_form_kept};
@@ -10,11 +10,12 @@ ghost use Rattle.ep_cells.specs.Reshare.{is_single, are_one_number, met_value};
 ghost use Rattle.ep_cells.specs.States.{HasRisingBlocks};
 ghost use Rattle.ep_cell_rows.specs.Parts.{united};
 
-use ep_bitslice::Form;
+use ep_bitslice::{BoxedForm, Form};
 use ep_cells::Value;
 use ep_domain::Num;
 use ep_int::Memory;
 use ep_pointers::PtrValue;
+use std::alloc::Global;
 
 fn copy_some<N: Num>(v: &Value<N>) -> Result<Value<N>, Memory>
     ensures { IfOk result (λ u. u ≡ v.now) }
@@ -35,6 +36,52 @@ pub fn copy_value<N: Num>(v: &Option<Value<N>>) -> Result<Option<Value<N>>, Memo
     }
 }
 
+fn is_number<N: Num>(x: &N, v: &Value<N>) -> bool
+    ensures { IsTrue result ↔ (Value.Num x.now ≡ v.now) }
+{
+    match v {
+        Value::Num(y) => x.is_same(y),
+        Value::Ptr(_) => false,
+    }
+}
+
+fn is_pointer<N: Num>(p: &PtrValue<N>, v: &Value<N>) -> bool
+    ensures { IsTrue result ↔ (Value.Ptr p.now ≡ v.now) }
+{
+    match v {
+        Value::Num(_) => false,
+        Value::Ptr(q) => p.is_same(q),
+    }
+}
+
+fn are_same_some<N: Num>(u: &Value<N>, v: &Value<N>) -> bool
+    ensures { IsTrue result ↔ (u.now ≡ v.now) }
+{
+    match u {
+        Value::Num(x) => is_number(x, v),
+        Value::Ptr(p) => is_pointer(p, v),
+    }
+}
+
+fn is_some_value<N: Num>(u: &Value<N>, v: &Option<Value<N>>) -> bool
+    ensures { IsTrue result ↔ (Some u.now ≡ v.now) }
+{
+    match v {
+        None => false,
+        Some(v) => are_same_some(u, v),
+    }
+}
+
+/// Whether both are one value, or neither is there.
+pub fn is_same_value<N: Num>(u: &Option<Value<N>>, v: &Option<Value<N>>) -> bool
+    ensures { IsTrue result ↔ (u.now ≡ v.now) }
+{
+    match u {
+        None => v.is_none(),
+        Some(u) => is_some_value(u, v),
+    }
+}
+
 /// The same form.
 pub fn copy_form(f: &Option<Form>) -> Option<Form>
     ensures { result ≡ f.now }
@@ -42,6 +89,46 @@ pub fn copy_form(f: &Option<Form>) -> Option<Form>
     match f {
         None => None,
         Some(f) => Some(f.copy()),
+    }
+}
+
+/// The form that a cell keeps.
+pub fn form_of(f: &Option<BoxedForm>) -> Option<Form>
+    ensures { result ≡ f.now }
+{
+    match f {
+        None => None,
+        Some(f) => Some(f.form().copy()),
+    }
+}
+
+/// A form for a cell to keep.
+pub fn boxed(alloc: Global, f: Option<Form>) -> Result<Option<BoxedForm>, Memory>
+    ensures { IfOk result (λ g. g ≡ f) }
+{
+    match f {
+        None => Ok(None),
+        Some(f) => Ok(Some(BoxedForm::new(alloc, f)?)),
+    }
+}
+
+/// A form for a cell to keep, made of that of another cell.
+pub fn boxed_like(like: &BoxedForm, f: Option<Form>) -> Result<Option<BoxedForm>, Memory>
+    ensures { IfOk result (λ g. g ≡ f) }
+{
+    match f {
+        None => Ok(None),
+        Some(f) => Ok(Some(like.another(f)?)),
+    }
+}
+
+/// The same form for another cell to keep.
+pub fn copy_boxed(f: &Option<BoxedForm>) -> Result<Option<BoxedForm>, Memory>
+    ensures { IfOk result (λ g. g ≡ f.now) }
+{
+    match f {
+        None => Ok(None),
+        Some(f) => Ok(Some(f.copy()?)),
     }
 }
 
@@ -152,24 +239,65 @@ pub fn have_same_form(f: &Option<Form>, g: &Option<Form>) -> bool
     }
 }
 
-/// The form that both have.
-pub fn common_form(f: &Option<Form>, g: &Option<Form>) -> Option<Form>
-    ensures { result ≡ common_form f.now g.now }
+fn keeps_form(f: &BoxedForm, g: &Option<BoxedForm>) -> bool
+    ensures { result ≡ have_same_form (Some f.now) g.now }
 {
-    if have_same_form(f, g) {
-        copy_form(f)
+    match g {
+        None => false,
+        Some(g) => are_same(f.form(), g.form()),
+    }
+}
+
+/// Whether two cells keep the same form.
+pub fn keep_same_form(f: &Option<BoxedForm>, g: &Option<BoxedForm>) -> bool
+    ensures { result ≡ have_same_form f.now g.now }
+{
+    match f {
+        None => false,
+        Some(f) => keeps_form(f, g),
+    }
+}
+
+fn is_some_form(f: &BoxedForm, g: &Option<BoxedForm>) -> bool
+    ensures { IsTrue result ↔ (Some f.now ≡ g.now) }
+{
+    match g {
+        None => false,
+        Some(g) => f.form().is_same(g.form()),
+    }
+}
+
+/// Whether two cells keep one form, or neither keeps one.
+pub fn is_same_form(f: &Option<BoxedForm>, g: &Option<BoxedForm>) -> bool
+    ensures { IsTrue result ↔ (f.now ≡ g.now) }
+{
+    match f {
+        None => g.is_none(),
+        Some(f) => is_some_form(f, g),
+    }
+}
+
+/// The form that both keep.
+pub fn common_form(
+    f: &Option<BoxedForm>,
+    g: &Option<BoxedForm>,
+) -> Result<Option<BoxedForm>, Memory>
+    ensures { IfOk result (λ h. h ≡ common_form f.now g.now) }
+{
+    if keep_same_form(f, g) {
+        copy_boxed(f)
     } else {
-        None
+        Ok(None)
     }
 }
 
 /// Whether the second has no form, or both have the same.
-pub fn is_form_kept(f: &Option<Form>, g: &Option<Form>) -> bool
+pub fn is_form_kept(f: &Option<BoxedForm>, g: &Option<BoxedForm>) -> bool
     ensures { result ≡ is_form_kept f.now g.now }
 {
     match g {
         None => true,
-        Some(_) => have_same_form(f, g),
+        Some(_) => keep_same_form(f, g),
     }
 }
 

@@ -1,4 +1,4 @@
-use ep_bitslice::{Form, Side};
+use ep_bitslice::{BoxedForm, Side};
 use ep_int::Scalar;
 use ep_pointers::PtrValue;
 
@@ -22,5 +22,5 @@ pub struct Cell<N> {
     /// Whether it may be undefined as well.
     pub maybe: bool,
     /// The bits of the number, where they are known.
-    pub form: Option<Form>,
+    pub form: Option<BoxedForm>,
 }

@@ -1,9 +1,9 @@
 -- What the code of congruences needs.
-use Rattle.std.proofs.Common.{◌≡◌, ℕ, ◌*◌, ◌^◌, ◌<◌, ◌≤◌, ℤ, pos, negsuc, ◌*ℤ◌, ◌≤ℤ◌, ◌<ℤ◌, Bool, true, false, cond, ◌&&◌, ◌⊎◌, inl, inr, Option, Some, None, FitsSigned, of_z, nat_eq, nat_le, refl, sym, ap, ◌∙◌, subst, arith}
+use Rattle.std.proofs.Common.{◌≡◌, ℕ, ◌*◌, ◌^◌, ◌<◌, ◌≤◌, ℤ, pos, negsuc, ◌*ℤ◌, ◌≤ℤ◌, ◌<ℤ◌, Bool, true, false, cond, ◌&&◌, ◌⊎◌, inl, inr, Option, Some, None, FitsSigned, of_z, to_z, nat_eq, nat_le, refl, sym, ap, ◌∙◌, subst, arith}
 use Rattle.std.specs.Prelude.{int_le, unsigned_abs, IfSome, IsSome}
 use Rattle.std.specs.Option.{unwrap_or}
 use Rattle.std.specs.Int.{w128}
-use Rattle.std.proofs.lemmas.Int.{ints, fits_signed_mul}
+use Rattle.std.proofs.lemmas.Int.{ints, fits_signed_mul, to_z-of_z}
 use Rattle.std.proofs.Math.Nat.{mul-le-mul_left, mul-le-mul_right, mod-eq_of_lt}
 use Rattle.std.proofs.lemmas.Bool.Decides.{nat_tests}
 use Rattle.std.proofs.lemmas.Bool.{and_parts}
@@ -23,7 +23,7 @@ use Rattle.ep_congruence_laws.proofs.Operations.{In, Is, AreEdges, remainder_bou
 use Rattle.ep_congruence_laws.proofs.Cuts.{IsCut, cut_is, cut_away, edges_within}
 use Rattle.ep_congruence.specs.declared.congruence.Congruence.TheInside.{Inside}
 use Rattle.ep_congruence_domain.specs.Congruence.{Congruence, formed, formed_at, common_divisor, amount_of, AreOfClass}
-use Rattle.ep_congruence_domain.proofs.Formed.{formed_some, formed_keeps}
+use Rattle.ep_congruence_domain.proofs.Formed.{formed_some, formed_keeps, same_class}
 
 -- the fields of a congruence as its value
 abbrev pub seen : Inside → Congruence
@@ -301,3 +301,13 @@ others o t a b (inr (inr (inl e))) = ap (λ p. results_of p t a b) e
 others o t a b (inr (inr (inr (inl e)))) = ap (λ p. results_of p t a b) e
 others o t a b (inr (inr (inr (inr (inl e))))) = ap (λ p. results_of p t a b) e
 others o t a b (inr (inr (inr (inr (inr e))))) = ap (λ p. results_of p t a b) e
+
+-- ---- two congruences that are one value
+
+pub same_bits : (a b : ℤ) → FitsSigned w128 a → FitsSigned w128 b → of_z w128 a ≡ of_z w128 b → a ≡ b
+same_bits a b f g e = sym (to_z-of_z w128 a f) ∙ ap (to_z w128) e ∙ to_z-of_z w128 b g
+
+pub same_congruence : (a b : Congruence) → of_z w128 a.remainder ≡ of_z w128 b.remainder → a.modulus ≡ b.modulus → a ≡ b
+same_congruence a b e f =
+    let q : a.remainder ≡ b.remainder = same_bits a.remainder b.remainder (remainder_fits a) (remainder_fits b) e in
+    same_class a b (ap (λ r. class r a.modulus) q ∙ ap (class b.remainder) f)

@@ -364,4 +364,8 @@ impl Num for Congruence {
     fn cut(&self, lo: i128, hi: i128) -> Option<Self> {
         self.cut_of(lo, hi)
     }
+
+    fn is_same(&self, o: &Self) -> bool {
+        self.remainder == o.remainder && self.modulus == o.modulus
+    }
 }

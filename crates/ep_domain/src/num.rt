@@ -1,6 +1,6 @@
 //! What an abstract number is.
 
-ghost use Rattle.std.specs.Prelude.{◌≡◌, ℕ};
+ghost use Rattle.std.specs.Prelude.{◌≡◌, ◌↔◌, IsTrue, ℕ};
 ghost use Rattle.ep_int.specs.Arith.{IsOfSomeType};
 ghost use Rattle.ep_domain.specs.Domain.{Ops, Lawful};
 
@@ -73,6 +73,10 @@ pub trait Num: Copy {
     /// The numbers held from `lo` to `hi`, or `None` where there is none.
     fn cut(&self, lo: i128, hi: i128) -> Option<Self>
         ensures { result ≡ ops.cut self.now lo hi };
+
+    /// Whether both are one value.
+    fn is_same(&self, o: &Self) -> bool
+        ensures { IsTrue result ↔ (self.now ≡ o.now) };
 
     /// They keep the laws.
     ghost laws: { Lawful ops };

@@ -131,4 +131,8 @@ impl<A: Num, B: Num> Num for Pair<A, B> {
     fn cut(&self, lo: i128, hi: i128) -> Option<Self> {
         product::cut(self, lo, hi)
     }
+
+    fn is_same(&self, o: &Self) -> bool {
+        self.left.is_same(&o.left) && self.right.is_same(&o.right)
+    }
 }

@@ -237,3 +237,10 @@ pub remainders_is : (x y : ℤ × ℤ) (s a b c d : ℤ) (r : Option Interval) �
 remainders_is x y s a b c d r e f g h i j =
     j ∙ ap (λ z. between z d) (g ∙ ap (λ z. int_max (pos 1 -ℤ z) a) e ∙ ap (int_max (pos 1 -ℤ greatest_size y)) f)
     ∙ ap (between (int_max (pos 1 -ℤ greatest_size y) (int_min x.0 (pos 0)))) (i ∙ ap (λ z. int_min (z -ℤ pos 1) c) e ∙ ap (int_min (greatest_size y -ℤ pos 1)) h)
+
+-- ---- two intervals that are one value
+
+pub same_interval : (a b : Interval) → of_z w128 a.lo ≡ of_z w128 b.lo → of_z w128 a.hi ≡ of_z w128 b.hi → a ≡ b
+same_interval a b e f =
+    same_ends a.lo a.hi a.ends b.lo b.hi b.ends (same_bits a.lo b.lo (low_fits a) (low_fits b) e)
+    (same_bits a.hi b.hi (high_fits a) (high_fits b) f)

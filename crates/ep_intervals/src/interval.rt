@@ -178,4 +178,8 @@ impl Num for Interval {
     fn cut(&self, lo: i128, hi: i128) -> Option<Self> {
         self.overlap(lo, hi)
     }
+
+    fn is_same(&self, o: &Self) -> bool {
+        self.lo == o.lo && self.hi == o.hi
+    }
 }

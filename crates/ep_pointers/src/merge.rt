@@ -1,6 +1,6 @@
 //! Lists of targets, in order of blocks.
 
-ghost use Rattle.std.specs.Prelude.{◌≡◌, ◌≤◌, ◌<◌, ◌++◌, drop, length, slice_index_or, IfOk, IfSome, nat_eq, not};
+ghost use Rattle.std.specs.Prelude.{◌≡◌, ◌↔◌, ◌≤◌, ◌<◌, ◌++◌, drop, length, slice_index_or, IfOk, IfSome, IsTrue, nat_eq, not};
 ghost use Rattle.std.specs.List.{filter};
 ghost use Rattle.ep_pointers.specs.Value.{IsRising, together, are_within, is_offset_within};
 ghost use Rattle.ep_pointers.specs.Parts.{from_block, offset_first, united, first_of};
@@ -141,6 +141,30 @@ fn is_offset_within<N: Num>(x: &N, y: Option<N>) -> bool
         Some(y) => x.within(&y),
         None => false,
     }
+}
+
+fn is_same_target<N: Num>(t: &(u32, N), u: &(u32, N)) -> bool
+    ensures { IsTrue result ↔ (t.now ≡ u.now) }
+{
+    if t.0 != u.0 {
+        return false;
+    }
+    t.1.is_same(&u.1)
+}
+
+/// Whether both are one list.
+pub fn are_same<N: Num>(x: &[(u32, N)], y: &[(u32, N)]) -> bool
+    ensures { IsTrue result ↔ (x.now ≡ y.now) }
+{
+    if x.len() != y.len() {
+        return false;
+    }
+    for i in 0..x.len() {
+        if !is_same_target(&x[i], &y[i]) {
+            return false;
+        }
+    }
+    true
 }
 
 /// Takes the target of a block away.

@@ -1,6 +1,6 @@
 //! What a pointer may be.
 
-ghost use Rattle.std.specs.Prelude.{◌≡◌, ◌≤◌, ◌<◌, IsTrue, IfOk};
+ghost use Rattle.std.specs.Prelude.{◌≡◌, ◌↔◌, ◌≤◌, ◌<◌, IsTrue, IfOk};
 ghost use Rattle.ep_pointers.specs.Value.{HasOneMember, IsRising, null_alone, one_target, is_within, HoldsAllOf};
 ghost use Rattle.ep_pointers.specs.Value.{join_of, widening_of, HoldsBoth, HasOffsetsOf, KeepsRanks};
 ghost use Rattle.ep_pointers.specs.Value.{without, LosesBlock};
@@ -58,6 +58,13 @@ impl<N: Num> PtrValue<N> {
         }
     }
 
+    /// All that it may be but null, or `None` where that is nothing.
+    pub fn without_null(self) -> Option<Self>
+        ensures { result ≡ of_targets self.targets }
+    {
+        Self::of_targets(self.targets)
+    }
+
     /// Whether it may be null.
     pub fn may_be_null(&self) -> bool
         ensures { result ≡ self.now.null }
@@ -84,6 +91,16 @@ impl<N: Num> PtrValue<N> {
             }),
             Err(_) => Err(Memory),
         }
+    }
+
+    /// Whether both are one value.
+    pub fn is_same(&self, o: &Self) -> bool
+        ensures { IsTrue result ↔ (self.now ≡ o.now) }
+    {
+        if self.null != o.null {
+            return false;
+        }
+        merge::are_same(&self.targets, &o.targets)
     }
 
     /// Whether the other surely may be all that this one may be.
@@ -158,8 +175,8 @@ impl<N: Num> PtrValue<N> {
         })
     }
 
-    // A value that has these targets alone, where there is one.
-    fn of_targets(targets: Vec<(u32, N)>) -> Option<Self>
+    /// These targets and not null, or `None` where there is no target.
+    pub fn of_targets(targets: Vec<(u32, N)>) -> Option<Self>
         requires { IsRising targets.items }
         ensures { result ≡ of_targets targets.items }
     {

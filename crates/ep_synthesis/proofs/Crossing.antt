@@ -23,7 +23,7 @@ use Rattle.ep_reads.specs.Bytes.{order_on}
 use Rattle.ep_reads.specs.Split.{byte_of, byte_cells}
 use Rattle.ep_reads.specs.Unify.{is_of_one_side, is_byte, bytes_on, crossed_parts, left_by_crossing, fate_by_crossing, crossed_cell, crossed_like, crossed_all}
 use Rattle.ep_synthesis.proofs.Splitting.{name_same, no_name, name_on, one_like, fits_after, byte_sized, sized_byte}
-use Rattle.ep_synthesis.specs.declared.machines.Machines.{Machines}
+use Rattle.ep_scalar_reads.specs.declared.machines.Machines.{Machines}
 use Rattle.ep_synthesis.specs.Parts.{known, IsSized}
 use Rattle.ep_cells_laws.proofs.Lists.{in_map, in_each, in_put_all, each_at, each_from}
 use Rattle.ep_split_laws.proofs.Steps.{IsSided}

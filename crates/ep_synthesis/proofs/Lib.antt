@@ -1,6 +1,6 @@
-pub mod Bytes
-mod Splitting
+pub mod Splitting
 mod Unifying
 mod Crossing
 pub mod Partings
 pub mod Unifieds
+pub mod Windowed

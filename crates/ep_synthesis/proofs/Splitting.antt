@@ -33,9 +33,10 @@ use Rattle.ep_split_laws.proofs.ByteCells.{IsByteCell, byte_is, one_of}
 use Rattle.ep_split_laws.proofs.Splits.{first_like}
 use Rattle.ep_reads.specs.Bytes.{order_on, byte_at, byte_form, byte_value, form_or, own_form, has_targets}
 use Rattle.ep_reads.specs.Split.{form_beside, bytes_of_cell, is_name_of, fate_by_split, left_by_split, byte_with, byte_of_pointer, byte_of, byte_cells, split_cell, cut_cells, split_like, split_all}
-use Rattle.ep_synthesis.specs.Parts.{known, HasFittingForm, IsSized}
-use Rattle.ep_synthesis.specs.declared.machines.Machines.{Machines}
-use Rattle.ep_synthesis.proofs.Bytes.{eight_by}
+use Rattle.ep_scalar_reads.specs.Parts.{HasFittingForm}
+use Rattle.ep_synthesis.specs.Parts.{known, IsSized}
+use Rattle.ep_scalar_reads.specs.declared.machines.Machines.{Machines}
+use Rattle.ep_scalar_reads.proofs.Bytes.{eight_by}
 
 -- ---- names
 

@@ -11,7 +11,7 @@ use Rattle.ep_cells.specs.States.{Each, HasWidth, IsFormOf, AreCells}
 use Rattle.ep_cells_laws.proofs.Lists.{each_from}
 use Rattle.ep_cells_laws.proofs.Reshare.{reshared_goes_on}
 use Rattle.ep_reads.specs.Unify.{is_crossed, crossed_like, crossed_all, uncrossed, uncrossed_both, had_by_both, had_both, parted_both, unified}
-use Rattle.ep_synthesis.specs.declared.machines.Machines.{Machines}
+use Rattle.ep_scalar_reads.specs.declared.machines.Machines.{Machines}
 use Rattle.ep_synthesis.specs.Parts.{known, IsSized}
 
 form_sized : {N : Type 0} (cs : List (Cell N)) (x : Cell N) (o : Option (List Segment)) → IfSome o (IsFormOf cs x)

@@ -5,17 +5,18 @@ ghost use Rattle.std.specs.List.{list_any};
 ghost use Rattle.ep_cells.specs.Cells.{place_of as the_place};
 ghost use Rattle.ep_cells.specs.Reshare.{reshared};
 ghost use Rattle.ep_cells.specs.States.{AreCells};
+ghost use Rattle.ep_cell_changes.specs.Tests.{AreInOrder};
 ghost use Rattle.ep_reads.specs.Unify.{faces, parted, parted_both, uncrossed, had_by_both, unified};
 ghost use Rattle.ep_synthesis.specs.Parts.{known};
 
 use crate::cross::uncrossed;
-use crate::machines::Machines;
 use crate::unify::{faces, had_by_both, parted};
 use ep_cell_changes::reshare::reshared;
 use ep_cell_rows::places::place_of;
 use ep_cells::Cell;
 use ep_domain::Num;
 use ep_int::{Memory, Model};
+use ep_scalar_reads::Machines;
 use std::alloc::Global;
 
 /// The cells of two states.
@@ -26,18 +27,22 @@ pub struct Both<N> {
 }
 
 fn is_facing<N: Num>(model: Model, ys: &[Cell<N>], x: &Cell<N>) -> bool
+    requires order { AreInOrder ys.now }
     ensures { result ≡ faces model ys.now (the_place model x.now) }
 {
     faces(model, ys, &place_of(model, x))
 }
 
 fn is_some_facing<N: Num>(model: Model, ys: &[Cell<N>], xs: &[Cell<N>]) -> bool
+    requires order { AreInOrder ys.now }
     ensures { result ≡ list_any (λ x. faces model ys.now (the_place model x)) xs.now }
 {
     xs.iter().any(|x| is_facing(model, ys, x))
 }
 
 fn parted_once<N: Num>(alloc: Global, model: Model, p: &Both<N>) -> Result<Both<N>, Memory>
+    requires cells { AreCells model p.now.left.items }
+    requires order { AreInOrder p.now.right.items }
     ensures left { IfOk result (λ q. q.left.items ≡ parted model p.now.right.items p.now.left.items) }
     ensures right { IfOk result (λ q. q.right.items
         ≡ parted model (parted model p.now.right.items p.now.left.items) p.now.right.items) }
@@ -48,6 +53,8 @@ fn parted_once<N: Num>(alloc: Global, model: Model, p: &Both<N>) -> Result<Both<
 }
 
 fn is_parted<N: Num>(model: Model, p: &Both<N>) -> bool
+    requires left { AreInOrder p.now.left.items }
+    requires right { AreInOrder p.now.right.items }
     ensures { result ≡ not (list_any (λ x. faces model p.now.right.items (the_place model x)) p.now.left.items
         || list_any (λ y. faces model p.now.left.items (the_place model y)) p.now.right.items) }
 {
@@ -97,6 +104,8 @@ fn uncrossed_both<N: Num>(alloc: Global, machines: Machines, p: &Both<N>) -> Res
 }
 
 fn had_both<N: Num>(alloc: Global, p: &Both<N>) -> Result<Both<N>, Memory>
+    requires left { AreInOrder p.now.left.items }
+    requires right { AreInOrder p.now.right.items }
     ensures left { IfOk result (λ q. q.left.items ≡ had_by_both p.now.right.items p.now.left.items) }
     ensures right { IfOk result (λ q. q.right.items ≡ had_by_both p.now.left.items p.now.right.items) }
 {

@@ -6,21 +6,23 @@ ghost use Rattle.std.specs.Option.{option_map, option_map_or};
 ghost use Rattle.ep_cells.specs.Cells.{each_becomes, parts_of, is_same_cell as are_one, meets, place_of as the_place, put_all as the_put_all};
 ghost use Rattle.ep_cells.specs.Forms.{form_after, reformed};
 ghost use Rattle.ep_cells.specs.States.{Each};
+ghost use Rattle.ep_cell_changes.specs.Tests.{AreInOrder};
 ghost use Rattle.ep_reads.specs.Unify.{is_of_one_side, is_crossed, is_byte, bytes_on, crossed_parts, left_by_crossing, fate_by_crossing, crossed_cell, crossed_like, crossed_all, uncrossed};
 ghost use Rattle.ep_synthesis.specs.Parts.{known, IsSized};
 
-use crate::byte::order_on;
-use crate::machines::Machines;
 use crate::split::{byte_cells, cell_like, form_without, name_on};
 use crate::unify::{on_side, push_parts};
-use ep_bitslice::{Form, Side};
+use ep_bitslice::{BoxedForm, Form, Side};
+use ep_cell_changes::windows::about;
 use ep_cell_rows::cell::copy_cell;
 use ep_cell_rows::places::{is_same_cell, is_same_side, meets, place_of};
 use ep_cell_rows::rows::{copied, push, put_all};
-use ep_cell_rows::values::copy_value;
+use ep_cell_rows::values::{boxed_like, copy_value, form_of};
 use ep_cells::Cell;
 use ep_domain::Num;
 use ep_int::{IntType, Memory, Model, Scalar};
+use ep_scalar_reads::Machines;
+use ep_scalar_reads::byte::order_on;
 use std::alloc::Global;
 
 // ---- which cells are crossed
@@ -31,10 +33,17 @@ fn crosses<N: Num>(model: Model, x: &Cell<N>, y: &Cell<N>) -> bool
     meets(&place_of(model, x), &place_of(model, y)) && !is_same_cell(x, y)
 }
 
-fn is_crossed<N: Num>(model: Model, ys: &[Cell<N>], x: &Cell<N>) -> bool
+fn is_crossed_by<N: Num>(model: Model, ys: &[Cell<N>], x: &Cell<N>) -> bool
     ensures { result ≡ is_crossed model ys.now x.now }
 {
     ys.iter().any(|y| crosses(model, x, y))
+}
+
+fn is_crossed<N: Num>(model: Model, ys: &[Cell<N>], x: &Cell<N>) -> bool
+    requires order { AreInOrder ys.now }
+    ensures { result ≡ is_crossed model ys.now x.now }
+{
+    is_crossed_by(model, about(ys, &place_of(model, x)), x)
 }
 
 fn push_crossed<N: Num>(
@@ -43,6 +52,7 @@ fn push_crossed<N: Num>(
     ys: &[Cell<N>],
     x: &Cell<N>,
 ) -> Result<(), Memory>
+    requires order { AreInOrder ys.now }
     ensures { IfOk result (λ _. out.new.items ≡ out.old.items ++ filter (is_crossed model ys.now) (x.now ∷ [])) }
 {
     if is_crossed(model, ys, x) {
@@ -58,6 +68,7 @@ fn crossed<N: Num>(
     ys: &[Cell<N>],
     xs: &[Cell<N>],
 ) -> Result<Vec<Cell<N>>, Memory>
+    requires order { AreInOrder ys.now }
     ensures { IfOk result (λ v. v.items ≡ filter (is_crossed model ys.now) xs.now) }
 {
     let mut out = Vec::new(alloc);
@@ -132,12 +143,15 @@ fn form_by_crossing<N: Num>(form: &Form, x: &Cell<N>) -> Option<Form>
 }
 
 /// The form where a cell is crossed, with a name for each mention of it that goes on, if all do.
-pub fn form_after<N: Num>(form: &Option<Form>, x: &Cell<N>) -> Option<Form>
-    ensures { result ≡ form_after (fate_by_crossing x.now) form.now }
+pub fn form_after<N: Num>(
+    form: &Option<BoxedForm>,
+    x: &Cell<N>,
+) -> Result<Option<BoxedForm>, Memory>
+    ensures { IfOk result (λ f. f ≡ form_after (fate_by_crossing x.now) form.now) }
 {
     match form {
-        None => None,
-        Some(form) => form_by_crossing(form, x),
+        None => Ok(None),
+        Some(form) => boxed_like(form, form_by_crossing(form.form(), x)),
     }
 }
 
@@ -151,7 +165,7 @@ fn reformed<N: Num>(x: &Cell<N>, c: &Cell<N>) -> Result<Cell<N>, Memory>
         what: c.what,
         value: copy_value(&c.value)?,
         maybe: c.maybe,
-        form: form_after(&c.form, x),
+        form: form_after(&c.form, x)?,
     })
 }
 
@@ -184,7 +198,8 @@ fn push_bytes<N: Num>(
 {
     let part = on_side(x, side)?;
     let order = order_on(side, machines.orders);
-    let bytes = byte_cells(alloc, machines.model, order, side, &part.form, &part)?;
+    let form = form_of(&part.form);
+    let bytes = byte_cells(alloc, machines.model, order, side, &form, &part)?;
     push_all(out, &bytes)?;
     Ok(())
 }
@@ -372,7 +387,8 @@ pub fn uncrossed<N: Num>(
     ys: &[Cell<N>],
     xs: &[Cell<N>],
 ) -> Result<Vec<Cell<N>>, Memory>
-    requires { Each (IsSized machines.model) xs.now }
+    requires order { AreInOrder ys.now }
+    requires sized { Each (IsSized machines.model) xs.now }
     ensures { IfOk result (λ v. v.items ≡ uncrossed N.ops (known machines []) ys.now xs.now) }
 {
     let cut = crossed(alloc, machines.model, ys, xs)?;

@@ -12,19 +12,20 @@ ghost use Rattle.ep_cells.specs.States.{Each, HasWidth};
 ghost use Rattle.ep_cells.specs.Both.{cell_like};
 ghost use Rattle.ep_reads.specs.Bytes.{order_on as the_order_on};
 ghost use Rattle.ep_reads.specs.Split.{form_beside, byte_with, byte_of_pointer, byte_of, byte_cells, fate_by_split, left_by_split, split_cell, cut_cells, split_like, split_all, split};
-ghost use Rattle.ep_synthesis.specs.Parts.{known, HasByte, IsSized};
+ghost use Rattle.ep_scalar_reads.specs.Parts.{HasByte};
+ghost use Rattle.ep_synthesis.specs.Parts.{known, IsSized};
 
-use crate::byte::{byte_form, byte_value, has_targets, order_on, own_form};
-use crate::machines::Machines;
-use ep_bitslice::{CellName, Form, Side};
+use ep_bitslice::{BoxedForm, CellName, Form, Side};
 use ep_cell_rows::cell::copy_cell;
 use ep_cell_rows::places::{is_partly_in, is_same_cell, place_of, side_without};
 use ep_cell_rows::rows::{copied, push, put_all};
-use ep_cell_rows::values::{copy_form, copy_value};
+use ep_cell_rows::values::{boxed, boxed_like, copy_boxed, copy_value, form_of};
 use ep_cells::{Cell, Place, Value};
 use ep_domain::Num;
 use ep_int::{IntType, Memory, Model, Order, Scalar};
 use ep_pointers::PtrValue;
+use ep_scalar_reads::Machines;
+use ep_scalar_reads::byte::{byte_form, byte_value, has_targets, order_on, own_form};
 use std::alloc::Global;
 
 // ---- the bytes of a cell
@@ -33,7 +34,7 @@ fn known_beside<N: Num>(x: &Cell<N>, rest: Side) -> Option<Form>
     ensures { result ≡ form_beside x.now (Some rest) }
 {
     match &x.form {
-        Some(f) => Some(f.copy()),
+        Some(f) => Some(f.form().copy()),
         None => { if x.maybe { None } else { own_form(x, rest) } }
     }
 }
@@ -43,7 +44,7 @@ pub fn form_beside<N: Num>(x: &Cell<N>, rest: Option<Side>) -> Option<Form>
     ensures { result ≡ form_beside x.now rest }
 {
     match rest {
-        None => copy_form(&x.form),
+        None => form_of(&x.form),
         Some(rest) => known_beside(x, rest),
     }
 }
@@ -64,27 +65,28 @@ fn undefined_byte<N: Num>(side: Side, x: &Cell<N>, p: u32) -> Cell<N>
 }
 
 fn byte_with<N: Num>(
+    alloc: Global,
     side: Side,
     x: &Cell<N>,
     p: u32,
     value: Option<N>,
     maybe: bool,
     form: Option<Form>,
-) -> Cell<N>
+) -> Result<Cell<N>, Memory>
     requires { x.now.offset + p < 2 ^ 32 }
-    ensures { result ≡ byte_with side x.now p value maybe form }
+    ensures { IfOk result (λ c. c ≡ byte_with side x.now p value maybe form) }
 {
     match value {
-        None => undefined_byte(side, x, p),
-        Some(n) => Cell {
+        None => Ok(undefined_byte(side, x, p)),
+        Some(n) => Ok(Cell {
             side,
             block: x.block,
             offset: x.offset + p,
             what: Scalar::Int(IntType::U8),
             value: Some(Value::Num(n)),
             maybe,
-            form,
-        },
+            form: boxed(alloc, form)?,
+        }),
     }
 }
 
@@ -99,41 +101,52 @@ fn byte_of_pointer<N: Num>(v: &PtrValue<N>) -> Option<N>
 }
 
 fn byte_of_number<N: Num>(
+    alloc: Global,
     o: Order,
     side: Side,
     f: &Option<Form>,
     x: &Cell<N>,
     n: &N,
     p: u32,
-) -> Cell<N>
+) -> Result<Cell<N>, Memory>
     requires last { x.now.offset + p < 2 ^ 32 }
     requires byte { HasByte x.now.what p }
     requires form { IfSome f.now (λ ss. HasWidth x.now.what (width ss)) }
-    ensures { result ≡ byte_of N.ops o side f.now x.now x.now.what (Some (Value.Num n.now)) p }
+    ensures { IfOk result (λ c. c ≡ byte_of N.ops o side f.now x.now x.now.what (Some (Value.Num n.now)) p) }
 {
     match x.what {
         Scalar::Int(t) => {
             let k = ep_int::place(o, ep_int::bytes(t), p);
-            byte_with(side, x, p, byte_value(t, k, n), x.maybe, byte_form(k, f))
+            byte_with(
+                alloc,
+                side,
+                x,
+                p,
+                byte_value(t, k, n),
+                x.maybe,
+                byte_form(k, f),
+            )
         }
-        Scalar::Pointer => undefined_byte(side, x, p),
+        Scalar::Pointer => Ok(undefined_byte(side, x, p)),
     }
 }
 
 fn byte_of_address<N: Num>(
+    alloc: Global,
     o: Order,
     side: Side,
     f: &Option<Form>,
     x: &Cell<N>,
     v: &PtrValue<N>,
     p: u32,
-) -> Cell<N>
+) -> Result<Cell<N>, Memory>
     requires { x.now.offset + p < 2 ^ 32 }
-    ensures { result ≡ byte_of N.ops o side f.now x.now x.now.what (Some (Value.Ptr v.now)) p }
+    ensures { IfOk result (λ c. c ≡ byte_of N.ops o side f.now x.now x.now.what (Some (Value.Ptr v.now)) p) }
 {
     match x.what {
-        Scalar::Int(_) => undefined_byte(side, x, p),
+        Scalar::Int(_) => Ok(undefined_byte(side, x, p)),
         Scalar::Pointer => byte_with(
+            alloc,
             side,
             x,
             p,
@@ -145,33 +158,41 @@ fn byte_of_address<N: Num>(
 }
 
 fn byte_of_some<N: Num>(
+    alloc: Global,
     o: Order,
     side: Side,
     f: &Option<Form>,
     x: &Cell<N>,
     v: &Value<N>,
     p: u32,
-) -> Cell<N>
+) -> Result<Cell<N>, Memory>
     requires last { x.now.offset + p < 2 ^ 32 }
     requires byte { HasByte x.now.what p }
     requires form { IfSome f.now (λ ss. HasWidth x.now.what (width ss)) }
-    ensures { result ≡ byte_of N.ops o side f.now x.now x.now.what (Some v.now) p }
+    ensures { IfOk result (λ c. c ≡ byte_of N.ops o side f.now x.now x.now.what (Some v.now) p) }
 {
     match v {
-        Value::Num(n) => byte_of_number(o, side, f, x, n, p),
-        Value::Ptr(v) => byte_of_address(o, side, f, x, v, p),
+        Value::Num(n) => byte_of_number(alloc, o, side, f, x, n, p),
+        Value::Ptr(v) => byte_of_address(alloc, o, side, f, x, v, p),
     }
 }
 
-fn byte_of<N: Num>(o: Order, side: Side, f: &Option<Form>, x: &Cell<N>, p: u32) -> Cell<N>
+fn byte_of<N: Num>(
+    alloc: Global,
+    o: Order,
+    side: Side,
+    f: &Option<Form>,
+    x: &Cell<N>,
+    p: u32,
+) -> Result<Cell<N>, Memory>
     requires last { x.now.offset + p < 2 ^ 32 }
     requires byte { HasByte x.now.what p }
     requires form { IfSome f.now (λ ss. HasWidth x.now.what (width ss)) }
-    ensures { result ≡ byte_of N.ops o side f.now x.now x.now.what x.now.value p }
+    ensures { IfOk result (λ c. c ≡ byte_of N.ops o side f.now x.now x.now.what x.now.value p) }
 {
     match &x.value {
-        None => undefined_byte(side, x, p),
-        Some(v) => byte_of_some(o, side, f, x, v, p),
+        None => Ok(undefined_byte(side, x, p)),
+        Some(v) => byte_of_some(alloc, o, side, f, x, v, p),
     }
 }
 
@@ -191,7 +212,8 @@ pub fn byte_cells<N: Num>(
     let mut out = Vec::new(alloc);
     let size = ep_int::size(model, x.what);
     for p in 0..size {
-        push(&mut out, byte_of(o, side, f, x, p))?;
+        let y = byte_of(alloc, o, side, f, x, p)?;
+        push(&mut out, y)?;
     }
     Ok(out)
 }
@@ -247,12 +269,16 @@ fn form_by_split<N: Num>(form: &Form, side: Side, x: &Cell<N>) -> Option<Form>
 }
 
 /// The form where a cell is split on a side, with a name for each mention of it that goes on, if all do.
-pub fn form_after<N: Num>(form: &Option<Form>, side: Side, x: &Cell<N>) -> Option<Form>
-    ensures { result ≡ form_after (fate_by_split side x.now) form.now }
+pub fn form_after<N: Num>(
+    form: &Option<BoxedForm>,
+    side: Side,
+    x: &Cell<N>,
+) -> Result<Option<BoxedForm>, Memory>
+    ensures { IfOk result (λ f. f ≡ form_after (fate_by_split side x.now) form.now) }
 {
     match form {
-        None => None,
-        Some(form) => form_by_split(form, side, x),
+        None => Ok(None),
+        Some(form) => boxed_like(form, form_by_split(form.form(), side, x)),
     }
 }
 
@@ -266,7 +292,7 @@ fn reformed<N: Num>(side: Side, x: &Cell<N>, c: &Cell<N>) -> Result<Cell<N>, Mem
         what: c.what,
         value: copy_value(&c.value)?,
         maybe: c.maybe,
-        form: form_after(&c.form, side, x),
+        form: form_after(&c.form, side, x)?,
     })
 }
 
@@ -301,7 +327,7 @@ fn push_on<N: Num>(out: &mut Vec<Cell<N>>, y: &Cell<N>, side: Option<Side>) -> R
                 what: y.what,
                 value: copy_value(&y.value)?,
                 maybe: y.maybe,
-                form: copy_form(&y.form),
+                form: copy_boxed(&y.form)?,
             },
         ),
     }
@@ -392,7 +418,8 @@ fn split_found<N: Num>(
     Ok(Some(split_cell(alloc, machines, side, y, cells)?))
 }
 
-fn split_like<N: Num>(
+/// The cells with the one like x split on a side, as it is now.
+pub fn split_like<N: Num>(
     alloc: Global,
     machines: Machines,
     side: Side,
@@ -440,7 +467,8 @@ fn push_cut<N: Num>(
     }
 }
 
-fn cut_cells<N: Num>(
+/// The cells that lie partly in a place.
+pub fn cut_cells<N: Num>(
     alloc: Global,
     model: Model,
     p: &Place,

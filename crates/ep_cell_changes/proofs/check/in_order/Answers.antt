@@ -1,4 +1,4 @@
-use Rattle.std.proofs.Common.{sym, ◌∙◌, ap}
+use Rattle.std.proofs.Common.{sym}
 use Rattle.ep_cell_changes.specs.Tests.{AreInOrder}
 use Rattle.std.proofs.Common.{subst}
 use Rattle.ep_cell_changes.proofs.Checked.{put_in_order}

@@ -1,4 +1,3 @@
-use Rattle.std.proofs.Common.{sym, ◌∙◌}
 use Rattle.ep_cells.specs.States.{Each, AreApart}
 use Rattle.ep_cell_changes.proofs.Turns.{next_cell}
 use Rattle.ep_cell_changes.proofs.Checked.{past_ends, past_at}

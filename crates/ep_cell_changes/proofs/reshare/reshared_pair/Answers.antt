@@ -1,6 +1,3 @@
-use Rattle.std.proofs.Common.{◌∙◌, ap}
-use Rattle.ep_cells.specs.Forms.{reformed}
-use Rattle.ep_cells.specs.Reshare.{fate_by_reshare}
 use Rattle.ep_cell_changes.proofs.Together.{reshared_is}
 use Rattle.ep_cell_changes.proofs.reshare.reshared_pair.Goals as goal
 

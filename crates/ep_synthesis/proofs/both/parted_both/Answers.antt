@@ -1,7 +1,17 @@
 use Rattle.std.proofs.Common.{◌+◌, sym, ◌∙◌, length, arith}
 use Rattle.ep_reads.specs.Unify.{parted_both}
 use Rattle.ep_synthesis.proofs.Partings.{one_round, rounds_end, rounds_stop}
+use Rattle.ep_cell_changes.proofs.Checked.{order_of}
 use Rattle.ep_synthesis.proofs.both.parted_both.Goals as goal
+
+pub is_parted-requires-clause-left : goal.is_parted-requires-clause-left
+is_parted-requires-clause-left g c = order_of c.args.model c.loop.p.left.items c.loop.invariant.1.left.pairs
+
+pub is_parted-requires-clause-right : goal.is_parted-requires-clause-right
+is_parted-requires-clause-right g c = order_of c.args.model c.loop.p.right.items c.loop.invariant.1.right.pairs
+
+pub parted_once-requires-clause-order : goal.parted_once-requires-clause-order
+parted_once-requires-clause-order g c = order_of c.args.model c.loop.p.right.items c.loop.invariant.1.right.pairs
 
 pub returns-then-is_parted-clause-value : goal.returns-then-is_parted-clause-value
 returns-then-is_parted-clause-value g c =

@@ -1,5 +1,5 @@
 use Rattle.ep_reads.specs.Unify.{is_crossed}
-use Rattle.ep_synthesis.proofs.Bytes.{drop_at}
+use Rattle.ep_scalar_reads.proofs.Bytes.{drop_at}
 use Rattle.ep_synthesis.proofs.Splitting.{filter_turn}
 use Rattle.ep_synthesis.proofs.cross.crossed.Goals as goal
 

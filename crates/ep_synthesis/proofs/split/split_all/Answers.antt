@@ -1,4 +1,4 @@
-use Rattle.ep_synthesis.proofs.Bytes.{drop_at}
+use Rattle.ep_scalar_reads.proofs.Bytes.{drop_at}
 use Rattle.ep_synthesis.proofs.Splitting.{all_turn}
 use Rattle.ep_synthesis.proofs.split.split_all.Goals as goal
 
