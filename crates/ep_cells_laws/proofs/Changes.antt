@@ -122,7 +122,7 @@ pub record IsChange {N : Type 0} (d : Model) (cs l : List (Cell N)) (f : Fate) :
   pub forms : (y : Cell N) → IsIn y l → HasForm cs y
   pub fates : (c e : CellName) → IsThere c cs → f c ≡ Some e → IsThere e l
 
-there_reformed : {N : Type 0} (f : Fate) (e : CellName) (l : List (Cell N)) → IsThere e l
+pub there_reformed : {N : Type 0} (f : Fate) (e : CellName) (l : List (Cell N)) → IsThere e l
     → IsThere e (map (reformed f) l)
 there_reformed f e l t = record {
   cell = reformed f t.cell;
@@ -145,7 +145,7 @@ form_left d cs l f x ss g c h (Some bs) e = record {
       there_reformed f n l (c.fates r.name n (h.mentioned r.name r.mentioned) r.fate);
 }
 
-form_by : {N : Type 0} (d : Model) (cs l : List (Cell N)) (f : Fate) (x : Cell N) (g : Option (List Segment))
+pub form_by : {N : Type 0} (d : Model) (cs l : List (Cell N)) (f : Fate) (x : Cell N) (g : Option (List Segment))
     → IsChange d cs l f
     → (o : Option (List Segment)) → IfSome o (IsFormOf cs x) → IfSome (form_after f o) (IsFormOf (map (reformed f) l)
     (record x { form = g }))

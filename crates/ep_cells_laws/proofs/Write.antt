@@ -255,7 +255,7 @@ form_on : {N : Type 0} (cs : List (Cell N)) (x : Cell N) (s : Side) (o : Option 
 form_on cs x s None h = tt
 form_on cs x s (Some ss) h = record { sure = h.sure; wide = h.wide; form = h.form; mentioned = h.mentioned }
 
-write_change : {N : Type 0} (d : Model) (c : Cell N) (cs : List (Cell N)) → AreCells d cs → CanWrite d c cs
+pub write_change : {N : Type 0} (d : Model) (c : Cell N) (cs : List (Cell N)) → AreCells d cs → CanWrite d c cs
     → HasRisingBlocks c.value
     → IsChange d cs (put c (rest_of d c cs)) (fate_by_write (place_of d c))
 write_change d c cs a w r = record {
@@ -307,7 +307,7 @@ numbers_kept D os d m n cs x y s is k f says h g =
     subst (λ z. IfSome z.form (λ ss. HasNumber os n z z.what (number (numbers_of os m) ss))) (sym is)
     (number_by D os d m n cs x (record x { side = s }) (subst (IsKept D os d m n x) is k) f says x.form h g)
 
-write_keeps : {N : Type 0} (D : Ops N) (os : Order × Order) (d : Model) (m n : Memories) (c : Cell N) (cs : List
+pub write_keeps : {N : Type 0} (D : Ops N) (os : Order × Order) (d : Model) (m n : Memories) (c : Cell N) (cs : List
     (Cell N)) (a e : CellName)
     → AreCells d cs → ((x : Cell N) → IsIn x cs → Says D os d m x) → AreRewritten (place_of d c) m n
     → IsThere a cs → fate_by_write (place_of d c) a ≡ Some e → numbers_of os n e ≡ numbers_of os m a

@@ -43,18 +43,18 @@ pub data AfterSplit {N : Type 0} (d : Model) (s : Side) (x z y : Cell N) : Type 
   rest : (t : Side) → z ≡ x → y ≡ record z { side = t } → IsRest s z.side t → AfterSplit d s x z y
   other : y ≡ z → meets (place_of d x) (place_of d z) ≡ false → AfterSplit d s x z y
 
-rest_by : {N : Type 0} (d : Model) (s : Side) (x z y : Cell N) (o : Option Side) → z ≡ x → IfSome o (IsRest s z.side)
+pub rest_by : {N : Type 0} (d : Model) (s : Side) (x z y : Cell N) (o : Option Side) → z ≡ x → IfSome o (IsRest s z.side)
     → IsIn y (with_side z o) → AfterSplit d s x z y
 rest_by d s x z y None e r h = elim h [ ]
 rest_by d s x z _ (Some t) e r (first _) = rest t e refl r
 rest_by d s x z y (Some t) e r (later _ _ h) = elim h [ ]
 
-other_by : {N : Type 0} (d : Model) (s : Side) (x z y : Cell N) → meets (place_of d x) (place_of d z) ≡ false
+pub other_by : {N : Type 0} (d : Model) (s : Side) (x z y : Cell N) → meets (place_of d x) (place_of d z) ≡ false
     → IsIn y (z ∷ []) → AfterSplit d s x z y
 other_by d s x z _ e (first _) = other refl e
 other_by d s x z y e (later _ _ h) = elim h [ ]
 
-after_by : {N : Type 0} (d : Model) (s : Side) (x z y : Cell N) (cs : List (Cell N)) (t : Bool)
+pub after_by : {N : Type 0} (d : Model) (s : Side) (x z y : Cell N) (cs : List (Cell N)) (t : Bool)
     → EachPair (AreApart d) cs → IsIn x cs → IsIn z cs → is_same_cell z x ≡ t
     → IsIn y (cond t (with_side z (side_without s z.side)) (z ∷ [])) → AfterSplit d s x z y
 after_by d s x z y cs true p i j e h =
@@ -65,21 +65,21 @@ pub after_split : {N : Type 0} (d : Model) (s : Side) (x z y : Cell N) (cs : Lis
     → IsIn x cs → IsIn z cs → IsIn y (left_by_split s x z) → AfterSplit d s x z y
 after_split d s x z y cs p i j h = after_by d s x z y cs (is_same_cell z x) p i j refl h
 
-after_sided : {N : Type 0} (d : Model) (s : Side) (x z y : Cell N) → AfterSplit d s x z y → IsSided z y
+pub after_sided : {N : Type 0} (d : Model) (s : Side) (x z y : Cell N) → AfterSplit d s x z y → IsSided z y
 after_sided d s x z y (rest t e i r) = record { side = t; is = i; within = r.within }
 after_sided d s x z y (other i e) = record { side = z.side; is = i; within = within_itself z.side }
 
-own_rest : {N : Type 0} (d : Model) (x : Cell N) (o : Option Side) → EachPair (AreApart d) (with_side x o)
+pub own_rest : {N : Type 0} (d : Model) (x : Cell N) (o : Option Side) → EachPair (AreApart d) (with_side x o)
 own_rest d x None = tt
 own_rest d x (Some s) = (tt, tt)
 
-own_by : {N : Type 0} (d : Model) (s : Side) (z : Cell N) (t : Bool)
+pub own_by : {N : Type 0} (d : Model) (s : Side) (z : Cell N) (t : Bool)
     → EachPair (AreApart d) (cond t (with_side z (side_without s z.side)) (z ∷ []))
 own_by d s z true = own_rest d z (side_without s z.side)
 own_by d s z false = (tt, tt)
 
 -- a byte of x doesn't meet what is left
-byte_away : {N : Type 0} (d : Model) (s : Side) (x z y : Cell N) (c : Cell N) (j : ℕ) → Within s x.side
+pub byte_away : {N : Type 0} (d : Model) (s : Side) (x z y : Cell N) (c : Cell N) (j : ℕ) → Within s x.side
     → j < size_of d x.what → IsByteCell s x.block (x.offset + j) c → AfterSplit d s x z y
     → meets (place_of d c) (place_of d y) ≡ false
 byte_away d s x z y c j w l b (rest t e i r) =
@@ -100,7 +100,7 @@ pub record IsLoosened {N : Type 0} (d : Model) (s : Side) (x : Cell N) (m n : Me
   pub bytes : (j : ℕ) → j < size_of d x.what
       → IsLoose x.what (memory_on s m x.block (x.offset + j)) (memory_on s n x.block (x.offset + j))
 
-kept_other : {N : Type 0} (D : Ops N) (os : Order × Order) (d : Model) (s : Side) (x z : Cell N) (m n : Memories)
+pub kept_other : {N : Type 0} (D : Ops N) (os : Order × Order) (d : Model) (s : Side) (x z : Cell N) (m n : Memories)
     → Within s x.side → AreRewritten (at s x.block x.offset (size_of d x.what)) m n
     → meets (place_of d x) (place_of d z) ≡ false → IsKept D os d m n z z
 kept_other D os d s x z m n w r e =
@@ -110,7 +110,7 @@ kept_other D os d s x z m n w r e =
     (λ f. kept_beside D os d m n (at s x.block x.offset (size_of d x.what)) z r f)
     (and_cases (share_memory x.side z.side) (touches (place_of d x) (place_of d z)) e)
 
-after_kept : {N : Type 0} (D : Ops N) (os : Order × Order) (d : Model) (s : Side) (x z y : Cell N) (m n : Memories)
+pub after_kept : {N : Type 0} (D : Ops N) (os : Order × Order) (d : Model) (s : Side) (x z y : Cell N) (m n : Memories)
     → Within s x.side → AreRewritten (at s x.block x.offset (size_of d x.what)) m n → AfterSplit d s x z y
     → IsKept D os d m n z y
 after_kept D os d s x z y m n w r (rest t e i q) =
@@ -120,7 +120,7 @@ after_kept D os d s x z y m n w r (other i e) =
 
 -- ---- names
 
-follows_true : {N : Type 0} (s : Side) (x z : Cell N) (c e : CellName) → IsNamed c z → is_name_of c x ≡ true
+pub follows_true : {N : Type 0} (s : Side) (x z : Cell N) (c e : CellName) → IsNamed c z → is_name_of c x ≡ true
     → cond (is_name_of c x) (option_map (λ r. record c { side = r }) (side_without s x.side)) (Some c) ≡ Some e
     → Follows z (left_by_split s x z) e
 follows_true s x z c e i t h =
@@ -135,7 +135,7 @@ follows_true s x z c e i t h =
     subst (λ b. Follows z (cond b (with_side z (side_without s z.side)) (z ∷ [])) e) (sym same)
     (follows_by z c e (side_without s z.side) true i k)
 
-follows_false : {N : Type 0} (s : Side) (x z : Cell N) (c e : CellName) → IsNamed c z → is_name_of c x ≡ false
+pub follows_false : {N : Type 0} (s : Side) (x z : Cell N) (c e : CellName) → IsNamed c z → is_name_of c x ≡ false
     → cond (is_name_of c x) (option_map (λ r. record c { side = r }) (side_without s x.side)) (Some c) ≡ Some e
     → Follows z (left_by_split s x z) e
 follows_false s x z c e i t h =
@@ -144,13 +144,13 @@ follows_false s x z c e i t h =
     subst (λ b. Follows z (cond b (with_side z (side_without s z.side)) (z ∷ [])) e) (sym (named_same c z x i ∙ t))
     (follows_by z c e (side_without s z.side) false i g)
 
-follows_split : {N : Type 0} (s : Side) (x z : Cell N) (c e : CellName) → IsNamed c z → fate_by_split s x c ≡ Some e
+pub follows_split : {N : Type 0} (s : Side) (x z : Cell N) (c e : CellName) → IsNamed c z → fate_by_split s x c ≡ Some e
     → Follows z (left_by_split s x z) e
 follows_split s x z c e i h =
     ⊎_elim (λ t. follows_true s x z c e i t h) (λ t. follows_false s x z c e i t h) (cases_Bool (is_name_of c x))
 
 -- the name of what stays of x goes on as it is
-rest_stays : {N : Type 0} (s t : Side) (x : Cell N) (c e : CellName) → share_memory s x.side ≡ true
+pub rest_stays : {N : Type 0} (s t : Side) (x : Cell N) (c e : CellName) → share_memory s x.side ≡ true
     → IsRest s x.side t → IsNamed c (record x { side = t }) → fate_by_split s x c ≡ Some e → c ≡ e
 rest_stays s t x c e h r i f =
     let no : is_name_of c x ≡ false = false_from_ne_true (is_name_of c x) (λ k.
@@ -164,30 +164,30 @@ rest_stays s t x c e h r i f =
     cc
 
 -- a cell of the old list, or what stays of x
-data IsOldOrRest {N : Type 0} (s : Side) (x : Cell N) (cs : List (Cell N)) (z : Cell N) : Type 0 where
+pub data IsOldOrRest {N : Type 0} (s : Side) (x : Cell N) (cs : List (Cell N)) (z : Cell N) : Type 0 where
   old : IsIn z cs → IsOldOrRest s x cs z
   stays : (t : Side) → z ≡ record x { side = t } → side_without s x.side ≡ Some t → IsRest s x.side t
       → IsOldOrRest s x cs z
 
-old_by : {N : Type 0} (s : Side) (x : Cell N) (cs : List (Cell N)) (z : Cell N) (o : Option Side)
+pub old_by : {N : Type 0} (s : Side) (x : Cell N) (cs : List (Cell N)) (z : Cell N) (o : Option Side)
     → side_without s x.side ≡ o → IfSome o (IsRest s x.side) → IsIn z (with_side x o ++ cs) → IsOldOrRest s x cs z
 old_by s x cs z None e r h = old h
 old_by s x cs _ (Some t) e r (first _) = stays t refl e r
 old_by s x cs z (Some t) e r (later _ _ h) = old h
 
-old_or_rest : {N : Type 0} (s : Side) (x : Cell N) (cs : List (Cell N)) (z : Cell N)
+pub old_or_rest : {N : Type 0} (s : Side) (x : Cell N) (cs : List (Cell N)) (z : Cell N)
     → IsIn z (with_side x (side_without s x.side) ++ cs) → IsOldOrRest s x cs z
 old_or_rest s x cs z h = old_by s x cs z (side_without s x.side) refl (rest_is s x.side) h
 
 -- what stays of x is left
-rest_left : {N : Type 0} (s t : Side) (x : Cell N) (b : Bool) → is_same_cell x x ≡ b → side_without s x.side ≡ Some t
+pub rest_left : {N : Type 0} (s t : Side) (x : Cell N) (b : Bool) → is_same_cell x x ≡ b → side_without s x.side ≡ Some t
     → IsIn (record x { side = t }) (cond b (with_side x (side_without s x.side)) (x ∷ []))
 rest_left s t x true e h = subst (λ o. IsIn (record x { side = t }) (with_side x o)) (sym h) (first [])
 rest_left s t x false e h = absurd (both_ways (is_same_cell x x) e (same_itself x))
 
 -- ---- the form beside
 
-own_beside : {N : Type 0} (cs : List (Cell N)) (x : Cell N) (t : Side) (w : Scalar) (maybe : Bool) → x.what ≡ w
+pub own_beside : {N : Type 0} (cs : List (Cell N)) (x : Cell N) (t : Side) (w : Scalar) (maybe : Bool) → x.what ≡ w
     → x.maybe ≡ maybe
     → IfSome (cond maybe None (own_form (record x { side = t }) w)) (IsFormOf (record x { side = t } ∷ cs) x)
 own_beside cs x t w true e s = tt
@@ -197,12 +197,12 @@ own_beside {N = N} cs x t (Int i) false e s =
     record { sure = f.sure; wide = f.wide; form = f.form; mentioned = f.mentioned }
 own_beside cs x t Pointer false e s = tt
 
-form_with : {N : Type 0} (more cs : List (Cell N)) (x : Cell N) (g h : Option (List Segment)) → IfSome g (IsFormOf cs x)
+pub form_with : {N : Type 0} (more cs : List (Cell N)) (x : Cell N) (g h : Option (List Segment)) → IfSome g (IsFormOf cs x)
     → IfSome h (IsFormOf (more ++ cs) x) → IfSome (form_or g h) (IsFormOf (more ++ cs) x)
 form_with more cs x None h i j = j
 form_with more cs x (Some ss) h i j = form_more more cs x x.side (Some ss) i
 
-beside_fits : {N : Type 0} (cs : List (Cell N)) (x : Cell N) (o : Option Side) → HasForm cs x
+pub beside_fits : {N : Type 0} (cs : List (Cell N)) (x : Cell N) (o : Option Side) → HasForm cs x
     → IfSome (form_beside x o) (IsFormOf (with_side x o ++ cs) x)
 beside_fits cs x None h = h
 beside_fits cs x (Some t) h =
@@ -211,7 +211,7 @@ beside_fits cs x (Some t) h =
     h (own_beside cs x t x.what x.maybe refl refl)
 
 -- the number of a sure cell, by a side that it has
-number_on_side : {N : Type 0} (os : Order × Order) (d : Model) (m : Memories) (x : Cell N) (t : Side) (i : IntType) (z :
+pub number_on_side : {N : Type 0} (os : Order × Order) (d : Model) (m : Memories) (x : Cell N) (t : Side) (i : IntType) (z :
     ℤ) (v : Option Datum) → Within t x.side → x.what ≡ Int i → x.maybe ≡ false → InRange i z → v ≡ Some (int z)
     → StandsAt os d m x v → numbers_of os m (name_of (record x { side = t }) i) ≡ z
 number_on_side {N = N} os d m x t i z v w e s r g h =
@@ -230,7 +230,7 @@ stored_says os d m cs x v i z (Some ss) w r e h f g =
     sym (ap (residue (2 ^ bits_of i)) is)
     ∙ subst (λ y. HasNumber os m x y (form_number (numbers_of os m) ss)) w g
 
-own_says : {N : Type 0} (os : Order × Order) (d : Model) (m : Memories) (x : Cell N) (v : Option Datum) (t : Side) (i :
+pub own_says : {N : Type 0} (os : Order × Order) (d : Model) (m : Memories) (x : Cell N) (v : Option Datum) (t : Side) (i :
     IntType) (z : ℤ) (maybe : Bool) → Within t x.side → x.what ≡ Int i → x.maybe ≡ maybe → InRange i z
     → v ≡ Some (int z) → StandsAt os d m x v
     → IfSome (cond maybe None (own_form (record x { side = t }) (Int i))) (λ ss. residue (2 ^ bits_of i) z ≡ form_number
@@ -242,7 +242,7 @@ own_says {N = N} os d m x v t i z false w e s r g h =
     let f = form_says_by os m y None (Int i) false tt in
     sym (ap (residue (2 ^ bits_of i)) is) ∙ f
 
-says_with : (n : List Segment → ℕ) (i : IntType) (z : ℤ) (g h : Option (List Segment))
+pub says_with : (n : List Segment → ℕ) (i : IntType) (z : ℤ) (g h : Option (List Segment))
     → IfSome g (λ ss. residue (2 ^ bits_of i) z ≡ n ss % 2 ^ bits_of i)
     → IfSome h (λ ss. residue (2 ^ bits_of i) z ≡ n ss % 2 ^ bits_of i)
     → IfSome (form_or g h) (λ ss. residue (2 ^ bits_of i) z ≡ n ss % 2 ^ bits_of i)
@@ -257,7 +257,7 @@ in_range_by D Pointer (Some (Num n)) maybe i z e a = absurd a
 in_range_by D (Int t) (Some (Ptr p)) maybe i z e a = absurd a
 in_range_by D Pointer (Some (Ptr p)) maybe i z e a = absurd a
 
-beside_by : {N : Type 0} (os : Order × Order) (d : Model) (m : Memories) (cs : List (Cell N)) (x : Cell N) (o : Option
+pub beside_by : {N : Type 0} (os : Order × Order) (d : Model) (m : Memories) (cs : List (Cell N)) (x : Cell N) (o : Option
     Side) (v : Option Datum) (i : IntType) (z : ℤ) → IfSome o (λ t. Within t x.side) → x.what ≡ Int i → InRange i z
     → v ≡ Some (int z) → StandsAt os d m x v → HasForm cs x → IfSome x.form (FormSays os m x)
     → IfSome (form_beside x o) (λ ss. residue (2 ^ bits_of i) z ≡ form_number (numbers_of os m) ss % 2 ^ bits_of i)
@@ -268,11 +268,11 @@ beside_by os d m cs x (Some t) v i z w e r g h f s =
     (subst (λ y. IfSome (cond x.maybe None (own_form (record x { side = t }) y)) (λ ss. residue (2 ^ bits_of i) z ≡
     form_number (numbers_of os m) ss % 2 ^ bits_of i)) (sym e) (own_says os d m x v t i z x.maybe w e refl r g h))
 
-rest_within : (s q : Side) (o : Option Side) → IfSome o (IsRest s q) → IfSome o (λ t. Within t q)
+pub rest_within : (s q : Side) (o : Option Side) → IfSome o (IsRest s q) → IfSome o (λ t. Within t q)
 rest_within s q None h = tt
 rest_within s q (Some t) h = h.within
 
-beside_says : {N : Type 0} (D : Ops N) (os : Order × Order) (d : Model) (m : Memories) (cs : List (Cell N)) (s :
+pub beside_says : {N : Type 0} (D : Ops N) (os : Order × Order) (d : Model) (m : Memories) (cs : List (Cell N)) (s :
     Side) (x
     : Cell N) (v : Option Datum) → Allows D x.what x.value x.maybe v → StandsAt os d m x v → HasForm cs x
     → IfSome x.form (FormSays os m x)
@@ -284,13 +284,13 @@ beside_says D os d m cs s x v a h f g = λ i z e q.
 
 -- ---- the step
 
-abbrev rest_of : {N : Type 0} → Side → Cell N → List (Cell N)
+abbrev pub rest_of : {N : Type 0} → Side → Cell N → List (Cell N)
 rest_of s x = with_side x (side_without s x.side)
 
-abbrev bytes_of_x : {N : Type 0} → Ops N → Known N → Side → Cell N → List (Cell N)
+abbrev pub bytes_of_x : {N : Type 0} → Ops N → Known N → Side → Cell N → List (Cell N)
 bytes_of_x D k s x = byte_cells D k.model (order_on s k.orders) s (form_beside x (side_without s x.side)) x
 
-there_of : {N : Type 0} (s : Side) (x : Cell N) (cs new : List (Cell N)) (c e : CellName) (t : IsThere c (rest_of s x ++
+pub there_of : {N : Type 0} (s : Side) (x : Cell N) (cs new : List (Cell N)) (c e : CellName) (t : IsThere c (rest_of s x ++
     cs)) → share_memory s x.side ≡ true → IsIn x cs → fate_by_split s x c ≡ Some e → IsOldOrRest s x cs t.cell
     → IsThere e (put_all new (each_becomes (left_by_split s x) cs))
 there_of s x cs new c e t h i f (old j) =
@@ -313,7 +313,7 @@ there_of s x cs new c e t h i f (stays q is o r) =
       sure = sym (ap (λ y. y.maybe) is) ∙ t.sure;
     }
 
-split_step : {N : Type 0} (D : Ops N) (k : Known N) (s : Side) (x : Cell N) (cs : List (Cell N)) → AreCells k.model cs
+pub split_step : {N : Type 0} (D : Ops N) (k : Known N) (s : Side) (x : Cell N) (cs : List (Cell N)) → AreCells k.model cs
     → IsIn x cs → is_same_side s Shared ≡ false → share_memory s x.side ≡ true
     → IsStep k.model (rest_of s x) cs (bytes_of_x D k s x) (left_by_split s x) (fate_by_split s x)
 split_step D k s x cs a i e h =
@@ -354,7 +354,7 @@ split_cell_cells D k s x cs a i e h =
 
 -- ---- and that it holds
 
-keeps_of : {N : Type 0} (D : Ops N) (os : Order × Order) (d : Model) (m n : Memories) (s : Side) (x : Cell N) (cs : List
+pub keeps_of : {N : Type 0} (D : Ops N) (os : Order × Order) (d : Model) (m n : Memories) (s : Side) (x : Cell N) (cs : List
     (Cell N)) (c e : CellName) (t : IsThere c (rest_of s x ++ cs)) → AreCells d cs → IsIn x cs
     → share_memory s x.side ≡ true → Within s x.side → AreRewritten (at s x.block x.offset (size_of d x.what)) m n
     → ((y : Cell N) → IsIn y cs → Says D os d m y) → fate_by_split s x c ≡ Some e → IsOldOrRest s x cs t.cell

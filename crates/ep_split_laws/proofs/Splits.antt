@@ -29,7 +29,7 @@ use Rattle.ep_split_laws.proofs.Broken.{whole_holds, between}
 
 -- ---- what isn't cut
 
-byte_inside : (p : Place) (b q : ℕ) → (nat_eq p.block b && (nat_lt p.offset (q + 1) && nat_lt q (p.offset + p.bytes))) ≡
+pub byte_inside : (p : Place) (b q : ℕ) → (nat_eq p.block b && (nat_lt p.offset (q + 1) && nat_lt q (p.offset + p.bytes))) ≡
     true → (nat_le p.offset q && nat_le (q + 1) (p.offset + p.bytes)) ≡ true
 byte_inside p b q h =
     let x = and_parts (nat_eq p.block b) (nat_lt p.offset (q + 1) && nat_lt q (p.offset + p.bytes)) h in
@@ -48,27 +48,27 @@ byte_uncut p s b q =
     let y = and_parts (share_memory p.side s) (touches p (at s b q 1)) x.0 in
     both_ways (encloses p (at s b q 1)) (not-true (encloses p (at s b q 1)) x.1) (byte_inside p b q y.1))
 
-cut_shares : (p q : Place) → is_partly_in p q ≡ true → share_memory p.side q.side ≡ true
+pub cut_shares : (p q : Place) → is_partly_in p q ≡ true → share_memory p.side q.side ≡ true
 cut_shares p q h =
     let x = and_parts (meets p q) (not (encloses p q)) h in
     (and_parts (share_memory p.side q.side) (touches p q) x.0).0
 
 -- ---- cells like those of a list
 
-record IsLike {N : Type 0} (xs : List (Cell N)) (y : Cell N) : Type 0 where
-  cell : Cell N
-  is_in : IsIn cell xs
-  same : is_same_cell y cell ≡ true
+pub record IsLike {N : Type 0} (xs : List (Cell N)) (y : Cell N) : Type 0 where
+  pub cell : Cell N
+  pub is_in : IsIn cell xs
+  pub same : is_same_cell y cell ≡ true
 
 -- each cell that lies partly in the place is like one of xs
-abbrev Covers : {N : Type 0} → Model → Place → List (Cell N) → List (Cell N) → Type 0
+abbrev pub Covers : {N : Type 0} → Model → Place → List (Cell N) → List (Cell N) → Type 0
 Covers {N = N} d p xs cs = (y : Cell N) → IsIn y cs → is_partly_in p (place_of d y) ≡ true → IsLike xs y
 
 pub record IsFirstLike {N : Type 0} (x : Cell N) (cs : List (Cell N)) (y : Cell N) : Type 0 where
   pub is_in : IsIn y cs
   pub same : is_same_cell y x ≡ true
 
-like_by : {N : Type 0} (x c y : Cell N) (cs : List (Cell N)) (t : Bool) → is_same_cell c x ≡ t
+pub like_by : {N : Type 0} (x c y : Cell N) (cs : List (Cell N)) (t : Bool) → is_same_cell c x ≡ t
     → cond t (Some c) (cell_like x cs) ≡ Some y → (cell_like x cs ≡ Some y → IsFirstLike x cs y)
     → IsFirstLike x (c ∷ cs) y
 like_by x c y cs true e h more =
@@ -81,7 +81,7 @@ pub first_like : {N : Type 0} (x : Cell N) (cs : List (Cell N)) (y : Cell N) →
 first_like x [] y h = absurd (cc)
 first_like x (c ∷ cs) y h = like_by x c y cs (is_same_cell c x) refl h (λ k. first_like x cs y k)
 
-none_by : {N : Type 0} (x c y : Cell N) (cs : List (Cell N)) (t : Bool) → is_same_cell c x ≡ t
+pub none_by : {N : Type 0} (x c y : Cell N) (cs : List (Cell N)) (t : Bool) → is_same_cell c x ≡ t
     → cond t (Some c) (cell_like x cs) ≡ None → (cell_like x cs ≡ None → IsIn y cs → is_same_cell y x ≡ false)
     → IsIn y (c ∷ cs) → is_same_cell y x ≡ false
 none_by x c y cs true e h more i = absurd (cc)
@@ -93,7 +93,7 @@ pub none_like : {N : Type 0} (x : Cell N) (cs : List (Cell N)) (y : Cell N) → 
 none_like x [] y h i = elim i [ ]
 none_like x (c ∷ cs) y h i = none_by x c y cs (is_same_cell c x) refl h (λ k j. none_like x cs y k j) i
 
-other_like : {N : Type 0} (x y c : Cell N) (xs : List (Cell N)) → is_same_cell y x ≡ false → IsIn c (x ∷ xs)
+pub other_like : {N : Type 0} (x y c : Cell N) (xs : List (Cell N)) → is_same_cell y x ≡ false → IsIn c (x ∷ xs)
     → is_same_cell y c ≡ true → IsLike xs y
 other_like x y _ xs e (first _) h = absurd (both_ways (is_same_cell y x) e h)
 other_like x y c xs e (later _ _ i) h = record { cell = c; is_in = i; same = h }
@@ -101,14 +101,14 @@ other_like x y c xs e (later _ _ i) h = record { cell = c; is_in = i; same = h }
 -- ---- after one split
 
 -- a cell that still lies partly in the place was there, and isn't the one that was split
-record IsOther {N : Type 0} (d : Model) (cs : List (Cell N)) (x z : Cell N) : Type 0 where
-  cell : Cell N
-  is_in : IsIn cell cs
-  apart : meets (place_of d x) (place_of d cell) ≡ false
-  place : place_of d z ≡ place_of d cell
-  same : (c : Cell N) → is_same_cell z c ≡ is_same_cell cell c
+pub record IsOther {N : Type 0} (d : Model) (cs : List (Cell N)) (x z : Cell N) : Type 0 where
+  pub cell : Cell N
+  pub is_in : IsIn cell cs
+  pub apart : meets (place_of d x) (place_of d cell) ≡ false
+  pub place : place_of d z ≡ place_of d cell
+  pub same : (c : Cell N) → is_same_cell z c ≡ is_same_cell cell c
 
-left_cut : {N : Type 0} (d : Model) (p : Place) (cs : List (Cell N)) (x z y : Cell N) (g : Cell N) → IsIn z cs
+pub left_cut : {N : Type 0} (d : Model) (p : Place) (cs : List (Cell N)) (x z y : Cell N) (g : Cell N) → IsIn z cs
     → place_of d g ≡ place_of d y → ((c : Cell N) → is_same_cell g c ≡ is_same_cell y c)
     → is_partly_in p (place_of d g) ≡ true → AfterSplit d p.side x z y → IsOther d cs x g
 left_cut d p cs x z y g i pl sm h (rest t e is r) =
@@ -123,7 +123,7 @@ left_cut d p cs x z y g i pl sm h (other is e) = record {
   same = λ c. sm c ∙ ap (λ q. is_same_cell q c) is;
 }
 
-cut_after : {N : Type 0} (D : Ops N) (k : Known N) (p : Place) (x z : Cell N) (cs : List (Cell N)) → AreCells k.model cs
+pub cut_after : {N : Type 0} (D : Ops N) (k : Known N) (p : Place) (x z : Cell N) (cs : List (Cell N)) → AreCells k.model cs
     → IsIn x cs → IsIn z (split_cell D k p.side x cs) → is_partly_in p (place_of k.model z) ≡ true
     → IsOther k.model cs x z
 cut_after {N = N} D k p x z cs a i h e =
@@ -151,7 +151,7 @@ cut_after {N = N} D k p x z cs a i h e =
     (after_split d s x q.origin r.origin cs a.pairs i q.is_in q.becomes))
     (in_put_all (byte_cells D d o s f x) r.origin l r.is_in)
 
-meets_itself : {N : Type 0} (d : Model) (x : Cell N) → meets (place_of d x) (place_of d x) ≡ false → ⊥
+pub meets_itself : {N : Type 0} (d : Model) (x : Cell N) → meets (place_of d x) (place_of d x) ≡ false → ⊥
 meets_itself d x e =
     let n = size_positive d x.what in
     both_ways (share_memory x.side x.side) (no_share x.side x.side x.block x.offset (size_of d x.what) (size_of d
@@ -166,7 +166,7 @@ alike_trans x y z a b = record {
   what = a.what ∙ b.what;
 }
 
-covers_after : {N : Type 0} (D : Ops N) (k : Known N) (p : Place) (x y : Cell N) (xs cs : List (Cell N))
+pub covers_after : {N : Type 0} (D : Ops N) (k : Known N) (p : Place) (x y : Cell N) (xs cs : List (Cell N))
     → AreCells k.model cs → IsIn y cs → is_same_cell y x ≡ true → Covers k.model p (x ∷ xs) cs
     → Covers k.model p xs (split_cell D k p.side y cs)
 covers_after D k p x y xs cs a i s cov = λ z j h.
@@ -183,20 +183,20 @@ covers_after D k p x y xs cs a i s cov = λ z j h.
 -- ---- all of them
 
 -- what the splits leave of cs
-record Goes {N : Type 0} (D : Ops N) (k : Known N) (p : Place) (cs after : List (Cell N)) : Type 0 where
-  cells : AreCells k.model after
-  none : (z : Cell N) → IsIn z after → is_partly_in p (place_of k.model z) ≡ false
-  holds : (m n : Memories) → In D (record k { cells = cs }) m → AreBroken k.model p m n
+pub record Goes {N : Type 0} (D : Ops N) (k : Known N) (p : Place) (cs after : List (Cell N)) : Type 0 where
+  pub cells : AreCells k.model after
+  pub none : (z : Cell N) → IsIn z after → is_partly_in p (place_of k.model z) ≡ false
+  pub holds : (m n : Memories) → In D (record k { cells = cs }) m → AreBroken k.model p m n
       → In D (record k { cells = after }) n
 
-place_alike : {N : Type 0} (d : Model) (x y : Cell N) → AreAlike x y → place_of d x ≡ place_of d y
+pub place_alike : {N : Type 0} (d : Model) (x y : Cell N) → AreAlike x y → place_of d x ≡ place_of d y
 place_alike d x y a =
     ap (λ (w : Scalar). at x.side x.block x.offset (size_of d w)) a.what
     ∙ ap (λ (s : Side). at s x.block x.offset (size_of d y.what)) a.side
     ∙ ap (λ (b : ℕ). at y.side b x.offset (size_of d y.what)) a.block
     ∙ ap (λ (q : ℕ). at y.side y.block q (size_of d y.what)) a.offset
 
-one_goes : {N : Type 0} (D : Ops N) → Lawful D → (k : Known N) (p : Place) (x y : Cell N) (xs cs : List (Cell N))
+pub one_goes : {N : Type 0} (D : Ops N) → Lawful D → (k : Known N) (p : Place) (x y : Cell N) (xs cs : List (Cell N))
     → AreCells k.model cs → is_same_side p.side Shared ≡ false → is_partly_in p (place_of k.model x) ≡ true
     → IsFirstLike x cs y → Covers k.model p (x ∷ xs) cs
     → ((l : List (Cell N)) → AreCells k.model l → Covers k.model p xs l → Goes D k p l (split_all D k p.side xs l))
@@ -220,7 +220,7 @@ one_goes D law k p x y xs cs a e h f cov more =
           b.broken;
     }
 
-like_goes : {N : Type 0} (D : Ops N) → Lawful D → (k : Known N) (p : Place) (x : Cell N) (xs cs : List (Cell N)) (o :
+pub like_goes : {N : Type 0} (D : Ops N) → Lawful D → (k : Known N) (p : Place) (x : Cell N) (xs cs : List (Cell N)) (o :
     Option (Cell N)) → cell_like x cs ≡ o → AreCells k.model cs → is_same_side p.side Shared ≡ false
     → is_partly_in p (place_of k.model x) ≡ true → Covers k.model p (x ∷ xs) cs
     → ((l : List (Cell N)) → AreCells k.model l → Covers k.model p xs l → Goes D k p l (split_all D k p.side xs l))
@@ -232,10 +232,10 @@ like_goes D law k p x xs cs None n a e h cov more =
 like_goes D law k p x xs cs (Some y) n a e h cov more =
     one_goes D law k p x y xs cs a e h (first_like x cs y n) cov more
 
-no_like : {N : Type 0} (z : Cell N) → IsLike [] z → ⊥
+pub no_like : {N : Type 0} (z : Cell N) → IsLike [] z → ⊥
 no_like z l = elim l.is_in [ ]
 
-goes : {N : Type 0} (D : Ops N) → Lawful D → (k : Known N) (p : Place) (xs cs : List (Cell N)) → AreCells k.model cs
+pub goes : {N : Type 0} (D : Ops N) → Lawful D → (k : Known N) (p : Place) (xs cs : List (Cell N)) → AreCells k.model cs
     → is_same_side p.side Shared ≡ false
     → ((x : Cell N) → IsIn x xs → is_partly_in p (place_of k.model x) ≡ true) → Covers k.model p xs cs
     → Goes D k p cs (split_all D k p.side xs cs)
@@ -253,7 +253,7 @@ goes {N = N} D law k p (x ∷ xs) cs a e cuts cov =
 
 -- ---- the cells that lie partly in the place
 
-kept_by : {N : Type 0} (test : Cell N → Bool) (y c : Cell N) (cs : List (Cell N)) (t : Bool) → test c ≡ t
+pub kept_by : {N : Type 0} (test : Cell N → Bool) (y c : Cell N) (cs : List (Cell N)) (t : Bool) → test c ≡ t
     → test y ≡ true → (IsIn y cs → IsIn y (filter test cs)) → IsIn y (c ∷ cs)
     → IsIn y (cond t (c ∷ filter test cs) (filter test cs))
 kept_by test y _ cs true e h more (first _) = first (filter test cs)
@@ -266,7 +266,7 @@ pub filter_keeps : {N : Type 0} (test : Cell N → Bool) (y : Cell N) (cs : List
 filter_keeps test y [] i h = elim i [ ]
 filter_keeps test y (c ∷ cs) i h = kept_by test y c cs (test c) refl h (λ j. filter_keeps test y cs j h) i
 
-tested_by : {N : Type 0} (test : Cell N → Bool) (y c : Cell N) (cs : List (Cell N)) (t : Bool) → test c ≡ t
+pub tested_by : {N : Type 0} (test : Cell N → Bool) (y c : Cell N) (cs : List (Cell N)) (t : Bool) → test c ≡ t
     → (IsIn y (filter test cs) → test y ≡ true) → IsIn y (cond t (c ∷ filter test cs) (filter test cs))
     → test y ≡ true
 tested_by test y _ cs true e more (first _) = e
@@ -278,13 +278,13 @@ pub filter_tests : {N : Type 0} (test : Cell N → Bool) (y : Cell N) (cs : List
 filter_tests test y [] i = elim i [ ]
 filter_tests test y (c ∷ cs) i = tested_by test y c cs (test c) refl (λ j. filter_tests test y cs j) i
 
-none_any : {N : Type 0} (test : Cell N → Bool) (cs : List (Cell N)) → ((z : Cell N) → IsIn z cs → test z ≡ false)
+pub none_any : {N : Type 0} (test : Cell N → Bool) (cs : List (Cell N)) → ((z : Cell N) → IsIn z cs → test z ≡ false)
     → list_any test cs ≡ false
 none_any test [] h = refl
 none_any test (c ∷ cs) h =
     or_from (test c) (list_any test cs) (h c (first cs)) (none_any test cs (λ z i. h z (later c cs i)))
 
-split_goes : {N : Type 0} (D : Ops N) → Lawful D → (k : Known N) (p : Place) → AreCells k.model k.cells
+pub split_goes : {N : Type 0} (D : Ops N) → Lawful D → (k : Known N) (p : Place) → AreCells k.model k.cells
     → is_same_side p.side Shared ≡ false → Goes D k p k.cells (split D k p)
 split_goes {N = N} D law k p a e =
     let test : Cell N → Bool = λ x. is_partly_in p (place_of k.model x) in

@@ -1,0 +1,3 @@
+pub mod Follow
+pub mod Sound
+pub mod Laws
