@@ -6,3 +6,4 @@ pub mod Mentioning
 pub mod Looking
 pub mod Planning
 pub mod Uniting
+pub mod Positions

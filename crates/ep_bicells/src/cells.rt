@@ -7,8 +7,11 @@ ghost use Rattle.ep_cells.specs.Both.{is_cell_within, cell_like, are_within};
 ghost use Rattle.ep_cells.specs.States.{AreCells};
 ghost use Rattle.ep_bicells.specs.Spread.{outlines, all_items, AreSpread};
 ghost use Rattle.ep_bicells.specs.Mentions.{number_at, number_of};
+ghost use Rattle.ep_bicells.specs.Distinct.{AreDistinct};
+ghost use Rattle.ep_bicells.specs.Walks.{IsAt};
 
 use crate::parts::{Numbered, Part, window};
+use crate::walks::{At, next};
 use ep_bitslice::Side;
 use ep_cell_rows::cell::copy_cell;
 use ep_cell_rows::places::is_same_cell;
@@ -130,7 +133,11 @@ fn push_all<'a, N: Num>(out: &mut Vec<&'a Cell<N>>, cells: &'a [Cell<N>]) -> Res
     Ok(())
 }
 
-fn all<'a, N: Num>(alloc: Global, parts: &'a [Part<Cell<N>>]) -> Result<Vec<&'a Cell<N>>, Memory>
+/// The cells of all parts, where they stand.
+pub fn all<'a, N: Num>(
+    alloc: Global,
+    parts: &'a [Part<Cell<N>>],
+) -> Result<Vec<&'a Cell<N>>, Memory>
     ensures { IfOk result (λ v. map (λ r. r.now) v.items ≡ all_items parts.now) }
 {
     let mut out = Vec::new(alloc);
@@ -181,27 +188,42 @@ fn has_within<N: Num>(xs: &[Part<Cell<N>>], y: &Cell<N>) -> bool
     }
 }
 
-fn has_part_within<N: Num>(xs: &[Part<Cell<N>>], ys: &[Cell<N>]) -> bool
-    requires { AreSpread (outlines number_of xs.now) }
-    ensures { result ≡ are_within N.ops (all_items xs.now) ys.now }
+// Whether the first cells have one within, which is expected at a place, and the place where the next one is.
+fn has_at<N: Num>(xs: &[Part<Cell<N>>], at: At, y: &Cell<N>) -> (bool, At)
+    requires spread { AreSpread (outlines number_of xs.now) }
+    requires distinct { AreDistinct (all_items xs.now) }
+    requires at { IsAt at xs.now }
+    ensures value { result.0
+        ≡ option_map_or (λ x. is_cell_within N.ops x y.now) (cell_like y.now (all_items xs.now)) false }
+    ensures at { IsAt result.1 xs.now }
 {
-    for y in ys {
-        if !has_within(xs, y) {
-            return false;
-        }
+    let Some(x) = next(xs, at) else {
+        return (has_within(xs, y), at);
+    };
+    if is_same_cell(x.0, y) {
+        return (rows::is_cell_within(x.0, y), x.1);
     }
-    true
+    (has_within(xs, y), at)
 }
 
-/// Whether the first cells have each of the second, within it.
+/// Whether the first cells have each of the second, within it. Each is expected behind the one before it, and looked
+/// for where it isn't there.
 pub fn are_within<N: Num>(xs: &[Part<Cell<N>>], ys: &[Part<Cell<N>>]) -> bool
-    requires { AreSpread (outlines number_of xs.now) }
+    requires spread { AreSpread (outlines number_of xs.now) }
+    requires distinct { AreDistinct (all_items xs.now) }
     ensures { result ≡ are_within N.ops (all_items xs.now) (all_items ys.now) }
 {
-    for part in ys {
-        if !has_part_within(xs, &part.items) {
+    let mut a = At { part: 0, item: 0 };
+    let mut b = At { part: 0, item: 0 };
+    loop {
+        let Some(y) = next(ys, b) else {
+            return true;
+        };
+        let found = has_at(xs, a, y.0);
+        if !found.0 {
             return false;
         }
+        a = found.1;
+        b = y.1;
     }
-    true
 }

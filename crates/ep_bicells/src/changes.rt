@@ -7,6 +7,7 @@ ghost use Rattle.ep_bicells.specs.Mentions.{number_of, number_of_use, users_in};
 ghost use Rattle.ep_bicells.specs.Plans.{is_edited, AreEdits, KeepsEdits, Covers};
 ghost use Rattle.ep_bicells.specs.Steps.{after_step, IsPlan};
 
+use crate::blur::left_by_blur;
 use crate::parts::{Edit, Part, push, span};
 use crate::uses::{Use, users};
 use ep_bitslice::Side;
@@ -28,6 +29,8 @@ pub enum Step<N> {
     WeakWrite(Cell<N>, bool),
     /// A block is killed on a side.
     Kill(Side, u32),
+    /// A place may have been written in whatever way.
+    Blur(Place),
 }
 
 impl<N: Num> Step<N> {
@@ -38,6 +41,7 @@ impl<N: Num> Step<N> {
             Step::Write(p) => rows::left_by_write(alloc, model, *p, cells),
             Step::WeakWrite(c, stays) => left_by_weak_write(alloc, model, c, *stays, cells),
             Step::Kill(side, block) => left_by_kill(alloc, *side, *block, cells),
+            Step::Blur(p) => left_by_blur(alloc, model, *p, cells),
         }
     }
 

@@ -1,7 +1,9 @@
 //! Lists of cells in parts that copies share, and an index of what their forms mention.
 #![tactic(auto)]
 
+mod blur;
 pub mod cells;
 pub mod changes;
 pub mod parts;
 pub mod uses;
+pub mod walks;

@@ -126,6 +126,9 @@ fn may_part<T: Numbered>(start: u64, left: &[T], right: &[T], k: u64) -> bool
     if start > k {
         return false;
     }
+    if left.is_empty() {
+        return false;
+    }
     if right.is_empty() {
         return false;
     }
@@ -145,7 +148,7 @@ fn copied<T: Numbered>(alloc: Global, items: &[T]) -> Result<Rc<Vec<T>>, Memory>
     Rc::new(alloc, out).map_err(|_| Memory)
 }
 
-// Where a part is halved: before the items of the number in its middle.
+// Where a part is halved: before the items of the number in its middle, or behind them where there are none.
 fn middle<T: Numbered>(items: &[T]) -> (usize, u64)
     ensures { result.0 ≤ length items.now }
 {
@@ -153,8 +156,23 @@ fn middle<T: Numbered>(items: &[T]) -> (usize, u64)
         None => (0, 0),
         Some(x) => {
             let k = x.number();
-            (items.partition_point(|y| y.number() < k), k)
+            let at = items.partition_point(|y| y.number() < k);
+            if at == 0 {
+                return behind(items, k);
+            }
+            (at, k)
         }
+    }
+}
+
+// Before the items of the number that follows.
+fn behind<T: Numbered>(items: &[T], k: u64) -> (usize, u64)
+    ensures { result.0 ≤ length items.now }
+{
+    let at = items.partition_point(|y| y.number() <= k);
+    match items.get(at) {
+        None => (0, k),
+        Some(y) => (at, y.number()),
     }
 }
 

@@ -25,8 +25,8 @@ use Rattle.ep_reads.specs.Bytes.{order_on, byte_at, own_form, form_or, form_of_c
 use Rattle.ep_reads.specs.Read.{is_exact, whole_read, byte_there, bytes_from, read_in_parts, read_with, read}
 use Rattle.ep_reads_laws.proofs.Numbers.{at_most_eight}
 use Rattle.ep_reads_laws.proofs.Found.{covering}
-use Rattle.ep_synthesis.specs.Parts.{HasByte, HasFittingForm, HaveByteForms}
-use Rattle.ep_synthesis.proofs.Bytes.{has_byte, eight_by}
+use Rattle.ep_scalar_reads.specs.Parts.{HasByte, HasFittingForm, HaveByteForms}
+use Rattle.ep_scalar_reads.proofs.Bytes.{has_byte, eight_by}
 
 pub size_is_width : (d : Model) (w : Scalar) → is_width (size_of d w) ≡ true
 size_is_width d (Int t) = width_of t

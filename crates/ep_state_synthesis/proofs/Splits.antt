@@ -11,7 +11,7 @@ use Rattle.ep_cells.specs.Look.{is_some_partly_in}
 use Rattle.ep_cells.specs.States.{Known, AreCells}
 use Rattle.ep_reads.specs.Split.{cut_cells, split_all, split}
 use Rattle.ep_split_laws.specs.Laws.{SplitLaws, SplitHolds}
-use Rattle.ep_synthesis.specs.declared.machines.Machines.{Machines}
+use Rattle.ep_scalar_reads.specs.declared.machines.Machines.{Machines}
 use Rattle.ep_synthesis.specs.Parts.{known}
 use Rattle.ep_state_synthesis.specs.Calls.{machines_of}
 
@@ -40,7 +40,7 @@ split_cells D k p d after law a s e f =
 
 -- ---- where no cell lies partly in the place
 
-none_cut : {N : Type 0} (d : Model) (p : Place) (cs : List (Cell N)) → is_some_partly_in d p cs ≡ false
+pub none_cut : {N : Type 0} (d : Model) (p : Place) (cs : List (Cell N)) → is_some_partly_in d p cs ≡ false
     → cut_cells d p cs ≡ []
 none_cut d p [] e = refl
 none_cut d p (c ∷ cs) e = by (is_partly_in p (place_of d c)) e (none_cut d p cs)

@@ -6,7 +6,7 @@ use Rattle.ep_cells.specs.declared.cell.Cell.{Cell}
 use Rattle.ep_cells.specs.States.{Known, AreCells, HaveCellsAlike}
 use Rattle.ep_reads.specs.Unify.{unified}
 use Rattle.ep_split_laws.specs.Laws.{UnifyLaws}
-use Rattle.ep_synthesis.specs.declared.machines.Machines.{Machines}
+use Rattle.ep_scalar_reads.specs.declared.machines.Machines.{Machines}
 use Rattle.ep_synthesis.specs.Parts.{known}
 use Rattle.ep_state_synthesis.specs.Calls.{machines_of, StaysIn}
 use Rattle.ep_state_synthesis.proofs.Splits.{known_is}

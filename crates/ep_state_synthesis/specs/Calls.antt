@@ -5,7 +5,7 @@ use Rattle.ep_domain.specs.Domain.{Ops}
 use Rattle.ep_cells.specs.declared.place.Place.{Place}
 use Rattle.ep_cells.specs.States.{Known}
 use Rattle.ep_cells.specs.Meaning.{Memories, In}
-use Rattle.ep_synthesis.specs.declared.machines.Machines.{Machines}
+use Rattle.ep_scalar_reads.specs.declared.machines.Machines.{Machines}
 
 -- the machines of a state
 abbrev pub machines_of : {N : Type 0} → Known N → Machines

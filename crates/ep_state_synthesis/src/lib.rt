@@ -7,6 +7,6 @@ mod splitting;
 mod unifying;
 
 pub use ep_synthesis::ReadValue;
-pub use reading::read;
+pub use reading::{read, read_at};
 pub use splitting::split;
 pub use unifying::unify;

@@ -6,10 +6,12 @@ ghost use Rattle.ep_int.specs.Types.{size_of};
 ghost use Rattle.ep_int.specs.Encoding.{is_width};
 ghost use Rattle.ep_cells.specs.Look.{cell_at};
 ghost use Rattle.ep_reads.specs.Read.{byte_there, bytes_there, read_in_parts, read};
+ghost use Rattle.ep_cell_ranges.specs.Shared.{is_shared_cell};
 ghost use Rattle.ep_reads_laws.specs.Laws.{ReadHolds, FitsRead};
-ghost use Rattle.ep_synthesis.specs.Parts.{HaveByteForms};
+ghost use Rattle.ep_scalar_reads.specs.Parts.{HaveByteForms};
 
 use ep_bitslice::Side;
+use ep_cell_rows::places::is_same_side;
 use ep_cells::{Cell, Place};
 use ep_domain::Num;
 use ep_int::{Memory, Scalar};
@@ -71,7 +73,7 @@ fn read_in_parts<N: Num>(state: &State<N>, p: Place, what: Scalar) -> Result<Rea
     Ok(read_from_bytes(state.allocator(), what, &bytes))
 }
 
-fn read_at<N: Num>(state: &State<N>, p: Place, what: Scalar) -> Result<ReadValue<N>, Memory>
+fn read_place<N: Num>(state: &State<N>, p: Place, what: Scalar) -> Result<ReadValue<N>, Memory>
     requires { p.bytes ≡ size_of state.now.model what }
     ensures { IfOk result (λ r. r ≡ read N.ops state.now p.side p.block p.offset what) }
 {
@@ -108,6 +110,35 @@ pub fn read<N: Num>(
         offset,
         bytes,
     };
-    let value = read_at(state, place, what)?;
+    let value = read_place(state, place, what)?;
     Ok(value)
+}
+
+fn is_shared<N: Num>(state: &State<N>, side: Side, block: u32, offset: u32, what: Scalar) -> bool
+    ensures { result
+        ≡ is_shared_cell state.now what offset (cell_at state.now.model side block offset state.now.cells) }
+{
+    match state.cell_at(side, block, offset) {
+        None => false,
+        Some(x) => is_exact(state.model(), what, offset, x) && is_same_side(x.side, Side::Shared),
+    }
+}
+
+/// What is read of a scalar on the left or on the right side, and whether a Shared cell is just the scalar. Costs a
+/// search more than `read`.
+pub fn read_at<N: Num>(
+    state: &State<N>,
+    side: Side,
+    block: u32,
+    offset: u32,
+    what: Scalar,
+) -> Result<(ReadValue<N>, bool), Memory>
+    ensures value { IfOk result (λ r. r.0 ≡ read N.ops state.now side block offset what) }
+    ensures shared { IfOk result (λ r. r.1
+        ≡ is_shared_cell state.now what offset (cell_at state.now.model side block offset state.now.cells)) }
+    ensures holds { IfOk result (λ r. ReadHolds N.ops state.now side block offset what r.0) }
+    ensures fits { IfOk result (λ r. FitsRead state.now.cells what r.0) }
+{
+    let value = read(state, side, block, offset, what)?;
+    Ok((value, is_shared(state, side, block, offset, what)))
 }

@@ -19,7 +19,7 @@ fn are_unified<N: Num>(a: &State<N>, b: &State<N>) -> Result<bool, Memory>
 {
     a.model();
     b.model();
-    if !a.is_like(b)? {
+    if !a.is_like(b) {
         return Ok(false);
     }
     if !a.is_reshared()? {

@@ -6,3 +6,8 @@ pub mod Allowed
 pub mod Killing
 pub mod Together
 pub mod Staying
+pub mod Valuing
+pub mod Overwriting
+pub mod Blurring
+pub mod Equal
+pub mod Abouts

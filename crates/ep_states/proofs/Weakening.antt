@@ -32,7 +32,7 @@ weak_form D d c stays x y (other t e i) = inr (ap (λ z. z.form) e)
 weak_form D d c stays x y (joined j) = inl (ap (λ z. z.form) j.is)
 weak_form D d c stays x y (blurry j) = inl (ap (λ z. z.form) j.is)
 
-weak_name : (n m : CellName) (a b : Bool)
+pub weak_name : (n m : CellName) (a b : Bool)
     → cond a (cond b None (Some (record n { side = first_part n.side }))) (Some n) ≡ Some m
     → number_of_name m ≡ number_of_name n
 weak_name n m true true h = absurd (cc)

@@ -3,3 +3,7 @@ pub mod Writes
 pub mod Weakened
 pub mod Killed
 pub mod Alike
+pub mod Valued
+pub mod Left
+pub mod Orders
+pub mod About

@@ -61,7 +61,12 @@ pub fn note_cell<N: Num>(
     match &c.form {
         None => Ok(()),
         Some(f) => {
-            note_form(alloc, uses, f.segments(), number_at(c.block, c.offset))?;
+            note_form(
+                alloc,
+                uses,
+                f.form().segments(),
+                number_at(c.block, c.offset),
+            )?;
             Ok(())
         }
     }

@@ -1,10 +1,10 @@
 //! Whether operations may be made.
 
 ghost use Rattle.std.specs.Prelude.{◌≡◌, ◌↔◌, IsTrue};
-ghost use Rattle.ep_cells.specs.States.{AreCells, CanWrite, HaveCellsAlike};
+ghost use Rattle.ep_cells.specs.States.{AreCells, CanWrite};
 
 use ep_cell_changes::check::{has_form, is_cell};
-use ep_cell_rows::places::{is_same_cell, place_of};
+use ep_cell_rows::places::place_of;
 use ep_cell_rows::rows::is_some_partly_in;
 use ep_cell_rows::values::rises;
 use ep_cells::Cell;
@@ -18,19 +18,4 @@ pub fn can_write<N: Num>(model: Model, c: &Cell<N>, cells: &[Cell<N>]) -> bool
 {
     rises(&c.value);
     is_cell(model, c) & has_form(c, cells) & !is_some_partly_in(model, &place_of(model, c), cells)
-}
-
-/// Whether both lists have cells of the same sides, places and types.
-pub fn are_alike<N: Num>(xs: &[Cell<N>], ys: &[Cell<N>]) -> bool
-    ensures { IsTrue result ↔ HaveCellsAlike xs.now ys.now }
-{
-    if xs.len() != ys.len() {
-        return false;
-    }
-    for i in 0..xs.len() {
-        if !is_same_cell(&xs[i], &ys[i]) {
-            return false;
-        }
-    }
-    true
 }

@@ -134,20 +134,23 @@ fn is_short(offset: u32)
     let _offset = offset;
 }
 
-fn part_with<N: Num>(
-    alloc: Global,
-    part: &Part<Cell<N>>,
-    c: Cell<N>,
-) -> Result<Part<Cell<N>>, Memory>
-    ensures start { IfOk result (λ p. p.start ≡ part.now.start) }
-    ensures items { IfOk result (λ p. p.items.value.items ≡ put c part.now.items.value.items) }
+// Puts a cell into a part, which is copied where it is shared.
+fn put_into<N: Num>(alloc: Global, part: &mut Part<Cell<N>>, c: Cell<N>) -> Result<(), Memory>
+    ensures start { OnOk result (part.new.start ≡ part.old.start) }
+    ensures items { OnOk result (part.new.items.value.items ≡ put c part.old.items.value.items) }
 {
-    let mut cells = rows::copied(alloc, &part.items)?;
-    rows::put(&mut cells, c)?;
-    Ok(Part {
-        start: part.start,
-        items: Rc::new(alloc, cells).map_err(|_| Memory)?,
-    })
+    match Rc::get_mut(&mut part.items) {
+        Some(cells) => {
+            rows::put(cells, c)?;
+            Ok(())
+        }
+        None => {
+            let mut cells = rows::copied(alloc, &part.items)?;
+            rows::put(&mut cells, c)?;
+            part.items = Rc::new(alloc, cells).map_err(|_| Memory)?;
+            Ok(())
+        }
+    }
 }
 
 fn put<N: Num>(alloc: Global, parts: &mut Vec<Part<Cell<N>>>, c: Cell<N>) -> Result<(), Memory>
@@ -161,12 +164,12 @@ fn put<N: Num>(alloc: Global, parts: &mut Vec<Part<Cell<N>>>, c: Cell<N>) -> Res
     let k = number_at(c.block, c.offset);
     make_room(alloc, parts, k)?;
     let at = place_for(parts, k);
-    let part = part_with(alloc, &parts[at], c)?;
-    parts[at] = part;
+    put_into(alloc, &mut parts[at], c)?;
     Ok(())
 }
 
-fn put_all<N: Num>(
+/// Puts cells into their parts.
+pub fn put_all<N: Num>(
     alloc: Global,
     parts: &mut Vec<Part<Cell<N>>>,
     more: Vec<Cell<N>>,

@@ -1,36 +1,45 @@
 //! What is known of the cells of two memories, in parts that copies share.
 
-ghost use Rattle.std.specs.Prelude.{◌≡◌, ◌↔◌, IsTrue, true, [], IfOk, OnOk, OnErr, IfSome, IfNone};
+ghost use Rattle.std.specs.Prelude.{◌≡◌, ◌↔◌, IsTrue, true, [], map, Some, IfOk, OnOk, OnErr, IfSome, IfNone};
 ghost use Rattle.std.specs.Option.{option_map};
 ghost use Rattle.ep_cells.specs.Cells.{put_all};
 ghost use Rattle.ep_cells.specs.Look.{cell_at, is_some_partly_in};
-ghost use Rattle.ep_cells.specs.States.{Fits, AreCells, CanWrite, HaveCellsAlike};
+ghost use Rattle.ep_cells.specs.States.{Fits, IsOfSort, AreCells, CanWrite, HaveCellsAlike};
 ghost use Rattle.ep_cells.specs.Write.{written};
 ghost use Rattle.ep_cells.specs.Weaken.{weakened};
 ghost use Rattle.ep_cells.specs.Both.{cells_of_both, joined, widened, are_within};
-ghost use Rattle.ep_cells.specs.Kill.{AreLeavesIn, killed_cells};
+ghost use Rattle.ep_cells.specs.Kill.{AreLeavesIn, undefined_cell, killed_cells};
 ghost use Rattle.ep_cells.specs.Reshare.{places, reshared};
+ghost use Rattle.ep_cell_ranges.specs.Narrow.{with_value};
+ghost use Rattle.ep_cell_ranges.specs.Ranges.{overwritten, blurred_at};
 ghost use Rattle.ep_cell_rows.specs.Parts.{united as of_union};
+ghost use Rattle.ep_states.specs.About.{IsAbout};
 ghost use Rattle.ep_states.specs.Alike.{are_different};
 
+use crate::about::about;
+use crate::blurs::blur_at;
 use crate::building::{index, spread};
-use crate::conditions::{are_alike, can_write};
+use crate::conditions::can_write;
+use crate::equals::{are_equal, is_model, is_order};
 use crate::kills::killed;
+use crate::overwrites::overwritten;
 use crate::places::{are_different, places};
 use crate::unions::united;
+use crate::values::set_value_at;
 use crate::weak_writes::weaken_at;
 use crate::writes::write_at;
 use ep_bicells::cells;
 use ep_bicells::parts::{Part, shared};
 use ep_bicells::uses::Use;
+use ep_bicells::walks::are_alike;
 use ep_bitslice::Side;
 use ep_cell_changes::check::{are_cells, in_order};
 use ep_cell_changes::reshare::reshared;
 use ep_cell_rows::values::Union;
-use ep_cells::{Cell, Place};
+use ep_cells::{Cell, Place, Value};
 use ep_cells_laws::reshare_laws;
 use ep_domain::Num;
-use ep_int::{Memory, Model, Order};
+use ep_int::{Memory, Model, Order, Scalar};
 use ep_layout::Leaf;
 use std::alloc::Global;
 
@@ -154,6 +163,14 @@ impl<N: Num> State<N> {
         cells::cell_at(self.model, side, block, byte, &self.parts)
     }
 
+    /// The cells that may touch a place, in order, and some about them. Takes memory for them alone.
+    pub fn about(&self, place: &Place) -> Result<Vec<&Cell<N>>, Memory>
+        ensures { IfOk result (λ v. IsAbout self.now.model place.now self.now.cells (map (λ r. r.now) v.items)) }
+    {
+        let cells = about(*self.parts.allocator(), &self.parts, place)?;
+        Ok(cells)
+    }
+
     /// Whether some cell has bytes in the place, and others. Takes no memory.
     pub fn partly(&self, place: &Place) -> bool
         ensures { result ≡ is_some_partly_in self.now.model place.now self.now.cells }
@@ -177,13 +194,21 @@ impl<N: Num> State<N> {
         Ok(can_write(model, c, &cells))
     }
 
-    /// Whether both have cells of the same sides, places and types. Looks at all cells.
-    pub fn is_like(&self, other: &State<N>) -> Result<bool, Memory>
-        ensures { IfOk result (λ b. IsTrue b ↔ HaveCellsAlike self.now.cells other.now.cells) }
+    /// Whether both have cells of the same sides, places and types. Looks at all cells. Takes no memory.
+    pub fn is_like(&self, other: &State<N>) -> bool
+        ensures { IsTrue result ↔ HaveCellsAlike self.now.cells other.now.cells }
     {
-        let cells = self.cells()?;
-        let others = other.cells()?;
-        Ok(are_alike(&cells, &others))
+        are_alike(&self.parts, &other.parts)
+    }
+
+    /// Whether both are one state: of one pair of byte orders, one data model and the same cells. Takes no memory.
+    pub fn is_same(&self, other: &State<N>) -> bool
+        ensures { IsTrue result ↔ (self.now ≡ other.now) }
+    {
+        is_order(self.orders.0, other.orders.0)
+            & is_order(self.orders.1, other.orders.1)
+            & is_model(self.model, other.model)
+            & are_equal(&self.parts, &other.parts)
     }
 
     /// Writes a cell: what was in its place on the sides written is gone. Costs the parts with cells that touch the
@@ -215,6 +240,72 @@ impl<N: Num> State<N> {
             c,
             shared_stays,
         )
+    }
+
+    /// The cell of this side, place and type takes another value: whether it may be undefined, its form and the forms
+    /// that mention it stay. Where there is no such cell all stays. Costs a search and the part that has the cell.
+    pub fn set_value(
+        &mut self,
+        side: Side,
+        block: u32,
+        offset: u32,
+        what: Scalar,
+        value: Value<N>,
+    ) -> Result<(), Memory>
+        requires { IsOfSort what (Some value) }
+        ensures ok { OnOk result (self.new
+            ≡ with_value (undefined_cell side block offset what) value self.old) }
+        ensures err { OnErr result (self.new ≡ self.old) }
+    {
+        let alloc = *self.parts.allocator();
+        let c = Cell {
+            side,
+            block,
+            offset,
+            what,
+            value: Some(value),
+            maybe: true,
+            form: None,
+        };
+        set_value_at(alloc, self.model, &mut self.parts, &c)
+    }
+
+    fn overwritten(&self, place: Place, new: &[Cell<N>]) -> Result<State<N>, Memory>
+        requires { AreCells self.now.model (overwritten N.ops place new.now self.now).cells }
+        ensures { IfOk result (λ s. s ≡ overwritten N.ops place new.now self.now) }
+    {
+        let alloc = *self.parts.allocator();
+        let model = self.model;
+        let after = overwritten(alloc, model, &self.parts, &self.uses, place, new)?;
+        Ok(State {
+            orders: self.orders,
+            model,
+            parts: after.cells,
+            uses: after.uses,
+        })
+    }
+
+    /// New cells in a place, in which no others lie partly: what was there on its sides is gone. What comes of it has to
+    /// be the cells of a state. Costs the parts with cells that touch the place or mention such, and a search for each
+    /// new cell.
+    pub fn overwrite(&mut self, place: Place, new: &[Cell<N>]) -> Result<(), Memory>
+        requires { AreCells self.old.model (overwritten N.ops place new.now self.old).cells }
+        ensures ok { OnOk result (self.new ≡ overwritten N.ops place new.now self.old) }
+        ensures err { OnErr result (self.new ≡ self.old) }
+    {
+        let after = self.overwritten(place, new)?;
+        *self = after;
+        Ok(())
+    }
+
+    /// A place may have been written in whatever way: on its sides, integer cells with bytes in it may have any value or
+    /// be undefined, and pointer cells are gone. Costs the parts with cells that touch the place or mention such.
+    pub fn blur(&mut self, place: Place) -> Result<(), Memory>
+        ensures ok { OnOk result (self.new ≡ blurred_at N.ops place self.old) }
+        ensures err { OnErr result (self.new ≡ self.old) }
+    {
+        let alloc = *self.parts.allocator();
+        blur_at(alloc, self.model, &mut self.parts, &self.uses, place)
     }
 
     fn united(&self, union: Union, other: &State<N>) -> Result<State<N>, Memory>

@@ -1,5 +1,5 @@
 // Cells as the table spells them.
-use ep_bitslice::{CellName, Form, Side};
+use ep_bitslice::{BoxedForm, CellName, Form, Side};
 use ep_cells::{Cell, Place, Value};
 use ep_congruence::Congruence;
 use ep_domain::{Num, Pair};
@@ -181,11 +181,11 @@ fn some_form(words: &str) -> Option<Form> {
     form
 }
 
-fn form(word: &str) -> Option<Option<Form>> {
+fn form(alloc: Global, word: &str) -> Option<Option<BoxedForm>> {
     if word == "-" {
         Some(None)
     } else {
-        Some(Some(some_form(word)?))
+        Some(Some(BoxedForm::new(alloc, some_form(word)?).ok()?))
     }
 }
 
@@ -198,7 +198,7 @@ pub(crate) fn cell(alloc: Global, words: &str) -> Option<Cell<Numbers>> {
         what: scalar(words.next()?)?,
         maybe: is_set(words.next()?)?,
         value: value(alloc, words.next()?)?,
-        form: form(words.next()?)?,
+        form: form(alloc, words.next()?)?,
     })
 }
 

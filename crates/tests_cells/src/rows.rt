@@ -70,7 +70,7 @@ fn weaken(setting: Setting, arguments: &str, cells: &str) -> Option<String> {
 fn join(setting: Setting, cells: &str, others: &str) -> Option<String> {
     let first = state(setting, cells)?;
     let second = state(setting, others)?;
-    if !first.is_like(&second).ok()? {
+    if !first.is_like(&second) {
         return None;
     }
     text(setting, &first.join(&second).ok()?)
@@ -79,7 +79,7 @@ fn join(setting: Setting, cells: &str, others: &str) -> Option<String> {
 fn widen(setting: Setting, cells: &str, others: &str) -> Option<String> {
     let first = state(setting, cells)?;
     let second = state(setting, others)?;
-    if !first.is_like(&second).ok()? {
+    if !first.is_like(&second) {
         return None;
     }
     text(setting, &first.widen(&second).ok()?)
@@ -89,6 +89,19 @@ fn leq(setting: Setting, cells: &str, others: &str) -> Option<String> {
     let first = state(setting, cells)?;
     let second = state(setting, others)?;
     word(setting, first.leq(&second))
+}
+
+fn same(setting: Setting, cells: &str, others: &str) -> Option<String> {
+    let first = state(setting, cells)?;
+    let second = state(setting, others)?;
+    word(setting, first.is_same(&second))
+}
+
+fn blur(setting: Setting, arguments: &str, cells: &str) -> Option<String> {
+    let place = reading::place(arguments)?;
+    let mut state = state(setting, cells)?;
+    state.blur(place).ok()?;
+    text(setting, &state)
 }
 
 fn leaf(word: &str) -> Option<Leaf> {
@@ -163,6 +176,8 @@ pub(crate) fn answer(alloc: Global, line: &str) -> Option<String> {
         "join" => join(setting, cells, others),
         "widen" => widen(setting, cells, others),
         "leq" => leq(setting, cells, others),
+        "same" => same(setting, cells, others),
+        "blur" => blur(setting, arguments, cells),
         "kill" => kill(setting, arguments, cells),
         "reshare" => reshare(setting, cells),
         "cell_at" => cell_at(setting, arguments, cells),

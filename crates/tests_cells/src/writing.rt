@@ -118,7 +118,10 @@ pub(crate) fn push_cell(
     out.push_str(head.as_str())?;
     push_value(alloc, out, &c.value)?;
     out.push_str(" ")?;
-    push_form(alloc, out, &c.form)?;
+    match &c.form {
+        None => out.push_str("-")?,
+        Some(f) => push_segments(alloc, out, f.form().segments())?,
+    }
     out.push_str(", ")
 }
 

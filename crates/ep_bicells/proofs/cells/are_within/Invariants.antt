@@ -1,8 +1,15 @@
-use Rattle.std.proofs.Common.{◌≡◌, drop}
+use Rattle.std.proofs.Common.{◌≡◌, length}
 use Rattle.ep_cells.specs.Both.{are_within}
 use Rattle.ep_bicells.specs.Spread.{all_items}
+use Rattle.ep_bicells.specs.Walks.{IsAt, rest}
 use Rattle.ep_bicells.proofs.cells.are_within.Given as goal
 
-abbrev pub invariant-loop-part : goal.invariant-loop-part
-invariant-loop-part g l = are_within g.N.Num.ops (all_items l.xs) (all_items (drop l.part-index l.ys)) ≡ are_within
-    g.N.Num.ops (all_items l.xs) (all_items l.ys)
+abbrev pub invariant-loop-y : goal.invariant-loop-y
+invariant-loop-y g l = record {
+  left : IsAt l.a l.xs;
+  right : IsAt l.b l.ys;
+  same : are_within g.N.Num.ops (all_items l.xs) (rest l.b l.ys) ≡ are_within g.N.Num.ops (all_items l.xs) (all_items l.ys);
+}
+
+abbrev pub decreases-loop-y : goal.decreases-loop-y
+decreases-loop-y g l = length (rest l.b l.ys)

@@ -1,6 +1,6 @@
 use Rattle.std.proofs.Common.{◌-◌, ◌∙◌, ap, sym, subst, arith}
 use Rattle.std.specs.Option.{option_map}
-use Rattle.ep_synthesis.specs.Parts.{HasByte}
+use Rattle.ep_scalar_reads.specs.Parts.{HasByte}
 use Rattle.ep_state_synthesis.proofs.Bytes.{has_it, byte_eight}
 use Rattle.ep_state_synthesis.proofs.reading.byte_there.Goals as goal
 

@@ -1,6 +1,6 @@
 use Rattle.std.proofs.Common.{sym, ◌∙◌, ap, subst, arith}
 use Rattle.ep_reads.specs.Bytes.{order_on}
-use Rattle.ep_synthesis.specs.Parts.{HaveByteForms}
+use Rattle.ep_scalar_reads.specs.Parts.{HaveByteForms}
 use Rattle.ep_state_synthesis.proofs.Bytes.{byte_in, byte_at_place, bytes_step, bytes_end, eights}
 use Rattle.ep_state_synthesis.proofs.reading.bytes_there.Goals as goal
 

@@ -1,6 +1,6 @@
 use Rattle.std.proofs.Common.{◌≡◌, ◌++◌, ◌-◌}
 use Rattle.ep_reads.specs.Read.{bytes_from}
-use Rattle.ep_synthesis.specs.Parts.{HaveByteForms}
+use Rattle.ep_scalar_reads.specs.Parts.{HaveByteForms}
 use Rattle.ep_state_synthesis.proofs.Bytes.{byte_in}
 use Rattle.ep_state_synthesis.proofs.reading.bytes_there.Given as goal
 

@@ -1,0 +1,13 @@
+use Rattle.ep_bicells.specs.Spread.{all_items}
+use Rattle.ep_bicells.specs.Steps.{after_step}
+use Rattle.ep_bicells.specs.declared.changes.Step.TheVariants.{Write}
+use Rattle.ep_states.proofs.Overwriting.{left_by_plan, plan_within}
+use Rattle.ep_states.proofs.overwrites.left_by_write.Goals as goal
+
+pub install-requires : goal.install-requires
+install-requires g c =
+    plan_within (after_step g.N.Num.ops c.args.model (Write c.args.place)) c.reach-range.result.0 c.reach-range.result.1 (all_items c.args.uses.now) c.deref.result.now c.in_ok-left.left.items c.in_ok-edits.edits.items c.deref.ensures.value c.in_ok-edits.ensures
+
+pub returns : goal.returns
+returns g c =
+    left_by_plan g.N.Num.ops c.args.model c.args.place c.reach-range.result.0 c.reach-range.result.1 c.args.uses.now c.args.parts.now c.in_ok-left.left.items c.deref.result.now c.install.new.parts.items c.in_ok-edits.edits.items c.requires c.in_ok-left.ensures.outlines c.in_ok-left.ensures.items (record { first = c.reach-range.ensures.from; end = c.reach-range.ensures.last }) c.deref.ensures.value c.in_ok-edits.ensures c.install.ensures

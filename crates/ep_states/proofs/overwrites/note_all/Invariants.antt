@@ -1,0 +1,13 @@
+use Rattle.std.proofs.Common.{ℕ}
+use Rattle.ep_bicells.specs.declared.uses.Use.{Use}
+use Rattle.ep_bicells.specs.Spread.{outlines, all_items, AreSpread}
+use Rattle.ep_bicells.specs.Mentions.{number_of_use, IsNoted}
+use Rattle.ep_states.proofs.Making.{AreNotedTo}
+use Rattle.ep_states.proofs.overwrites.note_all.Given as goal
+
+abbrev pub invariant-loop-c : goal.invariant-loop-c
+invariant-loop-c g l = record {
+  spread : AreSpread (outlines number_of_use l.uses.items);
+  keeps : (v : Use) → IsNoted (all_items l.fn.uses.items) v → IsNoted (all_items l.uses.items) v;
+  noted : AreNotedTo (all_items l.uses.items) l.c-index l.cells;
+}
