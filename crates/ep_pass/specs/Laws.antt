@@ -137,12 +137,14 @@ pub record Lawful (p : Program) (ord : Side → Order) {S : Type 0} (o : StateOp
   pub test_alone : (m : Side) (e : Expr) (seen : List ℕ) → is_tested p.types p.blocks seen e ≡ true
       → (s : S) (x y : State) → KeptBeside p In m s x y → (o.test (One m) e s).faults ≡ []
       → TruthAlone p (ord m) e (o.test (One m) e s).verdict x.memory
-  -- where a test has these truths, they are assumed
+  -- where a test that lists no fault has these truths, they are assumed
   pub assume_in : (e : Expr) (seen : List ℕ) → is_tested p.types p.blocks seen e ≡ true
-      → (t u : Bool) (s : S) (x y : State) → Kept p In s x y → IsTruth p (ord left) e x.memory t
+      → (t u : Bool) (s : S) (x y : State) → Kept p In s x y → (o.test Both e s).faults ≡ []
+      → IsTruth p (ord left) e x.memory t
       → IsTruth p (ord right) e y.memory u → Reaches p In (o.assume e t u s) x y
   pub assume_alone : (m : Side) (e : Expr) (seen : List ℕ) → is_tested p.types p.blocks seen e ≡ true
-      → (t : Bool) (s : S) (x y : State) → KeptBeside p In m s x y → IsTruth p (ord m) e x.memory t
+      → (t : Bool) (s : S) (x y : State) → KeptBeside p In m s x y → (o.test (One m) e s).faults ≡ []
+      → IsTruth p (ord m) e x.memory t
       → ReachesBeside p In m (o.assume_one m e t s) x y
   -- without a fault, the arguments of a typed call go to its parameters
   pub arguments_sound : (k : ℕ) (f : Function) → slice_get p.functions k ≡ Some f → (es : List Expr) (seen : List ℕ)

@@ -1,5 +1,5 @@
 -- Where alarms may stand, by the text of a program. The rules are this project's.
-use Rattle.std.specs.Prelude.{ℕ, zero, suc, Bool, true, false, ◌&&◌, ◌||◌, nat_eq, List, [], ◌∷◌, slice_get, Option, Some, None}
+use Rattle.std.specs.Prelude.{ℕ, zero, suc, Bool, true, false, ◌&&◌, ◌||◌, not, nat_eq, List, [], ◌∷◌, ◌++◌, slice_get, Option, Some, None}
 use Rattle.ep_int.specs.declared.types.BinOp.{BinOp}
 use Rattle.ep_int.specs.declared.types.BinOp.TheVariants.{Add, Sub, Mul, Div, Rem, And, Or, Xor, Shl, Shr}
 use Rattle.ep_int.specs.declared.types.Cmp.{Cmp}
@@ -59,6 +59,13 @@ is_through (deref e) = true
 is_through (member a offset) = is_through a
 is_through (element a bound unit i) = is_through a
 
+-- a place, or the object that it is a part of, is an element by an index
+abbrev pub is_indexed : Place → Bool
+is_indexed (block b) = false
+is_indexed (deref e) = false
+is_indexed (member a offset) = is_indexed a
+is_indexed (element a bound unit i) = true
+
 abbrev pub kinds_if : Bool → List AlarmKind → List AlarmKind
 kinds_if true kinds = kinds
 kinds_if false kinds = []
@@ -67,15 +74,16 @@ kinds_if false kinds = []
 abbrev pub address_kinds : List AlarmKind
 address_kinds = U5 ∷ U6 ∷ []
 
--- of an access to a place through a pointer
-abbrev pub access_kinds : Place → List AlarmKind
-access_kinds a = kinds_if (is_through a) (U5 ∷ U6 ∷ U7 ∷ [])
-
 -- of bytes that are read
 abbrev pub read_kinds : List AlarmKind
 read_kinds = U4 ∷ U10 ∷ []
 
-module _ (k : AlarmKind) where
+-- where the numbers of the analysis keep strides, or don't
+module _ (strides : Bool) (k : AlarmKind) where
+  -- Of an access to a place: through a pointer; and without strides an element may seem to leave its alignment.
+  abbrev pub access_kinds : Place → List AlarmKind
+  access_kinds a = kinds_if (is_through a) (U5 ∷ U6 ∷ U7 ∷ []) ++ kinds_if (not strides && is_indexed a) (U7 ∷ [])
+
   -- whether an expression, or a place, may have an alarm of this kind
   abbrev mutual
     pub expr_may : Expr → Bool
@@ -151,19 +159,19 @@ may_differ a b =
     || (a.by_continue && (b.at_end || (b.by_break || b.by_return))
     || a.by_return && (b.at_end || (b.by_break || b.by_continue))))
 
--- alarms of this kind on this line
-module _ (k : AlarmKind) (line : ℕ) where
+-- alarms of this kind on this line, where numbers keep strides, or don't
+module _ (strides : Bool) (k : AlarmKind) (line : ℕ) where
   -- whether statements may have one, where one machine may run alone, and the functions before this one may have it so
   module _ (p : Program) (here : ℕ) (bodies : (alone : Bool) → ℕ → Bool) where
     abbrev mutual
       pub what_may : (alone : Bool) → What → (its_line : ℕ) → Bool
-      what_may alone (simple w) l = nat_eq l line && simple_may k alone w
-      what_may alone (call f es d) l = nat_eq l line && (exprs_may k es || result_may k d) || bodies alone f
+      what_may alone (simple w) l = nat_eq l line && simple_may strides k alone w
+      what_may alone (call f es d) l = nat_eq l line && (exprs_may strides k es || result_may strides k d) || bodies alone f
       what_may alone (if_else e a b) l =
-          nat_eq l line && (expr_may k e || is_kind E3 k && may_differ (ways_of_all a) (ways_of_all b))
+          nat_eq l line && (expr_may strides k e || is_kind E3 k && may_differ (ways_of_all a) (ways_of_all b))
           || (stmts_may true a || stmts_may true b)
       what_may alone (loop first e a b) l =
-          nat_eq l line && (expr_may k e || (is_kind E4 k || is_kind E3 k && (ways_of_all a).by_return))
+          nat_eq l line && (expr_may strides k e || (is_kind E4 k || is_kind E3 k && (ways_of_all a).by_return))
           || (stmts_may true a || stmts_may true b)
       what_may alone break_loop l = false
       what_may alone continue_loop l = false

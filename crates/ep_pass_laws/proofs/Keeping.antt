@@ -106,10 +106,10 @@ module _ (p : Program) (formed : is_well_formed p ≡ true) (ord : Side → Orde
         (law.simple_alone i here f e w seen fits l n s x y (to_beside p In i s x y h) q);
     test_sound = λ e t s x y h q. law.test_sound e t.seen t.fits s x y h q;
     test_alone = λ i e t s x y h q. law.test_alone i e t.seen t.fits s x y (to_beside p In i s x y h) q;
-    assume_in = λ e t a b s x y h c d. reached p In (o.assume e a b s) x y h.left_fits h.right_fits
-        (law.assume_in e t.seen t.fits a b s x y h c d);
-    assume_alone = λ i e t a s x y h c. beside p In i (o.assume_one i e a s) x y (own_fits p In i s x y h)
-        (other_fits p In i s x y h) (law.assume_alone i e t.seen t.fits a s x y (to_beside p In i s x y h) c);
+    assume_in = λ e t a b s x y h q c d. reached p In (o.assume e a b s) x y h.left_fits h.right_fits
+        (law.assume_in e t.seen t.fits a b s x y h q c d);
+    assume_alone = λ i e t a s x y h q c. beside p In i (o.assume_one i e a s) x y (own_fits p In i s x y h)
+        (other_fits p In i s x y h) (law.assume_alone i e t.seen t.fits a s x y (to_beside p In i s x y h) q c);
     arguments_sound = λ k f e es seen fits l n m s x y h q. met p In _ _ n m _ _
         (passes_fit p (ord left) formed k f e es seen fits l n x h.left_fits)
         (passes_fit p (ord right) formed k f e es seen fits l m y h.right_fits)

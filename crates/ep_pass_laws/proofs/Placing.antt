@@ -1,7 +1,7 @@
 -- Alarms stand where the text allows their kind.
-use Rattle.std.proofs.Common.{◌≡◌, ◌⊎◌, inl, inr, ℕ, zero, suc, ◌-◌, List, [], ◌∷◌, ◌++◌, refl, fold, Option, Some, None, Bool, true, false, ◌&&◌, ◌||◌, if◌then◌else◌, nat_eq, slice_get, arith}
+use Rattle.std.proofs.Common.{◌≡◌, ◌⊎◌, inl, inr, sym, subst, ℕ, zero, suc, ◌-◌, List, [], ◌∷◌, ◌++◌, refl, fold, Option, Some, None, Bool, true, false, ◌&&◌, ◌||◌, if◌then◌else◌, nat_eq, slice_get, arith}
 use Rattle.std.specs.List.{AllByRecursion}
-use Rattle.std.proofs.lemmas.Bool.{or_left, or_right, and_from}
+use Rattle.std.proofs.lemmas.Bool.{or_left, or_right, and_from, and_parts}
 use Rattle.ep_int.specs.declared.types.Order.{Order}
 use Rattle.ep_alarms.specs.declared.types.Alarm.{Alarm}
 use Rattle.ep_alarms.specs.declared.types.AlarmKind.{AlarmKind}
@@ -12,12 +12,16 @@ use Rattle.ep_core.specs.Program.{Expr, Dest, Simple, nothing, eval, assign, cle
 use Rattle.ep_core.specs.Exec.{Way, on, broken, continued, returned, is_order, result_in, callee_of, frame_of}
 use Rattle.ep_core.specs.Runs.{Side, left, right}
 use Rattle.ep_core.specs.Ways.{has_way, ways_of_all}
+use Rattle.ep_core.specs.WellFormed.{result_type, is_tested, are_plain, arguments_fit, takes_result, call_fits, simple_fits, what_fits, stmts_fit, is_well_formed}
+use Rattle.ep_core.proofs.Operands.{fits_at}
+use Rattle.ep_core.proofs.Sorts.{three as three_parts}
 use Rattle.ep_core.specs.Ways.{Ways as TextWays}
 use Rattle.ep_pass.specs.States.{Mode, Both, One, Fault, Gives, Verdict, stuck, same, differs, StateOps}
 use Rattle.ep_pass.specs.Pass.{Ways, none, Log, Pass, ends, so_far, branch, alarms_at, differ, too_long, jumps, way_of, simple_pass, only_on, only_broken, only_continued, only_returned, join_on, go_on, join_ways, then_pass, rowed, either_pass, leave_call, scope_pass, call_pass, next_pass, body_ends, agreed, decided, tested, parted, apart, arm_of, by_order_pass, unrolled, in_body, one_turn, cut_turn, one_rounds, entered, lone, joint_turn, is_stable, next_head, dropped, settled, from_head, last_turns, joint_rounds, loop_pass, pass, pass_all, body_pass, bodies_pass, main_pass, faults_at_end, all_faults, report_of}
 use Rattle.ep_pass.specs.Places.{is_one_of, kinds_if, is_kind, expr_may, exprs_may, dest_may, simple_may, result_may, may_differ, what_may, stmts_may, body_may, answer_if, bodies_may, end_may, may_stand}
 use Rattle.ep_pass.specs.Honest.{is_alone, AreOf, Honest}
 use Rattle.ep_pass_laws.proofs.Reaching.{at}
+use Rattle.ep_pass_laws.proofs.Text.{callee_at}
 use Rattle.ep_pass_laws.proofs.Parting.{branch_never, Only, next_returns, entered_far, all_only, none_at}
 use Rattle.ep_pass_laws.proofs.Differing.{Differ, differ_back as back, differ_true, twice_differ, twice_differ_back}
 
@@ -177,13 +181,15 @@ module _ (P : ℕ → AlarmKind → Type 0) {S : Type 0} (o : StateOps S) where
         (three returned on broken continued refl refl refl)))
 
   -- ---- tests and loops on one line
-  module _ (honest : Honest o) (l : ℕ) (e : Expr) (of_test : (k : AlarmKind) → expr_may k e ≡ true → P l k) where
+  module _ (strides : Bool) (l : ℕ) (e : Expr)
+      (tests : (m : Mode) (s : S) → AreOf (λ k. expr_may strides k e) (o.test m e s).faults)
+      (of_test : (k : AlarmKind) → expr_may strides k e ≡ true → P l k) where
     tested_tells : (a : Pass S) → Tells a → (m : Mode) (p q r t : S → Pass S) (s : S) → ((s : S) → Tells (p s))
         → ((s : S) → Tells (q s)) → ((s : S) → Tells (r s)) → ((s : S) → Tells (t s))
         → Tells (tested o a m e l p q r t s)
     tested_tells a n m p q r t s hp hq hr ht =
         placed_both P (alarms_at l (o.test m e s).faults) _
-        (placed_at P l (λ k. expr_may k e) (o.test m e s).faults (honest.test m e s) of_test)
+        (placed_at P l (λ k. expr_may strides k e) (o.test m e s).faults (tests m s) of_test)
         (decided_tells a n m (o.test m e s).verdict e p q r t s hp hq hr ht)
 
     module _ (u limit : ℕ) (body : Mode → S → Pass S) (returns : Bool)
@@ -269,7 +275,7 @@ allowed_true (One m) = tt
 at_line : (l : ℕ) (t : Bool) → t ≡ true → (nat_eq l l && t) ≡ true
 at_line l t h = let e : nat_eq l l ≡ true = grind arith in and_from (nat_eq l l) t e h
 
-module _ (k : AlarmKind) where
+module _ (strides : Bool) (k : AlarmKind) where
   io_more : (t : Bool) → (is_one_of (kinds_if false (E2 ∷ [])) k || t) ≡ true
       → (is_one_of (kinds_if true (E2 ∷ [])) k || t) ≡ true
   io_more t h = or_right _ t h
@@ -283,7 +289,7 @@ module _ (k : AlarmKind) where
       by_first true e h = or_left _ t (or_left _ _ e)
       by_first false e h = or_right _ t h
 
-  may_more : (w : Simple) → simple_may k false w ≡ true → simple_may k true w ≡ true
+  may_more : (w : Simple) → simple_may strides k false w ≡ true → simple_may strides k true w ≡ true
   may_more nothing h = h
   may_more (eval e) h = h
   may_more (assign what a e) h = h
@@ -291,30 +297,35 @@ module _ (k : AlarmKind) where
   may_more (copy_aggregate a b ty) h = h
   may_more (copy_bytes a b n) h = h
   may_more (fill a e n) h = h
-  may_more (input t d) h = io_more (dest_may k d) h
-  may_more (output t e) h = put_more (expr_may k e) h
+  may_more (input t d) h = io_more (dest_may strides k d) h
+  may_more (output t e) h = put_more (expr_may strides k e) h
   may_more (read_bytes e n) h = io_more _ h
   may_more (write_bytes e n) h = put_more _ h
   may_more (returns None) h = h
   may_more (returns (Some e)) h = h
 
-  allowed_may : (m : Mode) (alone : Bool) → Allowed m alone → (w : Simple) → simple_may k (is_alone m) w ≡ true
-      → simple_may k alone w ≡ true
+  allowed_may : (m : Mode) (alone : Bool) → Allowed m alone → (w : Simple) → simple_may strides k (is_alone m) w ≡ true
+      → simple_may strides k alone w ≡ true
   allowed_may Both true a w h = may_more w h
   allowed_may Both false a w h = h
   allowed_may (One m) true a w h = h
   allowed_may (One m) false a w h = absurd a
 
-module _ {S : Type 0} (o : StateOps S) (honest : Honest o) (u limit : ℕ) (ord : Side → Order) (p : Program) where
-  module _ (here : ℕ) (ps : ℕ → Mode → S → Pass S) (bo : AlarmKind → ℕ → Bool → ℕ → Bool)
+module _ (p : Program) (strides : Bool) (formed : is_well_formed p ≡ true) {S : Type 0} (o : StateOps S)
+    (honest : Honest p strides o) (u limit : ℕ) (ord : Side → Order) where
+  module _ (here : ℕ) (fn : Function) (at_here : slice_get p.functions here ≡ Some fn) (ps : ℕ → Mode → S → Pass S)
+      (bo : AlarmKind → ℕ → Bool → ℕ → Bool)
       (known : (m : Mode) (alone : Bool) → Allowed m alone → (i : ℕ) (s : S)
       → Tells (λ l k. bo k l alone i ≡ true) o (ps i m s)) where
+    abbrev own : Option ℕ
+    own = result_type p.blocks fn.result
+
     -- on this line an alarm of this kind may come of a statement, or of statements
     abbrev W : (alone : Bool) → What → (its : ℕ) → ℕ → AlarmKind → Type 0
-    W alone w its l k = what_may k l p here (bo k l) alone w its ≡ true
+    W alone w its l k = what_may strides k l p here (bo k l) alone w its ≡ true
 
     abbrev A : (alone : Bool) → Stmts → ℕ → AlarmKind → Type 0
-    A alone ss l k = stmts_may k l p here (bo k l) alone ss ≡ true
+    A alone ss l k = stmts_may strides k l p here (bo k l) alone ss ≡ true
 
     abbrev arm : Stmts → Mode → S → Pass S
     arm a n s = pass_all o u limit ord p here ps a n s none
@@ -350,52 +361,68 @@ module _ {S : Type 0} (o : StateOps S) (honest : Honest o) (u limit : ℕ) (ord 
         by_arm true = h (One m) s
         by_arm false = i (One m) s
 
-    call_tells : (P : ℕ → AlarmKind → Type 0) (f : Option Function) (m : Mode) (es : List Expr) (d : Option Dest)
-        (l : ℕ)
-        (body : S → Pass S) (s : S) → ((k : AlarmKind) → (exprs_may k es || result_may k d) ≡ true → P l k)
+    call_tells : (P : ℕ → AlarmKind → Type 0) (k : ℕ) (f : Option Function) → callee_of p here k ≡ f → (m : Mode)
+        (es : List Expr) (d : Option Dest) (seen : List ℕ) → call_fits p here own f es d seen ≡ true → (l : ℕ)
+        (body : S → Pass S) (s : S)
+        → ((k : AlarmKind) → (exprs_may strides k es || result_may strides k d) ≡ true → P l k)
         → ((s : S) → Tells P o (body s)) → Tells P o (call_pass o f m es d l body s)
-    call_tells P None m es d l body s h i = tt
-    call_tells P (Some f) m es d l body s h i =
+    call_tells P k None e m es d seen fits l body s h i = tt
+    call_tells P k (Some f) e m es d seen fits l body s h i =
+        let t = and_parts (arguments_fit p.types p.blocks seen f.params es)
+        (takes_result p.types p.blocks seen (result_type p.blocks f.result) d) fits in
+        let c = callee_at p here k f e in
         let a = simple_pass on l (o.arguments m f es s) in
         let go1 = rowed o (λ (s : S). leave_call o (scope_pass o m (frame_of f) (body s))) in
         then_tells P o (then_pass o a none go1) none (rowed o (λ (s : S). simple_pass on l (o.result m f d s)))
         (then_tells P o a none go1
-        (placed_at P l (λ k. exprs_may k es) (o.arguments m f es s).faults (honest.arguments m f es s)
-        (λ k e. h k (or_left (exprs_may k es) (result_may k d) e))) (λ s w. i s))
-        (λ s w. placed_at P l (λ k. result_may k d) (o.result m f d s).faults (honest.result m f d s)
-        (λ k e. h k (or_right (exprs_may k es) (result_may k d) e)))
+        (placed_at P l (λ k. exprs_may strides k es) (o.arguments m f es s).faults (honest.arguments m k f c es seen t.0 s)
+        (λ k e. h k (or_left (exprs_may strides k es) (result_may strides k d) e))) (λ s w. i s))
+        (λ s w. placed_at P l (λ k. result_may strides k d) (o.result m f d s).faults
+        (honest.result m k f c d seen t.1 s)
+        (λ k e. h k (or_right (exprs_may strides k es) (result_may strides k d) e)))
+
+    simple_told : (w : Simple) (m : Mode) (alone : Bool) → Allowed m alone → (seen : List ℕ)
+        → simple_fits p here own w seen ≡ true → (l : ℕ) (s : S)
+        → Tells (W alone (simple w) l) o (pass o u limit ord p here ps (simple w) m l s)
+    simple_told w m alone ok seen fits l s =
+        subst
+        (λ g. Tells (W alone (simple w) l) o (simple_pass (way_of w) l (o.simple m (result_in g) w s)))
+        (sym at_here)
+        (simple_tells (W alone (simple w) l) o (way_of w) l (o.simple m fn.result w s)
+        (placed_at (W alone (simple w) l) l (λ k. simple_may strides k (is_alone m) w) (o.simple m fn.result w s).faults
+        (honest.simple m here fn at_here w seen fits s)
+        (λ k e. at_line l (simple_may strides k alone w) (allowed_may strides k m alone ok w e))))
 
     of_parting : (e : Expr) (a b : Stmts) (alone : Bool) (l : ℕ) → may_differ (ways_of_all a) (ways_of_all b) ≡ true
         → W alone (if_else e a b) l l E3
     of_parting e a b alone l z =
         or_left _ _
-        (at_line l (expr_may E3 e || is_kind E3 E3 && may_differ (ways_of_all a) (ways_of_all b))
+        (at_line l (expr_may strides E3 e || is_kind E3 E3 && may_differ (ways_of_all a) (ways_of_all b))
         (or_right _ _ (and_from _ _ refl z)))
 
     mutual
-      pub pass_tells : (w : What) (m : Mode) (alone : Bool) → Allowed m alone → (l : ℕ) (s : S)
+      pub pass_tells : (w : What) (m : Mode) (alone : Bool) → Allowed m alone → (seen : List ℕ) (j : Bool)
+          → what_fits p here own w seen j ≡ true → (l : ℕ) (s : S)
           → Tells (W alone w l) o (pass o u limit ord p here ps w m l s)
-      pass_tells (simple w) m alone ok l s =
-          let r = result_in (slice_get p.functions here) in
-          simple_tells (W alone (simple w) l) o (way_of w) l (o.simple m r w s)
-          (placed_at (W alone (simple w) l) l (λ k. simple_may k (is_alone m) w) (o.simple m r w s).faults
-          (honest.simple m r w s) (λ k e. at_line l (simple_may k alone w) (allowed_may k m alone ok w e)))
-      pass_tells (call f es d) m alone ok l s =
-          call_tells (W alone (call f es d) l) (callee_of p here f) m es d l (ps f m) s
-          (λ k e. or_left _ (bo k l alone f) (at_line l (exprs_may k es || result_may k d) e))
+      pass_tells (simple w) m alone ok seen j fits l s = simple_told w m alone ok seen fits l s
+      pass_tells (call f es d) m alone ok seen j fits l s =
+          call_tells (W alone (call f es d) l) f (callee_of p here f) refl m es d seen fits l (ps f m) s
+          (λ k e. or_left _ (bo k l alone f) (at_line l (exprs_may strides k es || result_may strides k d) e))
           (λ s. placed_more (λ l k. bo k l alone f ≡ true) (W alone (call f es d) l)
-          (λ i k e. or_right (nat_eq l i && (exprs_may k es || result_may k d)) _ e) (ps f m s).log.faults
+          (λ i k e. or_right (nat_eq l i && (exprs_may strides k es || result_may strides k d)) _ e) (ps f m s).log.faults
           (known m alone ok f s))
-      pass_tells (if_else e a b) m alone ok l s =
+      pass_tells (if_else e a b) m alone ok seen j fits l s =
+          let t = three_parts (is_tested p.types p.blocks seen e) (stmts_fit p here own a seen j)
+          (stmts_fit p here own b seen j) fits in
           let P = W alone (if_else e a b) l in
           let h : (m : Mode) (s : S) → Tells P o (arm a m s)
           = λ m s. placed_more (A true a) P (λ i k z. or_right _ _ (or_left _ _ z)) (arm a m s).log.faults
-          (all_tells a m true (allowed_true m) s none) in
+          (all_tells a m true (allowed_true m) seen j t.1 s none) in
           let i : (m : Mode) (s : S) → Tells P o (arm b m s)
           = λ m s. placed_more (A true b) P (λ i k z. or_right _ _ (or_right _ _ z)) (arm b m s).log.faults
-          (all_tells b m true (allowed_true m) s none) in
-          tested_tells P o honest l e
-          (λ k z. or_left _ _ (at_line l (expr_may k e || is_kind E3 k && may_differ (ways_of_all a) (ways_of_all b))
+          (all_tells b m true (allowed_true m) seen j t.2 s none) in
+          tested_tells P o strides l e (λ m s. honest.test m e seen t.0 s)
+          (λ k z. or_left _ _ (at_line l (expr_may strides k e || is_kind E3 k && may_differ (ways_of_all a) (ways_of_all b))
           (or_left _ _ z)))
           (ends []) tt m (arm a m) (apart o l (arm a) (arm b)) (apart o l (arm b) (arm a)) (arm b m) s (h m)
           (λ s. arms_tell P l a b s
@@ -404,69 +431,77 @@ module _ {S : Type 0} (o : StateOps S) (honest : Honest o) (u limit : ℕ) (ord 
           (λ k j d y z. of_parting e a b alone l (differ_true (ways_of_all a) (ways_of_all b) j k (back k j d) z y)) i
           h)
           (i m)
-      pass_tells (loop first e a b) m alone ok l s =
+      pass_tells (loop first e a b) m alone ok seen j fits l s =
+          let t = three_parts (is_tested p.types p.blocks seen e) (stmts_fit p here own a seen true)
+          (are_plain b && stmts_fit p here own b seen j) fits in
+          let r = and_parts (are_plain b) (stmts_fit p here own b seen j) t.2 in
           let P = W alone (loop first e a b) l in
           let h : (m : Mode) (s : S) → Tells P o (arm a m s)
           = λ m s. placed_more (A true a) P (λ i k z. or_right _ _ (or_left _ _ z)) (arm a m s).log.faults
-          (all_tells a m true (allowed_true m) s none) in
+          (all_tells a m true (allowed_true m) seen true t.1 s none) in
           let i : (m : Mode) (s : S) → Tells P o (arm b m s)
           = λ m s. placed_more (A true b) P (λ i k z. or_right _ _ (or_right _ _ z)) (arm b m s).log.faults
-          (all_tells b m true (allowed_true m) s none) in
-          loop_tells P o honest l e
+          (all_tells b m true (allowed_true m) seen j r.1 s none) in
+          loop_tells P o strides l e (λ m s. honest.test m e seen t.0 s)
           (λ k z. or_left _ _
-          (at_line l (expr_may k e || (is_kind E4 k || is_kind E3 k && (ways_of_all a).by_return)) (or_left _ _ z))) u
+          (at_line l (expr_may strides k e || (is_kind E4 k || is_kind E3 k && (ways_of_all a).by_return)) (or_left _ _ z))) u
           limit
           (λ n s. next_pass o (arm a n s) (arm b n)) (ways_of_all a).by_return
           (λ z m s. next_returns o (arm a m s) (arm b m)
           (all_only o u limit ord p here ps a m returned z s none refl))
           (or_left _ _
-          (at_line l (expr_may E4 e || (is_kind E4 E4 || is_kind E3 E4 && (ways_of_all a).by_return))
+          (at_line l (expr_may strides E4 e || (is_kind E4 E4 || is_kind E3 E4 && (ways_of_all a).by_return))
           (or_right _ _ (or_left (is_kind E4 E4) (is_kind E3 E4 && (ways_of_all a).by_return) refl))))
           (λ z. or_left _ _
-          (at_line l (expr_may E3 e || (is_kind E4 E3 || is_kind E3 E3 && (ways_of_all a).by_return))
-          (or_right (expr_may E3 e) _ (or_right (is_kind E4 E3) _ (and_from _ _ refl z)))))
+          (at_line l (expr_may strides E3 e || (is_kind E4 E3 || is_kind E3 E3 && (ways_of_all a).by_return))
+          (or_right (expr_may strides E3 e) _ (or_right (is_kind E4 E3) _ (and_from _ _ refl z)))))
           (λ n s. then_tells P o (body_ends o (arm a n s)) none (rowed o (arm b n)) (h n s) (λ s w. i n s)) m first s
-      pass_tells break_loop m alone ok l s = tt
-      pass_tells continue_loop m alone ok l s = tt
-      pass_tells (by_order named a b) m alone ok l s =
+      pass_tells break_loop m alone ok seen j fits l s = tt
+      pass_tells continue_loop m alone ok seen j fits l s = tt
+      pass_tells (by_order named a b) m alone ok seen j fits l s =
+          let t = and_parts (stmts_fit p here own a seen j) (stmts_fit p here own b seen j) fits in
           let P = W alone (by_order named a b) l in
           order_tells P m l named a b s
           (λ z. or_left _ _
           (at_line l (is_kind E3 E3 && may_differ (ways_of_all a) (ways_of_all b)) (and_from _ _ refl z)))
           (λ m s. placed_more (A true a) P (λ i k z. or_right _ _ (or_left _ _ z)) (arm a m s).log.faults
-          (all_tells a m true (allowed_true m) s none))
+          (all_tells a m true (allowed_true m) seen j t.0 s none))
           (λ m s. placed_more (A true b) P (λ i k z. or_right _ _ (or_right _ _ z)) (arm b m s).log.faults
-          (all_tells b m true (allowed_true m) s none))
-      pass_tells (scope bs a) m alone ok l s = all_tells a m alone ok (o.enter m bs s) none
+          (all_tells b m true (allowed_true m) seen j t.1 s none))
+      pass_tells (scope bs a) m alone ok seen j fits l s =
+          all_tells a m alone ok (bs ++ seen) j fits (o.enter m bs s) none
 
-      pub all_tells : (ss : Stmts) (m : Mode) (alone : Bool) → Allowed m alone → (s : S) (w : Ways S)
+      pub all_tells : (ss : Stmts) (m : Mode) (alone : Bool) → Allowed m alone → (seen : List ℕ) (j : Bool)
+          → stmts_fit p here own ss seen j ≡ true → (s : S) (w : Ways S)
           → Tells (A alone ss) o (pass_all o u limit ord p here ps ss m s w)
-      all_tells stop m alone ok s w = tt
-      all_tells (more l a rest) m alone ok s w =
+      all_tells stop m alone ok seen j fits s w = tt
+      all_tells (more l a rest) m alone ok seen j fits s w =
+          let t = and_parts (what_fits p here own a seen j) (stmts_fit p here own rest seen j) fits in
           let P = A alone (more l a rest) in
           let q = pass o u limit ord p here ps a m l s in
           let go = pass_all o u limit ord p here ps rest m in
           then_tells P o q w go
-          (placed_more (W alone a l) P (λ i k z. or_left _ _ z) q.log.faults (pass_tells a m alone ok l s))
+          (placed_more (W alone a l) P (λ i k z. or_left _ _ z) q.log.faults (pass_tells a m alone ok seen j t.0 l s))
           (λ s w. placed_more (A alone rest) P (λ i k z. or_right _ _ z) (go s w).log.faults
-          (all_tells rest m alone ok s w))
+          (all_tells rest m alone ok seen j t.1 s w))
 
   -- ---- functions and programs
 
   abbrev B : ℕ → AlarmKind → ℕ → Bool → ℕ → Bool
-  B n k l alone i = bodies_may k l p n alone i
+  B n k l alone i = bodies_may strides k l p n alone i
 
-  body_tells : (f : Option Function) (here : ℕ) (ps : ℕ → Mode → S → Pass S) (bo : AlarmKind → ℕ → Bool → ℕ → Bool)
+  body_tells : (f : Option Function) (here : ℕ) → slice_get p.functions here ≡ f → (ps : ℕ → Mode → S → Pass S) (bo : AlarmKind → ℕ → Bool → ℕ → Bool)
       → ((m : Mode) (alone : Bool) → Allowed m alone → (i : ℕ) (s : S)
       → Tells (λ l k. bo k l alone i ≡ true) o (ps i m s))
       → (m : Mode) (alone : Bool) → Allowed m alone → (s : S)
-      → Tells (λ l k. body_may k l p f here (bo k l) alone ≡ true) o (body_pass o u limit ord p f here ps m s)
-  body_tells None here ps bo known m alone ok s = tt
-  body_tells (Some f) here ps bo known m alone ok s = all_tells here ps bo known f.body m alone ok s none
+      → Tells (λ l k. body_may strides k l p f here (bo k l) alone ≡ true) o (body_pass o u limit ord p f here ps m s)
+  body_tells None here e ps bo known m alone ok s = tt
+  body_tells (Some f) here e ps bo known m alone ok s =
+      all_tells here f e ps bo known f.body m alone ok (frame_of f) false (fits_at p formed here f e).2 s none
 
   chosen_tells : (t : Bool) (x y : ℕ → AlarmKind → Bool) (a b : Mode → S → Pass S) (m : Mode) (s : S)
       → Tells (λ l k. x l k ≡ true) o (a m s) → Tells (λ l k. y l k ≡ true) o (b m s)
-      → Tells (λ l k. answer_if k l p t (x l k) (y l k) ≡ true) o (arm_of o t a b m s)
+      → Tells (λ l k. answer_if strides k l p t (x l k) (y l k) ≡ true) o (arm_of o t a b m s)
   chosen_tells true x y a b m s h i = h
   chosen_tells false x y a b m s h i = i
 
@@ -475,29 +510,29 @@ module _ {S : Type 0} (o : StateOps S) (honest : Honest o) (u limit : ℕ) (ord 
   bodies_tell zero m alone ok i s = tt
   bodies_tell (suc n) m alone ok i s =
       let f = slice_get p.functions n in
-      chosen_tells (nat_eq i n) (λ l k. body_may k l p f n (B n k l) alone) (λ l k. B n k l alone i)
+      chosen_tells (nat_eq i n) (λ l k. body_may strides k l p f n (B n k l) alone) (λ l k. B n k l alone i)
       (body_pass o u limit ord p f n (bodies_pass o u limit ord p n)) (bodies_pass o u limit ord p n i) m s
-      (body_tells f n (bodies_pass o u limit ord p n) (B n) (bodies_tell n) m alone ok s)
+      (body_tells f n refl (bodies_pass o u limit ord p n) (B n) (bodies_tell n) m alone ok s)
       (bodies_tell n m alone ok i s)
 
-  end_tells : (f : Option Function) (v : Option S)
-      → Placed (λ l k. end_may k l p f ≡ true) (faults_at_end o u limit ord p f v)
-  end_tells None v = tt
-  end_tells (Some f) None = tt
-  end_tells (Some f) (Some s) =
-      placed_at (λ l k. end_may k l p (Some f) ≡ true) f.line (is_kind E1) (o.ended f s) (honest.ended f s)
+  end_tells : (f : Option Function) → slice_get p.functions p.main ≡ f → (v : Option S)
+      → Placed (λ l k. end_may strides k l p f ≡ true) (faults_at_end o u limit ord p f v)
+  end_tells None e v = tt
+  end_tells (Some f) e None = tt
+  end_tells (Some f) e (Some s) =
+      placed_at (λ l k. end_may strides k l p (Some f) ≡ true) f.line (is_kind E1) (o.ended f s) (honest.ended f e s)
       (λ k e. at_line f.line (is_kind E1 k) e)
 
-  pub alarms_stand : Placed (λ l k. may_stand k l p ≡ true) (report_of o u limit ord p)
+  pub alarms_stand : Placed (λ l k. may_stand strides k l p ≡ true) (report_of o u limit ord p)
   alarms_stand =
       let f = slice_get p.functions p.main in
       let main = main_pass o u limit ord p in
       let last = join_on o main.ways.returned main.on in
-      let P : ℕ → AlarmKind → Type 0 = λ l k. may_stand k l p ≡ true in
+      let P : ℕ → AlarmKind → Type 0 = λ l k. may_stand strides k l p ≡ true in
       gathered_placed P (all_faults o u limit ord p)
       (placed_both P main.log.faults _
-      (placed_more (λ l k. body_may k l p f p.main (B p.main k l) false ≡ true) P (λ l k e. or_left _ _ e)
+      (placed_more (λ l k. body_may strides k l p f p.main (B p.main k l) false ≡ true) P (λ l k e. or_left _ _ e)
       main.log.faults
-      (body_tells f p.main (bodies_pass o u limit ord p p.main) (B p.main) (bodies_tell p.main) Both false tt o.entry))
-      (placed_more (λ l k. end_may k l p f ≡ true) P (λ l k e. or_right _ _ e)
-      (faults_at_end o u limit ord p f last) (end_tells f last)))
+      (body_tells f p.main refl (bodies_pass o u limit ord p p.main) (B p.main) (bodies_tell p.main) Both false tt o.entry))
+      (placed_more (λ l k. end_may strides k l p f ≡ true) P (λ l k e. or_right _ _ e)
+      (faults_at_end o u limit ord p f last) (end_tells f refl last)))

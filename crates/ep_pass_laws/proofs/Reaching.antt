@@ -334,7 +334,8 @@ module _ (prog : Program) (ord : Side → Order) {S : Type 0} (o : StateOps S) (
         with_truth (Alone In b m (tested o a (One m) e l p q r t s) y) (value (ord m) prog e x.memory) v.is.found
         v.truth l x (λ z. either z f f' (b m) x) v.is.has v.is.is
         (after_alone m (logged fs 0 []) (decided o a (One m) d e p q r t s) y _
-        (by_verdict d v.truth v.goes_on (law.assume_alone m e typed v.truth s x y i v.is) (back_empty fs _ quiet)))
+        (by_verdict d v.truth v.goes_on (law.assume_alone m e typed v.truth s x y i
+        (no_alarms l (o.test (One m) e s).faults (front_empty fs _ quiet)) v.is) (back_empty fs _ quiet)))
       where
         p1 : Pass S
         p1 = branch (o.assume_one m e true s) p
@@ -503,7 +504,7 @@ module _ (prog : Program) (ord : Side → Order) {S : Type 0} (o : StateOps S) (
           let end : Outcome = given (value (ord right) prog e y.memory) l y (λ v. g (is_true v)) in
           with_truth (λ z. Tog r z end) (value (ord left) prog e x.memory) a.found v.on_left l x f a.has a.is
           (with_truth (Tog r (f v.on_left)) (value (ord right) prog e y.memory) c.found v.on_right l y g c.has c.is
-          (h v.on_left v.on_right v.fits (law.assume_in e typed v.on_left v.on_right s x y i a c)))
+          (h v.on_left v.on_right v.fits (law.assume_in e typed v.on_left v.on_right s x y i quiet a c)))
 
       -- a part of a pass, from the states of two machines
       branch_into : (x y : State) (T : Type 0) (whole : Pass S) (u : Option S) (go : S → Pass S)

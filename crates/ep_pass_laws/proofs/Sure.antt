@@ -58,9 +58,11 @@ pub record Sure (p : Program) (ord : Side → Order) {S : Type 0} (o : StateOps 
   pub test_alone : (m : Side) (e : Expr) → IsTest p e → (s : S) (x y : State) → Seen In m s x y
       → (o.test (One m) e s).faults ≡ [] → TruthAlone p (ord m) e (o.test (One m) e s).verdict x.memory
   pub assume_in : (e : Expr) → IsTest p e → (t u : Bool) (s : S) (x y : State) → In s x y
-      → IsTruth p (ord left) e x.memory t → IsTruth p (ord right) e y.memory u → Reaches In (o.assume e t u s) x y
+      → (o.test Both e s).faults ≡ [] → IsTruth p (ord left) e x.memory t → IsTruth p (ord right) e y.memory u
+      → Reaches In (o.assume e t u s) x y
   pub assume_alone : (m : Side) (e : Expr) → IsTest p e → (t : Bool) (s : S) (x y : State) → Seen In m s x y
-      → IsTruth p (ord m) e x.memory t → Beside In m (o.assume_one m e t s) x y
+      → (o.test (One m) e s).faults ≡ [] → IsTruth p (ord m) e x.memory t
+      → Beside In m (o.assume_one m e t s) x y
   pub arguments_sound : (k : ℕ) (f : Function) → slice_get p.functions k ≡ Some f → (es : List Expr) (seen : List ℕ)
       → arguments_fit p.types p.blocks seen f.params es ≡ true
       → (l n m : ℕ) (s : S) (x y : State) → In s x y → (o.arguments Both f es s).faults ≡ []

@@ -1,8 +1,9 @@
 -- What holds of each report, whatever is kept of a state.
-use Rattle.std.specs.Prelude.{◌≡◌, ℕ, ◌+◌, ◌*◌, ◌≤◌, [], IsTrue}
+use Rattle.std.specs.Prelude.{◌≡◌, ℕ, ◌+◌, ◌*◌, ◌≤◌, Bool, [], IsTrue}
 use Rattle.std.specs.List.{AllByRecursion}
 use Rattle.ep_int.specs.declared.types.Order.{Order}
 use Rattle.ep_alarms.specs.declared.types.Alarm.{Alarm}
+use Rattle.ep_layout.specs.Table.{IsBuilt}
 use Rattle.ep_core.specs.Program.{Expr, Program}
 use Rattle.ep_int.specs.Memory.{Memory}
 use Rattle.ep_core.specs.Runs.{Side, left, right}
@@ -41,11 +42,20 @@ module _ (S : Type 0) where
       (o : StateOps S) (u limit : ℕ) → 1 ≤ limit → (ord : Side → Order) (p : Program)
       → turns_of o u limit ord p ≤ most_turns u limit ord p
 
-  -- Where the faults of operations are of kinds that the text may have, so is each alarm on its line.
+  -- The faults of operations are of kinds that the text may have, in programs whose table of types was built by the
+  -- rules, where numbers keep strides, or don't.
+  abbrev pub AreHonest : Operations → (strides : Bool) → Type 0
+  AreHonest ops strides =
+      (p : Program) (ord : Side → Order) → IsTrue (is_well_formed p) → IsBuilt p.types
+      → Honest p strides (ops p ord)
+
+  -- So is then each alarm on its line.
   abbrev pub AlarmsStand : Type 0
   AlarmsStand =
-      (o : StateOps S) → Honest o → (u limit : ℕ) (ord : Side → Order) (p : Program)
-      → AllByRecursion (λ (a : Alarm). IsTrue (may_stand a.kind a.line p)) (report_of o u limit ord p)
+      (ops : Operations) (strides : Bool) → AreHonest ops strides → (p : Program) (ord : Side → Order)
+      → IsTrue (is_well_formed p) → IsBuilt p.types → (u limit : ℕ)
+      → AllByRecursion (λ (a : Alarm). IsTrue (may_stand strides a.kind a.line p))
+      (report_of (ops p ord) u limit ord p)
 
   -- Where the next head is the head again, its turn counts for each head that is left, and then comes that of the empty
   -- state.

@@ -1,48 +1,42 @@
--- The laws of operations can be met: the least representation keeps them.
-use Rattle.std.proofs.Common.{◌≡◌, ℕ, ℤ, [], ◌∷◌, ◌++◌, refl, ap, ◌∙◌, sym, Option, Some}
+-- The laws of operations can be met: two representations keep them, and by the report of the second `int main(void) { }`
+-- is portable.
+use Rattle.std.proofs.Common.{◌≡◌, ℕ, ℤ, Bool, true, false, [], ◌∷◌, ◌++◌, refl, ap, ◌∙◌, sym, subst, slice_get, Option, Some, None}
+use Rattle.ep_int.specs.declared.types.IntType.TheVariants.{I32}
 use Rattle.ep_int.specs.declared.types.Order.{Order}
+use Rattle.ep_int.specs.Arith.{int_eq}
 use Rattle.ep_int.specs.declared.types.Scalar.{Scalar}
-use Rattle.ep_int.specs.Memory.{Memory, int, killed}
-use Rattle.ep_core.specs.Program.{Expr, const, null_value, load, addr_of, binary, convert, compare, ptr_compare, logical_and, logical_or, logical_not, conditional, ptr_add, cast, Simple, nothing, eval, assign, clear, copy_aggregate, copy_bytes, fill, input, output, read_bytes, write_bytes, returns, Program}
-use Rattle.ep_core.specs.Exec.{State, on, uncounted, is_true, does}
-use Rattle.ep_core.specs.Runs.{Side, left, right}
+use Rattle.ep_int.specs.Memory.{Memory, int, null, pointer, Found, has, faults, killed}
+use Rattle.ep_core.specs.Program.{Expr, const, null_value, load, addr_of, binary, convert, compare, ptr_compare, logical_and, logical_or, logical_not, conditional, ptr_add, cast, Simple, nothing, eval, assign, clear, copy_aggregate, copy_bytes, fill, input, output, read_bytes, write_bytes, returns, stop, Function, Program}
+use Rattle.ep_core.specs.Exec.{State, on, uncounted, is_true, result_in, does}
+use Rattle.ep_core.specs.Runs.{Side, left, right, initial, result_out, main_ends}
+use Rattle.ep_range_laws.proofs.Comparisons.{from_between, le_antisym}
 use Rattle.ep_pass.specs.States.{Both, One}
-use Rattle.ep_pass.specs.Pass.{way_of}
-use Rattle.ep_pass.specs.Laws.{Stands, Kept, KeptBeside, ReachesBeside, Meets, meet, MeetsAlone, meet_alone, InBeside, IsTruth, Truths, TruthAlone, Lawful}
-use Rattle.tests_analysis.specs.Unknown.{Known, nothing_known, put_out, simple_of, test_of, unknown, Any}
+use Rattle.ep_pass.specs.Pass.{way_of, report_of}
+use Rattle.ep_pass.specs.Laws.{Kept, KeptBeside, ReachesBeside, Meets, meet, MeetsAlone, meet_alone, InBeside, IsTruth, Truths, TruthAlone, EndAlike, Lawful}
+use Rattle.tests_analysis.specs.Samples.{program, usual}
+use Rattle.tests_analysis.specs.Unknown.{put_out, simple_of, test_of, Known, unknown, Any, Ends, ends_alike, unsure, found_in, result_found, SameResult, StandsFor, ends_if, ends_by, either, is_within, end_faults, of_ends}
 
-module _ (p : Program) where
-  abbrev K : Known → State → State → Type 0
-  K = Kept p Any
+-- ---- what both keep, whatever a state stands for
+module _ (p : Program) {S : Type 0} (In : S → Memory → Memory → Type 0) where
+  abbrev K : S → State → State → Type 0
+  K = Kept p In
 
-  -- machines with the same inputs and outputs
-  abbrev Alike : State → State → Type 0
-  Alike x y = (x.inputs ≡ y.inputs) × (x.outputs ≡ y.outputs)
-
-  stands : (s : Known) (x y : State) → Alike x y → Stands p Any s x y
-  stands s x y a = record { memories = tt; inputs = a.0; outputs = a.1 }
-
-  alike : (s : Known) (x y : State) → K s x y → Alike x y
-  alike s x y h = (h.stands.inputs, h.stands.outputs)
-
-  beside : (m : Side) (s : Known) (x y z : State) → KeptBeside p Any m s x y → z.inputs ≡ x.inputs
-      → z.outputs ≡ x.outputs → ReachesBeside p Any m (Some nothing_known) z y
-  beside left s x y z h e f = stands nothing_known z y (e ∙ h.stands.inputs, f ∙ h.stands.outputs)
-  beside right s x y z h e f =
-      stands nothing_known y z (h.stands.inputs ∙ sym e, h.stands.outputs ∙ sym f)
-
-  all_in : (i : Side) (s : Known) (m k : Memory) → InBeside p Any i s m k
-  all_in left s m k = tt
-  all_in right s m k = tt
+  -- other machines with the same memories, inputs and outputs
+  beside : (m : Side) (s : S) (x y : State) → KeptBeside p In m s x y → ReachesBeside p In m (Some s) x y
+  beside left s x y h = h.stands
+  beside right s x y h = h.stands
 
   module _ (ord : Side → Order) where
-    put_sound : (t : _) (e : Expr) (r : Option (ℕ × Scalar)) (l n m : ℕ) (s : Known) (x y : State) → K s x y
-        → (put_out Both e).faults ≡ []
-        → Meets p Any on (put_out Both e).next n m (does (ord left) p uncounted r (output t e) l n x)
+    put_sound : (t : _) (e : Expr) (r : Option (ℕ × Scalar)) (l n m : ℕ) (s : S) (x y : State) → K s x y
+        → (put_out Both e s).faults ≡ []
+        → Meets p In on (put_out Both e s).next n m (does (ord left) p uncounted r (output t e) l n x)
         (does (ord right) p uncounted r (output t e) l m y)
     put_sound t (const u v) r l n m s x y h q =
-        meet (stands nothing_known _ _
-        (h.stands.inputs, ap (λ os. os ++ record { t = t; value = v } ∷ []) h.stands.outputs))
+        meet (record {
+          memories = h.stands.memories;
+          inputs = h.stands.inputs;
+          outputs = ap (λ os. os ++ record { t = t; value = v } ∷ []) h.stands.outputs;
+        })
     put_sound t null_value r l n m s x y h q = absurd cc
     put_sound t (load w a) r l n m s x y h q = absurd cc
     put_sound t (addr_of a) r l n m s x y h q = absurd cc
@@ -57,11 +51,11 @@ module _ (p : Program) where
     put_sound t (ptr_add a u b c) r l n m s x y h q = absurd cc
     put_sound t (cast a) r l n m s x y h q = absurd cc
 
-    simple_sound : (w : Simple) (r : Option (ℕ × Scalar)) (l n m : ℕ) (s : Known) (x y : State) → K s x y
-        → (simple_of Both w).faults ≡ []
-        → Meets p Any (way_of w) (simple_of Both w).next n m (does (ord left) p uncounted r w l n x)
+    simple_sound : (w : Simple) (r : Option (ℕ × Scalar)) (l n m : ℕ) (s : S) (x y : State) → K s x y
+        → (simple_of Both w s).faults ≡ []
+        → Meets p In (way_of w) (simple_of Both w s).next n m (does (ord left) p uncounted r w l n x)
         (does (ord right) p uncounted r w l m y)
-    simple_sound nothing r l n m s x y h q = meet (stands nothing_known x y (alike s x y h))
+    simple_sound nothing r l n m s x y h q = meet h.stands
     simple_sound (output t e) r l n m s x y h q = put_sound t e r l n m s x y h q
     simple_sound (eval e) r l n m s x y h q = absurd cc
     simple_sound (assign w a e) r l n m s x y h q = absurd cc
@@ -74,10 +68,10 @@ module _ (p : Program) where
     simple_sound (write_bytes e k) r l n m s x y h q = absurd cc
     simple_sound (returns e) r l n m s x y h q = absurd cc
 
-    simple_alone : (i : Side) (w : Simple) (r : Option (ℕ × Scalar)) (l n : ℕ) (s : Known) (x y : State)
-        → KeptBeside p Any i s x y → (simple_of (One i) w).faults ≡ []
-        → MeetsAlone p Any i (way_of w) (simple_of (One i) w).next n y (does (ord i) p uncounted r w l n x)
-    simple_alone i nothing r l n s x y h q = meet_alone (beside i s x y x h refl refl)
+    simple_alone : (i : Side) (w : Simple) (r : Option (ℕ × Scalar)) (l n : ℕ) (s : S) (x y : State)
+        → KeptBeside p In i s x y → (simple_of (One i) w s).faults ≡ []
+        → MeetsAlone p In i (way_of w) (simple_of (One i) w s).next n y (does (ord i) p uncounted r w l n x)
+    simple_alone i nothing r l n s x y h q = meet_alone (beside i s x y h)
     simple_alone i (output t e) r l n s x y h q = absurd cc
     simple_alone i (eval e) r l n s x y h q = absurd cc
     simple_alone i (assign w a e) r l n s x y h q = absurd cc
@@ -131,35 +125,133 @@ module _ (p : Program) where
     test_alone o (ptr_add a u b c) m q = absurd cc
     test_alone o (cast a) m q = absurd cc
 
-    kept_beside : (i : Side) (s : Known) (x y : State) → KeptBeside p Any i s x y
-        → ReachesBeside p Any i (Some s) x y
-    kept_beside left s x y h = h.stands
-    kept_beside right s x y h = h.stands
+-- ---- nothing is known
 
-    pub unknown_lawful : Lawful p ord unknown Any
-    unknown_lawful = record {
-      entry_in = tt;
-      simple_sound = λ here f e w seen fits l n m s x y h q. simple_sound w f.result l n m s x y h q;
-      simple_alone = λ i here f e w seen fits l n s x y h q. simple_alone i w f.result l n s x y h q;
-      test_sound = λ e seen fits s x y h q. test_sound e x.memory y.memory q;
-      test_alone = λ i e seen fits s x y h q. test_alone (ord i) e x.memory q;
-      assume_in = λ e seen fits t u s x y h c d. h.stands;
-      assume_alone = λ i e seen fits t s x y h c. kept_beside i s x y h;
-      arguments_sound = λ k f e es seen fits l n m s x y h q. absurd cc;
-      arguments_alone = λ i k f e es seen fits l n s x y h q. absurd cc;
-      result_sound = λ k f e d seen fits l n m s x y h q. absurd cc;
-      result_alone = λ i k f e d seen fits l n s x y h q. absurd cc;
-      enter_in = λ bs s m k i. tt;
-      leave_in = λ bs s m k i. tt;
-      enter_alone = λ i bs s m k h. all_in i s (killed bs m) k;
-      leave_alone = λ i bs s m k h. all_in i s (killed bs m) k;
-      unified_left = λ s t m k i. tt;
-      unified_right = λ s t m k i. tt;
-      joined_left = λ s t m k i. tt;
-      joined_right = λ s t m k i. tt;
-      widened_left = λ s t m k i. tt;
-      leq_in = λ s t m k e i. tt;
-      reshared_in = λ s m k i. tt;
-      empty_in = λ m k. tt;
-      ended_sound = λ f e s x y h q. absurd cc;
-    }
+all_in : (p : Program) (i : Side) (s : Known) (m k : Memory) → InBeside p Any i s m k
+all_in p left s m k = tt
+all_in p right s m k = tt
+
+module _ (p : Program) (ord : Side → Order) where
+  pub unknown_lawful : Lawful p ord unknown Any
+  unknown_lawful = record {
+    entry_in = tt;
+    simple_sound = λ here f e w seen fits l n m s x y h q. simple_sound p Any ord w f.result l n m s x y h q;
+    simple_alone = λ i here f e w seen fits l n s x y h q. simple_alone p Any ord i w f.result l n s x y h q;
+    test_sound = λ e seen fits s x y h q. test_sound p Any ord e x.memory y.memory q;
+    test_alone = λ i e seen fits s x y h q. test_alone p Any ord (ord i) e x.memory q;
+    assume_in = λ e seen fits t u s x y h q c d. h.stands;
+    assume_alone = λ i e seen fits t s x y h q c. beside p Any i s x y h;
+    arguments_sound = λ k f e es seen fits l n m s x y h q. absurd cc;
+    arguments_alone = λ i k f e es seen fits l n s x y h q. absurd cc;
+    result_sound = λ k f e d seen fits l n m s x y h q. absurd cc;
+    result_alone = λ i k f e d seen fits l n s x y h q. absurd cc;
+    enter_in = λ bs s m k i. tt;
+    leave_in = λ bs s m k i. tt;
+    enter_alone = λ i bs s m k h. all_in p i s (killed bs m) k;
+    leave_alone = λ i bs s m k h. all_in p i s (killed bs m) k;
+    unified_left = λ s t m k i. tt;
+    unified_right = λ s t m k i. tt;
+    joined_left = λ s t m k i. tt;
+    joined_right = λ s t m k i. tt;
+    widened_left = λ s t m k i. tt;
+    leq_in = λ s t m k e i. tt;
+    reshared_in = λ s m k i. tt;
+    empty_in = λ m k. tt;
+    ended_sound = λ f e s x y h q. absurd cc;
+  }
+
+-- ---- main's result is the same number, or nothing is known
+
+equal : (v w : ℤ) → int_eq v w ≡ true → v ≡ w
+equal v w e = let h = from_between v w w v e in le_antisym v w h.0 h.1
+
+all_unsure : (p : Program) (ord : Side → Order) (i : Side) (m k : Memory) → InBeside p (StandsFor p ord) i unsure m k
+all_unsure p ord left m k = tt
+all_unsure p ord right m k = tt
+
+module _ (p : Program) (ord : Side → Order) where
+  abbrev In : Ends → Memory → Memory → Type 0
+  In = StandsFor p ord
+
+  module _ (m k : Memory) where
+    if_stands : (b : Bool) → (b ≡ true → SameResult p ord m k) → In (ends_if b) m k
+    if_stands true h = h refl
+    if_stands false h = tt
+
+    by_stands : (x y : Found) → result_found (ord left) p m ≡ x → result_found (ord right) p k ≡ y
+        → In (ends_by x y) m k
+    by_stands (has (int v)) (has (int w)) e f =
+        if_stands (int_eq v w)
+        (λ q. record { number = v; on_left = e; on_right = f ∙ ap (λ z. has (int z)) (sym (equal v w q)) })
+    by_stands (has (int v)) (has null) e f = tt
+    by_stands (has (int v)) (has (pointer b q)) e f = tt
+    by_stands (has (int v)) (faults c) e f = tt
+    by_stands (has null) y e f = tt
+    by_stands (has (pointer b q)) y e f = tt
+    by_stands (faults c) y e f = tt
+
+    either_left : (s t : Ends) → In s m k → In (either s t) m k
+    either_left ends_alike ends_alike i = i
+    either_left ends_alike unsure i = tt
+    either_left unsure t i = tt
+
+    either_right : (s t : Ends) → In t m k → In (either s t) m k
+    either_right ends_alike t i = i
+    either_right unsure t i = tt
+
+    within : (s t : Ends) → is_within s t ≡ true → In s m k → In t m k
+    within s unsure e i = tt
+    within ends_alike ends_alike e i = i
+    within unsure ends_alike e i = absurd cc
+
+  -- of one result, both machines end alike
+  ends : (r : Option (ℕ × Scalar)) (l : ℕ) (x y : State) (v : ℤ) → x.outputs ≡ y.outputs
+      → found_in (ord left) p r x.memory ≡ has (int v) → found_in (ord right) p r y.memory ≡ has (int v)
+      → EndAlike (main_ends (ord left) p r l x) (main_ends (ord right) p r l y)
+  ends None l x y v o e f = absurd cc
+  ends (Some r) l x y v o e f =
+      subst (λ d. EndAlike (result_out d l x) (result_out (found_in (ord right) p (Some r) y.memory) l y)) (sym e)
+      (subst (λ d. EndAlike (result_out (has (int v)) l x) (result_out d l y)) (sym f)
+      (record { defined = tt; ending = refl; outputs = ap (λ os. os ++ record { t = I32; value = v } ∷ []) o }))
+
+  ended : (f : Function) → slice_get p.functions p.main ≡ Some f → (s : Ends) (x y : State) → Kept p In s x y
+      → end_faults s ≡ [] → EndAlike (main_ends (ord left) p f.result f.line x)
+      (main_ends (ord right) p f.result f.line y)
+  ended f e unsure x y h q = absurd cc
+  ended f e ends_alike x y h q =
+      let r = h.stands.memories in
+      ends f.result f.line x y r.number h.stands.outputs
+      (subst (λ g. found_in (ord left) p (result_in g) x.memory ≡ has (int r.number)) e r.on_left)
+      (subst (λ g. found_in (ord right) p (result_in g) y.memory ≡ has (int r.number)) e r.on_right)
+
+  pub ends_lawful : Lawful p ord (of_ends p ord) In
+  ends_lawful = record {
+    entry_in = by_stands (initial (ord left) p) (initial (ord right) p) _ _ refl refl;
+    simple_sound = λ here f e w seen fits l n m s x y h q. simple_sound p In ord w f.result l n m s x y h q;
+    simple_alone = λ i here f e w seen fits l n s x y h q. simple_alone p In ord i w f.result l n s x y h q;
+    test_sound = λ e seen fits s x y h q. test_sound p In ord e x.memory y.memory q;
+    test_alone = λ i e seen fits s x y h q. test_alone p In ord (ord i) e x.memory q;
+    assume_in = λ e seen fits t u s x y h q c d. h.stands;
+    assume_alone = λ i e seen fits t s x y h q c. beside p In i s x y h;
+    arguments_sound = λ k f e es seen fits l n m s x y h q. absurd cc;
+    arguments_alone = λ i k f e es seen fits l n s x y h q. absurd cc;
+    result_sound = λ k f e d seen fits l n m s x y h q. absurd cc;
+    result_alone = λ i k f e d seen fits l n s x y h q. absurd cc;
+    enter_in = λ bs s m k i. tt;
+    leave_in = λ bs s m k i. tt;
+    enter_alone = λ i bs s m k h. all_unsure p ord i (killed bs m) k;
+    leave_alone = λ i bs s m k h. all_unsure p ord i (killed bs m) k;
+    unified_left = λ s t m k i. i;
+    unified_right = λ s t m k i. i;
+    joined_left = λ s t m k i. either_left m k s t i;
+    joined_right = λ s t m k i. either_right m k s t i;
+    widened_left = λ s t m k i. either_left m k s t i;
+    leq_in = λ s t m k e i. within m k s t e i;
+    reshared_in = λ s m k i. i;
+    empty_in = λ m k. tt;
+    ended_sound = λ f e s x y h q. ended f e s x y h q;
+  }
+
+-- int main(void) { }
+of_nothing : report_of (of_ends (program [] [] stop) usual) 32 100 usual (program [] [] stop) ≡ []
+of_nothing = refl

@@ -7,7 +7,8 @@ pub returns-clause-turns : goal.returns-clause-turns
 returns-clause-turns g c o u limit some ord p = turns_within o u limit some ord p
 
 pub returns-clause-places : goal.returns-clause-places
-returns-clause-places g c o honest u limit ord p = alarms_stand o honest u limit ord p
+returns-clause-places g c ops strides honest p ord formed built u limit =
+    alarms_stand p strides formed (ops p ord) (honest p ord formed built) u limit ord
 
 pub returns-clause-heads : goal.returns-clause-heads
 returns-clause-heads g c o u limit l e body turn h again same k = circle o u limit l e body turn h again same k
