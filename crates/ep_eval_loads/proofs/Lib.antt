@@ -1,0 +1,3 @@
+pub mod LoadSteps
+pub mod Sorts
+pub mod Taken

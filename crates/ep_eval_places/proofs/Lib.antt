@@ -1,0 +1,4 @@
+pub mod Held
+pub mod Odd
+pub mod Hulls
+pub mod ElementSums
