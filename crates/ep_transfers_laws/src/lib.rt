@@ -1,0 +1,32 @@
+//! The laws of what statements do to what is known of the cells of two memories: laws alone.
+#![tactic(auto)]
+
+ghost use Rattle.ep_transfers_laws.specs.Statements.{Each, StatementsHold, ResultsHold, TestsHold, BlocksHold, PairsHold};
+
+use ep_domain::Num;
+
+/// Does nothing: its contract is that statements which store one value, put one out or only evaluate are sound where
+/// both machines run and where one does, over every domain.
+pub fn statement_laws<N: Num>()
+    ensures { Each (StatementsHold N.ops) }
+{}
+
+/// Does nothing: its contract is that results of calls and of main are sound, over every domain.
+pub fn result_laws<N: Num>()
+    ensures { Each (ResultsHold N.ops) }
+{}
+
+/// Does nothing: its contract is that tests, and what assuming their truths leaves, are sound, over every domain.
+pub fn test_laws<N: Num>()
+    ensures { Each (TestsHold N.ops) }
+{}
+
+/// Does nothing: its contract is that blocks come and go soundly, on both sides and on one, over every domain.
+pub fn block_laws<N: Num>()
+    ensures { Each (BlocksHold N.ops) }
+{}
+
+/// Does nothing: its contract is that nothing is lost where two states are brought together, over every domain.
+pub fn pair_laws<N: Num>()
+    ensures { Each (PairsHold N.ops) }
+{}

@@ -1,0 +1,4 @@
+pub mod Scalars
+pub mod Runs
+pub mod Structs
+pub mod Calls
