@@ -42,7 +42,7 @@ use Rattle.ep_bytes.specs.Held.{blank as undefined_all}
 use Rattle.ep_values.specs.declared.setting.Setting.{Setting}
 use Rattle.ep_values.specs.Settings.{program_in, IsLaid}
 use Rattle.ep_values.proofs.Blocks.{get_map, missing, there}
-use Rattle.ep_steps.proofs.Clears.{from_below}
+use Rattle.ep_simple_steps.proofs.Clears.{from_below}
 
 -- ---- a leaf lies in its type, at a multiple of its size
 

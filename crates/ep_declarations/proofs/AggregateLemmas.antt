@@ -16,8 +16,8 @@ use Rattle.ep_ast.specs.BitField.{InMembers}
 use Rattle.ep_ast.specs.Reading.{Takes, TakesNone, Lacks, AtMark}
 use Rattle.ep_ast.specs.declared.refusals.Halt.{Halt}
 use Rattle.ep_ast.specs.declared.refusals.Halt.TheVariants as halts
-use Rattle.ep_exprs.specs.Words.{OneRead}
-use Rattle.ep_exprs.proofs.TypeWordLemmas.{apart, one_begins}
+use Rattle.ep_type_names.specs.Words.{OneRead}
+use Rattle.ep_type_names.proofs.TypeWordLemmas.{apart, one_begins}
 use Rattle.ep_reading.specs.Answer.{Clear, Fails}
 use Rattle.ep_declarations.specs.SpecAhead.{Ahead, over, fitting, begins_storage, begins_body, Opens}
 use Rattle.ep_declarations.specs.SpecAhead.{InAggregate, in_tagged, in_untagged, InBody}

@@ -15,7 +15,7 @@ use Rattle.ep_ast.specs.Reading.{Takes, TakesNone}
 use Rattle.ep_ast.specs.declared.refusals.Halt.{Halt}
 use Rattle.ep_ast.specs.declared.refusals.Halt.TheVariants as halts
 use Rattle.ep_reading.specs.Answer.{Clear, Fails}
-use Rattle.ep_exprs.proofs.TypeWordLemmas.{less_joined, less_whole, one_begins}
+use Rattle.ep_type_names.proofs.TypeWordLemmas.{less_joined, less_whole, one_begins}
 use Rattle.ep_declarations.specs.SpecAhead as ahead
 use Rattle.ep_declarations.specs.SpecAhead.{Ahead, over, fitting, InBody}
 

@@ -6,7 +6,7 @@ use Rattle.ep_ast.specs.TypeWords.{Bag, no_bag, fits, is_no_bag}
 use Rattle.ep_ast.specs.DeclarationGrammar.{Place, spec_joined, specs_joined}
 use Rattle.ep_ast.specs.Depth.{in_spec}
 use Rattle.ep_ast.specs.Reading.{Takes}
-use Rattle.ep_exprs.specs.Words.{bag}
+use Rattle.ep_type_names.specs.Words.{bag}
 use Rattle.ep_reading.specs.Measured.{Shows}
 use Rattle.ep_declarations.specs.declared.words.OneMore.{OneMore}
 use Rattle.ep_reading.specs.Answer.{IsTaken, Clear}

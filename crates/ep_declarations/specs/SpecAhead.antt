@@ -15,7 +15,7 @@ use Rattle.ep_ast.specs.DeclarationGrammar.{begins_spec, OneSpec, Specified}
 use Rattle.ep_ast.specs.BitField.{InSpecs, InMembers, InDeclarators}
 use Rattle.ep_ast.specs.Depth.{in_spec, in_member}
 use Rattle.ep_lexer.specs.Tokens.{view}
-use Rattle.ep_exprs.specs.Words.{bag}
+use Rattle.ep_type_names.specs.Words.{bag}
 use Rattle.ep_reading.specs.declared.reader.Part.{Part}
 use Rattle.ep_reading.specs.declared.measured.Measured.{Measured}
 use Rattle.ep_reading.specs.Measured.{Shows}

@@ -14,9 +14,9 @@ ghost use Rattle.ep_declarations.specs.SpecAhead.{AtBody, IsOpenPast, tag_text};
 
 use ep_ast::marks::LEFT_BRACE;
 use ep_ast::{DeclaratorTree, MemberTree, SpecTree, TypeWordTree};
-use ep_exprs::is_tag_word;
 use ep_lexer::Token;
 use ep_reading::{Head, Measured, at_mark, at_name, first_of};
+use ep_type_names::is_tag_word;
 use std::alloc::{AllocError, Global};
 
 /// A `struct` or `union` before its members: the line and the number of its word, its tag, what begins with the opening

@@ -19,9 +19,9 @@ use ep_ast::marks::LEFT_PAREN;
 use ep_ast::words::CONST;
 use ep_ast::{Halt, HeadTree, ParamsTree, SpecTree};
 use ep_declarators::head_parameters;
-use ep_exprs::stars;
 use ep_lexer::Token;
 use ep_reading::{Measured, Part, Reader, at_mark, at_name, at_word};
+use ep_type_names::stars;
 use std::alloc::{AllocError, Global};
 
 /// How many stars may stand before the name of a function.

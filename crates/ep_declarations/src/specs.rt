@@ -10,7 +10,7 @@ ghost use Rattle.ep_lexer.specs.Tokens.{view};
 ghost use Rattle.ep_reading.specs.Names.{is_type};
 ghost use Rattle.ep_reading.specs.Answer.{GivesChecked, IsPast};
 ghost use Rattle.ep_reading.specs.Measured.{Shows};
-ghost use Rattle.ep_exprs.specs.Words.{bag};
+ghost use Rattle.ep_type_names.specs.Words.{bag};
 ghost use Rattle.ep_declarations.specs.Answer as answers;
 ghost use Rattle.ep_declarations.specs.Answer.{ShowsSpecs, ShowsMembers, TakesBody, AsAggregate};
 ghost use Rattle.ep_declarations.specs.SpecAhead.{Ahead, InBody, InMember, ShowsMember, ShowsAhead, IsPastWord};
@@ -21,9 +21,9 @@ use crate::words::{OneMore, plain_word};
 use ep_ast::marks::RIGHT_BRACE;
 use ep_ast::{AggregateTree, Halt, MemberTree, SpecTree};
 use ep_declarators::member_declarators;
-use ep_exprs::TypeBag;
 use ep_lexer::Token;
 use ep_reading::{Measured, Part, Reader, at_mark};
+use ep_type_names::TypeBag;
 use std::alloc::{AllocError, Global};
 
 /// Where a declaration stands. Members in braces stand in all but a block, `static` and `inline` at file scope alone.

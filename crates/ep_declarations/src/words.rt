@@ -7,7 +7,7 @@ ghost use Rattle.ep_ast.specs.DeclarationGrammar as grammar;
 ghost use Rattle.ep_lexer.specs.Tokens.{view};
 ghost use Rattle.ep_reading.specs.Names.{is_type};
 ghost use Rattle.ep_reading.specs.Answer.{GivesChecked};
-ghost use Rattle.ep_exprs.specs.Words.{bag};
+ghost use Rattle.ep_type_names.specs.Words.{bag};
 ghost use Rattle.ep_declarations.specs.Answer as answers;
 ghost use Rattle.ep_declarations.specs.SpecAhead.{Ahead, InBody, ShowsAhead, IsPastWord, AtStorage, begins_body};
 ghost use Rattle.ep_declarations.specs.SpecAhead.{seen_storage, IsPastStorage};
@@ -16,9 +16,9 @@ use crate::specs::Place;
 use ep_ast::marks::LEFT_BRACE;
 use ep_ast::words::{INLINE, STATIC};
 use ep_ast::{Halt, SpecTree, TypeWordTree};
-use ep_exprs::{TypeBag, next_word};
 use ep_lexer::Token;
 use ep_reading::{Head, Measured, Part, Reader, at_mark, first_of};
+use ep_type_names::{TypeBag, next_word};
 
 /// A word, whether it is a `struct` or `union` with its members, and how many words of each sort there are with it.
 #[derive(Drop)]

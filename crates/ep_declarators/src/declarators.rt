@@ -14,9 +14,9 @@ use crate::bracketed::{bounds, derived};
 use ep_ast::marks::{COLON, COMMA, SEMICOLON};
 use ep_ast::words::CONST;
 use ep_ast::{DeclaratorTree, ExprTree, Halt, Refusal};
-use ep_exprs::stars;
 use ep_lexer::Token;
 use ep_reading::{Measured, Part, Reader, at_mark, at_name, at_word};
+use ep_type_names::stars;
 use std::alloc::{AllocError, Global};
 
 /// The name that is declared, and the declarator where it isn't too deep.

@@ -20,9 +20,9 @@ use crate::bracketed::{bounds, derived};
 use ep_ast::marks::{COMMA, RIGHT_PAREN};
 use ep_ast::words::VOID;
 use ep_ast::{ExprTree, Halt, ParamTree, ParamsTree, TypeWordTree};
-use ep_exprs::{stars, type_words};
 use ep_lexer::Token;
 use ep_reading::{Measured, Part, Reader, at_mark, at_name, at_word};
+use ep_type_names::{stars, type_words};
 use std::alloc::{AllocError, Global};
 
 /// What stands between the brackets of a head, where none of it is too deep, and whether every parameter has a name.

@@ -1,5 +1,3 @@
-pub mod TypeWordLemmas
-pub mod StarLemmas
 pub mod KeptLemmas
 pub mod MarkLemmas
 pub mod PrimaryLemmas

@@ -16,7 +16,7 @@ use Rattle.ep_exprs.specs.Look.{begins_cast, AtCast}
 use Rattle.ep_exprs.specs.Pending.{begins_unary}
 use Rattle.ep_exprs.proofs.MarkLemmas.{both_true, ends_unary, ends_cast, ends_postfix, prefix_not_paren, step_not_paren}
 use Rattle.ep_exprs.proofs.MarkLemmas.{prefix_not_step}
-use Rattle.ep_exprs.proofs.TypeWordLemmas.{one_begins}
+use Rattle.ep_type_names.proofs.TypeWordLemmas.{one_begins}
 
 sizeof_no_type : (w : ℕ) → w ≡ sizeof_word → (is_type_word w || is_tag_word w) ≡ true → ⊥
 sizeof_no_type w k h = let f : (is_type_word sizeof_word || is_tag_word sizeof_word) ≡ true = rw k at h in cc

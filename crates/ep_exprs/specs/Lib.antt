@@ -1,5 +1,4 @@
 pub mod Look
-pub mod Words
 pub mod Kept
 pub mod Pending
 pub mod Parsed

@@ -91,16 +91,16 @@ fn over(operand: Kept) -> Option<(ExprTree, u32)>
 fn both(left: Kept, right: Kept) -> Option<(ExprTree, ExprTree, u32)>
     ensures { (s t : Expr) → Shows left s → Shows right t → Pair result s t }
 {
-    match (left.tree, right.tree) {
-        (Some(a), Some(b)) => {
-            let height = left.height.max(right.height);
-            if height < 64 {
-                Some((a, b, height + 1))
-            } else {
-                None
-            }
-        }
-        _ => None,
+    let height = left.height.max(right.height);
+    if height >= 64 {
+        return None;
+    }
+    match left.tree {
+        None => None,
+        Some(a) => match right.tree {
+            None => None,
+            Some(b) => Some((a, b, height + 1)),
+        },
     }
 }
 

@@ -1,4 +1,4 @@
-//! Reading expressions and the names of types.
+//! Reading expressions.
 #![tactic(auto)]
 
 mod frames;
@@ -6,11 +6,8 @@ mod kept;
 mod look;
 mod parser;
 mod place;
-mod words;
 
 pub use ep_reading::TypeNames;
 pub use kept::Kept;
-pub use look::{begins_type, is_tag_word};
 pub use parser::read_expression;
 pub use place::expression;
-pub use words::{TypeBag, next_word, stars, type_words};

@@ -4,7 +4,6 @@ ghost use Rattle.std.specs.Prelude.{◌≡◌, length, map, IfSome};
 ghost use Rattle.std.specs.Option.{option_map};
 ghost use Rattle.ep_ast.specs.Grammar as grammar;
 ghost use Rattle.ep_ast.specs.Reading.{is_suffix};
-ghost use Rattle.ep_ast.specs.TypeWords as words;
 ghost use Rattle.ep_lexer.specs.Tokens.{view};
 ghost use Rattle.ep_reading.specs.Names.{is_type};
 ghost use Rattle.ep_reading.specs.Look.{IsShorter, seen};
@@ -18,9 +17,9 @@ use ep_ast::marks::{
     PLUS_PLUS, RIGHT_BRACE, RIGHT_BRACKET, RIGHT_PAREN, RIGHT_SHIFT, RIGHT_SHIFT_EQUAL, SEMICOLON,
     SLASH, STAR, TILDE,
 };
-use ep_ast::words::{CHAR, CONST, INT, LONG, SHORT, SIGNED, STRUCT, UNION, UNSIGNED, VOID};
 use ep_lexer::{Token, TokenKind};
 use ep_reading::{Head, TypeNames, at_mark, first_of};
+use ep_type_names::begins_type;
 
 /// The level of a binary operator, 0 for other marks.
 fn level(code: u8) -> u8
@@ -120,36 +119,6 @@ pub fn begins_suffix(tokens: &[Token]) -> bool
 {
     match first_of(tokens) {
         Head::Mark(_, code, _) => is_suffix(code),
-        _ => false,
-    }
-}
-
-pub fn is_type_word(code: u8) -> bool
-    ensures { result ≡ words.is_type_word code }
-{
-    code == CHAR
-        || code == CONST
-        || code == INT
-        || code == LONG
-        || code == SHORT
-        || code == SIGNED
-        || code == UNSIGNED
-        || code == VOID
-}
-
-pub fn is_tag_word(code: u8) -> bool
-    ensures { result ≡ words.is_tag_word code }
-{
-    code == STRUCT || code == UNION
-}
-
-/// Whether a word of a type stands first.
-pub fn begins_type(names: &TypeNames, tokens: &[Token]) -> bool
-    ensures { result ≡ words.begins_type (is_type names.now) (map view tokens.now) }
-{
-    match first_of(tokens) {
-        Head::Word(_, code, _) => is_type_word(code) || is_tag_word(code),
-        Head::Name(_, text, _) => names.has(text),
         _ => false,
     }
 }

@@ -18,7 +18,6 @@ use crate::kept::{
     Arguments, Kept, Prefix, Suffix, binary as joined, name, number, size_of, suffixed,
 };
 use crate::look::{at_assignment, at_operator, begins_cast, begins_suffix};
-use crate::words::type_name;
 use ep_ast::Halt;
 use ep_ast::marks::{
     ARROW, COLON, COMMA, DOT, LEFT_BRACKET, LEFT_PAREN, MINUS_MINUS, PLUS_PLUS, QUESTION,
@@ -26,6 +25,7 @@ use ep_ast::marks::{
 };
 use ep_lexer::Token;
 use ep_reading::{Head, Part, Reader, TypeNames, at_mark, at_name, first_of};
+use ep_type_names::type_name;
 
 /// The assignment mark behind the first operand and what comes after it, where an assignment may stand.
 fn assigned<'a>(

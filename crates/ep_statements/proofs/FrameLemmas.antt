@@ -7,7 +7,7 @@ use Rattle.ep_ast.specs.Statement.{First, Stmt, make_if}
 use Rattle.ep_ast.specs.Mark.{else_word}
 use Rattle.ep_ast.specs.StatementGrammar.{States, no_else, else_too}
 use Rattle.ep_ast.specs.Reading.{Takes, TakesNone, LacksWord, AtWord}
-use Rattle.ep_statements.specs.Piece.{DoEnd}
+use Rattle.ep_simple_statements.specs.Piece.{DoEnd}
 use Rattle.ep_statements.specs.Around.{Outer, if_head, else_head, while_head, for_head, do_head, chosen, chosen_else}
 use Rattle.ep_statements.specs.Around.{repeated, turned, done, Unwinds, no_heads, one_head, Reaches, Finishes, Opens}
 

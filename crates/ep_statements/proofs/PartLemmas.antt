@@ -22,8 +22,8 @@ use Rattle.ep_statement_parts.specs.Shown.{body}
 use Rattle.ep_ast.specs.Cut.{order_token}
 use Rattle.ep_reading.specs.Look.{LacksIf, LacksElse, LacksEndIf, ends_arm}
 use Rattle.ep_reading.proofs.SequenceLemmas.{Both, Makes}
-use Rattle.ep_statements.proofs.HeadLemmas.{begins_expr, begins_not}
-use Rattle.ep_statements.proofs.PieceLemmas.{declares_begins, type_no_up_to}
+use Rattle.ep_simple_statements.proofs.SimpleLemmas.{begins_expr, begins_not}
+use Rattle.ep_simple_statements.proofs.PieceLemmas.{declares_begins, type_no_up_to}
 
 no_type_word : (c n : ℕ) → c ≡ n → (is_type_word n || is_tag_word n) ≡ false → (is_type_word c || is_tag_word c) ≡ true
     → ⊥

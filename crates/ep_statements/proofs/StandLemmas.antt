@@ -17,7 +17,7 @@ use Rattle.ep_ast.specs.declared.statements.HeadingTree.{HeadingTree}
 use Rattle.ep_statements.specs.declared.frames.Frame.{Frame}
 use Rattle.ep_statements.specs.declared.frames.Frame.TheVariants as frames
 use Rattle.ep_statement_parts.specs.Shown.{ShowsTest, ShowsHeading, ShowsStmt}
-use Rattle.ep_statements.specs.Piece.{DoEnd}
+use Rattle.ep_simple_statements.specs.Piece.{DoEnd}
 use Rattle.ep_statements.specs.Around.{Outer, if_head, else_head, while_head, for_head, do_head, Finishes, Opened}
 use Rattle.ep_statements.specs.Around.{Waits, Stands}
 use Rattle.ep_statements.proofs.FrameLemmas as steps

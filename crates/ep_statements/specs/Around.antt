@@ -18,7 +18,7 @@ use Rattle.ep_statements.specs.declared.frames.Closed.TheVariants as closes
 use Rattle.ep_statements.specs.declared.frames.Completed.{Completed}
 use Rattle.ep_statements.specs.declared.frames.Completed.TheVariants as completes
 use Rattle.ep_statement_parts.specs.Shown.{ShowsTest, ShowsHeading, ShowsStmt}
-use Rattle.ep_statements.specs.Piece.{DoEnd, HasNoHead}
+use Rattle.ep_simple_statements.specs.Piece.{DoEnd, HasNoHead}
 
 pub data Outer : Type 0 where
   if_head : (line : ℕ) (test : Expr) → Outer

@@ -9,17 +9,17 @@ ghost use Rattle.ep_reading.specs.Names.{is_type};
 ghost use Rattle.ep_reading.specs.Answer.{Gives, IsPast, IsWithin};
 ghost use Rattle.ep_statement_parts.specs.Answer.{ShowsBlock};
 ghost use Rattle.ep_statement_parts.specs.Shown.{ShowsStmt, ShowsPart, ShowsStmts, ShowsParts, ShowsOther};
-ghost use Rattle.ep_statements.specs.Piece.{HasNoHead};
+ghost use Rattle.ep_simple_statements.specs.Piece.{HasNoHead};
 
 use crate::frames::{Completed, complete, opening};
-use crate::simple::simple;
 use ep_ast::marks::{LEFT_BRACE, RIGHT_BRACE};
 use ep_ast::{BlockItemTree, BlockTree, Halt, StmtTree};
 use ep_declarations::declaration;
-use ep_exprs::begins_type;
 use ep_lexer::Token;
 use ep_reading::{Measured, Part, Reader, at_else, at_end_if, at_if, at_mark, ends_arm};
+use ep_simple_statements::simple;
 use ep_statement_parts::{Counted, block_of, block_tree_of, declares, one_arm, states, two_arms};
+use ep_type_names::begins_type;
 
 /// The body of a function, with its braces.
 pub fn block<'a>(

@@ -9,11 +9,11 @@ ghost use Rattle.ep_statements.specs.Around.{Stands, Closes, Completes, GivesSta
 ghost use Rattle.ep_statements.specs.declared.frames.Frame.{Frame as Pending};
 ghost use Rattle.ep_statements.specs.declared.frames.Frame.TheVariants as frames;
 
-use crate::pieces::{do_end, for_heading, in_parens};
 use ep_ast::words::{DO, ELSE, FOR, IF, WHILE};
 use ep_ast::{ExprTree, Halt, HeadingTree, StmtTree};
 use ep_lexer::Token;
 use ep_reading::{Head, Measured, Part, Reader, at_word, first_of};
+use ep_simple_statements::{do_end, for_heading, in_parens};
 use ep_statement_parts::{Counted, do_loop, for_loop, if_else, if_then, while_loop};
 use std::alloc::{AllocError, Global};
 

@@ -3,7 +3,5 @@
 
 mod blocks;
 mod frames;
-mod pieces;
-mod simple;
 
 pub use blocks::block;

@@ -1,4 +1,2 @@
-pub mod Zeros
-pub mod Found
 pub mod Ready
 pub mod Results

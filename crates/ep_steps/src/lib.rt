@@ -1,9 +1,7 @@
 //! Statements of a program on a machine of a byte order, step by step.
 #![tactic(auto)]
 
-mod clearing;
 mod moves;
-mod statements;
 mod steps;
 
 pub use steps::{Stop, execute};

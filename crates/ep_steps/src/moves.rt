@@ -13,14 +13,14 @@ ghost use Rattle.ep_steps.specs.Ready.{IsOpened, IsReady};
 ghost use Rattle.ep_frames.specs.Stack.{again_of, list_of, now_of, one_of, piled, result_at, takes_step};
 ghost use Rattle.ep_frames.specs.Stack.{ComesTo, ListFits, NowFits, OneFits, PileFits, RoundFits};
 
-use crate::statements::{
-    assign, clear, copy_aggregate, copy_bytes, eval, fill, give_back, input, output, read_bytes,
-    write_bytes,
-};
 use ep_core::tree::{Expr, Stmt, What};
 use ep_frames::{Frame, Now, Round, Way, call, leave, push};
 use ep_int::{Memory, Order, Scalar};
 use ep_machine::Machine;
+use ep_simple_steps::{
+    assign, clear, copy_aggregate, copy_bytes, eval, fill, give_back, input, output, read_bytes,
+    write_bytes,
+};
 use ep_values::{Setting, is_true};
 use std::alloc::Global;
 

@@ -8,7 +8,7 @@ use Rattle.ep_ast.specs.Depth.{in_member}
 use Rattle.ep_lexer.specs.Tokens.{view}
 use Rattle.ep_reading.proofs.MeasuredLemmas.{longer_shows}
 use Rattle.ep_reading.specs.Names.{is_type}
-use Rattle.ep_exprs.specs.Words.{bag}
+use Rattle.ep_type_names.specs.Words.{bag}
 use Rattle.ep_declarations.specs.Answer.{place}
 use Rattle.ep_declarations.specs.SpecAhead.{Ahead, InBody, InMember, tag_text}
 use Rattle.ep_declarations.proofs.SpecLemmas.{passes, fits_is, specs_taken, specs_none, specs_stuck, specs_in}

@@ -3,7 +3,7 @@ use Rattle.ep_ast.specs.Declaration.{Spec, Member}
 use Rattle.ep_ast.specs.TypeWords.{fits}
 use Rattle.ep_lexer.specs.Tokens.{view}
 use Rattle.ep_reading.specs.Names.{is_type}
-use Rattle.ep_exprs.specs.Words.{bag}
+use Rattle.ep_type_names.specs.Words.{bag}
 use Rattle.ep_declarations.specs.Answer.{place, ShowsSpecs, ShowsMembers}
 use Rattle.ep_declarations.specs.SpecAhead.{are_none}
 use Rattle.ep_declarations.proofs.SpecLemmas.{SpecsSo}

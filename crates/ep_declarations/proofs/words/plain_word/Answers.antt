@@ -5,7 +5,7 @@ use Rattle.ep_ast.specs.Expression.{type_word}
 use Rattle.ep_ast.specs.Declaration.{plain}
 use Rattle.ep_lexer.specs.Tokens.{view}
 use Rattle.ep_reading.specs.Names.{is_type}
-use Rattle.ep_exprs.specs.Words.{bag}
+use Rattle.ep_type_names.specs.Words.{bag}
 use Rattle.ep_declarations.specs.Answer.{place}
 use Rattle.ep_declarations.proofs.SpecLemmas.{fits_is}
 use Rattle.ep_declarations.proofs.AggregateLemmas as ahead

@@ -13,7 +13,7 @@ use Rattle.ep_exprs.proofs.KeptLemmas.{reverse-last}
 use Rattle.ep_reading.proofs.PassLemmas.{stops_stop}
 use Rattle.ep_statement_parts.specs.Shown.{ShowsStmt}
 use Rattle.ep_ast.specs.Cut.{order_token}
-use Rattle.ep_statements.specs.Piece.{HasNoHead}
+use Rattle.ep_simple_statements.specs.Piece.{HasNoHead}
 use Rattle.ep_statements.specs.Around.{Waits, Stands, Opened}
 use Rattle.ep_reading.proofs.SequenceLemmas.{made, made_none, both_takes, both_first, both_second}
 use Rattle.ep_statement_parts.proofs.DepthLemmas.{longer_stmts, longer_parts, empty_stmts, empty_parts}

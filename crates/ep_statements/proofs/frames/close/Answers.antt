@@ -4,7 +4,7 @@ use Rattle.ep_ast.specs.StatementGrammar.{States}
 use Rattle.ep_lexer.specs.Tokens.{view}
 use Rattle.ep_reading.specs.Names.{is_type}
 use Rattle.ep_reading.proofs.PassLemmas.{stops_stop}
-use Rattle.ep_statements.specs.Piece.{DoEnd}
+use Rattle.ep_simple_statements.specs.Piece.{DoEnd}
 use Rattle.ep_statements.proofs.StandLemmas as stands
 use Rattle.ep_statements.proofs.frames.close.Goals as goal
 use Rattle.ep_statements.proofs.frames.close.Goals.{in-Else+in_ok-whole-in-Else, in-While+in_ok-whole-in-While}

@@ -5,7 +5,7 @@ use Rattle.ep_ast.specs.StatementGrammar.{InParens, States}
 use Rattle.ep_lexer.specs.Tokens.{view}
 use Rattle.ep_reading.specs.Names.{is_type}
 use Rattle.ep_reading.proofs.PassLemmas.{stops_stop}
-use Rattle.ep_statements.specs.Piece.{Headings}
+use Rattle.ep_simple_statements.specs.Piece.{Headings}
 use Rattle.ep_statements.specs.Around.{if_head, while_head, for_head, do_head}
 use Rattle.ep_statements.proofs.HeadLemmas.{opens, opens_none, if_rule, while_rule, for_rule, do_rule, same_taken}
 use Rattle.ep_statements.proofs.HeadLemmas.{word_no_head, no_token_no_head}

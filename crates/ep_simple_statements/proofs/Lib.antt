@@ -1,0 +1,2 @@
+pub mod SimpleLemmas
+pub mod PieceLemmas

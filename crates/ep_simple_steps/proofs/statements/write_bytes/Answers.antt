@@ -1,0 +1,27 @@
+use Rattle.std.proofs.Common.{ℕ, sym, ap, ◌∙◌}
+use Rattle.ep_core.specs.Exec.{Outcome, bytewise_rest, counted, out_of}
+use Rattle.ep_values.specs.Settings.{program_in}
+use Rattle.ep_machine.specs.Machines.{state_in}
+use Rattle.ep_simple_steps.proofs.statements.write_bytes.Goals as goal
+
+pub returns-in-Err-clause-comes : goal.returns-in-Err-clause-comes
+returns-in-Err-clause-comes c left =
+    let s = state_in c.args.machine.now in
+    let go : ℕ → ℕ → Outcome
+    = λ b q. bytewise_rest counted (out_of c.args.on.now.order (program_in c.args.on.now) b c.args.line) c.args.n q left s in
+    sym (c.in-Err.ensures.comes c.args.line go)
+
+pub returns-then-n-eq0-clause-comes : goal.returns-then-n-eq0-clause-comes
+returns-then-n-eq0-clause-comes c left =
+    let s = state_in c.args.machine.now in
+    let go : ℕ → ℕ → Outcome
+    = λ b q. bytewise_rest counted (out_of c.args.on.now.order (program_in c.args.on.now) b c.args.line) c.args.n q left s in
+    ap (λ k. bytewise_rest counted (out_of c.args.on.now.order (program_in c.args.on.now) c.in-Ok.at.0 c.args.line) k c.in-Ok.at.1 left s) (sym c.if-n-eq0.true)
+    ∙ sym (c.in-Ok.ensures.comes c.args.line go)
+
+pub returns-in_ok-next-in-Ok-clause-comes : goal.returns-in_ok-next-in-Ok-clause-comes
+returns-in_ok-next-in-Ok-clause-comes c left =
+    let s = state_in c.args.machine.now in
+    let go : ℕ → ℕ → Outcome
+    = λ b q. bytewise_rest counted (out_of c.args.on.now.order (program_in c.args.on.now) b c.args.line) c.args.n q left s in
+    c.in_ok-next-in-Ok.ensures.comes left ∙ sym (c.in-Ok.ensures.comes c.args.line go)

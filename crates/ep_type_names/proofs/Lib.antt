@@ -1,0 +1,2 @@
+pub mod TypeWordLemmas
+pub mod StarLemmas
