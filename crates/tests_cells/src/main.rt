@@ -2,10 +2,8 @@
 //! leaves or answers is written.
 #![tactic(auto)]
 
-mod reading;
 mod rows;
 mod synthesis;
-mod writing;
 
 use std::io::{self, BufRead, BufReader};
 

@@ -1,9 +1,7 @@
 // Lines of the table, and what they are answered.
 ghost use Rattle.std.specs.Prelude.{◌≡◌, IfSome};
 
-use crate::reading::{self, Numbers};
 use crate::synthesis::{read, split, unify};
-use crate::writing;
 use ep_bitslice::Side;
 use ep_cell_changes::check::is_cell;
 use ep_cell_changes::entry::are_leaves;
@@ -12,6 +10,8 @@ use ep_int::{Model, Order};
 use ep_layout::Leaf;
 use ep_states::State;
 use std::alloc::Global;
+use tests_cell_words::reading::{self, Numbers};
+use tests_cell_words::writing;
 
 #[derive(Clone, Copy)]
 pub(crate) struct Setting {

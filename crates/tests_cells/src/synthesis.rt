@@ -1,10 +1,23 @@
 // Lines of the table on reads, splits and unifications.
-use crate::reading::{self, Numbers};
 use crate::rows::{Setting, state, text};
-use crate::writing;
 use ep_bitslice::Side;
 use ep_cells::Place;
+use ep_state_synthesis::ReadValue;
 use ep_states::State;
+use std::alloc::{AllocError, Global};
+use tests_cell_words::reading::{self, Numbers};
+use tests_cell_words::writing::{push_form, push_value, word};
+
+// What is read of a scalar: its value, whether it may be undefined or mixed, and its form.
+fn read_value(alloc: Global, r: &ReadValue<Numbers>) -> Result<String, AllocError> {
+    let mut out = String::new(alloc);
+    push_value(alloc, &mut out, &r.value)?;
+    let (maybe, mixed) = (word(r.maybe), word(r.mixed));
+    let flags = format!(in alloc; " {maybe} {mixed} ")?;
+    out.push_str(flags.as_str())?;
+    push_form(alloc, &mut out, &r.form)?;
+    Ok(out)
+}
 
 /// The side, the block, the offset and the type.
 pub(crate) fn read(setting: Setting, arguments: &str, cells: &str) -> Option<String> {
@@ -15,7 +28,7 @@ pub(crate) fn read(setting: Setting, arguments: &str, cells: &str) -> Option<Str
     let what = reading::scalar(arguments.next()?)?;
     let state = state(setting, cells)?;
     let r = ep_state_synthesis::read(&state, side, block, offset, what).ok()?;
-    writing::read_value(setting.alloc, &r).ok()
+    read_value(setting.alloc, &r).ok()
 }
 
 // A place of one side alone is split.

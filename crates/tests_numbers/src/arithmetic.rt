@@ -1,7 +1,7 @@
 // What C's operators give at the edges of the types.
-use crate::words::{int_type, operator};
 use ep_int::{BinOp, IntType, Undef, arith, common, promote, wrap};
 use std::test::Fail;
+use tests_words::{int_type, operator};
 
 // What C gives at the edges of the types: computed by gcc 12, and where behaviour is undefined named by its sanitizer.
 const ROWS: &str = "\

@@ -2,10 +2,10 @@
 ghost use Rattle.std.specs.Prelude.{◌↔◌, IsTrue};
 ghost use Rattle.ep_range_laws.specs.Ranges.{IsRange};
 
-use crate::words::{Ends, ends, int_type, maybe_ends, operator};
 use ep_domain::range_fault;
 use ep_int::{BinOp, IntType, greatest, least};
 use std::test::Fail;
+use tests_words::{Ends, ends, int_type, maybe_ends, operator};
 
 // The operator, the type, two ranges, and the range that is shown.
 const FAULTS: &str = "\

@@ -1,9 +1,9 @@
 // What becomes of intervals.
-use crate::words::{Ends, comparison, ends, int_type, maybe_ends, operator};
 use ep_domain::Num;
 use ep_int::{BinOp, IntType, greatest, least};
 use ep_intervals::Interval;
 use std::test::Fail;
+use tests_words::{Ends, comparison, ends, int_type, maybe_ends, operator};
 
 // The operator, the type, two intervals, the results, and the range that the fault shows.
 const OPERATORS: &str = "\

@@ -1,63 +1,15 @@
 // Whole calls, over a source and a sink in memory.
-use endport::{Status, endport};
-use ep_io::{MemSink, MemSource};
+use endport::Status;
 use std::alloc::Global;
 use std::process::Abort;
 use std::test::Fail;
-
-const CHECK: &[&str] = &["endport", "check", "file.c"];
+use tests_calls::{Case, USAGE_TEXT, call};
 
 const NUMBER: &str = "int main(void) {\n  uint32_t x;\n  x = ep_in_u32();\n  ep_out_u32(x);\n}\n";
 
 const BYTES: &str = "int main(void) {\n  uint32_t x;\n  x = ep_in_u32();\n  ep_write(&x, 4);\n}\n";
 
 const DIFFERS: &str = "4: E1 output-differs left [0,255] right [0,255]\n1 alarms\n";
-
-/// What a call is given: its words, what stands under `file.c`, and the calls of source and sink that fail.
-#[derive(Clone, Copy)]
-pub(crate) struct Case<'a> {
-    pub words: &'a [&'a str],
-    pub source: &'a [u8],
-    pub failing_read: Option<u32>,
-    pub failing_write: Option<u32>,
-}
-
-impl<'a> Case<'a> {
-    pub(crate) fn check(source: &'a [u8]) -> Case<'a> {
-        Case {
-            words: CHECK,
-            source,
-            failing_read: None,
-            failing_write: None,
-        }
-    }
-}
-
-fn numbers(alloc: Global, number: Option<u32>) -> Result<Vec<u32>, Fail> {
-    Ok(match number {
-        Some(number) => vec![in alloc; number]?,
-        None => Vec::new(alloc),
-    })
-}
-
-/// The status of a call and what it wrote, with a sink that takes four bytes at once. Where memory runs
-/// out nothing is written, and the test ends so.
-fn call(rt: &impl Abort, alloc: Global, case: &Case) -> Result<(Status, Vec<u8>), Fail> {
-    let mut words = Vec::new(alloc);
-    for word in case.words.iter() {
-        words.push(String::from_str(alloc, word)?)?;
-    }
-    let name = Vec::from_slice(alloc, b"file.c")?;
-    let content = Vec::from_slice(alloc, case.source)?;
-    let mut source = MemSource::new(name, content, numbers(alloc, case.failing_read)?, 1000);
-    let mut sink = MemSink::new(alloc, 1000, numbers(alloc, case.failing_write)?, 4)?;
-    let status = endport(alloc, &words, &mut source, &mut sink);
-    if status == Status::Memory {
-        assert!(rt; sink.bytes().is_empty());
-        return Err("memory")?;
-    }
-    Ok((status, Vec::from_slice(alloc, sink.bytes())?))
-}
 
 pub(crate) fn expect(
     rt: &impl Abort,
@@ -66,7 +18,7 @@ pub(crate) fn expect(
     status: Status,
     text: &str,
 ) -> Result<(), Fail> {
-    let (ended, written) = call(rt, alloc, case)?;
+    let (ended, written) = call(alloc, case)?;
     assert_eq!(rt; ended, status);
     assert_eq!(rt; written.as_slice(), text.as_bytes());
     Ok(())
@@ -259,12 +211,6 @@ fn operators_tests_and_loops(rt: HostRuntime) -> Result<(), Fail> {
     }
     Ok(())
 }
-
-pub(crate) const USAGE_TEXT: &str = "usage:
-  endport check FILE
-  endport run --order little|big|swapped-words --steps N [--model ilp32|lp64] FILE [INPUT..]
-  endport layout [--model ilp32|lp64] FILE
-";
 
 #[test]
 fn words_and_the_usage_text(rt: HostRuntime) -> Result<(), Fail> {

@@ -4,12 +4,4 @@
 #[cfg(test)]
 mod calls;
 #[cfg(test)]
-mod checks;
-#[cfg(test)]
 mod commands;
-#[cfg(test)]
-mod copies;
-#[cfg(test)]
-mod system;
-#[cfg(test)]
-mod unbuilt;

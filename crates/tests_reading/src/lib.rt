@@ -1,11 +1,5 @@
-//! Tests of what reads a source: its tokens, expressions, declarations and programs.
+//! Tests of the reader of programs: declarations, statements and functions.
 #![tactic(auto)]
 
 #[cfg(test)]
-mod expressions;
-#[cfg(test)]
 mod programs;
-#[cfg(test)]
-mod refusals;
-#[cfg(test)]
-mod tokens;

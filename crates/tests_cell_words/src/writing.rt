@@ -5,7 +5,6 @@ use ep_cells::{Cell, Value};
 use ep_domain::Num;
 use ep_int::{IntType, Scalar};
 use ep_pointers::PtrValue;
-use ep_state_synthesis::ReadValue;
 use std::alloc::{AllocError, Global};
 
 fn side(side: Side) -> &'static str {
@@ -58,7 +57,8 @@ fn push_pointer(alloc: Global, out: &mut String, p: &PtrValue<Numbers>) -> Resul
     Ok(())
 }
 
-fn push_value(
+/// A value, or `none`.
+pub fn push_value(
     alloc: Global,
     out: &mut String,
     value: &Option<Value<Numbers>>,
@@ -91,7 +91,8 @@ fn segment(alloc: Global, s: &Segment) -> Result<String, AllocError> {
     }
 }
 
-fn push_form(alloc: Global, out: &mut String, form: &Option<Form>) -> Result<(), AllocError> {
+/// A form, or `-`.
+pub fn push_form(alloc: Global, out: &mut String, form: &Option<Form>) -> Result<(), AllocError> {
     match form {
         None => out.push_str("-"),
         Some(f) => push_segments(alloc, out, f.segments()),
@@ -107,11 +108,7 @@ fn push_segments(alloc: Global, out: &mut String, segments: &[Segment]) -> Resul
 }
 
 /// A cell, and a comma.
-pub(crate) fn push_cell(
-    alloc: Global,
-    out: &mut String,
-    c: &Cell<Numbers>,
-) -> Result<(), AllocError> {
+pub fn push_cell(alloc: Global, out: &mut String, c: &Cell<Numbers>) -> Result<(), AllocError> {
     let (side, block, offset, what) = (side(c.side), c.block, c.offset, scalar(c.what));
     let maybe = word(c.maybe);
     let head = format!(in alloc; "{side} {block} {offset} {what} {maybe} ")?;
@@ -125,23 +122,13 @@ pub(crate) fn push_cell(
     out.push_str(", ")
 }
 
-fn word(is_so: bool) -> &'static str {
+/// `yes` or `no`.
+pub fn word(is_so: bool) -> &'static str {
     if is_so { "yes" } else { "no" }
 }
 
-/// What is read of a scalar: its value, whether it may be undefined or mixed, and its form.
-pub(crate) fn read_value(alloc: Global, r: &ReadValue<Numbers>) -> Result<String, AllocError> {
-    let mut out = String::new(alloc);
-    push_value(alloc, &mut out, &r.value)?;
-    let (maybe, mixed) = (word(r.maybe), word(r.mixed));
-    let flags = format!(in alloc; " {maybe} {mixed} ")?;
-    out.push_str(flags.as_str())?;
-    push_form(alloc, &mut out, &r.form)?;
-    Ok(out)
-}
-
 /// Cells, each with a comma behind it.
-pub(crate) fn cells(alloc: Global, cells: &[Cell<Numbers>]) -> Result<String, AllocError> {
+pub fn cells(alloc: Global, cells: &[Cell<Numbers>]) -> Result<String, AllocError> {
     let mut out = String::new(alloc);
     for c in cells {
         push_cell(alloc, &mut out, c)?;

@@ -1,9 +1,9 @@
 // What becomes of congruence classes. A class is written as its remainder and its modulus.
-use crate::words::{Ends, comparison, ends, int_type, maybe_ends, operator};
 use ep_congruence::Congruence;
 use ep_domain::Num;
 use ep_int::{BinOp, IntType};
 use std::test::Fail;
+use tests_words::{Ends, class, comparison, ends, int_type, maybe_class, maybe_ends, operator};
 
 // A remainder and a modulus, and whether there is such a class.
 const MADE: &str = "\
@@ -244,19 +244,6 @@ struct Row {
     y: Congruence,
     value: Option<Congruence>,
     shown: Option<Ends>,
-}
-
-pub(crate) fn class(word: &str) -> Option<Congruence> {
-    let (remainder, modulus) = word.split_once('%')?;
-    Congruence::of(remainder.parse().ok()?, modulus.parse().ok()?)
-}
-
-pub(crate) fn maybe_class(word: &str) -> Option<Option<Congruence>> {
-    if word == "none" {
-        Some(None)
-    } else {
-        Some(Some(class(word)?))
-    }
 }
 
 fn made(line: &str) -> Option<bool> {

@@ -1,10 +1,10 @@
-// The words of tables: types, operators, comparisons and ranges.
+use ep_congruence::Congruence;
 use ep_int::{BinOp, Cmp, IntType};
 
 /// The least and the greatest number of a range.
-pub(crate) type Ends = (i128, i128);
+pub type Ends = (i128, i128);
 
-pub(crate) fn int_type(word: &str) -> Option<IntType> {
+pub fn int_type(word: &str) -> Option<IntType> {
     match word {
         "i8" => Some(IntType::I8),
         "u8" => Some(IntType::U8),
@@ -18,7 +18,7 @@ pub(crate) fn int_type(word: &str) -> Option<IntType> {
     }
 }
 
-pub(crate) fn operator(word: &str) -> Option<BinOp> {
+pub fn operator(word: &str) -> Option<BinOp> {
     match word {
         "+" => Some(BinOp::Add),
         "-" => Some(BinOp::Sub),
@@ -34,7 +34,7 @@ pub(crate) fn operator(word: &str) -> Option<BinOp> {
     }
 }
 
-pub(crate) fn comparison(word: &str) -> Option<Cmp> {
+pub fn comparison(word: &str) -> Option<Cmp> {
     match word {
         "==" => Some(Cmp::Eq),
         "!=" => Some(Cmp::Ne),
@@ -46,15 +46,29 @@ pub(crate) fn comparison(word: &str) -> Option<Cmp> {
     }
 }
 
-pub(crate) fn ends(word: &str) -> Option<Ends> {
+pub fn ends(word: &str) -> Option<Ends> {
     let (lo, hi) = word.split_once("..")?;
     Some((lo.parse().ok()?, hi.parse().ok()?))
 }
 
-pub(crate) fn maybe_ends(word: &str) -> Option<Option<Ends>> {
+pub fn maybe_ends(word: &str) -> Option<Option<Ends>> {
     if word == "none" {
         Some(None)
     } else {
         Some(Some(ends(word)?))
+    }
+}
+
+/// A remainder and a modulus, as `3%8`.
+pub fn class(word: &str) -> Option<Congruence> {
+    let (remainder, modulus) = word.split_once('%')?;
+    Congruence::of(remainder.parse().ok()?, modulus.parse().ok()?)
+}
+
+pub fn maybe_class(word: &str) -> Option<Option<Congruence>> {
+    if word == "none" {
+        Some(None)
+    } else {
+        Some(Some(class(word)?))
     }
 }

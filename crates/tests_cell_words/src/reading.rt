@@ -8,9 +8,9 @@ use ep_intervals::Interval;
 use ep_pointers::PtrValue;
 use std::alloc::Global;
 
-pub(crate) type Numbers = Pair<Interval, Congruence>;
+pub type Numbers = Pair<Interval, Congruence>;
 
-pub(crate) fn order(word: &str) -> Option<Order> {
+pub fn order(word: &str) -> Option<Order> {
     match word {
         "little" => Some(Order::Little),
         "big" => Some(Order::Big),
@@ -19,7 +19,7 @@ pub(crate) fn order(word: &str) -> Option<Order> {
     }
 }
 
-pub(crate) fn model(word: &str) -> Option<Model> {
+pub fn model(word: &str) -> Option<Model> {
     match word {
         "ilp32" => Some(Model::Ilp32),
         "lp64" => Some(Model::Lp64),
@@ -27,7 +27,7 @@ pub(crate) fn model(word: &str) -> Option<Model> {
     }
 }
 
-pub(crate) fn side(word: &str) -> Option<Side> {
+pub fn side(word: &str) -> Option<Side> {
     match word {
         "L" => Some(Side::Left),
         "R" => Some(Side::Right),
@@ -50,7 +50,7 @@ fn int_type(word: &str) -> Option<IntType> {
     }
 }
 
-pub(crate) fn scalar(word: &str) -> Option<Scalar> {
+pub fn scalar(word: &str) -> Option<Scalar> {
     if word == "ptr" {
         Some(Scalar::Pointer)
     } else {
@@ -58,7 +58,7 @@ pub(crate) fn scalar(word: &str) -> Option<Scalar> {
     }
 }
 
-pub(crate) fn is_set(word: &str) -> Option<bool> {
+pub fn is_set(word: &str) -> Option<bool> {
     match word {
         "yes" => Some(true),
         "no" => Some(false),
@@ -189,7 +189,7 @@ fn form(alloc: Global, word: &str) -> Option<Option<BoxedForm>> {
     }
 }
 
-pub(crate) fn cell(alloc: Global, words: &str) -> Option<Cell<Numbers>> {
+pub fn cell(alloc: Global, words: &str) -> Option<Cell<Numbers>> {
     let mut words = words.split_whitespace();
     Some(Cell {
         side: side(words.next()?)?,
@@ -203,7 +203,7 @@ pub(crate) fn cell(alloc: Global, words: &str) -> Option<Cell<Numbers>> {
 }
 
 /// The side, the block, the offset and the number of bytes.
-pub(crate) fn place(words: &str) -> Option<Place> {
+pub fn place(words: &str) -> Option<Place> {
     let mut words = words.split_whitespace();
     Some(Place {
         side: side(words.next()?)?,
@@ -214,7 +214,7 @@ pub(crate) fn place(words: &str) -> Option<Place> {
 }
 
 /// The cells between commas.
-pub(crate) fn cells(alloc: Global, words: &str) -> Option<Vec<Cell<Numbers>>> {
+pub fn cells(alloc: Global, words: &str) -> Option<Vec<Cell<Numbers>>> {
     let mut out = Vec::new(alloc);
     for part in words.split(',') {
         if !part.trim().is_empty() {

@@ -1,12 +1,25 @@
 // The command `check` on sources of the whole language: reports, what isn't analysed yet, and refusals.
-use crate::calls::{Case, expect};
 use endport::Status;
 use std::alloc::Global;
 use std::process::Abort;
 use std::test::Fail;
+use tests_calls::{Case, call};
 
 /// The source, the status and the text.
 type Row = (&'static str, Status, &'static str);
+
+fn expect(
+    rt: &impl Abort,
+    alloc: Global,
+    case: &Case,
+    status: Status,
+    text: &str,
+) -> Result<(), Fail> {
+    let (ended, written) = call(alloc, case)?;
+    assert_eq!(rt; ended, status);
+    assert_eq!(rt; written.as_slice(), text.as_bytes());
+    Ok(())
+}
 
 fn expect_all(rt: &impl Abort, alloc: Global, table: &[Row]) -> Result<(), Fail> {
     for (source, status, text) in table.iter() {

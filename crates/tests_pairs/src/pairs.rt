@@ -1,10 +1,9 @@
 // What becomes of intervals paired with congruence classes.
-use crate::congruences::{class, maybe_class};
-use crate::words::{Ends, comparison, ends, int_type, maybe_ends, operator};
 use ep_congruence::Congruence;
 use ep_domain::{Num, Pair};
 use ep_int::{IntType, greatest, least};
 use ep_intervals::Interval;
+use tests_words::{Ends, class, comparison, ends, int_type, maybe_class, maybe_ends, operator};
 
 type Numbers = Pair<Interval, Congruence>;
 

@@ -1,0 +1,6 @@
+//! Whole calls of the program, over a source and a sink in memory.
+#![tactic(auto)]
+
+mod cases;
+
+pub use cases::{Case, USAGE_TEXT, call};

@@ -1,0 +1,7 @@
+//! Tests of the command `check` on sources of the whole language, as tables.
+#![tactic(auto)]
+
+#[cfg(test)]
+mod checks;
+#[cfg(test)]
+mod unbuilt;

@@ -1,0 +1,5 @@
+//! Tests of congruence classes, as tables.
+#![tactic(auto)]
+
+#[cfg(test)]
+mod congruences;

@@ -1,0 +1,5 @@
+//! Tests of layouts, as tables.
+#![tactic(auto)]
+
+#[cfg(test)]
+mod layout;
