@@ -7,3 +7,4 @@ pub mod Looking
 pub mod Planning
 pub mod Uniting
 pub mod Positions
+pub mod Fates

@@ -1,18 +1,23 @@
 //! Changes of the cells that touch a place, and of the forms that mention them.
 
-ghost use Rattle.std.specs.Prelude.{◌≡◌, ℕ, ◌<◌, ◌≤◌, true, nat_eq, length, map, IfOk, OnOk};
+ghost use Rattle.std.specs.Prelude.{◌≡◌, ℕ, ◌<◌, ◌≤◌, true, nat_eq, length, map, IfOk, OnOk, IsTrue};
+ghost use Rattle.ep_cells.specs.Forms.{reformed};
 ghost use Rattle.std.specs.List.{list_any};
 ghost use Rattle.ep_bicells.specs.Spread.{outlines, all_items, AreSpread};
 ghost use Rattle.ep_bicells.specs.Mentions.{number_of, number_of_use, users_in};
 ghost use Rattle.ep_bicells.specs.Plans.{is_edited, AreEdits, KeepsEdits, Covers};
-ghost use Rattle.ep_bicells.specs.Steps.{after_step, IsPlan};
+ghost use Rattle.ep_bicells.specs.Steps.{fate_of_step, after_step, IsPlan};
 
+use crate::alone;
 use crate::blur::left_by_blur;
 use crate::parts::{Edit, Part, push, span};
 use crate::uses::{Use, users};
 use ep_bitslice::Side;
 use ep_cell_changes::kill::left_by_kill;
+use ep_cell_changes::reshare::{change_by_reshare, left_by_reshare};
 use ep_cell_changes::weak::left_by_weak_write;
+use ep_cell_rows::change::Change;
+use ep_cell_rows::places::{first_part, place_of, side_without};
 use ep_cell_rows::rows;
 use ep_cells::{Cell, Place};
 use ep_domain::Num;
@@ -31,6 +36,18 @@ pub enum Step<N> {
     Kill(Side, u32),
     /// A place may have been written in whatever way.
     Blur(Place),
+    /// A cell is split on a side: it is gone there, and so are forms that mention it, but those of a Shared cell mention
+    /// what stays of it.
+    Split(Side, Cell<N>),
+    /// A cell is crossed: it is gone. Mentions of a byte go on as mentions of it, or of its Left part.
+    Cross(Cell<N>),
+    /// A Shared cell comes apart, and mentions of it become mentions of its Left part.
+    Unshare(Cell<N>),
+    /// A cell goes, and so do forms that mention it.
+    Lack(Cell<N>),
+    /// A Left and a Right cell go, and mentions of them become mentions of the Shared one, or go where it may be
+    /// undefined.
+    Reshare(Cell<N>, Cell<N>),
 }
 
 impl<N: Num> Step<N> {
@@ -42,6 +59,46 @@ impl<N: Num> Step<N> {
             Step::WeakWrite(c, stays) => left_by_weak_write(alloc, model, c, *stays, cells),
             Step::Kill(side, block) => left_by_kill(alloc, *side, *block, cells),
             Step::Blur(p) => left_by_blur(alloc, model, *p, cells),
+            Step::Split(side, x) => alone::left_by_split(alloc, *side, x, cells),
+            Step::Cross(x) => alone::left_by_crossing(alloc, x, cells),
+            Step::Unshare(x) => alone::left_by_parting(alloc, x, cells),
+            Step::Lack(x) => alone::left_without(alloc, x, None, cells),
+            Step::Reshare(l, r) => left_by_reshare(alloc, change_by_reshare(l, r), l, cells),
+        }
+    }
+
+    /// Cells with their forms after the step.
+    pub fn all_reformed(
+        &self,
+        alloc: Global,
+        model: Model,
+        cells: &[Cell<N>],
+    ) -> Result<Vec<Cell<N>>, Memory>
+        ensures { IfOk result (λ v. v.items ≡ map (reformed (fate_of_step model self.now)) cells.now) }
+    {
+        match self {
+            Step::Write(p) => rows::all_reformed(alloc, Change::Write(*p), cells),
+            Step::WeakWrite(c, _) => rows::all_reformed(
+                alloc,
+                Change::WeakWrite(place_of(model, c)),
+                cells,
+            ),
+            Step::Kill(side, block) => rows::all_reformed(
+                alloc,
+                Change::Kill(*side, *block),
+                cells,
+            ),
+            Step::Blur(p) => rows::all_reformed(alloc, Change::WeakWrite(*p), cells),
+            Step::Split(side, x) => alone::all_reformed(
+                alloc,
+                x,
+                side_without(*side, x.side),
+                cells,
+            ),
+            Step::Cross(x) => alone::all_reformed_by_crossing(alloc, x, cells),
+            Step::Unshare(x) => alone::all_reformed(alloc, x, Some(first_part(x.side)), cells),
+            Step::Lack(x) => alone::all_reformed(alloc, x, None, cells),
+            Step::Reshare(l, r) => rows::all_reformed(alloc, change_by_reshare(l, r), cells),
         }
     }
 
@@ -64,13 +121,37 @@ impl<N: Num> Step<N> {
     }
 }
 
+// So many edits are all looked at.
+const FEW: usize = 8;
+
 fn is_edited<N: Num>(edits: &[Edit<Cell<N>>], i: usize) -> bool
     ensures { result ≡ is_edited i edits.now }
 {
     edits.iter().any(|e| e.at == i)
 }
 
-/// Adds the part at this index as it is after the step, if it isn't there.
+fn is_last<N: Num>(edits: &[Edit<Cell<N>>], i: usize) -> bool
+    ensures { IsTrue result → is_edited i edits.now ≡ true }
+{
+    if edits.is_empty() {
+        return false;
+    }
+    edits[edits.len() - 1].at == i
+}
+
+// Whether the part at this index is edited, as far as a short look tells: where there are many edits, at the last.
+fn is_seen<N: Num>(edits: &[Edit<Cell<N>>], i: usize) -> bool
+    ensures { IsTrue result → is_edited i edits.now ≡ true }
+{
+    if edits.len() <= FEW {
+        is_edited(edits, i)
+    } else {
+        is_last(edits, i)
+    }
+}
+
+/// Adds the part at this index as it is after the step, if it isn't there. Where there are many edits it may be added
+/// again, unless it is the last.
 pub fn push_edit<N: Num>(
     out: &mut Vec<Edit<Cell<N>>>,
     step: &Step<N>,
@@ -84,7 +165,7 @@ pub fn push_edit<N: Num>(
     ensures keeps { OnOk result (KeepsEdits out.old.items out.new.items) }
     ensures edited { OnOk result (is_edited i out.new.items ≡ true) }
 {
-    if is_edited(out, i) {
+    if is_seen(out, i) {
         return Ok(());
     }
     let part = step.part_after(*out.allocator(), model, &parts[i])?;
@@ -133,6 +214,16 @@ fn push_users<N: Num>(
     Ok(())
 }
 
+// The same numbers, the least first, so that those of one part stand together.
+fn in_order(numbers: Vec<u64>) -> Result<Vec<u64>, Memory>
+    ensures { IfOk result (λ v. (k : ℕ) → list_any (nat_eq k) numbers.items ≡ true
+        → list_any (nat_eq k) v.items ≡ true) }
+{
+    let mut numbers = numbers;
+    numbers.sort().map_err(|_| Memory)?;
+    Ok(numbers)
+}
+
 /// The parts that a step changes, as they are after it, where these are the numbers of what may touch its place.
 pub fn plan<N: Num>(
     step: &Step<N>,
@@ -150,7 +241,7 @@ pub fn plan<N: Num>(
 {
     let mut out = Vec::new(alloc);
     push_edits(&mut out, step, model, parts, range)?;
-    let users = users(alloc, uses, range.0, range.1)?;
+    let users = in_order(users(alloc, uses, range.0, range.1)?)?;
     push_users(&mut out, step, model, parts, &users)?;
     Ok(out)
 }

@@ -13,28 +13,30 @@ ghost use Rattle.ep_cells.specs.Reshare.{places, reshared};
 ghost use Rattle.ep_cell_ranges.specs.Narrow.{with_value};
 ghost use Rattle.ep_cell_ranges.specs.Ranges.{overwritten, blurred_at};
 ghost use Rattle.ep_cell_rows.specs.Parts.{united as of_union};
-ghost use Rattle.ep_states.specs.About.{IsAbout};
-ghost use Rattle.ep_states.specs.Alike.{are_different};
+ghost use Rattle.ep_bicells.specs.Steps.{changed_by};
+ghost use Rattle.ep_cell_parts.specs.About.{IsAbout};
+ghost use Rattle.ep_cell_parts.specs.Alike.{are_different};
 
-use crate::about::about;
-use crate::blurs::blur_at;
-use crate::building::{index, spread};
-use crate::conditions::can_write;
-use crate::equals::{are_equal, is_model, is_order};
-use crate::kills::killed;
-use crate::overwrites::overwritten;
-use crate::places::{are_different, places};
-use crate::unions::united;
-use crate::values::set_value_at;
-use crate::weak_writes::weaken_at;
-use crate::writes::write_at;
 use ep_bicells::cells;
+use ep_bicells::changes::Step;
 use ep_bicells::parts::{Part, shared};
 use ep_bicells::uses::Use;
 use ep_bicells::walks::are_alike;
 use ep_bitslice::Side;
 use ep_cell_changes::check::{are_cells, in_order};
 use ep_cell_changes::reshare::reshared;
+use ep_cell_parts::about::about;
+use ep_cell_parts::blurs::blur_at;
+use ep_cell_parts::building::{index, spread};
+use ep_cell_parts::changes::changed;
+use ep_cell_parts::conditions::can_write;
+use ep_cell_parts::equals::{are_equal, is_model, is_order};
+use ep_cell_parts::kills::killed;
+use ep_cell_parts::places::{are_different, places};
+use ep_cell_parts::unions::united;
+use ep_cell_parts::values::set_value_at;
+use ep_cell_parts::weak_writes::weaken_at;
+use ep_cell_parts::writes::write_at;
 use ep_cell_rows::values::Union;
 use ep_cells::{Cell, Place, Value};
 use ep_cells_laws::reshare_laws;
@@ -55,7 +57,7 @@ pub struct State<N> {
 impl<N> std::marker::Model for State<N> {
     ghost use Rattle.ep_cells.specs.States.{Known};
     ghost use Rattle.ep_bicells.specs.Spread.{all_items};
-    ghost use Rattle.ep_states.specs.Kept.{AreKept};
+    ghost use Rattle.ep_cell_parts.specs.Kept.{AreKept};
 
     ghost Value = { Known N };
 
@@ -161,6 +163,14 @@ impl<N: Num> State<N> {
         ensures { option_map (λ c. c.now) result ≡ cell_at self.now.model side block byte self.now.cells }
     {
         cells::cell_at(self.model, side, block, byte, &self.parts)
+    }
+
+    /// All cells where they stand, in order. Takes memory for the list alone.
+    pub fn all(&self) -> Result<Vec<&Cell<N>>, Memory>
+        ensures { IfOk result (λ v. map (λ r. r.now) v.items ≡ self.now.cells) }
+    {
+        let cells = cells::all(*self.parts.allocator(), &self.parts)?;
+        Ok(cells)
     }
 
     /// The cells that may touch a place, in order, and some about them. Takes memory for them alone.
@@ -270,13 +280,14 @@ impl<N: Num> State<N> {
         set_value_at(alloc, self.model, &mut self.parts, &c)
     }
 
-    fn overwritten(&self, place: Place, new: &[Cell<N>]) -> Result<State<N>, Memory>
-        requires { AreCells self.now.model (overwritten N.ops place new.now self.now).cells }
-        ensures { IfOk result (λ s. s ≡ overwritten N.ops place new.now self.now) }
+    fn changed(&self, step: &Step<N>, new: &[Cell<N>]) -> Result<State<N>, Memory>
+        requires { AreCells self.now.model (changed_by N.ops self.now.model step.now new.now self.now.cells) }
+        ensures { IfOk result (λ s. s
+            ≡ record self.now { cells = changed_by N.ops self.now.model step.now new.now self.now.cells }) }
     {
         let alloc = *self.parts.allocator();
         let model = self.model;
-        let after = overwritten(alloc, model, &self.parts, &self.uses, place, new)?;
+        let after = changed(alloc, model, &self.parts, &self.uses, step, new)?;
         Ok(State {
             orders: self.orders,
             model,
@@ -285,21 +296,35 @@ impl<N: Num> State<N> {
         })
     }
 
-    /// New cells in a place, in which no others lie partly: what was there on its sides is gone. What comes of it has to
-    /// be the cells of a state. Costs the parts with cells that touch the place or mention such, and a search for each
+    /// A step, with new cells, whose forms mention cells as they were before it. What comes of it has to be the cells
+    /// of a state. Costs the parts with cells that the step touches or with forms that mention such, a search for each new
+    /// cell, and where a block is killed a look at all cells.
+    pub fn change(&mut self, step: &Step<N>, new: Vec<Cell<N>>) -> Result<(), Memory>
+        requires { AreCells self.old.model (changed_by N.ops self.old.model step.now new.items self.old.cells) }
+        ensures ok { OnOk result (self.new
+            ≡ record self.old { cells = changed_by N.ops self.old.model step.now new.items self.old.cells }) }
+        ensures err { OnErr result (self.new ≡ self.old) }
+    {
+        let after = self.changed(step, &new)?;
+        *self = after;
+        Ok(())
+    }
+
+    /// New cells in a place, in which no others lie partly: what was there on its sides is gone. What comes of it has
+    /// to be the cells of a state. Costs the parts with cells that touch the place or mention such, and a search for each
     /// new cell.
     pub fn overwrite(&mut self, place: Place, new: &[Cell<N>]) -> Result<(), Memory>
         requires { AreCells self.old.model (overwritten N.ops place new.now self.old).cells }
         ensures ok { OnOk result (self.new ≡ overwritten N.ops place new.now self.old) }
         ensures err { OnErr result (self.new ≡ self.old) }
     {
-        let after = self.overwritten(place, new)?;
+        let after = self.changed(&Step::Write(place), new)?;
         *self = after;
         Ok(())
     }
 
-    /// A place may have been written in whatever way: on its sides, integer cells with bytes in it may have any value or
-    /// be undefined, and pointer cells are gone. Costs the parts with cells that touch the place or mention such.
+    /// A place may have been written in whatever way: on its sides, integer cells with bytes in it may have any value
+    /// or be undefined, and pointer cells are gone. Costs the parts with cells that touch the place or mention such.
     pub fn blur(&mut self, place: Place) -> Result<(), Memory>
         ensures ok { OnOk result (self.new ≡ blurred_at N.ops place self.old) }
         ensures err { OnErr result (self.new ≡ self.old) }
@@ -315,10 +340,9 @@ impl<N: Num> State<N> {
             ≡ record self.now { cells = cells_of_both (of_union N.ops union) self.now.cells other.now.cells }) }
     {
         other.model();
-        let others = other.cells()?;
         let alloc = *self.parts.allocator();
         let model = self.model;
-        let parts = united(alloc, model, union, &self.parts, &self.uses, &others)?;
+        let parts = united(alloc, model, union, &self.parts, &self.uses, &other.parts)?;
         Ok(State {
             orders: self.orders,
             model,

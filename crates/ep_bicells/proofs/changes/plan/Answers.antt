@@ -1,4 +1,4 @@
-use Rattle.std.proofs.Common.{◌≡◌, true, nat_eq, subst, sym, ◌∙◌}
+use Rattle.std.proofs.Common.{◌≡◌, true, nat_eq, subst, sym}
 use Rattle.std.specs.List.{list_any}
 use Rattle.ep_bicells.specs.Spread.{all_items}
 use Rattle.ep_bicells.specs.Mentions.{number_of}
@@ -10,5 +10,5 @@ pub returns : goal.returns
 returns g c = record {
   edits = c.in_ok-push_users.ensures.edits;
   place = still_covers number_of c.args.range.0 c.args.range.1 c.args.parts.now c.push_edits.new.out.items c.push_users.new.out.items c.in_ok-push_users.ensures.keeps c.in_ok-push_edits.ensures.covers;
-  users = λ u n a b. c.in_ok-push_users.ensures.covers u.by (subst (λ v. list_any (nat_eq u.by) v ≡ true) (sym (c.deref.ensures.value ∙ c.in_ok-users.ensures)) (found_user c.args.range.0 c.args.range.1 u (all_items c.args.uses.now) n a b));
+  users = λ u n a b. c.in_ok-push_users.ensures.covers u.by (subst (λ v. list_any (nat_eq u.by) v ≡ true) (sym c.deref.ensures.value) (c.in_ok-users-2.ensures u.by (subst (λ v. list_any (nat_eq u.by) v ≡ true) (sym c.in_ok-users.ensures) (found_user c.args.range.0 c.args.range.1 u (all_items c.args.uses.now) n a b))));
 }

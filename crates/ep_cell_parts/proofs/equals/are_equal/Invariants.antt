@@ -1,0 +1,14 @@
+use Rattle.std.proofs.Common.{◌≡◌, ◌↔◌, length}
+use Rattle.ep_bicells.specs.Spread.{all_items}
+use Rattle.ep_bicells.specs.Walks.{IsAt, rest}
+use Rattle.ep_cell_parts.proofs.equals.are_equal.Given as goal
+
+abbrev pub invariant-loop-x : goal.invariant-loop-x
+invariant-loop-x g l = record {
+  left : IsAt l.a l.xs;
+  right : IsAt l.b l.ys;
+  same : (rest l.a l.xs ≡ rest l.b l.ys) ↔ (all_items l.xs ≡ all_items l.ys);
+}
+
+abbrev pub decreases-loop-x : goal.decreases-loop-x
+decreases-loop-x g l = length (rest l.a l.xs)

@@ -1,0 +1,99 @@
+//! Places of Left and Right cells that are surely the same.
+
+ghost use Rattle.std.specs.Prelude.{◌≡◌, ◌++◌, Some, IfOk, OnOk};
+ghost use Rattle.std.specs.Option.{option_map};
+ghost use Rattle.ep_cells.specs.Reshare.{cell_from, places};
+ghost use Rattle.ep_bicells.specs.Spread.{outlines, all_items, AreSpread};
+ghost use Rattle.ep_bicells.specs.Mentions.{number_of};
+ghost use Rattle.ep_cell_parts.specs.Alike.{is_same_pair, is_same_at, are_different};
+
+use ep_bicells::cells::number_at;
+use ep_bicells::parts::{Part, window};
+use ep_bitslice::Side;
+use ep_cell_changes::reshare::{self, are_same};
+use ep_cells::Cell;
+use ep_domain::Num;
+use ep_int::Memory;
+use std::alloc::Global;
+
+fn push_places(out: &mut Vec<(u32, u32)>, more: &[(u32, u32)]) -> Result<(), Memory>
+    ensures { OnOk result (out.new.items ≡ out.old.items ++ more.now) }
+{
+    out.extend_from_slice(more).map_err(|_| Memory)
+}
+
+/// The places at which Left cells begin.
+pub fn places<N: Num>(alloc: Global, parts: &[Part<Cell<N>>]) -> Result<Vec<(u32, u32)>, Memory>
+    ensures { IfOk result (λ v. v.items ≡ places (all_items parts.now)) }
+{
+    let mut out = Vec::new(alloc);
+    for part in parts {
+        let more = reshare::places(alloc, &part.items)?;
+        push_places(&mut out, &more)?;
+    }
+    Ok(out)
+}
+
+fn cell_in<N: Num>(side: Side, block: u32, offset: u32, parts: &[Part<Cell<N>>]) -> Option<&Cell<N>>
+    ensures { option_map (λ c. c.now) result ≡ cell_from side block offset (all_items parts.now) }
+{
+    for part in parts {
+        if let Some(x) = reshare::cell_from(side, block, offset, &part.items) {
+            return Some(x);
+        }
+    }
+    None
+}
+
+fn cell_from<N: Num>(
+    side: Side,
+    block: u32,
+    offset: u32,
+    parts: &[Part<Cell<N>>],
+) -> Option<&Cell<N>>
+    requires { AreSpread (outlines number_of parts.now) }
+    ensures { option_map (λ c. c.now) result ≡ cell_from side block offset (all_items parts.now) }
+{
+    let at = number_at(block, offset);
+    cell_in(side, block, offset, window(parts, at, at))
+}
+
+fn is_same_as<N: Num>(l: &Cell<N>, r: Option<&Cell<N>>) -> bool
+    ensures { result ≡ is_same_pair N.ops (Some l.now) (option_map (λ c. c.now) r.entry) }
+{
+    match r {
+        None => false,
+        Some(r) => are_same(l, r),
+    }
+}
+
+fn is_same_pair<N: Num>(l: Option<&Cell<N>>, r: Option<&Cell<N>>) -> bool
+    ensures { result ≡ is_same_pair N.ops (option_map (λ c. c.now) l.entry) (option_map (λ c. c.now) r.entry) }
+{
+    match l {
+        None => false,
+        Some(l) => is_same_as(l, r),
+    }
+}
+
+fn is_same_at<N: Num>(block: u32, offset: u32, parts: &[Part<Cell<N>>]) -> bool
+    requires { AreSpread (outlines number_of parts.now) }
+    ensures { result ≡ is_same_at N.ops block offset (all_items parts.now) }
+{
+    let l = cell_from(Side::Left, block, offset, parts);
+    let r = cell_from(Side::Right, block, offset, parts);
+    is_same_pair(l, r)
+}
+
+/// Whether at none of the places there are Left and Right cells that are surely the same.
+pub fn are_different<N: Num>(places: &[(u32, u32)], parts: &[Part<Cell<N>>]) -> bool
+    requires { AreSpread (outlines number_of parts.now) }
+    ensures { result ≡ are_different N.ops (all_items parts.now) places.now }
+{
+    for p in places {
+        if is_same_at(p.0, p.1, parts) {
+            return false;
+        }
+    }
+    true
+}

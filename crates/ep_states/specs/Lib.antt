@@ -1,9 +1,0 @@
-pub mod Kept
-pub mod Writes
-pub mod Weakened
-pub mod Killed
-pub mod Alike
-pub mod Valued
-pub mod Left
-pub mod Orders
-pub mod About
