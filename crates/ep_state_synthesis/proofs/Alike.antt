@@ -24,9 +24,14 @@ use Rattle.ep_cells_laws.proofs.Both.{one, left_first, right_first, one_order, a
 use Rattle.ep_reads.specs.Split.{is_name_of}
 use Rattle.ep_reads.specs.Unify.{is_of_one_side, faces, parted_both, is_crossed, crossed_all, uncrossed, uncrossed_both, left_by_lack, fate_by_lack, had_by_both, had_both, unified}
 use Rattle.ep_split_laws.proofs.Sides.{same_itself, named_same}
-use Rattle.ep_states.proofs.Local.{same_reformed}
-use Rattle.ep_synthesis.proofs.Partings.{none_parted, times_same}
-use Rattle.ep_synthesis.proofs.Unifieds.{pair_is}
+use Rattle.ep_cell_parts.proofs.Local.{same_reformed}
+use Rattle.ep_step_laws.proofs.Rounds.{none_parted, times_same}
+
+pair_is : {N : Type 0} (a b c d : List (Cell N)) → a ≡ c → b ≡ d
+    → (let p : List (Cell N) × List (Cell N) = (a, b) in p) ≡ (c, d)
+pair_is {N = N} a b c d e f =
+    ap (λ z. let p : List (Cell N) × List (Cell N) = (z, b) in p) e
+    ∙ ap (λ z. let p : List (Cell N) × List (Cell N) = (c, z) in p) f
 
 -- ---- cells alike
 
@@ -53,7 +58,12 @@ partner y (x ∷ xs) (z ∷ ys) h (later _ _ i) =
 
 place_alike : {N : Type 0} (d : Model) (x y : Cell N) → AreAlike x y → place_of d x ≡ place_of d y
 place_alike d x y a =
-    ap (λ (s : Side). let p : Place = record { side = s; block = x.block; offset = x.offset; bytes = size_of d x.what } in
+    ap (λ (s : Side). let p : Place = record {
+      side = s;
+      block = x.block;
+      offset = x.offset;
+      bytes = size_of d x.what;
+    } in
     p) a.side
     ∙ ap (λ (b : ℕ). let p : Place = record { side = y.side; block = b; offset = x.offset; bytes = size_of d x.what } in
     p) a.block
@@ -139,7 +149,8 @@ none_faces {N = N} d x xs ys a h i = by (is_same_side x.side Shared) refl
     one_by : (y : Cell N) → IsIn y ys → is_same_side x.side Shared ≡ true → (m : Bool)
         → meets (place_of d x) (place_of d y) ≡ m → (is_of_one_side y && m) ≡ false
     one_by y j s true m =
-        let e : is_same_side y.side Shared ≡ true = subst (λ z. is_same_side z Shared ≡ true) (meet_alike d x y xs ys a h
+        let e : is_same_side y.side Shared ≡ true = subst (λ z. is_same_side z Shared ≡ true)
+        (meet_alike d x y xs ys a h
         i j m).side s in
         ap (λ b. not b && true) e
     one_by y j s false m = and_right (is_of_one_side y) false refl
@@ -194,7 +205,8 @@ had_stays : {N : Type 0} (d : Model) (xs ys : List (Cell N)) → AreCells d xs �
     → had_by_both ys xs ≡ xs
 had_stays d xs ys a h =
     ap (map (reformed (fate_by_lack ys)))
-    (none_left ys xs (λ x i. let r = partner x ys xs h i in some_like x r.cell ys r.is_in (same_alike r.cell x r.alike)))
+    (none_left ys xs (λ x i. let r = partner x ys xs h i in some_like x r.cell ys r.is_in
+    (same_alike r.cell x r.alike)))
     ∙ all_reformed ys xs (λ x i. same_reformed (fate_by_lack ys) xs x (a.forms x i)
     (names_stay x xs ys x.form h (a.forms x i)))
 
@@ -212,14 +224,25 @@ parted_stays d xs ys a b h =
     (none_parted d xs ys b (any_none (λ y. faces d xs (place_of d y)) ys (λ y i. none_faces d y ys xs b (alike_lists xs
     ys h) i)))
 
+pub alike_stay : {N : Type 0} (D : Ops N) (k : Known N) (xs ys : List (Cell N)) → AreCells k.model xs
+    → AreCells k.model ys → HaveCellsAlike xs ys
+    → had_both (uncrossed_both D k (parted_both k.model (xs, ys))) ≡ (xs, ys)
+alike_stay D k xs ys a b h =
+    ap (λ p. had_both (uncrossed_both D k p)) (parted_stays k.model xs ys a b h)
+    ∙ ap had_both (pair_is (uncrossed D k ys xs) (uncrossed D k xs ys) xs ys
+    (uncrossed_stays D k xs ys a h) (uncrossed_stays D k ys xs b (alike_lists xs ys h)))
+    ∙ pair_is (had_by_both ys xs) (had_by_both xs ys) xs ys
+    (had_stays k.model xs ys a (alike_lists xs ys h)) (had_stays k.model ys xs b h)
+
+pub alike_unified : {N : Type 0} (D : Ops N) (k l : Known N) (xs ys : List (Cell N)) → AreCells k.model xs
+    → AreCells k.model ys → HaveCellsAlike xs ys → xs ≡ reshared D k.cells → ys ≡ reshared D l.cells
+    → unified D k l ≡ (xs, ys)
+alike_unified D k l xs ys a b h e f =
+    ap (λ p. had_both (uncrossed_both D k (parted_both k.model p)))
+    (pair_is (reshared D k.cells) (reshared D l.cells) xs ys (sym e) (sym f))
+    ∙ alike_stay D k xs ys a b h
+
 pub unified_stays : {N : Type 0} (D : Ops N) (k l : Known N) → AreCells k.model k.cells → AreCells k.model l.cells
     → HaveCellsAlike k.cells l.cells → k.cells ≡ reshared D k.cells → l.cells ≡ reshared D l.cells
     → unified D k l ≡ (k.cells, l.cells)
-unified_stays D k l a b h e f =
-    ap (λ p. had_both (uncrossed_both D k (parted_both k.model p)))
-    (pair_is (reshared D k.cells) (reshared D l.cells) k.cells l.cells (sym e) (sym f))
-    ∙ ap (λ p. had_both (uncrossed_both D k p)) (parted_stays k.model k.cells l.cells a b h)
-    ∙ ap had_both (pair_is (uncrossed D k l.cells k.cells) (uncrossed D k k.cells l.cells) k.cells l.cells
-    (uncrossed_stays D k k.cells l.cells a h) (uncrossed_stays D k l.cells k.cells b (alike_lists k.cells l.cells h)))
-    ∙ pair_is (had_by_both l.cells k.cells) (had_by_both k.cells l.cells) k.cells l.cells
-    (had_stays k.model k.cells l.cells a (alike_lists k.cells l.cells h)) (had_stays k.model l.cells k.cells b h)
+unified_stays D k l = alike_unified D k l k.cells l.cells

@@ -1,4 +1,4 @@
--- A split of a list of cells is that of the state with them.
+-- Splits of a state, and what holds of it then.
 use Rattle.std.proofs.Common.{◌≡◌, Bool, true, false, ◌||◌, cond, List, [], ◌∷◌, refl, sym, ◌∙◌, ap, subst}
 use Rattle.ep_int.specs.declared.types.Order.{Order}
 use Rattle.ep_int.specs.declared.types.Model.{Model}
@@ -11,32 +11,6 @@ use Rattle.ep_cells.specs.Look.{is_some_partly_in}
 use Rattle.ep_cells.specs.States.{Known, AreCells}
 use Rattle.ep_reads.specs.Split.{cut_cells, split_all, split}
 use Rattle.ep_split_laws.specs.Laws.{SplitLaws, SplitHolds}
-use Rattle.ep_scalar_reads.specs.declared.machines.Machines.{Machines}
-use Rattle.ep_synthesis.specs.Parts.{known}
-use Rattle.ep_state_synthesis.specs.Calls.{machines_of}
-
-pub known_is : {N : Type 0} (m : Machines) (k : Known N) (cs : List (Cell N)) → m ≡ machines_of k → cs ≡ k.cells
-    → known m cs ≡ k
-known_is m k cs e f = ap (λ z. known z cs) e ∙ ap (known (machines_of k)) f
-
-pub state_is : {N : Type 0} (k s : Known N) (os : Order × Order) (d : Model) (cs ds : List (Cell N)) → os ≡ k.orders
-    → d ≡ k.model → cs ≡ ds
-    → s ≡ (let r : Known N = record { orders = os; model = d; cells = cs } in r) → s ≡ record k { cells = ds }
-state_is {N = N} k s os d cs ds e f g h =
-    h
-    ∙ ap (λ z. let r : Known N = record { orders = z; model = d; cells = cs } in r) e
-    ∙ ap (λ z. let r : Known N = record { orders = k.orders; model = z; cells = cs } in r) f
-    ∙ ap (λ z. let r : Known N = record { orders = k.orders; model = k.model; cells = z } in r) g
-
-pub split_is : {N : Type 0} (D : Ops N) (m : Machines) (k : Known N) (p : Place) (cs after : List (Cell N))
-    → m ≡ machines_of k → cs ≡ k.cells → after ≡ split D (known m cs) p → after ≡ split D k p
-split_is D m k p cs after e f h = h ∙ ap (λ z. split D z p) (known_is m k cs e f)
-
-pub split_cells : {N : Type 0} (D : Ops N) (k : Known N) (p : Place) (d : Model) (after : List (Cell N)) → SplitLaws D
-    → AreCells k.model k.cells → is_same_side p.side Shared ≡ false → d ≡ k.model → after ≡ split D k p
-    → AreCells d after
-split_cells D k p d after law a s e f =
-    subst (λ z. AreCells z after) (sym e) (subst (AreCells k.model) (sym f) (law.cells k p a s))
 
 -- ---- where no cell lies partly in the place
 

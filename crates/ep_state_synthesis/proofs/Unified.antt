@@ -1,15 +1,15 @@
--- Unified lists of cells are those of the unified states.
-use Rattle.std.proofs.Common.{◌≡◌, List, sym, ◌∙◌, ap, subst}
+-- Two states after each step of a unification are those of the unified lists.
+use Rattle.std.proofs.Common.{◌≡◌, List, [], ◌∷◌, refl, sym, ◌∙◌, ap, subst}
+use Rattle.std.specs.List.{filter}
 use Rattle.ep_int.specs.declared.types.Model.{Model}
 use Rattle.ep_domain.specs.Domain.{Ops}
 use Rattle.ep_cells.specs.declared.cell.Cell.{Cell}
 use Rattle.ep_cells.specs.States.{Known, AreCells, HaveCellsAlike}
-use Rattle.ep_reads.specs.Unify.{unified}
+use Rattle.ep_cells.specs.Reshare.{reshared}
+use Rattle.ep_reads.specs.Unify.{crossed_like, crossed_all, is_crossed, parted_both, uncrossed, had_by_both, unified}
 use Rattle.ep_split_laws.specs.Laws.{UnifyLaws}
-use Rattle.ep_scalar_reads.specs.declared.machines.Machines.{Machines}
-use Rattle.ep_synthesis.specs.Parts.{known}
-use Rattle.ep_state_synthesis.specs.Calls.{machines_of, StaysIn}
-use Rattle.ep_state_synthesis.proofs.Splits.{known_is}
+use Rattle.ep_state_synthesis.specs.Calls.{StaysIn}
+use Rattle.ep_state_synthesis.proofs.Alike.{alike_unified}
 
 -- the second state has the orders and the model of the first
 pub record IsBeside {N : Type 0} (k l : Known N) : Type 0 where
@@ -26,36 +26,86 @@ beside {N = N} k l b =
     ap (λ z. let r : Known N = record { orders = z; model = k.model; cells = l.cells } in r) b.orders
     ∙ ap (λ z. let r : Known N = record { orders = l.orders; model = z; cells = l.cells } in r) b.model
 
-pub unified_is : {N : Type 0} (D : Ops N) (m : Machines) (k l : Known N) (xs ys us vs : List (Cell N))
-    → m ≡ machines_of k → xs ≡ k.cells → ys ≡ l.cells
-    → (let p : List (Cell N) × List (Cell N) = (us, vs) in p) ≡ unified D (known m xs) (known m ys)
-    → (let p : List (Cell N) × List (Cell N) = (us, vs) in p) ≡ unified D k l
-unified_is D m k l xs ys us vs e f g h =
-    h
-    ∙ ap (λ z. unified D z (known m ys)) (known_is m k xs e f)
-    ∙ ap (λ z. unified D k (known m z)) g
+crossed_with : {N : Type 0} (D : Ops N) (k : Known N) (cs zs xs : List (Cell N))
+    → crossed_all D (record k { cells = cs }) zs xs ≡ crossed_all D k zs xs
+crossed_with D k cs [] xs = refl
+crossed_with D k cs (z ∷ zs) xs = crossed_with D k cs zs (crossed_like D k z xs)
 
-pub first_is : {N : Type 0} (us vs : List (Cell N)) (q : List (Cell N) × List (Cell N))
-    → (let p : List (Cell N) × List (Cell N) = (us, vs) in p) ≡ q → us ≡ q.0
-first_is {N = N} us vs q e = ap (λ (p : List (Cell N) × List (Cell N)). p.0) e
+-- only the orders and the model of a state matter
+uncrossed_with : {N : Type 0} (D : Ops N) (k : Known N) (cs ys xs : List (Cell N))
+    → uncrossed D (record k { cells = cs }) ys xs ≡ uncrossed D k ys xs
+uncrossed_with D k cs ys xs = crossed_with D k cs (filter (is_crossed k.model ys) xs) xs
 
-pub second_is : {N : Type 0} (us vs : List (Cell N)) (q : List (Cell N) × List (Cell N))
-    → (let p : List (Cell N) × List (Cell N) = (us, vs) in p) ≡ q → vs ≡ q.1
-second_is {N = N} us vs q e = ap (λ (p : List (Cell N) × List (Cell N)). p.1) e
+uncrossed_beside : {N : Type 0} (D : Ops N) (k l : Known N) → k.model ≡ l.model → k.orders ≡ l.orders
+    → (ys xs : List (Cell N)) → uncrossed D l ys xs ≡ uncrossed D k ys xs
+uncrossed_beside {N = N} D k l m o ys xs =
+    sym (uncrossed_with D l k.cells ys xs)
+    ∙ ap (λ d. uncrossed D (let r : Known N = record { orders = l.orders; model = d; cells = k.cells } in r) ys xs)
+    (sym m)
+    ∙ ap (λ p. uncrossed D (let r : Known N = record { orders = p; model = k.model; cells = k.cells } in r) ys xs)
+    (sym o)
+
+pub models : {N : Type 0} (k l kz lz : Known N) (cs ds : List (Cell N)) → k.model ≡ l.model
+    → kz ≡ record k { cells = cs } → lz ≡ record l { cells = ds } → kz.model ≡ lz.model
+models {N = N} k l kz lz cs ds m e f = ap (λ (z : Known N). z.model) e ∙ m ∙ sym (ap (λ (z : Known N). z.model) f)
+
+abbrev with_cells : {N : Type 0} → Known N → List (Cell N) → Known N
+with_cells k cs = record k { cells = cs }
+
+pub both_unified : {N : Type 0} (D : Ops N) (k l a b a1 b1 a2 b2 a3 b3 : Known N) → k.model ≡ l.model
+    → k.orders ≡ l.orders → a ≡ record k { cells = reshared D k.cells } → b ≡ record l { cells = reshared D l.cells }
+    → a1 ≡ record a { cells = (parted_both a.model (a.cells, b.cells)).0 }
+    → b1 ≡ record b { cells = (parted_both a.model (a.cells, b.cells)).1 }
+    → a2 ≡ record a1 { cells = uncrossed D a1 b1.cells a1.cells }
+    → b2 ≡ record b1 { cells = uncrossed D b1 a1.cells b1.cells }
+    → a3 ≡ record a2 { cells = had_by_both b2.cells a2.cells }
+    → b3 ≡ record b2 { cells = had_by_both a2.cells b2.cells }
+    → (a3 ≡ record k { cells = (unified D k l).0 }) × (b3 ≡ record l { cells = (unified D k l).1 })
+both_unified {N = N} D k l a b a1 b1 a2 b2 a3 b3 m o ea eb ea1 eb1 ea2 eb2 ea3 eb3 =
+    let q : List (Cell N) × List (Cell N) = parted_both k.model (reshared D k.cells, reshared D l.cells) in
+    let us : List (Cell N) = uncrossed D k q.1 q.0 in
+    let vs : List (Cell N) = uncrossed D k q.0 q.1 in
+    let x : a1 ≡ with_cells k q.0 =
+    ea1
+    ∙ ap (λ (z : Known N). with_cells z (parted_both z.model (z.cells, b.cells)).0) ea
+    ∙ ap (λ (z : Known N). with_cells k (parted_both k.model (reshared D k.cells, z.cells)).0) eb in
+    let y : b1 ≡ with_cells l q.1 =
+    eb1
+    ∙ ap (λ (z : Known N). with_cells z (parted_both a.model (a.cells, z.cells)).1) eb
+    ∙ ap (λ (z : Known N). with_cells l (parted_both z.model (z.cells, reshared D l.cells)).1) ea in
+    let x2 : a2 ≡ with_cells k us =
+    ea2
+    ∙ ap (λ (z : Known N). with_cells z (uncrossed D z b1.cells z.cells)) x
+    ∙ ap (λ (z : Known N). with_cells k (uncrossed D (with_cells k q.0) z.cells q.0)) y
+    ∙ ap (with_cells k) (uncrossed_with D k q.0 q.1 q.0) in
+    let y2 : b2 ≡ with_cells l vs =
+    eb2
+    ∙ ap (λ (z : Known N). with_cells z (uncrossed D z a1.cells z.cells)) y
+    ∙ ap (λ (z : Known N). with_cells l (uncrossed D (with_cells l q.1) z.cells q.1)) x
+    ∙ ap (with_cells l) (uncrossed_with D l q.1 q.0 q.1 ∙ uncrossed_beside D k l m o q.0 q.1) in (
+      ea3
+          ∙ ap (λ (z : Known N). with_cells z (had_by_both b2.cells z.cells)) x2
+          ∙ ap (λ (z : Known N). with_cells k (had_by_both z.cells us)) y2,
+      eb3
+          ∙ ap (λ (z : Known N). with_cells z (had_by_both a2.cells z.cells)) y2
+          ∙ ap (λ (z : Known N). with_cells l (had_by_both z.cells vs)) x2,
+    )
+
+pub both_alike : {N : Type 0} (D : Ops N) (k l a b : Known N) → k.model ≡ l.model
+    → a ≡ record k { cells = reshared D k.cells } → b ≡ record l { cells = reshared D l.cells }
+    → AreCells a.model a.cells → AreCells b.model b.cells → HaveCellsAlike a.cells b.cells
+    → (a ≡ record k { cells = (unified D k l).0 }) × (b ≡ record l { cells = (unified D k l).1 })
+both_alike {N = N} D k l a b m ea eb p q h =
+    let f : a.cells ≡ reshared D k.cells = ap (λ (z : Known N). z.cells) ea in
+    let g : b.cells ≡ reshared D l.cells = ap (λ (z : Known N). z.cells) eb in
+    let u : unified D k l ≡ (a.cells, b.cells) =
+    alike_unified D k l a.cells b.cells (subst (λ d. AreCells d a.cells) (ap (λ (z : Known N). z.model) ea) p)
+    (subst (λ d. AreCells d b.cells) (ap (λ (z : Known N). z.model) eb ∙ sym m) q) h f g in (
+      ea ∙ ap (with_cells k) (sym (ap (λ (t : List (Cell N) × List (Cell N)). t.0) u ∙ f)),
+      eb ∙ ap (with_cells l) (sym (ap (λ (t : List (Cell N) × List (Cell N)). t.1) u ∙ g)),
+    )
 
 -- ---- the laws, of what the states are then
-
-pub first_cells : {N : Type 0} (D : Ops N) (k l : Known N) (d : Model) (after : List (Cell N)) → UnifyLaws D
-    → IsBeside k l → d ≡ k.model → after ≡ (unified D k l).0 → AreCells d after
-first_cells D k l d after law b e f =
-    subst (λ z. AreCells z after) (sym e)
-    (subst (AreCells k.model) (sym f) (law.left_cells k l.cells b.first (second_cells k l b)))
-
-pub others_cells : {N : Type 0} (D : Ops N) (k l : Known N) (d : Model) (after : List (Cell N)) → UnifyLaws D
-    → IsBeside k l → d ≡ l.model → after ≡ (unified D k l).1 → AreCells d after
-others_cells D k l d after law b e f =
-    subst (λ z. AreCells z after) (b.model ∙ sym e)
-    (subst (AreCells k.model) (sym f) (law.right_cells k l.cells b.first (second_cells k l b)))
 
 pub alike_then : {N : Type 0} (D : Ops N) (k l s t : Known N) → UnifyLaws D → IsBeside k l
     → s ≡ record k { cells = (unified D k l).0 } → t ≡ record l { cells = (unified D k l).1 }

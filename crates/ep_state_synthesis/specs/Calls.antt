@@ -5,11 +5,6 @@ use Rattle.ep_domain.specs.Domain.{Ops}
 use Rattle.ep_cells.specs.declared.place.Place.{Place}
 use Rattle.ep_cells.specs.States.{Known}
 use Rattle.ep_cells.specs.Meaning.{Memories, In}
-use Rattle.ep_scalar_reads.specs.declared.machines.Machines.{Machines}
-
--- the machines of a state
-abbrev pub machines_of : {N : Type 0} → Known N → Machines
-machines_of k = record { orders = k.orders; model = k.model }
 
 -- so many bytes of a block, on a side
 abbrev pub place_at : Side → (block offset bytes : ℕ) → Place

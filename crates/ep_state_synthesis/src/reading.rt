@@ -17,9 +17,9 @@ use ep_domain::Num;
 use ep_int::{Memory, Scalar};
 use ep_reads::ReadValue;
 use ep_reads_laws::read_laws;
+use ep_scalar_reads::byte::{byte_of_cell, order_on, unknown_byte};
+use ep_scalar_reads::read::{is_exact, read_from_bytes, whole_read};
 use ep_states::State;
-use ep_synthesis::byte::{byte_of_cell, order_on, unknown_byte};
-use ep_synthesis::read::{is_exact, read_from_bytes, whole_read};
 
 // No cell has a byte behind the last offset.
 fn cell_at<N: Num>(state: &State<N>, side: Side, block: u32, byte: u64) -> Option<&Cell<N>>

@@ -7,28 +7,25 @@ ghost use Rattle.ep_reads.specs.Split.{split};
 ghost use Rattle.ep_split_laws.specs.Laws.{SplitHolds};
 ghost use Rattle.ep_state_synthesis.specs.Calls.{place_at};
 
-use crate::machines::machines_of;
 use ep_bitslice::Side;
 use ep_cells::Place;
 use ep_domain::Num;
 use ep_int::Memory;
 use ep_split_laws::split_laws;
+use ep_state_steps::split_all;
 use ep_states::State;
 
-fn split_at<N: Num>(state: &State<N>, p: Place) -> Result<State<N>, Memory>
+fn split_copy<N: Num>(state: &State<N>, p: Place) -> Result<State<N>, Memory>
     requires { is_same_side p.side Side.Shared ≡ false }
     ensures { IfOk result (λ s. s ≡ record state.now { cells = split N.ops state.now p }) }
 {
-    split_laws::<N>();
-    let model = state.model();
-    let before = state.cells()?;
-    let after = ep_synthesis::split::split(state.allocator(), machines_of(state), p, &before)?;
-    let split = State::with_cells(state.allocator(), state.orders(), model, after)?;
-    Ok(split)
+    let mut after = state.copy()?;
+    split_all(&mut after, p)?;
+    Ok(after)
 }
 
 /// The cells that lie partly in a place of the left or of the right side become cells of single bytes, as much as is
-/// of that side. Costs a look at the cells by the place where none lies partly in it; else the state is made anew.
+/// of that side. Costs a look at the cells by the place, and a step for each that lies partly in it.
 pub fn split<N: Num>(
     state: &mut State<N>,
     side: Side,
@@ -55,7 +52,7 @@ pub fn split<N: Num>(
     if !state.partly(&place) {
         return Ok(());
     }
-    let after = split_at(state, place)?;
+    let after = split_copy(state, place)?;
     *state = after;
     Ok(())
 }

@@ -1,16 +1,16 @@
 //! Two states come to have cells of the same sides, places and types.
 
 ghost use Rattle.std.specs.Prelude.{◌≡◌, IfOk, OnOk, OnErr, IsTrue};
+ghost use Rattle.ep_cells.specs.Reshare.{reshared};
 ghost use Rattle.ep_cells.specs.States.{HaveCellsAlike};
 ghost use Rattle.ep_reads.specs.Unify.{unified};
 ghost use Rattle.ep_state_synthesis.specs.Calls.{StaysIn};
 
-use crate::machines::machines_of;
 use ep_domain::Num;
 use ep_int::Memory;
 use ep_split_laws::unify_laws;
+use ep_state_steps::{drop_both, part_both, uncross_both};
 use ep_states::State;
-use ep_synthesis::both::{Both, unified};
 
 // Whether both have cells alike of which none are to be reshared, so that they stay.
 fn are_unified<N: Num>(a: &State<N>, b: &State<N>) -> Result<bool, Memory>
@@ -35,19 +35,11 @@ struct States<N> {
     right: State<N>,
 }
 
-fn unified_cells<N: Num>(a: &State<N>, b: &State<N>) -> Result<Both<N>, Memory>
-    requires orders { a.now.orders ≡ b.now.orders }
-    requires model { a.now.model ≡ b.now.model }
-    ensures left { IfOk result (λ p. p.left.items ≡ (unified N.ops a.now b.now).0) }
-    ensures right { IfOk result (λ p. p.right.items ≡ (unified N.ops a.now b.now).1) }
+fn reshared<N: Num>(state: &State<N>) -> Result<State<N>, Memory>
+    ensures { IfOk result (λ s. s ≡ record state.now { cells = reshared N.ops state.now.cells }) }
 {
-    a.model();
-    b.model();
-    let before = Both {
-        left: a.cells()?,
-        right: b.cells()?,
-    };
-    let after = unified(a.allocator(), machines_of(a), before)?;
+    let mut after = state.copy()?;
+    after.reshare()?;
     Ok(after)
 }
 
@@ -57,18 +49,21 @@ fn unified_states<N: Num>(a: &State<N>, b: &State<N>) -> Result<States<N>, Memor
     ensures left { IfOk result (λ s. s.left ≡ record a.now { cells = (unified N.ops a.now b.now).0 }) }
     ensures right { IfOk result (λ s. s.right ≡ record b.now { cells = (unified N.ops a.now b.now).1 }) }
 {
-    unify_laws::<N>();
-    a.model();
-    b.model();
-    let cells = unified_cells(a, b)?;
-    let left = State::with_cells(a.allocator(), a.orders(), a.model(), cells.left)?;
-    let right = State::with_cells(b.allocator(), b.orders(), b.model(), cells.right)?;
+    let mut left = reshared(a)?;
+    let mut right = reshared(b)?;
+    left.model();
+    right.model();
+    if left.is_like(&right) {
+        return Ok(States { left, right });
+    }
+    part_both(&mut left, &mut right)?;
+    uncross_both(&mut left, &mut right)?;
+    drop_both(&mut left, &mut right)?;
     Ok(States { left, right })
 }
 
 /// Both come to have cells of the same sides, places and types. Where they have already, and none are to be reshared,
-/// both stay, at the cost of a copy of all cells. Else both are made anew, and each cell is compared with all cells of
-/// the other.
+/// both stay. Costs a look at all cells of both, and a step for each cell that changes.
 pub fn unify<N: Num>(a: &mut State<N>, b: &mut State<N>) -> Result<(), Memory>
     requires orders { a.old.orders ≡ b.old.orders }
     requires model { a.old.model ≡ b.old.model }

@@ -1,6 +1,3 @@
+pub mod Crossing
 pub mod Splitting
-mod Unifying
-mod Crossing
-pub mod Partings
-pub mod Unifieds
-pub mod Windowed
+pub mod Sized

@@ -1,84 +1,21 @@
-//! Cells that overlap others and aren't alike are split on their sides, or are gone.
+//! Cells that overlap others and aren't alike come apart.
 
-ghost use Rattle.std.specs.Prelude.{◌≡◌, ◌++◌, ◌∷◌, [], ◌&&◌, not, map, true, false, if◌then◌else◌, IfOk, Some, None};
-ghost use Rattle.std.specs.List.{list_any, filter};
-ghost use Rattle.std.specs.Option.{option_map, option_map_or};
-ghost use Rattle.ep_cells.specs.Cells.{each_becomes, parts_of, is_same_cell as are_one, meets, place_of as the_place, put_all as the_put_all};
-ghost use Rattle.ep_cells.specs.Forms.{form_after, reformed};
-ghost use Rattle.ep_cells.specs.States.{Each};
-ghost use Rattle.ep_cell_changes.specs.Tests.{AreInOrder};
-ghost use Rattle.ep_reads.specs.Unify.{is_of_one_side, is_crossed, is_byte, bytes_on, crossed_parts, left_by_crossing, fate_by_crossing, crossed_cell, crossed_like, crossed_all, uncrossed};
+ghost use Rattle.std.specs.Prelude.{◌≡◌, ◌++◌, ◌∷◌, [], if◌then◌else◌, IfOk};
+ghost use Rattle.ep_cells.specs.Cells.{each_becomes, parts_of};
+ghost use Rattle.ep_reads.specs.Unify.{is_byte, bytes_on, crossed_parts};
 ghost use Rattle.ep_synthesis.specs.Parts.{known, IsSized};
 
-use crate::split::{byte_cells, cell_like, form_without, name_on};
-use crate::unify::{on_side, push_parts};
-use ep_bitslice::{BoxedForm, Form, Side};
-use ep_cell_changes::windows::about;
+use crate::split::byte_cells;
+use ep_bitslice::Side;
 use ep_cell_rows::cell::copy_cell;
-use ep_cell_rows::places::{is_same_cell, is_same_side, meets, place_of};
-use ep_cell_rows::rows::{copied, push, put_all};
-use ep_cell_rows::values::{boxed_like, copy_value, form_of};
+use ep_cell_rows::rows::push;
+use ep_cell_rows::values::{copy_boxed, copy_value, form_of};
 use ep_cells::Cell;
 use ep_domain::Num;
-use ep_int::{IntType, Memory, Model, Scalar};
+use ep_int::{IntType, Memory, Scalar};
 use ep_scalar_reads::Machines;
 use ep_scalar_reads::byte::order_on;
 use std::alloc::Global;
-
-// ---- which cells are crossed
-
-fn crosses<N: Num>(model: Model, x: &Cell<N>, y: &Cell<N>) -> bool
-    ensures { result ≡ (meets (the_place model x.now) (the_place model y.now) && not (are_one x.now y.now)) }
-{
-    meets(&place_of(model, x), &place_of(model, y)) && !is_same_cell(x, y)
-}
-
-fn is_crossed_by<N: Num>(model: Model, ys: &[Cell<N>], x: &Cell<N>) -> bool
-    ensures { result ≡ is_crossed model ys.now x.now }
-{
-    ys.iter().any(|y| crosses(model, x, y))
-}
-
-fn is_crossed<N: Num>(model: Model, ys: &[Cell<N>], x: &Cell<N>) -> bool
-    requires order { AreInOrder ys.now }
-    ensures { result ≡ is_crossed model ys.now x.now }
-{
-    is_crossed_by(model, about(ys, &place_of(model, x)), x)
-}
-
-fn push_crossed<N: Num>(
-    out: &mut Vec<Cell<N>>,
-    model: Model,
-    ys: &[Cell<N>],
-    x: &Cell<N>,
-) -> Result<(), Memory>
-    requires order { AreInOrder ys.now }
-    ensures { IfOk result (λ _. out.new.items ≡ out.old.items ++ filter (is_crossed model ys.now) (x.now ∷ [])) }
-{
-    if is_crossed(model, ys, x) {
-        push(out, copy_cell(x)?)
-    } else {
-        Ok(())
-    }
-}
-
-fn crossed<N: Num>(
-    alloc: Global,
-    model: Model,
-    ys: &[Cell<N>],
-    xs: &[Cell<N>],
-) -> Result<Vec<Cell<N>>, Memory>
-    requires order { AreInOrder ys.now }
-    ensures { IfOk result (λ v. v.items ≡ filter (is_crossed model ys.now) xs.now) }
-{
-    let mut out = Vec::new(alloc);
-    for x in xs {
-        push_crossed(&mut out, model, ys, x)?;
-    }
-    Ok(out)
-}
-
-// ---- mentions
 
 fn is_byte(what: Scalar) -> bool
     ensures { result ≡ is_byte what }
@@ -104,86 +41,37 @@ fn is_byte_type(t: IntType) -> bool
     }
 }
 
-// A form where a byte is parted at the most.
-fn form_by_parting<N: Num>(form: &Form, x: &Cell<N>, t: IntType) -> Option<Form>
-    requires what { x.now.what ≡ Scalar.Int t }
-    requires byte { is_byte x.now.what ≡ true }
-    ensures { result ≡ form_after (fate_by_crossing x.now) (Some form.now) }
-{
-    form.segments();
-    if is_same_side(x.side, Side::Shared) {
-        let name = name_on(x, t, x.side);
-        Some(form.rename(&name, &name_on(x, t, Side::Left)))
-    } else {
-        Some(form.copy())
-    }
-}
-
-fn form_by_integer<N: Num>(form: &Form, x: &Cell<N>, t: IntType) -> Option<Form>
-    requires { x.now.what ≡ Scalar.Int t }
-    ensures { result ≡ form_after (fate_by_crossing x.now) (Some form.now) }
-{
-    if is_byte(x.what) {
-        form_by_parting(form, x, t)
-    } else {
-        form_without(form, &name_on(x, t, x.side))
-    }
-}
-
-fn form_by_crossing<N: Num>(form: &Form, x: &Cell<N>) -> Option<Form>
-    ensures { result ≡ form_after (fate_by_crossing x.now) (Some form.now) }
-{
-    match x.what {
-        Scalar::Int(t) => form_by_integer(form, x, t),
-        Scalar::Pointer => {
-            form.segments();
-            Some(form.copy())
-        }
-    }
-}
-
-/// The form where a cell is crossed, with a name for each mention of it that goes on, if all do.
-pub fn form_after<N: Num>(
-    form: &Option<BoxedForm>,
-    x: &Cell<N>,
-) -> Result<Option<BoxedForm>, Memory>
-    ensures { IfOk result (λ f. f ≡ form_after (fate_by_crossing x.now) form.now) }
-{
-    match form {
-        None => Ok(None),
-        Some(form) => boxed_like(form, form_by_crossing(form.form(), x)),
-    }
-}
-
-fn reformed<N: Num>(x: &Cell<N>, c: &Cell<N>) -> Result<Cell<N>, Memory>
-    ensures { IfOk result (λ y. y ≡ reformed (fate_by_crossing x.now) c.now) }
+fn on_side<N: Num>(x: &Cell<N>, side: Side) -> Result<Cell<N>, Memory>
+    ensures { IfOk result (λ c. c ≡ record x.now { side = side }) }
 {
     Ok(Cell {
-        side: c.side,
-        block: c.block,
-        offset: c.offset,
-        what: c.what,
-        value: copy_value(&c.value)?,
-        maybe: c.maybe,
-        form: form_after(&c.form, x)?,
+        side,
+        block: x.block,
+        offset: x.offset,
+        what: x.what,
+        value: copy_value(&x.value)?,
+        maybe: x.maybe,
+        form: copy_boxed(&x.form)?,
     })
 }
 
-fn all_reformed<N: Num>(
-    alloc: Global,
-    x: &Cell<N>,
-    cells: &[Cell<N>],
-) -> Result<Vec<Cell<N>>, Memory>
-    ensures { IfOk result (λ v. v.items ≡ map (reformed (fate_by_crossing x.now)) cells.now) }
+fn push_both<N: Num>(out: &mut Vec<Cell<N>>, x: &Cell<N>) -> Result<(), Memory>
+    ensures { IfOk result (λ _. out.new.items ≡ (out.old.items
+        ++ (record x.now { side = Side.Left }) ∷ []) ++ (record x.now { side = Side.Right }) ∷ []) }
 {
-    let mut out = Vec::new(alloc);
-    for c in cells {
-        push(&mut out, reformed(x, c)?)?;
-    }
-    Ok(out)
+    push(out, on_side(x, Side::Left)?)?;
+    push(out, on_side(x, Side::Right)?)
 }
 
-// ---- one cell
+fn push_parts<N: Num>(out: &mut Vec<Cell<N>>, x: &Cell<N>) -> Result<(), Memory>
+    ensures { IfOk result (λ _. out.new.items ≡ out.old.items ++ parts_of x.now) }
+{
+    match x.side {
+        Side::Left => push(out, copy_cell(x)?),
+        Side::Right => push(out, copy_cell(x)?),
+        Side::Shared => push_both(out, x),
+    }
+}
 
 fn push_bytes<N: Num>(
     out: &mut Vec<Cell<N>>,
@@ -288,111 +176,16 @@ fn push_crossed_parts<N: Num>(
     }
 }
 
-fn push_left<N: Num>(out: &mut Vec<Cell<N>>, x: &Cell<N>, y: &Cell<N>) -> Result<(), Memory>
-    ensures { IfOk result (λ _. out.new.items ≡ out.old.items ++ left_by_crossing x.now y.now) }
-{
-    if is_same_cell(y, x) {
-        Ok(())
-    } else {
-        push(out, copy_cell(y)?)
-    }
-}
-
-fn left_by_crossing<N: Num>(
-    alloc: Global,
-    x: &Cell<N>,
-    cells: &[Cell<N>],
-) -> Result<Vec<Cell<N>>, Memory>
-    ensures { IfOk result (λ v. v.items ≡ each_becomes (left_by_crossing x.now) cells.now) }
-{
-    let mut out = Vec::new(alloc);
-    for y in cells {
-        push_left(&mut out, x, y)?;
-    }
-    Ok(out)
-}
-
-/// The cells with one of them split on its sides, or gone.
-pub fn crossed_cell<N: Num>(
+/// What a cell that others cross becomes on its sides.
+pub fn crossed_parts<N: Num>(
     alloc: Global,
     machines: Machines,
     x: &Cell<N>,
-    cells: &[Cell<N>],
 ) -> Result<Vec<Cell<N>>, Memory>
     requires { IsSized machines.model x.now }
-    ensures { IfOk result (λ v. v.items ≡ crossed_cell N.ops (known machines []) x.now cells.now) }
+    ensures { IfOk result (λ v. v.items ≡ crossed_parts N.ops (known machines []) x.now x.now.what) }
 {
-    let mut parts = Vec::new(alloc);
-    push_crossed_parts(&mut parts, alloc, machines, x)?;
-    let mut after = left_by_crossing(alloc, x, cells)?;
-    put_all(&mut after, parts)?;
-    let all = all_reformed(alloc, x, &after)?;
-    Ok(all)
-}
-
-// ---- all cells that are crossed
-
-// None where no cell is like x.
-fn crossed_found<N: Num>(
-    alloc: Global,
-    machines: Machines,
-    x: &Cell<N>,
-    cells: &[Cell<N>],
-) -> Result<Option<Vec<Cell<N>>>, Memory>
-    requires { Each (IsSized machines.model) cells.now }
-    ensures { IfOk result (λ o. option_map_or (λ v. v.items) o cells.now
-        ≡ crossed_like N.ops (known machines []) x.now cells.now) }
-{
-    let Some(y) = cell_like(x, cells) else {
-        return Ok(None);
-    };
-    Ok(Some(crossed_cell(alloc, machines, y, cells)?))
-}
-
-fn crossed_like<N: Num>(
-    alloc: Global,
-    machines: Machines,
-    x: &Cell<N>,
-    cells: Vec<Cell<N>>,
-) -> Result<Vec<Cell<N>>, Memory>
-    requires { Each (IsSized machines.model) cells.items }
-    ensures { IfOk result (λ v. v.items ≡ crossed_like N.ops (known machines []) x.now cells.items) }
-{
-    match crossed_found(alloc, machines, x, &cells)? {
-        None => Ok(cells),
-        Some(after) => Ok(after),
-    }
-}
-
-fn crossed_all<N: Num>(
-    alloc: Global,
-    machines: Machines,
-    xs: &[Cell<N>],
-    cells: Vec<Cell<N>>,
-) -> Result<Vec<Cell<N>>, Memory>
-    requires { Each (IsSized machines.model) cells.items }
-    ensures { IfOk result (λ v. v.items ≡ crossed_all N.ops (known machines []) xs.now cells.items) }
-{
-    let mut cells = cells;
-    for x in xs {
-        cells = crossed_like(alloc, machines, x, cells)?;
-    }
-    Ok(cells)
-}
-
-/// The second cells with each one split, or gone, that one of the first crosses.
-pub fn uncrossed<N: Num>(
-    alloc: Global,
-    machines: Machines,
-    ys: &[Cell<N>],
-    xs: &[Cell<N>],
-) -> Result<Vec<Cell<N>>, Memory>
-    requires order { AreInOrder ys.now }
-    requires sized { Each (IsSized machines.model) xs.now }
-    ensures { IfOk result (λ v. v.items ≡ uncrossed N.ops (known machines []) ys.now xs.now) }
-{
-    let cut = crossed(alloc, machines.model, ys, xs)?;
-    let all = copied(alloc, xs)?;
-    let after = crossed_all(alloc, machines, &cut, all)?;
-    Ok(after)
+    let mut out = Vec::new(alloc);
+    push_crossed_parts(&mut out, alloc, machines, x)?;
+    Ok(out)
 }

@@ -1,9 +1,7 @@
-//! How cells of two memories are split, and how two states are made alike.
+//! What cells become that are split, or that others cross.
 #![tactic(auto)]
 
-pub mod both;
 pub mod cross;
 pub mod split;
-pub mod unify;
 
 pub use ep_scalar_reads::{Machines, ReadValue, byte, read};

@@ -1,0 +1,33 @@
+-- Two states after changes of both.
+use Rattle.std.proofs.Common.{◌≡◌, ℕ, zero, suc, ◌+◌, ◌-◌, ◌<◌, ◌≤◌, List, [], ◌∷◌, ◌++◌, map, length, refl, sym, ◌∙◌, ap, subst, arith}
+use Rattle.std.specs.List.{filter}
+use Rattle.ep_int.specs.declared.types.Model.{Model}
+use Rattle.ep_domain.specs.Domain.{Ops}
+use Rattle.ep_cells.specs.declared.cell.Cell.{Cell}
+use Rattle.ep_cells.specs.States.{Known, AreCells}
+use Rattle.ep_reads.specs.Unify.{is_crossed, uncrossed, had_by_both}
+use Rattle.ep_step_laws.specs.Single.{without_like, is_kind_among}
+use Rattle.ep_step_laws.proofs.Liked.{had_is, crossed_lacked}
+use Rattle.ep_state_steps.specs.Ones.{left_at, crossed_at}
+
+pub lacking_is : {N : Type 0} (k after : Known N) (ys zs slice : List (Cell N)) → AreCells k.model k.cells → slice ≡ zs
+    → zs ≡ without_like ys k.cells → after ≡ left_at (is_kind_among slice) k
+    → after ≡ record k { cells = had_by_both ys k.cells }
+lacking_is k after ys zs slice a f e h =
+    h
+    ∙ ap (λ l. left_at (is_kind_among l) k) (f ∙ e)
+    ∙ ap (λ l. record k { cells = l }) (sym (had_is k.model k.cells ys a))
+
+-- k is the state whose cells are crossed, l the one whose cells cross them
+pub crossing_is : {N : Type 0} (D : Ops N) (k l after : Known N) (us zs slice lacked : List (Cell N))
+    → k.model ≡ l.model
+    → AreCells l.model l.cells → us ≡ without_like l.cells k.cells → lacked ≡ us
+    → zs ≡ filter (is_crossed l.model l.cells) lacked → slice ≡ zs → after ≡ crossed_at D slice k
+    → after ≡ record k { cells = uncrossed D k l.cells k.cells }
+crossing_is D k l after us zs slice lacked m a e f g i h =
+    h
+    ∙ ap (λ q. crossed_at D q k)
+    (i ∙ g ∙ ap (filter (is_crossed l.model l.cells)) (f ∙ e)
+    ∙ ap (λ d. filter (is_crossed d l.cells) (without_like l.cells k.cells)) (sym m))
+    ∙ ap (λ q. record k { cells = q }) (sym (crossed_lacked D k k.cells l.cells
+    (subst (λ d. AreCells d l.cells) (sym m) a)))

@@ -1,0 +1,9 @@
+pub mod Loops
+pub mod Windows
+pub mod Walking
+pub mod Stepwise
+pub mod Faced
+pub mod Both
+pub mod Liken
+pub mod Cuts
+pub mod ByTurns

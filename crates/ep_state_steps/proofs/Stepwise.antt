@@ -1,0 +1,136 @@
+-- Steps of single cells.
+use Rattle.std.proofs.Common.{◌≡◌, Bool, true, false, if◌then◌else◌, cond, List, [], ◌∷◌, map, Option, Some, None, refl, sym, ◌∙◌, ap, subst}
+use Rattle.std.specs.Option.{option_map}
+use Rattle.ep_int.specs.declared.types.Model.{Model}
+use Rattle.ep_int.specs.declared.types.Scalar.{Scalar}
+use Rattle.ep_int.specs.declared.types.Scalar.TheVariants.{Int, Pointer}
+use Rattle.ep_bitslice.specs.declared.cell.CellName.{CellName}
+use Rattle.ep_bitslice.specs.declared.cell.Side.{Side}
+use Rattle.ep_bitslice.specs.declared.cell.Side.TheVariants.{Left, Shared}
+use Rattle.ep_domain.specs.Domain.{Ops, Lawful}
+use Rattle.ep_cells.specs.declared.cell.Cell.{Cell}
+use Rattle.ep_cells.specs.Cells.{is_same_side, is_same_cell, share_memory, side_without, IsIn, parts_of}
+use Rattle.ep_cells.specs.Forms.{reformed}
+use Rattle.ep_cells.specs.States.{Known, AreCells}
+use Rattle.ep_reads.specs.Bytes.{order_on}
+use Rattle.ep_reads.specs.Split.{is_name_of, form_beside, byte_cells, split_cell}
+use Rattle.ep_reads.specs.Unify.{crossed_parts, crossed_cell}
+use Rattle.ep_split_laws.proofs.OneSplit.{split_cell_cells}
+use Rattle.ep_split_laws.proofs.Crossed.{crossed_keeps}
+use Rattle.ep_scalar_reads.specs.declared.machines.Machines.{Machines}
+use Rattle.ep_synthesis.specs.Parts.{known, IsSized}
+use Rattle.ep_synthesis.proofs.Sized.{one_sized}
+use Rattle.ep_step_laws.specs.Single.{changed_cells, begins_as, parted_where, is_kind_of, without}
+use Rattle.ep_step_laws.proofs.Composed.{same_changes}
+use Rattle.ep_step_laws.proofs.Parting.{where_cells}
+use Rattle.ep_step_laws.proofs.Dropping.{without_cells}
+use Rattle.ep_step_laws.proofs.Steps.{one_parted}
+use Rattle.ep_cells.specs.Weaken.{first_part}
+use Rattle.ep_bicells.specs.Steps.{changed_by, fate_to, left_by_parting, left_by_step, fate_of_step}
+use Rattle.ep_bicells.specs.declared.changes.Step.TheVariants.{Split, Cross, Unshare, Lack}
+use Rattle.ep_state_steps.specs.Ones.{parted_at, left_at, machines_of}
+
+-- ---- a Shared cell comes apart
+
+some_cond : (b : Bool) (u v : CellName) → cond b (Some u) (Some v) ≡ Some (cond b u v)
+some_cond true u v = refl
+some_cond false u v = refl
+
+name_apart : {N : Type 0} (z : Cell N) (n : CellName) → z.side ≡ Shared
+    → fate_to (Some (first_part z.side)) z n ≡ Some (if is_name_of n z then record n { side = Left } else n)
+name_apart z n e =
+    ap (λ (s : Side). cond (is_name_of n z) (Some (record n { side = first_part s })) (Some n)) e
+    ∙ some_cond (is_name_of n z) (record n { side = Left }) n
+
+unshared : {N : Type 0} (D : Ops N) (d : Model) (z : Cell N) (new cs : List (Cell N)) → new ≡ [] → z.side ≡ Shared
+    → changed_by D d (Unshare z) new cs ≡ parted_where (begins_as z) cs
+unshared {N = N} D d z new cs e s =
+    ap (λ l. changed_by D d (Unshare z) l cs) e
+    ∙ same_changes (left_by_parting z) (λ (x : Cell N). if is_same_cell x z then parts_of x else x ∷ [])
+    (fate_to (Some (first_part z.side)) z) (λ n. Some (if is_name_of n z then record n { side = Left } else n)) cs
+    (λ x i. refl) (λ x y i j. ap (λ f. reformed f y) (λ m n. name_apart z n s m))
+    ∙ one_parted z cs s
+
+pub unshared_cells : {N : Type 0} (D : Ops N) (d : Model) (z y : Cell N) (new cs : List (Cell N)) → AreCells d cs
+    → y ≡ z
+    → new ≡ [] → z.side ≡ Shared → AreCells d (changed_by D d (Unshare y) new cs)
+unshared_cells D d z y new cs a f e s =
+    subst (λ c. AreCells d (changed_by D d (Unshare c) new cs)) (sym f)
+    (subst (AreCells d) (sym (unshared D d z new cs e s)) (where_cells d (begins_as z) cs a))
+
+pub unshared_is : {N : Type 0} (D : Ops N) (k after : Known N) (z y : Cell N) (new : List (Cell N)) → y ≡ z → new ≡ []
+    → z.side ≡ Shared → after ≡ record k { cells = changed_by D k.model (Unshare y) new k.cells }
+    → after ≡ parted_at (begins_as z) k
+unshared_is D k after z y new f e s h =
+    h
+    ∙ ap (λ c. record k { cells = changed_by D k.model (Unshare c) new k.cells }) f
+    ∙ ap (λ l. record k { cells = l }) (unshared D k.model z new k.cells e s)
+
+-- ---- a cell goes
+
+pub dropped_cells : {N : Type 0} (D : Ops N) (d : Model) (z y : Cell N) (new cs : List (Cell N)) → AreCells d cs → y ≡ z
+    → new ≡ [] → AreCells d (changed_by D d (Lack y) new cs)
+dropped_cells D d z y new cs a f e =
+    subst (λ c. AreCells d (changed_by D d (Lack c) new cs)) (sym f)
+    (subst (λ l. AreCells d (changed_by D d (Lack z) l cs)) (sym e) (without_cells d (is_kind_of z) cs a))
+
+pub dropped_is : {N : Type 0} (D : Ops N) (k after : Known N) (z y : Cell N) (new : List (Cell N)) → y ≡ z → new ≡ []
+    → after ≡ record k { cells = changed_by D k.model (Lack y) new k.cells } → after ≡ left_at (is_kind_of z) k
+dropped_is D k after z y new f e h =
+    h
+    ∙ ap (λ c. record k { cells = changed_by D k.model (Lack c) new k.cells }) f
+    ∙ ap (λ l. record k { cells = changed_by D k.model (Lack z) l k.cells }) e
+
+-- ---- a cell is crossed
+
+parts_other : {N : Type 0} (D : Ops N) (k : Known N) (x : Cell N) (w : Scalar)
+    → crossed_parts D (known (machines_of k) []) x w ≡ crossed_parts D k x w
+parts_other D k x (Int t) = refl
+parts_other D k x Pointer = refl
+
+parts_are : {N : Type 0} (D : Ops N) (k : Known N) (m : Machines) (y : Cell N) (new : List (Cell N)) → m ≡ machines_of k
+    → new ≡ crossed_parts D (known m []) y y.what → new ≡ crossed_parts D k y y.what
+parts_are D k m y new e h = h ∙ ap (λ z. crossed_parts D (known z []) y y.what) e ∙ parts_other D k y y.what
+
+pub crossed_cells : {N : Type 0} (D : Ops N) → Lawful D → (k : Known N) (m : Machines) (y : Cell N)
+    (new : List (Cell N))
+    → AreCells k.model k.cells → IsIn y k.cells → m ≡ machines_of k
+    → new ≡ crossed_parts D (known m []) y y.what → AreCells k.model (changed_by D k.model (Cross y) new k.cells)
+crossed_cells D law k m y new a i e h =
+    subst (λ l. AreCells k.model (changed_by D k.model (Cross y) l k.cells)) (sym (parts_are D k m y new e h))
+    (crossed_keeps D law k y k.cells a i).cells
+
+pub crossed_is : {N : Type 0} (D : Ops N) (k after : Known N) (m : Machines) (y : Cell N) (new : List (Cell N))
+    → m ≡ machines_of k → new ≡ crossed_parts D (known m []) y y.what
+    → after ≡ record k { cells = changed_by D k.model (Cross y) new k.cells }
+    → after ≡ record k { cells = crossed_cell D k y k.cells }
+crossed_is D k after m y new e h f =
+    f ∙ ap (λ l. record k { cells = changed_by D k.model (Cross y) l k.cells }) (parts_are D k m y new e h)
+
+-- ---- a cell is split
+
+bytes_are : {N : Type 0} (D : Ops N) (k : Known N) (m : Machines) (s : Side) (y : Cell N) (new : List (Cell N))
+    → m ≡ machines_of k
+    → new ≡ byte_cells D m.model (order_on s m.orders) s (form_beside y (side_without s y.side)) y
+    → new ≡ byte_cells D k.model (order_on s k.orders) s (form_beside y (side_without s y.side)) y
+bytes_are D k m s y new e h =
+    h ∙ ap (λ (z : Machines). byte_cells D z.model (order_on s z.orders) s (form_beside y (side_without s y.side)) y) e
+
+pub split_cells : {N : Type 0} (D : Ops N) (k : Known N) (m : Machines) (s : Side) (y : Cell N) (new : List (Cell N))
+    → AreCells k.model k.cells → IsIn y k.cells → is_same_side s Shared ≡ false → share_memory s y.side ≡ true
+    → m ≡ machines_of k → new ≡ byte_cells D m.model (order_on s m.orders) s (form_beside y (side_without s y.side)) y
+    → AreCells k.model (changed_by D k.model (Split s y) new k.cells)
+split_cells D k m s y new a i o p e h =
+    subst (λ l. AreCells k.model (changed_by D k.model (Split s y) l k.cells)) (sym (bytes_are D k m s y new e h))
+    (split_cell_cells D k s y k.cells a i o p)
+
+pub split_is : {N : Type 0} (D : Ops N) (k after : Known N) (m : Machines) (s : Side) (y : Cell N) (new : List (Cell N))
+    → m ≡ machines_of k → new ≡ byte_cells D m.model (order_on s m.orders) s (form_beside y (side_without s y.side)) y
+    → after ≡ record k { cells = changed_by D k.model (Split s y) new k.cells }
+    → after ≡ record k { cells = split_cell D k s y k.cells }
+split_is D k after m s y new e h f =
+    f ∙ ap (λ l. record k { cells = changed_by D k.model (Split s y) l k.cells }) (bytes_are D k m s y new e h)
+
+pub sized_at : {N : Type 0} (k : Known N) (m : Machines) (y : Cell N) → AreCells k.model k.cells → IsIn y k.cells
+    → m ≡ machines_of k → IsSized m.model y
+sized_at k m y a i e = subst (λ (z : Machines). IsSized z.model y) (sym e) (one_sized k.model k.cells y a i)

@@ -1,0 +1,8 @@
+use Rattle.std.proofs.Common.{◌≡◌, ◌++◌, drop}
+use Rattle.ep_state_steps.proofs.Loops.{faced_of, lefts_of}
+use Rattle.ep_state_steps.proofs.parting.part_facing.Given as goal
+
+abbrev pub invariant-loop-y : goal.invariant-loop-y
+invariant-loop-y g l =
+    (faced_of (drop l.y-index l.ys) l.state ≡ faced_of l.ys l.fn.state)
+    × (l.out.items ++ lefts_of (drop l.y-index l.ys) l.state ≡ lefts_of l.ys l.fn.state)

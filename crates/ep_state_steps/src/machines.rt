@@ -1,0 +1,17 @@
+//! The machines of a state.
+
+ghost use Rattle.std.specs.Prelude.{◌≡◌};
+ghost use Rattle.ep_state_steps.specs.Ones.{machines_of};
+
+use ep_domain::Num;
+use ep_states::State;
+use ep_synthesis::Machines;
+
+pub fn machines_of<N: Num>(state: &State<N>) -> Machines
+    ensures { result ≡ machines_of state.now }
+{
+    Machines {
+        orders: state.orders(),
+        model: state.model(),
+    }
+}
