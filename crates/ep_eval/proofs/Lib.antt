@@ -1,0 +1,6 @@
+pub mod Arms
+pub mod Lefts
+pub mod Narrowings
+pub mod Nexts
+pub mod Parts
+pub mod Widths

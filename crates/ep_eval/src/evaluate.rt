@@ -1,0 +1,796 @@
+//! Expressions and places: what they give in a mode, and what is left of a state where a test has a truth. On one side a
+//! pass gives the value and what is left for both truths, so that no part is evaluated again at each level.
+
+ghost use Rattle.std.specs.Prelude.{◌≡◌, ◌++◌, IfOk, IfSome, OnOk, None, Some, true, false};
+ghost use Rattle.ep_core.specs.Runs.{left, right};
+ghost use Rattle.ep_core.specs.View.{shown_expr, shown_place};
+ghost use Rattle.ep_cells.specs.States.{IsOfSort};
+ghost use Rattle.ep_evaluation.specs.Evaluation as spec;
+ghost use Rattle.ep_evaluation.specs.Evaluation.{expression, place};
+ghost use Rattle.ep_evaluation.specs.Given.{alone};
+ghost use Rattle.ep_evaluation.specs.Narrowed.{then_with};
+ghost use Rattle.ep_eval_fits.specs.Fitting.{ExprIsFit, PlaceIsFit};
+ghost use Rattle.ep_eval_loads.specs.After.{left_of};
+ghost use Rattle.ep_eval_loads.specs.Running.{side_of};
+ghost use Rattle.ep_eval.specs.Limits.{both_limited, limited as limited_by};
+ghost use Rattle.ep_eval.specs.Steps.{LeadsOn, given_later, given_second, pair_if, state_where};
+
+use crate::left::{Assumed, Second, Wants, behind, either_if, left_where, second_behind};
+use crate::limits::{Limit, Limits, limited};
+use crate::modes::{First, mode_where};
+use crate::operands::{Operand, kept_cell, load_cell, numbers, pointers, value_assumed};
+use crate::sure::are_sure;
+use crate::typed::{computed, converted};
+use crate::verdicts::has_one_truth;
+use ep_cells::Cell;
+use ep_core::tree::{Expr, Place};
+use ep_domain::Num;
+use ep_equalities::{Fault, Mode, PairValue};
+use ep_eval_loads::loads::load;
+use ep_eval_loads::{After, Running};
+use ep_eval_places::elements::element;
+use ep_eval_places::moves::{member, sum};
+use ep_eval_sides::operators::{
+    block, chosen, comparison, constant, negation, null, pointer_comparison, same_pointer, short,
+};
+use ep_eval_sides::sides::{may_be, when_not};
+use ep_int::Memory;
+use ep_states::State;
+
+/// What an expression gives in a mode. Its faults are added to those that are there.
+#[cycle(evaluate)]
+pub fn eval<N: Num>(
+    e: &Expr,
+    sizes: &[u32],
+    state: &State<N>,
+    mode: Mode,
+    faults: &mut Vec<Fault>,
+) -> Result<PairValue<N>, Memory>
+    requires fit { ExprIsFit (shown_expr e.now) }
+    ensures value { IfOk result (λ r. r
+        ≡ ((expression N.ops sizes.now (shown_expr e.now)).gives mode state.now).pair) }
+    ensures faults { OnOk result (faults.new.items
+        ≡ faults.old.items ++ ((expression N.ops sizes.now (shown_expr e.now)).gives mode state.now).faults) }
+{
+    match e {
+        Expr::Const(t, v) => Ok(constant(mode, *t, *v)),
+        Expr::Null => Ok(null(state.allocator(), mode)),
+        Expr::Load(what, a) => {
+            let x = address(a, sizes, state, mode, faults)?;
+            load(mode, sizes, state, *what, &x, faults)
+        }
+        Expr::AddrOf(a) => {
+            let x = address(a, sizes, state, mode, faults)?;
+            same_pointer(mode, &x)
+        }
+        Expr::Bin(op, t, a, b) => {
+            let x = eval(a, sizes, state, mode, faults)?;
+            let y = eval(b, sizes, state, mode, faults)?;
+            computed(a, sizes, state, mode, *op, *t, &x, &y, faults)
+        }
+        Expr::Convert(t, a) => {
+            let x = eval(a, sizes, state, mode, faults)?;
+            Ok(converted(a, sizes, state, mode, *t, &x))
+        }
+        Expr::Compare(c, _, a, b) => {
+            let x = eval(a, sizes, state, mode, faults)?;
+            let y = eval(b, sizes, state, mode, faults)?;
+            Ok(comparison(mode, *c, &x, &y))
+        }
+        Expr::PtrCompare(c, a, b) => {
+            let x = eval(a, sizes, state, mode, faults)?;
+            let y = eval(b, sizes, state, mode, faults)?;
+            pointer_comparison(mode, *c, &x, &y, faults)
+        }
+        Expr::And(a, b) => {
+            let x = first(
+                a,
+                sizes,
+                state,
+                mode,
+                Wants {
+                    yes: true,
+                    no: false,
+                },
+                faults,
+            )?;
+            let y = later(b, sizes, state, x.mode_true, x.when_true, faults)?;
+            Ok(short(true, mode, &x.value, y))
+        }
+        Expr::Or(a, b) => {
+            let x = first(
+                a,
+                sizes,
+                state,
+                mode,
+                Wants {
+                    yes: false,
+                    no: true,
+                },
+                faults,
+            )?;
+            let y = later(b, sizes, state, x.mode_false, x.when_false, faults)?;
+            Ok(short(false, mode, &x.value, y))
+        }
+        Expr::Not(a) => {
+            let x = eval(a, sizes, state, mode, faults)?;
+            Ok(negation(mode, &x))
+        }
+        Expr::Cond(c, a, b) => {
+            let x = first(
+                c,
+                sizes,
+                state,
+                mode,
+                Wants {
+                    yes: true,
+                    no: true,
+                },
+                faults,
+            )?;
+            let y = later(a, sizes, state, x.mode_true, x.when_true, faults)?;
+            let z = later(b, sizes, state, x.mode_false, x.when_false, faults)?;
+            chosen(mode, &x.value, y, z)
+        }
+        Expr::PtrAdd(a, unit, n, back) => {
+            let x = eval(a, sizes, state, mode, faults)?;
+            let y = eval(n, sizes, state, mode, faults)?;
+            sum(mode, sizes, *unit, *back, &x, &y, faults)
+        }
+        Expr::Cast(a) => {
+            let x = eval(a, sizes, state, mode, faults)?;
+            same_pointer(mode, &x)
+        }
+    }
+}
+
+/// What a place gives in a mode: its address. Its faults are added to those that are there.
+#[cycle(evaluate)]
+pub fn address<N: Num>(
+    a: &Place,
+    sizes: &[u32],
+    state: &State<N>,
+    mode: Mode,
+    faults: &mut Vec<Fault>,
+) -> Result<PairValue<N>, Memory>
+    requires fit { PlaceIsFit (shown_place a.now) }
+    ensures value { IfOk result (λ r. r ≡ (place N.ops sizes.now (shown_place a.now) mode state.now).pair) }
+    ensures faults { OnOk result (faults.new.items
+        ≡ faults.old.items ++ (place N.ops sizes.now (shown_place a.now) mode state.now).faults) }
+{
+    match a {
+        Place::Block(b) => block(state.allocator(), mode, *b),
+        Place::Deref(e) => {
+            let x = eval(e, sizes, state, mode, faults)?;
+            same_pointer(mode, &x)
+        }
+        Place::Member(of, offset) => {
+            let x = address(of, sizes, state, mode, faults)?;
+            member(mode, sizes, *offset, &x, faults)
+        }
+        Place::Element(of, bound, unit, i) => {
+            let x = address(of, sizes, state, mode, faults)?;
+            let y = eval(i, sizes, state, mode, faults)?;
+            element(state.allocator(), mode, *bound, *unit, &x, &y, faults)
+        }
+    }
+}
+
+// ---- operands that are evaluated later, if at all
+
+#[cycle(evaluate)]
+fn first<N: Num>(
+    e: &Expr,
+    sizes: &[u32],
+    state: &State<N>,
+    mode: Mode,
+    wants: Wants,
+    faults: &mut Vec<Fault>,
+) -> Result<First<N>, Memory>
+    requires fit { ExprIsFit (shown_expr e.now) }
+    ensures value { IfOk result (λ r. r.value
+        ≡ ((expression N.ops sizes.now (shown_expr e.now)).gives mode state.now).pair) }
+    ensures faults { OnOk result (faults.new.items
+        ≡ faults.old.items ++ ((expression N.ops sizes.now (shown_expr e.now)).gives mode state.now).faults) }
+    ensures yes { IfOk result (λ r. wants.yes ≡ true → LeadsOn N.ops (expression N.ops sizes.now (shown_expr e.now))
+        mode true state.now r.mode_true (left_of state.now r.when_true)) }
+    ensures no { IfOk result (λ r. wants.no ≡ true → LeadsOn N.ops (expression N.ops sizes.now (shown_expr e.now))
+        mode false state.now r.mode_false (left_of state.now r.when_false)) }
+{
+    match mode {
+        Mode::Both => first_of_both(e, sizes, state, wants, faults),
+        Mode::Left => first_alone(e, sizes, state, Running::Left, wants, faults),
+        Mode::Right => first_alone(e, sizes, state, Running::Right, wants, faults),
+    }
+}
+
+// One side runs: one pass gives the value and what is left for both truths.
+#[cycle(evaluate)]
+fn first_alone<N: Num>(
+    e: &Expr,
+    sizes: &[u32],
+    state: &State<N>,
+    side: Running,
+    wants: Wants,
+    faults: &mut Vec<Fault>,
+) -> Result<First<N>, Memory>
+    requires fit { ExprIsFit (shown_expr e.now) }
+    ensures value { IfOk result (λ r. r.value
+        ≡ ((expression N.ops sizes.now (shown_expr e.now)).gives (alone (side_of side)) state.now).pair) }
+    ensures faults { OnOk result (faults.new.items
+        ≡ faults.old.items ++ ((expression N.ops sizes.now (shown_expr e.now)).gives (alone (side_of side)) state.now).faults) }
+    ensures yes { IfOk result (λ r. wants.yes ≡ true → LeadsOn N.ops (expression N.ops sizes.now (shown_expr e.now))
+        (alone (side_of side)) true state.now r.mode_true (left_of state.now r.when_true)) }
+    ensures no { IfOk result (λ r. wants.no ≡ true → LeadsOn N.ops (expression N.ops sizes.now (shown_expr e.now))
+        (alone (side_of side)) false state.now r.mode_false (left_of state.now r.when_false)) }
+{
+    let x = test(e, sizes, state, side, wants, faults)?;
+    let mode_true = mode_where(side.mode(), &x.value, true);
+    let mode_false = mode_where(side.mode(), &x.value, false);
+    Ok(First {
+        value: x.value,
+        mode_true,
+        when_true: x.when_true,
+        mode_false,
+        when_false: x.when_false,
+    })
+}
+
+#[cycle(evaluate)]
+fn first_of_both<N: Num>(
+    e: &Expr,
+    sizes: &[u32],
+    state: &State<N>,
+    wants: Wants,
+    faults: &mut Vec<Fault>,
+) -> Result<First<N>, Memory>
+    requires fit { ExprIsFit (shown_expr e.now) }
+    ensures value { IfOk result (λ r. r.value
+        ≡ ((expression N.ops sizes.now (shown_expr e.now)).gives Mode.Both state.now).pair) }
+    ensures faults { OnOk result (faults.new.items
+        ≡ faults.old.items ++ ((expression N.ops sizes.now (shown_expr e.now)).gives Mode.Both state.now).faults) }
+    ensures yes { IfOk result (λ r. wants.yes ≡ true → LeadsOn N.ops (expression N.ops sizes.now (shown_expr e.now))
+        Mode.Both true state.now r.mode_true (left_of state.now r.when_true)) }
+    ensures no { IfOk result (λ r. wants.no ≡ true → LeadsOn N.ops (expression N.ops sizes.now (shown_expr e.now))
+        Mode.Both false state.now r.mode_false (left_of state.now r.when_false)) }
+{
+    let value = eval(e, sizes, state, Mode::Both, faults)?;
+    let stable = has_one_truth(Mode::Both, &value);
+    let mode_true = mode_where(Mode::Both, &value, true);
+    let mode_false = mode_where(Mode::Both, &value, false);
+    let when_true = next_state(e, sizes, state, wants.yes, stable, mode_true, true)?;
+    let when_false = next_state(e, sizes, state, wants.no, stable, mode_false, false)?;
+    Ok(First {
+        value,
+        mode_true,
+        when_true,
+        mode_false,
+        when_false,
+    })
+}
+
+// What is left for the next operand, where the first may have the truth on these sides.
+#[cycle(evaluate)]
+fn next_state<N: Num>(
+    e: &Expr,
+    sizes: &[u32],
+    state: &State<N>,
+    wanted: bool,
+    stable: bool,
+    mode: Option<Mode>,
+    truth: bool,
+) -> Result<After<N>, Memory>
+    requires fit { ExprIsFit (shown_expr e.now) }
+    ensures { IfOk result (λ r. wanted ≡ true → left_of state.now r
+        ≡ state_where N.ops (expression N.ops sizes.now (shown_expr e.now)) stable mode truth state.now) }
+{
+    if !wanted {
+        return Ok(After::Nothing);
+    }
+    match mode {
+        None => Ok(After::Nothing),
+        Some(mode) => state_in(e, sizes, state, stable, mode, truth),
+    }
+}
+
+#[cycle(evaluate)]
+fn state_in<N: Num>(
+    e: &Expr,
+    sizes: &[u32],
+    state: &State<N>,
+    stable: bool,
+    mode: Mode,
+    truth: bool,
+) -> Result<After<N>, Memory>
+    requires fit { ExprIsFit (shown_expr e.now) }
+    ensures { IfOk result (λ r. left_of state.now r
+        ≡ spec.state_for N.ops (expression N.ops sizes.now (shown_expr e.now)) stable mode truth state.now) }
+{
+    if !stable {
+        return Ok(After::Unchanged);
+    }
+    match mode {
+        Mode::Both => assumed_on_both(e, sizes, state, truth, truth),
+        Mode::Left => assumed_on(e, sizes, state, Running::Left, truth),
+        Mode::Right => assumed_on(e, sizes, state, Running::Right, truth),
+    }
+}
+
+/// What is left where an expression has these truths, the left side's first.
+#[cycle(evaluate)]
+pub(crate) fn assumed_on_both<N: Num>(
+    e: &Expr,
+    sizes: &[u32],
+    state: &State<N>,
+    on_left: bool,
+    on_right: bool,
+) -> Result<After<N>, Memory>
+    requires fit { ExprIsFit (shown_expr e.now) }
+    ensures { IfOk result (λ r. left_of state.now r
+        ≡ then_with ((expression N.ops sizes.now (shown_expr e.now)).assumes left on_left state.now)
+        ((expression N.ops sizes.now (shown_expr e.now)).assumes right on_right)) }
+{
+    let first = assumed_on(e, sizes, state, Running::Left, on_left)?;
+    match first {
+        After::Nothing => Ok(After::Nothing),
+        After::Unchanged => assumed_on(e, sizes, state, Running::Right, on_right),
+        After::Changed(s) => {
+            let x = assumed_on(e, sizes, &s, Running::Right, on_right)?;
+            Ok(behind(s, x))
+        }
+    }
+}
+
+#[cycle(evaluate)]
+fn assumed_on<N: Num>(
+    e: &Expr,
+    sizes: &[u32],
+    state: &State<N>,
+    side: Running,
+    truth: bool,
+) -> Result<After<N>, Memory>
+    requires fit { ExprIsFit (shown_expr e.now) }
+    ensures { IfOk result (λ r. left_of state.now r
+        ≡ (expression N.ops sizes.now (shown_expr e.now)).assumes (side_of side) truth state.now) }
+{
+    let mut unseen = Vec::new(state.allocator());
+    let wants = Wants {
+        yes: truth,
+        no: !truth,
+    };
+    let x = test(e, sizes, state, side, wants, &mut unseen)?;
+    Ok(left_where(x, truth))
+}
+
+// A later operand, on the sides on which it is evaluated.
+#[cycle(evaluate)]
+fn later<N: Num>(
+    e: &Expr,
+    sizes: &[u32],
+    state: &State<N>,
+    mode: Option<Mode>,
+    after: After<N>,
+    faults: &mut Vec<Fault>,
+) -> Result<Option<PairValue<N>>, Memory>
+    requires fit { ExprIsFit (shown_expr e.now) }
+    ensures value { IfOk result (λ r. r ≡ pair_if (given_later N.ops
+        (expression N.ops sizes.now (shown_expr e.now)) mode (left_of state.now after))) }
+    ensures faults { OnOk result (faults.new.items ≡ faults.old.items ++ spec.later_faults N.ops (given_later N.ops
+        (expression N.ops sizes.now (shown_expr e.now)) mode (left_of state.now after))) }
+{
+    match mode {
+        None => Ok(None),
+        Some(mode) => later_in(e, sizes, state, mode, after, faults),
+    }
+}
+
+#[cycle(evaluate)]
+fn later_in<N: Num>(
+    e: &Expr,
+    sizes: &[u32],
+    state: &State<N>,
+    mode: Mode,
+    after: After<N>,
+    faults: &mut Vec<Fault>,
+) -> Result<Option<PairValue<N>>, Memory>
+    requires fit { ExprIsFit (shown_expr e.now) }
+    ensures value { IfOk result (λ r. r ≡ pair_if (spec.given_in N.ops
+        (expression N.ops sizes.now (shown_expr e.now)) mode (left_of state.now after))) }
+    ensures faults { OnOk result (faults.new.items ≡ faults.old.items ++ spec.later_faults N.ops (spec.given_in N.ops
+        (expression N.ops sizes.now (shown_expr e.now)) mode (left_of state.now after))) }
+{
+    match after {
+        After::Nothing => Ok(None),
+        After::Unchanged => {
+            let y = eval(e, sizes, state, mode, faults)?;
+            Ok(Some(y))
+        }
+        After::Changed(s) => {
+            let y = eval(e, sizes, &s, mode, faults)?;
+            Ok(Some(y))
+        }
+    }
+}
+
+// ---- tests on one side
+
+/// What an expression gives on one side alone, and what is left of the state where it is of each truth that is asked for.
+/// The faults are added to those that are there.
+#[cycle(evaluate)]
+pub fn test<N: Num>(
+    e: &Expr,
+    sizes: &[u32],
+    state: &State<N>,
+    side: Running,
+    wants: Wants,
+    faults: &mut Vec<Fault>,
+) -> Result<Assumed<N>, Memory>
+    requires fit { ExprIsFit (shown_expr e.now) }
+    ensures value { IfOk result (λ r. r.value
+        ≡ ((expression N.ops sizes.now (shown_expr e.now)).gives (alone (side_of side)) state.now).pair) }
+    ensures faults { OnOk result (faults.new.items ≡ faults.old.items
+        ++ ((expression N.ops sizes.now (shown_expr e.now)).gives (alone (side_of side)) state.now).faults) }
+    ensures yes { IfOk result (λ r. wants.yes ≡ true → left_of state.now r.when_true
+        ≡ (expression N.ops sizes.now (shown_expr e.now)).assumes (side_of side) true state.now) }
+    ensures no { IfOk result (λ r. wants.no ≡ true → left_of state.now r.when_false
+        ≡ (expression N.ops sizes.now (shown_expr e.now)).assumes (side_of side) false state.now) }
+{
+    match e {
+        Expr::Const(_, _) => test_value(e, sizes, state, side, wants, faults),
+        Expr::Null => test_value(e, sizes, state, side, wants, faults),
+        Expr::Load(_, _) => test_value(e, sizes, state, side, wants, faults),
+        Expr::AddrOf(_) => test_value(e, sizes, state, side, wants, faults),
+        Expr::Bin(_, _, _, _) => test_value(e, sizes, state, side, wants, faults),
+        Expr::Convert(_, _) => test_value(e, sizes, state, side, wants, faults),
+        Expr::Compare(c, _, a, b) => {
+            let from = faults.len();
+            let x = operand(a, sizes, state, side, faults)?;
+            let y = operand(b, sizes, state, side, faults)?;
+            let sure = are_sure(faults, from);
+            let value = comparison(side.mode(), *c, &x.value, &y.value);
+            let yes = numbers(side, sure, when_not(*c, true), &x, &y);
+            let when_true = assumed(b, sizes, state, side, wants.yes, yes, &x, &y)?;
+            let no = numbers(side, sure, when_not(*c, false), &x, &y);
+            let when_false = assumed(b, sizes, state, side, wants.no, no, &x, &y)?;
+            Ok(Assumed {
+                value,
+                when_true,
+                when_false,
+            })
+        }
+        Expr::PtrCompare(c, a, b) => {
+            let from = faults.len();
+            let x = operand(a, sizes, state, side, faults)?;
+            let y = operand(b, sizes, state, side, faults)?;
+            let sure = are_sure(faults, from);
+            let yes = pointers(side, sure, *c, true, &x, &y);
+            let when_true = assumed(b, sizes, state, side, wants.yes, yes, &x, &y)?;
+            let no = pointers(side, sure, *c, false, &x, &y);
+            let when_false = assumed(b, sizes, state, side, wants.no, no, &x, &y)?;
+            let value = pointer_comparison(side.mode(), *c, &x.value, &y.value, faults)?;
+            Ok(Assumed {
+                value,
+                when_true,
+                when_false,
+            })
+        }
+        Expr::And(a, b) => {
+            let asks = Wants {
+                yes: true,
+                no: wants.no,
+            };
+            let x = test(a, sizes, state, side, asks, faults)?;
+            let runs = may_be(&side.of(&x.value).value, true);
+            let y = second(b, sizes, state, side, x.when_true, runs, wants, faults)?;
+            let when_false = either_if(wants.no, state, x.when_false, y.when_false)?;
+            Ok(Assumed {
+                value: short(true, side.mode(), &x.value, y.value),
+                when_true: y.when_true,
+                when_false,
+            })
+        }
+        Expr::Or(a, b) => {
+            let asks = Wants {
+                yes: wants.yes,
+                no: true,
+            };
+            let x = test(a, sizes, state, side, asks, faults)?;
+            let runs = may_be(&side.of(&x.value).value, false);
+            let y = second(b, sizes, state, side, x.when_false, runs, wants, faults)?;
+            let when_true = either_if(wants.yes, state, x.when_true, y.when_true)?;
+            Ok(Assumed {
+                value: short(false, side.mode(), &x.value, y.value),
+                when_true,
+                when_false: y.when_false,
+            })
+        }
+        Expr::Not(a) => {
+            let asks = Wants {
+                yes: wants.no,
+                no: wants.yes,
+            };
+            let x = test(a, sizes, state, side, asks, faults)?;
+            Ok(Assumed {
+                value: negation(side.mode(), &x.value),
+                when_true: x.when_false,
+                when_false: x.when_true,
+            })
+        }
+        Expr::Cond(_, _, _) => test_value(e, sizes, state, side, wants, faults),
+        Expr::PtrAdd(_, _, _, _) => test_value(e, sizes, state, side, wants, faults),
+        Expr::Cast(_) => test_value(e, sizes, state, side, wants, faults),
+    }
+}
+
+// A test without a rule of its own: a number is compared with 0, a pointer with null.
+#[cycle(evaluate)]
+fn test_value<N: Num>(
+    e: &Expr,
+    sizes: &[u32],
+    state: &State<N>,
+    side: Running,
+    wants: Wants,
+    faults: &mut Vec<Fault>,
+) -> Result<Assumed<N>, Memory>
+    requires fit { ExprIsFit (shown_expr e.now) }
+    ensures value { IfOk result (λ r. r.value
+        ≡ ((expression N.ops sizes.now (shown_expr e.now)).gives (alone (side_of side)) state.now).pair) }
+    ensures faults { OnOk result (faults.new.items ≡ faults.old.items
+        ++ ((expression N.ops sizes.now (shown_expr e.now)).gives (alone (side_of side)) state.now).faults) }
+    ensures yes { IfOk result (λ r. wants.yes ≡ true → left_of state.now r.when_true ≡ spec.test_assumed N.ops
+        (expression N.ops sizes.now (shown_expr e.now)).gives (expression N.ops sizes.now (shown_expr e.now)).cell
+        (side_of side) true state.now) }
+    ensures no { IfOk result (λ r. wants.no ≡ true → left_of state.now r.when_false ≡ spec.test_assumed N.ops
+        (expression N.ops sizes.now (shown_expr e.now)).gives (expression N.ops sizes.now (shown_expr e.now)).cell
+        (side_of side) false state.now) }
+{
+    let from = faults.len();
+    let x = operand(e, sizes, state, side, faults)?;
+    let sure = are_sure(faults, from);
+    let when_true = value_assumed(state, side, wants.yes, sure, true, &x)?;
+    let when_false = value_assumed(state, side, wants.no, sure, false, &x)?;
+    Ok(Assumed {
+        value: x.value,
+        when_true,
+        when_false,
+    })
+}
+
+// The second operand of `&&` or `||`, in what the first one leaves. Where it isn't evaluated, it has no faults.
+#[cycle(evaluate)]
+fn second<N: Num>(
+    e: &Expr,
+    sizes: &[u32],
+    state: &State<N>,
+    side: Running,
+    after: After<N>,
+    runs: bool,
+    wants: Wants,
+    faults: &mut Vec<Fault>,
+) -> Result<Second<N>, Memory>
+    requires fit { ExprIsFit (shown_expr e.now) }
+    ensures value { IfOk result (λ r. r.value ≡ pair_if (given_second N.ops
+        (expression N.ops sizes.now (shown_expr e.now)) (side_of side) runs (left_of state.now after))) }
+    ensures faults { OnOk result (faults.new.items ≡ faults.old.items ++ spec.later_faults N.ops (given_second N.ops
+        (expression N.ops sizes.now (shown_expr e.now)) (side_of side) runs (left_of state.now after))) }
+    ensures yes { IfOk result (λ r. wants.yes ≡ true → left_of state.now r.when_true ≡ then_with (left_of state.now after)
+        ((expression N.ops sizes.now (shown_expr e.now)).assumes (side_of side) true)) }
+    ensures no { IfOk result (λ r. wants.no ≡ true → left_of state.now r.when_false ≡ then_with (left_of state.now after)
+        ((expression N.ops sizes.now (shown_expr e.now)).assumes (side_of side) false)) }
+{
+    match after {
+        After::Nothing => Ok(Second {
+            value: None,
+            when_true: After::Nothing,
+            when_false: After::Nothing,
+        }),
+        After::Unchanged => second_in(e, sizes, state, side, runs, wants, faults),
+        After::Changed(s) => {
+            let x = second_in(e, sizes, &s, side, runs, wants, faults)?;
+            second_behind(s, x)
+        }
+    }
+}
+
+#[cycle(evaluate)]
+fn second_in<N: Num>(
+    e: &Expr,
+    sizes: &[u32],
+    state: &State<N>,
+    side: Running,
+    runs: bool,
+    wants: Wants,
+    faults: &mut Vec<Fault>,
+) -> Result<Second<N>, Memory>
+    requires fit { ExprIsFit (shown_expr e.now) }
+    ensures value { IfOk result (λ r. r.value ≡ pair_if (given_second N.ops
+        (expression N.ops sizes.now (shown_expr e.now)) (side_of side) runs (Some state.now))) }
+    ensures faults { OnOk result (faults.new.items ≡ faults.old.items ++ spec.later_faults N.ops (given_second N.ops
+        (expression N.ops sizes.now (shown_expr e.now)) (side_of side) runs (Some state.now))) }
+    ensures yes { IfOk result (λ r. wants.yes ≡ true → left_of state.now r.when_true
+        ≡ (expression N.ops sizes.now (shown_expr e.now)).assumes (side_of side) true state.now) }
+    ensures no { IfOk result (λ r. wants.no ≡ true → left_of state.now r.when_false
+        ≡ (expression N.ops sizes.now (shown_expr e.now)).assumes (side_of side) false state.now) }
+{
+    if runs {
+        let x = test(e, sizes, state, side, wants, faults)?;
+        return Ok(Second {
+            value: Some(x.value),
+            when_true: x.when_true,
+            when_false: x.when_false,
+        });
+    }
+    let mut unseen = Vec::new(state.allocator());
+    let x = test(e, sizes, state, side, wants, &mut unseen)?;
+    Ok(Second {
+        value: None,
+        when_true: x.when_true,
+        when_false: x.when_false,
+    })
+}
+
+// ---- operands, and their cells
+
+#[cycle(evaluate)]
+fn operand<N: Num>(
+    e: &Expr,
+    sizes: &[u32],
+    state: &State<N>,
+    side: Running,
+    faults: &mut Vec<Fault>,
+) -> Result<Operand<N>, Memory>
+    requires fit { ExprIsFit (shown_expr e.now) }
+    ensures value { IfOk result (λ r. r.value
+        ≡ ((expression N.ops sizes.now (shown_expr e.now)).gives (alone (side_of side)) state.now).pair) }
+    ensures faults { OnOk result (faults.new.items ≡ faults.old.items
+        ++ ((expression N.ops sizes.now (shown_expr e.now)).gives (alone (side_of side)) state.now).faults) }
+    ensures cell { IfOk result (λ r. r.cell
+        ≡ (expression N.ops sizes.now (shown_expr e.now)).cell (side_of side) state.now) }
+    ensures sort { IfOk result (λ r. IfSome r.cell (λ c. IsOfSort c.what c.value)) }
+{
+    match e {
+        Expr::Const(_, _) => without_cell(e, sizes, state, side, faults),
+        Expr::Null => without_cell(e, sizes, state, side, faults),
+        Expr::Load(what, a) => {
+            let from = faults.len();
+            let x = address(a, sizes, state, side.mode(), faults)?;
+            let cell = load_cell(sizes, state, side, *what, are_sure(faults, from), &x)?;
+            let value = load(side.mode(), sizes, state, *what, &x, faults)?;
+            Ok(Operand { value, cell })
+        }
+        Expr::AddrOf(_) => without_cell(e, sizes, state, side, faults),
+        Expr::Bin(_, _, _, _) => without_cell(e, sizes, state, side, faults),
+        Expr::Convert(t, a) => {
+            let x = operand(a, sizes, state, side, faults)?;
+            let value = converted(a, sizes, state, side.mode(), *t, &x.value);
+            Ok(Operand {
+                value,
+                cell: kept_cell(*t, x.cell),
+            })
+        }
+        Expr::Compare(_, _, _, _) => without_cell(e, sizes, state, side, faults),
+        Expr::PtrCompare(_, _, _) => without_cell(e, sizes, state, side, faults),
+        Expr::And(_, _) => without_cell(e, sizes, state, side, faults),
+        Expr::Or(_, _) => without_cell(e, sizes, state, side, faults),
+        Expr::Not(_) => without_cell(e, sizes, state, side, faults),
+        Expr::Cond(_, _, _) => without_cell(e, sizes, state, side, faults),
+        Expr::PtrAdd(_, _, _, _) => without_cell(e, sizes, state, side, faults),
+        Expr::Cast(_) => without_cell(e, sizes, state, side, faults),
+    }
+}
+
+#[cycle(evaluate)]
+fn without_cell<N: Num>(
+    e: &Expr,
+    sizes: &[u32],
+    state: &State<N>,
+    side: Running,
+    faults: &mut Vec<Fault>,
+) -> Result<Operand<N>, Memory>
+    requires fit { ExprIsFit (shown_expr e.now) }
+    ensures value { IfOk result (λ r. r.value
+        ≡ ((expression N.ops sizes.now (shown_expr e.now)).gives (alone (side_of side)) state.now).pair) }
+    ensures faults { OnOk result (faults.new.items ≡ faults.old.items
+        ++ ((expression N.ops sizes.now (shown_expr e.now)).gives (alone (side_of side)) state.now).faults) }
+    ensures cell { IfOk result (λ r. r.cell ≡ None) }
+{
+    let value = eval(e, sizes, state, side.mode(), faults)?;
+    Ok(Operand { value, cell: None })
+}
+
+// The cell of an expression, in a state.
+#[cycle(evaluate)]
+fn cell_in<N: Num>(
+    e: &Expr,
+    sizes: &[u32],
+    state: &State<N>,
+    side: Running,
+) -> Result<Option<Cell<N>>, Memory>
+    requires fit { ExprIsFit (shown_expr e.now) }
+    ensures cell { IfOk result (λ r. r
+        ≡ (expression N.ops sizes.now (shown_expr e.now)).cell (side_of side) state.now) }
+    ensures sort { IfOk result (λ r. IfSome r (λ c. IsOfSort c.what c.value)) }
+{
+    match e {
+        Expr::Const(_, _) => Ok(None),
+        Expr::Null => Ok(None),
+        Expr::Load(what, a) => {
+            let mut unseen = Vec::new(state.allocator());
+            let x = address(a, sizes, state, side.mode(), &mut unseen)?;
+            load_cell(sizes, state, side, *what, are_sure(&unseen, 0), &x)
+        }
+        Expr::AddrOf(_) => Ok(None),
+        Expr::Bin(_, _, _, _) => Ok(None),
+        Expr::Convert(t, a) => {
+            let c = cell_in(a, sizes, state, side)?;
+            Ok(kept_cell(*t, c))
+        }
+        Expr::Compare(_, _, _, _) => Ok(None),
+        Expr::PtrCompare(_, _, _) => Ok(None),
+        Expr::And(_, _) => Ok(None),
+        Expr::Or(_, _) => Ok(None),
+        Expr::Not(_) => Ok(None),
+        Expr::Cond(_, _, _) => Ok(None),
+        Expr::PtrAdd(_, _, _, _) => Ok(None),
+        Expr::Cast(_) => Ok(None),
+    }
+}
+
+// What two operands leave, of which the second is an expression's.
+#[cycle(evaluate)]
+fn assumed<N: Num>(
+    b: &Expr,
+    sizes: &[u32],
+    state: &State<N>,
+    side: Running,
+    wanted: bool,
+    limits: Option<Limits<N>>,
+    x: &Operand<N>,
+    y: &Operand<N>,
+) -> Result<After<N>, Memory>
+    requires fit { ExprIsFit (shown_expr b.now) }
+    requires first { IfSome x.now.cell (λ c. IsOfSort c.what c.value) }
+    requires second { IfSome y.now.cell (λ c. IsOfSort c.what c.value) }
+    requires cell { y.now.cell ≡ (expression N.ops sizes.now (shown_expr b.now)).cell (side_of side) state.now }
+    ensures { IfOk result (λ r. wanted ≡ true → left_of state.now r ≡ both_limited N.ops limits x.now.cell
+        ((expression N.ops sizes.now (shown_expr b.now)).cell (side_of side)) state.now) }
+{
+    if !wanted {
+        return Ok(After::Nothing);
+    }
+    match limits {
+        None => Ok(After::Nothing),
+        Some(limits) => {
+            let first = limited(state, &limits.first, &x.cell)?;
+            second_limited(b, sizes, state, side, first, &limits.second, &y.cell)
+        }
+    }
+}
+
+// The cell of the second operand is looked for again where the first one changed the state.
+#[cycle(evaluate)]
+fn second_limited<N: Num>(
+    b: &Expr,
+    sizes: &[u32],
+    state: &State<N>,
+    side: Running,
+    first: After<N>,
+    limit: &Limit<N>,
+    c: &Option<Cell<N>>,
+) -> Result<After<N>, Memory>
+    requires fit { ExprIsFit (shown_expr b.now) }
+    requires sort { IfSome c.now (λ c. IsOfSort c.what c.value) }
+    requires cell { c.now ≡ (expression N.ops sizes.now (shown_expr b.now)).cell (side_of side) state.now }
+    ensures { IfOk result (λ r. left_of state.now r ≡ then_with (left_of state.now first)
+        (λ l. limited_by N.ops limit.now ((expression N.ops sizes.now (shown_expr b.now)).cell (side_of side) l) l)) }
+{
+    match first {
+        After::Nothing => Ok(After::Nothing),
+        After::Unchanged => limited(state, limit, c),
+        After::Changed(s) => {
+            let c = cell_in(b, sizes, &s, side)?;
+            let x = limited(&s, limit, &c)?;
+            Ok(behind(s, x))
+        }
+    }
+}
