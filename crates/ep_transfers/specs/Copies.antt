@@ -42,6 +42,16 @@ use Rattle.ep_transfers.specs.Writes.{Item, write_now}
 abbrev pub Leaves : Type 0
 Leaves = Option (List Leaf)
 
+-- An object may be assigned to itself, and then stays as it is: so one place that is also one of several that are read
+-- is written as one of several.
+abbrev pub loosened : (to from : List Spot) → List Spot
+loosened [] ps = []
+loosened (q ∷ []) ps = if list_any (is_same_spot q) ps then q ∷ q ∷ [] else q ∷ []
+loosened (q ∷ r ∷ qs) ps = q ∷ r ∷ qs
+
+abbrev pub loosened_places : (to from : Places) → Places
+loosened_places to from = record { left = loosened to.left from.left; right = loosened to.right from.right }
+
 module _ {N : Type 0} (D : Ops N) where
   -- an assignment of an object to itself changes nothing
   abbrev pub moved_on : CellSide → (aggregate : Bool) → (to from : Spot) → (bytes : ℕ) → List (Cell N) → Known N →
@@ -191,7 +201,7 @@ module _ {N : Type 0} (D : Ops N) where
     write_pieces o (leaf w) byte j = write_apart o (leaf w) byte j
     write_pieces o (leaf w) none j = write_alone left o (leaf w) j
     write_pieces o byte byte j = write_together o byte j
-    write_pieces o byte (leaf v) j = write_apart o (leaf v) byte j
+    write_pieces o byte (leaf v) j = write_apart o byte (leaf v) j
     write_pieces o byte none j = write_alone left o byte j
 
     abbrev pub pieces_at : Mode → (offset : ℕ) → Known N → Known N
@@ -217,8 +227,11 @@ module _ {N : Type 0} (D : Ops N) where
   mode_alone left = Left
   mode_alone right = Right
 
+  -- no bytes at all may still lie inside of a pointer, which is then undefined
   abbrev pub copy_many : Side → Leaves → (to from : Places) → (bytes : ℕ) → Known N → Known N
-  copy_many s (Some ls) to from n k = pieces_from false k to from ls (mode_alone s) 0 n k
+  copy_many s (Some ls) to from zero k = blurred_each D (cells_of s) zero (at_side to s) k
+  copy_many s (Some ls) to from (suc n) k =
+      pieces_from false k (loosened_places to from) from ls (mode_alone s) 0 (suc n) k
   copy_many s None to from n k = blurred_each D (cells_of s) n (at_side to s) k
 
   abbrev pub copy_alone : Side → Leaves → (to from : Places) → (bytes : ℕ) → Known N → Known N
@@ -235,7 +248,9 @@ module _ {N : Type 0} (D : Ops N) where
   write_alike qs rs = not (is_one qs || is_one rs)
 
   abbrev pub copy_pieces : Leaves → (together : Bool) → (to from : Places) → (bytes : ℕ) → Known N → Known N
-  copy_pieces (Some l) true to from n k = pieces_from true k to from l Both 0 n k
+  copy_pieces (Some l) true to from zero k = copy_sides (Some l) to from zero k
+  copy_pieces (Some l) true to from (suc n) k =
+      pieces_from true k (loosened_places to from) from l Both 0 (suc n) k
   copy_pieces (Some l) false to from n k = copy_sides (Some l) to from n k
   copy_pieces None together to from n k = copy_sides None to from n k
 

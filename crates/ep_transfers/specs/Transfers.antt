@@ -20,6 +20,7 @@ use Rattle.ep_cells.specs.Forms.{Fate}
 use Rattle.ep_cells.specs.Kill.{leaf_at, is_in_leaf, killed_cells}
 use Rattle.ep_cells.specs.States.{Known}
 use Rattle.ep_reads.specs.declared.read.ReadValue.{ReadValue}
+use Rattle.ep_cell_ranges.specs.Moves.{blurred_each}
 use Rattle.ep_core.specs.Program.{Expr, Dest, Simple, nothing, eval, assign, clear, copy_aggregate, copy_bytes, fill}
 use Rattle.ep_core.specs.Program.{input, output, read_bytes, write_bytes, returns, Block, Program}
 use Rattle.ep_core.specs.Runs.{Side, left, right}
@@ -145,6 +146,13 @@ module _ {N : Type 0} (D : Ops N) where
       then after_faults (differs m (byte_pair m same k p i)) (bytes_out m same k p (i + 1) n)
       else stepped [] None)
 
+  -- no bytes go to the places of each running side
+  abbrev pub none_written : Mode → Places → Known N → Known N
+  none_written Both p k =
+      blurred_each D cell_side.Right zero p.right (blurred_each D cell_side.Left zero p.left k)
+  none_written Left p k = blurred_each D cell_side.Left zero p.left k
+  none_written Right p k = blurred_each D cell_side.Right zero p.right k
+
   -- ---- with the sizes of the blocks
   module _ (sizes : List ℕ) where
     -- a value goes to the places of its address
@@ -226,8 +234,13 @@ module _ {N : Type 0} (D : Ops N) where
         cleared_from o (suc more) k =
             cleared_from (o + 1) more (cleared_here o (leaf_at leaves o) (is_in_leaf k.model leaves o) k)
 
+        -- no bytes at all may still lie inside of a pointer, which is then undefined
+        abbrev pub cleared_bytes : (bytes : ℕ) → Known N → Known N
+        cleared_bytes zero k = none_written m p k
+        cleared_bytes (suc more) k = cleared_from 0 (suc more) k
+
       abbrev pub cleared : List Leaf → (to : PairValue N) → Known N → Stepped N
-      cleared leaves to k = at_run to (λ p k. cleared_from leaves (is_same D to) p 0 n k) k
+      cleared leaves to k = at_run to (λ p k. cleared_bytes leaves (is_same D to) p n k) k
 
 -- ---- of a program
 module _ {N : Type 0} (D : Ops N) (p : Program) where

@@ -103,7 +103,7 @@ form_has os m (Int t) null (Some ss) h = absurd h
 form_has os m (Int t) (pointer b q) (Some ss) h = absurd h
 form_has os m Pointer z (Some ss) h = absurd h
 
-some_is : (x z : Datum) → Some x ≡ Some z → x ≡ z
+pub some_is : (x z : Datum) → Some x ≡ Some z → x ≡ z
 some_is x z e = cc
 
 module _ {N : Type 0} (D : Ops N) where

@@ -159,7 +159,7 @@ module _ {N : Type 0} (D : Ops N) (p : Program) (ord : Side → Order) where
         ∙ subst (λ d. store_fault d h.size w h.offset ≡ None) kept.state.model h.stores
 
     -- its memory is then as what is known after it says
-    stored_so : (i : Side) (fa fv : Found) (h : Stored fa fv) → k.orders ≡ (ord left, ord right) → (b j : ℕ)
+    pub stored_so : (i : Side) (fa fv : Found) (h : Stored fa fv) → k.orders ≡ (ord left, ord right) → (b j : ℕ)
         → memory_after (ord i) fa fv h (memory_on i m) b j ≡ stored (order_on i k.orders) k.model (memory_on i m) w
         h.block h.offset h.datum b j
     stored_so left fa fv h e b j =

@@ -93,7 +93,7 @@ none_killed false m n h b q = h.alive refl b q
 
 -- ---- blocks of a program
 
-leaves_rise : (d : Model) (e size : ℕ) (ls : List Leaf) → AreLeavesFrom d e size ls → AreLeavesIn d e size ls
+pub leaves_rise : (d : Model) (e size : ℕ) (ls : List Leaf) → AreLeavesFrom d e size ls → AreLeavesIn d e size ls
 leaves_rise d e size [] h = h
 leaves_rise d e size (l ∷ ls) h = (h.0, leaves_rise d (l.offset + size_of d l.what) size ls h.2)
 

@@ -61,7 +61,7 @@ all_right : (p : Spot) (qs rs : List Spot) → IsOne p rs → IsOne p (all_spots
 all_right p [] rs one = one
 all_right p (q ∷ qs) rs one = put_there q p (all_spots qs rs) (there q (all_spots qs rs) (all_right p qs rs one))
 
-all_left : (p : Spot) (qs rs : List Spot) → IsOne p qs → IsOne p (all_spots qs rs)
+pub all_left : (p : Spot) (qs rs : List Spot) → IsOne p qs → IsOne p (all_spots qs rs)
 all_left p [] rs one = elim one [ ]
 all_left p (q ∷ qs) rs (here _) = put_there q q (all_spots qs rs) (here (all_spots qs rs))
 all_left p (q ∷ qs) rs (there _ _ one) = put_there q p (all_spots qs rs)
@@ -80,7 +80,7 @@ put_room bs d w q (r ∷ rs) h =
     room_if bs d w (spot_before q r) (q ∷ r ∷ rs) (if is_same_spot q r then r ∷ rs else r ∷ put_spot q rs) h
     (room_if bs d w (is_same_spot q r) (r ∷ rs) (r ∷ put_spot q rs) h.1 (h.1.0, put_room bs d w q rs (h.0, h.1.1)))
 
-all_room : (bs : Blocks) (d : Model) (w : Scalar) (qs rs : List Spot) → HaveRoom bs d w qs → HaveRoom bs d w rs →
+pub all_room : (bs : Blocks) (d : Model) (w : Scalar) (qs rs : List Spot) → HaveRoom bs d w qs → HaveRoom bs d w rs →
     HaveRoom bs d w (all_spots qs rs)
 all_room bs d w [] rs a b = b
 all_room bs d w (q ∷ qs) rs a b = put_room bs d w q (all_spots qs rs) (a.0, all_room bs d w qs rs a.1 b)

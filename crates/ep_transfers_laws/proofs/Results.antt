@@ -69,7 +69,7 @@ are_taken t bs seen any (Some (ty.Ptr a)) (Some ty.Void) same v w h i e = absurd
 are_taken t bs seen any (Some (ty.Ptr a)) (Some (ty.Array b c)) same v w h i e = absurd (cc)
 are_taken t bs seen any (Some (ty.Ptr a)) (Some (ty.Aggregate b)) same v w h i e = absurd (cc)
 
-if_has : (f : Found) (P : Datum → Type 0) (v : Datum) → IfHas f P → f ≡ has v → P v
+pub if_has : (f : Found) (P : Datum → Type 0) (v : Datum) → IfHas f P → f ≡ has v → P v
 if_has (has u) P v h e = subst P (let q : u ≡ v = cc in q) h
 if_has (faults k) P v h e = absurd (let q : faults k ≡ has v = e in cc)
 

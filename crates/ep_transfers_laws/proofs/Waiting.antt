@@ -1,11 +1,10 @@
 -- Values that wait while blocks come: their forms lose each mention of these blocks, and what is left of them is still
 -- said, whatever is done in these blocks.
-use Rattle.std.proofs.Common.{◌≡◌, ℕ, ◌+◌, Bool, true, false, ◌||◌, nat_eq, cond, List, [], ◌∷◌, slice_get, Option, Some, None, IfSome, refl, sym, ap, ◌∙◌, subst}
-use Rattle.std.specs.Option.{option_map}
+use Rattle.std.proofs.Common.{◌≡◌, ℕ, ◌+◌, Bool, true, false, ◌||◌, nat_eq, cond, List, [], ◌∷◌, slice_get, Some, None, IfSome, refl, sym, ap, ◌∙◌, subst}
 use Rattle.ep_int.specs.declared.types.Order.{Order}
 use Rattle.ep_int.specs.declared.types.Scalar.{Scalar}
 use Rattle.ep_int.specs.declared.types.Scalar.TheVariants.{Int, Pointer}
-use Rattle.ep_int.specs.Memory.{Byte, undefined, number as byte_number, fragment, Memory, Value as Datum, int, null, pointer, contains, forgotten, killed, number_in}
+use Rattle.ep_int.specs.Memory.{Byte, undefined, number as byte_number, fragment, Memory, Value as Datum, int, null, pointer, contains, forgotten, number_in}
 use Rattle.ep_int.proofs.Encodings.{decoded_same}
 use Rattle.ep_bitslice.specs.declared.cell.Side.{Side as CellSide}
 use Rattle.ep_bitslice.specs.declared.cell.Side.TheVariants as cell_side
@@ -25,7 +24,7 @@ use Rattle.ep_core.specs.WellFormed.{blocks_fit}
 use Rattle.ep_equalities.specs.declared.pair.Mode.{Mode}
 use Rattle.ep_equalities.specs.declared.pair.SideValue.{SideValue}
 use Rattle.ep_equalities.specs.Pairs.{SideIn, HasFormNumber}
-use Rattle.ep_evaluation.specs.Given.{Given, runs, on}
+use Rattle.ep_evaluation.specs.Given.{Given, on}
 use Rattle.ep_cell_ranges.specs.Ranges.{Form}
 use Rattle.ep_cell_ranges_laws.specs.Follow.{FormFits, FormHas}
 use Rattle.ep_cell_ranges_laws.proofs.Held.{held_fits, held_numbers}

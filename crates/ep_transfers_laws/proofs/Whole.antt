@@ -54,7 +54,7 @@ module _ {N : Type 0} (D : Ops N) (p : Program) (ord : Side → Order) where
       (told_of D (when_known (is_told_so D p ord k) s)).faults ≡ [] → s.faults ≡ []
   quiet k i s q = none_told D s.faults (sym (ap (λ (g : Gives (Known N)). g.faults) (given k i s)) ∙ q)
 
-  both_by : (k : Known N) (i : IsState D p ord k) (s : Stepped N) (way : Way) (n m : ℕ) (a b : Outcome)
+  pub both_by : (k : Known N) (i : IsState D p ord k) (s : Stepped N) (way : Way) (n m : ℕ) (a b : Outcome)
       → (s.faults ≡ [] → Meets p (StandsFor D p ord) way s.next n m a b)
       → (told_of D (when_known (is_told_so D p ord k) s)).faults ≡ []
       → Meets p (StandsFor D p ord) way (told_of D (when_known (is_told_so D p ord k) s)).next n m a b
@@ -62,7 +62,7 @@ module _ {N : Type 0} (D : Ops N) (p : Program) (ord : Side → Order) where
       subst (λ (g : Gives (Known N)). Meets p (StandsFor D p ord) way g.next n m a b) (sym (given k i s))
       (go (quiet k i s q))
 
-  alone_by : (k : Known N) (i : IsState D p ord k) (j : Side) (s : Stepped N) (way : Way) (n : ℕ) (y : State)
+  pub alone_by : (k : Known N) (i : IsState D p ord k) (j : Side) (s : Stepped N) (way : Way) (n : ℕ) (y : State)
       (a : Outcome)
       → (s.faults ≡ [] → MeetsAlone p (StandsFor D p ord) j way s.next n y a)
       → (told_of D (when_known (is_told_so D p ord k) s)).faults ≡ []
@@ -78,7 +78,7 @@ module _ {N : Type 0} (D : Ops N) (p : Program) (ord : Side → Order) where
 
   -- ---- statements, given what each does without a fault
 
-  simple_holds : (w : Simple)
+  pub simple_holds : (w : Simple)
       → ((here : ℕ) (f : Function) → slice_get p.functions here ≡ Some f → (seen : List ℕ)
       → simple_fits p here (result_type p.blocks f.result) w seen ≡ true → (l n m : ℕ) (s : Known N) (x y : State)
       → Kept p (StandsFor D p ord) s x y → (simple_step D p (mode_of Both) f.result w s).faults ≡ []

@@ -1,7 +1,10 @@
 //! The laws of what statements do to what is known of the cells of two memories: laws alone.
 #![tactic(auto)]
 
+ghost use Rattle.ep_transfers_laws.specs.Copying.{CopiesHold};
 ghost use Rattle.ep_transfers_laws.specs.Statements.{Each, StatementsHold, ResultsHold, TestsHold, BlocksHold, PairsHold};
+ghost use Rattle.ep_transfers_laws.specs.Calls.{ArgumentsHold, EntryHolds};
+ghost use Rattle.ep_transfers_laws.specs.Runs.{RunsHold};
 
 use ep_domain::Num;
 
@@ -29,4 +32,28 @@ pub fn block_laws<N: Num>()
 /// Does nothing: its contract is that nothing is lost where two states are brought together, over every domain.
 pub fn pair_laws<N: Num>()
     ensures { Each (PairsHold N.ops) }
+{}
+
+/// Does nothing: its contract is that the arguments of calls go soundly to the parameters, where both machines run and
+/// where one does, over every domain.
+pub fn arguments_laws<N: Num>()
+    ensures { Each (ArgumentsHold N.ops) }
+{}
+
+/// Does nothing: its contract is that what is known where main begins holds of the memories of both machines, over
+/// every domain.
+pub fn entry_laws<N: Num>()
+    ensures { Each (EntryHolds N.ops) }
+{}
+
+/// Does nothing: its contract is that statements which copy bytes are sound where both machines run and where one does,
+/// over every domain.
+pub fn copy_laws<N: Num>()
+    ensures { Each (CopiesHold N.ops) }
+{}
+
+/// Does nothing: its contract is that statements which touch runs of bytes are sound where both machines run and where
+/// one does, over every domain.
+pub fn run_laws<N: Num>()
+    ensures { Each (RunsHold N.ops) }
 {}

@@ -510,3 +510,50 @@ copy_several_cells = refl
 copy_several_state : is_state_after copy_several_program (run copy_several_program copy_several_steps) ≡ true
 unfolding at_depth count_leading_zeros
 copy_several_state = refl
+
+-- union { uint8_t *p; struct { uint8_t c[2]; struct {} e; } s; } u; uint8_t x; u.p = &x; then u.s.e is cleared.
+-- It has no bytes, but lies inside of the pointer, of which nothing is then known.
+abbrev clears_none_program : Program
+clears_none_program = record {
+  types = record {
+    model = Ilp32;
+    types = (ty.Int U8 ∷ ty.Int I32 ∷ ty.Ptr 0 ∷ ty.Aggregate 0 ∷ ty.Array 0 2 ∷ ty.Aggregate 1 ∷ ty.Aggregate 2 ∷ []);
+    aggregates = (record {
+      tag = [];
+      is_union = false;
+      members = (Some []);
+    } ∷ record {
+      tag = [];
+      is_union = false;
+      members = (Some (member_of 4 0 ∷ member_of 3 2 ∷ []));
+    } ∷ record {
+      tag = [];
+      is_union = true;
+      members = (Some (member_of 2 0 ∷ member_of 5 0 ∷ []));
+    } ∷ []);
+    completed = (0 ∷ 1 ∷ 2 ∷ []);
+  };
+  blocks = (local 4 1 ∷ local 4 6 ∷ local 1 0 ∷ []);
+  init = [];
+  functions = (main_of 0 (1 ∷ 2 ∷ []) ∷ []);
+  main = 0;
+}
+
+abbrev clears_none_steps : List Step
+clears_none_steps =
+    does Both (assign Pointer (member (block 1) 0) (addr_of (block 2))) ∷
+    does Both (clear (member (member (block 1) 0) 2) 3) ∷ []
+
+clears_none_faults : faults_of (run clears_none_program clears_none_steps) ≡ []
+unfolding at_depth count_leading_zeros
+clears_none_faults = refl
+
+clears_none_cells : shapes_of (run clears_none_program clears_none_steps) ≡ Some (
+    shape side.Shared 0 0 (Int I32) (between (pos 0) (pos 0)) false (Some (Fixed 0 32 ∷ [])) ∷
+    shape side.Shared 2 0 (Int U8) nothing_known true None ∷ [])
+unfolding at_depth count_leading_zeros
+clears_none_cells = refl
+
+clears_none_state : is_state_after clears_none_program (run clears_none_program clears_none_steps) ≡ true
+unfolding at_depth count_leading_zeros
+clears_none_state = refl

@@ -10,8 +10,8 @@ use lib.Count.{count_leading_zeros}
 use Rattle.ep_alarms.specs.declared.types.AlarmKind.TheVariants.{U4, E1}
 use Rattle.ep_bitslice.specs.declared.cell.Side.TheVariants as side
 use Rattle.ep_bitslice.specs.declared.segment.Segment.TheVariants.{Bits, Fixed}
-use Rattle.ep_core.specs.Program.{block, deref, member, element, const, load, addr_of, binary, convert, assign, copy_aggregate, copy_bytes, input, output, Program}
-use Rattle.ep_equalities.specs.declared.pair.Mode.TheVariants.{Both}
+use Rattle.ep_core.specs.Program.{block, deref, member, element, const, load, addr_of, binary, convert, conditional, assign, copy_aggregate, copy_bytes, input, output, Program}
+use Rattle.ep_equalities.specs.declared.pair.Mode.TheVariants.{Both, Left, Right}
 use Rattle.ep_transfers_rows.specs.Steps.{nothing_known, between, points, shape, does, Step, run, faults_of, shapes_of, is_state_after, local, member_of, main_of, to_place, listed, cell_of}
 
 -- struct item { uint8_t tag; uint32_t *p; } s, d; uint32_t x = 5, y; s.tag = 1; s.p = &x; memcpy(&d, &s,
@@ -383,3 +383,127 @@ sided_struct_cells = refl
 sided_struct_state : is_state_after sided_struct_program (run sided_struct_program sided_struct_steps) ≡ true
 unfolding at_depth count_leading_zeros
 sided_struct_state = refl
+
+-- struct s { uint8_t c[6]; } w, *t; union { struct s s[2]; uint8_t *p[3]; } u; uint8_t x, i; u.p[1] = &x;
+-- ep_in_u8(&i); t = i ? &u.s[0] : &w; u.s[0] = *t;
+-- Where t is &u.s[0] nothing changes, and the pointer that lies partly in u.s[0] stays.
+abbrev itself_program : Program
+itself_program = record {
+  types = record {
+    model = Ilp32;
+    types = (ty.Int U8 ∷ ty.Array 0 6 ∷ ty.Aggregate 0 ∷ ty.Array 2 2 ∷ ty.Ptr 0 ∷ ty.Array 4 3 ∷ ty.Aggregate 1
+        ∷ ty.Int I32 ∷ ty.Ptr 2 ∷ []);
+    aggregates = (record {
+      tag = [];
+      is_union = false;
+      members = (Some (member_of 1 0 ∷ []));
+    } ∷ record {
+      tag = [];
+      is_union = true;
+      members = (Some (member_of 3 0 ∷ member_of 5 0 ∷ []));
+    } ∷ []);
+    completed = (0 ∷ 1 ∷ []);
+  };
+  blocks = (local 4 7 ∷ local 12 6 ∷ local 1 0 ∷ local 4 8 ∷ local 1 0 ∷ local 6 2 ∷ []);
+  init = [];
+  functions = (main_of 0 (1 ∷ 2 ∷ 3 ∷ 4 ∷ 5 ∷ []) ∷ []);
+  main = 0;
+}
+
+abbrev itself_steps : List Step
+itself_steps =
+    does Both (assign Pointer (element (member (block 1) 0) 3 4 (const I32 (pos 1))) (addr_of (block 2))) ∷
+    does Both (input U8 (to_place (Int U8) (block 4))) ∷
+    does Both
+    (assign Pointer (block 3)
+    (conditional (load (Int U8) (block 4)) (addr_of (element (member (block 1) 0) 2 6 (const I32 (pos 0))))
+    (addr_of (block 5)))) ∷
+    does Both
+    (copy_aggregate (element (member (block 1) 0) 2 6 (const I32 (pos 0))) (deref (load Pointer (block 3))) 2) ∷ []
+
+itself_faults : faults_of (run itself_program itself_steps) ≡ []
+unfolding at_depth count_leading_zeros
+itself_faults = refl
+
+itself_cells : shapes_of (run itself_program itself_steps) ≡ Some (
+    shape side.Shared 0 0 (Int I32) (between (pos 0) (pos 0)) false (Some (Fixed 0 32 ∷ [])) ∷
+    shape side.Shared 1 0 (Int U8) nothing_known true None ∷
+    shape side.Shared 1 1 (Int U8) nothing_known true None ∷
+    shape side.Shared 1 2 (Int U8) nothing_known true None ∷
+    shape side.Shared 1 3 (Int U8) nothing_known true None ∷
+    shape side.Shared 1 8 (Int U8) nothing_known true None ∷
+    shape side.Shared 1 9 (Int U8) nothing_known true None ∷
+    shape side.Shared 1 10 (Int U8) nothing_known true None ∷
+    shape side.Shared 1 11 (Int U8) nothing_known true None ∷
+    shape side.Shared 2 0 (Int U8) nothing_known true None ∷
+    shape side.Shared 3 0 Pointer (points false ((1, (pos 0), (pos 0)) ∷ (5, (pos 0), (pos 0)) ∷ [])) false None ∷
+    shape side.Shared 4 0 (Int U8) (between (pos 0) (pos 255)) false None ∷
+    shape side.Shared 5 0 (Int U8) nothing_known true None ∷
+    shape side.Shared 5 1 (Int U8) nothing_known true None ∷
+    shape side.Shared 5 2 (Int U8) nothing_known true None ∷
+    shape side.Shared 5 3 (Int U8) nothing_known true None ∷
+    shape side.Shared 5 4 (Int U8) nothing_known true None ∷
+    shape side.Shared 5 5 (Int U8) nothing_known true None ∷ [])
+unfolding at_depth count_leading_zeros
+itself_cells = refl
+
+itself_state : is_state_after itself_program (run itself_program itself_steps) ≡ true
+unfolding at_depth count_leading_zeros
+itself_state = refl
+
+-- struct s { uint32_t a; } x, y, d, *p; uint8_t i; where the order is little: ((uint16_t *)&x)[0] = 1;
+-- ((uint16_t *)&x)[1] = 2; ((uint16_t *)&y)[0] = 3; ((uint16_t *)&y)[1] = 4; where it is big: x.a = 5; y.a = 6;
+-- ep_in_u8(&i); p = i ? &x : &y; d = *p;
+-- On the left d has bytes, and on the right its leaf (worked by hand).
+abbrev halves_program : Program
+halves_program = record {
+  types = record {
+    model = Ilp32;
+    types = (ty.Int U8 ∷ ty.Int U32 ∷ ty.Aggregate 0 ∷ ty.Ptr 2 ∷ ty.Int I32 ∷ ty.Int U16 ∷ []);
+    aggregates = (record { tag = []; is_union = false; members = (Some (member_of 1 0 ∷ [])) } ∷ []);
+    completed = (0 ∷ []);
+  };
+  blocks = (local 4 4 ∷ local 4 2 ∷ local 4 2 ∷ local 4 2 ∷ local 4 3 ∷ local 1 0 ∷ []);
+  init = [];
+  functions = (main_of 0 (1 ∷ 2 ∷ 3 ∷ 4 ∷ 5 ∷ []) ∷ []);
+  main = 0;
+}
+
+abbrev halves_steps : List Step
+halves_steps =
+    does Left (assign (Int U16) (element (block 1) 2 2 (const I32 (pos 0))) (convert U16 (const I32 (pos 1)))) ∷
+    does Left (assign (Int U16) (element (block 1) 2 2 (const I32 (pos 1))) (convert U16 (const I32 (pos 2)))) ∷
+    does Left (assign (Int U16) (element (block 2) 2 2 (const I32 (pos 0))) (convert U16 (const I32 (pos 3)))) ∷
+    does Left (assign (Int U16) (element (block 2) 2 2 (const I32 (pos 1))) (convert U16 (const I32 (pos 4)))) ∷
+    does Right (assign (Int U32) (member (block 1) 0) (convert U32 (const I32 (pos 5)))) ∷
+    does Right (assign (Int U32) (member (block 2) 0) (convert U32 (const I32 (pos 6)))) ∷
+    does Both (input U8 (to_place (Int U8) (block 5))) ∷
+    does Both
+    (assign Pointer (block 4) (conditional (load (Int U8) (block 5)) (addr_of (block 1)) (addr_of (block 2)))) ∷
+    does Both (copy_aggregate (block 3) (deref (load Pointer (block 4))) 2) ∷ []
+
+halves_faults : faults_of (run halves_program halves_steps) ≡ []
+unfolding at_depth count_leading_zeros
+halves_faults = refl
+
+halves_cells : shapes_of (run halves_program halves_steps) ≡ Some (
+    shape side.Shared 0 0 (Int I32) (between (pos 0) (pos 0)) false (Some (Fixed 0 32 ∷ [])) ∷
+    shape side.Left 1 0 (Int U16) (between (pos 1) (pos 1)) false (Some (Fixed 1 16 ∷ [])) ∷
+    shape side.Right 1 0 (Int U32) (between (pos 5) (pos 5)) false (Some (Fixed 5 32 ∷ [])) ∷
+    shape side.Left 1 2 (Int U16) (between (pos 2) (pos 2)) false (Some (Fixed 2 16 ∷ [])) ∷
+    shape side.Left 2 0 (Int U16) (between (pos 3) (pos 3)) false (Some (Fixed 3 16 ∷ [])) ∷
+    shape side.Right 2 0 (Int U32) (between (pos 6) (pos 6)) false (Some (Fixed 6 32 ∷ [])) ∷
+    shape side.Left 2 2 (Int U16) (between (pos 4) (pos 4)) false (Some (Fixed 4 16 ∷ [])) ∷
+    shape side.Left 3 0 (Int U8) (between (pos 1) (pos 3)) false None ∷
+    shape side.Right 3 0 (Int U32) (between (pos 5) (pos 6)) false None ∷
+    shape side.Left 3 1 (Int U8) (between (pos 0) (pos 0)) false None ∷
+    shape side.Left 3 2 (Int U8) (between (pos 2) (pos 4)) false None ∷
+    shape side.Left 3 3 (Int U8) (between (pos 0) (pos 0)) false None ∷
+    shape side.Shared 4 0 Pointer (points false ((1, (pos 0), (pos 0)) ∷ (2, (pos 0), (pos 0)) ∷ [])) false None ∷
+    shape side.Shared 5 0 (Int U8) (between (pos 0) (pos 255)) false None ∷ [])
+unfolding at_depth count_leading_zeros
+halves_cells = refl
+
+halves_state : is_state_after halves_program (run halves_program halves_steps) ≡ true
+unfolding at_depth count_leading_zeros
+halves_state = refl
