@@ -1,0 +1,15 @@
+pub mod FaultKinds
+pub mod Models
+pub mod Expressions
+pub mod Statements
+pub mod Written
+pub mod Calls
+pub mod Gathered
+pub mod OwnPlaces
+pub mod Accesses
+pub mod Allowed
+pub mod Named
+pub mod Tables
+pub mod Places
+pub mod Even
+pub mod Safe

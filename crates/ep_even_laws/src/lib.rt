@@ -1,0 +1,18 @@
+//! Of which kinds the faults of operations on what is known of cells are, where numbers keep strides: laws alone.
+#![tactic(auto)]
+
+ghost use Rattle.std.specs.Prelude.{true};
+ghost use Rattle.ep_alarm_laws.specs.Laws.{CellsAreHonest, ProductsKeepStrides};
+
+use ep_alarm_laws::honest_laws;
+use ep_congruence::Congruence;
+use ep_domain::{Num, Pair};
+
+/// Does nothing: its contract is that numbers of any domain with their congruences keep strides in products by 1, and
+/// that over them an element by an index of a named object is never misaligned.
+pub fn even_laws<A: Num>()
+    ensures products { ProductsKeepStrides ⟦<Pair<A, Congruence> as Num>⟧.ops }
+    ensures even { CellsAreHonest ⟦<Pair<A, Congruence> as Num>⟧.ops true }
+{
+    honest_laws::<Pair<A, Congruence>>();
+}
