@@ -151,6 +151,20 @@ answers() {
     is text "$written" "$2"
 }
 
+# The script with these words, interrupted while this command of `rt` runs.
+stops_while() {
+    anew
+    RT_DURING='sleep 20'
+    awaited=$1
+    shift
+    sh "$here/endport" "$@" > /dev/null 2>&1 &
+    job=$!
+    while ! grep -q "$awaited" "$work/calls"; do sleep 0.1; done
+    kill "$job"
+    wait "$job"
+    is status $? 130
+}
+
 is_unproved() {
     case $calls in try*) report 0 ;; *) report 1 "answered without rt try" ;; esac
     says "isn't proved yet"
@@ -224,14 +238,7 @@ says "./endport --prove"
 is "words for rt" "$calls" ""
 
 name='a run before the proofs is stopped'
-RT_DURING='sleep 20'
-: > "$work/calls"
-sh "$here/endport" check portable.c > /dev/null 2>&1 &
-job=$!
-while ! grep -q try "$work/calls"; do sleep 0.1; done
-kill "$job"
-wait "$job"
-is status $? 130
+stops_while try check portable.c
 
 # ---- proving
 
@@ -334,14 +341,7 @@ says 'one: NOT PROVED'
 says 'out/build.log'
 
 name='proving is stopped'
-anew
-RT_DURING='sleep 20'
-sh "$here/endport" --prove > /dev/null 2>&1 &
-job=$!
-while ! grep -q all "$work/calls"; do sleep 0.1; done
-kill "$job"
-wait "$job"
-is status $? 130
+stops_while all --prove
 
 name='memory'
 anew

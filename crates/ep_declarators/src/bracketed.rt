@@ -6,7 +6,7 @@ ghost use Rattle.ep_ast.specs.DeclarationGrammar.{Bounds};
 ghost use Rattle.ep_lexer.specs.Tokens.{view};
 ghost use Rattle.ep_reading.specs.Names.{is_type};
 ghost use Rattle.ep_reading.specs.Answer.{Gives, IsWithin};
-ghost use Rattle.ep_exprs.specs.Kept.{Shows};
+ghost use Rattle.ep_expression_trees.specs.Kept.{Shows};
 ghost use Rattle.ep_declarators.specs.Parts.{ShowsBound, ShowsBounds, Derives};
 
 use ep_ast::marks::{LEFT_BRACKET, RIGHT_BRACKET};

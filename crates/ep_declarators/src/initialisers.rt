@@ -8,7 +8,7 @@ ghost use Rattle.ep_ast.specs.Expression.{Expr};
 ghost use Rattle.ep_lexer.specs.Tokens.{view};
 ghost use Rattle.ep_reading.specs.Names.{is_type};
 ghost use Rattle.ep_reading.specs.Answer.{Gives, GivesEnded, IsPast};
-ghost use Rattle.ep_exprs.specs.Kept.{Shows as ShowsKept};
+ghost use Rattle.ep_expression_trees.specs.Kept.{Shows as ShowsKept};
 ghost use Rattle.ep_declarators.specs.Answer.{ShowsDeclarator, ShowsInits};
 ghost use Rattle.ep_declarators.specs.Parts.{ShowsValue, ShowsValues, ShowsInit};
 

@@ -1,4 +1,3 @@
-pub mod KeptLemmas
 pub mod MarkLemmas
 pub mod PrimaryLemmas
 pub mod SuffixLemmas

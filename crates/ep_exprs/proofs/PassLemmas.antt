@@ -4,7 +4,7 @@ use Rattle.ep_ast.specs.Token.{Tok}
 use Rattle.ep_ast.specs.Expression.{Expr}
 use Rattle.ep_ast.specs.Grammar.{expr, cast}
 use Rattle.ep_ast.specs.Reading.{Reads}
-use Rattle.ep_exprs.specs.declared.kept.Kept.{Kept}
+use Rattle.ep_expression_trees.specs.declared.kept.Kept.{Kept}
 use Rattle.ep_exprs.specs.declared.frames.Frame.{Frame}
 use Rattle.ep_exprs.specs.Look.{begins_cast, begins_assignment}
 use Rattle.ep_exprs.specs.Pending.{wanted, Plain, Waits, begins, Value}

@@ -6,10 +6,10 @@ use Rattle.ep_ast.specs.Expression.{Expr, line_of}
 use Rattle.ep_ast.specs.Mark.{question, colon}
 use Rattle.ep_ast.specs.Grammar.{Rule, expr, cond, bin, cast}
 use Rattle.ep_ast.specs.Reading.{Reads, Refuses, Lacks, AtMark}
-use Rattle.ep_exprs.specs.declared.kept.Kept.{Kept}
+use Rattle.ep_expression_trees.specs.declared.kept.Kept.{Kept}
 use Rattle.ep_exprs.specs.declared.frames.Frame.{Frame}
 use Rattle.ep_exprs.specs.declared.frames.Frame.TheVariants as frames
-use Rattle.ep_exprs.specs.Kept.{Shows}
+use Rattle.ep_expression_trees.specs.Kept.{Shows}
 use Rattle.ep_exprs.specs.Look.{begins_cast, begins_assignment}
 use Rattle.ep_exprs.specs.Pending.{wanted, Plain, Waits, begins, assigning, asking, choosing, Value, Asked}
 use Rattle.ep_exprs.proofs.ConditionalLemmas as laws

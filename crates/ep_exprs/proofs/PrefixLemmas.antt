@@ -11,9 +11,9 @@ use Rattle.ep_ast.specs.Mark.{left_paren, sizeof_word}
 use Rattle.ep_ast.specs.TypeWords.{TypeNamed, begins_type}
 use Rattle.ep_ast.specs.Grammar.{is_prefix, is_step, Rule, cast, unary, postfix}
 use Rattle.ep_ast.specs.Reading.{Reads, Refuses, Takes, TakesNone}
-use Rattle.ep_exprs.specs.declared.kept.Prefix.{Prefix}
-use Rattle.ep_exprs.specs.declared.kept.Prefix.TheVariants as prefixes
-use Rattle.ep_exprs.specs.Kept.{wrap, wrap_all}
+use Rattle.ep_expression_trees.specs.declared.kept.Prefix.{Prefix}
+use Rattle.ep_expression_trees.specs.declared.kept.Prefix.TheVariants as prefixes
+use Rattle.ep_expression_trees.specs.Kept.{wrap, wrap_all}
 use Rattle.ep_exprs.specs.Look.{begins_cast, AtCast}
 use Rattle.ep_exprs.specs.Pending.{begins_unary}
 use Rattle.ep_exprs.proofs.MarkLemmas.{both_true, prefix_not_paren, step_not_paren}

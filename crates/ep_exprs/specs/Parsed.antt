@@ -7,8 +7,8 @@ use Rattle.ep_ast.specs.Grammar.{Rule}
 use Rattle.ep_ast.specs.Reading.{Reads, Halts}
 use Rattle.ep_reading.specs.declared.reader.Part.{Part}
 use Rattle.ep_reading.specs.Answer.{after}
-use Rattle.ep_exprs.specs.declared.kept.Kept.{Kept}
-use Rattle.ep_exprs.specs.Kept.{Shows}
+use Rattle.ep_expression_trees.specs.declared.kept.Kept.{Kept}
+use Rattle.ep_expression_trees.specs.Kept.{Shows}
 use Rattle.ep_exprs.specs.Look.{begins_cast, begins_assignment, AtAssignment}
 
 -- a tree is read, and this is kept of it

@@ -6,7 +6,7 @@ use Rattle.ep_ast.specs.Mark.{question, colon, sizeof_word}
 use Rattle.ep_ast.specs.Grammar.{is_prefix, is_step, is_assignment, Rule, expr, cond, bin, cast, unary, Derives}
 use Rattle.ep_ast.specs.Reading.{Reads, AtMark}
 use Rattle.ep_lexer.specs.Tokens.{view}
-use Rattle.ep_exprs.specs.declared.kept.Kept.{Kept}
+use Rattle.ep_expression_trees.specs.declared.kept.Kept.{Kept}
 use Rattle.ep_exprs.specs.declared.frames.Frame.{Frame}
 use Rattle.ep_exprs.specs.declared.frames.Frame.TheVariants as frames
 use Rattle.ep_exprs.specs.declared.frames.Combined.{Combined}
@@ -16,7 +16,7 @@ use Rattle.ep_exprs.specs.declared.frames.Completed.TheVariants as completes
 use Rattle.ep_exprs.specs.declared.frames.Before.{Before}
 use Rattle.ep_exprs.specs.declared.frames.Before.TheVariants as befores
 use Rattle.ep_exprs.specs.Look.{AtAssignment, AtCast, begins_cast}
-use Rattle.ep_exprs.specs.Kept.{Shows}
+use Rattle.ep_expression_trees.specs.Kept.{Shows}
 
 -- ---- before an operand
 

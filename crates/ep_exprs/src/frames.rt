@@ -5,13 +5,13 @@ ghost use Rattle.ep_ast.specs.Token.{Tok};
 ghost use Rattle.ep_ast.specs.Expression.{Expr};
 ghost use Rattle.ep_lexer.specs.Tokens.{view};
 ghost use Rattle.ep_reading.specs.Names.{is_type};
-ghost use Rattle.ep_exprs.specs.Kept.{Shows, wrap_all};
+ghost use Rattle.ep_expression_trees.specs.Kept.{Shows, wrap_all};
 ghost use Rattle.ep_exprs.specs.Pending.{IsBefore, Waits, Value, Combines, Completes, IsShorter};
 ghost use Rattle.ep_exprs.specs.declared.frames.Frame.{Frame as Pending};
 
-use crate::kept::{Kept, Prefix, assign, conditional, prefixed};
 use crate::look::{at_cast, is_prefix, is_step};
 use ep_ast::words::SIZEOF;
+use ep_expression_trees::{Kept, Prefix, assign, conditional, prefixed};
 use ep_lexer::Token;
 use ep_reading::{Head, Part, TypeNames, first_of};
 use std::alloc::{AllocError, Global};

@@ -2,12 +2,11 @@
 #![tactic(auto)]
 
 mod frames;
-mod kept;
 mod look;
 mod parser;
 mod place;
 
+pub use ep_expression_trees::Kept;
 pub use ep_reading::TypeNames;
-pub use kept::Kept;
 pub use parser::read_expression;
 pub use place::expression;

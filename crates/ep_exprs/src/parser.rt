@@ -10,18 +10,18 @@ ghost use Rattle.ep_ast.specs.Grammar as rule;
 ghost use Rattle.ep_lexer.specs.Tokens.{view};
 ghost use Rattle.ep_reading.specs.Names.{is_type};
 ghost use Rattle.ep_reading.specs.Answer.{Gives, IsPast, IsWithin};
-ghost use Rattle.ep_exprs.specs.Kept.{ShowsAll, ShowsSuffix};
+ghost use Rattle.ep_expression_trees.specs.Kept.{ShowsAll, ShowsSuffix};
 ghost use Rattle.ep_exprs.specs.Parsed.{IsRead, Keeps, Assigned};
 
 use crate::frames::{Before, Completed, Frame, complete, prefix_at, wrapped_before};
-use crate::kept::{
-    Arguments, Kept, Prefix, Suffix, binary as joined, name, number, size_of, suffixed,
-};
 use crate::look::{at_assignment, at_operator, begins_cast, begins_suffix};
 use ep_ast::Halt;
 use ep_ast::marks::{
     ARROW, COLON, COMMA, DOT, LEFT_BRACKET, LEFT_PAREN, MINUS_MINUS, PLUS_PLUS, QUESTION,
     RIGHT_BRACKET, RIGHT_PAREN,
+};
+use ep_expression_trees::{
+    Arguments, Kept, Prefix, Suffix, binary as joined, name, number, size_of, suffixed,
 };
 use ep_lexer::Token;
 use ep_reading::{Head, Part, Reader, TypeNames, at_mark, at_name, first_of};

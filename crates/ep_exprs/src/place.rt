@@ -8,13 +8,13 @@ ghost use Rattle.ep_ast.specs.Nesting.{is_too_deep, opens_past};
 ghost use Rattle.ep_ast.specs.Refusal.{IfRefused};
 ghost use Rattle.ep_lexer.specs.Tokens.{view, view_all};
 ghost use Rattle.ep_reading.specs.Names.{is_type};
-ghost use Rattle.ep_exprs.specs.Kept.{Shows};
+ghost use Rattle.ep_expression_trees.specs.Kept.{Shows};
 ghost use Rattle.ep_exprs.specs.Answer.{IsFound, IsRefused, Wholly};
 
-use crate::kept::Kept;
 use crate::look::follows;
 use crate::parser::read_expression;
 use ep_ast::{ExprTree, Halt, Refusal};
+use ep_expression_trees::Kept;
 use ep_lexer::Tokens;
 use ep_reading::{Reader, TypeNames, last_line, opens_past};
 use std::alloc::Global;

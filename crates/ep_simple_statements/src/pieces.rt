@@ -3,7 +3,7 @@
 ghost use Rattle.std.specs.Prelude.{◌≡◌, ◌<◌, ◌^◌, length, map, IfOk};
 ghost use Rattle.ep_ast.specs.StatementGrammar as grammar;
 ghost use Rattle.ep_lexer.specs.Tokens.{view};
-ghost use Rattle.ep_exprs.specs.Kept as expressions;
+ghost use Rattle.ep_expression_trees.specs.Kept as expressions;
 ghost use Rattle.ep_reading.specs.Names.{is_type};
 ghost use Rattle.ep_reading.specs.Answer.{Gives, IsPast};
 ghost use Rattle.ep_statement_parts.specs.Shown.{ShowsTest, ShowsGiven, ShowsFirst, ShowsHeading};

@@ -1,5 +1,5 @@
 -- What is kept of statements and of parts of blocks.
-use Rattle.std.specs.Prelude.{◌≡◌, ℕ, ◌≤◌, nat_lt, max, ◌||◌, Option, Some, None, List, []}
+use Rattle.std.specs.Prelude.{◌≡◌, ℕ, ◌≤◌, max, ◌||◌, Option, Some, None, List, []}
 use Rattle.std.specs.Global.{Vec}
 use Rattle.std.specs.Option.{option_map}
 use Rattle.ep_ast.specs.declared.expressions.ExprTree.{ExprTree}
@@ -84,39 +84,6 @@ ShowsStmts k ss = ShowsAll stmt_of in_stmt k.tree ss × Counts k.height (height_
 
 abbrev pub ShowsParts : Counted (Vec BlockItemTree) → List Part → Type 0
 ShowsParts k ps = ShowsAll part_of in_part k.tree ps × Counts k.height (height_of_parts (to_parts ps))
-
--- ---- parts of statements of this line, in which so many stand inside one another
-
-abbrev pub tested_of : ExprTree × StmtTree → Expr × Stmt
-tested_of t = (expr t.0, stmt_of t.1)
-
-abbrev pub in_tested : (n line : ℕ) → Expr × Stmt → Option ℕ
-in_tested n l p = or_else (line_if (nat_lt 64 n || is_too_deep p.0) l) (in_stmt p.1)
-
-abbrev pub ShowsTested : (n line : ℕ) → Measured (ExprTree × StmtTree) → Expr × Stmt → Type 0
-ShowsTested n l k p = Shows tested_of (in_tested n l) k p
-
--- with an `else`
-abbrev pub both_of : (ExprTree × StmtTree) × StmtTree → (Expr × Stmt) × Stmt
-both_of t = (tested_of t.0, stmt_of t.1)
-
-abbrev pub in_both : (n line : ℕ) → (Expr × Stmt) × Stmt → Option ℕ
-in_both n l p = or_else (line_if (nat_lt 64 n || is_too_deep p.0.0) l) (or_else (in_stmt p.0.1) (in_stmt p.1))
-
-abbrev pub ShowsBoth : (n line : ℕ) → Measured ((ExprTree × StmtTree) × StmtTree) → (Expr × Stmt) × Stmt → Type 0
-ShowsBoth n l k p = Shows both_of (in_both n l) k p
-
--- of a `for`
-abbrev pub headed_of : HeadingTree × StmtTree → (First × Option Expr × Option Expr) × Stmt
-headed_of t = (heading_of t.0, stmt_of t.1)
-
-abbrev pub in_headed : (n line : ℕ) → (First × Option Expr × Option Expr) × Stmt → Option ℕ
-in_headed n l p =
-    or_else (line_if (nat_lt 64 n || is_deep_if p.0.1 || is_deep_if p.0.2) l) (or_else (in_first p.0.0 l) (in_stmt p.1))
-
-abbrev pub ShowsHeaded : (n line : ℕ) → Measured (HeadingTree × StmtTree) → (First × Option Expr × Option Expr) × Stmt
-    → Type 0
-ShowsHeaded n l k p = Shows headed_of (in_headed n l) k p
 
 -- the arm behind an `#else`, where there is one
 abbrev pub ShowsOther : Option (Counted (Vec StmtTree)) → Option Stmts → Type 0

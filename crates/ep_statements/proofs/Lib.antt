@@ -1,4 +1,1 @@
-pub mod HeadLemmas
-pub mod FrameLemmas
 pub mod PartLemmas
-pub mod StandLemmas

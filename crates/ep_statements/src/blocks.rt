@@ -11,13 +11,13 @@ ghost use Rattle.ep_statement_parts.specs.Answer.{ShowsBlock};
 ghost use Rattle.ep_statement_parts.specs.Shown.{ShowsStmt, ShowsPart, ShowsStmts, ShowsParts, ShowsOther};
 ghost use Rattle.ep_simple_statements.specs.Piece.{HasNoHead};
 
-use crate::frames::{Completed, complete, opening};
 use ep_ast::marks::{LEFT_BRACE, RIGHT_BRACE};
 use ep_ast::{BlockItemTree, BlockTree, Halt, StmtTree};
 use ep_declarations::declaration;
 use ep_lexer::Token;
 use ep_reading::{Measured, Part, Reader, at_else, at_end_if, at_if, at_mark, ends_arm};
 use ep_simple_statements::simple;
+use ep_statement_heads::{Completed, complete, opening};
 use ep_statement_parts::{Counted, block_of, block_tree_of, declares, one_arm, states, two_arms};
 use ep_type_names::begins_type;
 

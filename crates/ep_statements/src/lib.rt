@@ -2,6 +2,5 @@
 #![tactic(auto)]
 
 mod blocks;
-mod frames;
 
 pub use blocks::block;

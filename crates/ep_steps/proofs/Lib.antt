@@ -1,3 +1,2 @@
-pub mod Arms
 pub mod Due
-pub mod Begins
+pub mod Rests

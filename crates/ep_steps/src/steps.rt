@@ -10,11 +10,12 @@ ghost use Rattle.ep_steps.specs.Ready.{IsDue, IsReady};
 ghost use Rattle.ep_steps.specs.Results.{stopped, IsAlike, Stops};
 ghost use Rattle.ep_frames.specs.Stack.{list_of, now_of, piled, ComesTo, ListFits, NowFits, PileFits};
 
-use crate::moves::{advance, begin};
+use crate::moves::advance;
 use ep_core::tree::Stmt;
 use ep_frames::{Frame, Now, push, read_byte, write_byte};
 use ep_int::Memory;
 use ep_machine::Machine;
+use ep_statement_steps::begin;
 use ep_values::{Fault, Setting};
 use std::alloc::Global;
 

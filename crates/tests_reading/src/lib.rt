@@ -1,4 +1,4 @@
-//! Tests of the reader of programs: declarations, statements and functions.
+//! Tests of the reader of programs: which it accepts, as which trees, and which it refuses.
 #![tactic(auto)]
 
 #[cfg(test)]

@@ -1,7 +1,7 @@
 use Rattle.std.proofs.Common.{◌≡◌, ◌∷◌, ap, ◌∙◌}
 use Rattle.std.specs.Prelude.{reverse}
 use Rattle.ep_exprs.specs.Pending.{Value}
-use Rattle.ep_exprs.proofs.KeptLemmas.{reverse-last}
+use Rattle.ep_expression_trees.proofs.KeptLemmas.{reverse-last}
 use Rattle.ep_exprs.proofs.frames.complete.Goals as goal
 
 pub returns-in-Asks : goal.returns-in-Asks

@@ -9,10 +9,10 @@ use Rattle.ep_ast.specs.Grammar.{apply}
 use Rattle.ep_lexer.specs.Tokens.{view}
 use Rattle.ep_exprs.specs.declared.frames.Frame.TheVariants as frames
 use Rattle.ep_reading.specs.Names.{is_type}
-use Rattle.ep_exprs.specs.Kept.{wrap_all}
+use Rattle.ep_expression_trees.specs.Kept.{wrap_all}
 use Rattle.ep_exprs.specs.Pending.{assigning, asking, begins, Value, Plain, Asked}
 use Rattle.ep_exprs.specs.Parsed.{IsRead}
-use Rattle.ep_exprs.proofs.KeptLemmas.{reverse-last}
+use Rattle.ep_expression_trees.proofs.KeptLemmas.{reverse-last}
 use Rattle.ep_exprs.proofs.ArgumentLemmas as arguments
 use Rattle.ep_exprs.proofs.LevelLemmas as levels
 use Rattle.ep_exprs.proofs.SuffixLemmas as suffixes

@@ -9,17 +9,17 @@ use Rattle.ep_ast.specs.StatementGrammar.{States, Parts, OnePart, Statements, Ot
 use Rattle.ep_lexer.specs.Tokens.{view}
 use Rattle.ep_reading.specs.Names.{is_type}
 use Rattle.ep_reading.specs.Answer.{IsTaken}
-use Rattle.ep_exprs.proofs.KeptLemmas.{reverse-last}
+use Rattle.ep_expression_trees.proofs.KeptLemmas.{reverse-last}
 use Rattle.ep_reading.proofs.PassLemmas.{stops_stop}
 use Rattle.ep_statement_parts.specs.Shown.{ShowsStmt}
 use Rattle.ep_ast.specs.Cut.{order_token}
 use Rattle.ep_simple_statements.specs.Piece.{HasNoHead}
-use Rattle.ep_statements.specs.Around.{Waits, Stands, Opened}
+use Rattle.ep_statement_heads.specs.Around.{Waits, Stands, Opened}
 use Rattle.ep_reading.proofs.SequenceLemmas.{made, made_none, both_takes, both_first, both_second}
 use Rattle.ep_statement_parts.proofs.DepthLemmas.{longer_stmts, longer_parts, empty_stmts, empty_parts}
-use Rattle.ep_statements.proofs.HeadLemmas.{block_rule, no_head_simple}
+use Rattle.ep_statement_heads.proofs.HeadLemmas.{block_rule, no_head_simple}
 use Rattle.ep_statements.proofs.PartLemmas as parts
-use Rattle.ep_statements.proofs.StandLemmas as stands
+use Rattle.ep_statement_heads.proofs.StandLemmas as stands
 use Rattle.ep_statements.proofs.blocks.+statements.Goals as goal
 
 -- ---- statements

@@ -4,7 +4,7 @@ use Rattle.ep_ast.specs.Statement.{Stmt, Part}
 use Rattle.ep_lexer.specs.Tokens.{view}
 use Rattle.ep_reading.specs.Names.{is_type}
 use Rattle.ep_statement_parts.specs.Shown.{ShowsStmts, ShowsParts}
-use Rattle.ep_statements.specs.Around.{Waits}
+use Rattle.ep_statement_heads.specs.Around.{Waits}
 use Rattle.ep_statements.proofs.PartLemmas.{PartsSo, StatementsSo}
 use Rattle.ep_statements.proofs.blocks.+statements.Given as goal
 

@@ -1,4 +1,4 @@
-use Rattle.ep_steps.proofs.Begins.{rest_fits}
+use Rattle.ep_steps.proofs.Rests.{rest_fits}
 use Rattle.ep_steps.proofs.moves.open_list.Goals as goal
 
 pub returns-in-None-clause-pile : goal.returns-in-None-clause-pile

@@ -1,0 +1,4 @@
+use Rattle.ep_expression_trees.proofs.kept.increment.Goals as goal
+
+pub returns-in-None : goal.returns-in-None
+returns-in-None c = λ t p. c.too_deep.ensures _ p.0 (c.in-None.ensures t p)

@@ -1,0 +1,5 @@
+use Rattle.std.proofs.Common.{refl}
+use Rattle.ep_expression_trees.proofs.kept.unary.Goals as goal
+
+pub returns-in-None : goal.returns-in-None
+returns-in-None c = λ t p. c.too_deep.ensures _ refl (c.in-None.ensures t p)

@@ -1,0 +1,9 @@
+//! Expressions put together from their parts, kept while they aren't too deep.
+#![tactic(auto)]
+
+mod kept;
+
+pub use kept::{
+    Arguments, Kept, Prefix, Suffix, assign, binary, conditional, name, number, prefixed, size_of,
+    suffixed,
+};

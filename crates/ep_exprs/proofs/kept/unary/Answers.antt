@@ -1,5 +1,0 @@
-use Rattle.std.proofs.Common.{refl}
-use Rattle.ep_exprs.proofs.kept.unary.Goals as goal
-
-pub returns-in-None : goal.returns-in-None
-returns-in-None c = λ t p. c.too_deep.ensures _ refl (c.in-None.ensures t p)

@@ -1,5 +1,0 @@
-use Rattle.ep_statement_parts.proofs.DepthLemmas.{both_shows}
-use Rattle.ep_statement_parts.proofs.kept.with_else.Goals as goal
-
-pub returns : goal.returns
-returns c = λ n l e s t h i. rw c.and.ensures (both_shows n l c.args.parts c.args.otherwise e s t h i)

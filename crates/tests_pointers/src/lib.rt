@@ -1,0 +1,5 @@
+//! Tests of pointers, as tables.
+#![tactic(auto)]
+
+#[cfg(test)]
+mod pointers;
