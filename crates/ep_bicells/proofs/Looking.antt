@@ -15,10 +15,10 @@ use Rattle.ep_cells.specs.Cells.{place_of, touches, share_memory, encloses, meet
 use Rattle.ep_cells.specs.Look.{covers, cell_at, is_some_partly_in}
 use Rattle.ep_cells.specs.States.{IsCell, AreCells}
 use Rattle.ep_cells_laws.proofs.Lists.{in_left, in_right}
-use Rattle.ep_bicells.specs.declared.parts.Part.{Part}
-use Rattle.ep_bicells.specs.Spread.{all_items, AreFrom, AreBelow, IsWindow}
-use Rattle.ep_bicells.specs.Mentions.{number_at, number_of}
-use Rattle.ep_bicells.proofs.Halving.{items_append}
+use Rattle.ep_shared_parts.specs.declared.parts.Part.{Part}
+use Rattle.ep_shared_parts.specs.Spread.{all_items, AreFrom, AreBelow, IsWindow}
+use Rattle.ep_shared_parts.specs.Mentions.{number_at, number_of}
+use Rattle.ep_shared_parts.proofs.Halving.{items_append}
 
 pub split_items : {X : Type 0} (before window behind ps : List (Part X)) → ps ≡ before ++ (window ++ behind)
     → all_items ps ≡ all_items before ++ (all_items window ++ all_items behind)

@@ -8,8 +8,8 @@ use Rattle.ep_cells.specs.Both.{is_cell_within, cell_like}
 use Rattle.ep_cells.specs.States.{AreAlike}
 use Rattle.ep_cells_laws.proofs.Both.{alike_same}
 use Rattle.ep_cells_laws.proofs.Lists.{in_right}
-use Rattle.ep_bicells.specs.declared.parts.Part.{Part}
-use Rattle.ep_bicells.specs.Spread.{all_items}
+use Rattle.ep_shared_parts.specs.declared.parts.Part.{Part}
+use Rattle.ep_shared_parts.specs.Spread.{all_items}
 use Rattle.ep_bicells.specs.Distinct.{AreDistinct}
 
 alike_both : {N : Type 0} (c x y : Cell N) → AreAlike c y → AreAlike x y → AreAlike c x

@@ -8,9 +8,9 @@ use Rattle.ep_domain.specs.Domain.{Ops}
 use Rattle.ep_cells.specs.declared.cell.Cell.{Cell}
 use Rattle.ep_cells.specs.Cells.{is_same_side, is_same_scalar, is_same_place, is_same_cell}
 use Rattle.ep_cells.specs.Both.{is_cell_within, cell_like, are_within}
-use Rattle.ep_bicells.specs.declared.parts.Part.{Part}
-use Rattle.ep_bicells.specs.Spread.{all_items, AreFrom, AreBelow, IsWindow}
-use Rattle.ep_bicells.specs.Mentions.{number_of}
+use Rattle.ep_shared_parts.specs.declared.parts.Part.{Part}
+use Rattle.ep_shared_parts.specs.Spread.{all_items, AreFrom, AreBelow, IsWindow}
+use Rattle.ep_shared_parts.specs.Mentions.{number_of}
 use Rattle.ep_bicells.proofs.Looking.{split_items}
 
 -- ---- the cell like another

@@ -14,13 +14,13 @@ use Rattle.ep_cells.specs.Reshare.{left_by_reshare, fate_by_reshare}
 use Rattle.ep_reads.specs.Split.{is_name_of, left_by_split, fate_by_split}
 use Rattle.ep_reads.specs.Unify.{left_by_crossing, fate_by_crossing}
 use Rattle.ep_cell_ranges.specs.Ranges.{left_by_blur}
-use Rattle.ep_bicells.specs.declared.parts.Part.{Part}
-use Rattle.ep_bicells.specs.declared.parts.Edit.{Edit}
-use Rattle.ep_bicells.specs.declared.uses.Use.{Use}
+use Rattle.ep_shared_parts.specs.declared.parts.Part.{Part}
+use Rattle.ep_shared_parts.specs.declared.parts.Edit.{Edit}
+use Rattle.ep_shared_parts.specs.declared.uses.Use.{Use}
 use Rattle.ep_bicells.specs.declared.changes.Step.{Step}
 use Rattle.ep_bicells.specs.declared.changes.Step.TheVariants.{Write, WeakWrite, Kill, Blur, Split, Cross, Unshare, Lack, Reshare}
-use Rattle.ep_bicells.specs.Mentions.{number_of, IsNoted}
-use Rattle.ep_bicells.specs.Plans.{AreEdits, Covers}
+use Rattle.ep_shared_parts.specs.Mentions.{number_of, IsNoted}
+use Rattle.ep_shared_parts.specs.Plans.{AreEdits, Covers}
 
 -- ---- one cell
 

@@ -5,13 +5,11 @@ ghost use Rattle.std.specs.Option.{option_map, option_map_or};
 ghost use Rattle.ep_cells.specs.Look.{cell_at, is_some_partly_in};
 ghost use Rattle.ep_cells.specs.Both.{is_cell_within, cell_like, are_within};
 ghost use Rattle.ep_cells.specs.States.{AreCells};
-ghost use Rattle.ep_bicells.specs.Spread.{outlines, all_items, AreSpread};
-ghost use Rattle.ep_bicells.specs.Mentions.{number_at, number_of};
+ghost use Rattle.ep_shared_parts.specs.Spread.{outlines, all_items, AreSpread};
+ghost use Rattle.ep_shared_parts.specs.Mentions.{number_at, number_of};
 ghost use Rattle.ep_bicells.specs.Distinct.{AreDistinct};
-ghost use Rattle.ep_bicells.specs.Walks.{IsAt};
+ghost use Rattle.ep_shared_parts.specs.Walks.{IsAt};
 
-use crate::parts::{Numbered, Part, window};
-use crate::walks::{At, next};
 use ep_bitslice::Side;
 use ep_cell_rows::cell::copy_cell;
 use ep_cell_rows::places::is_same_cell;
@@ -19,28 +17,10 @@ use ep_cell_rows::rows;
 use ep_cells::{Cell, Place};
 use ep_domain::Num;
 use ep_int::{Memory, Model};
+use ep_shared_parts::numbers::number_at;
+use ep_shared_parts::parts::{Numbered, Part, window};
+use ep_shared_parts::walks::{At, next};
 use std::alloc::Global;
-
-/// The number of an offset of a block.
-pub fn number_at(block: u32, offset: u32) -> u64
-    ensures { result ≡ number_at block offset }
-{
-    4_294_967_296 * u64::from(block) + u64::from(offset)
-}
-
-impl<N: Num> Numbered for Cell<N> {
-    ghost use Rattle.ep_bicells.specs.Mentions.{number_of};
-
-    ghost number = { number_of };
-
-    fn number(&self) -> u64 {
-        number_at(self.block, self.offset)
-    }
-
-    fn copied(&self) -> Result<Self, Memory> {
-        copy_cell(self)
-    }
-}
 
 /// From which number and up to which one cells may touch a place.
 pub fn reach(p: &Place) -> (u64, u64)

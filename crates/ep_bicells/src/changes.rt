@@ -3,15 +3,14 @@
 ghost use Rattle.std.specs.Prelude.{◌≡◌, ℕ, ◌<◌, ◌≤◌, true, nat_eq, length, map, IfOk, OnOk, IsTrue};
 ghost use Rattle.ep_cells.specs.Forms.{reformed};
 ghost use Rattle.std.specs.List.{list_any};
-ghost use Rattle.ep_bicells.specs.Spread.{outlines, all_items, AreSpread};
-ghost use Rattle.ep_bicells.specs.Mentions.{number_of, number_of_use, users_in};
-ghost use Rattle.ep_bicells.specs.Plans.{is_edited, AreEdits, KeepsEdits, Covers};
+ghost use Rattle.ep_shared_parts.specs.Spread.{outlines, all_items, AreSpread};
+ghost use Rattle.ep_shared_parts.specs.declared.uses.Use.{Use};
+ghost use Rattle.ep_shared_parts.specs.Mentions.{number_of, number_of_use, users_in, IsNoted};
+ghost use Rattle.ep_shared_parts.specs.Plans.{is_edited, AreEdits, KeepsEdits, Covers};
 ghost use Rattle.ep_bicells.specs.Steps.{fate_of_step, after_step, IsPlan};
 
 use crate::alone;
 use crate::blur::left_by_blur;
-use crate::parts::{Edit, Part, push, span};
-use crate::uses::{Use, users};
 use ep_bitslice::Side;
 use ep_cell_changes::kill::left_by_kill;
 use ep_cell_changes::reshare::{change_by_reshare, left_by_reshare};
@@ -22,6 +21,8 @@ use ep_cell_rows::rows;
 use ep_cells::{Cell, Place};
 use ep_domain::Num;
 use ep_int::{Memory, Model};
+use ep_shared_parts::parts::{Edit, Part, push, span};
+use ep_shared_parts::uses::{Use, users};
 use std::alloc::Global;
 use std::rc::Rc;
 
@@ -51,7 +52,13 @@ pub enum Step<N> {
 }
 
 impl<N: Num> Step<N> {
-    fn after(&self, alloc: Global, model: Model, cells: &[Cell<N>]) -> Result<Vec<Cell<N>>, Memory>
+    /// Cells after the step.
+    pub fn after(
+        &self,
+        alloc: Global,
+        model: Model,
+        cells: &[Cell<N>],
+    ) -> Result<Vec<Cell<N>>, Memory>
         ensures { IfOk result (λ v. v.items ≡ after_step N.ops model self.now cells.now) }
     {
         match self {
@@ -124,7 +131,8 @@ impl<N: Num> Step<N> {
 // So many edits are all looked at.
 const FEW: usize = 8;
 
-fn is_edited<N: Num>(edits: &[Edit<Cell<N>>], i: usize) -> bool
+/// Whether the part at this index is edited. Looks at all edits.
+pub fn is_edited<N: Num>(edits: &[Edit<Cell<N>>], i: usize) -> bool
     ensures { result ≡ is_edited i edits.now }
 {
     edits.iter().any(|e| e.at == i)
@@ -222,6 +230,28 @@ fn in_order(numbers: Vec<u64>) -> Result<Vec<u64>, Memory>
     let mut numbers = numbers;
     numbers.sort().map_err(|_| Memory)?;
     Ok(numbers)
+}
+
+/// The parts with forms that mention what begins at places with these numbers, as they are after a step.
+pub fn edits_of_users<N: Num>(
+    alloc: Global,
+    step: &Step<N>,
+    model: Model,
+    parts: &[Part<Cell<N>>],
+    uses: &[Part<Use>],
+    range: (u64, u64),
+) -> Result<Vec<Edit<Cell<N>>>, Memory>
+    requires spread { AreSpread (outlines number_of parts.now) }
+    requires uses { AreSpread (outlines number_of_use uses.now) }
+    requires rising { range.0 ≤ range.1 }
+    ensures edits { IfOk result (λ v. AreEdits (after_step N.ops model step.now) parts.now v.items) }
+    ensures users { IfOk result (λ v. (u : Use) → IsNoted (all_items uses.now) u → range.0 ≤ u.of → u.of ≤ range.1
+        → Covers number_of u.by u.by parts.now v.items) }
+{
+    let mut out = Vec::new(alloc);
+    let users = in_order(users(alloc, uses, range.0, range.1)?)?;
+    push_users(&mut out, step, model, parts, &users)?;
+    Ok(out)
 }
 
 /// The parts that a step changes, as they are after it, where these are the numbers of what may touch its place.

@@ -5,6 +5,4 @@ mod alone;
 mod blur;
 pub mod cells;
 pub mod changes;
-pub mod parts;
-pub mod uses;
-pub mod walks;
+pub mod owned;

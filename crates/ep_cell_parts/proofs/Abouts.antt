@@ -6,13 +6,13 @@ use Rattle.ep_cells.specs.declared.place.Place.{Place}
 use Rattle.ep_cells.specs.Cells.{IsIn}
 use Rattle.ep_cells.specs.States.{IsCell, AreCells}
 use Rattle.ep_cells_laws.proofs.Lists.{in_left, in_right}
-use Rattle.ep_bicells.specs.declared.parts.Part.{Part}
-use Rattle.ep_bicells.specs.Spread.{all_items, IsWindow}
-use Rattle.ep_bicells.specs.Mentions.{number_of}
+use Rattle.ep_shared_parts.specs.declared.parts.Part.{Part}
+use Rattle.ep_shared_parts.specs.Spread.{all_items, IsWindow}
+use Rattle.ep_shared_parts.specs.Mentions.{number_of}
 use Rattle.ep_bicells.proofs.Looking.{Reaches, split_items}
 use Rattle.ep_cell_parts.specs.About.{IsAbout}
-use Rattle.ep_cell_parts.proofs.Local.{from_at, below_at}
-use Rattle.ep_cell_parts.proofs.Writing.{apart_in}
+use Rattle.ep_cell_steps.proofs.Local.{from_at, below_at}
+use Rattle.ep_cell_steps.proofs.Writing.{apart_in}
 
 pub about_of : {N : Type 0} (d : Model) (p : Place) (from last : ℕ) (ps window : List (Part (Cell N)))
     (cs : List (Cell N)) → Reaches p from last → AreCells d (all_items ps) → IsWindow number_of from last ps window

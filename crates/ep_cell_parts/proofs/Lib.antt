@@ -1,13 +1,6 @@
-pub mod Making
-pub mod Local
-pub mod Writing
-pub mod Weakening
 pub mod Allowed
-pub mod Killing
 pub mod Together
 pub mod Staying
 pub mod Valuing
-pub mod Blurring
-pub mod Changing
 pub mod Equal
 pub mod Abouts

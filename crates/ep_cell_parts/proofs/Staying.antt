@@ -10,13 +10,13 @@ use Rattle.ep_cells.specs.declared.cell.Cell.{Cell}
 use Rattle.ep_cells.specs.Cells.{is_same_side, put, each_becomes}
 use Rattle.ep_cells.specs.Forms.{reformed}
 use Rattle.ep_cells.specs.Reshare.{reshared_cell, left_by_reshare, fate_by_reshare, cell_from, reshared_pair, reshared_each, places, reshared}
-use Rattle.ep_bicells.specs.declared.parts.Part.{Part}
-use Rattle.ep_bicells.specs.Spread.{all_items, AreFrom, AreBelow, IsWindow}
-use Rattle.ep_bicells.specs.Mentions.{number_at, number_of}
+use Rattle.ep_shared_parts.specs.declared.parts.Part.{Part}
+use Rattle.ep_shared_parts.specs.Spread.{all_items, AreFrom, AreBelow, IsWindow}
+use Rattle.ep_shared_parts.specs.Mentions.{number_at, number_of}
 use Rattle.ep_bicells.proofs.Looking.{split_items}
-use Rattle.ep_bicells.proofs.Steps.{items_at}
+use Rattle.ep_shared_parts.proofs.Steps.{items_at}
 use Rattle.ep_cell_parts.specs.Alike.{is_same_pair, is_same_at, are_different}
-use Rattle.ep_cell_parts.proofs.Making.{none_behind}
+use Rattle.ep_cell_steps.proofs.Making.{none_behind}
 
 abbrev begins : {N : Type 0} → Side → (b q : ℕ) → Cell N → Bool
 begins s b q c = is_same_side c.side s && (nat_eq c.block b && nat_eq c.offset q)

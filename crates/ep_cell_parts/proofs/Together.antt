@@ -11,13 +11,13 @@ use Rattle.ep_cells.specs.Both.{cell_of_both, cells_of_both}
 use Rattle.ep_cells_laws.specs.Laws.{JoinLaws}
 use Rattle.ep_cell_rows.specs.declared.values.Union.{Union}
 use Rattle.ep_cell_rows.specs.Parts.{united}
-use Rattle.ep_bicells.specs.declared.parts.Part.{Part}
-use Rattle.ep_bicells.specs.declared.uses.Use.{Use}
-use Rattle.ep_bicells.specs.Spread.{outlines, all_items, AreSpread}
-use Rattle.ep_bicells.specs.Mentions.{number_of, AreIndexed}
-use Rattle.ep_cell_parts.specs.Kept.{AreKept}
-use Rattle.ep_cell_parts.proofs.Making.{united_cells, indexed_none}
-use Rattle.ep_cell_parts.proofs.Local.{indexed_same}
+use Rattle.ep_shared_parts.specs.declared.parts.Part.{Part}
+use Rattle.ep_shared_parts.specs.declared.uses.Use.{Use}
+use Rattle.ep_shared_parts.specs.Spread.{outlines, all_items, AreSpread}
+use Rattle.ep_shared_parts.specs.Mentions.{number_of, AreIndexed}
+use Rattle.ep_cell_steps.specs.Kept.{AreKept}
+use Rattle.ep_cell_steps.proofs.Making.{united_cells, indexed_none}
+use Rattle.ep_cell_steps.proofs.Local.{indexed_same}
 
 -- ---- the index
 

@@ -10,14 +10,14 @@ use Rattle.ep_cells.specs.Cells.{is_same_cell, IsIn, IsNamed, first, later}
 use Rattle.ep_cells.specs.States.{IsOfSort, HasRisingBlocks, IsCell, IsThere, IsFormOf, HasForm, AreApart, AreCells}
 use Rattle.ep_cells_laws.proofs.Lists.{in_map, map_in, pairs_map}
 use Rattle.ep_cells_laws.proofs.Both.{alike_same}
-use Rattle.ep_bicells.specs.declared.parts.Part.{Part}
-use Rattle.ep_bicells.specs.declared.uses.Use.{Use}
-use Rattle.ep_bicells.specs.Spread.{outline, outlines, all_items, AreFrom, AreBelow, AreSpread, parts_to}
-use Rattle.ep_bicells.specs.Mentions.{number_at, number_of, AreIndexed}
-use Rattle.ep_bicells.proofs.Spreading.{below_to, above_to, parts_to_le, outlines_as_many}
-use Rattle.ep_cell_parts.specs.Kept.{IsIndexed, AreKept}
+use Rattle.ep_shared_parts.specs.declared.parts.Part.{Part}
+use Rattle.ep_shared_parts.specs.declared.uses.Use.{Use}
+use Rattle.ep_shared_parts.specs.Spread.{outline, outlines, all_items, AreFrom, AreBelow, AreSpread, parts_to}
+use Rattle.ep_shared_parts.specs.Mentions.{number_at, number_of, AreIndexed}
+use Rattle.ep_shared_parts.proofs.Spreading.{below_to, above_to, parts_to_le, outlines_as_many}
+use Rattle.ep_cell_steps.specs.Kept.{IsIndexed, AreKept}
 use Rattle.ep_cell_parts.specs.Valued.{valued}
-use Rattle.ep_cell_parts.proofs.Local.{from_at, below_at, indexed_same}
+use Rattle.ep_cell_steps.proofs.Local.{from_at, below_at, indexed_same}
 
 abbrev with : {N : Type 0} → Cell N → Option (Value N) → Cell N
 with x v = record x { value = v }

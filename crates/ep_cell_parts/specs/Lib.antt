@@ -1,10 +1,4 @@
-pub mod Kept
-pub mod Writes
-pub mod Weakened
-pub mod Killed
 pub mod Alike
 pub mod Valued
-pub mod Left
 pub mod Orders
 pub mod About
-pub mod Planned

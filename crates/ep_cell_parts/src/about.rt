@@ -3,15 +3,15 @@
 ghost use Rattle.std.specs.Prelude.{map, IfOk};
 ghost use Rattle.ep_int.specs.declared.types.Model.{Model};
 ghost use Rattle.ep_cells.specs.States.{AreCells};
-ghost use Rattle.ep_bicells.specs.Spread.{outlines, all_items, AreSpread};
-ghost use Rattle.ep_bicells.specs.Mentions.{number_of};
+ghost use Rattle.ep_shared_parts.specs.Spread.{outlines, all_items, AreSpread};
+ghost use Rattle.ep_shared_parts.specs.Mentions.{number_of};
 ghost use Rattle.ep_cell_parts.specs.About.{IsAbout};
 
 use ep_bicells::cells::{all, reach};
-use ep_bicells::parts::{Part, window};
 use ep_cells::{Cell, Place};
 use ep_domain::Num;
 use ep_int::Memory;
+use ep_shared_parts::parts::{Part, window};
 use std::alloc::Global;
 
 /// The cells that may touch a place, where they stand, and some about them.

@@ -2,15 +2,15 @@
 
 ghost use Rattle.std.specs.Prelude.{◌≡◌, ◌↔◌, IsTrue};
 ghost use Rattle.ep_cell_ranges.specs.Tests.{is_model};
-ghost use Rattle.ep_bicells.specs.Spread.{all_items};
+ghost use Rattle.ep_shared_parts.specs.Spread.{all_items};
 ghost use Rattle.ep_cell_parts.specs.Orders.{is_order};
 
-use ep_bicells::parts::Part;
-use ep_bicells::walks::{At, next};
 use ep_cell_rows::cell::is_equal;
 use ep_cells::Cell;
 use ep_domain::Num;
 use ep_int::{Model, Order};
+use ep_shared_parts::parts::Part;
+use ep_shared_parts::walks::{At, next};
 
 /// Whether both are one byte order.
 pub fn is_order(a: Order, b: Order) -> bool

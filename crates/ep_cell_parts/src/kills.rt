@@ -4,23 +4,23 @@ ghost use Rattle.std.specs.Prelude.{◌≡◌, map, IfOk};
 ghost use Rattle.ep_cells.specs.Cells.{each_becomes};
 ghost use Rattle.ep_cells.specs.Forms.{reformed};
 ghost use Rattle.ep_cells.specs.Kill.{AreLeavesIn, left_by_kill, fate_by_kill, killed_cells};
-ghost use Rattle.ep_bicells.specs.Spread.{outlines, all_items, AreSpread};
-ghost use Rattle.ep_bicells.specs.Mentions.{number_of, number_of_use};
-ghost use Rattle.ep_cell_parts.specs.Kept.{AreKept};
-ghost use Rattle.ep_cell_parts.specs.Killed.{AreKilled, AreShort};
+ghost use Rattle.ep_shared_parts.specs.Spread.{outlines, all_items, AreSpread};
+ghost use Rattle.ep_shared_parts.specs.Mentions.{number_of, number_of_use};
+ghost use Rattle.ep_cell_steps.specs.Kept.{AreKept};
+ghost use Rattle.ep_cell_steps.specs.Killed.{AreKilled, AreShort};
 
-use crate::pointers::{numbers_of_block, push_pointers};
-use crate::putting::put_all;
 use ep_bicells::changes::{Step, plan};
-use ep_bicells::parts::{Edit, Part, install, shared};
-use ep_bicells::uses::Use;
 use ep_bitslice::Side;
 use ep_cell_changes::entry::entry_cells;
+use ep_cell_steps::pointers::{numbers_of_block, push_pointers};
+use ep_cell_steps::putting::put_all;
 use ep_cells::Cell;
 use ep_cells_laws::kill_laws;
 use ep_domain::Num;
 use ep_int::{Memory, Model};
 use ep_layout::Leaf;
+use ep_shared_parts::parts::{Edit, Part, install, shared};
+use ep_shared_parts::uses::Use;
 use std::alloc::Global;
 
 fn edits_of_kill<N: Num>(

@@ -2,16 +2,9 @@
 #![tactic(auto)]
 
 pub mod about;
-pub mod blurs;
-pub mod building;
-pub mod changes;
 pub mod conditions;
 pub mod equals;
 pub mod kills;
 pub mod places;
-pub mod pointers;
-pub mod putting;
 pub mod unions;
 pub mod values;
-pub mod weak_writes;
-pub mod writes;

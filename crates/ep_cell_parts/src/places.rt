@@ -3,17 +3,17 @@
 ghost use Rattle.std.specs.Prelude.{◌≡◌, ◌++◌, Some, IfOk, OnOk};
 ghost use Rattle.std.specs.Option.{option_map};
 ghost use Rattle.ep_cells.specs.Reshare.{cell_from, places};
-ghost use Rattle.ep_bicells.specs.Spread.{outlines, all_items, AreSpread};
-ghost use Rattle.ep_bicells.specs.Mentions.{number_of};
+ghost use Rattle.ep_shared_parts.specs.Spread.{outlines, all_items, AreSpread};
+ghost use Rattle.ep_shared_parts.specs.Mentions.{number_of};
 ghost use Rattle.ep_cell_parts.specs.Alike.{is_same_pair, is_same_at, are_different};
 
-use ep_bicells::cells::number_at;
-use ep_bicells::parts::{Part, window};
 use ep_bitslice::Side;
 use ep_cell_changes::reshare::{self, are_same};
 use ep_cells::Cell;
 use ep_domain::Num;
 use ep_int::Memory;
+use ep_shared_parts::numbers::number_at;
+use ep_shared_parts::parts::{Part, window};
 use std::alloc::Global;
 
 fn push_places(out: &mut Vec<(u32, u32)>, more: &[(u32, u32)]) -> Result<(), Memory>

@@ -4,17 +4,17 @@ ghost use Rattle.std.specs.Prelude.{◌≡◌, IfOk};
 ghost use Rattle.ep_cells.specs.States.{AreCells, HaveCellsAlike};
 ghost use Rattle.ep_cells.specs.Both.{cells_of_both};
 ghost use Rattle.ep_cell_rows.specs.Parts.{united as of_union};
-ghost use Rattle.ep_bicells.specs.Spread.{all_items};
-ghost use Rattle.ep_cell_parts.specs.Kept.{AreKept};
+ghost use Rattle.ep_shared_parts.specs.Spread.{all_items};
+ghost use Rattle.ep_cell_steps.specs.Kept.{AreKept};
 
-use ep_bicells::parts::Part;
-use ep_bicells::uses::Use;
 use ep_cell_rows::values::Union;
 use ep_cell_unions::unions::parts_of_both;
 use ep_cells::Cell;
 use ep_cells_laws::join_laws;
 use ep_domain::Num;
 use ep_int::{Memory, Model};
+use ep_shared_parts::parts::Part;
+use ep_shared_parts::uses::Use;
 use std::alloc::Global;
 
 /// The parts with the other state's cells joined or widened in. Those all of whose cells stay are shared.

@@ -2,15 +2,13 @@
 
 ghost use Rattle.std.specs.Prelude.{◌≡◌, IsTrue, is_some, map, List, IfOk, OnOk, OnErr};
 ghost use Rattle.ep_cells.specs.States.{IsOfSort, AreCells};
-ghost use Rattle.ep_bicells.specs.Spread.{outlines, all_items, AreSpread};
-ghost use Rattle.ep_bicells.specs.Mentions.{number_of};
-ghost use Rattle.ep_bicells.specs.declared.parts.Part.{Part};
-ghost use Rattle.ep_bicells.specs.declared.uses.Use.{Use};
-ghost use Rattle.ep_cell_parts.specs.Kept.{AreKept};
+ghost use Rattle.ep_shared_parts.specs.Spread.{outlines, all_items, AreSpread};
+ghost use Rattle.ep_shared_parts.specs.Mentions.{number_of};
+ghost use Rattle.ep_shared_parts.specs.declared.parts.Part.{Part};
+ghost use Rattle.ep_shared_parts.specs.declared.uses.Use.{Use};
+ghost use Rattle.ep_cell_steps.specs.Kept.{AreKept};
 ghost use Rattle.ep_cell_parts.specs.Valued.{valued};
 
-use ep_bicells::cells::number_at;
-use ep_bicells::parts::{Part, parts_to};
 use ep_cell_rows::cell::copy_cell;
 use ep_cell_rows::places::is_same_cell;
 use ep_cell_rows::rows::push;
@@ -18,6 +16,8 @@ use ep_cell_rows::values::{copy_value, rises};
 use ep_cells::Cell;
 use ep_domain::Num;
 use ep_int::{Memory, Model};
+use ep_shared_parts::numbers::number_at;
+use ep_shared_parts::parts::{Part, parts_to};
 use std::alloc::Global;
 use std::rc::Rc;
 

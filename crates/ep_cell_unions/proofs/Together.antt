@@ -2,11 +2,11 @@
 use Rattle.std.proofs.Common.{◌≡◌, ℕ, zero, suc, ◌+◌, ◌<◌, ◌≤◌, List, [], ◌∷◌, ◌++◌, map, length, drop, get_or, refl, sym, ◌∙◌, ap, arith, append_assoc, length-append}
 use Rattle.ep_cells.specs.declared.cell.Cell.{Cell}
 use Rattle.ep_cells.specs.Both.{cell_of_both, cells_of_both}
-use Rattle.ep_bicells.specs.declared.parts.Part.{Part}
-use Rattle.ep_bicells.specs.Spread.{outline, outlines, all_items}
-use Rattle.ep_bicells.specs.Mentions.{number_of}
-use Rattle.ep_bicells.proofs.Halving.{outlines_append, items_append}
-use Rattle.ep_bicells.proofs.Steps.{rest_at, items_at}
+use Rattle.ep_shared_parts.specs.declared.parts.Part.{Part}
+use Rattle.ep_shared_parts.specs.Spread.{outline, outlines, all_items}
+use Rattle.ep_shared_parts.specs.Mentions.{number_of}
+use Rattle.ep_shared_parts.proofs.Halving.{outlines_append, items_append}
+use Rattle.ep_shared_parts.proofs.Steps.{rest_at, items_at}
 
 -- ---- lists
 

@@ -4,18 +4,18 @@ ghost use Rattle.std.specs.Prelude.{◌≡◌, ◌≤◌, List, length, drop, If
 ghost use Rattle.ep_cells.specs.declared.cell.Cell.{Cell};
 ghost use Rattle.ep_cells.specs.Both.{value_of_both, cells_of_both};
 ghost use Rattle.ep_cell_rows.specs.Parts.{united as of_union};
-ghost use Rattle.ep_bicells.specs.Spread.{outlines, all_items};
-ghost use Rattle.ep_bicells.specs.Mentions.{number_of};
-ghost use Rattle.ep_bicells.specs.Walks.{IsAt, rest};
+ghost use Rattle.ep_shared_parts.specs.Spread.{outlines, all_items};
+ghost use Rattle.ep_shared_parts.specs.Mentions.{number_of};
+ghost use Rattle.ep_shared_parts.specs.Walks.{IsAt, rest};
 
 use crate::staying::{cell_stays, stays_as};
-use ep_bicells::parts::{Part, push};
-use ep_bicells::walks::{At, next};
 use ep_cell_rows::rows::cell_of_both;
 use ep_cell_rows::values::Union;
 use ep_cells::Cell;
 use ep_domain::Num;
 use ep_int::Memory;
+use ep_shared_parts::parts::{Part, push};
+use ep_shared_parts::walks::{At, next};
 use std::alloc::Global;
 use std::rc::Rc;
 

@@ -1,5 +1,5 @@
 -- Turns of two states.
-use Rattle.std.proofs.Common.{◌≡◌, ℕ, ◌+◌, ◌-◌, ◌<◌, ◌≤◌, List, [], ◌∷◌, ◌++◌, map, length, refl, sym, ◌∙◌, ap, subst, arith}
+use Rattle.std.proofs.Common.{◌≡◌, ℕ, ◌+◌, ◌-◌, ◌<◌, ◌≤◌, List, [], ◌++◌, map, length, refl, sym, ◌∙◌, ap, subst, arith}
 use Rattle.ep_int.specs.declared.types.Model.{Model}
 use Rattle.ep_domain.specs.Domain.{Ops}
 use Rattle.ep_cells.specs.declared.cell.Cell.{Cell}
@@ -7,7 +7,8 @@ use Rattle.ep_cells.specs.States.{Known, AreCells}
 use Rattle.ep_reads.specs.Unify.{parted, parted_times, parted_both}
 use Rattle.ep_step_laws.specs.Single.{facing, faced, parted_where, on_left_alone, without_like}
 use Rattle.ep_step_laws.proofs.Rounds.{IsSoFar, one_round, rounds_end, times_same}
-use Rattle.ep_step_laws.proofs.Turning.{Turning, more_for, left_turned, right_turned, turned, left_stays, right_stays, turning}
+use Rattle.ep_step_laws.specs.Laws.{Turning, more_for}
+use Rattle.ep_step_laws.proofs.Turning.{left_turned, right_turned, turned, left_stays, right_stays, turning}
 use Rattle.ep_state_steps.specs.Ones.{parted_at}
 
 -- ---- one turn

@@ -1,9 +1,8 @@
 pub mod Loops
-pub mod Windows
-pub mod Walking
 pub mod Stepwise
 pub mod Faced
 pub mod Both
 pub mod Liken
 pub mod Cuts
 pub mod ByTurns
+pub mod Reshares

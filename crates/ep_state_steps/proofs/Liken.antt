@@ -1,5 +1,5 @@
 -- The cell like another, if there is one.
-use Rattle.std.proofs.Common.{◌≡◌, true, List, Option, Some, None, sym, ◌∙◌, ap, subst}
+use Rattle.std.proofs.Common.{◌≡◌, true, List, Some, None, sym, ◌∙◌, ap, subst}
 use Rattle.std.specs.Option.{option_map_or}
 use Rattle.ep_bitslice.specs.declared.cell.Side.{Side}
 use Rattle.ep_domain.specs.Domain.{Ops}

@@ -1,6 +1,5 @@
 -- Steps of single cells.
-use Rattle.std.proofs.Common.{◌≡◌, Bool, true, false, if◌then◌else◌, cond, List, [], ◌∷◌, map, Option, Some, None, refl, sym, ◌∙◌, ap, subst}
-use Rattle.std.specs.Option.{option_map}
+use Rattle.std.proofs.Common.{◌≡◌, Bool, true, false, if◌then◌else◌, cond, List, [], ◌∷◌, Some, refl, sym, ◌∙◌, ap, subst}
 use Rattle.ep_int.specs.declared.types.Model.{Model}
 use Rattle.ep_int.specs.declared.types.Scalar.{Scalar}
 use Rattle.ep_int.specs.declared.types.Scalar.TheVariants.{Int, Pointer}
@@ -20,13 +19,13 @@ use Rattle.ep_split_laws.proofs.Crossed.{crossed_keeps}
 use Rattle.ep_scalar_reads.specs.declared.machines.Machines.{Machines}
 use Rattle.ep_synthesis.specs.Parts.{known, IsSized}
 use Rattle.ep_synthesis.proofs.Sized.{one_sized}
-use Rattle.ep_step_laws.specs.Single.{changed_cells, begins_as, parted_where, is_kind_of, without}
+use Rattle.ep_step_laws.specs.Single.{begins_as, parted_where, is_kind_of}
 use Rattle.ep_step_laws.proofs.Composed.{same_changes}
 use Rattle.ep_step_laws.proofs.Parting.{where_cells}
 use Rattle.ep_step_laws.proofs.Dropping.{without_cells}
 use Rattle.ep_step_laws.proofs.Steps.{one_parted}
 use Rattle.ep_cells.specs.Weaken.{first_part}
-use Rattle.ep_bicells.specs.Steps.{changed_by, fate_to, left_by_parting, left_by_step, fate_of_step}
+use Rattle.ep_bicells.specs.Steps.{changed_by, fate_to, left_by_parting}
 use Rattle.ep_bicells.specs.declared.changes.Step.TheVariants.{Split, Cross, Unshare, Lack}
 use Rattle.ep_state_steps.specs.Ones.{parted_at, left_at, machines_of}
 

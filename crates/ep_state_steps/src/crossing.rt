@@ -5,13 +5,13 @@ ghost use Rattle.ep_cells.specs.Cells.{IsIn};
 ghost use Rattle.ep_reads.specs.Unify.{crossed_cell, crossed_like, uncrossed};
 ghost use Rattle.ep_state_steps.specs.Ones.{crossed_at};
 
-use crate::beside::lacked;
-use crate::looking::{crossed, like};
 use crate::machines::machines_of;
 use ep_bicells::changes::Step;
 use ep_cells::Cell;
 use ep_domain::Num;
 use ep_int::Memory;
+use ep_state_looks::beside::differences;
+use ep_state_looks::looking::{crossed, like};
 use ep_states::State;
 use ep_synthesis::cross::crossed_parts;
 
@@ -57,8 +57,9 @@ pub fn uncross_both<N: Num>(a: &mut State<N>, b: &mut State<N>) -> Result<(), Me
 {
     a.model();
     b.model();
-    let left = crossed(b, &lacked(a, b)?)?;
-    let right = crossed(a, &lacked(b, a)?)?;
+    let lacked = differences(a, b)?;
+    let left = crossed(b, &lacked.left)?;
+    let right = crossed(a, &lacked.right)?;
     cross_all(a, &left)?;
     cross_all(b, &right)?;
     Ok(())

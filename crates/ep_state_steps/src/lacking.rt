@@ -5,12 +5,12 @@ ghost use Rattle.ep_reads.specs.Unify.{had_by_both};
 ghost use Rattle.ep_step_laws.specs.Single.{is_kind_of, is_kind_among};
 ghost use Rattle.ep_state_steps.specs.Ones.{left_at};
 
-use crate::beside::lacked;
 use ep_bicells::changes::Step;
 use ep_cell_rows::cell::copy_cell;
 use ep_cells::Cell;
 use ep_domain::Num;
 use ep_int::Memory;
+use ep_state_looks::beside::differences;
 use ep_states::State;
 
 fn drop_one<N: Num>(state: &mut State<N>, z: &Cell<N>) -> Result<(), Memory>
@@ -41,9 +41,8 @@ pub fn drop_both<N: Num>(a: &mut State<N>, b: &mut State<N>) -> Result<(), Memor
 {
     a.model();
     b.model();
-    let left = lacked(a, b)?;
-    let right = lacked(b, a)?;
-    drop_all(a, &left)?;
-    drop_all(b, &right)?;
+    let lacked = differences(a, b)?;
+    drop_all(a, &lacked.left)?;
+    drop_all(b, &lacked.right)?;
     Ok(())
 }

@@ -5,7 +5,6 @@ ghost use Rattle.ep_cells.specs.States.{Each};
 ghost use Rattle.ep_step_laws.specs.Single.{facing, begins_as, begins_among, shared_where, faced, on_left_alone};
 ghost use Rattle.ep_state_steps.specs.Ones.{parted_at, IsShared};
 
-use crate::looking::faced_by;
 use ep_bicells::changes::Step;
 use ep_bitslice::Side;
 use ep_cell_rows::cell::copy_cell;
@@ -14,6 +13,7 @@ use ep_cell_rows::values::{copy_boxed, copy_value};
 use ep_cells::Cell;
 use ep_domain::Num;
 use ep_int::Memory;
+use ep_state_looks::looking::faced_by;
 use ep_states::State;
 
 fn part<N: Num>(state: &mut State<N>, z: &Cell<N>) -> Result<(), Memory>

@@ -7,13 +7,13 @@ ghost use Rattle.ep_cells.specs.States.{Each};
 ghost use Rattle.ep_reads.specs.Split.{split, split_cell, split_like};
 ghost use Rattle.ep_state_steps.specs.Ones.{split_at, Has};
 
-use crate::looking::{cut, like};
 use crate::machines::machines_of;
 use ep_bicells::changes::Step;
 use ep_bitslice::Side;
 use ep_cells::{Cell, Place};
 use ep_domain::Num;
 use ep_int::Memory;
+use ep_state_looks::looking::{cut, like};
 use ep_states::State;
 use ep_synthesis::split::split_parts;
 

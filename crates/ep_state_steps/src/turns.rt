@@ -3,16 +3,16 @@
 ghost use Rattle.std.specs.Prelude.{◌≡◌, ◌+◌, ◌++◌, [], length, map, IsTrue, IfOk, OnOk};
 ghost use Rattle.ep_reads.specs.Unify.{parted_both};
 ghost use Rattle.ep_step_laws.specs.Single.{facing, faced, on_left_alone};
-ghost use Rattle.ep_step_laws.proofs.Turning.{more_for, Turning};
+ghost use Rattle.ep_step_laws.specs.Laws.{more_for, Turning};
 ghost use Rattle.ep_state_steps.specs.Ones.{parted_at};
 
-use crate::beside::{count, lacked};
 use crate::parting::part_facing;
 use ep_cell_rows::cell::copy_cell;
 use ep_cell_rows::rows::push;
 use ep_cells::Cell;
 use ep_domain::Num;
 use ep_int::Memory;
+use ep_state_looks::beside::differences;
 use ep_states::State;
 
 fn push_all<N: Num>(out: &mut Vec<Cell<N>>, more: &[Cell<N>]) -> Result<(), Memory>
@@ -93,9 +93,7 @@ pub fn part_both<N: Num>(a: &mut State<N>, b: &mut State<N>) -> Result<(), Memor
 {
     a.model();
     b.model();
-    let times = count(a, b)?;
-    let for_first = lacked(b, a)?;
-    let for_second = lacked(a, b)?;
-    part_by_turns(a, b, times, for_first, for_second)?;
+    let lacked = differences(a, b)?;
+    part_by_turns(a, b, lacked.count, lacked.right, lacked.left)?;
     Ok(())
 }

@@ -24,7 +24,7 @@ use Rattle.ep_cells_laws.proofs.Both.{one, left_first, right_first, one_order, a
 use Rattle.ep_reads.specs.Split.{is_name_of}
 use Rattle.ep_reads.specs.Unify.{is_of_one_side, faces, parted_both, is_crossed, crossed_all, uncrossed, uncrossed_both, left_by_lack, fate_by_lack, had_by_both, had_both, unified}
 use Rattle.ep_split_laws.proofs.Sides.{same_itself, named_same}
-use Rattle.ep_cell_parts.proofs.Local.{same_reformed}
+use Rattle.ep_cell_steps.proofs.Local.{same_reformed}
 use Rattle.ep_step_laws.proofs.Rounds.{none_parted, times_same}
 
 pair_is : {N : Type 0} (a b c d : List (Cell N)) → a ≡ c → b ≡ d

@@ -1,6 +1,5 @@
 -- Splits of a state, and what holds of it then.
-use Rattle.std.proofs.Common.{◌≡◌, Bool, true, false, ◌||◌, cond, List, [], ◌∷◌, refl, sym, ◌∙◌, ap, subst}
-use Rattle.ep_int.specs.declared.types.Order.{Order}
+use Rattle.std.proofs.Common.{◌≡◌, Bool, true, false, ◌||◌, cond, List, [], ◌∷◌, refl, sym, ap, subst}
 use Rattle.ep_int.specs.declared.types.Model.{Model}
 use Rattle.ep_bitslice.specs.declared.cell.Side.TheVariants.{Shared}
 use Rattle.ep_domain.specs.Domain.{Ops}

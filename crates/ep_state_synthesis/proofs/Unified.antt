@@ -1,7 +1,6 @@
 -- Two states after each step of a unification are those of the unified lists.
 use Rattle.std.proofs.Common.{◌≡◌, List, [], ◌∷◌, refl, sym, ◌∙◌, ap, subst}
 use Rattle.std.specs.List.{filter}
-use Rattle.ep_int.specs.declared.types.Model.{Model}
 use Rattle.ep_domain.specs.Domain.{Ops}
 use Rattle.ep_cells.specs.declared.cell.Cell.{Cell}
 use Rattle.ep_cells.specs.States.{Known, AreCells, HaveCellsAlike}

@@ -9,7 +9,7 @@ ghost use Rattle.ep_state_synthesis.specs.Calls.{StaysIn};
 use ep_domain::Num;
 use ep_int::Memory;
 use ep_split_laws::unify_laws;
-use ep_state_steps::{drop_both, part_both, uncross_both};
+use ep_state_steps::{drop_both, part_both, reshare_all, uncross_both};
 use ep_states::State;
 
 // Whether both have cells alike of which none are to be reshared, so that they stay.
@@ -39,7 +39,7 @@ fn reshared<N: Num>(state: &State<N>) -> Result<State<N>, Memory>
     ensures { IfOk result (λ s. s ≡ record state.now { cells = reshared N.ops state.now.cells }) }
 {
     let mut after = state.copy()?;
-    after.reshare()?;
+    reshare_all(&mut after)?;
     Ok(after)
 }
 

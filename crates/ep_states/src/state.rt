@@ -19,30 +19,30 @@ ghost use Rattle.ep_cell_parts.specs.Alike.{are_different};
 
 use ep_bicells::cells;
 use ep_bicells::changes::Step;
-use ep_bicells::parts::{Part, shared};
-use ep_bicells::uses::Use;
-use ep_bicells::walks::are_alike;
 use ep_bitslice::Side;
 use ep_cell_changes::check::{are_cells, in_order};
 use ep_cell_changes::reshare::reshared;
 use ep_cell_parts::about::about;
-use ep_cell_parts::blurs::blur_at;
-use ep_cell_parts::building::{index, spread};
-use ep_cell_parts::changes::changed;
 use ep_cell_parts::conditions::can_write;
 use ep_cell_parts::equals::{are_equal, is_model, is_order};
 use ep_cell_parts::kills::killed;
 use ep_cell_parts::places::{are_different, places};
 use ep_cell_parts::unions::united;
 use ep_cell_parts::values::set_value_at;
-use ep_cell_parts::weak_writes::weaken_at;
-use ep_cell_parts::writes::write_at;
 use ep_cell_rows::values::Union;
+use ep_cell_steps::blurs::{blur_at, blurred};
+use ep_cell_steps::building::{index, spread};
+use ep_cell_steps::changes::{Parts, after, changed};
+use ep_cell_steps::weak_writes::{weaken_at, weakened};
+use ep_cell_steps::writes::{write_at, written};
 use ep_cells::{Cell, Place, Value};
 use ep_cells_laws::reshare_laws;
 use ep_domain::Num;
 use ep_int::{Memory, Model, Order, Scalar};
 use ep_layout::Leaf;
+use ep_shared_parts::parts::{Part, shared};
+use ep_shared_parts::uses::Use;
+use ep_shared_parts::walks::are_alike;
 use std::alloc::Global;
 
 /// What is known of the cells of two memories.
@@ -56,8 +56,8 @@ pub struct State<N> {
 
 impl<N> std::marker::Model for State<N> {
     ghost use Rattle.ep_cells.specs.States.{Known};
-    ghost use Rattle.ep_bicells.specs.Spread.{all_items};
-    ghost use Rattle.ep_cell_parts.specs.Kept.{AreKept};
+    ghost use Rattle.ep_shared_parts.specs.Spread.{all_items};
+    ghost use Rattle.ep_cell_steps.specs.Kept.{AreKept};
 
     ghost Value = { Known N };
 
@@ -305,9 +305,98 @@ impl<N: Num> State<N> {
             ≡ record self.old { cells = changed_by N.ops self.old.model step.now new.items self.old.cells }) }
         ensures err { OnErr result (self.new ≡ self.old) }
     {
-        let after = self.changed(step, &new)?;
+        let after = self.copy()?.after(step, new)?;
         *self = after;
         Ok(())
+    }
+
+    /// The state after a step with new cells, whose forms mention cells as they were before it. What comes of it has to
+    /// be the cells of a state. Parts that no copy shares are changed where they stand: costs those with cells that the
+    /// step touches or with forms that mention such, a search for each new cell, and where a block is killed a look at all
+    /// cells.
+    pub fn after(self, step: &Step<N>, new: Vec<Cell<N>>) -> Result<State<N>, Memory>
+        requires { AreCells self.model (changed_by N.ops self.model step.now new.items self.cells) }
+        ensures { IfOk result (λ s. s
+            ≡ record self { cells = changed_by N.ops self.model step.now new.items self.cells }) }
+    {
+        let alloc = *self.parts.allocator();
+        let State {
+            orders,
+            model,
+            parts: cells,
+            uses,
+        } = self;
+        let made = after(alloc, model, Parts { cells, uses }, step, &new)?;
+        Ok(State {
+            orders,
+            model,
+            parts: made.cells,
+            uses: made.uses,
+        })
+    }
+
+    /// The state where a cell is written. Costs what `after` does.
+    pub fn written(self, c: Cell<N>) -> Result<State<N>, Memory>
+        requires { CanWrite self.model c self.cells }
+        ensures { IfOk result (λ s. s ≡ record self { cells = written self.model c self.cells }) }
+    {
+        let alloc = *self.parts.allocator();
+        let State {
+            orders,
+            model,
+            parts: cells,
+            uses,
+        } = self;
+        let made = written(alloc, model, Parts { cells, uses }, c)?;
+        Ok(State {
+            orders,
+            model,
+            parts: made.cells,
+            uses: made.uses,
+        })
+    }
+
+    /// The state where a cell may be written, as by `weaken`. Costs what `after` does.
+    pub fn weakened(self, c: &Cell<N>, shared_stays: bool) -> Result<State<N>, Memory>
+        requires fits { Fits self.model c.now }
+        requires stays { shared_stays ≡ true → c.now.side ≡ Side.Shared }
+        ensures { IfOk result (λ s. s
+            ≡ record self { cells = weakened N.ops self.model c.now shared_stays self.cells }) }
+    {
+        let alloc = *self.parts.allocator();
+        let State {
+            orders,
+            model,
+            parts: cells,
+            uses,
+        } = self;
+        let made = weakened(alloc, model, Parts { cells, uses }, c, shared_stays)?;
+        Ok(State {
+            orders,
+            model,
+            parts: made.cells,
+            uses: made.uses,
+        })
+    }
+
+    /// The state where a place may have been written in whatever way, as by `blur`. Costs what `after` does.
+    pub fn blurred(self, place: Place) -> Result<State<N>, Memory>
+        ensures { IfOk result (λ s. s ≡ blurred_at N.ops place self) }
+    {
+        let alloc = *self.parts.allocator();
+        let State {
+            orders,
+            model,
+            parts: cells,
+            uses,
+        } = self;
+        let made = blurred(alloc, model, Parts { cells, uses }, place)?;
+        Ok(State {
+            orders,
+            model,
+            parts: made.cells,
+            uses: made.uses,
+        })
     }
 
     /// New cells in a place, in which no others lie partly: what was there on its sides is gone. What comes of it has

@@ -6,3 +6,5 @@ pub mod Liked
 pub mod Rounds
 pub mod Turning
 pub mod Steps
+pub mod Resharing
+pub mod Gathered

@@ -19,6 +19,7 @@ use Rattle.ep_reads.specs.Unify.{is_of_one_side, left_by_facing, fate_by_facing,
 use Rattle.ep_split_laws.proofs.Steps.{IsSided, left_pairs}
 use Rattle.ep_split_laws.proofs.Same.{GoesTo, IsSameStep}
 use Rattle.ep_split_laws.proofs.Parted.{put_sorted, parts_sided, parts_pairs, parts_go, stays_to}
+use Rattle.ep_step_laws.specs.Laws.{Agree}
 use Rattle.ep_step_laws.specs.Single.{changed_cells, Spots, parts_where, left_where, name_where, fate_where, parted_where, facing, either}
 use Rattle.ep_step_laws.proofs.Composed.{then_fate, changed_twice, same_changes, reformed_same, same_step_cells}
 
@@ -93,11 +94,7 @@ part_form {N = N} P x y Shared h = by (P x.block x.offset x.what) y h
     by false _ (first _) = refl
     by false z (later _ _ k) = elim k [ ]
 
--- the tests agree on these cells
-abbrev pub Agree : {N : Type 0} → Spots → Spots → List (Cell N) → Type 0
-Agree {N = N} P Q cs = (x : Cell N) → IsIn x cs → x.side ≡ Shared
-    → P x.block x.offset x.what ≡ Q x.block x.offset x.what
-
+-- tests that agree
 parts_agree : {N : Type 0} (P Q : Spots) (x : Cell N) (s : Side) → x.side ≡ s
     → (x.side ≡ Shared → P x.block x.offset x.what ≡ Q x.block x.offset x.what)
     → parts_where P x s ≡ parts_where Q x s

@@ -14,7 +14,8 @@ use Rattle.ep_reads.specs.Unify.{is_of_one_side, faces, parted}
 use Rattle.ep_split_laws.proofs.Sides.{side_same}
 use Rattle.ep_split_laws.proofs.Splits.{none_any}
 use Rattle.ep_step_laws.specs.Single.{Spots, parts_where, left_where, fate_where, parted_where, shared_at, facing, either, is_shared_where, shared_where, faced, on_left_alone, without_like}
-use Rattle.ep_step_laws.proofs.Parting.{Agree, parted_twice, parted_same, parted_is, where_cells}
+use Rattle.ep_step_laws.specs.Laws.{Agree, Turning, more_for}
+use Rattle.ep_step_laws.proofs.Parting.{parted_twice, parted_same, parted_is, where_cells}
 use Rattle.ep_step_laws.proofs.Composed.{map_append}
 use Rattle.ep_step_laws.proofs.Members.{any_append}
 use Rattle.ep_step_laws.proofs.Liked.{shared_place, facing_lacked}
@@ -176,21 +177,10 @@ was_shared P xs x i s =
 
 -- ---- a turn
 
--- The cells of the second state that are to be looked at for those of the first one, and the other way.
-pub record Turning {N : Type 0} (d : Model) (xs ys ts us : List (Cell N)) : Type 0 where
-  pub left : AreCells d xs
-  pub right : AreCells d ys
-  pub for_left : Agree (facing d ys) (facing d ts) xs
-  pub for_right : Agree (facing d xs) (facing d us) ys
-
 pub left_turned : {N : Type 0} (d : Model) (xs ys ts us : List (Cell N)) → Turning d xs ys ts us
     → parted d ys xs ≡ parted_where (facing d ts) xs
 left_turned d xs ys ts us t =
     parted_is d ys xs t.left ∙ parted_same d (facing d ys) (facing d ts) xs t.left t.for_left
-
--- those that are to be looked at for the second one after that
-abbrev pub more_for : {N : Type 0} → Model → (xs ts us : List (Cell N)) → List (Cell N)
-more_for d xs ts us = us ++ map on_left_alone (faced d ts xs)
 
 half_turned : {N : Type 0} (d : Model) (xs ys ts us : List (Cell N)) → Turning d xs ys ts us
     → Agree (facing d (parted_where (facing d ts) xs)) (facing d (more_for d xs ts us)) ys

@@ -1,5 +1,5 @@
 use Rattle.std.proofs.Common.{◌≡◌, ◌++◌, map, drop}
-use Rattle.ep_bicells.specs.Spread.{all_items}
+use Rattle.ep_shared_parts.specs.Spread.{all_items}
 use Rattle.ep_bicells.proofs.cells.all.Given as goal
 
 abbrev pub invariant-loop-part : goal.invariant-loop-part

@@ -1,7 +1,7 @@
 use Rattle.std.proofs.Common.{◌≡◌, length}
 use Rattle.ep_cells.specs.Both.{are_within}
-use Rattle.ep_bicells.specs.Spread.{all_items}
-use Rattle.ep_bicells.specs.Walks.{IsAt, rest}
+use Rattle.ep_shared_parts.specs.Spread.{all_items}
+use Rattle.ep_shared_parts.specs.Walks.{IsAt, rest}
 use Rattle.ep_bicells.proofs.cells.are_within.Given as goal
 
 abbrev pub invariant-loop-y : goal.invariant-loop-y

@@ -1,5 +1,5 @@
 use Rattle.std.proofs.Common.{◌≡◌, ◌-◌, ◌∙◌, arith}
-use Rattle.ep_bicells.specs.Mentions.{number_at}
+use Rattle.ep_shared_parts.specs.Mentions.{number_at}
 use Rattle.ep_bicells.proofs.Looking.{cell_in_window}
 use Rattle.ep_bicells.proofs.cells.cell_at.Goals as goal
 

@@ -1,6 +1,6 @@
 use Rattle.std.proofs.Common.{sym, ◌∙◌}
-use Rattle.ep_bicells.specs.Spread.{all_items}
-use Rattle.ep_bicells.specs.Walks.{rest}
+use Rattle.ep_shared_parts.specs.Spread.{all_items}
+use Rattle.ep_shared_parts.specs.Walks.{rest}
 use Rattle.ep_bicells.proofs.Positions.{in_rest, has_expected}
 use Rattle.ep_bicells.proofs.cells.has_at.Goals as goal
 

@@ -1,7 +1,7 @@
 use Rattle.std.proofs.Common.{◌≡◌, Some, None, ◌+◌, drop, arith, ◌∙◌, sym, ap}
 use Rattle.ep_cells.specs.Both.{cell_like}
-use Rattle.ep_bicells.specs.Spread.{all_items}
-use Rattle.ep_bicells.proofs.Steps.{items_at}
+use Rattle.ep_shared_parts.specs.Spread.{all_items}
+use Rattle.ep_shared_parts.proofs.Steps.{items_at}
 use Rattle.ep_bicells.proofs.Uniting.{like_before, like_behind}
 use Rattle.ep_bicells.proofs.cells.like_in.Goals as goal
 

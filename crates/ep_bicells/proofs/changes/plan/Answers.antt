@@ -1,9 +1,9 @@
 use Rattle.std.proofs.Common.{◌≡◌, true, nat_eq, subst, sym}
 use Rattle.std.specs.List.{list_any}
-use Rattle.ep_bicells.specs.Spread.{all_items}
-use Rattle.ep_bicells.specs.Mentions.{number_of}
-use Rattle.ep_bicells.proofs.Mentioning.{found_user}
-use Rattle.ep_bicells.proofs.Planning.{still_covers}
+use Rattle.ep_shared_parts.specs.Spread.{all_items}
+use Rattle.ep_shared_parts.specs.Mentions.{number_of}
+use Rattle.ep_shared_parts.proofs.Mentioning.{found_user}
+use Rattle.ep_shared_parts.proofs.Planning.{still_covers}
 use Rattle.ep_bicells.proofs.changes.plan.Goals as goal
 
 pub returns : goal.returns

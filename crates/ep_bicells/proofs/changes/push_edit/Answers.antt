@@ -1,7 +1,7 @@
 use Rattle.std.proofs.Common.{[], ◌∷◌, subst, sym}
-use Rattle.ep_bicells.specs.Plans.{AreEdits}
+use Rattle.ep_shared_parts.specs.Plans.{AreEdits}
 use Rattle.ep_bicells.specs.Steps.{after_step}
-use Rattle.ep_bicells.proofs.Planning.{edits_append, edit_of}
+use Rattle.ep_shared_parts.proofs.Planning.{edits_append, edit_of}
 use Rattle.ep_bicells.proofs.changes.push_edit.Goals as goal
 
 pub returns-clause-edits : goal.returns-clause-edits

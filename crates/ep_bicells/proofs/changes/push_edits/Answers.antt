@@ -1,6 +1,6 @@
 use Rattle.std.proofs.Common.{arith}
-use Rattle.ep_bicells.specs.Mentions.{number_of}
-use Rattle.ep_bicells.proofs.Planning.{span_covers}
+use Rattle.ep_shared_parts.specs.Mentions.{number_of}
+use Rattle.ep_shared_parts.proofs.Planning.{span_covers}
 use Rattle.ep_bicells.proofs.changes.push_edits.Goals as goal
 
 pub returns-clause-covers : goal.returns-clause-covers

@@ -1,5 +1,5 @@
 use Rattle.std.proofs.Common.{◌≡◌, ℕ, ◌≤◌, ◌<◌, true}
-use Rattle.ep_bicells.specs.Plans.{is_edited, AreEdits, KeepsEdits}
+use Rattle.ep_shared_parts.specs.Plans.{is_edited, AreEdits, KeepsEdits}
 use Rattle.ep_bicells.specs.Steps.{after_step}
 use Rattle.ep_bicells.proofs.changes.push_edits.Given as goal
 

@@ -1,7 +1,7 @@
 use Rattle.std.proofs.Common.{◌≡◌, ℕ, true, nat_eq, take}
 use Rattle.std.specs.List.{list_any}
-use Rattle.ep_bicells.specs.Mentions.{number_of}
-use Rattle.ep_bicells.specs.Plans.{AreEdits, KeepsEdits, Covers}
+use Rattle.ep_shared_parts.specs.Mentions.{number_of}
+use Rattle.ep_shared_parts.specs.Plans.{AreEdits, KeepsEdits, Covers}
 use Rattle.ep_bicells.specs.Steps.{after_step}
 use Rattle.ep_bicells.proofs.changes.push_users.Given as goal
 

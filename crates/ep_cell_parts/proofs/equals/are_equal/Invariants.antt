@@ -1,6 +1,6 @@
 use Rattle.std.proofs.Common.{◌≡◌, ◌↔◌, length}
-use Rattle.ep_bicells.specs.Spread.{all_items}
-use Rattle.ep_bicells.specs.Walks.{IsAt, rest}
+use Rattle.ep_shared_parts.specs.Spread.{all_items}
+use Rattle.ep_shared_parts.specs.Walks.{IsAt, rest}
 use Rattle.ep_cell_parts.proofs.equals.are_equal.Given as goal
 
 abbrev pub invariant-loop-x : goal.invariant-loop-x

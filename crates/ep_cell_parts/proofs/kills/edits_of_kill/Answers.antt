@@ -1,5 +1,5 @@
-use Rattle.ep_bicells.specs.Spread.{all_items}
-use Rattle.ep_cell_parts.proofs.Killing.{killed_from}
+use Rattle.ep_shared_parts.specs.Spread.{all_items}
+use Rattle.ep_cell_steps.proofs.Killing.{killed_from}
 use Rattle.ep_cell_parts.proofs.kills.edits_of_kill.Goals as goal
 
 pub returns : goal.returns

@@ -1,7 +1,7 @@
 use Rattle.std.proofs.Common.{arith}
-use Rattle.ep_bicells.specs.Spread.{all_items}
+use Rattle.ep_shared_parts.specs.Spread.{all_items}
 use Rattle.ep_cell_changes.proofs.Together.{killed_is}
-use Rattle.ep_cell_parts.proofs.Killing.{kill_kept}
+use Rattle.ep_cell_steps.proofs.Killing.{kill_kept}
 use Rattle.ep_cell_parts.proofs.kills.killed.Goals as goal
 
 pub returns-clause-items : goal.returns-clause-items

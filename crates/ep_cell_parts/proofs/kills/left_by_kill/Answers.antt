@@ -1,7 +1,7 @@
 use Rattle.std.proofs.Common.{subst}
-use Rattle.ep_bicells.specs.Spread.{all_items}
-use Rattle.ep_cell_parts.specs.Killed.{AreKilled}
-use Rattle.ep_cell_parts.proofs.Killing.{kill_within, kill_done}
+use Rattle.ep_shared_parts.specs.Spread.{all_items}
+use Rattle.ep_cell_steps.specs.Killed.{AreKilled}
+use Rattle.ep_cell_steps.proofs.Killing.{kill_within, kill_done}
 use Rattle.ep_cell_parts.proofs.kills.left_by_kill.Goals as goal
 
 pub install-requires : goal.install-requires

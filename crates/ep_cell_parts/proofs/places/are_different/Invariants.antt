@@ -1,5 +1,5 @@
 use Rattle.std.proofs.Common.{◌≡◌, drop}
-use Rattle.ep_bicells.specs.Spread.{all_items}
+use Rattle.ep_shared_parts.specs.Spread.{all_items}
 use Rattle.ep_cell_parts.specs.Alike.{are_different}
 use Rattle.ep_cell_parts.proofs.places.are_different.Given as goal
 

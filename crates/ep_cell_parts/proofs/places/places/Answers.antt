@@ -1,6 +1,6 @@
 use Rattle.std.proofs.Common.{◌∙◌, ap, ◌++◌, arith}
 use Rattle.ep_cells.specs.Reshare.{places}
-use Rattle.ep_bicells.specs.Spread.{all_items}
+use Rattle.ep_shared_parts.specs.Spread.{all_items}
 use Rattle.ep_cell_parts.proofs.Staying.{places_step}
 use Rattle.ep_cell_parts.proofs.places.places.Goals as goal
 

@@ -1,5 +1,5 @@
-use Rattle.ep_cell_parts.proofs.Making.{as_many}
-use Rattle.ep_bicells.specs.Spread.{all_items}
+use Rattle.ep_cell_steps.proofs.Making.{as_many}
+use Rattle.ep_shared_parts.specs.Spread.{all_items}
 use Rattle.ep_cell_parts.proofs.Together.{both_kept}
 use Rattle.ep_cell_parts.proofs.unions.united.Goals as goal
 

@@ -1,6 +1,6 @@
 use Rattle.std.proofs.Common.{◌-◌, ◌∙◌, ap, set, length, arith}
-use Rattle.ep_bicells.specs.Spread.{outlines, parts_to}
-use Rattle.ep_bicells.specs.Mentions.{number_of}
+use Rattle.ep_shared_parts.specs.Spread.{outlines, parts_to}
+use Rattle.ep_shared_parts.specs.Mentions.{number_of}
 use Rattle.ep_cell_parts.proofs.Valuing.{spot_of, set_outlines, same_outline, valued_items, valued_none, valued_kept}
 use Rattle.ep_cell_parts.proofs.values.set_value_at.Goals as goal
 

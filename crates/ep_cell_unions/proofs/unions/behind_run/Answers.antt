@@ -1,5 +1,5 @@
 use Rattle.std.proofs.Common.{◌≡◌, true, arith, rules}
-use Rattle.ep_bicells.specs.Walks.{rest}
+use Rattle.ep_shared_parts.specs.Walks.{rest}
 use Rattle.ep_cell_rows.specs.Parts.{united}
 use Rattle.ep_cell_unions.proofs.Together.{rest_next, stays_next}
 use Rattle.ep_cell_unions.proofs.unions.behind_run.Goals as goal

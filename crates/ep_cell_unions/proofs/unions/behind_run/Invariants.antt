@@ -2,7 +2,7 @@ use Rattle.std.proofs.Common.{◌≡◌, ◌≤◌, ◌-◌, List, length, drop}
 use Rattle.ep_cells.specs.declared.cell.Cell.{Cell}
 use Rattle.ep_cells.specs.Both.{cells_of_both}
 use Rattle.ep_cell_rows.specs.Parts.{united}
-use Rattle.ep_bicells.specs.Walks.{IsAt, rest}
+use Rattle.ep_shared_parts.specs.Walks.{IsAt, rest}
 use Rattle.ep_cell_unions.proofs.unions.behind_run.Given as goal
 
 abbrev pub invariant-loop-i : goal.invariant-loop-i

@@ -1,6 +1,6 @@
 use Rattle.std.proofs.Common.{◌≡◌, ◌≤◌, ◌∙◌, length, true, ap, arith, rules, sym, subst}
-use Rattle.ep_bicells.specs.Walks.{rest}
-use Rattle.ep_bicells.proofs.Planning.{same_default}
+use Rattle.ep_shared_parts.specs.Walks.{rest}
+use Rattle.ep_shared_parts.proofs.Planning.{same_default}
 use Rattle.ep_cells.specs.Both.{value_of_both}
 use Rattle.ep_cell_rows.specs.Parts.{united}
 use Rattle.ep_cell_unions.proofs.Together.{rest_next, stays_next, none_to_go, rest_all}

@@ -1,5 +1,5 @@
 use Rattle.std.proofs.Common.{◌<◌, length, arith}
-use Rattle.ep_bicells.specs.Walks.{rest}
+use Rattle.ep_shared_parts.specs.Walks.{rest}
 use Rattle.ep_cells.specs.Both.{cells_of_both}
 use Rattle.ep_cell_rows.specs.Parts.{united}
 use Rattle.ep_cell_unions.proofs.Together.{rest_next, made_next, none_left}

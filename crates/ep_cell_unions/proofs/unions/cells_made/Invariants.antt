@@ -1,7 +1,7 @@
 use Rattle.std.proofs.Common.{◌≡◌, ◌++◌, drop}
 use Rattle.ep_cells.specs.Both.{cells_of_both}
 use Rattle.ep_cell_rows.specs.Parts.{united}
-use Rattle.ep_bicells.specs.Walks.{IsAt, rest}
+use Rattle.ep_shared_parts.specs.Walks.{IsAt, rest}
 use Rattle.ep_cell_unions.proofs.unions.cells_made.Given as goal
 
 abbrev pub invariant-loop-x : goal.invariant-loop-x

@@ -1,6 +1,6 @@
 use Rattle.std.proofs.Common.{arith}
-use Rattle.ep_bicells.specs.Spread.{all_items}
-use Rattle.ep_bicells.specs.Walks.{rest}
+use Rattle.ep_shared_parts.specs.Spread.{all_items}
+use Rattle.ep_shared_parts.specs.Walks.{rest}
 use Rattle.ep_cells.specs.Both.{cells_of_both}
 use Rattle.ep_cell_rows.specs.Parts.{united}
 use Rattle.ep_cell_unions.proofs.Together.{enough, left_next, both_next, outlines_next}

@@ -1,9 +1,9 @@
 use Rattle.std.proofs.Common.{◌≡◌, ◌++◌, length, drop}
 use Rattle.ep_cells.specs.Both.{cells_of_both}
 use Rattle.ep_cell_rows.specs.Parts.{united}
-use Rattle.ep_bicells.specs.Spread.{outlines, all_items}
-use Rattle.ep_bicells.specs.Mentions.{number_of}
-use Rattle.ep_bicells.specs.Walks.{IsAt, rest}
+use Rattle.ep_shared_parts.specs.Spread.{outlines, all_items}
+use Rattle.ep_shared_parts.specs.Mentions.{number_of}
+use Rattle.ep_shared_parts.specs.Walks.{IsAt, rest}
 use Rattle.ep_cell_unions.proofs.unions.parts_of_both.Given as goal
 
 abbrev pub invariant-loop-part : goal.invariant-loop-part

@@ -1,5 +1,5 @@
 use Rattle.std.proofs.Common.{sym, ◌∙◌}
-use Rattle.ep_state_steps.proofs.Liken.{like_in, none_crossed, some_crossed}
+use Rattle.ep_state_steps.proofs.Liken.{like_in}
 use Rattle.ep_state_steps.proofs.crossing.cross_like.Goals as goal
 
 pub cross-requires : goal.cross-requires

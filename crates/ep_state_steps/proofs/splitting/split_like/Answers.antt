@@ -1,5 +1,5 @@
 use Rattle.std.proofs.Common.{sym, ◌∙◌}
-use Rattle.ep_state_steps.proofs.Liken.{like_in, like_has, none_split, some_split}
+use Rattle.ep_state_steps.proofs.Liken.{like_in, like_has}
 use Rattle.ep_state_steps.proofs.splitting.split_like.Goals as goal
 
 pub split_one-requires-clause-has : goal.split_one-requires-clause-has

@@ -1,5 +1,5 @@
 use Rattle.std.proofs.Common.{sym, ◌∙◌, arith}
-use Rattle.ep_state_steps.proofs.ByTurns.{turns_begin, turns_next_at, first_stopped, second_stopped, first_ended, second_ended}
+use Rattle.ep_state_steps.proofs.ByTurns.{turns_next_at, first_stopped, second_stopped, first_ended, second_ended}
 use Rattle.ep_state_steps.proofs.turns.part_by_turns.Goals as goal
 
 pub returns-then-are_none-clause-first : goal.returns-then-are_none-clause-first

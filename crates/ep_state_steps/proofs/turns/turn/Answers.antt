@@ -1,4 +1,4 @@
-use Rattle.ep_step_laws.proofs.Turning.{more_for}
+use Rattle.ep_step_laws.specs.Laws.{more_for}
 use Rattle.ep_state_steps.proofs.ByTurns.{more_is, second_is, others_are}
 use Rattle.ep_state_steps.proofs.turns.turn.Goals as goal
 

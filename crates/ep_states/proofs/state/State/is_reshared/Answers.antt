@@ -1,6 +1,6 @@
 use Rattle.std.proofs.Common.{◌≡◌, ◌∙◌, ap, subst}
 use Rattle.ep_cells.specs.Reshare.{places, reshared}
-use Rattle.ep_bicells.specs.Spread.{all_items}
+use Rattle.ep_shared_parts.specs.Spread.{all_items}
 use Rattle.ep_cell_parts.specs.Alike.{are_different}
 use Rattle.ep_cell_parts.proofs.Staying.{all_stay}
 use Rattle.ep_states.proofs.state.State.is_reshared.Goals as goal

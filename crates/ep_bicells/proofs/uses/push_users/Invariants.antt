@@ -1,7 +1,0 @@
-use Rattle.std.proofs.Common.{◌≡◌, ◌++◌, drop}
-use Rattle.ep_bicells.specs.Mentions.{users_in}
-use Rattle.ep_bicells.proofs.uses.push_users.Given as goal
-
-abbrev pub invariant-loop-u : goal.invariant-loop-u
-invariant-loop-u l = l.out.items ++ users_in l.from l.last (drop l.u-index l.uses) ≡ l.fn.out.items ++ users_in
-    l.from l.last l.uses

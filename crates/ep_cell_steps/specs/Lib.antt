@@ -1,0 +1,6 @@
+pub mod Kept
+pub mod Writes
+pub mod Weakened
+pub mod Killed
+pub mod Left
+pub mod Planned

@@ -1,0 +1,4 @@
+pub mod Spread
+pub mod Mentions
+pub mod Plans
+pub mod Walks

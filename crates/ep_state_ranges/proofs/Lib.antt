@@ -1,0 +1,5 @@
+pub mod Carrying
+pub mod Cutting
+pub mod Rounds
+pub mod Merging
+pub mod Takings
