@@ -17,7 +17,7 @@ use Rattle.ep_core.specs.Runs.{Side, left, right}
 use Rattle.ep_equalities.specs.declared.pair.Mode.{Mode}
 use Rattle.ep_equalities.specs.declared.pair.Mode.TheVariants.{Both, Left, Right}
 use Rattle.ep_evaluation.specs.Given.{Given, on, alone, are_sure}
-use Rattle.ep_evaluation.specs.Narrowed.{then_with, either_of, when_not, met, refined, null_taken, null_met, null_refined, narrowed_by, numbers_narrowed, null_side, says_alike, answer, pointers_narrowed}
+use Rattle.ep_evaluation.specs.Narrowed.{then_with, either_of, again, when_not, met, refined, null_taken, null_met, null_refined, narrowed_by, numbers_narrowed, null_side, says_alike, answer, pointers_narrowed}
 use Rattle.ep_evaluation.specs.Evaluation.{ToCell, Means, number, pointer, value_narrowed, if_sure, test_assumed, assumed, state_for, short_assumed, compare_means, pointers_means, expression}
 use Rattle.ep_cell_ranges.specs.Narrow.{with_value}
 
@@ -141,8 +141,10 @@ module _ {N : Type 0} (D : Ops N) (d : Model) where
       let x = a.gives (alone s) k in
       let y = b.gives (alone s) k in
       sure_model (are_sure (x.faults ++ y.faults)) k
-      (numbers_narrowed D (when_not c t) (number D (on x.pair s)) (number D (on y.pair s)) (a.cell s) (b.cell s) k) h
-      (numbers_model (a.cell s) (b.cell s) (when_not c t) (number D (on x.pair s)) (number D (on y.pair s)) k h)
+      (numbers_narrowed D (when_not c t) (number D (on x.pair s)) (number D (on y.pair s)) (a.cell s)
+      (again (b.cell s k)) k) h
+      (numbers_model (a.cell s) (again (b.cell s k)) (when_not c t) (number D (on x.pair s)) (number D (on y.pair s))
+      k h)
 
   pointers_keep : (c : Cmp) (a b : Means N) (s : Side) (t : Bool) (k : Known N) → k.model ≡ d
       → IfModel ((pointers_means D c a b).assumes s t k)
@@ -150,8 +152,8 @@ module _ {N : Type 0} (D : Ops N) (d : Model) where
       let x = a.gives (alone s) k in
       let y = b.gives (alone s) k in
       sure_model (are_sure (x.faults ++ y.faults)) k
-      (pointers_narrowed D c t (pointer D (on x.pair s)) (pointer D (on y.pair s)) (a.cell s) (b.cell s) k) h
-      (pointers_model (a.cell s) (b.cell s) c t (pointer D (on x.pair s)) (pointer D (on y.pair s)) k h)
+      (pointers_narrowed D c t (pointer D (on x.pair s)) (pointer D (on y.pair s)) (a.cell s) (again (b.cell s k)) k) h
+      (pointers_model (a.cell s) (again (b.cell s k)) c t (pointer D (on x.pair s)) (pointer D (on y.pair s)) k h)
 
   pub keeps : (sizes : List ℕ) (e : Expr) → Keeps (expression D sizes e)
   keeps sizes (const u v) s t k h = tests sizes (const u v) s t k h

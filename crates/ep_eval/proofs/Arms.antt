@@ -16,7 +16,7 @@ use Rattle.ep_equalities.specs.declared.pair.PairValue.{PairValue}
 use Rattle.ep_evaluation.specs.Given.{Given}
 use Rattle.ep_evaluation.specs.Evaluation.{expression, place, load_given, same_given, binary_given, convert_given, compare_given, pointers_given, not_given, short_given, chosen_given, sum_given, member_given, element_given, later, later_faults}
 use Rattle.ep_eval_sides.specs.Sides.{faultless, faultless_if}
-use Rattle.ep_eval.specs.Steps.{pair_if, given_later, LeadsOn}
+use Rattle.ep_eval_parts.specs.Steps.{pair_if, given_later, LeadsOn}
 
 pub two_assoc : (a b c d : List Fault) → ((a ++ b) ++ c) ++ d ≡ a ++ (b ++ (c ++ d))
 two_assoc a b c d = append_assoc (a ++ b) c d ∙ append_assoc a b (c ++ d)

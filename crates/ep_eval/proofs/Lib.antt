@@ -3,4 +3,5 @@ pub mod Lefts
 pub mod Narrowings
 pub mod Nexts
 pub mod Parts
-pub mod Widths
+pub mod Plain
+pub mod Takens

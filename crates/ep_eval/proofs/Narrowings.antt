@@ -16,12 +16,12 @@ use Rattle.ep_core.specs.Runs.{Side}
 use Rattle.ep_equalities.specs.declared.pair.Fault.{Fault}
 use Rattle.ep_equalities.specs.declared.pair.PairValue.{PairValue}
 use Rattle.ep_evaluation.specs.Given.{alone, on, are_sure}
-use Rattle.ep_evaluation.specs.Narrowed.{then_with, when_not, narrowed_by, numbers_narrowed, null_side, says_alike, answer, pointers_narrowed}
+use Rattle.ep_evaluation.specs.Narrowed.{then_with, again, when_not, narrowed_by, numbers_narrowed, null_side, says_alike, answer, pointers_narrowed}
 use Rattle.ep_evaluation.specs.Operators.{test_of}
 use Rattle.ep_evaluation.specs.Evaluation.{Means, expression, number, pointer, if_sure, value_narrowed, test_assumed}
-use Rattle.ep_eval.specs.declared.limits.Limits.{Limits}
-use Rattle.ep_eval.specs.declared.limits.Limit.TheVariants.{Free, Null}
-use Rattle.ep_eval.specs.Limits.{limits_within, limits_if, null_limit, number_limits, pointer_limits, value_limits, limited, both_limited}
+use Rattle.ep_eval_parts.specs.declared.limits.Limits.{Limits}
+use Rattle.ep_eval_parts.specs.declared.limits.Limit.TheVariants.{Free, Null}
+use Rattle.ep_eval_parts.specs.Limits.{limits_within, limits_if, null_limit, number_limits, pointer_limits, value_limits, limited, both_limited}
 
 dropped : (old xs : List Fault) → drop (length old) (old ++ xs) ≡ xs
 dropped [] xs = refl
@@ -112,21 +112,21 @@ module _ {N : Type 0} where
             → c ≡ (expression D sizes d).cell s k
             → b ≡ are_sure (((expression D sizes d).gives (alone s) k).faults ++ ((expression D sizes a).gives (alone s) k).faults)
             → l ≡ limits_if b (number_limits D (when_not cmp t) (number D (on x s)) (number D (on y s)))
-            → (w ≡ true → o ≡ both_limited D l c ((expression D sizes a).cell s) k)
+            → (w ≡ true → o ≡ both_limited D l c (again ((expression D sizes a).cell s k)) k)
             → w ≡ true → o ≡ (expression D sizes e).assumes s t k
         compare_left cmp u t i j m n h p q g =
             rw (i, q g, p, h, n, j, m)
-            (sure_is ((expression D sizes d).cell s) ((expression D sizes a).cell s) k _ _ _
-            (numbers_are ((expression D sizes d).cell s) ((expression D sizes a).cell s) k (when_not cmp t) _ _))
+            (sure_is ((expression D sizes d).cell s) (again ((expression D sizes a).cell s k)) k _ _ _
+            (numbers_are ((expression D sizes d).cell s) (again ((expression D sizes a).cell s k)) k (when_not cmp t) _ _))
 
         pub pointers_left : (cmp : Cmp) (t : Bool) → e ≡ ptr_compare cmp d a
             → x ≡ ((expression D sizes d).gives (alone s) k).pair → y ≡ ((expression D sizes a).gives (alone s) k).pair
             → c ≡ (expression D sizes d).cell s k
             → b ≡ are_sure (((expression D sizes d).gives (alone s) k).faults ++ ((expression D sizes a).gives (alone s) k).faults)
             → l ≡ limits_if b (pointer_limits D cmp t (pointer D (on x s)) (pointer D (on y s)))
-            → (w ≡ true → o ≡ both_limited D l c ((expression D sizes a).cell s) k)
+            → (w ≡ true → o ≡ both_limited D l c (again ((expression D sizes a).cell s k)) k)
             → w ≡ true → o ≡ (expression D sizes e).assumes s t k
         pointers_left cmp t i j m n h p q g =
             rw (i, q g, p, h, n, j, m)
-            (sure_is ((expression D sizes d).cell s) ((expression D sizes a).cell s) k _ _ _
-            (pointers_are ((expression D sizes d).cell s) ((expression D sizes a).cell s) k cmp t _ _))
+            (sure_is ((expression D sizes d).cell s) (again ((expression D sizes a).cell s k)) k _ _ _
+            (pointers_are ((expression D sizes d).cell s) (again ((expression D sizes a).cell s k)) k cmp t _ _))

@@ -11,7 +11,7 @@ use Rattle.ep_evaluation.specs.Given.{Given, alone, on, is_both, mode_where}
 use Rattle.ep_evaluation.specs.Operators.{may_be}
 use Rattle.ep_evaluation.specs.Evaluation.{Means, given_where, later, later_faults, same, short_given}
 use Rattle.ep_eval_sides.specs.Sides.{faultless, faultless_if}
-use Rattle.ep_eval.specs.Steps.{pair_if, given_later, given_second, state_where, LeadsOn}
+use Rattle.ep_eval_parts.specs.Steps.{pair_if, given_later, given_second, state_where, LeadsOn}
 use Rattle.ep_eval.proofs.Arms.{short_pair}
 
 module _ {N : Type 0} (D : Ops N) where

@@ -15,11 +15,11 @@ use Rattle.ep_equalities.specs.declared.pair.Fault.{Fault}
 use Rattle.ep_equalities.specs.declared.pair.Mode.{Mode}
 use Rattle.ep_equalities.specs.declared.pair.PairValue.{PairValue}
 use Rattle.ep_evaluation.specs.Given.{alone, on, are_sure}
-use Rattle.ep_evaluation.specs.Narrowed.{then_with, cell_of, if_kept}
+use Rattle.ep_evaluation.specs.Narrowed.{again, then_with, cell_of, if_kept}
 use Rattle.ep_evaluation.specs.Evaluation.{Means, expression, place, places_at, cell_if, later_faults, test_assumed}
-use Rattle.ep_eval.specs.declared.limits.Limits.{Limits}
-use Rattle.ep_eval.specs.Limits.{both_limited}
-use Rattle.ep_eval.specs.Steps.{LeadsOn, given_later, given_second, pair_if}
+use Rattle.ep_eval_parts.specs.declared.limits.Limits.{Limits}
+use Rattle.ep_eval_parts.specs.Limits.{both_limited}
+use Rattle.ep_eval_parts.specs.Steps.{LeadsOn, given_later, given_second, pair_if}
 
 module _ {N : Type 0} (D : Ops N) (sizes : List ℕ) where
   abbrev pub meant : tree.Expr → Means N
@@ -71,10 +71,10 @@ module _ {N : Type 0} (D : Ops N) (sizes : List ℕ) where
         → o ≡ (meant v).assumes s t k
     assuming t i h = h ∙ ap (λ e. (meant e).assumes s t k) i
 
-    pub behind_cell : (l : Option (Limits N)) (c : Option (Cell N)) {w : Bool} {o : Option (Known N)} {u v : tree.Expr} → u ≡ v
-        → (w ≡ true → o ≡ both_limited D l c ((meant u).cell s) k) → w ≡ true
-        → o ≡ both_limited D l c ((meant v).cell s) k
-    behind_cell l c i h g = h g ∙ ap (λ e. both_limited D l c ((meant e).cell s) k) i
+    pub behind_cell : (l : Option (Limits N)) (c : Option (Cell N)) {w : Bool} {o : Option (Known N)}
+        {d a : Option (Cell N)} → d ≡ a → (w ≡ true → o ≡ both_limited D l c (again d) k) → w ≡ true
+        → o ≡ both_limited D l c (again a) k
+    behind_cell l c i h g = h g ∙ ap (λ d. both_limited D l c (again d) k) i
 
     -- the second operand of `&&` or `||`
     module _ (runs : Bool) (o : Option (Known N)) where

@@ -1,3 +1,1 @@
-pub mod Limits
-pub mod Steps
-pub mod Verdicts
+pub mod Forms

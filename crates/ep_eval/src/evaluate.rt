@@ -12,22 +12,22 @@ ghost use Rattle.ep_evaluation.specs.Narrowed.{then_with};
 ghost use Rattle.ep_eval_fits.specs.Fitting.{ExprIsFit, PlaceIsFit};
 ghost use Rattle.ep_eval_loads.specs.After.{left_of};
 ghost use Rattle.ep_eval_loads.specs.Running.{side_of};
-ghost use Rattle.ep_eval.specs.Limits.{both_limited, limited as limited_by};
-ghost use Rattle.ep_eval.specs.Steps.{LeadsOn, given_later, given_second, pair_if, state_where};
+ghost use Rattle.ep_eval.specs.Forms.{is_branching, is_joined};
+ghost use Rattle.ep_eval_parts.specs.Steps.{LeadsOn, given_later, given_second, pair_if, state_where};
 
-use crate::left::{Assumed, Second, Wants, behind, either_if, left_where, second_behind};
-use crate::limits::{Limit, Limits, limited};
-use crate::modes::{First, mode_where};
-use crate::operands::{Operand, kept_cell, load_cell, numbers, pointers, value_assumed};
-use crate::sure::are_sure;
-use crate::typed::{computed, converted};
-use crate::verdicts::has_one_truth;
-use ep_cells::Cell;
 use ep_core::tree::{Expr, Place};
 use ep_domain::Num;
 use ep_equalities::{Fault, Mode, PairValue};
 use ep_eval_loads::loads::load;
 use ep_eval_loads::{After, Running};
+use ep_eval_parts::left::{Assumed, Second, Wants, behind, either_if, left_where, second_behind};
+use ep_eval_parts::modes::{First, mode_where};
+use ep_eval_parts::operands::{
+    Operand, kept_cell, load_cell, numbers, operands_assumed, pointers, value_assumed,
+};
+use ep_eval_parts::sure::are_sure;
+use ep_eval_parts::typed::{computed, converted};
+use ep_eval_parts::verdicts::has_one_truth;
 use ep_eval_places::elements::element;
 use ep_eval_places::moves::{member, sum};
 use ep_eval_sides::operators::{
@@ -39,6 +39,7 @@ use ep_states::State;
 
 /// What an expression gives in a mode. Its faults are added to those that are there.
 #[cycle(evaluate)]
+#[tactic(auto, using(crate::proofs::Plain::strictly))]
 pub fn eval<N: Num>(
     e: &Expr,
     sizes: &[u32],
@@ -47,6 +48,43 @@ pub fn eval<N: Num>(
     faults: &mut Vec<Fault>,
 ) -> Result<PairValue<N>, Memory>
     requires fit { ExprIsFit (shown_expr e.now) }
+    ensures value { IfOk result (λ r. r
+        ≡ ((expression N.ops sizes.now (shown_expr e.now)).gives mode state.now).pair) }
+    ensures faults { OnOk result (faults.new.items
+        ≡ faults.old.items ++ ((expression N.ops sizes.now (shown_expr e.now)).gives mode state.now).faults) }
+{
+    match e {
+        Expr::And(a, b) => {
+            let x = first(a, sizes, state, mode, Wants::when_true(), faults)?;
+            let y = later(b, sizes, state, x.mode_true, x.when_true, faults)?;
+            Ok(short(true, mode, &x.value, y))
+        }
+        Expr::Or(a, b) => {
+            let x = first(a, sizes, state, mode, Wants::when_false(), faults)?;
+            let y = later(b, sizes, state, x.mode_false, x.when_false, faults)?;
+            Ok(short(false, mode, &x.value, y))
+        }
+        Expr::Cond(c, a, b) => {
+            let x = first(c, sizes, state, mode, Wants::both(), faults)?;
+            let y = later(a, sizes, state, x.mode_true, x.when_true, faults)?;
+            let z = later(b, sizes, state, x.mode_false, x.when_false, faults)?;
+            chosen(mode, &x.value, y, z)
+        }
+        _ => eval_strict(e, sizes, state, mode, faults),
+    }
+}
+
+// An expression whose operands are all evaluated.
+#[cycle(evaluate)]
+fn eval_strict<N: Num>(
+    e: &Expr,
+    sizes: &[u32],
+    state: &State<N>,
+    mode: Mode,
+    faults: &mut Vec<Fault>,
+) -> Result<PairValue<N>, Memory>
+    requires fit { ExprIsFit (shown_expr e.now) }
+    requires strict { is_branching (shown_expr e.now) ≡ false }
     ensures value { IfOk result (λ r. r
         ≡ ((expression N.ops sizes.now (shown_expr e.now)).gives mode state.now).pair) }
     ensures faults { OnOk result (faults.new.items
@@ -82,55 +120,9 @@ pub fn eval<N: Num>(
             let y = eval(b, sizes, state, mode, faults)?;
             pointer_comparison(mode, *c, &x, &y, faults)
         }
-        Expr::And(a, b) => {
-            let x = first(
-                a,
-                sizes,
-                state,
-                mode,
-                Wants {
-                    yes: true,
-                    no: false,
-                },
-                faults,
-            )?;
-            let y = later(b, sizes, state, x.mode_true, x.when_true, faults)?;
-            Ok(short(true, mode, &x.value, y))
-        }
-        Expr::Or(a, b) => {
-            let x = first(
-                a,
-                sizes,
-                state,
-                mode,
-                Wants {
-                    yes: false,
-                    no: true,
-                },
-                faults,
-            )?;
-            let y = later(b, sizes, state, x.mode_false, x.when_false, faults)?;
-            Ok(short(false, mode, &x.value, y))
-        }
         Expr::Not(a) => {
             let x = eval(a, sizes, state, mode, faults)?;
             Ok(negation(mode, &x))
-        }
-        Expr::Cond(c, a, b) => {
-            let x = first(
-                c,
-                sizes,
-                state,
-                mode,
-                Wants {
-                    yes: true,
-                    no: true,
-                },
-                faults,
-            )?;
-            let y = later(a, sizes, state, x.mode_true, x.when_true, faults)?;
-            let z = later(b, sizes, state, x.mode_false, x.when_false, faults)?;
-            chosen(mode, &x.value, y, z)
         }
         Expr::PtrAdd(a, unit, n, back) => {
             let x = eval(a, sizes, state, mode, faults)?;
@@ -141,6 +133,7 @@ pub fn eval<N: Num>(
             let x = eval(a, sizes, state, mode, faults)?;
             same_pointer(mode, &x)
         }
+        _ => unreachable!(),
     }
 }
 
@@ -417,6 +410,7 @@ fn later_in<N: Num>(
 /// What an expression gives on one side alone, and what is left of the state where it is of each truth that is asked for.
 /// The faults are added to those that are there.
 #[cycle(evaluate)]
+#[tactic(auto, using(crate::proofs::Plain::single))]
 pub fn test<N: Num>(
     e: &Expr,
     sizes: &[u32],
@@ -436,44 +430,6 @@ pub fn test<N: Num>(
         ≡ (expression N.ops sizes.now (shown_expr e.now)).assumes (side_of side) false state.now) }
 {
     match e {
-        Expr::Const(_, _) => test_value(e, sizes, state, side, wants, faults),
-        Expr::Null => test_value(e, sizes, state, side, wants, faults),
-        Expr::Load(_, _) => test_value(e, sizes, state, side, wants, faults),
-        Expr::AddrOf(_) => test_value(e, sizes, state, side, wants, faults),
-        Expr::Bin(_, _, _, _) => test_value(e, sizes, state, side, wants, faults),
-        Expr::Convert(_, _) => test_value(e, sizes, state, side, wants, faults),
-        Expr::Compare(c, _, a, b) => {
-            let from = faults.len();
-            let x = operand(a, sizes, state, side, faults)?;
-            let y = operand(b, sizes, state, side, faults)?;
-            let sure = are_sure(faults, from);
-            let value = comparison(side.mode(), *c, &x.value, &y.value);
-            let yes = numbers(side, sure, when_not(*c, true), &x, &y);
-            let when_true = assumed(b, sizes, state, side, wants.yes, yes, &x, &y)?;
-            let no = numbers(side, sure, when_not(*c, false), &x, &y);
-            let when_false = assumed(b, sizes, state, side, wants.no, no, &x, &y)?;
-            Ok(Assumed {
-                value,
-                when_true,
-                when_false,
-            })
-        }
-        Expr::PtrCompare(c, a, b) => {
-            let from = faults.len();
-            let x = operand(a, sizes, state, side, faults)?;
-            let y = operand(b, sizes, state, side, faults)?;
-            let sure = are_sure(faults, from);
-            let yes = pointers(side, sure, *c, true, &x, &y);
-            let when_true = assumed(b, sizes, state, side, wants.yes, yes, &x, &y)?;
-            let no = pointers(side, sure, *c, false, &x, &y);
-            let when_false = assumed(b, sizes, state, side, wants.no, no, &x, &y)?;
-            let value = pointer_comparison(side.mode(), *c, &x.value, &y.value, faults)?;
-            Ok(Assumed {
-                value,
-                when_true,
-                when_false,
-            })
-        }
         Expr::And(a, b) => {
             let asks = Wants {
                 yes: true,
@@ -516,9 +472,65 @@ pub fn test<N: Num>(
                 when_false: x.when_true,
             })
         }
-        Expr::Cond(_, _, _) => test_value(e, sizes, state, side, wants, faults),
-        Expr::PtrAdd(_, _, _, _) => test_value(e, sizes, state, side, wants, faults),
-        Expr::Cast(_) => test_value(e, sizes, state, side, wants, faults),
+        _ => test_single(e, sizes, state, side, wants, faults),
+    }
+}
+
+// A test that isn't made of others.
+#[cycle(evaluate)]
+fn test_single<N: Num>(
+    e: &Expr,
+    sizes: &[u32],
+    state: &State<N>,
+    side: Running,
+    wants: Wants,
+    faults: &mut Vec<Fault>,
+) -> Result<Assumed<N>, Memory>
+    requires fit { ExprIsFit (shown_expr e.now) }
+    requires single { is_joined (shown_expr e.now) ≡ false }
+    ensures value { IfOk result (λ r. r.value
+        ≡ ((expression N.ops sizes.now (shown_expr e.now)).gives (alone (side_of side)) state.now).pair) }
+    ensures faults { OnOk result (faults.new.items ≡ faults.old.items
+        ++ ((expression N.ops sizes.now (shown_expr e.now)).gives (alone (side_of side)) state.now).faults) }
+    ensures yes { IfOk result (λ r. wants.yes ≡ true → left_of state.now r.when_true
+        ≡ (expression N.ops sizes.now (shown_expr e.now)).assumes (side_of side) true state.now) }
+    ensures no { IfOk result (λ r. wants.no ≡ true → left_of state.now r.when_false
+        ≡ (expression N.ops sizes.now (shown_expr e.now)).assumes (side_of side) false state.now) }
+{
+    match e {
+        Expr::Compare(c, _, a, b) => {
+            let from = faults.len();
+            let x = operand(a, sizes, state, side, faults)?;
+            let y = operand(b, sizes, state, side, faults)?;
+            let sure = are_sure(faults, from);
+            let value = comparison(side.mode(), *c, &x.value, &y.value);
+            let yes = numbers(side, sure, when_not(*c, true), &x, &y);
+            let when_true = operands_assumed(state, wants.yes, yes, &x, &y)?;
+            let no = numbers(side, sure, when_not(*c, false), &x, &y);
+            let when_false = operands_assumed(state, wants.no, no, &x, &y)?;
+            Ok(Assumed {
+                value,
+                when_true,
+                when_false,
+            })
+        }
+        Expr::PtrCompare(c, a, b) => {
+            let from = faults.len();
+            let x = operand(a, sizes, state, side, faults)?;
+            let y = operand(b, sizes, state, side, faults)?;
+            let sure = are_sure(faults, from);
+            let yes = pointers(side, sure, *c, true, &x, &y);
+            let when_true = operands_assumed(state, wants.yes, yes, &x, &y)?;
+            let no = pointers(side, sure, *c, false, &x, &y);
+            let when_false = operands_assumed(state, wants.no, no, &x, &y)?;
+            let value = pointer_comparison(side.mode(), *c, &x.value, &y.value, faults)?;
+            Ok(Assumed {
+                value,
+                when_true,
+                when_false,
+            })
+        }
+        _ => test_value(e, sizes, state, side, wants, faults),
     }
 }
 
@@ -556,9 +568,9 @@ fn test_value<N: Num>(
     })
 }
 
-// The second operand of `&&` or `||`, in what the first one leaves. Where it isn't evaluated, it has no faults.
+/// The second operand of `&&` or `||`, in what the first one leaves. Where it isn't evaluated, it has no faults.
 #[cycle(evaluate)]
-fn second<N: Num>(
+pub(crate) fn second<N: Num>(
     e: &Expr,
     sizes: &[u32],
     state: &State<N>,
@@ -649,8 +661,6 @@ fn operand<N: Num>(
     ensures sort { IfOk result (λ r. IfSome r.cell (λ c. IsOfSort c.what c.value)) }
 {
     match e {
-        Expr::Const(_, _) => without_cell(e, sizes, state, side, faults),
-        Expr::Null => without_cell(e, sizes, state, side, faults),
         Expr::Load(what, a) => {
             let from = faults.len();
             let x = address(a, sizes, state, side.mode(), faults)?;
@@ -658,8 +668,6 @@ fn operand<N: Num>(
             let value = load(side.mode(), sizes, state, *what, &x, faults)?;
             Ok(Operand { value, cell })
         }
-        Expr::AddrOf(_) => without_cell(e, sizes, state, side, faults),
-        Expr::Bin(_, _, _, _) => without_cell(e, sizes, state, side, faults),
         Expr::Convert(t, a) => {
             let x = operand(a, sizes, state, side, faults)?;
             let value = converted(a, sizes, state, side.mode(), *t, &x.value);
@@ -668,14 +676,7 @@ fn operand<N: Num>(
                 cell: kept_cell(*t, x.cell),
             })
         }
-        Expr::Compare(_, _, _, _) => without_cell(e, sizes, state, side, faults),
-        Expr::PtrCompare(_, _, _) => without_cell(e, sizes, state, side, faults),
-        Expr::And(_, _) => without_cell(e, sizes, state, side, faults),
-        Expr::Or(_, _) => without_cell(e, sizes, state, side, faults),
-        Expr::Not(_) => without_cell(e, sizes, state, side, faults),
-        Expr::Cond(_, _, _) => without_cell(e, sizes, state, side, faults),
-        Expr::PtrAdd(_, _, _, _) => without_cell(e, sizes, state, side, faults),
-        Expr::Cast(_) => without_cell(e, sizes, state, side, faults),
+        _ => without_cell(e, sizes, state, side, faults),
     }
 }
 
@@ -696,101 +697,4 @@ fn without_cell<N: Num>(
 {
     let value = eval(e, sizes, state, side.mode(), faults)?;
     Ok(Operand { value, cell: None })
-}
-
-// The cell of an expression, in a state.
-#[cycle(evaluate)]
-fn cell_in<N: Num>(
-    e: &Expr,
-    sizes: &[u32],
-    state: &State<N>,
-    side: Running,
-) -> Result<Option<Cell<N>>, Memory>
-    requires fit { ExprIsFit (shown_expr e.now) }
-    ensures cell { IfOk result (λ r. r
-        ≡ (expression N.ops sizes.now (shown_expr e.now)).cell (side_of side) state.now) }
-    ensures sort { IfOk result (λ r. IfSome r (λ c. IsOfSort c.what c.value)) }
-{
-    match e {
-        Expr::Const(_, _) => Ok(None),
-        Expr::Null => Ok(None),
-        Expr::Load(what, a) => {
-            let mut unseen = Vec::new(state.allocator());
-            let x = address(a, sizes, state, side.mode(), &mut unseen)?;
-            load_cell(sizes, state, side, *what, are_sure(&unseen, 0), &x)
-        }
-        Expr::AddrOf(_) => Ok(None),
-        Expr::Bin(_, _, _, _) => Ok(None),
-        Expr::Convert(t, a) => {
-            let c = cell_in(a, sizes, state, side)?;
-            Ok(kept_cell(*t, c))
-        }
-        Expr::Compare(_, _, _, _) => Ok(None),
-        Expr::PtrCompare(_, _, _) => Ok(None),
-        Expr::And(_, _) => Ok(None),
-        Expr::Or(_, _) => Ok(None),
-        Expr::Not(_) => Ok(None),
-        Expr::Cond(_, _, _) => Ok(None),
-        Expr::PtrAdd(_, _, _, _) => Ok(None),
-        Expr::Cast(_) => Ok(None),
-    }
-}
-
-// What two operands leave, of which the second is an expression's.
-#[cycle(evaluate)]
-fn assumed<N: Num>(
-    b: &Expr,
-    sizes: &[u32],
-    state: &State<N>,
-    side: Running,
-    wanted: bool,
-    limits: Option<Limits<N>>,
-    x: &Operand<N>,
-    y: &Operand<N>,
-) -> Result<After<N>, Memory>
-    requires fit { ExprIsFit (shown_expr b.now) }
-    requires first { IfSome x.now.cell (λ c. IsOfSort c.what c.value) }
-    requires second { IfSome y.now.cell (λ c. IsOfSort c.what c.value) }
-    requires cell { y.now.cell ≡ (expression N.ops sizes.now (shown_expr b.now)).cell (side_of side) state.now }
-    ensures { IfOk result (λ r. wanted ≡ true → left_of state.now r ≡ both_limited N.ops limits x.now.cell
-        ((expression N.ops sizes.now (shown_expr b.now)).cell (side_of side)) state.now) }
-{
-    if !wanted {
-        return Ok(After::Nothing);
-    }
-    match limits {
-        None => Ok(After::Nothing),
-        Some(limits) => {
-            let first = limited(state, &limits.first, &x.cell)?;
-            second_limited(b, sizes, state, side, first, &limits.second, &y.cell)
-        }
-    }
-}
-
-// The cell of the second operand is looked for again where the first one changed the state.
-#[cycle(evaluate)]
-fn second_limited<N: Num>(
-    b: &Expr,
-    sizes: &[u32],
-    state: &State<N>,
-    side: Running,
-    first: After<N>,
-    limit: &Limit<N>,
-    c: &Option<Cell<N>>,
-) -> Result<After<N>, Memory>
-    requires fit { ExprIsFit (shown_expr b.now) }
-    requires sort { IfSome c.now (λ c. IsOfSort c.what c.value) }
-    requires cell { c.now ≡ (expression N.ops sizes.now (shown_expr b.now)).cell (side_of side) state.now }
-    ensures { IfOk result (λ r. left_of state.now r ≡ then_with (left_of state.now first)
-        (λ l. limited_by N.ops limit.now ((expression N.ops sizes.now (shown_expr b.now)).cell (side_of side) l) l)) }
-{
-    match first {
-        After::Nothing => Ok(After::Nothing),
-        After::Unchanged => limited(state, limit, c),
-        After::Changed(s) => {
-            let c = cell_in(b, sizes, &s, side)?;
-            let x = limited(&s, limit, &c)?;
-            Ok(behind(s, x))
-        }
-    }
 }

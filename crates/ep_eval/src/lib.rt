@@ -3,17 +3,9 @@
 #![tactic(auto)]
 
 mod evaluate;
-mod left;
-mod limits;
-mod modes;
-mod operands;
-mod own_types;
-mod sure;
 mod taken;
-mod typed;
-mod verdicts;
 
+pub use ep_eval_parts::left::{Assumed, Wants};
+pub use ep_eval_parts::verdicts::{Verdict, verdict_of};
 pub use evaluate::{address, eval, test};
-pub use left::{Assumed, Wants};
-pub use taken::{test_taken, test_taken_by};
-pub use verdicts::{Verdict, verdict_of};
+pub use taken::{Combinations, Taken, test_taken, test_taken_by, test_taken_where};

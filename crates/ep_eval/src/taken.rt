@@ -1,10 +1,11 @@
 //! What is left of a state where a test has truths on the running sides. Where its value is of the other truth alone,
 //! nothing is.
 
-ghost use Rattle.std.specs.Prelude.{◌≡◌, ◌++◌, ◌||◌, IfOk, OnOk, not, true, false};
+ghost use Rattle.std.specs.Prelude.{◌≡◌, ◌++◌, ◌||◌, IfOk, OnOk, None, not, true, false};
 ghost use Rattle.ep_cells.specs.States.{Known};
 ghost use Rattle.ep_core.specs.Runs.{left, right};
 ghost use Rattle.ep_core.specs.View.{shown_expr};
+ghost use Rattle.ep_equalities.specs.declared.pair.Mode.TheVariants.{Both};
 ghost use Rattle.ep_evaluation.specs.Evaluation as spec;
 ghost use Rattle.ep_evaluation.specs.Evaluation.{expression};
 ghost use Rattle.ep_evaluation.specs.Given.{alone, on};
@@ -13,13 +14,13 @@ ghost use Rattle.ep_eval_fits.specs.Fitting.{ExprIsFit};
 ghost use Rattle.ep_eval_loads.specs.After.{left_of};
 ghost use Rattle.ep_eval_loads.specs.Running.{side_of};
 
-use crate::evaluate::{assumed_on_both, eval, test};
-use crate::left::{Assumed, Wants};
-use crate::verdicts::is_only;
+use crate::evaluate::{assumed_on_both, eval, second, test};
 use ep_core::tree::Expr;
 use ep_domain::Num;
 use ep_equalities::{Fault, Mode, PairValue, SideValue};
 use ep_eval_loads::{After, Running};
+use ep_eval_parts::left::{Assumed, Second, Wants};
+use ep_eval_parts::verdicts::is_only;
 use ep_int::Memory;
 use ep_states::State;
 
@@ -64,6 +65,119 @@ fn unless<N: Num>(other: bool, x: After<N>) -> After<N>
     }
     x
 }
+
+// ---- all combinations of truths
+
+/// The combinations of truths on both sides for which what is left is asked for.
+#[derive(Clone, Copy)]
+pub struct Combinations {
+    /// One truth on both sides.
+    pub alike: bool,
+    /// One on each side.
+    pub apart: bool,
+}
+
+/// What is left of a state for each combination of truths of a test, the left side's first.
+#[derive(Drop)]
+pub struct Taken<N> {
+    pub true_true: After<N>,
+    pub true_false: After<N>,
+    pub false_true: After<N>,
+    pub false_false: After<N>,
+}
+
+fn never<N>() -> Second<N>
+    ensures yes { (k : Known N) → left_of k result.when_true ≡ None }
+    ensures no { (k : Known N) → left_of k result.when_false ≡ None }
+{
+    Second {
+        value: None,
+        when_true: After::Nothing,
+        when_false: After::Nothing,
+    }
+}
+
+// What is left for both truths on the right side, by what one on the left leaves.
+fn taken_with<N: Num>(
+    e: &Expr,
+    sizes: &[u32],
+    state: &State<N>,
+    x: &PairValue<N>,
+    on_left: bool,
+    after: After<N>,
+    wants: Wants,
+) -> Result<Second<N>, Memory>
+    requires fit { ExprIsFit (shown_expr e.now) }
+    requires value { x.now ≡ ((expression N.ops sizes.now (shown_expr e.now)).gives Both state.now).pair }
+    requires left { left_of state.now after
+        ≡ (expression N.ops sizes.now (shown_expr e.now)).assumes left on_left state.now }
+    ensures yes { IfOk result (λ r. wants.yes ≡ true → left_of state.now r.when_true ≡ spec.test_taken N.ops
+        (expression N.ops sizes.now (shown_expr e.now)) on_left true state.now) }
+    ensures no { IfOk result (λ r. wants.no ≡ true → left_of state.now r.when_false ≡ spec.test_taken N.ops
+        (expression N.ops sizes.now (shown_expr e.now)) on_left false state.now) }
+{
+    if is_other(&x.left, on_left) {
+        return Ok(never());
+    }
+    let mut unseen = Vec::new(state.allocator());
+    let y = second(
+        e,
+        sizes,
+        state,
+        Running::Right,
+        after,
+        false,
+        wants,
+        &mut unseen,
+    )?;
+    Ok(Second {
+        value: y.value,
+        when_true: unless(is_other(&x.right, true), y.when_true),
+        when_false: unless(is_other(&x.right, false), y.when_false),
+    })
+}
+
+/// What is left for each combination of truths that is asked for, by what the test gives on both sides. One pass for the
+/// left side, and one for the right side in what each of its truths leaves, serve all.
+pub fn test_taken_where<N: Num>(
+    e: &Expr,
+    sizes: &[u32],
+    state: &State<N>,
+    x: &PairValue<N>,
+    asked: Combinations,
+) -> Result<Taken<N>, Memory>
+    requires fit { ExprIsFit (shown_expr e.now) }
+    requires value { x.now ≡ ((expression N.ops sizes.now (shown_expr e.now)).gives Both state.now).pair }
+    ensures true_true { IfOk result (λ r. asked.alike ≡ true → left_of state.now r.true_true ≡ spec.test_taken N.ops
+        (expression N.ops sizes.now (shown_expr e.now)) true true state.now) }
+    ensures true_false { IfOk result (λ r. asked.apart ≡ true → left_of state.now r.true_false ≡ spec.test_taken N.ops
+        (expression N.ops sizes.now (shown_expr e.now)) true false state.now) }
+    ensures false_true { IfOk result (λ r. asked.apart ≡ true → left_of state.now r.false_true ≡ spec.test_taken N.ops
+        (expression N.ops sizes.now (shown_expr e.now)) false true state.now) }
+    ensures false_false { IfOk result (λ r. asked.alike ≡ true → left_of state.now r.false_false ≡ spec.test_taken N.ops
+        (expression N.ops sizes.now (shown_expr e.now)) false false state.now) }
+{
+    let mut unseen = Vec::new(state.allocator());
+    let first = test(e, sizes, state, Running::Left, Wants::both(), &mut unseen)?;
+    let after_true = Wants {
+        yes: asked.alike,
+        no: asked.apart,
+    };
+    let yes = taken_with(e, sizes, state, x, true, first.when_true, after_true)?;
+    let after_false = Wants {
+        yes: asked.apart,
+        no: asked.alike,
+    };
+    let no = taken_with(e, sizes, state, x, false, first.when_false, after_false)?;
+    Ok(Taken {
+        true_true: yes.when_true,
+        true_false: yes.when_false,
+        false_true: no.when_true,
+        false_false: no.when_false,
+    })
+}
+
+// ---- one side alone
 
 /// What a test gives on one side alone, and what is left where it has each truth that is asked for. The faults are
 /// added to those that are there.

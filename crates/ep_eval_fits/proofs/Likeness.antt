@@ -22,7 +22,7 @@ use Rattle.ep_equalities.specs.declared.pair.Mode.{Mode}
 use Rattle.ep_equalities.specs.declared.pair.SideValue.{SideValue}
 use Rattle.ep_cell_ranges.specs.Narrow.{with_value}
 use Rattle.ep_evaluation.specs.Given.{Given, alone, on, are_sure}
-use Rattle.ep_evaluation.specs.Narrowed.{then_with, both, either_of, when_not, met, refined, null_taken, null_met, null_refined, narrowed_by, numbers_narrowed, says_alike, null_side, answer, pointers_narrowed}
+use Rattle.ep_evaluation.specs.Narrowed.{then_with, both, either_of, again, when_not, met, refined, null_taken, null_met, null_refined, narrowed_by, numbers_narrowed, says_alike, null_side, answer, pointers_narrowed}
 use Rattle.ep_evaluation.specs.Evaluation.{Means, ToCell, number, pointer, value_narrowed, if_sure, test_narrowed, test_assumed, short_assumed, expression}
 use Rattle.ep_eval_fits.specs.Likeness.{IsLike, IfLike}
 
@@ -149,12 +149,12 @@ module _ {N : Type 0} where
         let x = (expression D sizes a).gives (alone s) k in
         let y = (expression D sizes b).gives (alone s) k in
         sure_like (are_sure (x.faults ++ y.faults)) k _ (numbers_like (when_not c t) (number D (on x.pair s))
-        (number D (on y.pair s)) ((expression D sizes a).cell s) ((expression D sizes b).cell s) k)
+        (number D (on y.pair s)) ((expression D sizes a).cell s) (again ((expression D sizes b).cell s k)) k)
     assumes_like sizes (ptr_compare c a b) s t k =
         let x = (expression D sizes a).gives (alone s) k in
         let y = (expression D sizes b).gives (alone s) k in
         sure_like (are_sure (x.faults ++ y.faults)) k _ (pointers_like c t (pointer D (on x.pair s))
-        (pointer D (on y.pair s)) ((expression D sizes a).cell s) ((expression D sizes b).cell s) k)
+        (pointer D (on y.pair s)) ((expression D sizes a).cell s) (again ((expression D sizes b).cell s k)) k)
     assumes_like sizes (logical_and a b) s t k =
         short_like true (expression D sizes a) (expression D sizes b) s t k (assumes_like sizes a s) (assumes_like sizes b s)
     assumes_like sizes (logical_or a b) s t k =

@@ -1,3 +1,5 @@
 pub mod LoadSteps
 pub mod Sorts
 pub mod Taken
+mod Covered
+mod AtHand

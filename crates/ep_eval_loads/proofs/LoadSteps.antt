@@ -1,11 +1,9 @@
 -- What a load gives, of what both sides read.
-use Rattle.std.proofs.Common.{◌≡◌, ◌≢◌, ℕ, Bool, ◌&&◌, List, [], ◌∷◌, ◌++◌, length, Option, None, refl, sym, ap, ◌∙◌, append_assoc}
+use Rattle.std.proofs.Common.{◌≡◌, ◌≢◌, ℕ, Bool, ◌&&◌, List, [], ◌∷◌, ◌++◌, length, None, refl, ap, ◌∙◌, append_assoc}
 use Rattle.ep_int.specs.declared.types.Scalar.{Scalar}
 use Rattle.ep_alarms.specs.declared.types.AlarmKind.{AlarmKind}
 use Rattle.ep_bitslice.specs.declared.cell.Side.{Side as CellSide}
-use Rattle.ep_bitslice.specs.declared.segment.Segment.{Segment}
 use Rattle.ep_domain.specs.Domain.{Ops}
-use Rattle.ep_cells.specs.declared.cell.Value.{Value}
 use Rattle.ep_cells.specs.States.{Known}
 use Rattle.ep_core.specs.Runs.{Side, left, right}
 use Rattle.ep_equalities.specs.declared.pair.Fault.{Fault}

@@ -1,5 +1,5 @@
 -- A pointer without null, as code has it.
-use Rattle.std.proofs.Common.{◌≡◌, Bool, false, List, [], ◌∷◌, Option, Some, None, refl, sym, ap, ◌∙◌, subst}
+use Rattle.std.proofs.Common.{◌≡◌, Bool, false, List, [], ◌∷◌, Option, Some, None, refl, sym, ap, ◌∙◌}
 use Rattle.ep_pointers.specs.Value.{Pointers, Target, pointers}
 use Rattle.ep_pointers.specs.Sum.{of_targets}
 use Rattle.ep_cells.specs.declared.cell.Cell.{Cell}

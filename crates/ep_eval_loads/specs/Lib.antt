@@ -1,3 +1,4 @@
 pub mod Running
 pub mod Loads
 pub mod After
+pub mod Near

@@ -4,6 +4,7 @@
 mod after;
 pub mod loads;
 pub mod narrowing;
+mod near;
 mod running;
 
 pub use after::{After, either};

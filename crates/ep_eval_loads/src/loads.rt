@@ -3,6 +3,7 @@
 ghost use Rattle.std.specs.Prelude.{◌≡◌, ◌++◌, ◌≢◌, ◌∷◌, [], ◌<◌, ◌&&◌, ◌||◌, IfOk, IfSome, OnOk, None, Some, false, true, length};
 ghost use Rattle.std.specs.Option.{option_map};
 ghost use Rattle.ep_cells.specs.Both.{value_of_both};
+ghost use Rattle.ep_cells.specs.Cells.{IsIn};
 ghost use Rattle.ep_cells.specs.Look.{cell_at};
 ghost use Rattle.ep_cells.specs.States.{IsOfSort};
 ghost use Rattle.ep_cell_ranges.specs.Shared.{is_shared_cell};
@@ -17,11 +18,12 @@ ghost use Rattle.ep_eval_sides.specs.Sides.{faultless, pick};
 ghost use Rattle.ep_eval_loads.specs.Loads.{address_faults, all_shared_by};
 ghost use Rattle.ep_eval_loads.specs.Running.{side_of};
 
+use crate::near::{near_at, nowhere};
 use crate::running::Running;
 use ep_alarms::AlarmKind;
 use ep_bitslice::Side;
 use ep_cell_rows::cell::copy_cell;
-use ep_cell_rows::places::{is_same_scalar, is_same_side};
+use ep_cell_rows::places::{covers, is_same_scalar, is_same_side};
 use ep_cell_rows::values::Union;
 use ep_cells::Cell;
 use ep_domain::Num;
@@ -92,6 +94,30 @@ fn seen<N: Num>(
     }
 }
 
+// The same, where the cell that has it may be at hand.
+fn seen_near<N: Num>(
+    near: Option<&&Cell<N>>,
+    state: &State<N>,
+    side: Side,
+    spot: (u32, u32),
+    what: Scalar,
+) -> Result<OneRead<N>, Memory>
+    requires { IfSome near (λ x. IsIn x.now.now state.now.cells) }
+    ensures value { IfOk result (λ r. r.value ≡ read N.ops state.now side spot.0 spot.1 what) }
+    ensures shared { IfOk result (λ r. r.shared ≡ is_shared_cell state.now what spot.1
+        (cell_at state.now.model side spot.0 spot.1 state.now.cells)) }
+{
+    match near {
+        None => seen(state, side, spot, what),
+        Some(x) => {
+            if covers(state.model(), side, spot.0, spot.1, x) {
+                return seen_of_cell(state, side, spot, what, x);
+            }
+            seen(state, side, spot, what)
+        }
+    }
+}
+
 fn lacks_value<N: Num>(r: &ReadValue<N>) -> bool
     ensures { result ≡ accesses.lacks_value r.now }
 {
@@ -158,11 +184,13 @@ fn no_read<N: Num>() -> SideReads<N>
 // One place more: the value is joined, and forms are left out.
 fn with_read<N: Num>(
     sofar: &SideReads<N>,
+    near: Option<&&Cell<N>>,
     state: &State<N>,
     side: Side,
     spot: (u32, u32),
     what: Scalar,
 ) -> Result<SideReads<N>, Memory>
+    requires { IfSome near (λ x. IsIn x.now.now state.now.cells) }
     ensures value { IfOk result (λ r. r.side.value ≡ value_of_both N.ops.join sofar.now.side.value
         (read N.ops state.now side spot.0 spot.1 what).value) }
     ensures form { IfOk result (λ r. r.side.form ≡ None) }
@@ -173,7 +201,7 @@ fn with_read<N: Num>(
     ensures shared { IfOk result (λ r. r.shared ≡ (sofar.now.shared && is_shared_cell state.now what spot.1
         (cell_at state.now.model side spot.0 spot.1 state.now.cells))) }
 {
-    let r = seen(state, side, spot, what)?;
+    let r = seen_near(near, state, side, spot, what)?;
     let value = Union::Join.values(&sofar.side.value, &r.value.value)?;
     Ok(SideReads {
         side: SideValue { value, form: None },
@@ -183,6 +211,7 @@ fn with_read<N: Num>(
     })
 }
 
+// Cells that lie next to each other are looked at in turn.
 fn many_reads<N: Num>(
     state: &State<N>,
     side: Side,
@@ -201,14 +230,18 @@ fn many_reads<N: Num>(
     ensures shared { IfOk result (λ r. r.shared ≡ accesses.are_shared state.now side what spots.now) }
 {
     let mut sofar = no_read();
-    for spot in spots {
-        let next = with_read(&sofar, state, side, *spot, what)?;
+    let mut near = nowhere(state, side);
+    for i in 0..spots.len() {
+        let spot = spots[i];
+        near = near_at(near, state, side, spots, i, spot)?;
+        let next = with_read(&sofar, near.cells.get(near.at), state, side, spot, what)?;
         sofar = next;
     }
     Ok(sofar)
 }
 
-fn all_reads<N: Num>(
+/// What a side reads at places, in their order.
+pub fn all_reads<N: Num>(
     state: &State<N>,
     side: Side,
     spots: &[(u32, u32)],
@@ -375,7 +408,8 @@ fn note_reads<N: Num>(
     )
 }
 
-/// The value of a place of a scalar, by its address. Costs a search for each place that it may be.
+/// The value of a place of a scalar, by its address. Costs a search for a place, or one for each block and a look at each
+/// cell between its places; and a search more for each place that no cell has whole.
 pub fn load<N: Num>(
     mode: Mode,
     sizes: &[u32],
@@ -444,5 +478,29 @@ pub fn cell_of<N: Num>(
             Ok(x)
         }
         [_, _, ..] => Ok(None),
+    }
+}
+
+fn same_cell<N: Num>(state: &State<N>, c: &Cell<N>) -> Result<Option<Cell<N>>, Memory>
+    ensures value { IfOk result (λ r. r ≡ narrowed.again (Some c.now) state.now) }
+    ensures sort { IfOk result (λ r. IfSome r (λ c. IsOfSort c.what c.value)) }
+{
+    state.model();
+    let x = sure_cell(
+        c.what,
+        (c.block, c.offset),
+        state.cell_at(c.side, c.block, c.offset),
+    )?;
+    Ok(x)
+}
+
+/// The cell of the same type and place in another state, if it is there and surely has a value.
+pub fn again<N: Num>(state: &State<N>, c: &Option<Cell<N>>) -> Result<Option<Cell<N>>, Memory>
+    ensures value { IfOk result (λ r. r ≡ narrowed.again c.now state.now) }
+    ensures sort { IfOk result (λ r. IfSome r (λ c. IsOfSort c.what c.value)) }
+{
+    match c {
+        None => Ok(None),
+        Some(c) => same_cell(state, c),
     }
 }

@@ -36,7 +36,7 @@ use Rattle.ep_pass.specs.States.{Fault as Told, Tested, Verdict, stuck, same as 
 use Rattle.ep_evaluation.specs.Operators.{number_in, pointer_in, kind_of, outcome_of, Form, constant_form, form_by, converted_form, may_be, is_only, truth_value, compared, truths_of, test_of}
 use Rattle.ep_evaluation.specs.Accesses.{spots, bounds_of, may_be_odd, reads_of, joined_reads, form_of_reads, is_unset, is_mixed, are_shared, moved_by, move_leaves, moves_null, element_of, index_leaves, element_passes}
 use Rattle.ep_cell_ranges.specs.Spots.{Spot}
-use Rattle.ep_evaluation.specs.Narrowed.{then_with, either_of, cell_of, if_kept, when_not, numbers_narrowed, pointers_narrowed}
+use Rattle.ep_evaluation.specs.Narrowed.{then_with, either_of, cell_of, again, if_kept, when_not, numbers_narrowed, pointers_narrowed}
 
 -- a cell of a side, or none, by what is known
 abbrev pub ToCell : Type 0 → Type 0
@@ -266,10 +266,13 @@ module _ {N : Type 0} (D : Ops N) where
       if_sure (are_sure (x.faults ++ y.faults)) k
       (numbers_narrowed D (when_not c t) (number (on x.pair s)) (number (on y.pair s)) f g k)
 
+  -- The second operand's cell is that of the state at hand, whatever the first one leaves: its value alone is looked up
+  -- again there. So each operand is evaluated once.
   abbrev pub compare_means : Cmp → Means N → Means N → Means N
   compare_means c a b = record {
     gives = λ m k. compare_given c m (a.gives m k) (b.gives m k);
-    assumes = λ s t k. compare_narrowed c t (a.cell s) (b.cell s) (a.gives (alone s) k) (b.gives (alone s) k) s k;
+    assumes = λ s t k.
+        compare_narrowed c t (a.cell s) (again (b.cell s k)) (a.gives (alone s) k) (b.gives (alone s) k) s k;
     cell = no_cell;
   }
 
@@ -283,7 +286,8 @@ module _ {N : Type 0} (D : Ops N) where
   abbrev pub pointers_means : Cmp → Means N → Means N → Means N
   pointers_means c a b = record {
     gives = λ m k. pointers_given c m (a.gives m k) (b.gives m k);
-    assumes = λ s t k. pointers_compared c t (a.cell s) (b.cell s) (a.gives (alone s) k) (b.gives (alone s) k) s k;
+    assumes = λ s t k.
+        pointers_compared c t (a.cell s) (again (b.cell s k)) (a.gives (alone s) k) (b.gives (alone s) k) s k;
     cell = no_cell;
   }
 

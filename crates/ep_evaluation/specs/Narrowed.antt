@@ -54,6 +54,11 @@ cell_of k s w [] = None
 cell_of k s w (q ∷ []) = sure_cell w q (cell_at k.model (cells_of s) q.0 q.1 k.cells)
 cell_of k s w (q ∷ r ∷ qs) = None
 
+-- the cell of the same type and place in another state, if it is there and surely has a value
+abbrev pub again : {N : Type 0} → Option (Cell N) → Known N → Option (Cell N)
+again None k = None
+again (Some c) k = sure_cell c.what (c.block, c.offset) (cell_at k.model c.side c.block c.offset k.cells)
+
 -- a type has every number of another
 abbrev pub has_range : IntType → Scalar → Bool
 has_range t (Int u) = int_le (least_of t) (least_of u) && int_le (greatest_of u) (greatest_of t)
@@ -95,7 +100,7 @@ abbrev pub when_not : Cmp → Bool → Cmp
 when_not c true = c
 when_not c false = opposite c
 
--- what the operands may be where they compare so; the second is looked for in the state that the first leaves
+-- What the operands may be where they compare so; the second gets what it may be in the state that the first leaves.
 abbrev pub narrowed_by : {N : Type 0} → Ops N → Option (N × N) → (first second : Known N → Option (Cell N)) → Known N
     → Option (Known N)
 narrowed_by D None a b k = None

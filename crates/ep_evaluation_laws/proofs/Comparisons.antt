@@ -25,13 +25,14 @@ use Rattle.ep_equalities.specs.declared.pair.SideValue.{SideValue}
 use Rattle.ep_equalities.specs.Pairs.{SideIn}
 use Rattle.ep_evaluation.specs.Given.{Given, on, alone, are_sure, shown_if, faults_on}
 use Rattle.ep_evaluation.specs.Operators.{pointer_in}
-use Rattle.ep_evaluation.specs.Narrowed.{pointers_narrowed}
+use Rattle.ep_evaluation.specs.Narrowed.{again, pointers_narrowed}
 use Rattle.ep_evaluation.specs.Evaluation.{Means, pointer as pointer_of, truths, pointers_side, pointers_given, pointers_means}
 use Rattle.ep_evaluation_laws.specs.Laws.{memory_of, Machine, IsKept, IfKept, Sound}
 use Rattle.ep_evaluation_laws.proofs.General.{none_left, sure_parts, reliable_parts, unmarked, not_shown, both_found}
 use Rattle.ep_evaluation_laws.proofs.Generic.{Typed, Parts, Operator, IsOperator, HasFaults, two_hold, two_fit}
 use Rattle.ep_evaluation_laws.proofs.Operators.{truth_allowed, truth_sort, truth_rising}
 use Rattle.ep_evaluation_laws.proofs.Pointers.{at, IsPointer, Linked, as_truth, as_mix, linked, pointers_kept, pointers_state}
+use Rattle.ep_evaluation_laws.proofs.Again.{again_has, again_there}
 use Rattle.ep_evaluation_laws.proofs.Sounds.{reliable_alone, runs_alone, sure_kept, sure_state}
 
 has_one : (u v : Datum) → has u ≡ has v → u ≡ v
@@ -171,7 +172,7 @@ module _ {N : Type 0} (D : Ops N) (law : Lawful D) (p : Program) (ord : Side →
         → both s (memory_of s m) ≡ has z
         → is_true z ≡ r → are_sure ((a.gives (alone s) k).faults ++ (b.gives (alone s) k).faults) ≡ true
         → IfKept D p ord (pointers_narrowed D c r (pointer_of D (on (a.gives (alone s) k).pair s))
-        (pointer_of D (on (b.gives (alone s) k).pair s)) (a.cell s) (b.cell s) k) m
+        (pointer_of D (on (b.gives (alone s) k).pair s)) (a.cell s) (again (b.cell s k)) k) m
     assumed_kept k m kept s r z e q sure =
         let l = sure_parts (a.gives (alone s) k).faults (b.gives (alone s) k).faults sure in
         let w = values_parts go (f s (memory_of s m)) (h s (memory_of s m)) z e in
@@ -186,7 +187,8 @@ module _ {N : Type 0} (D : Ops N) (law : Lawful D) (p : Program) (ord : Side →
         w.u w.v i.kind j.kind (some_pointer (on (a.gives (alone s) k).pair s).value w.u i)
         (some_pointer (on (b.gives (alone s) k).pair s).value w.v j)
         (compared_as w.u w.v z r w.is q (linked c w.u w.v i.kind j.kind))
-        (a.cell s) (b.cell s) (λ l kl. sa.cell l m kl s w.u w.first) (λ l kl. sb.cell l m kl s w.v w.second)
+        (a.cell s) (again (b.cell s k)) (λ l kl. sa.cell l m kl s w.u w.first)
+        (again_has D law p ord k m kept (b.cell s k) w.v (sb.cell k m kept s w.v w.second))
 
     pub pointers_sound : Sound D p ord (Int I32) both (pointers_means D c a b)
     pointers_sound = record {
@@ -198,7 +200,7 @@ module _ {N : Type 0} (D : Ops N) (law : Lawful D) (p : Program) (ord : Side →
           (sa.gives k m kept mode) (sb.gives k m kept mode) (sa.fits k kept.state mode) (sb.fits k kept.state mode);
       assumes = λ k m kept s r v e q.
           sure_kept D law p ord k m (pointers_narrowed D c r (pointer_of D (on (a.gives (alone s) k).pair s))
-          (pointer_of D (on (b.gives (alone s) k).pair s)) (a.cell s) (b.cell s) k)
+          (pointer_of D (on (b.gives (alone s) k).pair s)) (a.cell s) (again (b.cell s k)) k)
           (are_sure ((a.gives (alone s) k).faults ++ (b.gives (alone s) k).faults)) kept
           (λ sure. assumed_kept k m kept s r v e q sure);
       cell = λ k m kept s v e. tt;
@@ -208,10 +210,10 @@ module _ {N : Type 0} (D : Ops N) (law : Lawful D) (p : Program) (ord : Side →
           (pointers_given D c mode (a.gives mode k) (b.gives mode k)).faults (sa.fits k st mode) (sb.fits k st mode);
       stays = λ k st s r.
           sure_state D law p ord k (pointers_narrowed D c r (pointer_of D (on (a.gives (alone s) k).pair s))
-          (pointer_of D (on (b.gives (alone s) k).pair s)) (a.cell s) (b.cell s) k)
+          (pointer_of D (on (b.gives (alone s) k).pair s)) (a.cell s) (again (b.cell s k)) k)
           (are_sure ((a.gives (alone s) k).faults ++ (b.gives (alone s) k).faults)) st
           (pointers_state D law p ord k st c r (pointer_of D (on (a.gives (alone s) k).pair s))
-          (pointer_of D (on (b.gives (alone s) k).pair s)) (a.cell s) (b.cell s) (λ j sj. sa.there j sj s)
-          (λ j sj. sb.there j sj s));
+          (pointer_of D (on (b.gives (alone s) k).pair s)) (a.cell s) (again (b.cell s k)) (λ j sj. sa.there j sj s)
+          (again_there D law p ord (b.cell s k)));
       there = λ k s i. tt;
     }

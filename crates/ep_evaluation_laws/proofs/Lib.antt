@@ -3,6 +3,7 @@ pub mod Generic
 pub mod Operators
 pub mod Narrowing
 pub mod Assuming
+pub mod Again
 pub mod Tests
 pub mod Later
 pub mod Short

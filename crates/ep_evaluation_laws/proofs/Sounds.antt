@@ -7,7 +7,7 @@ use Rattle.ep_int.specs.declared.types.IntType.TheVariants.{I32}
 use Rattle.ep_int.specs.declared.types.Scalar.{Scalar}
 use Rattle.ep_int.specs.declared.types.Scalar.TheVariants.{Int}
 use Rattle.ep_int.specs.Arith.{compares}
-use Rattle.ep_int.specs.Memory.{Value as Datum, int, Found, has, faults}
+use Rattle.ep_int.specs.Memory.{Value as Datum, int, Found, has}
 use Rattle.ep_bitslice.specs.Bits.{Numbers}
 use Rattle.ep_domain.specs.Domain.{Ops, Lawful}
 use Rattle.ep_domain.specs.Domain.{Holds as HoldsNumber}
@@ -28,13 +28,14 @@ use Rattle.ep_equalities.specs.declared.pair.SideValue.{SideValue}
 use Rattle.ep_equalities.specs.Pairs.{SideIn}
 use Rattle.ep_evaluation.specs.Given.{Given, runs, on, are_sure, alone}
 use Rattle.ep_evaluation.specs.Operators.{number_in, test_of, may_be}
-use Rattle.ep_evaluation.specs.Narrowed.{when_not, numbers_narrowed}
+use Rattle.ep_evaluation.specs.Narrowed.{again, when_not, numbers_narrowed}
 use Rattle.ep_evaluation.specs.Evaluation.{Means, ToCell, same, number, if_sure, value_narrowed, with_cell, not_side, compare_side, compare_means, short_side, later, later_side, later_same, and_means, or_means, not_means}
 use Rattle.ep_evaluation_laws.specs.Laws.{memory_of, Machine, IsReliable, IsState, IfState, IsKept, IfKept, IsOfCell, SideFits, Holds, Sound}
 use Rattle.ep_evaluation_laws.proofs.General.{none_left, sure_parts, reliable_parts, both_found, number_found, IsNum, is_int}
 use Rattle.ep_evaluation_laws.proofs.Generic.{Typed, Part, HasFaults, OperatorOf, one_holds, one_fits, two_hold, two_fit, pair_fits}
 use Rattle.ep_evaluation_laws.proofs.Operators.{on_numbers, of_numbers, numbers_are, comparison, opposite_compares, truth_allowed, truth_sort, truth_rising}
 use Rattle.ep_evaluation_laws.proofs.Assuming.{CellHas, CellThere, numbers_kept, numbers_state}
+use Rattle.ep_evaluation_laws.proofs.Again.{again_has, again_there}
 use Rattle.ep_evaluation_laws.proofs.Tests.{number_kept}
 use Rattle.ep_evaluation_laws.proofs.Later.{may_be_of}
 use Rattle.ep_evaluation_laws.proofs.Short.{ShortParts, of_second, of_first, IsShort, short_holds, short_stays, short_all_kept, short_first_kept, short_second_kept}
@@ -155,7 +156,7 @@ module _ {N : Type 0} (D : Ops N) (law : Lawful D) (p : Program) (ord : Side →
         → both s (memory_of s m) ≡ has v
         → is_true v ≡ r → are_sure ((a.gives (alone s) k).faults ++ (b.gives (alone s) k).faults) ≡ true
         → IfKept D p ord (numbers_narrowed D (when_not c r) (number D (on (a.gives (alone s) k).pair s))
-        (number D (on (b.gives (alone s) k).pair s)) (a.cell s) (b.cell s) k) m
+        (number D (on (b.gives (alone s) k).pair s)) (a.cell s) (again (b.cell s k)) k) m
     compare_kept k m kept s r v e q sure =
         let l = sure_parts (a.gives (alone s) k).faults (b.gives (alone s) k).faults sure in
         let u = number_found (f s (memory_of s m))
@@ -169,8 +170,8 @@ module _ {N : Type 0} (D : Ops N) (law : Lawful D) (p : Program) (ord : Side →
         (number D (on (b.gives (alone s) k).pair s)) u.0 w.0
         (known_int (on (a.gives (alone s) k).pair s).value u.0 hx.value)
         (known_int (on (b.gives (alone s) k).pair s).value w.0 hy.value)
-        (compares_as c r u.0 w.0 v w.2 q) (a.cell s) (b.cell s) (λ j kj. sa.cell j m kj s (int u.0) u.1)
-        (λ j kj. sb.cell j m kj s (int w.0) w.1)
+        (compares_as c r u.0 w.0 v w.2 q) (a.cell s) (again (b.cell s k)) (λ j kj. sa.cell j m kj s (int u.0) u.1)
+        (again_has D law p ord k m kept (b.cell s k) (int w.0) (sb.cell k m kept s (int w.0) w.1))
       where
         one_int : (x y : ℤ) → int x ≡ int y → x ≡ y
         one_int x y e = cc
@@ -194,7 +195,7 @@ module _ {N : Type 0} (D : Ops N) (law : Lawful D) (p : Program) (ord : Side →
           (sa.gives k m kept mode) (sb.gives k m kept mode) (sa.fits k kept.state mode) (sb.fits k kept.state mode);
       assumes = λ k m kept s r v e q.
           sure_kept k m (numbers_narrowed D (when_not c r) (number D (on (a.gives (alone s) k).pair s))
-          (number D (on (b.gives (alone s) k).pair s)) (a.cell s) (b.cell s) k)
+          (number D (on (b.gives (alone s) k).pair s)) (a.cell s) (again (b.cell s k)) k)
           (are_sure ((a.gives (alone s) k).faults ++ (b.gives (alone s) k).faults)) kept
           (λ sure. compare_kept k m kept s r v e q sure);
       cell = λ k m kept s v e. tt;
@@ -206,11 +207,11 @@ module _ {N : Type 0} (D : Ops N) (law : Lawful D) (p : Program) (ord : Side →
           (sa.fits k s mode) (sb.fits k s mode);
       stays = λ k st s r.
           sure_state k (numbers_narrowed D (when_not c r) (number D (on (a.gives (alone s) k).pair s))
-          (number D (on (b.gives (alone s) k).pair s)) (a.cell s) (b.cell s) k)
+          (number D (on (b.gives (alone s) k).pair s)) (a.cell s) (again (b.cell s k)) k)
           (are_sure ((a.gives (alone s) k).faults ++ (b.gives (alone s) k).faults)) st
           (numbers_state D law p ord k st (when_not c r) (number D (on (a.gives (alone s) k).pair s))
-          (number D (on (b.gives (alone s) k).pair s)) (a.cell s) (b.cell s)
-          (λ j sj. sa.there j sj s) (λ j sj. sb.there j sj s));
+          (number D (on (b.gives (alone s) k).pair s)) (a.cell s) (again (b.cell s k))
+          (λ j sj. sa.there j sj s) (again_there D law p ord (b.cell s k)));
       there = λ k s i. tt;
     }
 

@@ -1,5 +1,5 @@
 -- What assuming a truth leaves of worked states, with intervals.
-use Rattle.std.proofs.Common.{◌≡◌, ℤ, pos, Bool, true, false, List, [], ◌∷◌, Option, Some, None, is_some, refl}
+use Rattle.std.proofs.Common.{◌≡◌, ℤ, pos, Bool, true, false, List, [], ◌∷◌, map, Option, Some, None, is_some, refl}
 use Rattle.ep_int.specs.declared.types.IntType.TheVariants.{U8, I64, U32}
 use Rattle.ep_int.specs.declared.types.Cmp.TheVariants.{Lt, Le}
 use Rattle.ep_int.specs.declared.types.Scalar.TheVariants.{Int, Pointer}
@@ -11,7 +11,7 @@ use Rattle.ep_cells.specs.declared.cell.Cell.{Cell}
 use Rattle.ep_cells.specs.declared.cell.Value.{Value}
 use Rattle.ep_cells.specs.declared.cell.Value.TheVariants.{Num, Ptr}
 use Rattle.ep_cells.specs.States.{Known}
-use Rattle.ep_core.specs.Program.{block, Expr, const, null_value, load, convert, compare, ptr_compare, logical_or, logical_not, cast}
+use Rattle.ep_core.specs.Program.{block, element, Expr, const, null_value, load, convert, compare, ptr_compare, logical_or, logical_not, cast}
 use Rattle.ep_core.specs.Runs.{left}
 use Rattle.ep_evaluation.specs.Evaluation.{expression, test_taken, test_taken_by}
 use Rattle.ep_int.specs.declared.types.Cmp.TheVariants as order
@@ -40,6 +40,31 @@ below_itself : first_range
     (test_taken interval_ops (expression interval_ops sizes (compare Lt U32 x x)) true true any_byte)
     ≡ Some (pos 2, pos 253)
 below_itself = refl
+
+-- ---- i < a[i] where i, a[0] and a[1] are 0 or 1: i is 0; a[i] is of no single cell before that, so a[0] stays
+abbrev index : Expr
+index = load (Int U8) (block 2)
+
+abbrev bit : Interval
+bit = number (pos 0) (pos 1)
+
+abbrev any_bits : Known Interval
+any_bits =
+    known (cell side.Shared 1 0 (Int U8) bit ∷ cell side.Shared 1 1 (Int U8) bit ∷ cell side.Shared 2 0 (Int U8) bit ∷ [])
+
+abbrev ranges : Option (Known Interval) → List (Option (ℤ × ℤ))
+ranges None = []
+ranges (Some k) = map (λ (c : Cell Interval). range_in c.value) k.cells
+  where
+    range_in : Option (Value Interval) → Option (ℤ × ℤ)
+    range_in None = None
+    range_in (Some (Num n)) = Some (interval_ops.range n)
+    range_in (Some (Ptr q)) = None
+
+below_its_element : ranges
+    (assumed (compare Lt U8 index (load (Int U8) (element (block 1) 2 1 index))) true any_bits)
+    ≡ Some (pos 0, pos 1) ∷ Some (pos 0, pos 1) ∷ Some (pos 0, pos 0) ∷ []
+below_its_element = refl
 
 -- ---- !(x < 3 || x > 5), and that it is false
 abbrev outside : Expr

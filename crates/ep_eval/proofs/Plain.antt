@@ -1,0 +1,101 @@
+-- What forms that are none of others give.
+use Rattle.std.proofs.Common.{◌≡◌, ℕ, Bool, true, false, List, Option, None, Some, refl, sym, true≢false}
+use Rattle.std.specs.Global.{Box}
+use Rattle.ep_int.specs.declared.types.Cmp.{Cmp}
+use Rattle.ep_int.specs.declared.types.IntType.{IntType}
+use Rattle.ep_int.specs.declared.types.Scalar.{Scalar}
+use Rattle.ep_core.specs.declared.tree.Expr.{Expr, And, Or, Not, Cond, Compare, PtrCompare, Load, Convert}
+use Rattle.ep_core.specs.declared.tree.Place.{Place}
+use Rattle.ep_core.specs.declared.tree.Expr.TheVariants as form
+use Rattle.ep_core.specs.Runs.{Side}
+use Rattle.ep_core.specs.View.{shown_expr}
+use Rattle.ep_domain.specs.Domain.{Ops}
+use Rattle.ep_cells.specs.declared.cell.Cell.{Cell}
+use Rattle.ep_cells.specs.States.{Known}
+use Rattle.ep_evaluation.specs.Narrowed.{then_with}
+use Rattle.ep_evaluation.specs.Evaluation.{expression, test_assumed}
+use Rattle.ep_eval_parts.specs.declared.limits.Limit.{Limit}
+use Rattle.ep_eval_parts.specs.declared.limits.Limit.TheVariants as limit
+use Rattle.ep_eval_parts.specs.Limits.{is_free, limited}
+use Rattle.ep_eval.specs.Forms.{is_branching, is_joined}
+
+pub strictly : (e : Expr) → ((x y : Box Expr) → e ≡ And x y → ⊥) → ((x y : Box Expr) → e ≡ Or x y → ⊥)
+    → ((x y z : Box Expr) → e ≡ Cond x y z → ⊥) → is_branching (shown_expr e) ≡ false
+strictly (form.Const t v) a o c = refl
+strictly form.Null a o c = refl
+strictly (form.Load' w p x) a o c = refl
+strictly (form.AddrOf' p x) a o c = refl
+strictly (form.Bin' b t p x q y) a o c = refl
+strictly (form.Convert' t p x) a o c = refl
+strictly (form.Compare' b t p x q y) a o c = refl
+strictly (form.PtrCompare' b p x q y) a o c = refl
+strictly (form.And' p x q y) a o c = absurd (a _ _ refl)
+strictly (form.Or' p x q y) a o c = absurd (o _ _ refl)
+strictly (form.Not' p x) a o c = refl
+strictly (form.Cond' p x q y r z) a o c = absurd (c _ _ _ refl)
+strictly (form.PtrAdd' p x unit q y back) a o c = refl
+strictly (form.Cast' p x) a o c = refl
+
+pub single : (e : Expr) → ((x y : Box Expr) → e ≡ And x y → ⊥) → ((x y : Box Expr) → e ≡ Or x y → ⊥)
+    → ((x : Box Expr) → e ≡ Not x → ⊥) → is_joined (shown_expr e) ≡ false
+single (form.Const t v) a o n = refl
+single form.Null a o n = refl
+single (form.Load' w p x) a o n = refl
+single (form.AddrOf' p x) a o n = refl
+single (form.Bin' b t p x q y) a o n = refl
+single (form.Convert' t p x) a o n = refl
+single (form.Compare' b t p x q y) a o n = refl
+single (form.PtrCompare' b p x q y) a o n = refl
+single (form.And' p x q y) a o n = absurd (a _ _ refl)
+single (form.Or' p x q y) a o n = absurd (o _ _ refl)
+single (form.Not' p x) a o n = absurd (n _ refl)
+single (form.Cond' p x q y r z) a o n = refl
+single (form.PtrAdd' p x unit q y back) a o n = refl
+single (form.Cast' p x) a o n = refl
+
+module _ {N : Type 0} (D : Ops N) (sizes : List ℕ) (s : Side) (k : Known N) where
+  -- a test without a rule of its own
+  pub plain_left : (t : Bool) (e : Expr) → is_joined (shown_expr e) ≡ false
+      → ((c : Cmp) (u : IntType) (x y : Box Expr) → e ≡ Compare c u x y → ⊥)
+      → ((c : Cmp) (x y : Box Expr) → e ≡ PtrCompare c x y → ⊥)
+      → test_assumed D (expression D sizes (shown_expr e)).gives (expression D sizes (shown_expr e)).cell s t k
+      ≡ (expression D sizes (shown_expr e)).assumes s t k
+  plain_left t (form.Const u v) j n m = refl
+  plain_left t form.Null j n m = refl
+  plain_left t (form.Load' w p x) j n m = refl
+  plain_left t (form.AddrOf' p x) j n m = refl
+  plain_left t (form.Bin' b u p x q y) j n m = refl
+  plain_left t (form.Convert' u p x) j n m = refl
+  plain_left t (form.Compare' b u p x q y) j n m = absurd (n _ _ _ _ refl)
+  plain_left t (form.PtrCompare' b p x q y) j n m = absurd (m _ _ _ refl)
+  plain_left t (form.And' p x q y) j n m = absurd (true≢false j)
+  plain_left t (form.Or' p x q y) j n m = absurd (true≢false j)
+  plain_left t (form.Not' p x) j n m = absurd (true≢false j)
+  plain_left t (form.Cond' p x q y r z) j n m = refl
+  plain_left t (form.PtrAdd' p x unit q y back) j n m = refl
+  plain_left t (form.Cast' p x) j n m = refl
+
+  -- only loads and conversions are of a cell
+  pub cell_nowhere : (e : Expr) → ((w : Scalar) (x : Box Place) → e ≡ Load w x → ⊥)
+      → ((u : IntType) (x : Box Expr) → e ≡ Convert u x → ⊥) → None ≡ (expression D sizes (shown_expr e)).cell s k
+  cell_nowhere (form.Const u v) l c = refl
+  cell_nowhere form.Null l c = refl
+  cell_nowhere (form.Load' w p x) l c = absurd (l _ _ refl)
+  cell_nowhere (form.AddrOf' p x) l c = refl
+  cell_nowhere (form.Bin' b u p x q y) l c = refl
+  cell_nowhere (form.Convert' u p x) l c = absurd (c _ _ refl)
+  cell_nowhere (form.Compare' b u p x q y) l c = refl
+  cell_nowhere (form.PtrCompare' b p x q y) l c = refl
+  cell_nowhere (form.And' p x q y) l c = refl
+  cell_nowhere (form.Or' p x q y) l c = refl
+  cell_nowhere (form.Not' p x) l c = refl
+  cell_nowhere (form.Cond' p x q y r z) l c = refl
+  cell_nowhere (form.PtrAdd' p x unit q y back) l c = refl
+  cell_nowhere (form.Cast' p x) l c = refl
+
+-- an operand that may be anything
+pub free_left : {N : Type 0} (D : Ops N) (l : Limit N) (c : Option (Cell N)) (k : Known N) → is_free l ≡ true
+    → Some k ≡ limited D l c k
+free_left D limit.Free c k h = refl
+free_left D (limit.Number n) c k h = absurd (true≢false (sym h))
+free_left D (limit.Null b) c k h = absurd (true≢false (sym h))

@@ -1,0 +1,148 @@
+//! What the expressions, lvalues and tests of a program give over what is known of two memories, and what is left of that
+//! where a test has truths: evaluation for the analysis, which asks for no more than the program's types give.
+#![tactic(auto)]
+
+ghost use Rattle.std.specs.Prelude.{◌≡◌, ◌++◌, IfOk, OnOk, map, true, false};
+ghost use Rattle.ep_core.specs.Runs.{left, right};
+ghost use Rattle.ep_core.specs.declared.program.BlockInfo.{BlockInfo as Info};
+ghost use Rattle.ep_core.specs.Shown.{shown};
+ghost use Rattle.ep_core.specs.View.{shown_expr, shown_place};
+ghost use Rattle.ep_equalities.specs.declared.pair.Mode.TheVariants.{Both};
+ghost use Rattle.ep_evaluation.specs.Evaluation as spec;
+ghost use Rattle.ep_evaluation.specs.Given.{alone};
+ghost use Rattle.ep_evaluation_laws.specs.Laws.{sizes_of};
+ghost use Rattle.ep_eval_loads.specs.After.{left_of};
+ghost use Rattle.ep_eval_loads.specs.Running.{side_of};
+ghost use Rattle.ep_eval_programs.specs.Typed.{IsExpr, IsPlace, IsTest, meant, reached};
+
+use ep_core::program::{BlockInfo, CoreProgram};
+use ep_core::tree::{Expr, Place};
+use ep_domain::Num;
+use ep_equalities::{Fault, Mode, PairValue};
+use ep_eval::{Assumed, Combinations, Taken, Wants};
+use ep_eval_loads::{After, Running};
+use ep_int::Memory;
+use ep_states::State;
+use std::alloc::{AllocError, Global};
+
+fn size_list(alloc: Global, blocks: &[BlockInfo]) -> Result<Vec<u32>, AllocError>
+    ensures { IfOk result (λ v. v.items ≡ map (λ (b : Info). b.size) blocks.now) }
+{
+    blocks.iter().map(|b| b.size).collect(alloc)
+}
+
+/// The sizes of the program's blocks, in bytes, by their numbers: the other calls are passed them.
+pub fn block_sizes(alloc: Global, program: &CoreProgram) -> Result<Vec<u32>, Memory>
+    ensures { IfOk result (λ v. v.items ≡ sizes_of (shown program.now).blocks) }
+{
+    match size_list(alloc, &program.blocks) {
+        Ok(sizes) => Ok(sizes),
+        Err(_) => Err(Memory),
+    }
+}
+
+/// What an expression gives in a mode. Its faults are added to those that are there.
+pub fn value<N: Num>(
+    program: &CoreProgram,
+    sizes: &[u32],
+    e: &Expr,
+    state: &State<N>,
+    mode: Mode,
+    faults: &mut Vec<Fault>,
+) -> Result<PairValue<N>, Memory>
+    requires sizes { sizes.now ≡ sizes_of (shown program.now).blocks }
+    requires typed { IsExpr (shown program.now) (shown_expr e.now) }
+    ensures value { IfOk result (λ r. r
+        ≡ ((meant N.ops (shown program.now) (shown_expr e.now)).gives mode state.now).pair) }
+    ensures faults { OnOk result (faults.new.items ≡ faults.old.items
+        ++ ((meant N.ops (shown program.now) (shown_expr e.now)).gives mode state.now).faults) }
+{
+    ep_eval::eval(e, sizes, state, mode, faults)
+}
+
+/// What an lvalue gives in a mode: its address. Its faults are added to those that are there.
+pub fn address<N: Num>(
+    program: &CoreProgram,
+    sizes: &[u32],
+    a: &Place,
+    state: &State<N>,
+    mode: Mode,
+    faults: &mut Vec<Fault>,
+) -> Result<PairValue<N>, Memory>
+    requires sizes { sizes.now ≡ sizes_of (shown program.now).blocks }
+    requires typed { IsPlace (shown program.now) (shown_place a.now) }
+    ensures value { IfOk result (λ r. r
+        ≡ (reached N.ops (shown program.now) (shown_place a.now) mode state.now).pair) }
+    ensures faults { OnOk result (faults.new.items ≡ faults.old.items
+        ++ (reached N.ops (shown program.now) (shown_place a.now) mode state.now).faults) }
+{
+    ep_eval::address(a, sizes, state, mode, faults)
+}
+
+/// What a test gives in a mode. Its faults are added to those that are there; `ep_eval::verdict_of` tells of its truths.
+pub fn test_value<N: Num>(
+    program: &CoreProgram,
+    sizes: &[u32],
+    e: &Expr,
+    state: &State<N>,
+    mode: Mode,
+    faults: &mut Vec<Fault>,
+) -> Result<PairValue<N>, Memory>
+    requires sizes { sizes.now ≡ sizes_of (shown program.now).blocks }
+    requires typed { IsTest (shown program.now) (shown_expr e.now) }
+    ensures value { IfOk result (λ r. r
+        ≡ ((meant N.ops (shown program.now) (shown_expr e.now)).gives mode state.now).pair) }
+    ensures faults { OnOk result (faults.new.items ≡ faults.old.items
+        ++ ((meant N.ops (shown program.now) (shown_expr e.now)).gives mode state.now).faults) }
+{
+    ep_eval::eval(e, sizes, state, mode, faults)
+}
+
+/// What is left where both sides run, for each combination of truths that is asked for, by what the test gives.
+pub fn test_taken<N: Num>(
+    program: &CoreProgram,
+    sizes: &[u32],
+    e: &Expr,
+    state: &State<N>,
+    x: &PairValue<N>,
+    asked: Combinations,
+) -> Result<Taken<N>, Memory>
+    requires sizes { sizes.now ≡ sizes_of (shown program.now).blocks }
+    requires typed { IsTest (shown program.now) (shown_expr e.now) }
+    requires value { x.now ≡ ((meant N.ops (shown program.now) (shown_expr e.now)).gives Both state.now).pair }
+    ensures true_true { IfOk result (λ r. asked.alike ≡ true → left_of state.now r.true_true
+        ≡ spec.test_taken N.ops (meant N.ops (shown program.now) (shown_expr e.now)) true true state.now) }
+    ensures true_false { IfOk result (λ r. asked.apart ≡ true → left_of state.now r.true_false
+        ≡ spec.test_taken N.ops (meant N.ops (shown program.now) (shown_expr e.now)) true false state.now) }
+    ensures false_true { IfOk result (λ r. asked.apart ≡ true → left_of state.now r.false_true
+        ≡ spec.test_taken N.ops (meant N.ops (shown program.now) (shown_expr e.now)) false true state.now) }
+    ensures false_false { IfOk result (λ r. asked.alike ≡ true → left_of state.now r.false_false
+        ≡ spec.test_taken N.ops (meant N.ops (shown program.now) (shown_expr e.now)) false false state.now) }
+{
+    ep_eval::test_taken_where(e, sizes, state, x, asked)
+}
+
+/// What a test gives on one side alone, and what is left where it has each truth that is asked for. The faults are
+/// added to those that are there.
+pub fn test_taken_by<N: Num>(
+    program: &CoreProgram,
+    sizes: &[u32],
+    e: &Expr,
+    state: &State<N>,
+    side: Running,
+    wants: Wants,
+    faults: &mut Vec<Fault>,
+) -> Result<Assumed<N>, Memory>
+    requires sizes { sizes.now ≡ sizes_of (shown program.now).blocks }
+    requires typed { IsTest (shown program.now) (shown_expr e.now) }
+    ensures value { IfOk result (λ r. r.value
+        ≡ ((meant N.ops (shown program.now) (shown_expr e.now)).gives (alone (side_of side)) state.now).pair) }
+    ensures faults { OnOk result (faults.new.items ≡ faults.old.items
+        ++ ((meant N.ops (shown program.now) (shown_expr e.now)).gives (alone (side_of side)) state.now).faults) }
+    ensures yes { IfOk result (λ r. wants.yes ≡ true → left_of state.now r.when_true ≡ spec.test_taken_by N.ops
+        (side_of side) (meant N.ops (shown program.now) (shown_expr e.now)) true state.now) }
+    ensures no { IfOk result (λ r. wants.no ≡ true → left_of state.now r.when_false ≡ spec.test_taken_by N.ops
+        (side_of side) (meant N.ops (shown program.now) (shown_expr e.now)) false state.now) }
+{
+    ep_eval::test_taken_by(e, sizes, state, side, wants, faults)
+}
