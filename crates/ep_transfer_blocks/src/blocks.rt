@@ -1,0 +1,82 @@
+//! Blocks that are entered, or left.
+
+ghost use Rattle.std.specs.Prelude.{◌≡◌, IfOk, option_map, slice_get, drop};
+ghost use Rattle.ep_cells.specs.Kill.{AreLeavesIn};
+ghost use Rattle.ep_core.specs.Shown.{shown};
+ghost use Rattle.ep_core.specs.View.{shown_block};
+ghost use Rattle.ep_layout.specs.Table as table;
+ghost use Rattle.ep_transfers.specs.Transfers as spec;
+
+use ep_bitslice::Side;
+use ep_core::program::{BlockInfo, CoreProgram};
+use ep_domain::Num;
+use ep_equalities::Mode;
+use ep_int::Memory;
+use ep_layout::Leaf;
+use ep_states::State;
+use std::alloc::Global;
+
+fn cells_of_mode(mode: Mode) -> Side
+    ensures { result ≡ spec.cells_of_mode mode }
+{
+    match mode {
+        Mode::Both => Side::Shared,
+        Mode::Left => Side::Left,
+        Mode::Right => Side::Right,
+    }
+}
+
+/// The leaves of a block's type, in order.
+pub(crate) fn leaves_of(program: &CoreProgram, block: &BlockInfo) -> Result<Vec<Leaf>, Memory>
+    ensures { IfOk result (λ v. v.items ≡ table.leaves (shown program.now).types block.now.ty) }
+{
+    if block.ty >= program.types.type_count() {
+        return Ok(Vec::new(*program.blocks.allocator()));
+    }
+    let leaves = program.types.leaves(block.ty)?;
+    Ok(leaves)
+}
+
+// One that the program lacks has no bytes.
+fn killed_block<N: Num>(
+    program: &CoreProgram,
+    side: Side,
+    number: u32,
+    state: State<N>,
+) -> Result<State<N>, Memory>
+    requires model { state.model ≡ (shown program.now).types.model }
+    ensures { IfOk result (λ s. s ≡ spec.killed_block N.ops (shown program.now) side number
+        (slice_get (shown program.now).blocks number) state) }
+{
+    let mut after = state;
+    match program.blocks.get(number as usize) {
+        None => {
+            after.kill_block(side, number, &[], 0)?;
+            Ok(after)
+        }
+        Some(block) => {
+            let leaves = leaves_of(program, block)?;
+            after.kill_block(side, number, &leaves, block.size)?;
+            Ok(after)
+        }
+    }
+}
+
+/// Blocks are entered, or left, in turn on the running sides: their cells are as on entry, and pointers into them are
+/// undefined.
+pub fn entered<N: Num>(
+    program: &CoreProgram,
+    mode: Mode,
+    blocks: &[u32],
+    state: State<N>,
+) -> Result<State<N>, Memory>
+    requires model { state.model ≡ (shown program.now).types.model }
+    ensures { IfOk result (λ s. s ≡ spec.entered N.ops (shown program.now) mode blocks.now state) }
+{
+    let side = cells_of_mode(mode);
+    let mut after = state;
+    for number in blocks {
+        after = killed_block(program, side, *number, after)?;
+    }
+    Ok(after)
+}

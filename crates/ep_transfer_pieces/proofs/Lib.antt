@@ -1,0 +1,4 @@
+pub mod Walking
+pub mod Sorts
+pub mod Planning
+pub mod Turns

@@ -1,0 +1,153 @@
+//! The copy of an aggregate by its pieces: all of them are read in the state before, and then written.
+
+ghost use Rattle.std.specs.Prelude.{◌≡◌, ◌≤◌, ◌+◌, ◌^◌, ℕ, Bool, IfOk};
+ghost use Rattle.ep_int.specs.Types.{size_of};
+ghost use Rattle.ep_cells.specs.Kill.{AreLeavesIn};
+ghost use Rattle.ep_cells.specs.States.{IsOfSort, Known};
+ghost use Rattle.ep_evaluation.specs.Given.{alone};
+ghost use Rattle.ep_transfers.specs.Copies as spec;
+ghost use Rattle.ep_transfers.specs.Places.{Places as SpecPlaces, at_side};
+ghost use Rattle.ep_transfer_places.specs.Room.{HaveRoom, BothHaveRoom, shown};
+ghost use Rattle.ep_transfer_pieces.specs.Pieces.{side_of};
+ghost use Rattle.ep_transfer_pieces.specs.Puts.{after_put, after_puts, FitsPut, FitPuts};
+
+use crate::on::On;
+use crate::puts::{Put, push_alone, push_both};
+use crate::walk::{Walk, next_piece};
+use ep_bitslice::Side;
+use ep_domain::Num;
+use ep_equalities::Mode;
+use ep_int::Memory;
+use ep_layout::Leaf;
+use ep_reads_laws::read_laws;
+use ep_states::State;
+use ep_transfer_places::Places;
+use ep_transfer_places::places::moved_places;
+use ep_transfer_writes::{Underway, write};
+
+// What a side writes by itself.
+fn puts_alone<N: Num>(
+    on: On,
+    state: &State<N>,
+    leaves: &[Leaf],
+    from: &Places,
+    bytes: u32,
+) -> Result<Vec<Put<N>>, Memory>
+    requires leaves { AreLeavesIn state.now.model 0 bytes leaves.now }
+    requires from { HaveRoom bytes (at_side (shown from.now) (side_of on)) }
+    ensures value { IfOk result (λ v. (joint : Bool) (to : SpecPlaces) (j : Known N)
+        → after_puts N.ops joint to v.items j ≡ spec.pieces_from N.ops joint state.now to (shown from.now) leaves.now
+        (alone (side_of on)) 0 bytes j) }
+    ensures fits { IfOk result (λ v. FitPuts state.now.model bytes v.items) }
+{
+    read_laws::<N>();
+    state.model();
+    let mut puts = Vec::new(state.allocator());
+    let side = on.cells();
+    let spots = on.places(from);
+    let mut walk = Walk::first();
+    for o in 0..bytes {
+        let next = next_piece(state, side, spots, leaves, walk, o)?;
+        push_alone(&mut puts, on, state, from, o, next.piece)?;
+        walk = next.walk;
+    }
+    Ok(puts)
+}
+
+// What both sides write.
+fn puts_both<N: Num>(
+    joint: bool,
+    state: &State<N>,
+    leaves: &[Leaf],
+    from: &Places,
+    bytes: u32,
+) -> Result<Vec<Put<N>>, Memory>
+    requires leaves { AreLeavesIn state.now.model 0 bytes leaves.now }
+    requires from { BothHaveRoom bytes (shown from.now) }
+    ensures value { IfOk result (λ v. (to : SpecPlaces) (j : Known N)
+        → after_puts N.ops joint to v.items j ≡ spec.pieces_from N.ops joint state.now to (shown from.now) leaves.now
+        Mode.Both 0 bytes j) }
+    ensures fits { IfOk result (λ v. FitPuts state.now.model bytes v.items) }
+{
+    read_laws::<N>();
+    state.model();
+    let mut puts = Vec::new(state.allocator());
+    let mut left = Walk::first();
+    let mut right = Walk::first();
+    for o in 0..bytes {
+        let on_left = next_piece(state, Side::Left, &from.left, leaves, left, o)?;
+        let on_right = next_piece(state, Side::Right, &from.right, leaves, right, o)?;
+        push_both(
+            &mut puts,
+            joint,
+            state,
+            from,
+            o,
+            on_left.piece,
+            on_right.piece,
+        )?;
+        left = on_left.walk;
+        right = on_right.walk;
+    }
+    Ok(puts)
+}
+
+fn all_puts<N: Num>(
+    mode: Mode,
+    joint: bool,
+    state: &State<N>,
+    leaves: &[Leaf],
+    from: &Places,
+    bytes: u32,
+) -> Result<Vec<Put<N>>, Memory>
+    requires leaves { AreLeavesIn state.now.model 0 bytes leaves.now }
+    requires from { BothHaveRoom bytes (shown from.now) }
+    ensures value { IfOk result (λ v. (to : SpecPlaces) (j : Known N)
+        → after_puts N.ops joint to v.items j ≡ spec.pieces_from N.ops joint state.now to (shown from.now) leaves.now
+        mode 0 bytes j) }
+    ensures fits { IfOk result (λ v. FitPuts state.now.model bytes v.items) }
+{
+    match mode {
+        Mode::Both => puts_both(joint, state, leaves, from, bytes),
+        Mode::Left => puts_alone(On::Left, state, leaves, from, bytes),
+        Mode::Right => puts_alone(On::Right, state, leaves, from, bytes),
+    }
+}
+
+fn put<N: Num>(joint: bool, to: &Places, put: Put<N>, state: State<N>) -> Result<State<N>, Memory>
+    requires fits { (n : ℕ) × (FitsPut state.model n put × BothHaveRoom n (shown to.now)) }
+    ensures value { IfOk result (λ s. s ≡ after_put N.ops joint (shown to.now) put state) }
+    ensures model { IfOk result (λ s. s.model ≡ state.model) }
+{
+    let moved = moved_places(state.allocator(), put.offset, to)?;
+    let item = put.item;
+    let after = write(put.mode, joint, put.what, &moved, Underway { state, item })?;
+    Ok(after.state)
+}
+
+/// An aggregate goes from the places of an address to those of another by its leaves and bytes. Costs in proportion to
+/// the bytes and to the places, and what the writes cost.
+pub fn copied_by_pieces<N: Num>(
+    mode: Mode,
+    joint: bool,
+    leaves: &[Leaf],
+    to: &Places,
+    from: &Places,
+    bytes: u32,
+    state: State<N>,
+) -> Result<State<N>, Memory>
+    requires leaves { AreLeavesIn state.model 0 bytes leaves.now }
+    requires to { BothHaveRoom bytes (shown to.now) }
+    requires from { BothHaveRoom bytes (shown from.now) }
+    ensures value { IfOk result (λ s. s ≡ spec.pieces_from N.ops joint state (shown to.now) (shown from.now) leaves.now
+        mode 0 bytes state) }
+    ensures model { IfOk result (λ s. s.model ≡ state.model) }
+{
+    let puts = all_puts(mode, joint, &state, leaves, from, bytes)?;
+    let mut after = state;
+    for p in puts {
+        let next = put(joint, to, p, after)?;
+        after = next;
+    }
+    Ok(after)
+}

@@ -1,0 +1,3 @@
+pub mod RunSpots
+pub mod Rooms
+pub mod Moving

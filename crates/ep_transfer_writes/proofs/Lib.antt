@@ -1,0 +1,12 @@
+pub mod Standing
+pub mod Changing
+pub mod Placing
+pub mod Turns
+pub mod Ordered
+pub mod Joined
+pub mod Absorbed
+pub mod Uncut
+pub mod Behind
+pub mod Ranged
+pub mod Running
+pub mod Copying

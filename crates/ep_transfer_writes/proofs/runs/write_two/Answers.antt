@@ -1,0 +1,35 @@
+use Rattle.std.proofs.Common.{◌+◌, ap, sym, subst, ◌∙◌, arith}
+use Rattle.ep_int.specs.declared.types.IntType.TheVariants.{U8}
+use Rattle.ep_int.specs.declared.types.Scalar.TheVariants.{Int}
+use Rattle.ep_transfers.specs.Writes as spec
+use Rattle.ep_transfer_places.specs.Room.{BothHaveRoom, shown as shown_places}
+use Rattle.ep_transfer_places.proofs.Moving.{less_both, moved_both}
+use Rattle.ep_transfer_writes.specs.Waiting.{shown}
+use Rattle.ep_transfer_writes.proofs.Turns.{in_two}
+use Rattle.ep_transfer_writes.proofs.runs.write_two.Goals as goal
+
+pub write_part-requires-clause-room : goal.write_part-requires-clause-room
+write_part-requires-clause-room g c =
+    less_both (c.args.bytes.0 + c.args.bytes.1) c.args.bytes.0 (shown_places c.args.places.now) (omega arith)
+    c.requires.room
+
+pub moved_places-requires : goal.moved_places-requires
+moved_places-requires g c =
+    let more = c.requires.more in
+    less_both (c.args.bytes.0 + c.args.bytes.1) (c.args.bytes.0 + 1) (shown_places c.args.places.now)
+    (omega (arith, more)) c.requires.room
+
+pub write_part-requires-2-clause-room : goal.write_part-requires-2-clause-room
+write_part-requires-2-clause-room g c =
+    subst (BothHaveRoom c.args.bytes.1) (sym c.in_ok-moved.ensures)
+    (moved_both c.args.bytes.0 c.args.bytes.1 (shown_places c.args.places.now) c.requires.room)
+
+pub returns-clause-value : goal.returns-clause-value
+returns-clause-value g c =
+    let D = g.N.Num.ops in
+    in_two D c.args.mode c.args.same_to (Int U8) (shown_places c.args.places.now) c.args.bytes.0 c.args.bytes.1
+    (shown c.args.u) (shown c.in_ok-before.before) (shown c.in_ok-after.after) c.in_ok-before.ensures.value
+    (c.in_ok-after.ensures.value
+    ∙ ap (λ ps. spec.write_run D c.args.mode c.args.same_to (Int U8) ps 0 c.args.bytes.1
+    (shown c.in_ok-before.before))
+    c.in_ok-moved.ensures)

@@ -1,0 +1,14 @@
+//! A pair of values is written at the places of an access.
+#![tactic(auto)]
+
+mod cells;
+mod changes;
+mod item;
+mod ranges;
+mod runs;
+mod sides;
+mod writes;
+
+pub use item::{Item, Underway};
+pub use runs::{blurred_side, write_run};
+pub use writes::{write, write_now};
