@@ -1,0 +1,5 @@
+pub mod Telling
+pub mod Combined
+pub mod Gathering
+pub mod Circles
+pub mod Bounds

@@ -1,0 +1,8 @@
+//! The walk of the analysis through a program, whatever it keeps of a state.
+#![tactic(auto)]
+
+mod follow;
+mod program;
+mod statements;
+
+pub use program::walk;

@@ -1,0 +1,50 @@
+//! The walk through a program.
+
+ghost use Rattle.std.specs.Prelude.{◌≡◌, [], if◌then◌else◌, IfOk, None, OnOk, Some, slice_get};
+ghost use Rattle.ep_flows.specs.Shown.{Tells, capped, plan_of};
+ghost use Rattle.ep_pass.specs.Pass.{join_on, logged};
+ghost use Rattle.ep_walk.specs.Reported.{end_of, heads_in, report_on, turns_in};
+ghost use Rattle.ep_walk.specs.Pieces.{o};
+
+use crate::follow::function_at;
+use crate::statements::pass_function;
+use ep_flows::flow::{Flow, join_reached};
+use ep_flows::log::Log;
+use ep_flows::setting::{Running, Setting};
+use ep_flows::states::AbstractStates;
+use ep_int::Memory;
+
+/// Goes through main once, and tells the alarms, the count of passes through bodies of loops (up to the largest number
+/// of 64 bits, at which it stays) and, where they are wanted, the heads that are kept. Where heads come round, passes
+/// are counted and not made. An error says that memory ran out.
+pub fn walk<K: AbstractStates>(c: &Setting<'_>, keeps_heads: bool) -> Result<Log<K>, Memory>
+    ensures report { IfOk result (λ l. l.alarms ≡ report_on K.ops (plan_of c.now)) }
+    ensures turns { IfOk result (λ l. capped l.count ≡ capped (turns_in K.ops (plan_of c.now))) }
+    ensures heads { IfOk result (λ l. l.heads ≡ (if keeps_heads then Some (heads_in K.ops (plan_of c.now)) else None)) }
+{
+    let mut log = Log::new(c.alloc, keeps_heads);
+    let known: K = K::entry(c)?;
+    let flow = pass_function(c, c.program.main, Running::Together, Some(known), &mut log)?;
+    end_main(c, flow, &mut log)?;
+    Ok(log)
+}
+
+// Main is left by `return`, then at its end.
+fn end_main<K: AbstractStates>(
+    c: &Setting<'_>,
+    flow: Flow<K>,
+    log: &mut Log<K>,
+) -> Result<(), Memory>
+    ensures { OnOk result (Tells (logged (end_of K.ops (plan_of c.now)
+        (join_on (o K.ops (plan_of c.now)) flow.ways.returned flow.on)) 0 []) log.old log.new) }
+{
+    let Flow { on, ways } = flow;
+    let left = join_reached(c, ways.returned, on)?;
+    match function_at(c, c.program.main) {
+        None => Ok(()),
+        Some(main) => match left {
+            None => Ok(()),
+            Some(known) => known.ended(c, main, &mut log.alarms),
+        },
+    }
+}
