@@ -1,8 +1,8 @@
 //! Left and Right cells of a state that begin at one offset and are surely the same.
 
-ghost use Rattle.std.specs.Prelude.{◌≡◌, ◌++◌, ◌∷◌, [], map, IfOk};
+ghost use Rattle.std.specs.Prelude.{◌≡◌, Some, map, IfOk};
 ghost use Rattle.std.specs.Option.{option_map};
-ghost use Rattle.ep_cells.specs.Reshare.{cell_from, places};
+ghost use Rattle.ep_cells.specs.Reshare.{cell_from};
 ghost use Rattle.ep_state_looks.specs.Looks.{same_twins as twins_of, twins_at};
 
 use ep_bitslice::Side;
@@ -13,7 +13,6 @@ use ep_cells::{Cell, Place};
 use ep_domain::Num;
 use ep_int::Memory;
 use ep_states::State;
-use std::alloc::Global;
 
 /// A Left and a Right cell that begin at one offset and are surely the same.
 #[derive(Drop)]
@@ -90,33 +89,4 @@ pub fn twins_at<N: Num>(
     let r = from_among(Side::Right, block, offset, &about);
     let twins = same_twins(l, r)?;
     Ok(twins)
-}
-
-fn push_place<N: Num>(out: &mut Vec<(u32, u32)>, c: &Cell<N>) -> Result<(), Memory>
-    ensures { IfOk result (λ _. out.new.items ≡ out.old.items ++ places (c.now ∷ [])) }
-{
-    if is_same_side(c.side, Side::Left) {
-        out.push((c.block, c.offset)).map_err(|_| Memory)
-    } else {
-        Ok(())
-    }
-}
-
-fn places_among<N: Num>(alloc: Global, cells: &[&Cell<N>]) -> Result<Vec<(u32, u32)>, Memory>
-    ensures { IfOk result (λ v. v.items ≡ places (map (λ r. r.now) cells.now)) }
-{
-    let mut out = Vec::new(alloc);
-    for c in cells {
-        push_place(&mut out, *c)?;
-    }
-    Ok(out)
-}
-
-/// The places at which Left cells begin. Looks at all cells.
-pub fn left_places<N: Num>(state: &State<N>) -> Result<Vec<(u32, u32)>, Memory>
-    ensures { IfOk result (λ v. v.items ≡ places state.now.cells) }
-{
-    let cells = state.all()?;
-    let places = places_among(state.allocator(), &cells)?;
-    Ok(places)
 }

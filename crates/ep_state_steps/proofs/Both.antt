@@ -1,5 +1,5 @@
 -- Two states after changes of both.
-use Rattle.std.proofs.Common.{◌≡◌, List, sym, ◌∙◌, ap, subst}
+use Rattle.std.proofs.Common.{◌≡◌, List, [], sym, ◌∙◌, ap, subst}
 use Rattle.std.specs.List.{filter}
 use Rattle.ep_domain.specs.Domain.{Ops}
 use Rattle.ep_cells.specs.declared.cell.Cell.{Cell}
@@ -30,3 +30,35 @@ crossing_is D k l after us zs slice lacked m a e f g i h =
     ∙ ap (λ d. filter (is_crossed d l.cells) (without_like l.cells k.cells)) (sym m))
     ∙ ap (λ q. record k { cells = q }) (sym (crossed_lacked D k k.cells l.cells
     (subst (λ d. AreCells d l.cells) (sym m) a)))
+
+pub crossed_are : {N : Type 0} (D : Ops N) (k l after : Known N) (us zs slice lacked : List (Cell N))
+    → k.model ≡ l.model
+    → AreCells l.model l.cells → us ≡ without_like l.cells k.cells → lacked ≡ us
+    → zs ≡ filter (is_crossed l.model l.cells) lacked → slice ≡ zs → after ≡ crossed_at D slice k
+    → after.cells ≡ uncrossed D k l.cells k.cells
+crossed_are {N = N} D k l after us zs slice lacked m a e f g i h =
+    ap (λ (z : Known N). z.cells) (crossing_is D k l after us zs slice lacked m a e f g i h)
+
+-- where none is crossed all stay
+pub level_cells : {N : Type 0} (D : Ops N) (k l : Known N) (us zs slice lacked : List (Cell N)) → k.model ≡ l.model
+    → AreCells l.model l.cells → us ≡ without_like l.cells k.cells → lacked ≡ us
+    → zs ≡ filter (is_crossed l.model l.cells) lacked → slice ≡ zs → slice ≡ []
+    → k.cells ≡ uncrossed D k l.cells k.cells
+level_cells D k l us zs slice lacked m a e f g i n =
+    crossed_are D k l k us zs slice lacked m a e f g i (sym (ap (λ q. crossed_at D q k) n))
+
+pub level_now : {N : Type 0} (k after : Known N) (ds us vs : List (Cell N)) → k.cells ≡ us → ds ≡ vs
+    → after ≡ record k { cells = had_by_both ds k.cells } → after ≡ record k { cells = had_by_both vs us }
+level_now k after ds us vs x y h =
+    h
+    ∙ ap (λ q. record k { cells = had_by_both ds q }) x
+    ∙ ap (λ q. record k { cells = had_by_both q us }) y
+
+pub level_then : {N : Type 0} (k crossed after : Known N) (ds us vs : List (Cell N))
+    → crossed ≡ record k { cells = us }
+    → ds ≡ vs → after ≡ record crossed { cells = had_by_both ds crossed.cells }
+    → after ≡ record k { cells = had_by_both vs us }
+level_then {N = N} k crossed after ds us vs x y h =
+    h
+    ∙ ap (λ (z : Known N). record z { cells = had_by_both ds z.cells }) x
+    ∙ ap (λ q. record k { cells = had_by_both q us }) y

@@ -148,13 +148,3 @@ turning_first k l ts us m a b e f =
     turning_at k.model k.cells k.cells l.cells l.cells ts (without_like k.cells l.cells) us
     (without_like l.cells k.cells)
     refl refl e f (turning k.model k.cells l.cells a (subst (λ d. AreCells d l.cells) (sym m) b))
-
-pub turns_next_at : {N : Type 0} (D : Ops N) (n i : ℕ) (a b k l kz lz : Known N) (ts us ms vs slice : List (Cell N))
-    → i < n → slice ≡ ts → kz ≡ parted_at (facing k.model slice) k
-    → lz ≡ parted_at (facing l.model (more_for k.model k.cells slice us)) l
-    → ms ≡ map on_left_alone (faced l.model (more_for k.model k.cells slice us) l.cells) → vs ≡ []
-    → AreTurned n i a b k l ts us → AreTurned n (i + 1) a b kz lz ms vs
-turns_next_at D n i a b k l kz lz ts us ms vs slice lt s e f g h t =
-    turns_next D n i a b k l kz lz ts us ms vs lt (e ∙ ap (λ q. parted_at (facing k.model q) k) s)
-    (f ∙ ap (λ q. parted_at (facing l.model (more_for k.model k.cells q us)) l) s)
-    (g ∙ ap (λ q. map on_left_alone (faced l.model (more_for k.model k.cells q us) l.cells)) s) h t

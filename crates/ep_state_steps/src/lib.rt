@@ -4,15 +4,17 @@
 
 mod crossing;
 mod lacking;
+mod levelling;
 mod machines;
 mod parting;
 mod resharing;
 mod splitting;
 mod turns;
+mod two;
 
-pub use crossing::uncross_both;
-pub use lacking::drop_both;
+pub use levelling::level_both;
 pub use machines::machines_of;
 pub use resharing::reshare_all;
 pub use splitting::split_all;
 pub use turns::part_both;
+pub use two::States;

@@ -1,6 +1,6 @@
 //! Shared cells of a state come apart.
 
-ghost use Rattle.std.specs.Prelude.{◌≡◌, ◌++◌, ◌∷◌, [], map, IfOk, OnOk};
+ghost use Rattle.std.specs.Prelude.{◌≡◌, ◌++◌, ◌∷◌, [], map, IfOk};
 ghost use Rattle.ep_cells.specs.States.{Each};
 ghost use Rattle.ep_step_laws.specs.Single.{facing, begins_as, begins_among, shared_where, faced, on_left_alone};
 ghost use Rattle.ep_state_steps.specs.Ones.{parted_at, IsShared};
@@ -16,26 +16,28 @@ use ep_int::Memory;
 use ep_state_looks::looking::faced_by;
 use ep_states::State;
 
-fn part<N: Num>(state: &mut State<N>, z: &Cell<N>) -> Result<(), Memory>
+fn part<N: Num>(state: State<N>, z: &Cell<N>) -> Result<State<N>, Memory>
     requires { IsShared z.now }
-    ensures { OnOk result (state.new ≡ parted_at (begins_as z.now) state.old) }
+    ensures { IfOk result (λ s. s ≡ parted_at (begins_as z.now) state) }
 {
     state.model();
     let step = Step::Unshare(copy_cell(z)?);
     let none = Vec::new(state.allocator());
-    state.change(&step, none)?;
-    Ok(())
+    let after = state.after(&step, none)?;
+    Ok(after)
 }
 
-fn part_all<N: Num>(state: &mut State<N>, zs: &[Cell<N>]) -> Result<(), Memory>
+fn part_all<N: Num>(state: State<N>, zs: &[Cell<N>]) -> Result<State<N>, Memory>
     requires { Each IsShared zs.now }
-    ensures { OnOk result (state.new ≡ parted_at (begins_among zs.now) state.old) }
+    ensures { IfOk result (λ s. s ≡ parted_at (begins_among zs.now) state) }
 {
+    let mut sofar = state;
     for z in zs {
-        part(state, z)?;
+        let next = part(sofar, z)?;
+        sofar = next;
     }
-    state.model();
-    Ok(())
+    sofar.model();
+    Ok(sofar)
 }
 
 fn left_alone<N: Num>(x: &Cell<N>) -> Result<Cell<N>, Memory>
@@ -61,27 +63,43 @@ fn push_lefts<N: Num>(out: &mut Vec<Cell<N>>, zs: &[Cell<N>]) -> Result<(), Memo
     Ok(())
 }
 
-fn part_for<N: Num>(state: &mut State<N>, y: &Cell<N>, out: &mut Vec<Cell<N>>) -> Result<(), Memory>
-    ensures state { OnOk result (state.new ≡ parted_at (facing state.old.model (y.now ∷ [])) state.old) }
-    ensures out { OnOk result (out.new.items ≡ out.old.items
-        ++ map on_left_alone (shared_where (facing state.old.model (y.now ∷ [])) state.old.cells)) }
+fn part_for<N: Num>(
+    state: State<N>,
+    y: &Cell<N>,
+    out: &mut Vec<Cell<N>>,
+) -> Result<State<N>, Memory>
+    ensures state { IfOk result (λ s. s ≡ parted_at (facing state.model (y.now ∷ [])) state) }
+    ensures out { IfOk result (λ _. out.new.items ≡ out.old.items
+        ++ map on_left_alone (shared_where (facing state.model (y.now ∷ [])) state.cells)) }
 {
     state.model();
-    let zs = faced_by(state, y)?;
-    part_all(state, &zs)?;
+    let zs = faced_by(&state, y)?;
+    let after = part_all(state, &zs)?;
     push_lefts(out, &zs)?;
-    Ok(())
+    Ok(after)
 }
 
-/// Parts each Shared cell that faces one of these cells. Answers them as cells of the left side.
-pub fn part_facing<N: Num>(state: &mut State<N>, ys: &[Cell<N>]) -> Result<Vec<Cell<N>>, Memory>
-    ensures state { OnOk result (state.new ≡ parted_at (facing state.old.model ys.now) state.old) }
-    ensures faced { IfOk result (λ v. v.items ≡ map on_left_alone (faced state.old.model ys.now state.old.cells)) }
+/// A state whose cells came apart, and those of them as cells of the left side.
+#[derive(Drop)]
+pub struct Parted<N> {
+    pub state: State<N>,
+    pub lefts: Vec<Cell<N>>,
+}
+
+/// Parts each Shared cell that faces one of these cells.
+pub fn part_facing<N: Num>(state: State<N>, ys: &[Cell<N>]) -> Result<Parted<N>, Memory>
+    ensures state { IfOk result (λ p. p.state ≡ parted_at (facing state.model ys.now) state) }
+    ensures faced { IfOk result (λ p. p.lefts.items ≡ map on_left_alone (faced state.model ys.now state.cells)) }
 {
-    let mut out = Vec::new(state.allocator());
+    let mut lefts = Vec::new(state.allocator());
+    let mut sofar = state;
     for y in ys {
-        part_for(state, y, &mut out)?;
+        let next = part_for(sofar, y, &mut lefts)?;
+        sofar = next;
     }
-    state.model();
-    Ok(out)
+    sofar.model();
+    Ok(Parted {
+        state: sofar,
+        lefts,
+    })
 }

@@ -1,6 +1,6 @@
 //! Left and Right cells of a state that are surely the same become Shared ones.
 
-ghost use Rattle.std.specs.Prelude.{◌≡◌, ◌∷◌, [], IfOk, OnOk};
+ghost use Rattle.std.specs.Prelude.{◌≡◌, ◌∷◌, [], IfOk};
 ghost use Rattle.ep_cells.specs.Reshare.{reshared_cell, reshared_at, reshared};
 ghost use Rattle.ep_state_steps.specs.Ones.{reshared_from};
 
@@ -10,7 +10,7 @@ use ep_cell_rows::rows::push;
 use ep_cells::Cell;
 use ep_domain::Num;
 use ep_int::Memory;
-use ep_state_looks::twins::{Twins, left_places, twins_at};
+use ep_state_looks::twins::{Twins, twins_at};
 use ep_states::State;
 use std::alloc::Global;
 
@@ -22,37 +22,38 @@ fn one_of<N: Num>(alloc: Global, twins: &Twins<N>) -> Result<Vec<Cell<N>>, Memor
     Ok(one)
 }
 
-fn reshare_at<N: Num>(state: &mut State<N>, block: u32, offset: u32) -> Result<(), Memory>
-    ensures { OnOk result (state.new
-        ≡ record state.old { cells = reshared_at N.ops block offset state.old.cells }) }
+fn reshare_at<N: Num>(state: State<N>, block: u32, offset: u32) -> Result<State<N>, Memory>
+    ensures { IfOk result (λ s. s ≡ record state { cells = reshared_at N.ops block offset state.cells }) }
 {
     state.model();
-    match twins_at(state, block, offset)? {
-        None => Ok(()),
+    match twins_at(&state, block, offset)? {
+        None => Ok(state),
         Some(twins) => {
             let new = one_of(state.allocator(), &twins)?;
             let step = Step::Reshare(twins.left, twins.right);
-            state.change(&step, new)?;
-            Ok(())
+            let after = state.after(&step, new)?;
+            Ok(after)
         }
     }
 }
 
-fn reshare_each<N: Num>(state: &mut State<N>, places: &[(u32, u32)]) -> Result<(), Memory>
-    ensures { OnOk result (state.new ≡ reshared_from N.ops places.now state.old) }
+fn reshare_each<N: Num>(state: State<N>, places: &[(u32, u32)]) -> Result<State<N>, Memory>
+    ensures { IfOk result (λ s. s ≡ reshared_from N.ops places.now state) }
 {
+    let mut sofar = state;
     for p in places {
-        reshare_at(state, p.0, p.1)?;
+        let next = reshare_at(sofar, p.0, p.1)?;
+        sofar = next;
     }
-    Ok(())
+    Ok(sofar)
 }
 
 /// Left and Right integer cells of one place and type that are surely the same become Shared ones. Costs a look at all
 /// cells, a search for each Left cell, and a step for each pair.
-pub fn reshare_all<N: Num>(state: &mut State<N>) -> Result<(), Memory>
-    ensures { OnOk result (state.new ≡ record state.old { cells = reshared N.ops state.old.cells }) }
+pub fn reshare_all<N: Num>(state: State<N>) -> Result<State<N>, Memory>
+    ensures { IfOk result (λ s. s ≡ record state { cells = reshared N.ops state.cells }) }
 {
-    let places = left_places(state)?;
-    reshare_each(state, &places)?;
-    Ok(())
+    let places = state.left_places()?;
+    let after = reshare_each(state, &places)?;
+    Ok(after)
 }

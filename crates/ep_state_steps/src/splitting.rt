@@ -1,6 +1,6 @@
 //! Cells are split on a side.
 
-ghost use Rattle.std.specs.Prelude.{◌≡◌, false, OnOk};
+ghost use Rattle.std.specs.Prelude.{◌≡◌, false, IfOk};
 ghost use Rattle.ep_bitslice.specs.declared.cell.Side.TheVariants.{Shared};
 ghost use Rattle.ep_cells.specs.Cells.{IsIn, is_same_side};
 ghost use Rattle.ep_cells.specs.States.{Each};
@@ -17,53 +17,52 @@ use ep_state_looks::looking::{cut, like};
 use ep_states::State;
 use ep_synthesis::split::split_parts;
 
-fn split_one<N: Num>(state: &mut State<N>, side: Side, y: Cell<N>) -> Result<(), Memory>
+fn split_one<N: Num>(state: State<N>, side: Side, y: Cell<N>) -> Result<State<N>, Memory>
     requires one { is_same_side side Side.Shared ≡ false }
     requires has { Has side y }
-    requires there { IsIn y state.old.cells }
-    ensures { OnOk result (state.new
-        ≡ record state.old { cells = split_cell N.ops state.old side y state.old.cells }) }
+    requires there { IsIn y state.cells }
+    ensures { IfOk result (λ s. s ≡ record state { cells = split_cell N.ops state side y state.cells }) }
 {
     state.model();
-    let new = split_parts(state.allocator(), machines_of(state), side, &y)?;
+    let new = split_parts(state.allocator(), machines_of(&state), side, &y)?;
     let step = Step::Split(side, y);
-    state.change(&step, new)?;
-    Ok(())
+    let after = state.after(&step, new)?;
+    Ok(after)
 }
 
-fn split_like<N: Num>(state: &mut State<N>, side: Side, x: &Cell<N>) -> Result<(), Memory>
+fn split_like<N: Num>(state: State<N>, side: Side, x: &Cell<N>) -> Result<State<N>, Memory>
     requires one { is_same_side side Side.Shared ≡ false }
     requires has { Has side x.now }
-    ensures { OnOk result (state.new
-        ≡ record state.old { cells = split_like N.ops state.old side x.now state.old.cells }) }
+    ensures { IfOk result (λ s. s ≡ record state { cells = split_like N.ops state side x.now state.cells }) }
 {
-    match like(state, x)? {
-        None => Ok(()),
+    match like(&state, x)? {
+        None => Ok(state),
         Some(y) => {
-            split_one(state, side, y)?;
-            Ok(())
+            let after = split_one(state, side, y)?;
+            Ok(after)
         }
     }
 }
 
-fn split_each<N: Num>(state: &mut State<N>, side: Side, xs: &[Cell<N>]) -> Result<(), Memory>
+fn split_each<N: Num>(state: State<N>, side: Side, xs: &[Cell<N>]) -> Result<State<N>, Memory>
     requires one { is_same_side side Side.Shared ≡ false }
     requires have { Each (Has side) xs.now }
-    ensures { OnOk result (state.new ≡ split_at N.ops side xs.now state.old) }
+    ensures { IfOk result (λ s. s ≡ split_at N.ops side xs.now state) }
 {
+    let mut sofar = state;
     for x in xs {
-        split_like(state, side, x)?;
+        let next = split_like(sofar, side, x)?;
+        sofar = next;
     }
-    Ok(())
+    Ok(sofar)
 }
 
 /// Splits the cells that lie partly in a place of one side. Costs a step for each of them.
-pub fn split_all<N: Num>(state: &mut State<N>, p: Place) -> Result<(), Memory>
+pub fn split_all<N: Num>(state: State<N>, p: Place) -> Result<State<N>, Memory>
     requires one { is_same_side p.side Side.Shared ≡ false }
-    ensures { OnOk result (state.new ≡ record state.old { cells = split N.ops state.old p }) }
+    ensures { IfOk result (λ s. s ≡ record state { cells = split N.ops state p }) }
 {
-    state.model();
-    let xs = cut(state, &p)?;
-    split_each(state, p.side, &xs)?;
-    Ok(())
+    let xs = cut(&state, &p)?;
+    let after = split_each(state, p.side, &xs)?;
+    Ok(after)
 }

@@ -1,12 +1,13 @@
 //! Shared cells of two states that face cells of one side come apart, by turns.
 
-ghost use Rattle.std.specs.Prelude.{◌≡◌, ◌+◌, ◌++◌, [], length, map, IsTrue, IfOk, OnOk};
+ghost use Rattle.std.specs.Prelude.{◌≡◌, ◌+◌, ◌++◌, [], length, map, IsTrue, IfOk};
 ghost use Rattle.ep_reads.specs.Unify.{parted_both};
 ghost use Rattle.ep_step_laws.specs.Single.{facing, faced, on_left_alone};
 ghost use Rattle.ep_step_laws.specs.Laws.{more_for, Turning};
 ghost use Rattle.ep_state_steps.specs.Ones.{parted_at};
 
 use crate::parting::part_facing;
+use crate::two::States;
 use ep_cell_rows::cell::copy_cell;
 use ep_cell_rows::rows::push;
 use ep_cells::Cell;
@@ -24,28 +25,39 @@ fn push_all<N: Num>(out: &mut Vec<Cell<N>>, more: &[Cell<N>]) -> Result<(), Memo
     Ok(())
 }
 
-// The first state is looked at for some cells of the second, then the second for some of the first and for those that
-// came apart. Answers those that came apart then.
-fn turn<N: Num>(
-    a: &mut State<N>,
-    b: &mut State<N>,
-    for_first: &[Cell<N>],
-    for_second: Vec<Cell<N>>,
-) -> Result<Vec<Cell<N>>, Memory>
-    ensures first { OnOk result (a.new ≡ parted_at (facing a.old.model for_first.now) a.old) }
-    ensures second { OnOk result (b.new
-        ≡ parted_at (facing b.old.model (more_for a.old.model a.old.cells for_first.now for_second.items)) b.old) }
-    ensures faced { IfOk result (λ v. v.items ≡ map on_left_alone
-        (faced b.old.model (more_for a.old.model a.old.cells for_first.now for_second.items) b.old.cells)) }
-{
-    let mut for_second = for_second;
-    let parted = part_facing(a, for_first)?;
-    push_all(&mut for_second, &parted)?;
-    let others = part_facing(b, &for_second)?;
-    Ok(others)
+// Two states, and cells for which each is still to be looked at.
+#[derive(Drop)]
+struct Round<N> {
+    left: State<N>,
+    right: State<N>,
+    for_left: Vec<Cell<N>>,
+    for_right: Vec<Cell<N>>,
 }
 
-fn are_none<N: Num>(xs: &[Cell<N>], ys: &[Cell<N>]) -> bool
+// The first state is looked at for its cells, then the second for its own and for those that came apart. Those that
+// came apart then are for the first.
+fn turn<N: Num>(now: Round<N>) -> Result<Round<N>, Memory>
+    ensures first { IfOk result (λ t. t.left ≡ parted_at (facing now.left.model now.for_left.items) now.left) }
+    ensures second { IfOk result (λ t. t.right ≡ parted_at (facing now.right.model
+        (more_for now.left.model now.left.cells now.for_left.items now.for_right.items)) now.right) }
+    ensures faced { IfOk result (λ t. t.for_left.items ≡ map on_left_alone (faced now.right.model
+        (more_for now.left.model now.left.cells now.for_left.items now.for_right.items) now.right.cells)) }
+    ensures none { IfOk result (λ t. t.for_right.items ≡ []) }
+{
+    let alloc = now.left.allocator();
+    let mut for_right = now.for_right;
+    let first = part_facing(now.left, &now.for_left)?;
+    push_all(&mut for_right, &first.lefts)?;
+    let second = part_facing(now.right, &for_right)?;
+    Ok(Round {
+        left: first.state,
+        right: second.state,
+        for_left: second.lefts,
+        for_right: Vec::new(alloc),
+    })
+}
+
+pub(crate) fn are_none<N: Num>(xs: &[Cell<N>], ys: &[Cell<N>]) -> bool
     ensures first { IsTrue result → xs.now ≡ [] }
     ensures second { IsTrue result → ys.now ≡ [] }
 {
@@ -55,45 +67,53 @@ fn are_none<N: Num>(xs: &[Cell<N>], ys: &[Cell<N>]) -> bool
     ys.is_empty()
 }
 
-fn part_by_turns<N: Num>(
-    a: &mut State<N>,
-    b: &mut State<N>,
-    times: usize,
-    for_first: Vec<Cell<N>>,
-    for_second: Vec<Cell<N>>,
-) -> Result<(), Memory>
-    requires model { a.old.model ≡ b.old.model }
-    requires times { times ≡ length a.old.cells + length b.old.cells }
-    requires turning { Turning a.old.model a.old.cells b.old.cells for_first.items for_second.items }
-    ensures first { OnOk result (a.new
-        ≡ record a.old { cells = (parted_both a.old.model (a.old.cells, b.old.cells)).0 }) }
-    ensures second { OnOk result (b.new
-        ≡ record b.old { cells = (parted_both a.old.model (a.old.cells, b.old.cells)).1 }) }
+fn part_by_turns<N: Num>(start: Round<N>, times: usize) -> Result<States<N>, Memory>
+    requires model { start.left.model ≡ start.right.model }
+    requires times { times ≡ length start.left.cells + length start.right.cells }
+    requires turning { Turning start.left.model start.left.cells start.right.cells start.for_left.items
+        start.for_right.items }
+    ensures first { IfOk result (λ s. s.left ≡ record start.left {
+      cells
+          = (parted_both start.left.model (start.left.cells, start.right.cells)).0;
+    }) }
+    ensures second { IfOk result (λ s. s.right ≡ record start.right {
+      cells
+          = (parted_both start.left.model (start.left.cells, start.right.cells)).1;
+    }) }
 {
-    let mut for_first = for_first;
-    let mut for_second = for_second;
+    let mut sofar = start;
     for _ in 0..times {
-        if are_none(&for_first, &for_second) {
-            return Ok(());
+        if are_none(&sofar.for_left, &sofar.for_right) {
+            return Ok(States {
+                left: sofar.left,
+                right: sofar.right,
+            });
         }
-        for_first = turn(a, b, &for_first, for_second)?;
-        for_second = Vec::new(a.allocator());
+        let next = turn(sofar)?;
+        sofar = next;
     }
-    Ok(())
+    Ok(States {
+        left: sofar.left,
+        right: sofar.right,
+    })
 }
 
 /// Each Shared cell of both that faces a cell of one side of the other state comes apart, again until none does. Costs
 /// a look at all cells, and a step for each cell that comes apart.
-pub fn part_both<N: Num>(a: &mut State<N>, b: &mut State<N>) -> Result<(), Memory>
-    requires { a.old.model ≡ b.old.model }
-    ensures first { OnOk result (a.new
-        ≡ record a.old { cells = (parted_both a.old.model (a.old.cells, b.old.cells)).0 }) }
-    ensures second { OnOk result (b.new
-        ≡ record b.old { cells = (parted_both a.old.model (a.old.cells, b.old.cells)).1 }) }
+pub fn part_both<N: Num>(a: State<N>, b: State<N>) -> Result<States<N>, Memory>
+    requires { a.model ≡ b.model }
+    ensures first { IfOk result (λ s. s.left ≡ record a { cells = (parted_both a.model (a.cells, b.cells)).0 }) }
+    ensures second { IfOk result (λ s. s.right ≡ record b { cells = (parted_both a.model (a.cells, b.cells)).1 }) }
 {
     a.model();
     b.model();
-    let lacked = differences(a, b)?;
-    part_by_turns(a, b, lacked.count, lacked.right, lacked.left)?;
-    Ok(())
+    let lacked = differences(&a, &b)?;
+    let start = Round {
+        left: a,
+        right: b,
+        for_left: lacked.right,
+        for_right: lacked.left,
+    };
+    let after = part_by_turns(start, lacked.count)?;
+    Ok(after)
 }

@@ -1,4 +1,4 @@
+mod Alike
+mod Both
 mod Bytes
 mod Splits
-mod Alike
-mod Unified

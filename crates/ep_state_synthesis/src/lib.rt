@@ -6,6 +6,7 @@ mod splitting;
 mod unifying;
 
 pub use ep_scalar_reads::ReadValue;
+pub use ep_state_steps::States;
 pub use reading::{read, read_at};
 pub use splitting::split;
-pub use unifying::unify;
+pub use unifying::{unified, unify};

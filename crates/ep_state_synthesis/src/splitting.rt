@@ -19,8 +19,8 @@ fn split_copy<N: Num>(state: &State<N>, p: Place) -> Result<State<N>, Memory>
     requires { is_same_side p.side Side.Shared ≡ false }
     ensures { IfOk result (λ s. s ≡ record state.now { cells = split N.ops state.now p }) }
 {
-    let mut after = state.copy()?;
-    split_all(&mut after, p)?;
+    let copy = state.copy()?;
+    let after = split_all(copy, p)?;
     Ok(after)
 }
 

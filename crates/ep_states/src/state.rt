@@ -15,13 +15,14 @@ ghost use Rattle.ep_cell_ranges.specs.Ranges.{overwritten, blurred_at};
 ghost use Rattle.ep_cell_rows.specs.Parts.{united as of_union};
 ghost use Rattle.ep_bicells.specs.Steps.{changed_by};
 ghost use Rattle.ep_cell_parts.specs.About.{IsAbout};
+ghost use Rattle.ep_cell_steps.specs.Kept.{AreKept};
+ghost use Rattle.ep_shared_parts.specs.Spread.{all_items};
 ghost use Rattle.ep_cell_parts.specs.Alike.{are_different};
 
 use ep_bicells::cells;
 use ep_bicells::changes::Step;
 use ep_bitslice::Side;
 use ep_cell_changes::check::{are_cells, in_order};
-use ep_cell_changes::reshare::reshared;
 use ep_cell_parts::about::about;
 use ep_cell_parts::conditions::can_write;
 use ep_cell_parts::equals::{are_equal, is_model, is_order};
@@ -36,12 +37,10 @@ use ep_cell_steps::changes::{Parts, after, changed};
 use ep_cell_steps::weak_writes::{weaken_at, weakened};
 use ep_cell_steps::writes::{write_at, written};
 use ep_cells::{Cell, Place, Value};
-use ep_cells_laws::reshare_laws;
 use ep_domain::Num;
 use ep_int::{Memory, Model, Order, Scalar};
 use ep_layout::Leaf;
-use ep_shared_parts::parts::{Part, shared};
-use ep_shared_parts::uses::Use;
+use ep_shared_parts::parts::shared;
 use ep_shared_parts::walks::are_alike;
 use std::alloc::Global;
 
@@ -50,8 +49,7 @@ use std::alloc::Global;
 pub struct State<N> {
     orders: (Order, Order),
     model: Model,
-    parts: Vec<Part<Cell<N>>>,
-    uses: Vec<Part<Use>>,
+    parts: Parts<N>,
 }
 
 impl<N> std::marker::Model for State<N> {
@@ -61,12 +59,23 @@ impl<N> std::marker::Model for State<N> {
 
     ghost Value = { Known N };
 
-    ghost view = { λ s. record { orders = s.orders; model = s.model; cells = all_items s.parts.items } };
+    ghost view = { λ s. record { orders = s.orders; model = s.model; cells = all_items s.parts.cells.items } };
 
-    ghost invariant = { λ s. AreKept s.model s.parts.items s.uses.items };
+    ghost invariant = { λ s. AreKept s.model s.parts.cells.items s.parts.uses.items };
 }
 
 impl<N: Num> State<N> {
+    fn of_parts(orders: (Order, Order), model: Model, parts: Parts<N>) -> Self
+        requires { AreKept model parts.cells.items parts.uses.items }
+        ensures { result ≡ record { orders = orders; model = model; cells = all_items parts.cells.items } }
+    {
+        State {
+            orders,
+            model,
+            parts,
+        }
+    }
+
     /// Nothing is known. Takes no memory.
     pub fn empty(alloc: Global, orders: (Order, Order), model: Model) -> Self
         ensures { result ≡ record { orders = orders; model = model; cells = [] } }
@@ -74,8 +83,10 @@ impl<N: Num> State<N> {
         State {
             orders,
             model,
-            parts: Vec::new(alloc),
-            uses: Vec::new(alloc),
+            parts: Parts {
+                cells: Vec::new(alloc),
+                uses: Vec::new(alloc),
+            },
         }
     }
 
@@ -90,13 +101,8 @@ impl<N: Num> State<N> {
         ensures { IfOk result (λ s. s ≡ record { orders = orders; model = model; cells = cells.items }) }
     {
         let uses = index(alloc, &cells)?;
-        let parts = spread(alloc, cells)?;
-        Ok(State {
-            orders,
-            model,
-            parts,
-            uses,
-        })
+        let cells = spread(alloc, cells)?;
+        Ok(State::of_parts(orders, model, Parts { cells, uses }))
     }
 
     /// The state of these cells, in whatever order they are given. None where they are none of a state.
@@ -122,18 +128,16 @@ impl<N: Num> State<N> {
     pub fn copy(&self) -> Result<Self, Memory>
         ensures { IfOk result (λ s. s ≡ self.now) }
     {
-        let alloc = *self.parts.allocator();
-        Ok(State {
-            orders: self.orders,
-            model: self.model,
-            parts: shared(alloc, &self.parts)?,
-            uses: shared(alloc, &self.uses)?,
-        })
+        let alloc = *self.parts.cells.allocator();
+        let cells = shared(alloc, &self.parts.cells)?;
+        let uses = shared(alloc, &self.parts.uses)?;
+        let parts = Parts { cells, uses };
+        Ok(State::of_parts(self.orders, self.model, parts))
     }
 
     /// The allocator of its parts.
     pub fn allocator(&self) -> Global {
-        *self.parts.allocator()
+        *self.parts.cells.allocator()
     }
 
     /// The byte orders of the left and of the right memory.
@@ -155,21 +159,21 @@ impl<N: Num> State<N> {
     pub fn cells(&self) -> Result<Vec<Cell<N>>, Memory>
         ensures { IfOk result (λ v. v.items ≡ self.now.cells) }
     {
-        cells::copied(*self.parts.allocator(), &self.parts)
+        cells::copied(*self.parts.cells.allocator(), &self.parts.cells)
     }
 
     /// The cell of that side, or Shared, that has the byte. Takes no memory.
     pub fn cell_at(&self, side: Side, block: u32, byte: u32) -> Option<&Cell<N>>
         ensures { option_map (λ c. c.now) result ≡ cell_at self.now.model side block byte self.now.cells }
     {
-        cells::cell_at(self.model, side, block, byte, &self.parts)
+        cells::cell_at(self.model, side, block, byte, &self.parts.cells)
     }
 
     /// All cells where they stand, in order. Takes memory for the list alone.
     pub fn all(&self) -> Result<Vec<&Cell<N>>, Memory>
         ensures { IfOk result (λ v. map (λ r. r.now) v.items ≡ self.now.cells) }
     {
-        let cells = cells::all(*self.parts.allocator(), &self.parts)?;
+        let cells = cells::all(*self.parts.cells.allocator(), &self.parts.cells)?;
         Ok(cells)
     }
 
@@ -177,7 +181,7 @@ impl<N: Num> State<N> {
     pub fn about(&self, place: &Place) -> Result<Vec<&Cell<N>>, Memory>
         ensures { IfOk result (λ v. IsAbout self.now.model place.now self.now.cells (map (λ r. r.now) v.items)) }
     {
-        let cells = about(*self.parts.allocator(), &self.parts, place)?;
+        let cells = about(*self.parts.cells.allocator(), &self.parts.cells, place)?;
         Ok(cells)
     }
 
@@ -185,14 +189,14 @@ impl<N: Num> State<N> {
     pub fn partly(&self, place: &Place) -> bool
         ensures { result ≡ is_some_partly_in self.now.model place.now self.now.cells }
     {
-        cells::is_some_partly_in(self.model, place, &self.parts)
+        cells::is_some_partly_in(self.model, place, &self.parts.cells)
     }
 
     /// Whether it has each cell of the other, within it. Takes no memory.
     pub fn leq(&self, other: &State<N>) -> bool
         ensures { result ≡ are_within N.ops self.now.cells other.now.cells }
     {
-        cells::are_within(&self.parts, &other.parts)
+        cells::are_within(&self.parts.cells, &other.parts.cells)
     }
 
     /// Whether a cell may be written. Looks at all cells.
@@ -208,7 +212,7 @@ impl<N: Num> State<N> {
     pub fn is_like(&self, other: &State<N>) -> bool
         ensures { IsTrue result ↔ HaveCellsAlike self.now.cells other.now.cells }
     {
-        are_alike(&self.parts, &other.parts)
+        are_alike(&self.parts.cells, &other.parts.cells)
     }
 
     /// Whether both are one state: of one pair of byte orders, one data model and the same cells. Takes no memory.
@@ -218,7 +222,7 @@ impl<N: Num> State<N> {
         is_order(self.orders.0, other.orders.0)
             & is_order(self.orders.1, other.orders.1)
             & is_model(self.model, other.model)
-            & are_equal(&self.parts, &other.parts)
+            & are_equal(&self.parts.cells, &other.parts.cells)
     }
 
     /// Writes a cell: what was in its place on the sides written is gone. Costs the parts with cells that touch the
@@ -228,8 +232,14 @@ impl<N: Num> State<N> {
         ensures ok { OnOk result (self.new ≡ record self.old { cells = written self.old.model c self.old.cells }) }
         ensures err { OnErr result (self.new ≡ self.old) }
     {
-        let alloc = *self.parts.allocator();
-        write_at(alloc, self.model, &mut self.parts, &mut self.uses, c)
+        let alloc = *self.parts.cells.allocator();
+        write_at(
+            alloc,
+            self.model,
+            &mut self.parts.cells,
+            &mut self.parts.uses,
+            c,
+        )
     }
 
     /// A cell may be written: a weak write at one of several possible places. `shared_stays` where both memories have
@@ -241,12 +251,12 @@ impl<N: Num> State<N> {
             ≡ record self.old { cells = weakened N.ops self.old.model c.now shared_stays self.old.cells }) }
         ensures err { OnErr result (self.new ≡ self.old) }
     {
-        let alloc = *self.parts.allocator();
+        let alloc = *self.parts.cells.allocator();
         weaken_at(
             alloc,
             self.model,
-            &mut self.parts,
-            &self.uses,
+            &mut self.parts.cells,
+            &self.parts.uses,
             c,
             shared_stays,
         )
@@ -267,7 +277,7 @@ impl<N: Num> State<N> {
             ≡ with_value (undefined_cell side block offset what) value self.old) }
         ensures err { OnErr result (self.new ≡ self.old) }
     {
-        let alloc = *self.parts.allocator();
+        let alloc = *self.parts.cells.allocator();
         let c = Cell {
             side,
             block,
@@ -277,7 +287,7 @@ impl<N: Num> State<N> {
             maybe: true,
             form: None,
         };
-        set_value_at(alloc, self.model, &mut self.parts, &c)
+        set_value_at(alloc, self.model, &mut self.parts.cells, &c)
     }
 
     fn changed(&self, step: &Step<N>, new: &[Cell<N>]) -> Result<State<N>, Memory>
@@ -285,15 +295,10 @@ impl<N: Num> State<N> {
         ensures { IfOk result (λ s. s
             ≡ record self.now { cells = changed_by N.ops self.now.model step.now new.now self.now.cells }) }
     {
-        let alloc = *self.parts.allocator();
+        let alloc = *self.parts.cells.allocator();
         let model = self.model;
-        let after = changed(alloc, model, &self.parts, &self.uses, step, new)?;
-        Ok(State {
-            orders: self.orders,
-            model,
-            parts: after.cells,
-            uses: after.uses,
-        })
+        let parts = changed(alloc, model, &self.parts.cells, &self.parts.uses, step, new)?;
+        Ok(State::of_parts(self.orders, model, parts))
     }
 
     /// A step, with new cells, whose forms mention cells as they were before it. What comes of it has to be the cells
@@ -319,20 +324,10 @@ impl<N: Num> State<N> {
         ensures { IfOk result (λ s. s
             ≡ record self { cells = changed_by N.ops self.model step.now new.items self.cells }) }
     {
-        let alloc = *self.parts.allocator();
-        let State {
-            orders,
-            model,
-            parts: cells,
-            uses,
-        } = self;
-        let made = after(alloc, model, Parts { cells, uses }, step, &new)?;
-        Ok(State {
-            orders,
-            model,
-            parts: made.cells,
-            uses: made.uses,
-        })
+        let alloc = *self.parts.cells.allocator();
+        let (orders, model) = (self.orders, self.model);
+        let parts = after(alloc, model, self.parts, step, &new)?;
+        Ok(State::of_parts(orders, model, parts))
     }
 
     /// The state where a cell is written. Costs what `after` does.
@@ -340,20 +335,10 @@ impl<N: Num> State<N> {
         requires { CanWrite self.model c self.cells }
         ensures { IfOk result (λ s. s ≡ record self { cells = written self.model c self.cells }) }
     {
-        let alloc = *self.parts.allocator();
-        let State {
-            orders,
-            model,
-            parts: cells,
-            uses,
-        } = self;
-        let made = written(alloc, model, Parts { cells, uses }, c)?;
-        Ok(State {
-            orders,
-            model,
-            parts: made.cells,
-            uses: made.uses,
-        })
+        let alloc = *self.parts.cells.allocator();
+        let (orders, model) = (self.orders, self.model);
+        let parts = written(alloc, model, self.parts, c)?;
+        Ok(State::of_parts(orders, model, parts))
     }
 
     /// The state where a cell may be written, as by `weaken`. Costs what `after` does.
@@ -363,40 +348,20 @@ impl<N: Num> State<N> {
         ensures { IfOk result (λ s. s
             ≡ record self { cells = weakened N.ops self.model c.now shared_stays self.cells }) }
     {
-        let alloc = *self.parts.allocator();
-        let State {
-            orders,
-            model,
-            parts: cells,
-            uses,
-        } = self;
-        let made = weakened(alloc, model, Parts { cells, uses }, c, shared_stays)?;
-        Ok(State {
-            orders,
-            model,
-            parts: made.cells,
-            uses: made.uses,
-        })
+        let alloc = *self.parts.cells.allocator();
+        let (orders, model) = (self.orders, self.model);
+        let parts = weakened(alloc, model, self.parts, c, shared_stays)?;
+        Ok(State::of_parts(orders, model, parts))
     }
 
     /// The state where a place may have been written in whatever way, as by `blur`. Costs what `after` does.
     pub fn blurred(self, place: Place) -> Result<State<N>, Memory>
         ensures { IfOk result (λ s. s ≡ blurred_at N.ops place self) }
     {
-        let alloc = *self.parts.allocator();
-        let State {
-            orders,
-            model,
-            parts: cells,
-            uses,
-        } = self;
-        let made = blurred(alloc, model, Parts { cells, uses }, place)?;
-        Ok(State {
-            orders,
-            model,
-            parts: made.cells,
-            uses: made.uses,
-        })
+        let alloc = *self.parts.cells.allocator();
+        let (orders, model) = (self.orders, self.model);
+        let parts = blurred(alloc, model, self.parts, place)?;
+        Ok(State::of_parts(orders, model, parts))
     }
 
     /// New cells in a place, in which no others lie partly: what was there on its sides is gone. What comes of it has
@@ -418,8 +383,14 @@ impl<N: Num> State<N> {
         ensures ok { OnOk result (self.new ≡ blurred_at N.ops place self.old) }
         ensures err { OnErr result (self.new ≡ self.old) }
     {
-        let alloc = *self.parts.allocator();
-        blur_at(alloc, self.model, &mut self.parts, &self.uses, place)
+        let alloc = *self.parts.cells.allocator();
+        blur_at(
+            alloc,
+            self.model,
+            &mut self.parts.cells,
+            &self.parts.uses,
+            place,
+        )
     }
 
     fn united(&self, union: Union, other: &State<N>) -> Result<State<N>, Memory>
@@ -429,15 +400,12 @@ impl<N: Num> State<N> {
             ≡ record self.now { cells = cells_of_both (of_union N.ops union) self.now.cells other.now.cells }) }
     {
         other.model();
-        let alloc = *self.parts.allocator();
+        let alloc = *self.parts.cells.allocator();
         let model = self.model;
-        let parts = united(alloc, model, union, &self.parts, &self.uses, &other.parts)?;
-        Ok(State {
-            orders: self.orders,
-            model,
-            parts,
-            uses: shared(alloc, &self.uses)?,
-        })
+        let (first, second) = (&self.parts.cells, &other.parts.cells);
+        let cells = united(alloc, model, union, first, &self.parts.uses, second)?;
+        let uses = shared(alloc, &self.parts.uses)?;
+        Ok(State::of_parts(self.orders, model, Parts { cells, uses }))
     }
 
     /// What both say, where both have cells of the same sides, places and types.
@@ -465,24 +433,20 @@ impl<N: Num> State<N> {
         ensures { IfOk result (λ s. s
             ≡ record self.now { cells = killed_cells self.now.model side block leaves.now size self.now.cells }) }
     {
-        let alloc = *self.parts.allocator();
+        let alloc = *self.parts.cells.allocator();
         let model = self.model;
-        let parts = killed(
+        let cells = killed(
             alloc,
             model,
-            &self.parts,
-            &self.uses,
+            &self.parts.cells,
+            &self.parts.uses,
             side,
             block,
             leaves,
             size,
         )?;
-        Ok(State {
-            orders: self.orders,
-            model,
-            parts,
-            uses: shared(alloc, &self.uses)?,
-        })
+        let uses = shared(alloc, &self.parts.uses)?;
+        Ok(State::of_parts(self.orders, model, Parts { cells, uses }))
     }
 
     /// A block of these leaves and this size is killed on a side, or on both: its cells are as on entry, and pointers
@@ -504,14 +468,12 @@ impl<N: Num> State<N> {
         Ok(())
     }
 
-    fn reshared(&self) -> Result<State<N>, Memory>
-        ensures { IfOk result (λ s. s ≡ record self.now { cells = reshared N.ops self.now.cells }) }
+    /// The places at which Left cells begin. Looks at all cells.
+    pub fn left_places(&self) -> Result<Vec<(u32, u32)>, Memory>
+        ensures { IfOk result (λ v. v.items ≡ places self.now.cells) }
     {
-        let alloc = *self.parts.allocator();
-        let before = self.cells()?;
-        reshare_laws::<N>();
-        let cells = reshared(alloc, before)?;
-        State::with_cells(alloc, self.orders, self.model, cells)
+        let places = places(*self.parts.cells.allocator(), &self.parts.cells)?;
+        Ok(places)
     }
 
     /// Whether no Left cell is surely the same as a Right one, so that resharing leaves all cells as they are. Takes
@@ -520,20 +482,7 @@ impl<N: Num> State<N> {
         ensures value { IfOk result (λ b. b ≡ are_different N.ops self.now.cells (places self.now.cells)) }
         ensures stays { IfOk result (λ b. IsTrue b → self.now.cells ≡ reshared N.ops self.now.cells) }
     {
-        let places = places(*self.parts.allocator(), &self.parts)?;
-        Ok(are_different(&places, &self.parts))
-    }
-
-    /// Left and Right integer cells of one place and type that are surely the same become Shared ones.
-    pub fn reshare(&mut self) -> Result<(), Memory>
-        ensures ok { OnOk result (self.new ≡ record self.old { cells = reshared N.ops self.old.cells }) }
-        ensures err { OnErr result (self.new ≡ self.old) }
-    {
-        if self.is_reshared()? {
-            return Ok(());
-        }
-        let after = self.reshared()?;
-        *self = after;
-        Ok(())
+        let places = places(*self.parts.cells.allocator(), &self.parts.cells)?;
+        Ok(are_different(&places, &self.parts.cells))
     }
 }

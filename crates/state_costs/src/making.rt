@@ -137,10 +137,17 @@ fn mentions(state: &mut State<Numbers>, row: &Row) -> Result<(), Memory> {
     Ok(())
 }
 
+fn other(alloc: Global, row: &Row) -> Result<State<Numbers>, Memory> {
+    match row.case {
+        Case::Alone => Ok(State::empty(alloc, (Order::Little, Order::Big), Model::Ilp32)),
+        _ => state(alloc, row),
+    }
+}
+
 /// A state, and another that differs from it as the row says.
 pub(crate) fn states(alloc: Global, row: &Row) -> Result<(State<Numbers>, State<Numbers>), Memory> {
     let mut first = state(alloc, row)?;
-    let mut second = state(alloc, row)?;
+    let mut second = other(alloc, row)?;
     let middle = row.cells / 2;
     let any = Numbers::top(type_of(row.lay));
     match row.case {
@@ -150,6 +157,7 @@ pub(crate) fn states(alloc: Global, row: &Row) -> Result<(State<Numbers>, State<
         Case::Parted => write(&mut second, cell(row.lay, Side::Left, middle, any))?,
         Case::Pairs(n) => pairs(&mut first, row, n)?,
         Case::Mentions => mentions(&mut first, row)?,
+        Case::Alone => {}
     }
     Ok((first, second))
 }

@@ -79,8 +79,8 @@ fn split_copy(state: &State<Numbers>, row: &Row, at: u32) -> Result<(), Memory> 
 }
 
 fn reshare_copy(state: &State<Numbers>) -> Result<(), Memory> {
-    let mut copy = state.copy()?;
-    reshare_all(&mut copy)
+    reshare_all(state.copy()?)?;
+    Ok(())
 }
 
 fn blur_copy(state: &State<Numbers>, row: &Row) -> Result<(), Memory> {

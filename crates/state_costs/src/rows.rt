@@ -45,6 +45,8 @@ pub(crate) enum Case {
     Pairs(u32),
     /// Cells were written again and again that mention another.
     Mentions,
+    /// The second state has no cells.
+    Alone,
 }
 
 #[derive(Clone, Copy)]
@@ -100,6 +102,7 @@ fn case_of(word: &str) -> Option<Case> {
         "pair" => Some(Case::Pairs(1)),
         "pairs" => Some(Case::Pairs(1000)),
         "mentions" => Some(Case::Mentions),
+        "alone" => Some(Case::Alone),
         _ => None,
     }
 }

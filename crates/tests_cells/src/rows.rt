@@ -8,6 +8,7 @@ use ep_cell_changes::entry::are_leaves;
 use ep_cells::Cell;
 use ep_int::{Model, Order};
 use ep_layout::Leaf;
+use ep_state_steps::reshare_all;
 use ep_states::State;
 use std::alloc::Global;
 use tests_cell_words::reading::{self, Numbers};
@@ -131,9 +132,9 @@ fn kill(setting: Setting, arguments: &str, cells: &str) -> Option<String> {
 }
 
 fn reshare(setting: Setting, cells: &str) -> Option<String> {
-    let mut state = state(setting, cells)?;
-    state.reshare().ok()?;
-    text(setting, &state)
+    let state = state(setting, cells)?;
+    let after = reshare_all(state).ok()?;
+    text(setting, &after)
 }
 
 // The side, the block and the byte.

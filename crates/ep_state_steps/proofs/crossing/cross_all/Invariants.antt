@@ -3,4 +3,4 @@ use Rattle.ep_state_steps.specs.Ones.{crossed_at}
 use Rattle.ep_state_steps.proofs.crossing.cross_all.Given as goal
 
 abbrev pub invariant-loop-x : goal.invariant-loop-x
-invariant-loop-x g l = crossed_at g.N.Num.ops (drop l.x-index l.xs) l.state ≡ crossed_at g.N.Num.ops l.xs l.fn.state
+invariant-loop-x g l = crossed_at g.N.Num.ops (drop l.x-index l.xs) l.sofar ≡ crossed_at g.N.Num.ops l.xs l.fn.state

@@ -5,11 +5,11 @@ use Rattle.ep_state_steps.proofs.lacking.drop_all.Goals as goal
 
 pub loop-z-preserved : goal.loop-z-preserved
 loop-z-preserved g c =
-    drop_next c.z-item.result c.args.zs.now c.loop-z.z-index c.loop-z.state c.drop_one.new.state _
-    (drop_at c.args.zs.now c.loop-z.z-index c.z-item.result c.z-item.is c.loop-z-test.true) c.in_ok-drop_one.ensures
+    drop_next c.z-item.result c.args.zs.now c.loop-z.z-index c.loop-z.sofar c.in_ok-next.next _
+    (drop_at c.args.zs.now c.loop-z.z-index c.z-item.result c.z-item.is c.loop-z-test.true) c.in_ok-next.ensures
     c.loop-z.invariant
 
 pub returns : goal.returns
 returns g c =
-    drop_last c.args.zs.now c.loop-z.z-index c.loop-z.state _ (omega (arith, c.loop-z-test.false)) c.model.ensures.cells
+    drop_last c.args.zs.now c.loop-z.z-index c.loop-z.sofar _ (omega (arith, c.loop-z-test.false)) c.model.ensures.cells
     c.loop-z.invariant

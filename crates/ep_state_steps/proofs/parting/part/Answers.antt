@@ -1,12 +1,12 @@
 use Rattle.ep_state_steps.proofs.Stepwise.{unshared_cells, unshared_is}
 use Rattle.ep_state_steps.proofs.parting.part.Goals as goal
 
-pub change-requires : goal.change-requires
-change-requires g c =
-    unshared_cells g.N.Num.ops c.args.state.now.model c.args.z.now c.in_ok-copy_cell.field-0 _ c.args.state.now.cells
+pub after-requires : goal.after-requires
+after-requires g c =
+    unshared_cells g.N.Num.ops c.args.state.model c.args.z.now c.in_ok-copy_cell.field-0 _ c.args.state.cells
     c.model.ensures.cells c.in_ok-copy_cell.ensures c.new-none.ensures.items c.requires
 
 pub returns : goal.returns
 returns g c =
-    unshared_is g.N.Num.ops c.args.state.now c.change.new.self c.args.z.now c.in_ok-copy_cell.field-0 _
-    c.in_ok-copy_cell.ensures c.new-none.ensures.items c.requires c.in_ok-change.ensures.ok
+    unshared_is g.N.Num.ops c.args.state c.in_ok-after.after c.args.z.now c.in_ok-copy_cell.field-0 _
+    c.in_ok-copy_cell.ensures c.new-none.ensures.items c.requires c.in_ok-after.ensures

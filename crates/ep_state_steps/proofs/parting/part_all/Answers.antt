@@ -13,12 +13,12 @@ part-requires g c =
 pub loop-z-preserved : goal.loop-z-preserved
 loop-z-preserved g c =
     let e = drop_at c.args.zs.now c.loop-z.z-index c.z-item.result c.z-item.is c.loop-z-test.true in (
-      part_next c.z-item.result c.args.zs.now c.loop-z.z-index c.loop-z.state c.part.new.state _ e c.in_ok-part.ensures
+      part_next c.z-item.result c.args.zs.now c.loop-z.z-index c.loop-z.sofar c.in_ok-next.next _ e c.in_ok-next.ensures
           c.loop-z.invariant.0,
       (subst (Each IsShared) e c.loop-z.invariant.1).1,
     )
 
 pub returns : goal.returns
 returns g c =
-    part_last c.args.zs.now c.loop-z.z-index c.loop-z.state _ (omega (arith, c.loop-z-test.false)) c.model.ensures.cells
+    part_last c.args.zs.now c.loop-z.z-index c.loop-z.sofar _ (omega (arith, c.loop-z-test.false)) c.model.ensures.cells
     c.loop-z.invariant.0

@@ -6,4 +6,4 @@ use Rattle.ep_state_steps.proofs.parting.part_all.Given as goal
 
 abbrev pub invariant-loop-z : goal.invariant-loop-z
 invariant-loop-z g l =
-    (part_of (drop l.z-index l.zs) l.state ≡ part_of l.zs l.fn.state) × Each IsShared (drop l.z-index l.zs)
+    (part_of (drop l.z-index l.zs) l.sofar ≡ part_of l.zs l.fn.state) × Each IsShared (drop l.z-index l.zs)

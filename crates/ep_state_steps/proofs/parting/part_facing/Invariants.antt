@@ -4,5 +4,5 @@ use Rattle.ep_state_steps.proofs.parting.part_facing.Given as goal
 
 abbrev pub invariant-loop-y : goal.invariant-loop-y
 invariant-loop-y g l =
-    (faced_of (drop l.y-index l.ys) l.state ≡ faced_of l.ys l.fn.state)
-    × (l.out.items ++ lefts_of (drop l.y-index l.ys) l.state ≡ lefts_of l.ys l.fn.state)
+    (faced_of (drop l.y-index l.ys) l.sofar ≡ faced_of l.ys l.fn.state)
+    × (l.lefts.items ++ lefts_of (drop l.y-index l.ys) l.sofar ≡ lefts_of l.ys l.fn.state)

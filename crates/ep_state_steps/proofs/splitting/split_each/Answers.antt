@@ -13,12 +13,12 @@ split_like-requires-clause-has g c =
 pub loop-x-preserved : goal.loop-x-preserved
 loop-x-preserved g c =
     let e = drop_at c.args.xs.now c.loop-x.x-index c.x-item.result c.x-item.is c.loop-x-test.true in (
-      split_next g.N.Num.ops c.args.side c.x-item.result c.args.xs.now c.loop-x.x-index c.loop-x.state
-          c.split_like.new.state _ e c.in_ok-split_like.ensures c.loop-x.invariant.0,
+      split_next g.N.Num.ops c.args.side c.x-item.result c.args.xs.now c.loop-x.x-index c.loop-x.sofar
+          c.in_ok-next.next _ e c.in_ok-next.ensures c.loop-x.invariant.0,
       (subst (Each (Has c.args.side)) e c.loop-x.invariant.1).1,
     )
 
 pub returns : goal.returns
 returns g c =
-    split_last g.N.Num.ops c.args.side c.args.xs.now c.loop-x.x-index c.loop-x.state _
+    split_last g.N.Num.ops c.args.side c.args.xs.now c.loop-x.x-index c.loop-x.sofar _
     (omega (arith, c.loop-x-test.false)) c.loop-x.invariant.0

@@ -1,4 +1,4 @@
-use Rattle.ep_state_synthesis.proofs.Unified.{first_stays, others_stay}
+use Rattle.ep_state_synthesis.proofs.Both.{first_stays, others_stay}
 use Rattle.ep_state_synthesis.proofs.unifying.unify.Goals as goal
 
 pub returns-clause-first_holds : goal.returns-clause-first_holds

@@ -11,15 +11,15 @@ returns-clause-value g c =
     (ap (λ k. k.cells) c.self.view_is)
     (c.are_different.ensures
     ∙ ap (λ z. are_different g.N.Num.ops (all_items z) c.deref-2.result.now) c.deref-3.ensures.value
-    ∙ ap (are_different g.N.Num.ops (all_items c.self.inside.parts.items)) c.deref-2.ensures.value
-    ∙ ap (are_different g.N.Num.ops (all_items c.self.inside.parts.items))
+    ∙ ap (are_different g.N.Num.ops (all_items c.self.inside.parts.cells.items)) c.deref-2.ensures.value
+    ∙ ap (are_different g.N.Num.ops (all_items c.self.inside.parts.cells.items))
     (c.in_ok-places.ensures ∙ ap (λ z. places (all_items z)) c.deref.ensures.value))
 
 pub returns-clause-stays : goal.returns-clause-stays
 returns-clause-stays g c = λ h.
     subst (λ cs. cs ≡ reshared g.N.Num.ops cs) (ap (λ k. k.cells) c.self.view_is)
-    (all_stay g.N.Num.ops c.in_ok-places.places.items (all_items c.self.inside.parts.items) c.are_different.result
+    (all_stay g.N.Num.ops c.in_ok-places.places.items (all_items c.self.inside.parts.cells.items) c.are_different.result
     (c.in_ok-places.ensures ∙ ap (λ z. places (all_items z)) c.deref.ensures.value)
     (c.are_different.ensures
     ∙ ap (λ z. are_different g.N.Num.ops (all_items z) c.deref-2.result.now) c.deref-3.ensures.value
-    ∙ ap (are_different g.N.Num.ops (all_items c.self.inside.parts.items)) c.deref-2.ensures.value) h)
+    ∙ ap (are_different g.N.Num.ops (all_items c.self.inside.parts.cells.items)) c.deref-2.ensures.value) h)

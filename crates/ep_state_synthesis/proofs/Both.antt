@@ -51,16 +51,14 @@ models {N = N} k l kz lz cs ds m e f = ap (λ (z : Known N). z.model) e ∙ m �
 abbrev with_cells : {N : Type 0} → Known N → List (Cell N) → Known N
 with_cells k cs = record k { cells = cs }
 
-pub both_unified : {N : Type 0} (D : Ops N) (k l a b a1 b1 a2 b2 a3 b3 : Known N) → k.model ≡ l.model
+pub both_unified : {N : Type 0} (D : Ops N) (k l a b a1 b1 a2 b2 : Known N) → k.model ≡ l.model
     → k.orders ≡ l.orders → a ≡ record k { cells = reshared D k.cells } → b ≡ record l { cells = reshared D l.cells }
     → a1 ≡ record a { cells = (parted_both a.model (a.cells, b.cells)).0 }
     → b1 ≡ record b { cells = (parted_both a.model (a.cells, b.cells)).1 }
-    → a2 ≡ record a1 { cells = uncrossed D a1 b1.cells a1.cells }
-    → b2 ≡ record b1 { cells = uncrossed D b1 a1.cells b1.cells }
-    → a3 ≡ record a2 { cells = had_by_both b2.cells a2.cells }
-    → b3 ≡ record b2 { cells = had_by_both a2.cells b2.cells }
-    → (a3 ≡ record k { cells = (unified D k l).0 }) × (b3 ≡ record l { cells = (unified D k l).1 })
-both_unified {N = N} D k l a b a1 b1 a2 b2 a3 b3 m o ea eb ea1 eb1 ea2 eb2 ea3 eb3 =
+    → a2 ≡ record a1 { cells = had_by_both (uncrossed D b1 a1.cells b1.cells) (uncrossed D a1 b1.cells a1.cells) }
+    → b2 ≡ record b1 { cells = had_by_both (uncrossed D a1 b1.cells a1.cells) (uncrossed D b1 a1.cells b1.cells) }
+    → (a2 ≡ record k { cells = (unified D k l).0 }) × (b2 ≡ record l { cells = (unified D k l).1 })
+both_unified {N = N} D k l a b a1 b1 a2 b2 m o ea eb ea1 eb1 ea2 eb2 =
     let q : List (Cell N) × List (Cell N) = parted_both k.model (reshared D k.cells, reshared D l.cells) in
     let us : List (Cell N) = uncrossed D k q.1 q.0 in
     let vs : List (Cell N) = uncrossed D k q.0 q.1 in
@@ -72,22 +70,23 @@ both_unified {N = N} D k l a b a1 b1 a2 b2 a3 b3 m o ea eb ea1 eb1 ea2 eb2 ea3 e
     eb1
     ∙ ap (λ (z : Known N). with_cells z (parted_both a.model (a.cells, z.cells)).1) eb
     ∙ ap (λ (z : Known N). with_cells l (parted_both z.model (z.cells, reshared D l.cells)).1) ea in
-    let x2 : a2 ≡ with_cells k us =
-    ea2
-    ∙ ap (λ (z : Known N). with_cells z (uncrossed D z b1.cells z.cells)) x
-    ∙ ap (λ (z : Known N). with_cells k (uncrossed D (with_cells k q.0) z.cells q.0)) y
-    ∙ ap (with_cells k) (uncrossed_with D k q.0 q.1 q.0) in
-    let y2 : b2 ≡ with_cells l vs =
-    eb2
-    ∙ ap (λ (z : Known N). with_cells z (uncrossed D z a1.cells z.cells)) y
-    ∙ ap (λ (z : Known N). with_cells l (uncrossed D (with_cells l q.1) z.cells q.1)) x
-    ∙ ap (with_cells l) (uncrossed_with D l q.1 q.0 q.1 ∙ uncrossed_beside D k l m o q.0 q.1) in (
-      ea3
-          ∙ ap (λ (z : Known N). with_cells z (had_by_both b2.cells z.cells)) x2
-          ∙ ap (λ (z : Known N). with_cells k (had_by_both z.cells us)) y2,
-      eb3
-          ∙ ap (λ (z : Known N). with_cells z (had_by_both a2.cells z.cells)) y2
-          ∙ ap (λ (z : Known N). with_cells l (had_by_both z.cells vs)) x2,
+    let u : uncrossed D a1 b1.cells a1.cells ≡ us =
+    ap (λ (z : Known N). uncrossed D z b1.cells z.cells) x
+    ∙ ap (λ (z : Known N). uncrossed D (with_cells k q.0) z.cells q.0) y
+    ∙ uncrossed_with D k q.0 q.1 q.0 in
+    let v : uncrossed D b1 a1.cells b1.cells ≡ vs =
+    ap (λ (z : Known N). uncrossed D z a1.cells z.cells) y
+    ∙ ap (λ (z : Known N). uncrossed D (with_cells l q.1) z.cells q.1) x
+    ∙ uncrossed_with D l q.1 q.0 q.1
+    ∙ uncrossed_beside D k l m o q.0 q.1 in (
+      ea2
+          ∙ ap (λ c. with_cells a1 (had_by_both (uncrossed D b1 a1.cells b1.cells) c)) u
+          ∙ ap (λ c. with_cells a1 (had_by_both c us)) v
+          ∙ ap (λ (z : Known N). with_cells z (had_by_both vs us)) x,
+      eb2
+          ∙ ap (λ c. with_cells b1 (had_by_both c (uncrossed D b1 a1.cells b1.cells))) u
+          ∙ ap (λ c. with_cells b1 (had_by_both us c)) v
+          ∙ ap (λ (z : Known N). with_cells z (had_by_both us vs)) y,
     )
 
 pub both_alike : {N : Type 0} (D : Ops N) (k l a b : Known N) → k.model ≡ l.model
@@ -103,6 +102,30 @@ both_alike {N = N} D k l a b m ea eb p q h =
       ea ∙ ap (with_cells k) (sym (ap (λ (t : List (Cell N) × List (Cell N)). t.0) u ∙ f)),
       eb ∙ ap (with_cells l) (sym (ap (λ (t : List (Cell N) × List (Cell N)). t.1) u ∙ g)),
     )
+
+-- ---- the same, of copies
+
+pub copied_first : {N : Type 0} (D : Ops N) (k l a b s : Known N) → a ≡ k → b ≡ l
+    → s ≡ record a { cells = (unified D a b).0 } → s ≡ record k { cells = (unified D k l).0 }
+copied_first {N = N} D k l a b s e f h =
+    h
+    ∙ ap (λ (z : Known N). record z { cells = (unified D z b).0 }) e
+    ∙ ap (λ (z : Known N). record k { cells = (unified D k z).0 }) f
+
+pub copied_second : {N : Type 0} (D : Ops N) (k l a b t : Known N) → a ≡ k → b ≡ l
+    → t ≡ record b { cells = (unified D a b).1 } → t ≡ record l { cells = (unified D k l).1 }
+copied_second {N = N} D k l a b t e f h =
+    h
+    ∙ ap (λ (z : Known N). record b { cells = (unified D z b).1 }) e
+    ∙ ap (λ (z : Known N). record z { cells = (unified D k z).1 }) f
+
+pub copied_orders : {N : Type 0} (k l a b : Known N) → a ≡ k → b ≡ l → k.orders ≡ l.orders → a.orders ≡ b.orders
+copied_orders {N = N} k l a b e f h =
+    ap (λ (z : Known N). z.orders) e ∙ h ∙ sym (ap (λ (z : Known N). z.orders) f)
+
+pub copied_model : {N : Type 0} (k l a b : Known N) → a ≡ k → b ≡ l → k.model ≡ l.model → a.model ≡ b.model
+copied_model {N = N} k l a b e f h =
+    ap (λ (z : Known N). z.model) e ∙ h ∙ sym (ap (λ (z : Known N). z.model) f)
 
 -- ---- the laws, of what the states are then
 
