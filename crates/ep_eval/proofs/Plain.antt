@@ -1,23 +1,18 @@
 -- What forms that are none of others give.
-use Rattle.std.proofs.Common.{◌≡◌, ℕ, Bool, true, false, List, Option, None, Some, refl, sym, true≢false}
+use Rattle.std.proofs.Common.{◌≡◌, ℕ, ℤ, Bool, true, false, List, None, refl, true≢false}
 use Rattle.std.specs.Global.{Box}
 use Rattle.ep_int.specs.declared.types.Cmp.{Cmp}
 use Rattle.ep_int.specs.declared.types.IntType.{IntType}
 use Rattle.ep_int.specs.declared.types.Scalar.{Scalar}
-use Rattle.ep_core.specs.declared.tree.Expr.{Expr, And, Or, Not, Cond, Compare, PtrCompare, Load, Convert}
+use Rattle.ep_core.specs.declared.tree.Expr.{Expr, And, Or, Not, Cond, Compare, PtrCompare, Load, Convert, Const, Null, AddrOf, Cast}
 use Rattle.ep_core.specs.declared.tree.Place.{Place}
 use Rattle.ep_core.specs.declared.tree.Expr.TheVariants as form
 use Rattle.ep_core.specs.Runs.{Side}
 use Rattle.ep_core.specs.View.{shown_expr}
 use Rattle.ep_domain.specs.Domain.{Ops}
-use Rattle.ep_cells.specs.declared.cell.Cell.{Cell}
 use Rattle.ep_cells.specs.States.{Known}
-use Rattle.ep_evaluation.specs.Narrowed.{then_with}
 use Rattle.ep_evaluation.specs.Evaluation.{expression, test_assumed}
-use Rattle.ep_eval_parts.specs.declared.limits.Limit.{Limit}
-use Rattle.ep_eval_parts.specs.declared.limits.Limit.TheVariants as limit
-use Rattle.ep_eval_parts.specs.Limits.{is_free, limited}
-use Rattle.ep_eval.specs.Forms.{is_branching, is_joined}
+use Rattle.ep_eval.specs.Forms.{is_branching, is_joined, is_of_two}
 
 pub strictly : (e : Expr) → ((x y : Box Expr) → e ≡ And x y → ⊥) → ((x y : Box Expr) → e ≡ Or x y → ⊥)
     → ((x y z : Box Expr) → e ≡ Cond x y z → ⊥) → is_branching (shown_expr e) ≡ false
@@ -35,6 +30,25 @@ strictly (form.Not' p x) a o c = refl
 strictly (form.Cond' p x q y r z) a o c = absurd (c _ _ _ refl)
 strictly (form.PtrAdd' p x unit q y back) a o c = refl
 strictly (form.Cast' p x) a o c = refl
+
+pub of_two : (e : Expr) → is_branching (shown_expr e) ≡ false → ((t : IntType) (v : ℤ) → e ≡ Const t v → ⊥)
+    → (e ≡ Null → ⊥) → ((w : Scalar) (x : Box Place) → e ≡ Load w x → ⊥) → ((x : Box Place) → e ≡ AddrOf x → ⊥)
+    → ((t : IntType) (x : Box Expr) → e ≡ Convert t x → ⊥) → ((x : Box Expr) → e ≡ Not x → ⊥)
+    → ((x : Box Expr) → e ≡ Cast x → ⊥) → is_of_two (shown_expr e) ≡ true
+of_two (form.Const t v) j k n l a c o u = absurd (k _ _ refl)
+of_two form.Null j k n l a c o u = absurd (n refl)
+of_two (form.Load' w p x) j k n l a c o u = absurd (l _ _ refl)
+of_two (form.AddrOf' p x) j k n l a c o u = absurd (a _ refl)
+of_two (form.Bin' b t p x q y) j k n l a c o u = refl
+of_two (form.Convert' t p x) j k n l a c o u = absurd (c _ _ refl)
+of_two (form.Compare' b t p x q y) j k n l a c o u = refl
+of_two (form.PtrCompare' b p x q y) j k n l a c o u = refl
+of_two (form.And' p x q y) j k n l a c o u = absurd (true≢false j)
+of_two (form.Or' p x q y) j k n l a c o u = absurd (true≢false j)
+of_two (form.Not' p x) j k n l a c o u = absurd (o _ refl)
+of_two (form.Cond' p x q y r z) j k n l a c o u = absurd (true≢false j)
+of_two (form.PtrAdd' p x unit q y back) j k n l a c o u = refl
+of_two (form.Cast' p x) j k n l a c o u = absurd (u _ refl)
 
 pub single : (e : Expr) → ((x y : Box Expr) → e ≡ And x y → ⊥) → ((x y : Box Expr) → e ≡ Or x y → ⊥)
     → ((x : Box Expr) → e ≡ Not x → ⊥) → is_joined (shown_expr e) ≡ false
@@ -92,10 +106,3 @@ module _ {N : Type 0} (D : Ops N) (sizes : List ℕ) (s : Side) (k : Known N) wh
   cell_nowhere (form.Cond' p x q y r z) l c = refl
   cell_nowhere (form.PtrAdd' p x unit q y back) l c = refl
   cell_nowhere (form.Cast' p x) l c = refl
-
--- an operand that may be anything
-pub free_left : {N : Type 0} (D : Ops N) (l : Limit N) (c : Option (Cell N)) (k : Known N) → is_free l ≡ true
-    → Some k ≡ limited D l c k
-free_left D limit.Free c k h = refl
-free_left D (limit.Number n) c k h = absurd (true≢false (sym h))
-free_left D (limit.Null b) c k h = absurd (true≢false (sym h))

@@ -36,3 +36,20 @@ is_joined (logical_not a) = true
 is_joined (conditional e a b) = false
 is_joined (ptr_add a unit n back) = false
 is_joined (cast a) = false
+
+-- an operator of two operands that are both evaluated
+abbrev pub is_of_two : Expr → Bool
+is_of_two (const t v) = false
+is_of_two null_value = false
+is_of_two (load w a) = false
+is_of_two (addr_of a) = false
+is_of_two (binary o t a b) = true
+is_of_two (convert t a) = false
+is_of_two (compare c t a b) = true
+is_of_two (ptr_compare c a b) = true
+is_of_two (logical_and a b) = false
+is_of_two (logical_or a b) = false
+is_of_two (logical_not a) = false
+is_of_two (conditional e a b) = false
+is_of_two (ptr_add a unit n back) = true
+is_of_two (cast a) = false

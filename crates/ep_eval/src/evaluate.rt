@@ -1,30 +1,36 @@
 //! Expressions and places: what they give in a mode, and what is left of a state where a test has a truth. On one side a
 //! pass gives the value and what is left for both truths, so that no part is evaluated again at each level.
 
-ghost use Rattle.std.specs.Prelude.{◌≡◌, ◌++◌, IfOk, IfSome, OnOk, None, Some, true, false};
+ghost use Rattle.std.specs.Prelude.{◌≡◌, IfOk, IfSome, Some, true, false};
 ghost use Rattle.ep_core.specs.Runs.{left, right};
 ghost use Rattle.ep_core.specs.View.{shown_expr, shown_place};
 ghost use Rattle.ep_cells.specs.States.{IsOfSort};
 ghost use Rattle.ep_evaluation.specs.Evaluation as spec;
 ghost use Rattle.ep_evaluation.specs.Evaluation.{expression, place};
-ghost use Rattle.ep_evaluation.specs.Given.{alone};
-ghost use Rattle.ep_evaluation.specs.Narrowed.{then_with};
+ghost use Rattle.ep_evaluation.specs.Given.{alone, on};
+ghost use Rattle.ep_evaluation.specs.Narrowed.{then_with, again};
+ghost use Rattle.ep_evaluation.specs.Narrowed as narrowed;
 ghost use Rattle.ep_eval_fits.specs.Fitting.{ExprIsFit, PlaceIsFit};
+ghost use Rattle.ep_eval_sides.specs.Sides.{faultless};
 ghost use Rattle.ep_eval_loads.specs.After.{left_of};
 ghost use Rattle.ep_eval_loads.specs.Running.{side_of};
-ghost use Rattle.ep_eval.specs.Forms.{is_branching, is_joined};
-ghost use Rattle.ep_eval_parts.specs.Steps.{LeadsOn, given_later, given_second, pair_if, state_where};
+ghost use Rattle.ep_eval.specs.Forms.{is_branching, is_joined, is_of_two};
+ghost use Rattle.ep_eval_parts.specs.Limits as limits;
+ghost use Rattle.ep_eval_parts.specs.Limits.{both_limited};
+ghost use Rattle.ep_eval_forms.specs.Results.{IsFirst, IsGiven, IsLater, IsOperand, IsSecond, IsTested};
+ghost use Rattle.ep_eval_parts.specs.Steps.{given_later, state_where};
 
 use ep_core::tree::{Expr, Place};
 use ep_domain::Num;
 use ep_equalities::{Fault, Mode, PairValue};
+use ep_eval_forms::asks::{turned, with_false, with_true};
+use ep_eval_forms::cells::{converted_operand, loaded};
+use ep_eval_forms::tested::{conjunction, disjunction, opposite, pointers_compared, value_tested};
 use ep_eval_loads::loads::load;
 use ep_eval_loads::{After, Running};
-use ep_eval_parts::left::{Assumed, Second, Wants, behind, either_if, left_where, second_behind};
+use ep_eval_parts::left::{Assumed, Second, Wants, behind, left_where, second_behind};
 use ep_eval_parts::modes::{First, mode_where};
-use ep_eval_parts::operands::{
-    Operand, kept_cell, load_cell, numbers, operands_assumed, pointers, value_assumed,
-};
+use ep_eval_parts::operands::{Operand, numbers, operands_assumed};
 use ep_eval_parts::sure::are_sure;
 use ep_eval_parts::typed::{computed, converted};
 use ep_eval_parts::verdicts::has_one_truth;
@@ -34,13 +40,13 @@ use ep_eval_sides::operators::{
     block, chosen, comparison, constant, negation, null, pointer_comparison, same_pointer, short,
 };
 use ep_eval_sides::sides::{may_be, when_not};
-use ep_int::Memory;
+use ep_int::{Cmp, Memory};
 use ep_states::State;
 
-/// What an expression gives in a mode. Its faults are added to those that are there.
+/// What an expression gives in a mode.
 #[cycle(evaluate)]
 #[tactic(auto, using(crate::proofs::Plain::strictly))]
-pub fn eval<N: Num>(
+pub(crate) fn eval<N: Num>(
     e: &Expr,
     sizes: &[u32],
     state: &State<N>,
@@ -48,10 +54,8 @@ pub fn eval<N: Num>(
     faults: &mut Vec<Fault>,
 ) -> Result<PairValue<N>, Memory>
     requires fit { ExprIsFit (shown_expr e.now) }
-    ensures value { IfOk result (λ r. r
-        ≡ ((expression N.ops sizes.now (shown_expr e.now)).gives mode state.now).pair) }
-    ensures faults { OnOk result (faults.new.items
-        ≡ faults.old.items ++ ((expression N.ops sizes.now (shown_expr e.now)).gives mode state.now).faults) }
+    ensures { IfOk result (λ r. IsGiven (expression N.ops sizes.now (shown_expr e.now)).gives mode state.now
+        faults.old.items faults.new.items r) }
 {
     match e {
         Expr::And(a, b) => {
@@ -76,6 +80,7 @@ pub fn eval<N: Num>(
 
 // An expression whose operands are all evaluated.
 #[cycle(evaluate)]
+#[tactic(auto, using(crate::proofs::Plain::of_two))]
 fn eval_strict<N: Num>(
     e: &Expr,
     sizes: &[u32],
@@ -85,10 +90,8 @@ fn eval_strict<N: Num>(
 ) -> Result<PairValue<N>, Memory>
     requires fit { ExprIsFit (shown_expr e.now) }
     requires strict { is_branching (shown_expr e.now) ≡ false }
-    ensures value { IfOk result (λ r. r
-        ≡ ((expression N.ops sizes.now (shown_expr e.now)).gives mode state.now).pair) }
-    ensures faults { OnOk result (faults.new.items
-        ≡ faults.old.items ++ ((expression N.ops sizes.now (shown_expr e.now)).gives mode state.now).faults) }
+    ensures { IfOk result (λ r. IsGiven (expression N.ops sizes.now (shown_expr e.now)).gives mode state.now
+        faults.old.items faults.new.items r) }
 {
     match e {
         Expr::Const(t, v) => Ok(constant(mode, *t, *v)),
@@ -101,14 +104,41 @@ fn eval_strict<N: Num>(
             let x = address(a, sizes, state, mode, faults)?;
             same_pointer(mode, &x)
         }
+        Expr::Convert(t, a) => {
+            let x = eval(a, sizes, state, mode, faults)?;
+            Ok(converted(a, sizes, state, mode, *t, &x))
+        }
+        Expr::Not(a) => {
+            let x = eval(a, sizes, state, mode, faults)?;
+            Ok(negation(mode, &x))
+        }
+        Expr::Cast(a) => {
+            let x = eval(a, sizes, state, mode, faults)?;
+            same_pointer(mode, &x)
+        }
+        _ => eval_two(e, sizes, state, mode, faults),
+    }
+}
+
+// An expression of two operands.
+#[cycle(evaluate)]
+fn eval_two<N: Num>(
+    e: &Expr,
+    sizes: &[u32],
+    state: &State<N>,
+    mode: Mode,
+    faults: &mut Vec<Fault>,
+) -> Result<PairValue<N>, Memory>
+    requires fit { ExprIsFit (shown_expr e.now) }
+    requires two { is_of_two (shown_expr e.now) ≡ true }
+    ensures { IfOk result (λ r. IsGiven (expression N.ops sizes.now (shown_expr e.now)).gives mode state.now
+        faults.old.items faults.new.items r) }
+{
+    match e {
         Expr::Bin(op, t, a, b) => {
             let x = eval(a, sizes, state, mode, faults)?;
             let y = eval(b, sizes, state, mode, faults)?;
             computed(a, sizes, state, mode, *op, *t, &x, &y, faults)
-        }
-        Expr::Convert(t, a) => {
-            let x = eval(a, sizes, state, mode, faults)?;
-            Ok(converted(a, sizes, state, mode, *t, &x))
         }
         Expr::Compare(c, _, a, b) => {
             let x = eval(a, sizes, state, mode, faults)?;
@@ -120,26 +150,18 @@ fn eval_strict<N: Num>(
             let y = eval(b, sizes, state, mode, faults)?;
             pointer_comparison(mode, *c, &x, &y, faults)
         }
-        Expr::Not(a) => {
-            let x = eval(a, sizes, state, mode, faults)?;
-            Ok(negation(mode, &x))
-        }
         Expr::PtrAdd(a, unit, n, back) => {
             let x = eval(a, sizes, state, mode, faults)?;
             let y = eval(n, sizes, state, mode, faults)?;
             sum(mode, sizes, *unit, *back, &x, &y, faults)
         }
-        Expr::Cast(a) => {
-            let x = eval(a, sizes, state, mode, faults)?;
-            same_pointer(mode, &x)
-        }
         _ => unreachable!(),
     }
 }
 
-/// What a place gives in a mode: its address. Its faults are added to those that are there.
+/// What a place gives in a mode: its address.
 #[cycle(evaluate)]
-pub fn address<N: Num>(
+pub(crate) fn address<N: Num>(
     a: &Place,
     sizes: &[u32],
     state: &State<N>,
@@ -147,9 +169,8 @@ pub fn address<N: Num>(
     faults: &mut Vec<Fault>,
 ) -> Result<PairValue<N>, Memory>
     requires fit { PlaceIsFit (shown_place a.now) }
-    ensures value { IfOk result (λ r. r ≡ (place N.ops sizes.now (shown_place a.now) mode state.now).pair) }
-    ensures faults { OnOk result (faults.new.items
-        ≡ faults.old.items ++ (place N.ops sizes.now (shown_place a.now) mode state.now).faults) }
+    ensures { IfOk result (λ r. IsGiven (place N.ops sizes.now (shown_place a.now)) mode state.now faults.old.items
+        faults.new.items r) }
 {
     match a {
         Place::Block(b) => block(state.allocator(), mode, *b),
@@ -181,14 +202,8 @@ fn first<N: Num>(
     faults: &mut Vec<Fault>,
 ) -> Result<First<N>, Memory>
     requires fit { ExprIsFit (shown_expr e.now) }
-    ensures value { IfOk result (λ r. r.value
-        ≡ ((expression N.ops sizes.now (shown_expr e.now)).gives mode state.now).pair) }
-    ensures faults { OnOk result (faults.new.items
-        ≡ faults.old.items ++ ((expression N.ops sizes.now (shown_expr e.now)).gives mode state.now).faults) }
-    ensures yes { IfOk result (λ r. wants.yes ≡ true → LeadsOn N.ops (expression N.ops sizes.now (shown_expr e.now))
-        mode true state.now r.mode_true (left_of state.now r.when_true)) }
-    ensures no { IfOk result (λ r. wants.no ≡ true → LeadsOn N.ops (expression N.ops sizes.now (shown_expr e.now))
-        mode false state.now r.mode_false (left_of state.now r.when_false)) }
+    ensures { IfOk result (λ r. IsFirst N.ops (expression N.ops sizes.now (shown_expr e.now)) mode state.now
+        wants faults.old.items faults.new.items r) }
 {
     match mode {
         Mode::Both => first_of_both(e, sizes, state, wants, faults),
@@ -208,14 +223,8 @@ fn first_alone<N: Num>(
     faults: &mut Vec<Fault>,
 ) -> Result<First<N>, Memory>
     requires fit { ExprIsFit (shown_expr e.now) }
-    ensures value { IfOk result (λ r. r.value
-        ≡ ((expression N.ops sizes.now (shown_expr e.now)).gives (alone (side_of side)) state.now).pair) }
-    ensures faults { OnOk result (faults.new.items
-        ≡ faults.old.items ++ ((expression N.ops sizes.now (shown_expr e.now)).gives (alone (side_of side)) state.now).faults) }
-    ensures yes { IfOk result (λ r. wants.yes ≡ true → LeadsOn N.ops (expression N.ops sizes.now (shown_expr e.now))
-        (alone (side_of side)) true state.now r.mode_true (left_of state.now r.when_true)) }
-    ensures no { IfOk result (λ r. wants.no ≡ true → LeadsOn N.ops (expression N.ops sizes.now (shown_expr e.now))
-        (alone (side_of side)) false state.now r.mode_false (left_of state.now r.when_false)) }
+    ensures { IfOk result (λ r. IsFirst N.ops (expression N.ops sizes.now (shown_expr e.now)) (alone (side_of side))
+        state.now wants faults.old.items faults.new.items r) }
 {
     let x = test(e, sizes, state, side, wants, faults)?;
     let mode_true = mode_where(side.mode(), &x.value, true);
@@ -238,14 +247,8 @@ fn first_of_both<N: Num>(
     faults: &mut Vec<Fault>,
 ) -> Result<First<N>, Memory>
     requires fit { ExprIsFit (shown_expr e.now) }
-    ensures value { IfOk result (λ r. r.value
-        ≡ ((expression N.ops sizes.now (shown_expr e.now)).gives Mode.Both state.now).pair) }
-    ensures faults { OnOk result (faults.new.items
-        ≡ faults.old.items ++ ((expression N.ops sizes.now (shown_expr e.now)).gives Mode.Both state.now).faults) }
-    ensures yes { IfOk result (λ r. wants.yes ≡ true → LeadsOn N.ops (expression N.ops sizes.now (shown_expr e.now))
-        Mode.Both true state.now r.mode_true (left_of state.now r.when_true)) }
-    ensures no { IfOk result (λ r. wants.no ≡ true → LeadsOn N.ops (expression N.ops sizes.now (shown_expr e.now))
-        Mode.Both false state.now r.mode_false (left_of state.now r.when_false)) }
+    ensures { IfOk result (λ r. IsFirst N.ops (expression N.ops sizes.now (shown_expr e.now)) Mode.Both state.now
+        wants faults.old.items faults.new.items r) }
 {
     let value = eval(e, sizes, state, Mode::Both, faults)?;
     let stable = has_one_truth(Mode::Both, &value);
@@ -311,7 +314,7 @@ fn state_in<N: Num>(
 
 /// What is left where an expression has these truths, the left side's first.
 #[cycle(evaluate)]
-pub(crate) fn assumed_on_both<N: Num>(
+pub fn assumed_on_both<N: Num>(
     e: &Expr,
     sizes: &[u32],
     state: &State<N>,
@@ -366,10 +369,8 @@ fn later<N: Num>(
     faults: &mut Vec<Fault>,
 ) -> Result<Option<PairValue<N>>, Memory>
     requires fit { ExprIsFit (shown_expr e.now) }
-    ensures value { IfOk result (λ r. r ≡ pair_if (given_later N.ops
-        (expression N.ops sizes.now (shown_expr e.now)) mode (left_of state.now after))) }
-    ensures faults { OnOk result (faults.new.items ≡ faults.old.items ++ spec.later_faults N.ops (given_later N.ops
-        (expression N.ops sizes.now (shown_expr e.now)) mode (left_of state.now after))) }
+    ensures { IfOk result (λ r. IsLater N.ops (given_later N.ops (expression N.ops sizes.now (shown_expr e.now)) mode
+        (left_of state.now after)) faults.old.items faults.new.items r) }
 {
     match mode {
         None => Ok(None),
@@ -387,10 +388,8 @@ fn later_in<N: Num>(
     faults: &mut Vec<Fault>,
 ) -> Result<Option<PairValue<N>>, Memory>
     requires fit { ExprIsFit (shown_expr e.now) }
-    ensures value { IfOk result (λ r. r ≡ pair_if (spec.given_in N.ops
-        (expression N.ops sizes.now (shown_expr e.now)) mode (left_of state.now after))) }
-    ensures faults { OnOk result (faults.new.items ≡ faults.old.items ++ spec.later_faults N.ops (spec.given_in N.ops
-        (expression N.ops sizes.now (shown_expr e.now)) mode (left_of state.now after))) }
+    ensures { IfOk result (λ r. IsLater N.ops (spec.given_in N.ops (expression N.ops sizes.now (shown_expr e.now)) mode
+        (left_of state.now after)) faults.old.items faults.new.items r) }
 {
     match after {
         After::Nothing => Ok(None),
@@ -407,11 +406,10 @@ fn later_in<N: Num>(
 
 // ---- tests on one side
 
-/// What an expression gives on one side alone, and what is left of the state where it is of each truth that is asked for.
-/// The faults are added to those that are there.
+/// What an expression gives on one side alone, and what is left where it is of each truth that is asked for.
 #[cycle(evaluate)]
 #[tactic(auto, using(crate::proofs::Plain::single))]
-pub fn test<N: Num>(
+pub(crate) fn test<N: Num>(
     e: &Expr,
     sizes: &[u32],
     state: &State<N>,
@@ -420,57 +418,27 @@ pub fn test<N: Num>(
     faults: &mut Vec<Fault>,
 ) -> Result<Assumed<N>, Memory>
     requires fit { ExprIsFit (shown_expr e.now) }
-    ensures value { IfOk result (λ r. r.value
-        ≡ ((expression N.ops sizes.now (shown_expr e.now)).gives (alone (side_of side)) state.now).pair) }
-    ensures faults { OnOk result (faults.new.items ≡ faults.old.items
-        ++ ((expression N.ops sizes.now (shown_expr e.now)).gives (alone (side_of side)) state.now).faults) }
-    ensures yes { IfOk result (λ r. wants.yes ≡ true → left_of state.now r.when_true
-        ≡ (expression N.ops sizes.now (shown_expr e.now)).assumes (side_of side) true state.now) }
-    ensures no { IfOk result (λ r. wants.no ≡ true → left_of state.now r.when_false
-        ≡ (expression N.ops sizes.now (shown_expr e.now)).assumes (side_of side) false state.now) }
+    ensures { IfOk result (λ r. IsTested (expression N.ops sizes.now (shown_expr e.now)) (side_of side) state.now
+        wants faults.old.items faults.new.items r) }
 {
     match e {
         Expr::And(a, b) => {
-            let asks = Wants {
-                yes: true,
-                no: wants.no,
-            };
-            let x = test(a, sizes, state, side, asks, faults)?;
+            let x = test(a, sizes, state, side, with_true(wants), faults)?;
             let runs = may_be(&side.of(&x.value).value, true);
             let y = second(b, sizes, state, side, x.when_true, runs, wants, faults)?;
-            let when_false = either_if(wants.no, state, x.when_false, y.when_false)?;
-            Ok(Assumed {
-                value: short(true, side.mode(), &x.value, y.value),
-                when_true: y.when_true,
-                when_false,
-            })
+            let when_false = x.when_false;
+            conjunction(state, side, wants, &x.value, when_false, y)
         }
         Expr::Or(a, b) => {
-            let asks = Wants {
-                yes: wants.yes,
-                no: true,
-            };
-            let x = test(a, sizes, state, side, asks, faults)?;
+            let x = test(a, sizes, state, side, with_false(wants), faults)?;
             let runs = may_be(&side.of(&x.value).value, false);
             let y = second(b, sizes, state, side, x.when_false, runs, wants, faults)?;
-            let when_true = either_if(wants.yes, state, x.when_true, y.when_true)?;
-            Ok(Assumed {
-                value: short(false, side.mode(), &x.value, y.value),
-                when_true,
-                when_false: y.when_false,
-            })
+            let when_true = x.when_true;
+            disjunction(state, side, wants, &x.value, when_true, y)
         }
         Expr::Not(a) => {
-            let asks = Wants {
-                yes: wants.no,
-                no: wants.yes,
-            };
-            let x = test(a, sizes, state, side, asks, faults)?;
-            Ok(Assumed {
-                value: negation(side.mode(), &x.value),
-                when_true: x.when_false,
-                when_false: x.when_true,
-            })
+            let x = test(a, sizes, state, side, turned(wants), faults)?;
+            Ok(opposite(side, x))
         }
         _ => test_single(e, sizes, state, side, wants, faults),
     }
@@ -488,14 +456,8 @@ fn test_single<N: Num>(
 ) -> Result<Assumed<N>, Memory>
     requires fit { ExprIsFit (shown_expr e.now) }
     requires single { is_joined (shown_expr e.now) ≡ false }
-    ensures value { IfOk result (λ r. r.value
-        ≡ ((expression N.ops sizes.now (shown_expr e.now)).gives (alone (side_of side)) state.now).pair) }
-    ensures faults { OnOk result (faults.new.items ≡ faults.old.items
-        ++ ((expression N.ops sizes.now (shown_expr e.now)).gives (alone (side_of side)) state.now).faults) }
-    ensures yes { IfOk result (λ r. wants.yes ≡ true → left_of state.now r.when_true
-        ≡ (expression N.ops sizes.now (shown_expr e.now)).assumes (side_of side) true state.now) }
-    ensures no { IfOk result (λ r. wants.no ≡ true → left_of state.now r.when_false
-        ≡ (expression N.ops sizes.now (shown_expr e.now)).assumes (side_of side) false state.now) }
+    ensures { IfOk result (λ r. IsTested (expression N.ops sizes.now (shown_expr e.now)) (side_of side) state.now
+        wants faults.old.items faults.new.items r) }
 {
     match e {
         Expr::Compare(c, _, a, b) => {
@@ -503,35 +465,50 @@ fn test_single<N: Num>(
             let x = operand(a, sizes, state, side, faults)?;
             let y = operand(b, sizes, state, side, faults)?;
             let sure = are_sure(faults, from);
-            let value = comparison(side.mode(), *c, &x.value, &y.value);
-            let yes = numbers(side, sure, when_not(*c, true), &x, &y);
-            let when_true = operands_assumed(state, wants.yes, yes, &x, &y)?;
-            let no = numbers(side, sure, when_not(*c, false), &x, &y);
-            let when_false = operands_assumed(state, wants.no, no, &x, &y)?;
-            Ok(Assumed {
-                value,
-                when_true,
-                when_false,
-            })
+            compared(state, side, wants, c, sure, x, y)
         }
         Expr::PtrCompare(c, a, b) => {
             let from = faults.len();
             let x = operand(a, sizes, state, side, faults)?;
             let y = operand(b, sizes, state, side, faults)?;
             let sure = are_sure(faults, from);
-            let yes = pointers(side, sure, *c, true, &x, &y);
-            let when_true = operands_assumed(state, wants.yes, yes, &x, &y)?;
-            let no = pointers(side, sure, *c, false, &x, &y);
-            let when_false = operands_assumed(state, wants.no, no, &x, &y)?;
-            let value = pointer_comparison(side.mode(), *c, &x.value, &y.value, faults)?;
-            Ok(Assumed {
-                value,
-                when_true,
-                when_false,
-            })
+            pointers_compared(state, side, wants, *c, sure, x, y, faults)
         }
         _ => test_value(e, sizes, state, side, wants, faults),
     }
+}
+
+// A comparison of two numbers.
+fn compared<N: Num>(
+    state: &State<N>,
+    side: Running,
+    wants: Wants,
+    c: &Cmp,
+    sure: bool,
+    x: Operand<N>,
+    y: Operand<N>,
+) -> Result<Assumed<N>, Memory>
+    requires { IfSome x.cell (λ a. IsOfSort a.what a.value) }
+    ensures value { IfOk result (λ r. r.value
+        ≡ (spec.compare_given N.ops c.now (alone (side_of side)) (faultless x.value) (faultless y.value)).pair) }
+    ensures yes { IfOk result (λ r. wants.yes ≡ true → left_of state.now r.when_true ≡ both_limited N.ops
+        (limits.limits_if sure (limits.number_limits N.ops (narrowed.when_not c.now true)
+        (spec.number N.ops (on x.value (side_of side))) (spec.number N.ops (on y.value (side_of side))))) x.cell
+        (again y.cell) state.now) }
+    ensures no { IfOk result (λ r. wants.no ≡ true → left_of state.now r.when_false ≡ both_limited N.ops
+        (limits.limits_if sure (limits.number_limits N.ops (narrowed.when_not c.now false)
+        (spec.number N.ops (on x.value (side_of side))) (spec.number N.ops (on y.value (side_of side))))) x.cell
+        (again y.cell) state.now) }
+{
+    let yes = numbers(side, sure, when_not(*c, true), &x, &y);
+    let when_true = operands_assumed(state, wants.yes, yes, &x, &y)?;
+    let no = numbers(side, sure, when_not(*c, false), &x, &y);
+    let when_false = operands_assumed(state, wants.no, no, &x, &y)?;
+    Ok(Assumed {
+        value: comparison(side.mode(), *c, &x.value, &y.value),
+        when_true,
+        when_false,
+    })
 }
 
 // A test without a rule of its own: a number is compared with 0, a pointer with null.
@@ -545,27 +522,14 @@ fn test_value<N: Num>(
     faults: &mut Vec<Fault>,
 ) -> Result<Assumed<N>, Memory>
     requires fit { ExprIsFit (shown_expr e.now) }
-    ensures value { IfOk result (λ r. r.value
-        ≡ ((expression N.ops sizes.now (shown_expr e.now)).gives (alone (side_of side)) state.now).pair) }
-    ensures faults { OnOk result (faults.new.items ≡ faults.old.items
-        ++ ((expression N.ops sizes.now (shown_expr e.now)).gives (alone (side_of side)) state.now).faults) }
-    ensures yes { IfOk result (λ r. wants.yes ≡ true → left_of state.now r.when_true ≡ spec.test_assumed N.ops
-        (expression N.ops sizes.now (shown_expr e.now)).gives (expression N.ops sizes.now (shown_expr e.now)).cell
-        (side_of side) true state.now) }
-    ensures no { IfOk result (λ r. wants.no ≡ true → left_of state.now r.when_false ≡ spec.test_assumed N.ops
-        (expression N.ops sizes.now (shown_expr e.now)).gives (expression N.ops sizes.now (shown_expr e.now)).cell
-        (side_of side) false state.now) }
+    ensures { IfOk result (λ r. IsTested (spec.with_cell N.ops (expression N.ops sizes.now (shown_expr e.now)).gives
+        (expression N.ops sizes.now (shown_expr e.now)).cell) (side_of side) state.now wants faults.old.items
+        faults.new.items r) }
 {
     let from = faults.len();
     let x = operand(e, sizes, state, side, faults)?;
     let sure = are_sure(faults, from);
-    let when_true = value_assumed(state, side, wants.yes, sure, true, &x)?;
-    let when_false = value_assumed(state, side, wants.no, sure, false, &x)?;
-    Ok(Assumed {
-        value: x.value,
-        when_true,
-        when_false,
-    })
+    value_tested(state, side, wants, sure, x)
 }
 
 /// The second operand of `&&` or `||`, in what the first one leaves. Where it isn't evaluated, it has no faults.
@@ -581,14 +545,8 @@ pub(crate) fn second<N: Num>(
     faults: &mut Vec<Fault>,
 ) -> Result<Second<N>, Memory>
     requires fit { ExprIsFit (shown_expr e.now) }
-    ensures value { IfOk result (λ r. r.value ≡ pair_if (given_second N.ops
-        (expression N.ops sizes.now (shown_expr e.now)) (side_of side) runs (left_of state.now after))) }
-    ensures faults { OnOk result (faults.new.items ≡ faults.old.items ++ spec.later_faults N.ops (given_second N.ops
-        (expression N.ops sizes.now (shown_expr e.now)) (side_of side) runs (left_of state.now after))) }
-    ensures yes { IfOk result (λ r. wants.yes ≡ true → left_of state.now r.when_true ≡ then_with (left_of state.now after)
-        ((expression N.ops sizes.now (shown_expr e.now)).assumes (side_of side) true)) }
-    ensures no { IfOk result (λ r. wants.no ≡ true → left_of state.now r.when_false ≡ then_with (left_of state.now after)
-        ((expression N.ops sizes.now (shown_expr e.now)).assumes (side_of side) false)) }
+    ensures { IfOk result (λ r. IsSecond N.ops (expression N.ops sizes.now (shown_expr e.now)) (side_of side) runs
+        (left_of state.now after) state.now wants faults.old.items faults.new.items r) }
 {
     match after {
         After::Nothing => Ok(Second {
@@ -615,14 +573,8 @@ fn second_in<N: Num>(
     faults: &mut Vec<Fault>,
 ) -> Result<Second<N>, Memory>
     requires fit { ExprIsFit (shown_expr e.now) }
-    ensures value { IfOk result (λ r. r.value ≡ pair_if (given_second N.ops
-        (expression N.ops sizes.now (shown_expr e.now)) (side_of side) runs (Some state.now))) }
-    ensures faults { OnOk result (faults.new.items ≡ faults.old.items ++ spec.later_faults N.ops (given_second N.ops
-        (expression N.ops sizes.now (shown_expr e.now)) (side_of side) runs (Some state.now))) }
-    ensures yes { IfOk result (λ r. wants.yes ≡ true → left_of state.now r.when_true
-        ≡ (expression N.ops sizes.now (shown_expr e.now)).assumes (side_of side) true state.now) }
-    ensures no { IfOk result (λ r. wants.no ≡ true → left_of state.now r.when_false
-        ≡ (expression N.ops sizes.now (shown_expr e.now)).assumes (side_of side) false state.now) }
+    ensures { IfOk result (λ r. IsSecond N.ops (expression N.ops sizes.now (shown_expr e.now)) (side_of side) runs
+        (Some state.now) state.now wants faults.old.items faults.new.items r) }
 {
     if runs {
         let x = test(e, sizes, state, side, wants, faults)?;
@@ -652,29 +604,19 @@ fn operand<N: Num>(
     faults: &mut Vec<Fault>,
 ) -> Result<Operand<N>, Memory>
     requires fit { ExprIsFit (shown_expr e.now) }
-    ensures value { IfOk result (λ r. r.value
-        ≡ ((expression N.ops sizes.now (shown_expr e.now)).gives (alone (side_of side)) state.now).pair) }
-    ensures faults { OnOk result (faults.new.items ≡ faults.old.items
-        ++ ((expression N.ops sizes.now (shown_expr e.now)).gives (alone (side_of side)) state.now).faults) }
-    ensures cell { IfOk result (λ r. r.cell
-        ≡ (expression N.ops sizes.now (shown_expr e.now)).cell (side_of side) state.now) }
-    ensures sort { IfOk result (λ r. IfSome r.cell (λ c. IsOfSort c.what c.value)) }
+    ensures { IfOk result (λ r. IsOperand (expression N.ops sizes.now (shown_expr e.now)) (side_of side)
+        state.now faults.old.items faults.new.items r) }
 {
     match e {
         Expr::Load(what, a) => {
             let from = faults.len();
             let x = address(a, sizes, state, side.mode(), faults)?;
-            let cell = load_cell(sizes, state, side, *what, are_sure(faults, from), &x)?;
-            let value = load(side.mode(), sizes, state, *what, &x, faults)?;
-            Ok(Operand { value, cell })
+            let sure = are_sure(faults, from);
+            loaded(sizes, state, side, *what, sure, &x, faults)
         }
         Expr::Convert(t, a) => {
             let x = operand(a, sizes, state, side, faults)?;
-            let value = converted(a, sizes, state, side.mode(), *t, &x.value);
-            Ok(Operand {
-                value,
-                cell: kept_cell(*t, x.cell),
-            })
+            Ok(converted_operand(a, sizes, state, side, *t, x))
         }
         _ => without_cell(e, sizes, state, side, faults),
     }
@@ -689,11 +631,8 @@ fn without_cell<N: Num>(
     faults: &mut Vec<Fault>,
 ) -> Result<Operand<N>, Memory>
     requires fit { ExprIsFit (shown_expr e.now) }
-    ensures value { IfOk result (λ r. r.value
-        ≡ ((expression N.ops sizes.now (shown_expr e.now)).gives (alone (side_of side)) state.now).pair) }
-    ensures faults { OnOk result (faults.new.items ≡ faults.old.items
-        ++ ((expression N.ops sizes.now (shown_expr e.now)).gives (alone (side_of side)) state.now).faults) }
-    ensures cell { IfOk result (λ r. r.cell ≡ None) }
+    ensures { IfOk result (λ r. IsOperand (spec.plain N.ops (expression N.ops sizes.now (shown_expr e.now)).gives)
+        (side_of side) state.now faults.old.items faults.new.items r) }
 {
     let value = eval(e, sizes, state, side.mode(), faults)?;
     Ok(Operand { value, cell: None })

@@ -2,10 +2,10 @@
 //! where a test has a truth.
 #![tactic(auto)]
 
+mod calls;
 mod evaluate;
-mod taken;
 
-pub use ep_eval_parts::left::{Assumed, Wants};
+pub use calls::{address, eval, second, test};
+pub use ep_eval_parts::left::{Assumed, Second, Wants};
 pub use ep_eval_parts::verdicts::{Verdict, verdict_of};
-pub use evaluate::{address, eval, test};
-pub use taken::{Combinations, Taken, test_taken, test_taken_by, test_taken_where};
+pub use evaluate::assumed_on_both;

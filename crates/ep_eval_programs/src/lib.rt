@@ -19,8 +19,9 @@ use ep_core::program::{BlockInfo, CoreProgram};
 use ep_core::tree::{Expr, Place};
 use ep_domain::Num;
 use ep_equalities::{Fault, Mode, PairValue};
-use ep_eval::{Assumed, Combinations, Taken, Wants};
+use ep_eval::{Assumed, Wants};
 use ep_eval_loads::{After, Running};
+use ep_eval_taken::{Combinations, Taken};
 use ep_int::Memory;
 use ep_states::State;
 use std::alloc::{AllocError, Global};
@@ -119,7 +120,7 @@ pub fn test_taken<N: Num>(
     ensures false_false { IfOk result (λ r. asked.alike ≡ true → left_of state.now r.false_false
         ≡ spec.test_taken N.ops (meant N.ops (shown program.now) (shown_expr e.now)) false false state.now) }
 {
-    ep_eval::test_taken_where(e, sizes, state, x, asked)
+    ep_eval_taken::test_taken_where(e, sizes, state, x, asked)
 }
 
 /// What a test gives on one side alone, and what is left where it has each truth that is asked for. The faults are
@@ -144,5 +145,5 @@ pub fn test_taken_by<N: Num>(
     ensures no { IfOk result (λ r. wants.no ≡ true → left_of state.now r.when_false ≡ spec.test_taken_by N.ops
         (side_of side) (meant N.ops (shown program.now) (shown_expr e.now)) false state.now) }
 {
-    ep_eval::test_taken_by(e, sizes, state, side, wants, faults)
+    ep_eval_taken::test_taken_by(e, sizes, state, side, wants, faults)
 }

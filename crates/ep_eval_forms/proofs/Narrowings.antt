@@ -2,7 +2,6 @@
 use Rattle.std.proofs.Common.{◌≡◌, ℕ, Bool, true, false, cond, List, [], ◌∷◌, ◌++◌, length, drop, Option, None, Some, refl, ap, ◌∙◌, append_assoc}
 use Rattle.ep_int.specs.declared.types.Cmp.{Cmp}
 use Rattle.ep_int.specs.declared.types.Cmp.TheVariants.{Ne}
-use Rattle.ep_int.specs.declared.types.IntType.{IntType}
 use Rattle.ep_domain.specs.Domain.{Ops}
 use Rattle.ep_pointers.specs.Value.{Pointers, null_alone}
 use Rattle.ep_pointers.specs.Compare.{comparison_of}
@@ -11,14 +10,13 @@ use Rattle.ep_cells.specs.declared.cell.Cell.{Cell}
 use Rattle.ep_cells.specs.declared.cell.Value.{Value}
 use Rattle.ep_cells.specs.declared.cell.Value.TheVariants.{Num, Ptr}
 use Rattle.ep_cells.specs.States.{Known}
-use Rattle.ep_core.specs.Program.{Expr, compare, ptr_compare}
 use Rattle.ep_core.specs.Runs.{Side}
 use Rattle.ep_equalities.specs.declared.pair.Fault.{Fault}
 use Rattle.ep_equalities.specs.declared.pair.PairValue.{PairValue}
 use Rattle.ep_evaluation.specs.Given.{alone, on, are_sure}
 use Rattle.ep_evaluation.specs.Narrowed.{then_with, again, when_not, narrowed_by, numbers_narrowed, null_side, says_alike, answer, pointers_narrowed}
 use Rattle.ep_evaluation.specs.Operators.{test_of}
-use Rattle.ep_evaluation.specs.Evaluation.{Means, expression, number, pointer, if_sure, value_narrowed, test_assumed}
+use Rattle.ep_evaluation.specs.Evaluation.{Means, number, pointer, if_sure, value_narrowed, test_assumed, compare_means, pointers_means}
 use Rattle.ep_eval_parts.specs.declared.limits.Limits.{Limits}
 use Rattle.ep_eval_parts.specs.declared.limits.Limit.TheVariants.{Free, Null}
 use Rattle.ep_eval_parts.specs.Limits.{limits_within, limits_if, null_limit, number_limits, pointer_limits, value_limits, limited, both_limited}
@@ -106,27 +104,23 @@ module _ {N : Type 0} where
           (value_limits D t (on (e.gives (alone s) k).pair s).value) _
           (value_is (e.cell s) k t (on (e.gives (alone s) k).pair s).value)
 
-      module _ (sizes : List ℕ) (e d a : Expr) (y : PairValue N) (l : Option (Limits N)) where
-        pub compare_left : (cmp : Cmp) (u : IntType) (t : Bool) → e ≡ compare cmp u d a
-            → x ≡ ((expression D sizes d).gives (alone s) k).pair → y ≡ ((expression D sizes a).gives (alone s) k).pair
-            → c ≡ (expression D sizes d).cell s k
-            → b ≡ are_sure (((expression D sizes d).gives (alone s) k).faults ++ ((expression D sizes a).gives (alone s) k).faults)
+      module _ (d a : Means N) (y : PairValue N) (l : Option (Limits N)) where
+        pub compare_left : (cmp : Cmp) (t : Bool) → x ≡ (d.gives (alone s) k).pair → y ≡ (a.gives (alone s) k).pair
+            → c ≡ d.cell s k → b ≡ are_sure ((d.gives (alone s) k).faults ++ (a.gives (alone s) k).faults)
             → l ≡ limits_if b (number_limits D (when_not cmp t) (number D (on x s)) (number D (on y s)))
-            → (w ≡ true → o ≡ both_limited D l c (again ((expression D sizes a).cell s k)) k)
-            → w ≡ true → o ≡ (expression D sizes e).assumes s t k
-        compare_left cmp u t i j m n h p q g =
-            rw (i, q g, p, h, n, j, m)
-            (sure_is ((expression D sizes d).cell s) (again ((expression D sizes a).cell s k)) k _ _ _
-            (numbers_are ((expression D sizes d).cell s) (again ((expression D sizes a).cell s k)) k (when_not cmp t) _ _))
+            → (w ≡ true → o ≡ both_limited D l c (again (a.cell s k)) k)
+            → w ≡ true → o ≡ (compare_means D cmp d a).assumes s t k
+        compare_left cmp t j m n h p q g =
+            rw (q g, p, h, n, j, m)
+            (sure_is (d.cell s) (again (a.cell s k)) k _ _ _
+            (numbers_are (d.cell s) (again (a.cell s k)) k (when_not cmp t) _ _))
 
-        pub pointers_left : (cmp : Cmp) (t : Bool) → e ≡ ptr_compare cmp d a
-            → x ≡ ((expression D sizes d).gives (alone s) k).pair → y ≡ ((expression D sizes a).gives (alone s) k).pair
-            → c ≡ (expression D sizes d).cell s k
-            → b ≡ are_sure (((expression D sizes d).gives (alone s) k).faults ++ ((expression D sizes a).gives (alone s) k).faults)
+        pub pointers_left : (cmp : Cmp) (t : Bool) → x ≡ (d.gives (alone s) k).pair → y ≡ (a.gives (alone s) k).pair
+            → c ≡ d.cell s k → b ≡ are_sure ((d.gives (alone s) k).faults ++ (a.gives (alone s) k).faults)
             → l ≡ limits_if b (pointer_limits D cmp t (pointer D (on x s)) (pointer D (on y s)))
-            → (w ≡ true → o ≡ both_limited D l c (again ((expression D sizes a).cell s k)) k)
-            → w ≡ true → o ≡ (expression D sizes e).assumes s t k
-        pointers_left cmp t i j m n h p q g =
-            rw (i, q g, p, h, n, j, m)
-            (sure_is ((expression D sizes d).cell s) (again ((expression D sizes a).cell s k)) k _ _ _
-            (pointers_are ((expression D sizes d).cell s) (again ((expression D sizes a).cell s k)) k cmp t _ _))
+            → (w ≡ true → o ≡ both_limited D l c (again (a.cell s k)) k)
+            → w ≡ true → o ≡ (pointers_means D cmp d a).assumes s t k
+        pointers_left cmp t j m n h p q g =
+            rw (q g, p, h, n, j, m)
+            (sure_is (d.cell s) (again (a.cell s k)) k _ _ _
+            (pointers_are (d.cell s) (again (a.cell s k)) k cmp t _ _))

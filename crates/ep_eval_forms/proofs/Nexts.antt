@@ -12,7 +12,7 @@ use Rattle.ep_evaluation.specs.Operators.{may_be}
 use Rattle.ep_evaluation.specs.Evaluation.{Means, given_where, later, later_faults, same, short_given}
 use Rattle.ep_eval_sides.specs.Sides.{faultless, faultless_if}
 use Rattle.ep_eval_parts.specs.Steps.{pair_if, given_later, given_second, state_where, LeadsOn}
-use Rattle.ep_eval.proofs.Arms.{short_pair}
+use Rattle.ep_eval_forms.proofs.Arms.{short_pair}
 
 module _ {N : Type 0} (D : Ops N) where
   -- in both modes alike: the state where the truth can be assumed, or the state at hand

@@ -1,5 +1,5 @@
 -- What is left where a test has truths on both sides, by what each side leaves.
-use Rattle.std.proofs.Common.{◌≡◌, Bool, true, false, ◌||◌, not, Option, None, refl, sym, ap, ◌∙◌}
+use Rattle.std.proofs.Common.{◌≡◌, Bool, true, false, ◌||◌, not, Option, None, sym, ap, ◌∙◌}
 use Rattle.ep_domain.specs.Domain.{Ops}
 use Rattle.ep_cells.specs.States.{Known}
 use Rattle.ep_core.specs.Runs.{left, right}

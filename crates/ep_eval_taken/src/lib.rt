@@ -1,5 +1,6 @@
 //! What is left of a state where a test has truths on the running sides. Where its value is of the other truth alone,
 //! nothing is.
+#![tactic(auto)]
 
 ghost use Rattle.std.specs.Prelude.{◌≡◌, ◌++◌, ◌||◌, IfOk, OnOk, None, not, true, false};
 ghost use Rattle.ep_cells.specs.States.{Known};
@@ -8,16 +9,16 @@ ghost use Rattle.ep_core.specs.View.{shown_expr};
 ghost use Rattle.ep_equalities.specs.declared.pair.Mode.TheVariants.{Both};
 ghost use Rattle.ep_evaluation.specs.Evaluation as spec;
 ghost use Rattle.ep_evaluation.specs.Evaluation.{expression};
-ghost use Rattle.ep_evaluation.specs.Given.{alone, on};
+ghost use Rattle.ep_evaluation.specs.Given.{alone};
 ghost use Rattle.ep_evaluation.specs.Operators as operators;
 ghost use Rattle.ep_eval_fits.specs.Fitting.{ExprIsFit};
 ghost use Rattle.ep_eval_loads.specs.After.{left_of};
 ghost use Rattle.ep_eval_loads.specs.Running.{side_of};
 
-use crate::evaluate::{assumed_on_both, eval, second, test};
 use ep_core::tree::Expr;
 use ep_domain::Num;
 use ep_equalities::{Fault, Mode, PairValue, SideValue};
+use ep_eval::{assumed_on_both, eval, second, test};
 use ep_eval_loads::{After, Running};
 use ep_eval_parts::left::{Assumed, Second, Wants};
 use ep_eval_parts::verdicts::is_only;
