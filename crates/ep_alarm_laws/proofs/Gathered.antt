@@ -1,5 +1,5 @@
 -- Of the operations on cells, every fault is of a kind that the text may have, where accesses to typed places are so.
-use Rattle.std.proofs.Common.{◌≡◌, Bool, true, false, refl}
+use Rattle.std.proofs.Common.{◌≡◌, Bool, true, false, None, refl}
 use Rattle.ep_int.specs.declared.types.Model.{Model}
 use Rattle.ep_int.specs.declared.types.Model.TheVariants.{Ilp32, Lp64}
 use Rattle.ep_int.specs.declared.types.Order.{Order}
@@ -19,7 +19,7 @@ use Rattle.ep_cell_ranges.specs.Tests.{is_model}
 use Rattle.ep_transfers.specs.Calls.{arguments_step, result_step}
 use Rattle.ep_transfers.specs.Cells.{mode_of, told_of, when_known, test_when_known, is_told_so, cell_ops}
 use Rattle.ep_transfers.specs.Ends.{ended_faults}
-use Rattle.ep_transfers.specs.Transfers.{Stepped, sizes, simple_step, gives}
+use Rattle.ep_transfers.specs.Transfers.{Stepped, stepped, sizes, simple_step, gives}
 use Rattle.ep_alarm_laws.proofs.Named.{AreKinds}
 use Rattle.ep_alarm_laws.proofs.Allowed.{AccessesAllowed}
 use Rattle.ep_alarm_laws.proofs.FaultKinds.{told_kinds}
@@ -71,5 +71,6 @@ module _ {N : Type 0} (D : Ops N) (law : Lawful D) (p : Program) (ord : Side →
         (result_step D p (mode_of m) f d k)
         (λ e. result_kinds D law p strides ok own (mode_of m) f (holds_at p formed n f at).result d seen h k
         (told_so k e));
-    ended = λ f at k. told_kinds D (is_kind E1) (ended_faults D p f k) (ended_kinds D p f k);
+    ended = λ f at k. known_kinds D (is_kind E1) (is_told_so D p ord k) (stepped (ended_faults D p f k) None)
+        (λ e. ended_kinds D p f k);
   }

@@ -1,5 +1,5 @@
 -- The operations of the analysis on what is known of the cells of two memories.
-use Rattle.std.specs.Prelude.{Bool, true, false, ◌&&◌, List, [], map, None}
+use Rattle.std.specs.Prelude.{ℕ, Bool, true, false, ◌&&◌, List, [], map, None}
 use Rattle.ep_int.specs.declared.types.Order.{Order}
 use Rattle.ep_domain.specs.Domain.{Ops}
 use Rattle.ep_cells.specs.declared.cell.Cell.{Cell}
@@ -45,6 +45,14 @@ module _ {N : Type 0} (D : Ops N) (p : Program) (ord : Side → Order) where
   abbrev pub empty_known : Known N
   empty_known = record { orders = (ord left, ord right); model = p.types.model; cells = [] }
 
+  -- where it is told in another one, nothing is known
+  abbrev pub known_or_empty : Bool → Known N → Known N
+  known_or_empty true k = k
+  known_or_empty false k = empty_known
+
+  abbrev pub entered_or_left : Mode → List ℕ → Known N → Known N
+  entered_or_left m bs k = known_or_empty (is_told_so k) (entered D p (mode_of m) bs k)
+
   -- ---- of two states: where they are none of this program, or have no cells alike, nothing is known
 
   abbrev pub are_states : Known N → Known N → Bool
@@ -87,13 +95,13 @@ module _ {N : Type 0} (D : Ops N) (p : Program) (ord : Side → Order) where
     assume_one = λ s e t k. test_taken_by D s (expression D (sizes D p) e) t k;
     arguments = λ m f es k. told_of D (when_known (is_told_so k) (arguments_step D p (mode_of m) f es k));
     result = λ m f d k. told_of D (when_known (is_told_so k) (result_step D p (mode_of m) f d k));
-    enter = λ m bs k. entered D p (mode_of m) bs k;
-    leave = λ m bs k. entered D p (mode_of m) bs k;
+    enter = entered_or_left;
+    leave = entered_or_left;
     unified = unified_known;
     joined = joined_known;
     widened = widened_known;
     leq = is_within;
     reshared = reshared_known;
     empty = empty_known;
-    ended = λ f k. map (told D) (ended_faults D p f k);
+    ended = λ f k. (told_of D (when_known (is_told_so k) (stepped (ended_faults D p f k) None))).faults;
   }

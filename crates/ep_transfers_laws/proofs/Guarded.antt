@@ -18,7 +18,7 @@ use Rattle.ep_core.specs.Runs.{Side}
 use Rattle.ep_evaluation_laws.specs.Laws.{IsState}
 use Rattle.ep_cell_ranges.specs.Tests.{are_alike}
 use Rattle.ep_transfers.specs.Guards.{is_state}
-use Rattle.ep_transfers.specs.Cells.{empty_known, are_states, fit_to_join, guarded, unified_known, joined_known, widened_known, is_within, reshared_known}
+use Rattle.ep_transfers.specs.Cells.{empty_known, known_or_empty, are_states, fit_to_join, guarded, unified_known, joined_known, widened_known, is_within, reshared_known}
 use Rattle.ep_transfers_laws.specs.Laws.{memories, StandsFor}
 use Rattle.ep_cell_ranges_laws.proofs.Tests.{alike_by}
 use Rattle.ep_transfers_laws.proofs.Tests.{state_by}
@@ -36,6 +36,12 @@ module _ {N : Type 0} (D : Ops N) (p : Program) (ord : Side → Order) where
     };
     holds = record { cells = λ c i. elim i [ ]; forms = λ c i. elim i [ ] };
   }
+
+  -- what is known where the test holds, else nothing
+  pub known_stands : (b : Bool) (k : Known N) (m n : Memory) → StandsFor D p ord k m n
+      → StandsFor D p ord (known_or_empty D p ord b k) m n
+  known_stands true k m n h = h
+  known_stands false k m n h = empty_stands m n
 
   -- what is left where the test holds, else nothing
   pub guarded_stands : (b : Bool) (k : Known N) (cs : List (Cell N)) (m n : Memory)

@@ -22,10 +22,10 @@ use Rattle.ep_pass.specs.Pass.{way_of}
 use Rattle.ep_evaluation.specs.Given.{alone}
 use Rattle.ep_evaluation_laws.specs.Laws.{IsState, ExpressionsHold, PlacesHold}
 use Rattle.ep_cell_ranges.specs.Tests.{is_model}
-use Rattle.ep_transfers.specs.Transfers.{Stepped, simple_step}
+use Rattle.ep_transfers.specs.Transfers.{Stepped, stepped, simple_step, entered}
 use Rattle.ep_transfers.specs.Calls.{result_step}
 use Rattle.ep_transfers.specs.Ends.{ended_faults}
-use Rattle.ep_transfers.specs.Cells.{mode_of, told_of, when_known, is_told_so, cell_ops}
+use Rattle.ep_transfers.specs.Cells.{mode_of, told_of, when_known, is_told_so, entered_or_left}
 use Rattle.ep_transfers_laws.specs.Laws.{StandsFor, CellLaws}
 use Rattle.ep_transfers_laws.specs.Statements.{SimpleHolds, StatementsHold, ResultsHold, BlocksHold, PairsHold}
 use Rattle.ep_transfers_laws.proofs.Evaluated.{none_told}
@@ -34,7 +34,7 @@ use Rattle.ep_transfers_laws.proofs.Inputs.{input_sound, input_alone}
 use Rattle.ep_transfers_laws.proofs.Results.{result_sound, result_alone}
 use Rattle.ep_transfers_laws.proofs.Ended.{ended_sound}
 use Rattle.ep_transfers_laws.proofs.Kills.{entered_both, entered_left, entered_right}
-use Rattle.ep_transfers_laws.proofs.Guarded.{unified_left, unified_right, joined_left, joined_right, widened_left, within_stands, reshared_stands, empty_stands}
+use Rattle.ep_transfers_laws.proofs.Guarded.{unified_left, unified_right, joined_left, joined_right, widened_left, within_stands, reshared_stands, empty_stands, known_stands}
 
 same_model : (d : Model) → is_model d d ≡ true
 same_model Ilp32 = refl
@@ -107,15 +107,25 @@ module _ {N : Type 0} (D : Ops N) (p : Program) (ord : Side → Order) where
   -- ---- blocks and pairs
 
   module _ (fit : blocks_fit p.types p.blocks ≡ true) (laws : CellLaws D) where
+    entered_both_stands : (bs : List ℕ) (s : Known N) (m k : Memory) → StandsFor D p ord s m k
+        → StandsFor D p ord (entered_or_left D p ord Both bs s) (killed bs m) (killed bs k)
+    entered_both_stands bs s m k h =
+        known_stands D p ord (is_told_so D p ord s) (entered D p (mode_of Both) bs s) (killed bs m) (killed bs k)
+        (entered_both D p ord fit laws.kills bs s m k h)
+
     entered_alone : (i : Side) (bs : List ℕ) (s : Known N) (m k : Memory) → InBeside p (StandsFor D p ord) i s m k
-        → InBeside p (StandsFor D p ord) i ((cell_ops D p ord).enter (One i) bs s) (killed bs m) k
-    entered_alone left bs s m k h = entered_left D p ord fit laws.kills bs s m k h
-    entered_alone right bs s m k h = entered_right D p ord fit laws.kills bs s k m h
+        → InBeside p (StandsFor D p ord) i (entered_or_left D p ord (One i) bs s) (killed bs m) k
+    entered_alone left bs s m k h =
+        known_stands D p ord (is_told_so D p ord s) (entered D p (alone left) bs s) (killed bs m) k
+        (entered_left D p ord fit laws.kills bs s m k h)
+    entered_alone right bs s m k h =
+        known_stands D p ord (is_told_so D p ord s) (entered D p (alone right) bs s) k (killed bs m)
+        (entered_right D p ord fit laws.kills bs s k m h)
 
     pub blocks_hold : BlocksHold D p ord
     blocks_hold = record {
-      enter_in = λ bs s m k h. entered_both D p ord fit laws.kills bs s m k h;
-      leave_in = λ bs s m k h. entered_both D p ord fit laws.kills bs s m k h;
+      enter_in = λ bs s m k h. entered_both_stands bs s m k h;
+      leave_in = λ bs s m k h. entered_both_stands bs s m k h;
       enter_alone = λ i bs s m k h. entered_alone i bs s m k h;
       leave_alone = λ i bs s m k h. entered_alone i bs s m k h;
     }
@@ -262,5 +272,5 @@ module _ {N : Type 0} (D : Ops N) (p : Program) (ord : Side → Order) where
           (received (ord i) p f.result d l n x)
           (λ q. result_alone D laws p ord fit exprs plcs f (fits_at p formed k f at).1 i d seen h s x y kept q l n) q;
       ended = λ f at s x y kept q. ended_sound D laws p ord fit exprs plcs f (main_int f at) s x y kept
-          (none_told D (ended_faults D p f s) q);
+          (quiet s kept.stands.memories.state (stepped (ended_faults D p f s) None) q);
     }

@@ -1,0 +1,6 @@
+mod Typed
+mod Off
+mod Found
+mod Set
+mod Handed
+mod Evaluated

@@ -1,0 +1,9 @@
+//! Calls: arguments that go to parameters, and results that are received.
+#![tactic(auto)]
+
+mod frames;
+mod passing;
+mod receiving;
+
+pub use passing::arguments;
+pub use receiving::result;

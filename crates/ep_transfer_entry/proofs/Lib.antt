@@ -1,0 +1,6 @@
+mod Begins
+mod Blocks
+mod Lookups
+mod Starts
+mod Together
+mod Turns
