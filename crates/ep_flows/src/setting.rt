@@ -1,5 +1,9 @@
 //! What stays the same on a walk, and who runs.
 
+ghost use Rattle.std.specs.Prelude.{◌≡◌, map};
+ghost use Rattle.ep_core.specs.Program.{Block};
+ghost use Rattle.ep_core.specs.Shown.{shown};
+
 use ep_core::program::CoreProgram;
 use ep_int::Order;
 use std::alloc::Global;
@@ -31,8 +35,11 @@ pub enum Truths {
 pub struct Setting<'p> {
     pub alloc: Global,
     pub program: &'p CoreProgram,
+    /// The sizes of the program's blocks, in bytes, by their numbers.
+    pub sizes: &'p [u32],
     pub left: Order,
     pub right: Order,
     pub unroll: u32,
     pub limit: u128,
+    ghost sized: { sizes.now ≡ map (λ (b : Block). b.size) (shown program.now).blocks },
 }

@@ -1,7 +1,6 @@
 //! The walk of the analysis through a program, whatever it keeps of a state.
 #![tactic(auto)]
 
-mod follow;
 mod program;
 mod statements;
 

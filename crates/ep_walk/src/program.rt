@@ -4,15 +4,15 @@ ghost use Rattle.std.specs.Prelude.{◌≡◌, [], if◌then◌else◌, IfOk, No
 ghost use Rattle.ep_flows.specs.Shown.{Tells, capped, plan_of};
 ghost use Rattle.ep_pass.specs.Pass.{join_on, logged};
 ghost use Rattle.ep_walk.specs.Reported.{end_of, heads_in, report_on, turns_in};
-ghost use Rattle.ep_walk.specs.Pieces.{o};
+ghost use Rattle.ep_walk_parts.specs.Pieces.{o};
 
-use crate::follow::function_at;
 use crate::statements::pass_function;
 use ep_flows::flow::{Flow, join_reached};
 use ep_flows::log::Log;
 use ep_flows::setting::{Running, Setting};
 use ep_flows::states::AbstractStates;
 use ep_int::Memory;
+use ep_walk_parts::follow::function_at;
 
 /// Goes through main once, and tells the alarms, the count of passes through bodies of loops (up to the largest number
 /// of 64 bits, at which it stays) and, where they are wanted, the heads that are kept. Where heads come round, passes

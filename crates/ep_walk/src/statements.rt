@@ -8,13 +8,9 @@ ghost use Rattle.ep_flows.specs.declared.setting.Running.TheVariants.{Together};
 ghost use Rattle.ep_flows.specs.Shown.{HasPassed, mode_of, plan_of, shown_flow, shown_ways, side_of};
 ghost use Rattle.ep_flows.specs.Typed.{IsTypedTest};
 ghost use Rattle.ep_pass.specs.Pass.{apart, branch, either_pass, four_ways, two_ways};
-ghost use Rattle.ep_walk.specs.Pieces.{alone_of, begun_of, entered_of, followed, followed_of, function, last_of, loop_of, loop_pass_of, o, one, rounds_of, row, settled_of, tested_of, turn_of, turned};
-ghost use Rattle.ep_walk.specs.Typed.{AreTyped, FollowIsTyped, IsTyped, LoopIsTyped};
+ghost use Rattle.ep_walk_parts.specs.Pieces.{alone_of, begun_of, entered_of, followed, followed_of, function, last_of, loop_of, loop_pass_of, o, one, rounds_of, row, settled_of, tested_of, turn_of, turned};
+ghost use Rattle.ep_walk_parts.specs.Typed.{AreTyped, FollowIsTyped, IsTyped, LoopIsTyped};
 
-use crate::follow::{
-    Follow, Parts, arm, assumed, callee, function_at, give_result, leave_function, order_of,
-    pass_simple,
-};
 use ep_alarms::AlarmKind;
 use ep_core::tree::{Dest, Expr, Stmt, What};
 use ep_flows::flow::{
@@ -26,6 +22,10 @@ use ep_flows::log::Log;
 use ep_flows::setting::{Machine, Running, Setting, Truths};
 use ep_flows::states::AbstractStates;
 use ep_int::{Memory, Order};
+use ep_walk_parts::follow::{
+    Follow, Parts, arm, assumed, callee, function_at, give_result, leave_function, order_of,
+    pass_simple,
+};
 
 #[cycle(walk)]
 fn pass_stmt<K: AbstractStates>(

@@ -1,8 +1,8 @@
 use Rattle.std.proofs.Common.{refl, sym}
 use Rattle.ep_core.specs.View.{shown_function}
 use Rattle.ep_flows.specs.Shown.{plan_of}
-use Rattle.ep_walk.proofs.Main.{end_some}
-use Rattle.ep_walk.proofs.TypedParts.{is_at}
+use Rattle.ep_walk_parts.proofs.Main.{end_some}
+use Rattle.ep_walk_parts.proofs.TypedParts.{is_at}
 use Rattle.ep_walk.proofs.program.end_main.Goals as goal
 
 pub returns : goal.returns

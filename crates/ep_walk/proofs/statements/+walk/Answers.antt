@@ -7,15 +7,15 @@ use Rattle.ep_pass.specs.States.{Both, One}
 use Rattle.ep_pass.specs.Pass.{agreed, either_pass, branch}
 use Rattle.ep_flows.specs.Shown.{HasPassed, mode_of, plan_of, side_of, shown_ways, shown_flow}
 use Rattle.ep_flows.proofs.Combined.{either_ok, first_passed, step_ok, step_passed, tells_at}
-use Rattle.ep_walk.specs.Pieces.{all, followed, followed_of, function, last_of, loop_of, o, row, rounds_of, turn_of, turned}
-use Rattle.ep_walk.specs.Typed.{FollowIsTyped}
-use Rattle.ep_walk.proofs.Arms.{body_passes, call_goes, call_passes, calls_none, calls_some, function_none, function_some, if_passes, loop_passes, order_passes, parted_ok, scope_passes, test_alone, test_both, test_same, test_stuck}
-use Rattle.ep_walk.proofs.Deeper.{before_after, before_up, deeper_if, deeper_item, deeper_loop, deeper_order, deeper_scope, depth, depth_follow, lone_less, lone_rank, mode_rank, rank_small, some_size}
-use Rattle.ep_walk.proofs.Heading.{heads_begin, heads_kept, heads_last, heads_next, round_left}
-use Rattle.ep_walk.proofs.Orders.{arm_depth, order_alone, order_both}
-use Rattle.ep_walk.proofs.Rows.{rows_all, rows_end, rows_more, turns_all, turns_end, turns_more}
-use Rattle.ep_walk.proofs.Turning.{begun_goes, begun_stops, branch_ok, entered_goes, entered_none, follow_ok, last_alone, last_both, lone_none, lone_ok, loop_alone, loop_both, loop_tests, turn_ok}
-use Rattle.ep_walk.proofs.TypedParts.{arm_typed, call_typed, callee_is, callee_less, callee_none, function_typed, if_typed, is_at, is_none, item_typed, loop_typed, order_typed, scope_typed, stmt_typed}
+use Rattle.ep_walk_parts.specs.Pieces.{all, followed, followed_of, function, last_of, loop_of, o, row, rounds_of, turn_of, turned}
+use Rattle.ep_walk_parts.specs.Typed.{FollowIsTyped}
+use Rattle.ep_walk_parts.proofs.Arms.{body_passes, call_goes, call_passes, calls_none, calls_some, function_none, function_some, if_passes, loop_passes, order_passes, parted_ok, scope_passes, test_alone, test_both, test_same, test_stuck}
+use Rattle.ep_walk_parts.proofs.Deeper.{before_after, before_up, deeper_if, deeper_item, deeper_loop, deeper_order, deeper_scope, depth, depth_follow, lone_less, lone_rank, mode_rank, rank_small, some_size}
+use Rattle.ep_walk_parts.proofs.Heading.{heads_begin, heads_kept, heads_last, heads_next, round_left}
+use Rattle.ep_walk_parts.proofs.Orders.{arm_depth, order_alone, order_both}
+use Rattle.ep_walk_parts.proofs.Rows.{rows_all, rows_end, rows_more, turns_all, turns_end, turns_more}
+use Rattle.ep_walk_parts.proofs.Turning.{begun_goes, begun_stops, branch_ok, entered_goes, entered_none, follow_ok, last_alone, last_both, lone_none, lone_ok, loop_alone, loop_both, loop_tests, turn_ok}
+use Rattle.ep_walk_parts.proofs.TypedParts.{arm_typed, call_typed, callee_is, callee_less, callee_none, function_typed, if_typed, is_at, is_none, item_typed, loop_typed, order_typed, scope_typed, stmt_typed}
 use Rattle.ep_walk.proofs.statements.+walk.Goals as goal
 
 less_none : (n : ℕ) → n - 0 ≡ n

@@ -1,10 +1,10 @@
 use Rattle.std.proofs.Common.{◌+◌, ◌-◌, ◌*◌, drop}
 use Rattle.ep_core.specs.View.{shown_stmts}
-use Rattle.ep_walk.specs.Pieces.{all, loop_of, row, rounds_of, settled_of}
+use Rattle.ep_walk_parts.specs.Pieces.{all, loop_of, row, rounds_of, settled_of}
 use Rattle.ep_flows.specs.Shown.{mode_of, plan_of, shown_ways}
 use Rattle.ep_flows.proofs.Combined.{Leads}
-use Rattle.ep_walk.proofs.Deeper.{before, depth, depth_two, depth_parts, depth_follow, lone_rank, mode_rank}
-use Rattle.ep_walk.proofs.Heading.{GoesIn}
+use Rattle.ep_walk_parts.proofs.Deeper.{before, depth, depth_two, depth_parts, depth_follow, lone_rank, mode_rank}
+use Rattle.ep_walk_parts.proofs.Heading.{GoesIn}
 use Rattle.ep_core.specs.declared.tree.What.TheViews.{size-Stmt}
 use Rattle.ep_walk.proofs.statements.+walk.Given as goal
 

@@ -1,0 +1,5 @@
+pub mod Both
+pub mod Orders
+pub mod States
+pub mod Steps
+pub mod Typed

@@ -1,0 +1,11 @@
+//! What is known of the cells of two memories, as states on a walk of the analysis.
+#![tactic(auto)]
+
+mod alarms;
+mod known;
+mod pairs;
+mod running;
+mod statements;
+mod truths;
+
+pub use known::KnownCells;

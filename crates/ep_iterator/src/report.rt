@@ -1,0 +1,104 @@
+//! The report on a program.
+
+ghost use Rattle.std.specs.Prelude.{◌≡◌, ◌≤◌, true, false, [], if◌then◌else◌, IfOk, unwrap_or};
+ghost use Rattle.std.specs.Option.{option_map};
+ghost use Rattle.ep_alarm_laws.specs.Laws.{ProductsKeepStrides};
+ghost use Rattle.ep_core.specs.Exec.{is_order};
+ghost use Rattle.ep_core.specs.Shown.{shown};
+ghost use Rattle.ep_flows.specs.Shown.{capped};
+ghost use Rattle.ep_iterator.specs.Reports.{AllMayStand, alarms_of, heads_of, most_turns, turns_of};
+ghost use Rattle.ep_pass_laws.specs.Agreement.{AgreeInTheEnd};
+
+use ep_alarms::Alarms;
+use ep_cell_states::{cell_alarms, cell_states};
+use ep_cell_walks::KnownCells;
+use ep_core::program::CoreProgram;
+use ep_domain::Num;
+use ep_eval_programs::block_sizes;
+use ep_flows::bound::last_head;
+use ep_flows::log::Log;
+use ep_flows::setting::Setting;
+use ep_int::{Memory, Order};
+use ep_pass_laws::laws::reports;
+use ep_walk::walk;
+use std::alloc::Global;
+
+/// What an analysis found: the alarms, in order; how often bodies of loops are gone through, up to the largest number
+/// of 64 bits; and, where they are asked for, the heads from which the last passes of joint loops begin.
+#[derive(Drop)]
+pub struct Report<N> {
+    pub alarms: Alarms,
+    pub turns: u64,
+    pub heads: Vec<KnownCells<N>>,
+}
+
+fn counted(turns: u64) -> u64
+    ensures { result ≡ capped turns }
+{
+    turns
+}
+
+fn kept<N: Num>(alloc: Global, heads: Option<Vec<KnownCells<N>>>) -> Vec<KnownCells<N>>
+    ensures { result.items ≡ unwrap_or (option_map (λ h. h.items) heads) [] }
+{
+    match heads {
+        None => Vec::new(alloc),
+        Some(heads) => heads,
+    }
+}
+
+fn told<N: Num>(alloc: Global, log: Log<KnownCells<N>>) -> Report<N>
+    ensures alarms { result.alarms ≡ log.alarms }
+    ensures turns { result.turns ≡ capped log.count }
+    ensures heads { result.heads.items ≡ unwrap_or log.heads [] }
+{
+    Report {
+        alarms: log.alarms,
+        turns: counted(log.count),
+        heads: kept(alloc, log.heads),
+    }
+}
+
+/// Goes through a program once, for two machines of these byte orders that are otherwise alike, with what `N` knows of
+/// numbers. Of a loop's turns the first `unroll` are gone through one by one; where heads of a loop come round, passes
+/// are counted and not made. Heads are kept only where they are asked for. An error says that memory ran out.
+pub fn analyse<N: Num>(
+    alloc: Global,
+    program: &CoreProgram,
+    orders: (Order, Order),
+    unroll: u32,
+    keeps_heads: bool,
+) -> Result<Report<N>, Memory>
+    ensures alarms { IfOk result (λ r. r.alarms ≡ alarms_of N.ops (shown program.now) orders.0 orders.1 unroll) }
+    ensures turns { IfOk result (λ r. r.turns
+        ≡ capped (turns_of N.ops (shown program.now) orders.0 orders.1 unroll)) }
+    ensures bound { IfOk result (λ r. r.turns
+        ≤ most_turns N.ops (shown program.now) orders.0 orders.1 unroll) }
+    ensures heads { IfOk result (λ r. r.heads.items
+        ≡ (if keeps_heads then heads_of N.ops (shown program.now) orders.0 orders.1 unroll else [])) }
+    // Where no alarm is raised, two machines of different byte orders agree.
+    ensures agree { IfOk result (λ r. is_order orders.0 orders.1 ≡ false → r.alarms ≡ []
+        → AgreeInTheEnd (shown program.now) orders.0 orders.1) }
+    // Each alarm is of a kind that the text on its line may have.
+    ensures stand { IfOk result (λ r. AllMayStand false (shown program.now) r.alarms) }
+    // So it is where numbers keep strides, by the text that then may be at fault.
+    ensures even { IfOk result (λ r. N.ops.keeps_strides ≡ true → ProductsKeepStrides N.ops
+        → AllMayStand true (shown program.now) r.alarms) }
+{
+    cell_states::<N>();
+    cell_alarms::<N>();
+    reports::<KnownCells<N>>();
+    program.types.model();
+    let sizes = block_sizes(alloc, program)?;
+    let setting = Setting {
+        alloc,
+        program,
+        sizes: &sizes,
+        left: orders.0,
+        right: orders.1,
+        unroll,
+        limit: last_head(program, N::HEIGHT),
+    };
+    let log = walk::<KnownCells<N>>(&setting, keeps_heads)?;
+    Ok(told(alloc, log))
+}

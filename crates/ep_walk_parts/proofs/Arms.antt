@@ -1,0 +1,426 @@
+-- Statements, kind by kind.
+use Rattle.std.proofs.Common.{◌≡◌, ℕ, zero, suc, ◌<◌, Bool, true, false, List, [], ◌++◌, map, slice_get, refl, sym, ap, ◌∙◌, subst, arith, Option, Some, None, Result, Ok, Err, IfOk, nat_eq}
+use Rattle.std.specs.Option.{option_map}
+use Rattle.std.proofs.Math.Path.{fun_ext}
+use Rattle.std.specs.declared.alloc.Global.{Global}
+use Rattle.std.specs.declared.vec.Vec.{Vec}
+use Rattle.ep_int.specs.declared.types.Memory.{Memory}
+use Rattle.ep_int.specs.declared.types.Order.{Order}
+use Rattle.std.proofs.lemmas.Bool.Decides.{nat_tests}
+use Rattle.ep_core.specs.declared.tree.Expr.{Expr}
+use Rattle.ep_core.specs.declared.tree.Dest.{Dest}
+use Rattle.ep_core.specs.declared.tree.Stmt.{Stmt}
+use Rattle.ep_core.specs.declared.tree.What as tree
+use Rattle.ep_core.specs.declared.tree.What.TheVariants.{Call, If, Loop, ByOrder, Scope}
+use Rattle.ep_core.specs.Program as plain
+use Rattle.ep_core.specs.Program.{What, call, if_else, loop, by_order, scope, Program, Function, Stmts}
+use Rattle.ep_core.specs.Runs.{Side}
+use Rattle.ep_core.specs.Exec.{on, broken, continued, returned, callee_of, frame_of}
+use Rattle.ep_core.specs.View.{shown_expr, shown_dest, shown_what, shown_stmts}
+use Rattle.ep_core.proofs.Views.{if_is, loop_is, by_order_is, scope_is}
+use Rattle.ep_pass.specs.States.{Mode, Both, One, StateOps, Verdict, stuck, same, differs}
+use Rattle.ep_pass.specs.Pass.{Ways, none, Log, logged, both_logs, Pass, passed, after, so_far, branch, alarms_at, simple_pass, join_on, join_ways, either_pass, go_on, then_pass, rowed, leave_on, scope_pass, leave_call, call_pass, next_pass, decided, two_ways, four_ways, parted, differ, only_on, only_broken, only_continued, only_returned, arm_of, body_pass, bodies_pass}
+use Rattle.ep_flows.specs.Shown.{Told, Tells, HasPassed, shown_ways, shown_flow, Plan, mode_of, side_of, verdict_of}
+use Rattle.ep_flows.specs.declared.setting.Machine.{Machine}
+use Rattle.ep_flows.specs.declared.setting.Running.{Running}
+use Rattle.ep_flows.specs.declared.setting.Running.TheVariants.{Together, Alone}
+use Rattle.ep_flows.specs.declared.setting.Truths.{Truths}
+use Rattle.ep_flows.specs.declared.setting.Truths.TheVariants.{Stuck, Same, Differs}
+use Rattle.ep_walk_parts.specs.Pieces.{Followed, arms, o, one, row, function, tested_of, followed}
+use Rattle.ep_flows.specs.declared.flow.Flow.{Flow}
+use Rattle.ep_flows.proofs.Telling.{tells_both, tells_nothing}
+use Rattle.ep_flows.proofs.Combined.{drop_last, after_passed, both_passed, keeps_passed}
+
+module _ {S : Type 0} (ops : Program → (Side → Order) → StateOps S) (c : Plan) (here : ℕ) where
+  pub as_what : (v w : What) (m : Mode) (l : ℕ) (s : S) (x : Result (Flow S) Memory) (old new : Told S) → w ≡ v
+      → IfOk x (λ f. HasPassed (one ops c here v m l s) f old new)
+      → IfOk x (λ f. HasPassed (one ops c here w m l s) f old new)
+  as_what v w m l s x old new e h = subst (λ z. IfOk x (λ f. HasPassed (one ops c here z m l s) f old new)) (sym e) h
+
+  module _ (w : tree.What) (m : Mode) (l : ℕ) (s : S) (x : Result (Flow S) Memory) (old new : Told S) where
+    abbrev Goes : What → Type 0
+    Goes v = IfOk x (λ f. HasPassed (one ops c here v m l s) f old new)
+
+    pub if_passes : (e : Expr) (a b : Vec Stmt Global) (sa sb : List Stmt) (before : Ways S) → w ≡ If e a b
+        → sa ≡ a.items → sb ≡ b.items → before ≡ none
+        → IfOk x (λ f. HasPassed (tested_of ops c here (arms l (shown_stmts sa) (shown_stmts sb)) m
+        (shown_expr e) l before s) f old new) → Goes (shown_what w)
+    if_passes e a b sa sb before ew ea eb en h =
+        let h' : Goes (if_else (shown_expr e) (shown_stmts sa) (shown_stmts sb)) = subst (λ z. IfOk x (λ f. HasPassed
+        (tested_of ops c here (arms l (shown_stmts sa) (shown_stmts sb)) m (shown_expr e) l z s) f old new)) en h
+        in
+        as_what (if_else (shown_expr e) (shown_stmts sa) (shown_stmts sb)) (shown_what w) m l s x old new
+        (ap shown_what ew ∙ if_is e a b ∙ ap (λ z. if_else (shown_expr e) (shown_stmts z) (shown_stmts b.items))
+        (sym ea) ∙ ap (λ z. if_else (shown_expr e) (shown_stmts sa) (shown_stmts z)) (sym eb)) h'
+
+    pub loop_passes : (first : Bool) (e : Expr) (a b : Vec Stmt Global) (sa sb : List Stmt) → w ≡ Loop first e a b
+        → sa ≡ a.items → sb ≡ b.items → Goes (loop first (shown_expr e) (shown_stmts sa) (shown_stmts sb))
+        → Goes (shown_what w)
+    loop_passes first e a b sa sb ew ea eb h =
+        as_what (loop first (shown_expr e) (shown_stmts sa) (shown_stmts sb)) (shown_what w) m l s x old new
+        (ap shown_what ew ∙ loop_is first e a b ∙ ap (λ z. loop first (shown_expr e) (shown_stmts z)
+        (shown_stmts b.items)) (sym ea) ∙ ap (λ z. loop first (shown_expr e) (shown_stmts sa) (shown_stmts z))
+        (sym eb)) h
+
+    pub order_passes : (n : Order) (a b : Vec Stmt Global) (sa sb : List Stmt) → w ≡ ByOrder n a b → sa ≡ a.items
+        → sb ≡ b.items → Goes (by_order n (shown_stmts sa) (shown_stmts sb)) → Goes (shown_what w)
+    order_passes n a b sa sb ew ea eb h =
+        as_what (by_order n (shown_stmts sa) (shown_stmts sb)) (shown_what w) m l s x old new
+        (ap shown_what ew ∙ by_order_is n a b ∙ ap (λ z. by_order n (shown_stmts z) (shown_stmts b.items)) (sym ea)
+        ∙ ap (λ z. by_order n (shown_stmts sa) (shown_stmts z)) (sym eb)) h
+
+    pub call_passes : (k : ℕ) (es : Vec Expr Global) (d dd : Option Dest) (ee : List Expr) → w ≡ Call k es d
+        → ee ≡ es.items → dd ≡ d → Goes (call k (map shown_expr ee) (option_map shown_dest dd)) → Goes (shown_what w)
+    call_passes k es d dd ee ew ea ed h =
+        as_what (call k (map shown_expr ee) (option_map shown_dest dd)) (shown_what w) m l s x old new
+        (ap shown_what ew ∙ ap (λ z. call k (map shown_expr z) (option_map shown_dest d)) (sym ea)
+        ∙ ap (λ z. call k (map shown_expr ee) (option_map shown_dest z)) (sym ed)) h
+
+    -- a scope is entered, gone through and left
+    pub scope_passes : (bs : Vec ℕ Global) (a : Vec Stmt Global) (cs ds : List ℕ) (ss : List Stmt) (inner : S)
+        (f : Flow S) → w ≡ Scope bs a → cs ≡ bs.items → ds ≡ bs.items → ss ≡ a.items → inner ≡ (o ops c).enter m cs s
+        → HasPassed (row ops c here (shown_stmts ss) m inner) f old new
+        → IfOk x (λ g. g.on ≡ (scope_pass (o ops c) m ds (shown_flow f)).on)
+        → IfOk x (λ g. shown_ways g.ways ≡ (scope_pass (o ops c) m ds (shown_flow f)).ways) → Goes (shown_what w)
+    scope_passes bs a cs ds ss inner f ew ec ed es ei h a1 a2 =
+        as_what (scope bs.items (shown_stmts a.items)) (shown_what w) m l s x old new (ap shown_what ew
+        ∙ scope_is bs a) (each x a1 a2)
+      where
+        each : (x : Result (Flow S) Memory) → IfOk x (λ g. g.on ≡ (scope_pass (o ops c) m ds (shown_flow f)).on)
+            → IfOk x (λ g. shown_ways g.ways ≡ (scope_pass (o ops c) m ds (shown_flow f)).ways)
+            → IfOk x (λ f. HasPassed (one ops c here (scope bs.items (shown_stmts a.items)) m l s) f old new)
+        each (Err y) u v = tt
+        each (Ok g) u v =
+            let p = row ops c here (shown_stmts a.items) m ((o ops c).enter m bs.items s) in
+            let e : inner ≡ (o ops c).enter m bs.items s = ei ∙ ap (λ z. (o ops c).enter m z s) ec in
+            let h1 = subst (λ z. HasPassed (row ops c here (shown_stmts z) m inner) f old new) es h in
+            let h2 : HasPassed p f old new = subst (λ z. HasPassed (row ops c here (shown_stmts a.items) m z) f old
+            new) e h1 in
+            record {
+              on = u ∙ ap (λ z. leave_on (o ops c) m z f.on) ed ∙ ap (leave_on (o ops c) m bs.items) h2.on;
+              ways = v ∙ ap (λ z. (scope_pass (o ops c) m z (shown_flow f)).ways) ed
+                  ∙ ap (λ z. (scope_pass (o ops c) m bs.items (passed f.on z (logged [] 0 []))).ways) h2.ways;
+              log = h2.log;
+            }
+
+  -- ---- calls
+
+  -- the body of a function that is called
+  pub function_is : (n k : ℕ) → k < n → (m : Mode) (s : S)
+      → bodies_pass (o ops c) c.unroll c.limit c.order c.program n k m s ≡ function ops c k m s
+  function_is zero k lt m s = absurd (omega arith)
+  function_is (suc n) k lt m s = by_test (nat_eq k n) refl (λ l. function_is n k l m s)
+    where
+      same : (k n : ℕ) → nat_eq k n ≡ true → k ≡ n
+      same k n e = grind (arith, nat_tests)
+
+      less : (k n : ℕ) → k < suc n → nat_eq k n ≡ false → k < n
+      less k n h e = grind (arith, nat_tests)
+
+      by_test : (t : Bool) → nat_eq k n ≡ t → (k < n → bodies_pass (o ops c) c.unroll c.limit c.order c.program n k m
+          s ≡ function ops c k m s) → arm_of (o ops c) t (body_pass (o ops c) c.unroll c.limit c.order c.program
+          (slice_get c.program.functions n) n (bodies_pass (o ops c) c.unroll c.limit c.order c.program n))
+          (bodies_pass (o ops c) c.unroll c.limit c.order c.program n k) m s ≡ function ops c k m s
+      by_test true e i = ap (λ z. function ops c z m s) (sym (same k n e))
+      by_test false e i = i (less k n lt e)
+
+  -- ---- tests
+  module _ (mode : Running) (fw : Followed) (e : plain.Expr) (l : ℕ) (before : Ways S) (flow : Flow S) (s : S)
+      (truths : Truths) (old mid new : Told S) (tl : Tells (logged (alarms_at l ((o ops c).test
+      (mode_of mode) e s).faults) 0 []) old mid) (ev : verdict_of truths ≡ ((o ops c).test
+      (mode_of mode) e s).verdict) (en : flow.on ≡ None) (ew : shown_ways flow.ways ≡ before) where
+    abbrev goes : Mode → Verdict → Pass S → Pass S
+    goes m v a = decided (o ops c) a m v e (followed ops c here fw m true true) (followed ops c here fw m true false)
+        (followed ops c here fw m false true) (followed ops c here fw m false false) s
+
+    flow_is : shown_flow flow ≡ so_far before
+    flow_is = ap (λ z. passed z (shown_ways flow.ways) (logged [] 0 [])) en
+        ∙ ap (λ z. passed None z (logged [] 0 [])) ew
+
+    test_goes : (v : Truths) (f : Flow S) → truths ≡ v → HasPassed (goes (mode_of mode) (verdict_of v)
+        (shown_flow flow)) f mid new → HasPassed (tested_of ops c here fw (mode_of mode) e l before s) f old new
+    test_goes v f et h =
+        let d : verdict_of v ≡ ((o ops c).test (mode_of mode) e s).verdict = ap verdict_of (sym et) ∙ ev in
+        let h1 : HasPassed (goes (mode_of mode) (verdict_of v) (so_far before)) f mid new = subst (λ z. HasPassed
+        (goes (mode_of mode) (verdict_of v) z) f mid new) flow_is h in
+        let h2 : HasPassed (goes (mode_of mode) ((o ops c).test (mode_of mode) e s).verdict
+        (so_far before)) f mid new = subst (λ z. HasPassed (goes (mode_of mode) z (so_far before)) f mid new) d h1
+        in
+        after_passed (logged (alarms_at l ((o ops c).test (mode_of mode) e s).faults) 0 []) (goes (mode_of mode)
+        ((o ops c).test (mode_of mode) e s).verdict (so_far before)) f old mid new tl h2
+
+    same_is : (m : Mode) (a : Pass S) → goes m same a ≡ two_ways (o ops c) a m e (followed ops c here fw m true true)
+        (followed ops c here fw m false false) s
+    same_is Both a = refl
+    same_is (One k) a = refl
+
+    stuck_is : (m : Mode) (a : Pass S) → goes m stuck a ≡ a
+    stuck_is Both a = refl
+    stuck_is (One k) a = refl
+
+    pub test_stuck : truths ≡ Stuck → new ≡ mid → HasPassed (tested_of ops c here fw (mode_of mode) e l before s) flow
+        old new
+    test_stuck et em =
+        let h : HasPassed (shown_flow flow) flow mid new = record {
+          on = refl;
+          ways = refl;
+          log = subst (λ z. Tells
+              (logged [] 0 []) mid z) (sym em) (tells_nothing mid);
+        } in
+        test_goes Stuck flow et (subst (λ z. HasPassed z flow mid new) (sym (stuck_is (mode_of mode)
+        (shown_flow flow))) h)
+
+    pub test_same : (x : Result (Flow S) Memory) → truths ≡ Same → IfOk x (λ f. HasPassed (two_ways (o ops c)
+        (shown_flow flow) (mode_of mode) e (followed ops c here fw (mode_of mode) true true) (followed ops c here fw
+        (mode_of mode) false false) s) f mid new) → IfOk x (λ f. HasPassed (tested_of ops c here fw
+        (mode_of mode) e l before s) f old new)
+    test_same (Err y) et h = tt
+    test_same (Ok f) et h = test_goes Same f et (subst (λ z. HasPassed z f mid new) (sym (same_is (mode_of mode)
+        (shown_flow flow))) h)
+
+    pub test_alone : (k : Machine) (x : Result (Flow S) Memory) → truths ≡ Differs → mode ≡ Alone k
+        → IfOk x (λ f. HasPassed (two_ways (o ops c) (shown_flow flow) (mode_of mode) e (followed ops c here fw
+        (mode_of mode) true true) (followed ops c here fw (mode_of mode) false false) s) f mid new)
+        → IfOk x (λ f. HasPassed (tested_of ops c here fw (mode_of mode) e l before s) f old new)
+    test_alone k (Err y) et em h = tt
+    test_alone k (Ok f) et em h =
+        let is : goes (mode_of mode) differs (shown_flow flow) ≡ two_ways (o ops c) (shown_flow flow) (mode_of mode) e
+        (followed ops c here fw (mode_of mode) true true) (followed ops c here fw (mode_of mode) false false) s =
+        alone_is (mode_of mode) (ap mode_of em) (shown_flow flow) in
+        test_goes Differs f et (subst (λ z. HasPassed z f mid new) (sym is) h)
+      where
+        alone_is : (m : Mode) → m ≡ One (side_of k) → (a : Pass S) → goes m differs a ≡ two_ways (o ops c) a m e
+            (followed ops c here fw m true true) (followed ops c here fw m false false) s
+        alone_is Both d a = absurd cc
+        alone_is (One z) d a = refl
+
+    pub test_both : (x : Result (Flow S) Memory) → truths ≡ Differs → mode ≡ Together
+        → IfOk x (λ f. HasPassed (four_ways (o ops c) (shown_flow flow) e (followed ops c here fw Both true true)
+        (followed ops c here fw Both true false) (followed ops c here fw Both false true)
+        (followed ops c here fw Both false false) s) f mid new) → IfOk x (λ f. HasPassed (tested_of ops c here fw
+        (mode_of mode) e l before s) f old new)
+    test_both (Err y) et em h = tt
+    test_both (Ok f) et em h =
+        let is : goes (mode_of mode) differs (shown_flow flow) ≡ goes Both differs (shown_flow flow) = ap
+        (λ z. goes z differs (shown_flow flow)) (ap mode_of em) in
+        test_goes Differs f et (subst (λ z. HasPassed z f mid new) (sym is) h)
+
+-- ---- the body of a loop, once
+module _ {S : Type 0} (o : StateOps S) (p : Pass S) (next : S → Pass S) (f g h : Flow S)
+    (old one two new : Told S) where
+  pub body_passes : (ended : Option S) → Tells (logged [] 1 []) old one → HasPassed p f one two
+      → ended ≡ join_on o (shown_ways f.ways).continued f.on → HasPassed (branch ended next) g two new
+      → h.on ≡ g.on → shown_ways h.ways ≡ record {
+        broken = (shown_ways f.ways).broken;
+        continued = None;
+        returned =
+            (shown_ways f.ways).returned;
+      }
+      → HasPassed (after (logged [] 1 []) (next_pass o p next)) h old new
+  body_passes ended t a e b u w =
+      let e' : join_on o p.ways.continued p.on ≡ ended = sym (e
+      ∙ ap (λ (z : Ways S). join_on o z.continued f.on) a.ways ∙ ap (join_on o p.ways.continued) a.on) in
+      let w' : shown_ways h.ways ≡ record { broken = p.ways.broken; continued = None; returned = p.ways.returned } = w
+      ∙ ap (λ (z : Ways S). record { broken = z.broken; continued = None; returned = z.returned }) a.ways in
+      after_passed (logged [] 1 []) (next_pass o p next) h old one new t
+      (subst (λ z. HasPassed (go_on o z (record {
+        broken = p.ways.broken;
+        continued = None;
+        returned =
+            p.ways.returned;
+      }) p.log (rowed o next)) h one new) (sym e') (each ended b u w'))
+    where
+      each : (ended : Option S) → HasPassed (branch ended next) g two new → h.on ≡ g.on
+          → shown_ways h.ways ≡ record { broken = p.ways.broken; continued = None; returned = p.ways.returned }
+          → HasPassed (go_on o ended (record { broken = p.ways.broken; continued = None; returned = p.ways.returned })
+          p.log (rowed o next)) h one new
+      each None b u w = record {
+        on = u ∙ b.on;
+        ways = w;
+        log = drop_last p.log one new (tells_both p.log
+            (logged [] 0 []) one two new a.log b.log);
+      }
+      each (Some s) b u w = record {
+        on = u ∙ b.on;
+        ways = w;
+        log = tells_both p.log (next s).log one two new a.log
+            b.log;
+      }
+
+-- ---- the sides go different ways
+module _ {S : Type 0} (o : StateOps S) (l : ℕ) (p : Pass S) (go : S
+    → Pass S) (f : Flow S) (a1 a2 a3 a4 b1 b2 b3 b4 : Flow S) (t0 t1 t2 t3 t4 t5 t6 t7 t8 t9 : Told S) where
+  abbrev just : Option S → Ways S → Option S
+  just u w = u
+
+  pub parted_passes : (x y z : Flow S) → HasPassed p f t0 t1
+      → HasPassed (branch f.on go) a1 t1 t2 → HasPassed (only_on l (shown_flow a1)) b1 t2 t3
+      → HasPassed (branch (shown_ways f.ways).broken go) a2 t3 t4 → HasPassed (only_broken l (shown_flow a2)) b2 t4 t5
+      → x.on ≡ join_on o b1.on b2.on → shown_ways x.ways ≡ join_ways o (shown_ways b1.ways) (shown_ways b2.ways)
+      → HasPassed (branch (shown_ways f.ways).continued go) a3 t5 t6
+      → HasPassed (only_continued l (shown_flow a3)) b3 t6 t7
+      → y.on ≡ join_on o x.on b3.on → shown_ways y.ways ≡ join_ways o (shown_ways x.ways) (shown_ways b3.ways)
+      → HasPassed (branch (shown_ways f.ways).returned go) a4 t7 t8
+      → HasPassed (only_returned l (shown_flow a4)) b4 t8 t9
+      → z.on ≡ join_on o y.on b4.on → shown_ways z.ways ≡ join_ways o (shown_ways y.ways) (shown_ways b4.ways)
+      → HasPassed (parted o l p go) z t0 t9
+  parted_passes x y z h h1 k1 h2 k2 xu xw h3 k3 yu yw h4 k4 zu zw =
+      let r1 = branch p.on go in
+      let r2 = branch p.ways.broken go in
+      let r3 = branch p.ways.continued go in
+      let r4 = branch p.ways.returned go in
+      let h1' : HasPassed r1 a1 t1 t2 = subst (λ v. HasPassed (branch v go) a1 t1 t2) h.on h1 in
+      let h2' : HasPassed r2 a2 t3 t4 = subst (λ (v : Ways S). HasPassed (branch v.broken go) a2 t3 t4) h.ways h2 in
+      let h3' : HasPassed r3 a3 t5 t6 = subst (λ (v : Ways S). HasPassed (branch v.continued go) a3 t5 t6) h.ways h3 in
+      let h4' : HasPassed r4 a4 t7 t8 = subst (λ (v : Ways S). HasPassed (branch v.returned go) a4 t7 t8) h.ways h4 in
+      let m1 : HasPassed (only_on l r1) b1 t1 t3 = keeps_passed on (λ u w. u) (λ u w. differ l w.broken ++
+      (differ l w.continued ++ differ l w.returned)) r1 a1 b1 t1 t2 t3 h1' k1 in
+      let m2 : HasPassed (only_broken l r2) b2 t3 t5 = keeps_passed broken (λ u w. w.broken) (λ u w. differ l u ++
+      (differ l w.continued ++ differ l w.returned)) r2 a2 b2 t3 t4 t5 h2' k2 in
+      let m3 : HasPassed (only_continued l r3) b3 t5 t7 = keeps_passed continued (λ u w. w.continued)
+      (λ u w. differ l u ++ (differ l w.broken ++ differ l w.returned)) r3 a3 b3 t5 t6 t7 h3' k3 in
+      let m4 : HasPassed (only_returned l r4) b4 t7 t9 = keeps_passed returned (λ u w. w.returned)
+      (λ u w. differ l u ++ (differ l w.broken ++ differ l w.continued)) r4 a4 b4 t7 t8 t9 h4' k4 in
+      let e2 : HasPassed (either_pass o (only_on l r1) (only_broken l r2)) x t1 t5 = both_passed o (only_on l r1)
+      (only_broken l r2) b1 b2 x t1 t3 t5 m1 m2 xu xw in
+      let e3 : HasPassed (either_pass o (either_pass o (only_on l r1) (only_broken l r2)) (only_continued l r3)) y t1
+      t7 = both_passed o (either_pass o (only_on l r1) (only_broken l r2)) (only_continued l r3) x b3 y t1 t5 t7
+      e2 m3 yu yw in
+      let e4 = both_passed o (either_pass o (either_pass o (only_on l r1) (only_broken l r2)) (only_continued l r3))
+      (only_returned l r4) y b4 z t1 t7 t9 e3 m4 zu zw in
+      after_passed p.log (either_pass o (either_pass o (either_pass o (only_on l r1) (only_broken l r2))
+      (only_continued l r3)) (only_returned l r4)) z t0 t1 t9 h.log e4
+
+pub parted_ok : {S : Type 0} (o : StateOps S) (l : ℕ) (p : Pass S) (go : S
+    → Pass S) (f : Flow S) (a1 a2 a3 a4 b1 b2 b3 b4 : Flow S) (t0 t1 t2 t3 t4 t5 t6 t7 t8 t9 : Told S) (x y : Flow S)
+    (z : Result (Flow S) Memory) → HasPassed p f t0 t1
+    → HasPassed (branch f.on go) a1 t1 t2 → HasPassed (only_on l (shown_flow a1)) b1 t2 t3
+    → HasPassed (branch (shown_ways f.ways).broken go) a2 t3 t4 → HasPassed (only_broken l (shown_flow a2)) b2 t4 t5
+    → x.on ≡ join_on o b1.on b2.on → shown_ways x.ways ≡ join_ways o (shown_ways b1.ways) (shown_ways b2.ways)
+    → HasPassed (branch (shown_ways f.ways).continued go) a3 t5 t6
+    → HasPassed (only_continued l (shown_flow a3)) b3 t6 t7
+    → y.on ≡ join_on o x.on b3.on → shown_ways y.ways ≡ join_ways o (shown_ways x.ways) (shown_ways b3.ways)
+    → HasPassed (branch (shown_ways f.ways).returned go) a4 t7 t8 → HasPassed (only_returned l (shown_flow a4)) b4 t8 t9
+    → IfOk z (λ z. z.on ≡ join_on o y.on b4.on) → IfOk z (λ z. shown_ways z.ways ≡ join_ways o (shown_ways y.ways)
+    (shown_ways b4.ways))
+    → IfOk z (λ z. HasPassed (parted o l p go) z t0 t9)
+parted_ok o l p go f a1 a2 a3 a4 b1 b2 b3 b4 t0 t1 t2 t3 t4 t5 t6 t7 t8 t9 x y (Err e) h h1 k1 h2 k2 xu xw h3 k3 yu yw
+    h4 k4 zu zw = tt
+parted_ok o l p go f a1 a2 a3 a4 b1 b2 b3 b4 t0 t1 t2 t3 t4 t5 t6 t7 t8 t9 x y (Ok z) h h1 k1 h2 k2 xu xw h3 k3 yu yw
+    h4 k4 zu zw = parted_passes o l p go f a1 a2 a3 a4 b1 b2 b3 b4 t0 t1 t2 t3 t4 t5 t6 t7 t8 t9 x y z h h1 k1 h2 k2
+    xu xw h3 k3 yu yw h4 k4 zu zw
+
+-- ---- calls
+module _ {S : Type 0} (o : StateOps S) (m : Mode) (l : ℕ) (f : Function) (es : List plain.Expr)
+    (d : Option plain.Dest) (body : S → Pass S) (s : S) (old one two new : Told S) where
+  abbrev A : Pass S
+  A = simple_pass on l (o.arguments m f es s)
+
+  abbrev B : S → Pass S
+  B s = leave_call o (scope_pass o m (frame_of f) (body s))
+
+  abbrev C : S → Pass S
+  C s = simple_pass on l (o.result m f d s)
+
+  abbrev into : S → Ways S → Pass S
+  into = rowed o B
+
+  abbrev whole : Pass S
+  whole = call_pass o (Some f) m es d l body s
+
+  abbrev inside : Pass S
+  inside = then_pass o A none into
+
+  -- what is reached inside is left
+  finish : (reached : Log S) → Tells reached old two → (v : Option S) (g : Flow S) → HasPassed (branch v C) g two new
+      → HasPassed (go_on o v none reached (rowed o C)) g old new
+  finish reached told None g h = record {
+    on = h.on;
+    ways = h.ways;
+    log = drop_last reached old new
+        (tells_both reached (logged [] 0 []) old two new told h.log);
+  }
+  finish reached told (Some s) g h = record {
+    on = h.on;
+    ways = h.ways;
+    log = tells_both reached
+        (C s).log old two new told h.log;
+  }
+
+  module _ (q : Flow S) (t : Tells (logged (alarms_at l (o.arguments m f es s).faults) 0 []) old one) where
+    abbrev left_by_body : Option S
+    left_by_body = (leave_call o (scope_pass o m (frame_of f) (shown_flow q))).on
+
+    by_arguments : (u : Option S) → (o.arguments m f es s).next ≡ u → HasPassed (branch u body) q one two
+        → (g : Flow S) → HasPassed (branch left_by_body C) g two new → HasPassed whole g old new
+    by_arguments None e h g k =
+        let i : left_by_body ≡ None = ap (λ z. (leave_call o (scope_pass o m (frame_of f) (passed z
+        (shown_ways q.ways) (logged [] 0 [])))).on) h.on ∙ ap (λ z. (leave_call o (scope_pass o m (frame_of f)
+        (passed None z (logged [] 0 [])))).on) h.ways in
+        let k' : HasPassed (branch None C) g two new = subst (λ z. HasPassed (branch z C) g two new) i k in
+        let told : Tells A.log old two = drop_last A.log old two (tells_both A.log (logged [] 0 []) old one two t
+        h.log) in
+        let d : inside ≡ passed None none A.log = ap (λ z. go_on o z none A.log into) e in
+        subst (λ z. HasPassed (then_pass o z none (rowed o C)) g old new) (sym d) (finish A.log told None g k')
+    by_arguments (Some inner) e h g k =
+        let i : left_by_body ≡ (B inner).on = ap (λ z. (leave_call o (scope_pass o m (frame_of f) (passed z
+        (shown_ways q.ways) (logged [] 0 [])))).on) h.on ∙ ap (λ z. (leave_call o (scope_pass o m (frame_of f)
+        (passed (body inner).on z (logged [] 0 [])))).on) h.ways in
+        let k' : HasPassed (branch (B inner).on C) g two new = subst (λ z. HasPassed (branch z C) g two new) i k in
+        let told : Tells (both_logs A.log (body inner).log) old two = tells_both A.log (body inner).log old one two t
+        h.log in
+        let d : inside ≡ after A.log (passed (B inner).on none (body inner).log) = ap (λ z. go_on o z none A.log into)
+        e in
+        subst (λ z. HasPassed (then_pass o z none (rowed o C)) g old new) (sym d) (finish (both_logs A.log
+        (body inner).log) told (B inner).on g k')
+
+    pub call_goes : (u left : Option S) (x : Result (Flow S) Memory) → u ≡ (o.arguments m f es s).next
+        → HasPassed (branch u body) q one two → left ≡ left_by_body
+        → IfOk x (λ g. HasPassed (branch left C) g two new) → IfOk x (λ g. HasPassed whole g old new)
+    call_goes u left (Err y) e h d k = tt
+    call_goes u left (Ok g) e h d k = by_arguments u (sym e) h g (subst (λ z. HasPassed (branch z C) g two new) d k)
+
+-- a function that is called
+module _ {S : Type 0} (ops : Program → (Side → Order) → StateOps S) (c : Plan) (here : ℕ) (m : Mode) (l : ℕ) (k : ℕ)
+    (es : List plain.Expr) (d : Option plain.Dest) (s : S) where
+  pub calls_none : (f : Flow S) (t : Told S) → callee_of c.program here k ≡ None → f.on ≡ None
+      → shown_ways f.ways ≡ none → HasPassed (one ops c here (call k es d) m l s) f t t
+  calls_none f t e a b =
+      subst (λ z. HasPassed (call_pass (o ops c) z m es d l (bodies_pass (o ops c) c.unroll c.limit c.order c.program
+      here k m) s) f t t) (sym e)
+      (record { on = a; ways = b; log = tells_nothing t })
+
+  pub calls_some : (f : Function) (x : Result (Flow S) Memory) (old new : Told S)
+      → callee_of c.program here k ≡ Some f → k < here → IfOk x (λ g. HasPassed (call_pass (o ops c) (Some f) m es d l
+      (function ops c k m) s) g old new)
+      → IfOk x (λ g. HasPassed (one ops c here (call k es d) m l s) g old new)
+  calls_some f x old new e lt h =
+      let same : function ops c k m ≡ bodies_pass (o ops c) c.unroll c.limit c.order c.program here k m = sym (fun_ext
+      (λ s. function_is ops c here here k lt m s)) in
+      subst (λ z. IfOk x (λ g. HasPassed (call_pass (o ops c) z m es d l (bodies_pass
+      (o ops c) c.unroll c.limit c.order c.program here k m) s) g old new)) (sym e)
+      (subst (λ b. IfOk x (λ g. HasPassed (call_pass (o ops c) (Some f) m es d l b s) g old new)) same h)
+
+-- ---- statements that jump, and the body of a function
+module _ {S : Type 0} (ops : Program → (Side → Order) → StateOps S) (c : Plan) where
+  pub jump_passes : (here : ℕ) (v w : What) (m : Mode) (l : ℕ) (s : S) (f : Flow S) (old new : Told S) → w ≡ v
+      → HasPassed (one ops c here v m l s) f old new → HasPassed (one ops c here w m l s) f old new
+  jump_passes here v w m l s f old new e h = subst (λ z. HasPassed (one ops c here z m l s) f old new) (sym e) h
+
+  pub function_none : (k : ℕ) (m : Mode) (u : Option S) (s : S) (f : Flow S) (t : Told S)
+      → slice_get c.program.functions k ≡ None → u ≡ Some s → f.on ≡ Some s → shown_ways f.ways ≡ none
+      → HasPassed (branch u (function ops c k m)) f t t
+  function_none k m u s f t e d a b =
+      subst (λ z. HasPassed (branch z (function ops c k m)) f t t) (sym d)
+      (subst (λ z. HasPassed (body_pass (o ops c) c.unroll c.limit c.order c.program z k (bodies_pass
+      (o ops c) c.unroll c.limit c.order c.program k) m s) f t t) (sym e)
+      (record { on = a; ways = b; log = tells_nothing t }))
+
+  pub function_some : (k : ℕ) (m : Mode) (u : Option S) (s : S) (g : Function) (x : Result (Flow S) Memory)
+      (old new : Told S) → slice_get c.program.functions k ≡ Some g → u ≡ Some s
+      → IfOk x (λ f. HasPassed (row ops c k g.body m s) f old new)
+      → IfOk x (λ f. HasPassed (branch u (function ops c k m)) f old new)
+  function_some k m u s g x old new e d h =
+      subst (λ z. IfOk x (λ f. HasPassed (branch z (function ops c k m)) f old new)) (sym d)
+      (subst (λ z. IfOk x (λ f. HasPassed (body_pass (o ops c) c.unroll c.limit c.order c.program z k (bodies_pass
+      (o ops c) c.unroll c.limit c.order c.program k) m s) f old new)) (sym e) h)

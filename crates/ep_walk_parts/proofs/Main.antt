@@ -1,0 +1,68 @@
+-- Main, and the report on a program.
+use Rattle.std.proofs.Common.{◌≡◌, ℕ, ◌+◌, Bool, true, false, List, [], ◌++◌, fold, slice_get, refl, sym, ap, ◌∙◌, subst, arith, Option, Some, None, Result, Ok, Err, OnOk, if◌then◌else◌}
+use Rattle.ep_int.specs.declared.types.Order.{Order}
+use Rattle.ep_alarms.specs.declared.types.Alarm.{Alarm}
+use Rattle.ep_alarms.specs.Report.{added}
+use Rattle.ep_core.specs.Program.{Function, Program}
+use Rattle.ep_core.specs.Runs.{Side}
+use Rattle.ep_pass.specs.States.{Both, StateOps}
+use Rattle.ep_pass.specs.Pass.{Ways, logged, Pass, alarms_at, join_on, main_pass, faults_at_end, report_of, turns_of, heads_of}
+use Rattle.ep_flows.specs.Shown.{Told, Tells, HasPassed, shown_ways, Plan, capped, more_heads}
+use Rattle.ep_walk_parts.specs.Pieces.{o, function}
+use Rattle.ep_flows.specs.declared.flow.Flow.{Flow}
+use Rattle.ep_flows.proofs.Telling.{nil_right, tells_both}
+use Rattle.ep_flows.proofs.Combined.{tells_at}
+
+module _ {S : Type 0} (ops : Program → (Side → Order) → StateOps S) (c : Plan) where
+  abbrev main : Pass S
+  main = main_pass (o ops c) c.unroll c.limit c.order c.program
+
+  abbrev ends : Option S → List Alarm
+  ends v = faults_at_end (o ops c) c.unroll c.limit c.order c.program (slice_get c.program.functions c.program.main) v
+
+  -- main is left, and its result compared
+  pub end_some : {T E : Type 0} (x : Result T E) (f : Function) (u v : Option S) (s : S) (old seen new : Told S)
+      → slice_get c.program.functions c.program.main ≡ Some f → u ≡ v → u ≡ Some s → old ≡ seen
+      → OnOk x (new.alarms ≡ fold added seen.alarms (alarms_at f.line ((o ops c).ended f s))) → new.count ≡ seen.count
+      → new.heads ≡ seen.heads → OnOk x (Tells (logged (ends v) 0 []) old new)
+  end_some (Err y) f u v s old seen new e d i j a n h = tt
+  end_some (Ok y) f u v s old seen new e d i j a n h =
+      let is : alarms_at f.line ((o ops c).ended f s) ≡ ends v =
+      ap (λ z. faults_at_end (o ops c) c.unroll c.limit c.order c.program z (Some s)) (sym e) ∙ ap ends (sym i ∙ d) in
+      subst (λ z. Tells (logged z 0 []) old new) is (tells_at (alarms_at f.line ((o ops c).ended f s)) old seen new j
+      a n h)
+
+  pub record Reported (keeps : Bool) (new : Told S) : Type 0 where
+    pub report : new.alarms ≡ report_of (o ops c) c.unroll c.limit c.order c.program
+    pub turns : capped new.count ≡ capped (turns_of (o ops c) c.unroll c.limit c.order c.program)
+    pub heads : new.heads ≡ (if keeps then Some (heads_of (o ops c) c.unroll c.limit c.order c.program) else None)
+
+  pub main_told : (keeps : Bool) (s : S) (f : Flow S) (old one new : Told S) → s ≡ (o ops c).entry → old.alarms ≡ []
+      → old.count ≡ 0 → old.heads ≡ (if keeps then Some [] else None)
+      → HasPassed (function ops c c.program.main Both s) f old one
+      → Tells (logged (ends (join_on (o ops c) (shown_ways f.ways).returned f.on)) 0 []) one new
+      → Reported keeps new
+  main_told keeps s f old one new es ea ec eh h t =
+      let h' : HasPassed main f old one = subst (λ z. HasPassed (function ops c c.program.main Both z) f old one) es h
+      in
+      let at : join_on (o ops c) (shown_ways f.ways).returned f.on ≡ join_on (o ops c) main.ways.returned main.on = ap
+      (λ (z : Ways S). join_on (o ops c) z.returned f.on) h'.ways
+      ∙ ap (join_on (o ops c) main.ways.returned) h'.on in
+      let t' : Tells (logged (ends (join_on (o ops c) main.ways.returned main.on)) 0 []) one new = subst (λ z. Tells
+      (logged (ends z) 0 []) one new) at t in
+      let all = tells_both main.log (logged (ends (join_on (o ops c) main.ways.returned main.on)) 0 []) old one new
+      h'.log t' in
+      record {
+        report = all.alarms ∙ ap (λ z. fold added z (main.log.faults ++ ends (join_on
+            (o ops c) main.ways.returned main.on))) ea;
+        turns = counts new.count old.count main.log.count all.count ec;
+        heads = all.heads ∙ ap (λ z. more_heads z (main.log.heads ++ [])) eh ∙ listed keeps main.log.heads;
+      }
+    where
+      counts : (a b d : ℕ) → capped a ≡ capped (b + (d + 0)) → b ≡ 0 → capped a ≡ capped d
+      counts a b d e z = omega (arith, e, z)
+
+      listed : (keeps : Bool) (hs : List S) → more_heads (if keeps then Some [] else None)
+          (hs ++ []) ≡ (if keeps then Some hs else None)
+      listed true hs = ap (λ l. Some l) (nil_right hs)
+      listed false hs = refl

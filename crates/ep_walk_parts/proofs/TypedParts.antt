@@ -1,0 +1,261 @@
+-- The parts of typed statements are typed.
+use Rattle.std.proofs.Common.{◌≡◌, ℕ, zero, suc, ◌<◌, Bool, true, false, ◌&&◌, List, [], ◌∷◌, ◌++◌, length, get_or, map, slice_get, refl, sym, ap, ◌∙◌, subst, arith, Option, Some, None, nat_lt, if◌then◌else◌}
+use Rattle.std.specs.Option.{option_map}
+use Rattle.std.specs.declared.alloc.Global.{Global}
+use Rattle.std.specs.declared.vec.Vec.{Vec}
+use Rattle.std.proofs.lemmas.Bool.{and_parts}
+use Rattle.std.proofs.lemmas.Bool.Decides.{nat_tests}
+use Rattle.ep_int.specs.declared.types.Order.{Order}
+use Rattle.ep_core.specs.declared.program.CoreProgram.{CoreProgram}
+use Rattle.ep_core.specs.declared.program.Function as function
+use Rattle.ep_core.specs.declared.tree.Dest.{Dest as dest}
+use Rattle.ep_core.specs.declared.tree.Expr.{Expr}
+use Rattle.ep_core.specs.declared.tree.Stmt.{Stmt}
+use Rattle.ep_core.specs.declared.tree.What as tree
+use Rattle.ep_core.specs.declared.tree.What.TheVariants.{Call, If, Loop, ByOrder, Scope}
+use Rattle.ep_core.specs.Exec.{callee_of, frame_of}
+use Rattle.ep_core.specs.Program as plain
+use Rattle.ep_core.specs.Program.{What, call, if_else, loop, by_order, scope, Stmts, Dest, Function, Program}
+use Rattle.ep_core.specs.Shown.{shown}
+use Rattle.ep_core.specs.View.{shown_dest, shown_expr, shown_what, shown_stmts, shown_function}
+use Rattle.ep_core.specs.WellFormed.{result_type, is_tested, are_plain, arguments_fit, takes_result, call_fits, what_fits, stmts_fit}
+use Rattle.ep_core.proofs.Operands.{fits_at}
+use Rattle.ep_core.proofs.Views.{if_is, loop_is, by_order_is, scope_is}
+use Rattle.ep_flows.specs.Typed.{IsTypedTest, IsFunction, AreArguments, TakesResult}
+use Rattle.ep_walk_parts.specs.Typed.{IsTyped, AreTyped, LoopIsTyped}
+
+module _ (p : Program) (here : ℕ) where
+  as_typed : (v w : What) → v ≡ w → IsTyped p here v → IsTyped p here w
+  as_typed v w e h = subst (IsTyped p here) e h
+
+  as_list : (ss ts : List Stmt) → ss ≡ ts → AreTyped p here (shown_stmts ts) → AreTyped p here (shown_stmts ss)
+  as_list ss ts e h = subst (λ l. AreTyped p here (shown_stmts l)) (sym e) h
+
+  abbrev fit : Function → What → List ℕ → Bool → Bool
+  fit f w seen i = what_fits p here (result_type p.blocks f.result) w seen i
+
+  abbrev fit_all : Function → Stmts → List ℕ → Bool → Bool
+  fit_all f a seen i = stmts_fit p here (result_type p.blocks f.result) a seen i
+
+  -- ---- an `if`
+
+  pub record IfIsTyped (e : plain.Expr) (a b : Stmts) : Type 0 where
+    pub test : IsTypedTest p e
+    pub yes : AreTyped p here a
+    pub other : AreTyped p here b
+
+  if_parts : (e : plain.Expr) (a b : Stmts) → IsTyped p here (if_else e a b) → IfIsTyped e a b
+  if_parts e a b t =
+      let f = t.function in
+      let k = and_parts (is_tested p.types p.blocks t.seen e && fit_all f a t.seen t.in_loop)
+      (fit_all f b t.seen t.in_loop) t.fits in
+      let m = and_parts (is_tested p.types p.blocks t.seen e) (fit_all f a t.seen t.in_loop) k.0 in
+      record {
+        test = record { seen = t.seen; fits = m.0 };
+        yes = record { function = f; is_there = t.is_there; seen = t.seen; in_loop = t.in_loop; fits = m.1 };
+        other = record { function = f; is_there = t.is_there; seen = t.seen; in_loop = t.in_loop; fits = k.1 };
+      }
+
+  pub if_typed : (w : tree.What) (e : Expr) (a b : Vec Stmt Global) (sa sb : List Stmt) → w ≡ If e a b → sa ≡ a.items
+      → sb ≡ b.items → IsTyped p here (shown_what w)
+      → IfIsTyped (shown_expr e) (shown_stmts sa) (shown_stmts sb)
+  if_typed w e a b sa sb h d g t =
+      let i = if_parts (shown_expr e) (shown_stmts a.items) (shown_stmts b.items) (as_typed (shown_what w) (if_else
+      (shown_expr e) (shown_stmts a.items) (shown_stmts b.items)) (ap shown_what h ∙ if_is e a b) t) in
+      record { test = i.test; yes = as_list sa a.items d i.yes; other = as_list sb b.items g i.other }
+
+  -- ---- a loop
+
+  loop_parts : (first : Bool) (l : ℕ) (e : plain.Expr) (a b : Stmts) → IsTyped p here (loop first e a b)
+      → LoopIsTyped p here (record { line = l; test = e; body = a; next = b })
+  loop_parts first l e a b t =
+      let f = t.function in
+      let k = and_parts (is_tested p.types p.blocks t.seen e && fit_all f a t.seen true)
+      (are_plain b && fit_all f b t.seen t.in_loop) t.fits in
+      let m = and_parts (is_tested p.types p.blocks t.seen e) (fit_all f a t.seen true) k.0 in
+      record {
+        test = record { seen = t.seen; fits = m.0 };
+        body = record { function = f; is_there = t.is_there; seen = t.seen; in_loop = true; fits = m.1 };
+        next = record {
+          function = f;
+          is_there = t.is_there;
+          seen = t.seen;
+          in_loop = t.in_loop;
+          fits = (and_parts
+              (are_plain b) (fit_all f b t.seen t.in_loop) k.1).1;
+        };
+      }
+
+  pub loop_typed : (w : tree.What) (first : Bool) (l : ℕ) (e : Expr) (a b : Vec Stmt Global) (sa sb : List Stmt)
+      → w ≡ Loop first e a b → sa ≡ a.items → sb ≡ b.items → IsTyped p here (shown_what w)
+      → LoopIsTyped p here (record { line = l; test = shown_expr e; body = shown_stmts sa; next = shown_stmts sb })
+  loop_typed w first l e a b sa sb h d g t =
+      let i = loop_parts first l (shown_expr e) (shown_stmts a.items) (shown_stmts b.items) (as_typed (shown_what w)
+      (loop first (shown_expr e) (shown_stmts a.items) (shown_stmts b.items)) (ap shown_what h
+      ∙ loop_is first e a b) t) in
+      record { test = i.test; body = as_list sa a.items d i.body; next = as_list sb b.items g i.next }
+
+  -- ---- arms by byte order
+
+  order_parts : (o : Order) (a b : Stmts) → IsTyped p here (by_order o a b) → AreTyped p here a × AreTyped p here b
+  order_parts o a b t =
+      let f = t.function in
+      let k = and_parts (fit_all f a t.seen t.in_loop) (fit_all f b t.seen t.in_loop) t.fits in (
+        record { function = f; is_there = t.is_there; seen = t.seen; in_loop = t.in_loop; fits = k.0 },
+        record {
+          function = f;
+          is_there = t.is_there;
+          seen = t.seen;
+          in_loop = t.in_loop;
+          fits = k.1;
+        },
+      )
+
+  pub order_typed : (w : tree.What) (o : Order) (a b : Vec Stmt Global) (sa sb : List Stmt) → w ≡ ByOrder o a b
+      → sa ≡ a.items → sb ≡ b.items → IsTyped p here (shown_what w)
+      → AreTyped p here (shown_stmts sa) × AreTyped p here (shown_stmts sb)
+  order_typed w o a b sa sb h d g t =
+      let i = order_parts o (shown_stmts a.items) (shown_stmts b.items) (as_typed (shown_what w) (by_order o
+      (shown_stmts a.items) (shown_stmts b.items)) (ap shown_what h ∙ by_order_is o a b) t) in
+      (as_list sa a.items d i.0, as_list sb b.items g i.1)
+
+  pub arm_typed : (b : Bool) (sa sb x : List Stmt) → x ≡ (if b then sa else sb) → AreTyped p here (shown_stmts sa)
+      → AreTyped p here (shown_stmts sb) → AreTyped p here (shown_stmts x)
+  arm_typed true sa sb x e a b = as_list x sa e a
+  arm_typed false sa sb x e a b = as_list x sb e b
+
+  -- ---- a scope
+
+  pub scope_typed : (w : tree.What) (bs : Vec ℕ Global) (a : Vec Stmt Global) (ss : List Stmt) → w ≡ Scope bs a
+      → ss ≡ a.items → IsTyped p here (shown_what w) → AreTyped p here (shown_stmts ss)
+  scope_typed w bs a ss h d t =
+      let i = as_typed (shown_what w) (scope bs.items (shown_stmts a.items)) (ap shown_what h ∙ scope_is bs a) t in
+      as_list ss a.items d (record {
+        function = i.function;
+        is_there = i.is_there;
+        seen = bs.items ++ i.seen;
+        in_loop = i.in_loop;
+        fits = i.fits;
+      })
+
+  -- ---- one statement of a row
+
+  fits_in : (r : Option ℕ) (ss : List Stmt) (seen : List ℕ) (inner : Bool)
+      → stmts_fit p here r (shown_stmts ss) seen inner ≡ true → (k : ℕ) (d : Stmt) → k < length ss
+      → what_fits p here r (shown_what (get_or ss k d).what) seen inner ≡ true
+  fits_in r [] seen inner h k d lt = absurd (omega arith)
+  fits_in r (s ∷ ss) seen inner h zero d lt = (and_parts _ _ h).0
+  fits_in r (s ∷ ss) seen inner h (suc k) d lt = fits_in r ss seen inner (and_parts _ _ h).1 k d (omega arith)
+
+  pub item_typed : (ss : List Stmt) (k : ℕ) (s : Stmt) → k < length ss → s ≡ get_or ss k s
+      → AreTyped p here (shown_stmts ss) → IsTyped p here (shown_what s.what)
+  item_typed ss k s lt e t =
+      subst (λ (x : Stmt). IsTyped p here (shown_what x.what)) (sym e)
+      (record {
+        function = t.function;
+        is_there = t.is_there;
+        seen = t.seen;
+        in_loop = t.in_loop;
+        fits = fits_in
+            (result_type p.blocks t.function.result) ss t.seen t.in_loop t.fits k s lt;
+      })
+
+  -- ---- a call
+
+  pub stmt_typed : (w : tree.What) (k : ℕ) (es : Vec Expr Global) (d : Option dest) (ee : List Expr) → w ≡ Call k es d
+      → ee ≡ es.items → IsTyped p here (shown_what w) → IsTyped p here (call k (map shown_expr ee)
+      (option_map shown_dest d))
+  stmt_typed w k es d ee h g t =
+      subst (λ z. IsTyped p here (call k (map shown_expr z) (option_map shown_dest d))) (sym g) (as_typed
+      (shown_what w) (call k (map shown_expr es.items) (option_map shown_dest d)) (ap shown_what h) t)
+
+  callee_there : (b : Bool) (v : Option Function) (f : Function) → (if b then v else None) ≡ Some f → v ≡ Some f
+  callee_there true v f e = e
+  callee_there false v f e = absurd cc
+
+  pub record CallIsTyped (f : Function) (es : List plain.Expr) (d : Option Dest) : Type 0 where
+    pub arguments : AreArguments p f es
+    pub result : TakesResult p f d
+
+  pub call_typed : (k : ℕ) (es : List plain.Expr) (d : Option Dest) (f : Function) → callee_of p here k ≡ Some f
+      → IsTyped p here (call k es d) → CallIsTyped f es d
+  call_typed k es d f e t =
+      let r = result_type p.blocks t.function.result in
+      let h : call_fits p here r (Some f) es d t.seen ≡ true = subst (λ z. call_fits p here r z es d t.seen ≡ true) e
+      t.fits in
+      let i = and_parts (arguments_fit p.types p.blocks t.seen f.params es) (takes_result p.types p.blocks t.seen
+      (result_type p.blocks f.result) d) h in
+      let g : IsFunction p f = record {
+        number = k;
+        is_there = callee_there (nat_lt k here)
+            (slice_get p.functions k) f e;
+      } in
+      record {
+        arguments = record { function = g; seen = t.seen; fits = i.0 };
+        result = record { function = g; seen = t.seen; fits = i.1 };
+      }
+
+-- ---- functions
+
+shown_at : (fs : List function.Function) (k : ℕ) (f : function.Function) → slice_get fs k ≡ Some f
+    → slice_get (map shown_function fs) k ≡ Some (shown_function f)
+shown_at [] k f e = absurd cc
+shown_at (g ∷ fs) zero f e = let d : g ≡ f = cc in ap (λ z. Some (shown_function z)) d
+shown_at (g ∷ fs) (suc k) f e = shown_at fs k f e
+
+not_there : (fs : List function.Function) (k : ℕ) → slice_get fs k ≡ None → slice_get (map shown_function fs) k ≡ None
+not_there [] k e = refl
+not_there (g ∷ fs) zero e = absurd cc
+not_there (g ∷ fs) (suc k) e = not_there fs k e
+
+module _ (c : CoreProgram) (k : ℕ) where
+  pub is_at : (f : function.Function) → slice_get c.functions.items k ≡ Some f
+      → slice_get (shown c).functions k ≡ Some (shown_function f)
+  is_at f e = shown_at c.functions.items k f e
+
+  pub is_none : slice_get c.functions.items k ≡ None → slice_get (shown c).functions k ≡ None
+  is_none e = not_there c.functions.items k e
+
+  pub function_typed : (f : function.Function) (ss : List Stmt) → slice_get c.functions.items k ≡ Some f
+      → ss ≡ f.body.items → AreTyped (shown c) k (shown_stmts ss)
+  function_typed f ss e d =
+      let at = is_at f e in
+      subst (λ l. AreTyped (shown c) k (shown_stmts l)) (sym d)
+      (record {
+        function = shown_function f;
+        is_there = at;
+        seen = frame_of (shown_function f);
+        in_loop = false;
+        fits = (fits_at (shown c) c.well_formed k (shown_function f) at).2;
+      })
+
+  -- a function that is called
+  pub callee_is : (here : ℕ) (f : function.Function)
+      → (if nat_lt k here then slice_get c.functions.items k else None) ≡ Some f → callee_of (shown c) here k ≡ Some
+      (shown_function f)
+  callee_is here f e = by_test (nat_lt k here) e
+    where
+      by_test : (b : Bool) → (if b then slice_get c.functions.items k else None) ≡ Some f
+          → (if b then slice_get (shown c).functions k else None) ≡ Some (shown_function f)
+      by_test true e = shown_at c.functions.items k f e
+      by_test false e = absurd cc
+
+  pub callee_none : (here : ℕ) → (if nat_lt k here then slice_get c.functions.items k else None) ≡ None
+      → callee_of (shown c) here k ≡ None
+  callee_none here e = by_test (nat_lt k here) e
+    where
+      by_test : (b : Bool) → (if b then slice_get c.functions.items k else None) ≡ None
+          → (if b then slice_get (shown c).functions k else None) ≡ None
+      by_test true e = not_there c.functions.items k e
+      by_test false e = refl
+
+  pub callee_less : (here : ℕ) (f : function.Function)
+      → (if nat_lt k here then slice_get c.functions.items k else None) ≡ Some f → k < here
+  callee_less here f e = by_test (nat_lt k here) refl e
+    where
+      less : nat_lt k here ≡ true → k < here
+      less e = grind (arith, nat_tests)
+
+      by_test : (b : Bool) → nat_lt k here ≡ b → (if b then slice_get c.functions.items k else None) ≡ Some f → k < here
+      by_test true d e = less d
+      by_test false d e = absurd cc
