@@ -5,13 +5,15 @@
 # Each command: its options, those that must be there, and what may stand behind FILE.
 # Each option: its values, or the greatest number.
 function table() {
-    options["check"] = ""
+    options["check"] = "--unroll --orders --model"
     options["run"] = "--order --steps --model"
     needs["run"] = "--order --steps"
     more["run"] = "INPUT"
     options["layout"] = "--model"
     values["--order"] = "little big swapped-words"
+    values["--orders"] = "little,big little,swapped-words big,little big,swapped-words swapped-words,little swapped-words,big"
     values["--model"] = "ilp32 lp64"
+    most["--unroll"] = "4096"
     most["--steps"] = "1000000"
     most["INPUT"] = "18446744073709551615"
 }

@@ -547,6 +547,13 @@ unknown option -v|-v a.c
 missing FILE|check
 unknown option --unrol|check --unrol 3 a.c
 unknown option -x|check -x
+unknown option --order|check --order big a.c
+missing value of --orders|check --orders
+repeated option --unroll|check --unroll 7 --model lp64 --unroll 7 a.c
+value out of range: --unroll 4097 (0 to 4096)|check --model lp64 --unroll 4097 a.c
+value out of range: --orders big,big (little,big little,swapped-words big,little big,swapped-words swapped-words,little swapped-words,big)|check --orders big,big a.c
+value out of range: --model lp32 (ilp32 lp64)|check --orders big,little --model lp32 a.c
+option behind FILE: --unroll|check a.c --unroll 7
 word too many: b.c|check a.c b.c
 --gcc stands before the command|check a.c --gcc
 --proved stands before the command|check --proved a.c
@@ -564,7 +571,9 @@ value out of range: INPUT 18446744073709551616 (0 to 18446744073709551615)|run -
 value out of range: INPUT x (0 to 18446744073709551615)|run --order big --steps 01000000 a.c 18446744073709551615 x
 value out of range: INPUT -1 (0 to 18446744073709551615)|run --order big --steps 5 --model lp64 a.c -1
 option behind FILE: --model|run --order big --steps 5 a.c --model lp64
+unknown option --orders|run --orders little,big a.c
 unknown option --steps|layout --steps 5 a.c
+unknown option --unroll|layout --unroll 5 a.c
 unknown option --order|layout --order big a.c
 word too many: 7|layout a.c 7
 END

@@ -1,5 +1,8 @@
 -- From what was read and done to the text and the status.
-use Rattle.std.proofs.Common.{◌≡◌, refl, ℕ, ◌⊎◌, inl, inr, List, Option, Some, None, IfSome}
+use Rattle.std.proofs.Common.{◌≡◌, refl, false, ℕ, ◌⊎◌, inl, inr, List, Option, Some, None, IfSome}
+use Rattle.ep_int.specs.declared.types.Order.{Order}
+use Rattle.ep_int.specs.declared.types.Order.TheVariants.{Little, Big, SwappedWords}
+use Rattle.ep_core.specs.Exec.{is_order}
 use Rattle.ep_words.specs.Words.{Command, check, layout, run}
 use Rattle.ep_jobs.specs.declared.status.Status.{Status}
 use Rattle.ep_jobs.specs.declared.status.Status.TheVariants.{Done, Alarms, Refused, Usage, ReadFault, WriteFault}
@@ -11,22 +14,22 @@ use Rattle.endport.specs.Top.{IsJob, TextOf, Written, IsTooLong, StopsSo}
 -- ---- no job comes to a status without a text
 
 never_read_fault : (c : Command) (bytes text : List ℕ) → IsJob c bytes ReadFault text → ⊥
-never_read_fault (check file) bytes text j = j.is_checked
+never_read_fault (check unroll orders model file) bytes text j = j
 never_read_fault (layout model file) bytes text j = j
 never_read_fault (run order steps model file inputs) bytes text j = j
 
 never_write_fault : (c : Command) (bytes text : List ℕ) → IsJob c bytes WriteFault text → ⊥
-never_write_fault (check file) bytes text j = j.is_checked
+never_write_fault (check unroll orders model file) bytes text j = j
 never_write_fault (layout model file) bytes text j = j
 never_write_fault (run order steps model file inputs) bytes text j = j
 
 never_memory : (c : Command) (bytes text : List ℕ) → IsJob c bytes Memory text → ⊥
-never_memory (check file) bytes text j = j.is_checked
+never_memory (check unroll orders model file) bytes text j = j
 never_memory (layout model file) bytes text j = j
 never_memory (run order steps model file inputs) bytes text j = j
 
 never_too_long : (c : Command) (bytes text : List ℕ) → IsJob c bytes TooLong text → ⊥
-never_too_long (check file) bytes text j = j.is_checked
+never_too_long (check unroll orders model file) bytes text j = j
 never_too_long (layout model file) bytes text j = j
 never_too_long (run order steps model file inputs) bytes text j = j
 
@@ -75,3 +78,16 @@ too_long (Some bytes) before after TooLong h = λ l. inl refl
 too_long (Some bytes) before after StepsUsedUp h = absurd h
 too_long (Some bytes) before after Undefined h = absurd h
 too_long (Some bytes) before after InputEnded h = absurd h
+
+-- ---- byte orders
+
+pub other : (a b : Order) → ((a ≡ b) → ⊥) → is_order a b ≡ false
+other Little Little h = absurd (h refl)
+other Little Big h = refl
+other Little SwappedWords h = refl
+other Big Little h = refl
+other Big Big h = absurd (h refl)
+other Big SwappedWords h = refl
+other SwappedWords Little h = refl
+other SwappedWords Big h = refl
+other SwappedWords SwappedWords h = absurd (h refl)

@@ -1,7 +1,6 @@
 -- What the program does, from its words to what it writes. This project's rules.
 use Rattle.std.specs.Prelude.{◌≡◌, ℕ, ◌<◌, List, ◌++◌, length, codes, Option, Some, None, IfSome}
 use Rattle.ep_words.specs.Words.{Command, check, layout, run}
-use Rattle.ep_int.specs.declared.types.Model.TheVariants.{Ilp32}
 use Rattle.ep_check.specs.Check.{IsCheck}
 use Rattle.ep_jobs.specs.Jobs.{IsLayout, IsRun}
 use Rattle.ep_jobs.specs.declared.status.Status.{Status}
@@ -13,7 +12,7 @@ use Rattle.ep_io.specs.Faults.{Rose}
 -- ---- words
 
 abbrev pub file_of : Command → List ℕ
-file_of (check file) = file
+file_of (check unroll orders model file) = file
 file_of (layout model file) = file
 file_of (run order steps model file inputs) = file
 
@@ -26,7 +25,8 @@ under (Some c) standing = standing (file_of c)
 
 abbrev pub usage_text : List ℕ
 usage_text =
-    codes "usage:\n  endport check FILE\n"
+    codes "usage:\n"
+    ++ codes "  endport check [--unroll N] [--orders A,B] [--model ilp32|lp64] FILE\n"
     ++ codes "  endport run --order little|big|swapped-words --steps N [--model ilp32|lp64] FILE [INPUT..]\n"
     ++ codes "  endport layout [--model ilp32|lp64] FILE\n"
 
@@ -34,7 +34,8 @@ usage_text =
 
 -- what a command comes to on bytes that were read
 abbrev pub IsJob : Command → List ℕ → Status → List ℕ → Type 0
-IsJob (check file) bytes status text = IsCheck Ilp32 bytes status text
+IsJob (check unroll orders model file) bytes status text =
+    IsCheck (record { model = model; left = orders.0; right = orders.1; unroll = unroll }) bytes status text
 IsJob (layout model file) bytes status text = IsLayout model bytes status text
 IsJob (run order steps model file inputs) bytes status text =
     IsRun (record { model = model; order = order; steps = steps; inputs = inputs }) bytes status text

@@ -4,5 +4,4 @@
 mod top;
 
 pub use ep_jobs::Status;
-pub use ep_small_program::first_unbuilt;
 pub use top::endport;

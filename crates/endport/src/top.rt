@@ -1,18 +1,17 @@
 // The top call.
 ghost use Rattle.std.specs.Prelude.{◌≡◌, ◌≤◌, ◌⊎◌, None, Some, IfErr, IfOk, IfSome, IsSome, OnOk, length, vec_len};
 ghost use Rattle.ep_words.specs.Seen as words_seen;
-ghost use Rattle.ep_words.specs.Words.{plain};
+ghost use Rattle.ep_words.specs.Words.{ComparesOthers, plain};
 ghost use Rattle.endport.specs.Top.{IsJob, IsSilent, IsTooLong, StopsSo, TextOf, WasRead, Written, file_of, under};
-ghost use Rattle.ep_check.specs.Check.{IsCheck};
 ghost use Rattle.ep_jobs.specs.Jobs.{IsLayout};
 ghost use Rattle.ep_io.specs.Bytes.{Appended, FrontAppended, NoneLeft};
 ghost use Rattle.ep_io.specs.Faults.{NeverFalls, Rose};
 
-use ep_check::check_job;
+use ep_check::{CheckAsked, check_job};
 use ep_int::{Memory, Model};
 use ep_io::{ReadStop, Sink, Source, read_all, write_all};
 use ep_jobs::{Job, RunAsked, Status, layout_job, run_job};
-use ep_words::{Command, RunWords, asked, input_numbers};
+use ep_words::{CheckWords, Command, RunWords, asked, input_numbers};
 use std::alloc::Global;
 
 /// The most bytes that a source has.
@@ -20,7 +19,7 @@ const LIMIT: u32 = 1_048_576;
 
 /// What is written where the words aren't plain.
 const USAGE: &[u8] = b"usage:
-  endport check FILE
+  endport check [--unroll N] [--orders A,B] [--model ilp32|lp64] FILE
   endport run --order little|big|swapped-words --steps N [--model ilp32|lp64] FILE [INPUT..]
   endport layout [--model ilp32|lp64] FILE
 ";
@@ -80,7 +79,7 @@ fn file_of<'a>(command: &Command<'a>) -> &'a str
     ensures { result.now ≡ file_of (words_seen.command command.now) }
 {
     match command {
-        Command::Check(file) => file,
+        Command::Check(check) => check.file,
         Command::Layout(_, file) => file,
         Command::Run(run) => run.file,
     }
@@ -88,6 +87,7 @@ fn file_of<'a>(command: &Command<'a>) -> &'a str
 
 // Reads the file, and does what is asked of it.
 fn read_and_do<S: Source>(alloc: Global, command: &Command, src: &mut S) -> Result<Job, Status>
+    requires { ComparesOthers (words_seen.command command.now) }
     ensures ok { IfOk result (λ j. let c = words_seen.command command.now in
         TextOf (Some c) (S.standing src.old (file_of c)) j.status j.text.items) }
     ensures within { OnOk result (IfSome (S.standing src.old (file_of (words_seen.command command.now)))
@@ -104,23 +104,30 @@ fn read_and_do<S: Source>(alloc: Global, command: &Command, src: &mut S) -> Resu
 
 // What a command comes to on a source.
 fn done(alloc: Global, command: &Command, bytes: &[u8]) -> Result<Job, Status>
-    requires { length bytes.now ≤ 1048576 }
+    requires fits { length bytes.now ≤ 1048576 }
+    requires others { ComparesOthers (words_seen.command command.now) }
     ensures ok { IfOk result (λ j. IsJob (words_seen.command command.now) bytes.now j.status j.text.items) }
     ensures memory { IfErr result (λ s. s ≡ Status.Memory) }
 {
     match command {
-        Command::Check(_) => report_on(alloc, bytes),
+        Command::Check(check) => report_on(alloc, bytes, check),
         Command::Layout(model, _) => layouts_of(alloc, bytes, *model),
         Command::Run(run) => run_of(alloc, bytes, run),
     }
 }
 
-fn report_on(alloc: Global, bytes: &[u8]) -> Result<Job, Status>
-    requires { length bytes.now ≤ 1048576 }
-    ensures ok { IfOk result (λ j. IsCheck Model.Ilp32 bytes.now j.status j.text.items) }
+fn report_on(alloc: Global, bytes: &[u8], check: &CheckWords) -> Result<Job, Status>
+    requires fits { length bytes.now ≤ 1048576 }
+    requires others { ComparesOthers (words_seen.checking check.now) }
+    ensures ok { IfOk result (λ j. IsJob (words_seen.checking check.now) bytes.now j.status j.text.items) }
     ensures memory { IfErr result (λ s. s ≡ Status.Memory) }
 {
-    match check_job(alloc, bytes, Model::Ilp32) {
+    let asked = CheckAsked {
+        model: check.model,
+        orders: check.orders,
+        unroll: check.unroll,
+    };
+    match check_job(alloc, bytes, asked) {
         Ok(job) => Ok(job),
         Err(Memory) => Err(Status::Memory),
     }

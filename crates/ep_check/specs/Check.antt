@@ -1,75 +1,56 @@
 -- What `check` comes to once the bytes of its file are read: a status and a text. This project's rules.
-use Rattle.std.specs.Prelude.{◌≡◌, ℕ, ◌⊎◌, true, List, [], ◌∷◌, Some}
+use Rattle.std.specs.Prelude.{◌≡◌, ℕ, true, List, [], ◌∷◌}
 use Rattle.ep_int.specs.declared.types.Model.{Model}
-use Rattle.ep_int.specs.declared.types.Order.TheVariants.{Little, Big}
-use Rattle.ep_ast.specs.declared.refusals.Refusal.{Refusal}
-use Rattle.ep_ast.specs.Refusal.{refusal_line}
+use Rattle.ep_int.specs.declared.types.Order.{Order}
 use Rattle.ep_alarms.specs.declared.types.Alarm.{Alarm}
 use Rattle.ep_alarms.specs.Text.{report_text_of}
 use Rattle.ep_core.specs.Program.{Program}
-use Rattle.ep_core.specs.Runs.{Agree, AgreeAlong}
-use Rattle.ep_interval_laws.specs.Domain.{interval_ops}
+use Rattle.ep_iterator.specs.Reports as reports
+use Rattle.ep_iterator.specs.Reports.{AllMayStand}
 use Rattle.ep_jobs.specs.Jobs.{IsRefused, MeansOnly}
 use Rattle.ep_jobs.specs.declared.status.Status.{Status}
 use Rattle.ep_jobs.specs.declared.status.Status.TheVariants.{Done, Alarms, Refused, Usage, ReadFault, WriteFault, Memory, TooLong, StepsUsedUp, Undefined, InputEnded}
-use Rattle.ep_small_core.specs.Program as small
-use Rattle.ep_small_iterator.specs.Plain.{cells_ops}
-use Rattle.ep_small_iterator.specs.Straight.{is_straight}
-use Rattle.ep_small_part.specs.Part.{small_program, first_unbuilt}
-use Rattle.ep_small_pass.specs.Pass.{report_of}
+use Rattle.ep_pass_laws.specs.Agreement.{AgreeInTheEnd}
+use Rattle.ep_check.specs.Numbers.{numbers}
 
--- the alarms of a program, by intervals; no turn of a loop is gone through by itself
-abbrev pub alarms_of : small.Program → List Alarm
-alarms_of p = report_of (cells_ops interval_ops Little Big p) 0 p
+-- a report for machines of these byte orders in this data model, where so many turns of a loop are gone through one by
+-- one
+pub record Asked : Type 0 where
+  pub model : Model
+  pub left : Order
+  pub right : Order
+  pub unroll : ℕ
+
+-- the alarms of a program, in order of line and kind
+abbrev pub alarms_of : Asked → Program → List Alarm
+alarms_of a p = reports.alarms_of numbers p a.left a.right a.unroll
 
 -- a report is done where it has no alarms
 abbrev pub report_status : List Alarm → Status
 report_status [] = Done
 report_status (a ∷ more) = Alarms
 
--- The text and the status of a report on a program, which is a small one: the report on that. Where it has no alarms the
--- two machines agree on the program. Where they agree on a program without operators, tests, loops, jumps and inner
--- blocks, it has none.
-pub record Reports (program : Program) (status : Status) (text : List ℕ) : Type 0 where
-  pub part : small.Program
-  pub part_is : small_program program ≡ Some part
-  pub text_is : text ≡ report_text_of (alarms_of part)
-  pub status_is : status ≡ report_status (alarms_of part)
-  pub portable : status ≡ Done → Agree program Little Big
-  pub interleaved : status ≡ Done → AgreeAlong program Little Big
-  pub complete : is_straight part ≡ true → Agree program Little Big → status ≡ Done
-
--- the refusal of a statement that isn't analysed yet
-abbrev pub not_built : (line : ℕ) → Refusal
-not_built l = record { kind = 50; line = l; word = 0 }
-
--- This is the line of the program's first statement that isn't analysed yet.
-pub record NotBuilt (program : Program) (text : List ℕ) : Type 0 where
-  pub line : ℕ
-  pub unbuilt : first_unbuilt program ≡ Some line
-  pub text_is : text ≡ refusal_line (not_built line)
-
--- what `check` comes to on a program
-abbrev pub IsChecked : Program → Status → (text : List ℕ) → Type 0
-IsChecked p Done text = Reports p Done text
-IsChecked p Alarms text = Reports p Alarms text
-IsChecked p Refused text = NotBuilt p text
-IsChecked p Usage text = ⊥
-IsChecked p ReadFault text = ⊥
-IsChecked p WriteFault text = ⊥
-IsChecked p Memory text = ⊥
-IsChecked p TooLong text = ⊥
-IsChecked p StepsUsedUp text = ⊥
-IsChecked p Undefined text = ⊥
-IsChecked p InputEnded text = ⊥
-
--- what `check` comes to on a source that means one program
-pub record Checks (m : Model) (source : List ℕ) (status : Status) (text : List ℕ) : Type 0 where
+-- The text and the status of the report on the one program that the source means. Where it has no alarms, the two
+-- machines agree on that program: at all numbers of steps, along every interleaving, and in the end. Each alarm is of a
+-- kind that the text on its line may have.
+pub record Reports (a : Asked) (source : List ℕ) (status : Status) (text : List ℕ) : Type 0 where
   pub program : Program
-  pub means : MeansOnly m source program
-  pub is_checked : IsChecked program status text
+  pub means : MeansOnly a.model source program
+  pub text_is : text ≡ report_text_of (alarms_of a program)
+  pub status_is : status ≡ report_status (alarms_of a program)
+  pub portable : status ≡ Done → AgreeInTheEnd program a.left a.right
+  pub stand : AllMayStand true program (alarms_of a program)
 
--- what `check` comes to: only a refusal may be that of a source that means no program
-abbrev pub IsCheck : Model → (source : List ℕ) → Status → (text : List ℕ) → Type 0
-IsCheck m source Refused text = IsRefused m source text ⊎ Checks m source Refused text
-IsCheck m source status text = Checks m source status text
+-- what `check` comes to
+abbrev pub IsCheck : Asked → (source : List ℕ) → Status → (text : List ℕ) → Type 0
+IsCheck a source Done text = Reports a source Done text
+IsCheck a source Alarms text = Reports a source Alarms text
+IsCheck a source Refused text = IsRefused a.model source text
+IsCheck a source Usage text = ⊥
+IsCheck a source ReadFault text = ⊥
+IsCheck a source WriteFault text = ⊥
+IsCheck a source Memory text = ⊥
+IsCheck a source TooLong text = ⊥
+IsCheck a source StepsUsedUp text = ⊥
+IsCheck a source Undefined text = ⊥
+IsCheck a source InputEnded text = ⊥

@@ -3,4 +3,4 @@
 
 mod job;
 
-pub use job::check_job;
+pub use job::{CheckAsked, check_job};

@@ -1,2 +1,3 @@
 mod Digits
+mod Others
 mod Parted

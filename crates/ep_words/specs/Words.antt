@@ -1,5 +1,5 @@
 -- The words of the command line. This project's rules.
-use Rattle.std.specs.Prelude.{ℕ, ◌+◌, ◌*◌, ◌-◌, nat_le, ◌==◌, Bool, false, ◌&&◌, not, if◌then◌else◌, List, [], ◌∷◌, length, map, Option, Some, None, is_none, is_some, bytes_eq, codes, option_and_then, unwrap_or}
+use Rattle.std.specs.Prelude.{◌≡◌, ℕ, ◌+◌, ◌*◌, ◌-◌, nat_le, ◌==◌, Bool, false, ◌&&◌, not, if◌then◌else◌, List, [], ◌∷◌, length, map, Option, Some, None, is_none, is_some, bytes_eq, codes, option_and_then, unwrap_or}
 use Rattle.std.specs.List.{list_all}
 use Rattle.ep_int.specs.declared.types.Model.{Model}
 use Rattle.ep_int.specs.declared.types.Model.TheVariants as models
@@ -49,6 +49,17 @@ order_named w =
     else if bytes_eq w (codes "swapped-words") then Some orders.SwappedWords
     else None
 
+-- two different orders: their names with one comma between them
+abbrev pub orders_named : Word → Option (Order × Order)
+orders_named w =
+    if bytes_eq w (codes "little,big") then Some (orders.Little, orders.Big)
+    else if bytes_eq w (codes "little,swapped-words") then Some (orders.Little, orders.SwappedWords)
+    else if bytes_eq w (codes "big,little") then Some (orders.Big, orders.Little)
+    else if bytes_eq w (codes "big,swapped-words") then Some (orders.Big, orders.SwappedWords)
+    else if bytes_eq w (codes "swapped-words,little") then Some (orders.SwappedWords, orders.Little)
+    else if bytes_eq w (codes "swapped-words,big") then Some (orders.SwappedWords, orders.Big)
+    else None
+
 abbrev pub model_named : Word → Option Model
 model_named w =
     if bytes_eq w (codes "ilp32") then Some models.Ilp32
@@ -58,15 +69,21 @@ model_named w =
 abbrev pub most_steps : ℕ
 most_steps = 1000000
 
+-- the most turns of a loop that are gone through by themselves
+abbrev pub most_unroll : ℕ
+most_unroll = 4096
+
 -- ---- options: two words each, each once at most, before the positional words
 
 pub record Options : Type 0 where
   pub order : Option Order
   pub steps : Option ℕ
   pub model : Option Model
+  pub unroll : Option ℕ
+  pub orders : Option (Order × Order)
 
 abbrev pub no_options : Options
-no_options = record { order = None; steps = None; model = None }
+no_options = record { order = None; steps = None; model = None; unroll = None; orders = None }
 
 abbrev pub with_order : Options → Option Order → Option Options
 with_order o None = None
@@ -80,12 +97,22 @@ abbrev pub with_model : Options → Option Model → Option Options
 with_model o None = None
 with_model o (Some m) = if is_none o.model then Some (record o { model = Some m }) else None
 
+abbrev pub with_unroll : Options → Option ℕ → Option Options
+with_unroll o None = None
+with_unroll o (Some n) = if is_none o.unroll then Some (record o { unroll = Some n }) else None
+
+abbrev pub with_orders : Options → Option (Order × Order) → Option Options
+with_orders o None = None
+with_orders o (Some x) = if is_none o.orders then Some (record o { orders = Some x }) else None
+
 -- an option more, if there is one of this name and its value is one
 abbrev pub with_option : Options → (name value : Word) → Option Options
 with_option o name value =
     if bytes_eq name (codes "--order") then with_order o (order_named value)
     else if bytes_eq name (codes "--steps") then with_steps o (number most_steps value)
     else if bytes_eq name (codes "--model") then with_model o (model_named value)
+    else if bytes_eq name (codes "--unroll") then with_unroll o (number most_unroll value)
+    else if bytes_eq name (codes "--orders") then with_orders o (orders_named value)
     else None
 
 abbrev pub begins_as_option : Word → Bool
@@ -103,23 +130,40 @@ options o (name ∷ value ∷ words) =
 -- ---- commands
 
 pub data Command : Type 0 where
-  check : (file : Word) → Command
+  check : (unroll : ℕ) (orders : Order × Order) (model : Model) (file : Word) → Command
   layout : (model : Model) (file : Word) → Command
   run : (order : Order) (steps : ℕ) (model : Model) (file : Word) (inputs : List ℕ) → Command
-
-abbrev pub check_of : List Word → Option Command
-check_of [] = None
-check_of (file ∷ []) = if is_file file then Some (check file) else None
-check_of (file ∷ word ∷ words) = None
 
 -- the model that is named, else ilp32
 abbrev pub model_of : Options → Model
 model_of o = unwrap_or o.model models.Ilp32
 
+-- the number of turns that is named, else 32
+abbrev pub unroll_of : Options → ℕ
+unroll_of o = unwrap_or o.unroll 32
+
+-- the two orders that are named, else little and big
+abbrev pub orders_of : Options → Order × Order
+orders_of o = unwrap_or o.orders (orders.Little, orders.Big)
+
+-- none of the options that a run alone has
+abbrev pub is_no_run : Options → Bool
+is_no_run o = is_none o.order && is_none o.steps
+
+-- none of the options that a report alone has
+abbrev pub is_no_check : Options → Bool
+is_no_check o = is_none o.unroll && is_none o.orders
+
+abbrev pub check_of : Options → List Word → Option Command
+check_of o [] = None
+check_of o (file ∷ []) =
+    if is_no_run o && is_file file then Some (check (unroll_of o) (orders_of o) (model_of o) file) else None
+check_of o (file ∷ word ∷ words) = None
+
 abbrev pub layout_of : Options → List Word → Option Command
 layout_of o [] = None
 layout_of o (file ∷ []) =
-    if is_none o.order && is_none o.steps && is_file file then Some (layout (model_of o) file) else None
+    if is_no_run o && is_no_check o && is_file file then Some (layout (model_of o) file) else None
 layout_of o (file ∷ word ∷ words) = None
 
 abbrev pub greatest_input : ℕ
@@ -146,7 +190,7 @@ run_with (Some o) (Some n) m file inputs = Some (run o n m file inputs)
 abbrev pub run_of : Options → List Word → Option Command
 run_of o [] = None
 run_of o (file ∷ words) =
-    if is_file file && nat_le (length words) most_inputs && are_inputs words
+    if is_no_check o && is_file file && nat_le (length words) most_inputs && are_inputs words
     then run_with o.order o.steps (model_of o) file (map input words)
     else None
 
@@ -155,7 +199,7 @@ with_options f ws = option_and_then (λ (r : Options × List Word). f r.0 r.1) (
 
 abbrev pub named : (command : Word) → List Word → Option Command
 named command words =
-    if bytes_eq command (codes "check") then check_of words
+    if bytes_eq command (codes "check") then with_options check_of words
     else if bytes_eq command (codes "layout") then with_options layout_of words
     else if bytes_eq command (codes "run") then with_options run_of words
     else None
@@ -165,3 +209,12 @@ abbrev pub plain : List Word → Option Command
 plain [] = None
 plain (name ∷ []) = None
 plain (name ∷ command ∷ words) = named command words
+
+-- the two orders of a report are different ones
+abbrev pub AreOther : Order × Order → Type 0
+AreOther p = (p.0 ≡ p.1) → ⊥
+
+abbrev pub ComparesOthers : Command → Type 0
+ComparesOthers (check unroll orders model file) = AreOther orders
+ComparesOthers (layout model file) = Unit {0}
+ComparesOthers (run order steps model file inputs) = Unit {0}

@@ -1,9 +1,10 @@
 //! What the words ask.
 
-ghost use Rattle.std.specs.Prelude.{◌≡◌, IfOk, map};
+ghost use Rattle.std.specs.Prelude.{◌≡◌, IfOk, IfSome, map};
 ghost use Rattle.std.specs.Option.{option_map};
 ghost use Rattle.ep_words.specs.Seen as seen;
 ghost use Rattle.ep_words.specs.Words as rule;
+ghost use Rattle.ep_words.specs.Words.{ComparesOthers};
 
 use crate::numbers::number;
 use crate::options::{Options, leading};
@@ -12,6 +13,16 @@ use std::alloc::{AllocError, Global};
 
 /// The most inputs of a run.
 const MOST_INPUTS: usize = 65_536;
+
+/// A report on a file, for machines of two different orders.
+#[derive(Clone, Copy)]
+pub struct CheckWords<'a> {
+    /// So many turns of a loop are gone through by themselves.
+    pub unroll: u32,
+    pub orders: (Order, Order),
+    pub model: Model,
+    pub file: &'a str,
+}
 
 /// A run of a file on one machine. The words of the inputs are numbers.
 #[derive(Clone, Copy)]
@@ -27,8 +38,7 @@ pub struct RunWords<'a> {
 /// What plain words ask.
 #[derive(Clone, Copy)]
 pub enum Command<'a> {
-    /// A report on a file.
-    Check(&'a str),
+    Check(CheckWords<'a>),
     /// The layouts of a file's types.
     Layout(Model, &'a str),
     Run(RunWords<'a>),
@@ -44,11 +54,16 @@ fn is_file(word: &str) -> bool
     }
 }
 
-fn check_of(words: &[String]) -> Option<Command<'_>>
-    ensures { option_map seen.command result ≡ rule.check_of (seen.words words.now) }
+fn check_of(given: Options, words: &[String]) -> Option<Command<'_>>
+    ensures { option_map seen.command result ≡ rule.check_of (seen.options given) (seen.words words.now) }
 {
     match words {
-        [file] if is_file(file.as_str()) => Some(Command::Check(file.as_str())),
+        [file] if given.is_no_run() && is_file(file.as_str()) => Some(Command::Check(CheckWords {
+            unroll: given.unroll(),
+            orders: given.orders(),
+            model: given.model(),
+            file: file.as_str(),
+        })),
         _ => None,
     }
 }
@@ -57,7 +72,7 @@ fn layout_of(given: Options, words: &[String]) -> Option<Command<'_>>
     ensures { option_map seen.command result ≡ rule.layout_of (seen.options given) (seen.words words.now) }
 {
     match words {
-        [file] if given.order.is_none() && given.steps.is_none() && is_file(file.as_str()) => {
+        [file] if given.is_no_run() && given.is_no_check() && is_file(file.as_str()) => {
             Some(Command::Layout(given.model(), file.as_str()))
         }
         _ => None,
@@ -102,10 +117,20 @@ fn run_of(given: Options, words: &[String]) -> Option<Command<'_>>
 {
     match words {
         [file, inputs @ ..]
-            if is_file(file.as_str()) && inputs.len() <= MOST_INPUTS && are_inputs(inputs) => {
-            run_with(given, file.as_str(), inputs)
-        }
+            if given.is_no_check()
+                && is_file(file.as_str())
+                && inputs.len() <= MOST_INPUTS
+                && are_inputs(inputs) => { run_with(given, file.as_str(), inputs) }
         _ => None,
+    }
+}
+
+fn check_words(words: &[String]) -> Option<Command<'_>>
+    ensures { option_map seen.command result ≡ rule.with_options rule.check_of (seen.words words.now) }
+{
+    match leading(Options::none(), words) {
+        Some((given, rest)) => check_of(given, rest),
+        None => None,
     }
 }
 
@@ -132,7 +157,7 @@ fn named<'a>(command: &str, words: &'a [String]) -> Option<Command<'a>>
     ensures { option_map seen.command result ≡ rule.named command.now (seen.words words.now) }
 {
     match command {
-        "check" => check_of(words),
+        "check" => check_words(words),
         "layout" => layout_words(words),
         "run" => run_words(words),
         _ => None,
@@ -141,7 +166,8 @@ fn named<'a>(command: &str, words: &'a [String]) -> Option<Command<'a>>
 
 /// What the words ask, where they are plain. The first is the program's name.
 pub fn asked(words: &[String]) -> Option<Command<'_>>
-    ensures { option_map seen.command result ≡ rule.plain (seen.words words.now) }
+    ensures command { option_map seen.command result ≡ rule.plain (seen.words words.now) }
+    ensures others { IfSome result (λ c. ComparesOthers (seen.command c)) }
 {
     match words {
         [_, command, rest @ ..] => named(command.as_str(), rest),

@@ -11,12 +11,20 @@ use ep_int::{Model, Order};
 /// The most steps of a run.
 const MOST_STEPS: u64 = 1_000_000;
 
+/// The most turns of a loop that a report goes through by themselves.
+const MOST_UNROLL: u64 = 4096;
+
+/// The turns of a loop that a report goes through by themselves where no number is given.
+const USUAL_UNROLL: u32 = 32;
+
 /// The options that were given.
 #[derive(Clone, Copy)]
 pub(crate) struct Options {
     pub order: Option<Order>,
     pub steps: Option<u64>,
     pub model: Option<Model>,
+    pub unroll: Option<u32>,
+    pub orders: Option<(Order, Order)>,
 }
 
 fn order_named(word: &str) -> Option<Order>
@@ -28,6 +36,27 @@ fn order_named(word: &str) -> Option<Order>
         "swapped-words" => Some(Order::SwappedWords),
         _ => None,
     }
+}
+
+fn orders_named(word: &str) -> Option<(Order, Order)>
+    ensures { result ≡ rule.orders_named word.now }
+{
+    match word {
+        "little,big" => Some((Order::Little, Order::Big)),
+        "little,swapped-words" => Some((Order::Little, Order::SwappedWords)),
+        "big,little" => Some((Order::Big, Order::Little)),
+        "big,swapped-words" => Some((Order::Big, Order::SwappedWords)),
+        "swapped-words,little" => Some((Order::SwappedWords, Order::Little)),
+        "swapped-words,big" => Some((Order::SwappedWords, Order::Big)),
+        _ => None,
+    }
+}
+
+fn unroll_named(word: &str) -> Option<u32>
+    ensures { result ≡ rule.number rule.most_unroll word.now }
+{
+    let turns = number(MOST_UNROLL, word)?;
+    Some(turns as u32)
 }
 
 fn model_named(word: &str) -> Option<Model>
@@ -48,6 +77,8 @@ impl Options {
             order: None,
             steps: None,
             model: None,
+            unroll: None,
+            orders: None,
         }
     }
 
@@ -60,8 +91,7 @@ impl Options {
         }
         Some(Options {
             order: Some(order),
-            steps: self.steps,
-            model: self.model,
+            ..self
         })
     }
 
@@ -73,9 +103,8 @@ impl Options {
             return None;
         }
         Some(Options {
-            order: self.order,
             steps: Some(steps),
-            model: self.model,
+            ..self
         })
     }
 
@@ -87,9 +116,34 @@ impl Options {
             return None;
         }
         Some(Options {
-            order: self.order,
-            steps: self.steps,
             model: Some(model),
+            ..self
+        })
+    }
+
+    fn with_unroll(self, unroll: Option<u32>) -> Option<Options>
+        ensures { option_map seen.options result ≡ rule.with_unroll (seen.options self) unroll }
+    {
+        let unroll = unroll?;
+        if self.unroll.is_some() {
+            return None;
+        }
+        Some(Options {
+            unroll: Some(unroll),
+            ..self
+        })
+    }
+
+    fn with_orders(self, orders: Option<(Order, Order)>) -> Option<Options>
+        ensures { option_map seen.options result ≡ rule.with_orders (seen.options self) orders }
+    {
+        let orders = orders?;
+        if self.orders.is_some() {
+            return None;
+        }
+        Some(Options {
+            orders: Some(orders),
+            ..self
         })
     }
 
@@ -101,6 +155,8 @@ impl Options {
             "--order" => self.with_order(order_named(value)),
             "--steps" => self.with_steps(number(MOST_STEPS, value)),
             "--model" => self.with_model(model_named(value)),
+            "--unroll" => self.with_unroll(unroll_named(value)),
+            "--orders" => self.with_orders(orders_named(value)),
             _ => None,
         }
     }
@@ -110,6 +166,34 @@ impl Options {
         ensures { result ≡ rule.model_of (seen.options self) }
     {
         self.model.unwrap_or(Model::Ilp32)
+    }
+
+    /// The number of turns that is named, else 32.
+    pub fn unroll(self) -> u32
+        ensures { result ≡ rule.unroll_of (seen.options self) }
+    {
+        self.unroll.unwrap_or(USUAL_UNROLL)
+    }
+
+    /// The two orders that are named, else little and big.
+    pub fn orders(self) -> (Order, Order)
+        ensures { result ≡ rule.orders_of (seen.options self) }
+    {
+        self.orders.unwrap_or((Order::Little, Order::Big))
+    }
+
+    /// None of the options that a run alone has.
+    pub fn is_no_run(self) -> bool
+        ensures { result ≡ rule.is_no_run (seen.options self) }
+    {
+        self.order.is_none() && self.steps.is_none()
+    }
+
+    /// None of the options that a report alone has.
+    pub fn is_no_check(self) -> bool
+        ensures { result ≡ rule.is_no_check (seen.options self) }
+    {
+        self.unroll.is_none() && self.orders.is_none()
     }
 }
 

@@ -4,3 +4,4 @@
 mod cases;
 
 pub use cases::{Case, USAGE_TEXT, call};
+pub use endport::Status;

@@ -1,9 +1,8 @@
-// The command `check` on sources of the whole language: reports, what isn't analysed yet, and refusals.
-use endport::Status;
+// The command `check` on sources of the whole language: reports and refusals.
 use std::alloc::Global;
 use std::process::Abort;
 use std::test::Fail;
-use tests_calls::{Case, call};
+use tests_calls::{Case, Status, call};
 
 /// The source, the status and the text.
 type Row = (&'static str, Status, &'static str);
@@ -119,9 +118,9 @@ fn statements_and_what_stands_round_them(rt: HostRuntime) -> Result<(), Fail> {
             "portable\n",
         ),
         (
-            "int main(void) {\n  for (int32_t i = 0; ; i++)\n    if (i == 3) break;\n}\n",
+            "int main(void) {\n  for (int32_t i = 0; ; i++)\n    if (i == 33) break;\n}\n",
             Status::Alarms,
-            "2: U1 overflow left [1,2147483648] right [1,2147483648]\n1 alarms\n",
+            "2: U1 overflow left [33,2147483648] right [33,2147483648]\n1 alarms\n",
         ),
         (
             "int main(void) {\n  uint8_t n = 0;\n  do { n = n + 1; if (n == 7) break; } while (n < 10);\n  ep_out_u8(n);\n}\n",
@@ -182,101 +181,91 @@ fn statements_and_what_stands_round_them(rt: HostRuntime) -> Result<(), Fail> {
     expect_all(&rt, rt.alloc(), &table)
 }
 
-/// A source, and the line of its first statement that isn't analysed yet.
-type Unbuilt = (&'static str, u32);
-
 #[test]
-fn statements_that_are_not_analysed_yet(rt: HostRuntime) -> Result<(), Fail> {
-    let table: [Unbuilt; 22] = [
+fn the_whole_language(rt: HostRuntime) -> Result<(), Fail> {
+    let table: [Row; 16] = [
         (
             "uint8_t one(void) { return 1; }\nint main(void) {\n  uint8_t x;\n  x = one();\n  ep_out_u8(x);\n}\n",
-            4,
+            Status::Done,
+            "portable\n",
         ),
-        ("void none(void) { }\nint main(void) {\n  none();\n}\n", 3),
+        (
+            "void none(void) { }\nint main(void) {\n  none();\n}\n",
+            Status::Done,
+            "portable\n",
+        ),
         (
             "int main(void) {\n  uint32_t x;\n  uint8_t b[4];\n  x = ep_in_u32();\n  b[0] = x >> 24; b[1] = x >> 16;\n  ep_write(b, 4);\n}\n",
-            5,
-        ),
-        (
-            "int main(void) {\n  uint8_t b[4];\n  ep_write(b, 4);\n}\n",
-            3,
+            Status::Alarms,
+            "6: U4 uninitialised left [0,0] right [0,0]\n1 alarms\n",
         ),
         (
             "int main(void) {\n  uint16_t x = 1;\n  ep_write(&x, 2);\n  ep_write(&x, 3);\n}\n",
-            4,
+            Status::Alarms,
+            "3: E1 output-differs left [0,1] right [0,1]\n4: U5 bounds left [0,0] right [0,0]\n2 alarms\n",
         ),
         (
             "int main(void) {\n  uint16_t x = ep_in_u16();\n#if __BYTE_ORDER__ == __ORDER_LITTLE_ENDIAN__\n  ep_out_u16(x);\n#endif\n}\n",
-            3,
+            Status::Alarms,
+            "4: E2 one-sided-io left [0,0] right [0,0]\n1 alarms\n",
         ),
         (
             "\n#if __BYTE_ORDER__ == __ORDER_BIG_ENDIAN__\nint f(void) { return 1; }\n#else\nint f(void) { return 2; }\n#endif\nint main(void) { }\n",
-            2,
+            Status::Done,
+            "portable\n",
         ),
         (
             "int main(void) {\n  uint32_t x = 1;\n  uint32_t *p = &x;\n  *p = 2;\n}\n",
-            3,
+            Status::Done,
+            "portable\n",
         ),
-        ("int *p;\nint main(void) {\n  *p = 2;\n}\n", 3),
+        (
+            "int *p;\nint main(void) {\n  *p = 2;\n}\n",
+            Status::Alarms,
+            "3: U6 null left [0,0] right [0,0]\n1 alarms\n",
+        ),
         (
             "struct s { int a; };\nint main(void) {\n  struct s v;\n  v.a = 1;\n}\n",
-            4,
+            Status::Done,
+            "portable\n",
         ),
         (
             "struct s { int a; } v, w;\nint main(void) {\n  v = w;\n}\n",
-            3,
+            Status::Done,
+            "portable\n",
         ),
-        ("int main(void) {\n  uint8_t a[3] = {1, 2};\n}\n", 2),
         (
-            "int main(void) {\n  uint32_t x;\n  memset(&x, 0, 4);\n}\n",
-            3,
+            "int main(void) {\n  uint8_t a[3] = {1, 2};\n  ep_write(a, 3);\n}\n",
+            Status::Done,
+            "portable\n",
+        ),
+        (
+            "int main(void) {\n  uint32_t x;\n  memset(&x, 0, 4);\n  ep_write(&x, 4);\n}\n",
+            Status::Done,
+            "portable\n",
         ),
         (
             "int main(void) {\n  uint32_t x, y;\n  memcpy(&x, &y, 4);\n}\n",
-            3,
-        ),
-        ("int main(void) {\n  uint32_t x;\n  ep_read(&x, 4);\n}\n", 3),
-        (
-            "int main(void) {\n  uint8_t x = 1;\n  if (x > 0 && x < 2) x = 2;\n}\n",
-            3,
+            Status::Done,
+            "portable\n",
         ),
         (
-            "int main(void) {\n  uint8_t x = 1;\n  x = x > 0 || x < 2;\n}\n",
-            3,
+            "int main(void) {\n  uint32_t x;\n  ep_read(&x, 4);\n  ep_out_u32(x);\n}\n",
+            Status::Alarms,
+            "4: E1 output-differs left [0,4294967295] right [0,4294967295]\n1 alarms\n",
         ),
         (
-            "int main(void) {\n  uint8_t x = 1;\n  while (x)\n    x = !x;\n}\n",
-            4,
+            "int main(void) {\n  uint8_t x = 1;\n  if (x > 0 && x < 2) x = 2;\n  x = x > 0 || x < 2;\n  while (x) x = !x;\n  return x ? 1 : 2;\n}\n",
+            Status::Done,
+            "portable\n",
         ),
         (
-            "int main(void) {\n  uint8_t x = 1;\n\n  return x ? 1 : 2;\n}\n",
-            4,
-        ),
-        (
-            "void f(void) {\n  uint8_t a[2];\n  a[0] = 1;\n}\nint main(void) {\n  uint8_t a[2];\n  a[0] = 1;\n}\n",
-            3,
-        ),
-        (
-            "int main(void) {\n  uint8_t a[3], i;\n  for (i = 0; i < 3; i++)\n    a[i] = 1;\n}\n",
-            4,
-        ),
-        (
-            "int main(void) {\n  uint8_t a[3], i;\n  for (i = 0;\n       i < 3;\n       i = !i)\n    a[i] = 1;\n}\n",
-            5,
+            "void f(void) {\n  uint8_t a[2];\n  a[0] = 1;\n}\nint main(void) {\n  uint8_t a[3], i;\n  for (i = 0; i < 3; i++)\n    a[i] = 1;\n  f();\n  ep_write(a, 3);\n}\n",
+            Status::Done,
+            "portable\n",
         ),
     ];
-    for (source, line) in table.iter() {
-        let mut text = String::new(rt.alloc());
-        write!(text, "{line}: refused 50 not-built\n")?;
-        expect(
-            &rt,
-            rt.alloc(),
-            &Case::check(source.as_bytes()),
-            Status::Refused,
-            text.as_str(),
-        )?;
-    }
-    Ok(())
+    expect_all(&rt, rt.alloc(), &table)
 }
 
 /// A refused source, and its line.

@@ -3,5 +3,3 @@
 
 #[cfg(test)]
 mod checks;
-#[cfg(test)]
-mod unbuilt;

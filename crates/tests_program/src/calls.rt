@@ -1,9 +1,8 @@
 // Whole calls, over a source and a sink in memory.
-use endport::Status;
 use std::alloc::Global;
 use std::process::Abort;
 use std::test::Fail;
-use tests_calls::{Case, USAGE_TEXT, call};
+use tests_calls::{Case, Status, USAGE_TEXT, call};
 
 const NUMBER: &str = "int main(void) {\n  uint32_t x;\n  x = ep_in_u32();\n  ep_out_u32(x);\n}\n";
 
@@ -76,8 +75,8 @@ fn sources_and_their_reports(rt: HostRuntime) -> Result<(), Fail> {
         ),
         (
             "int main(void){uint32_t a;a=1;\nep_write(&a,5);}",
-            Status::Refused,
-            "2: refused 50 not-built\n",
+            Status::Alarms,
+            "2: U5 bounds left [0,0] right [0,0]\n1 alarms\n",
         ),
         ("", Status::Refused, "1: refused 36 no-main\n"),
     ];
@@ -212,9 +211,111 @@ fn operators_tests_and_loops(rt: HostRuntime) -> Result<(), Fail> {
     Ok(())
 }
 
+const TEN: &str =
+    "int main(void) {\n  uint8_t a[10], i;\n  for (i = 0; i < 10; i++) a[i] = i;\n  ep_write(a, 10);\n}\n";
+
+const HALVES: &str = "int main(void) {\n  uint16_t x;\n  x = ep_in_u16();\n  ep_write(&x, 2);\n}\n";
+
+const UNSET: &str = "4: U4 uninitialised left [0,0] right [0,0]\n1 alarms\n";
+
+/// The words, the source, the status and the text.
+type Asked = (&'static [&'static str], &'static str, Status, &'static str);
+
+#[test]
+fn options_of_a_report(rt: HostRuntime) -> Result<(), Fail> {
+    let table: [Asked; 9] = [
+        (
+            &["endport", "check", "file.c"],
+            TEN,
+            Status::Done,
+            "portable\n",
+        ),
+        (
+            &["endport", "check", "--unroll", "10", "file.c"],
+            TEN,
+            Status::Done,
+            "portable\n",
+        ),
+        (
+            &["endport", "check", "--unroll", "9", "file.c"],
+            TEN,
+            Status::Alarms,
+            UNSET,
+        ),
+        (
+            &["endport", "check", "--unroll", "007", "file.c"],
+            NUMBER,
+            Status::Done,
+            "portable\n",
+        ),
+        (
+            &[
+                "endport", "check", "--unroll", "4096", "--model", "lp64", "file.c",
+            ],
+            NUMBER,
+            Status::Done,
+            "portable\n",
+        ),
+        (
+            &[
+                "endport",
+                "check",
+                "--orders",
+                "little,swapped-words",
+                "file.c",
+            ],
+            BYTES,
+            Status::Alarms,
+            DIFFERS,
+        ),
+        (
+            &[
+                "endport",
+                "check",
+                "--orders",
+                "little,swapped-words",
+                "file.c",
+            ],
+            HALVES,
+            Status::Done,
+            "portable\n",
+        ),
+        (
+            &[
+                "endport",
+                "check",
+                "--model",
+                "ilp32",
+                "--orders",
+                "swapped-words,big",
+                "--unroll",
+                "0",
+                "file.c",
+            ],
+            HALVES,
+            Status::Alarms,
+            DIFFERS,
+        ),
+        (
+            &["endport", "check", "--orders", "big,little", "file.c"],
+            BYTES,
+            Status::Alarms,
+            DIFFERS,
+        ),
+    ];
+    for (words, source, status, text) in table.iter() {
+        let case = Case {
+            words,
+            ..Case::check(source.as_bytes())
+        };
+        expect(&rt, rt.alloc(), &case, *status, text)?;
+    }
+    Ok(())
+}
+
 #[test]
 fn words_and_the_usage_text(rt: HostRuntime) -> Result<(), Fail> {
-    let table: [&[&str]; 8] = [
+    let table: [&[&str]; 21] = [
         &[],
         &["endport"],
         &["endport", "--help"],
@@ -223,6 +324,37 @@ fn words_and_the_usage_text(rt: HostRuntime) -> Result<(), Fail> {
         &["endport", "check", ""],
         &["endport", "run", "file.c"],
         &["endport", "check", "file.c", "file.c"],
+        &["endport", "check", "--unroll", "4097", "file.c"],
+        &["endport", "check", "--unroll", "-1", "file.c"],
+        &["endport", "check", "--unroll", "", "file.c"],
+        &[
+            "endport", "check", "--unroll", "7", "--unroll", "7", "file.c",
+        ],
+        &["endport", "check", "file.c", "--unroll", "7"],
+        &["endport", "check", "--orders", "big,big", "file.c"],
+        &["endport", "check", "--orders", "little, big", "file.c"],
+        &[
+            "endport",
+            "check",
+            "--orders",
+            "little,big,swapped-words",
+            "file.c",
+        ],
+        &["endport", "check", "--orders", "little", "file.c"],
+        &["endport", "check", "--order", "little", "file.c"],
+        &["endport", "check", "--steps", "1", "file.c"],
+        &["endport", "layout", "--unroll", "1", "file.c"],
+        &[
+            "endport",
+            "run",
+            "--order",
+            "big",
+            "--steps",
+            "1",
+            "--orders",
+            "big,little",
+            "file.c",
+        ],
     ];
     for words in table.iter() {
         let case = Case {
@@ -260,31 +392,24 @@ fn faults_of_the_source_and_the_sink(rt: HostRuntime) -> Result<(), Fail> {
     expect(&rt, rt.alloc(), &usage, Status::WriteFault, "usage:\n ")
 }
 
-/// A source that declares so many variables of four bytes, and one of one byte if it is to.
-fn declarations(alloc: Global, count: u32, one_more: bool) -> Result<String, Fail> {
-    let mut source = String::from_str(alloc, "int main(void){uint32_t a")?;
-    for i in 1..count {
-        write!(source, ",a{i}")?;
-    }
-    source.push_str(if one_more { ";uint8_t b;}" } else { ";}" })?;
-    Ok(source)
-}
+// 65,532 bytes of variables, which with main's result are as many as all objects may have, and one more.
+const MOST: &str = "int main(void){uint32_t a[16382],b;}";
+
+const MORE: &str = "int main(void){uint32_t a[16382],b;uint8_t c;}";
 
 #[test]
 fn as_much_as_fits_and_no_more(rt: HostRuntime) -> Result<(), Fail> {
-    let most = declarations(rt.alloc(), 16383, false)?;
     expect(
         &rt,
         rt.alloc(),
-        &Case::check(most.as_bytes()),
+        &Case::check(MOST.as_bytes()),
         Status::Done,
         "portable\n",
     )?;
-    let more = declarations(rt.alloc(), 16383, true)?;
     expect(
         &rt,
         rt.alloc(),
-        &Case::check(more.as_bytes()),
+        &Case::check(MORE.as_bytes()),
         Status::Refused,
         "1: refused 37 too-large\n",
     )?;

@@ -1,10 +1,9 @@
 // The commands `layout` and `run`, over a source and a sink in memory.
 use crate::calls::expect;
-use endport::Status;
 use std::alloc::Global;
 use std::process::Abort;
 use std::test::Fail;
-use tests_calls::{Case, USAGE_TEXT};
+use tests_calls::{Case, Status, USAGE_TEXT};
 
 const ITEM: &str = "struct item { uint8_t tag; uint32_t *p; };\nint main(void) { return 0; }\n";
 

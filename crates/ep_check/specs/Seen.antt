@@ -1,0 +1,6 @@
+-- What is asked of a report, as the definition has it.
+use Rattle.ep_check.specs.declared.job.CheckAsked.{CheckAsked}
+use Rattle.ep_check.specs.Check.{Asked}
+
+abbrev pub asked_for : CheckAsked → Asked
+asked_for a = record { model = a.model; left = a.orders.0; right = a.orders.1; unroll = a.unroll }

@@ -1,5 +1,0 @@
-mod Reaching
-mod Turns
-mod Jumps
-mod Statements
-pub mod Sound

@@ -1,4 +1,0 @@
-pub mod States
-pub mod Typed
-pub mod Pass
-pub mod Laws

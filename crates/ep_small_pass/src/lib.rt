@@ -1,2 +1,0 @@
-//! What the analysis of a program reports, whatever it keeps of a state: definitions and laws alone.
-#![tactic(auto)]

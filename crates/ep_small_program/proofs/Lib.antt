@@ -1,7 +1,0 @@
-mod FirstLines
-mod FunctionLists
-mod Lists
-mod Making
-mod Parts
-mod Seen
-mod Whole
