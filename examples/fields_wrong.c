@@ -1,0 +1,38 @@
+/* The same, where a number of four bytes is copied as it lies in the frame: right on a big-endian machine alone. */
+#include <stdint.h>
+#include <string.h>
+#include "ep.h"
+
+#define FRAME 16
+#define NUMBER 1
+#define TEXT 2
+
+int main(void)
+{
+    uint8_t frame[FRAME];
+    uint8_t kind;
+    uint8_t length;
+    uint8_t i;
+    uint8_t number[4] = {0};
+    uint32_t at = 0;
+    uint32_t value;
+    ep_read(frame, FRAME);
+    while (at < FRAME - 1) {
+        kind = frame[at];
+        length = frame[at + 1];
+        at += 2;
+        value = 0;
+        for (i = 0; i < length && at < FRAME; i++) {
+            if (kind == NUMBER)
+                number[i & 3] = frame[at];
+            else
+                value += frame[at];
+            at++;
+        }
+        if (kind == NUMBER)
+            memcpy(&value, number, 4);
+        if (kind == NUMBER || kind == TEXT)
+            ep_out_u32(value);
+    }
+    return 0;
+}
