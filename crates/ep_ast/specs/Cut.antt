@@ -3,6 +3,7 @@ use Rattle.std.specs.Prelude.{◌≡◌, ℕ, ◌+◌, Bool, true, false, ◌&&�
 use Rattle.std.specs.Prelude.{◌∷◌, ◌++◌, length, drop, codes, Option, Some, None, is_some, is_none}
 use Rattle.std.specs.List.{position_from, starts_with, list_any}
 use Rattle.std.specs.Str.{bytes_eq}
+use Rattle.ep_ast.specs.Kind as kinds
 use Rattle.ep_ast.specs.declared.orders.NamedOrder.{NamedOrder}
 use Rattle.ep_ast.specs.declared.orders.NamedOrder.TheVariants.{Little, Big}
 use Rattle.ep_ast.specs.declared.expressions.Literal.{Literal}
@@ -230,15 +231,14 @@ abbrev pub is_include : List Thing → Bool
 is_include [] = false
 is_include (t ∷ ts) = is_named (λ w. bytes_eq w (codes "include")) t
 
--- the kind of a wrong directive that begins with this thing: conditionals 7, includes 6, others 5; inside a conditional
--- 7
+-- the kind of a wrong directive that begins with this thing; inside a conditional each is one of the conditional's
 abbrev pub directive_kind : Place → List Thing → ℕ
-directive_kind p [] = 5
+directive_kind p [] = kinds.directive
 directive_kind p (t ∷ ts) =
     if not (is_outside p.open_arm) || is_named (λ w. list_any (bytes_eq w)
-    (codes "if" ∷ codes "elif" ∷ codes "else" ∷ codes "endif" ∷ [])) t then 7
-    else if is_named (λ w. bytes_eq w (codes "include")) t then 6
-    else 5
+    (codes "if" ∷ codes "elif" ∷ codes "else" ∷ codes "endif" ∷ [])) t then kinds.conditional
+    else if is_named (λ w. bytes_eq w (codes "include")) t then kinds.include
+    else kinds.directive
 
 abbrev pub at_line : ℕ → ℕ → Refusal
 at_line k l = record { kind = k; line = l; word = 0 }
@@ -247,8 +247,8 @@ at_line k l = record { kind = k; line = l; word = 0 }
 -- but in an include; anything else makes the directive a wrong one.
 abbrev pub wrong : ℕ → ℕ → ℕ → Thing → Refusal
 wrong k l m over = at_line k l
-wrong k l m hash = at_line 1 m
-wrong k l m quote = if k == 6 then at_line 6 l else at_line 4 m
+wrong k l m hash = at_line kinds.byte m
+wrong k l m quote = if k == kinds.include then at_line kinds.include l else at_line kinds.string_literal m
 wrong k l m (name t) = at_line k l
 wrong k l m (number n) = at_line k l
 wrong k l m (mark n) = at_line k l
@@ -256,13 +256,14 @@ wrong k l m (mark n) = at_line k l
 -- At the place p, in the piece with which the bytes begin, this offends.
 pub data Offence (p : Place) : List ℕ → Refusal → Type 0 where
   broken : {bs : List ℕ} (k m : ℕ) → Breaks p.line bs k m → Offence p bs (at_line k m)
-  stray_quote : {bs rest : List ℕ} (m : ℕ) → Next p.line bs m quote rest → Offence p bs (at_line 4 m)
-  stray_hash : {bs rest : List ℕ} (m : ℕ) → Next p.line bs m hash rest → p.fresh ≡ false → Offence p bs (at_line 1 m)
+  stray_quote : {bs rest : List ℕ} (m : ℕ) → Next p.line bs m quote rest → Offence p bs (at_line kinds.string_literal m)
+  stray_hash : {bs rest : List ℕ} (m : ℕ) → Next p.line bs m hash rest → p.fresh ≡ false
+      → Offence p bs (at_line kinds.byte m)
   reserved_word : {bs rest : List ℕ} (m n : ℕ) (t : List ℕ) → Next p.line bs m (name t) rest
       → sense p.constants t ≡ is_reserved n
-      → Offence p bs (record { kind = 8; line = m; word = n })
+      → Offence p bs (record { kind = kinds.reserved_word; line = m; word = n })
   no_end_if : {bs : List ℕ} (m from : ℕ) → Next p.line bs m over [] → opened_at p.open_arm ≡ Some from
-      → Offence p bs (at_line 7 from)
+      → Offence p bs (at_line kinds.conditional from)
   broken_inside : {bs cs ds : List ℕ} (l m n k : ℕ) (ts : List Thing) → p.fresh ≡ true → Next p.line bs l hash cs
       → Stand l cs ts m ds → list_any is_over ts ≡ false → may_begin p ts ≡ true
       → Breaks m ds k n → Offence p bs (at_line k n)
@@ -273,7 +274,7 @@ pub data Offence (p : Place) : List ℕ → Refusal → Type 0 where
   no_header : {bs cs ds es fs : List ℕ} (l m n : ℕ) (t : Thing) → p.fresh ≡ true → p.open_arm ≡ outside
       → Next p.line bs l hash cs
       → Stand l cs (name (codes "include") ∷ []) m ds → Gap m ds n es → Begins es t fs → after headers es ≡ None
-      → Offence p bs (wrong 6 l n t)
+      → Offence p bs (wrong kinds.include l n t)
   broken_header : {bs cs ds es fs : List ℕ} (l m n k o : ℕ) → p.fresh ≡ true → p.open_arm ≡ outside
       → Next p.line bs l hash cs
       → Stand l cs (name (codes "include") ∷ []) m ds → Gap m ds n es → after headers es ≡ Some fs → Breaks n fs k o
@@ -281,7 +282,7 @@ pub data Offence (p : Place) : List ℕ → Refusal → Type 0 where
   behind_header : {bs cs ds es fs gs : List ℕ} (l m n o : ℕ) (t : Thing) → p.fresh ≡ true → p.open_arm ≡ outside
       → Next p.line bs l hash cs
       → Stand l cs (name (codes "include") ∷ []) m ds → Gap m ds n es → after headers es ≡ Some fs → Next n fs o t gs
-      → is_over t ≡ false → Offence p bs (wrong 6 l o t)
+      → is_over t ≡ false → Offence p bs (wrong kinds.include l o t)
 
 -- The first offence from this place on: everything before it cuts.
 pub data Offends : Place → List ℕ → Refusal → Type 0 where

@@ -4,6 +4,7 @@ use Rattle.std.specs.Prelude.{◌≡◌, ℕ, suc, ◌+◌, ◌-◌, ◌*◌, �
 use Rattle.std.specs.Prelude.{nat_le, if◌then◌else◌, List, [], ◌∷◌, length, take, drop, fold, slice_index}
 use Rattle.std.specs.Prelude.{slice_index_or, Option, Some, None}
 use Rattle.std.specs.List.{prefix_len, position_from, starts_with, list_any}
+use Rattle.ep_ast.specs.Kind as kinds
 use Rattle.ep_ast.specs.declared.expressions.Literal.{Literal}
 use Rattle.ep_ast.specs.Token.{marks}
 
@@ -207,18 +208,18 @@ pub record Next (l : ℕ) (bs : List ℕ) (m : ℕ) (t : Thing) (rest : List ℕ
   pub gap : Gap l bs m from
   pub begins : Begins from t rest
 
--- The bytes begin with something broken in itself: a wrong number or character (3), or a byte with which nothing begins
--- (1).
+-- The bytes begin with something broken in itself: a wrong number or character, or a byte with which nothing begins.
 pub data Spoilt : List ℕ → ℕ → Type 0 where
-  bad_number : {b : ℕ} {bs : List ℕ} → is_digit b ≡ true → literal (number_text (b ∷ bs)) ≡ None → Spoilt (b ∷ bs) 3
-  bad_character : {b : ℕ} {bs : List ℕ} → b ≡ 39 → character bs ≡ None → Spoilt (b ∷ bs) 3
+  bad_number : {b : ℕ} {bs : List ℕ} → is_digit b ≡ true → literal (number_text (b ∷ bs)) ≡ None
+      → Spoilt (b ∷ bs) kinds.number
+  bad_character : {b : ℕ} {bs : List ℕ} → b ≡ 39 → character bs ≡ None → Spoilt (b ∷ bs) kinds.number
   bad_byte : {b : ℕ} {bs : List ℕ} → is_blank b ≡ false → is_word b ≡ false
       → list_any (λ c. b == c) (10 ∷ 34 ∷ 35 ∷ 39 ∷ []) ≡ false → opens_remark (b ∷ bs) ≡ false
-      → opens_comment (b ∷ bs) ≡ false → mark_at (b ∷ bs) ≡ None → Spoilt (b ∷ bs) 1
+      → opens_comment (b ∷ bs) ≡ false → mark_at (b ∷ bs) ≡ None → Spoilt (b ∷ bs) kinds.byte
 
--- Next after blanks and comments, on line m, stands something broken in itself, which is refused by this kind; 2 is a
--- comment that is not closed.
+-- Next after blanks and comments, on line m, stands something broken in itself, which is refused by this kind: a
+-- comment that is not closed too.
 pub data Breaks : ℕ → List ℕ → ℕ → ℕ → Type 0 where
   unclosed : {l b m : ℕ} {bs cs : List ℕ} → Gap l bs m (b ∷ cs) → opens_comment (b ∷ cs) ≡ true
-      → past_comment m (drop 1 cs) ≡ None → Breaks l bs 2 m
+      → past_comment m (drop 1 cs) ≡ None → Breaks l bs kinds.comment m
   spoilt : {l m k : ℕ} {bs cs : List ℕ} → Gap l bs m cs → Spoilt cs k → Breaks l bs k m

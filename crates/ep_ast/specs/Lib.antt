@@ -2,6 +2,7 @@ pub mod Expression
 pub mod Declaration
 pub mod Statement
 pub mod Token
+pub mod Kind
 pub mod Refusal
 pub mod Lexeme
 pub mod Cut

@@ -1,5 +1,6 @@
 -- What it means to read a front of the tokens: its tree, and that no other tree or end is possible.
 use Rattle.std.specs.Prelude.{◌≡◌, ℕ, ◌==◌, nat_le, Bool, false, ◌&&◌, ◌||◌, Option, Some, None, List, ◌∷◌}
+use Rattle.ep_ast.specs.Kind as kinds
 use Rattle.ep_ast.specs.declared.refusals.Refusal.{Refusal}
 use Rattle.ep_ast.specs.declared.refusals.Halt.{Halt}
 use Rattle.ep_ast.specs.declared.refusals.Halt.TheVariants as halts
@@ -40,7 +41,7 @@ pub record Refuses (is_type : List ℕ → Bool) (r : Rule) (xs : List Tok) : Ty
 
 -- a refusal for syntax
 abbrev pub IsSyntax : Refusal → Type 0
-IsSyntax f = (f.kind ≡ 10) × (f.word ≡ 0)
+IsSyntax f = (f.kind ≡ kinds.syntax) × (f.word ≡ 0)
 
 abbrev pub Halts : (List ℕ → Bool) → Rule → List Tok → Halt → Type 0
 Halts is_type r xs (halts.Refused f) = Refuses is_type r xs × IsSyntax f

@@ -1,5 +1,6 @@
 -- The line that says why a source is refused: this project's kinds and their names.
 use Rattle.std.specs.Prelude.{ℕ, ◌-◌, ◌==◌, if◌then◌else◌, List, [], ◌++◌, codes, decimal, slice_index_or}
+use Rattle.ep_ast.specs.Kind as kinds
 use Rattle.ep_ast.specs.declared.refusals.Refusal.{Refusal}
 use Rattle.ep_ast.specs.declared.refusals.Halt.{Halt}
 use Rattle.ep_ast.specs.declared.refusals.Halt.TheVariants as halts
@@ -8,40 +9,39 @@ use Rattle.ep_ast.specs.Token.{reserved_words}
 -- each kind with its name
 abbrev pub kind_name : ℕ → List ℕ
 kind_name k =
-    if k == 1 then codes "byte"
-    else if k == 2 then codes "comment"
-    else if k == 3 then codes "number"
-    else if k == 4 then codes "string-literal"
-    else if k == 5 then codes "directive"
-    else if k == 6 then codes "include"
-    else if k == 7 then codes "conditional"
-    else if k == 8 then codes "reserved-word"
-    else if k == 9 then codes "bit-field"
-    else if k == 10 then codes "syntax"
-    else if k == 17 then codes "array-bound"
-    else if k == 18 then codes "call-in-expression"
-    else if k == 19 then codes "assignment-in-expression"
-    else if k == 22 then codes "nesting"
-    else if k == 30 then codes "unknown-name"
-    else if k == 31 then codes "redeclared"
-    else if k == 32 then codes "type-mismatch"
-    else if k == 33 then codes "incomplete-type"
-    else if k == 34 then codes "pointer-to-integer"
-    else if k == 35 then codes "recursion"
-    else if k == 36 then codes "no-main"
-    else if k == 37 then codes "too-large"
-    else if k == 38 then codes "conditional-arms"
-    else if k == 39 then codes "arity"
-    else if k == 40 then codes "no-member"
-    else if k == 41 then codes "not-an-lvalue"
-    else if k == 42 then codes "length-not-constant"
-    else if k == 43 then codes "struct-by-value"
-    else if k == 44 then codes "incompatible-pointers"
-    else if k == 45 then codes "not-constant"
-    else if k == 46 then codes "no-definition"
-    else if k == 47 then codes "stray-jump"
-    else if k == 48 then codes "call-depth"
-    else if k == 50 then codes "not-built"
+    if k == kinds.byte then codes "byte"
+    else if k == kinds.comment then codes "comment"
+    else if k == kinds.number then codes "number"
+    else if k == kinds.string_literal then codes "string-literal"
+    else if k == kinds.directive then codes "directive"
+    else if k == kinds.include then codes "include"
+    else if k == kinds.conditional then codes "conditional"
+    else if k == kinds.reserved_word then codes "reserved-word"
+    else if k == kinds.bit_field then codes "bit-field"
+    else if k == kinds.syntax then codes "syntax"
+    else if k == kinds.array_bound then codes "array-bound"
+    else if k == kinds.call_in_expression then codes "call-in-expression"
+    else if k == kinds.assignment_in_expression then codes "assignment-in-expression"
+    else if k == kinds.nesting then codes "nesting"
+    else if k == kinds.unknown_name then codes "unknown-name"
+    else if k == kinds.redeclared then codes "redeclared"
+    else if k == kinds.type_mismatch then codes "type-mismatch"
+    else if k == kinds.incomplete_type then codes "incomplete-type"
+    else if k == kinds.pointer_to_integer then codes "pointer-to-integer"
+    else if k == kinds.recursion then codes "recursion"
+    else if k == kinds.no_main then codes "no-main"
+    else if k == kinds.too_large then codes "too-large"
+    else if k == kinds.conditional_arms then codes "conditional-arms"
+    else if k == kinds.arity then codes "arity"
+    else if k == kinds.no_member then codes "no-member"
+    else if k == kinds.not_an_lvalue then codes "not-an-lvalue"
+    else if k == kinds.length_not_constant then codes "length-not-constant"
+    else if k == kinds.struct_by_value then codes "struct-by-value"
+    else if k == kinds.incompatible_pointers then codes "incompatible-pointers"
+    else if k == kinds.not_constant then codes "not-constant"
+    else if k == kinds.no_definition then codes "no-definition"
+    else if k == kinds.stray_jump then codes "stray-jump"
+    else if k == kinds.call_depth then codes "call-depth"
     else []
 
 -- a reserved word by its number, from 1
@@ -49,7 +49,7 @@ abbrev pub reserved_word : ℕ → List ℕ
 reserved_word n = if n == 0 then [] else slice_index_or reserved_words (n - 1) []
 
 abbrev pub word_part : Refusal → List ℕ
-word_part r = if r.kind == 8 then codes " " ++ reserved_word r.word else []
+word_part r = if r.kind == kinds.reserved_word then codes " " ++ reserved_word r.word else []
 
 -- `LINE: refused K NAME`, for a reserved word followed by a space and the word, and a newline
 abbrev pub refusal_line : Refusal → List ℕ

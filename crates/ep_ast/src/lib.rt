@@ -3,6 +3,7 @@
 
 mod declarations;
 mod expressions;
+mod kinds;
 pub mod marks;
 mod orders;
 mod refusals;
@@ -14,6 +15,7 @@ pub use declarations::{
     ParamsTree, SpecTree, TypedefTree, ValueTree,
 };
 pub use expressions::{ExprTree, Literal, TypeNameTree, TypeWordTree};
+pub use kinds::RefusalKind;
 pub use orders::NamedOrder;
 pub use refusals::{Halt, Refusal, refusal_text};
 pub use statements::{

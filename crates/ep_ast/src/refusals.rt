@@ -1,21 +1,57 @@
 ghost use Rattle.std.specs.Prelude.{◌≡◌, ◌++◌, IfOk, OnOk};
+ghost use Rattle.ep_ast.specs.Kind.{number_of};
 ghost use Rattle.ep_ast.specs.Refusal as spec;
 ghost use Rattle.ep_ast.specs.declared.refusals.Halt.TheVariants.{Memory as wanting, Refused as refused};
 
+use crate::kinds::RefusalKind;
 use ep_int::Memory;
 use itoa::Buffer;
 use std::alloc::{AllocError, AllocFailed, Global};
+use std::marker::Model;
 
-/// Why a source is refused: the kind's number, the line, and for a reserved word its number, else 0.
-#[derive(Clone, Copy, Debug, PartialEq, Eq)]
+/// Why a source is refused: the kind, the line, and for a reserved word its number, else 0.
+#[derive(Clone, Copy, Debug)]
 pub struct Refusal {
-    pub kind: u8,
+    pub kind: RefusalKind,
     pub line: u32,
     pub word: u8,
 }
 
+impl Model for Refusal {
+    ghost use Rattle.std.proofs.Common.{ap};
+    ghost use Rattle.ep_ast.specs.Kind.{Refused, number_of, kind_of, kind_of_number};
+    ghost use Rattle.ep_ast.specs.declared.kinds.RefusalKind.{RefusalKind as TheKind};
+
+    ghost Value = { Refused };
+
+    ghost view = { λ r. record { kind = number_of r.kind; line = r.line; word = r.word } };
+
+    ghost inverse = { λ r. record { kind = kind_of r.kind; line = r.line; word = r.word } };
+
+    ghost inverse_ok = { λ r _. ap (λ (k : TheKind). record r { kind = k }) (kind_of_number r.kind) };
+}
+
+impl Refusal {
+    /// A refusal that names no word.
+    pub fn new(kind: RefusalKind, line: u32) -> Refusal
+        ensures { result ≡ record { kind = number_of kind; line = line; word = 0 } }
+    {
+        Refusal {
+            kind,
+            line,
+            word: 0,
+        }
+    }
+
+    pub fn kind(&self) -> RefusalKind
+        ensures { number_of result ≡ self.now.kind }
+    {
+        self.kind
+    }
+}
+
 /// Why reading a source stopped.
-#[derive(Clone, Copy, Debug, PartialEq, Eq)]
+#[derive(Clone, Copy, Debug)]
 pub enum Halt {
     Refused(Refusal),
     Memory,
@@ -53,49 +89,6 @@ impl From<Refusal> for Halt {
     }
 }
 
-/// Empty for a number that is no kind's.
-fn kind_name(kind: u8) -> &'static [u8]
-    ensures { result.now ≡ spec.kind_name kind }
-{
-    match kind {
-        1 => b"byte",
-        2 => b"comment",
-        3 => b"number",
-        4 => b"string-literal",
-        5 => b"directive",
-        6 => b"include",
-        7 => b"conditional",
-        8 => b"reserved-word",
-        9 => b"bit-field",
-        10 => b"syntax",
-        17 => b"array-bound",
-        18 => b"call-in-expression",
-        19 => b"assignment-in-expression",
-        22 => b"nesting",
-        30 => b"unknown-name",
-        31 => b"redeclared",
-        32 => b"type-mismatch",
-        33 => b"incomplete-type",
-        34 => b"pointer-to-integer",
-        35 => b"recursion",
-        36 => b"no-main",
-        37 => b"too-large",
-        38 => b"conditional-arms",
-        39 => b"arity",
-        40 => b"no-member",
-        41 => b"not-an-lvalue",
-        42 => b"length-not-constant",
-        43 => b"struct-by-value",
-        44 => b"incompatible-pointers",
-        45 => b"not-constant",
-        46 => b"no-definition",
-        47 => b"stray-jump",
-        48 => b"call-depth",
-        50 => b"not-built",
-        _ => b"",
-    }
-}
-
 /// Empty for a number that is no reserved word's.
 fn reserved_word(word: u8) -> &'static [u8]
     ensures { result.now ≡ spec.reserved_word word }
@@ -130,7 +123,7 @@ fn reserved_word(word: u8) -> &'static [u8]
 fn add_word(text: &mut Vec<u8>, r: &Refusal) -> Result<(), AllocError>
     ensures { OnOk result (text.new.items ≡ text.old.items ++ spec.word_part r.now) }
 {
-    if r.kind == 8 {
+    if r.kind == RefusalKind::ReservedWord {
         text.extend_from_slice(b" ")?;
         text.extend_from_slice(reserved_word(r.word))?;
     }
@@ -143,9 +136,9 @@ fn write_refusal(alloc: Global, r: &Refusal) -> Result<Vec<u8>, AllocError>
     let mut buffer = Buffer::new();
     let mut text = Vec::from_slice(alloc, buffer.format(r.line).as_bytes())?;
     text.extend_from_slice(b": refused ")?;
-    text.extend_from_slice(buffer.format(r.kind).as_bytes())?;
+    text.extend_from_slice(buffer.format(r.kind.number()).as_bytes())?;
     text.extend_from_slice(b" ")?;
-    text.extend_from_slice(kind_name(r.kind))?;
+    text.extend_from_slice(r.kind.name())?;
     add_word(&mut text, r)?;
     text.extend_from_slice(b"\n")?;
     Ok(text)

@@ -9,11 +9,12 @@ ghost use Rattle.ep_operands.specs.Numbers.{IsSomeNumber};
 ghost use Rattle.ep_operands.specs.Gives.{Gives};
 ghost use Rattle.ep_operands.specs.Seen as seen;
 
-use ep_ast::Halt;
+use ep_ast::{Halt, RefusalKind};
 use ep_core::tree::Expr;
-use ep_operands::kinds::{INCOMPATIBLE_POINTERS, POINTER_TO_INTEGER, TYPE_MISMATCH, refused};
 use ep_operands::pairs::{are_foreign, are_integers, are_mixed, are_scalars, common_type};
-use ep_operands::{Value, as_pointer, converted, is_scalar, is_void_pointer, void_pointer};
+use ep_operands::{
+    Value, as_pointer, converted, is_scalar, is_void_pointer, refused, void_pointer,
+};
 use ep_typing::CType;
 use std::alloc::{AllocError, Global};
 
@@ -70,17 +71,17 @@ pub fn chosen(alloc: Global, line: u32, test: Value, a: Value, b: Value) -> Resu
     ensures { Gives seen.value (at line (rule.chosen (seen.value test) (seen.value a) (seen.value b))) result }
 {
     if !(is_scalar(test.ty) & are_scalars(&a, &b)) {
-        return Err(refused(TYPE_MISMATCH, line));
+        return Err(refused(RefusalKind::TypeMismatch, line));
     }
     if are_integers(&a, &b) {
         let value = numbers_chosen(alloc, test.expr, a, b)?;
         return Ok(value);
     }
     if are_mixed(&a, &b) {
-        return Err(refused(POINTER_TO_INTEGER, line));
+        return Err(refused(RefusalKind::PointerToInteger, line));
     }
     if are_foreign(&a, &b) {
-        return Err(refused(INCOMPATIBLE_POINTERS, line));
+        return Err(refused(RefusalKind::IncompatiblePointers, line));
     }
     let value = pointers_chosen(alloc, test.expr, a, b)?;
     Ok(value)

@@ -6,14 +6,13 @@ ghost use Rattle.ep_typing.specs.Results.{at};
 ghost use Rattle.ep_operands.specs.Gives.{Gives};
 ghost use Rattle.ep_operands.specs.Seen as seen;
 
-use ep_ast::Halt;
+use ep_ast::{Halt, RefusalKind};
 use ep_core::tree::Expr;
 use ep_int::{Cmp, IntType};
-use ep_operands::kinds::{INCOMPATIBLE_POINTERS, POINTER_TO_INTEGER, TYPE_MISMATCH, refused};
 use ep_operands::pairs::{
     are_foreign, are_integers, are_mixed, are_scalars, common_type, is_null_either,
 };
-use ep_operands::{Value, bare, converted};
+use ep_operands::{Value, bare, converted, refused};
 use std::alloc::{AllocError, Global};
 
 fn compared(alloc: Global, how: Cmp, a: Value, b: Value) -> Result<Value, AllocError>
@@ -46,19 +45,19 @@ pub fn ordered(alloc: Global, line: u32, how: Cmp, a: Value, b: Value) -> Result
         return Ok(value);
     }
     if !are_scalars(&a, &b) {
-        return Err(refused(TYPE_MISMATCH, line));
+        return Err(refused(RefusalKind::TypeMismatch, line));
     }
     if is_null_either(&a, &b) {
-        return Err(refused(TYPE_MISMATCH, line));
+        return Err(refused(RefusalKind::TypeMismatch, line));
     }
     if are_mixed(&a, &b) {
-        return Err(refused(POINTER_TO_INTEGER, line));
+        return Err(refused(RefusalKind::PointerToInteger, line));
     }
     if a.ty == b.ty {
         let value = pointers_compared(alloc, how, a, b)?;
         return Ok(value);
     }
-    Err(refused(INCOMPATIBLE_POINTERS, line))
+    Err(refused(RefusalKind::IncompatiblePointers, line))
 }
 
 // `==` and `!=`: two integers, or two pointers of one type, or one of them null or to void.
@@ -71,13 +70,13 @@ pub fn equated(alloc: Global, line: u32, how: Cmp, a: Value, b: Value) -> Result
         return Ok(value);
     }
     if !are_scalars(&a, &b) {
-        return Err(refused(TYPE_MISMATCH, line));
+        return Err(refused(RefusalKind::TypeMismatch, line));
     }
     if are_mixed(&a, &b) {
-        return Err(refused(POINTER_TO_INTEGER, line));
+        return Err(refused(RefusalKind::PointerToInteger, line));
     }
     if are_foreign(&a, &b) {
-        return Err(refused(INCOMPATIBLE_POINTERS, line));
+        return Err(refused(RefusalKind::IncompatiblePointers, line));
     }
     let value = pointers_compared(alloc, how, a, b)?;
     Ok(value)

@@ -6,12 +6,11 @@ ghost use Rattle.ep_typing.specs.Results.{at};
 ghost use Rattle.ep_operands.specs.Gives.{Gives};
 ghost use Rattle.ep_operands.specs.Seen as seen;
 
-use ep_ast::Halt;
+use ep_ast::{Halt, RefusalKind};
 use ep_core::tree::Expr;
 use ep_int::IntType;
-use ep_operands::Value;
-use ep_operands::kinds::{TYPE_MISMATCH, refused};
 use ep_operands::pairs::are_scalars;
+use ep_operands::{Value, refused};
 use std::alloc::Global;
 
 #[tactic(auto, unfolding(ep_typing::specs::Operators::both))]
@@ -23,7 +22,7 @@ pub fn both(alloc: Global, line: u32, a: Value, b: Value) -> Result<Value, Halt>
         let right = Box::new(alloc, b.expr)?;
         return Ok(Value::int(Expr::And(left, right), IntType::I32));
     }
-    Err(refused(TYPE_MISMATCH, line))
+    Err(refused(RefusalKind::TypeMismatch, line))
 }
 
 #[tactic(auto, unfolding(ep_typing::specs::Operators::either))]
@@ -35,5 +34,5 @@ pub fn either(alloc: Global, line: u32, a: Value, b: Value) -> Result<Value, Hal
         let right = Box::new(alloc, b.expr)?;
         return Ok(Value::int(Expr::Or(left, right), IntType::I32));
     }
-    Err(refused(TYPE_MISMATCH, line))
+    Err(refused(RefusalKind::TypeMismatch, line))
 }

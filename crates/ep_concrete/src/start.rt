@@ -1,6 +1,7 @@
 //! The memory at the start.
 
-ghost use Rattle.std.specs.Prelude.{◌≡◌, ◌<◌, ◌||◌, true, if◌then◌else◌, IfOk, OnOk, length, map, nat_eq, slice_get};
+ghost use Rattle.std.specs.Prelude.{◌≡◌, ◌<◌, ◌≤◌, ◌^◌, ◌||◌, true, if◌then◌else◌, IfErr, IfOk, OnOk, length, map};
+ghost use Rattle.std.specs.Prelude.{nat_eq, slice_get};
 ghost use Rattle.ep_int.specs.declared.types.Scalar.TheVariants.{Int};
 ghost use Rattle.ep_int.specs.Memory.{int, stored, zeroed};
 ghost use Rattle.ep_bytes.specs.Held.{blank as undefined_all, count_of, memory_in, IsLike};
@@ -84,6 +85,16 @@ fn zero_if(store: &mut Store, block: u32, is_wanted: bool)
 }
 
 // More blocks than numbers can name are more than memory has.
+fn block_number(b: usize) -> Result<u32, Memory>
+    ensures number { IfOk result (λ n. n ≡ b) }
+    ensures full { IfErr result (λ _. 2 ^ 32 ≤ b) }
+{
+    match u32::try_from(b) {
+        Ok(n) => Ok(n),
+        Err(_) => Err(Memory),
+    }
+}
+
 fn zero_blocks(on: &Setting, store: &mut Store) -> Result<(), Memory>
     requires laid { IsLaid on.now store.old }
     requires blank { memory_in store.old ≡ undefined_all }
@@ -93,11 +104,9 @@ fn zero_blocks(on: &Setting, store: &mut Store) -> Result<(), Memory>
 {
     let given = main_result(on.program);
     for b in 0..on.program.blocks.len() {
-        if b > u32::MAX as usize {
-            return Err(Memory);
-        }
+        let block = block_number(b)?;
         let is_wanted = is_zero(&on.program.blocks, given, b);
-        zero_if(store, b as u32, is_wanted);
+        zero_if(store, block, is_wanted);
     }
     Ok(())
 }

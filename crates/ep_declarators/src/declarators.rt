@@ -13,7 +13,7 @@ ghost use Rattle.ep_declarators.specs.Parts.{ShowsBounds};
 use crate::bracketed::{bounds, derived};
 use ep_ast::marks::{COLON, COMMA, SEMICOLON};
 use ep_ast::words::CONST;
-use ep_ast::{DeclaratorTree, ExprTree, Halt, Refusal};
+use ep_ast::{DeclaratorTree, ExprTree, Halt, Refusal, RefusalKind};
 use ep_lexer::Token;
 use ep_reading::{Measured, Part, Reader, at_mark, at_name, at_word};
 use ep_type_names::stars;
@@ -99,7 +99,7 @@ pub fn member_declarators<'a>(
         }
         if let Some((line, _)) = at_mark(named.rest, COLON) {
             return Err(Halt::Refused(Refusal {
-                kind: 9,
+                kind: RefusalKind::BitField,
                 line,
                 word: 0,
             }));

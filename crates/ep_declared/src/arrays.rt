@@ -11,38 +11,19 @@ ghost use Rattle.ep_declared.specs.Open.{StaysOpen};
 ghost use Rattle.ep_declared.specs.Stopped.{halted};
 ghost use Rattle.ep_scopes.specs.Known.{IsKnown};
 
-use crate::kinds::TOO_LARGE;
-use ep_ast::Halt;
-use ep_int::Memory;
+use ep_ast::{Halt, RefusalKind};
 use ep_layout::{LayoutStop, Ty, Types};
-use ep_operands::kinds::{INCOMPLETE_TYPE, refused};
-use ep_operands::whole;
+use ep_operands::{has_room, refused, whole};
 use ep_scopes::{add_type, type_number};
 use ep_typing::{Base, CType};
-
-/// So many pointers, one to the other, to a type.
-pub(crate) fn with_stars(c: CType, count: usize) -> Result<CType, Memory>
-    ensures { IfOk result (λ d. d ≡ types_of.with_stars c count) }
-{
-    let Ok(stars) = u32::try_from(count) else {
-        return Err(Memory);
-    };
-    match c.stars.checked_add(stars) {
-        Some(stars) => Ok(CType {
-            base: c.base,
-            stars,
-        }),
-        None => Err(Memory),
-    }
-}
 
 /// What a table answers of a type or a body that it doesn't take.
 pub(crate) fn stopped(line: u32, stop: LayoutStop) -> Halt
     ensures { result ≡ halted line stop }
 {
     match stop {
-        LayoutStop::Incomplete => refused(INCOMPLETE_TYPE, line),
-        LayoutStop::TooLarge => refused(TOO_LARGE, line),
+        LayoutStop::Incomplete => refused(RefusalKind::IncompleteType, line),
+        LayoutStop::TooLarge => refused(RefusalKind::TooLarge, line),
         LayoutStop::Memory => Halt::Memory,
     }
 }
@@ -56,9 +37,7 @@ fn add_array(types: &mut Types, line: u32, row: Ty) -> Result<CType, Halt>
     ensures inside { IfOk result (λ d. IsKnown types.new d) }
     ensures grown { OnOk result (types.new ≡ table.type_added types.old row) }
 {
-    if types.type_count() >= 1 << 31 {
-        return Err(Halt::Memory);
-    }
+    has_room(types.type_count())?;
     match types.add(row) {
         Ok(n) => Ok(whole(Base::Array(n))),
         Err(stop) => Err(stopped(line, stop)),

@@ -3,6 +3,7 @@
 ghost use Rattle.std.specs.Prelude.{◌≡◌, ◌<◌, map, drop, length, pos, IsTrue, OnOk, Some};
 ghost use Rattle.std.specs.Option.{option_map};
 ghost use Rattle.ep_ast.specs.Expression as source;
+ghost use Rattle.ep_ast.specs.Kind.{array_bound};
 ghost use Rattle.ep_layout.specs.Table.{Grows};
 ghost use Rattle.ep_typing.specs.Constant.{count_in};
 ghost use Rattle.ep_typing.specs.Operand as operand;
@@ -16,10 +17,8 @@ ghost use Rattle.ep_declared.specs.Open.{Follows, StaysOpen};
 ghost use Rattle.ep_scopes.specs.Known.{IsKnownEnv};
 ghost use Rattle.ep_scopes.specs.Seen.{env as around};
 
-use crate::kinds::ARRAY_BOUND;
-use ep_ast::{ExprTree, Halt};
-use ep_operands::kinds::refused;
-use ep_operands::{Operand, count_of, value_of};
+use ep_ast::{ExprTree, Halt, RefusalKind};
+use ep_operands::{Operand, count_of, refused, value_of};
 use ep_scopes::Env;
 use ep_typer_exprs::{mention, typed};
 
@@ -30,9 +29,9 @@ fn counted(env: &Env, line: u32, x: Operand) -> Result<u32, Halt>
     match value_of(env.alloc, &env.types, line, x) {
         Ok(v) => match count_of(&v) {
             Some(n) => Ok(n),
-            None => Err(refused(ARRAY_BOUND, line)),
+            None => Err(refused(RefusalKind::ArrayBound, line)),
         },
-        Err(Halt::Refused(_)) => Err(refused(ARRAY_BOUND, line)),
+        Err(Halt::Refused(_)) => Err(refused(RefusalKind::ArrayBound, line)),
         Err(Halt::Memory) => Err(Halt::Memory),
     }
 }
@@ -62,7 +61,7 @@ fn bound_if(env: &mut Env, line: u32, tree: &Option<ExprTree>) -> Result<u32, Ha
 {
     match tree {
         Some(tree) => bound(env, line, tree),
-        None => Err(refused(ARRAY_BOUND, line)),
+        None => Err(refused(RefusalKind::ArrayBound, line)),
     }
 }
 
@@ -101,12 +100,12 @@ pub fn bounds(env: &mut Env, line: u32, list: &[Option<ExprTree>]) -> Result<Vec
 
 // How many values a list gives, as a bound.
 fn listed_count(line: u32, n: usize) -> Result<u32, Halt>
-    ensures { Gives (λ k. k) (at line (needed 17 (count_in (pos n)))) result }
+    ensures { Gives (λ k. k) (at line (needed array_bound (count_in (pos n)))) result }
 {
     if (1 <= n) & (n <= 65_536) {
         return Ok(n as u32);
     }
-    Err(refused(ARRAY_BOUND, line))
+    Err(refused(RefusalKind::ArrayBound, line))
 }
 
 fn lacks_first(list: &[Option<ExprTree>]) -> bool

@@ -4,7 +4,6 @@
 mod arrays;
 mod bodies;
 mod counts;
-pub mod kinds;
 mod members;
 mod naming;
 mod objects;

@@ -13,11 +13,10 @@ ghost use Rattle.ep_declared.specs.Seen as seen;
 ghost use Rattle.ep_scopes.specs.Known.{IsKnown, IsKnownEnv};
 ghost use Rattle.ep_scopes.specs.Seen.{env as around};
 
-use crate::arrays::{arrays_of, with_stars};
+use crate::arrays::arrays_of;
 use crate::counts::bounds;
-use ep_ast::{DeclaratorTree, Halt};
-use ep_operands::kinds::{INCOMPLETE_TYPE, REDECLARED, refused};
-use ep_operands::size_of_type;
+use ep_ast::{DeclaratorTree, Halt, RefusalKind};
+use ep_operands::{refused, size_of_type, with_stars};
 use ep_scopes::{Env, type_number};
 use ep_typing::CType;
 use indexmap::IndexMap;
@@ -76,7 +75,7 @@ fn sized_member(env: &Env, line: u32, named: &mut Named, name: &[u8], c: CType) 
         ≡ seen.named named.old ++ (name.now, types_of.c_type_number (around env.now).types c) ∷ []) }
 {
     match size_of_type(&env.types, c) {
-        None => Err(refused(INCOMPLETE_TYPE, line)),
+        None => Err(refused(RefusalKind::IncompleteType, line)),
         Some(_) => {
             named.add(env.alloc, name, type_number(&env.types, c))?;
             Ok(())
@@ -102,7 +101,7 @@ fn with_member(
     ensures members { OnOk result (AreTypes (around env.new).types (seen.named named.new)) }
 {
     if named.has(name) {
-        return Err(refused(REDECLARED, line));
+        return Err(refused(RefusalKind::Redeclared, line));
     }
     let array = arrays_of(&mut env.types, c, line, counts)?;
     sized_member(env, line, named, name, array)?;

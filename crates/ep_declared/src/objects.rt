@@ -1,6 +1,6 @@
 //! Objects, each with a block of its own.
 
-ghost use Rattle.std.specs.Prelude.{◌≡◌, IfOk, OnOk, IsFalse, length};
+ghost use Rattle.std.specs.Prelude.{◌≡◌, ◌≤◌, ◌^◌, IfErr, IfOk, OnOk, IsFalse, length};
 ghost use Rattle.ep_ast.specs.Declaration.{declarator};
 ghost use Rattle.ep_layout.specs.Table.{Grows};
 ghost use Rattle.ep_typing.specs.Results.{at};
@@ -11,15 +11,14 @@ ghost use Rattle.ep_declared.specs.Seen as seen;
 ghost use Rattle.ep_scopes.specs.Known.{IsKnown, IsKnownEnv};
 ghost use Rattle.ep_scopes.specs.Seen.{env as around};
 
-use crate::arrays::{arrays_of, with_stars};
+use crate::arrays::arrays_of;
 use crate::counts::object_bounds;
 use crate::naming::{declare_name, is_taken};
-use ep_ast::{DeclaratorTree, Halt};
+use ep_ast::{DeclaratorTree, Halt, RefusalKind};
 use ep_core::program::BlockInfo;
 use ep_core::tree::Place;
 use ep_int::Memory;
-use ep_operands::kinds::{INCOMPLETE_TYPE, REDECLARED, refused};
-use ep_operands::size_of_type;
+use ep_operands::{refused, size_of_type, with_stars};
 use ep_scopes::{Env, Meaning, type_number};
 use ep_typing::CType;
 
@@ -32,18 +31,26 @@ pub struct Object {
     pub ty: CType,
 }
 
+// The number of the next block.
+fn next_block(blocks: &[BlockInfo]) -> Result<u32, Memory>
+    ensures number { IfOk result (λ b. b ≡ length blocks.now) }
+    ensures full { IfErr result (λ _. 2 ^ 31 ≤ length blocks.now) }
+{
+    if blocks.len() >= 1 << 31 {
+        return Err(Memory);
+    }
+    Ok(blocks.len() as u32)
+}
+
 // The next block.
 fn add_block(env: &mut Env, size: u32, ty: u32, global: bool) -> Result<u32, Memory>
     ensures number { IfOk result (λ b. b ≡ length (around env.old).blocks) }
     ensures means { OnOk result (around env.new
         ≡ rule.with_block (around env.old) (record { size = size; ty = ty; global = global })) }
 {
-    let block = env.blocks.len();
-    if block >= 1 << 31 {
-        return Err(Memory);
-    }
+    let block = next_block(&env.blocks)?;
     match env.blocks.push(BlockInfo { size, ty, global }) {
-        Ok(()) => Ok(block as u32),
+        Ok(()) => Ok(block),
         Err(_) => Err(Memory),
     }
 }
@@ -93,7 +100,7 @@ fn sized_object(
     ensures inside { IfOk result (λ o. IsKnown (around env.new).types o.ty) }
 {
     match size_of_type(&env.types, c) {
-        None => Err(refused(INCOMPLETE_TYPE, line)),
+        None => Err(refused(RefusalKind::IncompleteType, line)),
         Some(size) => {
             let object = object_of(env, global, name, c, size)?;
             Ok(object)
@@ -118,7 +125,7 @@ fn declared_object(
     ensures inside { IfOk result (λ o. IsKnown (around env.new).types o.ty) }
 {
     if is_taken(env, name) {
-        return Err(refused(REDECLARED, line));
+        return Err(refused(RefusalKind::Redeclared, line));
     }
     let array = arrays_of(&mut env.types, c, line, counts)?;
     let object = sized_object(env, line, global, name, array)?;

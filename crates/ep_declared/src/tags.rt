@@ -16,11 +16,10 @@ ghost use Rattle.ep_scopes.specs.Seen.{env as around};
 
 use crate::arrays::stopped;
 use crate::members::Named;
-use ep_ast::Halt;
+use ep_ast::{Halt, RefusalKind};
 use ep_int::Memory;
 use ep_layout::Types;
-use ep_operands::kinds::{INCOMPLETE_TYPE, REDECLARED, refused};
-use ep_operands::whole;
+use ep_operands::{has_room, refused, whole};
 use ep_scopes::{Env, add_type};
 use ep_typing::{Base, CType};
 use std::alloc::{AllocError, Global};
@@ -63,9 +62,7 @@ fn add_aggregate(
     ensures number { IfOk result (λ n. n ≡ length types.old.aggregates) }
     ensures grown { OnOk result (types.new ≡ table.declared types.old tag.now with_union) }
 {
-    if types.aggregate_count() >= 1 << 31 {
-        return Err(Memory);
-    }
+    has_room(types.aggregate_count())?;
     match Vec::from_slice(alloc, tag) {
         Ok(text) => types.declare(text, with_union),
         Err(_) => Err(Memory),
@@ -121,7 +118,7 @@ pub(crate) fn opened(
             }
             Some(aggregate) => {
                 if has_body(env, unclosed, with_union, aggregate) {
-                    return Err(refused(REDECLARED, line));
+                    return Err(refused(RefusalKind::Redeclared, line));
                 }
                 Ok(aggregate)
             }
@@ -158,7 +155,7 @@ pub(crate) fn closed(env: &mut Env, line: u32, aggregate: u32, named: Named) -> 
     ensures stay { OnOk result (OthersStayOpen aggregate (around env.old).types (around env.new).types) }
 {
     if named.is_empty() {
-        return Err(refused(INCOMPLETE_TYPE, line));
+        return Err(refused(RefusalKind::IncompleteType, line));
     }
     let members = named.into_list(env.alloc)?;
     match env.types.complete(aggregate, members) {

@@ -10,11 +10,11 @@ ghost use Rattle.ep_declared.specs.Open.{Follows};
 ghost use Rattle.ep_scopes.specs.Known.{IsKnown, IsKnownEnv};
 ghost use Rattle.ep_scopes.specs.Seen.{env as around};
 
-use crate::arrays::{arrays_of, with_stars};
+use crate::arrays::arrays_of;
 use crate::counts::bounds;
 use crate::naming::{declare_name, is_taken};
-use ep_ast::{DeclaratorTree, Halt};
-use ep_operands::kinds::{REDECLARED, refused};
+use ep_ast::{DeclaratorTree, Halt, RefusalKind};
+use ep_operands::{refused, with_stars};
 use ep_scopes::{Env, Meaning};
 use ep_typing::CType;
 
@@ -32,7 +32,7 @@ fn declared_type(
     ensures after { OnOk result (Follows (around env.old) (around env.new)) }
 {
     if is_taken(env, name) {
-        return Err(refused(REDECLARED, line));
+        return Err(refused(RefusalKind::Redeclared, line));
     }
     let array = arrays_of(&mut env.types, c, line, counts)?;
     declare_name(env, name, Meaning::TypeName(array))?;

@@ -2,6 +2,7 @@
 use Rattle.std.specs.Prelude.{◌≡◌, ℕ, Bool, List, [], ◌∷◌, Option, Some, None, Result, Ok, Err}
 use Rattle.std.specs.Global.{Vec}
 use Rattle.std.specs.Option.{option_map}
+use Rattle.ep_ast.specs.Kind as kinds
 use Rattle.ep_ast.specs.declared.orders.NamedOrder.{NamedOrder}
 use Rattle.ep_ast.specs.declared.refusals.Refusal.{Refusal}
 use Rattle.ep_ast.specs.declared.refusals.Halt.{Halt}
@@ -50,7 +51,7 @@ MakesTypes after k v = ShowsItem k v.0 × (v.1 ≡ after)
 -- the tree of a program, or a refusal for what is too deep in it
 abbrev pub IsWhole : List Item → Result ProgramTree Refusal → Type 0
 IsWhole is (Ok t) = (program_of t ≡ is) × (too_deep is ≡ None)
-IsWhole is (Err r) = (r.kind ≡ 22) × (r.word ≡ 0) × (too_deep is ≡ Some r.line)
+IsWhole is (Err r) = (r.kind ≡ kinds.nesting) × (r.word ≡ 0) × (too_deep is ≡ Some r.line)
 
 -- ---- arms
 

@@ -3,6 +3,7 @@
 ghost use Rattle.std.specs.Prelude.{◌≡◌, List, Option, Some};
 ghost use Rattle.ep_ast.specs.Declaration as shape;
 ghost use Rattle.ep_ast.specs.Declaration.{aggregate_of, head_of};
+ghost use Rattle.ep_ast.specs.Kind.{nesting};
 ghost use Rattle.ep_ast.specs.Statement as tree;
 ghost use Rattle.ep_ast.specs.Depth.{in_aggregate, in_head};
 ghost use Rattle.ep_reading.specs.Measured.{Shows};
@@ -13,7 +14,7 @@ ghost use Rattle.ep_decls.specs.Answer.{ShowsFunction, ShowsFunctions, ShowsOthe
 
 use ep_ast::{
     AggregateTree, BlockTree, DeclarationTree, DeclaratorTree, FunctionTree, HeadTree, ItemTree,
-    NamedOrder, ProgramTree, Refusal, TypedefTree,
+    NamedOrder, ProgramTree, Refusal, RefusalKind, TypedefTree,
 };
 use ep_declarations::SpecList;
 use ep_reading::Measured;
@@ -120,13 +121,9 @@ pub fn behind_else(functions: Measured<Vec<FunctionTree>>) -> Measured<Option<Ve
 
 /// A refusal of what has more than 64 inside one another.
 pub fn too_deep(line: u32) -> Refusal
-    ensures { (result.kind ≡ 22) × (result.word ≡ 0) × (result.line ≡ line) }
+    ensures { (result.kind ≡ nesting) × (result.word ≡ 0) × (result.line ≡ line) }
 {
-    Refusal {
-        kind: 22,
-        line,
-        word: 0,
-    }
+    Refusal::new(RefusalKind::Nesting, line)
 }
 
 /// The program, where nothing in it is too deep.

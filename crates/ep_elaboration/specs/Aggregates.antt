@@ -1,5 +1,6 @@
 -- Type words with the bodies of structs and unions, and what they declare: C11 6.7.2.1 and 6.7.2.3.
 use Rattle.std.specs.Prelude.{ℕ, ◌==◌, Bool, ◌||◌, not, if◌then◌else◌, List, [], ◌∷◌, ◌++◌, length, Option, Some, None, is_some, Result, Ok, Err}
+use Rattle.ep_ast.specs.Kind as kinds
 use Rattle.ep_int.specs.Memory.{contains}
 use Rattle.ep_ast.specs.declared.refusals.Refusal.{Refusal}
 use Rattle.ep_ast.specs.Expression.{TypeWord}
@@ -26,7 +27,7 @@ abbrev pub tags_here : List Scope → List (List ℕ × ℕ)
 tags_here [] = []
 tags_here (s ∷ ss) = s.tags
 
--- 31: a body for a tag whose body is there or not closed yet, or that was mentioned with the other word (C11
+-- redeclared: a body for a tag whose body is there or not closed yet, or that was mentioned with the other word (C11
 -- 6.7.2.3p1 and p3)
 abbrev pub has_body : Env → (unclosed : List ℕ) → (with_union : Bool) → ℕ → Bool
 has_body G unclosed u a =
@@ -34,7 +35,7 @@ has_body G unclosed u a =
 
 abbrev pub body_of : Env → (unclosed : List ℕ) → (with_union : Bool) → List ℕ → Option ℕ → Result (ℕ × Env) ℕ
 body_of G unclosed u t None = Ok (length G.types.aggregates, with_tag G t u)
-body_of G unclosed u t (Some a) = if has_body G unclosed u a then Err 31 else Ok (a, G)
+body_of G unclosed u t (Some a) = if has_body G unclosed u a then Err kinds.redeclared else Ok (a, G)
 
 -- the aggregate of a body, by its tag, if it has one
 unfoldable pub opened : Env → (unclosed : List ℕ) → (with_union : Bool) → Option (List ℕ) → Result (ℕ × Env) ℕ
@@ -45,12 +46,13 @@ opened G unclosed u None = Ok (length G.types.aggregates, record G { types = dec
 
 abbrev pub sized_member : Env → Named → List ℕ → CType × Table → Result (Named × Env) ℕ
 sized_member G ms t r = do
-  n ← needed 33 (size_of_type r.1 r.0)
+  n ← needed kinds.incomplete_type (size_of_type r.1 r.0)
   Ok (ms ++ (t, c_type_number r.1 r.0) ∷ [], with_types G r.1)
 
--- at the declarator of a member the lowest of 31, 33 and 37 (C11 6.7.2.1p3 and 6.7p3)
+-- at the declarator of a member the lowest of redeclared, incomplete_type and too_large (C11 6.7.2.1p3 and 6.7p3)
 unfoldable pub with_member : Env → Named → List ℕ → CType → List ℕ → Result (Named × Env) ℕ
-with_member G ms t c ns = if is_some (entry t ms) then Err 31 else arrays_of G.types c ns >>= sized_member G ms t
+with_member G ms t c ns =
+    if is_some (entry t ms) then Err kinds.redeclared else arrays_of G.types c ns >>= sized_member G ms t
 
 unfoldable pub member_declared : Env → Named → CType → Declarator → Result (Named × Env) Refusal
 member_declared G ms c d = do
@@ -65,10 +67,11 @@ members_declared G ms c (d ∷ ds) = do
 
 -- ---- bodies
 
--- 33: without members, as no body in a source is (C11 6.7.2.1p8). 37: past 65,536 bytes, at the closing brace, on the
+-- incomplete_type: without members, as no body in a source is (C11 6.7.2.1p8). too_large: past 65,536 bytes, at the
+-- closing brace, on the
 -- line of the word.
 abbrev pub closed : Env → ℕ → Named → Option LayoutStop → Result (CType × Env) ℕ
-closed G a [] s = Err 33
+closed G a [] s = Err kinds.incomplete_type
 closed G a (m ∷ ms) (Some s) = Err (stop_kind s)
 closed G a (m ∷ ms) None = let H = record G { types = completed_with G.types a (m ∷ ms) } in
     let c = whole (bases.Aggregate a) in Ok (c, record H { types = with_c_type H.types c })

@@ -1,5 +1,6 @@
 -- What a declarator declares, and its kinds in order: C11 6.7.6, 6.7.6.2 and 6.7p3.
 use Rattle.std.specs.Prelude.{ℕ, Bool, if◌then◌else◌, ◌||◌, List, [], ◌∷◌, ◌++◌, length, Option, Some, None, is_some, Result, Ok, Err, pos}
+use Rattle.ep_ast.specs.Kind as kinds
 use Rattle.ep_ast.specs.declared.refusals.Refusal.{Refusal}
 use Rattle.ep_ast.specs.Expression as source
 use Rattle.ep_ast.specs.Declaration.{Declarator}
@@ -22,14 +23,14 @@ use Rattle.ep_typing.specs.Typing.{typed}
 
 -- ---- bounds
 
--- 17: not a constant from 1 to 65,536, whatever else it is (C11 6.7.6.2p1 and this project's limit)
+-- array_bound: not a constant from 1 to 65,536, whatever else it is (C11 6.7.6.2p1 and this project's limit)
 abbrev pub counted : Result Value ℕ → Result ℕ ℕ
-counted (Ok v) = needed 17 (count_of v)
-counted (Err k) = Err 17
+counted (Ok v) = needed kinds.array_bound (count_of v)
+counted (Err k) = Err kinds.array_bound
 
--- a bound is an expression of its own; a missing one is 17, on the line of the declared name
+-- a bound is an expression of its own; a missing one is array_bound, on the line of the declared name
 unfoldable pub bound : Env → ℕ → Option source.Expr → Result (ℕ × Env) Refusal
-bound G l None = at l (Err 17)
+bound G l None = at l (Err kinds.array_bound)
 bound G l (Some e) = do
   x ← typed (mentioned G e) e
   n ← at l (counted (value_of (mentioned G e).types x))
@@ -47,17 +48,17 @@ bounds G l (b ∷ bs) = do
 -- 6.7.9p22)
 unfoldable pub object_bounds : Env → ℕ → (listed : Option ℕ) → List (Option source.Expr) → Result (List ℕ × Env) Refusal
 object_bounds G l (Some n) (None ∷ bs) = do
-  k ← at l (needed 17 (count_in (pos n)))
+  k ← at l (needed kinds.array_bound (count_in (pos n)))
   q ← bounds G l bs
   Ok (k ∷ q.0, q.1)
 object_bounds G l listed bs = bounds G l bs
 
 -- ---- array types
 
--- 33: elements without a size. 37: past 65,536 bytes.
+-- incomplete_type: elements without a size. too_large: past 65,536 bytes.
 abbrev pub stop_kind : LayoutStop → ℕ
-stop_kind stops.Incomplete = 33
-stop_kind stops.TooLarge = 37
+stop_kind stops.Incomplete = kinds.incomplete_type
+stop_kind stops.TooLarge = kinds.too_large
 stop_kind stops.Memory = 0
 
 abbrev pub made : Table → Ty → Option LayoutStop → Result (CType × Table) ℕ
@@ -77,7 +78,7 @@ arrays_of t c (n ∷ ns) = do
 
 -- ---- names
 
--- 31: a name that its scope has, or a built-in one (C11 6.7p3 and this project's rule)
+-- redeclared: a name that its scope has, or a built-in one (C11 6.7p3 and this project's rule)
 abbrev pub is_taken : List ℕ → List Scope → Bool
 is_taken t [] = is_some (entry t built_in)
 is_taken t (s ∷ ss) = is_some (entry t s.names) || is_some (entry t built_in)
@@ -113,13 +114,13 @@ object_of G global t c n = let b = length G.blocks in (
 
 unfoldable pub sized_object : Env → (global : Bool) → List ℕ → CType × Table → Result (Object × Env) ℕ
 sized_object G global t r = do
-  n ← needed 33 (size_of_type r.1 r.0)
+  n ← needed kinds.incomplete_type (size_of_type r.1 r.0)
   Ok (object_of (with_types G r.1) global t r.0 n)
 
--- at the declarator of an object the lowest of 31, 33 and 37
+-- at the declarator of an object the lowest of redeclared, incomplete_type and too_large
 unfoldable pub declared_object : Env → (global : Bool) → List ℕ → CType → List ℕ → Result (Object × Env) ℕ
 declared_object G global t c ns =
-    if is_taken t G.scopes then Err 31 else arrays_of G.types c ns >>= sized_object G global t
+    if is_taken t G.scopes then Err kinds.redeclared else arrays_of G.types c ns >>= sized_object G global t
 
 -- an object by its declarator, the type of the words before it, and how many values a list gives it
 unfoldable pub object_declared : Env → (global : Bool) → (listed : Option ℕ) → CType → Declarator
@@ -135,7 +136,8 @@ named_type_of G t r = Ok (with_name (with_types G r.1) t (type_name r.0))
 
 -- a typedef names a type, which needs no size unless it is an array (C11 6.7.8)
 unfoldable pub declared_type : Env → List ℕ → CType → List ℕ → Result Env ℕ
-declared_type G t c ns = if is_taken t G.scopes then Err 31 else arrays_of G.types c ns >>= named_type_of G t
+declared_type G t c ns =
+    if is_taken t G.scopes then Err kinds.redeclared else arrays_of G.types c ns >>= named_type_of G t
 
 -- a typedef, by its declarator and the type of the words before it
 unfoldable pub type_declared : Env → CType → Declarator → Result Env Refusal

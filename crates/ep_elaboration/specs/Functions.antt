@@ -1,5 +1,6 @@
 -- Heads of functions, prototypes and definitions: C11 6.7.6.3 and 6.9.1, and this project's functions by byte order.
 use Rattle.std.specs.Prelude.{ℕ, ◌+◌, Bool, true, false, ◌&&◌, ◌||◌, not, if◌then◌else◌, List, [], ◌∷◌, ◌++◌, length, map, position, Option, Some, None, is_some, unwrap_or, bytes_eq, codes, Result, Ok, Err}
+use Rattle.ep_ast.specs.Kind as kinds
 use Rattle.ep_int.specs.Memory.{contains}
 use Rattle.ep_int.specs.declared.types.IntType.TheVariants.{I32}
 use Rattle.ep_int.specs.declared.types.Scalar.{Scalar}
@@ -23,7 +24,8 @@ use Rattle.ep_elaboration.specs.Statements.{blocks_behind, entered, innermost, l
 
 -- ---- parameters
 
--- 17: the first bound may be missing, but where it stands it is a constant from 1 to 65,536; the others have to stand
+-- array_bound: the first bound may be missing, but where it stands it is a constant from 1 to 65,536; the others have
+-- to stand
 unfoldable pub param_bounds : Env → ℕ → List (Option source.Expr) → Result (Option (List ℕ) × Env) Refusal
 param_bounds G l [] = Ok (None, G)
 param_bounds G l (None ∷ bs) = do
@@ -42,11 +44,11 @@ param_type t c (Some ns) = do
 param_type t c None =
     let d = if is_array c then pointer_to (element_of t c) else c in Ok (d, with_c_type t d)
 
--- 33: of type void (C11 6.7.6.3p4). 43: an aggregate (this project's rule).
+-- incomplete_type: of type void (C11 6.7.6.3p4). struct_by_value: an aggregate (this project's rule).
 abbrev pub passable : Env → CType × Table → Result (CType × Env) ℕ
 passable G r =
-    if is_void r.0 then Err 33
-    else if is_aggregate r.0 then Err 43
+    if is_void r.0 then Err kinds.incomplete_type
+    else if is_aggregate r.0 then Err kinds.struct_by_value
     else Ok (r.0, with_types G r.1)
 
 abbrev pub named_param : Option (List ℕ) → (block : ℕ) → CType × Env → CType × Env
@@ -63,9 +65,9 @@ passed_param G t b c ns = do
   d ← passable G r
   Ok (named_param t b d)
 
--- at the declarator of a parameter the lowest of 31, 33, 37 and 43
+-- at the declarator of a parameter the lowest of redeclared, incomplete_type, too_large and struct_by_value
 unfoldable pub with_param : Env → Option (List ℕ) → (block : ℕ) → CType → Option (List ℕ) → Result (CType × Env) ℕ
-with_param G t b c ns = if is_name_taken G t then Err 31 else passed_param G t b c ns
+with_param G t b c ns = if is_name_taken G t then Err kinds.redeclared else passed_param G t b c ns
 
 unfoldable pub param_declared : Env → (block : ℕ) → Param → Result (CType × Env) Refusal
 param_declared G b p = do
@@ -93,9 +95,9 @@ pub record Headed : Type 0 where
   pub result : CType
   pub params : List CType
 
--- 43: a result that is an aggregate or an array (C11 6.7.6.3p1, and this project's rule)
+-- struct_by_value: a result that is an aggregate or an array (C11 6.7.6.3p1, and this project's rule)
 abbrev pub given_back : CType → Result CType ℕ
-given_back c = if is_aggregate c || is_array c then Err 43 else Ok c
+given_back c = if is_aggregate c || is_array c then Err kinds.struct_by_value else Ok c
 
 -- the types of the blocks of a function: first its result, if it has one, then its parameters
 abbrev pub results : Headed → List CType
@@ -142,7 +144,8 @@ abbrev pub is_unlike : Env → Signature → Option ℕ → Bool
 is_unlike G s None = false
 is_unlike G s (Some n) = not (is_same_signature (signature G n) s)
 
--- 31: another sort of name, or another type than it had (C11 6.7p4), or a second body (6.9p3). A function keeps its type
+-- redeclared: another sort of name, or another type than it had (C11 6.7p4), or a second body (6.9p3). A function
+-- keeps its type
 -- also where its name isn't seen, as that of a first arm in the second.
 abbrev pub stands_against : Env → (defined : List ℕ) → (with_body : Bool) → Signature → Option Meaning → Bool
 stands_against G defined with_body s (Some (env.function n)) =
@@ -164,13 +167,13 @@ named_function s None r = (r.0, with_name r.1 s.name (env.function r.0))
 abbrev pub file_names : Env → List (List ℕ × Meaning)
 file_names G = (innermost G).names
 
--- 31, then 32 for a main of another type
+-- redeclared, then type_mismatch for a main of another type
 unfoldable pub function_declared : Env → (defined : List ℕ) → (with_body : Bool) → Signature → Result (ℕ × Env) ℕ
 function_declared G defined with_body s =
-    if stands_against G defined with_body s (entry s.name (file_names G)) then Err 31
+    if stands_against G defined with_body s (entry s.name (file_names G)) then Err kinds.redeclared
     else if fits_main s then Ok (named_function s (entry s.name (file_names G))
     (numbered_function G s (number_of_function G.functions s.name)))
-    else Err 32
+    else Err kinds.type_mismatch
 
 unfoldable pub prototype : Env → (defined : List ℕ) → Head → Result Env Refusal
 prototype G defined h = do
@@ -346,9 +349,9 @@ arms_agree G defined (f ∷ fs) (g ∷ gs) =
     are_named_alike f.head g.head && are_alike G defined f.head g.head && arms_agree G defined fs gs
 arms_agree G defined fs gs = false
 
--- 38: two arms that don't agree
+-- conditional_arms: two arms that don't agree
 abbrev pub agreeing : Bool → Result Bool ℕ
-agreeing b = if b then Ok true else Err 38
+agreeing b = if b then Ok true else Err kinds.conditional_arms
 
 -- The second arm sees what stood before the first one, for on its machine the first isn't there.
 unfoldable pub arms_defined : Env → (defined : List ℕ) → ℕ → NamedOrder → List Function → List Function

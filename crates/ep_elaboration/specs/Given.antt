@@ -1,5 +1,6 @@
 -- First values: an expression, or a list in braces. C11 6.7.9, less lists that leave braces out.
 use Rattle.std.specs.Prelude.{ℕ, zero, suc, ◌+◌, ◌*◌, nat_lt, Bool, true, false, ◌||◌, if◌then◌else◌, List, [], ◌∷◌, ◌++◌, slice_get, Option, Some, None, option_map, unwrap_or, Result, Ok, Err, ℤ, pos}
+use Rattle.ep_ast.specs.Kind as kinds
 use Rattle.ep_int.specs.declared.types.IntType.TheVariants.{I32}
 use Rattle.ep_int.specs.Types.{wrapped}
 use Rattle.ep_ast.specs.declared.refusals.Refusal.{Refusal}
@@ -66,11 +67,11 @@ part_at t x i =
 
 -- ---- constants
 
--- 45: no constant. A pointer begins as null alone (C11 6.7.9p4 and this project's rule).
+-- not_constant: no constant. A pointer begins as null alone (C11 6.7.9p4 and this project's rule).
 abbrev pub constant_value : Object → Value → Result (List core.Init) ℕ
 constant_value x v =
-    if is_pointer x.ty then (if v.is_null then Ok [] else Err 45)
-    else needed 45 (option_map (λ (n : ℤ). record {
+    if is_pointer x.ty then (if v.is_null then Ok [] else Err kinds.not_constant)
+    else needed kinds.not_constant (option_map (λ (n : ℤ). record {
       block = x.block;
       offset = x.offset;
       t = int_of x.ty;
@@ -78,7 +79,7 @@ constant_value x v =
     } ∷ []) (constant_of v))
 
 abbrev pub constant_given : Table → Object → Right → Result (List core.Init) ℕ
-constant_given t x (a_result f) = Err 45
+constant_given t x (a_result f) = Err kinds.not_constant
 constant_given t x (an_object y) = value_of t y >>= constant_value x
 
 -- of what isn't global no constant is asked
@@ -101,14 +102,14 @@ expression_given G global may_call l (Some x) e = do
   Ok (record { statements = w ∷ []; values = vs })
 expression_given G global may_call l None e = do
   y ← typed G e
-  at l (Err 32)
+  at l (Err kinds.type_mismatch)
 
 -- ---- lists
 
--- 32: a list for what has no parts, or that is one value too many
+-- type_mismatch: a list for what has no parts, or that is one value too many
 abbrev pub with_parts : Option Object → Result Object ℕ
-with_parts None = Err 32
-with_parts (Some x) = if is_array x.ty || is_aggregate x.ty then Ok x else Err 32
+with_parts None = Err kinds.type_mismatch
+with_parts (Some x) = if is_array x.ty || is_aggregate x.ty then Ok x else Err kinds.type_mismatch
 
 abbrev pub line_of_value : tree.Value → ℕ
 line_of_value (single e) = source.line_of e

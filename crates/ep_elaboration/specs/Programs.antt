@@ -1,5 +1,6 @@
 -- What whole programs mean, or for what they are refused: C11 6.9, and this project's checks of the whole program.
 use Rattle.std.specs.Prelude.{ℕ, Bool, true, not, nat_lt, if◌then◌else◌, List, [], ◌∷◌, ◌++◌, length, map, find, position, sum_by, Option, Some, None, option_map, unwrap_or, ◌==◌, Result, Ok, Err}
+use Rattle.ep_ast.specs.Kind as kinds
 use Rattle.ep_int.specs.Memory.{contains}
 use Rattle.ep_int.specs.declared.types.Model.{Model}
 use Rattle.ep_ast.specs.declared.refusals.Refusal.{Refusal}
@@ -88,26 +89,27 @@ abbrev pub none_breaks : (kind : ℕ) → Option Call → Result Bool Refusal
 none_breaks k None = Ok true
 none_breaks k (Some c) = at c.line (Err k)
 
--- 46: a call of a function without a body
+-- no_definition: a call of a function without a body
 abbrev pub all_have_bodies : List Defined → List Call → Result Bool Refusal
-all_have_bodies ds cs = none_breaks 46 (find (λ (c : Call). not (contains c.callee (numbers_of ds))) cs)
+all_have_bodies ds cs =
+    none_breaks kinds.no_definition (find (λ (c : Call). not (contains c.callee (numbers_of ds))) cs)
 
--- 35: a call of main, or a cycle of calls
+-- recursion: a call of main, or a cycle of calls
 abbrev pub none_recurs : Sofar → (main : ℕ) → List Call → Result Bool Refusal
-none_recurs s main cs = none_breaks 35 (find (is_recursive cs (length s.env.functions) main) cs)
+none_recurs s main cs = none_breaks kinds.recursion (find (is_recursive cs (length s.env.functions) main) cs)
 
--- 48: more than 256 statements inside one another along calls from main, on the line of main
+-- call_depth: more than 256 statements inside one another along calls from main, on the line of main
 abbrev pub not_too_deep : ℕ → Result Bool ℕ
-not_too_deep n = if nat_lt 256 n then Err 48 else Ok true
+not_too_deep n = if nat_lt 256 n then Err kinds.call_depth else Ok true
 
--- 37: all objects together of more than 65,536 bytes
+-- too_large: all objects together of more than 65,536 bytes
 abbrev pub all_fit : List core.Block → Result Bool ℕ
-all_fit bs = if nat_lt 65536 (sum_by (λ (b : core.Block). b.size) bs) then Err 37 else Ok true
+all_fit bs = if nat_lt 65536 (sum_by (λ (b : core.Block). b.size) bs) then Err kinds.too_large else Ok true
 
--- 36: no body of main. The checks stand in this order: 36, 46, 35, 48, 37.
+-- no_main: no body of main. The checks stand in this order: no_main, no_definition, recursion, call_depth, too_large.
 unfoldable pub checked : Sofar → List Place → Result Defined Refusal
 checked s ps = do
-  m ← at 1 (needed 36 (main_of s.defined))
+  m ← at 1 (needed kinds.no_main (main_of s.defined))
   bodies ← all_have_bodies s.defined (calls_of ps)
   acyclic ← none_recurs s m.number (calls_of ps)
   shallow ← at m.function.line (not_too_deep (function_depth ps (length s.env.functions) m.number))

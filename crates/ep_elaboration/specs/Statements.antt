@@ -1,6 +1,7 @@
 -- What statements mean, or the first offence in the order of the text: C11 6.8, and this project's statements by byte
 -- order.
 use Rattle.std.specs.Prelude.{ℕ, Bool, true, false, if◌then◌else◌, List, [], ◌∷◌, ◌++◌, drop, Option, Some, None, Result, Ok, Err, pos}
+use Rattle.ep_ast.specs.Kind as kinds
 use Rattle.ep_int.specs.declared.types.IntType.TheVariants.{I32}
 use Rattle.ep_int.specs.declared.types.Order.{Order}
 use Rattle.ep_int.specs.declared.types.Order.TheVariants as orders
@@ -97,16 +98,16 @@ for_lines (evaluates e) l first w bs = first ++ one_line l w
 
 -- ---- jumps
 
--- 47: outside of a loop (C11 6.8.6.2p1 and 6.8.6.3p1)
+-- stray_jump: outside of a loop (C11 6.8.6.2p1 and 6.8.6.3p1)
 abbrev pub jump : (in_loop : Bool) → ℕ → core.What → Result (List Line) ℕ
-jump in_loop l w = if in_loop then Ok (one_line l w) else Err 47
+jump in_loop l w = if in_loop then Ok (one_line l w) else Err kinds.stray_jump
 
 abbrev pub returned : Option core.Expr → core.What
 returned e = core.simple (core.returns e)
 
--- 32: no value where the function has a result (this project's rule, beside C11 6.8.6.4p1)
+-- type_mismatch: no value where the function has a result (this project's rule, beside C11 6.8.6.4p1)
 unfoldable pub nothing_returned : (result : CType) → Result core.What ℕ
-nothing_returned c = if is_void c then Ok (returned None) else Err 32
+nothing_returned c = if is_void c then Ok (returned None) else Err kinds.type_mismatch
 
 abbrev pub value_returned : Table → CType → Operand → Result core.What ℕ
 value_returned t c x = do
@@ -114,9 +115,10 @@ value_returned t c x = do
   e ← fitted c v
   Ok (returned (Some e))
 
--- 32: a value where the function has no result (C11 6.8.6.4p1). The value is converted as by assignment (6.8.6.4p3).
+-- type_mismatch: a value where the function has no result (C11 6.8.6.4p1). The value is converted as by assignment
+-- (6.8.6.4p3).
 unfoldable pub operand_returned : Table → (result : CType) → Operand → Result core.What ℕ
-operand_returned t c x = if is_void c then Err 32 else value_returned t c x
+operand_returned t c x = if is_void c then Err kinds.type_mismatch else value_returned t c x
 
 -- ---- byte orders
 

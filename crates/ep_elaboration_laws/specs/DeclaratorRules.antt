@@ -1,6 +1,7 @@
 -- Declarators, type words, structs and unions, by rules without an order, and the first offence in each. C11 6.7.2
 -- and 6.7.6.
 use Rattle.std.specs.Prelude.{◌≡◌, [], ◌∷◌, ◌++◌, ◌==◌, ℕ, Bool, List, Option, Some, None, Ok, Err, pos, length}
+use Rattle.ep_ast.specs.Kind as kinds
 use Rattle.ep_ast.specs.Declaration.{Aggregate, Declarator, Members, Specs, aggregate, body, member, more_members, more_specs, no_members, no_specs, plain}
 use Rattle.ep_ast.specs.Expression.{Expr, TypeWord}
 use Rattle.ep_ast.specs.Mark.{union_word}
@@ -27,7 +28,7 @@ pub data BoundOffends : Env → ℕ → Option Expr → Refusal → Type 0 where
   in_bound : {G : Env} {l : ℕ} {e : Expr} {r : Refusal} → Offends (mentioned G e) e r → BoundOffends G l (Some e) r
   bad_bound : {G : Env} {l : ℕ} {e : Expr} {kind : ℕ} (x : Operand) → Means (mentioned G e) e x
       → counted (value_of (mentioned G e).types x) ≡ Err kind → BoundOffends G l (Some e) (refusal kind l)
-  missing_bound : {G : Env} {l : ℕ} → BoundOffends G l None (refusal 17 l)
+  missing_bound : {G : Env} {l : ℕ} → BoundOffends G l None (refusal kinds.array_bound l)
 
 -- bounds, from left to right
 pub data MeansBounds : Env → ℕ → List (Option Expr) → (List ℕ × Env) → Type 0 where
@@ -45,7 +46,7 @@ pub data BoundsOffend : Env → ℕ → List (Option Expr) → Refusal → Type 
 -- the bounds of an object, of which a list may give the first (C11 6.7.9p22)
 pub data MeansObjectBounds : Env → ℕ → Option ℕ → List (Option Expr) → (List ℕ × Env) → Type 0 where
   from_list : {G : Env} {l n : ℕ} {bs : List (Option Expr)} (c : ℕ) (y : List ℕ × Env)
-      → needed 17 (count_in (pos n)) ≡ Ok c → MeansBounds G l bs y
+      → needed kinds.array_bound (count_in (pos n)) ≡ Ok c → MeansBounds G l bs y
       → MeansObjectBounds G l (Some n) (None ∷ bs) (c ∷ y.0, y.1)
   without_list : {G : Env} {l : ℕ} {bs : List (Option Expr)} (y : List ℕ × Env) → MeansBounds G l bs y
       → MeansObjectBounds G l None bs y
@@ -56,10 +57,12 @@ pub data MeansObjectBounds : Env → ℕ → Option ℕ → List (Option Expr) �
 
 -- where what stands before means something, the first offence
 pub data ObjectBoundsOffend : Env → ℕ → Option ℕ → List (Option Expr) → Refusal → Type 0 where
-  too_many_values : {G : Env} {l n : ℕ} {bs : List (Option Expr)} {kind : ℕ} → needed 17 (count_in (pos n)) ≡ Err kind
+  too_many_values : {G : Env} {l n : ℕ} {bs : List (Option Expr)} {kind : ℕ}
+      → needed kinds.array_bound (count_in (pos n)) ≡ Err kind
       → ObjectBoundsOffend G l (Some n) (None ∷ bs) (refusal kind l)
   in_bound_behind : {G : Env} {l n : ℕ} {bs : List (Option Expr)} {r : Refusal} (c : ℕ)
-      → needed 17 (count_in (pos n)) ≡ Ok c → BoundsOffend G l bs r → ObjectBoundsOffend G l (Some n) (None ∷ bs) r
+      → needed kinds.array_bound (count_in (pos n)) ≡ Ok c → BoundsOffend G l bs r
+      → ObjectBoundsOffend G l (Some n) (None ∷ bs) r
   in_bounds : {G : Env} {l : ℕ} {bs : List (Option Expr)} {r : Refusal} → BoundsOffend G l bs r
       → ObjectBoundsOffend G l None bs r
   in_no_bounds : {G : Env} {l n : ℕ} {r : Refusal} → BoundsOffend G l [] r → ObjectBoundsOffend G l (Some n) [] r

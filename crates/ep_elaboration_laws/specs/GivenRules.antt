@@ -1,5 +1,6 @@
 -- First values and declarations, by rules without an order, and the first offence in each. C11 6.7 and 6.7.9.
 use Rattle.std.specs.Prelude.{◌≡◌, [], ◌∷◌, ℕ, suc, Bool, false, List, Option, Some, None, Ok, Err}
+use Rattle.ep_ast.specs.Kind as kinds
 use Rattle.ep_core.specs.Program as core
 use Rattle.ep_ast.specs.Declaration.{Declaration, Init, Value, Values, listed, more_values, no_values, single, to_specs}
 use Rattle.ep_ast.specs.Expression.{Expr}
@@ -38,7 +39,7 @@ pub data GivenExpressionOffends : Env → Bool → Bool → ℕ → Option Objec
   in_expression_too_many : {G : Env} {global c : Bool} {l : ℕ} {e : Expr} {r : Refusal} → Offends G e r
       → GivenExpressionOffends G global c l None e r
   one_expression_too_many : {G : Env} {global c : Bool} {l : ℕ} {e : Expr} (y : Operand) → Means G e y
-      → GivenExpressionOffends G global c l None e (refusal 32 l)
+      → GivenExpressionOffends G global c l None e (refusal kinds.type_mismatch l)
 
 mutual
   -- a first value: an expression, or a list in braces (C11 6.7.9)

@@ -1,5 +1,6 @@
 -- Whole programs, by rules without an order, and the first offence. C11 6.9, and this project's checks.
 use Rattle.std.specs.Prelude.{◌≡◌, [], ◌∷◌, ◌++◌, ℕ, Bool, true, List, Option, Ok, Err, length}
+use Rattle.ep_ast.specs.Kind as kinds
 use Rattle.ep_core.specs.Program as core
 use Rattle.ep_ast.specs.Statement as tree
 use Rattle.ep_ast.specs.Declaration.{Aggregate, Declaration, Head, Typedef, to_specs}
@@ -69,27 +70,27 @@ pub data ItemsOffend : Sofar → List Item → Refusal → Type 0 where
 -- the checks of the whole program
 pub data IsSound : Sofar → List Place → Defined → Type 0 where
   is_sound : {s : Sofar} {ps : List Place} (m : Defined) (bodies acyclic shallow small : Bool)
-      → needed 36 (main_of s.defined) ≡ Ok m → all_have_bodies s.defined (calls_of ps) ≡ Ok bodies
+      → needed kinds.no_main (main_of s.defined) ≡ Ok m → all_have_bodies s.defined (calls_of ps) ≡ Ok bodies
       → none_recurs s m.number (calls_of ps) ≡ Ok acyclic
       → not_too_deep (function_depth ps (length s.env.functions) m.number) ≡ Ok shallow
       → all_fit s.env.blocks ≡ Ok small → IsSound s ps m
 
 -- where what stands before means something, the first offence
 pub data UnsoundBy : Sofar → List Place → Refusal → Type 0 where
-  no_main : {s : Sofar} {ps : List Place} {kind : ℕ} → needed 36 (main_of s.defined) ≡ Err kind
+  no_main : {s : Sofar} {ps : List Place} {kind : ℕ} → needed kinds.no_main (main_of s.defined) ≡ Err kind
       → UnsoundBy s ps (refusal kind 1)
-  no_body : {s : Sofar} {ps : List Place} {r : Refusal} (m : Defined) → needed 36 (main_of s.defined) ≡ Ok m
+  no_body : {s : Sofar} {ps : List Place} {r : Refusal} (m : Defined) → needed kinds.no_main (main_of s.defined) ≡ Ok m
       → all_have_bodies s.defined (calls_of ps) ≡ Err r → UnsoundBy s ps r
   recursion : {s : Sofar} {ps : List Place} {r : Refusal} (m : Defined) (bodies : Bool)
-      → needed 36 (main_of s.defined) ≡ Ok m → all_have_bodies s.defined (calls_of ps) ≡ Ok bodies
+      → needed kinds.no_main (main_of s.defined) ≡ Ok m → all_have_bodies s.defined (calls_of ps) ≡ Ok bodies
       → none_recurs s m.number (calls_of ps) ≡ Err r → UnsoundBy s ps r
   too_deep : {s : Sofar} {ps : List Place} {kind : ℕ} (m : Defined) (bodies acyclic : Bool)
-      → needed 36 (main_of s.defined) ≡ Ok m → all_have_bodies s.defined (calls_of ps) ≡ Ok bodies
+      → needed kinds.no_main (main_of s.defined) ≡ Ok m → all_have_bodies s.defined (calls_of ps) ≡ Ok bodies
       → none_recurs s m.number (calls_of ps) ≡ Ok acyclic
       → not_too_deep (function_depth ps (length s.env.functions) m.number) ≡ Err kind
       → UnsoundBy s ps (refusal kind m.function.line)
   too_large : {s : Sofar} {ps : List Place} {kind : ℕ} (m : Defined) (bodies acyclic shallow : Bool)
-      → needed 36 (main_of s.defined) ≡ Ok m → all_have_bodies s.defined (calls_of ps) ≡ Ok bodies
+      → needed kinds.no_main (main_of s.defined) ≡ Ok m → all_have_bodies s.defined (calls_of ps) ≡ Ok bodies
       → none_recurs s m.number (calls_of ps) ≡ Ok acyclic
       → not_too_deep (function_depth ps (length s.env.functions) m.number) ≡ Ok shallow
       → all_fit s.env.blocks ≡ Err kind → UnsoundBy s ps (refusal kind 1)

@@ -4,6 +4,7 @@ ghost use Rattle.std.specs.Prelude.{◌≡◌, ◌+◌, ◌<◌, ◌≤◌, ◌^
 ghost use Rattle.ep_ast.specs.Token.{Tok};
 ghost use Rattle.ep_ast.specs.Expression.{Expr, expr};
 ghost use Rattle.ep_ast.specs.Grammar.{IsFront};
+ghost use Rattle.ep_ast.specs.Kind.{nesting};
 ghost use Rattle.ep_ast.specs.Nesting.{is_too_deep, opens_past};
 ghost use Rattle.ep_ast.specs.Refusal.{IfRefused};
 ghost use Rattle.ep_lexer.specs.Tokens.{view, view_all};
@@ -13,20 +14,16 @@ ghost use Rattle.ep_exprs.specs.Answer.{IsFound, IsRefused, Wholly};
 
 use crate::look::follows;
 use crate::parser::read_expression;
-use ep_ast::{ExprTree, Halt, Refusal};
+use ep_ast::{ExprTree, Halt, Refusal, RefusalKind};
 use ep_expression_trees::Kept;
 use ep_lexer::Tokens;
 use ep_reading::{Reader, TypeNames, last_line, opens_past};
 use std::alloc::Global;
 
 fn too_deep(line: u32) -> Refusal
-    ensures { (result.kind ≡ 22) × (result.word ≡ 0) × (result.line ≡ line) }
+    ensures { (result.kind ≡ nesting) × (result.word ≡ 0) × (result.line ≡ line) }
 {
-    Refusal {
-        kind: 22,
-        line,
-        word: 0,
-    }
+    Refusal::new(RefusalKind::Nesting, line)
 }
 
 /// The tree, where it isn't too deep.

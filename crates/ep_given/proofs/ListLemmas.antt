@@ -64,6 +64,11 @@ module _ (G : Env) (global : Bool) (x : Object) (i : ℕ) (xs : List ValueTree) 
       subst (λ (r : Result (Given × Env) Refusal). Stops r e) unrolled
       (gathering.stopped both_given done (this o) (λ p. rest p.1 >>= (λ q. Ok (both_given p.0 q.0, q.1))) e k)
 
+  pub stopped_on : (n : ℕ) (e : Halt) → n ≡ line_of_value (source.value_of v)
+      → Stops (all_behind both_given done (value_given G global false n o (source.value_of v))) e → Stops all e
+  stopped_on n e q k =
+      stopped e (subst (λ (m : ℕ). Stops (all_behind both_given done (value_given G global false m o (source.value_of v))) e) q k)
+
   pub went : (now : Given) (H : Env) → all_behind both_given done (this o) ≡ Ok (now, H)
       → all_behind both_given now (left H global x (i + 1) (drop (i + 1) xs)) ≡ all
   went now H k =

@@ -11,18 +11,16 @@ ghost use Rattle.ep_typer_effects.specs.Seen as effects;
 ghost use Rattle.ep_typing.specs.Results.{at};
 ghost use Rattle.ep_typing.specs.Typing.{an_object};
 
-use ep_ast::Halt;
+use ep_ast::{Halt, RefusalKind};
 use ep_core::program::InitByte;
 use ep_declared::Object;
 use ep_int::wrap;
 use ep_layout::Types;
-use ep_operands::kinds::refused;
-use ep_operands::{Operand, Value, constant_of, copy_operand, int_of, is_pointer, value_of};
+use ep_operands::{
+    Operand, Value, constant_of, copy_operand, int_of, is_pointer, refused, value_of,
+};
 use ep_typer_effects::Right;
 use std::alloc::Global;
-
-/// A first value of a global that is no constant.
-pub(crate) const NO_CONSTANT: u8 = 45;
 
 fn constant_value(line: u32, x: &Object, v: &Value) -> Result<Option<InitByte>, Halt>
     ensures { Gives (λ o. option_to_list (option_map shown_init o))
@@ -32,7 +30,7 @@ fn constant_value(line: u32, x: &Object, v: &Value) -> Result<Option<InitByte>, 
         if v.is_null {
             return Ok(None);
         }
-        return Err(refused(NO_CONSTANT, line));
+        return Err(refused(RefusalKind::NotConstant, line));
     }
     match constant_of(v) {
         Some(n) => {
@@ -44,7 +42,7 @@ fn constant_value(line: u32, x: &Object, v: &Value) -> Result<Option<InitByte>, 
                 value: wrap(t, n),
             }))
         }
-        None => Err(refused(NO_CONSTANT, line)),
+        None => Err(refused(RefusalKind::NotConstant, line)),
     }
 }
 
@@ -81,6 +79,6 @@ pub(crate) fn first_value(
     }
     match right {
         Right::Object(y) => operand_constant(alloc, types, line, x, y),
-        Right::Result(_) => Err(refused(NO_CONSTANT, line)),
+        Right::Result(_) => Err(refused(RefusalKind::NotConstant, line)),
     }
 }

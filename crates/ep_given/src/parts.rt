@@ -1,6 +1,6 @@
 //! Parts of objects.
 
-ghost use Rattle.std.specs.Prelude.{◌≡◌, ◌+◌, ◌*◌, ◌<◌, IfOk, Some, pos, slice_get, unwrap_or};
+ghost use Rattle.std.specs.Prelude.{◌≡◌, ◌+◌, ◌*◌, ◌^◌, ◌<◌, ◌≤◌, IfErr, IfOk, Some, pos, slice_get, unwrap_or};
 ghost use Rattle.std.specs.Option.{option_map};
 ghost use Rattle.ep_int.specs.declared.types.IntType.TheVariants.{I32};
 ghost use Rattle.ep_layout.specs.Views.{view_member, view_members};
@@ -19,16 +19,22 @@ use ep_operands::{bound_of, copy_place, element_of, is_array, number_of, size_of
 use ep_typing::CType;
 use std::alloc::{AllocError, Global};
 
+// So many bytes further on.
+fn behind(offset: u32, bytes: u32) -> Result<u32, AllocError>
+    ensures means { IfOk result (λ n. n ≡ offset + bytes) }
+    ensures full { IfErr result (λ _. 2 ^ 32 ≤ offset + bytes) }
+{
+    offset.checked_add(bytes).ok_or(AllocError)
+}
+
 // So many bytes further on, times a unit.
 fn further(offset: u32, count: u32, unit: u32) -> Result<u32, AllocError>
-    ensures { IfOk result (λ n. n ≡ offset + count * unit) }
+    ensures means { IfOk result (λ n. n ≡ offset + count * unit) }
+    ensures full { IfErr result (λ _. 2 ^ 32 ≤ offset + count * unit) }
 {
     match count.checked_mul(unit) {
         None => Err(AllocError),
-        Some(bytes) => match offset.checked_add(bytes) {
-            None => Err(AllocError),
-            Some(there) => Ok(there),
-        },
+        Some(bytes) => behind(offset, bytes),
     }
 }
 
@@ -154,9 +160,7 @@ fn member_object(
     ensures { IfOk result (λ o. seen.object o
         ≡ rule.member_object types.now (seen.object whole.now) (view_member member.now)) }
 {
-    let Some(offset) = whole.offset.checked_add(member.offset) else {
-        return Err(AllocError);
-    };
+    let offset = behind(whole.offset, member.offset)?;
     let place = copy_place(alloc, &whole.place)?;
     let place = Box::new(alloc, place)?;
     Ok(Object {

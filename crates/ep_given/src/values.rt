@@ -19,10 +19,9 @@ ghost use Rattle.ep_typing.specs.Results.{at};
 use crate::constants::first_value;
 use crate::lists::Given;
 use crate::parts::{copy_object, part_at};
-use ep_ast::{ExprTree, Halt, ValueTree};
+use ep_ast::{ExprTree, Halt, RefusalKind, ValueTree};
 use ep_declared::Object;
-use ep_operands::kinds::{TYPE_MISMATCH, refused};
-use ep_operands::{Operand, is_aggregate, is_array};
+use ep_operands::{Operand, is_aggregate, is_array, refused};
 use ep_scopes::Env;
 use ep_typer_effects::{assigned_from, right_side};
 use ep_typer_exprs::{mention, typed};
@@ -56,10 +55,10 @@ fn expression_refused(env: &Env, line: u32, tree: &ExprTree) -> Halt
     ensures { (global may_call : Bool) → Stops
         (rule.expression_given (around env.now) global may_call line None (source.expr tree.now)) result }
 {
-    match typed(env, tree) {
-        Ok(_) => refused(TYPE_MISMATCH, line),
-        Err(halt) => halt,
+    if let Err(halt) = typed(env, tree) {
+        return halt;
     }
+    refused(RefusalKind::TypeMismatch, line)
 }
 
 // An expression, after the tags and types that it mentions.
@@ -96,9 +95,9 @@ fn with_parts(line: u32, x: Option<Object>) -> Result<Object, Halt>
             if is_array(object.ty) | is_aggregate(object.ty) {
                 return Ok(object);
             }
-            Err(refused(TYPE_MISMATCH, line))
+            Err(refused(RefusalKind::TypeMismatch, line))
         }
-        None => Err(refused(TYPE_MISMATCH, line)),
+        None => Err(refused(RefusalKind::TypeMismatch, line)),
     }
 }
 

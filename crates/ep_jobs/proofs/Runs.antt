@@ -1,9 +1,14 @@
 -- The status of a run goes with its text.
-use Rattle.std.proofs.Common.{◌≡◌, ℕ, List, refl, sym, ◌∙◌, ap, Result, Ok, Err, IfOk}
+use Rattle.std.proofs.Common.{◌≡◌, ℕ, List, refl, sym, ◌∙◌, ap, subst, Result, Ok, Err, IfOk}
+use Rattle.ep_int.specs.declared.types.Model.{Model}
+use Rattle.ep_ast.specs.declared.refusals.Refusal.{Refusal}
+use Rattle.ep_core.specs.declared.program.CoreProgram.{CoreProgram}
+use Rattle.ep_core.specs.Shown.{shown}
 use Rattle.ep_core.specs.Program.{Program}
 use Rattle.ep_core.specs.Runs as runs
 use Rattle.ep_core.specs.Runs.{run}
 use Rattle.ep_concrete.specs.Text.{run_text_of}
+use Rattle.ep_source.specs.Source.{Means, Offends}
 use Rattle.ep_jobs.specs.Jobs as jobs
 use Rattle.ep_jobs.specs.Jobs.{Asked, IsRun, MeansOnly, status_of}
 use Rattle.ep_jobs.specs.declared.jobs.Job.{Job}
@@ -28,3 +33,14 @@ pub ran : {E : Type 0} (a : Asked) (source : List ℕ) (p : Program) (r : Result
     → IfOk r (λ j. IsRun a source j.status j.text.items)
 ran a source p (Ok j) m s t = rw s (run_with a source p _ j.text.items m refl t)
 ran a source p (Err e) m s t = tt
+
+-- a source that is read means its program and no other
+pub only_of : {E : Type 0} (m : Model) (source : List ℕ) (r : Result CoreProgram E) (p : CoreProgram) → r ≡ Ok p
+    → IfOk r (λ q. Means m source (shown q))
+    → IfOk r (λ q. (s : Program) → Means m source s → s ≡ shown q)
+    → IfOk r (λ _. (f : Refusal) → Offends m source f → ⊥) → MeansOnly m source (shown p)
+only_of {E = E} m source r p e a b c = record {
+  means = subst (λ (t : Result CoreProgram E). IfOk t (λ q. Means m source (shown q))) e a;
+  only = subst (λ (t : Result CoreProgram E). IfOk t (λ q. (s : Program) → Means m source s → s ≡ shown q)) e b;
+  faultless = subst (λ (t : Result CoreProgram E). IfOk t (λ _. (f : Refusal) → Offends m source f → ⊥)) e c;
+}

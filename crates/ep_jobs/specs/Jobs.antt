@@ -11,7 +11,8 @@ use Rattle.ep_core.specs.Runs.{run}
 use Rattle.ep_concrete.specs.Text.{run_text_of}
 use Rattle.ep_source.specs.Source.{Means, Offends}
 use Rattle.ep_jobs.specs.declared.status.Status.{Status}
-use Rattle.ep_jobs.specs.declared.status.Status.TheVariants.{Done, Alarms, Refused, Usage, ReadFault, WriteFault, Memory, TooLong, StepsUsedUp, Undefined, InputEnded}
+use Rattle.ep_jobs.specs.declared.status.Status.TheVariants.{Done, Alarms, Refused, Usage, ReadFault, WriteFault}
+use Rattle.ep_jobs.specs.declared.status.Status.TheVariants.{Memory, TooLong, StepsUsedUp, Undefined, InputEnded}
 
 -- the exit code of a status
 abbrev pub code_of : Status → ℕ

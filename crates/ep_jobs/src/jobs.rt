@@ -63,9 +63,9 @@ pub fn layout_job(alloc: Global, source: &[u8], model: Model) -> Result<Job, Mem
     requires { length source.now ≤ 1048576 }
     ensures { IfOk result (λ j. IsLayout model source.now j.status j.text.items) }
 {
-    match read(alloc, source, model) {
-        Ok(program) => layouts(&program),
-        Err(Halt::Refused(refusal)) => refusal_job(alloc, &refusal),
+    match &read(alloc, source, model) {
+        Ok(program) => layouts(program),
+        Err(Halt::Refused(refusal)) => refusal_job(alloc, refusal),
         Err(Halt::Memory) => Err(Memory),
     }
 }
@@ -105,9 +105,9 @@ pub fn run_job(alloc: Global, source: &[u8], asked: RunAsked, inputs: &[u64]) ->
     requires { length source.now ≤ 1048576 }
     ensures { IfOk result (λ j. IsRun (asked_for asked inputs.now) source.now j.status j.text.items) }
 {
-    match read(alloc, source, asked.model) {
-        Ok(program) => run_of(alloc, &program, asked, inputs),
-        Err(Halt::Refused(refusal)) => refusal_job(alloc, &refusal),
+    match &read(alloc, source, asked.model) {
+        Ok(program) => run_of(alloc, program, asked, inputs),
+        Err(Halt::Refused(refusal)) => refusal_job(alloc, refusal),
         Err(Halt::Memory) => Err(Memory),
     }
 }

@@ -2,6 +2,7 @@
 use Rattle.std.specs.Prelude.{◌≡◌, ℕ, ◌+◌, Bool, true, false, ◌&&◌, ◌||◌, ◌==◌, if◌then◌else◌, List, [], ◌∷◌, ◌++◌}
 use Rattle.std.specs.Prelude.{drop, slice_index, Option, Some, None, is_none, map, codes, Result, Ok, Err}
 use denote.Ref.{Bor}
+use Rattle.ep_ast.specs.Kind as kinds
 use Rattle.ep_ast.specs.declared.expressions.Literal.{Literal}
 use Rattle.ep_ast.specs.declared.refusals.Refusal.{Refusal}
 use Rattle.ep_ast.specs.Lexeme.{is_blank, is_letter, is_digit, opens_comment, opens_remark, line_after, to_line_end}
@@ -94,15 +95,15 @@ weight (things.Number n) = 1
 weight (things.Mark n) = 1
 
 abbrev pub number_found : ℕ → Option Literal → List ℕ → Result Found Refusal
-number_found l None rest = Err (at_line 3 l)
+number_found l None rest = Err (at_line kinds.number l)
 number_found l (Some n) rest = Ok (l, number n, rest)
 
 abbrev pub character_found : ℕ → Option (ℕ × ℕ) → List ℕ → Result Found Refusal
-character_found l None bs = Err (at_line 3 l)
+character_found l None bs = Err (at_line kinds.number l)
 character_found l (Some p) bs = Ok (l, number (of_character p.0), drop p.1 bs)
 
 abbrev pub mark_found : ℕ → Option ℕ → List ℕ → Result Found Refusal
-mark_found l None bs = Err (at_line 1 l)
+mark_found l None bs = Err (at_line kinds.byte l)
 mark_found l (Some n) bs = Ok (l, mark n, drop (mark_len n) bs)
 
 unfoldable pub thing_at : ℕ → List ℕ → Result Found Refusal
@@ -117,7 +118,7 @@ thing_at l (b ∷ bs) =
     else mark_found l (mark_at (b ∷ bs)) (b ∷ bs)
 
 abbrev pub next_from : Skipped → Result Found Refusal
-next_from (unclosed from) = Err (at_line 2 from)
+next_from (unclosed from) = Err (at_line kinds.comment from)
 next_from (stopped l bs) = thing_at l bs
 
 unfoldable pub next : ℕ → List ℕ → Result Found Refusal
@@ -167,7 +168,7 @@ name_at k h l bs = chain (next l bs) (λ n. name_found k h n.0 n.1 n.2)
 
 -- a constant is wanted
 abbrev pub constant_found : ℕ → ℕ → Thing → List ℕ → Option Literal → Result (Literal × ℕ × List ℕ) Refusal
-constant_found h m t rest None = Err (wrong 5 h m t)
+constant_found h m t rest None = Err (wrong kinds.directive h m t)
 constant_found h m t rest (Some c) = Ok (c, m, rest)
 
 abbrev pub constant_at : Constants → ℕ → ℕ → List ℕ → Result (Literal × ℕ × List ℕ) Refusal
@@ -175,18 +176,19 @@ constant_at cs h l bs = chain (next l bs) (λ n. constant_found h n.0 n.1 n.2 (v
 
 unfoldable pub define_at : Constants → ℕ → ℕ → List ℕ → Result Done Refusal
 define_at cs h l bs =
-    chain (name_at 5 h l bs)
+    chain (name_at kinds.directive h l bs)
     (λ p. if may_define cs p.0 then chain (constant_at cs h p.1 p.2)
-    (λ q. chain (over_at 5 h q.1 q.2) (λ r. Ok (defines p.0 q.0, r.0, r.1))) else Err (at_line 5 h))
+    (λ q. chain (over_at kinds.directive h q.1 q.2) (λ r. Ok (defines p.0 q.0, r.0, r.1)))
+    else Err (at_line kinds.directive h))
 
 -- the mark `==` is wanted
 abbrev pub equals_found : ℕ → ℕ → Thing → List ℕ → Result (ℕ × List ℕ) Refusal
-equals_found h m over rest = Err (wrong 7 h m over)
-equals_found h m hash rest = Err (wrong 7 h m hash)
-equals_found h m quote rest = Err (wrong 7 h m quote)
-equals_found h m (name t) rest = Err (wrong 7 h m (name t))
-equals_found h m (number n) rest = Err (wrong 7 h m (number n))
-equals_found h m (mark n) rest = if n == equals then Ok (m, rest) else Err (wrong 7 h m (mark n))
+equals_found h m over rest = Err (wrong kinds.conditional h m over)
+equals_found h m hash rest = Err (wrong kinds.conditional h m hash)
+equals_found h m quote rest = Err (wrong kinds.conditional h m quote)
+equals_found h m (name t) rest = Err (wrong kinds.conditional h m (name t))
+equals_found h m (number n) rest = Err (wrong kinds.conditional h m (number n))
+equals_found h m (mark n) rest = if n == equals then Ok (m, rest) else Err (wrong kinds.conditional h m (mark n))
 
 abbrev pub equals_at : ℕ → ℕ → List ℕ → Result (ℕ × List ℕ) Refusal
 equals_at h l bs = chain (next l bs) (λ n. equals_found h n.0 n.1 n.2)
@@ -201,24 +203,25 @@ order_of cs t = if is_plain cs (order_name Little) t then Some Little else if is
     Big else None
 
 abbrev pub conditional : ℕ → Option NamedOrder → Result (ℕ × List ℕ) Refusal → Result Done Refusal
-conditional h None r = Err (at_line 7 h)
+conditional h None r = Err (at_line kinds.conditional h)
 conditional h (Some o) (Err r) = Err r
 conditional h (Some o) (Ok r) = Ok (conditions o, r.0, r.1)
 
 unfoldable pub condition_at : Constants → ℕ → ℕ → List ℕ → Result Done Refusal
 condition_at cs h l bs =
-    chain (name_at 7 h l bs)
+    chain (name_at kinds.conditional h l bs)
     (λ p. if is_plain cs (codes "__BYTE_ORDER__") p.0 then chain (equals_at h p.1 p.2)
-    (λ q. chain (name_at 7 h q.0 q.1) (λ r. conditional h (order_of cs r.0) (over_at 7 h r.1 r.2))) else Err
-    (at_line 7 h))
+    (λ q. chain (name_at kinds.conditional h q.0 q.1)
+    (λ r. conditional h (order_of cs r.0) (over_at kinds.conditional h r.1 r.2)))
+    else Err (at_line kinds.conditional h))
 
 -- a header name is wanted
 abbrev pub header_found : ℕ → ℕ → List ℕ → Option (List ℕ) → Result Done Refusal
-header_found h m bs None = chain (thing_at m bs) (λ n. Err (wrong 6 h n.0 n.1))
-header_found h m bs (Some rest) = chain (over_at 6 h m rest) (λ r. Ok (nothing, r.0, r.1))
+header_found h m bs None = chain (thing_at m bs) (λ n. Err (wrong kinds.include h n.0 n.1))
+header_found h m bs (Some rest) = chain (over_at kinds.include h m rest) (λ r. Ok (nothing, r.0, r.1))
 
 abbrev pub header_at : ℕ → Skipped → Result Done Refusal
-header_at h (unclosed from) = Err (at_line 2 from)
+header_at h (unclosed from) = Err (at_line kinds.comment from)
 header_at h (stopped m bs) = header_found h m bs (after headers bs)
 
 unfoldable pub include_at : ℕ → ℕ → List ℕ → Result Done Refusal
@@ -230,7 +233,9 @@ ending_at e k h l bs = chain (over_at k h l bs) (λ r. Ok (e, r.0, r.1))
 
 -- the kind of a wrong directive that begins with this word
 abbrev pub word_kind : List ℕ → ℕ
-word_kind w = if bytes_eq w (codes "elif") || bytes_eq w (codes "else") || bytes_eq w (codes "endif") then 7 else 5
+word_kind w =
+    if bytes_eq w (codes "elif") || bytes_eq w (codes "else") || bytes_eq w (codes "endif") then kinds.conditional
+    else kinds.directive
 
 abbrev pub directive_outside : Constants → ℕ → List ℕ → ℕ → List ℕ → Result Done Refusal
 directive_outside cs h w l bs =
@@ -241,12 +246,14 @@ directive_outside cs h w l bs =
 
 abbrev pub directive_in_first : ℕ → ℕ → List ℕ → ℕ → List ℕ → Result Done Refusal
 directive_in_first from h w l bs =
-    if bytes_eq w (codes "endif") then ending_at closes 7 h l bs
-    else if bytes_eq w (codes "else") then ending_at (turns from) 7 h l bs
-    else Err (at_line 7 h)
+    if bytes_eq w (codes "endif") then ending_at closes kinds.conditional h l bs
+    else if bytes_eq w (codes "else") then ending_at (turns from) kinds.conditional h l bs
+    else Err (at_line kinds.conditional h)
 
 abbrev pub directive_in_second : ℕ → List ℕ → ℕ → List ℕ → Result Done Refusal
-directive_in_second h w l bs = if bytes_eq w (codes "endif") then ending_at closes 7 h l bs else Err (at_line 7 h)
+directive_in_second h w l bs =
+    if bytes_eq w (codes "endif") then ending_at closes kinds.conditional h l bs
+    else Err (at_line kinds.conditional h)
 
 abbrev pub directive_word : Open → Constants → ℕ → List ℕ → ℕ → List ℕ → Result Done Refusal
 directive_word outside cs h w l bs = directive_outside cs h w l bs
@@ -254,9 +261,9 @@ directive_word (first_arm from) cs h w l bs = directive_in_first from h w l bs
 directive_word (second_arm from) cs h w l bs = directive_in_second h w l bs
 
 abbrev pub first_kind : Open → ℕ
-first_kind outside = 5
-first_kind (first_arm from) = 7
-first_kind (second_arm from) = 7
+first_kind outside = kinds.directive
+first_kind (first_arm from) = kinds.conditional
+first_kind (second_arm from) = kinds.conditional
 
 unfoldable pub directive_at : Open → Constants → ℕ → List ℕ → Result Done Refusal
 directive_at o cs h bs = chain (name_at (first_kind o) h h bs) (λ p. directive_word o cs h p.0 p.1 p.2)
@@ -308,7 +315,7 @@ went t rest = Ok (Some (t.0, t.1, rest))
 
 abbrev pub ended : Option ℕ → Result (Option Went) Refusal
 ended None = Ok None
-ended (Some from) = Err (at_line 7 from)
+ended (Some from) = Err (at_line kinds.conditional from)
 
 abbrev pub line_ended : Place → ℕ → List ℕ → Result (Option Went) Refusal
 line_ended p m [] = ended (opened_at p.open_arm)
@@ -316,18 +323,18 @@ line_ended p m (b ∷ rest) = went ([], record p { line = m + 1; fresh = true })
 
 abbrev pub token_of : ℕ → List ℕ → Sense → Result Tok Refusal
 token_of m t (is_accepted n) = Ok (token.word m n)
-token_of m t (is_reserved n) = Err (record { kind = 8; line = m; word = n })
+token_of m t (is_reserved n) = Err (record { kind = kinds.reserved_word; line = m; word = n })
 token_of m t (is_constant c) = Ok (token.number m c)
 token_of m t is_own = Ok (token.name m t)
 
 abbrev pub hash_on : Place → ℕ → List ℕ → Result (Option Went) Refusal
 hash_on p m rest = if p.fresh then chain (directive_at p.open_arm p.constants m rest)
-    (λ d. went (applied p m d.0 d.1) d.2) else Err (at_line 1 m)
+    (λ d. went (applied p m d.0 d.1) d.2) else Err (at_line kinds.byte m)
 
 abbrev pub step_on : Place → ℕ → Thing → List ℕ → Result (Option Went) Refusal
 step_on p m over rest = line_ended p m rest
 step_on p m hash rest = hash_on p m rest
-step_on p m quote rest = Err (at_line 4 m)
+step_on p m quote rest = Err (at_line kinds.string_literal m)
 step_on p m (name t) rest = chain (token_of m t (sense p.constants t)) (λ k. went (k ∷ [], behind p m) rest)
 step_on p m (number c) rest = went (token.number m c ∷ [], behind p m) rest
 step_on p m (mark n) rest = went (token.mark m n ∷ [], behind p m) rest

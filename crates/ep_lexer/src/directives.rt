@@ -1,13 +1,14 @@
 ghost use Rattle.std.specs.Prelude.{◌≡◌, ◌+◌, ◌-◌, ◌<◌, ◌≤◌, ◌^◌, codes, length, IfOk, IfSome};
 ghost use Rattle.std.specs.Option.{option_map};
 ghost use Rattle.ep_ast.specs.Cut as cut;
+ghost use Rattle.ep_ast.specs.Kind.{number_of};
 ghost use Rattle.ep_lexer.specs.Step as step;
 
 use crate::bytes::{after, skip};
 use crate::definitions::Definitions;
 use crate::things::{Next, Thing, next_thing, refusal, thing_at};
 use crate::words::{accepted, reserved};
-use ep_ast::{Literal, NamedOrder, Refusal};
+use ep_ast::{Literal, NamedOrder, Refusal, RefusalKind};
 
 /// Whether a conditional is open: its first arm, or the one behind `#else`, with the line of its `#if`.
 #[derive(Clone, Copy, Debug)]
@@ -36,25 +37,30 @@ pub struct Directive<'a> {
 }
 
 /// How a thing is refused in a directive of this kind, whose `#` stands on line `hash`.
-fn wrong(kind: u8, hash: u32, next: &Next) -> Refusal
-    ensures { result ≡ cut.wrong kind hash next.now.line (step.view_thing next.now.thing) }
+fn wrong(kind: RefusalKind, hash: u32, next: &Next) -> Refusal
+    ensures { result ≡ cut.wrong (number_of kind) hash next.now.line (step.view_thing next.now.thing) }
 {
     match next.thing {
-        Thing::Hash => refusal(1, next.line),
+        Thing::Hash => refusal(RefusalKind::Byte, next.line),
         Thing::Quote => {
-            if kind == 6 {
-                refusal(6, hash)
+            if kind == RefusalKind::Include {
+                refusal(RefusalKind::Include, hash)
             } else {
-                refusal(4, next.line)
+                refusal(RefusalKind::StringLiteral, next.line)
             }
         }
         _ => refusal(kind, hash),
     }
 }
 
-fn over_at<'a>(kind: u8, hash: u32, line: u32, bytes: &'a [u8]) -> Result<(u32, &'a [u8]), Refusal>
+fn over_at<'a>(
+    kind: RefusalKind,
+    hash: u32,
+    line: u32,
+    bytes: &'a [u8],
+) -> Result<(u32, &'a [u8]), Refusal>
     requires { line + length bytes.now < 2 ^ 32 }
-    ensures value { step.shown (λ p. (p.0, p.1.now)) result ≡ step.over_at kind hash line bytes.now }
+    ensures value { step.shown (λ p. (p.0, p.1.now)) result ≡ step.over_at (number_of kind) hash line bytes.now }
     ensures within { IfOk result (λ p. p.0 + length p.1.now ≤ line + length bytes.now) }
     ensures shorter { IfOk result (λ p. length p.1.now ≤ length bytes.now) }
 {
@@ -66,13 +72,14 @@ fn over_at<'a>(kind: u8, hash: u32, line: u32, bytes: &'a [u8]) -> Result<(u32, 
 }
 
 fn name_at<'a>(
-    kind: u8,
+    kind: RefusalKind,
     hash: u32,
     line: u32,
     bytes: &'a [u8],
 ) -> Result<(&'a [u8], u32, &'a [u8]), Refusal>
     requires { line + length bytes.now < 2 ^ 32 }
-    ensures value { step.shown (λ p. (p.0.now, p.1, p.2.now)) result ≡ step.name_at kind hash line bytes.now }
+    ensures value { step.shown (λ p. (p.0.now, p.1, p.2.now)) result ≡ step.name_at (number_of kind) hash line
+        bytes.now }
     ensures within { IfOk result (λ p. p.1 + length p.2.now ≤ line + length bytes.now) }
     ensures shorter { IfOk result (λ p. length p.2.now ≤ length bytes.now) }
 {
@@ -108,7 +115,7 @@ fn constant_at<'a>(
     let next = next_thing(line, bytes)?;
     match value(defined, next.thing) {
         Some(n) => Ok((n, next.line, next.rest)),
-        None => Err(wrong(5, hash, &next)),
+        None => Err(wrong(RefusalKind::Directive, hash, &next)),
     }
 }
 
@@ -127,7 +134,7 @@ fn equals_at<'a>(hash: u32, line: u32, bytes: &'a [u8]) -> Result<(u32, &'a [u8]
     let next = next_thing(line, bytes)?;
     match next.thing {
         Thing::Mark(10) => Ok((next.line, next.rest)),
-        _ => Err(wrong(7, hash, &next)),
+        _ => Err(wrong(RefusalKind::Conditional, hash, &next)),
     }
 }
 
@@ -163,12 +170,12 @@ fn define_at<'a>(
     ensures within { IfOk result (λ d. d.line + length d.rest.now ≤ line + length bytes.now) }
     ensures shorter { IfOk result (λ d. length d.rest.now ≤ length bytes.now) }
 {
-    let (name, line, bytes) = name_at(5, hash, line, bytes)?;
+    let (name, line, bytes) = name_at(RefusalKind::Directive, hash, line, bytes)?;
     if !may_define(defined, name) {
-        return Err(refusal(5, hash));
+        return Err(refusal(RefusalKind::Directive, hash));
     }
     let (number, line, bytes) = constant_at(defined, hash, line, bytes)?;
-    let (line, rest) = over_at(5, hash, line, bytes)?;
+    let (line, rest) = over_at(RefusalKind::Directive, hash, line, bytes)?;
     Ok(Directive {
         effect: Effect::Defines(name, number),
         line,
@@ -191,16 +198,16 @@ fn condition_at<'a>(
     ensures within { IfOk result (λ d. d.line + length d.rest.now ≤ line + length bytes.now) }
     ensures shorter { IfOk result (λ d. length d.rest.now ≤ length bytes.now) }
 {
-    let (name, line, bytes) = name_at(7, hash, line, bytes)?;
+    let (name, line, bytes) = name_at(RefusalKind::Conditional, hash, line, bytes)?;
     if !is_plain(defined, b"__BYTE_ORDER__", name) {
-        return Err(refusal(7, hash));
+        return Err(refusal(RefusalKind::Conditional, hash));
     }
     let (line, bytes) = equals_at(hash, line, bytes)?;
-    let (name, line, bytes) = name_at(7, hash, line, bytes)?;
+    let (name, line, bytes) = name_at(RefusalKind::Conditional, hash, line, bytes)?;
     let Some(order) = order_of(defined, name) else {
-        return Err(refusal(7, hash));
+        return Err(refusal(RefusalKind::Conditional, hash));
     };
-    let (line, rest) = over_at(7, hash, line, bytes)?;
+    let (line, rest) = over_at(RefusalKind::Conditional, hash, line, bytes)?;
     Ok(Directive {
         effect: Effect::Opens(order),
         line,
@@ -229,13 +236,14 @@ fn after_header(bytes: &[u8]) -> Option<&[u8]>
 /// Where the line ends here, a directive with this effect.
 fn ending_at<'a>(
     effect: Effect<'a>,
-    kind: u8,
+    kind: RefusalKind,
     hash: u32,
     line: u32,
     bytes: &'a [u8],
 ) -> Result<Directive<'a>, Refusal>
     requires { line + length bytes.now < 2 ^ 32 }
-    ensures value { step.shown step.view_done result ≡ step.ending_at (step.view_effect effect.entry) kind hash line
+    ensures value { step.shown step.view_done result ≡ step.ending_at (step.view_effect effect.entry)
+        (number_of kind) hash line
         bytes.now }
     ensures effect { IfOk result (λ d. step.view_effect d.effect ≡ step.view_effect effect.entry) }
     ensures within { IfOk result (λ d. d.line + length d.rest.now ≤ line + length bytes.now) }
@@ -255,24 +263,24 @@ fn include_at<'a>(hash: u32, line: u32, bytes: &'a [u8]) -> Result<Directive<'a>
     ensures shorter { IfOk result (λ d. length d.rest.now ≤ length bytes.now) }
 {
     match skip(line, bytes) {
-        Err(from) => Err(refusal(2, from)),
+        Err(from) => Err(refusal(RefusalKind::Comment, from)),
         Ok((line, bytes)) => match after_header(bytes) {
             None => {
                 let next = thing_at(line, bytes)?;
-                Err(wrong(6, hash, &next))
+                Err(wrong(RefusalKind::Include, hash, &next))
             }
-            Some(rest) => ending_at(Effect::Nothing, 6, hash, line, rest),
+            Some(rest) => ending_at(Effect::Nothing, RefusalKind::Include, hash, line, rest),
         },
     }
 }
 
-fn word_kind(word: &[u8]) -> u8
-    ensures { result ≡ step.word_kind word.now }
+fn word_kind(word: &[u8]) -> RefusalKind
+    ensures { number_of result ≡ step.word_kind word.now }
 {
     if word == b"elif".as_slice() || word == b"else".as_slice() || word == b"endif".as_slice() {
-        7
+        RefusalKind::Conditional
     } else {
-        5
+        RefusalKind::Directive
     }
 }
 
@@ -315,11 +323,17 @@ fn directive_in_first<'a>(
     ensures shorter { IfOk result (λ d. length d.rest.now ≤ length bytes.now) }
 {
     if word == b"endif".as_slice() {
-        ending_at(Effect::Closes, 7, hash, line, bytes)
+        ending_at(Effect::Closes, RefusalKind::Conditional, hash, line, bytes)
     } else if word == b"else".as_slice() {
-        ending_at(Effect::Turns(from), 7, hash, line, bytes)
+        ending_at(
+            Effect::Turns(from),
+            RefusalKind::Conditional,
+            hash,
+            line,
+            bytes,
+        )
     } else {
-        Err(refusal(7, hash))
+        Err(refusal(RefusalKind::Conditional, hash))
     }
 }
 
@@ -336,18 +350,18 @@ fn directive_in_second<'a>(
     ensures shorter { IfOk result (λ d. length d.rest.now ≤ length bytes.now) }
 {
     if word == b"endif".as_slice() {
-        ending_at(Effect::Closes, 7, hash, line, bytes)
+        ending_at(Effect::Closes, RefusalKind::Conditional, hash, line, bytes)
     } else {
-        Err(refusal(7, hash))
+        Err(refusal(RefusalKind::Conditional, hash))
     }
 }
 
-fn first_kind(arm: Open) -> u8
-    ensures { result ≡ step.first_kind (step.view_open arm) }
+fn first_kind(arm: Open) -> RefusalKind
+    ensures { number_of result ≡ step.first_kind (step.view_open arm) }
 {
     match arm {
-        Open::Outside => 5,
-        Open::FirstArm(_) | Open::SecondArm(_) => 7,
+        Open::Outside => RefusalKind::Directive,
+        Open::FirstArm(_) | Open::SecondArm(_) => RefusalKind::Conditional,
     }
 }
 

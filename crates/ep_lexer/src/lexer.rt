@@ -13,7 +13,7 @@ use crate::directives::{Effect, Open, directive_at};
 use crate::things::{Thing, next_thing, refusal};
 use crate::tokens::{Token, TokenKind, Tokens};
 use crate::words::{accepted, reserved};
-use ep_ast::{Halt, NamedOrder, Refusal};
+use ep_ast::{Halt, NamedOrder, Refusal, RefusalKind};
 use std::alloc::{AllocError, Global};
 
 /// Where the reading stands: the line, whether nothing stands before it on its line, and the conditional round it.
@@ -46,7 +46,7 @@ fn named(
     }
     if let Some(word) = reserved(text) {
         return Err(Halt::Refused(Refusal {
-            kind: 8,
+            kind: RefusalKind::ReservedWord,
             line,
             word,
         }));
@@ -118,7 +118,10 @@ fn line_end<'a>(place: Place, line: u32, bytes: &'a [u8]) -> Result<Option<Step<
     if bytes.is_empty() {
         return match place.arm {
             Open::Outside => Ok(None),
-            Open::FirstArm(from) | Open::SecondArm(from) => Err(refusal(7, from)),
+            Open::FirstArm(from) | Open::SecondArm(from) => Err(refusal(
+                RefusalKind::Conditional,
+                from,
+            )),
         };
     }
     Ok(Some(Step {
@@ -147,7 +150,7 @@ fn directive<'a>(
     ensures shorter { IfOk result (λ o. IfSome o (λ s. length s.rest.now ≤ length bytes.now)) }
 {
     if !place.fresh {
-        return Err(Halt::Refused(refusal(1, hash)));
+        return Err(Halt::Refused(refusal(RefusalKind::Byte, hash)));
     }
     let read = directive_at(place.arm, definitions, hash, bytes)?;
     let (token, behind) = apply(alloc, place, definitions, hash, read.effect, read.line)?;
@@ -177,7 +180,7 @@ fn read_piece<'a>(
     let what = match next.thing {
         Thing::Over => return Ok(line_end(place, next.line, next.rest)?),
         Thing::Hash => return directive(alloc, place, definitions, next.line, next.rest),
-        Thing::Quote => return Err(Halt::Refused(refusal(4, next.line))),
+        Thing::Quote => return Err(Halt::Refused(refusal(RefusalKind::StringLiteral, next.line))),
         Thing::Name(text) => named(alloc, definitions, next.line, text)?,
         Thing::Number(number) => TokenKind::Number(number),
         Thing::Mark(mark) => TokenKind::Mark(mark),

@@ -1,12 +1,13 @@
 ghost use Rattle.std.specs.Prelude.{◌≡◌, ◌+◌, ◌-◌, ◌<◌, ◌≤◌, ◌^◌, IsTrue, length, drop, slice_index, IfOk};
 ghost use Rattle.ep_ast.specs.Lexeme as spec;
 ghost use Rattle.ep_ast.specs.Cut.{at_line};
+ghost use Rattle.ep_ast.specs.Kind.{number_of};
 ghost use Rattle.ep_lexer.specs.Step as step;
 
 use crate::bytes::{after, is_digit, is_letter, skip, word_len};
 use crate::numbers::{character, literal, number_len};
 use crate::words::mark_at;
-use ep_ast::{Literal, Refusal};
+use ep_ast::{Literal, Refusal, RefusalKind};
 
 /// What stands next on a line: its end or the end of the source, a `#`, a `"`, or a token.
 #[derive(Clone, Copy, Debug)]
@@ -28,14 +29,10 @@ pub struct Next<'a> {
 }
 
 /// A refusal that names no word.
-pub fn refusal(kind: u8, line: u32) -> Refusal
-    ensures { result ≡ at_line kind line }
+pub fn refusal(kind: RefusalKind, line: u32) -> Refusal
+    ensures { result ≡ at_line (number_of kind) line }
 {
-    Refusal {
-        kind,
-        line,
-        word: 0,
-    }
+    Refusal::new(kind, line)
 }
 
 fn name_at<'a>(line: u32, bytes: &'a [u8]) -> Next<'a>
@@ -60,7 +57,7 @@ fn number_at<'a>(line: u32, bytes: &'a [u8]) -> Result<Next<'a>, Refusal>
 {
     let (text, rest) = bytes.split_at(number_len(0, bytes));
     match literal(text) {
-        None => Err(refusal(3, line)),
+        None => Err(refusal(RefusalKind::Number, line)),
         Some(n) => Ok(Next {
             line,
             thing: Thing::Number(n),
@@ -76,7 +73,7 @@ fn character_at<'a>(line: u32, bytes: &'a [u8]) -> Result<Next<'a>, Refusal>
     ensures same { IfOk result (λ n. n.line ≡ line) }
 {
     match character(bytes) {
-        None => Err(refusal(3, line)),
+        None => Err(refusal(RefusalKind::Number, line)),
         Some((value, count)) => Ok(Next {
             line,
             thing: Thing::Number(Literal {
@@ -96,7 +93,7 @@ fn sign_at<'a>(line: u32, bytes: &'a [u8]) -> Result<Next<'a>, Refusal>
     ensures same { IfOk result (λ n. n.line ≡ line) }
 {
     match mark_at(bytes) {
-        None => Err(refusal(1, line)),
+        None => Err(refusal(RefusalKind::Byte, line)),
         Some((n, count)) => Ok(Next {
             line,
             thing: Thing::Mark(n),
@@ -157,7 +154,7 @@ pub fn next_thing<'a>(line: u32, bytes: &'a [u8]) -> Result<Next<'a>, Refusal>
     ensures within { IfOk result (λ n. n.line + length n.rest.now ≤ line + length bytes.now) }
 {
     match skip(line, bytes) {
-        Err(from) => Err(refusal(2, from)),
+        Err(from) => Err(refusal(RefusalKind::Comment, from)),
         Ok((at, rest)) => thing_at(at, rest),
     }
 }

@@ -8,16 +8,14 @@ ghost use Rattle.ep_typing.specs.Results.{at};
 ghost use Rattle.ep_operands.specs.Gives.{Gives};
 ghost use Rattle.ep_operands.specs.Seen as seen;
 
-use crate::kinds::{
-    INCOMPATIBLE_POINTERS, INCOMPLETE_TYPE, POINTER_TO_INTEGER, TYPE_MISMATCH, refused,
-};
 use crate::operand::Operand;
+use crate::refusals::refused;
 use crate::types::{
     element_of, int_of, is_aggregate, is_array, is_integer, is_pointer, is_scalar, is_void,
     is_void_pointer, pointer_to, scalar_of,
 };
 use crate::value::Value;
-use ep_ast::Halt;
+use ep_ast::{Halt, RefusalKind};
 use ep_core::tree::{Expr, Place};
 use ep_int::{IntType, promote};
 use ep_layout::Types;
@@ -46,13 +44,13 @@ pub fn value_of(alloc: Global, types: &Types, line: u32, x: Operand) -> Result<V
     match x {
         Operand::Place(place, c) => {
             if is_void(c) {
-                return Err(refused(INCOMPLETE_TYPE, line));
+                return Err(refused(RefusalKind::IncompleteType, line));
             }
             let value = loaded(alloc, types, place, c)?;
             Ok(value)
         }
         Operand::Value(value) => Ok(value),
-        Operand::Function(_) => Err(refused(TYPE_MISMATCH, line)),
+        Operand::Function(_) => Err(refused(RefusalKind::TypeMismatch, line)),
     }
 }
 
@@ -148,13 +146,13 @@ pub fn fitted(alloc: Global, line: u32, c: CType, v: Value) -> Result<Expr, Halt
     ensures { Gives shown_expr (at line (rule.fitted c (seen.value v))) result }
 {
     if !are_scalars(c, v.ty) {
-        return Err(refused(TYPE_MISMATCH, line));
+        return Err(refused(RefusalKind::TypeMismatch, line));
     }
     if is_mixed(c, &v) {
-        return Err(refused(POINTER_TO_INTEGER, line));
+        return Err(refused(RefusalKind::PointerToInteger, line));
     }
     if is_foreign(c, &v) {
-        return Err(refused(INCOMPATIBLE_POINTERS, line));
+        return Err(refused(RefusalKind::IncompatiblePointers, line));
     }
     let expr = as_type(alloc, c, v)?;
     Ok(expr)
@@ -168,6 +166,6 @@ pub fn tested(line: u32, v: Value) -> Result<Expr, Halt>
     if is_scalar(v.ty) {
         Ok(v.expr)
     } else {
-        Err(refused(TYPE_MISMATCH, line))
+        Err(refused(RefusalKind::TypeMismatch, line))
     }
 }

@@ -1,12 +1,12 @@
 //! Tests on types, and what a table says of them.
 
-ghost use Rattle.std.specs.Prelude.{◌≡◌, IfOk, Option, Some, None, slice_get, pos, ◌≤◌, IfSome};
+ghost use Rattle.std.specs.Prelude.{◌≡◌, ◌+◌, ◌^◌, IfErr, IfOk, Option, Some, None, slice_get, pos, ◌≤◌, IfSome};
 ghost use Rattle.ep_typing.specs.Types as rule;
 ghost use Rattle.ep_layout.specs.Table as table;
 ghost use Rattle.ep_int.specs.Arith.{is_in_range};
 
 use ep_ast::Literal;
-use ep_int::{IntType, Model, Scalar, bytes, in_range, pointer_bytes};
+use ep_int::{IntType, Memory, Model, Scalar, bytes, in_range, pointer_bytes};
 use ep_layout::{Ty, Types};
 use ep_typing::{Base, CType};
 use std::alloc::AllocError;
@@ -41,7 +41,8 @@ pub fn void_pointer() -> CType
 
 /// A pointer to a type. Only so many stars as memory can't hold are too many.
 pub fn pointer_to(c: CType) -> Result<CType, AllocError>
-    ensures { IfOk result (λ d. d ≡ rule.pointer_to c) }
+    ensures means { IfOk result (λ d. d ≡ rule.pointer_to c) }
+    ensures full { IfErr result (λ _. 2 ^ 32 ≤ c.stars + 1) }
 {
     match c.stars.checked_add(1) {
         Some(stars) => Ok(CType {
@@ -49,6 +50,23 @@ pub fn pointer_to(c: CType) -> Result<CType, AllocError>
             stars,
         }),
         None => Err(AllocError),
+    }
+}
+
+/// So many pointers, one to the other, to a type.
+pub fn with_stars(c: CType, count: usize) -> Result<CType, Memory>
+    ensures means { IfOk result (λ d. d ≡ rule.with_stars c count) }
+    ensures full { IfErr result (λ _. 2 ^ 32 ≤ c.stars + count) }
+{
+    let Ok(stars) = u32::try_from(count) else {
+        return Err(Memory);
+    };
+    match c.stars.checked_add(stars) {
+        Some(stars) => Ok(CType {
+            base: c.base,
+            stars,
+        }),
+        None => Err(Memory),
     }
 }
 

@@ -10,12 +10,11 @@ ghost use Rattle.ep_operands.specs.Numbers.{is_right, some};
 ghost use Rattle.ep_operands.specs.Gives.{Gives};
 ghost use Rattle.ep_operands.specs.Seen as seen;
 
-use ep_ast::Halt;
+use ep_ast::{Halt, RefusalKind};
 use ep_core::tree::Expr;
 use ep_int::BinOp;
-use ep_operands::kinds::{TYPE_MISMATCH, refused};
 use ep_operands::pairs::{are_integers, common_type};
-use ep_operands::{Value, converted, promoted_type, promoted_value};
+use ep_operands::{Value, converted, promoted_type, promoted_value, refused};
 use std::alloc::{AllocError, Global};
 
 fn computed(alloc: Global, op: BinOp, a: Value, b: Value) -> Result<Value, AllocError>
@@ -45,7 +44,7 @@ pub(crate) fn arithmetic(
         let value = computed(alloc, op, a, b)?;
         return Ok(value);
     }
-    Err(refused(TYPE_MISMATCH, line))
+    Err(refused(RefusalKind::TypeMismatch, line))
 }
 
 fn shift(alloc: Global, op: BinOp, a: Value, b: Value) -> Result<Value, AllocError>
@@ -77,5 +76,5 @@ pub(crate) fn shifted(
         let value = shift(alloc, op, a, b)?;
         return Ok(value);
     }
-    Err(refused(TYPE_MISMATCH, line))
+    Err(refused(RefusalKind::TypeMismatch, line))
 }

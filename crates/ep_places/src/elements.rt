@@ -8,12 +8,12 @@ ghost use Rattle.ep_operands.specs.Gives.{Gives};
 ghost use Rattle.ep_operands.specs.Seen as seen;
 
 use crate::pointers::{moved, pointed};
-use ep_ast::Halt;
+use ep_ast::{Halt, RefusalKind};
 use ep_core::tree::Place;
 use ep_layout::Types;
-use ep_operands::kinds::{INCOMPLETE_TYPE, TYPE_MISMATCH, refused};
 use ep_operands::{
-    Operand, Value, bound_of, element_of, is_array, is_integer, is_pointer, size_of_type, value_of,
+    Operand, Value, bound_of, element_of, is_array, is_integer, is_pointer, refused, size_of_type,
+    value_of,
 };
 use ep_typing::CType;
 use std::alloc::Global;
@@ -60,7 +60,7 @@ fn element_of_array(
             let bound = bound_of(types, c);
             Ok(Operand::Place(Place::Element(array, bound, unit, index), element))
         }
-        None => Err(refused(INCOMPLETE_TYPE, line)),
+        None => Err(refused(RefusalKind::IncompleteType, line)),
     }
 }
 
@@ -94,14 +94,14 @@ pub fn indexed(
             if is_integer(index.ty) {
                 return element_of_array(alloc, types, line, place, c, index);
             }
-            Err(refused(TYPE_MISMATCH, line))
+            Err(refused(RefusalKind::TypeMismatch, line))
         }
         Operand::Value(pointer) => {
             if is_pointer(pointer.ty) & is_integer(index.ty) {
                 return element_behind(alloc, types, line, pointer, index);
             }
-            Err(refused(TYPE_MISMATCH, line))
+            Err(refused(RefusalKind::TypeMismatch, line))
         }
-        Operand::Function(_) => Err(refused(TYPE_MISMATCH, line)),
+        Operand::Function(_) => Err(refused(RefusalKind::TypeMismatch, line)),
     }
 }

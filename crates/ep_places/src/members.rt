@@ -11,11 +11,10 @@ ghost use Rattle.ep_operands.specs.Gives.{Gives};
 ghost use Rattle.ep_operands.specs.Seen as seen;
 
 use crate::pointers::pointed;
-use ep_ast::Halt;
+use ep_ast::{Halt, RefusalKind};
 use ep_core::tree::Place;
 use ep_layout::{Member, Types};
-use ep_operands::kinds::{NO_MEMBER, TYPE_MISMATCH, refused};
-use ep_operands::{Operand, Value, is_aggregate, number_of, type_of};
+use ep_operands::{Operand, Value, is_aggregate, number_of, refused, type_of};
 use ep_typing::CType;
 use std::alloc::Global;
 
@@ -46,7 +45,7 @@ fn member_of(
             let ty = type_of(types, member.ty);
             Ok(Operand::Place(Place::Member(whole, member.offset), ty))
         }
-        None => Err(refused(NO_MEMBER, line)),
+        None => Err(refused(RefusalKind::NoMember, line)),
     }
 }
 
@@ -66,10 +65,10 @@ pub fn selected(
             if is_aggregate(c) {
                 return member_of(alloc, types, line, place, c, name);
             }
-            Err(refused(TYPE_MISMATCH, line))
+            Err(refused(RefusalKind::TypeMismatch, line))
         }
-        Operand::Value(_) => Err(refused(TYPE_MISMATCH, line)),
-        Operand::Function(_) => Err(refused(TYPE_MISMATCH, line)),
+        Operand::Value(_) => Err(refused(RefusalKind::TypeMismatch, line)),
+        Operand::Function(_) => Err(refused(RefusalKind::TypeMismatch, line)),
     }
 }
 

@@ -10,11 +10,10 @@ ghost use Rattle.ep_typing.specs.Results.{at};
 ghost use Rattle.ep_operands.specs.Gives.{Gives};
 ghost use Rattle.ep_operands.specs.Seen as seen;
 
-use ep_ast::Halt;
+use ep_ast::{Halt, RefusalKind};
 use ep_core::tree::{Expr, Place};
 use ep_layout::Types;
-use ep_operands::kinds::{INCOMPLETE_TYPE, TYPE_MISMATCH, refused};
-use ep_operands::{Operand, Value, is_pointer, size_of_type, target};
+use ep_operands::{Operand, Value, is_pointer, refused, size_of_type, target};
 use std::alloc::{AllocError, Global};
 
 fn steps(
@@ -49,7 +48,7 @@ pub fn moved(
             let value = steps(alloc, pointer, unit, count, backwards)?;
             Ok(value)
         }
-        None => Err(refused(INCOMPLETE_TYPE, line)),
+        None => Err(refused(RefusalKind::IncompleteType, line)),
     }
 }
 
@@ -63,5 +62,5 @@ pub(crate) fn pointed(alloc: Global, line: u32, v: Value) -> Result<Operand, Hal
         let expr = Box::new(alloc, v.expr)?;
         return Ok(Operand::Place(Place::Deref(expr), ty));
     }
-    Err(refused(TYPE_MISMATCH, line))
+    Err(refused(RefusalKind::TypeMismatch, line))
 }

@@ -6,11 +6,12 @@ ghost use Rattle.ep_typing.specs.Results.{at};
 ghost use Rattle.ep_operands.specs.Gives.{Gives};
 ghost use Rattle.ep_operands.specs.Seen as seen;
 
-use ep_ast::Halt;
+use ep_ast::{Halt, RefusalKind};
 use ep_core::tree::Expr;
 use ep_layout::Types;
-use ep_operands::kinds::{INCOMPLETE_TYPE, POINTER_TO_INTEGER, TYPE_MISMATCH, refused};
-use ep_operands::{Operand, Value, are_scalars, as_type, is_mixed, size_of_type, size_type};
+use ep_operands::{
+    Operand, Value, are_scalars, as_type, is_mixed, refused, size_of_type, size_type,
+};
 use ep_typing::CType;
 use std::alloc::Global;
 
@@ -20,10 +21,10 @@ pub fn casted(alloc: Global, line: u32, c: CType, v: Value) -> Result<Value, Hal
     ensures { Gives seen.value (at line (rule.casted c (seen.value v))) result }
 {
     if !are_scalars(c, v.ty) {
-        return Err(refused(TYPE_MISMATCH, line));
+        return Err(refused(RefusalKind::TypeMismatch, line));
     }
     if is_mixed(c, &v) {
-        return Err(refused(POINTER_TO_INTEGER, line));
+        return Err(refused(RefusalKind::PointerToInteger, line));
     }
     let expr = as_type(alloc, c, v)?;
     Ok(Value::plain(expr, c))
@@ -39,7 +40,7 @@ pub fn type_sized(types: &Types, line: u32, c: CType) -> Result<Value, Halt>
             let t = size_type(types.model());
             Ok(Value::int(Expr::Const(t, i128::from(size)), t))
         }
-        None => Err(refused(INCOMPLETE_TYPE, line)),
+        None => Err(refused(RefusalKind::IncompleteType, line)),
     }
 }
 
@@ -51,6 +52,6 @@ pub fn sized(types: &Types, line: u32, x: Operand) -> Result<Value, Halt>
     match x {
         Operand::Place(_, c) => type_sized(types, line, c),
         Operand::Value(v) => type_sized(types, line, v.ty),
-        Operand::Function(_) => Err(refused(TYPE_MISMATCH, line)),
+        Operand::Function(_) => Err(refused(RefusalKind::TypeMismatch, line)),
     }
 }

@@ -11,13 +11,13 @@ ghost use Rattle.ep_operands.specs.Gives.{Gives};
 ghost use Rattle.ep_operands.specs.Seen as seen;
 
 use crate::pointers::pointed;
-use ep_ast::{Halt, marks};
+use ep_ast::{Halt, RefusalKind, marks};
 use ep_core::tree::{Expr, Place};
 use ep_int::{BinOp, IntType, wrap};
 use ep_layout::Types;
-use ep_operands::kinds::{NOT_AN_LVALUE, TYPE_MISMATCH, refused};
 use ep_operands::{
-    Operand, Value, is_integer, is_scalar, pointer_to, promoted_type, promoted_value, value_of,
+    Operand, Value, is_integer, is_scalar, pointer_to, promoted_type, promoted_value, refused,
+    value_of,
 };
 use std::alloc::{AllocError, Global};
 
@@ -31,7 +31,7 @@ fn kept(alloc: Global, line: u32, a: Value) -> Result<Value, Halt>
         let expr = promoted_value(alloc, a)?;
         return Ok(Value::int(expr, t));
     }
-    Err(refused(TYPE_MISMATCH, line))
+    Err(refused(RefusalKind::TypeMismatch, line))
 }
 
 fn opposite_expr(alloc: Global, a: Value) -> Result<Expr, AllocError>
@@ -62,7 +62,7 @@ fn negated(alloc: Global, line: u32, a: Value) -> Result<Value, Halt>
         let value = opposite(alloc, a)?;
         return Ok(value);
     }
-    Err(refused(TYPE_MISMATCH, line))
+    Err(refused(RefusalKind::TypeMismatch, line))
 }
 
 fn turned_expr(alloc: Global, a: Value) -> Result<Expr, AllocError>
@@ -93,7 +93,7 @@ fn complemented(alloc: Global, line: u32, a: Value) -> Result<Value, Halt>
         let value = turned(alloc, a)?;
         return Ok(value);
     }
-    Err(refused(TYPE_MISMATCH, line))
+    Err(refused(RefusalKind::TypeMismatch, line))
 }
 
 // `!`.
@@ -105,7 +105,7 @@ fn denied(alloc: Global, line: u32, a: Value) -> Result<Value, Halt>
         let expr = Box::new(alloc, a.expr)?;
         return Ok(Value::int(Expr::Not(expr), IntType::I32));
     }
-    Err(refused(TYPE_MISMATCH, line))
+    Err(refused(RefusalKind::TypeMismatch, line))
 }
 
 /// `+`, `-`, `~` or `!` of one value, by its mark.
@@ -159,8 +159,8 @@ fn addressed(alloc: Global, line: u32, x: Operand) -> Result<Operand, Halt>
             let expr = address_of(alloc, place)?;
             Ok(Operand::Value(Value::unknown(expr, ty)))
         }
-        Operand::Value(_) => Err(refused(NOT_AN_LVALUE, line)),
-        Operand::Function(_) => Err(refused(TYPE_MISMATCH, line)),
+        Operand::Value(_) => Err(refused(RefusalKind::NotAnLvalue, line)),
+        Operand::Function(_) => Err(refused(RefusalKind::TypeMismatch, line)),
     }
 }
 

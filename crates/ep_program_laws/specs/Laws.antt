@@ -1,5 +1,6 @@
 -- What is proved of whole programs.
 use Rattle.std.specs.Prelude.{◌≡◌, ℕ, Bool, true, List, [], ◌∷◌, ◌++◌, Some, None, Result, Ok, Err}
+use Rattle.ep_ast.specs.Kind as kinds
 use Rattle.ep_int.specs.declared.types.Model.{Model}
 use Rattle.ep_ast.specs.declared.orders.NamedOrder.{NamedOrder}
 use Rattle.ep_ast.specs.declared.refusals.Refusal.{Refusal}
@@ -30,8 +31,8 @@ agree_behind m is fs gs = do
   Ok (arms_agree s.env (numbers_of s.defined) fs gs)
 
 -- Where arms agree, there may be a function of another type in the second one, for a head that can't stand by itself is
--- taken for alike. It is refused there (31).
+-- taken for alike. It is refused there (redeclared).
 abbrev pub ArmsMayDiffer : Type 0
 ArmsMayDiffer = (m : Model) × (is : List Item) × (o : NamedOrder) × (first second : List Function) × (line : ℕ)
     × (agree_behind m is first second ≡ Ok true)
-    × (items (begun m) (is ++ functions_by_order 1 o first (Some second) ∷ []) ≡ Err (refusal 31 line))
+    × (items (begun m) (is ++ functions_by_order 1 o first (Some second) ∷ []) ≡ Err (refusal kinds.redeclared line))

@@ -1,5 +1,6 @@
 -- What readers answer: the part that was read, which no other front of the tokens is, or a refusal.
 use Rattle.std.specs.Prelude.{◌≡◌, ℕ, ◌<◌, ◌≤◌, ◌⊎◌, length, map, List, Result, Ok, Err}
+use Rattle.ep_ast.specs.Kind as kinds
 use Rattle.ep_ast.specs.declared.refusals.Refusal.{Refusal}
 use Rattle.ep_ast.specs.declared.refusals.Halt.{Halt}
 use Rattle.ep_ast.specs.declared.refusals.Halt.TheVariants as halts
@@ -48,7 +49,7 @@ Clear B xs = (l : ℕ) → B xs l → ⊥
 
 -- a refusal for a bit-field of this line
 abbrev pub IsBitField : (List Tok → (line : ℕ) → Type 0) → List Tok → Refusal → Type 0
-IsBitField B xs f = B xs f.line × (f.kind ≡ 9) × (f.word ≡ 0)
+IsBitField B xs f = B xs f.line × (f.kind ≡ kinds.bit_field) × (f.word ≡ 0)
 
 -- nothing is to be read and no bit-field stands there, or one does
 abbrev pub Fails : {T : Type 0} → (List Tok → List Tok → T → Type 0) → (List Tok → (line : ℕ) → Type 0) → List Tok

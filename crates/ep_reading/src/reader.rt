@@ -3,7 +3,7 @@
 ghost use Rattle.ep_ast.specs.Reading.{IsSyntax};
 
 use crate::names::TypeNames;
-use ep_ast::Refusal;
+use ep_ast::{Refusal, RefusalKind};
 use ep_lexer::Token;
 use std::alloc::Global;
 
@@ -24,11 +24,7 @@ impl Reader<'_> {
             [] => self.last,
             [first, ..] => first.line,
         };
-        Refusal {
-            kind: 10,
-            line,
-            word: 0,
-        }
+        Refusal::new(RefusalKind::Syntax, line)
     }
 }
 

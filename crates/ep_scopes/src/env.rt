@@ -13,7 +13,7 @@ use crate::scopes::Scopes;
 use ep_core::program::BlockInfo;
 use ep_int::{Memory, Model};
 use ep_layout::{Ty, Types};
-use ep_operands::known_number;
+use ep_operands::{as_number, has_room, known_number};
 use ep_typing::{Base, CType};
 use indexmap::IndexMap;
 use std::alloc::{AllocError, Global};
@@ -66,9 +66,7 @@ fn add_row(types: &mut Types, ty: Ty) -> Result<u32, Memory>
     ensures inside { IfOk result (λ n. n < length types.new.types) }
     ensures grown { OnOk result (types.new ≡ table.type_added types.old ty) }
 {
-    if types.type_count() >= 1 << 31 {
-        return Err(Memory);
-    }
+    has_room(types.type_count())?;
     match types.add(ty) {
         Ok(n) => Ok(n),
         Err(_) => Err(Memory),
@@ -128,9 +126,7 @@ fn add_aggregate(types: &mut Types, tag: Vec<u8>, is_union: bool) -> Result<u32,
     ensures number { IfOk result (λ n. n ≡ length types.old.aggregates) }
     ensures grown { OnOk result (types.new ≡ table.declared types.old tag.items is_union) }
 {
-    if types.aggregate_count() >= 1 << 31 {
-        return Err(Memory);
-    }
+    has_room(types.aggregate_count())?;
     types.declare(tag, is_union)
 }
 
@@ -240,9 +236,7 @@ impl Env {
         ensures number { IfOk result (λ n. n ≡ length (seen.env self.old).functions) }
         ensures grown { OnOk result (seen.env self.new ≡ seen.with_function (seen.env self.old) name.now (seen.function_type ty)) }
     {
-        let Ok(number) = u32::try_from(self.functions.len()) else {
-            return Err(Memory);
-        };
+        let number = as_number(self.functions.len())?;
         let text = self.text(name)?;
         match self.functions.insert(text, ty) {
             Ok(_) => Ok(number),

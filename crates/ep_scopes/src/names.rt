@@ -16,11 +16,10 @@ ghost use Rattle.ep_scopes.specs.Seen as seen;
 use crate::env::{Env, add_type};
 use crate::scopes::Meaning;
 use crate::words::{built_in_type, integer_of, whole_word};
-use ep_ast::{Halt, TypeNameTree, TypeWordTree, words};
+use ep_ast::{Halt, RefusalKind, TypeNameTree, TypeWordTree, words};
 use ep_core::tree::Place;
 use ep_int::Memory;
-use ep_operands::kinds::{REDECLARED, UNKNOWN_NAME, refused};
-use ep_operands::{Callee, Operand, built_in};
+use ep_operands::{Callee, Operand, built_in, refused, with_stars};
 use ep_typing::{Base, CType};
 
 /// What a name stands for.
@@ -31,10 +30,10 @@ pub fn named(env: &Env, line: u32, name: &[u8]) -> Result<Operand, Halt>
     match env.scopes.get(name) {
         Some(Meaning::Variable(block, c)) => Ok(Operand::Place(Place::Block(block), c)),
         Some(Meaning::Function(number)) => Ok(Operand::Function(Callee::Declared(number))),
-        Some(Meaning::TypeName(_)) => Err(refused(UNKNOWN_NAME, line)),
+        Some(Meaning::TypeName(_)) => Err(refused(RefusalKind::UnknownName, line)),
         None => match built_in(name) {
             Some(operand) => Ok(operand),
-            None => Err(refused(UNKNOWN_NAME, line)),
+            None => Err(refused(RefusalKind::UnknownName, line)),
         },
     }
 }
@@ -44,15 +43,15 @@ fn meant_type(env: &Env, line: u32, name: &[u8]) -> Result<CType, Halt>
     ensures { Gives (λ c. c) (at line (rule.meant_type (look_up name.now (seen.env env.now).scopes) (entry name.now (rule.built_in_types (seen.env env.now).types.model)))) result }
 {
     match env.scopes.get(name) {
-        Some(Meaning::Variable(_, _)) => Err(refused(UNKNOWN_NAME, line)),
-        Some(Meaning::Function(_)) => Err(refused(UNKNOWN_NAME, line)),
+        Some(Meaning::Variable(_, _)) => Err(refused(RefusalKind::UnknownName, line)),
+        Some(Meaning::Function(_)) => Err(refused(RefusalKind::UnknownName, line)),
         Some(Meaning::TypeName(c)) => Ok(c),
         None => match built_in_type(env.types.model(), name) {
             Some(t) => Ok(CType {
                 base: Base::Int(t),
                 stars: 0,
             }),
-            None => Err(refused(UNKNOWN_NAME, line)),
+            None => Err(refused(RefusalKind::UnknownName, line)),
         },
     }
 }
@@ -79,9 +78,9 @@ fn meant_tag(env: &Env, line: u32, with_union: bool, tag: &[u8]) -> Result<CType
                     stars: 0,
                 });
             }
-            Err(refused(REDECLARED, line))
+            Err(refused(RefusalKind::Redeclared, line))
         }
-        None => Err(refused(UNKNOWN_NAME, line)),
+        None => Err(refused(RefusalKind::UnknownName, line)),
     }
 }
 
@@ -114,16 +113,8 @@ pub fn named_type(env: &Env, name: &TypeNameTree) -> Result<CType, Halt>
     ensures { Gives (λ c. c) (rule.named_type (seen.env env.now) (type_name name.now)) result }
 {
     let c = words_type(env, &name.specs)?;
-    let Ok(stars) = u32::try_from(name.stars.len()) else {
-        return Err(Halt::Memory);
-    };
-    match c.stars.checked_add(stars) {
-        Some(stars) => Ok(CType {
-            base: c.base,
-            stars,
-        }),
-        None => Err(Halt::Memory),
-    }
+    let c = with_stars(c, name.stars.len())?;
+    Ok(c)
 }
 
 // A tag that no scope has is declared where it is mentioned.

@@ -2,6 +2,11 @@
 use Rattle.std.proofs.Common.{◌≡◌, ℕ, suc, ◌+◌, ◌<◌, ◌≤◌, min, List, [], ◌∷◌, ◌++◌, map, length, drop, slice_get, Option, Some, None, Result, Ok, Err, refl, sym, ap, ◌∙◌, append_assoc, drop-cons, subst, arith}
 use Rattle.std.proofs.lemmas.List.{drop_all}
 use Rattle.std.proofs.lemmas.Option.{get_or_from_slice_get, slice_get_within}
+use Rattle.std.specs.Option.{option_map}
+use Rattle.std.specs.Prelude.{IfOk}
+use Rattle.ep_int.specs.declared.types.Memory.{Memory}
+use Rattle.ep_ast.specs.Kind.{number_of}
+use Rattle.ep_ast.specs.declared.kinds.RefusalKind.{RefusalKind}
 use Rattle.ep_ast.specs.declared.refusals.Refusal.{Refusal}
 use Rattle.ep_ast.specs.declared.refusals.Halt.{Halt}
 use Rattle.ep_ast.specs.declared.refusals.Halt.TheVariants as halts
@@ -43,6 +48,17 @@ one_wrong None done j (Ok es) = refl
 one_wrong None done j (Err k) = refl
 one_wrong (Some i) done j (Ok es) = refl
 one_wrong (Some i) done j (Err k) = ap (λ (n : ℕ). Err n) (min_three i j k)
+
+-- an argument that isn't passed
+pub stopped_so : (kind : Option ℕ) (done : List Expr) (l : ℕ) (r : Result Expr ℕ) (halt : Halt)
+    (out : Result (Option RefusalKind) Memory) → Stops (at l r) halt
+    → IfOk out (λ k. (f : Refusal) × (halt ≡ halts.Refused f) × (option_map number_of k ≡ Some (lower kind f.kind)))
+    → IfOk out (λ k. (rest : Result (List Expr) ℕ)
+    → after kind done (lowest r rest) ≡ after (option_map number_of k) done rest)
+stopped_so kind done l r halt (Ok k) s p = λ rest.
+    ap (λ (x : Result Expr ℕ). after kind done (lowest x rest)) (at_err l r p.0 (subst (Stops (at l r)) p.1 s))
+    ∙ one_wrong kind done p.0.kind rest ∙ sym (ap (λ (o : Option ℕ). after o done rest) p.2)
+stopped_so kind done l r halt (Err e) s p = tt
 
 -- ---- one step
 

@@ -11,12 +11,13 @@ use Rattle.ep_typing.specs.declared.types.Base.{Base}
 use Rattle.ep_typing.specs.declared.types.Base.TheVariants as bases
 use Rattle.ep_typing.specs.declared.types.CType.{CType}
 use Rattle.ep_typing.specs.Operand.{Operand, place, value, function, Value, Callee, loaded, value_of}
+use Rattle.ep_typing.specs.Operators.{operated}
 use Rattle.ep_typing.specs.Results.{◌>>=◌, at}
 use Rattle.ep_typing.specs.SameTypes.{same_types}
 use Rattle.ep_typing.specs.Types.{is_aggregate, is_aggregate_base, is_array, is_pointer, is_same, is_void, is_void_base}
 use Rattle.ep_typing.specs.Typing.{assignable, assigned, copied, moves_aggregate, not_stored, put, stored}
 use Rattle.ep_operands.specs.Gives.{Gives, Stops}
-use Rattle.ep_stores.specs.Stores.{put_to, simply}
+use Rattle.ep_stores.specs.Stores.{put_to, simply, updated_with}
 use Rattle.ep_stores.proofs.PassingLemmas.{at_ok}
 use Rattle.ep_operands.proofs.Sound.{both_true}
 
@@ -95,3 +96,18 @@ unfolding assignable
 no_function (place p c) f l h = no_function_by (is_void c || is_array c) p c f (at_ok l _ (function f) h)
 no_function (value v) f l h = cc
 no_function (function g) f l h = cc
+
+updated_is : (t : Table) (m : ℕ) (x y : Operand) (u v w : Value) → value_of t y ≡ Ok v → operated t m u v ≡ Ok w
+    → updated_with t m x u y ≡ assigned t x (value w)
+updated_is t m x y u v w h k =
+    ap (λ (r : Result Value ℕ). r >>= (λ v. operated t m u v >>= (λ w. assigned t x (value w)))) h
+    ∙ ap (λ (r : Result Value ℕ). r >>= (λ w. assigned t x (value w))) k
+
+pub updated_gives : (t : Table) (m : ℕ) (x y : Operand) (u v w : Value) (l : ℕ) (r : Result What Halt)
+    → at l (value_of t y) ≡ Ok v → at l (operated t m u v) ≡ Ok w
+    → Gives shown_what (at l (simply (assigned t x (value w)))) r
+    → Gives shown_what (at l (simply (updated_with t m x u y))) r
+updated_gives t m x y u v w l r h k g =
+    same_gives shown_what _ _ r
+    (ap (λ (s : Result core.Simple ℕ). at l (simply s))
+    (updated_is t m x y u v w (at_ok l (value_of t y) v h) (at_ok l (operated t m u v) w k))) g

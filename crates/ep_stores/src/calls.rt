@@ -1,7 +1,10 @@
 //! What calls are passed, and what they do.
 
-ghost use Rattle.std.specs.Prelude.{◌≡◌, ℕ, map, IfOk, List, Option, Result};
+ghost use Rattle.std.specs.Prelude.{◌≡◌, ℕ, map, IfOk, List, Option, Result, Some};
 ghost use Rattle.std.specs.Option.{option_map};
+ghost use Rattle.ep_ast.specs.Kind.{number_of};
+ghost use Rattle.ep_ast.specs.declared.refusals.Halt.TheVariants as halts;
+ghost use Rattle.ep_ast.specs.declared.refusals.Refusal.{Refusal};
 ghost use Rattle.ep_core.specs.Program as core;
 ghost use Rattle.ep_core.specs.View.{shown_expr, shown_what, shown_dest};
 ghost use Rattle.ep_typing.specs.Calls as rule;
@@ -10,11 +13,12 @@ ghost use Rattle.ep_operands.specs.Gives.{Gives};
 ghost use Rattle.ep_stores.specs.Passing.{after, lower};
 ghost use Rattle.ep_stores.specs.Seen as seen;
 
-use ep_ast::Halt;
+use ep_ast::{Halt, RefusalKind};
 use ep_core::tree::{Dest, Expr, What};
 use ep_int::{IntType, Memory};
-use ep_operands::kinds::{ARITY, LENGTH_NOT_CONSTANT, POINTER_TO_INTEGER, TYPE_MISMATCH, refused};
-use ep_operands::{Value, bare, count_of, fitted, int_type, is_pointer, is_scalar, void_type};
+use ep_operands::{
+    Value, bare, count_of, fitted, int_type, is_pointer, is_scalar, refused, void_type,
+};
 use ep_typing::CType;
 use std::alloc::Global;
 
@@ -48,7 +52,7 @@ fn as_any_pointer(line: u32, v: Value) -> Result<Expr, Halt>
     ensures { Gives shown_expr (at line (rule.as_any_pointer (seen.value v))) result }
 {
     if !is_scalar(v.ty) {
-        return Err(refused(TYPE_MISMATCH, line));
+        return Err(refused(RefusalKind::TypeMismatch, line));
     }
     if is_pointer(v.ty) {
         return Ok(bare(v));
@@ -56,21 +60,21 @@ fn as_any_pointer(line: u32, v: Value) -> Result<Expr, Halt>
     if v.is_null {
         return Ok(Expr::Null);
     }
-    Err(refused(POINTER_TO_INTEGER, line))
+    Err(refused(RefusalKind::PointerToInteger, line))
 }
 
 fn as_length(line: u32, v: Value) -> Result<Expr, Halt>
     ensures { Gives shown_expr (at line (rule.as_length (seen.value v))) result }
 {
     if !is_scalar(v.ty) {
-        return Err(refused(TYPE_MISMATCH, line));
+        return Err(refused(RefusalKind::TypeMismatch, line));
     }
     if is_pointer(v.ty) {
-        return Err(refused(POINTER_TO_INTEGER, line));
+        return Err(refused(RefusalKind::PointerToInteger, line));
     }
     match count_of(&v) {
         Some(_) => Ok(v.expr),
-        None => Err(refused(LENGTH_NOT_CONSTANT, line)),
+        None => Err(refused(RefusalKind::LengthNotConstant, line)),
     }
 }
 
@@ -86,12 +90,29 @@ fn passed(alloc: Global, line: u32, parameter: Parameter, v: Value) -> Result<Ex
     }
 }
 
-fn lower(kind: Option<u8>, other: u8) -> u8
-    ensures { result ≡ lower kind other }
+fn lower(kind: Option<RefusalKind>, other: RefusalKind) -> RefusalKind
+    ensures { number_of result ≡ lower (option_map number_of kind) (number_of other) }
 {
     match kind {
         None => other,
-        Some(k) => k.min(other),
+        Some(k) => {
+            if k.number() < other.number() {
+                k
+            } else {
+                other
+            }
+        }
+    }
+}
+
+// The lowest kind so far, where an argument isn't passed.
+fn stopped(kind: Option<RefusalKind>, halt: Halt) -> Result<Option<RefusalKind>, Memory>
+    ensures { IfOk result (λ k. (r : Refusal) × (halt ≡ halts.Refused r)
+        × (option_map number_of k ≡ Some (lower (option_map number_of kind) r.kind))) }
+{
+    match halt {
+        Halt::Refused(refusal) => Ok(Some(lower(kind, refusal.kind()))),
+        Halt::Memory => Err(Memory),
     }
 }
 
@@ -102,17 +123,19 @@ fn pass(
     parameter: Parameter,
     value: Value,
     arguments: &mut Vec<Expr>,
-    kind: Option<u8>,
-) -> Result<Option<u8>, Memory>
-    ensures { IfOk result (λ k. (rest : Result (List core.Expr) ℕ) → after kind (map shown_expr arguments.old.items) (lowest (rule.passed (seen.parameter parameter) (seen.value value)) rest) ≡ after k (map shown_expr arguments.new.items) rest) }
+    kind: Option<RefusalKind>,
+) -> Result<Option<RefusalKind>, Memory>
+    ensures { IfOk result (λ k. (rest : Result (List core.Expr) ℕ)
+        → after (option_map number_of kind) (map shown_expr arguments.old.items)
+        (lowest (rule.passed (seen.parameter parameter) (seen.value value)) rest)
+        ≡ after (option_map number_of k) (map shown_expr arguments.new.items) rest) }
 {
     match passed(alloc, line, parameter, value) {
         Ok(argument) => match arguments.push(argument) {
             Ok(()) => Ok(kind),
             Err(_) => Err(Memory),
         },
-        Err(Halt::Refused(refusal)) => Ok(Some(lower(kind, refusal.kind))),
-        Err(Halt::Memory) => Err(Memory),
+        Err(halt) => stopped(kind, halt),
     }
 }
 
@@ -133,12 +156,12 @@ pub fn all_passed(
             Some(parameter) => {
                 kind = pass(alloc, line, *parameter, value, &mut arguments, kind)?;
             }
-            None => return Err(refused(lower(kind, ARITY), line)),
+            None => return Err(refused(lower(kind, RefusalKind::Arity), line)),
         }
         place += 1;
     }
     if place < parameters.len() {
-        return Err(refused(lower(kind, ARITY), line));
+        return Err(refused(lower(kind, RefusalKind::Arity), line));
     }
     match kind {
         Some(k) => Err(refused(k, line)),

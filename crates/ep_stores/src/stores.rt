@@ -10,15 +10,12 @@ ghost use Rattle.ep_operands.specs.Gives.{Gives, Stops};
 ghost use Rattle.ep_operands.specs.Seen as seen;
 ghost use Rattle.ep_stores.specs.Stores.{put_to, simply, updated_with};
 
-use ep_ast::{Halt, marks};
+use ep_ast::{Halt, RefusalKind, marks};
 use ep_core::tree::{Dest, Expr, Place, What};
 use ep_layout::{Ty, Types};
-use ep_operands::kinds::{
-    INCOMPLETE_TYPE, NOT_AN_LVALUE, POINTER_TO_INTEGER, TYPE_MISMATCH, refused,
-};
 use ep_operands::{
     Operand, Value, are_scalars, fitted, is_aggregate, is_array, is_mixed, is_pointer, is_void,
-    known_number, number_of, scalar_of, size_of_type, value_of,
+    known_number, number_of, refused, scalar_of, size_of_type, value_of,
 };
 use ep_operators::operated;
 use ep_typing::CType;
@@ -32,12 +29,12 @@ fn assignable(line: u32, x: Operand) -> Result<Operand, Halt>
     match x {
         Operand::Place(place, c) => {
             if is_void(c) | is_array(c) {
-                return Err(refused(TYPE_MISMATCH, line));
+                return Err(refused(RefusalKind::TypeMismatch, line));
             }
             Ok(Operand::Place(place, c))
         }
         Operand::Value(v) => Ok(Operand::Value(v)),
-        Operand::Function(_) => Err(refused(TYPE_MISMATCH, line)),
+        Operand::Function(_) => Err(refused(RefusalKind::TypeMismatch, line)),
     }
 }
 
@@ -48,12 +45,12 @@ fn not_stored(line: u32, u: &Value, v: &Value) -> Halt
     ensures take { Stops (at line (rule.not_stored {A = core.Dest} (seen.value u.now) (seen.value v.now))) result }
 {
     if !are_scalars(u.ty, v.ty) {
-        return refused(TYPE_MISMATCH, line);
+        return refused(RefusalKind::TypeMismatch, line);
     }
     if is_mixed(u.ty, v) {
-        return refused(POINTER_TO_INTEGER, line);
+        return refused(RefusalKind::PointerToInteger, line);
     }
-    refused(NOT_AN_LVALUE, line)
+    refused(RefusalKind::NotAnLvalue, line)
 }
 
 // A scalar is stored as of its object's type.
@@ -67,7 +64,7 @@ fn stored(alloc: Global, line: u32, x: Operand, v: Value) -> Result<What, Halt>
             Ok(What::Assign(scalar_of(c), place, expr))
         }
         Operand::Value(u) => Err(not_stored(line, &u, &v)),
-        Operand::Function(_) => Err(refused(TYPE_MISMATCH, line)),
+        Operand::Function(_) => Err(refused(RefusalKind::TypeMismatch, line)),
     }
 }
 
@@ -81,7 +78,7 @@ fn copied(types: &Types, line: u32, c: CType, to: Place, from: Place) -> Result<
             let ty = known_number(types, Ty::Aggregate(number_of(c)));
             Ok(What::CopyAggregate(to, from, ty))
         }
-        None => Err(refused(INCOMPLETE_TYPE, line)),
+        None => Err(refused(RefusalKind::IncompleteType, line)),
     }
 }
 
@@ -111,7 +108,7 @@ fn put_there(
             stored(alloc, line, Operand::Place(to, c), v)
         }
         Operand::Value(v) => stored(alloc, line, Operand::Place(to, c), v),
-        Operand::Function(_) => Err(refused(TYPE_MISMATCH, line)),
+        Operand::Function(_) => Err(refused(RefusalKind::TypeMismatch, line)),
     }
 }
 
@@ -132,7 +129,7 @@ pub fn assigned(
             let v = value_of(alloc, types, line, y)?;
             Err(not_stored(line, &u, &v))
         }
-        Operand::Function(_) => Err(refused(TYPE_MISMATCH, line)),
+        Operand::Function(_) => Err(refused(RefusalKind::TypeMismatch, line)),
     }
 }
 
@@ -168,7 +165,7 @@ pub fn taken(alloc: Global, line: u32, x: Operand, result_type: CType) -> Result
             })
         }
         Operand::Value(u) => Err(not_stored(line, &u, &Value::unknown(Expr::Null, result_type))),
-        Operand::Function(_) => Err(refused(TYPE_MISMATCH, line)),
+        Operand::Function(_) => Err(refused(RefusalKind::TypeMismatch, line)),
     }
 }
 

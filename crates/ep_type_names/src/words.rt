@@ -1,6 +1,6 @@
 //! Reading the names of types.
 
-ghost use Rattle.std.specs.Prelude.{◌≡◌, ◌<◌, ◌≤◌, ◌^◌, length, map, IfOk, true};
+ghost use Rattle.std.specs.Prelude.{◌≡◌, ◌<◌, ◌≤◌, ◌^◌, length, map, Err, IfOk, true};
 ghost use Rattle.std.specs.Option.{option_map};
 ghost use Rattle.ep_ast.specs.Expression.{type_word};
 ghost use Rattle.ep_ast.specs.TypeWords as spec;
@@ -171,6 +171,21 @@ fn one_word<'a>(
     }
 }
 
+// A refusal of a first word stands; behind words it is that of the first token here.
+fn stopped_behind(reader: &Reader<'_>, words: &TypeBag, tokens: &[Token], halt: Halt) -> Halt
+    ensures { OneRead (is_type reader.now.names.now) (map view tokens.now) (Err halt)
+        → OneRead (is_type reader.now.names.now) (map view tokens.now) (Err result) }
+{
+    match halt {
+        Halt::Refused(_) => if words.is_empty() {
+            halt
+        } else {
+            Halt::Refused(reader.stopped(tokens))
+        },
+        Halt::Memory => halt,
+    }
+}
+
 /// The same behind words of these sorts. A `struct` or `union` that can't join them is the place of a refusal itself,
 /// also
 /// where its tag is missing.
@@ -184,12 +199,7 @@ pub fn next_word<'a>(
 {
     match one_word(reader, tokens) {
         Ok(word) => Ok(word),
-        Err(Halt::Memory) => Err(Halt::Memory),
-        Err(Halt::Refused(bare)) => if words.is_empty() {
-            Err(Halt::Refused(bare))
-        } else {
-            Err(Halt::Refused(reader.stopped(tokens)))
-        },
+        Err(halt) => Err(stopped_behind(reader, words, tokens, halt)),
     }
 }
 

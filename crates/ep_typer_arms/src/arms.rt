@@ -13,15 +13,12 @@ ghost use Rattle.ep_typer_functions.specs.Seen.{AreDone};
 
 use crate::alike::arms_agree;
 use crate::joining::all_joined;
-use ep_ast::{FunctionTree, Halt, NamedOrder};
+use ep_ast::{FunctionTree, Halt, NamedOrder, RefusalKind};
 use ep_defined::Defined;
-use ep_operands::kinds::refused;
+use ep_operands::refused;
 use ep_scopes::Env;
 use ep_typer_bodies::{Body, function_defined, function_typed};
 use ep_typer_functions::Done;
-
-/// Arms that don't define the same functions.
-const UNLIKE_ARMS: u8 = 38;
 
 // The functions of the first arm.
 fn functions_defined(
@@ -110,7 +107,7 @@ pub fn arms_defined(
 {
     let agree = arms_agree(env, done, first, second)?;
     if !agree {
-        return Err(refused(UNLIKE_ARMS, line));
+        return Err(refused(RefusalKind::ConditionalArms, line));
     }
     let defined = first_defined(env, done, first)?;
     let bodies = others_typed(env, done, &defined, second)?;

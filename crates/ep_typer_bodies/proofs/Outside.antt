@@ -4,11 +4,16 @@ use Rattle.std.proofs.Common.{unwrap_or, Option, Some, None, Result, Ok, Err, re
 use Rattle.std.proofs.Math.Dec.{eqb-suc-suc}
 use Rattle.std.proofs.lemmas.Bool.{ne_eqb}
 use Rattle.ep_int.specs.Memory.{contains}
+use Rattle.ep_ast.specs.Declaration.{Head}
+use Rattle.ep_ast.specs.declared.refusals.Refusal.{Refusal}
+use Rattle.ep_ast.specs.declared.refusals.Halt.{Halt}
+use Rattle.ep_ast.specs.declared.refusals.Halt.TheVariants as halts
 use Rattle.ep_layout.specs.Table.{Table}
 use Rattle.ep_typing.specs.declared.types.CType.{CType}
 use Rattle.ep_typing.specs.Env.{Env, Meaning, Scope, Signature, entry}
-use Rattle.ep_typing.specs.Results.{at}
-use Rattle.ep_elaboration.specs.Functions.{blocks_if, body_env, file_names, fits_main, function_declared}
+use Rattle.ep_typing.specs.Results.{◌>>=◌, at}
+use Rattle.ep_operands.specs.Gives.{Stops}
+use Rattle.ep_elaboration.specs.Functions.{Headed, blocks_if, body_env, file_names, fits_main, function_declared}
 use Rattle.ep_elaboration.specs.Functions.{named_function, number_of_function, numbered_function, stands_against}
 use Rattle.ep_elaboration.specs.Statements.{left, outer}
 use Rattle.ep_scopes.specs.Known.{AreKnownNames, AreKnownScopes, AreKnownTags, IsKnownEnv}
@@ -16,6 +21,7 @@ use Rattle.ep_scopes.specs.Seen as seen
 use Rattle.ep_scopes.proofs.KnownLemmas.{at_ok}
 use Rattle.ep_typer_functions.specs.declared.done.Done.{Done}
 use Rattle.ep_typer_functions.specs.Seen.{AreDone}
+use Rattle.ep_typer_bodies.specs.Seen.{named_outside}
 
 -- ---- marks as numbers
 
@@ -113,3 +119,19 @@ outside_known G L D K P own ds l n s sg cs g e h d k known p =
     subst (λ (t : Table). AreKnownTags t s.tags) (sym same)
     (subst (λ (u : Scope). AreKnownTags G.types u.tags) (sym e) inner.1) in
     subst IsKnownEnv (sym p) (names, (tags, known))
+
+-- ---- a function that is refused
+
+then_stops : {A B : Type 0} (r : Result A Refusal) (f : A → Result B Refusal) (e : Halt) → Stops r e → Stops (r >>= f) e
+then_stops r f halts.Memory h = tt
+then_stops (Ok x) f (halts.Refused k) h = absurd cc
+then_stops (Err j) f (halts.Refused k) h = let same : j ≡ k = cc in ap (λ (q : Refusal). Err q) same
+
+pub outside_stops : (G L : Env) (own : Bool) (ds : List ℕ) (h : Head) (r : Headed) (name : List ℕ) (e : Halt) → name ≡ h.name
+    → L ≡ left G
+    → Stops (at h.line (function_declared L ds true (record { name = name; params = r.params; result = r.result }))) e
+    → Stops (named_outside G own ds h r) e
+outside_stops G L own ds h r name e n l s =
+    then_stops (at h.line (function_declared (left G) ds true (record { name = h.name; params = r.params; result = r.result }))) _ e
+    (subst (λ (m : List ℕ). Stops (at h.line (function_declared (left G) ds true (record { name = m; params = r.params; result = r.result }))) e) n
+    (subst (λ (E : Env). Stops (at h.line (function_declared E ds true (record { name = name; params = r.params; result = r.result }))) e) l s))

@@ -1,6 +1,6 @@
 //! Functions by their names.
 
-ghost use Rattle.std.specs.Prelude.{◌≡◌, IfOk};
+ghost use Rattle.std.specs.Prelude.{◌≡◌, ◌≤◌, ◌^◌, IfErr, IfOk};
 ghost use Rattle.ep_elaboration.specs.Programs.{function_number};
 ghost use Rattle.ep_scopes.specs.Seen.{env as around};
 
@@ -9,7 +9,8 @@ use std::alloc::AllocError;
 
 /// The number of a function, or 0 where there is none of this name.
 pub(crate) fn number(env: &Env, name: &[u8]) -> Result<u32, AllocError>
-    ensures { IfOk result (λ n. n ≡ function_number (around env.now).functions name.now) }
+    ensures means { IfOk result (λ n. n ≡ function_number (around env.now).functions name.now) }
+    ensures full { IfErr result (λ _. 2 ^ 32 ≤ function_number (around env.now).functions name.now) }
 {
     match env.function_number(name) {
         None => Ok(0),

@@ -1,6 +1,6 @@
 //! Statements, each without those in it.
 
-ghost use Rattle.std.specs.Prelude.{◌≡◌, ℕ, List, suc, [], ◌∷◌, map, IfOk, OnOk};
+ghost use Rattle.std.specs.Prelude.{◌≡◌, ◌≤◌, ◌^◌, ℕ, List, suc, [], ◌∷◌, map, IfErr, IfOk, OnOk};
 ghost use Rattle.std.specs.Option.{option_map};
 ghost use Rattle.ep_ast.specs.Declaration.{init_of, value_of};
 ghost use Rattle.ep_ast.specs.Expression.{expr};
@@ -180,7 +180,8 @@ pub(crate) fn first(
 
 /// One more depth than this.
 pub(crate) fn inside(round: u32) -> Result<u32, AllocError>
-    ensures { IfOk result (λ depth. depth ≡ suc round) }
+    ensures means { IfOk result (λ depth. depth ≡ suc round) }
+    ensures full { IfErr result (λ _. 2 ^ 32 ≤ suc round) }
 {
     round.checked_add(1).ok_or(AllocError)
 }

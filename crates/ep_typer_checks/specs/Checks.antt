@@ -1,5 +1,6 @@
 -- What the checks of a whole program answer, and its parts in code as those of the definition.
 use Rattle.std.specs.Prelude.{ℕ, Bool, true, false, not, ◌||◌, ◌==◌, List, Option, slice_index, slice_index_or, Result, Ok}
+use Rattle.ep_ast.specs.Kind as kinds
 use Rattle.ep_ast.specs.declared.refusals.Refusal.{Refusal}
 use Rattle.ep_typing.specs.Results.{◌>>=◌, at, needed}
 use Rattle.ep_elaboration.specs.Functions.{Defined}
@@ -16,7 +17,7 @@ main m = (m.number, m.line)
 
 -- the number and the line of main, or 36
 abbrev pub main_in : Option Defined → Result (ℕ × ℕ) Refusal
-main_in o = at 1 (needed 36 o) >>= (λ d. Ok (d.number, d.function.line))
+main_in o = at 1 (needed kinds.no_main o) >>= (λ d. Ok (d.number, d.function.line))
 
 -- of what the checks answer, the number of main
 abbrev pub number_in : Result Defined Refusal → Result ℕ Refusal

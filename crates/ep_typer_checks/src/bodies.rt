@@ -11,12 +11,11 @@ ghost use Rattle.ep_elaboration.specs.Programs as rule;
 ghost use Rattle.ep_operands.specs.Gives.{Gives};
 ghost use Rattle.ep_typer_checks.specs.Checks as checks;
 
-use crate::kinds::{NO_BODY, NO_MAIN};
-use ep_ast::Halt;
+use ep_ast::{Halt, RefusalKind};
 use ep_call_graph::Place;
 use ep_call_order::flags;
 use ep_defined::Defined;
-use ep_operands::kinds::refused;
+use ep_operands::refused;
 use std::alloc::{AllocError, Global};
 
 /// The number of main, and the line of its name.
@@ -44,7 +43,7 @@ pub(crate) fn main_of(defined: &[Defined]) -> Result<Main, Halt>
             });
         }
     }
-    Err(refused(NO_MAIN, 1))
+    Err(refused(RefusalKind::NoMain, 1))
 }
 
 /// The numbers of functions with a body, in their order.
@@ -85,7 +84,7 @@ fn each_has(flags: &[bool], places: &[Place]) -> Result<(), Halt>
     for place in places {
         if let Some(callee) = place.callee {
             if !has(flags, callee) {
-                return Err(refused(NO_BODY, place.line));
+                return Err(refused(RefusalKind::NoDefinition, place.line));
             }
         }
     }

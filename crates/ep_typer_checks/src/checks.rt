@@ -16,12 +16,11 @@ ghost use Rattle.ep_typer_checks.specs.Placed.{AreOnce};
 use crate::bodies::{all_have_bodies, main_of, numbers_of};
 use crate::cycles::none_recurs;
 use crate::depths::in_order;
-use crate::kinds::TOO_LARGE;
-use ep_ast::Halt;
+use ep_ast::{Halt, RefusalKind};
 use ep_call_graph::Place;
 use ep_core::program::BlockInfo;
 use ep_defined::Sofar;
-use ep_operands::kinds::refused;
+use ep_operands::refused;
 use ep_scopes::Env;
 use std::alloc::Global;
 
@@ -44,7 +43,7 @@ fn all_fit(blocks: &[BlockInfo]) -> Result<(), Halt>
     let mut left: u32 = 65_536;
     for block in blocks {
         if block.size > left {
-            return Err(refused(TOO_LARGE, 1));
+            return Err(refused(RefusalKind::TooLarge, 1));
         }
         left -= block.size;
     }

@@ -8,10 +8,9 @@ ghost use Rattle.ep_elaboration.specs.Programs as rule;
 ghost use Rattle.ep_operands.specs.Gives.{Gives};
 ghost use Rattle.ep_typer_checks.specs.Checks as checks;
 
-use crate::kinds::RECURSION;
-use ep_ast::Halt;
+use ep_ast::{Halt, RefusalKind};
 use ep_call_graph::{Place, callees, labels};
-use ep_operands::kinds::refused;
+use ep_operands::refused;
 use std::alloc::Global;
 
 fn label(labels: &[u32], f: u32) -> u32
@@ -36,7 +35,7 @@ fn none_closes(labels: &[u32], main: u32, places: &[Place]) -> Result<(), Halt>
     for place in places {
         if let Some(callee) = place.callee {
             if closes(labels, main, place.caller, callee) {
-                return Err(refused(RECURSION, place.line));
+                return Err(refused(RefusalKind::Recursion, place.line));
             }
         }
     }

@@ -12,11 +12,10 @@ ghost use Rattle.ep_typer_checks.specs.Checks as checks;
 ghost use Rattle.ep_typer_checks.specs.Placed.{AreOnce};
 
 use crate::bodies::Main;
-use crate::kinds::TOO_DEEP;
-use ep_ast::Halt;
+use ep_ast::{Halt, RefusalKind};
 use ep_call_graph::Place;
 use ep_call_order::{depths, functions_in_order};
-use ep_operands::kinds::refused;
+use ep_operands::refused;
 use std::alloc::Global;
 
 fn depth(depths: &[u64], f: u32) -> u64
@@ -32,7 +31,7 @@ fn not_too_deep(depth: u64, line: u32) -> Result<(), Halt>
     ensures { Gives checks.passed (at line (rule.not_too_deep depth)) result }
 {
     if depth > 256 {
-        return Err(refused(TOO_DEEP, line));
+        return Err(refused(RefusalKind::CallDepth, line));
     }
     Ok(())
 }

@@ -5,7 +5,6 @@ mod bodies;
 mod checks;
 mod cycles;
 mod depths;
-pub mod kinds;
 mod order;
 mod renumbered;
 

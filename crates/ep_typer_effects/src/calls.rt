@@ -13,11 +13,10 @@ ghost use Rattle.ep_operands.specs.Gives.{Gives};
 ghost use Rattle.ep_stores.specs.Seen as seen;
 ghost use Rattle.ep_scopes.specs.Seen.{env as around};
 
-use ep_ast::{ExprTree, Halt};
+use ep_ast::{ExprTree, Halt, RefusalKind};
 use ep_core::tree::Expr;
 use ep_int::{IntType, Memory};
-use ep_operands::kinds::{TYPE_MISMATCH, refused};
-use ep_operands::{Callee, Operand, Value, int_type, void_type};
+use ep_operands::{Callee, Operand, Value, int_type, refused, void_type};
 use ep_scopes::Env;
 use ep_stores::{Action, Called, Parameter, all_passed, length_at};
 use ep_typer_exprs::{typed, typed_all};
@@ -190,8 +189,8 @@ fn called(env: &Env, line: u32, x: Operand, values: Vec<Value>) -> Result<Called
         (at line (rule.called (around env.now) (seen.operand x) (map seen.value values.items))) result }
 {
     match x {
-        Operand::Place(_, _) => Err(refused(TYPE_MISMATCH, line)),
-        Operand::Value(_) => Err(refused(TYPE_MISMATCH, line)),
+        Operand::Place(_, _) => Err(refused(RefusalKind::TypeMismatch, line)),
+        Operand::Value(_) => Err(refused(RefusalKind::TypeMismatch, line)),
         Operand::Function(callee) => function_called(env, line, callee, values),
     }
 }

@@ -14,9 +14,8 @@ use crate::nodes::{
     cast_to, chosen_from, indexed_by, joined, read_first, selected_behind, size_of, size_of_type,
     valued,
 };
-use ep_ast::{ExprTree, Halt};
-use ep_operands::kinds::{ASSIGNMENT_IN_EXPRESSION, CALL_IN_EXPRESSION, refused};
-use ep_operands::{Operand, Value, numbered};
+use ep_ast::{ExprTree, Halt, RefusalKind};
+use ep_operands::{Operand, Value, numbered, refused};
 use ep_places::{indexable, selected, unary_typed};
 use ep_scopes::{Env, named, named_type};
 
@@ -30,7 +29,7 @@ pub fn typed(env: &Env, tree: &ExprTree) -> Result<Operand, Halt>
         ExprTree::Assign(line, mark, a, b) => {
             read_first(env, *line, *mark, typed(env, a)?)?;
             typed(env, b)?;
-            Err(refused(ASSIGNMENT_IN_EXPRESSION, *line))
+            Err(refused(RefusalKind::AssignmentInExpression, *line))
         }
         ExprTree::Conditional(line, test, a, b) => {
             let test = valued(env, *line, typed(env, test)?)?;
@@ -58,7 +57,7 @@ pub fn typed(env: &Env, tree: &ExprTree) -> Result<Operand, Halt>
         ExprTree::Call(line, f, list) => {
             typed(env, f)?;
             typed_all(env, *line, list)?;
-            Err(refused(CALL_IN_EXPRESSION, *line))
+            Err(refused(RefusalKind::CallInExpression, *line))
         }
         ExprTree::Member(line, a, name) => {
             selected(env.alloc, &env.types, *line, typed(env, a)?, name)
@@ -78,7 +77,7 @@ fn stepped(env: &Env, line: u32, a: &ExprTree) -> Result<Operand, Halt>
     ensures { Gives seen.operand (rule.typed (around env.now) (source.post_increment line (source.expr a.now))) result }
 {
     typed(env, a)?;
-    Err(refused(ASSIGNMENT_IN_EXPRESSION, line))
+    Err(refused(RefusalKind::AssignmentInExpression, line))
 }
 
 /// The values of a call's arguments.

@@ -1,3 +1,4 @@
+pub mod NotPassed
 pub mod ParamLemmas
 pub mod SignatureLemmas
 pub mod Taken

@@ -1,6 +1,7 @@
 -- What the code keeps of functions, seen as what the definitions speak of.
 use Rattle.std.specs.Prelude.{◌≡◌, ℕ, Bool, false, if◌then◌else◌, List, Option, Some, None, Result, Ok, Err, slice_get, unwrap_or}
 use Rattle.std.specs.Global.{Vec}
+use Rattle.ep_ast.specs.Kind as kinds
 use Rattle.ep_int.specs.Memory.{contains}
 use Rattle.ep_layout.specs.Table.{Table}
 use Rattle.ep_typing.specs.declared.types.CType.{CType}
@@ -27,9 +28,10 @@ counts_of (Some v) = Some v.items
 abbrev pub adjusted : Table → CType → CType
 adjusted t c = if is_array c then pointer_to (element_of t c) else c
 
--- 33: void. 43: an aggregate.
+-- incomplete_type: void. struct_by_value: an aggregate.
 abbrev pub passable_type : CType → Result CType ℕ
-passable_type c = if is_void c then Err 33 else if is_aggregate c then Err 43 else Ok c
+passable_type c =
+    if is_void c then Err kinds.incomplete_type else if is_aggregate c then Err kinds.struct_by_value else Ok c
 
 -- ---- heads
 

@@ -1,6 +1,6 @@
 //! Heads of functions.
 
-ghost use Rattle.std.specs.Prelude.{◌≡◌, map, IfOk, OnOk};
+ghost use Rattle.std.specs.Prelude.{◌≡◌, ◌≤◌, ◌^◌, map, IfErr, IfOk, OnOk};
 ghost use Rattle.std.specs.Option.{option_map};
 ghost use Rattle.ep_ast.specs.Declaration as shape;
 ghost use Rattle.ep_typing.specs.Results.{at};
@@ -14,13 +14,11 @@ ghost use Rattle.ep_scopes.specs.Known.{IsKnown, IsKnownEnv};
 ghost use Rattle.ep_scopes.specs.Seen.{env as around};
 ghost use Rattle.ep_typer_functions.specs.Seen as seen;
 
-use crate::kinds::NOT_PASSED;
-use crate::params::{add, params_declared, with_stars};
-use ep_ast::{Halt, HeadTree, ParamTree, ParamsTree};
+use crate::params::{add, params_declared, starred};
+use ep_ast::{Halt, HeadTree, ParamTree, ParamsTree, RefusalKind};
 use ep_declared::specs_declared;
 use ep_int::Memory;
-use ep_operands::kinds::refused;
-use ep_operands::{is_aggregate, is_array, is_void};
+use ep_operands::{is_aggregate, is_array, is_void, one_behind, refused};
 use ep_scopes::{Env, FunctionType};
 use ep_typing::CType;
 
@@ -28,10 +26,10 @@ fn given_back(line: u32, c: CType) -> Result<CType, Halt>
     ensures { Gives (λ d. d) (at line (rule.given_back c)) result }
 {
     if is_aggregate(c) {
-        return Err(refused(NOT_PASSED, line));
+        return Err(refused(RefusalKind::StructByValue, line));
     }
     if is_array(c) {
-        return Err(refused(NOT_PASSED, line));
+        return Err(refused(RefusalKind::StructByValue, line));
     }
     Ok(c)
 }
@@ -51,15 +49,13 @@ pub fn params_of(params: &Option<ParamsTree>) -> &[ParamTree]
 
 /// The block of the first parameter behind that of the result, if there is one.
 pub fn behind_result(block: u32, c: CType) -> Result<u32, Memory>
-    ensures { IfOk result (λ n. n ≡ rule.behind_result block c) }
+    ensures means { IfOk result (λ n. n ≡ rule.behind_result block c) }
+    ensures full { IfErr result (λ _. 2 ^ 32 ≤ rule.behind_result block c) }
 {
     if is_void(c) {
         return Ok(block);
     }
-    match block.checked_add(1) {
-        Some(next) => Ok(next),
-        None => Err(Memory),
-    }
+    one_behind(block)
 }
 
 fn with_type(env: &mut Env, c: CType) -> Result<(), Memory>
@@ -91,7 +87,7 @@ pub fn headed(env: &mut Env, block: u32, head: &HeadTree) -> Result<FunctionType
     ensures known { OnOk result (IsKnownEnv (around env.new)) }
 {
     let c = specs_declared(env, &head.specs)?;
-    let c = with_stars(c, &head.stars)?;
+    let c = starred(c, &head.stars)?;
     let r = given_back(head.line, c)?;
     with_type(env, r)?;
     enter(env)?;

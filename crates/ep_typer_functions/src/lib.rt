@@ -3,7 +3,6 @@
 
 mod done;
 mod heads;
-mod kinds;
 mod names;
 mod params;
 

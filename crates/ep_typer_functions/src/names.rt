@@ -12,11 +12,10 @@ ghost use Rattle.ep_typer_functions.specs.Seen as seen;
 ghost use Rattle.ep_typer_functions.specs.Seen.{AreDone};
 
 use crate::done::Done;
-use ep_ast::Halt;
+use ep_ast::{Halt, RefusalKind};
 use ep_declared::{declare_name, is_taken};
 use ep_int::{IntType, Memory};
-use ep_operands::kinds::{REDECLARED, TYPE_MISMATCH, refused};
-use ep_operands::{int_type, void_type};
+use ep_operands::{int_type, refused, void_type};
 use ep_scopes::{Env, FunctionType, Meaning};
 use ep_typing::CType;
 
@@ -121,10 +120,10 @@ pub fn function_declared(
     ensures known { OnOk result (IsKnownEnv (around env.new)) }
 {
     if stands_against(env, done, with_body, name, ty) {
-        return Err(refused(REDECLARED, line));
+        return Err(refused(RefusalKind::Redeclared, line));
     }
     if !fits_main(name, ty) {
-        return Err(refused(TYPE_MISMATCH, line));
+        return Err(refused(RefusalKind::TypeMismatch, line));
     }
     match env.scopes.name_here(name) {
         Some(_) => {
@@ -134,7 +133,7 @@ pub fn function_declared(
         None => {
             // (what is no name of this scope is a built-in one, which was refused)
             if is_taken(env, name) {
-                return Err(refused(REDECLARED, line));
+                return Err(refused(RefusalKind::Redeclared, line));
             }
             let n = numbered(env, name, ty)?;
             declare_name(env, name, Meaning::Function(n))?;

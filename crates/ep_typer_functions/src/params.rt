@@ -1,6 +1,6 @@
 //! Parameters of functions.
 
-ghost use Rattle.std.specs.Prelude.{◌≡◌, map, IfErr, IfOk, IsFalse, OnOk, length};
+ghost use Rattle.std.specs.Prelude.{◌≡◌, ◌+◌, ◌≤◌, ◌^◌, map, IfErr, IfOk, IsFalse, OnOk, length};
 ghost use Rattle.ep_ast.specs.declared.refusals.Halt.TheVariants as halts;
 ghost use Rattle.std.specs.Option.{option_map};
 ghost use Rattle.ep_ast.specs.Declaration.{param_of, text_of};
@@ -15,13 +15,13 @@ ghost use Rattle.ep_scopes.specs.Seen.{env as around};
 ghost use Rattle.ep_typing.specs.Types as types_of;
 ghost use Rattle.ep_typer_functions.specs.Seen.{adjusted, counts_of, passable_type};
 
-use crate::kinds::NOT_PASSED;
-use ep_ast::{ExprTree, Halt, ParamTree};
+use ep_ast::{ExprTree, Halt, ParamTree, RefusalKind};
 use ep_declared::{arrays_of, bound, bounds, declare_name, is_taken, words_declared};
 use ep_int::Memory;
 use ep_layout::Types;
-use ep_operands::kinds::{INCOMPLETE_TYPE, REDECLARED, refused};
-use ep_operands::{element_of, is_aggregate, is_array, is_void, pointer_to};
+use ep_operands::{
+    element_of, is_aggregate, is_array, is_void, one_behind, pointer_to, refused, with_stars,
+};
 use ep_scopes::{Env, Meaning, add_type};
 use ep_typing::CType;
 
@@ -113,10 +113,10 @@ fn passable(line: u32, c: CType) -> Result<CType, Halt>
     ensures { Gives (λ d. d) (at line (passable_type c)) result }
 {
     if is_void(c) {
-        return Err(refused(INCOMPLETE_TYPE, line));
+        return Err(refused(RefusalKind::IncompleteType, line));
     }
     if is_aggregate(c) {
-        return Err(refused(NOT_PASSED, line));
+        return Err(refused(RefusalKind::StructByValue, line));
     }
     Ok(c)
 }
@@ -159,7 +159,7 @@ fn with_param(
     ensures known { OnOk result (IsKnownEnv (around env.new)) }
 {
     if is_name_taken(env, &tree.name) {
-        return Err(refused(REDECLARED, tree.line));
+        return Err(refused(RefusalKind::Redeclared, tree.line));
     }
     let d = param_type(&mut env.types, tree.line, c, counts)?;
     passable(tree.line, d)?;
@@ -167,19 +167,12 @@ fn with_param(
     Ok(d)
 }
 
-pub(crate) fn with_stars(c: CType, stars: &[u32]) -> Result<CType, Memory>
-    ensures { IfOk result (λ d. d ≡ types_of.with_stars c (length stars.now)) }
+// A pointer for each star.
+pub(crate) fn starred(c: CType, stars: &[u32]) -> Result<CType, Memory>
+    ensures means { IfOk result (λ d. d ≡ types_of.with_stars c (length stars.now)) }
+    ensures full { IfErr result (λ _. 2 ^ 32 ≤ c.stars + length stars.now) }
 {
-    let Ok(more) = u32::try_from(stars.len()) else {
-        return Err(Memory);
-    };
-    match c.stars.checked_add(more) {
-        Some(stars) => Ok(CType {
-            base: c.base,
-            stars,
-        }),
-        None => Err(Memory),
-    }
+    with_stars(c, stars.len())
 }
 
 #[tactic(auto, unfolding(ep_elaboration::specs::Functions::param_declared))]
@@ -190,7 +183,7 @@ fn param_declared(env: &mut Env, block: u32, tree: &ParamTree) -> Result<CType, 
 {
     let c = words_declared(env, &tree.specs)?;
     let counts = param_bounds(env, tree.line, &tree.bounds)?;
-    let c = with_stars(c, &tree.stars)?;
+    let c = starred(c, &tree.stars)?;
     let d = with_param(env, block, tree, c, &counts)?;
     Ok(d)
 }
@@ -212,10 +205,7 @@ pub(crate) fn params_declared(
     for tree in list {
         let c = param_declared(env, block, tree)?;
         all.push(c)?;
-        match block.checked_add(1) {
-            Some(next) => block = next,
-            None => return Err(Halt::Memory),
-        }
+        block = one_behind(block)?;
     }
     Ok(all)
 }

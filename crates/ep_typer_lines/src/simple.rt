@@ -16,20 +16,16 @@ ghost use Rattle.ep_typer_lines.specs.Seen.{lines as seen_lines};
 
 use crate::nodes::one_line;
 use crate::scoping::enter;
-use ep_ast::{ExprTree, Halt};
+use ep_ast::{ExprTree, Halt, RefusalKind};
 use ep_core::tree::{Expr, Stmt, What};
 use ep_int::IntType;
 use ep_layout::Types;
-use ep_operands::kinds::{TYPE_MISMATCH, refused};
-use ep_operands::{Operand, fitted, is_void, value_of};
+use ep_operands::{Operand, fitted, is_void, refused, value_of};
 use ep_scopes::Env;
 use ep_typer_effects::{test, whole_statement};
 use ep_typer_exprs::{mention, typed};
 use ep_typing::CType;
 use std::alloc::Global;
-
-/// A jump that stands in no loop.
-const JUMP_OUTSIDE_LOOP: u8 = 47;
 
 /// The test of an `if` or a loop.
 #[tactic(auto, unfolding(ep_elaboration::specs::Statements::tested_in))]
@@ -110,7 +106,7 @@ pub fn jump(alloc: Global, in_loop: bool, line: u32, what: What) -> Result<Vec<S
         let lines = one_line(alloc, line, what)?;
         return Ok(lines);
     }
-    Err(refused(JUMP_OUTSIDE_LOOP, line))
+    Err(refused(RefusalKind::StrayJump, line))
 }
 
 #[tactic(auto, unfolding(ep_elaboration::specs::Statements::nothing_returned))]
@@ -120,7 +116,7 @@ fn nothing_returned(line: u32, result_type: CType) -> Result<What, Halt>
     if is_void(result_type) {
         return Ok(What::Return(None));
     }
-    Err(refused(TYPE_MISMATCH, line))
+    Err(refused(RefusalKind::TypeMismatch, line))
 }
 
 fn value_returned(
@@ -148,7 +144,7 @@ fn operand_returned(
     ensures { Gives shown_what (at line (rule.operand_returned types.now result_type (operands.operand x))) result }
 {
     if is_void(result_type) {
-        return Err(refused(TYPE_MISMATCH, line));
+        return Err(refused(RefusalKind::TypeMismatch, line));
     }
     value_returned(alloc, types, line, result_type, x)
 }

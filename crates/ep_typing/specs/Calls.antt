@@ -1,6 +1,7 @@
 -- Calls of functions and of the built-in ones, with their kinds in order: C11 6.5.2.2, and this project's inputs and
 -- outputs.
 use Rattle.std.specs.Prelude.{ℕ, not, if◌then◌else◌, List, [], ◌∷◌, map, slice_get, slice_index_or, Option, unwrap_or, option_map, option_and_then, Result, Ok, Err}
+use Rattle.ep_ast.specs.Kind as kinds
 use Rattle.ep_int.specs.declared.types.IntType.{IntType}
 use Rattle.ep_int.specs.declared.types.IntType.TheVariants.{U8}
 use Rattle.ep_core.specs.Program as core
@@ -18,31 +19,32 @@ pub data Parameter : Type 0 where
   any_pointer : Parameter
   a_length : Parameter
 
--- 32 and 34: no pointer; null is one of any type. It isn't converted (this project's rule).
+-- type_mismatch and pointer_to_integer: no pointer; null is one of any type. It isn't converted (this project's rule).
 abbrev pub as_any_pointer : Value → Result core.Expr ℕ
 as_any_pointer v =
-    if not (is_scalar v.ty) then Err 32
+    if not (is_scalar v.ty) then Err kinds.type_mismatch
     else if is_pointer v.ty then Ok (bare v)
     else if v.is_null then Ok core.null_value
-    else Err 34
+    else Err kinds.pointer_to_integer
 
--- 32 and 34: no integer. 42: not a constant from 1 to 65,536 (this project's rule).
+-- type_mismatch and pointer_to_integer: no integer. length_not_constant: not a constant from 1 to 65,536 (this
+-- project's rule).
 abbrev pub as_length : Value → Result core.Expr ℕ
 as_length v =
-    if not (is_scalar v.ty) then Err 32
-    else if is_pointer v.ty then Err 34
-    else needed 42 (option_map (λ n. v.expr) (count_of v))
+    if not (is_scalar v.ty) then Err kinds.type_mismatch
+    else if is_pointer v.ty then Err kinds.pointer_to_integer
+    else needed kinds.length_not_constant (option_map (λ n. v.expr) (count_of v))
 
 unfoldable pub passed : Parameter → Value → Result core.Expr ℕ
 passed (of_type c) v = fitted c v
 passed any_pointer v = as_any_pointer v
 passed a_length v = as_length v
 
--- An argument for each parameter, else 39 (C11 6.5.2.2p2); of all that is wrong the lowest kind.
+-- An argument for each parameter, else arity (C11 6.5.2.2p2); of all that is wrong the lowest kind.
 unfoldable pub all_passed : List Parameter → List Value → Result (List core.Expr) ℕ
 all_passed [] [] = Ok []
-all_passed [] (v ∷ vs) = Err 39
-all_passed (p ∷ ps) [] = Err 39
+all_passed [] (v ∷ vs) = Err kinds.arity
+all_passed (p ∷ ps) [] = Err kinds.arity
 all_passed (p ∷ ps) (v ∷ vs) = lowest (passed p v) (all_passed ps vs)
 
 abbrev pub signature : Env → ℕ → Signature
@@ -80,10 +82,10 @@ done_by G fill_bytes vs es = an_action (core.fill (argument es 0) (argument es 1
 done_by G read_bytes vs es = an_action (core.read_bytes (argument es 0) (length_at vs 1))
 done_by G write_bytes vs es = an_action (core.write_bytes (argument es 0) (length_at vs 1))
 
--- 32: what is called is no function (C11 6.5.2.2p1)
+-- type_mismatch: what is called is no function (C11 6.5.2.2p1)
 unfoldable pub called : Env → Operand → List Value → Result Called ℕ
-called G (place p c) vs = Err 32
-called G (value v) vs = Err 32
+called G (place p c) vs = Err kinds.type_mismatch
+called G (value v) vs = Err kinds.type_mismatch
 called G (function f) vs = do
   es ← all_passed (parameters G f) vs
   Ok (done_by G f vs es)

@@ -1,6 +1,7 @@
 -- Type words and type names: C11 6.7.2, 6.7.2.3 and 6.7.7.
 use Rattle.std.specs.Prelude.{ℕ, ◌==◌, Bool, true, false, if◌then◌else◌, List, [], ◌∷◌, length, find, Option, Some, None, codes, Result, Ok, Err}
 use Rattle.std.specs.List.{list_any}
+use Rattle.ep_ast.specs.Kind as kinds
 use Rattle.ep_int.specs.declared.types.IntType.{IntType}
 use Rattle.ep_int.specs.declared.types.IntType.TheVariants.{I8, U8, I16, U16, I32, U32, I64, U64}
 use Rattle.ep_int.specs.declared.types.Model.{Model}
@@ -51,16 +52,17 @@ integer_of m ws =
 
 -- the type of a typedef name; a typedef has to come before its uses (C11 6.7.8)
 abbrev pub meant_type : Option Meaning → Option IntType → Result CType ℕ
-meant_type (Some (variable b c)) o = Err 30
-meant_type (Some (function n)) o = Err 30
+meant_type (Some (variable b c)) o = Err kinds.unknown_name
+meant_type (Some (function n)) o = Err kinds.unknown_name
 meant_type (Some (type_name c)) o = Ok c
 meant_type None (Some t) = Ok (int_type t)
-meant_type None None = Err 30
+meant_type None None = Err kinds.unknown_name
 
 -- the aggregate of a tag, which was declared with the same word (C11 6.7.2.3p3)
 abbrev pub meant_tag : Env → (with_union : Bool) → Option ℕ → Result CType ℕ
-meant_tag G u (Some a) = if is_same_sign (is_union G.types a) u then Ok (whole (bases.Aggregate a)) else Err 31
-meant_tag G u None = Err 30
+meant_tag G u (Some a) =
+    if is_same_sign (is_union G.types a) u then Ok (whole (bases.Aggregate a)) else Err kinds.redeclared
+meant_tag G u None = Err kinds.unknown_name
 
 abbrev pub of_whole : Env → List TypeWord → Option TypeWord → Result CType Refusal
 of_whole G ws None = Ok (int_type (integer_of G.types.model ws))

@@ -1,5 +1,6 @@
 -- What an expression stands for, its value, and what a value becomes where another type is asked: C11 6.3.
 use Rattle.std.specs.Prelude.{ℕ, Bool, true, false, ◌&&◌, ◌||◌, not, if◌then◌else◌, Result, Ok, Err}
+use Rattle.ep_ast.specs.Kind as kinds
 use Rattle.ep_int.specs.declared.types.IntType.{IntType}
 use Rattle.ep_int.specs.Arith.{promoted}
 use Rattle.ep_layout.specs.Table.{Table}
@@ -50,11 +51,12 @@ loaded t p c =
     else if is_aggregate c then plain_value (core.addr_of p) c
     else plain_value (core.load (scalar_of c) p) c
 
--- 32: a function's name is only called (this project's rule). 33: an object of type void has no value (C11 6.3.2.2).
+-- type_mismatch: a function's name is only called (this project's rule). incomplete_type: an object of type void has
+-- no value (C11 6.3.2.2).
 unfoldable pub value_of : Table → Operand → Result Value ℕ
-value_of t (place p c) = if is_void c then Err 33 else Ok (loaded t p c)
+value_of t (place p c) = if is_void c then Err kinds.incomplete_type else Ok (loaded t p c)
 value_of t (value v) = Ok v
-value_of t (function f) = Err 32
+value_of t (function f) = Err kinds.type_mismatch
 
 -- ---- conversions
 
@@ -79,11 +81,11 @@ as_type c v = if is_pointer c then as_pointer c v else converted (int_of c) v
 
 -- ---- why a value doesn't fit a type (C11 6.5.16.1p1)
 
--- 32: not two scalars
+-- type_mismatch: not two scalars
 abbrev pub are_scalars : CType → CType → Bool
 are_scalars c d = is_scalar c && is_scalar d
 
--- 34: one is a pointer and the other an integer that is no null constant
+-- pointer_to_integer: one is a pointer and the other an integer that is no null constant
 abbrev pub is_mixed : CType → Value → Bool
 is_mixed c v = if is_pointer c then is_integer v.ty && not v.is_null else is_pointer v.ty
 
@@ -91,18 +93,18 @@ is_mixed c v = if is_pointer c then is_integer v.ty && not v.is_null else is_poi
 abbrev pub are_compatible : CType → CType → Bool
 are_compatible c d = is_same c d || is_void_pointer c || is_void_pointer d
 
--- 44: pointers of different types
+-- incompatible_pointers: pointers of different types
 abbrev pub is_foreign : CType → Value → Bool
 is_foreign c v = is_pointer c && is_pointer v.ty && not v.is_null && not (are_compatible c v.ty)
 
 -- a value as what is asked: of a parameter, of a function's result
 unfoldable pub fitted : CType → Value → Result core.Expr ℕ
 fitted c v =
-    if not (are_scalars c v.ty) then Err 32
-    else if is_mixed c v then Err 34
-    else if is_foreign c v then Err 44
+    if not (are_scalars c v.ty) then Err kinds.type_mismatch
+    else if is_mixed c v then Err kinds.pointer_to_integer
+    else if is_foreign c v then Err kinds.incompatible_pointers
     else Ok (as_type c v)
 
 -- a test takes a scalar (C11 6.8.4.1p1 and 6.8.5p2)
 unfoldable pub tested : Value → Result core.Expr ℕ
-tested v = if is_scalar v.ty then Ok v.expr else Err 32
+tested v = if is_scalar v.ty then Ok v.expr else Err kinds.type_mismatch

@@ -1,5 +1,6 @@
 -- What operators on two values come to, and their kinds in order: C11 6.5.5 to 6.5.15.
 use Rattle.std.specs.Prelude.{ℕ, ◌==◌, Bool, true, false, ◌&&◌, ◌||◌, not, if◌then◌else◌, Result, Ok, Err, pos, negsuc}
+use Rattle.ep_ast.specs.Kind as kinds
 use Rattle.ep_int.specs.declared.types.IntType.{IntType}
 use Rattle.ep_int.specs.declared.types.IntType.TheVariants.{I32}
 use Rattle.ep_int.specs.declared.types.BinOp.{BinOp}
@@ -37,22 +38,23 @@ computed op a b =
 
 -- two integers (C11 6.5.5p2, 6.5.10p2, 6.5.11p2 and 6.5.12p2); this project subtracts no pointers
 unfoldable pub arithmetic : BinOp → Value → Value → Result Value ℕ
-arithmetic op a b = if are_integers a b then Ok (computed op a b) else Err 32
+arithmetic op a b = if are_integers a b then Ok (computed op a b) else Err kinds.type_mismatch
 
 -- each side is promoted by itself, and the result is of the left one's type (C11 6.5.7p3)
 unfoldable pub shifted : BinOp → Value → Value → Result Value ℕ
 shifted op a b =
     if are_integers a b
     then Ok (int_value (core.binary op (promoted_type a) (promoted_value a) (promoted_value b)) (promoted_type a))
-    else Err 32
+    else Err kinds.type_mismatch
 
 -- ---- pointers and numbers
 
--- A pointer moves in units of what it points to: 33 where that has no size (C11 6.5.6p2 and p8). The number isn't
+-- A pointer moves in units of what it points to: incomplete_type where that has no size (C11 6.5.6p2 and p8). The
+-- number isn't
 -- converted.
 unfoldable pub moved : Table → Value → (count : Value) → (backwards : Bool) → Result Value ℕ
 moved t p n back = do
-  unit ← needed 33 (size_of_type t (target p.ty))
+  unit ← needed kinds.incomplete_type (size_of_type t (target p.ty))
   Ok (plain_value (core.ptr_add p.expr unit n.expr back) p.ty)
 
 -- `+`, with the pointer on either side (C11 6.5.6p2)
@@ -91,29 +93,33 @@ are_foreign a b = not (is_null_either a b) && not (are_compatible a.ty b.ty)
 unfoldable pub ordered : Cmp → Value → Value → Result Value ℕ
 ordered c a b =
     if are_integers a b then Ok (compared c a b)
-    else if not (is_scalar a.ty && is_scalar b.ty) then Err 32
-    else if is_null_either a b then Err 32
-    else if are_mixed a b then Err 34
+    else if not (is_scalar a.ty && is_scalar b.ty) then Err kinds.type_mismatch
+    else if is_null_either a b then Err kinds.type_mismatch
+    else if are_mixed a b then Err kinds.pointer_to_integer
     else if is_same a.ty b.ty then Ok (pointers_compared c a b)
-    else Err 44
+    else Err kinds.incompatible_pointers
 
 -- `==` and `!=`: two integers, or two pointers of one type, or one of them null or to void (C11 6.5.9p2)
 unfoldable pub equated : Cmp → Value → Value → Result Value ℕ
 equated c a b =
     if are_integers a b then Ok (compared c a b)
-    else if not (is_scalar a.ty && is_scalar b.ty) then Err 32
-    else if are_mixed a b then Err 34
-    else if are_foreign a b then Err 44
+    else if not (is_scalar a.ty && is_scalar b.ty) then Err kinds.type_mismatch
+    else if are_mixed a b then Err kinds.pointer_to_integer
+    else if are_foreign a b then Err kinds.incompatible_pointers
     else Ok (pointers_compared c a b)
 
 -- ---- truths
 
 -- `&&` and `||` take two scalars, and give int (C11 6.5.13p2 and 6.5.14p2)
 unfoldable pub both : Value → Value → Result Value ℕ
-both a b = if is_scalar a.ty && is_scalar b.ty then Ok (int_value (core.logical_and a.expr b.expr) I32) else Err 32
+both a b =
+    if is_scalar a.ty && is_scalar b.ty then Ok (int_value (core.logical_and a.expr b.expr) I32)
+    else Err kinds.type_mismatch
 
 unfoldable pub either : Value → Value → Result Value ℕ
-either a b = if is_scalar a.ty && is_scalar b.ty then Ok (int_value (core.logical_or a.expr b.expr) I32) else Err 32
+either a b =
+    if is_scalar a.ty && is_scalar b.ty then Ok (int_value (core.logical_or a.expr b.expr) I32)
+    else Err kinds.type_mismatch
 
 -- ---- `? :`
 
@@ -138,17 +144,17 @@ pointers_chosen e a b =
 -- two integers, or two pointers by the rule of `==` (C11 6.5.15p2 and p3)
 unfoldable pub chosen : Value → Value → Value → Result Value ℕ
 chosen e a b =
-    if not (is_scalar e.ty && (is_scalar a.ty && is_scalar b.ty)) then Err 32
+    if not (is_scalar e.ty && (is_scalar a.ty && is_scalar b.ty)) then Err kinds.type_mismatch
     else if are_integers a b then Ok (numbers_chosen e.expr a b)
-    else if are_mixed a b then Err 34
-    else if are_foreign a b then Err 44
+    else if are_mixed a b then Err kinds.pointer_to_integer
+    else if are_foreign a b then Err kinds.incompatible_pointers
     else Ok (pointers_chosen e.expr a b)
 
 -- ---- one operand
 
 -- `+`: a promoted integer (C11 6.5.3.3p2)
 unfoldable pub kept : Value → Result Value ℕ
-kept a = if is_integer a.ty then Ok (int_value (promoted_value a) (promoted_type a)) else Err 32
+kept a = if is_integer a.ty then Ok (int_value (promoted_value a) (promoted_type a)) else Err kinds.type_mismatch
 
 -- `-`: what is left of 0 (C11 6.5.3.3p3)
 abbrev pub opposite : Value → Value
@@ -156,7 +162,7 @@ opposite a =
     let t = promoted_type a in int_value (core.binary Sub t (core.const t (pos 0)) (promoted_value a)) t
 
 unfoldable pub negated : Value → Result Value ℕ
-negated a = if is_integer a.ty then Ok (opposite a) else Err 32
+negated a = if is_integer a.ty then Ok (opposite a) else Err kinds.type_mismatch
 
 -- `~`: all bits turned (C11 6.5.3.3p4)
 abbrev pub turned : Value → Value
@@ -165,11 +171,11 @@ turned a =
     int_value (core.binary Xor t (promoted_value a) (core.const t (wrapped t (negsuc 0)))) t
 
 unfoldable pub complemented : Value → Result Value ℕ
-complemented a = if is_integer a.ty then Ok (turned a) else Err 32
+complemented a = if is_integer a.ty then Ok (turned a) else Err kinds.type_mismatch
 
 -- `!`: of a scalar, and int (C11 6.5.3.3p5)
 unfoldable pub denied : Value → Result Value ℕ
-denied a = if is_scalar a.ty then Ok (int_value (core.logical_not a.expr) I32) else Err 32
+denied a = if is_scalar a.ty then Ok (int_value (core.logical_not a.expr) I32) else Err kinds.type_mismatch
 
 -- ---- by marks
 

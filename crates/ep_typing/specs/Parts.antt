@@ -1,5 +1,6 @@
 -- Names, numbers, parts of objects, addresses, casts and sizes, with their kinds in order: C11 6.5.1 to 6.5.4.
 use Rattle.std.specs.Prelude.{ℕ, ◌==◌, Bool, false, ◌&&◌, not, if◌then◌else◌, List, [], ◌∷◌, ◌++◌, map, Option, Some, None, codes, Result, Ok, Err, pos}
+use Rattle.ep_ast.specs.Kind as kinds
 use Rattle.ep_int.specs.declared.types.IntType.{IntType}
 use Rattle.ep_int.specs.declared.types.IntType.TheVariants.{I8, U8, I16, U16, I32, U32, I64, U64}
 use Rattle.ep_int.specs.declared.types.Model.{Model}
@@ -45,12 +46,12 @@ built_in =
     ∷ (codes "ep_read", function read_bytes) ∷ (codes "ep_write", function write_bytes)
     ∷ (map (named_callee (codes "ep_in_") input) ends ++ map (named_callee (codes "ep_out_") output) ends)
 
--- 30: a name that was not declared before (C11 6.5.1p2). A typedef name is none of an expression.
+-- unknown_name: a name that was not declared before (C11 6.5.1p2). A typedef name is none of an expression.
 abbrev pub meant : Option Meaning → Option Operand → Result Operand ℕ
 meant (Some (env.variable b c)) o = Ok (place (core.block b) c)
 meant (Some (env.function n)) o = Ok (function (declared n))
-meant (Some (env.type_name c)) o = Err 30
-meant None o = needed 30 o
+meant (Some (env.type_name c)) o = Err kinds.unknown_name
+meant None o = needed kinds.unknown_name o
 
 unfoldable pub named : Env → List ℕ → Result Operand ℕ
 named G t = meant (look_up t G.scopes) (entry t built_in)
@@ -64,15 +65,15 @@ address_of (core.deref e) = core.addr_of (core.deref e)
 address_of (core.member p offset) = core.addr_of (core.member p offset)
 address_of (core.element p bound unit i) = core.ptr_add (core.addr_of p) unit i false
 
--- 32: of a function, by this project's rule. 41: of what is no object (C11 6.5.3.2p1).
+-- type_mismatch: of a function, by this project's rule. not_an_lvalue: of what is no object (C11 6.5.3.2p1).
 unfoldable pub addressed : Operand → Result Operand ℕ
 addressed (place p c) = Ok (value (plain_value (address_of p) (pointer_to c)))
-addressed (value v) = Err 41
-addressed (function f) = Err 32
+addressed (value v) = Err kinds.not_an_lvalue
+addressed (function f) = Err kinds.type_mismatch
 
--- 32: `*` of what is no pointer (C11 6.5.3.2p2)
+-- type_mismatch: `*` of what is no pointer (C11 6.5.3.2p2)
 unfoldable pub pointed : Value → Result Operand ℕ
-pointed v = if is_pointer v.ty then Ok (place (core.deref v.expr) (target v.ty)) else Err 32
+pointed v = if is_pointer v.ty then Ok (place (core.deref v.expr) (target v.ty)) else Err kinds.type_mismatch
 
 abbrev pub unary_of_value : (mark : ℕ) → Value → Result Operand ℕ
 unary_of_value m v = if m == mark.star then pointed v else an_operand (unary_operated m v)
@@ -98,7 +99,7 @@ element_in t p c v unit = place (core.element p (bound_of t c) unit v.expr) (ele
 
 unfoldable pub element_of_array : Table → core.Place → CType → Value → Result Operand ℕ
 element_of_array t p c v = do
-  unit ← needed 33 (size_of_type t (element_of t c))
+  unit ← needed kinds.incomplete_type (size_of_type t (element_of t c))
   Ok (element_in t p c v unit)
 
 unfoldable pub element_behind : Table → Value → Value → Result Operand ℕ
@@ -106,11 +107,12 @@ element_behind t u v = do
   w ← moved t u v false
   pointed w
 
--- 32: not an array or pointer with an integer behind it (C11 6.5.2.1p1). 33: elements without a size.
+-- type_mismatch: not an array or pointer with an integer behind it (C11 6.5.2.1p1). incomplete_type: elements without
+-- a size.
 unfoldable pub indexed : Table → Operand → Value → Result Operand ℕ
-indexed t (place p c) v = if is_integer v.ty then element_of_array t p c v else Err 32
-indexed t (value u) v = if is_pointer u.ty && is_integer v.ty then element_behind t u v else Err 32
-indexed t (function f) v = Err 32
+indexed t (place p c) v = if is_integer v.ty then element_of_array t p c v else Err kinds.type_mismatch
+indexed t (value u) v = if is_pointer u.ty && is_integer v.ty then element_behind t u v else Err kinds.type_mismatch
+indexed t (function f) v = Err kinds.type_mismatch
 
 -- ---- members
 
@@ -119,14 +121,15 @@ member_at t p m = place (core.member p m.offset) (type_of t m.ty)
 
 unfoldable pub member_of : Table → core.Place → CType → (name : List ℕ) → Result Operand ℕ
 member_of t p c n = do
-  m ← needed 40 (member_named t (number_in c.base) n)
+  m ← needed kinds.no_member (member_named t (number_in c.base) n)
   Ok (member_at t p m)
 
--- 32: of what is no struct or union. 40: no such member, as none is of one that isn't completed (C11 6.5.2.3p1).
+-- type_mismatch: of what is no struct or union. no_member: no such member, as none is of one that isn't completed (C11
+-- 6.5.2.3p1).
 unfoldable pub selected : Table → Operand → (name : List ℕ) → Result Operand ℕ
-selected t (place p c) n = if is_aggregate c then member_of t p c n else Err 32
-selected t (value v) n = Err 32
-selected t (function f) n = Err 32
+selected t (place p c) n = if is_aggregate c then member_of t p c n else Err kinds.type_mismatch
+selected t (value v) n = Err kinds.type_mismatch
+selected t (function f) n = Err kinds.type_mismatch
 
 -- through a pointer (C11 6.5.2.3p2)
 unfoldable pub selected_through : Table → Value → (name : List ℕ) → Result Operand ℕ
@@ -136,21 +139,22 @@ selected_through t v n = do
 
 -- ---- casts and sizes
 
--- 32: not two scalars (C11 6.5.4p2). 34: between a pointer and an integer, by this project's rule.
+-- type_mismatch: not two scalars (C11 6.5.4p2). pointer_to_integer: between a pointer and an integer, by this
+-- project's rule.
 unfoldable pub casted : CType → Value → Result Value ℕ
 casted c v =
-    if not (is_scalar c && is_scalar v.ty) then Err 32
-    else if is_mixed c v then Err 34
+    if not (is_scalar c && is_scalar v.ty) then Err kinds.type_mismatch
+    else if is_mixed c v then Err kinds.pointer_to_integer
     else Ok (plain_value (as_type c v) c)
 
--- 33: a type without a size (C11 6.5.3.4p1); the size is of type size_t (6.5.3.4p5)
+-- incomplete_type: a type without a size (C11 6.5.3.4p1); the size is of type size_t (6.5.3.4p5)
 unfoldable pub type_sized : Table → CType → Result Value ℕ
 type_sized t c = do
-  n ← needed 33 (size_of_type t c)
+  n ← needed kinds.incomplete_type (size_of_type t c)
   Ok (int_value (core.const (size_type t.model) (pos n)) (size_type t.model))
 
--- 32: the size of a function (C11 6.5.3.4p1); an array doesn't decay here (6.3.2.1p3)
+-- type_mismatch: the size of a function (C11 6.5.3.4p1); an array doesn't decay here (6.3.2.1p3)
 unfoldable pub sized : Table → Operand → Result Value ℕ
 sized t (place p c) = type_sized t c
 sized t (value v) = type_sized t v.ty
-sized t (function f) = Err 32
+sized t (function f) = Err kinds.type_mismatch

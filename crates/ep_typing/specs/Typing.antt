@@ -1,6 +1,7 @@
 -- What expressions mean, or the first offence in the order of the text: operands before operators, left before right,
 -- at one node the lowest kind. C11 6.5 and 6.8.3.
 use Rattle.std.specs.Prelude.{ℕ, ◌==◌, Bool, true, ◌&&◌, ◌||◌, not, if◌then◌else◌, List, [], ◌∷◌, Some, None, Result, Ok, Err, pos}
+use Rattle.ep_ast.specs.Kind as kinds
 use Rattle.ep_int.specs.declared.types.IntType.TheVariants.{I32}
 use Rattle.ep_ast.specs.declared.marks.TheConstants as marks
 use Rattle.ep_ast.specs.declared.refusals.Refusal.{Refusal}
@@ -54,7 +55,8 @@ selected_behind t x n = do
 
 -- ---- the order of an expression
 
--- 19: an assignment, `++` or `--` stands only as a whole statement or an outer part of a `for`. 18: a call stands only
+-- assignment_in_expression: an assignment, `++` or `--` stands only as a whole statement or an outer part of a `for`.
+-- call_in_expression: a call stands only
 -- as a whole statement, as the right side of a whole `=` or as an initialiser. Both are this project's rules.
 unfoldable mutual
   pub typed : Env → source.Expr → Result Operand Refusal
@@ -62,7 +64,7 @@ unfoldable mutual
     x ← typed G a
     old ← at l (read_first G.types m x)
     y ← typed G b
-    at l (Err 19)
+    at l (Err kinds.assignment_in_expression)
   typed G (source.conditional l e a b) = do
     w ← typed G e
     r ← at l (value_of G.types w)
@@ -81,7 +83,7 @@ unfoldable mutual
     at l (cast_to G.types c x)
   typed G (source.step l m a) = do
     x ← typed G a
-    at l (Err 19)
+    at l (Err kinds.assignment_in_expression)
   typed G (source.unary l m a) = do
     x ← typed G a
     at l (unary_typed G.types m x)
@@ -99,7 +101,7 @@ unfoldable mutual
   typed G (source.call l f es) = do
     x ← typed G f
     vs ← typed_all G l es
-    at l (Err 18)
+    at l (Err kinds.call_in_expression)
   typed G (source.member l a n) = do
     x ← typed G a
     at l (selected G.types x n)
@@ -108,10 +110,10 @@ unfoldable mutual
     at l (selected_behind G.types x n)
   typed G (source.post_increment l a) = do
     x ← typed G a
-    at l (Err 19)
+    at l (Err kinds.assignment_in_expression)
   typed G (source.post_decrement l a) = do
     x ← typed G a
-    at l (Err 19)
+    at l (Err kinds.assignment_in_expression)
   typed G (source.id l t) = at l (named G t)
   typed G (source.number l n) = Ok (numbered G.types.model n)
 
@@ -147,28 +149,32 @@ operator_of m =
     else if m == marks.LEFT_SHIFT_EQUAL then mark.left_shift
     else mark.right_shift
 
--- 32: a function, an array or an object of type void is never assigned to (C11 6.5.16p2 and 6.3.2.1p1)
+-- type_mismatch: a function, an array or an object of type void is never assigned to (C11 6.5.16p2 and 6.3.2.1p1)
 unfoldable pub assignable : Operand → Result Operand ℕ
-assignable (place p c) = if is_void c || is_array c then Err 32 else Ok (place p c)
+assignable (place p c) = if is_void c || is_array c then Err kinds.type_mismatch else Ok (place p c)
 assignable (value v) = Ok (value v)
-assignable (function f) = Err 32
+assignable (function f) = Err kinds.type_mismatch
 
 -- what is assigned to a value, which is no object
 unfoldable pub not_stored : {A : Type 0} → Value → Value → Result A ℕ
-not_stored u v = if not (are_scalars u.ty v.ty) then Err 32 else if is_mixed u.ty v then Err 34 else Err 41
+not_stored u v =
+    if not (are_scalars u.ty v.ty) then Err kinds.type_mismatch
+    else if is_mixed u.ty v then Err kinds.pointer_to_integer
+    else Err kinds.not_an_lvalue
 
--- A scalar is stored as of its object's type. 32, 34 and 44: it doesn't fit. 41: there is no object (C11 6.5.16p2).
+-- A scalar is stored as of its object's type. type_mismatch, pointer_to_integer and incompatible_pointers: it doesn't
+-- fit. not_an_lvalue: there is no object (C11 6.5.16p2).
 unfoldable pub stored : Operand → Value → Result core.Simple ℕ
 stored (place p c) v = do
   e ← fitted c v
   Ok (core.assign (scalar_of c) p e)
 stored (value u) v = not_stored u v
-stored (function f) v = Err 32
+stored (function f) v = Err kinds.type_mismatch
 
--- a struct or union is copied to one of the same type, 33 where that isn't completed (C11 6.5.16.1p1)
+-- a struct or union is copied to one of the same type, incomplete_type where that isn't completed (C11 6.5.16.1p1)
 unfoldable pub copied : Table → CType → (to from : core.Place) → Result core.Simple ℕ
 copied t c p q = do
-  n ← needed 33 (size_of_type t c)
+  n ← needed kinds.incomplete_type (size_of_type t c)
   Ok (core.copy_aggregate p q (known_number t (rows.Aggregate (number_in c.base))))
 
 abbrev pub moves_aggregate : CType → CType → Bool
@@ -199,13 +205,13 @@ updated t m x old y = do
 abbrev pub dest : core.Place → CType → (result : CType) → core.Dest
 dest p c r = record { what = scalar_of c; cast = is_pointer c && not (is_same c r); place = p }
 
--- what takes a result of a type; 32 where there is none (C11 6.5.16.1p1, as for a value)
+-- what takes a result of a type; type_mismatch where there is none (C11 6.5.16.1p1, as for a value)
 unfoldable pub taken : Operand → (result : CType) → Result core.Dest ℕ
 taken (place p c) r = do
   e ← fitted c (plain_value core.null_value r)
   Ok (dest p c r)
 taken (value u) r = not_stored u (plain_value core.null_value r)
-taken (function f) r = Err 32
+taken (function f) r = Err kinds.type_mismatch
 
 -- ---- whole statements
 

@@ -1,5 +1,6 @@
 -- What expressions mean, by rules without an order, and the order of the text apart from them. C11 6.5.
 use Rattle.std.specs.Prelude.{◌≡◌, ℕ, List, [], ◌∷◌, ◌++◌, Ok, Err}
+use Rattle.ep_ast.specs.Kind as kinds
 use Rattle.ep_ast.specs.declared.expressions.Literal.{Literal}
 use Rattle.ep_ast.specs.declared.refusals.Refusal.{Refusal}
 use Rattle.ep_ast.specs.Expression.{Expr, Exprs, TypeName, assign, conditional, binary, cast, step, unary, sizeof_expr, sizeof_type, index, call, member, arrow, post_increment, post_decrement, id, number, no_exprs, more_exprs}
@@ -87,12 +88,16 @@ pub data Breaks (G : Env) : Point → Refusal → Type 0 where
   bad_member_behind : {l k : ℕ} {a : Expr} {n : List ℕ} (x : Operand)
       → Means G a x → selected_behind G.types x n ≡ Err k → Breaks G (node (arrow l a n)) (refusal k l)
   assigns : {l m : ℕ} {a b : Expr} (x old y : Operand)
-      → Means G a x → read_first G.types m x ≡ Ok old → Means G b y → Breaks G (node (assign l m a b)) (refusal 19 l)
-  steps : {l m : ℕ} {a : Expr} (x : Operand) → Means G a x → Breaks G (node (step l m a)) (refusal 19 l)
-  steps_up : {l : ℕ} {a : Expr} (x : Operand) → Means G a x → Breaks G (node (post_increment l a)) (refusal 19 l)
-  steps_down : {l : ℕ} {a : Expr} (x : Operand) → Means G a x → Breaks G (node (post_decrement l a)) (refusal 19 l)
+      → Means G a x → read_first G.types m x ≡ Ok old → Means G b y
+      → Breaks G (node (assign l m a b)) (refusal kinds.assignment_in_expression l)
+  steps : {l m : ℕ} {a : Expr} (x : Operand) → Means G a x
+      → Breaks G (node (step l m a)) (refusal kinds.assignment_in_expression l)
+  steps_up : {l : ℕ} {a : Expr} (x : Operand) → Means G a x
+      → Breaks G (node (post_increment l a)) (refusal kinds.assignment_in_expression l)
+  steps_down : {l : ℕ} {a : Expr} (x : Operand) → Means G a x
+      → Breaks G (node (post_decrement l a)) (refusal kinds.assignment_in_expression l)
   calls : {l : ℕ} {f : Expr} {es : Exprs} (x : Operand) (vs : List Value)
-      → Means G f x → HaveValues G es vs → Breaks G (node (call l f es)) (refusal 18 l)
+      → Means G f x → HaveValues G es vs → Breaks G (node (call l f es)) (refusal kinds.call_in_expression l)
 
 -- the points in the order of the text: operands before operators, left before right
 abbrev mutual

@@ -18,10 +18,10 @@ fn read(alloc: Global, source: &[u8], from: usize) -> Result<String, AllocError>
     if from > tokens.list.len() || tokens.list.len() >= 16777216 {
         return Ok(out);
     }
-    match expression(alloc, &tokens, from, &names) {
+    match &expression(alloc, &tokens, from, &names) {
         Ok((tree, next)) => write!(out, "{tree:?} {next}")?,
         Err(Halt::Refused(r)) => {
-            let kind = r.kind;
+            let kind = r.kind.number();
             let line = r.line;
             let word = r.word;
             write!(out, "refused {kind} line {line} word {word}")?;

@@ -57,7 +57,7 @@ fn outline(out: &mut String, item: &ItemTree) -> Result<(), AllocError> {
 fn refused(out: &mut String, halt: Halt) -> Result<(), AllocError> {
     match halt {
         Halt::Refused(r) => {
-            let kind = r.kind;
+            let kind = r.kind.number();
             let line = r.line;
             let word = r.word;
             write!(out, "refused {kind} line {line} word {word}")

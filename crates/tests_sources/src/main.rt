@@ -53,13 +53,13 @@ fn answer(alloc: Global, head: &str, source: &[u8]) -> Option<Vec<u8>> {
     if source.len() >= LIMIT as usize {
         return None;
     }
-    match read(alloc, source, model_named(model)?) {
+    match &read(alloc, source, model_named(model)?) {
         Ok(program) => match command {
             "layout" => program.types.layout_text().ok(),
-            "run" => run_as(alloc, &program, words),
+            "run" => run_as(alloc, program, words),
             _ => None,
         },
-        Err(Halt::Refused(refusal)) => refusal_text(alloc, &refusal).ok(),
+        Err(Halt::Refused(refusal)) => refusal_text(alloc, refusal).ok(),
         Err(Halt::Memory) => None,
     }
 }

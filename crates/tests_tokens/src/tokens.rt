@@ -36,14 +36,14 @@ fn read(alloc: Global, source: &[u8]) -> Result<String, AllocError> {
     if source.len() >= 1000 {
         return Ok(out);
     }
-    match lex(alloc, source) {
+    match &lex(alloc, source) {
         Ok(tokens) => {
             for token in &tokens.list {
                 show(alloc, &mut out, token)?;
             }
         }
         Err(Halt::Refused(r)) => {
-            let kind = r.kind;
+            let kind = r.kind.number();
             let line = r.line;
             let word = r.word;
             write!(out, "refused {kind} line {line} word {word}")?;

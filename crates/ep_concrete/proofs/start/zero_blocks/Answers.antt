@@ -1,5 +1,6 @@
-use Rattle.std.proofs.Common.{◌≡◌, ◌+◌, ◌<◌, ◌||◌, length, map, slice_get, sym, ap, ◌∙◌, arith}
+use Rattle.std.proofs.Common.{◌≡◌, ◌+◌, ◌<◌, ◌||◌, if◌then◌else◌, length, map, slice_get, subst, sym, ap, ◌∙◌, arith}
 use Rattle.std.proofs.Math.ListN.{length-map}
+use Rattle.ep_int.specs.Memory.{zeroed}
 use Rattle.ep_bytes.specs.Held.{memory_in}
 use Rattle.ep_core.specs.Exec.{result_in}
 use Rattle.ep_core.specs.Runs.{is_global, is_result, main_function}
@@ -18,7 +19,8 @@ zero_if-requires c =
     let laid = c.loop-b.invariant.laid.count in
     let len = c.len-b-end.ensures in
     let below = c.loop-b-test.true in
-    omega (arith, n, laid, len, below)
+    let number = c.in_ok-block.ensures.number in
+    omega (arith, n, laid, len, below, number)
 
 pub loop-b-preserved : goal.loop-b-preserved
 loop-b-preserved c =
@@ -33,7 +35,10 @@ loop-b-preserved c =
     record {
       laid = like_laid m _ _ c.loop-b.invariant.laid c.zero_if.ensures.like;
       memory = zeros_more p.blocks r b (memory_in c.loop-b.store) (memory_in c.zero_if.new.store)
-          c.is_zero-is_wanted.result wanted c.loop-b.invariant.memory c.zero_if.ensures.zeroed;
+          c.is_zero-is_wanted.result wanted c.loop-b.invariant.memory
+          (subst (λ k. memory_in c.zero_if.new.store
+          ≡ (if c.is_zero-is_wanted.result then zeroed (memory_in c.loop-b.store) k else memory_in c.loop-b.store))
+          c.in_ok-block.ensures.number c.zero_if.ensures.zeroed);
     }
 
 pub returns-clause-memory : goal.returns-clause-memory

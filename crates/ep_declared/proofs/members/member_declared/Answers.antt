@@ -9,7 +9,7 @@ use Rattle.ep_declared.proofs.members.member_declared.Goals as goal
 pub with_member-requires : goal.with_member-requires
 with_member-requires c = record {
   known = c.in_ok-counts.ensures.known;
-  inside = subst (IsKnown c.bounds.new.env.types) (sym c.in_ok-pointer.ensures)
+  inside = subst (IsKnown c.bounds.new.env.types) (sym c.in_ok-pointer.ensures.means)
       (type_known c.args.env.now.types c.bounds.new.env.types c.in_ok-counts.ensures.grown c.args.c c.requires.inside);
   members = types_stay c.args.env.now.types c.bounds.new.env.types (more_types c.args.env.now.types
       c.bounds.new.env.types c.in_ok-counts.ensures.grown)

@@ -7,7 +7,7 @@ use Rattle.ep_declared.proofs.objects.object_declared.Goals as goal
 pub declared_object-requires : goal.declared_object-requires
 declared_object-requires c = record {
   known = c.in_ok-counts.ensures.after.known;
-  inside = subst (IsKnown c.object_bounds.new.env.types) (sym c.in_ok-pointer.ensures)
+  inside = subst (IsKnown c.object_bounds.new.env.types) (sym c.in_ok-pointer.ensures.means)
       (type_known c.args.env.now.types c.object_bounds.new.env.types c.in_ok-counts.ensures.after.grown c.args.c
       c.requires.inside);
 }

@@ -7,7 +7,7 @@ use Rattle.ep_declared.proofs.typedefs.type_declared.Goals as goal
 pub declared_type-requires : goal.declared_type-requires
 declared_type-requires c = record {
   known = c.in_ok-counts.ensures.known;
-  inside = subst (IsKnown c.bounds.new.env.types) (sym c.in_ok-pointer.ensures)
+  inside = subst (IsKnown c.bounds.new.env.types) (sym c.in_ok-pointer.ensures.means)
       (type_known c.args.env.now.types c.bounds.new.env.types c.in_ok-counts.ensures.grown c.args.c c.requires.inside);
 }
 

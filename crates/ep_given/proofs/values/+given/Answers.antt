@@ -1,4 +1,5 @@
 use Rattle.std.proofs.Common.{ℕ, false, map, sym, ap, ◌∙◌}
+use Rattle.std.proofs.lemmas.Result.{err_from_is_err_and}
 use Rattle.std.specs.Option.{option_map}
 use Rattle.ep_ast.specs.Declaration as source
 use Rattle.ep_declared.specs.Seen as objects
@@ -7,7 +8,7 @@ use Rattle.ep_elaboration.specs.Given.{both_given, value_given}
 use Rattle.ep_scopes.specs.Seen.{env}
 use Rattle.ep_given.specs.Behind.{all_behind}
 use Rattle.ep_given.specs.Seen as seen
-use Rattle.ep_given.proofs.ListLemmas.{list_is, listed_tree, same_gives_in, went}
+use Rattle.ep_given.proofs.ListLemmas.{list_is, listed_tree, same_gives_in, stopped_on, went}
 use Rattle.ep_given.proofs.values.+given.Goals as goal
 
 pub add_value-returns-in_ok-whole-in-List-clause-means : goal.add_value-returns-in_ok-whole-in-List-clause-means
@@ -36,3 +37,11 @@ add_values-loop-number-preserved t c =
           (ap (λ (n : ℕ). all_behind both_given done (value_given G c.args.global false n o (source.value_of v))) (sym c.line_of_value.ensures)
           ∙ c.in_ok-add_value.ensures.means);
     }
+
+pub add_values-returns-in_err-add_value-clause-means : goal.add_values-returns-in_err-add_value-clause-means
+add_values-returns-in_err-add_value-clause-means t c =
+    let p = err_from_is_err_and c.from_residual-in_err-add_value.result c.from_residual-in_err-add_value.ensures.1 in
+    rw (p.1, p.2) (stopped_on (env c.loop-number.env) c.args.global (objects.object c.args.whole.now) c.loop-number.number
+    c.args.values.now c.index-values-number.result (option_map objects.object c.in_ok-part.part) (seen.given c.loop-number.given) _
+    c.loop-number-test.true c.index-values-number.is c.in_ok-part.ensures c.loop-number.invariant.means _ _
+    c.line_of_value.ensures c.in_err-add_value.ensures.means)

@@ -1,6 +1,9 @@
 use Rattle.std.proofs.Common.{◌≡◌, ℕ, ◌≤◌, ◌<◌, ◌∙◌, [], length, map, slice_get, List, Option, Some, Ok, Result, ap, sym, arith}
 use Rattle.std.proofs.lemmas.List.{append-nil, nil_from_length}
+use Rattle.std.specs.Option.{option_map}
 use Rattle.std.specs.Vec.Iter.{into_iter_items}
+use Rattle.ep_ast.specs.Kind.{number_of}
+use Rattle.ep_ast.specs.declared.kinds.RefusalKind.{RefusalKind}
 use Rattle.std.proofs.lemmas.Bool.Decides.{nat_tests}
 use Rattle.std.proofs.lemmas.Option.{slice_get-get_or}
 use Rattle.ep_ast.specs.declared.refusals.Halt.TheVariants as halts
@@ -18,8 +21,8 @@ pub returns-in-None-get : goal.returns-in-None-get
 returns-in-None-get c =
     let all = rule.all_passed (map seen.parameter c.args.parameters.now) (map seen.value c.args.values.items) in
     let h : length c.args.parameters.now ≤ c.loop-value.place = grind (arith, nat_tests, c.in-None-get.ensures.lookup) in
-    stops_at all c.args.line (lower c.loop-value.kind 39) c.refused.result
-    (too_many c.loop-value.kind (map shown_expr c.loop-value.arguments.items) c.loop-value.place c.args.parameters.now c.in-Some.value
+    stops_at all c.args.line (lower (option_map number_of c.loop-value.kind) 39) c.refused.result
+    (too_many (option_map number_of c.loop-value.kind) (map shown_expr c.loop-value.arguments.items) c.loop-value.place c.args.parameters.now c.in-Some.value
     (into_iter_items c.loop-value.value-iterator) (into_iter_items c.next.new.self) all c.in-Some.ensures.steps.0 c.loop-value.invariant.means h)
     (c.refused.ensures ∙ ap (λ (k : ℕ). halts.Refused (record { kind = k; line = c.args.line; word = 0 })) c.lower.ensures)
 
@@ -31,17 +34,17 @@ loop-value-preserved c =
     slice_get-get_or c.args.parameters.now c.loop-value.place _ below ∙ ap Some (sym c.in-Some-get.ensures.lookup.1) in
     record {
       within = omega (arith, below);
-      means = passed_on c.loop-value.kind (map shown_expr c.loop-value.arguments.items) c.loop-value.place c.args.parameters.now c.in-Some.value
+      means = passed_on (option_map number_of c.loop-value.kind) (map shown_expr c.loop-value.arguments.items) c.loop-value.place c.args.parameters.now c.in-Some.value
           (into_iter_items c.loop-value.value-iterator) (into_iter_items c.next.new.self) all c.in-Some.ensures.steps.0 c.loop-value.invariant.means
-          c.in_ok-kind-in-Some-get.kind (map shown_expr c.pass.new.arguments.items) c.in-Some-get.parameter.now row c.in_ok-kind-in-Some-get.ensures;
+          (option_map number_of c.in_ok-kind-in-Some-get.kind) (map shown_expr c.pass.new.arguments.items) c.in-Some-get.parameter.now row c.in_ok-kind-in-Some-get.ensures;
     }
 
 pub returns-then-place-parameters : goal.returns-then-place-parameters
 returns-then-place-parameters c =
     let all = rule.all_passed (map seen.parameter c.args.parameters.now) (map seen.value c.args.values.items) in
     let none : into_iter_items c.loop-value.value-iterator ≡ [] = nil_from_length (into_iter_items c.loop-value.value-iterator) (sym c.loop-value.value-iterator.rest.ok.0 ∙ c.in-None.ensures.steps.0) in
-    stops_at all c.args.line (lower c.loop-value.kind 39) c.refused-then-place-parameters.result
-    (too_few c.loop-value.kind (map shown_expr c.loop-value.arguments.items) c.loop-value.place c.args.parameters.now
+    stops_at all c.args.line (lower (option_map number_of c.loop-value.kind) 39) c.refused-then-place-parameters.result
+    (too_few (option_map number_of c.loop-value.kind) (map shown_expr c.loop-value.arguments.items) c.loop-value.place c.args.parameters.now
     (into_iter_items c.loop-value.value-iterator) all none c.loop-value.invariant.means AnyPointer c.if-place-parameters.true)
     (c.refused-then-place-parameters.ensures
     ∙ ap (λ (k : ℕ). halts.Refused (record { kind = k; line = c.args.line; word = 0 })) c.lower-then-place-parameters.ensures)
@@ -51,9 +54,9 @@ returns-in-Some-kind c =
     let all = rule.all_passed (map seen.parameter c.args.parameters.now) (map seen.value c.args.values.items) in
     let done = map shown_expr c.loop-value.arguments.items in
     let none : into_iter_items c.loop-value.value-iterator ≡ [] = nil_from_length (into_iter_items c.loop-value.value-iterator) (sym c.loop-value.value-iterator.rest.ok.0 ∙ c.in-None.ensures.steps.0) in
-    stops_at all c.args.line c.in-Some-kind.k c.refused-in-Some-kind.result
-    (sym (enough c.loop-value.kind done c.loop-value.place c.args.parameters.now (into_iter_items c.loop-value.value-iterator) all none
-    c.loop-value.invariant.means c.if-place-parameters.false) ∙ ap (λ (o : Option ℕ). after o done (Ok [])) c.in-Some-kind.is)
+    stops_at all c.args.line (number_of c.in-Some-kind.k) c.refused-in-Some-kind.result
+    (sym (enough (option_map number_of c.loop-value.kind) done c.loop-value.place c.args.parameters.now (into_iter_items c.loop-value.value-iterator) all none
+    c.loop-value.invariant.means c.if-place-parameters.false) ∙ ap (λ (o : Option RefusalKind). after (option_map number_of o) done (Ok [])) c.in-Some-kind.is)
     c.refused-in-Some-kind.ensures
 
 pub returns-in-None-kind : goal.returns-in-None-kind
@@ -62,6 +65,6 @@ returns-in-None-kind c =
     let done = map shown_expr c.loop-value.arguments.items in
     let none : into_iter_items c.loop-value.value-iterator ≡ [] = nil_from_length (into_iter_items c.loop-value.value-iterator) (sym c.loop-value.value-iterator.rest.ok.0 ∙ c.in-None.ensures.steps.0) in
     ap (λ (r : Result (List Expr) ℕ). at c.args.line r)
-    (sym (enough c.loop-value.kind done c.loop-value.place c.args.parameters.now (into_iter_items c.loop-value.value-iterator) all none
-    c.loop-value.invariant.means c.if-place-parameters.false) ∙ ap (λ (o : Option ℕ). after o done (Ok [])) c.in-None-kind.is
+    (sym (enough (option_map number_of c.loop-value.kind) done c.loop-value.place c.args.parameters.now (into_iter_items c.loop-value.value-iterator) all none
+    c.loop-value.invariant.means c.if-place-parameters.false) ∙ ap (λ (o : Option RefusalKind). after (option_map number_of o) done (Ok [])) c.in-None-kind.is
     ∙ ap (λ (es : List Expr). Ok es) (append-nil done))

@@ -26,7 +26,7 @@ pub statement-returns : goal.statement-returns
 statement-returns t c =
     on_ok_weaker c.inner.result
     (whole (place (number (env c.args.env.now)) c.args.caller) c.args.all.now.items c.push.new.self.items c.inner.new.all.items
-    c.args.round c.in_ok-depth.depth c.in_ok-place.place (stmt_of c.args.tree.now) c.in_ok-depth.ensures c.in_ok-push.ensures.items
+    c.args.round c.in_ok-depth.depth c.in_ok-place.place (stmt_of c.args.tree.now) c.in_ok-depth.ensures.means c.in_ok-push.ensures.items
     c.in_ok-place.ensures) c.inner.ensures
 
 pub inner-returns-in-Block : goal.inner-returns-in-Block
@@ -61,7 +61,7 @@ inner-returns-in-Do t c =
 pub inner-returns-in_ok-first-in-For : goal.inner-returns-in_ok-first-in-For
 inner-returns-in_ok-first-in-For t c =
     rw (in_for c.args.depth c.args.tree.now c.deref-in-For-2.result.now c.in-For.field-0 c.in_ok-deeper-in-For.deeper c.in-For.heading
-    c.in-For.turn c.deref-in-For.result.now c.in-For.is c.deref-in-For.ensures c.deref-in-For-2.ensures c.in_ok-deeper-in-For.ensures)
+    c.in-For.turn c.deref-in-For.result.now c.in-For.is c.deref-in-For.ensures c.deref-in-For-2.ensures c.in_ok-deeper-in-For.ensures.means)
     (on_ok_weaker c.statement-in-For.result
     (both (place (number (env c.args.env.now)) c.args.caller) c.args.all.now.items c.first.new.all.items c.statement-in-For.new.all.items
     (first_stands c.in_ok-deeper-in-For.deeper (first_of c.deref-in-For.result.now.first))

@@ -14,7 +14,7 @@ loop-function-preserved c =
     c.enter.new.all.items (conditionals (map function_of c.args.list.now)) c.loop-function.function-index c.function-item.result
     c.loop-function-test.true c.function-item.is refl c.loop-function.invariant
     (with_name (number (env c.args.env.now)) c.function-item.result.head.name.items c.in_ok-caller.caller c.loop-function.all.items
-    c.enter.new.all.items (calls_none 1 ∷ []) (c.in_ok-caller.ensures ∙ ap (number (env c.args.env.now)) c.deref.ensures.value)
+    c.enter.new.all.items (calls_none 1 ∷ []) (c.in_ok-caller.ensures.means ∙ ap (number (env c.args.env.now)) c.deref.ensures.value)
     (c.in_ok-enter.ensures.adds (number (env c.args.env.now))))
 
 pub returns : goal.returns

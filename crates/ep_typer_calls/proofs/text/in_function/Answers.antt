@@ -11,6 +11,6 @@ pub returns : goal.returns
 returns c =
     with_name (number (env c.args.env.now)) c.args.function.now.head.name.items c.in_ok-caller.caller c.args.all.now.items c.parts.new.all.items
     (stands_in_parts c.args.round (to_parts (map part_of c.args.function.now.body.items.items)))
-    (c.in_ok-caller.ensures ∙ ap (number (env c.args.env.now)) c.deref.ensures.value)
+    (c.in_ok-caller.ensures.means ∙ ap (number (env c.args.env.now)) c.deref.ensures.value)
     (subst (λ (xs : List BlockItemTree). Adds (place (number (env c.args.env.now)) c.in_ok-caller.caller) c.args.all.now.items c.parts.new.all.items
     (stands_in_parts c.args.round (to_parts (map part_of xs)))) c.deref-2.ensures.value c.in_ok-parts.ensures)
