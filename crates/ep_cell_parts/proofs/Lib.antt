@@ -4,3 +4,4 @@ pub mod Staying
 pub mod Valuing
 pub mod Equal
 pub mod Abouts
+mod Beside

@@ -110,6 +110,12 @@ pub places_end : {N : Type 0} (ps : List (Part (Cell N))) (i : ℕ) (out whole :
 places_end ps i out whole le h =
     sym (none_behind out) ∙ sym (ap (λ zs. out ++ places (all_items zs)) (drop_of_length-le ps le)) ∙ h
 
+pub place_more : {N : Type 0} (out new whole : List (ℕ × ℕ)) (x : Cell N) (xs ys : List (Cell N))
+    → new ≡ out ++ places (x ∷ []) → xs ≡ x ∷ ys → out ++ places xs ≡ whole → new ++ places ys ≡ whole
+place_more out new whole x xs ys n e h =
+    ap (λ zs. zs ++ places ys) n ∙ append_assoc out (places (x ∷ [])) (places ys)
+    ∙ ap (λ zs. out ++ zs) (sym (places_append (x ∷ []) ys)) ∙ ap (λ zs. out ++ places zs) (sym e) ∙ h
+
 -- ---- what stays
 
 not_is : (b : Bool) → not b ≡ true → b ≡ false

@@ -1,6 +1,6 @@
 //! Whether operations may be made.
 
-ghost use Rattle.std.specs.Prelude.{◌≡◌, ◌↔◌, IsTrue};
+ghost use Rattle.std.specs.Prelude.{◌↔◌, IsTrue};
 ghost use Rattle.ep_cells.specs.States.{AreCells, CanWrite};
 
 use ep_cell_changes::check::{has_form, is_cell};

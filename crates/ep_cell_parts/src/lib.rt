@@ -1,4 +1,5 @@
-//! What is done to the cells of a state in parts that copies share, and to the index of what their forms mention.
+//! What else is done to the cells of a state in parts that copies share: they are looked up, put together with those of
+//! another state, killed, and take other values.
 #![tactic(auto)]
 
 pub mod about;

@@ -1,7 +1,8 @@
 //! Places of Left and Right cells that are surely the same.
 
-ghost use Rattle.std.specs.Prelude.{◌≡◌, ◌++◌, Some, IfOk, OnOk};
+ghost use Rattle.std.specs.Prelude.{◌≡◌, ◌++◌, ◌∷◌, [], Some, IfOk, OnOk, IfSome, IfNone};
 ghost use Rattle.std.specs.Option.{option_map};
+ghost use Rattle.ep_cells.specs.States.{HaveCellsAlike};
 ghost use Rattle.ep_cells.specs.Reshare.{cell_from, places};
 ghost use Rattle.ep_shared_parts.specs.Spread.{outlines, all_items, AreSpread};
 ghost use Rattle.ep_shared_parts.specs.Mentions.{number_of};
@@ -9,11 +10,13 @@ ghost use Rattle.ep_cell_parts.specs.Alike.{is_same_pair, is_same_at, are_differ
 
 use ep_bitslice::Side;
 use ep_cell_changes::reshare::{self, are_same};
+use ep_cell_rows::places::{is_same_cell, is_same_side};
 use ep_cells::Cell;
 use ep_domain::Num;
 use ep_int::Memory;
 use ep_shared_parts::numbers::number_at;
 use ep_shared_parts::parts::{Part, window};
+use ep_shared_parts::walks::{At, next};
 use std::alloc::Global;
 
 fn push_places(out: &mut Vec<(u32, u32)>, more: &[(u32, u32)]) -> Result<(), Memory>
@@ -32,6 +35,48 @@ pub fn places<N: Num>(alloc: Global, parts: &[Part<Cell<N>>]) -> Result<Vec<(u32
         push_places(&mut out, &more)?;
     }
     Ok(out)
+}
+
+fn push_place<N: Num>(out: &mut Vec<(u32, u32)>, c: &Cell<N>) -> Result<(), Memory>
+    ensures { OnOk result (out.new.items ≡ out.old.items ++ places (c.now ∷ [])) }
+{
+    if is_same_side(c.side, Side::Left) {
+        out.push((c.block, c.offset)).map_err(|_| Memory)
+    } else {
+        Ok(())
+    }
+}
+
+/// The places at which Left cells begin, where the others are cells of the same sides, places and types.
+pub fn places_alike<N: Num>(
+    alloc: Global,
+    xs: &[Part<Cell<N>>],
+    ys: &[Part<Cell<N>>],
+) -> Result<Option<Vec<(u32, u32)>>, Memory>
+    ensures places { IfOk result (λ o. IfSome o (λ v. v.items ≡ places (all_items xs.now))) }
+    ensures alike { IfOk result (λ o. IfSome o (λ _. HaveCellsAlike (all_items xs.now) (all_items ys.now))) }
+    ensures unlike { IfOk result (λ o. IfNone o (HaveCellsAlike (all_items xs.now) (all_items ys.now) → ⊥)) }
+{
+    let mut out = Vec::new(alloc);
+    let mut a = At { part: 0, item: 0 };
+    let mut b = At { part: 0, item: 0 };
+    loop {
+        let Some(x) = next(xs, a) else {
+            return match next(ys, b) {
+                None => Ok(Some(out)),
+                Some(_) => Ok(None),
+            };
+        };
+        let Some(y) = next(ys, b) else {
+            return Ok(None);
+        };
+        if !is_same_cell(x.0, y.0) {
+            return Ok(None);
+        }
+        push_place(&mut out, x.0)?;
+        a = x.1;
+        b = y.1;
+    }
 }
 
 fn cell_in<N: Num>(side: Side, block: u32, offset: u32, parts: &[Part<Cell<N>>]) -> Option<&Cell<N>>

@@ -6,3 +6,4 @@ pub mod Killing
 pub mod Blurring
 pub mod Changing
 pub mod Standing
+mod Cutting

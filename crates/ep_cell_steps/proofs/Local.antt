@@ -318,7 +318,7 @@ number_before c x lc lx h = by (nat_lt c.block x.block) refl
         let small = side_small c.side in
         before_from c.block (key_of c) x.block (key_of x) (in_block same (omega (arith, less, small)))
 
-number_behind : {N : Type 0} (c x : Cell N) → c.offset < 4294967296 → x.offset < 4294967296 → number_of x < number_of c
+pub number_behind : {N : Type 0} (c x : Cell N) → c.offset < 4294967296 → x.offset < 4294967296 → number_of x < number_of c
     → comes_before c x ≡ false
 number_behind c x lc lx h = false_from_ne_true (comes_before c x) (λ e. by (before_true c.block (key_of c) x.block
     (key_of x) e))

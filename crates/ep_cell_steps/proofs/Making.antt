@@ -1,5 +1,5 @@
 -- States made of lists of cells.
-use Rattle.std.proofs.Common.{◌≡◌, ℕ, ◌+◌, ◌<◌, ◌≤◌, ◌⊎◌, inl, inr, ⊎_elim, List, [], ◌∷◌, ◌++◌, length, drop, get_or, Option, Some, None, IfSome, true, refl, sym, ◌∙◌, ap, subst, arith}
+use Rattle.std.proofs.Common.{◌≡◌, ℕ, ◌+◌, ◌<◌, ◌≤◌, ◌⊎◌, inl, inr, ⊎_elim, List, [], ◌∷◌, ◌++◌, length, drop, get_or, Option, Some, None, IfSome, true, refl, sym, ap, subst, arith}
 use Rattle.std.proofs.Math.ListN.{drop_of_length-le}
 use Rattle.ep_int.specs.declared.types.Model.{Model}
 use Rattle.ep_bitslice.specs.declared.cell.CellName.{CellName}
@@ -17,32 +17,15 @@ use Rattle.ep_cell_rows.specs.declared.values.Union.TheVariants.{Join, Widen}
 use Rattle.ep_cell_rows.specs.Parts.{united}
 use Rattle.ep_shared_parts.specs.declared.parts.Part.{Part}
 use Rattle.ep_shared_parts.specs.declared.uses.Use.{Use}
-use Rattle.ep_shared_parts.specs.Spread.{Outline, outline, outlines, all_items, AreFrom, AreSpread}
+use Rattle.ep_shared_parts.specs.Spread.{outlines, all_items, AreSpread}
 use Rattle.ep_shared_parts.specs.Mentions.{number_of, number_of_name, number_of_use, IsNoted, AllNoted, AreIndexed}
 use Rattle.ep_shared_parts.proofs.Steps.{rest_at}
 use Rattle.ep_shared_parts.proofs.Mentioning.{note_of}
 use Rattle.ep_cell_steps.specs.Kept.{IsIndexed, AreKept}
 
--- ---- one part
-
-from_zero : (ns : List ℕ) → AreFrom 0 ns
-from_zero [] = tt
-from_zero (n ∷ ns) = (omega arith, from_zero ns)
-
 pub none_behind : {X : Type 0} (xs : List X) → xs ++ [] ≡ xs
 none_behind [] = refl
 none_behind (x ∷ xs) = ap (λ ys. x ∷ ys) (none_behind xs)
-
-from_start : (o : Outline) → o.start ≡ 0 → AreSpread (o ∷ [])
-from_start o e = (subst (λ n. AreFrom n o.numbers) (sym e) (from_zero o.numbers), tt, tt)
-
-pub one_spread : {X : Type 0} (number : X → ℕ) (ps : List (Part X)) (p : Part X) → ps ≡ p ∷ [] → p.start ≡ 0
-    → AreSpread (outlines number ps)
-one_spread number ps p e s = subst (λ qs. AreSpread (outlines number qs)) (sym e) (from_start (outline number p) s)
-
-pub one_items : {X : Type 0} (ps : List (Part X)) (p : Part X) (xs : List X) → ps ≡ p ∷ [] → p.items.value.items ≡ xs
-    → all_items ps ≡ xs
-one_items ps p xs e f = ap all_items e ∙ none_behind p.items.value.items ∙ f
 
 -- ---- the index
 

@@ -4,3 +4,4 @@ pub mod Weakened
 pub mod Killed
 pub mod Left
 pub mod Planned
+pub mod Opened

@@ -105,7 +105,8 @@ fn edits_elsewhere<N: Num>(
     requires spread { AreSpread (outlines number_of parts.now) }
     requires uses { AreSpread (outlines number_of_use uses.now) }
     requires rising { range.0 ≤ range.1 }
-    ensures { IfOk result (λ v. AreElsewhere N.ops model step.now range.0 range.1 (all_items uses.now) parts.now v.items) }
+    ensures { IfOk result (λ v. AreElsewhere N.ops model step.now range.0 range.1 (all_items uses.now) parts.now
+        v.items) }
 {
     let mut edits = edits_of_users(alloc, step, model, parts, uses, range)?;
     push_targets(&mut edits, step, model, parts)?;

@@ -1,6 +1,6 @@
 //! Left and Right cells of a state that are surely the same become Shared ones.
 
-ghost use Rattle.std.specs.Prelude.{◌≡◌, ◌∷◌, [], IfOk};
+ghost use Rattle.std.specs.Prelude.{◌≡◌, ◌∷◌, [], IfOk, OnOk, OnErr};
 ghost use Rattle.ep_cells.specs.Reshare.{reshared_cell, reshared_at, reshared};
 ghost use Rattle.ep_state_steps.specs.Ones.{reshared_from};
 
@@ -56,4 +56,27 @@ pub fn reshare_all<N: Num>(state: State<N>) -> Result<State<N>, Memory>
     let places = state.left_places()?;
     let after = reshare_each(state, &places)?;
     Ok(after)
+}
+
+/// What is reshared in place.
+pub trait Reshare: Drop {
+    ghost after: { Self → Self };
+
+    /// Left and Right integer cells of one place and type that are surely the same become Shared ones. Costs what
+    /// `reshare_all` does, and a count for each part.
+    fn reshare(&mut self) -> Result<(), Memory>
+        ensures ok { OnOk result (self.new ≡ after self.old) }
+        ensures err { OnErr result (self.new ≡ self.old) };
+}
+
+impl<N: Num> Reshare for State<N> {
+    ghost use Rattle.ep_cells.specs.Reshare.{reshared};
+
+    ghost after = { λ s. record s { cells = reshared N.ops s.cells } };
+
+    fn reshare(&mut self) -> Result<(), Memory> {
+        let after = reshare_all(self.copy()?)?;
+        *self = after;
+        Ok(())
+    }
 }

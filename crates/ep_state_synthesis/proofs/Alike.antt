@@ -7,7 +7,7 @@ use Rattle.ep_int.specs.declared.types.Scalar.{Scalar}
 use Rattle.ep_int.specs.Types.{size_of}
 use Rattle.ep_bitslice.specs.declared.cell.CellName.{CellName}
 use Rattle.ep_bitslice.specs.declared.cell.Side.{Side}
-use Rattle.ep_bitslice.specs.declared.cell.Side.TheVariants.{Shared}
+use Rattle.ep_bitslice.specs.declared.cell.Side.TheVariants.{Left, Shared}
 use Rattle.ep_bitslice.specs.declared.segment.Segment.{Segment}
 use Rattle.ep_bitslice.specs.Bits.{mentions}
 use Rattle.ep_bitslice.specs.Segments.{bits}
@@ -17,7 +17,7 @@ use Rattle.ep_cells.specs.declared.place.Place.{Place}
 use Rattle.ep_cells.specs.Cells.{place_of, meets, is_same_side, is_same_cell, IsIn, first, later, each_becomes}
 use Rattle.ep_cells.specs.Forms.{reformed}
 use Rattle.ep_cells.specs.Both.{cell_like}
-use Rattle.ep_cells.specs.Reshare.{reshared}
+use Rattle.ep_cells.specs.Reshare.{places, reshared}
 use Rattle.ep_cells.specs.States.{Known, IsFormOf, EachPair, AreApart, AreCells, AreAlike, HaveCellsAlike}
 use Rattle.ep_cells_laws.proofs.Places.{meets_sym}
 use Rattle.ep_cells_laws.proofs.Both.{one, left_first, right_first, one_order, alike_sym}
@@ -40,6 +40,17 @@ alike_lists [] [] h = tt
 alike_lists [] (y ∷ ys) h = absurd h
 alike_lists (x ∷ xs) [] h = absurd h
 alike_lists (x ∷ xs) (y ∷ ys) h = (alike_sym x y h.0, alike_lists xs ys h.1)
+
+-- they have Left cells at the same places
+pub alike_places : {N : Type 0} (xs ys : List (Cell N)) → HaveCellsAlike xs ys → places xs ≡ places ys
+alike_places [] [] h = refl
+alike_places [] (y ∷ ys) h = absurd h
+alike_places (x ∷ xs) [] h = absurd h
+alike_places (x ∷ xs) (y ∷ ys) h =
+    ap (λ s. cond (is_same_side s Left) ((x.block, x.offset) ∷ places xs) (places xs)) h.0.side
+    ∙ ap (λ b. cond (is_same_side y.side Left) ((b, x.offset) ∷ places xs) (places xs)) h.0.block
+    ∙ ap (λ q. cond (is_same_side y.side Left) ((y.block, q) ∷ places xs) (places xs)) h.0.offset
+    ∙ ap (λ ps. cond (is_same_side y.side Left) ((y.block, y.offset) ∷ ps) ps) (alike_places xs ys h.1)
 
 -- the cell that is like another
 record Partner {N : Type 0} (xs : List (Cell N)) (y : Cell N) : Type 0 where

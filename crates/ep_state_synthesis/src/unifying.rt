@@ -18,14 +18,16 @@ fn are_unified<N: Num>(a: &State<N>, b: &State<N>) -> Result<bool, Memory>
 {
     a.model();
     b.model();
-    if !a.is_like(b) {
-        return Ok(false);
+    match a.left_places_alike(b)? {
+        None => Ok(false),
+        Some(places) => {
+            if !a.is_reshared_at(&places) {
+                return Ok(false);
+            }
+            let is_so = b.is_reshared_at(&places);
+            Ok(is_so)
+        }
     }
-    if !a.is_reshared()? {
-        return Ok(false);
-    }
-    let is_so = b.is_reshared()?;
-    Ok(is_so)
 }
 
 fn unified_states<N: Num>(a: State<N>, b: State<N>) -> Result<States<N>, Memory>

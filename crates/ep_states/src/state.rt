@@ -27,7 +27,7 @@ use ep_cell_parts::about::about;
 use ep_cell_parts::conditions::can_write;
 use ep_cell_parts::equals::{are_equal, is_model, is_order};
 use ep_cell_parts::kills::killed;
-use ep_cell_parts::places::{are_different, places};
+use ep_cell_parts::places::{are_different, places, places_alike};
 use ep_cell_parts::unions::united;
 use ep_cell_parts::values::set_value_at;
 use ep_cell_rows::values::Union;
@@ -101,7 +101,7 @@ impl<N: Num> State<N> {
         ensures { IfOk result (λ s. s ≡ record { orders = orders; model = model; cells = cells.items }) }
     {
         let uses = index(alloc, &cells)?;
-        let cells = spread(alloc, cells)?;
+        let cells = spread(alloc, model, cells)?;
         Ok(State::of_parts(orders, model, Parts { cells, uses }))
     }
 
@@ -302,8 +302,8 @@ impl<N: Num> State<N> {
     }
 
     /// A step, with new cells, whose forms mention cells as they were before it. What comes of it has to be the cells
-    /// of a state. Costs the parts with cells that the step touches or with forms that mention such, a search for each new
-    /// cell, and where a block is killed a look at all cells.
+    /// of a state. Costs the parts with cells that the step touches or with forms that mention such, a search for each
+    /// new cell, and where a block is killed a look at all cells.
     pub fn change(&mut self, step: &Step<N>, new: Vec<Cell<N>>) -> Result<(), Memory>
         requires { AreCells self.old.model (changed_by N.ops self.old.model step.now new.items self.old.cells) }
         ensures ok { OnOk result (self.new
@@ -317,8 +317,8 @@ impl<N: Num> State<N> {
 
     /// The state after a step with new cells, whose forms mention cells as they were before it. What comes of it has to
     /// be the cells of a state. Parts that no copy shares are changed where they stand: costs those with cells that the
-    /// step touches or with forms that mention such, a search for each new cell, and where a block is killed a look at all
-    /// cells.
+    /// step touches or with forms that mention such, a search for each new cell, and where a block is killed a look at
+    /// all cells.
     pub fn after(self, step: &Step<N>, new: Vec<Cell<N>>) -> Result<State<N>, Memory>
         requires { AreCells self.model (changed_by N.ops self.model step.now new.items self.cells) }
         ensures { IfOk result (λ s. s
@@ -365,8 +365,8 @@ impl<N: Num> State<N> {
     }
 
     /// New cells in a place, in which no others lie partly: what was there on its sides is gone. What comes of it has
-    /// to be the cells of a state. Costs the parts with cells that touch the place or mention such, and a search for each
-    /// new cell.
+    /// to be the cells of a state. Costs the parts with cells that touch the place or mention such, and a search for
+    /// each new cell.
     pub fn overwrite(&mut self, place: Place, new: &[Cell<N>]) -> Result<(), Memory>
         requires { AreCells self.old.model (overwritten N.ops place new.now self.old).cells }
         ensures ok { OnOk result (self.new ≡ overwritten N.ops place new.now self.old) }
@@ -474,6 +474,28 @@ impl<N: Num> State<N> {
     {
         let places = places(*self.parts.cells.allocator(), &self.parts.cells)?;
         Ok(places)
+    }
+
+    /// The places at which Left cells begin, where the other state has cells of the same sides, places and types. Looks
+    /// at all cells of both, once.
+    pub fn left_places_alike(&self, other: &State<N>) -> Result<Option<Vec<(u32, u32)>>, Memory>
+        ensures places { IfOk result (λ o. IfSome o (λ v. v.items ≡ places self.now.cells)) }
+        ensures alike { IfOk result (λ o. IfSome o (λ _. HaveCellsAlike self.now.cells other.now.cells)) }
+        ensures unlike { IfOk result (λ o. IfNone o (HaveCellsAlike self.now.cells other.now.cells → ⊥)) }
+    {
+        let alloc = *self.parts.cells.allocator();
+        let places = places_alike(alloc, &self.parts.cells, &other.parts.cells)?;
+        Ok(places)
+    }
+
+    /// Whether at none of these places, which are all those of Left cells, a Left cell is surely the same as a Right
+    /// one, so that resharing leaves all cells as they are. Two searches for each place. Takes no memory.
+    pub fn is_reshared_at(&self, at: &[(u32, u32)]) -> bool
+        requires { at.now ≡ places self.now.cells }
+        ensures value { result ≡ are_different N.ops self.now.cells (places self.now.cells) }
+        ensures stays { IsTrue result → self.now.cells ≡ reshared N.ops self.now.cells }
+    {
+        are_different(at, &self.parts.cells)
     }
 
     /// Whether no Left cell is surely the same as a Right one, so that resharing leaves all cells as they are. Takes

@@ -1,5 +1,6 @@
 -- A cell without a form may be written where none lies partly in its place.
-use Rattle.std.proofs.Common.{◌≡◌, Bool, true, ◌&&◌, not, ◌↔◌, IsTrue, List, Option, None, IfSome, refl, sym, ◌∙◌, ap, subst}
+use Rattle.std.proofs.Common.{◌≡◌, Bool, true, ◌&&◌, not, ◌↔◌, IsTrue, List, Option, None, IfSome, refl, sym, ◌∙◌, ap}
+use Rattle.std.proofs.Common.{subst}
 use Rattle.std.proofs.lemmas.Bool.{and_parts}
 use Rattle.ep_int.specs.declared.types.Model.{Model}
 use Rattle.ep_cells.specs.declared.cell.Cell.{Cell}

@@ -1,5 +1,6 @@
-//! What operations on states cost: each line of the input is a row `OPERATION CELLS LAY CASE ROUNDS`, and how many rounds
-//! went well is written behind it. Where the row ends in `time`, the nanoseconds of processor time of a round too.
+//! What operations on states cost: each line of the input is a row `OPERATION CELLS LAY CASE ROUNDS`, and how many
+//! rounds went well is written behind it. Where the row ends in `time`, the nanoseconds of processor time of a round
+//! too.
 #![tactic(auto)]
 
 mod making;

@@ -1,4 +1,5 @@
-// States of so many cells.
+//! States of so many cells.
+
 ghost use Rattle.std.specs.Prelude.{◌≡◌, IsTrue, None};
 ghost use Rattle.ep_cells.specs.States.{CanWrite};
 
@@ -53,7 +54,8 @@ pub(crate) fn place(lay: Lay, i: u32) -> (u32, u32) {
     }
 }
 
-fn state(alloc: Global, row: &Row) -> Result<State<Numbers>, Memory> {
+/// The state of the cells of the lay, in which nothing is known.
+pub(crate) fn state(alloc: Global, row: &Row) -> Result<State<Numbers>, Memory> {
     let mut cells = Vec::new(alloc);
     for i in 0..row.cells {
         let c = cell(row.lay, Side::Shared, i, Numbers::top(type_of(row.lay)));
@@ -139,7 +141,9 @@ fn mentions(state: &mut State<Numbers>, row: &Row) -> Result<(), Memory> {
 
 fn other(alloc: Global, row: &Row) -> Result<State<Numbers>, Memory> {
     match row.case {
-        Case::Alone => Ok(State::empty(alloc, (Order::Little, Order::Big), Model::Ilp32)),
+        Case::Copied | Case::Alone => {
+            Ok(State::empty(alloc, (Order::Little, Order::Big), Model::Ilp32))
+        }
         _ => state(alloc, row),
     }
 }
@@ -157,6 +161,7 @@ pub(crate) fn states(alloc: Global, row: &Row) -> Result<(State<Numbers>, State<
         Case::Parted => write(&mut second, cell(row.lay, Side::Left, middle, any))?,
         Case::Pairs(n) => pairs(&mut first, row, n)?,
         Case::Mentions => mentions(&mut first, row)?,
+        Case::Copied => second = first.copy()?,
         Case::Alone => {}
     }
     Ok((first, second))

@@ -1,9 +1,10 @@
-// Rounds of one operation.
+//! Rounds of one operation.
+
 ghost use Rattle.std.specs.Prelude.{◌≡◌, IsTrue};
 ghost use Rattle.ep_int.specs.declared.types.Model.TheVariants.{Ilp32};
 ghost use Rattle.ep_int.specs.declared.types.Order.TheVariants.{Little, Big};
 
-use crate::making::{Numbers, OTHER_BLOCK, cell, place, single, states, weaken, write};
+use crate::making::{Numbers, OTHER_BLOCK, cell, place, single, state, states, weaken, write};
 use crate::rows::{Operation, Row};
 use ep_bitslice::Side;
 use ep_cells::Place;
@@ -107,6 +108,10 @@ fn once(work: &mut Work, row: &Row, i: u32) -> Result<(), Memory> {
     let c = cell(row.lay, Side::Shared, at, single(i));
     match row.operation {
         Operation::Hold => Ok(()),
+        Operation::Make => {
+            state(work.first.allocator(), row)?;
+            Ok(())
+        }
         Operation::Copy => {
             work.first.copy()?;
             Ok(())

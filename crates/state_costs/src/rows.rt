@@ -1,8 +1,9 @@
-// What is to be measured.
+//! What is to be measured.
 
 #[derive(Clone, Copy)]
 pub(crate) enum Operation {
     Hold,
+    Make,
     Copy,
     Write,
     WriteAll,
@@ -45,6 +46,8 @@ pub(crate) enum Case {
     Pairs(u32),
     /// Cells were written again and again that mention another.
     Mentions,
+    /// The second state is a copy, which shares all parts.
+    Copied,
     /// The second state has no cells.
     Alone,
 }
@@ -62,6 +65,7 @@ pub(crate) struct Row {
 fn operation_of(word: &str) -> Option<Operation> {
     match word {
         "hold" => Some(Operation::Hold),
+        "make" => Some(Operation::Make),
         "copy" => Some(Operation::Copy),
         "write" => Some(Operation::Write),
         "write-all" => Some(Operation::WriteAll),
@@ -102,6 +106,7 @@ fn case_of(word: &str) -> Option<Case> {
         "pair" => Some(Case::Pairs(1)),
         "pairs" => Some(Case::Pairs(1000)),
         "mentions" => Some(Case::Mentions),
+        "copied" => Some(Case::Copied),
         "alone" => Some(Case::Alone),
         _ => None,
     }
