@@ -4,7 +4,8 @@ use Rattle.std.specs.Global.{Box}
 use Rattle.ep_int.specs.declared.types.Cmp.{Cmp}
 use Rattle.ep_int.specs.declared.types.IntType.{IntType}
 use Rattle.ep_int.specs.declared.types.Scalar.{Scalar}
-use Rattle.ep_core.specs.declared.tree.Expr.{Expr, And, Or, Not, Cond, Compare, PtrCompare, Load, Convert, Const, Null, AddrOf, Cast}
+use Rattle.ep_core.specs.declared.tree.Expr.{Expr, And, Or, Not, Cond, Compare, PtrCompare, Load, Convert, Const}
+use Rattle.ep_core.specs.declared.tree.Expr.{Null, AddrOf, Cast}
 use Rattle.ep_core.specs.declared.tree.Place.{Place}
 use Rattle.ep_core.specs.declared.tree.Expr.TheVariants as form
 use Rattle.ep_core.specs.Runs.{Side}

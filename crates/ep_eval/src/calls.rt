@@ -7,16 +7,16 @@ ghost use Rattle.ep_evaluation.specs.Evaluation.{expression, place};
 ghost use Rattle.ep_evaluation.specs.Given.{alone};
 ghost use Rattle.ep_evaluation.specs.Narrowed.{then_with};
 ghost use Rattle.ep_eval_fits.specs.Fitting.{ExprIsFit, PlaceIsFit};
-ghost use Rattle.ep_eval_loads.specs.After.{left_of};
-ghost use Rattle.ep_eval_loads.specs.Running.{side_of};
-ghost use Rattle.ep_eval_parts.specs.Steps.{given_second, pair_if};
+ghost use Rattle.ep_eval_forms.specs.After.{left_of};
+ghost use Rattle.ep_eval_forms.specs.Running.{side_of};
+ghost use Rattle.ep_eval_forms.specs.Steps.{given_second, pair_if};
 
 use crate::evaluate;
 use ep_core::tree::{Expr, Place};
 use ep_domain::Num;
 use ep_equalities::{Fault, Mode, PairValue};
-use ep_eval_loads::{After, Running};
-use ep_eval_parts::left::{Assumed, Second, Wants};
+use ep_eval_forms::pieces::left::{Assumed, Second, Wants};
+use ep_eval_forms::pieces::{After, Running};
 use ep_int::Memory;
 use ep_states::State;
 
@@ -53,8 +53,8 @@ pub fn address<N: Num>(
     evaluate::address(a, sizes, state, mode, faults)
 }
 
-/// What an expression gives on one side alone, and what is left of the state where it is of each truth that is asked for.
-/// The faults are added to those that are there.
+/// What an expression gives on one side alone, and what is left of the state where it is of each truth that is asked
+/// for. The faults are added to those that are there.
 pub fn test<N: Num>(
     e: &Expr,
     sizes: &[u32],
@@ -92,9 +92,11 @@ pub fn second<N: Num>(
         (expression N.ops sizes.now (shown_expr e.now)) (side_of side) runs (left_of state.now after))) }
     ensures faults { OnOk result (faults.new.items ≡ faults.old.items ++ spec.later_faults N.ops (given_second N.ops
         (expression N.ops sizes.now (shown_expr e.now)) (side_of side) runs (left_of state.now after))) }
-    ensures yes { IfOk result (λ r. wants.yes ≡ true → left_of state.now r.when_true ≡ then_with (left_of state.now after)
+    ensures yes { IfOk result (λ r. wants.yes ≡ true → left_of state.now r.when_true
+        ≡ then_with (left_of state.now after)
         ((expression N.ops sizes.now (shown_expr e.now)).assumes (side_of side) true)) }
-    ensures no { IfOk result (λ r. wants.no ≡ true → left_of state.now r.when_false ≡ then_with (left_of state.now after)
+    ensures no { IfOk result (λ r. wants.no ≡ true → left_of state.now r.when_false
+        ≡ then_with (left_of state.now after)
         ((expression N.ops sizes.now (shown_expr e.now)).assumes (side_of side) false)) }
 {
     evaluate::second(e, sizes, state, side, after, runs, wants, faults)

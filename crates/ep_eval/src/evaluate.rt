@@ -1,5 +1,5 @@
-//! Expressions and places: what they give in a mode, and what is left of a state where a test has a truth. On one side a
-//! pass gives the value and what is left for both truths, so that no part is evaluated again at each level.
+//! Expressions and places: what they give in a mode, and what is left of a state where a test has a truth. On one side
+//! a pass gives the value and what is left for both truths, so that no part is evaluated again at each level.
 
 ghost use Rattle.std.specs.Prelude.{◌≡◌, IfOk, IfSome, Some, true, false};
 ghost use Rattle.ep_core.specs.Runs.{left, right};
@@ -12,28 +12,27 @@ ghost use Rattle.ep_evaluation.specs.Narrowed.{then_with, again};
 ghost use Rattle.ep_evaluation.specs.Narrowed as narrowed;
 ghost use Rattle.ep_eval_fits.specs.Fitting.{ExprIsFit, PlaceIsFit};
 ghost use Rattle.ep_eval_sides.specs.Sides.{faultless};
-ghost use Rattle.ep_eval_loads.specs.After.{left_of};
-ghost use Rattle.ep_eval_loads.specs.Running.{side_of};
+ghost use Rattle.ep_eval_forms.specs.After.{left_of};
+ghost use Rattle.ep_eval_forms.specs.Running.{side_of};
 ghost use Rattle.ep_eval.specs.Forms.{is_branching, is_joined, is_of_two};
-ghost use Rattle.ep_eval_parts.specs.Limits as limits;
-ghost use Rattle.ep_eval_parts.specs.Limits.{both_limited};
+ghost use Rattle.ep_eval_forms.specs.Limits as limits;
+ghost use Rattle.ep_eval_forms.specs.Limits.{both_limited};
 ghost use Rattle.ep_eval_forms.specs.Results.{IsFirst, IsGiven, IsLater, IsOperand, IsSecond, IsTested};
-ghost use Rattle.ep_eval_parts.specs.Steps.{given_later, state_where};
+ghost use Rattle.ep_eval_forms.specs.Steps.{given_later, state_where};
 
 use ep_core::tree::{Expr, Place};
 use ep_domain::Num;
 use ep_equalities::{Fault, Mode, PairValue};
 use ep_eval_forms::asks::{turned, with_false, with_true};
 use ep_eval_forms::cells::{converted_operand, loaded};
+use ep_eval_forms::pieces::left::{Assumed, Second, Wants, behind, left_where, second_behind};
+use ep_eval_forms::pieces::modes::{First, mode_where};
+use ep_eval_forms::pieces::operands::{Operand, numbers, operands_assumed};
+use ep_eval_forms::pieces::sure::are_sure;
+use ep_eval_forms::pieces::typed::{computed, converted};
+use ep_eval_forms::pieces::verdicts::has_one_truth;
+use ep_eval_forms::pieces::{After, Running, load};
 use ep_eval_forms::tested::{conjunction, disjunction, opposite, pointers_compared, value_tested};
-use ep_eval_loads::loads::load;
-use ep_eval_loads::{After, Running};
-use ep_eval_parts::left::{Assumed, Second, Wants, behind, left_where, second_behind};
-use ep_eval_parts::modes::{First, mode_where};
-use ep_eval_parts::operands::{Operand, numbers, operands_assumed};
-use ep_eval_parts::sure::are_sure;
-use ep_eval_parts::typed::{computed, converted};
-use ep_eval_parts::verdicts::has_one_truth;
 use ep_eval_places::elements::element;
 use ep_eval_places::moves::{member, sum};
 use ep_eval_sides::operators::{

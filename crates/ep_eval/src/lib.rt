@@ -6,6 +6,7 @@ mod calls;
 mod evaluate;
 
 pub use calls::{address, eval, second, test};
-pub use ep_eval_parts::left::{Assumed, Second, Wants};
-pub use ep_eval_parts::verdicts::{Verdict, verdict_of};
+pub use ep_eval_forms::pieces::left::{Assumed, Second, Wants};
+pub use ep_eval_forms::pieces::verdicts::{Verdict, is_only, verdict_of};
+pub use ep_eval_forms::pieces::{After, Running};
 pub use evaluate::assumed_on_both;

@@ -1,5 +1,6 @@
 -- The types of a program give what the code takes for granted.
-use Rattle.std.proofs.Common.{◌≡◌, ℕ, ◌≤◌, Bool, true, false, ◌&&◌, ◌||◌, nat_le, List, Option, Some, None, slice_get, ⊎_elim, refl, sym, ap, ◌∙◌, subst, arith}
+use Rattle.std.proofs.Common.{◌≡◌, ℕ, ◌≤◌, Bool, true, false, ◌&&◌, ◌||◌, nat_le, List, Option, Some, None, slice_get}
+use Rattle.std.proofs.Common.{⊎_elim, refl, sym, ap, ◌∙◌, subst, arith}
 use Rattle.std.proofs.lemmas.Bool.{and_parts}
 use Rattle.std.proofs.lemmas.Bool.Decides.{nat_tests}
 use Rattle.ep_int.specs.declared.types.IntType.{IntType}
@@ -14,9 +15,13 @@ use Rattle.ep_layout.specs.Table.{Table, size}
 use Rattle.ep_core.specs.Program.{Place, block, deref, member, element, Expr, const, null_value, load, addr_of, binary}
 use Rattle.ep_core.specs.Program.{convert, compare, ptr_compare, logical_and, logical_or, logical_not, conditional}
 use Rattle.ep_core.specs.Program.{ptr_add, cast, Block}
-use Rattle.ep_core.specs.WellFormed.{Sort, integer, pointer_to, is_integer, is_pointer_where, sort_of, is_sort, ty_at, has_scalar, is_array_of, has_bound, has_member, is_number, is_length, int_type_of, right_type, is_int, some_type, is_pointer, is_test, is_named, block_has, place_has, has_sort, is_same_type}
+use Rattle.ep_core.specs.WellFormed.{Sort, integer, pointer_to, is_integer, is_pointer_where, sort_of, is_sort, ty_at}
+use Rattle.ep_core.specs.WellFormed.{has_scalar, is_array_of, has_bound, has_member, is_number, is_length}
+use Rattle.ep_core.specs.WellFormed.{int_type_of, right_type, is_int, some_type, is_pointer, is_test, is_named}
+use Rattle.ep_core.specs.WellFormed.{block_has, place_has, has_sort, is_same_type}
 use Rattle.ep_core.specs.Typed.{scalar_of}
-use Rattle.ep_core.proofs.Sorts.{never, three, either_is, same_type, loaded_scalar, int_where, type_where, pointer_where, tested_where}
+use Rattle.ep_core.proofs.Sorts.{never, three, either_is, same_type, loaded_scalar, int_where, type_where}
+use Rattle.ep_core.proofs.Sorts.{pointer_where, tested_where}
 use Rattle.ep_eval_fits.specs.Fitting.{ExprIsFit, PlaceIsFit}
 
 length_some : (n : ℕ) → is_length n ≡ true → 1 ≤ n

@@ -22,8 +22,11 @@ use Rattle.ep_equalities.specs.declared.pair.Mode.{Mode}
 use Rattle.ep_equalities.specs.declared.pair.SideValue.{SideValue}
 use Rattle.ep_cell_ranges.specs.Narrow.{with_value}
 use Rattle.ep_evaluation.specs.Given.{Given, alone, on, are_sure}
-use Rattle.ep_evaluation.specs.Narrowed.{then_with, both, either_of, again, when_not, met, refined, null_taken, null_met, null_refined, narrowed_by, numbers_narrowed, says_alike, null_side, answer, pointers_narrowed}
-use Rattle.ep_evaluation.specs.Evaluation.{Means, ToCell, number, pointer, value_narrowed, if_sure, test_narrowed, test_assumed, short_assumed, expression}
+use Rattle.ep_evaluation.specs.Narrowed.{then_with, both, either_of, again, when_not, met, refined, null_taken}
+use Rattle.ep_evaluation.specs.Narrowed.{null_met, null_refined, narrowed_by, numbers_narrowed, says_alike, null_side}
+use Rattle.ep_evaluation.specs.Narrowed.{answer, pointers_narrowed}
+use Rattle.ep_evaluation.specs.Evaluation.{Means, ToCell, number, pointer, value_narrowed, if_sure, test_narrowed}
+use Rattle.ep_evaluation.specs.Evaluation.{test_assumed, short_assumed, expression}
 use Rattle.ep_eval_fits.specs.Likeness.{IsLike, IfLike}
 
 module _ {N : Type 0} where

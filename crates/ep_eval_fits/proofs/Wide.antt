@@ -1,5 +1,7 @@
 -- Forms have the widths of their types.
-use Rattle.std.proofs.Common.{◌≡◌, ℕ, ◌+◌, ◌-◌, ◌<◌, ◌≤◌, ℤ, pos, ◌<ℤ◌, ◌≤ℤ◌, Bool, true, false, ◌&&◌, ◌||◌, not, nat_eq, nat_lt, nat_le, int_le, int_lt, unsigned_abs, cond, List, [], ◌∷◌, length, Option, Some, None, refl, sym, ap, ◌∙◌, subst, arith}
+use Rattle.std.proofs.Common.{◌≡◌, ℕ, ◌+◌, ◌-◌, ◌<◌, ◌≤◌, ℤ, pos, ◌<ℤ◌, ◌≤ℤ◌, Bool, true, false, ◌&&◌, ◌||◌, not}
+use Rattle.std.proofs.Common.{nat_eq, nat_lt, nat_le, int_le, int_lt, unsigned_abs, cond, List, [], ◌∷◌, length}
+use Rattle.std.proofs.Common.{Option, Some, None, refl, sym, ap, ◌∙◌, subst, arith}
 use Rattle.std.specs.Prelude.{IfSome}
 use Rattle.std.specs.Option.{option_map}
 use Rattle.std.proofs.lemmas.Bool.{and_parts, eqb-true}
@@ -17,7 +19,8 @@ use Rattle.ep_bitslice.specs.declared.segment.Segment.{Segment}
 use Rattle.ep_bitslice.specs.Bits.{Bit, shifted_left, shifted_right, masked, extended, part_of, are_disjoint, either_of}
 use Rattle.ep_bitslice.specs.Segments.{bits, normal, width, form_of, or_of}
 use Rattle.ep_bitslice.proofs.Appending.{bits-normal}
-use Rattle.ep_bitslice.proofs.Parts.{width-shifted_left, width-shifted_right, width-masked, width-either, width-extended, width-part_of}
+use Rattle.ep_bitslice.proofs.Parts.{width-shifted_left, width-shifted_right, width-masked, width-either}
+use Rattle.ep_bitslice.proofs.Parts.{width-extended, width-part_of}
 use Rattle.ep_domain.specs.Domain.{Ops}
 use Rattle.ep_bitslice.specs.declared.cell.Side.{Side as CellSide}
 use Rattle.ep_cells.specs.declared.cell.Value.{Value}
@@ -37,9 +40,11 @@ use Rattle.ep_equalities.specs.declared.pair.Mode.TheVariants.{Both, Left, Right
 use Rattle.ep_equalities.specs.declared.pair.SideValue.{SideValue}
 use Rattle.ep_cell_ranges.specs.Spots.{Spot}
 use Rattle.ep_evaluation.specs.Given.{cells_of, on, pair_on, nothing}
-use Rattle.ep_evaluation.specs.Operators.{Form, constant_form, amount_in, left_shift, right_shift, mask_of, and_form, disjoint_form, form_by, converted_form}
+use Rattle.ep_evaluation.specs.Operators.{Form, constant_form, amount_in, left_shift, right_shift, mask_of, and_form}
+use Rattle.ep_evaluation.specs.Operators.{disjoint_form, form_by, converted_form}
 use Rattle.ep_evaluation.specs.Accesses.{reads_of, form_of_reads}
-use Rattle.ep_evaluation.specs.Evaluation.{number, outcome, formless, binary_side, convert_side, load_side, expression, place, form_of_numbers, form_if, convert_form, places_at}
+use Rattle.ep_evaluation.specs.Evaluation.{number, outcome, formless, binary_side, convert_side, load_side}
+use Rattle.ep_evaluation.specs.Evaluation.{expression, place, form_of_numbers, form_if, convert_form, places_at}
 use Rattle.ep_eval_sides.specs.Forms.{IsWide, IsWideIf}
 use Rattle.ep_eval_fits.specs.Fitting.{ExprIsFit}
 

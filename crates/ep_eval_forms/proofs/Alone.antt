@@ -1,5 +1,6 @@
 -- What tests and operands have given on one side, by what their parts have given.
-use Rattle.std.proofs.Common.{◌≡◌, ℕ, Bool, true, false, ◌||◌, not, List, ◌++◌, length, drop, Option, None, Some, refl, sym, ap, ◌∙◌, subst, append-nil}
+use Rattle.std.proofs.Common.{◌≡◌, ℕ, Bool, true, false, ◌||◌, not, List, ◌++◌, length, drop, Option, None, Some}
+use Rattle.std.proofs.Common.{refl, sym, ap, ◌∙◌, subst, append-nil}
 use Rattle.std.specs.Prelude.{IfSome}
 use Rattle.ep_int.specs.declared.types.Cmp.{Cmp}
 use Rattle.ep_int.specs.declared.types.IntType.{IntType}
@@ -14,9 +15,12 @@ use Rattle.ep_equalities.specs.declared.pair.PairValue.{PairValue}
 use Rattle.ep_evaluation.specs.Given.{alone, on, are_sure, is_both, mode_where}
 use Rattle.ep_evaluation.specs.Narrowed.{then_with, again, when_not, either_of, cell_of, if_kept}
 use Rattle.ep_evaluation.specs.Operators.{may_be}
-use Rattle.ep_evaluation.specs.Evaluation.{Means, Reaches, number, pointer, same, with_cell, compare_given, compare_means, pointers_given, pointers_means, not_given, not_means, short_given, and_means, or_means, load_given, load_means, convert_given, convert_means, places_at, cell_if}
+use Rattle.ep_evaluation.specs.Evaluation.{Means, Reaches, number, pointer, same, with_cell, compare_given}
+use Rattle.ep_evaluation.specs.Evaluation.{compare_means, pointers_given, pointers_means, not_given, not_means}
+use Rattle.ep_evaluation.specs.Evaluation.{short_given, and_means, or_means, load_given, load_means, convert_given}
+use Rattle.ep_evaluation.specs.Evaluation.{convert_means, places_at, cell_if}
 use Rattle.ep_eval_sides.specs.Sides.{faultless, faultless_if}
-use Rattle.ep_eval_loads.specs.After.{left_of}
+use Rattle.ep_eval_parts.specs.After.{left_of}
 use Rattle.ep_eval_loads.specs.declared.after.After.{After}
 use Rattle.ep_eval_parts.specs.declared.left.Assumed.{Assumed}
 use Rattle.ep_eval_parts.specs.declared.left.Second.{Second}

@@ -1,5 +1,6 @@
 -- What the forms of expressions and places give, by what their operands have given.
-use Rattle.std.proofs.Common.{◌≡◌, Bool, true, false, List, [], ◌++◌, Option, None, Some, Result, Ok, Err, IfOk, refl, sym, ap, ◌∙◌, subst, append_assoc, append-nil}
+use Rattle.std.proofs.Common.{◌≡◌, Bool, true, false, List, [], ◌++◌, Option, None, Some, Result, Ok, Err, IfOk, refl}
+use Rattle.std.proofs.Common.{sym, ap, ◌∙◌, subst, append_assoc, append-nil}
 use Rattle.std.specs.Prelude.{OnOk}
 use Rattle.ep_domain.specs.Domain.{Ops}
 use Rattle.ep_cells.specs.States.{Known}
@@ -7,7 +8,8 @@ use Rattle.ep_equalities.specs.declared.pair.Fault.{Fault}
 use Rattle.ep_equalities.specs.declared.pair.Mode.{Mode}
 use Rattle.ep_equalities.specs.declared.pair.PairValue.{PairValue}
 use Rattle.ep_evaluation.specs.Given.{Given}
-use Rattle.ep_evaluation.specs.Evaluation.{Means, Reaches, short_given, chosen_given, later, later_faults, given_in, short_in, chosen_in}
+use Rattle.ep_evaluation.specs.Evaluation.{Means, Reaches, short_given, chosen_given, later, later_faults, given_in}
+use Rattle.ep_evaluation.specs.Evaluation.{short_in, chosen_in}
 use Rattle.ep_eval_sides.specs.Sides.{faultless, faultless_if}
 use Rattle.ep_eval_parts.specs.Steps.{LeadsOn, given_later, pair_if}
 use Rattle.ep_eval_forms.specs.Results.{IsGiven, IsLater}

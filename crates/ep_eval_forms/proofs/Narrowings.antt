@@ -1,5 +1,6 @@
 -- What limits of operands leave is what tests leave.
-use Rattle.std.proofs.Common.{◌≡◌, ℕ, Bool, true, false, cond, List, [], ◌∷◌, ◌++◌, length, drop, Option, None, Some, refl, ap, ◌∙◌, append_assoc}
+use Rattle.std.proofs.Common.{◌≡◌, ℕ, Bool, true, false, cond, List, [], ◌∷◌, ◌++◌, length, drop, Option, None, Some}
+use Rattle.std.proofs.Common.{refl, ap, ◌∙◌, append_assoc}
 use Rattle.ep_int.specs.declared.types.Cmp.{Cmp}
 use Rattle.ep_int.specs.declared.types.Cmp.TheVariants.{Ne}
 use Rattle.ep_domain.specs.Domain.{Ops}
@@ -14,12 +15,15 @@ use Rattle.ep_core.specs.Runs.{Side}
 use Rattle.ep_equalities.specs.declared.pair.Fault.{Fault}
 use Rattle.ep_equalities.specs.declared.pair.PairValue.{PairValue}
 use Rattle.ep_evaluation.specs.Given.{alone, on, are_sure}
-use Rattle.ep_evaluation.specs.Narrowed.{then_with, again, when_not, narrowed_by, numbers_narrowed, null_side, says_alike, answer, pointers_narrowed}
+use Rattle.ep_evaluation.specs.Narrowed.{then_with, again, when_not, narrowed_by, numbers_narrowed, null_side}
+use Rattle.ep_evaluation.specs.Narrowed.{says_alike, answer, pointers_narrowed}
 use Rattle.ep_evaluation.specs.Operators.{test_of}
-use Rattle.ep_evaluation.specs.Evaluation.{Means, number, pointer, if_sure, value_narrowed, test_assumed, compare_means, pointers_means}
+use Rattle.ep_evaluation.specs.Evaluation.{Means, number, pointer, if_sure, value_narrowed, test_assumed}
+use Rattle.ep_evaluation.specs.Evaluation.{compare_means, pointers_means}
 use Rattle.ep_eval_parts.specs.declared.limits.Limits.{Limits}
 use Rattle.ep_eval_parts.specs.declared.limits.Limit.TheVariants.{Free, Null}
-use Rattle.ep_eval_parts.specs.Limits.{limits_within, limits_if, null_limit, number_limits, pointer_limits, value_limits, limited, both_limited}
+use Rattle.ep_eval_parts.specs.Limits.{limits_within, limits_if, null_limit, number_limits, pointer_limits}
+use Rattle.ep_eval_parts.specs.Limits.{value_limits, limited, both_limited}
 
 dropped : (old xs : List Fault) → drop (length old) (old ++ xs) ≡ xs
 dropped [] xs = refl

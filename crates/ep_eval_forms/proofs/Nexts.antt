@@ -1,5 +1,6 @@
 -- What operands give that are evaluated later.
-use Rattle.std.proofs.Common.{◌≡◌, Bool, true, false, ◌||◌, not, List, ◌++◌, Option, None, Some, refl, sym, ap, ◌∙◌, append_assoc}
+use Rattle.std.proofs.Common.{◌≡◌, Bool, true, false, ◌||◌, not, List, ◌++◌, Option, None, Some, refl, sym, ap, ◌∙◌}
+use Rattle.std.proofs.Common.{append_assoc}
 use Rattle.ep_domain.specs.Domain.{Ops}
 use Rattle.ep_cells.specs.States.{Known}
 use Rattle.ep_core.specs.Runs.{Side, left, right}

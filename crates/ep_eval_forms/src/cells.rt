@@ -10,15 +10,14 @@ ghost use Rattle.ep_evaluation.specs.Given.{alone, on};
 ghost use Rattle.ep_evaluation.specs.Narrowed as narrowed;
 ghost use Rattle.ep_eval_fits.specs.Fitting.{ExprIsFit};
 ghost use Rattle.ep_eval_sides.specs.Sides.{faultless};
-ghost use Rattle.ep_eval_loads.specs.Running.{side_of};
+ghost use Rattle.ep_eval_parts.specs.Running.{side_of};
 
 use ep_core::tree::Expr;
 use ep_domain::Num;
 use ep_equalities::{Fault, PairValue};
-use ep_eval_loads::Running;
-use ep_eval_loads::loads::load;
 use ep_eval_parts::operands::{Operand, kept_cell, load_cell};
 use ep_eval_parts::typed::converted;
+use ep_eval_parts::{Running, load};
 use ep_int::{IntType, Memory, Scalar};
 use ep_states::State;
 
@@ -36,7 +35,8 @@ pub fn loaded<N: Num>(
         ≡ (spec.load_given N.ops sizes.now what (alone (side_of side)) state.now (faultless x.now)).pair) }
     ensures faults { OnOk result (faults.new.items ≡ faults.old.items
         ++ (spec.load_given N.ops sizes.now what (alone (side_of side)) state.now (faultless x.now)).faults) }
-    ensures cell { IfOk result (λ r. r.cell ≡ spec.cell_if N.ops sizes.now sure (narrowed.cell_of state.now (side_of side)
+    ensures cell { IfOk result (λ r. r.cell ≡ spec.cell_if N.ops sizes.now sure
+        (narrowed.cell_of state.now (side_of side)
         what (spec.places_at N.ops sizes.now what state.now (on x.now (side_of side))))) }
     ensures sort { IfOk result (λ r. IfSome r.cell (λ c. IsOfSort c.what c.value)) }
 {

@@ -4,3 +4,5 @@
 pub mod asks;
 pub mod cells;
 pub mod tested;
+
+pub use ep_eval_parts as pieces;

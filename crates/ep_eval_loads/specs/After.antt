@@ -1,7 +1,7 @@
 -- What is left of a state.
 use Rattle.std.specs.Prelude.{Option, None, Some}
 use Rattle.ep_cells.specs.States.{Known}
-use Rattle.ep_eval_loads.specs.declared.after.After.{After}
+pub use Rattle.ep_eval_loads.specs.declared.after.After.{After}
 use Rattle.ep_eval_loads.specs.declared.after.After.TheVariants.{Nothing, Unchanged, Changed}
 
 abbrev pub left_of : {N : Type 0} → Known N → After N → Option (Known N)

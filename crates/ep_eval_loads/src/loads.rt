@@ -1,6 +1,7 @@
 //! What is read at an address, and the cell that has it.
 
-ghost use Rattle.std.specs.Prelude.{◌≡◌, ◌++◌, ◌≢◌, ◌∷◌, [], ◌<◌, ◌&&◌, ◌||◌, IfOk, IfSome, OnOk, None, Some, false, true, length};
+ghost use Rattle.std.specs.Prelude.{◌≡◌, ◌++◌, ◌≢◌, ◌∷◌, [], ◌<◌, ◌&&◌, ◌||◌, IfOk, IfSome, OnOk, None, Some, false};
+ghost use Rattle.std.specs.Prelude.{true, length};
 ghost use Rattle.std.specs.Option.{option_map};
 ghost use Rattle.ep_cells.specs.Both.{value_of_both};
 ghost use Rattle.ep_cells.specs.Cells.{IsIn};
@@ -327,7 +328,8 @@ fn may_be_null<N: Num>(x: &SideValue<N>) -> bool
 
 fn note_null<N: Num>(mode: Mode, x: &PairValue<N>, faults: &mut Vec<Fault>) -> Result<(), Memory>
     ensures { IfOk result (λ _. faults.new.items ≡ faults.old.items
-        ++ faults_on mode AlarmKind.U6 (λ s. given.shown_if (spec.is_null N.ops [] (spec.pointer N.ops (given.on x.now s))))) }
+        ++ faults_on mode AlarmKind.U6
+        (λ s. given.shown_if (spec.is_null N.ops [] (spec.pointer N.ops (given.on x.now s))))) }
 {
     let left = shown_if(may_be_null(&x.left));
     let right = shown_if(may_be_null(&x.right));
@@ -408,8 +410,8 @@ fn note_reads<N: Num>(
     )
 }
 
-/// The value of a place of a scalar, by its address. Costs a search for a place, or one for each block and a look at each
-/// cell between its places; and a search more for each place that no cell has whole.
+/// The value of a place of a scalar, by its address. Costs a search for a place, or one for each block and a look at
+/// each cell between its places; and a search more for each place that no cell has whole.
 pub fn load<N: Num>(
     mode: Mode,
     sizes: &[u32],

@@ -100,8 +100,8 @@ fn about_run<'a, N: Num>(
     })
 }
 
-/// The cells to look at for the place at an index, by those for the places before it: others for another block, or where
-/// places fall.
+/// The cells to look at for the place at an index, by those for the places before it: others for another block, or
+/// where places fall.
 pub(crate) fn near_at<'a, N: Num>(
     near: Near<'a, N>,
     state: &'a State<N>,

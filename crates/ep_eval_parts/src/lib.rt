@@ -10,3 +10,6 @@ pub mod own_types;
 pub mod sure;
 pub mod typed;
 pub mod verdicts;
+
+pub use ep_eval_loads::loads::load;
+pub use ep_eval_loads::{After, Running};

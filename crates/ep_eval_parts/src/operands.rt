@@ -39,7 +39,8 @@ pub fn load_cell<N: Num>(
     sure: bool,
     x: &PairValue<N>,
 ) -> Result<Option<Cell<N>>, Memory>
-    ensures value { IfOk result (λ r. r ≡ spec.cell_if N.ops sizes.now sure (narrowed.cell_of state.now (side_of side) what
+    ensures value { IfOk result (λ r. r ≡ spec.cell_if N.ops sizes.now sure
+        (narrowed.cell_of state.now (side_of side) what
         (spec.places_at N.ops sizes.now what state.now (given.on x.now (side_of side))))) }
     ensures sort { IfOk result (λ r. IfSome r (λ c. IsOfSort c.what c.value)) }
 {
@@ -71,7 +72,8 @@ pub fn numbers<N: Num>(
     y: &Operand<N>,
 ) -> Option<Limits<N>>
     ensures { result ≡ limits.limits_if sure (limits.number_limits N.ops c
-        (spec.number N.ops (given.on x.now.value (side_of side))) (spec.number N.ops (given.on y.now.value (side_of side)))) }
+        (spec.number N.ops (given.on x.now.value (side_of side)))
+        (spec.number N.ops (given.on y.now.value (side_of side)))) }
 {
     number_limits(
         sure,

@@ -1,5 +1,6 @@
 -- Elements of arrays, as sums in blocks of the greatest size.
-use Rattle.std.proofs.Common.{◌≡◌, ℕ, zero, suc, ◌+◌, ◌<◌, ◌≤◌, max, ℤ, pos, Bool, true, false, ◌||◌, List, [], ◌∷◌, Option, Some, slice_get, fold, int_lt, cond, refl, ap, sym, ◌∙◌, arith}
+use Rattle.std.proofs.Common.{◌≡◌, ℕ, zero, suc, ◌+◌, ◌<◌, ◌≤◌, max, ℤ, pos, Bool, true, false, ◌||◌, List, [], ◌∷◌}
+use Rattle.std.proofs.Common.{Option, Some, slice_get, fold, int_lt, cond, refl, ap, sym, ◌∙◌, arith}
 use Rattle.std.specs.Prelude.{replicate}
 use Rattle.std.specs.Int.{int_max}
 use Rattle.std.specs.List.{list_any}
@@ -8,7 +9,8 @@ use Rattle.ep_range_laws.proofs.Comparisons.{from_lt_true, from_lt_false}
 use Rattle.ep_domain.specs.Domain.{Ops}
 use Rattle.ep_pointers.specs.declared.sum.Move.{Move}
 use Rattle.ep_pointers.specs.Value.{Target, Pointers}
-use Rattle.ep_pointers.specs.Sum.{move, moved, moved_offset, moved_targets, of_targets, put, exact_range, hull, shown_of}
+use Rattle.ep_pointers.specs.Sum.{move, moved, moved_offset, moved_targets, of_targets, put, exact_range, hull}
+use Rattle.ep_pointers.specs.Sum.{shown_of}
 use Rattle.ep_evaluation.specs.Accesses.{element_targets, may_pass}
 use Rattle.ep_eval_places.specs.Offsets.{count_to}
 

@@ -1,6 +1,7 @@
 //! The places of a scalar at an address, and what may go wrong there.
 
-ghost use Rattle.std.specs.Prelude.{◌≡◌, ◌++◌, ◌∷◌, [], ◌<◌, ◌≤◌, IfOk, Some, slice_get, nat_eq, not, if◌then◌else◌, ◌/◌, ◌&&◌, pos};
+ghost use Rattle.std.specs.Prelude.{◌≡◌, ◌++◌, ◌∷◌, [], ◌<◌, ◌≤◌, IfOk, Some, slice_get, nat_eq, not, if◌then◌else◌};
+ghost use Rattle.std.specs.Prelude.{◌/◌, ◌&&◌, pos};
 ghost use Rattle.std.specs.Option.{option_map};
 ghost use Rattle.ep_int.specs.Types.{residue};
 ghost use Rattle.ep_domain.specs.Domain.{Ops};
@@ -51,8 +52,8 @@ fn push_spot(out: &mut Vec<(u32, u32)>, block: u32, offset: u32) -> Result<(), M
     out.push((block, offset)).map_err(|_| Memory)
 }
 
-// The number, or the nearest one that is an offset into a block of the size, or its end.
-fn nearest_offset(size: u32, z: i128) -> u32
+/// The number, or the nearest one that is an offset into a block of the size, or its end.
+pub fn nearest_offset(size: u32, z: i128) -> u32
     ensures { result ≡ nearest_offset size z }
 {
     if z <= 0 {
@@ -79,7 +80,13 @@ fn last_index<N: Num>(size: u32, n: u32, offsets: &N) -> u32
     nearest_offset(size, offsets.range().1) / n
 }
 
-fn push_if(out: &mut Vec<(u32, u32)>, there: bool, block: u32, offset: u32) -> Result<(), Memory>
+/// Puts a place behind, if it is there.
+pub fn push_if(
+    out: &mut Vec<(u32, u32)>,
+    there: bool,
+    block: u32,
+    offset: u32,
+) -> Result<(), Memory>
     ensures { IfOk result (λ _. out.new.items ≡ out.old.items ++ (if there then (block, offset) ∷ [] else [])) }
 {
     if there {
@@ -88,7 +95,8 @@ fn push_if(out: &mut Vec<(u32, u32)>, there: bool, block: u32, offset: u32) -> R
     Ok(())
 }
 
-fn holds_offset<N: Num>(offsets: &N, offset: u32) -> bool
+/// Whether an offset is among these.
+pub fn holds_offset<N: Num>(offsets: &N, offset: u32) -> bool
     ensures { result ≡ N.ops.holds offsets.now (pos offset) }
 {
     offsets.holds(i128::from(offset))

@@ -1,5 +1,5 @@
-//! What the expressions, lvalues and tests of a program give over what is known of two memories, and what is left of that
-//! where a test has truths: evaluation for the analysis, which asks for no more than the program's types give.
+//! What the expressions, lvalues and tests of a program give over what is known of two memories, and what is left of
+//! that where a test has truths: evaluation for the analysis, which asks for no more than the program's types give.
 #![tactic(auto)]
 
 ghost use Rattle.std.specs.Prelude.{◌≡◌, ◌++◌, IfOk, OnOk, map, true, false};
@@ -11,16 +11,16 @@ ghost use Rattle.ep_equalities.specs.declared.pair.Mode.TheVariants.{Both};
 ghost use Rattle.ep_evaluation.specs.Evaluation as spec;
 ghost use Rattle.ep_evaluation.specs.Given.{alone};
 ghost use Rattle.ep_evaluation_laws.specs.Laws.{sizes_of};
-ghost use Rattle.ep_eval_loads.specs.After.{left_of};
-ghost use Rattle.ep_eval_loads.specs.Running.{side_of};
+ghost use Rattle.ep_eval_taken.specs.After.{left_of};
+ghost use Rattle.ep_eval_taken.specs.Running.{side_of};
 ghost use Rattle.ep_eval_programs.specs.Typed.{IsExpr, IsPlace, IsTest, meant, reached};
 
 use ep_core::program::{BlockInfo, CoreProgram};
 use ep_core::tree::{Expr, Place};
 use ep_domain::Num;
 use ep_equalities::{Fault, Mode, PairValue};
-use ep_eval::{Assumed, Wants};
-use ep_eval_loads::{After, Running};
+pub use ep_eval_taken as taken;
+use ep_eval_taken::expressions::{Assumed, Running, Wants};
 use ep_eval_taken::{Combinations, Taken};
 use ep_int::Memory;
 use ep_states::State;
@@ -58,7 +58,7 @@ pub fn value<N: Num>(
     ensures faults { OnOk result (faults.new.items ≡ faults.old.items
         ++ ((meant N.ops (shown program.now) (shown_expr e.now)).gives mode state.now).faults) }
 {
-    ep_eval::eval(e, sizes, state, mode, faults)
+    ep_eval_taken::expressions::eval(e, sizes, state, mode, faults)
 }
 
 /// What an lvalue gives in a mode: its address. Its faults are added to those that are there.
@@ -77,10 +77,10 @@ pub fn address<N: Num>(
     ensures faults { OnOk result (faults.new.items ≡ faults.old.items
         ++ (reached N.ops (shown program.now) (shown_place a.now) mode state.now).faults) }
 {
-    ep_eval::address(a, sizes, state, mode, faults)
+    ep_eval_taken::expressions::address(a, sizes, state, mode, faults)
 }
 
-/// What a test gives in a mode. Its faults are added to those that are there; `ep_eval::verdict_of` tells of its truths.
+/// What a test gives in a mode. Its faults are added to those that are there; `verdict_of` tells of its truths.
 pub fn test_value<N: Num>(
     program: &CoreProgram,
     sizes: &[u32],
@@ -96,7 +96,7 @@ pub fn test_value<N: Num>(
     ensures faults { OnOk result (faults.new.items ≡ faults.old.items
         ++ ((meant N.ops (shown program.now) (shown_expr e.now)).gives mode state.now).faults) }
 {
-    ep_eval::eval(e, sizes, state, mode, faults)
+    ep_eval_taken::expressions::eval(e, sizes, state, mode, faults)
 }
 
 /// What is left where both sides run, for each combination of truths that is asked for, by what the test gives.

@@ -1,6 +1,7 @@
 //! Forms of expressions.
 
-ghost use Rattle.std.specs.Prelude.{◌≡◌, ◌<◌, ◌^◌, Option, None, Some, IfSome, IsTrue, false, List, int_le, pos, if◌then◌else◌};
+ghost use Rattle.std.specs.Prelude.{◌≡◌, ◌<◌, ◌^◌, Option, None, Some, IfSome, IsTrue, false, List, int_le, pos};
+ghost use Rattle.std.specs.Prelude.{if◌then◌else◌};
 ghost use Rattle.ep_int.specs.Types.{InRange, bits_of, is_signed, representation};
 ghost use Rattle.ep_bitslice.specs.Segments.{width};
 ghost use Rattle.ep_evaluation.specs.Operators as spec;

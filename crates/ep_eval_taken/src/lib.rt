@@ -12,16 +12,16 @@ ghost use Rattle.ep_evaluation.specs.Evaluation.{expression};
 ghost use Rattle.ep_evaluation.specs.Given.{alone};
 ghost use Rattle.ep_evaluation.specs.Operators as operators;
 ghost use Rattle.ep_eval_fits.specs.Fitting.{ExprIsFit};
-ghost use Rattle.ep_eval_loads.specs.After.{left_of};
-ghost use Rattle.ep_eval_loads.specs.Running.{side_of};
+ghost use Rattle.ep_eval.specs.After.{left_of};
+ghost use Rattle.ep_eval.specs.Running.{side_of};
 
 use ep_core::tree::Expr;
 use ep_domain::Num;
 use ep_equalities::{Fault, Mode, PairValue, SideValue};
-use ep_eval::{assumed_on_both, eval, second, test};
-use ep_eval_loads::{After, Running};
-use ep_eval_parts::left::{Assumed, Second, Wants};
-use ep_eval_parts::verdicts::is_only;
+pub use ep_eval as expressions;
+use ep_eval::{
+    After, Assumed, Running, Second, Wants, assumed_on_both, eval, is_only, second, test,
+};
 use ep_int::Memory;
 use ep_states::State;
 
@@ -138,8 +138,8 @@ fn taken_with<N: Num>(
     })
 }
 
-/// What is left for each combination of truths that is asked for, by what the test gives on both sides. One pass for the
-/// left side, and one for the right side in what each of its truths leaves, serve all.
+/// What is left for each combination of truths that is asked for, by what the test gives on both sides. One pass for
+/// the left side, and one for the right side in what each of its truths leaves, serve all.
 pub fn test_taken_where<N: Num>(
     e: &Expr,
     sizes: &[u32],

@@ -1,13 +1,16 @@
 //! Blocks that are entered, or left.
 
 ghost use Rattle.std.specs.Prelude.{◌≡◌, IfOk, option_map, slice_get, drop};
-ghost use Rattle.ep_cells.specs.Kill.{AreLeavesIn};
+ghost use Rattle.ep_cells.specs.Kill.{AreLeavesIn, killed_cells};
 ghost use Rattle.ep_core.specs.Shown.{shown};
 ghost use Rattle.ep_core.specs.View.{shown_block};
 ghost use Rattle.ep_layout.specs.Table as table;
 ghost use Rattle.ep_transfers.specs.Transfers as spec;
 
+use ep_bicells::changes::Step;
 use ep_bitslice::Side;
+use ep_cell_changes::entry::entry_cells;
+use ep_cells_laws::kill_laws;
 use ep_core::program::{BlockInfo, CoreProgram};
 use ep_domain::Num;
 use ep_equalities::Mode;
@@ -37,6 +40,25 @@ pub(crate) fn leaves_of(program: &CoreProgram, block: &BlockInfo) -> Result<Vec<
     Ok(leaves)
 }
 
+// Changes the state's parts where they stand.
+fn killed<N: Num>(
+    side: Side,
+    number: u32,
+    leaves: &[Leaf],
+    size: u32,
+    state: State<N>,
+) -> Result<State<N>, Memory>
+    requires { AreLeavesIn state.model 0 size leaves.now }
+    ensures { IfOk result (λ s. s
+        ≡ record state { cells = killed_cells state.model side number leaves.now size state.cells }) }
+{
+    kill_laws::<N>();
+    let alloc = state.allocator();
+    let model = state.model();
+    let new = entry_cells(alloc, model, side, number, leaves, size)?;
+    state.after(&Step::Kill(side, number), new)
+}
+
 // One that the program lacks has no bytes.
 fn killed_block<N: Num>(
     program: &CoreProgram,
@@ -48,22 +70,17 @@ fn killed_block<N: Num>(
     ensures { IfOk result (λ s. s ≡ spec.killed_block N.ops (shown program.now) side number
         (slice_get (shown program.now).blocks number) state) }
 {
-    let mut after = state;
     match program.blocks.get(number as usize) {
-        None => {
-            after.kill_block(side, number, &[], 0)?;
-            Ok(after)
-        }
+        None => killed(side, number, &[], 0, state),
         Some(block) => {
             let leaves = leaves_of(program, block)?;
-            after.kill_block(side, number, &leaves, block.size)?;
-            Ok(after)
+            killed(side, number, &leaves, block.size, state)
         }
     }
 }
 
 /// Blocks are entered, or left, in turn on the running sides: their cells are as on entry, and pointers into them are
-/// undefined.
+/// undefined. Each costs its cells, those that mention or point to them, and a look at all cells for pointers.
 pub fn entered<N: Num>(
     program: &CoreProgram,
     mode: Mode,

@@ -21,7 +21,7 @@ use Rattle.ep_transfers.specs.Transfers.{Stepped, stepped, sizes, with_two, assi
 use Rattle.ep_transfers_laws.specs.Statements.{Each}
 use Rattle.ep_transfer_calls.specs.Waiting.{IsWideAs}
 use Rattle.ep_transfer_calls.proofs.Found.{order_of}
-use Rattle.ep_transfer_writes.specs.Waiting.{SideFits}
+use Rattle.ep_transfer_stores.specs.Waiting.{SideFits}
 use Rattle.ep_waiting_laws.specs.Laws.{WaitingHolds}
 use Rattle.ep_waiting_laws.specs.Taken.{AreTaken}
 

@@ -21,7 +21,7 @@ use Rattle.ep_transfers.specs.Transfers.{Stepped, stepped, fate_off_blocks, to_b
 use Rattle.ep_transfers.specs.Writes.{formed_pair}
 use Rattle.ep_transfers_laws.specs.Statements.{Each}
 use Rattle.ep_transfer_calls.specs.Waiting.{Waits, AllWait}
-use Rattle.ep_transfer_writes.specs.Waiting.{SideFits}
+use Rattle.ep_transfer_stores.specs.Waiting.{SideFits}
 use Rattle.ep_waiting_laws.specs.Laws.{OthersThere, WaitingHolds}
 
 pub is_empty : {A : Type 0} (n : ℕ) (xs : List A) → n ≡ length xs → n ≡ 0 → xs ≡ []

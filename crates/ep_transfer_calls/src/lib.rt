@@ -5,5 +5,6 @@ mod frames;
 mod passing;
 mod receiving;
 
+pub use ep_transfer_results as results;
 pub use passing::arguments;
 pub use receiving::result;

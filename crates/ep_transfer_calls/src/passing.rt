@@ -23,8 +23,7 @@ use ep_evaluation_laws::evaluation_laws;
 use ep_int::{Memory, Scalar};
 use ep_states::State;
 use ep_transfer_blocks::entered;
-use ep_transfer_fills::assigned;
-use ep_transfer_stores::typed_value;
+use ep_transfer_stores::{assigned, typed_value};
 use ep_waiting_laws::waiting_laws;
 use indexmap::IndexSet;
 

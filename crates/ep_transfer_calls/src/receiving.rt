@@ -20,9 +20,8 @@ use ep_equalities::{Fault, Mode, PairValue};
 use ep_eval_sides::operators::conversion;
 use ep_int::{Memory, Scalar};
 use ep_states::State;
-use ep_transfer_fills::assigned;
 use ep_transfer_results::loaded_result;
-use ep_transfer_stores::place_at;
+use ep_transfer_stores::{assigned, place_at};
 use ep_waiting_laws::waiting_laws;
 
 // A number is converted to the type of its place.

@@ -1,2 +1,4 @@
 pub mod Stepping
 pub mod Zeros
+pub mod Tiles
+pub mod AtOnce

@@ -1,5 +1,5 @@
 -- Leaves in step with the bytes of their type.
-use Rattle.std.proofs.Common.{◌≡◌, ℕ, zero, suc, ◌+◌, ◌-◌, ◌<◌, ◌≤◌, Bool, true, false, ◌&&◌, ◌||◌, nat_eq, nat_le, nat_lt, cond, List, [], ◌∷◌, Option, Some, None, IfSome, refl, sym, ◌∙◌, ap, subst, arith, length, get_or, drop, drop-cons, add-one, ⊎_elim}
+use Rattle.std.proofs.Common.{◌≡◌, ℕ, zero, suc, ◌+◌, ◌-◌, ◌<◌, ◌≤◌, Bool, true, false, ◌&&◌, ◌||◌, nat_eq, nat_le, nat_lt, cond, List, [], ◌∷◌, Option, Some, None, IfSome, refl, sym, ◌∙◌, ap, subst, arith, length, drop, add-one}
 use Rattle.std.proofs.lemmas.Bool.{and_from, or_left, ne_eqb, eq-eqb, eqb-true, le-leb, lt-ltb, le-ltb, lt-leb}
 use Rattle.ep_int.specs.declared.types.Model.{Model}
 use Rattle.ep_int.specs.declared.types.Scalar.{Scalar}
@@ -172,6 +172,24 @@ module _ (d : Model) (size : ℕ) (ls : List Leaf) where
     leaf_ends what h =
         let x = by_rest (drop n ls) what refl h in leaves_end d (q + size_of d what) size (drop (suc n) ls) x.rest
 
+    -- it begins behind the last one
+    pub leaf_low : (what : Scalar) → first_at (drop n ls) q ≡ Some what → e ≤ q
+    leaf_low what h = by_list (drop n ls) refl h
+      where
+        by_place : (l : Leaf) (more : List Leaf) (t : Bool) → AreLeavesIn d e size (l ∷ more) → nat_eq l.offset q ≡ t
+            → cond t (Some l.what) None ≡ Some what → e ≤ q
+        by_place l more true a f g = let low = a.0 in let at = eqb-true l.offset q f in omega (arith, low, at)
+        by_place l more false a f g = absurd (cc)
+
+        by_list : (xs : List Leaf) → drop n ls ≡ xs → first_at xs q ≡ Some what → e ≤ q
+        by_list [] f g = absurd (cc)
+        by_list (l ∷ more) f g =
+            by_place l more (nat_eq l.offset q) (subst (AreLeavesIn d e size) f w.rest) refl g
+
+    -- all leaves end inside the size
+    pub end_low : e ≤ size
+    end_low = leaves_end d e size (drop n ls) w.rest
+
     -- and there is one
     pub is_there : (what : Scalar) → first_at (drop n ls) q ≡ Some what → n < length ls
     is_there what h = left n ls (drop n ls) refl what h
@@ -190,17 +208,6 @@ module _ (d : Model) (size : ℕ) (ls : List Leaf) where
     leaf_room k f p r (Some what) h =
         subst (λ x. BothHaveRoom (q + size_of x what) p) (sym f)
         (less_both size (q + size_of d what) p (leaf_ends what (sym h)) r)
-
--- ---- what code looks at
-
-pub next_leaf : (ls : List Leaf) (i : ℕ) (l : Leaf) → i < length ls → drop i ls ≡ get_or ls i l ∷ drop (i + 1) ls
-next_leaf ls i l h = drop-cons ls i l h ∙ ap (λ k. get_or ls i l ∷ drop k ls) (sym (add-one i))
-
-pub none_left : (ls : List Leaf) (i : ℕ) → (i < length ls → ⊥) → drop i ls ≡ []
-none_left [] zero h = refl
-none_left [] (suc i) h = refl
-none_left (l ∷ ls) zero h = absurd (h (omega arith))
-none_left (l ∷ ls) (suc i) h = none_left ls i (λ g. h (omega (arith, g)))
 
 -- ---- byte after byte
 

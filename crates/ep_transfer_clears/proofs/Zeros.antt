@@ -8,7 +8,6 @@ use Rattle.ep_int.specs.declared.types.Scalar.{Scalar}
 use Rattle.ep_int.specs.declared.types.Scalar.TheVariants.{Int, Pointer}
 use Rattle.ep_int.proofs.Wrapping.{bytes_of_positive, representation_below}
 use Rattle.ep_bitslice.specs.declared.cell.CellName.{CellName}
-use Rattle.ep_bitslice.specs.declared.segment.Segment.{Segment}
 use Rattle.ep_bitslice.specs.declared.segment.Segment.TheVariants.{Fixed}
 use Rattle.ep_bitslice.specs.Bits.{mentions}
 use Rattle.ep_bitslice.specs.Segments.{bits, fixed_bits}

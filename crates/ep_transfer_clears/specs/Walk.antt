@@ -1,5 +1,5 @@
 -- Where a walk over the bytes of a type stands among its leaves.
-use Rattle.std.specs.Prelude.{◌≡◌, ℕ, ◌≤◌, ◌<◌, Bool, true, nat_eq, if◌then◌else◌, List, [], ◌∷◌, Option, Some, None, drop}
+use Rattle.std.specs.Prelude.{◌≡◌, ℕ, ◌≤◌, ◌<◌, true, nat_eq, if◌then◌else◌, List, [], ◌∷◌, Option, Some, None, drop}
 use Rattle.ep_int.specs.declared.types.Model.{Model}
 use Rattle.ep_int.specs.declared.types.Scalar.{Scalar}
 use Rattle.ep_layout.specs.declared.types.Leaf.{Leaf}

@@ -1,28 +1,35 @@
 //! A type's bytes are cleared at the places of an address.
 
-ghost use Rattle.std.specs.Prelude.{◌≡◌, ◌<◌, ◌+◌, ◌++◌, [], IfOk, OnOk, IfSome};
+ghost use Rattle.std.specs.Prelude.{◌≡◌, ◌<◌, ◌≤◌, ◌^◌, ◌+◌, ◌++◌, [], IfOk, OnOk, IfSome};
 ghost use Rattle.ep_int.specs.Types.{size_of};
 ghost use Rattle.ep_cells.specs.Kill.{AreLeavesIn};
-ghost use Rattle.ep_cell_ranges.specs.Moves.{blurred_each};
+ghost use Rattle.ep_cell_ranges.specs.Moves.{blurred_each, place_at};
+ghost use Rattle.ep_cell_ranges.specs.Ranges.{replaced};
 ghost use Rattle.ep_transfers.specs.Places.{moved_places};
 ghost use Rattle.ep_transfers.specs.Transfers as spec;
 ghost use Rattle.ep_transfers.specs.Writes as writes;
 ghost use Rattle.ep_transfer_places.specs.Room.{BothHaveRoom, shown as shown_places};
+ghost use Rattle.ep_transfer_writes.specs.Running.{RunsAt};
 ghost use Rattle.ep_transfer_writes.specs.Waiting.{shown_item, ItemFits};
+ghost use Rattle.ep_transfer_clears.specs.OnePlace.{cells_from};
 
+use crate::cells::cleared_cells;
 use crate::items::{undefined_item, zero_item};
 use crate::walks::{Walk, first_at, moved_on};
 use ep_bitslice::{BoxedForm, Side};
+use ep_cell_ranges_laws::{more_split_laws, replace_laws};
+use ep_cells::Place;
 use ep_domain::Num;
 use ep_equalities::{Fault, Mode, PairValue, same};
 use ep_int::{IntType, Memory, Scalar};
 use ep_layout::Leaf;
-use ep_state_ranges::blur_each;
+use ep_split_laws::split_laws;
+use ep_state_ranges::{blur_each, replace};
 use ep_states::State;
 use ep_transfer_places::Places;
 use ep_transfer_places::faults::range_faults;
 use ep_transfer_places::places::{has_places, moved_places, run_places};
-use ep_transfer_writes::{Item, Underway, write};
+use ep_transfer_writes::{Item, Underway, is_whole, run_at, write};
 
 // An item goes to the places so many bytes further on.
 fn put<N: Num>(
@@ -122,6 +129,76 @@ fn none_written<N: Num>(mode: Mode, places: &Places, state: State<N>) -> Result<
     }
 }
 
+// All at once.
+fn clear_range<N: Num>(
+    at: (Side, (u32, u32)),
+    bytes: u32,
+    leaves: &[Leaf],
+    state: State<N>,
+) -> Result<State<N>, Memory>
+    requires leaves { AreLeavesIn state.model 0 bytes leaves.now }
+    requires room { at.1.1 + bytes ≤ 2 ^ 32 }
+    ensures { IfOk result (λ r. r ≡ replaced N.ops (place_at at.0 at.1 bytes)
+        (cells_from N.ops state.model at.0 at.1 leaves.now 0 bytes) state) }
+{
+    let new = cleared_cells(&state, at, bytes, leaves)?;
+    let place = Place {
+        side: at.0,
+        block: at.1.0,
+        offset: at.1.1,
+        bytes,
+    };
+    let held: Vec<Option<BoxedForm>> = Vec::new(state.allocator());
+    let after = replace(state, place, new, held)?;
+    Ok(after.0)
+}
+
+// At once, where no cell lies partly there.
+fn clear_at_one<N: Num>(
+    at: (Side, (u32, u32)),
+    mode: Mode,
+    same_to: bool,
+    places: &Places,
+    bytes: u32,
+    leaves: &[Leaf],
+    state: State<N>,
+) -> Result<State<N>, Memory>
+    requires leaves { AreLeavesIn state.model 0 bytes leaves.now }
+    requires room { BothHaveRoom bytes (shown_places places.now) }
+    requires runs { RunsAt mode same_to (shown_places places.now) (spec.undefined_item N.ops) at }
+    ensures { IfOk result (λ r. r ≡ spec.cleared_from N.ops [] mode 0 leaves.now same_to
+        (shown_places places.now) 0 bytes state) }
+{
+    split_laws::<N>();
+    more_split_laws::<N>();
+    replace_laws::<N>();
+    state.model();
+    if is_whole(&state, at.0, at.1, bytes) {
+        return clear_range(at, bytes, leaves, state);
+    }
+    clear_each(mode, same_to, places, bytes, leaves, state)
+}
+
+fn clear_some<N: Num>(
+    mode: Mode,
+    same_to: bool,
+    places: &Places,
+    bytes: u32,
+    leaves: &[Leaf],
+    state: State<N>,
+) -> Result<State<N>, Memory>
+    requires leaves { AreLeavesIn state.model 0 bytes leaves.now }
+    requires room { BothHaveRoom bytes (shown_places places.now) }
+    ensures { IfOk result (λ r. r ≡ spec.cleared_from N.ops [] mode 0 leaves.now same_to
+        (shown_places places.now) 0 bytes state) }
+{
+    let item = undefined_item::<N>();
+    match run_at(mode, same_to, places, &item) {
+        None => clear_each(mode, same_to, places, bytes, leaves, state),
+        Some(at) => clear_at_one(at, mode, same_to, places, bytes, leaves, state),
+    }
+}
+
 fn clear_bytes<N: Num>(
     mode: Mode,
     same_to: bool,
@@ -138,12 +215,13 @@ fn clear_bytes<N: Num>(
     if bytes == 0 {
         return none_written(mode, places, state);
     }
-    clear_each(mode, same_to, places, bytes, leaves, state)
+    clear_some(mode, same_to, places, bytes, leaves, state)
 }
 
 /// 0 or null goes to each leaf of a type of so many bytes at the places of an address, and every other byte there is
-/// undefined. None is left where a running side has no place. The faults are added to those that are there. Each leaf
-/// and each other byte costs a write.
+/// undefined. None is left where a running side has no place. The faults are added to those that are there. At one
+/// place, on one side or on both together, where no cell lies partly in the bytes, it is one change of the cells there;
+/// else each leaf and each other byte costs a write.
 pub fn cleared<N: Num>(
     mode: Mode,
     sizes: &[u32],

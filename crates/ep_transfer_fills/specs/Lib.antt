@@ -1,1 +1,2 @@
+pub use Rattle.ep_transfer_writes.specs.Waiting
 pub mod Inputs

@@ -5,43 +5,9 @@ ghost use Rattle.ep_evaluation.specs.Accesses as spec;
 ghost use Rattle.ep_eval_places.specs.Offsets.{nearest_offset};
 
 use ep_domain::Num;
-use ep_eval_places::places::size_of;
+use ep_eval_places::places::{holds_offset, nearest_offset, push_if, size_of};
 use ep_int::Memory;
 use std::alloc::Global;
-
-fn push(out: &mut Vec<(u32, u32)>, block: u32, offset: u32) -> Result<(), Memory>
-    ensures { IfOk result (λ _. out.new.items ≡ out.old.items ++ (block, offset) ∷ []) }
-{
-    out.push((block, offset)).map_err(|_| Memory)
-}
-
-fn push_if(out: &mut Vec<(u32, u32)>, there: bool, block: u32, offset: u32) -> Result<(), Memory>
-    ensures { IfOk result (λ _. out.new.items ≡ out.old.items ++ (if there then (block, offset) ∷ [] else [])) }
-{
-    if there {
-        return push(out, block, offset);
-    }
-    Ok(())
-}
-
-fn holds_offset<N: Num>(offsets: &N, offset: u32) -> bool
-    ensures { result ≡ N.ops.holds offsets.now (pos offset) }
-{
-    offsets.holds(i128::from(offset))
-}
-
-// The number, or the nearest one from 0 to this one.
-fn nearest_offset(last: u32, z: i128) -> u32
-    ensures { result ≡ nearest_offset last z }
-{
-    if z <= 0 {
-        return 0;
-    }
-    if i128::from(last) <= z {
-        return last;
-    }
-    z as u32
-}
 
 fn least<N: Num>(last: u32, offsets: &N) -> u32
     ensures { result ≡ nearest_offset last (N.ops.range offsets.now).0 }

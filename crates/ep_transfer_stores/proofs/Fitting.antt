@@ -21,7 +21,7 @@ use Rattle.ep_evaluation_laws.specs.Laws.{EvaluationLaws, IsState}
 use Rattle.ep_eval_fits.specs.Fitting.{ExprIsFit, PlaceIsFit}
 use Rattle.ep_eval_fits.proofs.Fitting.{expr_is_fit, place_is_fit}
 use Rattle.ep_transfers.specs.Transfers.{gives, input_pair}
-use Rattle.ep_transfer_writes.specs.Waiting.{SideFits}
+use Rattle.ep_transfer_fills.specs.Waiting.{SideFits}
 use Rattle.ep_transfer_stores.specs.Typed.{IsExpr, IsPlace, IsNumber}
 
 pub expr_fit : (p : Program) (w : Scalar) (e : Expr) → IsExpr p w e → ExprIsFit e

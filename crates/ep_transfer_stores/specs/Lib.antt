@@ -1,1 +1,2 @@
+pub use Rattle.ep_transfer_fills.specs.Waiting
 pub mod Typed

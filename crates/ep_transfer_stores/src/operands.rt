@@ -5,7 +5,7 @@ ghost use Rattle.ep_core.specs.Shown.{shown};
 ghost use Rattle.ep_core.specs.View.{shown_expr, shown_place};
 ghost use Rattle.ep_evaluation.specs.Evaluation.{place};
 ghost use Rattle.ep_transfers.specs.Transfers as spec;
-ghost use Rattle.ep_transfer_writes.specs.Waiting.{SideFits};
+ghost use Rattle.ep_transfer_fills.specs.Waiting.{SideFits};
 ghost use Rattle.ep_transfer_stores.specs.Typed.{IsExpr, IsPlace};
 
 use ep_core::program::CoreProgram;

@@ -1,5 +1,6 @@
--- A place of one byte, and the bytes behind it: what a write of one and then of the other does to names and cells.
-use Rattle.std.proofs.Common.{◌≡◌, ℕ, suc, ◌+◌, ◌<◌, Bool, true, false, ◌&&◌, ◌||◌, nat_eq, nat_lt, cond, List, [], ◌∷◌, ◌++◌, Option, Some, None, refl, sym, ap, ◌∙◌, arith}
+-- Two places next to each other, w and then n bytes: what a write of one and then of the other does to names and
+-- cells.
+use Rattle.std.proofs.Common.{◌≡◌, ℕ, ◌+◌, ◌<◌, Bool, true, false, ◌&&◌, ◌||◌, nat_eq, nat_lt, cond, List, [], ◌∷◌, ◌++◌, Option, Some, None, refl, sym, ap, ◌∙◌, arith}
 use Rattle.std.specs.Option.{option_map}
 use Rattle.std.proofs.lemmas.Bool.Decides.{nat_tests}
 use Rattle.ep_int.specs.declared.types.Model.{Model}
@@ -17,15 +18,15 @@ use Rattle.ep_step_laws.proofs.Composed.{gone_on, then_fate}
 
 -- ---- places
 
-touches_by : (b a n c r k : ℕ) → 0 < k
-    → (nat_eq b c && (nat_lt a (r + k) && nat_lt r (a + suc n)))
-    ≡ ((nat_eq b c && (nat_lt a (r + k) && nat_lt r (a + 1)))
-    || (nat_eq b c && (nat_lt (a + 1) (r + k) && nat_lt r (a + 1 + n))))
-touches_by b a n c r k h = grind (arith, nat_tests)
+touches_by : (b a w n t c r k : ℕ) → t ≡ w + n → 0 < k
+    → (nat_eq b c && (nat_lt a (r + k) && nat_lt r (a + t)))
+    ≡ ((nat_eq b c && (nat_lt a (r + k) && nat_lt r (a + w)))
+    || (nat_eq b c && (nat_lt (a + w) (r + k) && nat_lt r (a + w + n))))
+touches_by b a w n t c r k e h = grind (arith, nat_tests)
 
-pub joined_touches : (s : Side) (b a n : ℕ) (q : Place) → 0 < q.bytes
-    → touches (at s b a (suc n)) q ≡ (touches (at s b a 1) q || touches (at s b (a + 1) n) q)
-joined_touches s b a n q h = touches_by b a n q.block q.offset q.bytes h
+pub joined_touches : (s : Side) (b a w n t : ℕ) (q : Place) → t ≡ w + n → 0 < q.bytes
+    → touches (at s b a t) q ≡ (touches (at s b a w) q || touches (at s b (a + w) n) q)
+joined_touches s b a w n t q e h = touches_by b a w n t q.block q.offset q.bytes e h
 
 -- ---- sides
 
@@ -80,11 +81,11 @@ name_positive : (n : CellName) → 0 < (place_of_name n).bytes
 name_positive n = size_positive Ilp32 (Int n.t)
 
 -- a name that is met by the first of two writes on one side
-two_by : (s : Side) (b a m : ℕ) (n : CellName) (t : Bool) → touches (at s b a 1) (place_of_name n) ≡ t
-    → gone_on (fate_by_write (at s b (a + 1) m)) (cond t (name_on n (side_without s n.side)) (Some n))
-    ≡ cond (t || touches (at s b (a + 1) m) (place_of_name n)) (name_on n (side_without s n.side)) (Some n)
-two_by s b a m n false e = refl
-two_by s b a m n true e = by (side_without s n.side) (taken_before s s n.side (takes_itself s))
+two_by : (s : Side) (b a w m : ℕ) (n : CellName) (t : Bool) → touches (at s b a w) (place_of_name n) ≡ t
+    → gone_on (fate_by_write (at s b (a + w) m)) (cond t (name_on n (side_without s n.side)) (Some n))
+    ≡ cond (t || touches (at s b (a + w) m) (place_of_name n)) (name_on n (side_without s n.side)) (Some n)
+two_by s b a w m n false e = refl
+two_by s b a w m n true e = by (side_without s n.side) (taken_before s s n.side (takes_itself s))
   where
     kept : (r : Side) (t : Bool) → side_without s r ≡ Some r
         → cond t (name_on n (side_without s r)) (Some (record n { side = r })) ≡ Some (record n { side = r })
@@ -92,16 +93,16 @@ two_by s b a m n true e = by (side_without s n.side) (taken_before s s n.side (t
     kept r false h = refl
 
     by : (o : Option Side) → without_both s o ≡ o
-        → gone_on (fate_by_write (at s b (a + 1) m)) (name_on n o) ≡ name_on n o
+        → gone_on (fate_by_write (at s b (a + w) m)) (name_on n o) ≡ name_on n o
     by None h = refl
-    by (Some r) h = kept r (touches (at s b (a + 1) m) (place_of_name n)) h
+    by (Some r) h = kept r (touches (at s b (a + w) m) (place_of_name n)) h
 
-pub two_fates : (s : Side) (b a m : ℕ) (n : CellName)
-    → then_fate (fate_by_write (at s b a 1)) (fate_by_write (at s b (a + 1) m)) n ≡ fate_by_write (at s b a (suc m)) n
-two_fates s b a m n =
-    two_by s b a m n (touches (at s b a 1) (place_of_name n)) refl
-    ∙ sym (ap (λ t. cond t (name_on n (side_without s n.side)) (Some n))
-    (joined_touches s b a m (place_of_name n) (name_positive n)))
+pub two_fates : (s : Side) (b a w m t : ℕ) (n : CellName) → t ≡ w + m
+    → then_fate (fate_by_write (at s b a w)) (fate_by_write (at s b (a + w) m)) n ≡ fate_by_write (at s b a t) n
+two_fates s b a w m t n e =
+    two_by s b a w m n (touches (at s b a w) (place_of_name n)) refl
+    ∙ sym (ap (λ x. cond x (name_on n (side_without s n.side)) (Some n))
+    (joined_touches s b a w m t (place_of_name n) e (name_positive n)))
 
 -- ---- cells
 
@@ -124,11 +125,11 @@ module _ {N : Type 0} (d : Model) where
           append_none (left_by_write d p (record x { side = r }))
           ∙ ap (λ c. cond c (with_side x (side_without p.side r)) (record x { side = r } ∷ [])) t
 
-  left_by : (s : Side) (b a m : ℕ) (x : Cell N) (t : Bool)
-      → each_becomes (left_by_write d (at s b (a + 1) m)) (cond t (with_side x (side_without s x.side)) (x ∷ []))
-      ≡ cond (t || touches (at s b (a + 1) m) (place_of d x)) (with_side x (side_without s x.side)) (x ∷ [])
-  left_by s b a m x false = append_none (left_by_write d (at s b (a + 1) m) x)
-  left_by s b a m x true = by (side_without s x.side) (taken_before s s x.side (takes_itself s))
+  left_by : (s : Side) (b a w m : ℕ) (x : Cell N) (t : Bool)
+      → each_becomes (left_by_write d (at s b (a + w) m)) (cond t (with_side x (side_without s x.side)) (x ∷ []))
+      ≡ cond (t || touches (at s b (a + w) m) (place_of d x)) (with_side x (side_without s x.side)) (x ∷ [])
+  left_by s b a w m x false = append_none (left_by_write d (at s b (a + w) m) x)
+  left_by s b a w m x true = by (side_without s x.side) (taken_before s s x.side (takes_itself s))
     where
       kept : (r : Side) (t : Bool) → side_without s r ≡ Some r
           → cond t (with_side x (side_without s r)) (record x { side = r } ∷ []) ≡ record x { side = r } ∷ []
@@ -136,16 +137,16 @@ module _ {N : Type 0} (d : Model) where
       kept r false h = refl
 
       by : (o : Option Side) → without_both s o ≡ o
-          → each_becomes (left_by_write d (at s b (a + 1) m)) (with_side x o) ≡ with_side x o
+          → each_becomes (left_by_write d (at s b (a + w) m)) (with_side x o) ≡ with_side x o
       by None h = refl
       by (Some r) h =
-          append_none (left_by_write d (at s b (a + 1) m) (record x { side = r }))
-          ∙ kept r (touches (at s b (a + 1) m) (place_of d x)) h
+          append_none (left_by_write d (at s b (a + w) m) (record x { side = r }))
+          ∙ kept r (touches (at s b (a + w) m) (place_of d x)) h
 
-  pub two_lefts : (s : Side) (b a m : ℕ) (x : Cell N)
-      → each_becomes (left_by_write d (at s b (a + 1) m)) (left_by_write d (at s b a 1) x)
-      ≡ left_by_write d (at s b a (suc m)) x
-  two_lefts s b a m x =
-      left_by s b a m x (touches (at s b a 1) (place_of d x))
-      ∙ sym (ap (λ t. cond t (with_side x (side_without s x.side)) (x ∷ []))
-      (joined_touches s b a m (place_of d x) (size_positive d x.what)))
+  pub two_lefts : (s : Side) (b a w m t : ℕ) (x : Cell N) → t ≡ w + m
+      → each_becomes (left_by_write d (at s b (a + w) m)) (left_by_write d (at s b a w) x)
+      ≡ left_by_write d (at s b a t) x
+  two_lefts s b a w m t x e =
+      left_by s b a w m x (touches (at s b a w) (place_of d x))
+      ∙ sym (ap (λ z. cond z (with_side x (side_without s x.side)) (x ∷ []))
+      (joined_touches s b a w m t (place_of d x) e (size_positive d x.what)))

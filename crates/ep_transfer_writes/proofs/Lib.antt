@@ -7,6 +7,7 @@ pub mod Joined
 pub mod Absorbed
 pub mod Uncut
 pub mod Behind
+pub mod Neighbours
 pub mod Ranged
 pub mod Running
 pub mod Copying

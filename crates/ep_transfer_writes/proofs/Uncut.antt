@@ -1,6 +1,6 @@
--- Where no cell lies partly in a place, a cut of its first byte doesn't matter once the place is written, and the place
--- itself cuts nothing.
-use Rattle.std.proofs.Common.{◌≡◌, ℕ, suc, ◌+◌, ◌<◌, Bool, true, false, ◌&&◌, ◌||◌, not, nat_eq, nat_lt, nat_le, cond, List, [], ◌∷◌, map, Some, None, refl, ap, ◌∙◌, arith}
+-- Where no cell lies partly in a place, a cut of its first bytes doesn't matter once the place is written, and the
+-- place itself cuts nothing.
+use Rattle.std.proofs.Common.{◌≡◌, ℕ, ◌+◌, ◌≤◌, ◌<◌, Bool, true, false, ◌&&◌, ◌||◌, not, nat_eq, nat_lt, nat_le, cond, List, [], ◌∷◌, map, Some, None, refl, ap, ◌∙◌, arith}
 use Rattle.std.specs.List.{filter}
 use Rattle.std.proofs.lemmas.Bool.Decides.{nat_tests}
 use Rattle.std.proofs.lemmas.Bool.{and_parts}
@@ -89,16 +89,16 @@ shares_more Shared s Right e h = refl
 shares_more Shared s Shared e h = refl
 
 -- a place that meets a part of another one without lying partly in it is enclosed by it
-touch_more : (b a n c r k : ℕ)
-    → (nat_eq b c && (nat_lt a (r + k) && nat_lt r (a + 1))) ≡ true
-    → (nat_eq b c && (nat_lt a (r + k) && nat_lt r (a + suc n))) ≡ true
-touch_more b a n c r k h = grind (arith, nat_tests)
+touch_more : (b a m all c r k : ℕ) → m ≤ all
+    → (nat_eq b c && (nat_lt a (r + k) && nat_lt r (a + m))) ≡ true
+    → (nat_eq b c && (nat_lt a (r + k) && nat_lt r (a + all))) ≡ true
+touch_more b a m all c r k l h = grind (arith, nat_tests)
 
-byte_touched : (b a n c r k i : ℕ) → i < k
-    → (nat_eq b c && (nat_lt a (r + k) && nat_lt r (a + 1))) ≡ true
-    → (nat_le a r && nat_le (r + k) (a + suc n)) ≡ true
-    → (nat_eq b c && (nat_lt a (r + i + 1) && nat_lt (r + i) (a + suc n))) ≡ true
-byte_touched b a n c r k i l h e = grind (arith, nat_tests)
+byte_touched : (b a m all c r k i : ℕ) → i < k
+    → (nat_eq b c && (nat_lt a (r + k) && nat_lt r (a + m))) ≡ true
+    → (nat_le a r && nat_le (r + k) (a + all)) ≡ true
+    → (nat_eq b c && (nat_lt a (r + i + 1) && nat_lt (r + i) (a + all))) ≡ true
+byte_touched b a m all c r k i l h e = grind (arith, nat_tests)
 
 enclosed_by : (m t e : Bool) → m ≡ true → (m && not e) ≡ false → e ≡ true
 enclosed_by m t true h i = refl
@@ -109,70 +109,72 @@ and_true : (x y : Bool) → x ≡ true → y ≡ true → (x && y) ≡ true
 and_true true y e f = f
 and_true false y e f = absurd (let q : false ≡ true = e in cc)
 
-module _ {N : Type 0} (d : Model) (s : Side) (b a n : ℕ) where
-  -- what is cut in the first byte lies in the place
+module _ {N : Type 0} (d : Model) (s : Side) (b a m all : ℕ) (within : m ≤ all) where
+  -- what is cut in the first bytes lies in the place
   pub cut_taken : (q : Side) (x : Cell N) → side_without s q ≡ None
-      → is_partly_in (at s b a (suc n)) (place_of d x) ≡ false
-      → is_partly_in (at q b a 1) (place_of d x) ≡ true → IsTaken d (at s b a (suc n)) q x
+      → is_partly_in (at s b a all) (place_of d x) ≡ false
+      → is_partly_in (at q b a m) (place_of d x) ≡ true → IsTaken d (at s b a all) q x
   cut_taken q x e none some =
-      let m = (and_parts (meets (at q b a 1) (place_of d x)) (not (encloses (at q b a 1) (place_of d x))) some).0 in
-      let h = and_parts (share_memory q x.side) (touches (at q b a 1) (place_of d x)) m in
-      let met = touch_more b a n x.block x.offset (size_of d x.what) h.1 in
-      let inside = enclosed_by (meets (at s b a (suc n)) (place_of d x)) true
-      (encloses (at s b a (suc n)) (place_of d x))
-      (and_true (share_memory s x.side) (touches (at s b a (suc n)) (place_of d x))
+      let p = at q b a m in
+      let some_met = (and_parts (meets p (place_of d x)) (not (encloses p (place_of d x))) some).0 in
+      let h = and_parts (share_memory q x.side) (touches p (place_of d x)) some_met in
+      let met = touch_more b a m all x.block x.offset (size_of d x.what) within h.1 in
+      let inside = enclosed_by (meets (at s b a all) (place_of d x)) true
+      (encloses (at s b a all) (place_of d x))
+      (and_true (share_memory s x.side) (touches (at s b a all) (place_of d x))
       (shares_more s q x.side e h.0) met)
       none in
       record {
         side = e;
         met = met;
-        bytes = λ i l. byte_touched b a n x.block x.offset (size_of d x.what) i l h.1 inside;
+        bytes = λ i l. byte_touched b a m all x.block x.offset (size_of d x.what) i l h.1 inside;
       }
 
--- ---- a cut of the first byte
+-- ---- a cut of the first bytes
 
-module _ {N : Type 0} (D : Ops N) (law : SplitLaws D) (more : MoreSplitLaws D) (b a n : ℕ) where
+module _ {N : Type 0} (D : Ops N) (law : SplitLaws D) (more : MoreSplitLaws D) (b a m all : ℕ)
+    (within : m ≤ all) where
   abbrev none : Side → Known N → Type 0
-  none s k = is_some_partly_in k.model (at s b a (suc n)) k.cells ≡ false
+  none s k = is_some_partly_in k.model (at s b a all) k.cells ≡ false
 
   cuts_taken : (s q : Side) (k : Known N) → side_without s q ≡ None → none s k
-      → AllTaken D k (at s b a (suc n)) q (cut_cells k.model (at q b a 1) k.cells)
+      → AllTaken D k (at s b a all) q (cut_cells k.model (at q b a m) k.cells)
   cuts_taken s q k e h x i =
-      let r = in_filter (λ x. is_partly_in (at q b a 1) (place_of k.model x)) x k.cells i in
-      cut_taken k.model s b a n q x e (none_in k.model (at s b a (suc n)) k.cells h x r.is_in) r.holds
+      let r = in_filter (λ x. is_partly_in (at q b a m) (place_of k.model x)) x k.cells i in
+      cut_taken k.model s b a m all within q x e (none_in k.model (at s b a all) k.cells h x r.is_in) r.holds
 
   -- on one side
   split_gone : (s q : Side) (k : Known N) (new : List (Cell N)) → side_without s q ≡ None → none s k
-      → wrote D k (at s b a (suc n)) q new (split D k (at q b a 1)) ≡ wrote D k (at s b a (suc n)) q new k.cells
+      → wrote D k (at s b a all) q new (split D k (at q b a m)) ≡ wrote D k (at s b a all) q new k.cells
   split_gone s q k new e h =
-      all_split D k (at s b a (suc n)) q (cut_cells k.model (at q b a 1) k.cells) new k.cells (cuts_taken s q k e h)
+      all_split D k (at s b a all) q (cut_cells k.model (at q b a m) k.cells) new k.cells (cuts_taken s q k e h)
 
   form_gone : (s q : Side) (k : Known N) (f : Form) → side_without s q ≡ None → none s k
-      → form_after (fate_by_write (at s b a (suc n))) (form_by_split D (at q b a 1) k f)
-      ≡ form_after (fate_by_write (at s b a (suc n))) f
+      → form_after (fate_by_write (at s b a all)) (form_by_split D (at q b a m) k f)
+      ≡ form_after (fate_by_write (at s b a all)) f
   form_gone s q k f e h =
-      form_split D k (at s b a (suc n)) q (cut_cells k.model (at q b a 1) k.cells) k.cells f (cuts_taken s q k e h)
+      form_split D k (at s b a all) q (cut_cells k.model (at q b a m) k.cells) k.cells f (cuts_taken s q k e h)
 
   -- on its side, or on both
   pub cut_gone : (s : Side) (k : Known N) (new : List (Cell N)) → AreCells k.model k.cells → none s k
-      → (overwritten D (at s b a (suc n)) new (cut D (at s b a 1) k)).cells
-      ≡ (overwritten D (at s b a (suc n)) new k).cells
+      → (overwritten D (at s b a all) new (cut D (at s b a m) k)).cells
+      ≡ (overwritten D (at s b a all) new k).cells
   cut_gone Left k new c h = split_gone Left Left k new refl h
   cut_gone Right k new c h = split_gone Right Right k new refl h
   cut_gone Shared k new c h =
-      let j = split_at D (at Left b a 1) k in
-      split_gone Shared Right j new refl (more.uncut k (at Left b a 1) (at Shared b a (suc n)) c refl h)
+      let j = split_at D (at Left b a m) k in
+      split_gone Shared Right j new refl (more.uncut k (at Left b a m) (at Shared b a all) c refl h)
       ∙ split_gone Shared Left k new refl h
 
   pub cut_form_gone : (s : Side) (k : Known N) (f : Form) → AreCells k.model k.cells → none s k
-      → form_after (fate_by_write (at s b a (suc n))) (form_by_cut D (at s b a 1) k f)
-      ≡ form_after (fate_by_write (at s b a (suc n))) f
+      → form_after (fate_by_write (at s b a all)) (form_by_cut D (at s b a m) k f)
+      ≡ form_after (fate_by_write (at s b a all)) f
   cut_form_gone Left k f c h = form_gone Left Left k f refl h
   cut_form_gone Right k f c h = form_gone Right Right k f refl h
   cut_form_gone Shared k f c h =
-      let j = split_at D (at Left b a 1) k in
-      form_gone Shared Right j (form_by_split D (at Left b a 1) k f) refl
-      (more.uncut k (at Left b a 1) (at Shared b a (suc n)) c refl h)
+      let j = split_at D (at Left b a m) k in
+      form_gone Shared Right j (form_by_split D (at Left b a m) k f) refl
+      (more.uncut k (at Left b a m) (at Shared b a all) c refl h)
       ∙ form_gone Shared Left k f refl h
 
 -- ---- no cut

@@ -1,6 +1,7 @@
 -- A run of bytes at one place.
 use Rattle.std.specs.Prelude.{◌≡◌, ℕ, zero, suc, ◌+◌, Bool, true, ◌&&◌, List, [], ◌∷◌, None}
 use Rattle.ep_int.specs.declared.types.IntType.TheVariants.{U8}
+use Rattle.ep_int.specs.declared.types.Scalar.{Scalar}
 use Rattle.ep_int.specs.declared.types.Scalar.TheVariants.{Int}
 use Rattle.ep_bitslice.specs.declared.cell.Side.{Side as CellSide}
 use Rattle.ep_bitslice.specs.declared.cell.Side.TheVariants as cell_side
@@ -30,11 +31,15 @@ RunsAt Both to p i r =
 RunsAt Left to p i r = (r.0 ≡ cell_side.Left) × (p.left ≡ r.1 ∷ [])
 RunsAt Right to p i r = (r.0 ≡ cell_side.Right) × (p.right ≡ r.1 ∷ [])
 
+-- a cell of what waits, on its side of cells
+abbrev pub item_cell : {N : Type 0} → Ops N → CellSide → Scalar → spec.Item N → Spot → Cell N
+item_cell D cell_side.Left w i q = spec.side_cell D left w i i.pair.left.form q
+item_cell D cell_side.Right w i q = spec.side_cell D right w i i.pair.right.form q
+item_cell D cell_side.Shared w i q = spec.shared_cell D w i (common_form i.pair.left.form i.pair.right.form) q
+
 -- the first new cell
 abbrev pub run_cell : {N : Type 0} → Ops N → CellSide → spec.Item N → Spot → Cell N
-run_cell D cell_side.Left i q = spec.side_cell D left (Int U8) i i.pair.left.form q
-run_cell D cell_side.Right i q = spec.side_cell D right (Int U8) i i.pair.right.form q
-run_cell D cell_side.Shared i q = spec.shared_cell D (Int U8) i (common_form i.pair.left.form i.pair.right.form) q
+run_cell D s i q = item_cell D s (Int U8) i q
 
 -- so many of them, each a byte further on
 abbrev pub copies : {N : Type 0} → Cell N → (count : ℕ) → List (Cell N)

@@ -10,5 +10,6 @@ mod sides;
 mod writes;
 
 pub use item::{Item, Underway};
+pub use ranges::{is_whole, item_cell, run_at};
 pub use runs::{blurred_side, write_run};
 pub use writes::{write, write_now};

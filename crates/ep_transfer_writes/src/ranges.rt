@@ -1,12 +1,13 @@
 //! The bytes of a run at one place, all at once.
 
 ghost use Rattle.std.specs.Prelude.{◌≡◌, ◌++◌, ◌∷◌, [], ◌+◌, ◌-◌, ◌^◌, ◌<◌, ◌≤◌, IfOk, IfSome, IsTrue, Some, false};
+ghost use Rattle.ep_int.specs.Types.{size_of};
 ghost use Rattle.ep_cells.specs.Look.{is_some_partly_in};
 ghost use Rattle.ep_cells.specs.Forms.{common_form};
 ghost use Rattle.ep_transfers.specs.Writes as spec;
 ghost use Rattle.ep_transfer_places.specs.Room.{shown as shown_places};
 ghost use Rattle.ep_transfer_writes.specs.Waiting.{shown, shown_item, CanStand, ItemFits, Keeps};
-ghost use Rattle.ep_transfer_writes.specs.Running.{Agree, RunsAt, run_cell, copies, range_of, range_written};
+ghost use Rattle.ep_transfer_writes.specs.Running.{Agree, RunsAt, item_cell, copies, range_of, range_written};
 
 use crate::cells::{common_form, shared_cell, side_cell};
 use crate::changes::{forms, with_forms};
@@ -75,7 +76,7 @@ fn both_at<N: Num>(same_to: bool, places: &Places, item: &Item<N>) -> Option<(Si
 }
 
 /// The side of cells and the place of a run, where it goes to one place.
-pub(crate) fn run_at<N: Num>(
+pub fn run_at<N: Num>(
     mode: Mode,
     same_to: bool,
     places: &Places,
@@ -91,7 +92,7 @@ pub(crate) fn run_at<N: Num>(
 }
 
 /// Whether the bytes are some, and no cell lies partly in them.
-pub(crate) fn is_whole<N: Num>(state: &State<N>, side: Side, spot: (u32, u32), bytes: u32) -> bool
+pub fn is_whole<N: Num>(state: &State<N>, side: Side, spot: (u32, u32), bytes: u32) -> bool
     ensures some { IsTrue result → 0 < bytes }
     ensures uncut { IsTrue result → is_some_partly_in state.now.model
         (record { side = side; block = spot.0; offset = spot.1; bytes = bytes }) state.now.cells ≡ false }
@@ -160,31 +161,31 @@ fn copies<N: Num>(alloc: Global, c: &Cell<N>, bytes: u32) -> Result<Vec<Cell<N>>
     Ok(out)
 }
 
-/// The first cell of a run.
-pub(crate) fn run_cell<N: Num>(
+/// A cell of what waits, on a side of cells.
+pub fn item_cell<N: Num>(
     state: &State<N>,
     side: Side,
+    what: Scalar,
     item: &Item<N>,
     spot: (u32, u32),
 ) -> Result<Cell<N>, Memory>
-    requires item { ItemFits state.now (Scalar.Int IntType.U8) (shown_item item.now) }
-    requires room { spot.1 + 1 ≤ 2 ^ 32 }
-    ensures value { IfOk result (λ c. c ≡ run_cell N.ops side (shown_item item.now) spot) }
+    requires item { ItemFits state.now what (shown_item item.now) }
+    requires room { spot.1 + size_of state.now.model what ≤ 2 ^ 32 }
+    ensures value { IfOk result (λ c. c ≡ item_cell N.ops side what (shown_item item.now) spot) }
     ensures stands { IfOk result (λ c. CanStand state.now c) }
 {
-    let byte = Scalar::Int(IntType::U8);
     match side {
         Side::Left => {
             let form = copy_form(&item.pair.left.form);
-            side_cell(state, On::Left, byte, item, form, spot)
+            side_cell(state, On::Left, what, item, form, spot)
         }
         Side::Right => {
             let form = copy_form(&item.pair.right.form);
-            side_cell(state, On::Right, byte, item, form, spot)
+            side_cell(state, On::Right, what, item, form, spot)
         }
         Side::Shared => {
             let form = common_form(&item.pair.left.form, &item.pair.right.form);
-            shared_cell(state, byte, item, form, spot)
+            shared_cell(state, what, item, form, spot)
         }
     }
 }

@@ -9,7 +9,7 @@ ghost use Rattle.ep_transfer_writes.specs.Running.{RunsAt};
 
 use crate::changes::{forms, with_forms};
 use crate::item::Underway;
-use crate::ranges::{cut_at_end, is_whole, run_at, run_cell, write_range};
+use crate::ranges::{cut_at_end, is_whole, item_cell, run_at, write_range};
 use crate::writes::write;
 use ep_bitslice::Side;
 use ep_cell_ranges_laws::{blur_laws, more_split_laws, replace_laws};
@@ -79,7 +79,8 @@ fn write_at_one<N: Num>(
     replace_laws::<N>();
     u.state.model();
     if is_whole(&u.state, at.0, at.1, bytes) {
-        let c = run_cell(&u.state, at.0, &u.item, at.1)?;
+        let byte = Scalar::Int(IntType::U8);
+        let c = item_cell(&u.state, at.0, byte, &u.item, at.1)?;
         return write_range(&c, bytes, u);
     }
     write_in_turn(mode, same_to, places, bytes, u)

@@ -1,4 +1,5 @@
-// Lines of the table, and what they are answered.
+//! Lines of the table, and what they are answered.
+
 ghost use Rattle.std.specs.Prelude.{◌≡◌};
 ghost use Rattle.ep_core.specs.View.{shown_expr};
 ghost use Rattle.ep_eval_fits.specs.Fitting.{ExprIsFit};

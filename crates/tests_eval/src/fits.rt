@@ -1,4 +1,5 @@
-// Whether constants are in range, units are some bytes, and operands have their operators' types.
+//! Whether constants are in range, units are some bytes, and operands have their operators' types.
+
 ghost use Rattle.std.specs.Prelude.{◌≡◌, true, Some};
 ghost use Rattle.ep_core.specs.View.{shown_expr, shown_place};
 ghost use Rattle.ep_core.specs.WellFormed.{right_type};

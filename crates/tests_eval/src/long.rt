@@ -1,4 +1,5 @@
-// Long arrays, and deep tests.
+//! Long arrays, and deep tests.
+
 use crate::answers::{test, value};
 use crate::trees::tree;
 use ep_bitslice::Side;

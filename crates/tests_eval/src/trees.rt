@@ -1,4 +1,5 @@
-// Expressions as the table spells them: each word takes what it is made of from those before it.
+//! Expressions as the table spells them: each word takes what it is made of from those before it.
+
 use ep_core::tree::{Expr, Place};
 use ep_int::{BinOp, Cmp, IntType, Scalar};
 use std::alloc::Global;

@@ -6,14 +6,22 @@ use Rattle.ep_core.specs.View.{shown_expr, shown_place}
 use Rattle.ep_core.specs.WellFormed.{int_type_of}
 use Rattle.ep_evaluation.specs.Given.{alone, on, are_sure, mode_where}
 use Rattle.ep_evaluation.specs.Operators.{may_be}
-use Rattle.ep_evaluation.specs.Evaluation.{place, constant_given, load_given, same_given, convert_given, not_given, binary_given, compare_given, pointers_given, sum_given, member_given, element_given}
+use Rattle.ep_evaluation.specs.Evaluation.{place, constant_given, load_given, same_given, convert_given, not_given}
+use Rattle.ep_evaluation.specs.Evaluation.{binary_given, compare_given, pointers_given, sum_given, member_given}
+use Rattle.ep_evaluation.specs.Evaluation.{element_given}
 use Rattle.ep_eval_sides.specs.Sides.{faultless}
-use Rattle.ep_eval_loads.specs.After.{left_of}
-use Rattle.ep_eval_loads.specs.Running.{side_of}
-use Rattle.ep_eval_forms.proofs.Alone.{of_first, first_mode, left_is, not_tested, and_tested, or_tested, second_in, second_nothing, second_changed, second_runs, second_unseen, compare_tested, pointers_tested, value_tested, load_operand, convert_operand, first_alone, first_both}
-use Rattle.ep_eval_forms.proofs.Arms.{if_both, if_three, if_four, given_mode, none_given, one_plain, one_given, two_plain, two_given, short_gives, chosen_gives, later_none, later_some, later_nothing, later_left}
+use Rattle.ep_eval_forms.specs.After.{left_of}
+use Rattle.ep_eval_forms.specs.Running.{side_of}
+use Rattle.ep_eval_forms.proofs.Alone.{of_first, first_mode, left_is, not_tested, and_tested, or_tested, second_in}
+use Rattle.ep_eval_forms.proofs.Alone.{second_nothing, second_changed, second_runs, second_unseen, compare_tested}
+use Rattle.ep_eval_forms.proofs.Alone.{pointers_tested, value_tested, load_operand, convert_operand, first_alone}
+use Rattle.ep_eval_forms.proofs.Alone.{first_both}
+use Rattle.ep_eval_forms.proofs.Arms.{if_both, if_three, if_four, given_mode, none_given, one_plain, one_given}
+use Rattle.ep_eval_forms.proofs.Arms.{two_plain, two_given, short_gives, chosen_gives, later_none, later_some}
+use Rattle.ep_eval_forms.proofs.Arms.{later_nothing, later_left}
 use Rattle.ep_eval_forms.proofs.Lefts.{first_like, second_like}
-use Rattle.ep_eval_forms.proofs.Parts.{meant, given_part, place_part, tested_part, operand_part, first_part, later_part, second_part, given_whole, place_whole, tested_whole, operand_whole}
+use Rattle.ep_eval_forms.proofs.Parts.{meant, given_part, place_part, tested_part, operand_part, first_part}
+use Rattle.ep_eval_forms.proofs.Parts.{later_part, second_part, given_whole, place_whole, tested_whole, operand_whole}
 use Rattle.ep_eval.proofs.Plain.{plain_left, cell_nowhere}
 use Rattle.ep_eval.proofs.evaluate.+evaluate.Goals as goal
 

@@ -3,8 +3,8 @@ use Rattle.ep_evaluation.specs.Given.{on}
 use Rattle.ep_evaluation.specs.Narrowed.{again}
 use Rattle.ep_evaluation.specs.Evaluation.{compare_given, number}
 use Rattle.ep_eval_sides.specs.Sides.{faultless}
-use Rattle.ep_eval_loads.specs.Running.{side_of}
-use Rattle.ep_eval_parts.specs.Limits.{limits_if, number_limits, both_limited}
+use Rattle.ep_eval_forms.specs.Running.{side_of}
+use Rattle.ep_eval_forms.specs.Limits.{limits_if, number_limits, both_limited}
 use Rattle.ep_eval.proofs.evaluate.compared.Goals as goal
 
 pub returns-clause-value : goal.returns-clause-value

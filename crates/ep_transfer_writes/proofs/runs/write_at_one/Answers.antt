@@ -7,8 +7,8 @@ use Rattle.ep_transfer_writes.proofs.Placing.{run_room}
 use Rattle.ep_transfer_writes.proofs.Running.{run_at_once, run_byte, run_offset}
 use Rattle.ep_transfer_writes.proofs.runs.write_at_one.Goals as goal
 
-pub run_cell-requires-clause-room : goal.run_cell-requires-clause-room
-run_cell-requires-clause-room g c =
+pub item_cell-requires-clause-room : goal.item_cell-requires-clause-room
+item_cell-requires-clause-room g c =
     let room = run_room c.args.mode c.args.same_to (shown_places c.args.places.now) (shown_item c.args.u.item)
     c.args.at.0 c.args.at.1 c.args.bytes c.requires.runs c.requires.room.left c.requires.room.right in
     let some = c.if-is_whole.ensures.some refl in
