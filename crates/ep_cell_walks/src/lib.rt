@@ -2,10 +2,12 @@
 #![tactic(auto)]
 
 mod alarms;
+mod blocks;
 mod known;
 mod pairs;
 mod running;
 mod statements;
 mod truths;
 
+pub use blocks::block_sizes;
 pub use known::KnownCells;

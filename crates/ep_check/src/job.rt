@@ -37,9 +37,9 @@ pub fn check_job(alloc: Global, source: &[u8], asked: CheckAsked) -> Result<Job,
     requires others { is_order asked.orders.0 asked.orders.1 ≡ false }
     ensures { IfOk result (λ j. IsCheck (asked_for asked) source.now j.status j.text.items) }
 {
-    match read(alloc, source, asked.model) {
-        Ok(program) => report_on(alloc, &program, asked),
-        Err(Halt::Refused(refusal)) => refusal_job(alloc, &refusal),
+    match &read(alloc, source, asked.model) {
+        Ok(program) => report_on(alloc, program, asked),
+        Err(Halt::Refused(refusal)) => refusal_job(alloc, refusal),
         Err(Halt::Memory) => Err(Memory),
     }
 }
@@ -56,12 +56,14 @@ fn report_on(alloc: Global, program: &CoreProgram, asked: CheckAsked) -> Result<
         (alarms_of (asked_for asked) (core.shown program.now))) }
 {
     even_laws::<Interval>();
+    let mut turns = 0u64;
     let report = analyse::<Pair<Interval, Congruence>>(
         alloc,
         program,
         asked.orders,
         asked.unroll,
         false,
+        &mut turns,
     )?;
     let Ok(text) = report_text(alloc, &report.alarms) else {
         return Err(Memory);

@@ -6,7 +6,7 @@ use Rattle.ep_alarms.specs.Report.{added}
 use Rattle.ep_core.specs.Exec.{Way, on, broken, continued, returned}
 use Rattle.ep_pass.specs.States.{StateOps}
 use Rattle.ep_pass.specs.Pass.{Ways, Log, logged, both_logs, Pass, passed, after, branch, left_by, leave_loop, join_on, join_ways, either_pass, go_on}
-use Rattle.ep_flows.specs.Shown.{Told, Tells, HasPassed, shown_ways, shown_flow, capped, more_heads}
+use Rattle.ep_flows.specs.Shown.{Told, Tells, HasPassed, Passes, CountsUpTo, shown_ways, shown_flow, capped, more_heads}
 use Rattle.ep_flows.specs.declared.flow.Flow.{Flow}
 use Rattle.ep_flows.proofs.Telling.{nil_right, tells_both, tells_nothing}
 
@@ -151,9 +151,14 @@ module _ {S : Type 0} where
         (either_pass o (shown_flow f) (branch z go)) h mid new) e y)
 
     pub step_ok : (a : Pass S) (u v : Option S) (go : S → Pass S) (f : Flow S) (x : Result (Flow S) Memory)
-        (old mid new : Told S) → u ≡ v → HasPassed a f old mid → IfOk x (λ h. HasPassed (either_pass o (shown_flow f)
-        (branch u go)) h mid new) → IfOk x (λ h. HasPassed (either_pass o a (branch v go)) h old new)
-    step_ok a u v go f (Err y) old mid new e p q = tt
+        (old mid new : Told S) → u ≡ v → HasPassed a f old mid → Passes (either_pass o (shown_flow f)
+        (branch u go)) x mid new → Passes (either_pass o a (branch v go)) x old new
+    step_ok a u v go f (Err y) old mid new e p q =
+        subst (λ z. CountsUpTo (a.log.count + (branch z go).log.count) old.count new.count) e
+        (counts a.log.count (branch u go).log.count old.count mid.count new.count p.log.count q)
+      where
+        counts : (k n a b d : ℕ) → capped b ≡ capped (a + k) → CountsUpTo (0 + n) b d → CountsUpTo (k + n) a d
+        counts k n a b d e h = let x = h.bound in record { bound = omega (arith, e, x) }
     step_ok a u v go f (Ok h) old mid new e p q = step_passed a u v go f h old mid new e p q
 
     pub first_passed : (a : Pass S) (u v : Option S) (go : S → Pass S) (h : Flow S) (old new : Told S) → u ≡ v
@@ -163,8 +168,11 @@ module _ {S : Type 0} where
     pub either_ok : (p : Pass S) (before f : Flow S) (x : Result (Flow S) Memory) (old new : Told S)
         → HasPassed p f old new → IfOk x (λ h. h.on ≡ join_on o before.on f.on)
         → IfOk x (λ h. shown_ways h.ways ≡ join_ways o (shown_ways before.ways) (shown_ways f.ways))
-        → IfOk x (λ h. HasPassed (either_pass o (shown_flow before) p) h old new)
-    either_ok p before f (Err y) old new a u w = tt
+        → Passes (either_pass o (shown_flow before) p) x old new
+    either_ok p before f (Err y) old new a u w = counts p.log.count old.count new.count a.log.count
+      where
+        counts : (n a b : ℕ) → capped b ≡ capped (a + n) → CountsUpTo (0 + n) a b
+        counts n a b e = record { bound = omega (arith, e) }
     either_ok p before f (Ok h) old new a u w = either_passed p before f h old new a u w
 
     -- ---- what follows the end of a pass

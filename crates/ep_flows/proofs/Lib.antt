@@ -1,5 +1,6 @@
 pub mod Telling
 pub mod Combined
+pub mod Counting
 pub mod Gathering
 pub mod Circles
 pub mod Bounds

@@ -1,6 +1,7 @@
 -- What the code has done where it went through statements as a pass says. This project's words.
-use Rattle.std.specs.Prelude.{◌≡◌, ℕ, ◌+◌, List, [], ◌∷◌, ◌++◌, fold, Option, Some, None, Bool, true, false, if◌then◌else◌}
+use Rattle.std.specs.Prelude.{◌≡◌, ℕ, ◌+◌, ◌≤◌, List, [], ◌∷◌, ◌++◌, fold, Option, Some, None, Result, Ok, Err, Bool, true, false, if◌then◌else◌}
 use Prim.Native.Nat.{min}
+use Rattle.ep_int.specs.declared.types.Memory.{Memory}
 use Rattle.ep_int.specs.declared.types.Order.{Order}
 use Rattle.ep_alarms.specs.declared.types.Alarm.{Alarm}
 use Rattle.ep_alarms.specs.Report.{added}
@@ -92,6 +93,10 @@ pub record Told (S : Type 0) : Type 0 where
 abbrev pub capped : ℕ → ℕ
 capped n = min n 18446744073709551615
 
+-- a count that has gone up by so many at most
+pub record CountsUpTo (most old new : ℕ) : Type 0 where
+  pub bound : capped new ≤ capped (old + most)
+
 abbrev pub more_heads : {S : Type 0} → Option (List S) → List S → Option (List S)
 more_heads None hs = None
 more_heads (Some gs) hs = Some (gs ++ hs)
@@ -121,3 +126,8 @@ pub record HasPassed {S : Type 0} (p : Pass S) (f : Flow S) (old new : Told S) :
   pub on : f.on ≡ p.on
   pub ways : shown_ways f.ways ≡ p.ways
   pub log : Tells p.log old new
+
+-- A pass, or an error: before it no more was counted than the whole pass counts.
+abbrev pub Passes : {S : Type 0} → Pass S → Result (Flow S) Memory → (old new : Told S) → Type 0
+Passes p (Ok f) old new = HasPassed p f old new
+Passes p (Err e) old new = CountsUpTo p.log.count old.count new.count

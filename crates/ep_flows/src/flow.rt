@@ -4,7 +4,7 @@ ghost use Rattle.std.specs.Prelude.{◌≡◌, ◌++◌, IfOk, OnOk, None, Some,
 ghost use Rattle.ep_core.specs.Exec.{frame_of};
 ghost use Rattle.ep_core.specs.View.{shown_function};
 ghost use Rattle.ep_pass.specs.Pass.{comes_after, join_on, join_ways, leave_call, leave_loop, leave_on, none, only_broken, only_continued, only_on, only_returned, scope_pass};
-ghost use Rattle.ep_flows.specs.Shown.{HasPassed, mode_of, ops_for, plan_of, shown_flow, shown_ways};
+ghost use Rattle.ep_flows.specs.Shown.{Passes, mode_of, ops_for, plan_of, shown_flow, shown_ways};
 
 use crate::log::Log;
 use crate::setting::{Running, Setting};
@@ -253,7 +253,7 @@ pub fn end_loop<K: Drop>(flow: Flow<K>) -> Flow<K>
 
 /// One side has come out of a loop while the other had left it.
 pub fn come_after<K: Drop>(line: u32, flow: Flow<K>, log: &mut Log<K>) -> Result<Flow<K>, Memory>
-    ensures { IfOk result (λ f. HasPassed (comes_after line (shown_flow flow)) f log.old log.new) }
+    ensures { Passes (comes_after line (shown_flow flow)) result log.old log.new }
 {
     let Flow { on: _, ways } = flow;
     let Ways {
@@ -267,7 +267,7 @@ pub fn come_after<K: Drop>(line: u32, flow: Flow<K>, log: &mut Log<K>) -> Result
 
 /// The sides come on together; each other way out is an alarm.
 pub fn keep_on<K: Drop>(line: u32, flow: Flow<K>, log: &mut Log<K>) -> Result<Flow<K>, Memory>
-    ensures { IfOk result (λ f. HasPassed (only_on line (shown_flow flow)) f log.old log.new) }
+    ensures { Passes (only_on line (shown_flow flow)) result log.old log.new }
 {
     let Flow { on, ways } = flow;
     let Ways {
@@ -282,7 +282,7 @@ pub fn keep_on<K: Drop>(line: u32, flow: Flow<K>, log: &mut Log<K>) -> Result<Fl
 }
 
 pub fn keep_broken<K: Drop>(line: u32, flow: Flow<K>, log: &mut Log<K>) -> Result<Flow<K>, Memory>
-    ensures { IfOk result (λ f. HasPassed (only_broken line (shown_flow flow)) f log.old log.new) }
+    ensures { Passes (only_broken line (shown_flow flow)) result log.old log.new }
 {
     let Flow { on, ways } = flow;
     let Ways {
@@ -301,7 +301,7 @@ pub fn keep_continued<K: Drop>(
     flow: Flow<K>,
     log: &mut Log<K>,
 ) -> Result<Flow<K>, Memory>
-    ensures { IfOk result (λ f. HasPassed (only_continued line (shown_flow flow)) f log.old log.new) }
+    ensures { Passes (only_continued line (shown_flow flow)) result log.old log.new }
 {
     let Flow { on, ways } = flow;
     let Ways {
@@ -316,7 +316,7 @@ pub fn keep_continued<K: Drop>(
 }
 
 pub fn keep_returned<K: Drop>(line: u32, flow: Flow<K>, log: &mut Log<K>) -> Result<Flow<K>, Memory>
-    ensures { IfOk result (λ f. HasPassed (only_returned line (shown_flow flow)) f log.old log.new) }
+    ensures { Passes (only_returned line (shown_flow flow)) result log.old log.new }
 {
     let Flow { on, ways } = flow;
     let Ways {

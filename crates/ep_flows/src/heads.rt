@@ -1,6 +1,6 @@
 //! Heads of a loop, one after another.
 
-ghost use Rattle.std.specs.Prelude.{◌≡◌, ◌+◌, ◌-◌, ◌<◌, ◌≤◌, ◌^◌, IfOk, OnOk};
+ghost use Rattle.std.specs.Prelude.{◌≡◌, ◌+◌, ◌-◌, ◌<◌, ◌≤◌, ◌^◌, IfOk, OnErr};
 ghost use Rattle.ep_flows.specs.Rounds.{ComesRound};
 ghost use Rattle.ep_flows.specs.Shown.{capped, ops_for, plan_of, wider_of};
 ghost use Rattle.ep_pass_laws.specs.Laws.{HeadsGoRound};
@@ -67,8 +67,9 @@ pub fn come_to<K: AbstractStates>(
     log: &mut Log<K>,
 ) -> Result<Rounds<K>, Memory>
     requires { 0 < rounds.since }
-    ensures alarms { OnOk result (log.new.alarms ≡ log.old.alarms) }
-    ensures heads { OnOk result (log.new.heads ≡ log.old.heads) }
+    ensures alarms { log.new.alarms ≡ log.old.alarms }
+    ensures heads { log.new.heads ≡ log.old.heads }
+    ensures stop { OnErr result (log.new.count ≡ log.old.count) }
     ensures rounds { IfOk result (λ s. ComesRound rounds head.now s log.old.count log.new.count) }
 {
     let Rounds {

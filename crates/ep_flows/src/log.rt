@@ -64,14 +64,16 @@ impl<K: Drop> Log<K> {
 
     /// An alarm that shows no number.
     pub fn alarm(&mut self, kind: AlarmKind, line: u32) -> Result<(), Memory>
-        ensures { OnOk result (Tells (logged (plain_alarm kind line ∷ []) 0 []) self.old self.new) }
+        ensures told { OnOk result (Tells (logged (plain_alarm kind line ∷ []) 0 []) self.old self.new) }
+        ensures count { self.new.count ≡ self.old.count }
     {
         self.alarms.add(plain(kind, line))
     }
 
     /// The sides are left by different ways, where this state is reached.
     pub fn differ(&mut self, line: u32, way: &Option<K>) -> Result<(), Memory>
-        ensures { OnOk result (Tells (logged (differ line way.now) 0 []) self.old self.new) }
+        ensures told { OnOk result (Tells (logged (differ line way.now) 0 []) self.old self.new) }
+        ensures count { self.new.count ≡ self.old.count }
     {
         match way {
             None => Ok(()),
@@ -106,19 +108,18 @@ impl<K: Drop> Log<K> {
             .saturating_add(up_to_limit(times).saturating_mul(turns));
     }
 
-    /// The turn from this head is kept, with what it tells.
+    /// The turn from this head is kept, with what it tells but its count.
     pub fn keep(&mut self, head: K, found: Log<K>) -> Result<(), Memory>
         ensures alarms { OnOk result (self.new.alarms ≡ fold added self.old.alarms found.alarms) }
-        ensures count { OnOk result (capped self.new.count ≡ capped (self.old.count + found.count)) }
+        ensures count { self.new.count ≡ self.old.count }
         ensures heads { OnOk result (self.new.heads ≡ kept_heads self.old.heads head found.heads) }
     {
         let Log {
             alarms,
-            count,
+            count: _,
             heads,
         } = found;
         add_all(&mut self.alarms, &alarms)?;
-        self.count = self.count.saturating_add(count);
         add_heads(&mut self.heads, head, heads)
     }
 }

@@ -1,5 +1,5 @@
 -- What a walk tells is what the report has.
-use Rattle.std.proofs.Common.{◌≡◌, ℕ, ◌≤◌, Bool, true, false, List, [], Option, Some, None, IsTrue, if◌then◌else◌, unwrap_or, sym, ap, ◌∙◌, subst, arith}
+use Rattle.std.proofs.Common.{◌≡◌, ℕ, ◌+◌, ◌≤◌, Bool, true, false, List, [], Option, Some, None, IsTrue, if◌then◌else◌, unwrap_or, sym, ap, ◌∙◌, subst, arith}
 use Rattle.ep_int.specs.declared.types.Order.{Order}
 use Rattle.ep_alarms.specs.declared.types.Alarm.{Alarm}
 use Rattle.ep_alarm_laws.specs.Laws.{ProductsKeepStrides}
@@ -24,9 +24,6 @@ pub heads_kept : {S : Type 0} (b : Bool) (hs : List S) (o : Option (List S)) →
 heads_kept true hs o e = ap (λ x. unwrap_or x []) e
 heads_kept false hs o e = ap (λ x. unwrap_or x []) e
 
-capped_less : (n : ℕ) → capped n ≤ n
-capped_less n = omega arith
-
 module _ {N : Type 0} (D : Ops N) (p : Program) (a b : Order) (u : ℕ) where
   -- with this number of the last head
   abbrev plan : ℕ → Plan
@@ -42,9 +39,22 @@ module _ {N : Type 0} (D : Ops N) (p : Program) (a b : Order) (u : ℕ) where
     pub alarms_are : (xs : List Alarm) → xs ≡ report_on (cell_ops D) (plan limit) → xs ≡ alarms_of D p a b u
     alarms_are xs e = e ∙ ap (λ n. report_on (cell_ops D) (plan n)) last_is
 
-    pub turns_are : (n m : ℕ) → m ≡ capped n → capped n ≡ capped (turns_in (cell_ops D) (plan limit))
-        → m ≡ capped (turns_of D p a b u)
-    turns_are n m e h = e ∙ h ∙ ap (λ n. capped (turns_in (cell_ops D) (plan n))) last_is
+    pub turns_are : (old new : ℕ) → new ≡ capped (old + turns_in (cell_ops D) (plan limit))
+        → new ≡ capped (old + turns_of D p a b u)
+    turns_are old new e = e ∙ ap (λ n. capped (old + turns_in (cell_ops D) (plan n))) last_is
+
+    -- passes are no more than the bound
+    pub turns_few : TurnsAreBounded (Known N) → (old new : ℕ) → new ≤ old + turns_in (cell_ops D) (plan limit)
+        → new ≤ old + most_turns D p a b u
+    turns_few law old new h =
+        let some : 1 ≤ own = omega arith in
+        let few : turns_of D p a b u ≤ most_turns D p a b u = law (cell_ops D p (orders a b)) u own some
+        (orders a b) p in
+        let h' = subst (λ n. new ≤ old + turns_in (cell_ops D) (plan n)) last_is h in
+        less (turns_of D p a b u) (most_turns D p a b u) old new h' few
+      where
+        less : (n m old new : ℕ) → new ≤ old + n → n ≤ m → new ≤ old + m
+        less n m old new h i = omega (arith, h, i)
 
     pub heads_are : (keeps : Bool) (o : Option (List (Known N))) (hs : List (Known N)) → hs ≡ unwrap_or o []
         → o ≡ (if keeps then Some (heads_in (cell_ops D) (plan limit)) else None)
@@ -52,14 +62,6 @@ module _ {N : Type 0} (D : Ops N) (p : Program) (a b : Order) (u : ℕ) where
     heads_are keeps o hs e h =
         e ∙ heads_kept keeps (heads_in (cell_ops D) (plan limit)) o h
         ∙ ap (λ n. if keeps then heads_in (cell_ops D) (plan n) else []) last_is
-
-  pub turns_few : TurnsAreBounded (Known N) → (m : ℕ) → m ≡ capped (turns_of D p a b u) → m ≤ most_turns D p a b u
-  turns_few law m e =
-      let last = bounds.last_head p D.height in
-      let some : 1 ≤ last = omega arith in
-      let few = law (cell_ops D p (orders a b)) u last some (orders a b) p in
-      subst (λ n. n ≤ most_turns D p a b u) (sym e)
-      (omega (arith, capped_less (turns_of D p a b u), few))
 
   -- ---- what the report means
 

@@ -1,6 +1,6 @@
 //! The report on a program.
 
-ghost use Rattle.std.specs.Prelude.{◌≡◌, ◌≤◌, true, false, [], if◌then◌else◌, IfOk, unwrap_or};
+ghost use Rattle.std.specs.Prelude.{◌≡◌, ◌+◌, ◌≤◌, true, false, [], if◌then◌else◌, IfOk, unwrap_or};
 ghost use Rattle.std.specs.Option.{option_map};
 ghost use Rattle.ep_alarm_laws.specs.Laws.{ProductsKeepStrides};
 ghost use Rattle.ep_core.specs.Exec.{is_order};
@@ -11,10 +11,9 @@ ghost use Rattle.ep_pass_laws.specs.Agreement.{AgreeInTheEnd};
 
 use ep_alarms::Alarms;
 use ep_cell_states::{cell_alarms, cell_states};
-use ep_cell_walks::KnownCells;
+use ep_cell_walks::{KnownCells, block_sizes};
 use ep_core::program::CoreProgram;
 use ep_domain::Num;
-use ep_eval_programs::block_sizes;
 use ep_flows::bound::last_head;
 use ep_flows::log::Log;
 use ep_flows::setting::Setting;
@@ -23,19 +22,12 @@ use ep_pass_laws::laws::reports;
 use ep_walk::walk;
 use std::alloc::Global;
 
-/// What an analysis found: the alarms, in order; how often bodies of loops are gone through, up to the largest number
-/// of 64 bits; and, where they are asked for, the heads from which the last passes of joint loops begin.
+/// What an analysis found: the alarms, in order, and, where they are asked for, the heads from which the last passes of
+/// joint loops begin.
 #[derive(Drop)]
 pub struct Report<N> {
     pub alarms: Alarms,
-    pub turns: u64,
     pub heads: Vec<KnownCells<N>>,
-}
-
-fn counted(turns: u64) -> u64
-    ensures { result ≡ capped turns }
-{
-    turns
 }
 
 fn kept<N: Num>(alloc: Global, heads: Option<Vec<KnownCells<N>>>) -> Vec<KnownCells<N>>
@@ -49,31 +41,32 @@ fn kept<N: Num>(alloc: Global, heads: Option<Vec<KnownCells<N>>>) -> Vec<KnownCe
 
 fn told<N: Num>(alloc: Global, log: Log<KnownCells<N>>) -> Report<N>
     ensures alarms { result.alarms ≡ log.alarms }
-    ensures turns { result.turns ≡ capped log.count }
     ensures heads { result.heads.items ≡ unwrap_or log.heads [] }
 {
     Report {
         alarms: log.alarms,
-        turns: counted(log.count),
         heads: kept(alloc, log.heads),
     }
 }
 
 /// Goes through a program once, for two machines of these byte orders that are otherwise alike, with what `N` knows of
 /// numbers. Of a loop's turns the first `unroll` are gone through one by one; where heads of a loop come round, passes
-/// are counted and not made. Heads are kept only where they are asked for. An error says that memory ran out.
+/// are counted and not made. To `turns` come the passes through bodies of loops, up to the largest number of 64 bits.
+/// Heads are kept only where they are asked for. An error says that memory ran out: `turns` then has what was counted
+/// before.
 pub fn analyse<N: Num>(
     alloc: Global,
     program: &CoreProgram,
     orders: (Order, Order),
     unroll: u32,
     keeps_heads: bool,
+    turns: &mut u64,
 ) -> Result<Report<N>, Memory>
     ensures alarms { IfOk result (λ r. r.alarms ≡ alarms_of N.ops (shown program.now) orders.0 orders.1 unroll) }
-    ensures turns { IfOk result (λ r. r.turns
-        ≡ capped (turns_of N.ops (shown program.now) orders.0 orders.1 unroll)) }
-    ensures bound { IfOk result (λ r. r.turns
-        ≤ most_turns N.ops (shown program.now) orders.0 orders.1 unroll) }
+    ensures turns { IfOk result (λ r. turns.new
+        ≡ capped (turns.old + turns_of N.ops (shown program.now) orders.0 orders.1 unroll)) }
+    ensures bound { turns.new ≤ turns.old + most_turns N.ops (shown program.now) orders.0 orders.1 unroll }
+    ensures counted { turns.old ≤ turns.new }
     ensures heads { IfOk result (λ r. r.heads.items
         ≡ (if keeps_heads then heads_of N.ops (shown program.now) orders.0 orders.1 unroll else [])) }
     // Where no alarm is raised, two machines of different byte orders agree.
@@ -99,6 +92,6 @@ pub fn analyse<N: Num>(
         unroll,
         limit: last_head(program, N::HEIGHT),
     };
-    let log = walk::<KnownCells<N>>(&setting, keeps_heads)?;
+    let log = walk::<KnownCells<N>>(&setting, keeps_heads, turns)?;
     Ok(told(alloc, log))
 }

@@ -1,11 +1,11 @@
 //! The walk through statements.
 
-ghost use Rattle.std.specs.Prelude.{◌≡◌, ◌-◌, false, true, IfOk, map};
+ghost use Rattle.std.specs.Prelude.{◌≡◌, ◌-◌, false, true, map};
 ghost use Rattle.std.specs.Option.{option_map};
 ghost use Rattle.ep_core.specs.Program.{call, by_order, loop};
 ghost use Rattle.ep_core.specs.View.{shown_dest, shown_expr, shown_stmts, shown_what};
 ghost use Rattle.ep_flows.specs.declared.setting.Running.TheVariants.{Together};
-ghost use Rattle.ep_flows.specs.Shown.{HasPassed, mode_of, plan_of, shown_flow, shown_ways, side_of};
+ghost use Rattle.ep_flows.specs.Shown.{Passes, mode_of, plan_of, shown_flow, shown_ways, side_of};
 ghost use Rattle.ep_flows.specs.Typed.{IsTypedTest};
 ghost use Rattle.ep_pass.specs.Pass.{apart, branch, either_pass, four_ways, two_ways};
 ghost use Rattle.ep_walk_parts.specs.Pieces.{alone_of, begun_of, entered_of, followed, followed_of, function, last_of, loop_of, loop_pass_of, o, one, rounds_of, row, settled_of, tested_of, turn_of, turned};
@@ -37,8 +37,8 @@ fn pass_stmt<K: AbstractStates>(
     log: &mut Log<K>,
 ) -> Result<Flow<K>, Memory>
     requires { IsTyped (plan_of c.now).program here (shown_what s.now.what) }
-    ensures { IfOk result (λ f. HasPassed (one K.ops (plan_of c.now) here (shown_what s.now.what)
-        (mode_of mode) s.now.line known) f log.old log.new) }
+    ensures { Passes (one K.ops (plan_of c.now) here (shown_what s.now.what)
+        (mode_of mode) s.now.line known) result log.old log.new }
 {
     match &s.what {
         What::Nothing
@@ -101,8 +101,8 @@ fn pass_list<K: AbstractStates>(
     log: &mut Log<K>,
 ) -> Result<Flow<K>, Memory>
     requires { AreTyped (plan_of c.now).program here (shown_stmts body.now) }
-    ensures { IfOk result (λ f. HasPassed (row K.ops (plan_of c.now) here (shown_stmts body.now)
-        (mode_of mode) known) f log.old log.new) }
+    ensures { Passes (row K.ops (plan_of c.now) here (shown_stmts body.now)
+        (mode_of mode) known) result log.old log.new }
 {
     let mut at = known;
     let mut ways = Ways::none();
@@ -128,8 +128,8 @@ fn pass_branch<K: AbstractStates>(
     log: &mut Log<K>,
 ) -> Result<Flow<K>, Memory>
     requires { AreTyped (plan_of c.now).program here (shown_stmts body.now) }
-    ensures { IfOk result (λ f. HasPassed (branch known (row K.ops (plan_of c.now) here (shown_stmts body.now)
-        (mode_of mode))) f log.old log.new) }
+    ensures { Passes (branch known (row K.ops (plan_of c.now) here (shown_stmts body.now)
+        (mode_of mode))) result log.old log.new }
 {
     match known {
         None => Ok(Flow::none()),
@@ -146,8 +146,7 @@ pub(crate) fn pass_function<K: AbstractStates>(
     known: Option<K>,
     log: &mut Log<K>,
 ) -> Result<Flow<K>, Memory>
-    ensures { IfOk result (λ f. HasPassed (branch known (function K.ops (plan_of c.now) k (mode_of mode))) f log.old
-        log.new) }
+    ensures { Passes (branch known (function K.ops (plan_of c.now) k (mode_of mode))) result log.old log.new }
 {
     match known {
         None => Ok(Flow::none()),
@@ -171,8 +170,8 @@ fn pass_call<K: AbstractStates>(
     log: &mut Log<K>,
 ) -> Result<Flow<K>, Memory>
     requires { IsTyped (plan_of c.now).program here (call k (map shown_expr es.now) (option_map shown_dest d.now)) }
-    ensures { IfOk result (λ f. HasPassed (one K.ops (plan_of c.now) here (call k (map shown_expr es.now)
-        (option_map shown_dest d.now)) (mode_of mode) line known) f log.old log.new) }
+    ensures { Passes (one K.ops (plan_of c.now) here (call k (map shown_expr es.now)
+        (option_map shown_dest d.now)) (mode_of mode) line known) result log.old log.new }
 {
     match callee(c, here, k) {
         None => Ok(Flow::none()),
@@ -200,8 +199,8 @@ fn pass_order<K: AbstractStates>(
 ) -> Result<Flow<K>, Memory>
     requires first { AreTyped (plan_of c.now).program here (shown_stmts yes.now) }
     requires second { AreTyped (plan_of c.now).program here (shown_stmts no.now) }
-    ensures { IfOk result (λ f. HasPassed (one K.ops (plan_of c.now) here (by_order named (shown_stmts yes.now)
-        (shown_stmts no.now)) (mode_of mode) line known) f log.old log.new) }
+    ensures { Passes (one K.ops (plan_of c.now) here (by_order named (shown_stmts yes.now)
+        (shown_stmts no.now)) (mode_of mode) line known) result log.old log.new }
 {
     match mode {
         Running::Together => {
@@ -230,9 +229,9 @@ fn pass_apart<K: AbstractStates>(
 ) -> Result<Flow<K>, Memory>
     requires first { AreTyped (plan_of c.now).program here (shown_stmts first.now) }
     requires second { AreTyped (plan_of c.now).program here (shown_stmts second.now) }
-    ensures { IfOk result (λ f. HasPassed (apart (o K.ops (plan_of c.now)) line
+    ensures { Passes (apart (o K.ops (plan_of c.now)) line
         (λ m s. row K.ops (plan_of c.now) here (shown_stmts first.now) m s)
-        (λ m s. row K.ops (plan_of c.now) here (shown_stmts second.now) m s) known) f log.old log.new) }
+        (λ m s. row K.ops (plan_of c.now) here (shown_stmts second.now) m s) known) result log.old log.new }
 {
     let left = Running::Alone(Machine::Left);
     let right = Running::Alone(Machine::Right);
@@ -270,8 +269,8 @@ fn pass_test<K: AbstractStates>(
 ) -> Result<Flow<K>, Memory>
     requires test { IsTypedTest (plan_of c.now).program (shown_expr test.now) }
     requires parts { FollowIsTyped (plan_of c.now).program here (followed_of follow) }
-    ensures { IfOk result (λ f. HasPassed (tested_of K.ops (plan_of c.now) here (followed_of follow.entry)
-        (mode_of mode) (shown_expr test.now) line (shown_ways before) known) f log.old log.new) }
+    ensures { Passes (tested_of K.ops (plan_of c.now) here (followed_of follow.entry)
+        (mode_of mode) (shown_expr test.now) line (shown_ways before) known) result log.old log.new }
 {
     let truths = known.test(c, mode, test, line, &mut log.alarms)?;
     let flow = Flow {
@@ -302,11 +301,11 @@ fn pass_two<K: AbstractStates>(
 ) -> Result<Flow<K>, Memory>
     requires test { IsTypedTest (plan_of c.now).program (shown_expr test.now) }
     requires parts { FollowIsTyped (plan_of c.now).program here (followed_of follow) }
-    ensures { IfOk result (λ f. HasPassed (two_ways (o K.ops (plan_of c.now)) (shown_flow before) (mode_of mode)
+    ensures { Passes (two_ways (o K.ops (plan_of c.now)) (shown_flow before) (mode_of mode)
         (shown_expr test.now)
         (followed K.ops (plan_of c.now) here (followed_of follow.entry) (mode_of mode) true true)
-        (followed K.ops (plan_of c.now) here (followed_of follow.entry) (mode_of mode) false false) known) f log.old
-        log.new) }
+        (followed K.ops (plan_of c.now) here (followed_of follow.entry) (mode_of mode) false false) known)
+        result log.old log.new }
 {
     let yes = assumed(c, mode, test, true, &known)?;
     let flow = follow_truths(c, here, mode, follow, true, true, before, yes, log)?;
@@ -327,12 +326,12 @@ fn pass_four<K: AbstractStates>(
 ) -> Result<Flow<K>, Memory>
     requires test { IsTypedTest (plan_of c.now).program (shown_expr test.now) }
     requires parts { FollowIsTyped (plan_of c.now).program here (followed_of follow) }
-    ensures { IfOk result (λ f. HasPassed (four_ways (o K.ops (plan_of c.now)) (shown_flow before) (shown_expr test.now)
+    ensures { Passes (four_ways (o K.ops (plan_of c.now)) (shown_flow before) (shown_expr test.now)
         (followed K.ops (plan_of c.now) here (followed_of follow.entry) (mode_of Together) true true)
         (followed K.ops (plan_of c.now) here (followed_of follow.entry) (mode_of Together) true false)
         (followed K.ops (plan_of c.now) here (followed_of follow.entry) (mode_of Together) false true)
-        (followed K.ops (plan_of c.now) here (followed_of follow.entry) (mode_of Together) false false) known) f
-        log.old log.new) }
+        (followed K.ops (plan_of c.now) here (followed_of follow.entry) (mode_of Together) false false) known)
+        result log.old log.new }
 {
     let mode = Running::Together;
     let both = known.assume(c, test, true, true)?;
@@ -359,9 +358,9 @@ fn follow_truths<K: AbstractStates>(
     log: &mut Log<K>,
 ) -> Result<Flow<K>, Memory>
     requires { FollowIsTyped (plan_of c.now).program here (followed_of follow) }
-    ensures { IfOk result (λ f. HasPassed (either_pass (o K.ops (plan_of c.now)) (shown_flow before)
+    ensures { Passes (either_pass (o K.ops (plan_of c.now)) (shown_flow before)
         (branch known (followed K.ops (plan_of c.now) here (followed_of follow.entry)
-        (mode_of mode) on_left on_right))) f log.old log.new) }
+        (mode_of mode) on_left on_right))) result log.old log.new }
 {
     let next = follow_reached(c, here, mode, follow, on_left, on_right, known, log)?;
     either(c, before, next)
@@ -380,8 +379,8 @@ fn follow_reached<K: AbstractStates>(
     log: &mut Log<K>,
 ) -> Result<Flow<K>, Memory>
     requires { FollowIsTyped (plan_of c.now).program here (followed_of follow) }
-    ensures { IfOk result (λ f. HasPassed (branch known (followed K.ops (plan_of c.now) here
-        (followed_of follow.entry) (mode_of mode) on_left on_right)) f log.old log.new) }
+    ensures { Passes (branch known (followed K.ops (plan_of c.now) here
+        (followed_of follow.entry) (mode_of mode) on_left on_right)) result log.old log.new }
 {
     match known {
         None => Ok(Flow::none()),
@@ -401,8 +400,8 @@ fn follow_one<K: AbstractStates>(
     log: &mut Log<K>,
 ) -> Result<Flow<K>, Memory>
     requires { FollowIsTyped (plan_of c.now).program here (followed_of follow) }
-    ensures { IfOk result (λ f. HasPassed (followed K.ops (plan_of c.now) here (followed_of follow.entry)
-        (mode_of mode) on_left on_right known) f log.old log.new) }
+    ensures { Passes (followed K.ops (plan_of c.now) here (followed_of follow.entry)
+        (mode_of mode) on_left on_right known) result log.old log.new }
 {
     match follow {
         Follow::Arms(line, yes, no) => match (on_left, on_right) {
@@ -440,8 +439,8 @@ fn pass_body<K: AbstractStates>(
     log: &mut Log<K>,
 ) -> Result<Flow<K>, Memory>
     requires { LoopIsTyped (plan_of c.now).program here (loop_of parts) }
-    ensures { IfOk result (λ f. HasPassed (turned K.ops (plan_of c.now) here (loop_of parts.entry)
-        (mode_of mode) known) f log.old log.new) }
+    ensures { Passes (turned K.ops (plan_of c.now) here (loop_of parts.entry)
+        (mode_of mode) known) result log.old log.new }
 {
     log.turn();
     let Flow { on, ways } = pass_list(c, here, mode, parts.body, known, log)?;
@@ -474,8 +473,8 @@ fn pass_lone<K: AbstractStates>(
     log: &mut Log<K>,
 ) -> Result<Flow<K>, Memory>
     requires { LoopIsTyped (plan_of c.now).program here (loop_of parts) }
-    ensures { IfOk result (λ f. HasPassed (alone_of K.ops (plan_of c.now) here (loop_of parts.entry) (mode_of mode)
-        (side_of machine) known) f log.old log.new) }
+    ensures { Passes (alone_of K.ops (plan_of c.now) here (loop_of parts.entry) (mode_of mode)
+        (side_of machine) known) result log.old log.new }
 {
     match mode {
         Running::Alone(_) => Ok(Flow::none()),
@@ -497,8 +496,8 @@ fn pass_entered<K: AbstractStates>(
     log: &mut Log<K>,
 ) -> Result<Flow<K>, Memory>
     requires { LoopIsTyped (plan_of c.now).program here (loop_of parts) }
-    ensures { IfOk result (λ f. HasPassed (entered_of K.ops (plan_of c.now) here (loop_of parts.entry)
-        (side_of machine) (plan_of c.now).unroll known) f log.old log.new) }
+    ensures { Passes (entered_of K.ops (plan_of c.now) here (loop_of parts.entry)
+        (side_of machine) (plan_of c.now).unroll known) result log.old log.new }
 {
     if c.unroll == 0 {
         log.alarm(AlarmKind::E4, parts.line)?;
@@ -527,8 +526,8 @@ fn pass_begun<K: AbstractStates>(
     log: &mut Log<K>,
 ) -> Result<Flow<K>, Memory>
     requires { LoopIsTyped (plan_of c.now).program here (loop_of parts) }
-    ensures { IfOk result (λ f. HasPassed (begun_of K.ops (plan_of c.now) here (loop_of parts.entry)
-        (mode_of mode) count known) f log.old log.new) }
+    ensures { Passes (begun_of K.ops (plan_of c.now) here (loop_of parts.entry)
+        (mode_of mode) count known) result log.old log.new }
 {
     let Flow { on, ways } = pass_body(c, here, mode, parts, known, log)?;
     match on {
@@ -550,8 +549,8 @@ fn pass_rounds<K: AbstractStates>(
     log: &mut Log<K>,
 ) -> Result<Flow<K>, Memory>
     requires { LoopIsTyped (plan_of c.now).program here (loop_of parts) }
-    ensures { IfOk result (λ f. HasPassed (rounds_of K.ops (plan_of c.now) here (loop_of parts.entry)
-        (mode_of mode) count known (shown_ways before)) f log.old log.new) }
+    ensures { Passes (rounds_of K.ops (plan_of c.now) here (loop_of parts.entry)
+        (mode_of mode) count known (shown_ways before)) result log.old log.new }
 {
     let mut at = known;
     let mut ways = before;
@@ -578,8 +577,8 @@ fn pass_turn<K: AbstractStates>(
     log: &mut Log<K>,
 ) -> Result<Flow<K>, Memory>
     requires { LoopIsTyped (plan_of c.now).program here (loop_of parts) }
-    ensures { IfOk result (λ f. HasPassed (turn_of K.ops (plan_of c.now) here (loop_of parts.entry) (mode_of mode)
-        (shown_ways before) known) f log.old log.new) }
+    ensures { Passes (turn_of K.ops (plan_of c.now) here (loop_of parts.entry) (mode_of mode)
+        (shown_ways before) known) result log.old log.new }
 {
     pass_test(
         c,
@@ -605,8 +604,8 @@ fn pass_last<K: AbstractStates>(
     log: &mut Log<K>,
 ) -> Result<Flow<K>, Memory>
     requires { LoopIsTyped (plan_of c.now).program here (loop_of parts) }
-    ensures { IfOk result (λ f. HasPassed (last_of K.ops (plan_of c.now) here (loop_of parts.entry) (mode_of mode)
-        (shown_ways before) known) f log.old log.new) }
+    ensures { Passes (last_of K.ops (plan_of c.now) here (loop_of parts.entry) (mode_of mode)
+        (shown_ways before) known) result log.old log.new }
 {
     match mode {
         Running::Alone(_) => {
@@ -640,8 +639,8 @@ fn pass_loop<K: AbstractStates>(
     log: &mut Log<K>,
 ) -> Result<Flow<K>, Memory>
     requires { LoopIsTyped (plan_of c.now).program here (loop_of parts) }
-    ensures { IfOk result (λ f. HasPassed (loop_pass_of K.ops (plan_of c.now) here (loop_of parts.entry)
-        (mode_of mode) tests_first known) f log.old log.new) }
+    ensures { Passes (loop_pass_of K.ops (plan_of c.now) here (loop_of parts.entry)
+        (mode_of mode) tests_first known) result log.old log.new }
 {
     if tests_first {
         let flow = pass_rounds(c, here, mode, parts, c.unroll, Ways::none(), known, log)?;
@@ -671,8 +670,8 @@ fn pass_heads<K: AbstractStates>(
     log: &mut Log<K>,
 ) -> Result<Flow<K>, Memory>
     requires { LoopIsTyped (plan_of c.now).program here (loop_of parts) }
-    ensures { IfOk result (λ f. HasPassed (settled_of K.ops (plan_of c.now) here (loop_of parts.entry)
-        (shown_ways before) ((plan_of c.now).limit - 1) known) f log.old log.new) }
+    ensures { Passes (settled_of K.ops (plan_of c.now) here (loop_of parts.entry)
+        (shown_ways before) ((plan_of c.now).limit - 1) known) result log.old log.new }
 {
     let mut head = known;
     let mut rounds = started(&head, c.limit.saturating_sub(1))?;
@@ -680,14 +679,15 @@ fn pass_heads<K: AbstractStates>(
         let mut found = log.begun(c.alloc);
         let kept = copied_ways(&before)?;
         let copy = head.copied()?;
-        let flow = pass_turn(c, here, Running::Together, parts, kept, copy, &mut found)?;
+        let turn = pass_turn(c, here, Running::Together, parts, kept, copy, &mut found);
+        log.count_more(1, found.count);
+        let flow = turn?;
         match wider(c, &head, &flow.on)? {
             None => {
                 log.keep(head, found)?;
                 return Ok(flow);
             }
             Some(next) => {
-                log.count_more(1, found.count);
                 head = next;
                 rounds_known::<K>();
                 rounds = come_to(tried(rounds, found.count), &head, log)?;
@@ -697,7 +697,9 @@ fn pass_heads<K: AbstractStates>(
     let head = K::empty(c)?;
     let mut found = log.begun(c.alloc);
     let copy = head.copied()?;
-    let flow = pass_turn(c, here, Running::Together, parts, before, copy, &mut found)?;
+    let turn = pass_turn(c, here, Running::Together, parts, before, copy, &mut found);
+    log.count_more(1, found.count);
+    let flow = turn?;
     log.keep(head, found)?;
     Ok(flow)
 }

@@ -1,5 +1,5 @@
 -- Statements, kind by kind.
-use Rattle.std.proofs.Common.{◌≡◌, ℕ, zero, suc, ◌<◌, Bool, true, false, List, [], ◌++◌, map, slice_get, refl, sym, ap, ◌∙◌, subst, arith, Option, Some, None, Result, Ok, Err, IfOk, nat_eq}
+use Rattle.std.proofs.Common.{◌≡◌, ℕ, zero, suc, ◌+◌, ◌<◌, Bool, true, false, List, [], ◌++◌, map, slice_get, refl, sym, ap, ◌∙◌, subst, arith, Option, Some, None, Result, Ok, Err, IfOk, nat_eq}
 use Rattle.std.specs.Option.{option_map}
 use Rattle.std.proofs.Math.Path.{fun_ext}
 use Rattle.std.specs.declared.alloc.Global.{Global}
@@ -20,7 +20,7 @@ use Rattle.ep_core.specs.View.{shown_expr, shown_dest, shown_what, shown_stmts}
 use Rattle.ep_core.proofs.Views.{if_is, loop_is, by_order_is, scope_is}
 use Rattle.ep_pass.specs.States.{Mode, Both, One, StateOps, Verdict, stuck, same, differs}
 use Rattle.ep_pass.specs.Pass.{Ways, none, Log, logged, both_logs, Pass, passed, after, so_far, branch, alarms_at, simple_pass, join_on, join_ways, either_pass, go_on, then_pass, rowed, leave_on, scope_pass, leave_call, call_pass, next_pass, decided, two_ways, four_ways, parted, differ, only_on, only_broken, only_continued, only_returned, arm_of, body_pass, bodies_pass}
-use Rattle.ep_flows.specs.Shown.{Told, Tells, HasPassed, shown_ways, shown_flow, Plan, mode_of, side_of, verdict_of}
+use Rattle.ep_flows.specs.Shown.{Told, Tells, HasPassed, Passes, CountsUpTo, shown_ways, shown_flow, Plan, mode_of, side_of, verdict_of}
 use Rattle.ep_flows.specs.declared.setting.Machine.{Machine}
 use Rattle.ep_flows.specs.declared.setting.Running.{Running}
 use Rattle.ep_flows.specs.declared.setting.Running.TheVariants.{Together, Alone}
@@ -30,24 +30,24 @@ use Rattle.ep_walk_parts.specs.Pieces.{Followed, arms, o, one, row, function, te
 use Rattle.ep_flows.specs.declared.flow.Flow.{Flow}
 use Rattle.ep_flows.proofs.Telling.{tells_both, tells_nothing}
 use Rattle.ep_flows.proofs.Combined.{drop_last, after_passed, both_passed, keeps_passed}
+use Rattle.ep_flows.proofs.Counting.{after_passes, as_said, leads_passes, left_as, told_by, told_count}
 
 module _ {S : Type 0} (ops : Program → (Side → Order) → StateOps S) (c : Plan) (here : ℕ) where
   pub as_what : (v w : What) (m : Mode) (l : ℕ) (s : S) (x : Result (Flow S) Memory) (old new : Told S) → w ≡ v
-      → IfOk x (λ f. HasPassed (one ops c here v m l s) f old new)
-      → IfOk x (λ f. HasPassed (one ops c here w m l s) f old new)
-  as_what v w m l s x old new e h = subst (λ z. IfOk x (λ f. HasPassed (one ops c here z m l s) f old new)) (sym e) h
+      → Passes (one ops c here v m l s) x old new
+      → Passes (one ops c here w m l s) x old new
+  as_what v w m l s x old new e h = subst (λ z. Passes (one ops c here z m l s) x old new) (sym e) h
 
   module _ (w : tree.What) (m : Mode) (l : ℕ) (s : S) (x : Result (Flow S) Memory) (old new : Told S) where
     abbrev Goes : What → Type 0
-    Goes v = IfOk x (λ f. HasPassed (one ops c here v m l s) f old new)
+    Goes v = Passes (one ops c here v m l s) x old new
 
     pub if_passes : (e : Expr) (a b : Vec Stmt Global) (sa sb : List Stmt) (before : Ways S) → w ≡ If e a b
         → sa ≡ a.items → sb ≡ b.items → before ≡ none
-        → IfOk x (λ f. HasPassed (tested_of ops c here (arms l (shown_stmts sa) (shown_stmts sb)) m
-        (shown_expr e) l before s) f old new) → Goes (shown_what w)
+        → Passes (tested_of ops c here (arms l (shown_stmts sa) (shown_stmts sb)) m
+        (shown_expr e) l before s) x old new → Goes (shown_what w)
     if_passes e a b sa sb before ew ea eb en h =
-        let h' : Goes (if_else (shown_expr e) (shown_stmts sa) (shown_stmts sb)) = subst (λ z. IfOk x (λ f. HasPassed
-        (tested_of ops c here (arms l (shown_stmts sa) (shown_stmts sb)) m (shown_expr e) l z s) f old new)) en h
+        let h' : Goes (if_else (shown_expr e) (shown_stmts sa) (shown_stmts sb)) = subst (λ z. Passes (tested_of ops c here (arms l (shown_stmts sa) (shown_stmts sb)) m (shown_expr e) l z s) x old new) en h
         in
         as_what (if_else (shown_expr e) (shown_stmts sa) (shown_stmts sb)) (shown_what w) m l s x old new
         (ap shown_what ew ∙ if_is e a b ∙ ap (λ z. if_else (shown_expr e) (shown_stmts z) (shown_stmts b.items))
@@ -88,8 +88,14 @@ module _ {S : Type 0} (ops : Program → (Side → Order) → StateOps S) (c : P
       where
         each : (x : Result (Flow S) Memory) → IfOk x (λ g. g.on ≡ (scope_pass (o ops c) m ds (shown_flow f)).on)
             → IfOk x (λ g. shown_ways g.ways ≡ (scope_pass (o ops c) m ds (shown_flow f)).ways)
-            → IfOk x (λ f. HasPassed (one ops c here (scope bs.items (shown_stmts a.items)) m l s) f old new)
-        each (Err y) u v = tt
+            → Passes (one ops c here (scope bs.items (shown_stmts a.items)) m l s) x old new
+        each (Err y) u v =
+            let p = row ops c here (shown_stmts a.items) m ((o ops c).enter m bs.items s) in
+            let e : inner ≡ (o ops c).enter m bs.items s = ei ∙ ap (λ z. (o ops c).enter m z s) ec in
+            let h1 = subst (λ z. HasPassed (row ops c here (shown_stmts z) m inner) f old new) es h in
+            let h2 : HasPassed p f old new = subst (λ z. HasPassed (row ops c here (shown_stmts a.items) m z) f old
+            new) e h1 in
+            told_count p.log old new h2.log
         each (Ok g) u v =
             let p = row ops c here (shown_stmts a.items) m ((o ops c).enter m bs.items s) in
             let e : inner ≡ (o ops c).enter m bs.items s = ei ∙ ap (λ z. (o ops c).enter m z s) ec in
@@ -102,6 +108,19 @@ module _ {S : Type 0} (ops : Program → (Side → Order) → StateOps S) (c : P
                   ∙ ap (λ z. (scope_pass (o ops c) m bs.items (passed f.on z (logged [] 0 []))).ways) h2.ways;
               log = h2.log;
             }
+
+    -- memory runs out in its body
+    pub scope_stops : (bs : Vec ℕ Global) (a : Vec Stmt Global) (cs : List ℕ) (ss : List Stmt) (inner : S)
+        → w ≡ Scope bs a → cs ≡ bs.items → ss ≡ a.items → inner ≡ (o ops c).enter m cs s
+        → CountsUpTo (row ops c here (shown_stmts ss) m inner).log.count old.count new.count
+        → CountsUpTo (one ops c here (shown_what w) m l s).log.count old.count new.count
+    scope_stops bs a cs ss inner ew ec es ei h =
+        let e : inner ≡ (o ops c).enter m bs.items s = ei ∙ ap (λ z. (o ops c).enter m z s) ec in
+        let h1 = subst (λ z. CountsUpTo (row ops c here (shown_stmts z) m inner).log.count old.count new.count) es h in
+        let h2 = subst (λ z. CountsUpTo (row ops c here (shown_stmts a.items) m z).log.count old.count new.count) e h1
+        in
+        let i : shown_what w ≡ scope bs.items (shown_stmts a.items) = ap shown_what ew ∙ scope_is bs a in
+        subst (λ z. CountsUpTo (one ops c here z m l s).log.count old.count new.count) (sym i) h2
 
   -- ---- calls
 
@@ -137,17 +156,17 @@ module _ {S : Type 0} (ops : Program → (Side → Order) → StateOps S) (c : P
     flow_is = ap (λ z. passed z (shown_ways flow.ways) (logged [] 0 [])) en
         ∙ ap (λ z. passed None z (logged [] 0 [])) ew
 
-    test_goes : (v : Truths) (f : Flow S) → truths ≡ v → HasPassed (goes (mode_of mode) (verdict_of v)
-        (shown_flow flow)) f mid new → HasPassed (tested_of ops c here fw (mode_of mode) e l before s) f old new
-    test_goes v f et h =
+    test_goes : (v : Truths) (x : Result (Flow S) Memory) → truths ≡ v → Passes (goes (mode_of mode) (verdict_of v)
+        (shown_flow flow)) x mid new → Passes (tested_of ops c here fw (mode_of mode) e l before s) x old new
+    test_goes v x et h =
         let d : verdict_of v ≡ ((o ops c).test (mode_of mode) e s).verdict = ap verdict_of (sym et) ∙ ev in
-        let h1 : HasPassed (goes (mode_of mode) (verdict_of v) (so_far before)) f mid new = subst (λ z. HasPassed
-        (goes (mode_of mode) (verdict_of v) z) f mid new) flow_is h in
-        let h2 : HasPassed (goes (mode_of mode) ((o ops c).test (mode_of mode) e s).verdict
-        (so_far before)) f mid new = subst (λ z. HasPassed (goes (mode_of mode) z (so_far before)) f mid new) d h1
+        let h1 : Passes (goes (mode_of mode) (verdict_of v) (so_far before)) x mid new = subst (λ z. Passes
+        (goes (mode_of mode) (verdict_of v) z) x mid new) flow_is h in
+        let h2 : Passes (goes (mode_of mode) ((o ops c).test (mode_of mode) e s).verdict
+        (so_far before)) x mid new = subst (λ z. Passes (goes (mode_of mode) z (so_far before)) x mid new) d h1
         in
-        after_passed (logged (alarms_at l ((o ops c).test (mode_of mode) e s).faults) 0 []) (goes (mode_of mode)
-        ((o ops c).test (mode_of mode) e s).verdict (so_far before)) f old mid new tl h2
+        after_passes (logged (alarms_at l ((o ops c).test (mode_of mode) e s).faults) 0 []) (goes (mode_of mode)
+        ((o ops c).test (mode_of mode) e s).verdict (so_far before)) x old mid new tl h2
 
     same_is : (m : Mode) (a : Pass S) → goes m same a ≡ two_ways (o ops c) a m e (followed ops c here fw m true true)
         (followed ops c here fw m false false) s
@@ -167,27 +186,25 @@ module _ {S : Type 0} (ops : Program → (Side → Order) → StateOps S) (c : P
           log = subst (λ z. Tells
               (logged [] 0 []) mid z) (sym em) (tells_nothing mid);
         } in
-        test_goes Stuck flow et (subst (λ z. HasPassed z flow mid new) (sym (stuck_is (mode_of mode)
+        test_goes Stuck (Ok flow) et (subst (λ z. HasPassed z flow mid new) (sym (stuck_is (mode_of mode)
         (shown_flow flow))) h)
 
-    pub test_same : (x : Result (Flow S) Memory) → truths ≡ Same → IfOk x (λ f. HasPassed (two_ways (o ops c)
+    pub test_same : (x : Result (Flow S) Memory) → truths ≡ Same → Passes (two_ways (o ops c)
         (shown_flow flow) (mode_of mode) e (followed ops c here fw (mode_of mode) true true) (followed ops c here fw
-        (mode_of mode) false false) s) f mid new) → IfOk x (λ f. HasPassed (tested_of ops c here fw
-        (mode_of mode) e l before s) f old new)
-    test_same (Err y) et h = tt
-    test_same (Ok f) et h = test_goes Same f et (subst (λ z. HasPassed z f mid new) (sym (same_is (mode_of mode)
+        (mode_of mode) false false) s) x mid new → Passes (tested_of ops c here fw
+        (mode_of mode) e l before s) x old new
+    test_same x et h = test_goes Same x et (subst (λ z. Passes z x mid new) (sym (same_is (mode_of mode)
         (shown_flow flow))) h)
 
     pub test_alone : (k : Machine) (x : Result (Flow S) Memory) → truths ≡ Differs → mode ≡ Alone k
-        → IfOk x (λ f. HasPassed (two_ways (o ops c) (shown_flow flow) (mode_of mode) e (followed ops c here fw
-        (mode_of mode) true true) (followed ops c here fw (mode_of mode) false false) s) f mid new)
-        → IfOk x (λ f. HasPassed (tested_of ops c here fw (mode_of mode) e l before s) f old new)
-    test_alone k (Err y) et em h = tt
-    test_alone k (Ok f) et em h =
+        → Passes (two_ways (o ops c) (shown_flow flow) (mode_of mode) e (followed ops c here fw
+        (mode_of mode) true true) (followed ops c here fw (mode_of mode) false false) s) x mid new
+        → Passes (tested_of ops c here fw (mode_of mode) e l before s) x old new
+    test_alone k x et em h =
         let is : goes (mode_of mode) differs (shown_flow flow) ≡ two_ways (o ops c) (shown_flow flow) (mode_of mode) e
         (followed ops c here fw (mode_of mode) true true) (followed ops c here fw (mode_of mode) false false) s =
         alone_is (mode_of mode) (ap mode_of em) (shown_flow flow) in
-        test_goes Differs f et (subst (λ z. HasPassed z f mid new) (sym is) h)
+        test_goes Differs x et (subst (λ z. Passes z x mid new) (sym is) h)
       where
         alone_is : (m : Mode) → m ≡ One (side_of k) → (a : Pass S) → goes m differs a ≡ two_ways (o ops c) a m e
             (followed ops c here fw m true true) (followed ops c here fw m false false) s
@@ -195,15 +212,14 @@ module _ {S : Type 0} (ops : Program → (Side → Order) → StateOps S) (c : P
         alone_is (One z) d a = refl
 
     pub test_both : (x : Result (Flow S) Memory) → truths ≡ Differs → mode ≡ Together
-        → IfOk x (λ f. HasPassed (four_ways (o ops c) (shown_flow flow) e (followed ops c here fw Both true true)
+        → Passes (four_ways (o ops c) (shown_flow flow) e (followed ops c here fw Both true true)
         (followed ops c here fw Both true false) (followed ops c here fw Both false true)
-        (followed ops c here fw Both false false) s) f mid new) → IfOk x (λ f. HasPassed (tested_of ops c here fw
-        (mode_of mode) e l before s) f old new)
-    test_both (Err y) et em h = tt
-    test_both (Ok f) et em h =
+        (followed ops c here fw Both false false) s) x mid new → Passes (tested_of ops c here fw
+        (mode_of mode) e l before s) x old new
+    test_both x et em h =
         let is : goes (mode_of mode) differs (shown_flow flow) ≡ goes Both differs (shown_flow flow) = ap
         (λ z. goes z differs (shown_flow flow)) (ap mode_of em) in
-        test_goes Differs f et (subst (λ z. HasPassed z f mid new) (sym is) h)
+        test_goes Differs x et (subst (λ z. Passes z x mid new) (sym is) h)
 
 -- ---- the body of a loop, once
 module _ {S : Type 0} (o : StateOps S) (p : Pass S) (next : S → Pass S) (f g h : Flow S)
@@ -303,16 +319,20 @@ pub parted_ok : {S : Type 0} (o : StateOps S) (l : ℕ) (p : Pass S) (go : S
     → HasPassed (branch (shown_ways f.ways).returned go) a4 t7 t8 → HasPassed (only_returned l (shown_flow a4)) b4 t8 t9
     → IfOk z (λ z. z.on ≡ join_on o y.on b4.on) → IfOk z (λ z. shown_ways z.ways ≡ join_ways o (shown_ways y.ways)
     (shown_ways b4.ways))
-    → IfOk z (λ z. HasPassed (parted o l p go) z t0 t9)
+    → Passes (parted o l p go) z t0 t9
 parted_ok o l p go f a1 a2 a3 a4 b1 b2 b3 b4 t0 t1 t2 t3 t4 t5 t6 t7 t8 t9 x y (Err e) h h1 k1 h2 k2 xu xw h3 k3 yu yw
-    h4 k4 zu zw = tt
+    h4 k4 zu zw =
+    let w = join_ways o (shown_ways y.ways) (shown_ways b4.ways) in
+    let z = left_as (passed (join_on o y.on b4.on) w (logged [] 0 [])) in
+    told_count (parted o l p go).log t0 t9 (parted_passes o l p go f a1 a2 a3 a4 b1 b2 b3 b4 t0 t1 t2 t3 t4 t5 t6 t7 t8
+    t9 x y z h h1 k1 h2 k2 xu xw h3 k3 yu yw h4 k4 refl refl).log
 parted_ok o l p go f a1 a2 a3 a4 b1 b2 b3 b4 t0 t1 t2 t3 t4 t5 t6 t7 t8 t9 x y (Ok z) h h1 k1 h2 k2 xu xw h3 k3 yu yw
     h4 k4 zu zw = parted_passes o l p go f a1 a2 a3 a4 b1 b2 b3 b4 t0 t1 t2 t3 t4 t5 t6 t7 t8 t9 x y z h h1 k1 h2 k2
     xu xw h3 k3 yu yw h4 k4 zu zw
 
 -- ---- calls
 module _ {S : Type 0} (o : StateOps S) (m : Mode) (l : ℕ) (f : Function) (es : List plain.Expr)
-    (d : Option plain.Dest) (body : S → Pass S) (s : S) (old one two new : Told S) where
+    (d : Option plain.Dest) (body : S → Pass S) (s : S) (old one two : Told S) where
   abbrev A : Pass S
   A = simple_pass on l (o.arguments m f es s)
 
@@ -332,15 +352,15 @@ module _ {S : Type 0} (o : StateOps S) (m : Mode) (l : ℕ) (f : Function) (es :
   inside = then_pass o A none into
 
   -- what is reached inside is left
-  finish : (reached : Log S) → Tells reached old two → (v : Option S) (g : Flow S) → HasPassed (branch v C) g two new
-      → HasPassed (go_on o v none reached (rowed o C)) g old new
-  finish reached told None g h = record {
+  finish : (new : Told S) (reached : Log S) → Tells reached old two → (v : Option S) (g : Flow S)
+      → HasPassed (branch v C) g two new → HasPassed (go_on o v none reached (rowed o C)) g old new
+  finish new reached told None g h = record {
     on = h.on;
     ways = h.ways;
     log = drop_last reached old new
         (tells_both reached (logged [] 0 []) old two new told h.log);
   }
-  finish reached told (Some s) g h = record {
+  finish new reached told (Some s) g h = record {
     on = h.on;
     ways = h.ways;
     log = tells_both reached
@@ -352,8 +372,8 @@ module _ {S : Type 0} (o : StateOps S) (m : Mode) (l : ℕ) (f : Function) (es :
     left_by_body = (leave_call o (scope_pass o m (frame_of f) (shown_flow q))).on
 
     by_arguments : (u : Option S) → (o.arguments m f es s).next ≡ u → HasPassed (branch u body) q one two
-        → (g : Flow S) → HasPassed (branch left_by_body C) g two new → HasPassed whole g old new
-    by_arguments None e h g k =
+        → (g : Flow S) (new : Told S) → HasPassed (branch left_by_body C) g two new → HasPassed whole g old new
+    by_arguments None e h g new k =
         let i : left_by_body ≡ None = ap (λ z. (leave_call o (scope_pass o m (frame_of f) (passed z
         (shown_ways q.ways) (logged [] 0 [])))).on) h.on ∙ ap (λ z. (leave_call o (scope_pass o m (frame_of f)
         (passed None z (logged [] 0 [])))).on) h.ways in
@@ -361,8 +381,8 @@ module _ {S : Type 0} (o : StateOps S) (m : Mode) (l : ℕ) (f : Function) (es :
         let told : Tells A.log old two = drop_last A.log old two (tells_both A.log (logged [] 0 []) old one two t
         h.log) in
         let d : inside ≡ passed None none A.log = ap (λ z. go_on o z none A.log into) e in
-        subst (λ z. HasPassed (then_pass o z none (rowed o C)) g old new) (sym d) (finish A.log told None g k')
-    by_arguments (Some inner) e h g k =
+        subst (λ z. HasPassed (then_pass o z none (rowed o C)) g old new) (sym d) (finish new A.log told None g k')
+    by_arguments (Some inner) e h g new k =
         let i : left_by_body ≡ (B inner).on = ap (λ z. (leave_call o (scope_pass o m (frame_of f) (passed z
         (shown_ways q.ways) (logged [] 0 [])))).on) h.on ∙ ap (λ z. (leave_call o (scope_pass o m (frame_of f)
         (passed (body inner).on z (logged [] 0 [])))).on) h.ways in
@@ -371,14 +391,40 @@ module _ {S : Type 0} (o : StateOps S) (m : Mode) (l : ℕ) (f : Function) (es :
         h.log in
         let d : inside ≡ after A.log (passed (B inner).on none (body inner).log) = ap (λ z. go_on o z none A.log into)
         e in
-        subst (λ z. HasPassed (then_pass o z none (rowed o C)) g old new) (sym d) (finish (both_logs A.log
+        subst (λ z. HasPassed (then_pass o z none (rowed o C)) g old new) (sym d) (finish new (both_logs A.log
         (body inner).log) told (B inner).on g k')
 
-    pub call_goes : (u left : Option S) (x : Result (Flow S) Memory) → u ≡ (o.arguments m f es s).next
+    pub call_goes : (u left : Option S) (x : Result (Flow S) Memory) (new : Told S) → u ≡ (o.arguments m f es s).next
         → HasPassed (branch u body) q one two → left ≡ left_by_body
-        → IfOk x (λ g. HasPassed (branch left C) g two new) → IfOk x (λ g. HasPassed whole g old new)
-    call_goes u left (Err y) e h d k = tt
-    call_goes u left (Ok g) e h d k = by_arguments u (sym e) h g (subst (λ z. HasPassed (branch z C) g two new) d k)
+        → Passes (branch left C) x two new → Passes whole x old new
+    call_goes u left x new e h d k =
+        leads_passes (branch left_by_body C) whole two old (by_arguments u (sym e) h) x new
+        (subst (λ z. Passes (branch z C) x two new) d k)
+
+    -- memory runs out once the body is gone through
+    pub call_left : (u : Option S) → u ≡ (o.arguments m f es s).next → HasPassed (branch u body) q one two
+        → CountsUpTo whole.log.count old.count two.count
+    call_left u e h =
+        let r = branch left_by_body C in
+        let a = (by_arguments u (sym e) h (left_as r) (told_by two r.log) (as_said r two)).log in
+        less two.count old.count r.log.count whole.log.count (told_count whole.log old (told_by two r.log) a)
+      where
+        less : (a b k n : ℕ) → CountsUpTo n b (a + k) → CountsUpTo n b a
+        less a b k n h = let x = h.bound in record { bound = omega (arith, x) }
+
+-- memory runs out in the body
+pub call_stops : {S : Type 0} (o : StateOps S) (m : Mode) (l : ℕ) (f : Function) (es : List plain.Expr)
+    (d : Option plain.Dest) (body : S → Pass S) (s : S) (old one new : Told S)
+    → Tells (logged (alarms_at l (o.arguments m f es s).faults) 0 []) old one → (u : Option S)
+    → u ≡ (o.arguments m f es s).next → CountsUpTo (branch u body).log.count one.count new.count
+    → CountsUpTo (call_pass o (Some f) m es d l body s).log.count old.count new.count
+call_stops o m l f es d body s old one new t u e h =
+    let p = branch u body in
+    let all = call_left o m l f es d body s old one (told_by one p.log) (left_as p) t u e (as_said p one) in
+    within (call_pass o (Some f) m es d l body s).log.count p.log.count old.count one.count new.count h all
+  where
+    within : (n k a b d : ℕ) → CountsUpTo k b d → CountsUpTo n a (b + k) → CountsUpTo n a d
+    within n k a b d h i = let x = h.bound in let y = i.bound in record { bound = omega (arith, x, y) }
 
 -- a function that is called
 module _ {S : Type 0} (ops : Program → (Side → Order) → StateOps S) (c : Plan) (here : ℕ) (m : Mode) (l : ℕ) (k : ℕ)
@@ -391,15 +437,15 @@ module _ {S : Type 0} (ops : Program → (Side → Order) → StateOps S) (c : P
       (record { on = a; ways = b; log = tells_nothing t })
 
   pub calls_some : (f : Function) (x : Result (Flow S) Memory) (old new : Told S)
-      → callee_of c.program here k ≡ Some f → k < here → IfOk x (λ g. HasPassed (call_pass (o ops c) (Some f) m es d l
-      (function ops c k m) s) g old new)
-      → IfOk x (λ g. HasPassed (one ops c here (call k es d) m l s) g old new)
+      → callee_of c.program here k ≡ Some f → k < here → Passes (call_pass (o ops c) (Some f) m es d l
+      (function ops c k m) s) x old new
+      → Passes (one ops c here (call k es d) m l s) x old new
   calls_some f x old new e lt h =
       let same : function ops c k m ≡ bodies_pass (o ops c) c.unroll c.limit c.order c.program here k m = sym (fun_ext
       (λ s. function_is ops c here here k lt m s)) in
-      subst (λ z. IfOk x (λ g. HasPassed (call_pass (o ops c) z m es d l (bodies_pass
-      (o ops c) c.unroll c.limit c.order c.program here k m) s) g old new)) (sym e)
-      (subst (λ b. IfOk x (λ g. HasPassed (call_pass (o ops c) (Some f) m es d l b s) g old new)) same h)
+      subst (λ z. Passes (call_pass (o ops c) z m es d l (bodies_pass
+      (o ops c) c.unroll c.limit c.order c.program here k m) s) x old new) (sym e)
+      (subst (λ b. Passes (call_pass (o ops c) (Some f) m es d l b s) x old new) same h)
 
 -- ---- statements that jump, and the body of a function
 module _ {S : Type 0} (ops : Program → (Side → Order) → StateOps S) (c : Plan) where
@@ -418,9 +464,9 @@ module _ {S : Type 0} (ops : Program → (Side → Order) → StateOps S) (c : P
 
   pub function_some : (k : ℕ) (m : Mode) (u : Option S) (s : S) (g : Function) (x : Result (Flow S) Memory)
       (old new : Told S) → slice_get c.program.functions k ≡ Some g → u ≡ Some s
-      → IfOk x (λ f. HasPassed (row ops c k g.body m s) f old new)
-      → IfOk x (λ f. HasPassed (branch u (function ops c k m)) f old new)
+      → Passes (row ops c k g.body m s) x old new
+      → Passes (branch u (function ops c k m)) x old new
   function_some k m u s g x old new e d h =
-      subst (λ z. IfOk x (λ f. HasPassed (branch z (function ops c k m)) f old new)) (sym d)
-      (subst (λ z. IfOk x (λ f. HasPassed (body_pass (o ops c) c.unroll c.limit c.order c.program z k (bodies_pass
-      (o ops c) c.unroll c.limit c.order c.program k) m s) f old new)) (sym e) h)
+      subst (λ z. Passes (branch z (function ops c k m)) x old new) (sym d)
+      (subst (λ z. Passes (body_pass (o ops c) c.unroll c.limit c.order c.program z k (bodies_pass
+      (o ops c) c.unroll c.limit c.order c.program k) m s) x old new) (sym e) h)

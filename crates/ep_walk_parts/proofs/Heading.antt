@@ -14,6 +14,26 @@ use Rattle.ep_flows.specs.declared.heads.Rounds.{Rounds}
 use Rattle.ep_flows.proofs.Circles.{Fresh, Goes, goes_first, goes_next, goes_round, head_kept, head_last}
 use Rattle.ep_walk_parts.specs.Pieces.{Loop, o, body_of, settled_of, turn_of}
 
+-- ---- a turn that is kept, whose passes were counted before
+module _ {S : Type 0} (now one new seen done : Told S) (ed : seen ≡ done) where
+  kept_alarms : one.alarms ≡ now.alarms → new.alarms ≡ fold added one.alarms seen.alarms
+      → new.alarms ≡ fold added now.alarms done.alarms
+  kept_alarms a k = k ∙ ap (λ z. fold added z seen.alarms) a ∙ ap (λ (z : Told S). fold added now.alarms z.alarms) ed
+
+  kept_count : capped one.count ≡ capped (now.count + 1 * seen.count) → new.count ≡ one.count
+      → capped new.count ≡ capped (now.count + done.count)
+  kept_count n k =
+      ap capped k ∙ n ∙ ap (λ (z : Told S). capped (now.count + 1 * z.count)) ed
+      ∙ ap capped (times now.count done.count)
+    where
+      times : (a b : ℕ) → a + 1 * b ≡ a + b
+      times a b = omega arith
+
+  kept_told : (h : S) → one.heads ≡ now.heads → new.heads ≡ kept_heads one.heads h seen.heads
+      → new.heads ≡ kept_heads now.heads h done.heads
+  kept_told h hs k = k ∙ ap (λ z. kept_heads z h seen.heads) hs
+      ∙ ap (λ (z : Told S). kept_heads now.heads h z.heads) ed
+
 -- fewer heads are left
 pub round_left : {S : Type 0} (r s : Rounds S) (h : S) (a b : ℕ) → ComesRound r h s a b → s.left ≤ r.left
 round_left r s h a b (inl k) = let e = k.left in omega (arith, e)
@@ -40,12 +60,15 @@ module _ {S : Type 0} (ops : Program → (Side → Order) → StateOps S) (c : P
   module _ (r : Rounds S) (h : S) (f : Flow S) (now found done start : Told S) (whole : Pass S) (v : Ways S) (s : S)
       (u : Option S) (g : GoesIn r h now start whole) (lt : 0 < r.left) (fr : Fresh now found) (d : v ≡ w) (e : s ≡ h)
       (t : HasPassed (turn_of ops c here l Both v s) f found done) (k : u ≡ wider_of (o ops c) h f.on) where
-    pub heads_kept : (new : Told S) → u ≡ None → new.alarms ≡ fold added now.alarms done.alarms
-        → capped new.count ≡ capped (now.count + done.count) → new.heads ≡ kept_heads now.heads h done.heads
-        → HasPassed whole f start new
-    heads_kept new en a n hs =
+    pub heads_kept : (one new seen : Told S) → u ≡ None → seen ≡ done → one.alarms ≡ now.alarms
+        → capped one.count ≡ capped (now.count + 1 * seen.count) → one.heads ≡ now.heads
+        → new.alarms ≡ fold added one.alarms seen.alarms → new.count ≡ one.count
+        → new.heads ≡ kept_heads one.heads h seen.heads → HasPassed whole f start new
+    heads_kept one new seen en ed a n hs ka kn kh =
         head_kept (o ops c) c.unroll c.limit l.line l.test (body_of ops c here l) (turn_of ops c here l Both w) h f
-        now found done new start whole fr (turn_from v s h f found done d e t) r.left u lt g.leads k en a n hs
+        now found done new start whole fr (turn_from v s h f found done d e t) r.left u lt g.leads k en
+        (kept_alarms now one new seen done ed a ka) (kept_count now one new seen done ed n kn)
+        (kept_told now one new seen done ed h hs kh)
 
     pub heads_next : (next : S) (r1 r2 : Rounds S) (one two seen : Told S) → HeadsGoRound S → u ≡ Some next
         → seen ≡ done
@@ -65,11 +88,14 @@ module _ {S : Type 0} (ops : Program → (Side → Order) → StateOps S) (c : P
         goes_round (o ops c) c.unroll c.limit l.line l.test (body_of ops c here l) (turn_of ops c here l Both w) law
         r1 r2 next one two start whole first round a2 hs2
 
-  pub heads_last : (r : Rounds S) (at h s : S) (f : Flow S) (now found done new start : Told S) (whole : Pass S)
-      (v : Ways S) → GoesIn r at now start whole → r.left ≡ 0 → Fresh now found → v ≡ w → s ≡ h
-      → HasPassed (turn_of ops c here l Both v s) f found done → h ≡ (o ops c).empty
-      → new.alarms ≡ fold added now.alarms done.alarms → capped new.count ≡ capped (now.count + done.count)
-      → new.heads ≡ kept_heads now.heads h done.heads → HasPassed whole f start new
-  heads_last r at h s f now found done new start whole v g en fr d e t eh a n hs =
+  pub heads_last : (r : Rounds S) (at h s : S) (f : Flow S) (now found done one new seen start : Told S)
+      (whole : Pass S) (v : Ways S) → GoesIn r at now start whole → r.left ≡ 0 → Fresh now found → v ≡ w → s ≡ h
+      → HasPassed (turn_of ops c here l Both v s) f found done → h ≡ (o ops c).empty → seen ≡ done
+      → one.alarms ≡ now.alarms → capped one.count ≡ capped (now.count + 1 * seen.count) → one.heads ≡ now.heads
+      → new.alarms ≡ fold added one.alarms seen.alarms → new.count ≡ one.count
+      → new.heads ≡ kept_heads one.heads h seen.heads → HasPassed whole f start new
+  heads_last r at h s f now found done one new seen start whole v g en fr d e t eh ed a n hs ka kn kh =
       head_last (o ops c) c.unroll c.limit l.line l.test (body_of ops c here l) (turn_of ops c here l Both w) r.left
-      at h f now found done new start whole fr (turn_from v s h f found done d e t) en eh g.leads a n hs
+      at h f now found done new start whole fr (turn_from v s h f found done d e t) en eh g.leads
+      (kept_alarms now one new seen done ed a ka) (kept_count now one new seen done ed n kn)
+      (kept_told now one new seen done ed h hs kh)

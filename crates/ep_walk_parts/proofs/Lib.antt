@@ -6,3 +6,4 @@ pub mod Main
 pub mod TypedParts
 pub mod Turning
 pub mod Heading
+pub mod Stopping

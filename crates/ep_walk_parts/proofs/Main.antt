@@ -1,17 +1,18 @@
 -- Main, and the report on a program.
-use Rattle.std.proofs.Common.{◌≡◌, ℕ, ◌+◌, Bool, true, false, List, [], ◌++◌, fold, slice_get, refl, sym, ap, ◌∙◌, subst, arith, Option, Some, None, Result, Ok, Err, OnOk, if◌then◌else◌}
+use Rattle.std.proofs.Common.{◌≡◌, ℕ, ◌+◌, ◌≤◌, Bool, true, false, List, [], ◌++◌, fold, slice_get, refl, sym, ap, ◌∙◌, subst, arith, Option, Some, None, Result, Ok, Err, OnOk, OnErr, if◌then◌else◌}
 use Rattle.ep_int.specs.declared.types.Order.{Order}
 use Rattle.ep_alarms.specs.declared.types.Alarm.{Alarm}
 use Rattle.ep_alarms.specs.Report.{added}
 use Rattle.ep_core.specs.Program.{Function, Program}
 use Rattle.ep_core.specs.Runs.{Side}
 use Rattle.ep_pass.specs.States.{Both, StateOps}
-use Rattle.ep_pass.specs.Pass.{Ways, logged, Pass, alarms_at, join_on, main_pass, faults_at_end, report_of, turns_of, heads_of}
-use Rattle.ep_flows.specs.Shown.{Told, Tells, HasPassed, shown_ways, Plan, capped, more_heads}
+use Rattle.ep_pass.specs.Pass.{Ways, logged, both_logs, Pass, alarms_at, join_on, main_pass, faults_at_end, report_of, turns_of, heads_of}
+use Rattle.ep_flows.specs.Shown.{Told, Tells, HasPassed, CountsUpTo, shown_ways, Plan, capped, more_heads}
 use Rattle.ep_walk_parts.specs.Pieces.{o, function}
 use Rattle.ep_flows.specs.declared.flow.Flow.{Flow}
 use Rattle.ep_flows.proofs.Telling.{nil_right, tells_both}
 use Rattle.ep_flows.proofs.Combined.{tells_at}
+use Rattle.ep_flows.proofs.Counting.{told_count}
 
 module _ {S : Type 0} (ops : Program → (Side → Order) → StateOps S) (c : Plan) where
   abbrev main : Pass S
@@ -37,12 +38,13 @@ module _ {S : Type 0} (ops : Program → (Side → Order) → StateOps S) (c : P
     pub turns : capped new.count ≡ capped (turns_of (o ops c) c.unroll c.limit c.order c.program)
     pub heads : new.heads ≡ (if keeps then Some (heads_of (o ops c) c.unroll c.limit c.order c.program) else None)
 
-  pub main_told : (keeps : Bool) (s : S) (f : Flow S) (old one new : Told S) → s ≡ (o ops c).entry → old.alarms ≡ []
-      → old.count ≡ 0 → old.heads ≡ (if keeps then Some [] else None)
+  -- main, with its end
+  pub main_told : {T E : Type 0} (x : Result T E) (s : S) (f : Flow S) (old one new : Told S) → s ≡ (o ops c).entry
       → HasPassed (function ops c c.program.main Both s) f old one
-      → Tells (logged (ends (join_on (o ops c) (shown_ways f.ways).returned f.on)) 0 []) one new
-      → Reported keeps new
-  main_told keeps s f old one new es ea ec eh h t =
+      → OnOk x (Tells (logged (ends (join_on (o ops c) (shown_ways f.ways).returned f.on)) 0 []) one new)
+      → OnOk x (Tells (both_logs main.log (logged (ends (join_on (o ops c) main.ways.returned main.on)) 0 [])) old new)
+  main_told (Err y) s f old one new es h t = tt
+  main_told (Ok y) s f old one new es h t =
       let h' : HasPassed main f old one = subst (λ z. HasPassed (function ops c c.program.main Both z) f old one) es h
       in
       let at : join_on (o ops c) (shown_ways f.ways).returned f.on ≡ join_on (o ops c) main.ways.returned main.on = ap
@@ -50,14 +52,35 @@ module _ {S : Type 0} (ops : Program → (Side → Order) → StateOps S) (c : P
       ∙ ap (join_on (o ops c) main.ways.returned) h'.on in
       let t' : Tells (logged (ends (join_on (o ops c) main.ways.returned main.on)) 0 []) one new = subst (λ z. Tells
       (logged (ends z) 0 []) one new) at t in
-      let all = tells_both main.log (logged (ends (join_on (o ops c) main.ways.returned main.on)) 0 []) old one new
-      h'.log t' in
-      record {
-        report = all.alarms ∙ ap (λ z. fold added z (main.log.faults ++ ends (join_on
-            (o ops c) main.ways.returned main.on))) ea;
-        turns = counts new.count old.count main.log.count all.count ec;
-        heads = all.heads ∙ ap (λ z. more_heads z (main.log.heads ++ [])) eh ∙ listed keeps main.log.heads;
-      }
+      tells_both main.log (logged (ends (join_on (o ops c) main.ways.returned main.on)) 0 []) old one new h'.log t'
+
+  -- memory runs out in main
+  pub main_stops : (s : S) (old new : ℕ) → s ≡ (o ops c).entry
+      → CountsUpTo (function ops c c.program.main Both s).log.count old new
+      → CountsUpTo (turns_of (o ops c) c.unroll c.limit c.order c.program) old new
+  main_stops s old new es h = subst (λ z. CountsUpTo (function ops c c.program.main Both z).log.count old new) es h
+
+  -- and at its end
+  pub main_ends : {T E : Type 0} (x : Result T E) (s : S) (f : Flow S) (old one new : Told S) → s ≡ (o ops c).entry
+      → HasPassed (function ops c c.program.main Both s) f old one → new.count ≡ one.count
+      → OnErr x (CountsUpTo (turns_of (o ops c) c.unroll c.limit c.order c.program) old.count new.count)
+  main_ends (Ok y) s f old one new es h e = tt
+  main_ends (Err y) s f old one new es h e =
+      let q = function ops c c.program.main Both s in
+      subst (λ z. CountsUpTo (turns_of (o ops c) c.unroll c.limit c.order c.program) old.count z) (sym e)
+      (main_stops s old.count one.count es (told_count q.log old one h.log))
+
+  -- what a log with nothing in it was told
+  pub reported : (keeps : Bool) (old new : Told S) → old.alarms ≡ [] → old.count ≡ 0
+      → old.heads ≡ (if keeps then Some [] else None)
+      → Tells (both_logs main.log (logged (ends (join_on (o ops c) main.ways.returned main.on)) 0 [])) old new
+      → Reported keeps new
+  reported keeps old new ea ec eh all = record {
+    report = all.alarms ∙ ap (λ z. fold added z (main.log.faults ++ ends (join_on
+        (o ops c) main.ways.returned main.on))) ea;
+    turns = counts new.count old.count main.log.count all.count ec;
+    heads = all.heads ∙ ap (λ z. more_heads z (main.log.heads ++ [])) eh ∙ listed keeps main.log.heads;
+  }
     where
       counts : (a b d : ℕ) → capped a ≡ capped (b + (d + 0)) → b ≡ 0 → capped a ≡ capped d
       counts a b d e z = omega (arith, e, z)
@@ -66,3 +89,11 @@ module _ {S : Type 0} (ops : Program → (Side → Order) → StateOps S) (c : P
           (hs ++ []) ≡ (if keeps then Some hs else None)
       listed true hs = ap (λ l. Some l) (nil_right hs)
       listed false hs = refl
+
+-- passes that are added to those before
+pub turns_added : (n old new more : ℕ) → new ≡ capped (old + more) → capped more ≡ capped n → new ≡ capped (old + n)
+turns_added n old new more e h = omega (arith, e, h)
+
+pub turns_within : (n old new more none : ℕ) → none ≡ 0 → new ≡ capped (old + more) → CountsUpTo n none more
+    → new ≤ old + n
+turns_within n old new more none z e h = let x = h.bound in omega (arith, e, x, z)

@@ -1,5 +1,5 @@
 -- Arms by byte order.
-use Rattle.std.proofs.Common.{◌≡◌, ℕ, ◌≤◌, Bool, true, false, List, sym, ap, subst, arith, Result, IfOk, if◌then◌else◌}
+use Rattle.std.proofs.Common.{◌≡◌, ℕ, ◌≤◌, Bool, true, false, List, sym, ap, subst, arith, Result, if◌then◌else◌}
 use Rattle.ep_int.specs.declared.types.Memory.{Memory}
 use Rattle.ep_int.specs.declared.types.Order.{Order}
 use Rattle.ep_core.specs.declared.tree.Stmt.{Stmt}
@@ -9,7 +9,7 @@ use Rattle.ep_core.specs.Exec.{is_order}
 use Rattle.ep_core.specs.View.{shown_stmts}
 use Rattle.ep_pass.specs.States.{Mode, Both, One, StateOps}
 use Rattle.ep_pass.specs.Pass.{Pass, apart, arm_of}
-use Rattle.ep_flows.specs.Shown.{Told, HasPassed, Plan}
+use Rattle.ep_flows.specs.Shown.{Told, Passes, Plan}
 use Rattle.ep_walk_parts.specs.Pieces.{o, one, row}
 use Rattle.ep_flows.specs.declared.flow.Flow.{Flow}
 use Rattle.ep_walk_parts.proofs.Deeper.{depth, depth_two}
@@ -30,7 +30,7 @@ module _ {S : Type 0} (ops : Program → (Side → Order) → StateOps S) (c : P
   R ss m s = row ops c here (shown_stmts ss) m s
 
   abbrev Goes : Pass S → Type 0
-  Goes p = IfOk x (λ f. HasPassed p f old new)
+  Goes p = Passes p x old new
 
   -- one side's arm
   arm_alone : (b : Bool) (m : Mode) (a : List Stmt) → a ≡ (if b then ys else ns) → Goes (R a m s)

@@ -18,7 +18,7 @@ drop_item [] i s h e = absurd (omega arith)
 drop_item (t ∷ ss) zero s h e = ap (λ z. z ∷ ss) (sym e)
 drop_item (t ∷ ss) (suc i) s h e = drop_item ss i s (omega arith) e
 
-drop_next : (ss : List Stmt) (i : ℕ) (s : Stmt) → i < length ss → s ≡ get_or ss i s → drop i ss ≡ s ∷ drop (i + 1) ss
+pub drop_next : (ss : List Stmt) (i : ℕ) (s : Stmt) → i < length ss → s ≡ get_or ss i s → drop i ss ≡ s ∷ drop (i + 1) ss
 drop_next ss i s h e = drop_item ss i s h e ∙ ap (λ k. s ∷ drop k ss) (plus i)
   where
     plus : (i : ℕ) → suc i ≡ i + 1

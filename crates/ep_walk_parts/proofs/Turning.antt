@@ -1,5 +1,5 @@
 -- Loops, branches and what follows a test, piece by piece.
-use Rattle.std.proofs.Common.{◌≡◌, ℕ, suc, ◌-◌, Bool, true, false, [], ◌∷◌, sym, ◌∙◌, subst, Option, Some, None, Result, Ok, Err, IfOk}
+use Rattle.std.proofs.Common.{◌≡◌, ℕ, suc, ◌-◌, Bool, true, false, [], ◌∷◌, sym, ◌∙◌, subst, Option, Some, None, Result, Ok, Err}
 use Rattle.ep_int.specs.declared.types.Memory.{Memory}
 use Rattle.ep_int.specs.declared.types.Order.{Order}
 use Rattle.ep_alarms.specs.declared.types.AlarmKind.TheVariants.{E4}
@@ -8,10 +8,11 @@ use Rattle.ep_core.specs.Program.{Program}
 use Rattle.ep_core.specs.Runs.{Side}
 use Rattle.ep_pass.specs.States.{Mode, Both, One, StateOps}
 use Rattle.ep_pass.specs.Pass.{Ways, none, logged, Pass, ends, branch, differ, plain_alarm, comes_after, leave_loop, join_ways, then_pass}
-use Rattle.ep_flows.specs.Shown.{Told, Tells, HasPassed, shown_ways, shown_flow, Plan}
+use Rattle.ep_flows.specs.Shown.{Told, Tells, HasPassed, Passes, shown_ways, shown_flow, Plan}
 use Rattle.ep_flows.specs.declared.flow.Flow.{Flow}
 use Rattle.ep_flows.proofs.Telling.{tells_nothing}
 use Rattle.ep_flows.proofs.Combined.{goes_on, stops_there, leave_loop_passed, keeps_passed}
+use Rattle.ep_flows.proofs.Counting.{both_count, leads_passes, told_count}
 use Rattle.ep_walk_parts.specs.Pieces.{Loop, Followed, turns, cut, o, alone_of, begun_of, entered_of, followed, last_of, loop_pass_of, rounds_of, settled_of, tested_of, turn_of}
 
 module _ {S : Type 0} where
@@ -24,8 +25,8 @@ module _ {S : Type 0} where
   branch_none u go f t e a b = subst (λ z. HasPassed (branch z go) f t t) (sym e) (ends_passed f t a b)
 
   pub branch_ok : (u : Option S) (s : S) (go : S → Pass S) (x : Result (Flow S) Memory) (old new : Told S)
-      → u ≡ Some s → IfOk x (λ f. HasPassed (go s) f old new) → IfOk x (λ f. HasPassed (branch u go) f old new)
-  branch_ok u s go x old new e h = subst (λ z. IfOk x (λ f. HasPassed (branch z go) f old new)) (sym e) h
+      → u ≡ Some s → Passes (go s) x old new → Passes (branch u go) x old new
+  branch_ok u s go x old new e h = subst (λ z. Passes (branch z go) x old new) (sym e) h
 
   module _ (p : StateOps S) (a : Pass S) (go : S → Ways S → Pass S) (f : Flow S) (old mid : Told S)
       (h : HasPassed a f old mid) where
@@ -36,40 +37,40 @@ module _ {S : Type 0} where
         ∙ h.ways) h.log
 
     pub begun_goes : (next : S) (x : Result (Flow S) Memory) (new : Told S) → f.on ≡ Some next
-        → IfOk x (λ g. HasPassed (go next (shown_ways f.ways)) g mid new)
-        → IfOk x (λ g. HasPassed (then_pass p a none go) g old new)
-    begun_goes next (Err y) new e k = tt
-    begun_goes next (Ok g) new e k = goes_on p a.on (join_ways p none a.ways) a.log go next
-        (shown_ways f.ways) g old mid new (sym h.on ∙ e) (sym h.ways) h.log k
+        → Passes (go next (shown_ways f.ways)) x mid new
+        → Passes (then_pass p a none go) x old new
+    begun_goes next x new e k =
+        leads_passes (go next (shown_ways f.ways)) (then_pass p a none go) mid old
+        (λ g n k. goes_on p a.on (join_ways p none a.ways) a.log go next (shown_ways f.ways) g old mid n (sym h.on
+        ∙ e) (sym h.ways) h.log k) x new k
 
 module _ {S : Type 0} (ops : Program → (Side → Order) → StateOps S) (c : Plan) (here : ℕ) where
   -- ---- what follows a test
 
   pub follow_ok : (v w : Followed) (m : Mode) (a b i j : Bool) (s : S) (x : Result (Flow S) Memory) (old new : Told S)
-      → w ≡ v → i ≡ a → j ≡ b → IfOk x (λ f. HasPassed (followed ops c here v m a b s) f old new)
-      → IfOk x (λ f. HasPassed (followed ops c here w m i j s) f old new)
+      → w ≡ v → i ≡ a → j ≡ b → Passes (followed ops c here v m a b s) x old new
+      → Passes (followed ops c here w m i j s) x old new
   follow_ok v w m a b i j s x old new e d g h = rw (e, d, g) h
 
   module _ (l : Loop) where
     -- ---- turns
 
     pub turn_ok : (m : Mode) (w : Ways S) (s : S) (x : Result (Flow S) Memory) (old new : Told S)
-        → IfOk x (λ f. HasPassed (tested_of ops c here (turns l) m l.test l.line w s) f old new)
-        → IfOk x (λ f. HasPassed (turn_of ops c here l m w s) f old new)
+        → Passes (tested_of ops c here (turns l) m l.test l.line w s) x old new
+        → Passes (turn_of ops c here l m w s) x old new
     turn_ok Both w s x old new h = h
     turn_ok (One k) w s x old new h = h
 
     pub last_alone : (m : Mode) (k : Side) (w : Ways S) (s : S) (x : Result (Flow S) Memory) (old new : Told S)
-        → m ≡ One k → IfOk x (λ f. HasPassed (tested_of ops c here (cut l.line) m l.test l.line w s) f old new)
-        → IfOk x (λ f. HasPassed (last_of ops c here l m w s) f old new)
+        → m ≡ One k → Passes (tested_of ops c here (cut l.line) m l.test l.line w s) x old new
+        → Passes (last_of ops c here l m w s) x old new
     last_alone Both k w s x old new e h = absurd cc
     last_alone (One j) k w s x old new e h = h
 
     pub last_both : (m : Mode) (w : Ways S) (s head : S) (x : Result (Flow S) Memory) (old new : Told S) → m ≡ Both
-        → head ≡ (o ops c).reshared s → IfOk x (λ f. HasPassed (settled_of ops c here l w (c.limit - 1) head) f old
-        new) → IfOk x (λ f. HasPassed (last_of ops c here l m w s) f old new)
-    last_both Both w s head x old new e d h = subst (λ z. IfOk x (λ f. HasPassed (settled_of ops c here l w
-        (c.limit - 1) z) f old new)) d h
+        → head ≡ (o ops c).reshared s → Passes (settled_of ops c here l w (c.limit - 1) head) x old new → Passes (last_of ops c here l m w s) x old new
+    last_both Both w s head x old new e d h = subst (λ z. Passes (settled_of ops c here l w
+        (c.limit - 1) z) x old new) d h
     last_both (One j) w s head x old new e d h = absurd cc
 
     -- ---- one side's loop from its body on
@@ -81,17 +82,18 @@ module _ {S : Type 0} (ops : Program → (Side → Order) → StateOps S) (c : P
         (record { on = a; ways = b; log = t })
 
     pub entered_goes : (m : Side) (n k : ℕ) (s : S) (x : Result (Flow S) Memory) (old new : Told S) → n ≡ suc k
-        → IfOk x (λ f. HasPassed (begun_of ops c here l (One m) k s) f old new)
-        → IfOk x (λ f. HasPassed (entered_of ops c here l m n s) f old new)
-    entered_goes m n k s x old new e h = subst (λ z. IfOk x (λ f. HasPassed (entered_of ops c here l m z s) f old
-        new)) (sym e) h
+        → Passes (begun_of ops c here l (One m) k s) x old new
+        → Passes (entered_of ops c here l m n s) x old new
+    entered_goes m n k s x old new e h = subst (λ z. Passes (entered_of ops c here l m z s) x old new) (sym e) h
 
     pub lone_ok : (m : Mode) (i : Side) (s : S) (f : Flow S) (x : Result (Flow S) Memory) (old mid new : Told S)
         → m ≡ Both → HasPassed (entered_of ops c here l i c.unroll s) f old mid
-        → IfOk x (λ g. HasPassed (comes_after l.line (shown_flow f)) g mid new)
-        → IfOk x (λ g. HasPassed (alone_of ops c here l m i s) g old new)
+        → Passes (comes_after l.line (shown_flow f)) x mid new
+        → Passes (alone_of ops c here l m i s) x old new
     lone_ok (One j) i s f x old mid new e h k = absurd cc
-    lone_ok Both i s f (Err y) old mid new e h k = tt
+    lone_ok Both i s f (Err y) old mid new e h k =
+        both_count (entered_of ops c here l i c.unroll s).log.count 0 old.count mid.count new.count
+        (told_count (entered_of ops c here l i c.unroll s).log old mid h.log) k
     lone_ok Both i s f (Ok g) old mid new e h k = keeps_passed broken (λ u w. w.broken)
         (λ u w. differ l.line w.returned) (entered_of ops c here l i c.unroll s) f g old mid new h k
 

@@ -5,7 +5,7 @@ ghost use Rattle.std.specs.Option.{option_map};
 ghost use Rattle.ep_core.specs.Exec.{first_of, frame_of, is_order, on, result_in};
 ghost use Rattle.ep_core.specs.View.{shown_dest, shown_expr, shown_function, shown_what};
 ghost use Rattle.ep_core.specs.WellFormed.{is_return};
-ghost use Rattle.ep_flows.specs.Shown.{HasPassed, is_simple, mode_of, plan_of, shown_flow, side_of, simple_of};
+ghost use Rattle.ep_flows.specs.Shown.{Passes, is_simple, mode_of, plan_of, shown_flow, side_of, simple_of};
 ghost use Rattle.ep_flows.specs.Typed.{IsTypedTest, TakesResult};
 ghost use Rattle.ep_pass.specs.Pass.{agreed, branch, simple_pass};
 ghost use Rattle.ep_walk_parts.specs.Pieces.{left_of, o, one};
@@ -137,8 +137,8 @@ pub fn pass_simple<K: AbstractStates>(
 ) -> Result<Flow<K>, Memory>
     requires simple { is_simple (shown_what s.now.what) ≡ true }
     requires typed { IsTyped (plan_of c.now).program here (shown_what s.now.what) }
-    ensures { IfOk result (λ f. HasPassed
-        (one K.ops (plan_of c.now) here (shown_what s.now.what) (mode_of mode) s.now.line known) f log.old log.new) }
+    ensures { Passes (one K.ops (plan_of c.now) here (shown_what s.now.what) (mode_of mode) s.now.line known) result
+        log.old log.new }
 {
     let next = known.simple(c, mode, result_of(c, here), s, &mut log.alarms)?;
     if returns(&s.what) {
@@ -158,9 +158,9 @@ pub fn give_result<K: AbstractStates>(
     log: &mut Log<K>,
 ) -> Result<Flow<K>, Memory>
     requires { TakesResult (plan_of c.now).program (shown_function f.now) (option_map shown_dest d.now) }
-    ensures { IfOk result (λ g. HasPassed (branch left (λ s. simple_pass on line
+    ensures { Passes (branch left (λ s. simple_pass on line
         ((o K.ops (plan_of c.now)).result (mode_of mode) (shown_function f.now) (option_map shown_dest d.now) s)))
-        g log.old log.new) }
+        result log.old log.new }
 {
     match left {
         None => Ok(Flow::none()),

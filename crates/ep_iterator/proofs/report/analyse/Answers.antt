@@ -1,6 +1,6 @@
 use Rattle.std.proofs.Common.{◌∙◌, sym}
 use Rattle.ep_core.specs.Shown.{shown}
-use Rattle.ep_iterator.proofs.Reported.{alarms_are, turns_are, heads_are, turns_few, agreed, stand, even}
+use Rattle.ep_iterator.proofs.Reported.{alarms_are, turns_are, turns_few, heads_are, agreed, stand, even}
 use Rattle.ep_iterator.proofs.report.analyse.Goals as goal
 
 pub returns-clause-alarms : goal.returns-clause-alarms
@@ -13,12 +13,19 @@ pub returns-clause-turns : goal.returns-clause-turns
 returns-clause-turns g c =
     turns_are g.N.Num.ops (shown c.args.program.now) c.args.orders.0 c.args.orders.1 c.args.unroll
     c.last_head.result _ c.last_head.ensures (g.met.N.Num.height_is ∙ sym c.HEIGHT.ensures)
-    c.in_ok-log.log.count c.told.result.turns c.told.ensures.turns c.in_ok-log.ensures.turns
+    c.args.turns.now c.walk.new.turns c.in_ok-log.ensures.turns
 
 pub returns-clause-bound : goal.returns-clause-bound
 returns-clause-bound g c =
     turns_few g.N.Num.ops (shown c.args.program.now) c.args.orders.0 c.args.orders.1 c.args.unroll
-    c.reports.ensures.turns c.told.result.turns (returns-clause-turns g c)
+    c.last_head.result _ c.last_head.ensures (g.met.N.Num.height_is ∙ sym c.HEIGHT.ensures)
+    c.reports.ensures.turns c.args.turns.now c.walk.new.turns c.walk.ensures.bound
+
+pub returns-in_err-log-clause-bound : goal.returns-in_err-log-clause-bound
+returns-in_err-log-clause-bound g c =
+    turns_few g.N.Num.ops (shown c.args.program.now) c.args.orders.0 c.args.orders.1 c.args.unroll
+    c.last_head.result _ c.last_head.ensures (g.met.N.Num.height_is ∙ sym c.HEIGHT.ensures)
+    c.reports.ensures.turns c.args.turns.now c.walk.new.turns c.walk.ensures.bound
 
 pub returns-clause-heads : goal.returns-clause-heads
 returns-clause-heads g c =

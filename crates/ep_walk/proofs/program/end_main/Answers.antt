@@ -5,8 +5,8 @@ use Rattle.ep_walk_parts.proofs.Main.{end_some}
 use Rattle.ep_walk_parts.proofs.TypedParts.{is_at}
 use Rattle.ep_walk.proofs.program.end_main.Goals as goal
 
-pub returns : goal.returns
-returns g c =
+pub returns-clause-told : goal.returns-clause-told
+returns-clause-told g c =
     let e = rw c.in-Some.is at c.function_at.ensures in
     end_some g.K.AbstractStates.ops (plan_of c.args.c.now) c.ended.result (shown_function c.in-Some.main.now)
     c.in_ok-left.left _ c.in-Some-left.known c.args.log.now _ _
