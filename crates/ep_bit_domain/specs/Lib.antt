@@ -1,0 +1,3 @@
+pub mod KnownBits
+pub mod Domain
+pub mod Exact

@@ -1,0 +1,2 @@
+//! Definitions and laws of known bits as values of a domain. There is no function here.
+#![tactic(auto)]

@@ -1,0 +1,10 @@
+pub mod Bits
+pub mod Numbers
+pub mod Patterns
+pub mod Least
+pub mod Edges
+pub mod Ranks
+pub mod Types
+pub mod Results
+pub mod Exact
+pub mod Open

@@ -1,0 +1,4 @@
+pub mod Bits
+pub mod Patterns
+pub mod Edges
+pub mod Results

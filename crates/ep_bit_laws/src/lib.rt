@@ -1,0 +1,2 @@
+//! Definitions and laws of known bits, on plain numbers. There is no function here.
+#![tactic(auto)]
