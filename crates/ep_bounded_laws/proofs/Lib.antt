@@ -1,0 +1,3 @@
+pub mod WaysIn
+pub mod GrowsIn
+pub mod Steps

@@ -1,0 +1,9 @@
+pub mod Silent
+pub mod Lift
+pub mod Alone
+pub mod Rules
+pub mod Both
+pub mod BothGiven
+pub mod Codes
+pub mod Arms
+pub mod Exact

@@ -1,0 +1,3 @@
+pub mod Exactly
+pub mod Closely
+pub mod Laws

@@ -1,0 +1,5 @@
+pub mod Tame
+pub mod Rows
+pub mod InOut
+pub mod Closed
+pub mod Steady

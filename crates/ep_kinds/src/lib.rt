@@ -1,0 +1,2 @@
+//! Kinds of programs of which more is promised: definitions alone.
+#![tactic(auto)]

@@ -1,0 +1,2 @@
+//! Worked rows of kinds of programs.
+#![tactic(auto)]

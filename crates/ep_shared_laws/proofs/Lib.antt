@@ -1,0 +1,2 @@
+pub mod Unparted
+pub mod Over

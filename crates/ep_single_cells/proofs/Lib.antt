@@ -1,0 +1,4 @@
+pub mod Covers
+pub mod Kills
+pub mod Narrows
+pub mod Overwrites

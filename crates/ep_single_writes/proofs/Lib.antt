@@ -1,0 +1,3 @@
+pub mod OneSplit
+pub mod Splits
+pub mod Replaces

@@ -1,0 +1,2 @@
+pub mod LeavesIn
+pub mod Parts
