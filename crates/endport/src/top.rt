@@ -1,4 +1,5 @@
-// The top call.
+//! The top call.
+
 ghost use Rattle.std.specs.Prelude.{◌≡◌, ◌≤◌, ◌⊎◌, None, Some, IfErr, IfOk, IfSome, IsSome, OnOk, length, vec_len};
 ghost use Rattle.ep_words.specs.Seen as words_seen;
 ghost use Rattle.ep_words.specs.Words.{ComparesOthers, plain};
@@ -24,8 +25,8 @@ const USAGE: &[u8] = b"usage:
   endport layout [--model ilp32|lp64] FILE
 ";
 
-/// Does what the words ask of a file: a report on two machines that differ in byte order alone, a run on one machine, or
-/// the layouts of its types. `src` has the file, and the text goes to `out`.
+/// Does what the words ask of a file: a report on two machines that differ in byte order alone, a run on one machine,
+/// or the layouts of its types. `src` has the file, and the text goes to `out`.
 pub fn endport<S: Source, K: Sink>(
     alloc: Global,
     words: &Vec<String>,
@@ -39,18 +40,22 @@ pub fn endport<S: Source, K: Sink>(
     ensures silent { IsSilent result → out.new ≡ out.old }
 
     // When each status comes.
-    ensures usage { plain (words_seen.words words.now.items) ≡ None → (result ≡ Status.Usage) ⊎ (result ≡ Status.WriteFault) }
+    ensures usage { plain (words_seen.words words.now.items) ≡ None
+        → (result ≡ Status.Usage) ⊎ (result ≡ Status.WriteFault) }
     ensures read_fault { result ≡ Status.ReadFault → Rose (S.faults src.old) (S.faults src.new) }
     ensures write_fault { result ≡ Status.WriteFault → Rose (K.faults out.old) (K.faults out.new) }
-    ensures too_long { result ≡ Status.TooLong → IfSome (under (plain (words_seen.words words.now.items)) (S.standing src.old))
+    ensures too_long { result ≡ Status.TooLong
+        → IfSome (under (plain (words_seen.words words.now.items)) (S.standing src.old))
         IsTooLong }
     ensures always_too_long { IfSome (under (plain (words_seen.words words.now.items)) (S.standing src.old)) (λ bytes.
-        IsTooLong bytes → (result ≡ Status.TooLong) ⊎ (result ≡ Status.Memory) ⊎ Rose (S.faults src.old) (S.faults src.new)) }
+        IsTooLong bytes
+        → (result ≡ Status.TooLong) ⊎ (result ≡ Status.Memory) ⊎ Rose (S.faults src.old) (S.faults src.new)) }
 
     // What becomes of the source and the counts.
     ensures standing { S.standing src.new ≡ S.standing src.old }
     ensures unread { plain (words_seen.words words.now.items) ≡ None → src.new ≡ src.old }
-    ensures to_its_end { IsSome (plain (words_seen.words words.now.items)) → WasRead result → NoneLeft (S.left src.new) }
+    ensures to_its_end { IsSome (plain (words_seen.words words.now.items))
+        → WasRead result → NoneLeft (S.left src.new) }
     ensures read_faults { NeverFalls (S.faults src.old) (S.faults src.new) }
     ensures write_faults { NeverFalls (K.faults out.old) (K.faults out.new) }
 {
@@ -66,7 +71,8 @@ pub fn endport<S: Source, K: Sink>(
 // Writes the whole text.
 fn put<K: Sink>(out: &mut K, text: &[u8], status: Status) -> Status
     ensures written { ((result ≡ status) × Appended (K.written out.old) text.now (K.written out.new)) ⊎
-        ((result ≡ Status.WriteFault) × FrontAppended (K.written out.old) text.now (K.written out.new) × Rose (K.faults out.old) (K.faults out.new)) }
+        ((result ≡ Status.WriteFault) × FrontAppended (K.written out.old) text.now (K.written out.new)
+        × Rose (K.faults out.old) (K.faults out.new)) }
     ensures never_falls { NeverFalls (K.faults out.old) (K.faults out.new) }
 {
     match write_all(out, text) {

@@ -1,4 +1,5 @@
-// Reading a source to its end, and writing a whole text.
+//! Reading a source to its end, and writing a whole text.
+
 ghost use Rattle.std.specs.Prelude.{◌≡◌, ◌<◌, ◌≤◌, length, IfSome, IfOk, OnOk, OnErr, IsErrOf, vec_len};
 ghost use Rattle.ep_io.specs.Faults.{NeverFalls, Rose};
 ghost use Rattle.ep_io.specs.Bytes.{SomeTaken, NoneLeft, Appended, FrontAppended};

@@ -1,4 +1,5 @@
-// Counts of faults.
+//! Counts of faults.
+
 ghost use Rattle.std.specs.Prelude.{◌≡◌};
 ghost use Rattle.ep_io.specs.Faults.{counted, NeverFalls, Rose};
 
@@ -20,13 +21,14 @@ impl Model for Faults {
 }
 
 impl Faults {
+    /// No fault yet.
     pub fn none() -> Self
         ensures { result ≡ 0 }
     {
         Faults { count: 0 }
     }
 
-    // Counts one more.
+    /// Counts one more.
     pub fn raise(&mut self) -> Failed
         ensures counted { self.new ≡ counted self.old }
         ensures never_falls { NeverFalls self.old self.new }

@@ -1,4 +1,5 @@
-// A source and a sink over memory, whose calls fail where they are told to.
+//! A source and a sink over memory, whose calls fail where they are told to.
+
 ghost use Rattle.std.specs.Prelude.{◌≡◌, ◌+◌, ◌<◌, ◌≤◌, ◌||◌, [], ◌++◌, length, take, drop, Some, Bool, is_err, IfOk};
 ghost use Rattle.std.specs.Prelude.{List, ℕ};
 ghost use Rattle.ep_io.specs.Faults.{NeverFalls};

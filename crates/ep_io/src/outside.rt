@@ -1,4 +1,5 @@
-// Sources and sinks, and how their calls fail.
+//! Sources and sinks, and how their calls fail.
+
 ghost use Rattle.std.specs.Prelude.{◌≡◌, ℕ, ◌<◌, ◌≤◌, List, [], length, take, drop, Option, Some, is_some, IfSome};
 ghost use Rattle.std.specs.Prelude.{IfOk, OnOk, OnErr};
 ghost use Rattle.ep_io.specs.Faults.{NeverFalls, Rose};

@@ -1,4 +1,5 @@
-// A source over files, a sink over standard output, and the words of the command line. They tell nothing of the bytes.
+//! A source over files, a sink over standard output, and the words of the command line. They tell nothing of the bytes.
+
 ghost use Rattle.std.specs.Prelude.{◌≡◌, None};
 
 use crate::engines::PIECE;

@@ -1,5 +1,7 @@
 -- The bytes of a variable are put out: on both machines the same, or the machines come apart.
-use Rattle.std.proofs.Common.{◌≡◌, ℕ, zero, suc, ◌+◌, ◌<◌, ◌≤◌, ◌⊎◌, inl, inr, ℤ, pos, Bool, true, false, nat_eq, nat_le, if◌then◌else◌, [], ◌∷◌, ◌++◌, refl, sym, ap, ◌∙◌, subst, Option, Some, None, option_and_then, arith, slice_get}
+use Rattle.std.proofs.Common.{◌≡◌, ℕ, zero, suc, ◌+◌, ◌<◌, ◌≤◌, ◌⊎◌, inl, inr, ℤ, pos, Bool, true, false, nat_eq}
+use Rattle.std.proofs.Common.{nat_le, if◌then◌else◌, [], ◌∷◌, ◌++◌, refl, sym, ap, ◌∙◌, subst, Option, Some, None}
+use Rattle.std.proofs.Common.{option_and_then, arith, slice_get}
 use Rattle.std.proofs.lemmas.Bool.{eqb-true, eq-eqb, leb-true}
 use Rattle.ep_int.specs.declared.types.IntType.{IntType}
 use Rattle.ep_int.specs.declared.types.IntType.TheVariants.{U8}
@@ -10,7 +12,8 @@ use Rattle.ep_int.specs.Memory.{Byte, undefined, number, fragment}
 use Rattle.ep_layout.specs.declared.types.Ty.{Ty}
 use Rattle.ep_layout.specs.declared.types.Ty.TheVariants as ty
 use Rattle.ep_core.specs.Program.{Program}
-use Rattle.ep_core.specs.Exec.{State, on, Outcome, leaves, uncounted, put_out, byte_out, bytewise, bytewise_rest, out_of}
+use Rattle.ep_core.specs.Exec.{State, on, Outcome, leaves, uncounted, put_out, byte_out, bytewise, bytewise_rest}
+use Rattle.ep_core.specs.Exec.{out_of}
 use Rattle.ep_core.specs.Runs.{Begins}
 use Rattle.ep_core.specs.WellFormed.{has_scalar, block_type, holds_scalar, number_of_type}
 use Rattle.ep_core.proofs.Prefixes.{begins_refl, begins_trans, begins_more}
@@ -20,7 +23,8 @@ use Rattle.ep_equalities.specs.declared.pair.Mode.TheVariants as pair_mode
 use Rattle.ep_equalities.specs.declared.pair.PairValue.{PairValue}
 use Rattle.ep_equalities.specs.Same.{is_same}
 use Rattle.ep_transfers.specs.Places.{Places, has_values}
-use Rattle.ep_transfers.specs.Transfers.{Stepped, stepped, after_faults, differ_faults, byte_pair, byte_faults, bytes_out}
+use Rattle.ep_transfers.specs.Transfers.{Stepped, stepped, after_faults, differ_faults, byte_pair, byte_faults}
+use Rattle.ep_transfers.specs.Transfers.{bytes_out}
 use Rattle.ep_straight_laws.specs.Straight.{integer_bytes}
 use Rattle.ep_straight_laws.proofs.Runs.{Apart, outputs_in, bytes_diverge}
 

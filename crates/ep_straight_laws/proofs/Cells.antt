@@ -1,5 +1,6 @@
 -- What becomes of the cells of variables where one of them is written as a whole.
-use Rattle.std.proofs.Common.{◌≡◌, ℕ, ◌+◌, Bool, true, false, ◌&&◌, not, cond, nat_eq, nat_lt, nat_le, List, [], ◌∷◌, refl, sym, ap, ◌∙◌, subst, Option, arith}
+use Rattle.std.proofs.Common.{◌≡◌, ℕ, ◌+◌, Bool, true, false, ◌&&◌, not, cond, nat_eq, nat_lt, nat_le, List, [], ◌∷◌}
+use Rattle.std.proofs.Common.{refl, sym, ap, ◌∙◌, subst, Option, arith}
 use Rattle.std.specs.List.{filter}
 use Rattle.std.proofs.lemmas.Bool.{eq-eqb, le-leb}
 use Rattle.ep_int.specs.declared.types.IntType.{IntType}
@@ -12,7 +13,8 @@ use Rattle.ep_domain.specs.Domain.{Ops}
 use Rattle.ep_cells.specs.declared.cell.Cell.{Cell}
 use Rattle.ep_cells.specs.declared.cell.Value.{Value}
 use Rattle.ep_cells.specs.declared.place.Place.{Place}
-use Rattle.ep_cells.specs.Cells.{place_of, touches, meets, share_memory, is_partly_in, is_same_cell, side_without, with_side, IsIn, first, later, put, each_becomes}
+use Rattle.ep_cells.specs.Cells.{place_of, touches, meets, share_memory, is_partly_in, is_same_cell, side_without}
+use Rattle.ep_cells.specs.Cells.{with_side, IsIn, first, later, put, each_becomes}
 use Rattle.ep_cells.specs.Forms.{reformed, common_form}
 use Rattle.ep_cells.specs.States.{Known, AreCells}
 use Rattle.ep_cells.specs.Write.{left_by_write, fate_by_write}
@@ -21,11 +23,13 @@ use Rattle.ep_cells_laws.proofs.Both.{alike_same}
 use Rattle.ep_reads.specs.Split.{split_all}
 use Rattle.ep_split_laws.proofs.Sides.{others_apart}
 use Rattle.ep_split_laws.proofs.Splits.{place_alike}
-use Rattle.ep_cell_ranges.specs.Ranges.{on_cell_side, with_cells, with_form, form_by_cut, split_at, cut, overwritten, replaced}
+use Rattle.ep_cell_ranges.specs.Ranges.{on_cell_side, with_cells, with_form, form_by_cut, split_at, cut, overwritten}
+use Rattle.ep_cell_ranges.specs.Ranges.{replaced}
 use Rattle.ep_cell_ranges.specs.Spots.{is_same_spot, all_spots}
 use Rattle.ep_cell_ranges_laws.specs.Sound.{IsPlaced}
 use Rattle.ep_equalities.specs.declared.pair.Mode.TheVariants.{Both}
-use Rattle.ep_transfers.specs.Writes.{Item, underway, shared_cell, write_shared, write_shared_each, write_both, write_now}
+use Rattle.ep_transfers.specs.Writes.{Item, underway, shared_cell, write_shared, write_shared_each, write_both}
+use Rattle.ep_transfers.specs.Writes.{write_now}
 
 -- the place of a variable, on both sides
 abbrev pub whole : (block : ℕ) → IntType → Place

@@ -14,10 +14,13 @@ use Rattle.ep_int.proofs.Wrapping.{wrapped_in_range}
 use Rattle.ep_domain.specs.Domain.{Ops, Lawful}
 use Rattle.ep_cells.specs.declared.cell.Value.TheVariants.{Num}
 use Rattle.ep_cells.specs.States.{Known, AreCells}
-use Rattle.ep_core.specs.Program.{Place, block, deref, member, element, Expr, const, null_value, load, addr_of, binary, convert, compare, ptr_compare, logical_and, logical_or, logical_not, conditional, ptr_add, cast, Program}
+use Rattle.ep_core.specs.Program.{Place, block, deref, member, element, Expr, const, null_value, load, addr_of}
+use Rattle.ep_core.specs.Program.{binary, convert, compare, ptr_compare, logical_and, logical_or, logical_not}
+use Rattle.ep_core.specs.Program.{conditional, ptr_add, cast, Program}
 use Rattle.ep_core.specs.Exec.{with_number, value}
 use Rattle.ep_core.specs.Runs.{Side, left, right}
-use Rattle.ep_core.specs.WellFormed.{integer, has_scalar, is_sort, sort_of, ty_at, is_integer, is_int, int_type_of, is_named, block_has, place_has, has_sort, holds_scalar, is_well_formed}
+use Rattle.ep_core.specs.WellFormed.{integer, has_scalar, is_sort, sort_of, ty_at, is_integer, is_int, int_type_of}
+use Rattle.ep_core.specs.WellFormed.{is_named, block_has, place_has, has_sort, holds_scalar, is_well_formed}
 use Rattle.ep_core.proofs.Sorts.{same_type, loaded_scalar, int_where, type_where}
 use Rattle.ep_equalities.specs.declared.pair.Mode.TheVariants.{Both}
 use Rattle.ep_evaluation.specs.Given.{Given}

@@ -1,6 +1,8 @@
 -- A byte that both machines have alike is put out without a fault and is surely the same: it is of a cell of one byte,
 -- of a single number, or of the number 1, of which both read the same byte.
-use Rattle.std.proofs.Common.{◌≡◌, ℕ, ◌+◌, ◌-◌, ◌*◌, ◌<◌, inl, inr, pos, Bool, true, false, ◌&&◌, ◌||◌, nat_eq, cond, List, [], ◌∷◌, ◌++◌, refl, sym, ap, ◌∙◌, subst, Option, Some, None, IfSome, option_and_then, arith}
+use Rattle.std.proofs.Common.{◌≡◌, ℕ, ◌+◌, ◌-◌, ◌*◌, ◌<◌, inl, inr, pos, Bool, true, false, ◌&&◌, ◌||◌, nat_eq, cond}
+use Rattle.std.proofs.Common.{List, [], ◌∷◌, ◌++◌, refl, sym, ap, ◌∙◌, subst, Option, Some, None, IfSome}
+use Rattle.std.proofs.Common.{option_and_then, arith}
 use Rattle.std.specs.Option.{option_map}
 use Rattle.std.specs.Ordering.{int_eq}
 use Rattle.std.proofs.lemmas.Bool.{eq-eqb, eqb-true}
@@ -33,8 +35,10 @@ use Rattle.ep_cells.specs.Meaning.{name_of}
 use Rattle.ep_cells.specs.Reshare.{are_one_number}
 use Rattle.ep_cells.specs.States.{Known, AreCells, HasWidth, IsFormOf}
 use Rattle.ep_reads.specs.declared.read.ReadValue.{ReadValue}
-use Rattle.ep_reads.specs.Bytes.{byte_at, byte_form, byte_of_value, byte_of_cell, form_or, own_form, form_of_cell, number_byte, order_on}
-use Rattle.ep_reads.specs.Read.{is_exact, is_same_sort, whole_read, read_with, read_in_parts, byte_read, byte_there, appended, integer_read, converted, read}
+use Rattle.ep_reads.specs.Bytes.{byte_at, byte_form, byte_of_value, byte_of_cell, form_or, own_form, form_of_cell}
+use Rattle.ep_reads.specs.Bytes.{number_byte, order_on}
+use Rattle.ep_reads.specs.Read.{is_exact, is_same_sort, whole_read, read_with, read_in_parts, byte_read, byte_there}
+use Rattle.ep_reads.specs.Read.{appended, integer_read, converted, read}
 use Rattle.ep_reads_laws.proofs.Bytes.{cell_form_fits}
 use Rattle.ep_reads_laws.proofs.Slices.{slice_is}
 use Rattle.ep_cell_ranges.specs.Shared.{is_shared_cell}

@@ -1,5 +1,6 @@
 -- The place of the first bytes of a variable, which has no fault.
-use Rattle.std.proofs.Common.{◌≡◌, ℕ, zero, suc, ◌+◌, ◌-◌, ◌/◌, ◌<◌, ◌≤◌, pos, ◌+ℤ◌, Bool, true, false, ◌||◌, cond, int_lt, [], ◌∷◌, ◌++◌, map, refl, ap, ◌∙◌, None, arith, slice_get}
+use Rattle.std.proofs.Common.{◌≡◌, ℕ, zero, suc, ◌+◌, ◌-◌, ◌/◌, ◌<◌, ◌≤◌, pos, ◌+ℤ◌, Bool, true, false, ◌||◌, cond}
+use Rattle.std.proofs.Common.{int_lt, [], ◌∷◌, ◌++◌, map, refl, ap, ◌∙◌, None, arith, slice_get}
 use Rattle.std.specs.List.{filter}
 use Rattle.std.proofs.lemmas.Int.{ints}
 use Rattle.std.proofs.lemmas.Bool.{le-leb, false_from_ne_true, ltb-true}

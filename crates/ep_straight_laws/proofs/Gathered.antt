@@ -1,5 +1,6 @@
 -- The law of straight programs, over what is shown of the output of bytes and of the beginning of main.
-use Rattle.std.proofs.Common.{◌≡◌, ℕ, true, ◌&&◌, not, nat_eq, length, List, [], ◌∷◌, arith, refl, sym, ap, subst, Option, Some, None, option_to_list, slice_get}
+use Rattle.std.proofs.Common.{◌≡◌, ℕ, true, ◌&&◌, not, nat_eq, length, List, [], ◌∷◌, arith, refl, sym, ap, subst}
+use Rattle.std.proofs.Common.{Option, Some, None, option_to_list, slice_get}
 use Rattle.std.specs.List.{list_all}
 use Rattle.std.proofs.lemmas.Bool.{and_parts, eqb-true}
 use Rattle.ep_int.specs.declared.types.IntType.{IntType}
@@ -9,13 +10,19 @@ use Rattle.ep_int.specs.declared.types.Scalar.{Scalar}
 use Rattle.ep_int.specs.declared.types.Scalar.TheVariants.{Int, Pointer}
 use Rattle.ep_domain.specs.Domain.{Ops, Lawful}
 use Rattle.ep_cells.specs.States.{Known}
-use Rattle.ep_core.specs.Program.{Place, Expr, const, null_value, load, addr_of, binary, convert, compare, ptr_compare, logical_and, logical_or, logical_not, conditional, ptr_add, cast, Simple, nothing, eval, assign, clear, copy_aggregate, copy_bytes, fill, input, output, read_bytes, write_bytes, returns, Function, Program}
+use Rattle.ep_core.specs.Program.{Place, Expr, const, null_value, load, addr_of, binary, convert, compare}
+use Rattle.ep_core.specs.Program.{ptr_compare, logical_and, logical_or, logical_not, conditional, ptr_add, cast}
+use Rattle.ep_core.specs.Program.{Simple, nothing, eval, assign, clear, copy_aggregate, copy_bytes, fill, input}
+use Rattle.ep_core.specs.Program.{output, read_bytes, write_bytes, returns, Function, Program}
 use Rattle.ep_core.specs.Exec.{State, frame_of, result_in, does, uncounted}
 use Rattle.ep_core.specs.Runs.{Side, left, right, start}
-use Rattle.ep_core.specs.WellFormed.{Sort, integer, pointer_to, is_sort, sort_of, has_scalar, ty_at, is_int_result, is_main, holds_scalar, place_has, has_sort, has_type, int_type_of, result_type, simple_fits, is_well_formed}
+use Rattle.ep_core.specs.WellFormed.{Sort, integer, pointer_to, is_sort, sort_of, has_scalar, ty_at, is_int_result}
+use Rattle.ep_core.specs.WellFormed.{is_main, holds_scalar, place_has, has_sort, has_type, int_type_of, result_type}
+use Rattle.ep_core.specs.WellFormed.{simple_fits, is_well_formed}
 use Rattle.ep_core.specs.Typed.{scalar_of}
 use Rattle.ep_core.proofs.Operands.{holds_at}
-use Rattle.ep_core.proofs.Sorts.{same_scalar, sort_scalar, loaded_scalar, number_scalar, type_where, tested_where, typed_where}
+use Rattle.ep_core.proofs.Sorts.{same_scalar, sort_scalar, loaded_scalar, number_scalar, type_where, tested_where}
+use Rattle.ep_core.proofs.Sorts.{typed_where}
 use Rattle.ep_pass.specs.States.{Both, StateOps}
 use Rattle.ep_pass.specs.Laws.{Kept, AreOther}
 use Rattle.ep_pass_laws.proofs.Sure.{Sure, Meets}

@@ -1,5 +1,6 @@
 -- What the load of a variable comes to.
-use Rattle.std.proofs.Common.{◌≡◌, ◌≢◌, ℕ, ◌<◌, ◌⊎◌, inl, inr, ℤ, pos, Bool, true, false, ◌&&◌, cond, List, [], ◌∷◌, ◌++◌, map, refl, sym, ap, ◌∙◌, subst, Option, Some, None, option_map, arith}
+use Rattle.std.proofs.Common.{◌≡◌, ◌≢◌, ℕ, ◌<◌, ◌⊎◌, inl, inr, ℤ, pos, Bool, true, false, ◌&&◌, cond, List, [], ◌∷◌}
+use Rattle.std.proofs.Common.{◌++◌, map, refl, sym, ap, ◌∙◌, subst, Option, Some, None, option_map, arith}
 use Rattle.std.specs.List.{filter}
 use Rattle.std.proofs.lemmas.Int.{ints}
 use Rattle.std.proofs.lemmas.Bool.{eq-eqb}
@@ -34,8 +35,10 @@ use Rattle.ep_alarm_laws.proofs.OwnPlaces.{own_quiet}
 use Rattle.ep_equalities.specs.declared.pair.Mode.TheVariants.{Both}
 use Rattle.ep_equalities.specs.declared.pair.Fault.{Fault}
 use Rattle.ep_evaluation.specs.Given.{Given, cells_of, on, shown_if, faults_on}
-use Rattle.ep_evaluation.specs.Accesses.{offsets_in, held_spots, spots, reads_of, joined_reads, is_unset, is_mixed, are_shared, bounds_of, may_be_odd}
-use Rattle.ep_evaluation.specs.Evaluation.{pointer_given, load_given, reads_at, targets_of, pointer, is_null, load_shared}
+use Rattle.ep_evaluation.specs.Accesses.{offsets_in, held_spots, spots, reads_of, joined_reads, is_unset, is_mixed}
+use Rattle.ep_evaluation.specs.Accesses.{are_shared, bounds_of, may_be_odd}
+use Rattle.ep_evaluation.specs.Evaluation.{pointer_given, load_given, reads_at, targets_of, pointer, is_null}
+use Rattle.ep_evaluation.specs.Evaluation.{load_shared}
 use Rattle.ep_evaluation_laws.proofs.General.{none_left}
 use Rattle.ep_transfers.specs.Places.{range_faults}
 use Rattle.ep_transfers.specs.Transfers.{sizes}

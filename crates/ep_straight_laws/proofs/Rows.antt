@@ -1,25 +1,34 @@
 -- Rows of straight statements, over what is shown of each statement: they are passed without a fault, and both machines
 -- go on alike, or the machines come apart.
-use Rattle.std.proofs.Common.{◌≡◌, ◌≢◌, ℕ, zero, suc, ◌+◌, ◌≤◌, ◌⊎◌, inl, inr, pos, Bool, true, false, List, [], ◌∷◌, ◌++◌, length, slice_get, refl, sym, ap, ◌∙◌, subst, Option, Some, None, arith}
+use Rattle.std.proofs.Common.{◌≡◌, ◌≢◌, ℕ, zero, suc, ◌+◌, ◌≤◌, ◌⊎◌, inl, inr, pos, Bool, true, false, List, [], ◌∷◌}
+use Rattle.std.proofs.Common.{◌++◌, length, slice_get, refl, sym, ap, ◌∙◌, subst, Option, Some, None, arith}
 use Rattle.std.proofs.lemmas.Bool.{and_parts}
 use Rattle.ep_int.specs.declared.types.Order.{Order}
 use Rattle.ep_int.specs.declared.types.Scalar.{Scalar}
 use Rattle.ep_int.specs.declared.types.IntType.{IntType}
-use Rattle.ep_int.specs.Memory.{Value, int, null, pointer, Kind, Found, has, faults, store_fault, range_fault, Byte, undefined, number, fragment}
+use Rattle.ep_int.specs.Memory.{Value, int, null, pointer, Kind, Found, has, faults, store_fault, range_fault, Byte}
+use Rattle.ep_int.specs.Memory.{undefined, number, fragment}
 use Rattle.ep_int.specs.Types.{wrapped}
 use Rattle.ep_alarms.specs.declared.types.Alarm.{Alarm}
 use Rattle.ep_alarms.specs.Report.{gathered}
-use Rattle.ep_core.specs.Program.{Dest, Simple, nothing, eval, assign, clear, copy_aggregate, copy_bytes, fill, input, output, read_bytes, write_bytes, returns, What, simple, call, if_else, loop, break_loop, continue_loop, by_order, scope, Stmts, stop, more, Function, Program}
-use Rattle.ep_core.specs.Exec.{State, Way, on, broken, continued, returned, Outcome, leaves, running, no_input, undefined_at, Going, uncounted, and_then, given, with_int, at_place, unless, taken, put_out, byte_out, bytewise, bytewise_rest, out_of, converted, result_in, frame_of, model, size_at, value, address, put_to, put_dest, does, exec_all, body_of, bodies}
+use Rattle.ep_core.specs.Program.{Dest, Simple, nothing, eval, assign, clear, copy_aggregate, copy_bytes, fill, input}
+use Rattle.ep_core.specs.Program.{output, read_bytes, write_bytes, returns, What, simple, call, if_else, loop}
+use Rattle.ep_core.specs.Program.{break_loop, continue_loop, by_order, scope, Stmts, stop, more, Function, Program}
+use Rattle.ep_core.specs.Exec.{State, Way, on, broken, continued, returned, Outcome, leaves, running, no_input}
+use Rattle.ep_core.specs.Exec.{undefined_at, Going, uncounted, and_then, given, with_int, at_place, unless, taken}
+use Rattle.ep_core.specs.Exec.{put_out, byte_out, bytewise, bytewise_rest, out_of, converted, result_in, frame_of}
+use Rattle.ep_core.specs.Exec.{model, size_at, value, address, put_to, put_dest, does, exec_all, body_of, bodies}
 use Rattle.ep_core.specs.Runs.{Side, left, right, main_from, start, Agree}
 use Rattle.ep_core.specs.WellFormed.{result_type, simple_fits, stmts_fit, is_well_formed}
 use Rattle.ep_core.proofs.Grows.{Growing, all_grow, bodies_grow}
 use Rattle.ep_core.proofs.Operands.{fits_at}
 use Rattle.ep_pass.specs.States.{Mode, Both, Fault, Gives, StateOps}
-use Rattle.ep_pass.specs.Pass.{Ways, none, Pass, alarms_at, way_of, simple_pass, then_pass, join_on, pass_all, body_pass, bodies_pass, faults_at_end, all_faults, report_of}
+use Rattle.ep_pass.specs.Pass.{Ways, none, Pass, alarms_at, way_of, simple_pass, then_pass, join_on, pass_all}
+use Rattle.ep_pass.specs.Pass.{body_pass, bodies_pass, faults_at_end, all_faults, report_of}
 use Rattle.ep_pass_laws.proofs.Sure.{Meets, meet_on, meet_none}
 use Rattle.ep_straight_laws.specs.Straight.{is_straight_step, are_straight}
-use Rattle.ep_straight_laws.proofs.Runs.{Apart, apart_then, Stops, never_apart, ones_of, length-ones, are_inputs, AreOnes, are_ones}
+use Rattle.ep_straight_laws.proofs.Runs.{Apart, apart_then, Stops, never_apart, ones_of, length-ones, are_inputs}
+use Rattle.ep_straight_laws.proofs.Runs.{AreOnes, are_ones}
 
 pub none_or_some : {A : Type 0} (fs : List A) → (fs ≡ []) ⊎ (fs ≢ [])
 none_or_some [] = inl refl

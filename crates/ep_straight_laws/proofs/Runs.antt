@@ -1,12 +1,15 @@
 -- Two runs that come apart: one is undefined, or after the same outputs comes another.
-use Rattle.std.proofs.Common.{◌≡◌, ◌≢◌, ℕ, zero, suc, ◌≤◌, ◌⊎◌, inl, inr, pos, List, [], ◌∷◌, ◌++◌, length, refl, sym, ap, ◌∙◌, subst, Option, Some, None, arith, append_assoc, lit<}
+use Rattle.std.proofs.Common.{◌≡◌, ◌≢◌, ℕ, zero, suc, ◌≤◌, ◌⊎◌, inl, inr, pos, List, [], ◌∷◌, ◌++◌, length, refl, sym}
+use Rattle.std.proofs.Common.{ap, ◌∙◌, subst, Option, Some, None, arith, append_assoc, lit<}
 use Rattle.ep_int.specs.declared.types.IntType.TheVariants.{U8}
 use Rattle.ep_int.specs.declared.types.Order.{Order}
 use Rattle.ep_int.specs.declared.types.Scalar.{Scalar}
 use Rattle.ep_int.specs.Memory.{Byte, number, int, null, pointer, Found, has, faults, loaded}
 use Rattle.ep_core.specs.Program.{Program}
-use Rattle.ep_core.specs.Exec.{Output, State, on, broken, continued, returned, Outcome, leaves, running, no_input, undefined_at, uncounted, Going, and_then, byte_out, put_out, model, size_at, result_in}
-use Rattle.ep_core.specs.Runs.{run, run_by, result_out, main_function, main_ends, line_of, finished, main_from, IsDefined, IsOver, Begins, Agrees, AreInputs, Agree}
+use Rattle.ep_core.specs.Exec.{Output, State, on, broken, continued, returned, Outcome, leaves, running, no_input}
+use Rattle.ep_core.specs.Exec.{undefined_at, uncounted, Going, and_then, byte_out, put_out, model, size_at, result_in}
+use Rattle.ep_core.specs.Runs.{run, run_by, result_out, main_function, main_ends, line_of, finished, main_from}
+use Rattle.ep_core.specs.Runs.{IsDefined, IsOver, Begins, Agrees, AreInputs, Agree}
 use Rattle.ep_core.proofs.Prefixes.{begins_refl, begins_trans}
 use Rattle.ep_core.proofs.Grows.{state_in, Growing, grown}
 use Rattle.ep_core.proofs.Whole.{steps_reach}

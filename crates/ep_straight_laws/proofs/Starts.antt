@@ -1,5 +1,6 @@
 -- Where main begins, each variable has its first value, or none.
-use Rattle.std.proofs.Common.{◌≡◌, ℕ, ◌+◌, inl, ℤ, pos, ◌≤ℤ◌, Bool, true, false, ◌||◌, List, ◌++◌, refl, sym, ap, ◌∙◌, subst, Option, Some, None, unwrap_or, arith, slice_get}
+use Rattle.std.proofs.Common.{◌≡◌, ℕ, ◌+◌, inl, ℤ, pos, ◌≤ℤ◌, Bool, true, false, ◌||◌, List, ◌++◌, refl, sym, ap, ◌∙◌}
+use Rattle.std.proofs.Common.{subst, Option, Some, None, unwrap_or, arith, slice_get}
 use Rattle.std.proofs.lemmas.Int.{ints}
 use Rattle.std.proofs.lemmas.Bool.{eq-eqb}
 use Rattle.ep_int.specs.declared.types.IntType.{IntType}

@@ -1,5 +1,6 @@
 -- A number goes to a variable: what is known then, and the other variables.
-use Rattle.std.proofs.Common.{◌≡◌, ℕ, ℤ, inl, inr, Bool, true, false, ◌&&◌, IfSome, IsSomeAnd, nat_eq, [], ◌∷◌, refl, sym, ap, ◌∙◌, subst, Option, Some, None, option_and_then, slice_get}
+use Rattle.std.proofs.Common.{◌≡◌, ℕ, ℤ, inl, inr, Bool, true, false, ◌&&◌, IfSome, IsSomeAnd, nat_eq, [], ◌∷◌, refl}
+use Rattle.std.proofs.Common.{sym, ap, ◌∙◌, subst, Option, Some, None, option_and_then, slice_get}
 use Rattle.std.specs.Option.{option_map_or}
 use Rattle.std.proofs.lemmas.Bool.{eqb-true}
 use Rattle.ep_int.specs.declared.types.IntType.{IntType}

@@ -4,10 +4,13 @@ use Rattle.std.proofs.lemmas.Bool.{and_parts, leb-true}
 use Rattle.ep_int.specs.declared.types.Order.{Order}
 use Rattle.ep_int.specs.declared.types.Order.TheVariants.{Little, Big, SwappedWords}
 use Rattle.ep_domain.specs.Domain.{Ops, Lawful}
-use Rattle.ep_core.specs.Program.{block, deref, member, element, const, null_value, load, addr_of, binary, convert, compare, ptr_compare, logical_and, logical_or, logical_not, conditional, ptr_add, cast, Program}
+use Rattle.ep_core.specs.Program.{block, deref, member, element, const, null_value, load, addr_of, binary, convert}
+use Rattle.ep_core.specs.Program.{compare, ptr_compare, logical_and, logical_or, logical_not, conditional, ptr_add}
+use Rattle.ep_core.specs.Program.{cast, Program}
 use Rattle.ep_core.specs.Exec.{is_order}
 use Rattle.ep_core.specs.Runs.{Side}
-use Rattle.ep_core.specs.WellFormed.{is_length, is_address, is_array_of, some_type, is_named, block_has, place_has, has_sort, is_well_formed}
+use Rattle.ep_core.specs.WellFormed.{is_length, is_address, is_array_of, some_type, is_named, block_has, place_has}
+use Rattle.ep_core.specs.WellFormed.{has_sort, is_well_formed}
 use Rattle.ep_core.proofs.Sorts.{either_is, type_where, pointer_where}
 use Rattle.ep_pass.specs.Laws.{AreOther}
 use Rattle.ep_straight_laws.specs.Straight.{is_straight_body, is_straight}

@@ -27,8 +27,8 @@ module _ {N : Type 0} (D : Ops N) where
   IsExact p ord =
       (u limit : ℕ) → Agree p (ord left) (ord right) → report_of (cell_ops D p ord) u limit ord p ≡ []
 
-  -- One of the machines is little-endian, the other isn't. Between two others a wide number that is extended by its sign
-  -- may have equal bytes at two weights, which nothing that is known says.
+  -- One of the machines is little-endian, the other isn't. Between two others a wide number that is extended by its
+  -- sign may have equal bytes at two weights, which nothing that is known says.
   pub record IsStraightExact : Type 0 where
     pub little_first : (p : Program) → IsTrue (is_well_formed p) → IsTrue (is_straight p) → (other : Order)
         → is_order Little other ≡ false → IsExact p (orders Little other)

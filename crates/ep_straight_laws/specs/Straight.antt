@@ -10,7 +10,8 @@ use Rattle.ep_core.specs.Program.{Place, block, deref, member, element, Expr, co
 use Rattle.ep_core.specs.Program.{convert, compare, ptr_compare, logical_and, logical_or, logical_not, conditional}
 use Rattle.ep_core.specs.Program.{ptr_add, cast, Dest, Simple, nothing, eval, assign, clear, copy_aggregate, copy_bytes}
 use Rattle.ep_core.specs.Program.{fill, input, output, read_bytes, write_bytes, returns, What, simple, call, if_else}
-use Rattle.ep_core.specs.Program.{loop, break_loop, continue_loop, by_order, scope, Stmts, stop, more, Function, Program}
+use Rattle.ep_core.specs.Program.{loop, break_loop, continue_loop, by_order, scope, Stmts, stop, more, Function}
+use Rattle.ep_core.specs.Program.{Program}
 use Rattle.ep_core.specs.WellFormed.{block_type, holds_scalar}
 
 -- how many bytes an integer of a type has; of another type none count

@@ -1,6 +1,7 @@
 -- What two pairs of one single number have in common is single: the left parts' meet lies in both ranges, and the right
 -- parts' has one of their ranges.
-use Rattle.std.proofs.Common.{◌≡◌, ℤ, ◌≤ℤ◌, ◌⊎◌, inl, inr, Bool, true, false, cond, Option, Some, None, option_and_then, IfSome, IsSomeAnd, refl, ap, arith}
+use Rattle.std.proofs.Common.{◌≡◌, ℤ, ◌≤ℤ◌, ◌⊎◌, inl, inr, Bool, true, false, cond, Option, Some, None}
+use Rattle.std.proofs.Common.{option_and_then, IfSome, IsSomeAnd, refl, ap, arith}
 use Rattle.std.specs.Int.{int_min, int_max}
 use Rattle.std.proofs.lemmas.Int.{ints, clamps}
 use Rattle.ep_range_laws.specs.Ranges.{LiesIn, Encloses}

@@ -1,5 +1,6 @@
 -- The number of digits, from the first digit on.
-use Rattle.std.proofs.Common.{◌≡◌, ℕ, ◌≤◌, ◌<◌, ◌+◌, ◌-◌, ◌*◌, nat_le, List, [], ◌∷◌, Some, None, if◌then◌else◌, refl, arith, false}
+use Rattle.std.proofs.Common.{◌≡◌, ℕ, ◌≤◌, ◌<◌, ◌+◌, ◌-◌, ◌*◌, nat_le, List, [], ◌∷◌, Some, None, if◌then◌else◌, refl}
+use Rattle.std.proofs.Common.{arith, false}
 use Rattle.std.proofs.lemmas.Bool.{lt-leb}
 use Rattle.ep_words.specs.Words as rule
 

@@ -1,5 +1,7 @@
 -- The two orders of a report are different ones.
-use Rattle.std.proofs.Common.{◌≡◌, ℕ, sym, subst, Bool, true, false, ◌&&◌, List, [], ◌∷◌, Option, Some, None, IfSome, nat_le, bytes_eq, codes, length, map, is_none, option_map, option_and_then, unwrap_or, if◌then◌else◌}
+use Rattle.std.proofs.Common.{◌≡◌, ℕ, sym, subst, Bool, true, false, ◌&&◌, List, [], ◌∷◌, Option, Some, None, IfSome}
+use Rattle.std.proofs.Common.{nat_le, bytes_eq, codes, length, map, is_none, option_map, option_and_then, unwrap_or}
+use Rattle.std.proofs.Common.{if◌then◌else◌}
 use Rattle.ep_int.specs.declared.types.Model.{Model}
 use Rattle.ep_int.specs.declared.types.Order.{Order}
 use Rattle.ep_int.specs.declared.types.Order.TheVariants as orders

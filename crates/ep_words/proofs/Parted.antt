@@ -1,5 +1,6 @@
 -- Words one by one.
-use Rattle.std.proofs.Common.{◌≡◌, ◌≤◌, ◌-◌, List, [], ◌∷◌, String, Some, None, ◌<◌, true, length, take, drop, get_or, string_bytes, refl, arith, take_all}
+use Rattle.std.proofs.Common.{◌≡◌, ◌≤◌, ◌-◌, List, [], ◌∷◌, String, Some, None, ◌<◌, true, length, take, drop, get_or}
+use Rattle.std.proofs.Common.{string_bytes, refl, arith, take_all}
 use Rattle.ep_words.specs.Seen as seen
 use Rattle.ep_words.specs.Words as rule
 

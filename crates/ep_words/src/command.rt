@@ -98,7 +98,8 @@ fn are_inputs(words: &[String]) -> bool
 
 // A run, where it has an order and steps.
 fn run_with<'a>(given: Options, file: &'a str, inputs: &'a [String]) -> Option<Command<'a>>
-    ensures { option_map seen.command result ≡ rule.run_with given.order given.steps (rule.model_of (seen.options given))
+    ensures { option_map seen.command result ≡ rule.run_with given.order given.steps
+        (rule.model_of (seen.options given))
         file.now (map rule.input (seen.words inputs.now)) }
 {
     let order = given.order?;

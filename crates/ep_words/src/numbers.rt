@@ -15,7 +15,8 @@ fn are_digits(bytes: &[u8]) -> bool
 
 // The number of digits, if it is no greater than `most`.
 fn value_to(most: u64, digits: &[u8]) -> Option<u64>
-    ensures { result ≡ (if nat_le (rule.digits_value digits.now) most then Some (rule.digits_value digits.now) else None) }
+    ensures { result ≡ (if nat_le (rule.digits_value digits.now) most
+        then Some (rule.digits_value digits.now) else None) }
 {
     let most = most as u128;
     let mut value: u128 = 0;

@@ -70,6 +70,7 @@ fn model_named(word: &str) -> Option<Model>
 }
 
 impl Options {
+    /// No option yet.
     pub fn none() -> Options
         ensures { seen.options result ≡ rule.no_options }
     {

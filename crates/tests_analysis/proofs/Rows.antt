@@ -6,10 +6,13 @@ use Rattle.ep_int.specs.declared.types.IntType.TheVariants.{U8, U16, I32, U32}
 use Rattle.ep_int.specs.declared.types.Order.TheVariants.{Little, Big, SwappedWords}
 use Rattle.ep_int.specs.declared.types.Scalar.TheVariants.{Int}
 use Rattle.ep_alarms.specs.declared.types.AlarmKind.TheVariants.{E1, E2, E3, E4}
-use Rattle.ep_core.specs.Program.{block, element, Expr, const, addr_of, binary, convert, compare, nothing, assign, output, read_bytes, write_bytes, returns, What, simple, call, if_else, loop, break_loop, by_order, Stmts, stop, more, Program}
+use Rattle.ep_core.specs.Program.{block, element, Expr, const, addr_of, binary, convert, compare, nothing, assign}
+use Rattle.ep_core.specs.Program.{output, read_bytes, write_bytes, returns, What, simple, call, if_else, loop}
+use Rattle.ep_core.specs.Program.{break_loop, by_order, Stmts, stop, more, Program}
 use Rattle.ep_pass.specs.Pass.{report_of, heads_of}
 use Rattle.tests_analysis.specs.Exact.{Pair, exact}
-use Rattle.tests_analysis.specs.Samples.{sized, main_of, program, number, unsigned, u32, u16, set32, set16, put32, take32, first_byte, orders, usual, places, told, passes_in}
+use Rattle.tests_analysis.specs.Samples.{sized, main_of, program, number, unsigned, u32, u16, set32, set16, put32}
+use Rattle.tests_analysis.specs.Samples.{take32, first_byte, orders, usual, places, told, passes_in}
 use Rattle.tests_analysis.specs.Unknown.{unknown}
 
 -- ---- byte-order conditionals: uint16_t x, y; ep_read(&x, 2); (statements) ep_out_u16(y);

@@ -1,20 +1,27 @@
 -- The laws of operations can be met: two representations keep them, and by the report of the second `int main(void) { }`
 -- is portable.
-use Rattle.std.proofs.Common.{◌≡◌, ℕ, ℤ, Bool, true, false, [], ◌∷◌, ◌++◌, refl, ap, ◌∙◌, sym, subst, slice_get, Option, Some, None}
+use Rattle.std.proofs.Common.{◌≡◌, ℕ, ℤ, Bool, true, false, [], ◌∷◌, ◌++◌, refl, ap, ◌∙◌, sym, subst, slice_get}
+use Rattle.std.proofs.Common.{Option, Some, None}
 use Rattle.ep_int.specs.declared.types.IntType.TheVariants.{I32}
 use Rattle.ep_int.specs.declared.types.Order.{Order}
 use Rattle.ep_int.specs.Arith.{int_eq}
 use Rattle.ep_int.specs.declared.types.Scalar.{Scalar}
 use Rattle.ep_int.specs.Memory.{Memory, int, null, pointer, Found, has, faults, killed}
-use Rattle.ep_core.specs.Program.{Expr, const, null_value, load, addr_of, binary, convert, compare, ptr_compare, logical_and, logical_or, logical_not, conditional, ptr_add, cast, Simple, nothing, eval, assign, clear, copy_aggregate, copy_bytes, fill, input, output, read_bytes, write_bytes, returns, stop, Function, Program}
+use Rattle.ep_core.specs.Program.{Expr, const, null_value, load, addr_of, binary, convert, compare, ptr_compare}
+use Rattle.ep_core.specs.Program.{logical_and, logical_or, logical_not, conditional, ptr_add, cast, Simple, nothing}
+use Rattle.ep_core.specs.Program.{eval, assign, clear, copy_aggregate, copy_bytes, fill, input, output, read_bytes}
+use Rattle.ep_core.specs.Program.{write_bytes, returns, stop, Function, Program}
 use Rattle.ep_core.specs.Exec.{State, on, uncounted, is_true, result_in, does}
 use Rattle.ep_core.specs.Runs.{Side, left, right, initial, result_out, main_ends}
 use Rattle.ep_range_laws.proofs.Comparisons.{from_between, le_antisym}
 use Rattle.ep_pass.specs.States.{Both, One}
 use Rattle.ep_pass.specs.Pass.{way_of, report_of}
-use Rattle.ep_pass.specs.Laws.{Kept, KeptBeside, ReachesBeside, Meets, meet, MeetsAlone, meet_alone, InBeside, IsTruth, Truths, TruthAlone, EndAlike, Lawful}
+use Rattle.ep_pass.specs.Laws.{Kept, KeptBeside, ReachesBeside, Meets, meet, MeetsAlone, meet_alone, InBeside}
+use Rattle.ep_pass.specs.Laws.{IsTruth, Truths, TruthAlone, EndAlike, Lawful}
 use Rattle.tests_analysis.specs.Samples.{program, usual}
-use Rattle.tests_analysis.specs.Unknown.{put_out, simple_of, test_of, Known, unknown, Any, Ends, ends_alike, unsure, found_in, result_found, SameResult, StandsFor, ends_if, ends_by, either, is_within, end_faults, of_ends}
+use Rattle.tests_analysis.specs.Unknown.{put_out, simple_of, test_of, Known, unknown, Any, Ends, ends_alike, unsure}
+use Rattle.tests_analysis.specs.Unknown.{found_in, result_found, SameResult, StandsFor, ends_if, ends_by, either}
+use Rattle.tests_analysis.specs.Unknown.{is_within, end_faults, of_ends}
 
 -- ---- what both keep, whatever a state stands for
 module _ (p : Program) {S : Type 0} (In : S → Memory → Memory → Type 0) where

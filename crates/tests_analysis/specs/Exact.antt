@@ -1,14 +1,19 @@
 -- A plain representation of states, to try definitions with: pairs of machines as they are, from given inputs. It is no
 -- lawful one, since `empty` stands for nothing here.
-use Rattle.std.specs.Prelude.{ℕ, zero, suc, ◌+◌, pos, Bool, true, false, ◌&&◌, ◌||◌, not, nat_eq, List, [], ◌∷◌, ◌++◌, length, drop, Option, Some, None}
+use Rattle.std.specs.Prelude.{ℕ, zero, suc, ◌+◌, pos, Bool, true, false, ◌&&◌, ◌||◌, not, nat_eq, List, [], ◌∷◌, ◌++◌}
+use Rattle.std.specs.Prelude.{length, drop, Option, Some, None}
 use Rattle.ep_int.specs.declared.types.Order.{Order}
 use Rattle.ep_int.specs.declared.types.Scalar.{Scalar}
 use Rattle.ep_int.specs.Arith.{int_eq}
-use Rattle.ep_int.specs.Memory.{Byte, undefined, number, fragment, Memory, Found, has, faults, Kind, overflow, division, shift, uninitialised, bounds, null_pointer, alignment, pointer_mix, overlap, pointer_part}
+use Rattle.ep_int.specs.Memory.{Byte, undefined, number, fragment, Memory, Found, has, faults, Kind, overflow}
+use Rattle.ep_int.specs.Memory.{division, shift, uninitialised, bounds, null_pointer, alignment, pointer_mix, overlap}
+use Rattle.ep_int.specs.Memory.{pointer_part}
 use Rattle.ep_alarms.specs.declared.types.AlarmKind.{AlarmKind}
 use Rattle.ep_alarms.specs.declared.types.AlarmKind.TheVariants.{U1, U2, U3, U4, U5, U6, U7, U8, U9, U10, E1, E2}
-use Rattle.ep_core.specs.Program.{Expr, Simple, nothing, eval, assign, clear, copy_aggregate, copy_bytes, fill, input, output, read_bytes, write_bytes, returns, Block, Function, Program}
-use Rattle.ep_core.specs.Exec.{Output, State, Outcome, leaves, running, no_input, undefined_at, uncounted, is_true, without, value, does, received}
+use Rattle.ep_core.specs.Program.{Expr, Simple, nothing, eval, assign, clear, copy_aggregate, copy_bytes, fill, input}
+use Rattle.ep_core.specs.Program.{output, read_bytes, write_bytes, returns, Block, Function, Program}
+use Rattle.ep_core.specs.Exec.{Output, State, Outcome, leaves, running, no_input, undefined_at, uncounted, is_true}
+use Rattle.ep_core.specs.Exec.{without, value, does, received}
 use Rattle.ep_core.specs.Runs.{Side, left, right, Run, start, main_ends}
 use Rattle.ep_pass.specs.States.{Mode, Both, One, Fault, Gives, Verdict, stuck, same, differs, StateOps}
 use Rattle.ep_pass.specs.Laws.{passes}

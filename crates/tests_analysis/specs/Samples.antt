@@ -7,7 +7,8 @@ use Rattle.ep_int.specs.declared.types.Order.TheVariants.{Little, Big}
 use Rattle.ep_int.specs.declared.types.Scalar.TheVariants.{Int}
 use Rattle.ep_alarms.specs.declared.types.Alarm.{Alarm}
 use Rattle.ep_alarms.specs.declared.types.AlarmKind.{AlarmKind}
-use Rattle.ep_core.specs.Program.{Place, block, member, element, Expr, const, load, assign, input, output, What, simple, Stmts, Block, Function, Program}
+use Rattle.ep_core.specs.Program.{Place, block, member, element, Expr, const, load, assign, input, output, What}
+use Rattle.ep_core.specs.Program.{simple, Stmts, Block, Function, Program}
 use Rattle.ep_core.specs.Runs.{Side, left, right}
 use Rattle.ep_pass.specs.Pass.{report_of, turns_of}
 use Rattle.tests_analysis.specs.Exact.{exact}

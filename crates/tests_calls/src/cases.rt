@@ -1,3 +1,5 @@
+//! One call: what it is given, what it writes, and its status.
+
 use endport::{Status, endport};
 use ep_io::{MemSink, MemSource};
 use std::alloc::{AllocError, Global};

@@ -1,4 +1,5 @@
-// Cells as the table spells them.
+//! Cells as the table spells them.
+
 use ep_bitslice::{BoxedForm, CellName, Form, Side};
 use ep_cells::{Cell, Place, Value};
 use ep_congruence::Congruence;
@@ -8,8 +9,10 @@ use ep_intervals::Interval;
 use ep_pointers::PtrValue;
 use std::alloc::Global;
 
+/// The numbers of cells.
 pub type Numbers = Pair<Interval, Congruence>;
 
+/// A byte order.
 pub fn order(word: &str) -> Option<Order> {
     match word {
         "little" => Some(Order::Little),
@@ -19,6 +22,7 @@ pub fn order(word: &str) -> Option<Order> {
     }
 }
 
+/// A data model.
 pub fn model(word: &str) -> Option<Model> {
     match word {
         "ilp32" => Some(Model::Ilp32),
@@ -27,6 +31,7 @@ pub fn model(word: &str) -> Option<Model> {
     }
 }
 
+/// A side, or both.
 pub fn side(word: &str) -> Option<Side> {
     match word {
         "L" => Some(Side::Left),
@@ -50,6 +55,7 @@ fn int_type(word: &str) -> Option<IntType> {
     }
 }
 
+/// A scalar type.
 pub fn scalar(word: &str) -> Option<Scalar> {
     if word == "ptr" {
         Some(Scalar::Pointer)
@@ -58,6 +64,7 @@ pub fn scalar(word: &str) -> Option<Scalar> {
     }
 }
 
+/// A mark that is set or not.
 pub fn is_set(word: &str) -> Option<bool> {
     match word {
         "yes" => Some(true),
@@ -189,6 +196,7 @@ fn form(alloc: Global, word: &str) -> Option<Option<BoxedForm>> {
     }
 }
 
+/// A cell of a line.
 pub fn cell(alloc: Global, words: &str) -> Option<Cell<Numbers>> {
     let mut words = words.split_whitespace();
     Some(Cell {

@@ -1,4 +1,5 @@
-// Cells as text.
+//! Cells as text.
+
 use crate::reading::Numbers;
 use ep_bitslice::{CellName, Form, Segment, Side};
 use ep_cells::{Cell, Value};

@@ -1,4 +1,5 @@
-// Lines of the table, and what they are answered.
+//! Lines of the table, and what they are answered.
+
 ghost use Rattle.std.specs.Prelude.{◌≡◌, IfSome};
 
 use crate::synthesis::{read, split, unify};

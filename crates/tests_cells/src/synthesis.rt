@@ -1,4 +1,5 @@
-// Lines of the table on reads, splits and unifications.
+//! Lines of the table on reads, splits and unifications.
+
 use crate::rows::{Setting, state, text};
 use ep_bitslice::Side;
 use ep_cells::Place;

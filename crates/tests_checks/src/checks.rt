@@ -1,4 +1,5 @@
-// The command `check` on sources of the whole language: reports and refusals.
+//! The command `check` on sources of the whole language: reports and refusals.
+
 use std::alloc::Global;
 use std::process::Abort;
 use std::test::Fail;

@@ -1,4 +1,5 @@
-// What becomes of congruence classes. A class is written as its remainder and its modulus.
+//! What becomes of congruence classes. A class is written as its remainder and its modulus.
+
 use ep_congruence::Congruence;
 use ep_domain::Num;
 use ep_int::{BinOp, IntType};

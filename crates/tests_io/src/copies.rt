@@ -1,4 +1,5 @@
-// Whole texts from a source to a sink.
+//! Whole texts from a source to a sink.
+
 ghost use Rattle.std.specs.Prelude.{◌≡◌, ◌<◌, ◌≤◌, ◌⊎◌, length, IfSome};
 ghost use Rattle.ep_io.specs.Faults.{Rose};
 ghost use Rattle.ep_io.specs.Bytes.{Appended, FrontAppended};

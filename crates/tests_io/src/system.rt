@@ -1,4 +1,5 @@
-// Files, standard output and the words of the command line.
+//! Files, standard output and the words of the command line.
+
 use ep_io::{FileSource, ReadStop, Source, StdSink, command_words, read_all, write_all};
 use std::cell::{Cell, RefCell};
 use std::env::FillError;

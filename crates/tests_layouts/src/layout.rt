@@ -1,4 +1,5 @@
-// Sizes, alignments, offsets and leaves of types.
+//! Sizes, alignments, offsets and leaves of types.
+
 ghost use Rattle.std.specs.Prelude.{◌≡◌, OnOk};
 ghost use Rattle.std.specs.List.{list_all};
 ghost use Rattle.ep_layout.specs.Table.{names_known, is_type};
@@ -9,8 +10,8 @@ use std::alloc::Global;
 use std::process::Abort;
 use std::test::Fail;
 
-// A type that is added answers its number. A struct or union has a tag, `-` for none, and members; it answers the number
-// of its type, and a pointer to it has the next number. Sizes and offsets are those that clang gives for
+// A type that is added answers its number. A struct or union has a tag, `-` for none, and members; it answers the
+// number of its type, and a pointer to it has the next number. Sizes and offsets are those that clang gives for
 // `armv7-none-eabi`.
 const ILP32: &str = "\
 u8 = 0

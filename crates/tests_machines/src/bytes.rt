@@ -1,4 +1,5 @@
-// The byte memory: the bytes of numbers, worked out by hand from their hexadecimal digits, and what calls answer.
+//! The byte memory: the bytes of numbers, worked out by hand from their hexadecimal digits, and what calls answer.
+
 ghost use Rattle.std.specs.Prelude.{◌≡◌, ◌↔◌, ◌<◌, IsTrue, IfSome};
 ghost use Rattle.ep_bytes.specs.Shown.{Fits};
 ghost use Rattle.ep_bytes.specs.Held.{count_of};

@@ -1,4 +1,5 @@
-// What C's operators give at the edges of the types.
+//! What C's operators give at the edges of the types.
+
 use ep_int::{BinOp, IntType, Undef, arith, common, promote, wrap};
 use std::test::Fail;
 use tests_words::{int_type, operator};

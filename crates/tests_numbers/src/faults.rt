@@ -1,4 +1,5 @@
-// Where two ranges hold numbers of which arithmetic is undefined.
+//! Where two ranges hold numbers of which arithmetic is undefined.
+
 ghost use Rattle.std.specs.Prelude.{◌↔◌, IsTrue};
 ghost use Rattle.ep_range_laws.specs.Ranges.{IsRange};
 

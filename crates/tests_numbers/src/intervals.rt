@@ -1,4 +1,5 @@
-// What becomes of intervals.
+//! What becomes of intervals.
+
 use ep_domain::Num;
 use ep_int::{BinOp, IntType, greatest, least};
 use ep_intervals::Interval;

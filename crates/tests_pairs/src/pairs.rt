@@ -1,4 +1,5 @@
-// What becomes of intervals paired with congruence classes.
+//! What becomes of intervals paired with congruence classes.
+
 use ep_congruence::Congruence;
 use ep_domain::{Num, Pair};
 use ep_int::{IntType, greatest, least};

@@ -1,4 +1,5 @@
-// What becomes of pointers, over intervals.
+//! What becomes of pointers, over intervals.
+
 use ep_domain::Num;
 use ep_int::{Cmp, IntType, greatest, least};
 use ep_intervals::Interval;

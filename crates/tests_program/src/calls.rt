@@ -1,4 +1,5 @@
-// Whole calls, over a source and a sink in memory.
+//! Whole calls, over a source and a sink in memory.
+
 use std::alloc::Global;
 use std::process::Abort;
 use std::test::Fail;

@@ -1,4 +1,5 @@
-// The commands `layout` and `run`, over a source and a sink in memory.
+//! The commands `layout` and `run`, over a source and a sink in memory.
+
 use crate::calls::expect;
 use std::alloc::Global;
 use std::process::Abort;

@@ -1,4 +1,5 @@
-// One row: the words of a call and its source.
+//! One row: the words of a call and its source.
+
 use std::alloc::Global;
 use tests_calls::{Case, call};
 

@@ -1,4 +1,5 @@
-// The text of reports.
+//! The text of reports.
+
 use ep_alarms::AlarmKind::{E1, E2, E3, E4, U1, U2, U3, U4, U5, U6, U7, U8, U9, U10};
 use ep_alarms::{Alarm, AlarmKind, Alarms, report_text};
 use std::process::Abort;

@@ -1,3 +1,5 @@
+//! Forms, written as their segments.
+
 use ep_bitslice::{CellName, Form, Segment, Side};
 use ep_int::IntType;
 

@@ -1,9 +1,12 @@
+//! Words of the tables of tests.
+
 use ep_congruence::Congruence;
 use ep_int::{BinOp, Cmp, IntType};
 
 /// The least and the greatest number of a range.
 pub type Ends = (i128, i128);
 
+/// An integer type, as `u8`.
 pub fn int_type(word: &str) -> Option<IntType> {
     match word {
         "i8" => Some(IntType::I8),
@@ -18,6 +21,7 @@ pub fn int_type(word: &str) -> Option<IntType> {
     }
 }
 
+/// An operator of arithmetic.
 pub fn operator(word: &str) -> Option<BinOp> {
     match word {
         "+" => Some(BinOp::Add),
@@ -34,6 +38,7 @@ pub fn operator(word: &str) -> Option<BinOp> {
     }
 }
 
+/// A comparison.
 pub fn comparison(word: &str) -> Option<Cmp> {
     match word {
         "==" => Some(Cmp::Eq),
@@ -46,11 +51,13 @@ pub fn comparison(word: &str) -> Option<Cmp> {
     }
 }
 
+/// Two ends, as `1..8`.
 pub fn ends(word: &str) -> Option<Ends> {
     let (lo, hi) = word.split_once("..")?;
     Some((lo.parse().ok()?, hi.parse().ok()?))
 }
 
+/// Two ends, or `none`.
 pub fn maybe_ends(word: &str) -> Option<Option<Ends>> {
     if word == "none" {
         Some(None)
@@ -65,6 +72,7 @@ pub fn class(word: &str) -> Option<Congruence> {
     Congruence::of(remainder.parse().ok()?, modulus.parse().ok()?)
 }
 
+/// A class, or `none`.
 pub fn maybe_class(word: &str) -> Option<Option<Congruence>> {
     if word == "none" {
         Some(None)
