@@ -1,5 +1,6 @@
 -- Cells and parts that change where they stand.
-use Rattle.std.specs.Prelude.{◌≡◌, ℕ, ◌<◌, Bool, true, false, ◌&&◌, ◌||◌, not, nat_eq, nat_le, nat_lt, List, length, get_or}
+use Rattle.std.specs.Prelude.{◌≡◌, ℕ, ◌<◌, Bool, true, false, ◌&&◌, ◌||◌, not, nat_eq, nat_le, nat_lt, List, length}
+use Rattle.std.specs.Prelude.{get_or}
 use Rattle.ep_int.specs.declared.types.Model.{Model}
 use Rattle.ep_cells.specs.declared.cell.Cell.{Cell}
 use Rattle.ep_cells.specs.Cells.{place_of, touches, is_same_cell}
@@ -8,7 +9,8 @@ use Rattle.ep_shared_parts.specs.declared.parts.Part.{Part}
 use Rattle.ep_shared_parts.specs.declared.parts.Edit.{Edit}
 use Rattle.ep_shared_parts.specs.Plans.{is_edited}
 use Rattle.ep_bicells.specs.declared.changes.Step.{Step}
-use Rattle.ep_bicells.specs.declared.changes.Step.TheVariants.{Write, WeakWrite, Kill, Blur, Split, Cross, Unshare, Lack, Reshare}
+use Rattle.ep_bicells.specs.declared.changes.Step.TheVariants.{Write, WeakWrite, Kill, Blur, Split, Cross, Unshare}
+use Rattle.ep_bicells.specs.declared.changes.Step.TheVariants.{Lack, Reshare}
 
 -- the step leaves the cell, but for its form
 abbrev pub passes : {N : Type 0} → Model → Step N → Cell N → Bool

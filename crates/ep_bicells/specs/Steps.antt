@@ -18,7 +18,8 @@ use Rattle.ep_shared_parts.specs.declared.parts.Part.{Part}
 use Rattle.ep_shared_parts.specs.declared.parts.Edit.{Edit}
 use Rattle.ep_shared_parts.specs.declared.uses.Use.{Use}
 use Rattle.ep_bicells.specs.declared.changes.Step.{Step}
-use Rattle.ep_bicells.specs.declared.changes.Step.TheVariants.{Write, WeakWrite, Kill, Blur, Split, Cross, Unshare, Lack, Reshare}
+use Rattle.ep_bicells.specs.declared.changes.Step.TheVariants.{Write, WeakWrite, Kill, Blur, Split, Cross, Unshare}
+use Rattle.ep_bicells.specs.declared.changes.Step.TheVariants.{Lack, Reshare}
 use Rattle.ep_shared_parts.specs.Mentions.{number_of, IsNoted}
 use Rattle.ep_shared_parts.specs.Plans.{AreEdits, Covers}
 

@@ -18,7 +18,7 @@ use ep_cells::{Cell, Place};
 use ep_domain::Num;
 use ep_int::{Memory, Model};
 use ep_shared_parts::numbers::number_at;
-use ep_shared_parts::parts::{Numbered, Part, window};
+use ep_shared_parts::parts::{Part, window};
 use ep_shared_parts::walks::{At, next};
 use std::alloc::Global;
 
@@ -154,7 +154,7 @@ fn found_like<'a, N: Num>(parts: &'a [Part<Cell<N>>], y: &Cell<N>) -> Option<&'a
     requires { AreSpread (outlines number_of parts.now) }
     ensures { option_map (λ c. c.now) result ≡ cell_like y.now (all_items parts.now) }
 {
-    let at = y.number();
+    let at = number_at(y.block, y.offset);
     like_in(window(parts, at, at), y)
 }
 

@@ -37,8 +37,8 @@ pub enum Step<N> {
     Kill(Side, u32),
     /// A place may have been written in whatever way.
     Blur(Place),
-    /// A cell is split on a side: it is gone there, and so are forms that mention it, but those of a Shared cell mention
-    /// what stays of it.
+    /// A cell is split on a side: it is gone there, and so are forms that mention it, but those of a Shared cell
+    /// mention what stays of it.
     Split(Side, Cell<N>),
     /// A cell is crossed: it is gone. Mentions of a byte go on as mentions of it, or of its Left part.
     Cross(Cell<N>),

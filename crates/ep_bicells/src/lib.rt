@@ -1,4 +1,4 @@
-//! Lists of cells in parts that copies share, and an index of what their forms mention.
+//! Steps of cells in parts that copies share: one cell split, killed or blurred, and the forms that mention it.
 #![tactic(auto)]
 
 mod alone;

@@ -1,6 +1,7 @@
 //! Steps of cells where they stand, as far as no other state shares them.
 
-ghost use Rattle.std.specs.Prelude.{◌≡◌, ◌<◌, ◌≤◌, ◌++◌, ◌∷◌, [], true, not, ◌||◌, ◌&&◌, nat_eq, length, IfOk, OnOk, IsTrue};
+ghost use Rattle.std.specs.Prelude.{◌≡◌, ◌<◌, ◌≤◌, ◌++◌, ◌∷◌, [], true, not, ◌||◌, ◌&&◌, nat_eq, length, IfOk, OnOk};
+ghost use Rattle.std.specs.Prelude.{IsTrue};
 ghost use Rattle.ep_cells.specs.Cells.{place_of as the_place, touches};
 ghost use Rattle.ep_cells.specs.Kill.{has_target};
 ghost use Rattle.ep_bicells.specs.Steps.{after_step};

@@ -1,5 +1,6 @@
 -- What the edits of a place that may have been written come to.
-use Rattle.std.proofs.Common.{◌≡◌, ℕ, ◌⊎◌, inl, inr, ⊎_elim, Bool, true, false, cond, List, [], ◌∷◌, Some, None, refl, sym, ◌∙◌, ap, subst}
+use Rattle.std.proofs.Common.{◌≡◌, ℕ, ◌⊎◌, inl, inr, ⊎_elim, Bool, true, false, cond, List, [], ◌∷◌, Some, None, refl}
+use Rattle.std.proofs.Common.{sym, ◌∙◌, ap, subst}
 use Rattle.ep_int.specs.declared.types.Model.{Model}
 use Rattle.ep_int.specs.declared.types.Order.TheVariants.{Little, Big}
 use Rattle.ep_int.specs.declared.types.Scalar.{Scalar}
@@ -9,7 +10,8 @@ use Rattle.ep_bitslice.specs.declared.cell.Side.TheVariants.{Left, Right, Shared
 use Rattle.ep_domain.specs.Domain.{Ops}
 use Rattle.ep_cells.specs.declared.cell.Cell.{Cell}
 use Rattle.ep_cells.specs.declared.place.Place.{Place}
-use Rattle.ep_cells.specs.Cells.{IsIn, first, later, place_of, place_of_name, touches, share_memory, parts_of, parts_on, each_becomes}
+use Rattle.ep_cells.specs.Cells.{IsIn, first, later, place_of, place_of_name, touches, share_memory, parts_of}
+use Rattle.ep_cells.specs.Cells.{parts_on, each_becomes}
 use Rattle.ep_cells.specs.States.{Known, AreCells}
 use Rattle.ep_cells.specs.Weaken.{blurred, first_part, fate_by_weak_write}
 use Rattle.ep_cells_laws.proofs.Lists.{in_each}

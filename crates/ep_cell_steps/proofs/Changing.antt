@@ -1,5 +1,6 @@
 -- What a step of cells in parts comes to.
-use Rattle.std.proofs.Common.{◌≡◌, ℕ, inl, inr, ⊎_elim, Bool, true, false, ◌&&◌, ◌||◌, not, nat_eq, cond, List, [], ◌∷◌, map, length, Option, Some, None, refl, sym, ◌∙◌, ap, subst, arith}
+use Rattle.std.proofs.Common.{◌≡◌, ℕ, inl, inr, ⊎_elim, Bool, true, false, ◌&&◌, ◌||◌, not, nat_eq, cond, List, []}
+use Rattle.std.proofs.Common.{◌∷◌, map, length, Option, Some, None, refl, sym, ◌∙◌, ap, subst, arith}
 use Rattle.std.specs.Option.{option_map}
 use Rattle.std.proofs.lemmas.Bool.{and_parts, false_from_ne_true}
 use Rattle.std.proofs.lemmas.Bool.Decides.{nat_tests}
@@ -10,11 +11,14 @@ use Rattle.ep_bitslice.specs.declared.cell.Side.{Side}
 use Rattle.ep_bitslice.specs.declared.cell.Side.TheVariants.{Left, Right, Shared}
 use Rattle.ep_domain.specs.Domain.{Ops}
 use Rattle.ep_cells.specs.declared.cell.Cell.{Cell}
-use Rattle.ep_cells.specs.Cells.{IsIn, first, later, place_of, place_of_name, touches, share_memory, side_without, with_side, parts_of, is_same_cell, is_same_side, is_same_scalar, is_same_place, put, put_all, each_becomes}
+use Rattle.ep_cells.specs.Cells.{IsIn, first, later, place_of, place_of_name, touches, share_memory, side_without}
+use Rattle.ep_cells.specs.Cells.{with_side, parts_of, is_same_cell, is_same_side, is_same_scalar, is_same_place, put}
+use Rattle.ep_cells.specs.Cells.{put_all, each_becomes}
 use Rattle.ep_cells.specs.Forms.{Fate, reformed}
 use Rattle.ep_cells.specs.States.{AreCells}
 use Rattle.ep_cells.specs.Write.{left_by_write, fate_by_write}
-use Rattle.ep_cells.specs.Weaken.{blurred, with_join, weak_cell, weak_part, left_by_weak_write, first_part, fate_by_weak_write}
+use Rattle.ep_cells.specs.Weaken.{blurred, with_join, weak_cell, weak_part, left_by_weak_write, first_part}
+use Rattle.ep_cells.specs.Weaken.{fate_by_weak_write}
 use Rattle.ep_cells.specs.Reshare.{left_by_reshare, fate_by_side, fate_by_reshare}
 use Rattle.ep_cells_laws.proofs.Lists.{in_each, in_put_all}
 use Rattle.ep_reads.specs.Split.{is_name_of, left_by_split, fate_by_split}
@@ -25,7 +29,8 @@ use Rattle.ep_shared_parts.specs.declared.parts.Part.{Part}
 use Rattle.ep_shared_parts.specs.declared.parts.Edit.{Edit}
 use Rattle.ep_shared_parts.specs.declared.uses.Use.{Use}
 use Rattle.ep_bicells.specs.declared.changes.Step.{Step}
-use Rattle.ep_bicells.specs.declared.changes.Step.TheVariants.{Write, WeakWrite, Kill, Blur, Split, Cross, Unshare, Lack, Reshare}
+use Rattle.ep_bicells.specs.declared.changes.Step.TheVariants.{Write, WeakWrite, Kill, Blur, Split, Cross, Unshare}
+use Rattle.ep_bicells.specs.declared.changes.Step.TheVariants.{Lack, Reshare}
 use Rattle.ep_shared_parts.specs.Spread.{outlines, all_items, AreSpread, installed, AreWithin}
 use Rattle.ep_shared_parts.specs.Mentions.{number_at, number_of, number_of_name, number_of_use, IsNoted, AreIndexed}
 use Rattle.ep_bicells.specs.Steps.{fate_to, left_by_parting, left_by_step, fate_of_step, after_step, changed_by, IsPlan}

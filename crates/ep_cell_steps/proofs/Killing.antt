@@ -1,5 +1,7 @@
 -- What the edits of a killed block come to.
-use Rattle.std.proofs.Common.{◌≡◌, ℕ, zero, suc, ◌+◌, ◌<◌, ◌≤◌, ◌⊎◌, inl, inr, ⊎_elim, Bool, true, false, cond, nat_eq, List, [], ◌∷◌, length, set, get_or, Option, Some, None, refl, sym, ◌∙◌, ap, subst, arith}
+use Rattle.std.proofs.Common.{◌≡◌, ℕ, zero, suc, ◌+◌, ◌<◌, ◌≤◌, ◌⊎◌, inl, inr, ⊎_elim, Bool, true, false, cond}
+use Rattle.std.proofs.Common.{nat_eq, List, [], ◌∷◌, length, set, get_or, Option, Some, None, refl, sym, ◌∙◌, ap}
+use Rattle.std.proofs.Common.{subst, arith}
 use Rattle.std.specs.Option.{option_map}
 use Rattle.std.specs.List.{list_any}
 use Rattle.std.proofs.lemmas.Bool.{or_left, or_right, false_from_ne_true, both_ways}
@@ -11,7 +13,8 @@ use Rattle.ep_bitslice.specs.declared.cell.Side.{Side}
 use Rattle.ep_domain.specs.Domain.{Ops}
 use Rattle.ep_cells.specs.declared.cell.Cell.{Cell}
 use Rattle.ep_cells.specs.Cells.{IsIn, first, later, side_without, with_side, put, put_all, each_becomes}
-use Rattle.ep_cells.specs.Kill.{AreLeavesIn, entry_cells, cell_here, cells_from, leaf_at, is_in_leaf, has_target, killed_pointer, left_by_kill, fate_by_kill}
+use Rattle.ep_cells.specs.Kill.{AreLeavesIn, entry_cells, cell_here, cells_from, leaf_at, is_in_leaf, has_target}
+use Rattle.ep_cells.specs.Kill.{killed_pointer, left_by_kill, fate_by_kill}
 use Rattle.ep_cells.specs.States.{AreCells}
 use Rattle.ep_cells_laws.specs.Laws.{KillLaws}
 use Rattle.ep_cells_laws.proofs.Lists.{in_append, in_put, in_put_all}
@@ -26,11 +29,13 @@ use Rattle.ep_shared_parts.specs.Mentions.{number_at, number_of, AreIndexed}
 use Rattle.ep_shared_parts.specs.Plans.{AreEdits, KeepsEdits}
 use Rattle.ep_bicells.specs.Steps.{after_step, IsPlan}
 use Rattle.ep_shared_parts.proofs.Adding.{set_spread}
-use Rattle.ep_shared_parts.proofs.Planning.{Becomes, becomes_items, becomes_spread, edits_within, uncovered, still_covers}
+use Rattle.ep_shared_parts.proofs.Planning.{Becomes, becomes_items, becomes_spread, edits_within, uncovered}
+use Rattle.ep_shared_parts.proofs.Planning.{still_covers}
 use Rattle.ep_cell_steps.specs.Kept.{AreKept}
 use Rattle.ep_cell_steps.specs.Killed.{ArePointless, FindsPointers, AreKilled, AreShort}
 use Rattle.ep_cell_steps.proofs.Making.{indexed_none, kept_copy}
-use Rattle.ep_cell_steps.proofs.Local.{changed, IsLocal, IsBeside, keeps_numbers, goes_apart, in_part, outside_at, short_cell, indexed_reformed, indexed_each, put_in_part, adds_put}
+use Rattle.ep_cell_steps.proofs.Local.{changed, IsLocal, IsBeside, keeps_numbers, goes_apart, in_part, outside_at}
+use Rattle.ep_cell_steps.proofs.Local.{short_cell, indexed_reformed, indexed_each, put_in_part, adds_put}
 use Rattle.ep_cell_steps.proofs.Writing.{planned_by, short_changed, write_name}
 
 -- ---- what is left of cells

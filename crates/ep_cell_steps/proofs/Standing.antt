@@ -1,5 +1,7 @@
 -- Parts that change where they stand, and parts that take the places of others: what both come to.
-use Rattle.std.proofs.Common.{◌≡◌, ℕ, zero, suc, ◌<◌, ◌≤◌, inl, inr, ⊎_elim, Bool, true, false, cond, not, ◌&&◌, ◌||◌, nat_eq, nat_le, nat_lt, List, [], ◌∷◌, map, length, take, drop, set, get_or, refl, sym, ◌∙◌, ap, subst, arith}
+use Rattle.std.proofs.Common.{◌≡◌, ℕ, zero, suc, ◌<◌, ◌≤◌, inl, inr, ⊎_elim, Bool, true, false, cond, not, ◌&&◌, ◌||◌}
+use Rattle.std.proofs.Common.{nat_eq, nat_le, nat_lt, List, [], ◌∷◌, map, length, take, drop, set, get_or, refl, sym}
+use Rattle.std.proofs.Common.{◌∙◌, ap, subst, arith}
 use Rattle.std.proofs.lemmas.Bool.{or_left, or_right, false_from_ne_true}
 use Rattle.std.proofs.lemmas.Bool.Decides.{nat_tests}
 use Rattle.std.proofs.lemmas.List.{length-set, get_or-set_same, get_or-set_other}
@@ -12,9 +14,11 @@ use Rattle.ep_shared_parts.specs.declared.uses.Use.{Use}
 use Rattle.ep_shared_parts.specs.Spread.{all_items, AreBelow, AreFrom, installed, AreWithin}
 use Rattle.ep_shared_parts.specs.Mentions.{number_of, IsNoted}
 use Rattle.ep_shared_parts.specs.Plans.{is_edited, IsEdit, AreEdits, Covers}
-use Rattle.ep_shared_parts.proofs.Planning.{IsDone, Becomes, same_default, as_many_installed, becomes_from, becomes_items, becomes_spread, edits_within, span_covers}
+use Rattle.ep_shared_parts.proofs.Planning.{IsDone, Becomes, same_default, as_many_installed, becomes_from}
+use Rattle.ep_shared_parts.proofs.Planning.{becomes_items, becomes_spread, edits_within, span_covers}
 use Rattle.ep_bicells.specs.declared.changes.Step.{Step}
-use Rattle.ep_bicells.specs.declared.changes.Step.TheVariants.{Write, WeakWrite, Kill, Blur, Split, Cross, Unshare, Lack, Reshare}
+use Rattle.ep_bicells.specs.declared.changes.Step.TheVariants.{Write, WeakWrite, Kill, Blur, Split, Cross, Unshare}
+use Rattle.ep_bicells.specs.declared.changes.Step.TheVariants.{Lack, Reshare}
 use Rattle.ep_bicells.specs.Steps.{left_by_step, fate_of_step, after_step, IsPlan}
 use Rattle.ep_bicells.specs.Standing.{is_spanned, AreSpanned}
 use Rattle.ep_cell_steps.specs.Kept.{AreKept}

@@ -1,5 +1,6 @@
 -- What edits of touched parts come to.
-use Rattle.std.proofs.Common.{◌≡◌, ℕ, zero, suc, ◌+◌, ◌<◌, ◌≤◌, ◌^◌, inr, Bool, true, false, cond, nat_le, List, [], ◌∷◌, ◌++◌, length, set, get_or, Option, Some, None, refl, sym, ◌∙◌, ap, subst, arith}
+use Rattle.std.proofs.Common.{◌≡◌, ℕ, zero, suc, ◌+◌, ◌<◌, ◌≤◌, ◌^◌, inr, Bool, true, false, cond, nat_le, List, []}
+use Rattle.std.proofs.Common.{◌∷◌, ◌++◌, length, set, get_or, Option, Some, None, refl, sym, ◌∙◌, ap, subst, arith}
 use Rattle.std.specs.Option.{option_map}
 use Rattle.std.proofs.lemmas.Bool.{false_from_ne_true}
 use Rattle.ep_int.specs.declared.types.Model.{Model}
@@ -26,12 +27,15 @@ use Rattle.ep_shared_parts.specs.Plans.{is_edited}
 use Rattle.ep_bicells.specs.Steps.{after_step, IsPlan}
 use Rattle.ep_shared_parts.proofs.Adding.{set_spread}
 use Rattle.ep_bicells.proofs.Looking.{Reaches, touched_number}
-use Rattle.ep_shared_parts.proofs.Planning.{IsDone, Becomes, same_default, as_many_installed, becomes_items, becomes_spread, plan_becomes, edits_within, uncovered}
+use Rattle.ep_shared_parts.proofs.Planning.{IsDone, Becomes, same_default, as_many_installed, becomes_items}
+use Rattle.ep_shared_parts.proofs.Planning.{becomes_spread, plan_becomes, edits_within, uncovered}
 use Rattle.ep_cell_steps.specs.Kept.{IsIndexed, AreKept}
 use Rattle.ep_cell_steps.specs.Killed.{AreShort}
 use Rattle.ep_cell_steps.specs.Writes.{AreWritten}
 use Rattle.ep_cell_steps.proofs.Making.{indexed_more}
-use Rattle.ep_cell_steps.proofs.Local.{changed, IsLocal, comes, keeps_numbers, goes_apart, in_part, IsBeside, unedited, outside_at, indexed_reformed, indexed_each, indexed_put, short_cell, put_in_part, adds_put}
+use Rattle.ep_cell_steps.proofs.Local.{changed, IsLocal, comes, keeps_numbers, goes_apart, in_part, IsBeside}
+use Rattle.ep_cell_steps.proofs.Local.{unedited, outside_at, indexed_reformed, indexed_each, indexed_put, short_cell}
+use Rattle.ep_cell_steps.proofs.Local.{put_in_part, adds_put}
 
 -- ---- edits one after another
 

@@ -38,7 +38,7 @@ fn closed<N: Num>(alloc: Global, growing: Open<N>) -> Result<Part<Cell<N>>, Memo
     ensures start { IfOk result (λ p. p.start ≡ growing.start) }
     ensures items { IfOk result (λ p. p.items.value.items ≡ growing.cells.items) }
 {
-    let start = growing.start;
+    let start = u128::from(growing.start);
     let items = Rc::new(alloc, growing.cells).map_err(|_| Memory)?;
     Ok(Part { start, items })
 }

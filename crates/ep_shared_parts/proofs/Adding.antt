@@ -1,23 +1,39 @@
 -- A part that takes one item more.
-use Rattle.std.proofs.Common.{◌≡◌, ℕ, zero, suc, ◌<◌, ◌≤◌, Bool, true, false, cond, nat_le, List, [], ◌∷◌, ◌++◌, map, length, set, get_or, ⊎_elim, sym, ◌∙◌, ap, subst, arith}
-use Rattle.std.specs.List.{list_any}
+use Rattle.std.proofs.Common.{◌≡◌, ℕ, zero, suc, ◌<◌, ◌≤◌, Bool, true, false, cond, nat_le, List, [], ◌∷◌, ◌++◌, map}
+use Rattle.std.proofs.Common.{length, set, get_or, ⊎_elim, sym, ◌∙◌, ap, subst, arith}
+use Rattle.std.specs.List.{list_any, insert}
 use Rattle.std.proofs.lemmas.Bool.{or_cases, or_left, or_right}
 use Rattle.std.proofs.lemmas.Bool.Decides.{nat_tests}
 use Rattle.std.proofs.lemmas.List.Folds.{list_any-append}
 use Rattle.ep_shared_parts.specs.declared.parts.Part.{Part}
-use Rattle.ep_shared_parts.specs.Spread.{Outline, outline, outlines, all_items, AreFrom, AreBelow, EndsBefore, AreSpread, parts_to}
-use Rattle.ep_shared_parts.proofs.Spreading.{some_to, below_append, from_append}
+use Rattle.ep_shared_parts.specs.Spread.{Outline, outline, outlines, all_items, AreFrom, AreBelow, EndsBefore}
+use Rattle.ep_shared_parts.specs.Spread.{AreSpread, parts_to}
+use Rattle.ep_shared_parts.proofs.Spreading.{some_to}
 
 -- the numbers of ys are those of xs, and k
 pub record Adds {X : Type 0} (number : X → ℕ) (k : ℕ) (xs ys : List X) : Type 0 where
   pub above : (a : ℕ) → a ≤ k → AreFrom a (map number xs) → AreFrom a (map number ys)
   pub below : (a : ℕ) → k < a → AreBelow a (map number xs) → AreBelow a (map number ys)
 
-pub adds_last : {X : Type 0} (number : X → ℕ) (y : X) (xs ys : List X) → ys ≡ xs ++ y ∷ []
+from_insert : {X : Type 0} (number : X → ℕ) (a : ℕ) (xs : List X) (i : ℕ) (y : X) → AreFrom a (map number xs)
+    → a ≤ number y → AreFrom a (map number (insert xs i y))
+from_insert number a [] zero y h l = (l, tt)
+from_insert number a [] (suc i) y h l = (l, tt)
+from_insert number a (x ∷ xs) zero y h l = (l, h)
+from_insert number a (x ∷ xs) (suc i) y h l = (h.0, from_insert number a xs i y h.1 l)
+
+below_insert : {X : Type 0} (number : X → ℕ) (a : ℕ) (xs : List X) (i : ℕ) (y : X) → AreBelow a (map number xs)
+    → number y < a → AreBelow a (map number (insert xs i y))
+below_insert number a [] zero y h l = (l, tt)
+below_insert number a [] (suc i) y h l = (l, tt)
+below_insert number a (x ∷ xs) zero y h l = (l, h)
+below_insert number a (x ∷ xs) (suc i) y h l = (h.0, below_insert number a xs i y h.1 l)
+
+pub adds_at : {X : Type 0} (number : X → ℕ) (y : X) (xs ys : List X) (i : ℕ) → ys ≡ insert xs i y
     → Adds number (number y) xs ys
-adds_last number y xs ys e = record {
-  above = λ a le h. subst (λ zs. AreFrom a (map number zs)) (sym e) (from_append number a xs (y ∷ []) h (le, tt));
-  below = λ a lt h. subst (λ zs. AreBelow a (map number zs)) (sym e) (below_append number a xs (y ∷ []) h (lt, tt));
+adds_at number y xs ys i e = record {
+  above = λ a le h. subst (λ zs. AreFrom a (map number zs)) (sym e) (from_insert number a xs i y h le);
+  below = λ a lt h. subst (λ zs. AreBelow a (map number zs)) (sym e) (below_insert number a xs i y h lt);
 }
 
 pub rest_of : (k m : ℕ) (o : Outline) (os : List Outline) → suc m ≡ parts_to k (o ∷ os) → m ≡ parts_to k os
@@ -113,6 +129,19 @@ any_kept test (t ∷ ts) (suc i) p q e f h =
     (λ k. any_left test t.items.value.items (all_items (set ts i q)) k)
     (λ k. any_right test t.items.value.items (all_items (set ts i q)) (any_kept test ts i p q e f k))
 
-pub any_last : {X : Type 0} (test : X → Bool) (xs : List X) (y : X) → test y ≡ true → list_any test (xs ++ y ∷ []) ≡
-    true
-any_last test xs y h = any_right test xs (y ∷ []) (or_left (test y) false h)
+pub any_more : {X : Type 0} (test : X → Bool) (xs : List X) (i : ℕ) (y : X) → list_any test xs ≡ true
+    → list_any test (insert xs i y) ≡ true
+any_more test [] i y h = absurd (cc)
+any_more test (x ∷ xs) zero y h = or_right (test y) (list_any test (x ∷ xs)) h
+any_more test (x ∷ xs) (suc i) y h =
+    ⊎_elim
+    (λ k. or_left (test x) (list_any test (insert xs i y)) k)
+    (λ k. or_right (test x) (list_any test (insert xs i y)) (any_more test xs i y k))
+    (or_cases (test x) (list_any test xs) h)
+
+pub any_new : {X : Type 0} (test : X → Bool) (xs : List X) (i : ℕ) (y : X) → test y ≡ true
+    → list_any test (insert xs i y) ≡ true
+any_new test [] zero y h = or_left (test y) false h
+any_new test [] (suc i) y h = or_left (test y) false h
+any_new test (x ∷ xs) zero y h = or_left (test y) (list_any test (x ∷ xs)) h
+any_new test (x ∷ xs) (suc i) y h = or_right (test x) (list_any test (insert xs i y)) (any_new test xs i y h)

@@ -1,9 +1,13 @@
 -- What is noted of forms, and who uses what.
-use Rattle.std.proofs.Common.{◌≡◌, ℕ, zero, suc, ◌+◌, ◌-◌, ◌<◌, ◌≤◌, Bool, true, false, cond, ◌&&◌, ◌||◌, nat_eq, nat_le, List, [], ◌∷◌, ◌++◌, append_assoc, get_or, length, drop, map, ⊎_elim, refl, sym, ◌∙◌, ap, subst, arith}
-use Rattle.std.specs.List.{list_any}
+use Rattle.std.proofs.Common.{◌≡◌, ℕ, zero, suc, ◌+◌, ◌-◌, ◌*◌, ◌%◌, ◌<◌, ◌≤◌, Bool, true, false, cond, ◌&&◌, ◌||◌}
+use Rattle.std.proofs.Common.{nat_eq, nat_le, List, [], ◌∷◌, ◌++◌, append_assoc, get_or, length, drop, map, ⊎_elim}
+use Rattle.std.proofs.Common.{refl, sym, ◌∙◌, ap, subst, arith}
+use Rattle.std.specs.List.{list_any, insert}
 use Rattle.std.proofs.Math.ListN.{drop_of_length-le}
 use Rattle.std.proofs.lemmas.Bool.{or_cases, or_right, and_parts}
 use Rattle.std.proofs.lemmas.Bool.Decides.{nat_tests}
+use Rattle.std.proofs.lemmas.Nat.{mod_below}
+use Rattle.std.proofs.Math.Nat.{mod-eq_of_lt}
 use Rattle.ep_bitslice.specs.declared.cell.CellName.{CellName}
 use Rattle.ep_bitslice.specs.declared.segment.Segment.{Segment}
 use Rattle.ep_bitslice.specs.declared.segment.Segment.TheVariants.{Bits, Fixed}
@@ -14,9 +18,22 @@ use Rattle.ep_bitslice.proofs.Joining.{same_cell}
 use Rattle.ep_shared_parts.specs.declared.parts.Part.{Part}
 use Rattle.ep_shared_parts.specs.declared.uses.Use.{Use}
 use Rattle.ep_shared_parts.specs.Spread.{all_items, AreFrom, AreBelow, IsWindow}
-use Rattle.ep_shared_parts.specs.Mentions.{number_of_name, number_of_use, is_use, IsNoted, AllNoted, users_in}
+use Rattle.ep_shared_parts.specs.Mentions.{number_of_name, number_of_use, is_use, IsNoted, AllNoted, IsMore, users_in}
 use Rattle.ep_shared_parts.proofs.Halving.{items_append}
 use Rattle.ep_shared_parts.proofs.Steps.{items_at}
+
+-- ---- numbers of uses
+
+pub number_by : (u : Use) (k of by : ℕ) → k ≡ 18446744073709551616 * of + by → by < 18446744073709551616
+    → of ≡ u.of → by ≡ u.by → k ≡ number_of_use u
+number_by u k of by e l f g =
+    let small : u.by < 18446744073709551616 = omega (arith, l, g) in
+    let same : u.by % 18446744073709551616 ≡ u.by = mod-eq_of_lt small in
+    omega (arith, e, f, g, same)
+
+pub more_at : (u : Use) (p q : Part Use) (at : ℕ) → q.start ≡ p.start
+    → q.items.value.items ≡ insert p.items.value.items at u → IsMore u p q
+more_at u p q at s i = record { at = at; start = s; items = i }
 
 -- ---- users
 
@@ -30,29 +47,37 @@ users_append from last (u ∷ us) vs = by (nat_le from u.of && nat_le u.of last)
     by true e = ap (λ xs. u.by ∷ xs) e
     by false e = e
 
-pub none_below : (from last : ℕ) (us : List Use) → AreBelow from (map number_of_use us) → users_in from last us ≡ []
-none_below from last [] h = refl
-none_below from last (u ∷ us) h = grind (arith, nat_tests, h.0, none_below from last us h.1)
+pub none_below : (from last k : ℕ) (us : List Use) → k ≡ 18446744073709551616 * from
+    → AreBelow k (map number_of_use us) → users_in from last us ≡ []
+none_below from last k [] e h = refl
+none_below from last k (u ∷ us) e h =
+    let l : u.of < from = omega (arith, e, h.0) in
+    grind (arith, nat_tests, l, none_below from last k us e h.1)
 
-pub none_above : (from last : ℕ) (us : List Use) → AreFrom (suc last) (map number_of_use us) → users_in from last us
-    ≡ []
-none_above from last [] h = refl
-none_above from last (u ∷ us) h = grind (arith, nat_tests, h.0, none_above from last us h.1)
+pub none_above : (from last k : ℕ) (us : List Use) → k ≡ 18446744073709551616 * last + 18446744073709551615
+    → AreFrom (suc k) (map number_of_use us) → users_in from last us ≡ []
+none_above from last k [] e h = refl
+none_above from last k (u ∷ us) e h =
+    let b = mod_below u.by 18446744073709551616 (omega arith) in
+    let l : last < u.of = omega (arith, e, h.0, b) in
+    grind (arith, nat_tests, l, none_above from last k us e h.1)
 
 nothing_behind : (xs : List ℕ) → xs ++ [] ≡ xs
 nothing_behind [] = refl
 nothing_behind (x ∷ xs) = ap (λ ys. x ∷ ys) (nothing_behind xs)
 
-pub users_window : (from last : ℕ) (ps w : List (Part Use)) → IsWindow number_of_use from last ps w
+pub users_window : (from last k m : ℕ) (ps w : List (Part Use)) → k ≡ 18446744073709551616 * from
+    → m ≡ 18446744073709551616 * last + 18446744073709551615 → IsWindow number_of_use k m ps w
     → users_in from last (all_items w) ≡ users_in from last (all_items ps)
-users_window from last ps w i =
+users_window from last k m ps w ek em i =
     let whole : all_items ps ≡ all_items i.before ++ (all_items w ++ all_items i.behind) = ap all_items i.whole ∙
     items_append i.before (w ++ i.behind) ∙ ap (λ xs. all_items i.before ++ xs) (items_append w i.behind) in
     let parts = users_append from last (all_items i.before) (all_items w ++ all_items i.behind)
-    ∙ ap (λ xs. xs ++ users_in from last (all_items w ++ all_items i.behind)) (none_below from last (all_items
-    i.before) i.below)
+    ∙ ap (λ xs. xs ++ users_in from last (all_items w ++ all_items i.behind)) (none_below from last k
+    (all_items i.before) ek i.below)
     ∙ users_append from last (all_items w) (all_items i.behind)
-    ∙ ap (λ xs. users_in from last (all_items w) ++ xs) (none_above from last (all_items i.behind) i.above)
+    ∙ ap (λ xs. users_in from last (all_items w) ++ xs) (none_above from last m (all_items i.behind) em
+    i.above)
     ∙ nothing_behind (users_in from last (all_items w)) in
     sym (ap (users_in from last) whole ∙ parts)
 

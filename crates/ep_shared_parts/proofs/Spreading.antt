@@ -1,9 +1,11 @@
 -- Lists in parts: where items of given numbers stand.
-use Rattle.std.proofs.Common.{◌≡◌, ℕ, zero, suc, ◌+◌, ◌-◌, ◌<◌, ◌≤◌, Bool, true, false, cond, nat_le, List, [], ◌∷◌, ◌++◌, map, length, take, drop, get_or, refl, sym, ◌∙◌, ap, arith}
+use Rattle.std.proofs.Common.{◌≡◌, ℕ, zero, suc, ◌+◌, ◌-◌, ◌<◌, ◌≤◌, Bool, true, false, cond, nat_le, List, [], ◌∷◌}
+use Rattle.std.proofs.Common.{◌++◌, map, length, take, drop, get_or, refl, sym, ◌∙◌, ap, arith}
 use Rattle.std.proofs.lemmas.Bool.Decides.{nat_tests}
 use Rattle.std.proofs.lemmas.List.{take-append-drop, drop-drop}
 use Rattle.ep_shared_parts.specs.declared.parts.Part.{Part}
-use Rattle.ep_shared_parts.specs.Spread.{Outline, outline, outlines, all_items, AreFrom, AreBelow, AreSpread, parts_to, IsWindow}
+use Rattle.ep_shared_parts.specs.Spread.{Outline, outline, outlines, all_items, AreFrom, AreBelow, AreSpread}
+use Rattle.ep_shared_parts.specs.Spread.{parts_to, IsWindow}
 
 -- ---- numbers
 

@@ -1,6 +1,7 @@
 -- Which cells' forms mention which cells, by the numbers of their places.
-use Rattle.std.specs.Prelude.{◌≡◌, ℕ, ◌+◌, ◌*◌, Bool, true, ◌&&◌, nat_eq, nat_le, if◌then◌else◌, List, [], ◌∷◌, ◌++◌, Option, Some, None, IfSome}
-use Rattle.std.specs.List.{list_any}
+use Rattle.std.specs.Prelude.{◌≡◌, ℕ, ◌+◌, ◌*◌, ◌%◌, Bool, true, ◌&&◌, nat_eq, nat_le, if◌then◌else◌, List, [], ◌∷◌}
+use Rattle.std.specs.Prelude.{Option, Some, None, IfSome}
+use Rattle.std.specs.List.{list_any, insert}
 use Rattle.ep_bitslice.specs.declared.cell.CellName.{CellName}
 use Rattle.ep_bitslice.specs.declared.segment.Segment.{Segment}
 use Rattle.ep_bitslice.specs.declared.segment.Segment.TheVariants.{Bits, Fixed}
@@ -21,9 +22,9 @@ number_of c = number_at c.block c.offset
 abbrev pub number_of_name : CellName → ℕ
 number_of_name n = number_at n.block n.offset
 
--- a use is found by what is mentioned
+-- a use is found by what is mentioned, and then by whose form mentions it
 abbrev pub number_of_use : Use → ℕ
-number_of_use u = u.of
+number_of_use u = 18446744073709551616 * u.of + u.by % 18446744073709551616
 
 abbrev pub is_use : Use → Use → Bool
 is_use u v = nat_eq v.of u.of && nat_eq v.by u.by
@@ -50,8 +51,9 @@ AreIndexed {N} us cs = (c : Cell N) → IsIn c cs → IfSome c.form (λ ss. (n :
 
 -- a part with one use more
 pub record IsMore (u : Use) (p q : Part Use) : Type 0 where
+  pub at : ℕ
   pub start : q.start ≡ p.start
-  pub items : q.items.value.items ≡ p.items.value.items ++ u ∷ []
+  pub items : q.items.value.items ≡ insert p.items.value.items at u
 
 -- none, if the part has it
 abbrev pub IsWith : Use → Part Use → Option (Part Use) → Type 0

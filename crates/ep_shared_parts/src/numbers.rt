@@ -21,8 +21,8 @@ impl<N: Num> Numbered for Cell<N> {
 
     ghost number = { number_of };
 
-    fn number(&self) -> u64 {
-        number_at(self.block, self.offset)
+    fn number(&self) -> u128 {
+        u128::from(number_at(self.block, self.offset))
     }
 
     fn copied(&self) -> Result<Self, Memory> {

@@ -1,8 +1,10 @@
 //! Lists in shared parts.
 
-ghost use Rattle.std.specs.Prelude.{◌≡◌, ℕ, ◌+◌, ◌<◌, ◌≤◌, ◌++◌, ◌∷◌, [], suc, length, map, take, drop, nat_lt, nat_le, IfOk, OnOk, OnErr, IfSome, IsTrue};
+ghost use Rattle.std.specs.Prelude.{◌≡◌, ℕ, ◌+◌, ◌<◌, ◌≤◌, ◌++◌, ◌∷◌, [], suc, length, map, take, drop, nat_lt};
+ghost use Rattle.std.specs.Prelude.{nat_le, IfOk, OnOk, OnErr, IfSome, IsTrue};
 ghost use Rattle.std.specs.List.{list_all, insert};
-ghost use Rattle.ep_shared_parts.specs.Spread.{outline, outlines, all_items, AreFrom, AreBelow, AreSpread, parts_to, IsWindow, IsHalved, installed, AreWithin};
+ghost use Rattle.ep_shared_parts.specs.Spread.{outline, outlines, all_items, AreFrom, AreBelow, AreSpread, parts_to};
+ghost use Rattle.ep_shared_parts.specs.Spread.{IsWindow, IsHalved, installed, AreWithin};
 
 use ep_int::Memory;
 use std::alloc::Global;
@@ -12,7 +14,7 @@ use std::rc::Rc;
 pub trait Numbered: Drop {
     ghost number: { Self → ℕ };
 
-    fn number(&self) -> u64
+    fn number(&self) -> u128
         ensures { result ≡ number self.now };
 
     /// The same.
@@ -23,7 +25,7 @@ pub trait Numbered: Drop {
 /// Items next to one another, of numbers from `start` on and below the start of the next part.
 #[derive(Drop)]
 pub struct Part<T> {
-    pub start: u64,
+    pub start: u128,
     pub items: Rc<Vec<T>>,
 }
 
@@ -49,6 +51,14 @@ pub fn parts_to<T: Numbered>(parts: &[Part<T>], k: u64) -> usize
     requires { AreSpread (outlines T.number parts.now) }
     ensures { result ≡ parts_to k (outlines T.number parts.now) }
 {
+    wide_parts_to(parts, u128::from(k))
+}
+
+/// How many parts start at this wide number or before.
+pub fn wide_parts_to<T: Numbered>(parts: &[Part<T>], k: u128) -> usize
+    requires { AreSpread (outlines T.number parts.now) }
+    ensures { result ≡ parts_to k (outlines T.number parts.now) }
+{
     parts.partition_point(|p| p.start <= k)
 }
 
@@ -61,9 +71,20 @@ pub fn span<T: Numbered>(parts: &[Part<T>], from: u64, last: u64) -> (usize, usi
     ensures below { AreBelow from (map T.number (all_items (take result.0 parts.now))) }
     ensures above { AreFrom (suc last) (map T.number (all_items (drop result.1 parts.now))) }
 {
+    wide_span(parts, u128::from(from), u128::from(last))
+}
+
+fn wide_span<T: Numbered>(parts: &[Part<T>], from: u128, last: u128) -> (usize, usize)
+    requires spread { AreSpread (outlines T.number parts.now) }
+    requires rising { from ≤ last }
+    ensures order { result.0 ≤ result.1 }
+    ensures within { result.1 ≤ length parts.now }
+    ensures below { AreBelow from (map T.number (all_items (take result.0 parts.now))) }
+    ensures above { AreFrom (suc last) (map T.number (all_items (drop result.1 parts.now))) }
+{
     (
-        parts_to(parts, from).saturating_sub(1),
-        parts_to(parts, last),
+        wide_parts_to(parts, from).saturating_sub(1),
+        wide_parts_to(parts, last),
     )
 }
 
@@ -73,7 +94,16 @@ pub fn window<T: Numbered>(parts: &[Part<T>], from: u64, last: u64) -> &[Part<T>
     requires rising { from ≤ last }
     ensures { IsWindow T.number from last parts.now result.now }
 {
-    let (first, end) = span(parts, from, last);
+    wide_window(parts, u128::from(from), u128::from(last))
+}
+
+/// The parts that may have items with these wide numbers.
+pub fn wide_window<T: Numbered>(parts: &[Part<T>], from: u128, last: u128) -> &[Part<T>]
+    requires spread { AreSpread (outlines T.number parts.now) }
+    requires rising { from ≤ last }
+    ensures { IsWindow T.number from last parts.now result.now }
+{
+    let (first, end) = wide_span(parts, from, last);
     &parts[first..end]
 }
 
@@ -106,22 +136,23 @@ pub fn shared<T: Numbered>(alloc: Global, parts: &[Part<T>]) -> Result<Vec<Part<
     Ok(out)
 }
 
-fn are_below<T: Numbered>(items: &[T], k: u64) -> bool
+fn are_below<T: Numbered>(items: &[T], k: u128) -> bool
     ensures { result ≡ list_all (λ x. nat_lt (T.number x) k) items.now }
 {
     items.iter().all(|x| x.number() < k)
 }
 
-fn are_from<T: Numbered>(items: &[T], k: u64) -> bool
+fn are_from<T: Numbered>(items: &[T], k: u128) -> bool
     ensures { result ≡ list_all (λ x. nat_le k (T.number x)) items.now }
 {
     items.iter().all(|x| k <= x.number())
 }
 
 // Whether a part may be halved so, where the second half starts at this number.
-fn may_part<T: Numbered>(start: u64, left: &[T], right: &[T], k: u64) -> bool
+fn may_part<T: Numbered>(start: u128, left: &[T], right: &[T], k: u128) -> bool
     ensures { IsTrue result
-        → (start ≤ k) × (0 < length right.now) × AreBelow k (map T.number left.now) × AreFrom k (map T.number right.now) }
+        → (start ≤ k) × (0 < length right.now) × AreBelow k (map T.number left.now)
+        × AreFrom k (map T.number right.now) }
 {
     if start > k {
         return false;
@@ -149,7 +180,7 @@ fn copied<T: Numbered>(alloc: Global, items: &[T]) -> Result<Rc<Vec<T>>, Memory>
 }
 
 // Where a part is halved: before the items of the number in its middle, or behind them where there are none.
-fn middle<T: Numbered>(items: &[T]) -> (usize, u64)
+fn middle<T: Numbered>(items: &[T]) -> (usize, u128)
     ensures { result.0 ≤ length items.now }
 {
     match items.get(items.len() / 2) {
@@ -166,7 +197,7 @@ fn middle<T: Numbered>(items: &[T]) -> (usize, u64)
 }
 
 // Before the items of the number that follows.
-fn behind<T: Numbered>(items: &[T], k: u64) -> (usize, u64)
+fn behind<T: Numbered>(items: &[T], k: u128) -> (usize, u128)
     ensures { result.0 ≤ length items.now }
 {
     let at = items.partition_point(|y| y.number() <= k);
@@ -233,10 +264,24 @@ pub fn make_room<T: Numbered>(alloc: Global, parts: &mut Vec<Part<T>>, k: u64) -
     ensures items { all_items parts.new.items ≡ all_items parts.old.items }
     ensures starts { OnOk result (0 < parts_to k (outlines T.number parts.new.items)) }
 {
-    let i = parts_to(parts, k);
+    make_wide_room(alloc, parts, u128::from(k))
+}
+
+/// The same for a wide number.
+pub fn make_wide_room<T: Numbered>(
+    alloc: Global,
+    parts: &mut Vec<Part<T>>,
+    k: u128,
+) -> Result<(), Memory>
+    requires { AreSpread (outlines T.number parts.old.items) }
+    ensures spread { AreSpread (outlines T.number parts.new.items) }
+    ensures items { all_items parts.new.items ≡ all_items parts.old.items }
+    ensures starts { OnOk result (0 < parts_to k (outlines T.number parts.new.items)) }
+{
+    let i = wide_parts_to(parts, k);
     if i == 0 {
         let items = Rc::new(alloc, Vec::new(alloc)).map_err(|_| Memory)?;
-        return insert_part(parts, 0, Part { start: k, items });
+        return insert_part(parts, 0, Part { start: 0, items });
     }
     halve(alloc, parts, i - 1)
 }

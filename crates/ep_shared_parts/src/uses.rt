@@ -1,11 +1,12 @@
 //! Which cells' forms mention which cells.
 
-ghost use Rattle.std.specs.Prelude.{◌≡◌, ◌++◌, ◌∷◌, [], ◌≤◌, ◌<◌, suc, length, true, IfOk, OnOk};
+ghost use Rattle.std.specs.Prelude.{◌≡◌, ◌++◌, ◌∷◌, [], ◌+◌, ◌*◌, ◌≤◌, ◌<◌, suc, length, true, IfOk, OnOk};
 ghost use Rattle.std.specs.List.{list_any};
 ghost use Rattle.ep_shared_parts.specs.Spread.{outlines, all_items, AreSpread, parts_to};
-ghost use Rattle.ep_shared_parts.specs.Mentions.{number_of_use, is_use, IsNoted, AllNoted, users_in, number_of_name, IsWith};
+ghost use Rattle.ep_shared_parts.specs.Mentions.{number_of_use, is_use, IsNoted, AllNoted, users_in, number_of_name};
+ghost use Rattle.ep_shared_parts.specs.Mentions.{IsWith};
 
-use crate::parts::{Numbered, Part, make_room, parts_to, window};
+use crate::parts::{Numbered, Part, make_wide_room, wide_parts_to, wide_window};
 use ep_bitslice::{CellName, Segment};
 use ep_int::Memory;
 use std::alloc::Global;
@@ -23,13 +24,22 @@ impl Numbered for Use {
 
     ghost number = { number_of_use };
 
-    fn number(&self) -> u64 {
-        self.of
+    fn number(&self) -> u128 {
+        let _use = *self;
+        wide_number(self.of, self.by)
     }
 
     fn copied(&self) -> Result<Self, Memory> {
         Ok(*self)
     }
+}
+
+// The wide number of a use.
+fn wide_number(of: u64, by: u64) -> u128
+    ensures is { result ≡ 18446744073709551616 * of + by }
+    ensures small { by < 18446744073709551616 }
+{
+    18_446_744_073_709_551_616 * u128::from(of) + u128::from(by)
 }
 
 /// The number of the place where the cell of a name begins.
@@ -45,15 +55,17 @@ fn is_noted(uses: &[Use], u: &Use) -> bool
     uses.iter().any(|v| v.of == u.of && v.by == u.by)
 }
 
-// The part with one use more, if it isn't there.
+// The part with one use more, if it isn't there. It comes before those of greater numbers.
 fn with_use(alloc: Global, part: &Part<Use>, u: &Use) -> Result<Option<Part<Use>>, Memory>
     ensures { IfOk result (λ p. IsWith u.now part.now p) }
 {
     if is_noted(&part.items, u) {
         return Ok(None);
     }
+    let k = u.number();
+    let at = part.items.partition_point(|v| v.number() < k);
     let mut items = Vec::from_slice(alloc, &part.items).map_err(|_| Memory)?;
-    items.push(*u).map_err(|_| Memory)?;
+    items.insert(at, *u).map_err(|_| Memory)?;
     let items = Rc::new(alloc, items).map_err(|_| Memory)?;
     Ok(Some(Part {
         start: part.start,
@@ -63,7 +75,7 @@ fn with_use(alloc: Global, part: &Part<Use>, u: &Use) -> Result<Option<Part<Use>
 
 fn add(alloc: Global, parts: &mut Vec<Part<Use>>, i: usize, u: &Use) -> Result<(), Memory>
     requires spread { AreSpread (outlines number_of_use parts.old.items) }
-    requires there { suc i ≡ parts_to u.now.of (outlines number_of_use parts.old.items) }
+    requires there { suc i ≡ parts_to (number_of_use u.now) (outlines number_of_use parts.old.items) }
     requires within { i < length parts.old.items }
     ensures spread { AreSpread (outlines number_of_use parts.new.items) }
     ensures keeps { (v : Use) → IsNoted (all_items parts.old.items) v → IsNoted (all_items parts.new.items) v }
@@ -85,8 +97,9 @@ pub fn note(alloc: Global, parts: &mut Vec<Part<Use>>, u: &Use) -> Result<(), Me
     ensures keeps { (v : Use) → IsNoted (all_items parts.old.items) v → IsNoted (all_items parts.new.items) v }
     ensures noted { OnOk result (IsNoted (all_items parts.new.items) u.now) }
 {
-    make_room(alloc, parts, u.of)?;
-    let i = parts_to(parts, u.of);
+    let k = u.number();
+    make_wide_room(alloc, parts, k)?;
+    let i = wide_parts_to(parts, k);
     add(alloc, parts, i - 1, u)
 }
 
@@ -150,7 +163,9 @@ pub fn users(alloc: Global, parts: &[Part<Use>], from: u64, last: u64) -> Result
     ensures { IfOk result (λ v. v.items ≡ users_in from last (all_items parts.now)) }
 {
     let mut out = Vec::new(alloc);
-    for part in window(parts, from, last) {
+    let first = wide_number(from, 0);
+    let end = wide_number(last, u64::MAX);
+    for part in wide_window(parts, first, end) {
         push_users(&mut out, &part.items, from, last)?;
     }
     Ok(out)

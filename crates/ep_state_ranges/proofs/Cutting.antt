@@ -1,5 +1,6 @@
 -- Cells that are split on the sides of a place, and forms that go along.
-use Rattle.std.proofs.Common.{◌≡◌, ℕ, ◌+◌, ◌≤◌, Bool, true, false, ◌||◌, cond, List, [], ◌∷◌, length, map, drop, Some, None, refl, sym, ◌∙◌, ap, subst}
+use Rattle.std.proofs.Common.{◌≡◌, ℕ, ◌+◌, ◌≤◌, Bool, true, false, ◌||◌, cond, List, [], ◌∷◌, length, map, drop, Some}
+use Rattle.std.proofs.Common.{None, refl, sym, ◌∙◌, ap, subst}
 use Rattle.std.specs.Option.{option_map_or}
 use Rattle.std.proofs.lemmas.List.{drop_all}
 use Rattle.ep_int.specs.declared.types.Model.{Model}
@@ -14,7 +15,8 @@ use Rattle.ep_cells.specs.Forms.{form_after}
 use Rattle.ep_cells.specs.Look.{is_some_partly_in}
 use Rattle.ep_cells.specs.States.{Known, AreCells}
 use Rattle.ep_reads.specs.Split.{cut_cells, fate_by_split, split_like, split_all}
-use Rattle.ep_cell_ranges.specs.Ranges.{Reform, form_by_like, form_by_splits, form_by_split, form_by_cut, form_by_cut_on, split_at, cut, cut_on, replaced, overwritten, with_form}
+use Rattle.ep_cell_ranges.specs.Ranges.{Reform, form_by_like, form_by_splits, form_by_split, form_by_cut}
+use Rattle.ep_cell_ranges.specs.Ranges.{form_by_cut_on, split_at, cut, cut_on, replaced, overwritten, with_form}
 use Rattle.ep_cell_ranges_laws.specs.Sound.{AreNew}
 use Rattle.ep_cell_ranges_laws.specs.Laws.{ReplaceLaws}
 use Rattle.ep_state_ranges.proofs.Carrying.{Holds, stay, go_twice, go_on, go_ends}

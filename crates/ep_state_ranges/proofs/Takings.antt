@@ -1,5 +1,7 @@
 -- What is taken of the cells about a place is what is taken of all.
-use Rattle.std.proofs.Common.{◌≡◌, ℕ, ◌+◌, ◌-◌, ◌^◌, ◌<◌, ◌≤◌, Bool, true, false, ◌&&◌, cond, IfSome, List, [], ◌∷◌, ◌++◌, append_assoc, append-nil, nat_le, Option, Some, None, refl, sym, ◌∙◌, ap, subst, arith}
+use Rattle.std.proofs.Common.{◌≡◌, ℕ, ◌+◌, ◌-◌, ◌^◌, ◌<◌, ◌≤◌, Bool, true, false, ◌&&◌, cond, IfSome, List, [], ◌∷◌}
+use Rattle.std.proofs.Common.{◌++◌, append_assoc, append-nil, nat_le, Option, Some, None, refl, sym, ◌∙◌, ap, subst}
+use Rattle.std.proofs.Common.{arith}
 use Rattle.std.specs.List.{filter}
 use Rattle.std.proofs.lemmas.Bool.{and_parts, leb-true}
 use Rattle.ep_int.specs.declared.types.Model.{Model}
@@ -58,25 +60,29 @@ none_of f [] h = refl
 none_of f (x ∷ xs) h =
     ap (λ l. l ++ each_becomes f xs) (h x (first xs)) ∙ none_of f xs (λ y i. h y (later x xs i))
 
-each_append : {N : Type 0} (f : Cell N → List (Cell N)) (xs ys : List (Cell N))
+pub each_append : {N : Type 0} (f : Cell N → List (Cell N)) (xs ys : List (Cell N))
     → each_becomes f (xs ++ ys) ≡ each_becomes f xs ++ each_becomes f ys
 each_append f [] ys = refl
 each_append f (x ∷ xs) ys =
     ap (λ l. f x ++ l) (each_append f xs ys) ∙ sym (append_assoc (f x) (each_becomes f xs) (each_becomes f ys))
 
+pub by_window : {N : Type 0} (f : Cell N → List (Cell N)) (d : Model) (p : Place) (cs ws us : List (Cell N))
+    → ((x : Cell N) → touches p (place_of d x) ≡ false → f x ≡ []) → IsAbout d p cs ws → us ≡ ws
+    → each_becomes f us ≡ each_becomes f cs
+by_window f d p cs ws us h a e =
+    ap (each_becomes f) e
+    ∙ sym (append-nil (each_becomes f ws))
+    ∙ sym (ap (λ l. each_becomes f ws ++ l) (none_of f a.behind (λ x i. h x (a.above x i))))
+    ∙ sym (each_append f ws a.behind)
+    ∙ sym (ap (λ l. l ++ each_becomes f (ws ++ a.behind)) (none_of f a.before (λ x i. h x (a.below x i))))
+    ∙ sym (each_append f a.before (ws ++ a.behind))
+    ∙ sym (ap (each_becomes f) a.whole)
+
 pub all_by_window : {N : Type 0} (D : Ops N) (h : Share) (k : Known N) (p : Place) (ws us : List (Cell N))
     → IsAbout k.model p k.cells ws → us ≡ ws
     → each_becomes (taken_share D h k p) us ≡ each_becomes (taken_share D h k p) k.cells
 all_by_window D h k p ws us a e =
-    let f = taken_share D h k p in
-    ap (each_becomes f) e
-    ∙ sym (append-nil (each_becomes f ws))
-    ∙ sym (ap (λ l. each_becomes f ws ++ l) (none_of f a.behind (λ x i. elsewhere D h k p x (a.above x i))))
-    ∙ sym (each_append f ws a.behind)
-    ∙ sym (ap (λ l. l ++ each_becomes f (ws ++ a.behind)) (none_of f a.before (λ x i. elsewhere D h k p x (a.below x
-    i))))
-    ∙ sym (each_append f a.before (ws ++ a.behind))
-    ∙ sym (ap (each_becomes f) a.whole)
+    by_window (taken_share D h k p) k.model p k.cells ws us (λ x i. elsewhere D h k p x i) a e
 
 pub window_sized : {N : Type 0} (d : Model) (p : Place) (cs ws us : List (Cell N)) → AreCells d cs → IsAbout d p cs ws
     → us ≡ ws → Each (IsSized d) us

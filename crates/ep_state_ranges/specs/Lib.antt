@@ -1,3 +1,4 @@
 pub mod Held
+pub mod InRow
 pub mod Merged
 pub mod Taken

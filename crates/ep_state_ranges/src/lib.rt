@@ -3,6 +3,7 @@
 #![tactic(auto)]
 
 mod cuts;
+mod facing;
 mod forms;
 mod rows;
 mod spots;

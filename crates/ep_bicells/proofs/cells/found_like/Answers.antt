@@ -3,4 +3,4 @@ use Rattle.ep_bicells.proofs.Uniting.{like_window}
 use Rattle.ep_bicells.proofs.cells.found_like.Goals as goal
 
 pub returns : goal.returns
-returns g c = c.like_in.ensures ∙ like_window c.args.y.now c.number-at.result c.args.parts.now c.window.result.now c.number-at.ensures c.window.ensures
+returns g c = c.like_in.ensures ∙ like_window c.args.y.now c.number_at-at.result c.args.parts.now c.window.result.now c.number_at-at.ensures c.window.ensures

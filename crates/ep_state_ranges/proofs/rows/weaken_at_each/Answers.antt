@@ -3,7 +3,8 @@ use Rattle.ep_cells.specs.Weaken.{weakened}
 use Rattle.ep_cell_ranges.specs.Moves.{weakened_each, form_by_weak_each}
 use Rattle.ep_state_ranges.specs.Held.{at_spot, FitsAtEach}
 use Rattle.ep_state_ranges.proofs.Merging.{next}
-use Rattle.ep_state_ranges.proofs.Rounds.{model_stays, weaken_turn, weaken_ends, weak_forms_turn, weak_forms_end, fits_first}
+use Rattle.ep_state_ranges.proofs.Rounds.{model_stays, weaken_turn, weaken_ends, weak_forms_turn, weak_forms_end}
+use Rattle.ep_state_ranges.proofs.Rounds.{fits_first}
 use Rattle.ep_state_ranges.proofs.rows.weaken_at_each.Goals as goal
 
 pub weaken_at-requires-clause-fits : goal.weaken_at-requires-clause-fits

@@ -1,6 +1,7 @@
 use Rattle.std.proofs.Common.{◌-◌, sym, ◌∙◌, arith}
 use Rattle.ep_state_ranges.proofs.Merging.{rising_next, rising_last}
-use Rattle.ep_state_ranges.proofs.spots.are_rising.Goals.{else-i-spots-via-then-i-spots+else-not-comes_before, else-i-spots-via-else-i-spots}
+use Rattle.ep_state_ranges.proofs.spots.are_rising.Goals.{else-i-spots-via-then-i-spots+else-not-comes_before}
+use Rattle.ep_state_ranges.proofs.spots.are_rising.Goals.{else-i-spots-via-else-i-spots}
 use Rattle.ep_state_ranges.proofs.spots.are_rising.Goals as goal
 
 pub loop-i-preserved : goal.loop-i-preserved

@@ -2,7 +2,7 @@ use Rattle.std.proofs.Common.{arith, rules, leb}
 use Rattle.std.proofs.lemmas.List.Sorted.{IsPartitionPoint-from_clause, IsPartitionedBy-leb}
 use Rattle.std.proofs.lemmas.Bool.Decides.{nat_tests}
 use Rattle.ep_shared_parts.proofs.Spreading.{starts_rise, count_is}
-use Rattle.ep_shared_parts.proofs.parts.parts_to.Goals as goal
+use Rattle.ep_shared_parts.proofs.parts.wide_parts_to.Goals as goal
 
 pub returns : goal.returns
 returns g c =
