@@ -2,20 +2,25 @@
 # `awk -f words.awk -- file WORD..` which of them is FILE, from 1 on, or 0. What words mean is what
 # crates/ep_words/specs/Words.antt says; this only names the word at fault.
 
-# Each command: its options, those that must be there, and what may stand behind FILE.
-# Each option: its values, or the greatest number.
+# Each command: its options, those that must be there, and what may stand behind FILE; or, without a file, its numbers.
+# Each option and number: its values, or the least number, if not 0, and the greatest.
 function table() {
     options["check"] = "--unroll --orders --model"
     options["run"] = "--order --steps --model"
     needs["run"] = "--order --steps"
     more["run"] = "INPUT"
     options["layout"] = "--model"
+    options["sample"] = ""
+    numbers["sample"] = "START FIELDS"
     values["--order"] = "little big swapped-words"
     values["--orders"] = "little,big little,swapped-words big,little big,swapped-words swapped-words,little swapped-words,big"
     values["--model"] = "ilp32 lp64"
     most["--unroll"] = "4096"
     most["--steps"] = "1000000"
     most["INPUT"] = "18446744073709551615"
+    most["START"] = "2147483647"
+    least["FIELDS"] = "1"
+    most["FIELDS"] = "5000"
 }
 
 function has(list, word) {
@@ -27,6 +32,7 @@ function is_value(name, word) {
     if (name in values) return has(values[name], word)
     if (word !~ /^[0-9]+$/ || length(word) > 20) return 0
     sub(/^0+/, "", word)
+    if (word == "") return !(name in least)
     if (length(word) != length(most[name])) return length(word) < length(most[name])
     return word "" <= most[name] ""
 }
@@ -42,7 +48,7 @@ function stop_on_unknown(kind, word) {
 }
 
 function stop_on_value(name, word,   may) {
-    may = name in values ? values[name] : "0 to " most[name]
+    may = name in values ? values[name] : (name in least ? least[name] : "0") " to " most[name]
     if (!is_value(name, word)) stop("value out of range: " name " " word " (" may ")")
 }
 
@@ -70,13 +76,23 @@ function stop_on_rest(command, file,   at) {
     if (ARGC - file - 1 > 65536) stop("more than 65536 words behind FILE")
 }
 
+function stop_on_numbers(command,   at, count, names) {
+    count = split(numbers[command], names, " ")
+    for (at = 1; at <= count; at++) {
+        if (at + 2 >= ARGC) stop("missing " names[at])
+        stop_on_value(names[at], ARGV[at + 2])
+    }
+    if (ARGC > count + 3) stop_on_unknown("word", ARGV[count + 3])
+}
+
 BEGIN {
     table()
     for (file = 3; file < ARGC && ARGV[file] ~ /^-/;) file += 2
-    if (ARGV[1] == "file") stop(file < ARGC && ARGV[2] in options ? file - 1 : 0)
+    if (ARGV[1] == "file") stop(file < ARGC && ARGV[2] in options && !(ARGV[2] in numbers) ? file - 1 : 0)
     if (ARGC < 3 || ARGV[2] == "") stop("missing command")
     if (!(ARGV[2] in options)) stop_on_unknown(ARGV[2] ~ /^-/ ? "option" : "command", ARGV[2])
     stop_on_options(ARGV[2], file)
-    stop_on_rest(ARGV[2], file)
+    if (ARGV[2] in numbers) stop_on_numbers(ARGV[2])
+    else stop_on_rest(ARGV[2], file)
     stop("a word is no text in UTF-8")
 }

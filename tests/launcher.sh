@@ -576,6 +576,14 @@ unknown option --steps|layout --steps 5 a.c
 unknown option --unroll|layout --unroll 5 a.c
 unknown option --order|layout --order big a.c
 word too many: 7|layout a.c 7
+missing START|sample
+missing FIELDS|sample 7
+value out of range: START 2147483648 (0 to 2147483647)|sample 2147483648 1
+value out of range: START x (0 to 2147483647)|sample x 1
+value out of range: FIELDS 0 (1 to 5000)|sample 0 0
+value out of range: FIELDS 5001 (1 to 5000)|sample 7 5001
+unknown option --model|sample --model lp64 7 1
+word too many: 8|sample 7 1 8
 END
 call check ''
 is 'standard error' "$said" 'endport: FILE is empty'

@@ -1,1 +1,3 @@
-pub mod Telling
+mod Asked
+mod Ends
+mod Telling

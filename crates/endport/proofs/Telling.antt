@@ -3,7 +3,7 @@ use Rattle.std.proofs.Common.{◌≡◌, refl, false, ℕ, ◌⊎◌, inl, inr, 
 use Rattle.ep_int.specs.declared.types.Order.{Order}
 use Rattle.ep_int.specs.declared.types.Order.TheVariants.{Little, Big, SwappedWords}
 use Rattle.ep_core.specs.Exec.{is_order}
-use Rattle.ep_words.specs.Words.{Command, check, layout, run}
+use Rattle.ep_words.specs.Words.{Command, check, layout, run, sample}
 use Rattle.ep_jobs.specs.declared.status.Status.{Status}
 use Rattle.ep_jobs.specs.declared.status.Status.TheVariants.{Done, Alarms, Refused, Usage, ReadFault, WriteFault}
 use Rattle.ep_jobs.specs.declared.status.Status.TheVariants.{Memory, TooLong, StepsUsedUp, Undefined, InputEnded}
@@ -17,21 +17,25 @@ never_read_fault : (c : Command) (bytes text : List ℕ) → IsJob c bytes ReadF
 never_read_fault (check unroll orders model file) bytes text j = j
 never_read_fault (layout model file) bytes text j = j
 never_read_fault (run order steps model file inputs) bytes text j = j
+never_read_fault (sample start fields) bytes text j = j.is_check
 
 never_write_fault : (c : Command) (bytes text : List ℕ) → IsJob c bytes WriteFault text → ⊥
 never_write_fault (check unroll orders model file) bytes text j = j
 never_write_fault (layout model file) bytes text j = j
 never_write_fault (run order steps model file inputs) bytes text j = j
+never_write_fault (sample start fields) bytes text j = j.is_check
 
 never_memory : (c : Command) (bytes text : List ℕ) → IsJob c bytes Memory text → ⊥
 never_memory (check unroll orders model file) bytes text j = j
 never_memory (layout model file) bytes text j = j
 never_memory (run order steps model file inputs) bytes text j = j
+never_memory (sample start fields) bytes text j = j.is_check
 
 never_too_long : (c : Command) (bytes text : List ℕ) → IsJob c bytes TooLong text → ⊥
 never_too_long (check unroll orders model file) bytes text j = j
 never_too_long (layout model file) bytes text j = j
 never_too_long (run order steps model file inputs) bytes text j = j
+never_too_long (sample start fields) bytes text j = j.is_check
 
 whole_of : (c : Command) (told : Option (List ℕ)) (status : Status) (text : List ℕ) (before after : Option (List ℕ))
     → TextOf (Some c) told status text → Appended before text after → Written (Some c) told status before after

@@ -1,7 +1,14 @@
 -- What the program does, from its words to what it writes. This project's rules.
-use Rattle.std.specs.Prelude.{◌≡◌, ℕ, ◌<◌, List, ◌++◌, length, codes, Option, Some, None, IfSome}
-use Rattle.ep_words.specs.Words.{Command, check, layout, run}
+use Rattle.std.specs.Prelude.{◌≡◌, ℕ, ◌<◌, ◌≤◌, ◌⊎◌, List, ◌++◌, length, codes, Option, Some, None, IfSome, IsSome}
+use Rattle.std.specs.Prelude.{option_and_then}
+use Rattle.ep_ast.specs.declared.refusals.Refusal.{Refusal}
+use Rattle.ep_core.specs.Program.{Program}
+use Rattle.ep_int.specs.declared.types.Model.{Model}
+use Rattle.ep_int.specs.declared.types.Model.TheVariants.{Ilp32}
+use Rattle.ep_source.specs.Source.{Means, Offends}
+use Rattle.ep_words.specs.Words.{Command, check, layout, run, sample}
 use Rattle.ep_check.specs.Check.{IsCheck}
+use Rattle.ep_check.specs.Sample.{IsSample}
 use Rattle.ep_jobs.specs.Jobs.{IsLayout, IsRun}
 use Rattle.ep_jobs.specs.declared.status.Status.{Status}
 use Rattle.ep_jobs.specs.declared.status.Status.TheVariants.{Done, Alarms, Refused, Usage, ReadFault, WriteFault}
@@ -11,15 +18,20 @@ use Rattle.ep_io.specs.Faults.{Rose}
 
 -- ---- words
 
-abbrev pub file_of : Command → List ℕ
-file_of (check unroll orders model file) = file
-file_of (layout model file) = file
-file_of (run order steps model file inputs) = file
+-- the file that a command names, if it names one
+abbrev pub file_of : Command → Option (List ℕ)
+file_of (check unroll orders model file) = Some file
+file_of (layout model file) = Some file
+file_of (run order steps model file inputs) = Some file
+file_of (sample start fields) = None
+
+abbrev pub file_asked : Option Command → Option (List ℕ)
+file_asked None = None
+file_asked (Some c) = file_of c
 
 -- the bytes that stand under the file, where the words name one and the source tells them
 abbrev pub under : Option Command → (List ℕ → Option (List ℕ)) → Option (List ℕ)
-under None standing = None
-under (Some c) standing = standing (file_of c)
+under c standing = option_and_then standing (file_asked c)
 
 -- ---- texts
 
@@ -29,16 +41,18 @@ usage_text =
     ++ codes "  endport check [--unroll N] [--orders A,B] [--model ilp32|lp64] FILE\n"
     ++ codes "  endport run --order little|big|swapped-words --steps N [--model ilp32|lp64] FILE [INPUT..]\n"
     ++ codes "  endport layout [--model ilp32|lp64] FILE\n"
+    ++ codes "  endport sample START FIELDS\n"
 
 -- ---- what is written
 
--- what a command comes to on bytes that were read
+-- what a command comes to on the bytes of its file; of a sample none are read
 abbrev pub IsJob : Command → List ℕ → Status → List ℕ → Type 0
 IsJob (check unroll orders model file) bytes status text =
     IsCheck (record { model = model; left = orders.0; right = orders.1; unroll = unroll }) bytes status text
 IsJob (layout model file) bytes status text = IsLayout model bytes status text
 IsJob (run order steps model file inputs) bytes status text =
     IsRun (record { model = model; order = order; steps = steps; inputs = inputs }) bytes status text
+IsJob (sample start fields) bytes status text = IsSample start fields status text
 
 -- the bytes are those that stand under the file, where these are told
 pub record Comes (c : Command) (told : Option (List ℕ)) (status : Status) (text : List ℕ) : Type 0 where
@@ -115,3 +129,39 @@ IsSilent TooLong = Unit {0}
 IsSilent StepsUsedUp = ⊥
 IsSilent Undefined = ⊥
 IsSilent InputEnded = ⊥
+
+-- ---- which statuses come
+
+-- the statuses that come with the whole text of what a command asks
+abbrev pub IsWhole : Command → Status → Type 0
+IsWhole (check unroll orders model file) s = (s ≡ Done) ⊎ (s ≡ Alarms)
+IsWhole (layout model file) s = s ≡ Done
+IsWhole (run order steps model file inputs) s = (s ≡ Done) ⊎ (s ≡ StepsUsedUp) ⊎ (s ≡ Undefined) ⊎ (s ≡ InputEnded)
+IsWhole (sample start fields) s = (s ≡ Done) ⊎ (s ≡ Alarms)
+
+-- the statuses that a command has; where the words aren't plain, there is none
+abbrev pub EndsSo : Option Command → Status → Type 0
+EndsSo None s = (s ≡ Usage) ⊎ (s ≡ WriteFault)
+EndsSo (Some c) s =
+    IsWhole c s ⊎ (s ≡ Refused) ⊎ (s ≡ WriteFault) ⊎ (s ≡ Memory)
+    ⊎ (IsSome (file_of c) × ((s ≡ ReadFault) ⊎ (s ≡ TooLong)))
+
+-- the data model that a command names; that of a sample is the usual one
+abbrev pub model_asked : Command → Model
+model_asked (check unroll orders model file) = model
+model_asked (layout model file) = model
+model_asked (run order steps model file inputs) = model
+model_asked (sample start fields) = Ilp32
+
+-- a source that is not too long and means a program, and of which nothing offends
+pub record IsRight (m : Model) (bytes : List ℕ) : Type 0 where
+  pub program : Program
+  pub means : Means m bytes program
+  pub faultless : (r : Refusal) → Offends m bytes r → ⊥
+  pub fits : length bytes ≤ 1048576
+
+-- such a source gets its whole text, or memory wants, where neither the source nor the sink fails
+abbrev pub Completes : Option Command → Option (List ℕ) → (source_fails sink_fails : Type 0) → Status → Type 0
+Completes c told source_fails sink_fails s =
+    IfSome c (λ c. IfSome told (λ bytes. IsRight (model_asked c) bytes → (source_fails → ⊥) → (sink_fails → ⊥)
+    → IsWhole c s ⊎ (s ≡ Memory)))

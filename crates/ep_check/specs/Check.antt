@@ -9,7 +9,8 @@ use Rattle.ep_iterator.specs.Reports as reports
 use Rattle.ep_iterator.specs.Reports.{AllMayStand}
 use Rattle.ep_jobs.specs.Jobs.{IsRefused, MeansOnly}
 use Rattle.ep_jobs.specs.declared.status.Status.{Status}
-use Rattle.ep_jobs.specs.declared.status.Status.TheVariants.{Done, Alarms, Refused, Usage, ReadFault, WriteFault, Memory, TooLong, StepsUsedUp, Undefined, InputEnded}
+use Rattle.ep_jobs.specs.declared.status.Status.TheVariants.{Done, Alarms, Refused, Usage, ReadFault, WriteFault}
+use Rattle.ep_jobs.specs.declared.status.Status.TheVariants.{Memory, TooLong, StepsUsedUp, Undefined, InputEnded}
 use Rattle.ep_pass_laws.specs.Agreement.{AgreeInTheEnd}
 use Rattle.ep_check.specs.Numbers.{numbers}
 

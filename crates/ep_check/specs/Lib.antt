@@ -1,3 +1,4 @@
 pub mod Numbers
 pub mod Check
 pub mod Seen
+pub mod Sample

@@ -2,5 +2,7 @@
 #![tactic(auto)]
 
 mod job;
+mod sample;
 
 pub use job::{CheckAsked, check_job};
+pub use sample::sample_job;

@@ -1,3 +1,4 @@
+pub mod LastLine
 pub mod Lengths
 pub mod Pieces
 pub mod Rows

@@ -1,6 +1,7 @@
 -- Texts that grow piece by piece.
 use Rattle.std.proofs.Common.{◌≡◌, ℕ, suc, ◌+◌, ◌-◌, ◌<◌}
-use Rattle.std.proofs.Common.{List, ◌++◌, Result, Ok, Err, is_ok, OnOk, if◌then◌else◌, sym, ap, ◌∙◌, arith, append_assoc}
+use Rattle.std.proofs.Common.{List, ◌++◌, Result, Ok, Err, is_ok, OnOk, if◌then◌else◌, sym, ap, ◌∙◌, arith}
+use Rattle.std.proofs.Common.{append_assoc}
 use Rattle.ep_sample.specs.Sample.{next_of, field_text, fields_text}
 
 -- three pieces, of which the last may want memory

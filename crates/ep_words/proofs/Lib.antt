@@ -1,3 +1,3 @@
 mod Digits
-mod Others
 mod Parted
+mod Rules

@@ -29,3 +29,4 @@ abbrev pub command : Command → rule.Command
 command (commands.Check c) = checking c
 command (commands.Layout model file) = rule.layout model file.now
 command (commands.Run r) = running r
+command (commands.Sample s) = rule.sample s.start s.fields

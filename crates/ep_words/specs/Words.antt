@@ -1,5 +1,5 @@
 -- The words of the command line. This project's rules.
-use Rattle.std.specs.Prelude.{◌≡◌, ℕ, ◌+◌, ◌*◌, ◌-◌, nat_le, ◌==◌, Bool, false, ◌&&◌, not, if◌then◌else◌, List, []}
+use Rattle.std.specs.Prelude.{◌≡◌, ℕ, ◌+◌, ◌*◌, ◌-◌, ◌≤◌, nat_le, ◌==◌, Bool, false, ◌&&◌, not, if◌then◌else◌, List, []}
 use Rattle.std.specs.Prelude.{◌∷◌, length, map, Option, Some, None, is_none, is_some, bytes_eq, codes}
 use Rattle.std.specs.Prelude.{option_and_then, unwrap_or}
 use Rattle.std.specs.List.{list_all}
@@ -135,6 +135,7 @@ pub data Command : Type 0 where
   check : (unroll : ℕ) (orders : Order × Order) (model : Model) (file : Word) → Command
   layout : (model : Model) (file : Word) → Command
   run : (order : Order) (steps : ℕ) (model : Model) (file : Word) (inputs : List ℕ) → Command
+  sample : (start fields : ℕ) → Command
 
 -- the model that is named, else ilp32
 abbrev pub model_of : Options → Model
@@ -196,6 +197,28 @@ run_of o (file ∷ words) =
     then run_with o.order o.steps (model_of o) file (map input words)
     else None
 
+-- ---- samples: a number to start with and a number of fields
+
+abbrev pub most_start : ℕ
+most_start = 2147483647
+
+abbrev pub most_fields : ℕ
+most_fields = 5000
+
+abbrev pub sample_with : Option ℕ → Option ℕ → Option Command
+sample_with None fields = None
+sample_with (Some start) None = None
+sample_with (Some start) (Some fields) = if fields == 0 then None else Some (sample start fields)
+
+-- no options
+abbrev pub sample_of : List Word → Option Command
+sample_of [] = None
+sample_of (start ∷ []) = None
+sample_of (start ∷ fields ∷ []) = sample_with (number most_start start) (number most_fields fields)
+sample_of (start ∷ fields ∷ word ∷ words) = None
+
+-- ---- words
+
 abbrev pub with_options : (Options → List Word → Option Command) → List Word → Option Command
 with_options f ws = option_and_then (λ (r : Options × List Word). f r.0 r.1) (options no_options ws)
 
@@ -204,6 +227,7 @@ named command words =
     if bytes_eq command (codes "check") then with_options check_of words
     else if bytes_eq command (codes "layout") then with_options layout_of words
     else if bytes_eq command (codes "run") then with_options run_of words
+    else if bytes_eq command (codes "sample") then sample_of words
     else None
 
 -- What plain words ask: the program's name, a command, its options, and its positional words.
@@ -216,7 +240,9 @@ plain (name ∷ command ∷ words) = named command words
 abbrev pub AreOther : Order × Order → Type 0
 AreOther p = (p.0 ≡ p.1) → ⊥
 
-abbrev pub ComparesOthers : Command → Type 0
-ComparesOthers (check unroll orders model file) = AreOther orders
-ComparesOthers (layout model file) = Unit {0}
-ComparesOthers (run order steps model file inputs) = Unit {0}
+-- a report compares two different orders, and a sample has no more fields than the rules allow
+abbrev pub IsWithinRules : Command → Type 0
+IsWithinRules (check unroll orders model file) = AreOther orders
+IsWithinRules (layout model file) = Unit {0}
+IsWithinRules (run order steps model file inputs) = Unit {0}
+IsWithinRules (sample start fields) = fields ≤ most_fields

@@ -1,10 +1,10 @@
 //! What the words ask.
 
-ghost use Rattle.std.specs.Prelude.{◌≡◌, IfOk, IfSome, map};
+ghost use Rattle.std.specs.Prelude.{◌≡◌, ◌≤◌, IfOk, IfSome, Some, map};
 ghost use Rattle.std.specs.Option.{option_map};
 ghost use Rattle.ep_words.specs.Seen as seen;
 ghost use Rattle.ep_words.specs.Words as rule;
-ghost use Rattle.ep_words.specs.Words.{ComparesOthers};
+ghost use Rattle.ep_words.specs.Words.{IsWithinRules};
 
 use crate::numbers::number;
 use crate::options::{Options, leading};
@@ -13,6 +13,12 @@ use std::alloc::{AllocError, Global};
 
 /// The most inputs of a run.
 const MOST_INPUTS: usize = 65_536;
+
+/// The greatest number that a sample starts with.
+const MOST_START: u64 = 2_147_483_647;
+
+/// The most fields of a sample.
+const MOST_FIELDS: u64 = 5000;
 
 /// A report on a file, for machines of two different orders.
 #[derive(Clone, Copy)]
@@ -35,6 +41,14 @@ pub struct RunWords<'a> {
     pub inputs: &'a [String],
 }
 
+/// A report on a source that is generated.
+#[derive(Clone, Copy)]
+pub struct SampleWords {
+    pub start: u32,
+    /// At least one.
+    pub fields: u32,
+}
+
 /// What plain words ask.
 #[derive(Clone, Copy)]
 pub enum Command<'a> {
@@ -42,6 +56,7 @@ pub enum Command<'a> {
     /// The layouts of a file's types.
     Layout(Model, &'a str),
     Run(RunWords<'a>),
+    Sample(SampleWords),
 }
 
 // A name that isn't empty and doesn't begin as an option does.
@@ -153,6 +168,33 @@ fn run_words(words: &[String]) -> Option<Command<'_>>
     }
 }
 
+fn sample_with(start: u64, fields: u64) -> Option<Command<'static>>
+    requires start { start ≤ rule.most_start }
+    requires fields { fields ≤ rule.most_fields }
+    ensures { option_map seen.command result ≡ rule.sample_with (Some start) (Some fields) }
+{
+    if fields == 0 {
+        return None;
+    }
+    Some(Command::Sample(SampleWords {
+        start: start as u32,
+        fields: fields as u32,
+    }))
+}
+
+fn sample_words(words: &[String]) -> Option<Command<'_>>
+    ensures { option_map seen.command result ≡ rule.sample_of (seen.words words.now) }
+{
+    match words {
+        [start, fields] => {
+            let start = number(MOST_START, start.as_str())?;
+            let fields = number(MOST_FIELDS, fields.as_str())?;
+            sample_with(start, fields)
+        }
+        _ => None,
+    }
+}
+
 // What the words behind a command ask.
 fn named<'a>(command: &str, words: &'a [String]) -> Option<Command<'a>>
     ensures { option_map seen.command result ≡ rule.named command.now (seen.words words.now) }
@@ -161,6 +203,7 @@ fn named<'a>(command: &str, words: &'a [String]) -> Option<Command<'a>>
         "check" => check_words(words),
         "layout" => layout_words(words),
         "run" => run_words(words),
+        "sample" => sample_words(words),
         _ => None,
     }
 }
@@ -168,7 +211,7 @@ fn named<'a>(command: &str, words: &'a [String]) -> Option<Command<'a>>
 /// What the words ask, where they are plain. The first is the program's name.
 pub fn asked(words: &[String]) -> Option<Command<'_>>
     ensures command { option_map seen.command result ≡ rule.plain (seen.words words.now) }
-    ensures others { IfSome result (λ c. ComparesOthers (seen.command c)) }
+    ensures within { IfSome result (λ c. IsWithinRules (seen.command c)) }
 {
     match words {
         [_, command, rest @ ..] => named(command.as_str(), rest),

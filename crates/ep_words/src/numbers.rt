@@ -1,6 +1,6 @@
 //! Numbers among the words.
 
-ghost use Rattle.std.specs.Prelude.{◌≡◌, nat_le, if◌then◌else◌, Some, None};
+ghost use Rattle.std.specs.Prelude.{◌≡◌, ◌≤◌, nat_le, if◌then◌else◌, IfSome, Some, None};
 ghost use Rattle.std.specs.List.{list_all};
 ghost use Rattle.ep_words.specs.Words as rule;
 
@@ -15,8 +15,9 @@ fn are_digits(bytes: &[u8]) -> bool
 
 // The number of digits, if it is no greater than `most`.
 fn value_to(most: u64, digits: &[u8]) -> Option<u64>
-    ensures { result ≡ (if nat_le (rule.digits_value digits.now) most
+    ensures value { result ≡ (if nat_le (rule.digits_value digits.now) most
         then Some (rule.digits_value digits.now) else None) }
+    ensures within { IfSome result (λ n. n ≤ most) }
 {
     let most = most as u128;
     let mut value: u128 = 0;
@@ -34,7 +35,8 @@ fn value_to(most: u64, digits: &[u8]) -> Option<u64>
 
 /// The number of 1 to 20 decimal digits, if the word is so and its number no greater than `most`.
 pub(crate) fn number(most: u64, word: &str) -> Option<u64>
-    ensures { result ≡ rule.number most word.now }
+    ensures value { result ≡ rule.number most word.now }
+    ensures within { IfSome result (λ n. n ≤ most) }
 {
     let digits = word.as_bytes();
     if digits.is_empty() || digits.len() > MOST_DIGITS || !are_digits(digits) {

@@ -1,14 +1,16 @@
--- The two orders of a report are different ones.
-use Rattle.std.proofs.Common.{◌≡◌, ℕ, sym, subst, Bool, true, false, ◌&&◌, List, [], ◌∷◌, Option, Some, None, IfSome}
-use Rattle.std.proofs.Common.{nat_le, bytes_eq, codes, length, map, is_none, option_map, option_and_then, unwrap_or}
-use Rattle.std.proofs.Common.{if◌then◌else◌}
+-- What plain words ask is within the rules: the two orders of a report are different ones, and a sample has no more
+-- fields than are allowed.
+use Rattle.std.proofs.Common.{◌≡◌, ◌≤◌, ℕ, refl, sym, subst, Bool, true, false, ◌&&◌, List, [], ◌∷◌, Option, Some}
+use Rattle.std.proofs.Common.{None, IfSome, nat_eq, nat_le, bytes_eq, codes, length, map, is_none, option_map}
+use Rattle.std.proofs.Common.{option_and_then, unwrap_or, if◌then◌else◌}
+use Rattle.std.proofs.lemmas.Bool.{leb-true}
 use Rattle.ep_int.specs.declared.types.Model.{Model}
 use Rattle.ep_int.specs.declared.types.Order.{Order}
 use Rattle.ep_int.specs.declared.types.Order.TheVariants as orders
 use Rattle.ep_words.specs.declared.command.Command.{Command}
 use Rattle.ep_words.specs.Seen as seen
 use Rattle.ep_words.specs.Words as rule
-use Rattle.ep_words.specs.Words.{AreOther, ComparesOthers}
+use Rattle.ep_words.specs.Words.{AreOther, IsWithinRules}
 
 either : {A : Type 0} (P : A → Type 0) (b : Bool) (x y : Option A) → IfSome x P → IfSome y P
     → IfSome (if b then x else y) P
@@ -83,48 +85,70 @@ usual : (x : Option (Order × Order)) → IfSome x AreOther → AreOther (unwrap
 usual None h = λ e. absurd cc
 usual (Some x) h = h
 
-reports : (o : rule.Options) (ws : List rule.Word) → HasOther o → IfSome (rule.check_of o ws) ComparesOthers
+reports : (o : rule.Options) (ws : List rule.Word) → HasOther o → IfSome (rule.check_of o ws) IsWithinRules
 reports o [] h = tt
 reports o (file ∷ []) h =
-    if_so ComparesOthers (rule.is_no_run o && rule.is_file file)
+    if_so IsWithinRules (rule.is_no_run o && rule.is_file file)
     (rule.check (rule.unroll_of o) (rule.orders_of o) (rule.model_of o) file) (usual o.orders h)
 reports o (file ∷ w ∷ ws) h = tt
 
-layouts : (o : rule.Options) (ws : List rule.Word) → IfSome (rule.layout_of o ws) ComparesOthers
+layouts : (o : rule.Options) (ws : List rule.Word) → IfSome (rule.layout_of o ws) IsWithinRules
 layouts o [] = tt
 layouts o (file ∷ []) =
-    if_so ComparesOthers (rule.is_no_run o && rule.is_no_check o && rule.is_file file)
+    if_so IsWithinRules (rule.is_no_run o && rule.is_no_check o && rule.is_file file)
     (rule.layout (rule.model_of o) file) tt
 layouts o (file ∷ w ∷ ws) = tt
 
 run : (x : Option Order) (n : Option ℕ) (m : Model) (file : rule.Word) (inputs : List ℕ)
-    → IfSome (rule.run_with x n m file inputs) ComparesOthers
+    → IfSome (rule.run_with x n m file inputs) IsWithinRules
 run None n m file inputs = tt
 run (Some x) None m file inputs = tt
 run (Some x) (Some n) m file inputs = tt
 
-runs : (o : rule.Options) (ws : List rule.Word) → IfSome (rule.run_of o ws) ComparesOthers
+runs : (o : rule.Options) (ws : List rule.Word) → IfSome (rule.run_of o ws) IsWithinRules
 runs o [] = tt
 runs o (file ∷ ws) =
-    either ComparesOthers
+    either IsWithinRules
     (rule.is_no_check o && rule.is_file file && nat_le (length ws) rule.most_inputs && rule.are_inputs ws)
     (rule.run_with o.order o.steps (rule.model_of o) file (map rule.input ws)) None
     (run o.order o.steps (rule.model_of o) file (map rule.input ws)) tt
 
 asks : (f : rule.Options → List rule.Word → Option rule.Command) (ws : List rule.Word)
-    → ((o : rule.Options) (ws : List rule.Word) → HasOther o → IfSome (f o ws) ComparesOthers)
-    → IfSome (rule.with_options f ws) ComparesOthers
+    → ((o : rule.Options) (ws : List rule.Word) → HasOther o → IfSome (f o ws) IsWithinRules)
+    → IfSome (rule.with_options f ws) IsWithinRules
 asks f ws h =
-    next HasOtherFirst ComparesOthers (λ r. f (r.0) (r.1)) (rule.options rule.no_options ws)
+    next HasOtherFirst IsWithinRules (λ r. f (r.0) (r.1)) (rule.options rule.no_options ws)
     (leading rule.no_options ws tt) (λ r k. h (r.0) (r.1) k)
 
-commands : (c : rule.Word) (ws : List rule.Word) → IfSome (rule.named c ws) ComparesOthers
-commands c ws =
-    either ComparesOthers (bytes_eq c (codes "check")) _ _ (asks rule.check_of ws reports)
-    (either ComparesOthers (bytes_eq c (codes "layout")) _ _ (asks rule.layout_of ws (λ o ws h. layouts o ws))
-    (either ComparesOthers (bytes_eq c (codes "run")) _ None (asks rule.run_of ws (λ o ws h. runs o ws)) tt))
+within : (most : ℕ) (w : rule.Word) → IfSome (rule.number most w) (λ n. n ≤ most)
+within most w = go (rule.are_digits w) (nat_le (rule.digits_value w) most) refl where
+  go : (digits small : Bool) → nat_le (rule.digits_value w) most ≡ small
+      → IfSome (if digits && small then Some (rule.digits_value w) else None) (λ n. n ≤ most)
+  go false small e = tt
+  go true false e = tt
+  go true true e = leb-true (rule.digits_value w) most e
 
-pub compares_others : (r : Option Command) (c : rule.Word) (ws : List rule.Word)
-    → option_map seen.command r ≡ rule.named c ws → IfSome r (λ c. ComparesOthers (seen.command c))
-compares_others None c ws e = tt
-compares_others (Some x) c ws e = subst (λ x. IfSome x ComparesOthers) (sym e) (commands c ws)
+sampled : (s n : Option ℕ) → IfSome n (λ n. n ≤ rule.most_fields) → IfSome (rule.sample_with s n) IsWithinRules
+sampled None n h = tt
+sampled (Some s) None h = tt
+sampled (Some s) (Some n) h = either IsWithinRules (nat_eq n 0) None (Some (rule.sample s n)) tt h
+
+samples : (ws : List rule.Word) → IfSome (rule.sample_of ws) IsWithinRules
+samples [] = tt
+samples (start ∷ []) = tt
+samples (start ∷ fields ∷ []) =
+    sampled (rule.number rule.most_start start) (rule.number rule.most_fields fields)
+    (within rule.most_fields fields)
+samples (start ∷ fields ∷ w ∷ ws) = tt
+
+commands : (c : rule.Word) (ws : List rule.Word) → IfSome (rule.named c ws) IsWithinRules
+commands c ws =
+    either IsWithinRules (bytes_eq c (codes "check")) _ _ (asks rule.check_of ws reports)
+    (either IsWithinRules (bytes_eq c (codes "layout")) _ _ (asks rule.layout_of ws (λ o ws h. layouts o ws))
+    (either IsWithinRules (bytes_eq c (codes "run")) _ _ (asks rule.run_of ws (λ o ws h. runs o ws))
+    (either IsWithinRules (bytes_eq c (codes "sample")) _ None (samples ws) tt)))
+
+pub within_rules : (r : Option Command) (c : rule.Word) (ws : List rule.Word)
+    → option_map seen.command r ≡ rule.named c ws → IfSome r (λ c. IsWithinRules (seen.command c))
+within_rules None c ws e = tt
+within_rules (Some x) c ws e = subst (λ x. IfSome x IsWithinRules) (sym e) (commands c ws)
