@@ -3,5 +3,5 @@
 
 mod cases;
 
-pub use cases::{Case, USAGE_TEXT, call};
+pub use cases::{Case, Prepared, USAGE_TEXT, call};
 pub use endport::Status;

@@ -5,7 +5,8 @@ use std::process::Abort;
 use std::test::Fail;
 use tests_calls::{Case, Status, USAGE_TEXT, call};
 
-const NUMBER: &str = "int main(void) {\n  uint32_t x;\n  x = ep_in_u32();\n  ep_out_u32(x);\n}\n";
+pub(crate) const NUMBER: &str =
+    "int main(void) {\n  uint32_t x;\n  x = ep_in_u32();\n  ep_out_u32(x);\n}\n";
 
 const BYTES: &str = "int main(void) {\n  uint32_t x;\n  x = ep_in_u32();\n  ep_write(&x, 4);\n}\n";
 
@@ -18,9 +19,19 @@ pub(crate) fn expect(
     status: Status,
     text: &str,
 ) -> Result<(), Fail> {
+    expect_bytes(rt, alloc, case, status, text.as_bytes())
+}
+
+pub(crate) fn expect_bytes(
+    rt: &impl Abort,
+    alloc: Global,
+    case: &Case,
+    status: Status,
+    text: &[u8],
+) -> Result<(), Fail> {
     let (ended, written) = call(alloc, case)?;
     assert_eq!(rt; ended, status);
-    assert_eq!(rt; written.as_slice(), text.as_bytes());
+    assert_eq!(rt; written.as_slice(), text);
     Ok(())
 }
 

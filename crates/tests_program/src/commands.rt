@@ -1,4 +1,4 @@
-//! The commands `layout` and `run`, over a source and a sink in memory.
+//! The commands `layout`, `run` and `sample`, over a source and a sink in memory.
 
 use crate::calls::expect;
 use std::alloc::Global;
@@ -20,9 +20,7 @@ fn expect_all(rt: &impl Abort, alloc: Global, source: &str, table: &[Row]) -> Re
     for (words, status, text) in table.iter() {
         let case = Case {
             words,
-            source: source.as_bytes(),
-            failing_read: None,
-            failing_write: None,
+            ..Case::check(source.as_bytes())
         };
         expect(rt, alloc, &case, *status, text)?;
     }
@@ -150,9 +148,40 @@ fn runs(rt: HostRuntime) -> Result<(), Fail> {
     )
 }
 
+// The source would fail at its first call.
+#[test]
+fn samples(rt: HostRuntime) -> Result<(), Fail> {
+    let table: [Row; 3] = [
+        (
+            &["endport", "sample", "7", "1"],
+            Status::Done,
+            "start 7\nfields 1\nlines 17\nportable\n",
+        ),
+        (
+            &["endport", "sample", "0", "1"],
+            Status::Done,
+            "start 0\nfields 1\nlines 17\nportable\n",
+        ),
+        (
+            &["endport", "sample", "007", "200"],
+            Status::Done,
+            "start 7\nfields 200\nlines 614\nportable\n",
+        ),
+    ];
+    for (words, status, text) in table.iter() {
+        let case = Case {
+            words,
+            failing_read: Some(0),
+            ..Case::check(b"")
+        };
+        expect(&rt, rt.alloc(), &case, *status, text)?;
+    }
+    Ok(())
+}
+
 #[test]
 fn words_that_are_not_plain(rt: HostRuntime) -> Result<(), Fail> {
-    let table: [&[&str]; 14] = [
+    let table: [&[&str]; 20] = [
         &["endport", "layout"],
         &["endport", "layout", "-file.c"],
         &["endport", "layout", "file.c", "file.c"],
@@ -183,14 +212,18 @@ fn words_that_are_not_plain(rt: HostRuntime) -> Result<(), Fail> {
         &[
             "endport", "run", "--order", "big", "--steps", "5", "file.c", "-1",
         ],
-        &["endport", "sample", "0", "1"],
+        &["endport", "sample", "7"],
+        &["endport", "sample", "7", "0"],
+        &["endport", "sample", "7", "5001"],
+        &["endport", "sample", "2147483648", "1"],
+        &["endport", "sample", "7", "-1"],
+        &["endport", "sample", "--model", "ilp32", "7", "1"],
+        &["endport", "sample", "7", "1", "file.c"],
     ];
     for words in table.iter() {
         let case = Case {
             words,
-            source: b"",
-            failing_read: None,
-            failing_write: None,
+            ..Case::check(b"")
         };
         expect(&rt, rt.alloc(), &case, Status::Usage, USAGE_TEXT)?;
     }

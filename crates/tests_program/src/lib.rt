@@ -5,3 +5,9 @@
 mod calls;
 #[cfg(test)]
 mod commands;
+#[cfg(test)]
+mod failing;
+#[cfg(test)]
+mod idioms;
+#[cfg(test)]
+mod limits;

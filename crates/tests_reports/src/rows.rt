@@ -16,9 +16,7 @@ pub(crate) fn answer(alloc: Global, words: &str, source: &str) -> Option<String>
     }
     let case = Case {
         words: &list,
-        source: source.as_bytes(),
-        failing_read: None,
-        failing_write: None,
+        ..Case::check(source.as_bytes())
     };
     let (status, text) = call(alloc, &case).ok()?;
     let code = status.code();
