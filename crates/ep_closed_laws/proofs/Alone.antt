@@ -1,25 +1,36 @@
 -- Passes of one side follow its machine's run exactly: they have no fault, and one way out alone.
-use Rattle.std.proofs.Common.{◌≡◌, ℕ, zero, suc, List, [], ◌∷◌, ◌++◌, refl, sym, subst, ap, ◌∙◌, Option, Some, None, Bool, true, false, ◌&&◌, ◌||◌, nat_eq, slice_get}
+use Rattle.std.proofs.Common.{◌≡◌, ℕ, zero, suc, List, [], ◌∷◌, ◌++◌, refl, sym, subst, ap, ◌∙◌, Option, Some, None}
+use Rattle.std.proofs.Common.{Bool, true, false, ◌&&◌, ◌||◌, nat_eq, slice_get}
 use Rattle.std.proofs.lemmas.Bool.{eqb-true, and_parts}
 use Rattle.ep_int.specs.declared.types.Order.{Order}
 use Rattle.ep_int.specs.Memory.{Memory, Found, has, faults}
 use Rattle.ep_alarms.specs.declared.types.Alarm.{Alarm}
-use Rattle.ep_core.specs.Program.{Expr, Dest, What, simple, call, if_else, loop, break_loop, continue_loop, by_order, scope, Stmts, stop, more, Function, Program}
-use Rattle.ep_core.specs.Exec.{State, Way, on, broken, continued, returned, Outcome, leaves, running, no_input, undefined_at, Going, given, uncounted, and_then, is_true, code_of_way, code_of_test, listed, either, scope_left, is_order, chosen, arm_left, frame_of, result_in, callee_of, without, value, does, received, call_of}
+use Rattle.ep_core.specs.Program.{Expr, Dest, What, simple, call, if_else, loop, break_loop, continue_loop, by_order}
+use Rattle.ep_core.specs.Program.{scope, Stmts, stop, more, Function, Program}
+use Rattle.ep_core.specs.Exec.{State, Way, on, broken, continued, returned, Outcome, leaves, running, no_input}
+use Rattle.ep_core.specs.Exec.{undefined_at, Going, given, uncounted, and_then, is_true, code_of_way, code_of_test}
+use Rattle.ep_core.specs.Exec.{listed, either, scope_left, is_order, chosen, arm_left, frame_of, result_in, callee_of}
+use Rattle.ep_core.specs.Exec.{without, value, does, received, call_of}
 use Rattle.ep_core.specs.Runs.{Side, left, right}
 use Rattle.ep_core.specs.Ways.{ways_of_all}
-use Rattle.ep_core.specs.WellFormed.{is_tested, result_type, arguments_fit, takes_result, call_fits, are_plain, what_fits, stmts_fit, is_well_formed}
+use Rattle.ep_core.specs.WellFormed.{is_tested, result_type, arguments_fit, takes_result, call_fits, are_plain}
+use Rattle.ep_core.specs.WellFormed.{what_fits, stmts_fit, is_well_formed}
 use Rattle.ep_core.proofs.Operands.{fits_at}
 use Rattle.ep_pass.specs.States.{Mode, One, Gives, Verdict, stuck, same, differs, StateOps}
 use Rattle.ep_pass.specs.Laws.{passes, IsTruth, GoesOn}
-use Rattle.ep_pass.specs.Pass.{Ways, none, Log, logged, Pass, passed, after, ends, branch, alarms_at, left_by, jumps, way_of, simple_pass, too_long, then_pass, rowed, either_pass, leave_call, scope_pass, call_pass, next_pass, body_ends, leave_loop, decided, tested, apart, arm_of, last_pass, turn_then, unrolled, in_body, one_turn, cut_turn, one_rounds, entered, loop_pass, pass, pass_all, body_pass, bodies_pass}
+use Rattle.ep_pass.specs.Pass.{Ways, none, Log, logged, Pass, passed, after, ends, branch, alarms_at, left_by, jumps}
+use Rattle.ep_pass.specs.Pass.{way_of, simple_pass, too_long, then_pass, rowed, either_pass, leave_call, scope_pass}
+use Rattle.ep_pass.specs.Pass.{call_pass, next_pass, body_ends, leave_loop, decided, tested, apart, arm_of, last_pass}
+use Rattle.ep_pass.specs.Pass.{turn_then, unrolled, in_body, one_turn, cut_turn, one_rounds, entered, loop_pass, pass}
+use Rattle.ep_pass.specs.Pass.{pass_all, body_pass, bodies_pass}
 use Rattle.ep_kinds.specs.InOut.{is_talk, comes_to, some_comes_to, body_comes_to, answer_if, bodies_come_to}
-use Rattle.ep_bounded_laws.specs.Bounded.{turns_from, tests_from, visit, exec_in, all_in, body_in, bodies_in}
+use Rattle.ep_closed_laws.specs.Bounded.{turns_from, tests_from, visit, exec_in, all_in, body_in, bodies_in}
 use Rattle.ep_pass_laws.proofs.Outcomes.{body_end, with_next, loop_left}
 use Rattle.ep_closed_laws.specs.Exactly.{IsThere, IfLeft, GivesExact, SeenFrom, retold, Exactly}
 use Rattle.ep_pass_laws.proofs.Outcomes.{IsPlain, IsCall, run_called, called_end, call_is, scope_call}
 use Rattle.ep_pass_laws.proofs.Text.{callee_at}
-use Rattle.ep_bounded_laws.proofs.WaysIn.{IsTurnOf, IsVisitOf, body_turn, visit_is, all_among_in, plain_in, bodies_call_in}
+use Rattle.ep_closed_laws.proofs.WaysIn.{IsTurnOf, IsVisitOf, body_turn, visit_is, all_among_in, plain_in}
+use Rattle.ep_closed_laws.proofs.WaysIn.{bodies_call_in}
 
 -- ---- passes with one way out
 

@@ -1,9 +1,12 @@
 -- Tests, arms and loops: the passes of both sides follow both runs exactly.
-use Rattle.std.proofs.Common.{◌≡◌, ◌⊎◌, inl, inr, ℕ, zero, suc, ◌-◌, ◌≤◌, List, [], ◌∷◌, ◌++◌, refl, sym, subst, ap, ◌∙◌, Option, Some, None, Bool, true, false, not, if◌then◌else◌, slice_get, arith}
+use Rattle.std.proofs.Common.{◌≡◌, ◌⊎◌, inl, inr, ℕ, zero, suc, ◌-◌, ◌≤◌, List, [], ◌∷◌, ◌++◌, refl, sym, subst, ap}
+use Rattle.std.proofs.Common.{◌∙◌, Option, Some, None, Bool, true, false, not, if◌then◌else◌, slice_get, arith}
 use Rattle.ep_int.specs.declared.types.Order.{Order}
 use Rattle.ep_int.specs.Memory.{Memory, Found, has, faults}
 use Rattle.ep_core.specs.Program.{Expr, Dest, Stmts, Function, Program}
-use Rattle.ep_core.specs.Exec.{Output, State, Way, on, broken, continued, returned, Outcome, leaves, running, no_input, undefined_at, Going, given, and_then, is_true, code_of_way, listed, either, scope_left, arm_left, frame_of, without, value, received, call_of}
+use Rattle.ep_core.specs.Exec.{Output, State, Way, on, broken, continued, returned, Outcome, leaves, running}
+use Rattle.ep_core.specs.Exec.{no_input, undefined_at, Going, given, and_then, is_true, code_of_way, listed, either}
+use Rattle.ep_core.specs.Exec.{scope_left, arm_left, frame_of, without, value, received, call_of}
 use Rattle.ep_core.specs.Runs.{Side, left, right}
 use Rattle.ep_core.specs.Ways.{has_way, ways_of_all}
 use Rattle.ep_core.specs.WellFormed.{is_tested, result_type, arguments_fit, takes_result}
@@ -11,20 +14,27 @@ use Rattle.ep_core.proofs.Grows.{later_refl, Grows, Growing, received_grows}
 use Rattle.ep_pass.specs.States.{Mode, Both, One, Verdict, stuck, same, differs, StateOps}
 use Rattle.ep_pass.specs.Laws.{passes, IsTruth, Fits}
 use Rattle.ep_pass.specs.Places.{may_differ}
-use Rattle.ep_pass.specs.Pass.{Ways, none, Log, logged, Pass, ends, branch, alarms_at, left_by, jumps, simple_pass, then_pass, rowed, either_pass, leave_call, scope_pass, call_pass, comes_after, decided, tested, apart, last_pass, turn_then, in_body, lone, entered, joint_turn, is_stable, next_head, dropped, from_head, settled, last_turns, joint_rounds, loop_pass}
-use Rattle.ep_bounded_laws.specs.Bounded.{turns_from, tests_from, visit}
+use Rattle.ep_pass.specs.Pass.{Ways, none, Log, logged, Pass, ends, branch, alarms_at, left_by, jumps, simple_pass}
+use Rattle.ep_pass.specs.Pass.{then_pass, rowed, either_pass, leave_call, scope_pass, call_pass, comes_after, decided}
+use Rattle.ep_pass.specs.Pass.{tested, apart, last_pass, turn_then, in_body, lone, entered, joint_turn, is_stable}
+use Rattle.ep_pass.specs.Pass.{next_head, dropped, from_head, settled, last_turns, joint_rounds, loop_pass}
+use Rattle.ep_closed_laws.specs.Bounded.{turns_from, tests_from, visit}
 use Rattle.ep_pass_laws.proofs.Outcomes.{loop_left}
 use Rattle.ep_closed_laws.specs.Exactly.{IsThere, SeenFrom, retold, Exactly}
 use Rattle.ep_pass_laws.proofs.Outcomes.{IsPlain, IsCall, run_called, run_called_grows, called_end, call_is, scope_call}
 use Rattle.ep_pass_laws.proofs.Differing.{Differ, differ_true, twice_differ, twice_differ_back}
-use Rattle.ep_bounded_laws.proofs.WaysIn.{IsTurnOf, IsVisitOf, visit_is}
-use Rattle.ep_bounded_laws.proofs.GrowsIn.{turns_grow, tests_grow, passes_adds, received_adds}
-use Rattle.ep_closed_laws.proofs.Alone.{Leaves, as_left, more_left, after_left, mapped, turned_into, either_before, either_after, branch_left, IsTurnLeft, AloneOf, first_there, second_there, entered_alone}
+use Rattle.ep_closed_laws.proofs.WaysIn.{IsTurnOf, IsVisitOf, visit_is}
+use Rattle.ep_closed_laws.proofs.GrowsIn.{turns_grow, tests_grow, passes_adds, received_adds}
+use Rattle.ep_closed_laws.proofs.Alone.{Leaves, as_left, more_left, after_left, mapped, turned_into, either_before}
+use Rattle.ep_closed_laws.proofs.Alone.{either_after, branch_left, IsTurnLeft, AloneOf, first_there, second_there}
+use Rattle.ep_closed_laws.proofs.Alone.{entered_alone}
 use Rattle.ep_core.specs.Exec.{running}
-use Rattle.ep_closed_laws.proofs.Both.{BothOf, then_both, turn_both, turn_stays, loop_left_both, leave_call_both, plain_both}
+use Rattle.ep_closed_laws.proofs.Both.{BothOf, then_both, turn_both, turn_stays, loop_left_both, leave_call_both}
+use Rattle.ep_closed_laws.proofs.Both.{plain_both}
 use Rattle.ep_closed_laws.proofs.Rules.{Rule, alike, quiet, Same, Tests, ahead_back, codes_same, code_way}
 use Rattle.ep_closed_laws.proofs.BothGiven.{after_both, gives_both, rowed_gives_both, lifted_both, parted_left}
-use Rattle.ep_closed_laws.proofs.Codes.{differ_turned, arm_text, IsQuietRule, same_kept, same_quiet, same_listed, tests_differ, pick, SameIfLeft, turns_more, IsLeftBy}
+use Rattle.ep_closed_laws.proofs.Codes.{differ_turned, arm_text, IsQuietRule, same_kept, same_quiet, same_listed}
+use Rattle.ep_closed_laws.proofs.Codes.{tests_differ, pick, SameIfLeft, turns_more, IsLeftBy}
 
 module _ (p : Program) (ord : Side → Order) {S : Type 0} (o : StateOps S) (K : S → State → State → Type 0)
     (law : Exactly p ord o K) (rule : Rule) (os : List Output) where

@@ -1,12 +1,15 @@
 -- Passes of both sides that operations give, and of the sides one after the other.
 use Rattle.std.proofs.Common.{◌≡◌, ℕ, ◌+◌, List, [], ◌++◌, length, sym, subst, ap, ◌∙◌, Option, Some, None}
 use Rattle.ep_alarms.specs.declared.types.Alarm.{Alarm}
-use Rattle.ep_core.specs.Exec.{Output, State, Way, on, broken, continued, returned, Outcome, leaves, running, no_input, undefined_at}
+use Rattle.ep_core.specs.Exec.{Output, State, Way, on, broken, continued, returned, Outcome, leaves, running}
+use Rattle.ep_core.specs.Exec.{no_input, undefined_at}
 use Rattle.ep_pass.specs.States.{Gives, StateOps}
-use Rattle.ep_pass.specs.Pass.{none, Log, Pass, after, ends, left_by, simple_pass, rowed, either_pass, parted, only_on, only_broken, only_continued, only_returned}
+use Rattle.ep_pass.specs.Pass.{none, Log, Pass, after, ends, left_by, simple_pass, rowed, either_pass, parted}
+use Rattle.ep_pass.specs.Pass.{only_on, only_broken, only_continued, only_returned}
 use Rattle.ep_closed_laws.specs.Exactly.{IsThere, IfBothLeft, GivesExact}
-use Rattle.ep_bounded_laws.proofs.GrowsIn.{Adds, AddsIfLeft}
-use Rattle.ep_closed_laws.proofs.Alone.{Leaves, as_left, after_left, mapped, turned_into, rowed_on, either_before, either_after, simple_left}
+use Rattle.ep_closed_laws.proofs.GrowsIn.{Adds, AddsIfLeft}
+use Rattle.ep_closed_laws.proofs.Alone.{Leaves, as_left, after_left, mapped, turned_into, rowed_on, either_before}
+use Rattle.ep_closed_laws.proofs.Alone.{either_after, simple_left}
 use Rattle.ep_closed_laws.proofs.Both.{BothOf}
 use Rattle.ep_closed_laws.proofs.Rules.{Rule, alike, quiet, Same, Ahead, same_front}
 

@@ -1,14 +1,17 @@
 -- Joint tests that are equal or unequal, and runs with more turns.
-use Rattle.std.proofs.Common.{◌≡◌, ◌⊎◌, inl, inr, ℕ, zero, suc, ◌≤◌, List, [], ◌∷◌, ◌++◌, refl, sym, subst, ap, ◌∙◌, Bool, true, false, not, ◌&&◌, ◌||◌, nat_eq, arith}
+use Rattle.std.proofs.Common.{◌≡◌, ◌⊎◌, inl, inr, ℕ, zero, suc, ◌≤◌, List, [], ◌∷◌, ◌++◌, refl, sym, subst, ap, ◌∙◌}
+use Rattle.std.proofs.Common.{Bool, true, false, not, ◌&&◌, ◌||◌, nat_eq, arith}
 use Rattle.std.proofs.lemmas.Bool.{eqb-true, and_parts}
 use Rattle.ep_int.specs.Memory.{Memory, Found, has, faults}
 use Rattle.ep_core.specs.Program.{Stmts}
-use Rattle.ep_core.specs.Exec.{Output, State, Way, on, broken, continued, returned, Outcome, leaves, running, no_input, undefined_at, Going, given, and_then, is_true, code_of_way, code_of_test, listed, either}
+use Rattle.ep_core.specs.Exec.{Output, State, Way, on, broken, continued, returned, Outcome, leaves, running}
+use Rattle.ep_core.specs.Exec.{no_input, undefined_at, Going, given, and_then, is_true, code_of_way, code_of_test}
+use Rattle.ep_core.specs.Exec.{listed, either}
 use Rattle.ep_core.specs.Ways.{Ways as TextWays, has_way}
 use Rattle.ep_core.specs.Laws.{IsAmong}
 use Rattle.ep_core.proofs.Prefixes.{begins_trans}
 use Rattle.ep_core.proofs.Grows.{Later}
-use Rattle.ep_bounded_laws.specs.Bounded.{turns_from, tests_from}
+use Rattle.ep_closed_laws.specs.Bounded.{turns_from, tests_from}
 use Rattle.ep_pass_laws.proofs.Differing.{Differ}
 use Rattle.ep_core.specs.Exec.{running}
 use Rattle.ep_closed_laws.proofs.Rules.{Rule, alike, quiet, Same, Ahead, codes_same, code_way}

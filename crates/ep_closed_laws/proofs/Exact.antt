@@ -1,40 +1,46 @@
 -- Reports on closed programs whose runs agree are empty: the induction over the pass of both sides.
-use Rattle.std.proofs.Common.{◌≡◌, ◌⊎◌, inl, inr, ℕ, zero, suc, ◌+◌, ◌≤◌, List, [], ◌∷◌, ◌++◌, refl, sym, subst, ap, ◌∙◌, Option, Some, None, Bool, true, false, not, ◌&&◌, ◌||◌, nat_eq, slice_get, arith}
+use Rattle.std.proofs.Common.{◌≡◌, ◌⊎◌, inl, inr, ℕ, zero, suc, ◌+◌, ◌≤◌, List, [], ◌∷◌, ◌++◌, refl, sym, subst, ap}
+use Rattle.std.proofs.Common.{◌∙◌, Option, Some, None, Bool, true, false, not, ◌&&◌, ◌||◌, nat_eq, slice_get, arith}
 use Rattle.std.proofs.lemmas.Bool.{eqb-true, and_parts}
 use Rattle.ep_int.specs.declared.types.Order.{Order}
 use Rattle.ep_int.specs.Memory.{Found, has, faults}
 use Rattle.ep_alarms.specs.declared.types.Alarm.{Alarm}
-use Rattle.ep_core.specs.Program.{Expr, Dest, What, simple, call, if_else, loop, break_loop, continue_loop, by_order, scope, Stmts, stop, more, Function, Program}
-use Rattle.ep_core.specs.Exec.{Output, State, Way, on, broken, continued, returned, Outcome, leaves, running, no_input, undefined_at, Going, uncounted, is_order, chosen, arm_left, frame_of, result_in, callee_of, without, value, does, call_of}
+use Rattle.ep_core.specs.Program.{Expr, Dest, What, simple, call, if_else, loop, break_loop, continue_loop, by_order}
+use Rattle.ep_core.specs.Program.{scope, Stmts, stop, more, Function, Program}
+use Rattle.ep_core.specs.Exec.{Output, State, Way, on, broken, continued, returned, Outcome, leaves, running}
+use Rattle.ep_core.specs.Exec.{no_input, undefined_at, Going, uncounted, is_order, chosen, arm_left, frame_of}
+use Rattle.ep_core.specs.Exec.{result_in, callee_of, without, value, does, call_of}
 use Rattle.ep_core.specs.Runs.{Side, left, right, Begins}
 use Rattle.ep_core.specs.Ways.{ways_of_all}
 use Rattle.ep_core.specs.Laws.{IsAmong}
-use Rattle.ep_core.specs.WellFormed.{is_tested, result_type, arguments_fit, takes_result, call_fits, are_plain, what_fits, stmts_fit, is_well_formed}
+use Rattle.ep_core.specs.WellFormed.{is_tested, result_type, arguments_fit, takes_result, call_fits, are_plain}
+use Rattle.ep_core.specs.WellFormed.{what_fits, stmts_fit, is_well_formed}
 use Rattle.ep_core.proofs.Prefixes.{begins_more}
 use Rattle.ep_core.proofs.Grows.{Growing}
 use Rattle.ep_core.proofs.Operands.{fits_at}
 use Rattle.ep_pass.specs.States.{Mode, Both, One, StateOps}
 use Rattle.ep_pass.specs.Places.{may_differ}
-use Rattle.ep_pass.specs.Pass.{none, logged, Pass, alarms_at, way_of, simple_pass, join_on, rowed, call_pass, next_pass, body_ends, apart, arm_of, loop_pass, pass, pass_all, body_pass, bodies_pass}
+use Rattle.ep_pass.specs.Pass.{none, logged, Pass, alarms_at, way_of, simple_pass, join_on, rowed, call_pass}
+use Rattle.ep_pass.specs.Pass.{next_pass, body_ends, apart, arm_of, loop_pass, pass, pass_all, body_pass, bodies_pass}
 use Rattle.ep_kinds.specs.InOut.{is_input, is_talk, some_comes_to, bodies_come_to}
 use Rattle.ep_kinds.specs.Closed.{is_closed_what, are_closed}
 use Rattle.ep_kinds.specs.Steady.{are_quiet_arms, is_quiet_what, are_quiet}
-use Rattle.ep_bounded_laws.specs.Bounded.{visit, exec_in, all_in, body_in, bodies_in}
+use Rattle.ep_closed_laws.specs.Bounded.{visit, exec_in, all_in, body_in, bodies_in}
 use Rattle.ep_pass_laws.proofs.Outcomes.{body_end, with_next, loop_left}
 use Rattle.ep_closed_laws.specs.Exactly.{SeenFrom, Exactly}
 use Rattle.ep_pass_laws.proofs.Outcomes.{IsCall, next_grows}
 use Rattle.ep_pass_laws.proofs.Text.{callee_at}
-use Rattle.ep_bounded_laws.proofs.WaysIn.{body_turn, all_among_in, plain_in, bodies_call_in}
-use Rattle.ep_bounded_laws.proofs.GrowsIn.{all_grow_in, bodies_grow_in, puts_out, does_adds}
+use Rattle.ep_closed_laws.proofs.WaysIn.{body_turn, all_among_in, plain_in, bodies_call_in}
+use Rattle.ep_closed_laws.proofs.GrowsIn.{all_grow_in, bodies_grow_in, puts_out, does_adds}
 use Rattle.ep_closed_laws.proofs.Alone.{Leaves, as_left, AloneOf, all_alone}
 use Rattle.ep_int.specs.declared.types.Scalar.{Scalar}
 use Rattle.ep_int.specs.Memory.{int, null, pointer, loaded}
 use Rattle.ep_core.specs.Exec.{model, size_at, running}
 use Rattle.ep_alarms.specs.Report.{gathered}
 use Rattle.ep_core.specs.Runs.{Run, main_ends, result_out, line_of, finished, start, ended}
-use Rattle.ep_bounded_laws.specs.Bounded.{main_in, run_in}
-use Rattle.ep_bounded_laws.specs.Laws.{EndsAlike}
-use Rattle.ep_bounded_laws.proofs.WaysIn.{body_call_in}
+use Rattle.ep_closed_laws.specs.Bounded.{main_in, run_in}
+use Rattle.ep_closed_laws.specs.BoundedLaws.{EndsAlike}
+use Rattle.ep_closed_laws.proofs.WaysIn.{body_call_in}
 use Rattle.ep_core.proofs.Prefixes.{begins_refl}
 use Rattle.ep_pass.specs.Pass.{faults_at_end, report_of}
 use Rattle.ep_kinds.specs.Closed.{each_function, is_closed_text}
@@ -43,8 +49,10 @@ use Rattle.ep_closed_laws.proofs.Alone.{then_alone, body_ends_alone, rowed_alone
 use Rattle.ep_closed_laws.proofs.Both.{BothOf, then_both, body_ends_both, plain_both}
 use Rattle.ep_closed_laws.proofs.Rules.{Rule, alike, quiet, Same, Tests}
 use Rattle.ep_closed_laws.proofs.BothGiven.{gives_both}
-use Rattle.ep_closed_laws.proofs.Codes.{TextIs, text_parts, text_true, not_true, or_false, same_way, taken_way, arm_text, IsQuietRule, same_kept}
-use Rattle.ep_closed_laws.proofs.Arms.{scope_both, WaysAgree, apart_both, arms_agree, call_both, arms_both, if_both, loop_both}
+use Rattle.ep_closed_laws.proofs.Codes.{TextIs, text_parts, text_true, not_true, or_false, same_way, taken_way}
+use Rattle.ep_closed_laws.proofs.Codes.{arm_text, IsQuietRule, same_kept}
+use Rattle.ep_closed_laws.proofs.Arms.{scope_both, WaysAgree, apart_both, arms_agree, call_both, arms_both, if_both}
+use Rattle.ep_closed_laws.proofs.Arms.{loop_both}
 
 module _ (p : Program) (ord : Side → Order) {S : Type 0} (o : StateOps S) (K : S → State → State → Type 0)
     (law : Exactly p ord o K) (rule : Rule) (os : List Output) where

@@ -1,3 +1,6 @@
+pub mod WaysIn
+pub mod GrowsIn
+pub mod Steps
 pub mod Silent
 pub mod Lift
 pub mod Alone

@@ -3,7 +3,8 @@ use Rattle.std.proofs.Common.{◌≡◌, ℕ, refl, sym, ◌∙◌, subst, Optio
 use Rattle.ep_int.specs.declared.types.Order.{Order}
 use Rattle.ep_int.specs.Memory.{Memory}
 use Rattle.ep_core.specs.Program.{Program}
-use Rattle.ep_core.specs.Exec.{State, Way, on, Outcome, leaves, running, no_input, undefined_at, uncounted, without, does, received}
+use Rattle.ep_core.specs.Exec.{State, Way, on, Outcome, leaves, running, no_input, undefined_at, uncounted, without}
+use Rattle.ep_core.specs.Exec.{does, received}
 use Rattle.ep_core.specs.Runs.{Side, left, right}
 use Rattle.ep_core.specs.Typed.{StateFits, OutcomeFits}
 use Rattle.ep_core.specs.WellFormed.{is_well_formed}
@@ -16,7 +17,7 @@ use Rattle.ep_pass.specs.Pass.{way_of}
 use Rattle.ep_pass_laws.proofs.Fitting.{without_fits, does_fits, passes_fit, result_fits}
 use Rattle.ep_closed_laws.specs.Exactly.{IsThere, IfLeft, IfBothLeft, GivesExact, SeenFrom, Exactly}
 use Rattle.ep_closed_laws.specs.Closely.{Held, IsBeside, Closely}
-use Rattle.ep_bounded_laws.proofs.GrowsIn.{AddsIfLeft, does_adds, passes_adds, received_adds}
+use Rattle.ep_closed_laws.proofs.GrowsIn.{AddsIfLeft, does_adds, passes_adds, received_adds}
 use Rattle.ep_closed_laws.proofs.Silent.{silent, stays_out, passes_grow}
 
 module _ (p : Program) {S : Type 0} (Is : S → Memory → Memory → Type 0) where

@@ -1,13 +1,14 @@
 -- Statements that take and put out nothing leave the outputs as they are.
 use Rattle.std.proofs.Common.{◌≡◌, ℕ, List, refl, sym, option_to_list, false, arith}
 use Rattle.ep_int.specs.declared.types.Order.{Order}
-use Rattle.ep_core.specs.Program.{Expr, Simple, nothing, eval, assign, clear, copy_aggregate, copy_bytes, fill, input, output, read_bytes, write_bytes, returns, Function, Program}
+use Rattle.ep_core.specs.Program.{Expr, Simple, nothing, eval, assign, clear, copy_aggregate, copy_bytes, fill, input}
+use Rattle.ep_core.specs.Program.{output, read_bytes, write_bytes, returns, Function, Program}
 use Rattle.ep_core.specs.Exec.{State, on, leaves, without, first_of, frame_of, values}
 use Rattle.ep_core.proofs.Prefixes.{begins_refl}
 use Rattle.ep_core.proofs.Grows.{Grows, later_refl, grows_from, leaves_grows, given_all_grows, bound_grows}
 use Rattle.ep_pass.specs.Laws.{passes}
 use Rattle.ep_kinds.specs.InOut.{is_talk}
-use Rattle.ep_bounded_laws.proofs.GrowsIn.{puts_out, Adds}
+use Rattle.ep_closed_laws.proofs.GrowsIn.{puts_out, Adds}
 use Rattle.ep_closed_laws.proofs.Rules.{same_front}
 
 pub silent : (w : Simple) → is_talk w ≡ false → puts_out w ≡ 0

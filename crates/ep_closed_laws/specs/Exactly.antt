@@ -2,7 +2,8 @@
 use Rattle.std.specs.Prelude.{◌≡◌, ◌⊎◌, ℕ, Bool, true, false, not, List, [], Option, Some, None, slice_get}
 use Rattle.ep_int.specs.declared.types.Order.{Order}
 use Rattle.ep_core.specs.Program.{Expr, Dest, Simple, Function, Program}
-use Rattle.ep_core.specs.Exec.{State, Way, on, Outcome, leaves, running, no_input, undefined_at, uncounted, without, does, received}
+use Rattle.ep_core.specs.Exec.{State, Way, on, Outcome, leaves, running, no_input, undefined_at, uncounted, without}
+use Rattle.ep_core.specs.Exec.{does, received}
 use Rattle.ep_core.specs.Runs.{Side, left, right, start, main_ends}
 use Rattle.ep_core.specs.WellFormed.{result_type, is_tested, simple_fits, arguments_fit, takes_result}
 use Rattle.ep_pass.specs.States.{Both, One, Gives, StateOps}

@@ -1,3 +1,5 @@
+pub mod Bounded
+pub mod BoundedLaws
 pub mod Exactly
 pub mod Closely
 pub mod Laws

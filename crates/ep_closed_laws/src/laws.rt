@@ -7,8 +7,8 @@ ghost use Rattle.ep_core.specs.Runs.{Side};
 ghost use Rattle.ep_pass.specs.States.{StateOps};
 ghost use Rattle.ep_closed_laws.specs.Laws.{AreExact, ClosedReports};
 
-/// States that an analysis keeps of a closed program, for two machines of different byte orders: what is done with them,
-/// for which pair of memories alone one stands, and that the operations keep this.
+/// States that an analysis keeps of a closed program, for two machines of different byte orders: what is done with
+/// them, for which pair of memories alone one stands, and that the operations keep this.
 pub trait ExactStates {
     ghost ops: { Program → (Side → Order) → StateOps Self };
 

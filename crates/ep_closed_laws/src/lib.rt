@@ -1,4 +1,7 @@
-//! What the report of the analysis means of closed programs, whatever it keeps of a state: laws alone.
+//! Reports on closed and steady programs, and runs in which turns alone are counted: laws alone.
 #![tactic(auto)]
 
 pub mod laws;
+mod runs;
+
+pub use runs::bounded_runs;

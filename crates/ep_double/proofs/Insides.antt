@@ -1,11 +1,14 @@
 -- What a type says of its parts: arrays in it, and how deep it is.
-use Rattle.std.proofs.Common.{◌≡◌, ℕ, suc, zero, ◌≤◌, ◌<◌, Bool, true, false, ◌||◌, if◌then◌else◌, List, [], ◌∷◌, length, map, slice_get, Option, Some, None, option_map, option_and_then, unwrap_or, inl, inr, eq-zero-or-pos, ◌-◌, ◌⊎◌, refl, sym, ap, ◌∙◌, subst, arith}
+use Rattle.std.proofs.Common.{◌≡◌, ℕ, suc, zero, ◌≤◌, ◌<◌, Bool, true, false, ◌||◌, if◌then◌else◌, List, [], ◌∷◌}
+use Rattle.std.proofs.Common.{length, map, slice_get, Option, Some, None, option_map, option_and_then, unwrap_or, inl}
+use Rattle.std.proofs.Common.{inr, eq-zero-or-pos, ◌-◌, ◌⊎◌, refl, sym, ap, ◌∙◌, subst, arith}
 use Rattle.std.specs.Option.{option_map_or}
 use Rattle.std.specs.List.{list_any}
 use Rattle.std.proofs.lemmas.Bool.{or_right, ltb-true}
 use Rattle.ep_layout.specs.declared.types.Ty.{Ty}
 use Rattle.ep_layout.specs.declared.types.Ty.TheVariants.{Void, Int, Ptr, Array, Aggregate}
-use Rattle.ep_layout.specs.Table.{Table, AggregateRow, MemberRow, TypeRules, IsBuilt, at_each, at_whole, at_aggregate, at_type, by_type, members_of}
+use Rattle.ep_layout.specs.Table.{Table, AggregateRow, MemberRow, TypeRules, IsBuilt, at_each, at_whole, at_aggregate}
+use Rattle.ep_layout.specs.Table.{at_type, by_type, members_of}
 use Rattle.ep_layout.proofs.Options.{map_some, at_each_some}
 use Rattle.ep_layout.proofs.Recursion.{types_of, at_depth_past}
 use Rattle.ep_layout.proofs.Laid.{laid, by_type_is}

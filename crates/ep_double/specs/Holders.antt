@@ -1,5 +1,6 @@
 -- Aggregates that hold arrays, as the code goes about them: by the members, and how deep the parts of a type lie.
-use Rattle.std.specs.Prelude.{◌≡◌, ℕ, suc, ◌+◌, ◌<◌, Bool, true, false, ◌&&◌, ◌||◌, ◌==◌, not, List, [], ◌∷◌, length, slice_get, unwrap_or, Some}
+use Rattle.std.specs.Prelude.{◌≡◌, ℕ, suc, ◌+◌, ◌<◌, Bool, true, false, ◌&&◌, ◌||◌, ◌==◌, not, List, [], ◌∷◌, length}
+use Rattle.std.specs.Prelude.{slice_get, unwrap_or, Some}
 use Rattle.std.specs.Option.{option_map_or}
 use Rattle.std.specs.List.{list_any, list_all}
 use Rattle.ep_layout.specs.Table.{Table, TypeRules, AggregateRow, MemberRow, by_type, size}

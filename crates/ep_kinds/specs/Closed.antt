@@ -1,7 +1,8 @@
 -- Which programs are closed by their text: nothing comes from outside, and what is done on one machine alone puts
 -- nothing out. The rules are this project's.
 use Rattle.std.specs.Prelude.{ℕ, suc, Bool, true, ◌&&◌, ◌||◌, not, List, [], ◌∷◌}
-use Rattle.ep_core.specs.Program.{What, simple, call, if_else, loop, break_loop, continue_loop, by_order, scope, Stmts, stop, more, Function, Program}
+use Rattle.ep_core.specs.Program.{What, simple, call, if_else, loop, break_loop, continue_loop, by_order, scope}
+use Rattle.ep_core.specs.Program.{Stmts, stop, more, Function, Program}
 use Rattle.ep_kinds.specs.InOut.{is_input, is_talk, some_comes_to, bodies_come_to}
 
 -- where this tells which functions before come to an input or output

@@ -1,10 +1,14 @@
 -- Which closed programs end alike on two machines, with no more than so many turns of each loop. The rules are this
 -- project's.
-use Rattle.std.specs.Prelude.{◌≡◌, ◌⊎◌, ℕ, zero, suc, Bool, true, false, ◌&&◌, ◌||◌, not, nat_eq, List, [], slice_get, Option, Some, None}
+use Rattle.std.specs.Prelude.{◌≡◌, ◌⊎◌, ℕ, zero, suc, Bool, true, false, ◌&&◌, ◌||◌, not, nat_eq, List, [], slice_get}
+use Rattle.std.specs.Prelude.{Option, Some, None}
 use Rattle.ep_int.specs.declared.types.Order.{Order}
 use Rattle.ep_int.specs.Memory.{Memory, Found}
-use Rattle.ep_core.specs.Program.{What, simple, call, if_else, loop, break_loop, continue_loop, by_order, scope, Stmts, stop, more, Function, Program}
-use Rattle.ep_core.specs.Exec.{on, broken, continued, leaves, running, Going, counted, step, given, turned, is_true, and_then, either, scope_left, is_order, chosen, arm_left, result_in, callee_of, without, value, does, call_of}
+use Rattle.ep_core.specs.Program.{What, simple, call, if_else, loop, break_loop, continue_loop, by_order, scope}
+use Rattle.ep_core.specs.Program.{Stmts, stop, more, Function, Program}
+use Rattle.ep_core.specs.Exec.{on, broken, continued, leaves, running, Going, counted, step, given, turned, is_true}
+use Rattle.ep_core.specs.Exec.{and_then, either, scope_left, is_order, chosen, arm_left, result_in, callee_of}
+use Rattle.ep_core.specs.Exec.{without, value, does, call_of}
 use Rattle.ep_core.specs.Runs.{Run, run, ended, main_function, start, finished}
 use Rattle.ep_core.specs.Ways.{ways_of_all}
 use Rattle.ep_pass.specs.Places.{may_differ}

@@ -4,7 +4,12 @@ use Rattle.std.specs.Prelude.{ℕ, Bool, true, false, ◌&&◌, ◌||◌, ◌==�
 use Rattle.std.specs.Option.{option_map_or}
 use Rattle.std.specs.List.{list_any, list_all}
 use Rattle.ep_layout.specs.Table.{Table, TypeRules, AggregateRow, by_type, size}
-use Rattle.ep_core.specs.Program.{Place, block, deref, member, element, Expr, const, null_value, load, addr_of, binary, convert, compare, ptr_compare, logical_and, logical_or, logical_not, conditional, ptr_add, cast, Dest, Simple, nothing, eval, assign, clear, copy_aggregate, copy_bytes, fill, input, output, read_bytes, write_bytes, returns, What, simple, call, if_else, loop, break_loop, continue_loop, by_order, scope, Stmts, stop, more, Function, Program}
+use Rattle.ep_core.specs.Program.{Place, block, deref, member, element, Expr, const, null_value, load, addr_of}
+use Rattle.ep_core.specs.Program.{binary, convert, compare, ptr_compare, logical_and, logical_or, logical_not}
+use Rattle.ep_core.specs.Program.{conditional, ptr_add, cast, Dest, Simple, nothing, eval, assign, clear}
+use Rattle.ep_core.specs.Program.{copy_aggregate, copy_bytes, fill, input, output, read_bytes, write_bytes, returns}
+use Rattle.ep_core.specs.Program.{What, simple, call, if_else, loop, break_loop, continue_loop, by_order, scope}
+use Rattle.ep_core.specs.Program.{Stmts, stop, more, Function, Program}
 use Rattle.ep_core.specs.WellFormed.{numbers_below}
 
 -- ---- types

@@ -1,2 +1,2 @@
-//! Kinds of programs of which more is promised: definitions alone.
+//! Kinds of programs of which more is promised: definitions, and worked rows of them.
 #![tactic(auto)]

@@ -26,7 +26,7 @@ use Rattle.ep_transfers_laws.specs.Laws.{memories}
 use Rattle.ep_transfers_laws.proofs.Kills.{AllKilled, AreAllKilled, one_killed, one_is, rest_killed, room}
 use Rattle.ep_closed_laws.specs.Closely.{IsBeside}
 use Rattle.ep_singles.specs.Cells.{IsOne}
-use Rattle.ep_single_cells.proofs.Kills.{kills_keep_one}
+use Rattle.ep_singles.proofs.Kills.{kills_keep_one}
 use Rattle.ep_single_states.specs.Laws.{StandsForOne, BlocksKeepOne}
 
 -- ---- memories that are the same

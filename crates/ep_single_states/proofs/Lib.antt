@@ -1,1 +1,4 @@
+pub mod Operators
+pub mod Filters
 pub mod Blocks
+pub mod Reshares

@@ -12,6 +12,7 @@ use Rattle.ep_evaluation_laws.specs.Laws.{IsState}
 use Rattle.ep_transfers.specs.Cells.{cell_ops}
 use Rattle.ep_transfers_laws.specs.Laws.{memories}
 use Rattle.ep_closed_laws.specs.Closely.{IsBeside}
+use Rattle.ep_singles.specs.Numbers.{KeepsSingles}
 use Rattle.ep_singles.specs.Cells.{IsOne}
 
 -- It is a state of these machines and this program, and stands for these two memories alone.
@@ -33,3 +34,9 @@ pub record BlocksKeepOne {N : Type 0} (D : Ops N) (p : Program) (ord : Side → 
 
 abbrev pub BlocksAreExact : {N : Type 0} → Ops N → Type 0
 BlocksAreExact D = (p : Program) (ord : Side → Order) → IsTrue (is_well_formed p) → BlocksKeepOne D p ord
+
+-- cells of both sides that surely hold one number become one
+abbrev pub ResharesAreExact : {N : Type 0} → Ops N → Type 0
+ResharesAreExact {N = N} D =
+    KeepsSingles D → (p : Program) (ord : Side → Order) (s : Known N) (m k : Memory) → StandsForOne D p ord s m k
+    → StandsForOne D p ord ((cell_ops D p ord).reshared s) m k

@@ -1,2 +1,5 @@
 pub mod Numbers
 pub mod Cells
+pub mod Laws
+pub mod CellLaws
+pub mod WriteLaws

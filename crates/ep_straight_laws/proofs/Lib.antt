@@ -19,3 +19,4 @@ pub mod Fronts
 pub mod Outputs
 pub mod Singles
 pub mod Fine
+pub mod Meets

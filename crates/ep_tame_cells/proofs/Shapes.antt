@@ -1,5 +1,6 @@
 -- Cells of whole blocks, and what keeps them so.
-use Rattle.std.proofs.Common.{◌≡◌, ℕ, ◌+◌, ◌<◌, Bool, true, false, ◌&&◌, ◌||◌, not, cond, List, [], ◌∷◌, Option, Some, None, refl, sym, ap, ◌∙◌, subst, nat_eq, nat_lt, slice_get}
+use Rattle.std.proofs.Common.{◌≡◌, ℕ, ◌+◌, ◌<◌, Bool, true, false, ◌&&◌, ◌||◌, not, cond, List, [], ◌∷◌, Option, Some}
+use Rattle.std.proofs.Common.{None, refl, sym, ap, ◌∙◌, subst, nat_eq, nat_lt, slice_get}
 use Rattle.std.specs.Prelude.{is_some}
 use Rattle.std.proofs.lemmas.Bool.{and_parts, eqb-true, ltb-true}
 use Rattle.ep_int.specs.declared.types.Order.TheVariants.{Little, Big}
@@ -17,8 +18,8 @@ use Rattle.ep_reads.specs.Unify.{is_crossed, left_by_lack, fate_by_lack, had_by_
 use Rattle.ep_split_laws.proofs.Splits.{first_like}
 use Rattle.ep_split_laws.proofs.Lacks.{lack_keeps}
 use Rattle.ep_core.specs.Program.{Block, Program}
-use Rattle.ep_shared_laws.specs.Shared.{AreShared, AreSharedCells, AreUncrossed}
-use Rattle.ep_shared_laws.proofs.Over.{same_alike}
+use Rattle.ep_tame_cells.specs.Shared.{AreShared, AreSharedCells, AreUncrossed}
+use Rattle.ep_tame_cells.proofs.Over.{same_alike}
 use Rattle.ep_tame_cells.specs.Shape.{cell_type, IsLeafCell, IsCovered, HasShape}
 use Rattle.ep_tame_cells.specs.Laws.{ShapeLaws}
 use Rattle.ep_tame_cells.proofs.LeafCells.{one_offset}

@@ -5,7 +5,7 @@ use Rattle.ep_cells.specs.declared.cell.Cell.{Cell}
 use Rattle.ep_cells.specs.States.{AreCells, HaveCellsAlike}
 use Rattle.ep_reads.specs.Unify.{had_by_both}
 use Rattle.ep_core.specs.Program.{Program}
-use Rattle.ep_shared_laws.specs.Shared.{AreSharedCells, AreUncrossed}
+use Rattle.ep_tame_cells.specs.Shared.{AreSharedCells, AreUncrossed}
 use Rattle.ep_tame_cells.specs.Shape.{IsCovered, HasShape}
 
 pub record ShapeLaws {N : Type 0} (D : Ops N) : Type 0 where

@@ -1,2 +1,9 @@
+pub mod Shared
+pub mod SharedLaws
+pub mod Rank
+pub mod RankLaws
 pub mod Shape
 pub mod Laws
+pub mod BlockLaws
+pub mod ReadLaws
+pub mod HeadLaws

@@ -1,1 +1,6 @@
+pub mod Laid
+pub mod Found
+pub mod Along
+pub mod LeavesIn
+pub mod Parts
 pub mod Tame

@@ -1,23 +1,32 @@
 -- Reports on tame programs have no alarm of the kinds E1 to E4: the induction over the pass, of both machines together.
-use Rattle.std.proofs.Common.{◌≡◌, ℕ, zero, suc, ◌-◌, ◌<◌, List, [], ◌∷◌, ◌++◌, refl, sym, subst, Option, Some, None, Bool, true, false, ◌&&◌, ◌||◌, if◌then◌else◌, nat_eq, slice_get, arith}
+use Rattle.std.proofs.Common.{◌≡◌, ℕ, zero, suc, ◌-◌, ◌<◌, List, [], ◌∷◌, ◌++◌, refl, sym, subst, Option, Some, None}
+use Rattle.std.proofs.Common.{Bool, true, false, ◌&&◌, ◌||◌, if◌then◌else◌, nat_eq, slice_get, arith}
 use Rattle.std.specs.List.{list_all}
 use Rattle.std.proofs.lemmas.Bool.{eqb-true, or_right, and_parts}
 use Rattle.ep_int.specs.declared.types.Order.{Order}
 use Rattle.ep_int.specs.Memory.{contains}
 use Rattle.ep_alarms.specs.declared.types.Alarm.{Alarm}
 use Rattle.ep_alarms.specs.declared.types.AlarmKind.{AlarmKind}
-use Rattle.ep_core.specs.Program.{Expr, Dest, What, simple, call, if_else, loop, break_loop, continue_loop, by_order, scope, Stmts, stop, more, Function, Program}
+use Rattle.ep_core.specs.Program.{Expr, Dest, What, simple, call, if_else, loop, break_loop, continue_loop, by_order}
+use Rattle.ep_core.specs.Program.{scope, Stmts, stop, more, Function, Program}
 use Rattle.ep_core.specs.Exec.{Way, on, broken, continued, returned, result_in, callee_of, frame_of}
 use Rattle.ep_core.specs.Runs.{Side, left, right}
-use Rattle.ep_core.specs.WellFormed.{is_tested, result_type, arguments_fit, takes_result, are_plain, call_fits, what_fits, stmts_fit, is_well_formed}
+use Rattle.ep_core.specs.WellFormed.{is_tested, result_type, arguments_fit, takes_result, are_plain, call_fits}
+use Rattle.ep_core.specs.WellFormed.{what_fits, stmts_fit, is_well_formed}
 use Rattle.ep_core.proofs.Operands.{fits_at}
 use Rattle.ep_pass.specs.States.{Mode, Both, Fault, Gives, Verdict, stuck, same, differs, StateOps}
 use Rattle.ep_pass.specs.Honest.{AreOf}
-use Rattle.ep_pass.specs.Pass.{Ways, none, Log, Pass, ends, so_far, branch, alarms_at, jumps, way_of, simple_pass, join_on, go_on, join_ways, then_pass, rowed, either_pass, leave_on, leave_call, scope_pass, call_pass, next_pass, body_ends, leave_loop, decided, tested, apart, arm_of, unrolled, in_body, lone, joint_turn, is_stable, next_head, dropped, settled, from_head, last_turns, joint_rounds, loop_pass, pass, pass_all, body_pass, bodies_pass, faults_at_end, report_of}
+use Rattle.ep_pass.specs.Pass.{Ways, none, Log, Pass, ends, so_far, branch, alarms_at, jumps, way_of, simple_pass}
+use Rattle.ep_pass.specs.Pass.{join_on, go_on, join_ways, then_pass, rowed, either_pass, leave_on, leave_call}
+use Rattle.ep_pass.specs.Pass.{scope_pass, call_pass, next_pass, body_ends, leave_loop, decided, tested, apart}
+use Rattle.ep_pass.specs.Pass.{arm_of, unrolled, in_body, lone, joint_turn, is_stable, next_head, dropped, settled}
+use Rattle.ep_pass.specs.Pass.{from_head, last_turns, joint_rounds, loop_pass, pass, pass_all, body_pass, bodies_pass}
+use Rattle.ep_pass.specs.Pass.{faults_at_end, report_of}
 use Rattle.ep_pass_laws.proofs.Text.{callee_at}
 use Rattle.ep_pass_laws.proofs.Placing.{placed_both, gathered_placed}
 use Rattle.ep_kinds.specs.Tame.{is_tame_expr, is_tame_dest, is_tame_what, are_tame, are_tame_types, is_tame}
-use Rattle.ep_tame_laws.specs.Tamely.{is_undefined, IfReached, AreAmong, result_block, IsAlike, GivesGood, Tamely, IsUndefinedOnly}
+use Rattle.ep_tame_laws.specs.Tamely.{is_undefined, IfReached, AreAmong, result_block, IsAlike, GivesGood, Tamely}
+use Rattle.ep_tame_laws.specs.Tamely.{IsUndefinedOnly}
 
 -- ---- alarms
 

@@ -1,1 +1,3 @@
+pub mod Laws
+pub mod PartLaws
 pub mod Tamely

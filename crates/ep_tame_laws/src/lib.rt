@@ -1,4 +1,6 @@
-//! What the report on a tame program may say, whatever is kept of a state: laws alone.
+//! Tame programs: where their places lie, and their reports. Laws alone.
 #![tactic(auto)]
 
 pub mod laws;
+pub mod part_laws;
+pub mod row_laws;

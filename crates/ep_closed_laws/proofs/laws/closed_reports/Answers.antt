@@ -1,6 +1,6 @@
 use Rattle.std.specs.Prelude.{[]}
 use Rattle.ep_core.specs.Runs.{left, right}
-use Rattle.ep_bounded_laws.proofs.Steps.{ends_alike}
+use Rattle.ep_closed_laws.proofs.Steps.{ends_alike}
 use Rattle.ep_closed_laws.specs.Closely.{Held}
 use Rattle.ep_closed_laws.proofs.Lift.{exactly}
 use Rattle.ep_closed_laws.proofs.Exact.{closed_report}

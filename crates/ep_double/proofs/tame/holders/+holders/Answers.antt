@@ -3,10 +3,13 @@ use Rattle.std.proofs.lemmas.Bool.{eqb-true, eqb-false}
 use Rattle.ep_layout.specs.declared.types.Member.{Member}
 use Rattle.ep_layout.specs.Views.{view_member, view_members}
 use Rattle.ep_double.specs.Holders.{is_array}
-use Rattle.ep_double.proofs.Insides.{void_is, number_is, pointer_is, element_holds, element_known, element_lower, aggregate_there, has_one, member_lower}
-use Rattle.ep_double.proofs.Answered.{row_at, no_members, rows_there, rows_lower, other_found, part_there, part_is_array, as_part, next_spared, next_none, none_all}
+use Rattle.ep_double.proofs.Insides.{void_is, number_is, pointer_is, element_holds, element_known, element_lower}
+use Rattle.ep_double.proofs.Insides.{aggregate_there, has_one, member_lower}
+use Rattle.ep_double.proofs.Answered.{row_at, no_members, rows_there, rows_lower, other_found, part_there}
+use Rattle.ep_double.proofs.Answered.{part_is_array, as_part, next_spared, next_none, none_all}
 use Rattle.ep_double.proofs.tame.holders.+holders.Goals as goal
-use Rattle.ep_double.proofs.tame.holders.+holders.Goals.{other_has-else-i-spared-via-then-i-spared+else-has_array, other_has-else-i-spared-via-else-i-spared}
+use Rattle.ep_double.proofs.tame.holders.+holders.Goals.{other_has-else-i-spared-via-then-i-spared+else-has_array}
+use Rattle.ep_double.proofs.tame.holders.+holders.Goals.{other_has-else-i-spared-via-else-i-spared}
 
 pub look_at-members-members-requires : goal.look_at-members-members-requires
 look_at-members-members-requires t c =

@@ -1,3 +1,0 @@
-pub mod WaysIn
-pub mod GrowsIn
-pub mod Steps

@@ -1,2 +1,0 @@
-//! Worked rows of kinds of programs.
-#![tactic(auto)]

@@ -1,2 +1,0 @@
-pub mod Unparted
-pub mod Over

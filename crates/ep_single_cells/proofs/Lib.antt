@@ -1,4 +1,0 @@
-pub mod Covers
-pub mod Kills
-pub mod Narrows
-pub mod Overwrites

@@ -1,0 +1,5 @@
+pub mod Places
+pub mod Loads
+pub mod Truths
+pub mod Moves
+pub mod Elements

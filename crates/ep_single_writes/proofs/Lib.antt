@@ -1,3 +1,0 @@
-pub mod OneSplit
-pub mod Splits
-pub mod Replaces

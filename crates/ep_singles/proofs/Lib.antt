@@ -1,0 +1,10 @@
+pub mod Sums
+pub mod Bytes
+pub mod Settled
+pub mod Covers
+pub mod Kills
+pub mod Narrows
+pub mod Overwrites
+pub mod OneSplit
+pub mod Splits
+pub mod Replaces

@@ -1,5 +1,0 @@
-use Rattle.ep_tame_blocks.proofs.Entered.{block_laws_of}
-use Rattle.ep_tame_blocks.proofs.block_laws.Goals as goal
-
-pub returns : goal.returns
-returns g c = block_laws_of g.N.Num.ops

@@ -1,5 +1,0 @@
-use Rattle.ep_tame_heads.proofs.Heads.{head_laws_of}
-use Rattle.ep_tame_heads.proofs.head_laws.Goals as goal
-
-pub returns : goal.returns
-returns g c = head_laws_of g.N.Num.ops g.met.N.Num.laws

@@ -1,0 +1,4 @@
+pub mod Parts
+pub mod Pairs
+pub mod Intervals
+pub mod Classes

@@ -1,2 +1,0 @@
-pub mod LeavesIn
-pub mod Parts

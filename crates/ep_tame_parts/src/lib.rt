@@ -1,4 +1,0 @@
-//! Objects within objects, where there are no unions: laws alone.
-#![tactic(auto)]
-
-pub mod laws;

@@ -1,0 +1,4 @@
+pub mod Alone
+pub mod Lines
+pub mod Points
+pub mod Targets
