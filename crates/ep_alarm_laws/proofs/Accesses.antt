@@ -11,7 +11,8 @@ use Rattle.ep_domain.specs.Domain.{Ops}
 use Rattle.ep_cells.specs.States.{Known}
 use Rattle.ep_core.specs.Program.{Place, block, deref, member, element, Program}
 use Rattle.ep_core.specs.WellFormed.{place_has, has_scalar, ty_at}
-use Rattle.ep_pass.specs.Places.{is_through, is_indexed, is_one_of, address_kinds, access_kinds, kinds_if, place_may, expr_may, target_may}
+use Rattle.ep_pass.specs.Places.{is_through, is_indexed, is_one_of, address_kinds, access_kinds, kinds_if, place_may}
+use Rattle.ep_pass.specs.Places.{expr_may, target_may}
 use Rattle.ep_equalities.specs.declared.pair.Mode.{Mode}
 use Rattle.ep_equalities.specs.declared.pair.PairValue.{PairValue}
 use Rattle.ep_evaluation.specs.Given.{faults_on}

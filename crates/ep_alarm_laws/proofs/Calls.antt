@@ -1,5 +1,6 @@
 -- The faults of arguments and of results are of kinds that their text may have.
-use Rattle.std.proofs.Common.{◌≡◌, ℕ, Bool, true, false, ◌&&◌, nat_eq, List, [], ◌∷◌, ◌++◌, slice_get, Option, Some, None, IfSome, option_to_list, refl, ◌∙◌}
+use Rattle.std.proofs.Common.{◌≡◌, ℕ, Bool, true, false, ◌&&◌, nat_eq, List, [], ◌∷◌, ◌++◌, slice_get, Option, Some}
+use Rattle.std.proofs.Common.{None, IfSome, option_to_list, refl, ◌∙◌}
 use Rattle.std.specs.Option.{option_map_or}
 use Rattle.std.specs.List.{list_all}
 use Rattle.std.proofs.lemmas.Bool.{and_parts, or_left, or_right}
@@ -12,7 +13,8 @@ use Rattle.ep_domain.specs.Domain.{Ops, Lawful}
 use Rattle.ep_cells.specs.States.{Known}
 use Rattle.ep_core.specs.Program.{Expr, Dest, Function, Program}
 use Rattle.ep_core.specs.Exec.{first_of, frame_of}
-use Rattle.ep_core.specs.WellFormed.{has_scalar, ty_at, has_type, place_has, can_take, takes_result, block_type, result_type, holds_scalar, arguments_fit}
+use Rattle.ep_core.specs.WellFormed.{has_scalar, ty_at, has_type, place_has, can_take, takes_result, block_type}
+use Rattle.ep_core.specs.WellFormed.{result_type, holds_scalar, arguments_fit}
 use Rattle.ep_core.proofs.Sorts.{type_where}
 use Rattle.ep_pass.specs.Places.{is_kind, is_one_of, read_kinds, expr_may, exprs_may, target_may, result_may}
 use Rattle.ep_equalities.specs.declared.pair.Mode.{Mode}
@@ -22,7 +24,8 @@ use Rattle.ep_evaluation.specs.Given.{Given}
 use Rattle.ep_evaluation.specs.Evaluation.{place}
 use Rattle.ep_transfers.specs.Places.{aligned_faults}
 use Rattle.ep_transfers.specs.Transfers.{stepped, assigned, to_block, sizes, gives, entered, differ_faults}
-use Rattle.ep_transfers.specs.Calls.{given_all, faults_of_all, bound, waiting, loaded_result, received_as, arguments_step, result_step}
+use Rattle.ep_transfers.specs.Calls.{given_all, faults_of_all, bound, waiting, loaded_result, received_as}
+use Rattle.ep_transfers.specs.Calls.{arguments_step, result_step}
 use Rattle.ep_transfers.specs.Ends.{is_sure_result, ended_faults}
 use Rattle.ep_alarm_laws.proofs.Named.{AreKinds}
 use Rattle.ep_alarm_laws.proofs.Allowed.{AccessesAllowed}

@@ -1,6 +1,8 @@
 -- Where numbers keep strides, all offsets of a place that a declaration names, or of a part of one, also at an index,
 -- are multiples of its alignment.
-use Rattle.std.proofs.Common.{◌≡◌, ℕ, zero, suc, ◌*◌, ◌%◌, ◌/◌, ◌≤◌, ◌<◌, ℤ, pos, ◌+ℤ◌, Bool, true, false, ◌&&◌, not, nat_eq, nat_le, if◌then◌else◌, IsTrue, List, [], ◌∷◌, slice_get, Option, Some, None, option_map, option_and_then, IfSome, refl, sym, ap, ◌∙◌, subst, arith}
+use Rattle.std.proofs.Common.{◌≡◌, ℕ, zero, suc, ◌*◌, ◌%◌, ◌/◌, ◌≤◌, ◌<◌, ℤ, pos, ◌+ℤ◌, Bool, true, false, ◌&&◌, not}
+use Rattle.std.proofs.Common.{nat_eq, nat_le, if◌then◌else◌, IsTrue, List, [], ◌∷◌, slice_get, Option, Some, None}
+use Rattle.std.proofs.Common.{option_map, option_and_then, IfSome, refl, sym, ap, ◌∙◌, subst, arith}
 use Rattle.std.proofs.lemmas.Bool.{and_parts, leb-true, le-leb}
 use Rattle.ep_int.specs.declared.types.Scalar.{Scalar}
 use Rattle.ep_int.specs.Types.{size_of, residue}
@@ -19,12 +21,15 @@ use Rattle.ep_cells.specs.declared.cell.Value.TheVariants.{Ptr}
 use Rattle.ep_core.specs.Exec.{greatest_offset}
 use Rattle.ep_core.specs.Program.{Place, block, deref, member, element, Expr, Program}
 use Rattle.ep_core.specs.Runs.{Side}
-use Rattle.ep_core.specs.WellFormed.{is_number, is_length, is_int, int_type_of, has_sort, is_named, block_has, has_member, has_scalar, is_array_of, has_bound, some_type, ty_at, place_has, is_well_formed}
+use Rattle.ep_core.specs.WellFormed.{is_number, is_length, is_int, int_type_of, has_sort, is_named, block_has}
+use Rattle.ep_core.specs.WellFormed.{has_member, has_scalar, is_array_of, has_bound, some_type, ty_at, place_has}
+use Rattle.ep_core.specs.WellFormed.{is_well_formed}
 use Rattle.ep_core.proofs.Sorts.{never, three, type_where}
 use Rattle.ep_pass.specs.Places.{is_through}
 use Rattle.ep_equalities.specs.declared.pair.Mode.{Mode}
 use Rattle.ep_evaluation.specs.Given.{runs, on, shown_if}
-use Rattle.ep_evaluation.specs.Accesses.{is_some_odd, holds_odd, may_be_odd, moved_by, element_of, element_targets, index_in}
+use Rattle.ep_evaluation.specs.Accesses.{is_some_odd, holds_odd, may_be_odd, moved_by, element_of, element_targets}
+use Rattle.ep_evaluation.specs.Accesses.{index_in}
 use Rattle.ep_evaluation.specs.Evaluation.{pointer, number, targets_of, offset_number, formless, place, expression}
 use Rattle.ep_transfers.specs.Transfers.{sizes}
 use Rattle.ep_alarm_laws.specs.Laws.{ProductsKeepStrides}

@@ -8,23 +8,33 @@ use Rattle.ep_alarms.specs.declared.types.AlarmKind.{AlarmKind}
 use Rattle.ep_alarms.specs.declared.types.AlarmKind.TheVariants.{U4, U5, U6, U7, U8, U10}
 use Rattle.ep_domain.specs.Domain.{Ops, Lawful}
 use Rattle.ep_cells.specs.States.{Known}
-use Rattle.ep_core.specs.Program.{Place, block, deref, member, element, Expr, const, null_value, load, addr_of, binary, convert, compare, ptr_compare, logical_and, logical_or, logical_not, conditional, ptr_add, cast, Program}
-use Rattle.ep_core.specs.WellFormed.{Sort, integer, pointer_to, is_integer, is_pointer_where, sort_of, is_sort, ty_at, has_scalar, is_array_of, has_bound, has_member, is_number, is_length, int_type_of, right_type, is_int, some_type, is_pointer, is_test, place_has, has_sort}
+use Rattle.ep_core.specs.Program.{Place, block, deref, member, element, Expr, const, null_value, load, addr_of}
+use Rattle.ep_core.specs.Program.{binary, convert, compare, ptr_compare, logical_and, logical_or, logical_not}
+use Rattle.ep_core.specs.Program.{conditional, ptr_add, cast, Program}
+use Rattle.ep_core.specs.WellFormed.{Sort, integer, pointer_to, is_integer, is_pointer_where, sort_of, is_sort, ty_at}
+use Rattle.ep_core.specs.WellFormed.{has_scalar, is_array_of, has_bound, has_member, is_number, is_length}
+use Rattle.ep_core.specs.WellFormed.{int_type_of, right_type, is_int, some_type, is_pointer, is_test, place_has}
+use Rattle.ep_core.specs.WellFormed.{has_sort}
 use Rattle.ep_layout.specs.Table.{size}
 use Rattle.ep_core.proofs.Sorts.{three, either_is, int_where, type_where, pointer_where, tested_where}
-use Rattle.ep_pass.specs.Places.{is_one_of, operator_kinds, order_kinds, read_kinds, access_kinds, address_kinds, expr_may, place_may, target_may}
+use Rattle.ep_pass.specs.Places.{is_one_of, operator_kinds, order_kinds, read_kinds, access_kinds, address_kinds}
+use Rattle.ep_pass.specs.Places.{expr_may, place_may, target_may}
 use Rattle.ep_equalities.specs.declared.pair.Mode.{Mode}
 use Rattle.ep_equalities.specs.declared.pair.Fault.{Fault}
 use Rattle.ep_equalities.specs.declared.pair.PairValue.{PairValue}
 use Rattle.ep_evaluation.specs.Given.{Given, is_both, mode_where, on, faults_on, shown_if}
-use Rattle.ep_evaluation.specs.Accesses.{bounds_of, may_be_odd, is_unset, is_mixed, moves_null, move_leaves, index_leaves, element_passes}
+use Rattle.ep_evaluation.specs.Accesses.{bounds_of, may_be_odd, is_unset, is_mixed, moves_null, move_leaves}
+use Rattle.ep_evaluation.specs.Accesses.{index_leaves, element_passes}
 use Rattle.ep_evaluation.specs.Operators.{may_be, kind_of}
-use Rattle.ep_evaluation.specs.Evaluation.{Means, same, number, pointer, targets_of, is_null, reads_at, load_faults, binary_shown, truths, given_in, given_where, state_for, later, later_faults, expression, place}
+use Rattle.ep_evaluation.specs.Evaluation.{Means, same, number, pointer, targets_of, is_null, reads_at, load_faults}
+use Rattle.ep_evaluation.specs.Evaluation.{binary_shown, truths, given_in, given_where, state_for, later}
+use Rattle.ep_evaluation.specs.Evaluation.{later_faults, expression, place}
 use Rattle.ep_transfers.specs.Places.{aligned_faults}
 use Rattle.ep_transfers.specs.Transfers.{sizes}
 use Rattle.ep_alarm_laws.proofs.Named.{AreKinds, member_faults}
 use Rattle.ep_alarm_laws.proofs.Allowed.{AccessesAllowed}
-use Rattle.ep_alarm_laws.proofs.FaultKinds.{both_kinds, first_kinds, second_kinds, wider_kinds, one_kind, operator_kind, order_kind}
+use Rattle.ep_alarm_laws.proofs.FaultKinds.{both_kinds, first_kinds, second_kinds, wider_kinds, one_kind}
+use Rattle.ep_alarm_laws.proofs.FaultKinds.{operator_kind, order_kind}
 use Rattle.ep_alarm_laws.proofs.Models.{IfModel, Keeps, keeps, state_model}
 
 -- a place of some type, behind `&`

@@ -12,13 +12,18 @@ use Rattle.ep_cells.specs.declared.cell.Cell.{Cell}
 use Rattle.ep_cells.specs.declared.cell.Value.{Value}
 use Rattle.ep_cells.specs.declared.cell.Value.TheVariants.{Num, Ptr}
 use Rattle.ep_cells.specs.States.{Known}
-use Rattle.ep_core.specs.Program.{Expr, const, null_value, load, addr_of, binary, convert, compare, ptr_compare, logical_and, logical_or, logical_not, conditional, ptr_add, cast}
+use Rattle.ep_core.specs.Program.{Expr, const, null_value, load, addr_of, binary, convert, compare, ptr_compare}
+use Rattle.ep_core.specs.Program.{logical_and, logical_or, logical_not, conditional, ptr_add, cast}
 use Rattle.ep_core.specs.Runs.{Side, left, right}
 use Rattle.ep_equalities.specs.declared.pair.Mode.{Mode}
 use Rattle.ep_equalities.specs.declared.pair.Mode.TheVariants.{Both, Left, Right}
 use Rattle.ep_evaluation.specs.Given.{Given, on, alone, are_sure}
-use Rattle.ep_evaluation.specs.Narrowed.{then_with, either_of, again, when_not, met, refined, null_taken, null_met, null_refined, narrowed_by, numbers_narrowed, null_side, says_alike, answer, pointers_narrowed}
-use Rattle.ep_evaluation.specs.Evaluation.{ToCell, Means, number, pointer, value_narrowed, if_sure, test_assumed, assumed, state_for, short_assumed, compare_means, pointers_means, expression}
+use Rattle.ep_evaluation.specs.Narrowed.{then_with, either_of, again, when_not, met, refined, null_taken, null_met}
+use Rattle.ep_evaluation.specs.Narrowed.{null_refined, narrowed_by, numbers_narrowed, null_side, says_alike, answer}
+use Rattle.ep_evaluation.specs.Narrowed.{pointers_narrowed}
+use Rattle.ep_evaluation.specs.Evaluation.{ToCell, Means, number, pointer, value_narrowed, if_sure, test_assumed}
+use Rattle.ep_evaluation.specs.Evaluation.{assumed, state_for, short_assumed, compare_means, pointers_means}
+use Rattle.ep_evaluation.specs.Evaluation.{expression}
 use Rattle.ep_cell_ranges.specs.Narrow.{with_value}
 
 module _ {N : Type 0} (D : Ops N) (d : Model) where

@@ -1,6 +1,9 @@
 -- A place that a declaration names, or a part of one without an index, lies at one offset of its block, inside of it
 -- and at a multiple of its alignment.
-use Rattle.std.proofs.Common.{◌≡◌, ℕ, zero, suc, ◌+◌, ◌*◌, ◌%◌, ◌≤◌, ◌<◌, ℤ, pos, ◌-ℤ◌, Bool, true, false, ◌&&◌, ◌||◌, not, nat_eq, nat_le, int_lt, if◌then◌else◌, List, [], ◌∷◌, ◌++◌, map, slice_get, unwrap_or, sum_by, Option, Some, None, option_map, Ok, Err, MatchResult, IsSomeAnd, refl, sym, ap, ◌∙◌, subst, arith}
+use Rattle.std.proofs.Common.{◌≡◌, ℕ, zero, suc, ◌+◌, ◌*◌, ◌%◌, ◌≤◌, ◌<◌, ℤ, pos, ◌-ℤ◌, Bool, true, false, ◌&&◌, ◌||◌}
+use Rattle.std.proofs.Common.{not, nat_eq, nat_le, int_lt, if◌then◌else◌, List, [], ◌∷◌, ◌++◌, map, slice_get}
+use Rattle.std.proofs.Common.{unwrap_or, sum_by, Option, Some, None, option_map, Ok, Err, MatchResult, IsSomeAnd}
+use Rattle.std.proofs.Common.{refl, sym, ap, ◌∙◌, subst, arith}
 use Rattle.std.specs.Prelude.{unsigned_abs}
 use Rattle.std.specs.List.{list_all}
 use Rattle.std.proofs.lemmas.Int.{ints}
@@ -20,14 +23,16 @@ use Rattle.ep_alarms.specs.declared.types.AlarmKind.{AlarmKind}
 use Rattle.ep_alarms.specs.declared.types.AlarmKind.TheVariants.{U5, U6, U7}
 use Rattle.ep_domain.specs.Domain.{Ops, IsSingle, Lawful}
 use Rattle.ep_pointers.specs.Value.{Pointers, one_target}
-use Rattle.ep_pointers.specs.Sum.{move, moved_offset, bytes_of, offsets_and, cut_to, put, of_targets, exact_ends, exact_range, leaves, shown_of}
+use Rattle.ep_pointers.specs.Sum.{move, moved_offset, bytes_of, offsets_and, cut_to, put, of_targets, exact_ends}
+use Rattle.ep_pointers.specs.Sum.{exact_range, leaves, shown_of}
 use Rattle.ep_pointers.proofs.Moving.{in_range_true, offset_in_range, offset_of_some_type}
 use Rattle.ep_cells.specs.States.{Known}
 use Rattle.ep_cells.specs.declared.cell.Value.TheVariants.{Ptr}
 use Rattle.ep_core.specs.Exec.{greatest_offset}
 use Rattle.ep_core.specs.Program.{Block, Place, block, deref, member, element, Program}
 use Rattle.ep_core.specs.Runs.{Side, left, right}
-use Rattle.ep_core.specs.WellFormed.{is_number, is_named, block_has, has_member, has_scalar, ty_at, place_has, block_fits, is_well_formed}
+use Rattle.ep_core.specs.WellFormed.{is_number, is_named, block_has, has_member, has_scalar, ty_at, place_has}
+use Rattle.ep_core.specs.WellFormed.{block_fits, is_well_formed}
 use Rattle.ep_core.proofs.Operands.{sizes as blocks_of}
 use Rattle.ep_core.proofs.Sorts.{all_at, never, type_where}
 use Rattle.ep_pass.specs.Places.{is_through, is_indexed}
@@ -36,7 +41,8 @@ use Rattle.ep_equalities.specs.declared.pair.Mode.TheVariants.{Both, Left, Right
 use Rattle.ep_equalities.specs.declared.pair.Fault.{Fault}
 use Rattle.ep_equalities.specs.declared.pair.SideValue.{SideValue}
 use Rattle.ep_evaluation.specs.Given.{runs, on, pair_on, Shown, fault_of, faults_on, shown_if, shows_if}
-use Rattle.ep_evaluation.specs.Accesses.{leaves_block, bounds_of, is_some_odd, holds_odd, may_be_odd, moved_by, move_leaves, moves_null}
+use Rattle.ep_evaluation.specs.Accesses.{leaves_block, bounds_of, is_some_odd, holds_odd, may_be_odd, moved_by}
+use Rattle.ep_evaluation.specs.Accesses.{move_leaves, moves_null}
 use Rattle.ep_evaluation.specs.Evaluation.{pointer, targets_of, is_null, offset_number, formless, place}
 use Rattle.ep_transfers.specs.Places.{range_faults, aligned_faults}
 use Rattle.ep_transfers.specs.Transfers.{sizes}

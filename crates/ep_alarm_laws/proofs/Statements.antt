@@ -1,5 +1,6 @@
 -- The faults of typed statements, of arguments and of results are of kinds that their text may have.
-use Rattle.std.proofs.Common.{◌≡◌, ℕ, zero, suc, ◌+◌, Bool, true, false, ◌&&◌, ◌||◌, not, if◌then◌else◌, List, [], ◌∷◌, ◌++◌, slice_get, Option, Some, None, is_some, option_to_list, refl}
+use Rattle.std.proofs.Common.{◌≡◌, ℕ, zero, suc, ◌+◌, Bool, true, false, ◌&&◌, ◌||◌, not, if◌then◌else◌, List, []}
+use Rattle.std.proofs.Common.{◌∷◌, ◌++◌, slice_get, Option, Some, None, is_some, option_to_list, refl}
 use Rattle.std.specs.List.{list_all}
 use Rattle.std.proofs.lemmas.Bool.{and_parts, or_left, or_right}
 use Rattle.ep_int.specs.declared.types.IntType.{IntType}
@@ -12,12 +13,16 @@ use Rattle.ep_alarms.specs.declared.types.AlarmKind.{AlarmKind}
 use Rattle.ep_alarms.specs.declared.types.AlarmKind.TheVariants.{U4, U5, U6, U9, U10, E1, E2}
 use Rattle.ep_domain.specs.Domain.{Ops, Lawful}
 use Rattle.ep_cells.specs.States.{Known}
-use Rattle.ep_core.specs.Program.{Place, Expr, Dest, Simple, nothing, eval, assign, clear, copy_aggregate, copy_bytes, fill, input, output, read_bytes, write_bytes, returns, Program}
-use Rattle.ep_core.specs.WellFormed.{integer, pointer_to, has_scalar, ty_at, place_has, has_sort, has_type, is_tested, is_address, is_length, int_type_of, some_type, takes_input, result_type, block_type, holds_scalar, result_fits, simple_fits}
+use Rattle.ep_core.specs.Program.{Place, Expr, Dest, Simple, nothing, eval, assign, clear, copy_aggregate, copy_bytes}
+use Rattle.ep_core.specs.Program.{fill, input, output, read_bytes, write_bytes, returns, Program}
+use Rattle.ep_core.specs.WellFormed.{integer, pointer_to, has_scalar, ty_at, place_has, has_sort, has_type, is_tested}
+use Rattle.ep_core.specs.WellFormed.{is_address, is_length, int_type_of, some_type, takes_input, result_type}
+use Rattle.ep_core.specs.WellFormed.{block_type, holds_scalar, result_fits, simple_fits}
 use Rattle.ep_core.proofs.Sorts.{three, type_where, pointer_where, tested_where, typed_where}
 use Rattle.ep_pass.specs.States.{Mode as PassMode, Both as BothRun, One}
 use Rattle.ep_pass.specs.Honest.{is_alone}
-use Rattle.ep_pass.specs.Places.{is_one_of, read_kinds, address_kinds, access_kinds, expr_may, place_may, target_may, alone_kinds, simple_may}
+use Rattle.ep_pass.specs.Places.{is_one_of, read_kinds, address_kinds, access_kinds, expr_may, place_may, target_may}
+use Rattle.ep_pass.specs.Places.{alone_kinds, simple_may}
 use Rattle.ep_core.specs.Runs.{left, right}
 use Rattle.ep_equalities.specs.declared.pair.Mode.{Mode}
 use Rattle.ep_equalities.specs.declared.pair.Mode.TheVariants.{Both, Left, Right}
@@ -29,7 +34,9 @@ use Rattle.ep_evaluation.specs.Evaluation.{place}
 use Rattle.ep_transfers.specs.Places.{Places, has_places, has_values, places_of, range_faults, aligned_faults}
 use Rattle.ep_transfers.specs.Cells.{mode_of}
 use Rattle.ep_transfers.specs.Copies.{Leaves, overlap_faults}
-use Rattle.ep_transfers.specs.Transfers.{Stepped, stepped, alone_faults, differ_faults, differs, differs_if, byte_pair, byte_faults, bytes_out, assigned, copy, written_out, to_block, sizes, gives, bytes_of_type, input_pair, simple_step}
+use Rattle.ep_transfers.specs.Transfers.{Stepped, stepped, alone_faults, differ_faults, differs, differs_if}
+use Rattle.ep_transfers.specs.Transfers.{byte_pair, byte_faults, bytes_out, assigned, copy, written_out, to_block}
+use Rattle.ep_transfers.specs.Transfers.{sizes, gives, bytes_of_type, input_pair, simple_step}
 use Rattle.ep_alarm_laws.proofs.Named.{AreKinds}
 use Rattle.ep_alarm_laws.proofs.Allowed.{AccessesAllowed}
 use Rattle.ep_alarm_laws.proofs.FaultKinds.{both_kinds, wider_kinds, no_kinds, one_kind}

@@ -1,5 +1,7 @@
 -- Parts of the types of a table that was built lie inside the whole, at multiples of their alignment.
-use Rattle.std.proofs.Common.{◌≡◌, ℕ, zero, suc, ◌+◌, ◌*◌, ◌%◌, ◌≤◌, max, nat_eq, Bool, true, false, ◌&&◌, if◌then◌else◌, List, [], ◌∷◌, slice_get, Option, Some, None, option_map, option_and_then, refl, sym, ap, ◌∙◌, subst, ◌⊎◌, inl, inr, arith}
+use Rattle.std.proofs.Common.{◌≡◌, ℕ, zero, suc, ◌+◌, ◌*◌, ◌%◌, ◌≤◌, max, nat_eq, Bool, true, false, ◌&&◌}
+use Rattle.std.proofs.Common.{if◌then◌else◌, List, [], ◌∷◌, slice_get, Option, Some, None, option_map}
+use Rattle.std.proofs.Common.{option_and_then, refl, sym, ap, ◌∙◌, subst, ◌⊎◌, inl, inr, arith}
 use Rattle.std.specs.List.{All, list_any}
 use Rattle.std.specs.Int.{next_multiple_of}
 use Rattle.std.proofs.lemmas.Bool.{and_parts, eqb-true}
@@ -12,8 +14,10 @@ use Rattle.ep_int.specs.declared.types.IntType.TheVariants.{I8, U8, I16, U16, I3
 use Rattle.ep_int.specs.Types.{size_of}
 use Rattle.ep_layout.specs.declared.types.Ty.{Ty}
 use Rattle.ep_layout.specs.declared.types.Ty.TheVariants as ty
-use Rattle.ep_layout.specs.Layout.{Layout, scalar_layout, array_layout, struct_layout, union_layout, end_of, greatest_align, greatest_size}
-use Rattle.ep_layout.specs.Table.{Table, MemberRow, AggregateRow, IsBuilt, at_each, at_type, at_aggregate, layout_of, layout_rules, has_member_at}
+use Rattle.ep_layout.specs.Layout.{Layout, scalar_layout, array_layout, struct_layout, union_layout, end_of}
+use Rattle.ep_layout.specs.Layout.{greatest_align, greatest_size}
+use Rattle.ep_layout.specs.Table.{Table, MemberRow, AggregateRow, IsBuilt, at_each, at_type, at_aggregate, layout_of}
+use Rattle.ep_layout.specs.Table.{layout_rules, has_member_at}
 use Rattle.ep_layout.proofs.Options.{and_then_some, at_each_some, map_some, same_some}
 use Rattle.ep_layout.proofs.Laid.{by_type_is}
 use Rattle.ep_layout.proofs.Recursion.{types_of}

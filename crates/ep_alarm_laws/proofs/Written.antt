@@ -1,5 +1,6 @@
 -- Writes change no data model.
-use Rattle.std.proofs.Common.{◌≡◌, ℕ, Bool, true, false, ◌&&◌, if◌then◌else◌, List, [], ◌∷◌, slice_get, None, IfSome, refl, ◌∙◌}
+use Rattle.std.proofs.Common.{◌≡◌, ℕ, Bool, true, false, ◌&&◌, if◌then◌else◌, List, [], ◌∷◌, slice_get, None, IfSome}
+use Rattle.std.proofs.Common.{refl, ◌∙◌}
 use Rattle.ep_int.specs.declared.types.Scalar.{Scalar}
 use Rattle.ep_bitslice.specs.declared.cell.Side.{Side as CellSide}
 use Rattle.ep_bitslice.specs.declared.cell.Side.TheVariants as cell_side
@@ -20,7 +21,9 @@ use Rattle.ep_cell_ranges.specs.Ranges.{cut_on}
 use Rattle.ep_cell_ranges.specs.Spots.{Spot, is_same_spot, all_spots}
 use Rattle.ep_int.specs.Types.{size_of}
 use Rattle.ep_transfers.specs.Places.{Places, has_places, has_values, places_of}
-use Rattle.ep_transfers.specs.Writes.{Underway, underway, item_of, strongly, weakly, weakly_each, side_cell, write_side, write_sides, shared_cell, write_shared, write_shared_each, write_same, write_both, write, write_now}
+use Rattle.ep_transfers.specs.Writes.{Underway, underway, item_of, strongly, weakly, weakly_each, side_cell}
+use Rattle.ep_transfers.specs.Writes.{write_side, write_sides, shared_cell, write_shared, write_shared_each}
+use Rattle.ep_transfers.specs.Writes.{write_same, write_both, write, write_now}
 use Rattle.ep_transfers.specs.Transfers.{if_goes_on, assigned, killed_block, killed_blocks, cells_of_mode, entered}
 
 module _ {N : Type 0} (D : Ops N) where

@@ -1,12 +1,15 @@
 -- The text of a report determines its alarms.
-use Rattle.std.proofs.Common.{◌≡◌, ℕ, zero, suc, Bool, if◌then◌else◌, ◌==◌, List, [], ◌∷◌, ◌++◌, ℤ, codes, decimal, get_or, length, flat_map, All, FitsSigned, refl, sym, ap, ◌∙◌, subst, arith, append_assoc, ne_eqb}
+use Rattle.std.proofs.Common.{◌≡◌, ℕ, zero, suc, Bool, if◌then◌else◌, ◌==◌, List, [], ◌∷◌, ◌++◌, ℤ, codes, decimal}
+use Rattle.std.proofs.Common.{get_or, length, flat_map, All, FitsSigned, refl, sym, ap, ◌∙◌, subst, arith}
+use Rattle.std.proofs.Common.{append_assoc, ne_eqb}
 use Rattle.std.specs.Fmt.{signed_decimal}
 use Rattle.std.specs.Int.{w128}
 use Rattle.std.proofs.lemmas.List.{append_cancel_left}
 use Rattle.std.proofs.lemmas.List.Elements.{All-head, All-tail}
 use Rattle.ep_alarms.specs.declared.types.Alarm.{Alarm}
 use Rattle.ep_alarms.specs.declared.types.AlarmKind.{AlarmKind}
-use Rattle.ep_alarms.specs.declared.types.AlarmKind.TheVariants.{U1, U2, U3, U4, U5, U6, U7, U8, U9, U10, E1, E2, E3, E4}
+use Rattle.ep_alarms.specs.declared.types.AlarmKind.TheVariants.{U1, U2, U3, U4, U5, U6, U7, U8, U9, U10, E1, E2, E3}
+use Rattle.ep_alarms.specs.declared.types.AlarmKind.TheVariants.{E4}
 use Rattle.ep_alarms.specs.Alarm.{FitsTypes, name_of}
 use Rattle.ep_alarms.specs.Text.{range_text, line_text, last_line, report_text_of}
 use Rattle.ep_alarms.proofs.Decimals.{decimal_read, decimal_digits, split_at_mark, signed_read}

@@ -1,5 +1,7 @@
 -- Where an alarm goes in a report, and what the report is then.
-use Rattle.std.proofs.Common.{◌≡◌, ℕ, ◌<◌, ◌≤◌, zero, suc, Bool, true, false, ltb, eqb, ◌||◌, arith, refl, subst, IsTrue, List, [], ◌∷◌, length, ◌-◌, eq-zero-or-pos, get_or, set, insert, if◌then◌else◌, ◌⊎◌, inl, inr}
+use Rattle.std.proofs.Common.{◌≡◌, ℕ, ◌<◌, ◌≤◌, zero, suc, Bool, true, false, ltb, eqb, ◌||◌, arith, refl, subst}
+use Rattle.std.proofs.Common.{IsTrue, List, [], ◌∷◌, length, ◌-◌, eq-zero-or-pos, get_or, set, insert, if◌then◌else◌}
+use Rattle.std.proofs.Common.{◌⊎◌, inl, inr}
 use Rattle.std.specs.List.Sorted.{IsPartitionedBy}
 use Rattle.std.proofs.lemmas.Bool.Decides.{nat_tests}
 use Rattle.std.proofs.Math.Bool.{or-true}

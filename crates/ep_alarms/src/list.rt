@@ -1,4 +1,5 @@
-// The list of a report, kept in order.
+//! The list of a report, kept in order.
+
 ghost use Rattle.std.specs.Prelude.{◌≡◌, List, [], IsTrue, OnOk, OnErr, IsOk, length, ◌≤◌, ◌↔◌, All, Contains, IsFalse};
 ghost use Rattle.ep_alarms.specs.declared.types.Alarm.{Alarm};
 ghost use Rattle.ep_alarms.specs.Alarm.{FitsTypes, stand_together};
@@ -39,7 +40,8 @@ impl Alarms {
         ensures ok { OnOk result (self.new ≡ added self.old a) }
         ensures err { OnErr result (self.new ≡ self.old) }
         // The alarms of every other line and kind stay.
-        ensures others { OnOk result ((b : Alarm) → IsFalse (stand_together b a) → Contains self.new b ↔ Contains self.old b) }
+        ensures others { OnOk result ((b : Alarm) → IsFalse (stand_together b a)
+            → Contains self.new b ↔ Contains self.old b) }
         ensures widens { IsTrue (has_place self.old a) → IsOk result }
     {
         let place = place_of(&self.alarms, &a);

@@ -1,4 +1,5 @@
-// The text of a report.
+//! The text of a report.
+
 ghost use Rattle.std.specs.Prelude.{◌≡◌, List, ◌++◌, IfOk, OnOk, All};
 ghost use Rattle.ep_alarms.specs.declared.types.Alarm.{Alarm};
 ghost use Rattle.ep_alarms.specs.Alarm.{FitsTypes};
@@ -15,7 +16,8 @@ pub fn report_text(alloc: Global, a: &Alarms) -> Result<Vec<u8>, Memory>
     ensures text { IfOk result (λ v. v.items ≡ report_text_of a.now) }
 
     // Different lists of alarms have different texts.
-    ensures determines { (other : List Alarm) → All FitsTypes other → report_text_of other ≡ report_text_of a.now → other ≡ a.now }
+    ensures determines { (other : List Alarm) → All FitsTypes other
+        → report_text_of other ≡ report_text_of a.now → other ≡ a.now }
 {
     text_of(alloc, a.list()).map_err(|_| Memory)
 }

@@ -1,4 +1,5 @@
-// What an alarm is, and where it stands in a report.
+//! What an alarm is, and where it stands in a report.
+
 ghost use Rattle.std.specs.Prelude.{◌≡◌};
 ghost use Rattle.ep_alarms.specs.Alarm.{before, joined, least_range, name_of};
 

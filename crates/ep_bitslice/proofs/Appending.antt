@@ -1,10 +1,15 @@
 -- A form with one segment more.
-use Rattle.std.proofs.Common.{◌≡◌, ℕ, zero, suc, ◌+◌, ◌-◌, ◌<◌, ◌≤◌, Bool, true, false, nat_le, cond, List, [], ◌∷◌, ◌++◌, length, Option, Some, None, sym, refl, ap, ◌∙◌, arith, append_assoc, length-append}
+use Rattle.std.proofs.Common.{◌≡◌, ℕ, zero, suc, ◌+◌, ◌-◌, ◌<◌, ◌≤◌, Bool, true, false, nat_le, cond, List, [], ◌∷◌}
+use Rattle.std.proofs.Common.{◌++◌, length, Option, Some, None, sym, refl, ap, ◌∙◌, arith, append_assoc}
+use Rattle.std.proofs.Common.{length-append}
 use Rattle.std.specs.Option.{option_map_or}
 use Rattle.ep_bitslice.specs.declared.segment.Segment.{Segment}
 use Rattle.ep_bitslice.specs.Bits.{Bit, fixed, cell_bit}
-use Rattle.ep_bitslice.specs.Segments.{segment_bits, bits, segment_width, width, joined, put_before, bit_segment, normal, form_of, IsSegment, AreSegments, IsApart, AreApart, IsForm, IsAppended, TooMany}
-use Rattle.ep_bitslice.proofs.Joining.{joined_above, IsShape, shape, shape-joined, bits-joined, segment-joined, length-segment_bits}
+use Rattle.ep_bitslice.specs.Segments.{segment_bits, bits, segment_width, width, joined, put_before, bit_segment}
+use Rattle.ep_bitslice.specs.Segments.{normal, form_of, IsSegment, AreSegments, IsApart, AreApart, IsForm, IsAppended}
+use Rattle.ep_bitslice.specs.Segments.{TooMany}
+use Rattle.ep_bitslice.proofs.Joining.{joined_above, IsShape, shape, shape-joined, bits-joined, segment-joined}
+use Rattle.ep_bitslice.proofs.Joining.{length-segment_bits}
 use Rattle.ep_bitslice.proofs.NormalForm.{put_after, form_is_normal, normal-append, fewer_in_front}
 
 -- ---- widths

@@ -1,5 +1,7 @@
 -- What the functions on segments answer.
-use Rattle.std.proofs.Common.{◌≡◌, ℕ, ◌+◌, ◌-◌, ◌*◌, ◌/◌, ◌%◌, ◌^◌, ◌<◌, ◌≤◌, Bool, true, false, ◌&&◌, nat_eq, cond, List, ◌++◌, length, take, drop, append_assoc, bit_and, bit_or, Option, Some, None, IfSome, IfNone, sym, refl, ap, ◌∙◌, subst, arith, eqb-true}
+use Rattle.std.proofs.Common.{◌≡◌, ℕ, ◌+◌, ◌-◌, ◌*◌, ◌/◌, ◌%◌, ◌^◌, ◌<◌, ◌≤◌, Bool, true, false, ◌&&◌, nat_eq, cond}
+use Rattle.std.proofs.Common.{List, ◌++◌, length, take, drop, append_assoc, bit_and, bit_or, Option, Some, None}
+use Rattle.std.proofs.Common.{IfSome, IfNone, sym, refl, ap, ◌∙◌, subst, arith, eqb-true}
 use Rattle.std.specs.Int.{w64, trailing_zeros, trailing_ones}
 use Rattle.std.proofs.lemmas.List.{take-append-drop}
 use Rattle.std.proofs.lemmas.Nat.{pow_pos, mod_below, shr_below, or_lt}
@@ -7,11 +9,16 @@ use Rattle.std.proofs.Math.Nat.{pow-le-pow_right, mod-eq_of_lt}
 use Rattle.ep_bitslice.specs.declared.cell.CellName.{CellName}
 use Rattle.ep_bitslice.specs.declared.segment.Segment.{Segment}
 use Rattle.ep_bitslice.specs.declared.segment.Segment.TheVariants.{Bits, Fixed}
-use Rattle.ep_bitslice.specs.Bits.{Bit, zeros, masked, are_disjoint, either_of, renamed_cell, renamed, mentions, is_same_cell}
+use Rattle.ep_bitslice.specs.Bits.{Bit, zeros, masked, are_disjoint, either_of, renamed_cell, renamed, mentions}
+use Rattle.ep_bitslice.specs.Bits.{is_same_cell}
 use Rattle.ep_bitslice.specs.Segments.{fixed_bits, run_bits, segment_bits, segment_width, joined, IsSegment}
 use Rattle.ep_bitslice.proofs.Joining.{shape-joined, length-segment_bits, length-run_bits}
 use Rattle.ep_bitslice.proofs.Operations.{length_take}
-use Rattle.ep_bitslice.proofs.Pieces.{take-fixed_bits, drop-fixed_bits, take-run_bits, drop-run_bits, fixed_bits-mod, low_ones, fixed_zeros, masked-ones, masked-zeros, zeros_below, ones_below, disjoint-fixed, either-fixed, either-zeros, run-zeros, disjoint-run, run-disjoint, runs-meet, disjoint-append, renamed-fixed, renamed-run, mentions-fixed, mentions-run}
+use Rattle.ep_bitslice.proofs.Pieces.{take-fixed_bits, drop-fixed_bits, take-run_bits, drop-run_bits, fixed_bits-mod}
+use Rattle.ep_bitslice.proofs.Pieces.{low_ones, fixed_zeros, masked-ones, masked-zeros, zeros_below, ones_below}
+use Rattle.ep_bitslice.proofs.Pieces.{disjoint-fixed, either-fixed, either-zeros, run-zeros, disjoint-run}
+use Rattle.ep_bitslice.proofs.Pieces.{run-disjoint, runs-meet, disjoint-append, renamed-fixed, renamed-run}
+use Rattle.ep_bitslice.proofs.Pieces.{mentions-fixed, mentions-run}
 
 -- ---- without the lowest bits
 

@@ -1,5 +1,6 @@
 -- The normal form of bits: made from either end, of no more segments than a longer one, and the only one.
-use Rattle.std.proofs.Common.{◌≡◌, ℕ, zero, suc, ◌+◌, ◌-◌, ◌*◌, ◌/◌, ◌%◌, ◌^◌, ◌<◌, ◌≤◌, nat_eq, cond, List, [], ◌∷◌, ◌++◌, length, take, drop, Option, Some, None, sym, refl, ap, ◌∙◌, arith, append_assoc}
+use Rattle.std.proofs.Common.{◌≡◌, ℕ, zero, suc, ◌+◌, ◌-◌, ◌*◌, ◌/◌, ◌%◌, ◌^◌, ◌<◌, ◌≤◌, nat_eq, cond, List, [], ◌∷◌}
+use Rattle.std.proofs.Common.{◌++◌, length, take, drop, Option, Some, None, sym, refl, ap, ◌∙◌, arith, append_assoc}
 use Rattle.std.proofs.lemmas.List.{take-append-drop}
 use Rattle.std.proofs.Math.Nat.{pow-suc}
 use Rattle.std.specs.Option.{option_map_or}
@@ -7,7 +8,8 @@ use Rattle.ep_bitslice.specs.declared.cell.CellName.{CellName}
 use Rattle.ep_bitslice.specs.declared.segment.Segment.{Segment}
 use Rattle.ep_bitslice.specs.declared.segment.Segment.TheVariants.{Bits, Fixed}
 use Rattle.ep_bitslice.specs.Bits.{Bit, is_odd, part_of}
-use Rattle.ep_bitslice.specs.Segments.{fixed_bits, run_bits, segment_bits, bits, joined, put_before, bit_segment, normal, IsSegment, AreSegments, IsApart, AreApart, IsForm}
+use Rattle.ep_bitslice.specs.Segments.{fixed_bits, run_bits, segment_bits, bits, joined, put_before, bit_segment}
+use Rattle.ep_bitslice.specs.Segments.{normal, IsSegment, AreSegments, IsApart, AreApart, IsForm}
 use Rattle.ep_bitslice.proofs.Joining.{joined_both, joined_below, joined_above, cell_itself, eq_self}
 
 -- one segment more, above

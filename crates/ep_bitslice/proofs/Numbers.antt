@@ -1,5 +1,6 @@
 -- The number of a form, by its bits.
-use Rattle.std.proofs.Common.{◌≡◌, ℕ, zero, suc, ◌+◌, ◌-◌, ◌*◌, ◌/◌, ◌%◌, ◌^◌, ◌<◌, ℤ, pos, negsuc, true, false, nat_eq, cond, List, [], ◌∷◌, ◌++◌, length, sym, refl, ap, ◌∙◌, subst, arith, add-zero}
+use Rattle.std.proofs.Common.{◌≡◌, ℕ, zero, suc, ◌+◌, ◌-◌, ◌*◌, ◌/◌, ◌%◌, ◌^◌, ◌<◌, ℤ, pos, negsuc, true, false}
+use Rattle.std.proofs.Common.{nat_eq, cond, List, [], ◌∷◌, ◌++◌, length, sym, refl, ap, ◌∙◌, subst, arith, add-zero}
 use Rattle.std.proofs.lemmas.Nat.{pow_pos, pow-add, mod_low, mod_below, field_of, shr-shr, shr_below}
 use Rattle.std.proofs.Math.Nat.{pow-suc}
 use Rattle.std.proofs.Math.Pow.{mod-mod-pow}
@@ -9,7 +10,8 @@ use Rattle.ep_bitslice.specs.declared.cell.CellName.{CellName}
 use Rattle.ep_bitslice.specs.declared.segment.Segment.{Segment}
 use Rattle.ep_bitslice.specs.declared.segment.Segment.TheVariants.{Bits, Fixed}
 use Rattle.ep_bitslice.specs.Bits.{Bit, fixed, cell_bit, Numbers, bit_of, digit, number_of_bits, is_odd}
-use Rattle.ep_bitslice.specs.Segments.{fixed_bits, run_bits, segment_bits, bits, segment_number, number, IsSegment, AreSegments}
+use Rattle.ep_bitslice.specs.Segments.{fixed_bits, run_bits, segment_bits, bits, segment_number, number, IsSegment}
+use Rattle.ep_bitslice.specs.Segments.{AreSegments}
 use Rattle.ep_bitslice.proofs.Joining.{length-segment_bits}
 
 -- ---- bits of a whole number

@@ -1,9 +1,14 @@
 -- What each operation on bits does to their number.
-use Rattle.std.proofs.Common.{◌≡◌, ℕ, zero, suc, ◌+◌, ◌-◌, ◌*◌, ◌/◌, ◌%◌, ◌^◌, ◌<◌, ◌≤◌, Bool, true, false, ◌&&◌, ◌||◌, nat_eq, cond, List, [], ◌∷◌, ◌++◌, length, take, drop, bit_and, bit_or, sym, refl, ap, ◌∙◌, subst, arith, length-drop}
+use Rattle.std.proofs.Common.{◌≡◌, ℕ, zero, suc, ◌+◌, ◌-◌, ◌*◌, ◌/◌, ◌%◌, ◌^◌, ◌<◌, ◌≤◌, Bool, true, false, ◌&&◌}
+use Rattle.std.proofs.Common.{◌||◌, nat_eq, cond, List, [], ◌∷◌, ◌++◌, length, take, drop, bit_and, bit_or, sym, refl}
+use Rattle.std.proofs.Common.{ap, ◌∙◌, subst, arith, length-drop}
 use Rattle.std.proofs.lemmas.List.{take-append-drop}
-use Rattle.std.proofs.lemmas.Nat.{pow_pos, mod_low, shr_high, mod-pow-add, shl-shr, and_block, and_le_l, and_le_r, or_disjoint}
+use Rattle.std.proofs.lemmas.Nat.{pow_pos, mod_low, shr_high, mod-pow-add, shl-shr, and_block, and_le_l, and_le_r}
+use Rattle.std.proofs.lemmas.Nat.{or_disjoint}
 use Rattle.ep_bitslice.specs.declared.cell.CellName.{CellName}
-use Rattle.ep_bitslice.specs.Bits.{Bit, fixed, cell_bit, Numbers, bit_of, digit, number_of_bits, zeros, part_of, shifted_left, shifted_right, extended, masked, is_zero, are_disjoint, either_of, is_same_cell, renamed_bit, renamed, is_bit_of, mentions, AgreeOn}
+use Rattle.ep_bitslice.specs.Bits.{Bit, fixed, cell_bit, Numbers, bit_of, digit, number_of_bits, zeros, part_of}
+use Rattle.ep_bitslice.specs.Bits.{shifted_left, shifted_right, extended, masked, is_zero, are_disjoint, either_of}
+use Rattle.ep_bitslice.specs.Bits.{is_same_cell, renamed_bit, renamed, is_bit_of, mentions, AgreeOn}
 use Rattle.ep_bitslice.proofs.Joining.{same_cell, cell_itself}
 use Rattle.ep_bitslice.proofs.Numbers.{number_below, number-append, digit_below}
 

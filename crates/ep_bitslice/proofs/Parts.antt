@@ -1,11 +1,15 @@
 -- Parts of a form's bits, and what is left to do on a walk along them.
-use Rattle.std.proofs.Common.{◌≡◌, ℕ, zero, suc, ◌+◌, ◌-◌, ◌/◌, ◌^◌, ◌<◌, ◌≤◌, Bool, true, false, ◌&&◌, cond, List, [], ◌∷◌, ◌++◌, length, get_or, take, drop, length-drop, Option, Some, None, sym, refl, ap, ◌∙◌, subst, arith, append_assoc, length-append}
+use Rattle.std.proofs.Common.{◌≡◌, ℕ, zero, suc, ◌+◌, ◌-◌, ◌/◌, ◌^◌, ◌<◌, ◌≤◌, Bool, true, false, ◌&&◌, cond, List}
+use Rattle.std.proofs.Common.{[], ◌∷◌, ◌++◌, length, get_or, take, drop, length-drop, Option, Some, None, sym, refl}
+use Rattle.std.proofs.Common.{ap, ◌∙◌, subst, arith, append_assoc, length-append}
 use Rattle.std.proofs.lemmas.List.{take-append-drop}
 use Rattle.std.proofs.lemmas.Nat.{shr-shr}
 use Rattle.ep_bitslice.specs.declared.cell.CellName.{CellName}
 use Rattle.ep_bitslice.specs.declared.segment.Segment.{Segment}
-use Rattle.ep_bitslice.specs.Bits.{Bit, Numbers, number_of_bits, zeros, part_of, shifted_left, shifted_right, extended, masked, are_disjoint, either_of, renamed}
-use Rattle.ep_bitslice.specs.Segments.{segment_bits, bits, segment_width, width, number, normal, form_of, IsSegment, IsForm, IsAppended, IsEitherFront, TooMany}
+use Rattle.ep_bitslice.specs.Bits.{Bit, Numbers, number_of_bits, zeros, part_of, shifted_left, shifted_right}
+use Rattle.ep_bitslice.specs.Bits.{extended, masked, are_disjoint, either_of, renamed}
+use Rattle.ep_bitslice.specs.Segments.{segment_bits, bits, segment_width, width, number, normal, form_of, IsSegment}
+use Rattle.ep_bitslice.specs.Segments.{IsForm, IsAppended, IsEitherFront, TooMany}
 use Rattle.ep_bitslice.proofs.Joining.{length-segment_bits}
 use Rattle.ep_bitslice.proofs.NormalForm.{put_after, form_is_normal, normal-append, after_le, fewer_in_part}
 use Rattle.ep_bitslice.proofs.Appending.{length-bits, full_with, form_of-bits, form_of-too_many}

@@ -1,12 +1,16 @@
 -- Parts of segments, and segments one over the other.
-use Rattle.std.proofs.Common.{◌≡◌, ℕ, zero, suc, ◌+◌, ◌-◌, ◌*◌, ◌/◌, ◌%◌, ◌^◌, ◌<◌, ◌≤◌, Bool, true, false, not, ◌&&◌, ◌||◌, nat_eq, cond, List, [], ◌∷◌, ◌++◌, length, take, drop, bit_and, bit_or, sym, refl, ap, ◌∙◌, subst, arith, add-zero, ◌⊎◌, inl, inr, ⊎_elim}
+use Rattle.std.proofs.Common.{◌≡◌, ℕ, zero, suc, ◌+◌, ◌-◌, ◌*◌, ◌/◌, ◌%◌, ◌^◌, ◌<◌, ◌≤◌, Bool, true, false, not, ◌&&◌}
+use Rattle.std.proofs.Common.{◌||◌, nat_eq, cond, List, [], ◌∷◌, ◌++◌, length, take, drop, bit_and, bit_or, sym, refl}
+use Rattle.std.proofs.Common.{ap, ◌∙◌, subst, arith, add-zero, ◌⊎◌, inl, inr, ⊎_elim}
 use Rattle.std.specs.Int.{bit_at, w64, trailing_zeros, trailing_ones}
 use Rattle.std.specs.Int.Count.{trailing_of_zero}
 use Rattle.std.proofs.lemmas.Nat.{pow_pos, and_mask, and_block, or_block, and_le_l, shr-shr, mod_below, mod-mul-add}
-use Rattle.std.proofs.lemmas.Nat.Bits.{bit_at_lowest, bit_at-suc, bit_at-zero, bit_at-trailing_zeros, bit_at-trailing_ones, bit_at_ones, ones_shr}
+use Rattle.std.proofs.lemmas.Nat.Bits.{bit_at_lowest, bit_at-suc, bit_at-zero, bit_at-trailing_zeros}
+use Rattle.std.proofs.lemmas.Nat.Bits.{bit_at-trailing_ones, bit_at_ones, ones_shr}
 use Rattle.std.proofs.Math.Nat.{pow-suc}
 use Rattle.ep_bitslice.specs.declared.cell.CellName.{CellName}
-use Rattle.ep_bitslice.specs.Bits.{Bit, fixed, cell_bit, zeros, is_odd, masked, is_zero, are_disjoint, either_of, is_same_cell, renamed_cell, renamed_bit, renamed, is_bit_of, mentions}
+use Rattle.ep_bitslice.specs.Bits.{Bit, fixed, cell_bit, zeros, is_odd, masked, is_zero, are_disjoint, either_of}
+use Rattle.ep_bitslice.specs.Bits.{is_same_cell, renamed_cell, renamed_bit, renamed, is_bit_of, mentions}
 use Rattle.ep_bitslice.specs.Segments.{fixed_bits, run_bits}
 
 -- ---- the lowest bits, and those above them

@@ -1,12 +1,15 @@
 -- A walk over the segments of a form, and its last segment.
-use Rattle.std.proofs.Common.{◌≡◌, ℕ, zero, suc, ◌+◌, ◌-◌, ◌^◌, ◌<◌, ◌≤◌, ℤ, unsigned_abs, false, List, [], ◌∷◌, ◌++◌, length, get_or, drop, drop-cons, add-one, Some, None, sym, refl, ap, ◌∙◌, subst, arith, append_assoc, length-append}
+use Rattle.std.proofs.Common.{◌≡◌, ℕ, zero, suc, ◌+◌, ◌-◌, ◌^◌, ◌<◌, ◌≤◌, ℤ, unsigned_abs, false, List, [], ◌∷◌, ◌++◌}
+use Rattle.std.proofs.Common.{length, get_or, drop, drop-cons, add-one, Some, None, sym, refl, ap, ◌∙◌, subst, arith}
+use Rattle.std.proofs.Common.{append_assoc, length-append}
 use Rattle.std.specs.Option.{option_map_or}
 use Rattle.ep_int.specs.declared.types.IntType.{IntType}
 use Rattle.ep_int.specs.declared.types.IntType.TheVariants.{I8, U8, I16, U16, I32, U32, I64, U64}
 use Rattle.ep_int.specs.Types.{bits_of, is_signed, residue, representation, wrapped}
 use Rattle.ep_bitslice.specs.declared.segment.Segment.{Segment}
 use Rattle.ep_bitslice.specs.Bits.{Bit}
-use Rattle.ep_bitslice.specs.Segments.{segment_bits, bits, segment_width, width, joined, IsSegment, AreSegments, IsForm, IsAppended, TooMany}
+use Rattle.ep_bitslice.specs.Segments.{segment_bits, bits, segment_width, width, joined, IsSegment, AreSegments}
+use Rattle.ep_bitslice.specs.Segments.{IsForm, IsAppended, TooMany}
 use Rattle.ep_bitslice.proofs.Joining.{length-segment_bits}
 use Rattle.ep_bitslice.proofs.NormalForm.{put_after}
 use Rattle.ep_bitslice.proofs.Appending.{appended, full}

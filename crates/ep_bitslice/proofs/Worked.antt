@@ -1,11 +1,13 @@
 -- The definitions on worked values.
-use Rattle.std.proofs.Common.{◌≡◌, ℕ, ℤ, pos, negsuc, true, false, cond, List, [], ◌∷◌, length, Option, Some, None, refl}
+use Rattle.std.proofs.Common.{◌≡◌, ℕ, ℤ, pos, negsuc, true, false, cond, List, [], ◌∷◌, length, Option, Some, None}
+use Rattle.std.proofs.Common.{refl}
 use Rattle.ep_int.specs.declared.types.IntType.TheVariants.{U8, U16, U32, U64}
 use Rattle.ep_bitslice.specs.declared.cell.Side.TheVariants.{Left, Right, Shared}
 use Rattle.ep_bitslice.specs.declared.cell.CellName.{CellName}
 use Rattle.ep_bitslice.specs.declared.segment.Segment.{Segment}
 use Rattle.ep_bitslice.specs.declared.segment.Segment.TheVariants.{Bits, Fixed}
-use Rattle.ep_bitslice.specs.Bits.{bit_of, part_of, shifted_left, shifted_right, extended, masked, renamed, mentions, is_same_cell}
+use Rattle.ep_bitslice.specs.Bits.{bit_of, part_of, shifted_left, shifted_right, extended, masked, renamed, mentions}
+use Rattle.ep_bitslice.specs.Bits.{is_same_cell}
 use Rattle.ep_bitslice.specs.Segments.{bits, number, joined, normal, form_of, concat_of, or_of}
 
 abbrev short : CellName

@@ -1,5 +1,6 @@
 -- Forms as lists of segments, the lowest first, and their normal form.
-use Rattle.std.specs.Prelude.{◌≡◌, ℕ, zero, suc, ◌+◌, ◌-◌, ◌*◌, ◌/◌, ◌^◌, ◌<◌, ◌≤◌, ◌&&◌, nat_eq, nat_le, if◌then◌else◌, List, [], ◌∷◌, ◌++◌, length, take, true, Option, Some, None}
+use Rattle.std.specs.Prelude.{◌≡◌, ℕ, zero, suc, ◌+◌, ◌-◌, ◌*◌, ◌/◌, ◌^◌, ◌<◌, ◌≤◌, ◌&&◌, nat_eq, nat_le}
+use Rattle.std.specs.Prelude.{if◌then◌else◌, List, [], ◌∷◌, ◌++◌, length, take, true, Option, Some, None}
 use Rattle.std.specs.Option.{option_map_or}
 use Rattle.ep_int.specs.Types.{residue}
 use Rattle.ep_bitslice.specs.declared.cell.CellName.{CellName}

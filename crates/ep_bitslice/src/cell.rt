@@ -1,3 +1,5 @@
+//! Names of integer cells: a side, a place and a type.
+
 use ep_int::IntType;
 
 /// Whose memory a cell is part of.

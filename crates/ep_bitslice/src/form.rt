@@ -1,9 +1,12 @@
 //! Forms.
 
-ghost use Rattle.std.specs.Prelude.{◌≡◌, ℕ, ◌+◌, ◌-◌, ◌*◌, ◌/◌, ◌%◌, ◌^◌, ◌<◌, ◌≤◌, true, false, IsTrue, ◌↔◌, List, [], ◌∷◌, ◌++◌, length, drop, IfSome, bit_and, bit_or};
+ghost use Rattle.std.specs.Prelude.{◌≡◌, ℕ, ◌+◌, ◌-◌, ◌*◌, ◌/◌, ◌%◌, ◌^◌, ◌<◌, ◌≤◌, true, false, IsTrue, ◌↔◌, List};
+ghost use Rattle.std.specs.Prelude.{[], ◌∷◌, ◌++◌, length, drop, IfSome, bit_and, bit_or};
 ghost use Rattle.ep_int.specs.Types.{bits_of, is_signed, InRange, representation};
-ghost use Rattle.ep_bitslice.specs.Bits.{Numbers, zeros, part_of, shifted_left, shifted_right, extended, masked, either_of, renamed, mentions, AgreeOn};
-ghost use Rattle.ep_bitslice.specs.Segments.{bits, bits as the_bits, normal, IsAppended, segment_bits, width, segment_width, number, form_of, concat_of, or_of, IsSegment, TooMany};
+ghost use Rattle.ep_bitslice.specs.Bits.{Numbers, zeros, part_of, shifted_left, shifted_right, extended, masked};
+ghost use Rattle.ep_bitslice.specs.Bits.{either_of, renamed, mentions, AgreeOn};
+ghost use Rattle.ep_bitslice.specs.Segments.{bits, bits as the_bits, normal, IsAppended, segment_bits, width};
+ghost use Rattle.ep_bitslice.specs.Segments.{segment_width, number, form_of, concat_of, or_of, IsSegment, TooMany};
 
 use crate::{CellName, Segment};
 use arrayvec::ArrayVec;

@@ -1,7 +1,9 @@
 //! Segments, and what becomes of their bits.
 
-ghost use Rattle.std.specs.Prelude.{◌≡◌, ◌+◌, ◌-◌, ◌<◌, ◌≤◌, true, false, ◌∷◌, ◌++◌, List, take, drop, Some, None, ◌==◌, if◌then◌else◌, bit_and, bit_or, IfSome, IfNone};
-ghost use Rattle.ep_bitslice.specs.Bits.{Bit, masked, are_disjoint, either_of, renamed_cell, renamed, mentions, is_same_cell};
+ghost use Rattle.std.specs.Prelude.{◌≡◌, ◌+◌, ◌-◌, ◌<◌, ◌≤◌, true, false, ◌∷◌, ◌++◌, List, take, drop, Some, None};
+ghost use Rattle.std.specs.Prelude.{◌==◌, if◌then◌else◌, bit_and, bit_or, IfSome, IfNone};
+ghost use Rattle.ep_bitslice.specs.Bits.{Bit, masked, are_disjoint, either_of, renamed_cell, renamed, mentions};
+ghost use Rattle.ep_bitslice.specs.Bits.{is_same_cell};
 ghost use Rattle.ep_bitslice.specs.Segments.{segment_bits, segment_width, joined, IsSegment, IsEitherFront};
 
 use crate::CellName;

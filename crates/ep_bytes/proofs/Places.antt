@@ -1,11 +1,14 @@
 -- Reads and writes of places, as the memory of a store has them.
-use Rattle.std.proofs.Common.{◌≡◌, ℕ, ◌+◌, ◌%◌, ◌<◌, ◌≤◌, ◌≢◌, ◌⊎◌, ⊎_elim, inl, inr, ℤ, unsigned_abs, Bool, true, false, ◌&&◌, nat_eq, nat_lt, if◌then◌else◌, List, length, take, drop, map, refl, sym, ◌∙◌, ap, subst, arith}
+use Rattle.std.proofs.Common.{◌≡◌, ℕ, ◌+◌, ◌%◌, ◌<◌, ◌≤◌, ◌≢◌, ◌⊎◌, ⊎_elim, inl, inr, ℤ, unsigned_abs, Bool, true}
+use Rattle.std.proofs.Common.{false, ◌&&◌, nat_eq, nat_lt, if◌then◌else◌, List, length, take, drop, map, refl, sym}
+use Rattle.std.proofs.Common.{◌∙◌, ap, subst, arith}
 use Rattle.std.specs.List.{list_any}
 use Rattle.std.proofs.lemmas.Bool.{ltb-false, eq-eqb, and_cases}
 use Rattle.ep_int.specs.declared.types.Order.{Order}
 use Rattle.ep_int.specs.declared.types.Scalar.{Scalar}
 use Rattle.ep_int.specs.Types.{size_of}
-use Rattle.ep_int.specs.Memory.{Byte, broken, replaced, loaded, Found, bytes_from, is_undefined, value_of_bytes, faults, uninitialised}
+use Rattle.ep_int.specs.Memory.{Byte, broken, replaced, loaded, Found, bytes_from, is_undefined, value_of_bytes}
+use Rattle.ep_int.specs.Memory.{faults, uninitialised}
 use Rattle.ep_bytes.specs.declared.types.Byte.{Byte as Cell}
 use Rattle.ep_bytes.specs.declared.cells.Place.{Place}
 use Rattle.ep_bytes.specs.declared.store.Block.{Block}

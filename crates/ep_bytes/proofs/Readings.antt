@@ -1,10 +1,12 @@
 -- The value of some bytes, as the code reads them.
-use Rattle.std.proofs.Common.{◌≡◌, ℕ, zero, suc, ◌+◌, ◌<◌, ◌≤◌, List, [], ◌∷◌, length, map, take, drop, slice_index_or, if◌then◌else◌, refl, sym, ◌∙◌, ap, subst, arith, drop-cons}
+use Rattle.std.proofs.Common.{◌≡◌, ℕ, zero, suc, ◌+◌, ◌<◌, ◌≤◌, List, [], ◌∷◌, length, map, take, drop}
+use Rattle.std.proofs.Common.{slice_index_or, if◌then◌else◌, refl, sym, ◌∙◌, ap, subst, arith, drop-cons}
 use Rattle.ep_int.specs.declared.types.IntType.{IntType}
 use Rattle.ep_int.specs.declared.types.Order.{Order}
 use Rattle.ep_int.specs.Types.{bytes_of}
 use Rattle.ep_int.specs.Encoding.{decoded}
-use Rattle.ep_int.specs.Memory.{Byte, undefined, has, faults, pointer, pointer_part, pointer_in, are_parts, number_in, number_of, bytes_from}
+use Rattle.ep_int.specs.Memory.{Byte, undefined, has, faults, pointer, pointer_part, pointer_in, are_parts, number_in}
+use Rattle.ep_int.specs.Memory.{number_of, bytes_from}
 use Rattle.ep_int.proofs.Encodings.{decoded_same}
 use Rattle.ep_bytes.specs.declared.types.Byte.{Byte as Cell}
 use Rattle.ep_bytes.specs.declared.types.Byte.TheVariants as cell

@@ -1,5 +1,6 @@
 -- Where pointers may be.
-use Rattle.std.proofs.Common.{◌≡◌, ℕ, ◌<◌, ◌≢◌, ◌⊎◌, ⊎_elim, inl, inr, true, List, length, slice_set, sym, ◌∙◌, ap, subst, arith, get_or-set_same, get_or-set_other}
+use Rattle.std.proofs.Common.{◌≡◌, ℕ, ◌<◌, ◌≢◌, ◌⊎◌, ⊎_elim, inl, inr, true, List, length, slice_set, sym, ◌∙◌, ap}
+use Rattle.std.proofs.Common.{subst, arith, get_or-set_same, get_or-set_other}
 use Rattle.std.proofs.lemmas.Bool.{cases_lt}
 use Rattle.ep_bytes.specs.declared.types.Byte.{Byte}
 use Rattle.ep_bytes.specs.declared.types.Byte.TheVariants.{Undefined}

@@ -1,10 +1,13 @@
 -- The memory of a store after a change of its bytes.
-use Rattle.std.proofs.Common.{◌≡◌, ℕ, ◌+◌, ◌-◌, ◌<◌, ◌≤◌, ◌≢◌, ◌⊎◌, ⊎_elim, inl, inr, Bool, true, false, ◌&&◌, ◌||◌, nat_eq, nat_lt, nat_le, if◌then◌else◌, List, [], ◌∷◌, length, slice_set, take, drop, map, refl, sym, ◌∙◌, ap, subst, arith, get_or-set_same, get_or-set_other}
+use Rattle.std.proofs.Common.{◌≡◌, ℕ, ◌+◌, ◌-◌, ◌<◌, ◌≤◌, ◌≢◌, ◌⊎◌, ⊎_elim, inl, inr, Bool, true, false, ◌&&◌, ◌||◌}
+use Rattle.std.proofs.Common.{nat_eq, nat_lt, nat_le, if◌then◌else◌, List, [], ◌∷◌, length, slice_set, take, drop}
+use Rattle.std.proofs.Common.{map, refl, sym, ◌∙◌, ap, subst, arith, get_or-set_same, get_or-set_other}
 use Rattle.std.proofs.lemmas.Bool.{cases_lt, le-ltb, lt-ltb, le-leb, lt-leb, eq-eqb, ne_eqb, and_left, and_right}
 use Rattle.std.proofs.lemmas.List.{get_or_past}
 use mathlib.Core.Path.{fun_ext}
 use Rattle.ep_int.specs.declared.types.Model.{Model}
-use Rattle.ep_int.specs.Memory.{Byte, undefined, number, fragment, lies_partly, broken, replaced, killed, zeroed, forgotten, bytes_from}
+use Rattle.ep_int.specs.Memory.{Byte, undefined, number, fragment, lies_partly, broken, replaced, killed, zeroed}
+use Rattle.ep_int.specs.Memory.{forgotten, bytes_from}
 use Rattle.ep_bytes.specs.declared.types.Byte.{Byte as Cell}
 use Rattle.ep_bytes.specs.declared.types.Byte.TheVariants as cell
 use Rattle.ep_bytes.specs.declared.cells.Place.{Place}

@@ -1,5 +1,6 @@
 -- Bytes written one by one.
-use Rattle.std.proofs.Common.{◌≡◌, ℕ, ◌+◌, ◌<◌, ◌≤◌, ◌≢◌, ⊎_elim, inl, inr, List, length, slice_set, refl, sym, ◌∙◌, ap, subst, arith, below_more, length-set, get_or-set_same, get_or-set_other}
+use Rattle.std.proofs.Common.{◌≡◌, ℕ, ◌+◌, ◌<◌, ◌≤◌, ◌≢◌, ⊎_elim, inl, inr, List, length, slice_set, refl, sym, ◌∙◌}
+use Rattle.std.proofs.Common.{ap, subst, arith, below_more, length-set, get_or-set_same, get_or-set_other}
 use Rattle.ep_bytes.specs.declared.types.Byte.{Byte}
 use Rattle.ep_bytes.specs.declared.types.Byte.TheVariants.{Undefined}
 use Rattle.std.proofs.lemmas.Bool.{cases_lt}

@@ -1,7 +1,9 @@
 -- What a store holds: the bytes of each block.
-use Rattle.std.specs.Prelude.{◌≡◌, ℕ, ◌+◌, ◌<◌, ◌≤◌, ℤ, unsigned_abs, Bool, false, ◌&&◌, not, nat_eq, nat_lt, if◌then◌else◌, Option, Some, None, List, length, slice_index_or}
+use Rattle.std.specs.Prelude.{◌≡◌, ℕ, ◌+◌, ◌<◌, ◌≤◌, ℤ, unsigned_abs, Bool, false, ◌&&◌, not, nat_eq, nat_lt}
+use Rattle.std.specs.Prelude.{if◌then◌else◌, Option, Some, None, List, length, slice_index_or}
 use Rattle.ep_int.specs.declared.types.Model.{Model}
-use Rattle.ep_int.specs.Memory.{Byte, undefined, number, Memory, Kind, bounds, overlap, overlaps, is_outside, range_fault}
+use Rattle.ep_int.specs.Memory.{Byte, undefined, number, Memory, Kind, bounds, overlap, overlaps, is_outside}
+use Rattle.ep_int.specs.Memory.{range_fault}
 use Rattle.ep_bytes.specs.declared.types.Byte.{Byte as Cell}
 use Rattle.ep_bytes.specs.declared.cells.Place.{Place}
 use Rattle.ep_bytes.specs.declared.store.Block.{Block}

@@ -1,9 +1,12 @@
 -- The bytes, values and answers of the code, as those of the definition.
-use Rattle.std.specs.Prelude.{ℕ, ℤ, pos, negsuc, Bool, true, false, Option, Some, None, Result, Ok, Err, ⊤, if◌then◌else◌, unsigned_abs}
+use Rattle.std.specs.Prelude.{ℕ, ℤ, pos, negsuc, Bool, true, false, Option, Some, None, Result, Ok, Err, ⊤}
+use Rattle.std.specs.Prelude.{if◌then◌else◌, unsigned_abs}
 use Rattle.ep_int.specs.declared.types.Scalar.{Scalar}
 use Rattle.ep_int.specs.declared.types.Scalar.TheVariants as scalar
 use Rattle.ep_int.specs.Types.{InRange}
-use Rattle.ep_int.specs.Memory.{Byte, undefined, number, fragment, Value, int, null, pointer, Kind, overflow, division, shift, uninitialised, bounds, null_pointer, alignment, pointer_mix, overlap, pointer_part, Found, has, faults}
+use Rattle.ep_int.specs.Memory.{Byte, undefined, number, fragment, Value, int, null, pointer, Kind, overflow}
+use Rattle.ep_int.specs.Memory.{division, shift, uninitialised, bounds, null_pointer, alignment, pointer_mix, overlap}
+use Rattle.ep_int.specs.Memory.{pointer_part, Found, has, faults}
 use Rattle.ep_alarms.specs.declared.types.AlarmKind.{AlarmKind}
 use Rattle.ep_alarms.specs.declared.types.AlarmKind.TheVariants.{U1, U2, U3, U4, U5, U6, U7, U8, U9, U10}
 use Rattle.ep_bytes.specs.declared.types.Byte.{Byte as Cell}

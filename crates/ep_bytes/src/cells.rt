@@ -1,10 +1,12 @@
 //! A flat buffer of bytes, which knows where pointers to a block may be.
 
-ghost use Rattle.std.specs.Prelude.{◌≡◌, ℕ, ◌+◌, ◌-◌, ◌<◌, ◌≤◌, ◌⊎◌, ◌^◌, [], ◌∷◌, ◌++◌, length, take, drop, slice_set, OnOk, IfOk, ◌&&◌, nat_lt};
+ghost use Rattle.std.specs.Prelude.{◌≡◌, ℕ, ◌+◌, ◌-◌, ◌<◌, ◌≤◌, ◌⊎◌, ◌^◌, [], ◌∷◌, ◌++◌, length, take, drop};
+ghost use Rattle.std.specs.Prelude.{slice_set, OnOk, IfOk, ◌&&◌, nat_lt};
 ghost use Rattle.ep_int.specs.Memory.{lies_partly};
 ghost use Rattle.ep_bytes.specs.declared.types.Byte.TheVariants.{Undefined};
 ghost use Rattle.ep_bytes.specs.Shown.{byte_in};
-ghost use Rattle.ep_bytes.specs.Cells.{cell_at, part_of, without, unbroken, content_at, taken_from, cut_by, IsWritten, IsBroken, IsReplaced};
+ghost use Rattle.ep_bytes.specs.Cells.{cell_at, part_of, without, unbroken, content_at, taken_from, cut_by};
+ghost use Rattle.ep_bytes.specs.Cells.{IsWritten, IsBroken, IsReplaced};
 
 use crate::spans::{Span, cover, forget_in, forget_run};
 use crate::types::Byte;

@@ -1,12 +1,15 @@
 //! The bytes of the blocks of a program.
 
-ghost use Rattle.std.specs.Prelude.{◌≡◌, ℕ, ◌+◌, ◌<◌, ◌≤◌, ◌%◌, ◌^◌, [], ◌∷◌, if◌then◌else◌, length, unsigned_abs, slice_index, IfOk, IfErr, OnOk, OnErr};
-ghost use Rattle.ep_int.specs.Memory.{bytes_of_value, copied, filled, killed, loaded, replaced, store_fault, stored, undefined, zeroed};
+ghost use Rattle.std.specs.Prelude.{◌≡◌, ℕ, ◌+◌, ◌<◌, ◌≤◌, ◌%◌, ◌^◌, [], ◌∷◌, if◌then◌else◌, length, unsigned_abs};
+ghost use Rattle.std.specs.Prelude.{slice_index, IfOk, IfErr, OnOk, OnErr};
+ghost use Rattle.ep_int.specs.Memory.{bytes_of_value, copied, filled, killed, loaded, replaced, store_fault, stored};
+ghost use Rattle.ep_int.specs.Memory.{undefined, zeroed};
 ghost use Rattle.ep_int.specs.declared.types.Model.{Model as Sizes};
 ghost use Rattle.ep_int.specs.Types.{size_of};
 ghost use Rattle.ep_bytes.specs.Shown.{byte_in, fault_at, found_at, read_as, value_in, written_as, Fits};
 ghost use Rattle.ep_bytes.specs.Cells.{content_at};
-ghost use Rattle.ep_bytes.specs.Held.{blank, block_of, copy_fault, count_of, is_same, memory_in, place_fault, size_in, IsExtended, IsLike, IsOutside, IsPlace};
+ghost use Rattle.ep_bytes.specs.Held.{blank, block_of, copy_fault, count_of, is_same, memory_in, place_fault};
+ghost use Rattle.ep_bytes.specs.Held.{size_in, IsExtended, IsLike, IsOutside, IsPlace};
 
 use crate::cells::{Cells, Content, Place};
 use crate::numbers::encode;

@@ -1,5 +1,7 @@
 -- Steps of the search of cycles.
-use Rattle.std.proofs.Common.{◌≡◌, ℕ, zero, suc, ◌+◌, ◌<◌, ◌≤◌, ◌≢◌, nat_eq, Bool, true, false, inl, inr, List, [], ◌∷◌, ◌++◌, length, set, Some, None, refl, sym, ap, ◌∙◌, subst, arith, eq-eqb, get_or-set_same, get_or-set_other, length-append, lt-ltb, le-ltb, map, take, drop}
+use Rattle.std.proofs.Common.{◌≡◌, ℕ, zero, suc, ◌+◌, ◌<◌, ◌≤◌, ◌≢◌, nat_eq, Bool, true, false, inl, inr, List, []}
+use Rattle.std.proofs.Common.{◌∷◌, ◌++◌, length, set, Some, None, refl, sym, ap, ◌∙◌, subst, arith, eq-eqb}
+use Rattle.std.proofs.Common.{get_or-set_same, get_or-set_other, length-append, lt-ltb, le-ltb, map, take, drop}
 use Rattle.ep_call_graph.specs.declared.cycles.Search.{Search}
 use Rattle.ep_call_graph.proofs.Lists.{lt_or_le}
 use Rattle.ep_call_graph.proofs.Marks.{parts, short, pushed}
@@ -11,7 +13,9 @@ use Rattle.ep_call_laws.proofs.Paths.{never, equal}
 use Rattle.ep_call_graph.specs.declared.cycles.Mark.{Mark}
 use Rattle.ep_call_graph.specs.declared.cycles.Mark.TheVariants.{New, Open, Done}
 use Rattle.ep_call_graph.specs.declared.cycles.Group.{Group}
-use Rattle.ep_call_graph.specs.Search.{mark_of, Fit, IsOver, IsUnder, IsLast, Asks, Settled, waits, is_done, is_open, Closed, StandsBut, Stands, IsCalled, IsWaiting, closed_from, tops, AreAll, GoesOn, label_of}
+use Rattle.ep_call_graph.specs.Search.{mark_of, Fit, IsOver, IsUnder, IsLast, Asks, Settled, waits, is_done, is_open}
+use Rattle.ep_call_graph.specs.Search.{Closed, StandsBut, Stands, IsCalled, IsWaiting, closed_from, tops, AreAll}
+use Rattle.ep_call_graph.specs.Search.{GoesOn, label_of}
 use Rattle.ep_call_graph.proofs.Lists.{in_front, behind, first, second, part_of, only, place_of, placed_in}
 
 -- ---- ways

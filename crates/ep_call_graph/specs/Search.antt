@@ -1,6 +1,7 @@
 -- A search of the cycles of calls, along one path. The functions on the path stand in groups, each of which lead to one
 -- another; a group is done when none of its calls waits any more.
-use Rattle.std.specs.Prelude.{◌≡◌, ℕ, ◌<◌, ◌≤◌, nat_lt, if◌then◌else◌, true, List, [], ◌∷◌, Option, Some, None, slice_get, slice_index_or, length}
+use Rattle.std.specs.Prelude.{◌≡◌, ℕ, ◌<◌, ◌≤◌, nat_lt, if◌then◌else◌, true, List, [], ◌∷◌, Option, Some, None}
+use Rattle.std.specs.Prelude.{slice_get, slice_index_or, length}
 use Rattle.ep_int.specs.Memory.{contains}
 use Rattle.ep_call_laws.specs.Leads.{Leads}
 use Rattle.ep_call_graph.specs.declared.cycles.Mark.{Mark}

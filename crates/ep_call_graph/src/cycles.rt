@@ -1,6 +1,7 @@
 //! Which functions lead to one another.
 
-ghost use Rattle.std.specs.Prelude.{◌≡◌, ℕ, ◌+◌, ◌<◌, ◌≤◌, ◌++◌, [], ◌∷◌, Some, None, true, false, OnOk, IfOk, vec_len, slice_get, slice_index, length, map, take};
+ghost use Rattle.std.specs.Prelude.{◌≡◌, ℕ, ◌+◌, ◌<◌, ◌≤◌, ◌++◌, [], ◌∷◌, Some, None, true, false, OnOk, IfOk};
+ghost use Rattle.std.specs.Prelude.{vec_len, slice_get, slice_index, length, map, take};
 ghost use Rattle.ep_call_laws.specs.Leads as rule;
 ghost use Rattle.ep_call_graph.specs.Seen as seen;
 ghost use Rattle.ep_call_graph.specs.Search as search_in;

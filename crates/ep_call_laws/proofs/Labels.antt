@@ -1,5 +1,6 @@
 -- Labels say which calls recur, and rank the functions where none does.
-use Rattle.std.proofs.Common.{◌≡◌, ℕ, zero, suc, ◌+◌, ◌<◌, ◌≤◌, nat_eq, nat_lt, Bool, true, false, cond, List, refl, sym, ◌∙◌, subst, arith, eq-eqb, lt-ltb, ltb-true}
+use Rattle.std.proofs.Common.{◌≡◌, ℕ, zero, suc, ◌+◌, ◌<◌, ◌≤◌, nat_eq, nat_lt, Bool, true, false, cond, List, refl}
+use Rattle.std.proofs.Common.{sym, ◌∙◌, subst, arith, eq-eqb, lt-ltb, ltb-true}
 use Rattle.ep_elaboration.specs.Calls.{Call, callees, reaches}
 use Rattle.ep_call_laws.specs.Leads.{DoesCall, Leads, is_there, calls, IsLabelled, AreAmong, Descends}
 use Rattle.ep_call_laws.proofs.Paths.{never, equal, enough, leads}

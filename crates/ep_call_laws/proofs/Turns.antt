@@ -1,8 +1,10 @@
 -- Where each function calls only those of a smaller rank, more calls than ranks change nothing.
-use Rattle.std.proofs.Common.{◌≡◌, ℕ, zero, suc, ◌<◌, ◌==◌, nat_eq, Bool, true, false, cond, List, [], ◌∷◌, ◌++◌, map, Option, Some, None, refl, sym, ap, ◌∙◌, subst, arith}
+use Rattle.std.proofs.Common.{◌≡◌, ℕ, zero, suc, ◌<◌, ◌==◌, nat_eq, Bool, true, false, cond, List, [], ◌∷◌, ◌++◌, map}
+use Rattle.std.proofs.Common.{Option, Some, None, refl, sym, ap, ◌∙◌, subst, arith}
 use Rattle.std.specs.List.{filter}
 use Rattle.ep_int.specs.Memory.{contains}
-use Rattle.ep_elaboration.specs.Calls.{Call, Place, call_at, callee_depth, callees, calls_of, deepest, function_depth, one_after_another, places_in, unless_come, with_function}
+use Rattle.ep_elaboration.specs.Calls.{Call, Place, call_at, callee_depth, callees, calls_of, deepest, function_depth}
+use Rattle.ep_elaboration.specs.Calls.{one_after_another, places_in, unless_come, with_function}
 use Rattle.ep_call_laws.specs.Leads.{DoesCall, Descends}
 use Rattle.ep_call_laws.proofs.Paths.{left_is, right_is, same}
 

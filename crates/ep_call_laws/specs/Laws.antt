@@ -1,6 +1,7 @@
 -- That the numbers of calls up to which the definitions look are enough.
 use Rattle.std.specs.Prelude.{◌≡◌, ℕ, ◌<◌, nat_eq, true, false, List, []}
-use Rattle.ep_elaboration.specs.Calls.{Call, Place, callees, calls_of, deepest, function_depth, one_after_another, places_in, reaches, unless_come, with_function}
+use Rattle.ep_elaboration.specs.Calls.{Call, Place, callees, calls_of, deepest, function_depth, one_after_another}
+use Rattle.ep_elaboration.specs.Calls.{places_in, reaches, unless_come, with_function}
 use Rattle.ep_call_laws.specs.Leads.{DoesCall, Leads, IsLabelled, AreAmong, Descends, AreInOrder}
 
 -- what is looked for among so many calls is found among all

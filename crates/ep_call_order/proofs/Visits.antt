@@ -1,5 +1,7 @@
 -- Visits of functions, each behind those that it calls.
-use Rattle.std.proofs.Common.{◌≡◌, ℕ, zero, suc, ◌<◌, ◌≤◌, ◌≢◌, nat_eq, Bool, true, false, ◌||◌, cond, inl, inr, List, [], ◌∷◌, ◌++◌, length, set, drop, Some, None, refl, sym, ap, ◌∙◌, subst, arith, eq-eqb, get_or-set_same, get_or-set_other, length-set, Result, Ok, Err, OnOk}
+use Rattle.std.proofs.Common.{◌≡◌, ℕ, zero, suc, ◌<◌, ◌≤◌, ◌≢◌, nat_eq, Bool, true, false, ◌||◌, cond, inl, inr, List}
+use Rattle.std.proofs.Common.{[], ◌∷◌, ◌++◌, length, set, drop, Some, None, refl, sym, ap, ◌∙◌, subst, arith, eq-eqb}
+use Rattle.std.proofs.Common.{get_or-set_same, get_or-set_other, length-set, Result, Ok, Err, OnOk}
 use Rattle.std.specs.Prelude.{slice_get, slice_index_or, vec_len}
 use Rattle.std.specs.Global.{Vec}
 use Rattle.std.proofs.lemmas.List.{nil_from_length}
@@ -10,7 +12,8 @@ use Rattle.ep_call_laws.specs.Leads.{Descends}
 use Rattle.ep_call_laws.proofs.Paths.{never, same, equal, left_is, right_is}
 use Rattle.ep_call_laws.proofs.Turns.{one_more}
 use Rattle.ep_call_order.specs.declared.order_of.Frame.{Frame}
-use Rattle.ep_call_order.specs.Visit.{IsVisit, IsOrder, finished, from_last, frames, AreFlags, AreInside, entered, next_call}
+use Rattle.ep_call_order.specs.Visit.{IsVisit, IsOrder, finished, from_last, frames, AreFlags, AreInside, entered}
+use Rattle.ep_call_order.specs.Visit.{next_call}
 use Rattle.ep_call_graph.specs.Seen.{AreBelow}
 use Rattle.ep_call_graph.proofs.Lists.{lt_or_le, placed_in}
 use Rattle.ep_call_graph.specs.Search.{AreAll}

@@ -1,5 +1,6 @@
 -- Functions in the order of visits: each behind those that it calls.
-use Rattle.std.specs.Prelude.{◌≡◌, ℕ, suc, ◌<◌, if◌then◌else◌, Bool, false, List, [], ◌∷◌, ◌++◌, drop, slice_index_or, length}
+use Rattle.std.specs.Prelude.{◌≡◌, ℕ, suc, ◌<◌, if◌then◌else◌, Bool, false, List, [], ◌∷◌, ◌++◌, drop, slice_index_or}
+use Rattle.std.specs.Prelude.{length}
 use Rattle.ep_int.specs.Memory.{contains}
 use Rattle.ep_elaboration.specs.Calls.{one_after_another, unless_come}
 use Rattle.ep_call_order.specs.declared.order_of.Frame.{Frame}

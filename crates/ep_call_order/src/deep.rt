@@ -1,6 +1,7 @@
 //! How deep statements stand along calls.
 
-ghost use Rattle.std.specs.Prelude.{◌≡◌, ℕ, ◌+◌, ◌<◌, ◌++◌, [], ◌∷◌, ◌==◌, if◌then◌else◌, Some, true, OnOk, IfOk, IfSome, vec_len, slice_index, length};
+ghost use Rattle.std.specs.Prelude.{◌≡◌, ℕ, ◌+◌, ◌<◌, ◌++◌, [], ◌∷◌, ◌==◌, if◌then◌else◌, Some, true, OnOk, IfOk};
+ghost use Rattle.std.specs.Prelude.{IfSome, vec_len, slice_index, length};
 ghost use Rattle.ep_int.specs.Memory.{contains};
 ghost use Rattle.ep_elaboration.specs.Calls as rule;
 ghost use Rattle.ep_call_laws.specs.Leads as laws;

@@ -1,6 +1,7 @@
 //! The order of functions.
 
-ghost use Rattle.std.specs.Prelude.{◌≡◌, ℕ, ◌+◌, ◌<◌, ◌++◌, [], ◌∷◌, List, Some, None, true, OnOk, IfOk, vec_len, slice_get, length, map, drop, All};
+ghost use Rattle.std.specs.Prelude.{◌≡◌, ℕ, ◌+◌, ◌<◌, ◌++◌, [], ◌∷◌, List, Some, None, true, OnOk, IfOk, vec_len};
+ghost use Rattle.std.specs.Prelude.{slice_get, length, map, drop, All};
 ghost use Rattle.ep_int.specs.Memory.{contains};
 ghost use Rattle.ep_elaboration.specs.Calls as rule;
 ghost use Rattle.ep_call_laws.specs.Leads as laws;

@@ -1,8 +1,11 @@
 -- What is found by looking at the cells of a list in turn.
-use Rattle.std.proofs.Common.{◌≡◌, ℕ, zero, suc, ◌+◌, ◌-◌, ◌*◌, ◌<◌, ◌≤◌, Bool, true, false, ◌&&◌, ◌||◌, not, nat_eq, nat_lt, nat_le, cond, ◌↔◌, ◌⊎◌, inl, inr, ⊎_elim, List, [], ◌∷◌, length, get_or, drop, IsTrue, refl, sym, ◌∙◌, ap, subst, arith}
+use Rattle.std.proofs.Common.{◌≡◌, ℕ, zero, suc, ◌+◌, ◌-◌, ◌*◌, ◌<◌, ◌≤◌, Bool, true, false, ◌&&◌, ◌||◌, not, nat_eq}
+use Rattle.std.proofs.Common.{nat_lt, nat_le, cond, ◌↔◌, ◌⊎◌, inl, inr, ⊎_elim, List, [], ◌∷◌, length, get_or, drop}
+use Rattle.std.proofs.Common.{IsTrue, refl, sym, ◌∙◌, ap, subst, arith}
 use Rattle.std.specs.List.Sorted.{IsPartitionedBy, IsPartitionPoint}
 use Rattle.std.proofs.lemmas.List.{length-drop}
-use Rattle.std.proofs.lemmas.Bool.{and_from, and_parts, and_left, and_right, leb-true, ltb-true, or_left, or_right, or_cases, both_ways, eqb-true, eq-eqb, ne_eqb, le-ltb, cases_order}
+use Rattle.std.proofs.lemmas.Bool.{and_from, and_parts, and_left, and_right, leb-true, ltb-true, or_left, or_right}
+use Rattle.std.proofs.lemmas.Bool.{or_cases, both_ways, eqb-true, eq-eqb, ne_eqb, le-ltb, cases_order}
 use Rattle.ep_int.specs.declared.types.Model.{Model}
 use Rattle.ep_int.specs.declared.types.Scalar.TheVariants.{Int}
 use Rattle.ep_int.specs.Types.{size_of}
@@ -16,11 +19,13 @@ use Rattle.ep_bitslice.specs.Segments.{run_bits, fixed_bits, bits, width, AreSeg
 use Rattle.ep_bitslice.proofs.Joining.{same_cell, cell_itself}
 use Rattle.ep_bitslice.proofs.Pieces.{mentions-fixed, mentions-run, mentions-append}
 use Rattle.ep_cells.specs.declared.cell.Cell.{Cell}
-use Rattle.ep_cells.specs.Cells.{place_of, touches, share_memory, key_of, is_same_side, is_same_scalar, scalar_number, IsNamed, IsIn, first, later, put, put_all}
+use Rattle.ep_cells.specs.Cells.{place_of, touches, share_memory, key_of, is_same_side, is_same_scalar, scalar_number}
+use Rattle.ep_cells.specs.Cells.{IsNamed, IsIn, first, later, put, put_all}
 use Rattle.ep_cells.specs.declared.place.Place.{Place}
 use Rattle.ep_cells.specs.States.{IsCell, HasWidth, IsFormOf, HasForm, IsThere, Each, EachPair, AreApart, AreCells}
 use Rattle.ep_cells_laws.proofs.Lists.{each_at, each_from}
-use Rattle.ep_cells_laws.proofs.Places.{side_back, before_at, Before, in_block, by_block, before_true, before_from, before_trans}
+use Rattle.ep_cells_laws.proofs.Places.{side_back, before_at, Before, in_block, by_block, before_true, before_from}
+use Rattle.ep_cells_laws.proofs.Places.{before_trans}
 use Rattle.ep_cells_laws.proofs.Both.{scalar_same}
 use Rattle.ep_cell_changes.proofs.Turns.{next_cell}
 use Rattle.ep_cell_changes.specs.Tests.{IsBefore, AreInOrder, is_before_name, is_sure_cell, AreThere}

@@ -1,5 +1,6 @@
 -- Lists of cells, one cell after the other.
-use Rattle.std.proofs.Common.{◌≡◌, ℕ, suc, ◌+◌, ◌<◌, Bool, true, false, cond, List, [], ◌∷◌, ◌++◌, map, length, get_or, drop, drop-cons, add-one, refl, sym, ◌∙◌, ap, append_assoc}
+use Rattle.std.proofs.Common.{◌≡◌, ℕ, suc, ◌+◌, ◌<◌, Bool, true, false, cond, List, [], ◌∷◌, ◌++◌, map, length}
+use Rattle.std.proofs.Common.{get_or, drop, drop-cons, add-one, refl, sym, ◌∙◌, ap, append_assoc}
 use Rattle.ep_cells.specs.declared.cell.Cell.{Cell}
 use Rattle.ep_bitslice.specs.declared.cell.Side.TheVariants.{Left}
 use Rattle.ep_cells.specs.Cells.{each_becomes, is_same_side}

@@ -1,9 +1,11 @@
 //! Whether cells are what is known of two memories.
 
-ghost use Rattle.std.specs.Prelude.{◌≡◌, ◌+◌, ◌↔◌, ◌≤◌, ◌∷◌, [], ◌||◌, not, nat_eq, nat_le, length, drop, true, false, IsTrue, IfOk};
+ghost use Rattle.std.specs.Prelude.{◌≡◌, ◌+◌, ◌↔◌, ◌≤◌, ◌∷◌, [], ◌||◌, not, nat_eq, nat_le, length, drop, true};
+ghost use Rattle.std.specs.Prelude.{false, IsTrue, IfOk};
 ghost use Rattle.std.specs.List.Sorted.{IsPartitionPoint};
 ghost use Rattle.ep_cells.specs.Cells.{put_all};
-ghost use Rattle.ep_cells.specs.States.{IsOfSort, HasWidth, IsCell, IsFormOf, HasForm, IsThere, Each, EachPair, AreApart, AreCells};
+ghost use Rattle.ep_cells.specs.States.{IsOfSort, HasWidth, IsCell, IsFormOf, HasForm, IsThere, Each, EachPair};
+ghost use Rattle.ep_cells.specs.States.{AreApart, AreCells};
 ghost use Rattle.ep_cell_changes.specs.Tests.{AreInOrder, is_before_name, is_sure_cell, AreThere};
 
 use crate::reshare::is_integer;

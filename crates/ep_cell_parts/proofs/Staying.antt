@@ -1,5 +1,7 @@
 -- Left and Right cells that stay, and the cell that begins at a place, part by part.
-use Rattle.std.proofs.Common.{◌≡◌, ℕ, suc, ◌+◌, ◌<◌, ◌≤◌, Bool, true, false, cond, ◌&&◌, not, nat_eq, List, [], ◌∷◌, ◌++◌, map, length, drop, get_or, Option, Some, None, refl, sym, ◌∙◌, ap, subst, arith, append_assoc}
+use Rattle.std.proofs.Common.{◌≡◌, ℕ, suc, ◌+◌, ◌<◌, ◌≤◌, Bool, true, false, cond, ◌&&◌, not, nat_eq, List, [], ◌∷◌}
+use Rattle.std.proofs.Common.{◌++◌, map, length, drop, get_or, Option, Some, None, refl, sym, ◌∙◌, ap, subst, arith}
+use Rattle.std.proofs.Common.{append_assoc}
 use Rattle.std.proofs.Math.ListN.{drop_of_length-le}
 use Rattle.std.proofs.lemmas.Bool.{and_parts}
 use Rattle.std.proofs.lemmas.Bool.Decides.{nat_tests}
@@ -9,7 +11,8 @@ use Rattle.ep_domain.specs.Domain.{Ops}
 use Rattle.ep_cells.specs.declared.cell.Cell.{Cell}
 use Rattle.ep_cells.specs.Cells.{is_same_side, put, each_becomes}
 use Rattle.ep_cells.specs.Forms.{reformed}
-use Rattle.ep_cells.specs.Reshare.{reshared_cell, left_by_reshare, fate_by_reshare, cell_from, reshared_pair, reshared_each, places, reshared}
+use Rattle.ep_cells.specs.Reshare.{reshared_cell, left_by_reshare, fate_by_reshare, cell_from, reshared_pair}
+use Rattle.ep_cells.specs.Reshare.{reshared_each, places, reshared}
 use Rattle.ep_shared_parts.specs.declared.parts.Part.{Part}
 use Rattle.ep_shared_parts.specs.Spread.{all_items, AreFrom, AreBelow, IsWindow}
 use Rattle.ep_shared_parts.specs.Mentions.{number_at, number_of}

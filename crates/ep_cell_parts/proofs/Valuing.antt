@@ -1,5 +1,7 @@
 -- A cell that takes another value, in the part that has it.
-use Rattle.std.proofs.Common.{◌≡◌, ℕ, zero, suc, ◌-◌, ◌<◌, Bool, true, false, cond, IsTrue, is_some, List, [], ◌∷◌, ◌++◌, map, length, take, drop, set, get_or, Option, Some, None, IfSome, refl, sym, ◌∙◌, ap, subst, arith, append_assoc}
+use Rattle.std.proofs.Common.{◌≡◌, ℕ, zero, suc, ◌-◌, ◌<◌, Bool, true, false, cond, IsTrue, is_some, List, [], ◌∷◌}
+use Rattle.std.proofs.Common.{◌++◌, map, length, take, drop, set, get_or, Option, Some, None, IfSome, refl, sym, ◌∙◌}
+use Rattle.std.proofs.Common.{ap, subst, arith, append_assoc}
 use Rattle.std.proofs.lemmas.Bool.{false_from_ne_true}
 use Rattle.ep_int.specs.declared.types.Model.{Model}
 use Rattle.ep_bitslice.specs.declared.cell.CellName.{CellName}

@@ -1,5 +1,5 @@
--- The cells of a block whose bytes all have values, as that of a global begins: one for each leaf, and one for each byte
--- outside of all leaves (this project's rule, beside C11 6.7.9p10).
+-- The cells of a block whose bytes all have values, as that of a global begins: one for each leaf, and one for each
+-- byte outside of all leaves (this project's rule, beside C11 6.7.9p10).
 use Rattle.std.specs.Prelude.{ℕ, zero, suc, ◌+◌, Bool, true, false, List, [], ◌∷◌, ◌++◌, Option, Some, None}
 use Rattle.ep_int.specs.declared.types.Model.{Model}
 use Rattle.ep_int.specs.declared.types.Scalar.{Scalar}

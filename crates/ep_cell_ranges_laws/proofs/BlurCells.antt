@@ -11,7 +11,8 @@ use Rattle.ep_domain.specs.Domain.{Ops}
 use Rattle.ep_cells.specs.declared.cell.Cell.{Cell}
 use Rattle.ep_cells.specs.declared.cell.Value.TheVariants.{Num}
 use Rattle.ep_cells.specs.declared.place.Place.{Place}
-use Rattle.ep_cells.specs.Cells.{on_left, on_right, share_memory, place_of, place_of_name, touches, parts_on, parts_of, IsNamed, IsIn, first, later, each_becomes}
+use Rattle.ep_cells.specs.Cells.{on_left, on_right, share_memory, place_of, place_of_name, touches, parts_on}
+use Rattle.ep_cells.specs.Cells.{parts_of, IsNamed, IsIn, first, later, each_becomes}
 use Rattle.ep_cells.specs.Weaken.{blurred, first_part, fate_by_weak_write}
 use Rattle.ep_cells.specs.States.{IsOfSort, EachPair, AreApart, IsCell}
 use Rattle.ep_cells_laws.proofs.Lists.{in_each, each_in, pairs_each}

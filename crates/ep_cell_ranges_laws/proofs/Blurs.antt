@@ -1,13 +1,16 @@
 -- A place of n bytes may have been written: what is left is a state, and holds.
-use Rattle.std.proofs.Common.{◌≡◌, ℕ, ◌+◌, ◌<◌, Bool, true, false, ◌&&◌, not, nat_eq, nat_lt, nat_le, cond, List, [], ◌∷◌, ⊎_elim, Option, Some, None, IfSome, refl, sym, ap, ◌∙◌, subst, arith}
-use Rattle.std.proofs.lemmas.Bool.{and_parts, and_from, and_right, ltb-true, lt-ltb, false_from_ne_true, both_ways, cases_Bool}
+use Rattle.std.proofs.Common.{◌≡◌, ℕ, ◌+◌, ◌<◌, Bool, true, false, ◌&&◌, not, nat_eq, nat_lt, nat_le, cond, List, []}
+use Rattle.std.proofs.Common.{◌∷◌, ⊎_elim, Option, Some, None, IfSome, refl, sym, ap, ◌∙◌, subst, arith}
+use Rattle.std.proofs.lemmas.Bool.{and_parts, and_from, and_right, ltb-true, lt-ltb, false_from_ne_true, both_ways}
+use Rattle.std.proofs.lemmas.Bool.{cases_Bool}
 use Rattle.ep_int.specs.declared.types.Model.{Model}
 use Rattle.ep_int.specs.declared.types.Order.{Order}
 use Rattle.ep_int.specs.declared.types.IntType.{IntType}
 use Rattle.ep_int.specs.declared.types.Scalar.{Scalar}
 use Rattle.ep_int.specs.declared.types.Scalar.TheVariants.{Int, Pointer}
 use Rattle.ep_int.specs.Types.{size_of, pointer_bytes}
-use Rattle.ep_int.specs.Memory.{Byte, undefined, number, fragment, Memory, Value as Datum, int, pointer, is_number, lies_partly, broken}
+use Rattle.ep_int.specs.Memory.{Byte, undefined, number, fragment, Memory, Value as Datum, int, pointer, is_number}
+use Rattle.ep_int.specs.Memory.{lies_partly, broken}
 use Rattle.ep_bitslice.specs.declared.cell.Side.{Side}
 use Rattle.ep_bitslice.specs.declared.cell.Side.TheVariants.{Left, Right, Shared}
 use Rattle.ep_bitslice.specs.declared.cell.CellName.{CellName}
@@ -34,10 +37,13 @@ use Rattle.ep_cells_laws.proofs.WeakCells.{IsSmall, small_bytes, small_broken, n
 use Rattle.ep_cell_ranges.specs.Spots.{Spot}
 use Rattle.ep_cell_ranges.specs.Ranges.{left_by_blur, blurred_at}
 use Rattle.ep_cell_ranges.specs.Moves.{place_at, blurred_each}
-use Rattle.ep_cell_ranges_laws.specs.Sound.{MayBeChanged, unchanged, changed, MayBothBeChanged, IsAmong, at_first, behind}
+use Rattle.ep_cell_ranges_laws.specs.Sound.{MayBeChanged, unchanged, changed, MayBothBeChanged, IsAmong, at_first}
+use Rattle.ep_cell_ranges_laws.specs.Sound.{behind}
 use Rattle.ep_cell_ranges_laws.specs.Laws.{BlurLaws, BlurEachLaws}
-use Rattle.ep_cell_ranges_laws.proofs.Held.{Leads, held_fits, held_numbers, KeepsBeside, KeepBeside, same_keeps, broken_keeps, weak_names}
-use Rattle.ep_cell_ranges_laws.proofs.BlurCells.{any_of, AfterBlur, beside, other, blurry, after_blur, after_made, own_pairs, after_cell, follows_blur}
+use Rattle.ep_cell_ranges_laws.proofs.Held.{Leads, held_fits, held_numbers, KeepsBeside, KeepBeside, same_keeps}
+use Rattle.ep_cell_ranges_laws.proofs.Held.{broken_keeps, weak_names}
+use Rattle.ep_cell_ranges_laws.proofs.BlurCells.{any_of, AfterBlur, beside, other, blurry, after_blur, after_made}
+use Rattle.ep_cell_ranges_laws.proofs.BlurCells.{own_pairs, after_cell, follows_blur}
 
 -- ---- bytes of cells that the place doesn't touch
 

@@ -9,7 +9,8 @@ use Rattle.ep_domain.specs.Domain.{Ops}
 use Rattle.ep_cells.specs.declared.cell.Cell.{Cell}
 use Rattle.ep_cells.specs.declared.cell.Value.{Value}
 use Rattle.ep_cells.specs.Cells.{is_same_cell, IsIn, IsNamed}
-use Rattle.ep_cells.specs.States.{Known, IsOfSort, HasRisingBlocks, IsCell, IsThere, IsFormOf, HasForm, AreApart, AreCells}
+use Rattle.ep_cells.specs.States.{Known, IsOfSort, HasRisingBlocks, IsCell, IsThere, IsFormOf, HasForm, AreApart}
+use Rattle.ep_cells.specs.States.{AreCells}
 use Rattle.ep_cells.specs.Meaning.{Memories, Allows, StandsAt, Says, FormSays, In}
 use Rattle.ep_cells_laws.proofs.Lists.{in_map, map_in, pairs_map}
 use Rattle.ep_cells_laws.proofs.Both.{alike_same, only_one}

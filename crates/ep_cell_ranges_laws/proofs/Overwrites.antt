@@ -1,6 +1,8 @@
 -- New cells take a place of n bytes.
-use Rattle.std.proofs.Common.{◌≡◌, ◌+◌, Bool, true, false, ◌&&◌, nat_eq, nat_lt, nat_le, cond, List, [], ◌∷◌, ⊎_elim, Some, refl, sym, ◌∙◌, subst, arith}
-use Rattle.std.proofs.lemmas.Bool.{and_parts, and_from, or_cases, or_left, or_right, leb-true, ltb-true, lt-ltb, eqb-true, eq-eqb, false_from_ne_true, both_ways}
+use Rattle.std.proofs.Common.{◌≡◌, ◌+◌, Bool, true, false, ◌&&◌, nat_eq, nat_lt, nat_le, cond, List, [], ◌∷◌, ⊎_elim}
+use Rattle.std.proofs.Common.{Some, refl, sym, ◌∙◌, subst, arith}
+use Rattle.std.proofs.lemmas.Bool.{and_parts, and_from, or_cases, or_left, or_right, leb-true, ltb-true, lt-ltb}
+use Rattle.std.proofs.lemmas.Bool.{eqb-true, eq-eqb, false_from_ne_true, both_ways}
 use Rattle.ep_int.specs.declared.types.Model.{Model}
 use Rattle.ep_int.specs.declared.types.Order.{Order}
 use Rattle.ep_bitslice.specs.declared.cell.Side.{Side}
@@ -8,7 +10,8 @@ use Rattle.ep_bitslice.specs.declared.cell.CellName.{CellName}
 use Rattle.ep_domain.specs.Domain.{Ops}
 use Rattle.ep_cells.specs.declared.cell.Cell.{Cell}
 use Rattle.ep_cells.specs.declared.place.Place.{Place}
-use Rattle.ep_cells.specs.Cells.{on_left, on_right, share_memory, side_without, with_side, place_of, place_of_name, touches, meets, encloses, IsNamed, IsIn, put_all, each_becomes}
+use Rattle.ep_cells.specs.Cells.{on_left, on_right, share_memory, side_without, with_side, place_of, place_of_name}
+use Rattle.ep_cells.specs.Cells.{touches, meets, encloses, IsNamed, IsIn, put_all, each_becomes}
 use Rattle.ep_cells.specs.Write.{left_by_write, fate_by_write}
 use Rattle.ep_cells.specs.States.{Known, IsThere, EachPair, AreApart, AreCells}
 use Rattle.ep_cells.specs.Meaning.{Memories, Says, In}

@@ -1,5 +1,6 @@
 -- What a copy takes says what the bytes of the place are.
-use Rattle.std.proofs.Common.{◌≡◌, ℕ, ◌+◌, ◌<◌, true, false, ◌&&◌, not, nat_eq, nat_lt, nat_le, cond, List, Option, Some, None, IfSome, refl, sym, ap, ◌∙◌, subst, arith}
+use Rattle.std.proofs.Common.{◌≡◌, ℕ, ◌+◌, ◌<◌, true, false, ◌&&◌, not, nat_eq, nat_lt, nat_le, cond, List, Option}
+use Rattle.std.proofs.Common.{Some, None, IfSome, refl, sym, ap, ◌∙◌, subst, arith}
 use Rattle.std.proofs.lemmas.Bool.{and_parts, and_from, leb-true, le-leb, not-true, false_from_ne_true, both_ways}
 use Rattle.ep_int.specs.declared.types.Model.{Model}
 use Rattle.ep_int.specs.declared.types.Order.{Order}
@@ -13,7 +14,8 @@ use Rattle.ep_bitslice.specs.Segments.{number as form_number}
 use Rattle.ep_domain.specs.Domain.{Ops, Lawful}
 use Rattle.ep_cells.specs.declared.cell.Cell.{Cell}
 use Rattle.ep_cells.specs.declared.place.Place.{Place}
-use Rattle.ep_cells.specs.Cells.{on_left, on_right, share_memory, place_of, touches, meets, encloses, is_partly_in, is_same_side, IsIn}
+use Rattle.ep_cells.specs.Cells.{on_left, on_right, share_memory, place_of, touches, meets, encloses, is_partly_in}
+use Rattle.ep_cells.specs.Cells.{is_same_side, IsIn}
 use Rattle.ep_cells.specs.States.{Known, IsFormOf, IsCell, AreCells}
 use Rattle.ep_cells.specs.Meaning.{Memories, Allows, HasBytes, Says, HasNumber, FormSays, numbers_of, In}
 use Rattle.ep_cells_laws.specs.Sound.{SaysNew}

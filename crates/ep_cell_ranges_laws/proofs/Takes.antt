@@ -7,7 +7,8 @@ use Rattle.ep_bitslice.specs.declared.cell.Side.TheVariants.{Left, Right, Shared
 use Rattle.ep_domain.specs.Domain.{Ops, Lawful}
 use Rattle.ep_cells.specs.declared.cell.Cell.{Cell}
 use Rattle.ep_cells.specs.declared.place.Place.{Place}
-use Rattle.ep_cells.specs.Cells.{on_left, on_right, share_memory, place_of, touches, encloses, is_same_side, is_same_cell, IsIn, each_becomes}
+use Rattle.ep_cells.specs.Cells.{on_left, on_right, share_memory, place_of, touches, encloses, is_same_side}
+use Rattle.ep_cells.specs.Cells.{is_same_cell, IsIn, each_becomes}
 use Rattle.ep_cells.specs.States.{Known, HasForm, EachPair, AreApart, IsCell, AreCells}
 use Rattle.ep_cells.specs.Meaning.{Memories, In}
 use Rattle.ep_cells_laws.specs.Sound.{SaysNew}
@@ -19,11 +20,14 @@ use Rattle.ep_split_laws.specs.Laws.{AreBroken}
 use Rattle.ep_split_laws.proofs.Sides.{one_within, side_same, others_apart}
 use Rattle.ep_split_laws.proofs.Steps.{apart_misses}
 use Rattle.ep_cell_ranges.specs.Spots.{Spot}
-use Rattle.ep_cell_ranges.specs.Moves.{place_at, taken_if, taken, is_whole_shared, taken_left, taken_right, taken_by_both}
+use Rattle.ep_cell_ranges.specs.Moves.{place_at, taken_if, taken, is_whole_shared, taken_left, taken_right}
+use Rattle.ep_cell_ranges.specs.Moves.{taken_by_both}
 use Rattle.ep_cell_ranges_laws.specs.Sound.{IsInside, Misses, AreNew, SayNew}
 use Rattle.ep_cell_ranges_laws.specs.Laws.{TakenLaws}
 use Rattle.ep_cell_ranges_laws.proofs.Overwrites.{share_more}
-use Rattle.ep_cell_ranges_laws.proofs.TakenCells.{parts_miss, parts_apart, Taken, is_taken, taken_lies, taken_encloses, taken_side, taken_block, taken_is_cell, taken_has_form, own_taken}
+use Rattle.ep_cell_ranges_laws.proofs.TakenCells.{parts_miss, parts_apart, Taken, is_taken, taken_lies}
+use Rattle.ep_cell_ranges_laws.proofs.TakenCells.{taken_encloses, taken_side, taken_block, taken_is_cell}
+use Rattle.ep_cell_ranges_laws.proofs.TakenCells.{taken_has_form, own_taken}
 use Rattle.ep_cell_ranges_laws.proofs.TakenSays.{BrokenFor, taken_says}
 
 -- two sides that have the memory of one side have it in common

@@ -1,8 +1,11 @@
 -- What passes the tests of cells are cells, and cells pass them.
-use Rattle.std.proofs.Common.{◌≡◌, ℕ, ◌+◌, ◌-◌, ◌^◌, Bool, true, false, ◌&&◌, ◌||◌, not, nat_eq, nat_le, nat_lt, ⊎_elim, List, [], ◌∷◌, length, Option, Some, None, IfSome, is_some, refl, sym, ap, ◌∙◌, subst, arith}
+use Rattle.std.proofs.Common.{◌≡◌, ℕ, ◌+◌, ◌-◌, ◌^◌, Bool, true, false, ◌&&◌, ◌||◌, not, nat_eq, nat_le, nat_lt}
+use Rattle.std.proofs.Common.{⊎_elim, List, [], ◌∷◌, length, Option, Some, None, IfSome, is_some, refl, sym, ap, ◌∙◌}
+use Rattle.std.proofs.Common.{subst, arith}
 use Rattle.std.specs.Option.{option_map_or}
 use Rattle.std.specs.List.{list_all, list_any}
-use Rattle.std.proofs.lemmas.Bool.{and_parts, and_from, leb-true, ltb-true, eqb-true, le-leb, lt-ltb, eq-eqb, or_cases, or_left, or_right, both_ways}
+use Rattle.std.proofs.lemmas.Bool.{and_parts, and_from, leb-true, ltb-true, eqb-true, le-leb, lt-ltb, eq-eqb}
+use Rattle.std.proofs.lemmas.Bool.{or_cases, or_left, or_right, both_ways}
 use Rattle.ep_int.specs.declared.types.Model.{Model}
 use Rattle.ep_int.specs.declared.types.Scalar.{Scalar}
 use Rattle.ep_int.specs.declared.types.Scalar.TheVariants.{Int, Pointer}
@@ -11,18 +14,23 @@ use Rattle.ep_bitslice.specs.declared.cell.CellName.{CellName}
 use Rattle.ep_bitslice.specs.declared.segment.Segment.{Segment}
 use Rattle.ep_bitslice.specs.declared.segment.Segment.TheVariants.{Bits, Fixed}
 use Rattle.ep_bitslice.specs.Bits.{side_number, mentions}
-use Rattle.ep_bitslice.specs.Segments.{run_bits, fixed_bits, bits, width, joined, most_bits, most_segments, IsSegment, AreSegments, IsApart, AreApart as SegmentsApart, IsForm}
+use Rattle.ep_bitslice.specs.Segments.{run_bits, fixed_bits, bits, width, joined, most_bits, most_segments, IsSegment}
+use Rattle.ep_bitslice.specs.Segments.{AreSegments, IsApart, AreApart as SegmentsApart, IsForm}
 use Rattle.ep_bitslice.proofs.Joining.{same_cell, cell_itself}
 use Rattle.ep_bitslice.proofs.Pieces.{mentions-fixed, mentions-run, mentions-append}
 use Rattle.ep_pointers.specs.Value.{Target, AreAbove, IsRising}
 use Rattle.ep_cells.specs.declared.cell.Cell.{Cell}
 use Rattle.ep_cells.specs.declared.cell.Value.{Value}
 use Rattle.ep_cells.specs.declared.cell.Value.TheVariants.{Num, Ptr}
-use Rattle.ep_cells.specs.Cells.{place_of, meets, comes_before, scalar_number, is_same_side, is_same_scalar, is_same_place, is_same_cell, IsNamed, IsIn, first, later}
-use Rattle.ep_cells.specs.States.{IsOfSort, HasRisingBlocks, IsCell, HasWidth, IsFormOf, IsThere, Each, EachPair, AreApart, AreCells, AreAlike, HaveCellsAlike}
+use Rattle.ep_cells.specs.Cells.{place_of, meets, comes_before, scalar_number, is_same_side, is_same_scalar}
+use Rattle.ep_cells.specs.Cells.{is_same_place, is_same_cell, IsNamed, IsIn, first, later}
+use Rattle.ep_cells.specs.States.{IsOfSort, HasRisingBlocks, IsCell, HasWidth, IsFormOf, IsThere, Each, EachPair}
+use Rattle.ep_cells.specs.States.{AreApart, AreCells, AreAlike, HaveCellsAlike}
 use Rattle.ep_cells_laws.proofs.Places.{side_back}
 use Rattle.ep_cells_laws.proofs.Both.{alike_same, scalar_same}
-use Rattle.ep_cell_ranges.specs.Tests.{is_of_sort, are_above, is_rising, has_rising_blocks, is_cell, has_width, is_segment, is_apart, are_segments, is_form, is_sure_cell, is_mention_there, is_form_of, has_form, are_apart, all_apart, are_cells, are_alike}
+use Rattle.ep_cell_ranges.specs.Tests.{is_of_sort, are_above, is_rising, has_rising_blocks, is_cell, has_width}
+use Rattle.ep_cell_ranges.specs.Tests.{is_segment, is_apart, are_segments, is_form, is_sure_cell, is_mention_there}
+use Rattle.ep_cell_ranges.specs.Tests.{is_form_of, has_form, are_apart, all_apart, are_cells, are_alike}
 use Rattle.ep_cell_ranges_laws.specs.Laws.{TestLaws}
 
 -- ---- lists

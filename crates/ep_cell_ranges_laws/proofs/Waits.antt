@@ -1,5 +1,6 @@
 -- Forms that wait follow splits and writes.
-use Rattle.std.proofs.Common.{◌≡◌, ◌+◌, Bool, true, false, ◌&&◌, ◌||◌, not, List, [], ◌∷◌, ◌++◌, map, ⊎_elim, Option, Some, None, refl, sym, ap, ◌∙◌, subst}
+use Rattle.std.proofs.Common.{◌≡◌, ◌+◌, Bool, true, false, ◌&&◌, ◌||◌, not, List, [], ◌∷◌, ◌++◌, map, ⊎_elim, Option}
+use Rattle.std.proofs.Common.{Some, None, refl, sym, ap, ◌∙◌, subst}
 use Rattle.std.specs.Option.{option_map_or}
 use Rattle.std.proofs.lemmas.Bool.{and_parts, and_from, false_from_ne_true, both_ways}
 use Rattle.ep_int.specs.declared.types.Model.{Model}
@@ -14,7 +15,8 @@ use Rattle.ep_bitslice.specs.declared.cell.CellName.{CellName}
 use Rattle.ep_domain.specs.Domain.{Ops, Lawful}
 use Rattle.ep_cells.specs.declared.cell.Cell.{Cell}
 use Rattle.ep_cells.specs.declared.place.Place.{Place}
-use Rattle.ep_cells.specs.Cells.{on_left, on_right, share_memory, side_without, place_of, touches, encloses, is_partly_in, is_same_side, IsIn, first, later, put, put_all, each_becomes}
+use Rattle.ep_cells.specs.Cells.{on_left, on_right, share_memory, side_without, place_of, touches, encloses}
+use Rattle.ep_cells.specs.Cells.{is_partly_in, is_same_side, IsIn, first, later, put, put_all, each_becomes}
 use Rattle.ep_cells.specs.Both.{cell_like}
 use Rattle.ep_cells.specs.Forms.{Fate, form_after, reformed}
 use Rattle.ep_cells.specs.Look.{is_some_partly_in}
@@ -26,13 +28,16 @@ use Rattle.ep_cells_laws.proofs.Changes.{IsChange, there_reformed}
 use Rattle.ep_cells_laws.proofs.Write.{write_change, write_keeps}
 use Rattle.ep_cells_laws.proofs.Both.{alike_same}
 use Rattle.ep_reads.specs.Bytes.{order_on}
-use Rattle.ep_reads.specs.Split.{form_beside, byte_of, byte_cells, fate_by_split, left_by_split, split_cell, cut_cells, split_all, split}
+use Rattle.ep_reads.specs.Split.{form_beside, byte_of, byte_cells, fate_by_split, left_by_split, split_cell}
+use Rattle.ep_reads.specs.Split.{cut_cells, split_all, split}
 use Rattle.ep_split_laws.specs.Laws.{IsBrokenAt, AreBroken}
 use Rattle.ep_split_laws.proofs.Sides.{on_one, one_within}
 use Rattle.ep_split_laws.proofs.ByteCells.{byte_is, one_of}
 use Rattle.ep_split_laws.proofs.Steps.{step_change}
-use Rattle.ep_split_laws.proofs.OneSplit.{AfterSplit, rest, other, after_split, rest_of, bytes_of_x, split_step, split_cell_cells, split_cell_holds, keeps_of, old}
-use Rattle.ep_split_laws.proofs.Splits.{byte_uncut, IsFirstLike, first_like, cut_shares, place_alike, filter_tests, none_any}
+use Rattle.ep_split_laws.proofs.OneSplit.{AfterSplit, rest, other, after_split, rest_of, bytes_of_x, split_step}
+use Rattle.ep_split_laws.proofs.OneSplit.{split_cell_cells, split_cell_holds, keeps_of, old}
+use Rattle.ep_split_laws.proofs.Splits.{byte_uncut, IsFirstLike, first_like, cut_shares, place_alike, filter_tests}
+use Rattle.ep_split_laws.proofs.Splits.{none_any}
 use Rattle.ep_split_laws.proofs.Broken.{between}
 use Rattle.ep_cell_ranges.specs.Ranges.{Form, form_by_splits, form_by_split}
 use Rattle.ep_cell_ranges_laws.specs.Follow.{FormFits, FormHas}

@@ -1,5 +1,6 @@
 -- Forms that are held while a cell may be written.
-use Rattle.std.proofs.Common.{◌≡◌, Bool, true, false, ◌&&◌, not, cond, List, [], ◌∷◌, Some, None, refl, sym, ap, ◌∙◌, subst}
+use Rattle.std.proofs.Common.{◌≡◌, Bool, true, false, ◌&&◌, not, cond, List, [], ◌∷◌, Some, None, refl, sym, ap, ◌∙◌}
+use Rattle.std.proofs.Common.{subst}
 use Rattle.std.proofs.lemmas.Bool.{both_ways}
 use Rattle.ep_int.specs.declared.types.Model.{Model}
 use Rattle.ep_int.specs.declared.types.Order.{Order}
@@ -10,7 +11,8 @@ use Rattle.ep_bitslice.specs.declared.cell.CellName.{CellName}
 use Rattle.ep_domain.specs.Domain.{Ops}
 use Rattle.ep_cells.specs.declared.cell.Cell.{Cell}
 use Rattle.ep_cells.specs.declared.place.Place.{Place}
-use Rattle.ep_cells.specs.Cells.{on_left, on_right, share_memory, place_of, place_of_name, touches, is_same_place, parts_on, parts_of, IsNamed, IsIn, first, each_becomes}
+use Rattle.ep_cells.specs.Cells.{on_left, on_right, share_memory, place_of, place_of_name, touches, is_same_place}
+use Rattle.ep_cells.specs.Cells.{parts_on, parts_of, IsNamed, IsIn, first, each_becomes}
 use Rattle.ep_cells.specs.Weaken.{weak_cell, weak_part, left_by_weak_write, first_part, fate_by_weak_write, weakened}
 use Rattle.ep_cells_laws.specs.Sound.{MayBeWritten, as_it_was, rewritten}
 use Rattle.ep_cells_laws.proofs.Lists.{each_in}
@@ -19,7 +21,8 @@ use Rattle.ep_cells_laws.proofs.Write.{Follows, place_named}
 use Rattle.ep_cells_laws.proofs.Beside.{left_of, right_of}
 use Rattle.ep_cells_laws.proofs.WeakCells.{shared_all}
 use Rattle.ep_cell_ranges_laws.specs.Laws.{MoreWeakWriteLaws}
-use Rattle.ep_cell_ranges_laws.proofs.Held.{Leads, held_fits, held_numbers, KeepsBeside, same_keeps, broken_keeps, weak_names}
+use Rattle.ep_cell_ranges_laws.proofs.Held.{Leads, held_fits, held_numbers, KeepsBeside, same_keeps, broken_keeps}
+use Rattle.ep_cell_ranges_laws.proofs.Held.{weak_names}
 
 -- ---- where a mention goes on
 

@@ -18,7 +18,8 @@ use Rattle.ep_cells.specs.Look.{cell_at, is_some_partly_in}
 use Rattle.ep_cells.specs.Write.{written, fate_by_write}
 use Rattle.ep_cells.specs.Weaken.{weakened, fate_by_weak_write}
 use Rattle.ep_cells.specs.Kill.{AreLeavesIn, fate_by_kill, killed_cells}
-use Rattle.ep_cells.specs.States.{Known, IsOfSort, HasRisingBlocks, EachPair, AreApart, AreCells, CanWrite, HaveCellsAlike}
+use Rattle.ep_cells.specs.States.{Known, IsOfSort, HasRisingBlocks, EachPair, AreApart, AreCells, CanWrite}
+use Rattle.ep_cells.specs.States.{HaveCellsAlike}
 use Rattle.ep_cells.specs.Meaning.{Memories, Allows, StandsAt, In}
 use Rattle.ep_cells_laws.specs.Memories.{AreRewritten, AreKilled}
 use Rattle.ep_cells_laws.specs.Sound.{MayBeWeaklyWritten}
@@ -29,10 +30,12 @@ use Rattle.ep_cell_ranges.specs.First.{filled_from}
 use Rattle.ep_cell_ranges.specs.Narrow.{set_in, with_value}
 use Rattle.ep_cell_ranges.specs.Ranges.{Form, form_by_split, overwritten, replaced, form_by_replace, blurred_at}
 use Rattle.ep_cell_ranges.specs.Spots.{Spot}
-use Rattle.ep_cell_ranges.specs.Moves.{place_at, blurred_each, weakened_each, form_by_weak_each, moved_to, taken, taken_by_both}
+use Rattle.ep_cell_ranges.specs.Moves.{place_at, blurred_each, weakened_each, form_by_weak_each, moved_to, taken}
+use Rattle.ep_cell_ranges.specs.Moves.{taken_by_both}
 use Rattle.ep_cell_ranges.specs.Tests.{are_cells, are_alike}
 use Rattle.ep_cell_ranges_laws.specs.Follow.{FormFits, FormHas, Drops}
-use Rattle.ep_cell_ranges_laws.specs.Sound.{AreStored, AreNew, SayNew, MayBothBeChanged, IsAmong, FitEach, moved_place, AreCopied, AreMade, IsFilled}
+use Rattle.ep_cell_ranges_laws.specs.Sound.{AreStored, AreNew, SayNew, MayBothBeChanged, IsAmong, FitEach}
+use Rattle.ep_cell_ranges_laws.specs.Sound.{moved_place, AreCopied, AreMade, IsFilled}
 
 -- ---- tests
 

@@ -57,7 +57,8 @@ fn fate_by_write(p: &Place, n: &CellName) -> Option<CellName>
 
 fn touched_weakly(p: &Place, n: &CellName) -> Option<CellName>
     ensures { result
-        ≡ (if share p.now.side (first_of n.now.side) then None else Some (record n.now { side = first_of n.now.side })) }
+        ≡ (if share p.now.side (first_of n.now.side) then None
+        else Some (record n.now { side = first_of n.now.side })) }
 {
     if share_memory(p.side, first_part(n.side)) {
         None
@@ -87,7 +88,8 @@ fn fate_by_kill(side: Side, block: u32, n: &CellName) -> Option<CellName>
 }
 
 fn shared_name(maybe: bool, n: &CellName) -> Option<CellName>
-    ensures { result ≡ (if maybe then None else Some (record n.now { side = Side.Shared })) }
+    ensures { result ≡ (if maybe then None
+        else Some (record n.now { side = Side.Shared })) }
 {
     if maybe {
         None

@@ -2,7 +2,9 @@
 
 ghost use Rattle.std.specs.Prelude.{◌≡◌, ◌+◌, ◌≤◌};
 ghost use Rattle.ep_bitslice.specs.Bits.{side_number, type_number};
-ghost use Rattle.ep_cells.specs.Cells.{on_left, on_right, share_memory, side_without, place_of, place_of_name, touches, meets, encloses, is_partly_in, is_same_scalar, is_same_place, is_same_side, is_same_cell, comes_before, key_of, scalar_number};
+ghost use Rattle.ep_cells.specs.Cells.{on_left, on_right, share_memory, side_without, place_of, place_of_name};
+ghost use Rattle.ep_cells.specs.Cells.{touches, meets, encloses, is_partly_in, is_same_scalar, is_same_place};
+ghost use Rattle.ep_cells.specs.Cells.{is_same_side, is_same_cell, comes_before, key_of, scalar_number};
 ghost use Rattle.ep_cells.specs.Look.{covers};
 ghost use Rattle.ep_cells.specs.Weaken.{first_part};
 
@@ -173,12 +175,14 @@ pub fn side_number(s: Side) -> u8
     }
 }
 
+/// Whether two sides are one.
 pub fn is_same_side(s: Side, q: Side) -> bool
     ensures { result ≡ is_same_side s q }
 {
     side_number(s) == side_number(q)
 }
 
+/// Whether two scalar types are one.
 pub fn is_same_scalar(v: Scalar, w: Scalar) -> bool
     ensures { result ≡ is_same_scalar v w }
 {

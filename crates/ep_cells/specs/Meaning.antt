@@ -9,7 +9,8 @@ use Rattle.ep_int.specs.declared.types.Scalar.{Scalar}
 use Rattle.ep_int.specs.declared.types.Scalar.TheVariants.{Int, Pointer}
 use Rattle.ep_int.specs.Types.{bits_of, size_of, InRange, residue}
 use Rattle.ep_int.specs.Encoding.{decoded}
-use Rattle.ep_int.specs.Memory.{Memory, Value as Datum, int, null, pointer, undefined, is_number, number_in, bytes_of_value}
+use Rattle.ep_int.specs.Memory.{Memory, Value as Datum, int, null, pointer, undefined, is_number, number_in}
+use Rattle.ep_int.specs.Memory.{bytes_of_value}
 use Rattle.ep_bitslice.specs.declared.cell.Side.{Side}
 use Rattle.ep_bitslice.specs.declared.cell.Side.TheVariants.{Left, Right, Shared}
 use Rattle.ep_bitslice.specs.declared.cell.CellName.{CellName}

@@ -1,3 +1,5 @@
+//! Cells: what is known of a scalar of one memory, or of both.
+
 use ep_bitslice::{BoxedForm, Side};
 use ep_int::Scalar;
 use ep_pointers::PtrValue;

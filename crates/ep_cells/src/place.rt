@@ -1,3 +1,5 @@
+//! Places: bytes of a block, on a side.
+
 use ep_bitslice::Side;
 
 /// So many bytes of a block, on a side.

@@ -1,12 +1,14 @@
 -- Bytes and cells that a weak write leaves as they are.
-use Rattle.std.proofs.Common.{◌≡◌, ℕ, ◌+◌, ◌<◌, Bool, true, false, ◌&&◌, not, nat_eq, nat_le, nat_lt, cond, Option, Some, None, refl, sym, ◌∙◌, ap, subst, arith}
+use Rattle.std.proofs.Common.{◌≡◌, ℕ, ◌+◌, ◌<◌, Bool, true, false, ◌&&◌, not, nat_eq, nat_le, nat_lt, cond, Option}
+use Rattle.std.proofs.Common.{Some, None, refl, sym, ◌∙◌, ap, subst, arith}
 use Rattle.std.proofs.lemmas.Bool.{and_parts, and_from, and_right, lt-ltb, ltb-true, false_from_ne_true, both_ways}
 use Rattle.ep_int.specs.declared.types.Order.{Order}
 use Rattle.ep_int.specs.declared.types.Model.{Model}
 use Rattle.ep_int.specs.declared.types.Scalar.{Scalar}
 use Rattle.ep_int.specs.declared.types.Scalar.TheVariants.{Int, Pointer}
 use Rattle.ep_int.specs.Types.{size_of, pointer_bytes}
-use Rattle.ep_int.specs.Memory.{Byte, undefined, number, fragment, Memory, Value as Datum, pointer, is_number, lies_partly, broken}
+use Rattle.ep_int.specs.Memory.{Byte, undefined, number, fragment, Memory, Value as Datum, pointer, is_number}
+use Rattle.ep_int.specs.Memory.{lies_partly, broken}
 use Rattle.ep_bitslice.specs.declared.cell.Side.{Side}
 use Rattle.ep_domain.specs.Domain.{Ops}
 use Rattle.ep_cells.specs.declared.cell.Cell.{Cell}
@@ -17,7 +19,8 @@ use Rattle.ep_cells.specs.Cells.{on_left, on_right, place_of, touches}
 use Rattle.ep_cells.specs.States.{Known}
 use Rattle.ep_cells.specs.Meaning.{Memories, Allows}
 use Rattle.ep_cells_laws.specs.Memories.{is_byte_of}
-use Rattle.ep_cells_laws.specs.Sound.{MayBeWritten, as_it_was, rewritten, MayBeWeaklyWritten, each_side, neither, both_sides}
+use Rattle.ep_cells_laws.specs.Sound.{MayBeWritten, as_it_was, rewritten, MayBeWeaklyWritten, each_side, neither}
+use Rattle.ep_cells_laws.specs.Sound.{both_sides}
 use Rattle.ep_cells_laws.proofs.Bytes.{SameBytes, bytes_same}
 use Rattle.ep_cells_laws.proofs.Kept.{KeepsByte, byte_same, KeepsBytes, bytes_kept}
 use Rattle.ep_cells_laws.proofs.Places.{at, within_itself, IsRest}

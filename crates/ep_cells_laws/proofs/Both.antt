@@ -1,5 +1,6 @@
 -- Joins and widenings hold of the memories of both states, and inclusion is inclusion.
-use Rattle.std.proofs.Common.{◌≡◌, ℕ, zero, suc, ◌^◌, ℤ, Bool, true, false, ◌&&◌, ◌||◌, not, nat_eq, cond, List, [], ◌∷◌, inl, Option, Some, None, IfSome, refl, sym, ◌∙◌, ap, subst, arith}
+use Rattle.std.proofs.Common.{◌≡◌, ℕ, zero, suc, ◌^◌, ℤ, Bool, true, false, ◌&&◌, ◌||◌, not, nat_eq, cond, List, []}
+use Rattle.std.proofs.Common.{◌∷◌, inl, Option, Some, None, IfSome, refl, sym, ◌∙◌, ap, subst, arith}
 use Rattle.std.specs.Option.{option_map_or}
 use Rattle.std.proofs.lemmas.Bool.{and_parts, or_left, or_right, or_from, eqb-true}
 use Rattle.ep_int.specs.declared.types.Order.{Order}
@@ -23,11 +24,14 @@ use Rattle.ep_pointers.proofs.Gathered.{pointer_laws}
 use Rattle.ep_cells.specs.declared.cell.Cell.{Cell}
 use Rattle.ep_cells.specs.declared.cell.Value.{Value}
 use Rattle.ep_cells.specs.declared.cell.Value.TheVariants.{Num, Ptr}
-use Rattle.ep_cells.specs.Cells.{on_left, on_right, scalar_number, is_same_scalar, is_same_side, is_same_place, is_same_cell, IsIn, first, later, key_of}
+use Rattle.ep_cells.specs.Cells.{on_left, on_right, scalar_number, is_same_scalar, is_same_side, is_same_place}
+use Rattle.ep_cells.specs.Cells.{is_same_cell, IsIn, first, later, key_of}
 use Rattle.ep_cells.specs.Forms.{is_same_segment, are_same_segments, have_same_form, common_form}
-use Rattle.ep_cells.specs.States.{IsOfSort, HasRisingBlocks, IsThere, IsFormOf, HasForm, EachPair, AreApart, IsCell, AreCells, AreAlike, HaveCellsAlike}
+use Rattle.ep_cells.specs.States.{IsOfSort, HasRisingBlocks, IsThere, IsFormOf, HasForm, EachPair, AreApart, IsCell}
+use Rattle.ep_cells.specs.States.{AreCells, AreAlike, HaveCellsAlike}
 use Rattle.ep_cells.specs.Meaning.{Memories, Allows, HasBytes, StandsAt, Says, numbers_of, HasNumber, FormSays, In}
-use Rattle.ep_cells.specs.Both.{value_of_both, cell_of_both, cells_of_both, is_value_within, is_form_kept, is_cell_within, cell_like, are_within}
+use Rattle.ep_cells.specs.Both.{value_of_both, cell_of_both, cells_of_both, is_value_within, is_form_kept}
+use Rattle.ep_cells.specs.Both.{is_cell_within, cell_like, are_within}
 use Rattle.ep_cells_laws.proofs.Lists.{each_at, each_from}
 use Rattle.ep_cells_laws.proofs.Places.{Before, before_true, not_both, side_back}
 

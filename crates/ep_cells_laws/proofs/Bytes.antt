@@ -1,5 +1,6 @@
 -- The bytes of cells, and the numbers that they are.
-use Rattle.std.proofs.Common.{◌≡◌, ℕ, ◌+◌, ◌<◌, ℤ, Bool, true, false, inl, inr, ⊎_elim, Option, Some, None, refl, ◌∙◌, ap, subst}
+use Rattle.std.proofs.Common.{◌≡◌, ℕ, ◌+◌, ◌<◌, ℤ, Bool, true, false, inl, inr, ⊎_elim, Option, Some, None, refl, ◌∙◌}
+use Rattle.std.proofs.Common.{ap, subst}
 use Rattle.ep_int.specs.declared.types.Order.{Order}
 use Rattle.ep_int.specs.declared.types.Model.{Model}
 use Rattle.ep_int.specs.declared.types.IntType.{IntType}

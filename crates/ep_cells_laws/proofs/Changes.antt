@@ -1,5 +1,6 @@
 -- An operation that makes cells of cells: what it leaves is in order and apart, and holds.
-use Rattle.std.proofs.Common.{◌≡◌, ℕ, ◌^◌, true, false, List, map, Option, Some, None, IfSome, refl, sym, ◌∙◌, ap, subst}
+use Rattle.std.proofs.Common.{◌≡◌, ℕ, ◌^◌, true, false, List, map, Option, Some, None, IfSome, refl, sym, ◌∙◌, ap}
+use Rattle.std.proofs.Common.{subst}
 use Rattle.std.specs.Option.{option_map}
 use Rattle.ep_int.specs.declared.types.Order.{Order}
 use Rattle.ep_int.specs.declared.types.Model.{Model}
@@ -20,7 +21,8 @@ use Rattle.ep_domain.specs.Domain.{Ops}
 use Rattle.ep_cells.specs.declared.cell.Cell.{Cell}
 use Rattle.ep_cells.specs.Cells.{IsNamed, IsIn}
 use Rattle.ep_cells.specs.Forms.{Fate, bits_after, form_after, reformed}
-use Rattle.ep_cells.specs.States.{IsOfSort, Fits, IsThere, HasWidth, IsFormOf, HasForm, EachPair, AreApart, IsCell, AreCells}
+use Rattle.ep_cells.specs.States.{IsOfSort, Fits, IsThere, HasWidth, IsFormOf, HasForm, EachPair, AreApart, IsCell}
+use Rattle.ep_cells.specs.States.{AreCells}
 use Rattle.ep_cells.specs.Meaning.{Memories, Allows, StandsAt, Says, numbers_of, name_of, HasNumber, FormSays, In}
 use Rattle.ep_cells_laws.proofs.Lists.{in_map, map_in, pairs_map}
 use Rattle.ep_cells_laws.proofs.Forms.{KeepsNumbers, number_after, mentioned_after, form_after_is, width_after}

@@ -1,12 +1,15 @@
 -- What becomes of forms: the same bits under new names.
-use Rattle.std.proofs.Common.{◌≡◌, ℕ, zero, suc, ◌+◌, ◌-◌, ◌/◌, ◌≤◌, Bool, true, List, [], ◌∷◌, ◌++◌, length, ⊎_elim, Option, Some, None, refl, sym, ◌∙◌, ap, subst, arith, append_assoc, length-append}
+use Rattle.std.proofs.Common.{◌≡◌, ℕ, zero, suc, ◌+◌, ◌-◌, ◌/◌, ◌≤◌, Bool, true, List, [], ◌∷◌, ◌++◌, length, ⊎_elim}
+use Rattle.std.proofs.Common.{Option, Some, None, refl, sym, ◌∙◌, ap, subst, arith, append_assoc, length-append}
 use Rattle.std.specs.Option.{option_map, option_map_or}
 use Rattle.std.proofs.lemmas.Bool.{or_cases, or_left, or_right}
 use Rattle.ep_bitslice.specs.declared.cell.CellName.{CellName}
 use Rattle.ep_bitslice.specs.declared.segment.Segment.{Segment}
 use Rattle.ep_bitslice.specs.declared.segment.Segment.TheVariants.{Bits, Fixed}
-use Rattle.ep_bitslice.specs.Bits.{Bit, fixed, cell_bit, Numbers, bit_of, digit, number_of_bits, is_odd, is_same_cell, is_bit_of, mentions}
-use Rattle.ep_bitslice.specs.Segments.{fixed_bits, run_bits, segment_bits, bits, segment_width, width, normal, joined, put_before, IsSegment, AreSegments, IsForm}
+use Rattle.ep_bitslice.specs.Bits.{Bit, fixed, cell_bit, Numbers, bit_of, digit, number_of_bits, is_odd, is_same_cell}
+use Rattle.ep_bitslice.specs.Bits.{is_bit_of, mentions}
+use Rattle.ep_bitslice.specs.Segments.{fixed_bits, run_bits, segment_bits, bits, segment_width, width, normal, joined}
+use Rattle.ep_bitslice.specs.Segments.{put_before, IsSegment, AreSegments, IsForm}
 use Rattle.ep_bitslice.proofs.Joining.{same_cell, cell_itself, length-segment_bits}
 use Rattle.ep_bitslice.proofs.NormalForm.{put_after, normal-segment, normal-append, fewer_in_front}
 use Rattle.ep_bitslice.proofs.Appending.{length-bits, bits-normal, appended}

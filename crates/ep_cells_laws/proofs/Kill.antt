@@ -1,7 +1,10 @@
 -- Killed blocks: what is left of cells, the block's new cells, and that all of it holds.
-use Rattle.std.proofs.Common.{◌≡◌, ℕ, ◌+◌, ◌*◌, ◌^◌, ◌≤◌, pos, Bool, true, false, ◌&&◌, ◌||◌, nat_eq, nat_lt, cond, List, [], ◌∷◌, map, ⊎_elim, Option, Some, None, IfSome, IsSomeAnd, refl, sym, ◌∙◌, ap, subst, arith}
+use Rattle.std.proofs.Common.{◌≡◌, ℕ, ◌+◌, ◌*◌, ◌^◌, ◌≤◌, pos, Bool, true, false, ◌&&◌, ◌||◌, nat_eq, nat_lt, cond}
+use Rattle.std.proofs.Common.{List, [], ◌∷◌, map, ⊎_elim, Option, Some, None, IfSome, IsSomeAnd, refl, sym, ◌∙◌, ap}
+use Rattle.std.proofs.Common.{subst, arith}
 use Rattle.std.specs.List.{list_any}
-use Rattle.std.proofs.lemmas.Bool.{and_left, and_right, or_parts, or_left, or_right, eqb-true, eq-eqb, ne_eqb, false_from_ne_true, both_ways, cases_Bool}
+use Rattle.std.proofs.lemmas.Bool.{and_left, and_right, or_parts, or_left, or_right, eqb-true, eq-eqb, ne_eqb}
+use Rattle.std.proofs.lemmas.Bool.{false_from_ne_true, both_ways, cases_Bool}
 use Rattle.ep_int.specs.declared.types.Order.{Order}
 use Rattle.ep_int.specs.declared.types.Model.{Model}
 use Rattle.ep_int.specs.declared.types.IntType.{IntType}
@@ -22,15 +25,21 @@ use Rattle.ep_pointers.proofs.Gathered.{pointer_laws}
 use Rattle.ep_cells.specs.declared.cell.Cell.{Cell}
 use Rattle.ep_cells.specs.declared.cell.Value.{Value}
 use Rattle.ep_cells.specs.declared.cell.Value.TheVariants.{Num, Ptr}
-use Rattle.ep_cells.specs.Cells.{on_left, on_right, share_memory, side_without, place_of, touches, meets, IsNamed, IsIn, first, later, put_all, each_becomes, with_side, parts_on, parts_of}
-use Rattle.ep_cells.specs.States.{IsOfSort, HasRisingBlocks, Fits, IsThere, IsFormOf, HasForm, EachPair, AreApart, IsCell, AreCells}
-use Rattle.ep_cells.specs.Meaning.{Memories, Allows, HasBytes, IsUndefined, StandsAt, Says, numbers_of, HasNumber, FormSays, In}
-use Rattle.ep_cells.specs.Kill.{undefined_cell, entry_cells, AreLeavesIn, has_target, some_pointer, value_without, without_target, killed_part, killed_pointer, left_by_kill, fate_by_kill, killed_cells}
+use Rattle.ep_cells.specs.Cells.{on_left, on_right, share_memory, side_without, place_of, touches, meets, IsNamed}
+use Rattle.ep_cells.specs.Cells.{IsIn, first, later, put_all, each_becomes, with_side, parts_on, parts_of}
+use Rattle.ep_cells.specs.States.{IsOfSort, HasRisingBlocks, Fits, IsThere, IsFormOf, HasForm, EachPair, AreApart}
+use Rattle.ep_cells.specs.States.{IsCell, AreCells}
+use Rattle.ep_cells.specs.Meaning.{Memories, Allows, HasBytes, IsUndefined, StandsAt, Says, numbers_of, HasNumber}
+use Rattle.ep_cells.specs.Meaning.{FormSays, In}
+use Rattle.ep_cells.specs.Kill.{undefined_cell, entry_cells, AreLeavesIn, has_target, some_pointer, value_without}
+use Rattle.ep_cells.specs.Kill.{without_target, killed_part, killed_pointer, left_by_kill, fate_by_kill, killed_cells}
 use Rattle.ep_cells_laws.specs.Memories.{IsKilled, AreKilled}
-use Rattle.ep_cells_laws.proofs.Lists.{in_each, each_in, in_map, in_put_all, put_all_keeps, each_at, pairs_each, pairs_put}
+use Rattle.ep_cells_laws.proofs.Lists.{in_each, each_in, in_map, in_put_all, put_all_keeps, each_at, pairs_each}
+use Rattle.ep_cells_laws.proofs.Lists.{pairs_put}
 use Rattle.ep_cells_laws.proofs.Bytes.{SameBytes, bytes_same}
 use Rattle.ep_cells_laws.proofs.Kept.{bytes_kept, NotInto, bytes_killed, killed_there, part_killed}
-use Rattle.ep_cells_laws.proofs.Places.{at, before_from, in_block, Within, within_itself, IsRest, rest_is, IsMadeFrom, apart_made, before_rest, put_before_cell, put_after_cell}
+use Rattle.ep_cells_laws.proofs.Places.{at, before_from, in_block, Within, within_itself, IsRest, rest_is, IsMadeFrom}
+use Rattle.ep_cells_laws.proofs.Places.{apart_made, before_rest, put_before_cell, put_after_cell}
 use Rattle.ep_cells_laws.proofs.Changes.{IsKept, kept_says, IsChange, change_cells, change_holds}
 use Rattle.ep_cells_laws.proofs.Write.{keeps_kept, numbers_kept, Follows, follows_by}
 use Rattle.ep_cells_laws.proofs.Entry.{new_from, new_pairs}

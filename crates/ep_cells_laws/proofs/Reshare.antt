@@ -1,8 +1,11 @@
 -- Resharing: a Left and a Right cell that surely hold one number are one Shared cell.
-use Rattle.std.proofs.Common.{◌≡◌, ℕ, ◌+◌, ◌%◌, ◌^◌, ℤ, Bool, true, false, ◌&&◌, ◌||◌, nat_eq, nat_lt, cond, List, [], ◌∷◌, map, ◌⊎◌, inl, inr, ⊎_elim, Option, Some, None, IfSome, IsSomeAnd, refl, sym, ◌∙◌, ap, subst, arith}
+use Rattle.std.proofs.Common.{◌≡◌, ℕ, ◌+◌, ◌%◌, ◌^◌, ℤ, Bool, true, false, ◌&&◌, ◌||◌, nat_eq, nat_lt, cond, List, []}
+use Rattle.std.proofs.Common.{◌∷◌, map, ◌⊎◌, inl, inr, ⊎_elim, Option, Some, None, IfSome, IsSomeAnd, refl, sym, ◌∙◌}
+use Rattle.std.proofs.Common.{ap, subst, arith}
 use Rattle.std.specs.Option.{option_map_or}
 use Rattle.std.specs.Ordering.{int_eq}
-use Rattle.std.proofs.lemmas.Bool.{and_parts, and_from, and_right, and_cases, or_left, or_right, or_from, or_parts, or_cases, eqb-true, eq-eqb, lt-ltb, both_ways}
+use Rattle.std.proofs.lemmas.Bool.{and_parts, and_from, and_right, and_cases, or_left, or_right, or_from, or_parts}
+use Rattle.std.proofs.lemmas.Bool.{or_cases, eqb-true, eq-eqb, lt-ltb, both_ways}
 use Rattle.std.proofs.lemmas.Bool.Decides.{Decides-int_eq}
 use Rattle.std.proofs.lemmas.Int.{ints}
 use Rattle.ep_int.specs.declared.types.Order.{Order}
@@ -19,22 +22,28 @@ use Rattle.ep_bitslice.specs.declared.cell.CellName.{CellName}
 use Rattle.ep_bitslice.specs.declared.segment.Segment.{Segment}
 use Rattle.ep_bitslice.specs.Bits.{side_number}
 use Rattle.ep_bitslice.specs.Segments.{number}
-use Rattle.ep_domain.specs.Domain.{Ops, Lawful}
-use Rattle.ep_domain.specs.Domain.{Holds as HoldsNumber}
+use Rattle.ep_domain.specs.Domain.{Ops, Lawful, Holds as HoldsNumber}
 use Rattle.ep_range_laws.specs.Ranges.{LiesIn}
 use Rattle.ep_cells.specs.declared.cell.Cell.{Cell}
 use Rattle.ep_cells.specs.declared.cell.Value.{Value}
 use Rattle.ep_cells.specs.declared.cell.Value.TheVariants.{Num, Ptr}
-use Rattle.ep_cells.specs.Cells.{on_left, on_right, share_memory, place_of, touches, meets, is_same_side, is_same_scalar, IsNamed, IsIn, first, later, put, each_becomes}
+use Rattle.ep_cells.specs.Cells.{on_left, on_right, share_memory, place_of, touches, meets, is_same_side}
+use Rattle.ep_cells.specs.Cells.{is_same_scalar, IsNamed, IsIn, first, later, put, each_becomes}
 use Rattle.ep_cells.specs.Forms.{reformed, have_same_form, common_form}
-use Rattle.ep_cells.specs.States.{IsOfSort, HasRisingBlocks, IsThere, IsFormOf, HasForm, EachPair, AreApart, IsCell, AreCells}
-use Rattle.ep_cells.specs.Meaning.{Memories, Allows, HasBytes, StandsAt, Says, numbers_of, name_of, number_on, HasNumber, FormSays, In}
-use Rattle.ep_cells.specs.Reshare.{is_single, are_one_number, is_integer, are_same, met_value, reshared_cell, left_by_reshare, fate_by_side, fate_by_reshare, cell_from, reshared_pair, reshared_at, reshared_each, places, reshared}
+use Rattle.ep_cells.specs.States.{IsOfSort, HasRisingBlocks, IsThere, IsFormOf, HasForm, EachPair, AreApart, IsCell}
+use Rattle.ep_cells.specs.States.{AreCells}
+use Rattle.ep_cells.specs.Meaning.{Memories, Allows, HasBytes, StandsAt, Says, numbers_of, name_of, number_on}
+use Rattle.ep_cells.specs.Meaning.{HasNumber, FormSays, In}
+use Rattle.ep_cells.specs.Reshare.{is_single, are_one_number, is_integer, are_same, met_value, reshared_cell}
+use Rattle.ep_cells.specs.Reshare.{left_by_reshare, fate_by_side, fate_by_reshare, cell_from, reshared_pair}
+use Rattle.ep_cells.specs.Reshare.{reshared_at, reshared_each, places, reshared}
 use Rattle.ep_cells_laws.proofs.Lists.{in_each, each_in, in_put, put_there, put_keeps, pairs_each, pairs_put}
 use Rattle.ep_cells_laws.proofs.Bytes.{number_of_cell}
-use Rattle.ep_cells_laws.proofs.Places.{at, size_positive, before_rest, put_before_cell, put_after_cell, side_back, meets_sym}
+use Rattle.ep_cells_laws.proofs.Places.{at, size_positive, before_rest, put_before_cell, put_after_cell, side_back}
+use Rattle.ep_cells_laws.proofs.Places.{meets_sym}
 use Rattle.ep_cells_laws.proofs.Changes.{datum_of, IsChange, change_cells, change_holds, name_is}
-use Rattle.ep_cells_laws.proofs.Both.{scalar_same, BothHave, common_is, same_forms, bytes_weaker, one, left_first, right_first, one_order, form_at}
+use Rattle.ep_cells_laws.proofs.Both.{scalar_same, BothHave, common_is, same_forms, bytes_weaker, one, left_first}
+use Rattle.ep_cells_laws.proofs.Both.{right_first, one_order, form_at}
 
 -- a Left and a Right integer cell of one place and type, among these cells
 pub record IsPair {N : Type 0} (cs : List (Cell N)) (l r : Cell N) : Type 0 where
@@ -77,8 +86,7 @@ one_or_apart d x y cs p h k =
 
 -- cells of one place that share a memory are one
 one_here : {N : Type 0} (d : Model) (x y : Cell N) (cs : List (Cell N)) → EachPair (AreApart d) cs → IsIn x cs
-    → IsIn y cs → x.block ≡ y.block → x.offset ≡ y.offset
-    → share_memory x.side y.side ≡ true → x ≡ y
+    → IsIn y cs → x.block ≡ y.block → x.offset ≡ y.offset → share_memory x.side y.side ≡ true → x ≡ y
 one_here d x y cs p h k e f g =
     ⊎_elim (λ i. i)
     (λ i. absurd (both_ways (meets (place_of d x) (place_of d y)) i (and_from (share_memory x.side y.side) (touches
@@ -87,8 +95,7 @@ one_here d x y cs p h k e f g =
 
 -- another cell of the state doesn't touch the place
 apart_left : {N : Type 0} (d : Model) (x y : Cell N) (cs : List (Cell N)) → EachPair (AreApart d) cs → IsIn x cs
-    → IsIn y cs → (x ≡ y → ⊥) → share_memory x.side y.side ≡ true
-    → touches (place_of d x) (place_of d y) ≡ false
+    → IsIn y cs → (x ≡ y → ⊥) → share_memory x.side y.side ≡ true → touches (place_of d x) (place_of d y) ≡ false
 apart_left d x y cs p h k ne s =
     ⊎_elim (λ i. absurd (ne i))
     (λ i. ⊎_elim (λ f. absurd (both_ways (share_memory x.side y.side) f s)) (λ f. f) (and_cases (share_memory x.side
@@ -189,8 +196,7 @@ sort_meet (Int t) a None h = h
 sort_meet (Int t) a (Some c) h = tt
 sort_meet Pointer a o h = absurd h
 
-sort_met : {N : Type 0} (D : Ops N) (w : Scalar) (u v : Option (Value N)) → IsOfSort w u
-    → IsOfSort w (met_value D u v)
+sort_met : {N : Type 0} (D : Ops N) (w : Scalar) (u v : Option (Value N)) → IsOfSort w u → IsOfSort w (met_value D u v)
 sort_met D w None v h = h
 sort_met D w (Some (Ptr p)) v h = h
 sort_met D w (Some (Num a)) None h = h
@@ -209,8 +215,7 @@ rising_met D (Some (Num a)) None h = h
 rising_met D (Some (Num a)) (Some (Ptr q)) h = h
 rising_met D (Some (Num a)) (Some (Num b)) h = rising_meet a (D.meet a b)
 
-some_meet : {N : Type 0} (a : N) (o : Option N) → option_map_or {T = N} (λ c. Some (Num c)) o (Some (Num a)) ≡ None
-    → ⊥
+some_meet : {N : Type 0} (a : N) (o : Option N) → option_map_or {T = N} (λ c. Some (Num c)) o (Some (Num a)) ≡ None → ⊥
 some_meet a None e = cc
 some_meet a (Some c) e = cc
 
@@ -386,8 +391,7 @@ agreed_form D law os d m cs l r ss cells q b fl fr x y =
 
 agreed : {N : Type 0} (D : Ops N) → Lawful D
     → (os : Order × Order) (d : Model) (m : Memories) (cs : List (Cell N)) (l r : Cell N) → AreCells d cs
-    → (q : IsPair cs l r)
-    → (have_same_form l.form r.form || are_one_number D l.value r.value) ≡ true
+    → (q : IsPair cs l r) → (have_same_form l.form r.form || are_one_number D l.value r.value) ≡ true
     → IfSome l.form (FormSays os m l) → IfSome r.form (FormSays os m r) → (x : Says D os d m l) (y : Says D os d m r)
     → Agreed D q.t l.value r.value l.maybe r.maybe x.datum y.datum
 agreed D law os d m cs l r cells q h fl fr x y =
@@ -410,8 +414,7 @@ bytes_at o d n l r v b q w h =
     (subst (λ (z : Scalar). HasBytes o n (size_of d z) z r.maybe r.block r.offset v) (sym w) h))
 
 no_numbers : (o : Order) (n : Memory) (size : ℕ) (w : Scalar) (t : IntType) (maybe : Bool) (b q : ℕ) (z : ℤ)
-    → w ≡ Int t → maybe ≡ true
-    → HasBytes o n size w maybe b q None → HasBytes o n size w maybe b q (Some (int z))
+    → w ≡ Int t → maybe ≡ true → HasBytes o n size w maybe b q None → HasBytes o n size w maybe b q (Some (int z))
 no_numbers o n size w t maybe b q z e f h =
     subst (λ (y : Bool). HasBytes o n size w y b q (Some (int z))) (sym f)
     (subst (λ (y : Scalar). HasBytes o n size y true b q (Some (int z))) (sym e) (λ j l. inr (ap is_number (h j l))))
@@ -491,8 +494,7 @@ shared_says D os d m cs l r q x y hx hy (none e f a) = record {
 -- ---- its form
 
 shared_form : {N : Type 0} (D : Ops N) (cs : List (Cell N)) (l r : Cell N) → HasForm cs l → HasForm cs r
-    → (o : Option (List Segment)) → common_form l.form r.form ≡ o
-    → IfSome o (IsFormOf cs (reshared_cell D l r))
+    → (o : Option (List Segment)) → common_form l.form r.form ≡ o → IfSome o (IsFormOf cs (reshared_cell D l r))
 shared_form D cs l r h k None e = tt
 shared_form D cs l r h k (Some ss) e =
     let b = common_is l.form r.form ss e in
@@ -502,8 +504,7 @@ shared_form D cs l r h k (Some ss) e =
 
 -- the number at the left of the place
 left_is_shared : {N : Type 0} (D : Ops N) (os : Order × Order) (m : Memories) (l r : Cell N) (t : IntType)
-    → l.side ≡ Left
-    → numbers_of os m (name_of (reshared_cell D l r) t) ≡ numbers_of os m (name_of l t)
+    → l.side ≡ Left → numbers_of os m (name_of (reshared_cell D l r) t) ≡ numbers_of os m (name_of l t)
 left_is_shared D os m l r t e = ap (λ (s : Side). number_on s os m (name_of l t)) (sym e)
 
 shared_number : {N : Type 0} (D : Ops N) (os : Order × Order) (m : Memories) (l r : Cell N) (w : Scalar) (k : ℕ)
@@ -666,8 +667,7 @@ pair_change D d cs l r a q = record {
 
 pair_holds : {N : Type 0} (D : Ops N) → Lawful D
     → (os : Order × Order) (d : Model) (m : Memories) (cs : List (Cell N)) (l r : Cell N) → AreCells d cs
-    → IsPair cs l r
-    → (have_same_form l.form r.form || are_one_number D l.value r.value) ≡ true → In D (record {
+    → IsPair cs l r → (have_same_form l.form r.form || are_one_number D l.value r.value) ≡ true → In D (record {
       orders = os;
       model =
           d;

@@ -1,5 +1,7 @@
 -- What a weak write leaves of a cell, and the numbers that may then be in its bytes.
-use Rattle.std.proofs.Common.{◌≡◌, ℕ, ◌+◌, ◌-◌, ◌^◌, ◌<◌, ℤ, Bool, true, false, ◌&&◌, ◌||◌, not, nat_eq, nat_le, nat_lt, cond, [], ◌∷◌, ◌⊎◌, inl, inr, ⊎_elim, Option, Some, None, refl, sym, ◌∙◌, ap, subst, arith}
+use Rattle.std.proofs.Common.{◌≡◌, ℕ, ◌+◌, ◌-◌, ◌^◌, ◌<◌, ℤ, Bool, true, false, ◌&&◌, ◌||◌, not, nat_eq, nat_le}
+use Rattle.std.proofs.Common.{nat_lt, cond, [], ◌∷◌, ◌⊎◌, inl, inr, ⊎_elim, Option, Some, None, refl, sym, ◌∙◌, ap}
+use Rattle.std.proofs.Common.{subst, arith}
 use Rattle.std.proofs.lemmas.Bool.{and_parts, eqb-true, ltb-true, leb-true, cases_Bool}
 use Rattle.ep_int.specs.declared.types.Order.{Order}
 use Rattle.ep_int.specs.declared.types.Model.{Model}
@@ -8,7 +10,8 @@ use Rattle.ep_int.specs.declared.types.Scalar.{Scalar}
 use Rattle.ep_int.specs.declared.types.Scalar.TheVariants.{Int, Pointer}
 use Rattle.ep_int.specs.Types.{bytes_of, size_of, InRange}
 use Rattle.ep_int.specs.Encoding.{place, encoded, decoded, sum_of_bytes}
-use Rattle.ep_int.specs.Memory.{Byte, undefined, number, fragment, Memory, Value as Datum, int, null, pointer, is_number, number_in, lies_partly, bytes_of_value}
+use Rattle.ep_int.specs.Memory.{Byte, undefined, number, fragment, Memory, Value as Datum, int, null, pointer}
+use Rattle.ep_int.specs.Memory.{is_number, number_in, lies_partly, bytes_of_value}
 use Rattle.ep_int.proofs.Wrapping.{represented_in_range}
 use Rattle.ep_int.proofs.Places.{width_of, place_below}
 use Rattle.ep_int.proofs.Encodings.{byte_below, bytes_pow, sum_of_bytes_below, encoded_decoded}
@@ -18,7 +21,8 @@ use Rattle.ep_domain.specs.Domain.{Ops}
 use Rattle.ep_cells.specs.declared.cell.Cell.{Cell}
 use Rattle.ep_cells.specs.declared.cell.Value.TheVariants.{Num}
 use Rattle.ep_cells.specs.declared.place.Place.{Place}
-use Rattle.ep_cells.specs.Cells.{on_left, on_right, share_memory, place_of, touches, is_same_place, IsIn, first, later, each_becomes, parts_on, parts_of}
+use Rattle.ep_cells.specs.Cells.{on_left, on_right, share_memory, place_of, touches, is_same_place, IsIn, first}
+use Rattle.ep_cells.specs.Cells.{later, each_becomes, parts_on, parts_of}
 use Rattle.ep_cells.specs.Meaning.{HasBytes, HasNumbersOf}
 use Rattle.ep_cells.specs.Weaken.{blurred, with_join, weak_cell, weak_part, left_by_weak_write}
 use Rattle.ep_cells.specs.Both.{value_of_both}

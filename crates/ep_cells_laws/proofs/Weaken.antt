@@ -1,5 +1,6 @@
 -- What weak writes leave of cells, and that it holds.
-use Rattle.std.proofs.Common.{◌≡◌, ℕ, ◌+◌, ◌<◌, Bool, true, false, ◌&&◌, ◌||◌, not, nat_eq, cond, List, [], ◌∷◌, ◌⊎◌, inl, inr, ⊎_elim, Option, Some, None, IfSome, refl, sym, ◌∙◌, ap, subst}
+use Rattle.std.proofs.Common.{◌≡◌, ℕ, ◌+◌, ◌<◌, Bool, true, false, ◌&&◌, ◌||◌, not, nat_eq, cond, List, [], ◌∷◌, ◌⊎◌}
+use Rattle.std.proofs.Common.{inl, inr, ⊎_elim, Option, Some, None, IfSome, refl, sym, ◌∙◌, ap, subst}
 use Rattle.std.proofs.lemmas.Bool.{and_parts, and_from, or_left, or_right, eqb-true, both_ways, cases_Bool}
 use Rattle.ep_int.specs.declared.types.Order.{Order}
 use Rattle.ep_int.specs.declared.types.Model.{Model}
@@ -17,22 +18,29 @@ use Rattle.ep_domain.specs.Domain.{Ops, Lawful}
 use Rattle.ep_cells.specs.declared.cell.Cell.{Cell}
 use Rattle.ep_cells.specs.declared.cell.Value.TheVariants.{Num}
 use Rattle.ep_cells.specs.declared.place.Place.{Place}
-use Rattle.ep_cells.specs.Cells.{on_left, on_right, share_memory, place_of, place_of_name, touches, is_same_scalar, is_same_place, IsNamed, IsIn, first, later, each_becomes, parts_on, parts_of}
-use Rattle.ep_cells.specs.States.{Known, IsOfSort, Fits, IsThere, IsFormOf, HasForm, EachPair, AreApart, IsCell, AreCells, AreAlike}
+use Rattle.ep_cells.specs.Cells.{on_left, on_right, share_memory, place_of, place_of_name, touches, is_same_scalar}
+use Rattle.ep_cells.specs.Cells.{is_same_place, IsNamed, IsIn, first, later, each_becomes, parts_on, parts_of}
+use Rattle.ep_cells.specs.States.{Known, IsOfSort, Fits, IsThere, IsFormOf, HasForm, EachPair, AreApart, IsCell}
+use Rattle.ep_cells.specs.States.{AreCells, AreAlike}
 use Rattle.ep_cells.specs.Meaning.{Memories, Allows, HasBytes, Says, numbers_of, HasNumber, FormSays, In}
-use Rattle.ep_cells.specs.Weaken.{blurred, with_join, weak_cell, weak_part, left_by_weak_write, first_part, fate_by_weak_write, weakened}
+use Rattle.ep_cells.specs.Weaken.{blurred, with_join, weak_cell, weak_part, left_by_weak_write, first_part}
+use Rattle.ep_cells.specs.Weaken.{fate_by_weak_write, weakened}
 use Rattle.ep_cells.specs.Both.{value_of_both}
-use Rattle.ep_cells_laws.specs.Sound.{MayBeWritten, as_it_was, rewritten, MayBeWeaklyWritten, each_side, neither, both_sides}
+use Rattle.ep_cells_laws.specs.Sound.{MayBeWritten, as_it_was, rewritten, MayBeWeaklyWritten, each_side, neither}
+use Rattle.ep_cells_laws.specs.Sound.{both_sides}
 use Rattle.ep_cells_laws.proofs.Lists.{in_each, each_in, pairs_each}
 use Rattle.ep_cells_laws.proofs.Bytes.{SameBytes, bytes_same}
 use Rattle.ep_cells_laws.proofs.Places.{Within, within_itself, within_shared, IsMadeFrom, apart_made}
 use Rattle.ep_cells_laws.proofs.Changes.{IsKept, kept_says, IsChange, change_cells, change_holds}
 use Rattle.ep_cells_laws.proofs.Write.{keeps_kept, numbers_kept, Follows, place_named}
-use Rattle.ep_cells_laws.proofs.Both.{join_unites, scalar_same, sort_both, rising_both, undefined_both, allowed_left, allowed_right, bytes_weaker}
+use Rattle.ep_cells_laws.proofs.Both.{join_unites, scalar_same, sort_both, rising_both, undefined_both, allowed_left}
+use Rattle.ep_cells_laws.proofs.Both.{allowed_right, bytes_weaker}
 use Rattle.ep_cells_laws.proofs.Parts.{rest_of_unshared}
 use Rattle.ep_cells_laws.proofs.Kill.{parts_apart}
 use Rattle.ep_cells_laws.proofs.Beside.{Sides, left_of, right_of, kept_beside, kept_other}
-use Rattle.ep_cells_laws.proofs.WeakCells.{IsSmall, small_bytes, small_after, number_here, some_number, some_in_range, AfterWeak, shared_all, after_weak, after_made, beside, other, joined, blurry}
+use Rattle.ep_cells_laws.proofs.WeakCells.{IsSmall, small_bytes, small_after, number_here, some_number, some_in_range}
+use Rattle.ep_cells_laws.proofs.WeakCells.{AfterWeak, shared_all, after_weak, after_made, beside, other, joined}
+use Rattle.ep_cells_laws.proofs.WeakCells.{blurry}
 
 -- ---- pairs
 

@@ -1,7 +1,9 @@
 -- Writes: what is left of cells, and that it holds.
-use Rattle.std.proofs.Common.{◌≡◌, ℕ, ◌+◌, ◌<◌, Bool, true, false, ◌&&◌, nat_eq, nat_le, nat_lt, cond, List, [], ◌∷◌, ⊎_elim, Option, Some, None, IfSome, refl, sym, ◌∙◌, ap, subst, arith}
+use Rattle.std.proofs.Common.{◌≡◌, ℕ, ◌+◌, ◌<◌, Bool, true, false, ◌&&◌, nat_eq, nat_le, nat_lt, cond, List, [], ◌∷◌}
+use Rattle.std.proofs.Common.{⊎_elim, Option, Some, None, IfSome, refl, sym, ◌∙◌, ap, subst, arith}
 use Rattle.std.specs.Option.{option_map}
-use Rattle.std.proofs.lemmas.Bool.{and_parts, and_from, and_left, and_right, leb-true, ltb-true, lt-ltb, false_from_ne_true, both_ways}
+use Rattle.std.proofs.lemmas.Bool.{and_parts, and_from, and_left, and_right, leb-true, ltb-true, lt-ltb}
+use Rattle.std.proofs.lemmas.Bool.{false_from_ne_true, both_ways}
 use Rattle.ep_int.specs.declared.types.Order.{Order}
 use Rattle.ep_int.specs.declared.types.Model.{Model}
 use Rattle.ep_int.specs.declared.types.IntType.{IntType}
@@ -16,15 +18,19 @@ use Rattle.ep_bitslice.specs.Segments.{number}
 use Rattle.ep_domain.specs.Domain.{Ops}
 use Rattle.ep_cells.specs.declared.cell.Cell.{Cell}
 use Rattle.ep_cells.specs.declared.place.Place.{Place}
-use Rattle.ep_cells.specs.Cells.{on_left, on_right, share_memory, side_without, place_of, place_of_name, touches, meets, IsNamed, IsIn, first, later, put, each_becomes, with_side}
-use Rattle.ep_cells.specs.States.{Fits, IsThere, IsFormOf, HasForm, EachPair, AreApart, IsCell, AreCells, CanWrite, HasRisingBlocks}
+use Rattle.ep_cells.specs.Cells.{on_left, on_right, share_memory, side_without, place_of, place_of_name, touches}
+use Rattle.ep_cells.specs.Cells.{meets, IsNamed, IsIn, first, later, put, each_becomes, with_side}
+use Rattle.ep_cells.specs.States.{Fits, IsThere, IsFormOf, HasForm, EachPair, AreApart, IsCell, AreCells, CanWrite}
+use Rattle.ep_cells.specs.States.{HasRisingBlocks}
 use Rattle.ep_cells.specs.Meaning.{Memories, Says, numbers_of, name_of, HasNumber, FormSays, In}
 use Rattle.ep_cells.specs.Write.{left_by_write, fate_by_write, written}
 use Rattle.ep_cells_laws.specs.Memories.{is_byte_of, IsRewritten, AreRewritten}
 use Rattle.ep_cells_laws.proofs.Lists.{in_each, each_in, in_put, put_keeps, pairs_each, pairs_put}
 use Rattle.ep_cells_laws.proofs.Bytes.{SameBytes, bytes_same}
-use Rattle.ep_cells_laws.proofs.Places.{at, Within, within_itself, IsRest, rest_is, IsMadeFrom, apart_made, before_rest, put_before_cell, put_after_cell}
-use Rattle.ep_cells_laws.proofs.Changes.{IsKept, kept_says, kept_number, name_is, number_on_kept, IsChange, change_cells, change_holds}
+use Rattle.ep_cells_laws.proofs.Places.{at, Within, within_itself, IsRest, rest_is, IsMadeFrom, apart_made}
+use Rattle.ep_cells_laws.proofs.Places.{before_rest, put_before_cell, put_after_cell}
+use Rattle.ep_cells_laws.proofs.Changes.{IsKept, kept_says, kept_number, name_is, number_on_kept, IsChange}
+use Rattle.ep_cells_laws.proofs.Changes.{change_cells, change_holds}
 
 -- ---- bytes that are as they were
 

@@ -1,6 +1,7 @@
 -- The memory before main.
 use Rattle.std.proofs.Common.{◌≡◌, ℕ, zero, suc, ◌+◌, ◌%◌, ◌<◌, ◌≤◌, ◌==◌, ℤ, pos, Bool, true, false, ◌&&◌, ◌||◌, not}
-use Rattle.std.proofs.Common.{nat_eq, nat_lt, nat_le, List, [], ◌∷◌, length, map, drop, fold, get_or, slice_get, Option, Some, None}
+use Rattle.std.proofs.Common.{nat_eq, nat_lt, nat_le, List, [], ◌∷◌, length, map, drop, fold, get_or, slice_get}
+use Rattle.std.proofs.Common.{Option, Some, None}
 use Rattle.std.proofs.Common.{Result, Ok, Err, OnOk, ◌⊎◌, inl, inr, refl, sym, ap, ◌∙◌, subst, if◌then◌else◌, arith}
 use Rattle.std.specs.Prelude.{⊤, option_to_list, slice_index, unwrap_or, unsigned_abs}
 use Rattle.std.specs.List.{list_all, list_any}
@@ -24,7 +25,8 @@ use Rattle.ep_bytes.specs.Shown.{fault_at, written_as}
 use Rattle.ep_core.specs.Program.{Block, Function, Init, Program}
 use Rattle.ep_core.specs.Exec.{block_size, model, result_in, size_at}
 use Rattle.ep_core.specs.Runs.{blank, is_global, is_result, main_function}
-use Rattle.ep_core.specs.WellFormed.{block_fits, blocks_fit, holds_scalar, init_fits, is_well_formed, is_leaf_at, is_number, is_same_scalar}
+use Rattle.ep_core.specs.WellFormed.{block_fits, blocks_fit, holds_scalar, init_fits, is_well_formed, is_leaf_at}
+use Rattle.ep_core.specs.WellFormed.{is_number, is_same_scalar}
 use Rattle.ep_int.specs.Arith.{is_in_range, IsOfSomeType}
 use Rattle.ep_int.specs.Types.{InRange}
 use Rattle.ep_int.proofs.Arithmetic.{in_range_from_true, in_range_some_type}

@@ -1,5 +1,6 @@
 -- A machine before main.
-use Rattle.std.proofs.Common.{◌≡◌, ℕ, true, false, Bool, List, [], ◌∷◌, fold, if◌then◌else◌, ◌||◌, slice_get, sym, ap, ◌∙◌, subst}
+use Rattle.std.proofs.Common.{◌≡◌, ℕ, true, false, Bool, List, [], ◌∷◌, fold, if◌then◌else◌, ◌||◌, slice_get, sym, ap}
+use Rattle.std.proofs.Common.{◌∙◌, subst}
 use Rattle.ep_int.specs.declared.types.Scalar.TheVariants.{Int}
 use Rattle.ep_int.specs.Memory.{Byte, undefined, number, Memory, int, stored}
 use Rattle.ep_bytes.specs.Held.{memory_in}

@@ -1,5 +1,7 @@
 -- What the code of congruences needs.
-use Rattle.std.proofs.Common.{◌≡◌, ℕ, ◌*◌, ◌^◌, ◌<◌, ◌≤◌, ℤ, pos, negsuc, ◌*ℤ◌, ◌≤ℤ◌, ◌<ℤ◌, Bool, true, false, cond, ◌&&◌, ◌⊎◌, inl, inr, Option, Some, None, FitsSigned, of_z, to_z, nat_eq, nat_le, refl, sym, ap, ◌∙◌, subst, arith}
+use Rattle.std.proofs.Common.{◌≡◌, ℕ, ◌*◌, ◌^◌, ◌<◌, ◌≤◌, ℤ, pos, negsuc, ◌*ℤ◌, ◌≤ℤ◌, ◌<ℤ◌, Bool, true, false, cond}
+use Rattle.std.proofs.Common.{◌&&◌, ◌⊎◌, inl, inr, Option, Some, None, FitsSigned, of_z, to_z, nat_eq, nat_le, refl}
+use Rattle.std.proofs.Common.{sym, ap, ◌∙◌, subst, arith}
 use Rattle.std.specs.Prelude.{int_le, unsigned_abs, IfSome, IsSome}
 use Rattle.std.specs.Option.{unwrap_or}
 use Rattle.std.specs.Int.{w128}
@@ -16,9 +18,14 @@ use Rattle.ep_int.specs.Arith.{int_eq, is_amount, IsOfSomeType, IsRightOperand}
 use Rattle.ep_range_laws.proofs.Types.{number_low, number_high, ends_ordered}
 use Rattle.ep_range_laws.proofs.Comparisons.{between_true, from_le_true, from_le_false, le_antisym, le_trans, le_self}
 use Rattle.ep_congruence_laws.specs.Multiples.{gcd}
-use Rattle.ep_congruence_laws.specs.Classes.{Class, class, everything, one, is_one, is_class, reduced, edges_of, cut_at, cut_of, greatest_modulus}
-use Rattle.ep_congruence_laws.specs.Results.{greatest_product, kept_modulus, limited, are_small, multiples_of, past_limits, products, product_at, product_of, product_modulus, product_leaves, ends_of, shifted_of, results_of, left_operand, right_operand}
-use Rattle.ep_congruence_laws.proofs.Classes.{zero_from, nonzero_from, class_one, class_remainder, class_small, class_has, class_with, le_from, le_test, reduced_zero, reduced_more}
+use Rattle.ep_congruence_laws.specs.Classes.{Class, class, everything, one, is_one, is_class, reduced, edges_of}
+use Rattle.ep_congruence_laws.specs.Classes.{cut_at, cut_of, greatest_modulus}
+use Rattle.ep_congruence_laws.specs.Results.{greatest_product, kept_modulus, limited, are_small, multiples_of}
+use Rattle.ep_congruence_laws.specs.Results.{past_limits, products, product_at, product_of, product_modulus}
+use Rattle.ep_congruence_laws.specs.Results.{product_leaves, ends_of, shifted_of, results_of, left_operand}
+use Rattle.ep_congruence_laws.specs.Results.{right_operand}
+use Rattle.ep_congruence_laws.proofs.Classes.{zero_from, nonzero_from, class_one, class_remainder, class_small}
+use Rattle.ep_congruence_laws.proofs.Classes.{class_has, class_with, le_from, le_test, reduced_zero, reduced_more}
 use Rattle.ep_congruence_laws.proofs.Operations.{In, Is, AreEdges, remainder_bounds}
 use Rattle.ep_congruence_laws.proofs.Cuts.{IsCut, cut_is, cut_away, edges_within}
 use Rattle.ep_congruence.specs.declared.congruence.Congruence.TheInside.{Inside}

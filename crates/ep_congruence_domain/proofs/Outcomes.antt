@@ -1,5 +1,6 @@
 -- The laws of operators.
-use Rattle.std.specs.Prelude.{◌≡◌, ℤ, pos, ◌≤ℤ◌, ◌⊎◌, true, Option, Some, None, Result, Ok, Err, IsTrue, IfSome, IsSomeAnd, MatchResult, is_some, is_err, refl}
+use Rattle.std.specs.Prelude.{◌≡◌, ℤ, pos, ◌≤ℤ◌, ◌⊎◌, true, Option, Some, None, Result, Ok, Err, IsTrue, IfSome}
+use Rattle.std.specs.Prelude.{IsSomeAnd, MatchResult, is_some, is_err, refl}
 use Rattle.std.specs.Option.{unwrap_or, option_and_then}
 use Rattle.std.proofs.Common.{ap, sym, ◌∙◌, subst, inl, inr}
 use Rattle.ep_int.specs.declared.types.IntType.{IntType}
@@ -24,10 +25,12 @@ use Rattle.ep_congruence_laws.proofs.Operations as operations
 use Rattle.ep_congruence_laws.proofs.Operations.{In, Is, one_member}
 use Rattle.ep_congruence_laws.proofs.Cuts.{IsCut, cut_is, one_class}
 use Rattle.ep_congruence_laws.proofs.Results.{between_give}
-use Rattle.ep_congruence_domain.specs.Congruence.{Congruence, class_of, formed, holds_of, range_of, fault_between, outcome_of}
+use Rattle.ep_congruence_domain.specs.Congruence.{Congruence, class_of, formed, holds_of, range_of, fault_between}
+use Rattle.ep_congruence_domain.specs.Congruence.{outcome_of}
 use Rattle.ep_congruence_domain.specs.Domain.{congruence_ops}
 use Rattle.ep_congruence_domain.proofs.Formed.{formed_some, then_formed}
-use Rattle.ep_congruence_domain.proofs.Simple.{holds, held_some, HasClass, class_range, single_of_range, single_number, cut_valid, cut_one}
+use Rattle.ep_congruence_domain.proofs.Simple.{holds, held_some, HasClass, class_range, single_of_range}
+use Rattle.ep_congruence_domain.proofs.Simple.{single_number, cut_valid, cut_one}
 
 -- What an operand cut to the numbers that arithmetic takes is: a class that a value may be, inside the range of the operand, with each of its numbers that arithmetic takes.
 record Taken (P : ℤ → Type 0) (k d : Class) : Type 0 where

@@ -1,5 +1,6 @@
 -- The laws of what does not depend on an operator.
-use Rattle.std.specs.Prelude.{◌≡◌, ℕ, ℤ, pos, ◌-ℤ◌, ◌+ℤ◌, ◌≤ℤ◌, ◌<ℤ◌, ◌⊎◌, Bool, true, false, cond, ◌&&◌, not, Option, Some, None, IsTrue, IfSome, IsSomeAnd, nat_eq, refl}
+use Rattle.std.specs.Prelude.{◌≡◌, ℕ, ℤ, pos, ◌-ℤ◌, ◌+ℤ◌, ◌≤ℤ◌, ◌<ℤ◌, ◌⊎◌, Bool, true, false, cond, ◌&&◌, not, Option}
+use Rattle.std.specs.Prelude.{Some, None, IsTrue, IfSome, IsSomeAnd, nat_eq, refl}
 use Rattle.std.specs.Option.{option_map, option_and_then}
 use Rattle.std.proofs.Common.{arith, ap, sym, ◌∙◌, subst, inl, inr}
 use Rattle.std.proofs.lemmas.Int.{ints}
@@ -26,7 +27,9 @@ use Rattle.ep_congruence_laws.proofs.Operations.{In, Is, one_member, range_one, 
 use Rattle.ep_congruence_laws.proofs.Cuts as cuts
 use Rattle.ep_congruence_laws.proofs.Cuts.{itself_in, IsCut, cut_is}
 use Rattle.ep_congruence_laws.proofs.Results.{of_one}
-use Rattle.ep_congruence_domain.specs.Congruence.{Congruence, class_of, formed, holds_of, top_of, single_of, range_of, is_within, join_of, meet_of, conversion_of, edges_of, cut_of, twice, are_apart, kept_unless, filter_of}
+use Rattle.ep_congruence_domain.specs.Congruence.{Congruence, class_of, formed, holds_of, top_of, single_of, range_of}
+use Rattle.ep_congruence_domain.specs.Congruence.{is_within, join_of, meet_of, conversion_of, edges_of, cut_of, twice}
+use Rattle.ep_congruence_domain.specs.Congruence.{are_apart, kept_unless, filter_of}
 use Rattle.ep_congruence_domain.proofs.Formed.{then_formed, then_kept}
 
 pub holds : (c : Congruence) (z : ℤ) → IsTrue (holds_of c z) → Has (class_of c) z

@@ -1,5 +1,6 @@
 -- The strides of congruences.
-use Rattle.std.specs.Prelude.{◌≡◌, ℕ, zero, suc, ◌+◌, ◌*◌, ◌%◌, ◌<◌, ◌≤◌, ℤ, pos, ◌-ℤ◌, ◌≤ℤ◌, ◌⊎◌, true, Option, Some, None, IsTrue, IfSome, unsigned_abs, refl}
+use Rattle.std.specs.Prelude.{◌≡◌, ℕ, zero, suc, ◌+◌, ◌*◌, ◌%◌, ◌<◌, ◌≤◌, ℤ, pos, ◌-ℤ◌, ◌≤ℤ◌, ◌⊎◌, true, Option, Some}
+use Rattle.std.specs.Prelude.{None, IsTrue, IfSome, unsigned_abs, refl}
 use Rattle.std.specs.Option.{option_and_then}
 use Rattle.std.proofs.Common.{arith, ap, sym, ◌∙◌, subst, inl, inr}
 use Rattle.std.proofs.Math.Nat.{dvd-mul_right}
@@ -20,7 +21,8 @@ use Rattle.ep_congruence_laws.proofs.Operations.{In, Is, one_member, gcd_greates
 use Rattle.ep_congruence_laws.proofs.Cuts as cuts
 use Rattle.ep_congruence_laws.proofs.Cuts.{HasStride, stride_from, stride_test, stride_of, IsCut, cut_is}
 use Rattle.ep_congruence_laws.proofs.Strides.{add_stride, sub_stride, mul_stride, one_stride}
-use Rattle.ep_congruence_domain.specs.Congruence.{Congruence, class_of, holds_of, single_of, join_of, cut_of, outcome_of, range_of}
+use Rattle.ep_congruence_domain.specs.Congruence.{Congruence, class_of, holds_of, single_of, join_of, cut_of}
+use Rattle.ep_congruence_domain.specs.Congruence.{outcome_of, range_of}
 use Rattle.ep_congruence_domain.specs.Domain.{congruence_ops}
 use Rattle.ep_congruence_domain.proofs.Formed.{then_kept}
 use Rattle.ep_congruence_domain.proofs.Simple.{holds, single_class, single_of_range}

@@ -1,6 +1,8 @@
 -- Laws of congruence classes.
 use Prim.Native.Nat.{◌∣◌}
-use Rattle.std.proofs.Common.{◌≡◌, ℕ, zero, suc, ◌/◌, ◌<◌, ◌≤◌, ℤ, pos, negsuc, ◌+ℤ◌, ◌-ℤ◌, ◌*ℤ◌, ◌≤ℤ◌, ◌<ℤ◌, neg_ℤ, Bool, true, false, cond, ◌&&◌, ◌||◌, ◌⊎◌, inl, inr, nat_eq, nat_le, arith, refl, sym, ap, ◌∙◌, subst}
+use Rattle.std.proofs.Common.{◌≡◌, ℕ, zero, suc, ◌/◌, ◌<◌, ◌≤◌, ℤ, pos, negsuc, ◌+ℤ◌, ◌-ℤ◌, ◌*ℤ◌, ◌≤ℤ◌, ◌<ℤ◌, neg_ℤ}
+use Rattle.std.proofs.Common.{Bool, true, false, cond, ◌&&◌, ◌||◌, ◌⊎◌, inl, inr, nat_eq, nat_le, arith, refl, sym}
+use Rattle.std.proofs.Common.{ap, ◌∙◌, subst}
 use Rattle.std.specs.Prelude.{unsigned_abs, int_le, int_lt}
 use Rattle.std.proofs.Math.IntN.{zero-*ℤ, *ℤ_comm}
 use Rattle.std.proofs.lemmas.Int.{ints}
@@ -12,10 +14,13 @@ use Rattle.ep_int.specs.declared.types.IntType.TheVariants.{I64, U64}
 use Rattle.ep_int.specs.Types.{least_of, greatest_of, residue}
 use Rattle.ep_int.specs.Arith.{IsOfSomeType}
 use Rattle.ep_int.proofs.Wrapping.{residue_below}
-use Rattle.ep_range_laws.proofs.Comparisons.{le_true, from_le_true, from_le_false, lt_true, from_lt_true, between_true, from_between, le_trans}
+use Rattle.ep_range_laws.proofs.Comparisons.{le_true, from_le_true, from_le_false, lt_true, from_lt_true}
+use Rattle.ep_range_laws.proofs.Comparisons.{between_true, from_between, le_trans}
 use Rattle.ep_congruence_laws.specs.Multiples.{IsMultiple, is_multiple}
-use Rattle.ep_congruence_laws.specs.Classes.{Class, class, one, is_number, has, Has, greatest_modulus, is_class, reduced}
-use Rattle.ep_congruence_laws.proofs.Multiples.{multiple_sum, multiple_difference, size_of_multiple, none_of, itself, test_multiple, multiple_test}
+use Rattle.ep_congruence_laws.specs.Classes.{Class, class, one, is_number, has, Has, greatest_modulus, is_class}
+use Rattle.ep_congruence_laws.specs.Classes.{reduced}
+use Rattle.ep_congruence_laws.proofs.Multiples.{multiple_sum, multiple_difference, size_of_multiple, none_of, itself}
+use Rattle.ep_congruence_laws.proofs.Multiples.{test_multiple, multiple_test}
 
 pub zero_from : (n : ℕ) → nat_eq n 0 ≡ true → n ≡ 0
 zero_from n h = grind (arith, nat_tests)

@@ -1,6 +1,8 @@
 -- Laws of cuts, conversions, meets and strides.
 use Prim.Native.Nat.{◌∣◌}
-use Rattle.std.proofs.Common.{◌≡◌, ℕ, ◌*◌, ◌%◌, ◌^◌, ◌<◌, ◌≤◌, ℤ, pos, ◌+ℤ◌, ◌-ℤ◌, ◌*ℤ◌, ◌≤ℤ◌, ◌<ℤ◌, Bool, true, false, cond, ◌⊎◌, inl, inr, Option, Some, None, nat_eq, nat_le, arith, refl, sym, ap, ◌∙◌, subst}
+use Rattle.std.proofs.Common.{◌≡◌, ℕ, ◌*◌, ◌%◌, ◌^◌, ◌<◌, ◌≤◌, ℤ, pos, ◌+ℤ◌, ◌-ℤ◌, ◌*ℤ◌, ◌≤ℤ◌, ◌<ℤ◌, Bool, true}
+use Rattle.std.proofs.Common.{false, cond, ◌⊎◌, inl, inr, Option, Some, None, nat_eq, nat_le, arith, refl, sym, ap}
+use Rattle.std.proofs.Common.{◌∙◌, subst}
 use Rattle.std.specs.Prelude.{IfSome, IsSomeAnd}
 use Rattle.std.specs.Int.{int_min, int_max}
 use Rattle.std.proofs.lemmas.Int.{ints, clamps}
@@ -19,10 +21,13 @@ use Rattle.ep_range_laws.proofs.Types.{number_of}
 use Rattle.ep_domain.specs.Laws.Shared.{eq_true, from_eq}
 use Rattle.ep_range_laws.proofs.Comparisons.{le_trans}
 use Rattle.ep_congruence_laws.specs.Multiples.{IsMultiple, is_multiple, gcd}
-use Rattle.ep_congruence_laws.specs.Classes.{Class, class, one, greatest_modulus, reduced, distance, edges_of, cut_at, cut_of, conversion_of, meeting, meet_of, has_stride}
+use Rattle.ep_congruence_laws.specs.Classes.{Class, class, one, greatest_modulus, reduced, distance, edges_of, cut_at}
+use Rattle.ep_congruence_laws.specs.Classes.{cut_of, conversion_of, meeting, meet_of, has_stride}
 use Rattle.ep_congruence_laws.proofs.Multiples.{multiple_of, none_of, test_multiple, multiple_test}
-use Rattle.ep_congruence_laws.proofs.Classes.{zero_from, zero_test, nonzero_from, residue_multiple, residue_same, chain, turn, in_reduced, reduced_modulus, class_with, class_has}
-use Rattle.ep_congruence_laws.proofs.Operations.{In, Is, gcd_left, gcd_right, gcd_small, one_member, AreEdges, edges_are, edges_enclose}
+use Rattle.ep_congruence_laws.proofs.Classes.{zero_from, zero_test, nonzero_from, residue_multiple, residue_same}
+use Rattle.ep_congruence_laws.proofs.Classes.{chain, turn, in_reduced, reduced_modulus, class_with, class_has}
+use Rattle.ep_congruence_laws.proofs.Operations.{In, Is, gcd_left, gcd_right, gcd_small, one_member, AreEdges}
+use Rattle.ep_congruence_laws.proofs.Operations.{edges_are, edges_enclose}
 
 pub itself_in : (r : ℤ) (m : ℕ) → IsMultiple m (r -ℤ r)
 itself_in r m = subst (IsMultiple m) (sym (nothing r)) (none_of m)

@@ -1,6 +1,8 @@
 -- Laws of what does not depend on an operator.
 use Prim.Native.Nat.{◌∣◌}
-use Rattle.std.proofs.Common.{◌≡◌, ℕ, zero, suc, ◌+◌, ◌-◌, ◌*◌, ◌/◌, ◌%◌, ◌^◌, ◌<◌, ◌≤◌, ℤ, pos, negsuc, ◌+ℤ◌, ◌-ℤ◌, ◌*ℤ◌, ◌≤ℤ◌, ◌<ℤ◌, neg_ℤ, Bool, true, false, cond, ◌&&◌, Some, None, nat_eq, nat_le, arith, refl, sym, ap, ◌∙◌, subst}
+use Rattle.std.proofs.Common.{◌≡◌, ℕ, zero, suc, ◌+◌, ◌-◌, ◌*◌, ◌/◌, ◌%◌, ◌^◌, ◌<◌, ◌≤◌, ℤ, pos, negsuc, ◌+ℤ◌, ◌-ℤ◌}
+use Rattle.std.proofs.Common.{◌*ℤ◌, ◌≤ℤ◌, ◌<ℤ◌, neg_ℤ, Bool, true, false, cond, ◌&&◌, Some, None, nat_eq, nat_le}
+use Rattle.std.proofs.Common.{arith, refl, sym, ap, ◌∙◌, subst}
 use Rattle.std.specs.Prelude.{unsigned_abs, int_le, IfSome, IsSomeAnd, nat_lt}
 use Rattle.std.specs.Int.{w128, leading_zeros}
 use Rattle.std.proofs.lemmas.Int.{ints}
@@ -19,9 +21,15 @@ use Rattle.ep_range_laws.specs.Ranges.{LiesIn, Encloses}
 use Rattle.ep_domain.specs.Laws.Shared.{pair}
 use Rattle.ep_range_laws.proofs.Comparisons.{le_false, from_le_true, from_le_false, between_true, from_between, le_self}
 use Rattle.ep_congruence_laws.specs.Multiples.{IsMultiple, is_multiple, gcd_steps, gcd}
-use Rattle.ep_congruence_laws.specs.Classes.{Class, class, one, greatest_modulus, is_class, reduced, distance, is_within, joined_modulus, join_of, range_of, rank_of, edges_from, first_from, last_to}
-use Rattle.ep_congruence_laws.proofs.Multiples.{multiple_of, multiple_by_size, size_of_multiple, none_of, of_dvd, test_multiple, multiple_test, is_gcd}
-use Rattle.ep_congruence_laws.proofs.Classes.{zero_from, zero_test, nonzero_from, nonzero_test, le_from, residue_multiple, small_multiple, chain, turn, in_reduced, reduced_modulus, class_with, class_small, class_remainder, class_one, class_has}
+use Rattle.ep_congruence_laws.specs.Classes.{Class, class, one, greatest_modulus, is_class, reduced, distance}
+use Rattle.ep_congruence_laws.specs.Classes.{is_within, joined_modulus, join_of, range_of, rank_of, edges_from}
+use Rattle.ep_congruence_laws.specs.Classes.{first_from, last_to}
+use Rattle.ep_congruence_laws.proofs.Multiples.{multiple_of, multiple_by_size, size_of_multiple, none_of, of_dvd}
+use Rattle.ep_congruence_laws.proofs.Multiples.{test_multiple, multiple_test, is_gcd}
+use Rattle.ep_congruence_laws.proofs.Classes.{zero_from, zero_test, nonzero_from, nonzero_test, le_from}
+use Rattle.ep_congruence_laws.proofs.Classes.{residue_multiple, small_multiple, chain, turn, in_reduced}
+use Rattle.ep_congruence_laws.proofs.Classes.{reduced_modulus, class_with, class_small, class_remainder, class_one}
+use Rattle.ep_congruence_laws.proofs.Classes.{class_has}
 
 -- the number is in the class, of whichever size it is
 abbrev pub In : Class → ℤ → Type 0

@@ -1,6 +1,8 @@
 -- Laws of operators on classes.
 use Prim.Native.Nat.{◌∣◌}
-use Rattle.std.proofs.Common.{◌≡◌, ℕ, ◌*◌, ◌^◌, ◌≤◌, ℤ, pos, negsuc, ◌+ℤ◌, ◌-ℤ◌, ◌*ℤ◌, ◌≤ℤ◌, ◌<ℤ◌, Bool, true, false, cond, ◌&&◌, Option, Some, None, Result, Ok, Err, nat_eq, nat_le, arith, refl, sym, ap, ◌∙◌, subst}
+use Rattle.std.proofs.Common.{◌≡◌, ℕ, ◌*◌, ◌^◌, ◌≤◌, ℤ, pos, negsuc, ◌+ℤ◌, ◌-ℤ◌, ◌*ℤ◌, ◌≤ℤ◌, ◌<ℤ◌, Bool, true, false}
+use Rattle.std.proofs.Common.{cond, ◌&&◌, Option, Some, None, Result, Ok, Err, nat_eq, nat_le, arith, refl, sym, ap}
+use Rattle.std.proofs.Common.{◌∙◌, subst}
 use Rattle.std.specs.Prelude.{unsigned_abs, int_le, int_lt, IsSomeAnd}
 use Rattle.std.specs.Option.{unwrap_or}
 use Rattle.std.proofs.Math.IntN.{*ℤ_comm, pos-*ℤ-pos}
@@ -24,9 +26,14 @@ use Rattle.ep_range_laws.proofs.Types.{number_of, least_unsigned}
 use Rattle.ep_range_laws.proofs.Corners.{product_up}
 use Rattle.ep_range_laws.proofs.Comparisons.{from_le_true, from_lt_true, from_lt_false, le_self, le_trans}
 use Rattle.ep_congruence_laws.specs.Multiples.{IsMultiple, gcd}
-use Rattle.ep_congruence_laws.specs.Classes.{Class, everything, one, is_one, greatest_modulus, is_class, reduced, edges_of}
-use Rattle.ep_congruence_laws.specs.Results.{ends_of, sum_leaves, difference_leaves, product_leaves, kept_modulus, limited, sum_of, difference_of, products, are_small, multiples_of, past_limits, product_at, product_modulus, product_of, shifted_of, single_result, results_of, results_between}
-use Rattle.ep_congruence_laws.proofs.Multiples.{times_difference, times_assoc, multiple_sum, multiple_difference, multiple_product, multiple_of, multiple_by_size}
+use Rattle.ep_congruence_laws.specs.Classes.{Class, everything, one, is_one, greatest_modulus, is_class, reduced}
+use Rattle.ep_congruence_laws.specs.Classes.{edges_of}
+use Rattle.ep_congruence_laws.specs.Results.{ends_of, sum_leaves, difference_leaves, product_leaves, kept_modulus}
+use Rattle.ep_congruence_laws.specs.Results.{limited, sum_of, difference_of, products, are_small, multiples_of}
+use Rattle.ep_congruence_laws.specs.Results.{past_limits, product_at, product_modulus, product_of, shifted_of}
+use Rattle.ep_congruence_laws.specs.Results.{single_result, results_of, results_between}
+use Rattle.ep_congruence_laws.proofs.Multiples.{times_difference, times_assoc, multiple_sum, multiple_difference}
+use Rattle.ep_congruence_laws.proofs.Multiples.{multiple_product, multiple_of, multiple_by_size}
 use Rattle.ep_congruence_laws.proofs.Classes.{zero_from, le_from, chain, turn, in_reduced, class_with, class_one}
 use Rattle.ep_congruence_laws.proofs.Operations.{In, Is, gcd_left, gcd_right, one_member}
 use Rattle.ep_congruence_laws.proofs.Cuts.{itself_in, edges_hold, wrapped_apart, turn_small, one_class}

@@ -1,6 +1,7 @@
 -- Strides of the results of operators.
 use Prim.Native.Nat.{◌∣◌}
-use Rattle.std.proofs.Common.{◌≡◌, ℕ, ◌+◌, ◌*◌, ◌%◌, ◌<◌, ◌≤◌, ℤ, pos, ◌+ℤ◌, ◌-ℤ◌, ◌*ℤ◌, Bool, true, false, cond, ◌&&◌, Option, Some, Result, Ok, Err, nat_le, arith, refl, sym, ap, ◌∙◌, subst}
+use Rattle.std.proofs.Common.{◌≡◌, ℕ, ◌+◌, ◌*◌, ◌%◌, ◌<◌, ◌≤◌, ℤ, pos, ◌+ℤ◌, ◌-ℤ◌, ◌*ℤ◌, Bool, true, false, cond}
+use Rattle.std.proofs.Common.{◌&&◌, Option, Some, Result, Ok, Err, nat_le, arith, refl, sym, ap, ◌∙◌, subst}
 use Rattle.std.specs.Prelude.{unsigned_abs, IfSome}
 use Rattle.std.proofs.Math.IntN.{*ℤ_comm}
 use Rattle.std.proofs.lemmas.Int.{ints}
@@ -14,8 +15,10 @@ use Rattle.ep_int.specs.Types.{residue}
 use Rattle.ep_int.specs.Arith.{arith_of}
 use Rattle.ep_congruence_laws.specs.Multiples.{IsMultiple, gcd}
 use Rattle.ep_congruence_laws.specs.Classes.{Class, one, is_one, greatest_modulus, reduced}
-use Rattle.ep_congruence_laws.specs.Results.{limited, products, are_small, multiples_of, past_limits, product_at, product_modulus, product_of, single_result, results_of, results_between}
-use Rattle.ep_congruence_laws.proofs.Multiples.{multiple_sum, multiple_difference, multiple_product, multiple_of, none_of, itself}
+use Rattle.ep_congruence_laws.specs.Results.{limited, products, are_small, multiples_of, past_limits, product_at}
+use Rattle.ep_congruence_laws.specs.Results.{product_modulus, product_of, single_result, results_of, results_between}
+use Rattle.ep_congruence_laws.proofs.Multiples.{multiple_sum, multiple_difference, multiple_product, multiple_of}
+use Rattle.ep_congruence_laws.proofs.Multiples.{none_of, itself}
 use Rattle.ep_congruence_laws.proofs.Classes.{le_test, residue_multiple, residue_same, class_small}
 use Rattle.ep_congruence_laws.proofs.Operations.{Is, gcd_greatest, gcd_small}
 use Rattle.ep_congruence_laws.proofs.Cuts.{HasStride, stride_of}

@@ -3,7 +3,8 @@ use Rattle.std.proofs.Common.{◌≡◌, pos, negsuc, true, false, Some, None, r
 use Rattle.ep_int.specs.declared.types.IntType.TheVariants.{I8, U8, I32}
 use Rattle.ep_int.specs.declared.types.BinOp.TheVariants.{Add, Sub, Mul, Div, Shl}
 use Rattle.ep_congruence_laws.specs.Multiples.{gcd_steps}
-use Rattle.ep_congruence_laws.specs.Classes.{class, everything, one, has, is_class, is_within, join_of, rank_of, edges_of, cut_of, conversion_of, meet_of, has_stride}
+use Rattle.ep_congruence_laws.specs.Classes.{class, everything, one, has, is_class, is_within, join_of, rank_of}
+use Rattle.ep_congruence_laws.specs.Classes.{edges_of, cut_of, conversion_of, meet_of, has_stride}
 use Rattle.ep_congruence_laws.specs.Results.{value_of}
 
 -- ---- which classes are values: at the greatest modulus, with a number of some type or none

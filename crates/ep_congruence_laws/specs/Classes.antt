@@ -1,5 +1,6 @@
 -- Congruence classes of numbers, and what does not depend on an operator (Granger 1989, with this project's limits).
-use Rattle.std.specs.Prelude.{ℕ, ◌-◌, ◌%◌, ◌^◌, ℤ, pos, ◌+ℤ◌, ◌-ℤ◌, Bool, ◌&&◌, ◌||◌, if◌then◌else◌, Option, Some, None, nat_eq, nat_le, int_le, int_lt, unsigned_abs}
+use Rattle.std.specs.Prelude.{ℕ, ◌-◌, ◌%◌, ◌^◌, ℤ, pos, ◌+ℤ◌, ◌-ℤ◌, Bool, ◌&&◌, ◌||◌, if◌then◌else◌, Option, Some}
+use Rattle.std.specs.Prelude.{None, nat_eq, nat_le, int_le, int_lt, unsigned_abs}
 use Rattle.std.specs.Int.{w128, leading_zeros, int_min, int_max}
 use Rattle.ep_int.specs.declared.types.IntType.{IntType}
 use Rattle.ep_int.specs.declared.types.IntType.TheVariants.{I64, U64}

@@ -1,5 +1,6 @@
 -- What an operator gives of two classes (this project's rules).
-use Rattle.std.specs.Prelude.{ℕ, ◌*◌, ◌^◌, ℤ, pos, ◌+ℤ◌, ◌-ℤ◌, ◌*ℤ◌, Bool, true, ◌&&◌, if◌then◌else◌, Option, Some, None, Result, Ok, Err, nat_le, int_lt, unsigned_abs}
+use Rattle.std.specs.Prelude.{ℕ, ◌*◌, ◌^◌, ℤ, pos, ◌+ℤ◌, ◌-ℤ◌, ◌*ℤ◌, Bool, true, ◌&&◌, if◌then◌else◌, Option, Some}
+use Rattle.std.specs.Prelude.{None, Result, Ok, Err, nat_le, int_lt, unsigned_abs}
 use Rattle.std.specs.Option.{unwrap_or, option_and_then}
 use Rattle.ep_int.specs.declared.types.IntType.{IntType}
 use Rattle.ep_int.specs.declared.types.BinOp.{BinOp}
@@ -9,7 +10,8 @@ use Rattle.ep_int.specs.Types.{bits_of, is_signed, least_of, greatest_of}
 use Rattle.ep_int.specs.Arith.{arith_of, is_amount}
 use Rattle.ep_range_laws.specs.Faults.{is_shift}
 use Rattle.ep_congruence_laws.specs.Multiples.{gcd}
-use Rattle.ep_congruence_laws.specs.Classes.{Class, everything, one, is_one, reduced, edges_of, cut_of, greatest_modulus}
+use Rattle.ep_congruence_laws.specs.Classes.{Class, everything, one, is_one, reduced, edges_of, cut_of}
+use Rattle.ep_congruence_laws.specs.Classes.{greatest_modulus}
 
 -- the greatest product that is worked with, 2^126
 abbrev pub greatest_product : ℕ

@@ -1,7 +1,9 @@
 -- A counted loop needs no other bound than its steps.
 use Rattle.std.proofs.Common.{◌≡◌, ℕ, zero, suc, ◌≤◌, ◌<◌, refl, arith, Bool, true, false}
 use Rattle.ep_int.specs.Memory.{Memory, Value, Found, has, faults}
-use Rattle.ep_core.specs.Exec.{State, on, broken, continued, returned, Outcome, leaves, running, no_input, undefined_at, Going, given, counted, and_then, listed, code_of_test, is_true, either, turned, turn, looped, around, first_turn}
+use Rattle.ep_core.specs.Exec.{State, on, broken, continued, returned, Outcome, leaves, running, no_input}
+use Rattle.ep_core.specs.Exec.{undefined_at, Going, given, counted, and_then, listed, code_of_test, is_true, either}
+use Rattle.ep_core.specs.Exec.{turned, turn, looped, around, first_turn}
 use Rattle.ep_core.proofs.Grows.{Grows, Growing}
 
 given_same : (v : Found) (l : ℕ) (s : State) (f g : Value → Outcome) → ((v : Value) → f v ≡ g v)

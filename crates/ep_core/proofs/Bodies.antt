@@ -1,9 +1,11 @@
 -- The table of bodies, and the bound of a run by turns.
-use Rattle.std.proofs.Common.{◌≡◌, ℕ, zero, suc, ◌<◌, refl, ap, subst, Some, arith, nat_eq, nat_lt, slice_get, Bool, true, false}
+use Rattle.std.proofs.Common.{◌≡◌, ℕ, zero, suc, ◌<◌, refl, ap, subst, Some, arith, nat_eq, nat_lt, slice_get, Bool}
+use Rattle.std.proofs.Common.{true, false}
 use Rattle.std.proofs.lemmas.Bool.{lt-ltb}
 use Rattle.ep_int.specs.declared.types.Order.{Order}
 use Rattle.ep_core.specs.Program.{Function, Program}
-use Rattle.ep_core.specs.Exec.{State, Way, Outcome, leaves, Counting, uncounted, chosen, callee_of, exec_all, body_of, bodies}
+use Rattle.ep_core.specs.Exec.{State, Way, Outcome, leaves, Counting, uncounted, chosen, callee_of, exec_all, body_of}
+use Rattle.ep_core.specs.Exec.{bodies}
 use Rattle.ep_core.specs.Laws.{BodiesStand, TurnsStay}
 use Rattle.ep_core.proofs.Shifts.{Starts, more_turns, bodies_pair, all_starts}
 

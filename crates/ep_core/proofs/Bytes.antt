@@ -1,5 +1,6 @@
 -- A memory that fits stays so, and what is read from it fits.
-use Rattle.std.proofs.Common.{◌≡◌, ℕ, zero, suc, ◌+◌, ◌-◌, ◌^◌, ◌<◌, Bool, true, false, ◌&&◌, not, nat_eq, nat_lt, nat_le, if◌then◌else◌, List, [], ◌∷◌, slice_index_or, subst, arith}
+use Rattle.std.proofs.Common.{◌≡◌, ℕ, zero, suc, ◌+◌, ◌-◌, ◌^◌, ◌<◌, Bool, true, false, ◌&&◌, not, nat_eq, nat_lt}
+use Rattle.std.proofs.Common.{nat_le, if◌then◌else◌, List, [], ◌∷◌, slice_index_or, subst, arith}
 use Rattle.std.specs.List.{AllByRecursion, list_all, list_any, fold}
 use Rattle.std.proofs.lemmas.Bool.{and_parts}
 use Rattle.ep_int.specs.declared.types.IntType.{IntType}
@@ -10,7 +11,11 @@ use Rattle.ep_int.specs.declared.types.Scalar.TheVariants.{Int, Pointer}
 use Rattle.ep_int.specs.Types.{bytes_of, size_of, InRange, representation}
 use Rattle.ep_int.specs.Arith.{is_in_range}
 use Rattle.ep_int.specs.Encoding.{place, sum_of_bytes}
-use Rattle.ep_int.specs.Memory.{Byte, undefined, number, fragment, Memory, Value, int, null, pointer, Found, has, faults, uninitialised, bounds, alignment, pointer_part, broken, lies_partly, replaced, bytes_of_value, stored, filled, copied, contains, forgotten, killed, bytes_from, is_undefined, is_number, is_zero, number_in, are_parts, pointer_in, number_of, value_of_bytes, is_outside, is_aligned, loaded}
+use Rattle.ep_int.specs.Memory.{Byte, undefined, number, fragment, Memory, Value, int, null, pointer, Found, has}
+use Rattle.ep_int.specs.Memory.{faults, uninitialised, bounds, alignment, pointer_part, broken, lies_partly, replaced}
+use Rattle.ep_int.specs.Memory.{bytes_of_value, stored, filled, copied, contains, forgotten, killed, bytes_from}
+use Rattle.ep_int.specs.Memory.{is_undefined, is_number, is_zero, number_in, are_parts, pointer_in, number_of}
+use Rattle.ep_int.specs.Memory.{value_of_bytes, is_outside, is_aligned, loaded}
 use Rattle.ep_int.proofs.Wrapping.{represented_in_range}
 use Rattle.ep_int.proofs.Encodings.{byte_below, bytes_pow, sum_of_bytes_below}
 use Rattle.ep_int.proofs.Arithmetic.{in_range_from_true}

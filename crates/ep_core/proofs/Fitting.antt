@@ -1,5 +1,7 @@
 -- What a well-formed program comes to from a machine that fits is a machine that fits.
-use Rattle.std.proofs.Common.{◌≡◌, ℕ, zero, suc, ◌+◌, ◌%◌, ◌<◌, ℤ, pos, Bool, true, false, ◌&&◌, nat_eq, List, [], ◌∷◌, ◌++◌, slice_get, Option, Some, None, option_to_list, refl, sym, subst, arith, if◌then◌else◌}
+use Rattle.std.proofs.Common.{◌≡◌, ℕ, zero, suc, ◌+◌, ◌%◌, ◌<◌, ℤ, pos, Bool, true, false, ◌&&◌, nat_eq, List, []}
+use Rattle.std.proofs.Common.{◌∷◌, ◌++◌, slice_get, Option, Some, None, option_to_list, refl, sym, subst, arith}
+use Rattle.std.proofs.Common.{if◌then◌else◌}
 use Rattle.std.specs.List.{list_all}
 use Rattle.std.proofs.lemmas.Bool.{and_parts}
 use Rattle.std.proofs.lemmas.Int.{ints}
@@ -10,16 +12,31 @@ use Rattle.ep_int.specs.declared.types.Order.{Order}
 use Rattle.ep_int.specs.declared.types.Scalar.{Scalar}
 use Rattle.ep_int.specs.declared.types.Scalar.TheVariants.{Int}
 use Rattle.ep_int.specs.Types.{InRange, representation, wrapped}
-use Rattle.ep_int.specs.Memory.{Byte, undefined, number, fragment, Memory, Value, int, null, pointer, Kind, Found, has, faults, loaded, stored, filled, copied, range_fault, store_fault}
+use Rattle.ep_int.specs.Memory.{Byte, undefined, number, fragment, Memory, Value, int, null, pointer, Kind, Found}
+use Rattle.ep_int.specs.Memory.{has, faults, loaded, stored, filled, copied, range_fault, store_fault}
 use Rattle.ep_int.proofs.Wrapping.{representation_below}
-use Rattle.ep_core.specs.Program.{Expr, Dest, Simple, nothing, eval, assign, clear, copy_aggregate, copy_bytes, fill, input, output, read_bytes, write_bytes, returns, What, simple, call, if_else, loop, break_loop, continue_loop, by_order, scope, Stmts, stop, more, Function, Program}
-use Rattle.ep_core.specs.Exec.{Output, State, Way, on, broken, continued, returned, Outcome, leaves, running, no_input, undefined_at, Going, given, with_int, at_place, unless, Counting, counted, uncounted, step, and_then, remembers, put_out, listed, without, taken, converted, ByteStep, bytewise, bytewise_rest, byte_out, code_of_test, is_true, either, turned, turn, looped, first_turn, scope_left, is_order, chosen, arm_left, Values, have, stops, first_and, given_all, first_of, frame_of, result_in, callee_of, model, size_at, bytes_in, value, address, values, put_at, put_to, put_dest, returned_with, change, copy_fault, copy_at, out_of, into, does, bound, received, called, call_of, exec, exec_all, body_of, bodies}
+use Rattle.ep_core.specs.Program.{Expr, Dest, Simple, nothing, eval, assign, clear, copy_aggregate, copy_bytes, fill}
+use Rattle.ep_core.specs.Program.{input, output, read_bytes, write_bytes, returns, What, simple, call, if_else, loop}
+use Rattle.ep_core.specs.Program.{break_loop, continue_loop, by_order, scope, Stmts, stop, more, Function, Program}
+use Rattle.ep_core.specs.Exec.{Output, State, Way, on, broken, continued, returned, Outcome, leaves, running}
+use Rattle.ep_core.specs.Exec.{no_input, undefined_at, Going, given, with_int, at_place, unless, Counting, counted}
+use Rattle.ep_core.specs.Exec.{uncounted, step, and_then, remembers, put_out, listed, without, taken, converted}
+use Rattle.ep_core.specs.Exec.{ByteStep, bytewise, bytewise_rest, byte_out, code_of_test, is_true, either, turned}
+use Rattle.ep_core.specs.Exec.{turn, looped, first_turn, scope_left, is_order, chosen, arm_left, Values, have, stops}
+use Rattle.ep_core.specs.Exec.{first_and, given_all, first_of, frame_of, result_in, callee_of, model, size_at}
+use Rattle.ep_core.specs.Exec.{bytes_in, value, address, values, put_at, put_to, put_dest, returned_with, change}
+use Rattle.ep_core.specs.Exec.{copy_fault, copy_at, out_of, into, does, bound, received, called, call_of, exec}
+use Rattle.ep_core.specs.Exec.{exec_all, body_of, bodies}
 use Rattle.ep_core.specs.Runs.{result_out, main_function, main_ends, line_of, finished, start, main_from}
-use Rattle.ep_core.specs.WellFormed.{result_type, holds_scalar, what_fits, stmts_fit, are_plain, is_tested, is_well_formed}
-use Rattle.ep_core.specs.Typed.{IsNumber, ValueFits, IfHas, ByteFits, MemoryFits, OutputFits, OutputsFit, StateFits, OutcomeFits, Keeps, InputFits, ReturnFits, SimpleOperandsFit, ArgumentsFit, ReceivedFits, CallOperandsFit, MainResultFits, BodiesKeep, StatementsKeep, RunsFit}
+use Rattle.ep_core.specs.WellFormed.{result_type, holds_scalar, what_fits, stmts_fit, are_plain, is_tested}
+use Rattle.ep_core.specs.WellFormed.{is_well_formed}
+use Rattle.ep_core.specs.Typed.{IsNumber, ValueFits, IfHas, ByteFits, MemoryFits, OutputFits, OutputsFit, StateFits}
+use Rattle.ep_core.specs.Typed.{OutcomeFits, Keeps, InputFits, ReturnFits, SimpleOperandsFit, ArgumentsFit}
+use Rattle.ep_core.specs.Typed.{ReceivedFits, CallOperandsFit, MainResultFits, BodiesKeep, StatementsKeep, RunsFit}
 use Rattle.ep_core.proofs.Bytes.{stored_bytes, filled_bytes, copied_bytes, killed_bytes, cleared_bytes, initial_bytes}
 use Rattle.ep_core.proofs.Sorts.{three}
-use Rattle.ep_core.proofs.Operands.{simple_operands, call_operands, known_callee, fits_at, holds_at, main_fits, first_values_fit, sizes}
+use Rattle.ep_core.proofs.Operands.{simple_operands, call_operands, known_callee, fits_at, holds_at, main_fits}
+use Rattle.ep_core.proofs.Operands.{first_values_fit, sizes}
 
 module _ (p : Program) where
   -- ---- changes of a machine

@@ -1,12 +1,24 @@
 -- What was put out, tested and taken stays, and the steps that are left never rise.
-use Rattle.std.proofs.Common.{ℕ, zero, suc, ◌+◌, ◌%◌, ◌≤◌, ℤ, pos, List, [], ◌∷◌, Option, Some, None, option_to_list, arith, nat_eq, ◌&&◌, slice_get, Bool, true, false}
+use Rattle.std.proofs.Common.{ℕ, zero, suc, ◌+◌, ◌%◌, ◌≤◌, ℤ, pos, List, [], ◌∷◌, Option, Some, None, option_to_list}
+use Rattle.std.proofs.Common.{arith, nat_eq, ◌&&◌, slice_get, Bool, true, false}
 use Rattle.ep_int.specs.declared.types.IntType.TheVariants.{U8}
 use Rattle.ep_int.specs.declared.types.Scalar.{Scalar}
 use Rattle.ep_int.specs.declared.types.Order.{Order}
 use Rattle.ep_int.specs.Types.{wrapped}
-use Rattle.ep_int.specs.Memory.{Byte, undefined, number, fragment, Memory, Value, int, null, pointer, Kind, Found, has, faults, loaded, stored, filled, range_fault, store_fault}
-use Rattle.ep_core.specs.Program.{Expr, Dest, Simple, nothing, eval, assign, clear, copy_aggregate, copy_bytes, fill, input, output, read_bytes, write_bytes, returns, What, simple, call, if_else, loop, break_loop, continue_loop, by_order, scope, Stmts, stop, more, Function, Program}
-use Rattle.ep_core.specs.Exec.{State, Way, on, broken, continued, returned, Outcome, leaves, running, no_input, undefined_at, Going, given, with_int, at_place, unless, Counting, counted, uncounted, step, and_then, remembers, put_out, listed, without, taken, converted, ByteStep, bytewise, bytewise_rest, byte_out, code_of_test, is_true, either, turned, turn, looped, first_turn, scope_left, is_order, chosen, arm_left, Values, have, stops, given_all, first_of, frame_of, result_in, callee_of, model, size_at, bytes_in, value, address, values, put_at, put_to, put_dest, put_result, returned_with, change, copy_fault, copy_at, out_of, into, does, bound, received, called, entered, call_of, exec, exec_all, body_of, bodies}
+use Rattle.ep_int.specs.Memory.{Byte, undefined, number, fragment, Memory, Value, int, null, pointer, Kind, Found}
+use Rattle.ep_int.specs.Memory.{has, faults, loaded, stored, filled, range_fault, store_fault}
+use Rattle.ep_core.specs.Program.{Expr, Dest, Simple, nothing, eval, assign, clear, copy_aggregate, copy_bytes, fill}
+use Rattle.ep_core.specs.Program.{input, output, read_bytes, write_bytes, returns, What, simple, call, if_else, loop}
+use Rattle.ep_core.specs.Program.{break_loop, continue_loop, by_order, scope, Stmts, stop, more, Function, Program}
+use Rattle.ep_core.specs.Exec.{State, Way, on, broken, continued, returned, Outcome, leaves, running, no_input}
+use Rattle.ep_core.specs.Exec.{undefined_at, Going, given, with_int, at_place, unless, Counting, counted, uncounted}
+use Rattle.ep_core.specs.Exec.{step, and_then, remembers, put_out, listed, without, taken, converted, ByteStep}
+use Rattle.ep_core.specs.Exec.{bytewise, bytewise_rest, byte_out, code_of_test, is_true, either, turned, turn, looped}
+use Rattle.ep_core.specs.Exec.{first_turn, scope_left, is_order, chosen, arm_left, Values, have, stops, given_all}
+use Rattle.ep_core.specs.Exec.{first_of, frame_of, result_in, callee_of, model, size_at, bytes_in, value, address}
+use Rattle.ep_core.specs.Exec.{values, put_at, put_to, put_dest, put_result, returned_with, change, copy_fault}
+use Rattle.ep_core.specs.Exec.{copy_at, out_of, into, does, bound, received, called, entered, call_of, exec, exec_all}
+use Rattle.ep_core.specs.Exec.{body_of, bodies}
 use Rattle.ep_core.specs.Runs.{Begins}
 use Rattle.ep_core.proofs.Prefixes.{begins_refl, begins_trans, begins_more}
 

@@ -1,5 +1,7 @@
 -- The operands in the statements of a well-formed program fit.
-use Rattle.std.proofs.Common.{◌≡◌, ℕ, zero, suc, ◌+◌, pos, Bool, true, false, ◌&&◌, not, nat_eq, nat_lt, if◌then◌else◌, List, [], ◌∷◌, ◌++◌, slice_get, length, Option, Some, None, option_to_list, refl, sym, subst, arith}
+use Rattle.std.proofs.Common.{◌≡◌, ℕ, zero, suc, ◌+◌, pos, Bool, true, false, ◌&&◌, not, nat_eq, nat_lt}
+use Rattle.std.proofs.Common.{if◌then◌else◌, List, [], ◌∷◌, ◌++◌, slice_get, length, Option, Some, None}
+use Rattle.std.proofs.Common.{option_to_list, refl, sym, subst, arith}
 use Rattle.std.specs.Prelude.{is_some, option_and_then}
 use Rattle.std.specs.List.{list_all, flat_map}
 use Rattle.std.proofs.lemmas.Bool.{and_parts}
@@ -14,13 +16,24 @@ use Rattle.ep_int.proofs.Wrapping.{wrapped_in_range}
 use Rattle.ep_layout.specs.declared.types.Ty.{Ty}
 use Rattle.ep_layout.specs.declared.types.Ty.TheVariants.{Void, Int, Ptr, Array, Aggregate}
 use Rattle.ep_layout.specs.Table.{Table, size}
-use Rattle.ep_core.specs.Program.{Expr, Dest, Simple, nothing, eval, assign, clear, copy_aggregate, copy_bytes, fill, input, output, read_bytes, write_bytes, returns, What, simple, call, if_else, loop, break_loop, continue_loop, by_order, scope, Stmts, stop, more, Block, Function, Program}
+use Rattle.ep_core.specs.Program.{Expr, Dest, Simple, nothing, eval, assign, clear, copy_aggregate, copy_bytes, fill}
+use Rattle.ep_core.specs.Program.{input, output, read_bytes, write_bytes, returns, What, simple, call, if_else, loop}
+use Rattle.ep_core.specs.Program.{break_loop, continue_loop, by_order, scope, Stmts, stop, more, Block, Function}
+use Rattle.ep_core.specs.Program.{Program}
 use Rattle.ep_core.specs.Exec.{converted, frame_of, result_in, callee_of, model, size_at}
 use Rattle.ep_core.specs.Runs.{main_function}
-use Rattle.ep_core.specs.WellFormed.{integer, pointer_to, has_scalar, is_length, ty_at, place_has, has_sort, is_address, is_tested, int_type_of, has_type, takes_input, can_take, takes_result, block_type, result_type, arguments_fit, result_fits, simple_fits, call_fits, what_fits, stmts_fit, are_plain, blocks_fit, init_fits, are_different_leaves, are_listed, own_blocks, holds_scalar, function_fits, functions_fit, is_int_result, is_main, is_well_formed}
-use Rattle.ep_core.specs.Typed.{IsAddress, ValueFits, IfHas, MemoryFits, OperandsFit, Gives, InputFits, ReturnFits, SimpleOperandsFit, ArgumentsFit, result_value, ReceivedFits, CallOperandsFit, WhatOperandsFit, AllOperandsFit, MainResultFits, StatementsFit, MainsFit}
+use Rattle.ep_core.specs.WellFormed.{integer, pointer_to, has_scalar, is_length, ty_at, place_has, has_sort}
+use Rattle.ep_core.specs.WellFormed.{is_address, is_tested, int_type_of, has_type, takes_input, can_take}
+use Rattle.ep_core.specs.WellFormed.{takes_result, block_type, result_type, arguments_fit, result_fits, simple_fits}
+use Rattle.ep_core.specs.WellFormed.{call_fits, what_fits, stmts_fit, are_plain, blocks_fit, init_fits}
+use Rattle.ep_core.specs.WellFormed.{are_different_leaves, are_listed, own_blocks, holds_scalar, function_fits}
+use Rattle.ep_core.specs.WellFormed.{functions_fit, is_int_result, is_main, is_well_formed}
+use Rattle.ep_core.specs.Typed.{IsAddress, ValueFits, IfHas, MemoryFits, OperandsFit, Gives, InputFits, ReturnFits}
+use Rattle.ep_core.specs.Typed.{SimpleOperandsFit, ArgumentsFit, result_value, ReceivedFits, CallOperandsFit}
+use Rattle.ep_core.specs.Typed.{WhatOperandsFit, AllOperandsFit, MainResultFits, StatementsFit, MainsFit}
 use Rattle.ep_core.proofs.Bytes.{loaded_fits}
-use Rattle.ep_core.proofs.Sorts.{never, three, same_scalar, sort_scalar, number_scalar, type_where, pointer_where, tested_where, typed_where}
+use Rattle.ep_core.proofs.Sorts.{never, three, same_scalar, sort_scalar, number_scalar, type_where, pointer_where}
+use Rattle.ep_core.proofs.Sorts.{tested_where, typed_where}
 use Rattle.ep_core.proofs.Typing.{weaker, expr_fits, place_lies}
 
 -- ---- what a place takes

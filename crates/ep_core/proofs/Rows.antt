@@ -12,7 +12,11 @@ use Rattle.ep_int.specs.declared.types.Scalar.TheVariants.{Int as Number, Pointe
 use Rattle.ep_int.specs.Memory.{overflow, division, uninitialised, bounds, null_pointer, pointer_mix, overlap}
 use Rattle.ep_layout.specs.declared.types.Ty.TheVariants.{Int, Ptr, Array, Aggregate}
 use Rattle.ep_layout.specs.Table.{Table, at_depth}
-use Rattle.ep_core.specs.Program.{block, deref, member, element, Expr, const, null_value, load, addr_of, binary, convert, compare, logical_and, logical_or, conditional, ptr_compare, ptr_add, Dest, Simple, nothing, eval, assign, clear, copy_aggregate, copy_bytes, fill, input, output, read_bytes, write_bytes, returns, simple, call, if_else, loop, break_loop, continue_loop, by_order, scope, Stmts, stop, more, Block, Program}
+use Rattle.ep_core.specs.Program.{block, deref, member, element, Expr, const, null_value, load, addr_of, binary}
+use Rattle.ep_core.specs.Program.{convert, compare, logical_and, logical_or, conditional, ptr_compare, ptr_add, Dest}
+use Rattle.ep_core.specs.Program.{Simple, nothing, eval, assign, clear, copy_aggregate, copy_bytes, fill, input}
+use Rattle.ep_core.specs.Program.{output, read_bytes, write_bytes, returns, simple, call, if_else, loop, break_loop}
+use Rattle.ep_core.specs.Program.{continue_loop, by_order, scope, Stmts, stop, more, Block, Program}
 use Rattle.ep_core.specs.Exec.{Output}
 use Rattle.ep_core.specs.Runs.{Run, run, Ending, still_running, ended, wants_input, undefined_on}
 use Rattle.ep_core.specs.WellFormed.{is_well_formed}

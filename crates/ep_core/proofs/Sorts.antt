@@ -1,5 +1,6 @@
 -- What the tests of well-formed programs tell.
-use Rattle.std.proofs.Common.{◌≡◌, ℕ, zero, suc, Bool, true, false, ◌&&◌, ◌||◌, not, cond, nat_eq, List, [], ◌∷◌, slice_get, Option, Some, None, ◌⊎◌, inl, inr, ⊎_elim, refl, sym, ap, ◌∙◌, subst}
+use Rattle.std.proofs.Common.{◌≡◌, ℕ, zero, suc, Bool, true, false, ◌&&◌, ◌||◌, not, cond, nat_eq, List, [], ◌∷◌}
+use Rattle.std.proofs.Common.{slice_get, Option, Some, None, ◌⊎◌, inl, inr, ⊎_elim, refl, sym, ap, ◌∙◌, subst}
 use Rattle.std.specs.List.{list_any, list_all, filter}
 use Rattle.std.proofs.lemmas.Bool.{and_parts, eqb-true}
 use Rattle.ep_int.specs.declared.types.IntType.{IntType}
@@ -10,7 +11,9 @@ use Rattle.ep_layout.specs.declared.types.Ty.{Ty}
 use Rattle.ep_layout.specs.declared.types.Ty.TheVariants.{Void, Int, Ptr, Array, Aggregate}
 use Rattle.ep_layout.specs.Table.{Table}
 use Rattle.ep_core.specs.Program.{Expr, Block}
-use Rattle.ep_core.specs.WellFormed.{number_of_type, is_same_type, is_same_scalar, Sort, integer, pointer_to, is_integer, is_pointer_where, sort_of, is_sort, has_scalar, is_int, ty_at, type_numbers, some_type, is_pointer, is_test, has_sort, has_type}
+use Rattle.ep_core.specs.WellFormed.{number_of_type, is_same_type, is_same_scalar, Sort, integer, pointer_to}
+use Rattle.ep_core.specs.WellFormed.{is_integer, is_pointer_where, sort_of, is_sort, has_scalar, is_int, ty_at}
+use Rattle.ep_core.specs.WellFormed.{type_numbers, some_type, is_pointer, is_test, has_sort, has_type}
 use Rattle.ep_core.specs.Typed.{scalar_of}
 
 -- ---- tests

@@ -8,7 +8,8 @@ use Rattle.ep_int.specs.declared.types.Scalar.TheVariants.{Int as Number, Pointe
 use Rattle.ep_int.specs.Memory.{number, fragment, Memory, int, pointer, has, faults, bounds, pointer_part, loaded}
 use Rattle.ep_layout.specs.declared.types.Ty.TheVariants.{Int, Ptr, Array}
 use Rattle.ep_layout.specs.Table.{Table, at_depth}
-use Rattle.ep_core.specs.Program.{block, deref, element, Expr, const, null_value, load, addr_of, compare, cast, Simple, assign, returns, simple, Stmts, stop, more, Block, Program}
+use Rattle.ep_core.specs.Program.{block, deref, element, Expr, const, null_value, load, addr_of, compare, cast}
+use Rattle.ep_core.specs.Program.{Simple, assign, returns, simple, Stmts, stop, more, Block, Program}
 use Rattle.ep_core.specs.Exec.{element_at, value, counted}
 use Rattle.ep_core.specs.Runs.{run, ended, main_from}
 use Rattle.ep_core.specs.WellFormed.{integer, has_sort, is_well_formed}

@@ -1,5 +1,7 @@
 -- The values of expressions fit their sorts, and places are addresses.
-use Rattle.std.proofs.Common.{◌≡◌, ℕ, zero, suc, ◌+◌, ◌*◌, ℤ, pos, negsuc, ◌+ℤ◌, ◌≤ℤ◌, Bool, true, false, ◌&&◌, not, nat_eq, nat_le, int_le, int_lt, if◌then◌else◌, List, [], ◌∷◌, slice_get, length, ◌<◌, ◌≤◌, Option, Some, Result, Ok, Err, ⊎_elim, refl, sym, subst, arith}
+use Rattle.std.proofs.Common.{◌≡◌, ℕ, zero, suc, ◌+◌, ◌*◌, ℤ, pos, negsuc, ◌+ℤ◌, ◌≤ℤ◌, Bool, true, false, ◌&&◌, not}
+use Rattle.std.proofs.Common.{nat_eq, nat_le, int_le, int_lt, if◌then◌else◌, List, [], ◌∷◌, slice_get, length, ◌<◌}
+use Rattle.std.proofs.Common.{◌≤◌, Option, Some, Result, Ok, Err, ⊎_elim, refl, sym, subst, arith}
 use Rattle.std.specs.Prelude.{unsigned_abs, sum_by}
 use Rattle.std.proofs.lemmas.Int.{ints}
 use Rattle.std.proofs.lemmas.Bool.{and_parts, leb-true}
@@ -20,12 +22,21 @@ use Rattle.ep_int.specs.Memory.{Memory, Value, int, null, pointer, Found, has, f
 use Rattle.ep_int.proofs.Wrapping.{wrapped_in_range}
 use Rattle.ep_int.proofs.Arithmetic.{in_range_from_true, in_range_some_type, arith_in_range}
 use Rattle.ep_layout.specs.Table.{Table, size}
-use Rattle.ep_core.specs.Program.{Place, block, deref, member, element, Expr, const, null_value, load, addr_of, binary, convert, compare, ptr_compare, logical_and, logical_or, logical_not, conditional, ptr_add, cast, Block, Program}
-use Rattle.ep_core.specs.Exec.{with, with_number, result_of, is_true, truth, where_true, is_same_pointer, ordered, pointers_compare, distance, place_in, greatest_offset, element_at, block_size, model, size_at, moved, value, address}
-use Rattle.ep_core.specs.WellFormed.{Sort, integer, pointer_to, is_integer, is_pointer_where, sort_of, is_sort, ty_at, has_scalar, is_array_of, has_bound, has_member, is_number, is_length, int_type_of, right_type, is_int, some_type, is_pointer, is_test, is_named, block_has, place_has, has_sort, blocks_fit}
-use Rattle.ep_core.specs.Typed.{IsNumber, IsAddress, ValueFits, scalar_of, IfHas, MemoryFits, IsTarget, Gives, Lies, ValuesFit, PlacesLie}
+use Rattle.ep_core.specs.Program.{Place, block, deref, member, element, Expr, const, null_value, load, addr_of}
+use Rattle.ep_core.specs.Program.{binary, convert, compare, ptr_compare, logical_and, logical_or, logical_not}
+use Rattle.ep_core.specs.Program.{conditional, ptr_add, cast, Block, Program}
+use Rattle.ep_core.specs.Exec.{with, with_number, result_of, is_true, truth, where_true, is_same_pointer, ordered}
+use Rattle.ep_core.specs.Exec.{pointers_compare, distance, place_in, greatest_offset, element_at, block_size, model}
+use Rattle.ep_core.specs.Exec.{size_at, moved, value, address}
+use Rattle.ep_core.specs.WellFormed.{Sort, integer, pointer_to, is_integer, is_pointer_where, sort_of, is_sort, ty_at}
+use Rattle.ep_core.specs.WellFormed.{has_scalar, is_array_of, has_bound, has_member, is_number, is_length}
+use Rattle.ep_core.specs.WellFormed.{int_type_of, right_type, is_int, some_type, is_pointer, is_test, is_named}
+use Rattle.ep_core.specs.WellFormed.{block_has, place_has, has_sort, blocks_fit}
+use Rattle.ep_core.specs.Typed.{IsNumber, IsAddress, ValueFits, scalar_of, IfHas, MemoryFits, IsTarget, Gives, Lies}
+use Rattle.ep_core.specs.Typed.{ValuesFit, PlacesLie}
 use Rattle.ep_core.proofs.Bytes.{found_choice, loaded_fits}
-use Rattle.ep_core.proofs.Sorts.{never, three, either_is, integer_scalar, pointer_scalar, loaded_scalar, int_where, type_where, pointer_where, tested_where}
+use Rattle.ep_core.proofs.Sorts.{never, three, either_is, integer_scalar, pointer_scalar, loaded_scalar, int_where}
+use Rattle.ep_core.proofs.Sorts.{type_where, pointer_where, tested_where}
 
 -- ---- ways to go on
 

@@ -1,14 +1,26 @@
 -- Statements are left by no other way than their text has.
-use Rattle.std.proofs.Common.{◌≡◌, ℕ, zero, suc, ◌+◌, ◌%◌, ℤ, pos, List, [], ◌∷◌, refl, ap, ◌∙◌, subst, Option, Some, None, option_to_list, nat_eq, ◌&&◌, not, slice_get, Bool, true, false}
+use Rattle.std.proofs.Common.{◌≡◌, ℕ, zero, suc, ◌+◌, ◌%◌, ℤ, pos, List, [], ◌∷◌, refl, ap, ◌∙◌, subst, Option, Some}
+use Rattle.std.proofs.Common.{None, option_to_list, nat_eq, ◌&&◌, not, slice_get, Bool, true, false}
 use Rattle.std.proofs.lemmas.Bool.{and_parts, and_from, or_left, or_right}
 use Rattle.ep_int.specs.declared.types.IntType.TheVariants.{U8}
 use Rattle.ep_int.specs.declared.types.Scalar.{Scalar}
 use Rattle.ep_int.specs.declared.types.Order.{Order}
 use Rattle.ep_int.specs.Types.{wrapped}
-use Rattle.ep_int.specs.Memory.{Byte, undefined, number, fragment, Memory, Value, int, null, pointer, Kind, Found, has, faults, loaded, stored, filled, range_fault, store_fault}
-use Rattle.ep_core.specs.Program.{Expr, Dest, Simple, nothing, eval, assign, clear, copy_aggregate, copy_bytes, fill, input, output, read_bytes, write_bytes, returns, What, simple, call, if_else, loop, break_loop, continue_loop, by_order, scope, Stmts, stop, more, Function, Program}
-use Rattle.ep_core.specs.Exec.{State, Way, on, broken, continued, returned, Outcome, leaves, running, no_input, undefined_at, Going, given, with_int, at_place, unless, Counting, counted, uncounted, step, and_then, remembers, put_out, listed, without, taken, converted, ByteStep, bytewise, bytewise_rest, byte_out, code_of_test, is_true, either, turned, turn, looped, first_turn, scope_left, is_order, chosen, arm_left, Values, have, stops, given_all, first_of, frame_of, result_in, callee_of, model, size_at, bytes_in, value, address, values, put_at, put_to, put_dest, put_result, returned_with, change, copy_fault, copy_at, out_of, into, does, bound, received, called, call_of, exec, exec_all}
-use Rattle.ep_core.specs.Ways.{Ways, one_way, end_alone, has_way, either_way, then_ways, ways_of_simple, ways_of, ways_of_all}
+use Rattle.ep_int.specs.Memory.{Byte, undefined, number, fragment, Memory, Value, int, null, pointer, Kind, Found}
+use Rattle.ep_int.specs.Memory.{has, faults, loaded, stored, filled, range_fault, store_fault}
+use Rattle.ep_core.specs.Program.{Expr, Dest, Simple, nothing, eval, assign, clear, copy_aggregate, copy_bytes, fill}
+use Rattle.ep_core.specs.Program.{input, output, read_bytes, write_bytes, returns, What, simple, call, if_else, loop}
+use Rattle.ep_core.specs.Program.{break_loop, continue_loop, by_order, scope, Stmts, stop, more, Function, Program}
+use Rattle.ep_core.specs.Exec.{State, Way, on, broken, continued, returned, Outcome, leaves, running, no_input}
+use Rattle.ep_core.specs.Exec.{undefined_at, Going, given, with_int, at_place, unless, Counting, counted, uncounted}
+use Rattle.ep_core.specs.Exec.{step, and_then, remembers, put_out, listed, without, taken, converted, ByteStep}
+use Rattle.ep_core.specs.Exec.{bytewise, bytewise_rest, byte_out, code_of_test, is_true, either, turned, turn, looped}
+use Rattle.ep_core.specs.Exec.{first_turn, scope_left, is_order, chosen, arm_left, Values, have, stops, given_all}
+use Rattle.ep_core.specs.Exec.{first_of, frame_of, result_in, callee_of, model, size_at, bytes_in, value, address}
+use Rattle.ep_core.specs.Exec.{values, put_at, put_to, put_dest, put_result, returned_with, change, copy_fault}
+use Rattle.ep_core.specs.Exec.{copy_at, out_of, into, does, bound, received, called, call_of, exec, exec_all}
+use Rattle.ep_core.specs.Ways.{Ways, one_way, end_alone, has_way, either_way, then_ways, ways_of_simple, ways_of}
+use Rattle.ep_core.specs.Ways.{ways_of_all}
 use Rattle.ep_core.specs.WellFormed.{is_return, is_plain, are_plain, what_fits, stmts_fit, is_tested}
 use Rattle.ep_core.specs.Laws.{IsAmong, LeavesByItsWays}
 

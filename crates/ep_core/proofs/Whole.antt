@@ -4,8 +4,11 @@ use Rattle.ep_int.specs.declared.types.Order.{Order}
 use Rattle.ep_int.specs.declared.types.Scalar.{Scalar}
 use Rattle.ep_int.specs.Memory.{int, null, pointer, Found, has, faults, loaded}
 use Rattle.ep_core.specs.Program.{Program}
-use Rattle.ep_core.specs.Exec.{State, Outcome, leaves, running, no_input, undefined_at, Counting, counted, uncounted, model, size_at, result_in, body_of, bodies}
-use Rattle.ep_core.specs.Runs.{Ending, still_running, ended, wants_input, undefined_on, Run, run_of, result_out, main_function, main_ends, line_of, finished, start, main_from, run_by, run, IsDefined, IsOver, Begins, Agrees}
+use Rattle.ep_core.specs.Exec.{State, Outcome, leaves, running, no_input, undefined_at, Counting, counted, uncounted}
+use Rattle.ep_core.specs.Exec.{model, size_at, result_in, body_of, bodies}
+use Rattle.ep_core.specs.Runs.{Ending, still_running, ended, wants_input, undefined_on, Run, run_of, result_out}
+use Rattle.ep_core.specs.Runs.{main_function, main_ends, line_of, finished, start, main_from, run_by, run, IsDefined}
+use Rattle.ep_core.specs.Runs.{IsOver, Begins, Agrees}
 use Rattle.ep_core.specs.Laws.{Continues, StepsGoOn, TurnsGoOn, TurnsGoFurther, StepsReach, AgreesAlong}
 use Rattle.ep_core.proofs.Prefixes.{begins_refl, begins_trans, begins_more, begins_either}
 use Rattle.ep_core.proofs.Grows.{state_in, Later, later_refl}

@@ -95,7 +95,8 @@ fn sized_object(
     requires known { IsKnownEnv (around env.old) }
     requires inside { IsKnown (around env.old).types c }
     ensures means { GivesIn seen.object
-        (at line (rule.sized_object (around env.old) global name.now (c, (around env.old).types))) (around env.new) result }
+        (at line (rule.sized_object (around env.old) global name.now (c, (around env.old).types)))
+        (around env.new) result }
     ensures after { OnOk result (Follows (around env.old) (around env.new)) }
     ensures inside { IfOk result (λ o. IsKnown (around env.new).types o.ty) }
 {

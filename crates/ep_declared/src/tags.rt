@@ -101,7 +101,8 @@ pub(crate) fn opened(
 ) -> Result<u32, Halt>
     requires { IsKnownEnv (around env.old) }
     ensures means { GivesIn (λ a. a)
-        (at line (rule.opened (around env.old) unclosed.now with_union (option_map text_of tag.now))) (around env.new) result }
+        (at line (rule.opened (around env.old) unclosed.now with_union (option_map text_of tag.now)))
+        (around env.new) result }
     ensures after { OnOk result (Follows (around env.old) (around env.new)) }
     ensures opened { IfOk result (λ a.
         IsOpened unclosed.now with_union a (around env.old).types (around env.new).types) }

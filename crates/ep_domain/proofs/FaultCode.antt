@@ -1,5 +1,6 @@
 -- What the code of the faults of two ranges needs.
-use Rattle.std.proofs.Common.{◌≡◌, ℕ, ◌^◌, ◌<◌, ◌≤◌, ℤ, pos, negsuc, ◌+ℤ◌, ◌-ℤ◌, ◌*ℤ◌, ◌≤ℤ◌, Bool, true, false, cond, ◌||◌, Option, Some, None, refl, sym, ap, ◌∙◌, subst, arith, to_z, of_z, FitsSigned}
+use Rattle.std.proofs.Common.{◌≡◌, ℕ, ◌^◌, ◌<◌, ◌≤◌, ℤ, pos, negsuc, ◌+ℤ◌, ◌-ℤ◌, ◌*ℤ◌, ◌≤ℤ◌, Bool, true, false, cond}
+use Rattle.std.proofs.Common.{◌||◌, Option, Some, None, refl, sym, ap, ◌∙◌, subst, arith, to_z, of_z, FitsSigned}
 use mir.Syntax.{w128}
 use Rattle.std.specs.Prelude.{int_lt, unsigned_abs}
 use Rattle.std.specs.Bool.{then_some}
@@ -13,7 +14,8 @@ use Rattle.ep_int.specs.declared.types.BinOp.TheVariants.{Add, Sub, Mul, Div, Re
 use Rattle.ep_int.specs.Types.{is_signed, greatest_of, InRange}
 use Rattle.ep_int.specs.Arith.{IsOfSomeType, IsRightOperand}
 use Rattle.ep_range_laws.specs.Ranges.{IsRange, LiesIn}
-use Rattle.ep_range_laws.specs.Faults.{least_of_four, greatest_of_four, shown_range, may_overflow, may_not_shift, may_fault, nearest_amount, right_part, fault_between}
+use Rattle.ep_range_laws.specs.Faults.{least_of_four, greatest_of_four, shown_range, may_overflow, may_not_shift}
+use Rattle.ep_range_laws.specs.Faults.{may_fault, nearest_amount, right_part, fault_between}
 use Rattle.ep_range_laws.proofs.Comparisons.{le_true, lt_false, from_lt_false, le_trans}
 use Rattle.ep_range_laws.proofs.Parts.{right_is_right}
 use Rattle.ep_range_laws.proofs.FaultAt.{low_lies, high_lies}

@@ -1,3 +1,5 @@
+//! Outcomes of operators on values of a domain.
+
 /// What an operator gives of two values of a domain.
 #[derive(Clone, Copy, Debug, PartialEq, Eq)]
 pub struct Outcome<N> {

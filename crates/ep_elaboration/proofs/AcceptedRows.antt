@@ -3,14 +3,23 @@ use Rattle.std.proofs.Common.{None, Some, [], false, refl, true, ◌∷◌, ◌�
 use Rattle.std.specs.Prelude.{codes}
 use Rattle.ep_int.specs.declared.types.Model.TheVariants.{Ilp32}
 use Rattle.ep_ast.specs.Declaration.{aggregate, body, member, plain, single, to_members, to_specs}
-use Rattle.ep_ast.specs.Expression.{arrow, assign, binary, cast, conditional, id, index, post_decrement, post_increment, sizeof_expr, sizeof_type, step, unary, word}
+use Rattle.ep_ast.specs.Expression.{arrow, assign, binary, cast, conditional, id, index, post_decrement}
+use Rattle.ep_ast.specs.Expression.{post_increment, sizeof_expr, sizeof_type, step, unary, word}
 use Rattle.ep_ast.specs.Mark as mark
-use Rattle.ep_ast.specs.Statement.{block, break_loop, completes, continue_loop, do_loop, evaluate, evaluates, for_loop, functions_by_order, if_else, prototype, states, to_parts, typedefs, while_loop}
+use Rattle.ep_ast.specs.Statement.{block, break_loop, completes, continue_loop, do_loop, evaluate, evaluates}
+use Rattle.ep_ast.specs.Statement.{for_loop, functions_by_order, if_else, prototype, states, to_parts, typedefs}
+use Rattle.ep_ast.specs.Statement.{while_loop}
 use Rattle.ep_ast.specs.declared.marks.TheConstants as marks
 use Rattle.ep_ast.specs.declared.orders.NamedOrder.TheVariants.{Big, Little}
 use Rattle.ep_elaboration.proofs.Opened.{all_sound}
 use Rattle.ep_elaboration.proofs.Shared.{behind_deep_functions, in_main}
-use Rattle.ep_elaboration.proofs.Trees.{address_of, array, array_field, call_of, char_word_at, char_words, declarator, defined, defines_function, does, does_call, field, global, head, ifs, in_block, init, int_word_at, int_words, literal, local, long_word_at, main_at, no_params, number, one_word, param, params, plain_main, pointer_field, returns, sets, struct_at, struct_of, struct_words, takes, takes_pointer, tildes, two_words, type_name, typedef, typedef_words, variable, variable_of, void_word_at, zero_at}
+use Rattle.ep_elaboration.proofs.Trees.{address_of, array, array_field, call_of, char_word_at, char_words, declarator}
+use Rattle.ep_elaboration.proofs.Trees.{defined, defines_function, does, does_call, field, global, head, ifs}
+use Rattle.ep_elaboration.proofs.Trees.{in_block, init, int_word_at, int_words, literal, local, long_word_at, main_at}
+use Rattle.ep_elaboration.proofs.Trees.{no_params, number, one_word, param, params, plain_main, pointer_field}
+use Rattle.ep_elaboration.proofs.Trees.{returns, sets, struct_at, struct_of, struct_words, takes, takes_pointer}
+use Rattle.ep_elaboration.proofs.Trees.{tildes, two_words, type_name, typedef, typedef_words, variable, variable_of}
+use Rattle.ep_elaboration.proofs.Trees.{void_word_at, zero_at}
 
 -- these mean well-formed programs
 sound_1 : all_sound Ilp32 (

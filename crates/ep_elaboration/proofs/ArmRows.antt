@@ -6,7 +6,10 @@ use Rattle.ep_ast.specs.Expression.{id}
 use Rattle.ep_ast.specs.Statement.{functions_by_order, prototype}
 use Rattle.ep_ast.specs.declared.orders.NamedOrder.TheVariants.{Little}
 use Rattle.ep_elaboration.proofs.Opened.{answers}
-use Rattle.ep_elaboration.proofs.Trees.{call_of, char_word_at, char_words, defined, defines_function, does_call, global, head, int_word_at, int_words, local, main_at, no_params, number, param, params, plain_main, returns, sets, takes, variable, variable_of, void_word_at, void_words, zero_at}
+use Rattle.ep_elaboration.proofs.Trees.{call_of, char_word_at, char_words, defined, defines_function, does_call}
+use Rattle.ep_elaboration.proofs.Trees.{global, head, int_word_at, int_words, local, main_at, no_params, number}
+use Rattle.ep_elaboration.proofs.Trees.{param, params, plain_main, returns, sets, takes, variable, variable_of}
+use Rattle.ep_elaboration.proofs.Trees.{void_word_at, void_words, zero_at}
 
 -- in this order of kinds and lines
 arm_1 : answers Ilp32 (

@@ -7,7 +7,10 @@ use Rattle.ep_ast.specs.Expression.{binary, cast, conditional, id, sizeof_expr, 
 use Rattle.ep_ast.specs.Mark as mark
 use Rattle.ep_ast.specs.Statement.{Item, completes, typedefs}
 use Rattle.ep_elaboration.proofs.Opened.{all_sound}
-use Rattle.ep_elaboration.proofs.Trees.{array, array_field, char_word_at, char_words, declarator, field, global, init, int_word_at, int_words, literal, long_word_at, number, one_word, plain_main, pointer_field, struct_of, struct_words, two_words, type_name, typedef, typedef_at, typedef_words, union_of, union_words, void_word_at, zero_at}
+use Rattle.ep_elaboration.proofs.Trees.{array, array_field, char_word_at, char_words, declarator, field, global, init}
+use Rattle.ep_elaboration.proofs.Trees.{int_word_at, int_words, literal, long_word_at, number, one_word, plain_main}
+use Rattle.ep_elaboration.proofs.Trees.{pointer_field, struct_of, struct_words, two_words, type_name, typedef}
+use Rattle.ep_elaboration.proofs.Trees.{typedef_at, typedef_words, union_of, union_words, void_word_at, zero_at}
 
 abbrev programs_1 : List (List Item)
 programs_1 =

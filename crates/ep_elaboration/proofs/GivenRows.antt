@@ -7,7 +7,9 @@ use Rattle.ep_ast.specs.Expression.{binary, conditional, id, sizeof_expr}
 use Rattle.ep_ast.specs.Mark as mark
 use Rattle.ep_ast.specs.Statement.{completes}
 use Rattle.ep_elaboration.proofs.Opened.{answers}
-use Rattle.ep_elaboration.proofs.Trees.{array, array_field, call_of, declarator, defines_function, field, global, init, int_words, local, main_at, no_params, number, plain_main, returns, struct_of, struct_words, union_of, union_words, variable, zero_at}
+use Rattle.ep_elaboration.proofs.Trees.{array, array_field, call_of, declarator, defines_function, field, global}
+use Rattle.ep_elaboration.proofs.Trees.{init, int_words, local, main_at, no_params, number, plain_main, returns}
+use Rattle.ep_elaboration.proofs.Trees.{struct_of, struct_words, union_of, union_words, variable, zero_at}
 
 -- in this order of kinds and lines
 given_1 : answers Ilp32 (

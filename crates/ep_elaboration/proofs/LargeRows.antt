@@ -3,13 +3,22 @@ use Rattle.std.proofs.Common.{List, None, Some, [], refl, true, ◌∷◌, ◌�
 use Rattle.std.specs.Prelude.{codes}
 use Rattle.ep_int.specs.declared.types.Model.TheVariants.{Ilp32, Lp64}
 use Rattle.ep_ast.specs.Declaration.{listed, single, to_values}
-use Rattle.ep_ast.specs.Expression.{arrow, assign, binary, conditional, id, index, post_increment, sizeof_expr, sizeof_type, unary}
+use Rattle.ep_ast.specs.Expression.{arrow, assign, binary, conditional, id, index, post_increment, sizeof_expr}
+use Rattle.ep_ast.specs.Expression.{sizeof_type, unary}
 use Rattle.ep_ast.specs.Mark as mark
-use Rattle.ep_ast.specs.Statement.{Item, arm, block, break_loop, completes, continue_loop, declares, defines, do_loop, evaluate, evaluates, for_loop, functions_by_order, if_else, if_then, prototype, return_value, states, to_parts, to_stmts, two_arms, while_loop}
+use Rattle.ep_ast.specs.Statement.{Item, arm, block, break_loop, completes, continue_loop, declares, defines, do_loop}
+use Rattle.ep_ast.specs.Statement.{evaluate, evaluates, for_loop, functions_by_order, if_else, if_then, prototype}
+use Rattle.ep_ast.specs.Statement.{return_value, states, to_parts, to_stmts, two_arms, while_loop}
 use Rattle.ep_ast.specs.declared.marks.TheConstants as marks
 use Rattle.ep_ast.specs.declared.orders.NamedOrder.TheVariants.{Big, Little}
 use Rattle.ep_elaboration.proofs.Opened.{is_sound}
-use Rattle.ep_elaboration.proofs.Trees.{address_of, array, array_field, block_at, call_of, char_word_at, char_words, declaration, declarator, defined, defines_function, does, does_call, field, function, global, head, in_block, init, int_word_at, int_words, local, main_at, member_of, no_params, number, object, object_of, one_word, param, params, pointer_field, returns, sets, struct_at, struct_of, struct_words, takes, takes_pointer, two_words, type_name, union_of, union_words, unsigned_word_at, unsigned_words, variable, variable_of, void_words, zero_at}
+use Rattle.ep_elaboration.proofs.Trees.{address_of, array, array_field, block_at, call_of, char_word_at, char_words}
+use Rattle.ep_elaboration.proofs.Trees.{declaration, declarator, defined, defines_function, does, does_call, field}
+use Rattle.ep_elaboration.proofs.Trees.{function, global, head, in_block, init, int_word_at, int_words, local}
+use Rattle.ep_elaboration.proofs.Trees.{main_at, member_of, no_params, number, object, object_of, one_word, param}
+use Rattle.ep_elaboration.proofs.Trees.{params, pointer_field, returns, sets, struct_at, struct_of, struct_words}
+use Rattle.ep_elaboration.proofs.Trees.{takes, takes_pointer, two_words, type_name, union_of, union_words}
+use Rattle.ep_elaboration.proofs.Trees.{unsigned_word_at, unsigned_words, variable, variable_of, void_words, zero_at}
 
 -- struct p { int x; char y[2]; struct p *n; };
 -- union u { short h; int w; };

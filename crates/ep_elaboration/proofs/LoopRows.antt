@@ -5,9 +5,14 @@ use Rattle.ep_int.specs.declared.types.Model.TheVariants.{Ilp32}
 use Rattle.ep_ast.specs.Declaration.{aggregate, body, listed, member, single, to_members, to_specs, to_values}
 use Rattle.ep_ast.specs.Expression.{assign, cast, id}
 use Rattle.ep_ast.specs.Mark as mark
-use Rattle.ep_ast.specs.Statement.{block, break_loop, completes, continue_loop, declares, do_loop, evaluate, evaluates, for_loop, if_then, prototype, states, to_parts, typedefs, while_loop}
+use Rattle.ep_ast.specs.Statement.{block, break_loop, completes, continue_loop, declares, do_loop, evaluate}
+use Rattle.ep_ast.specs.Statement.{evaluates, for_loop, if_then, prototype, states, to_parts, typedefs, while_loop}
 use Rattle.ep_elaboration.proofs.Opened.{answers}
-use Rattle.ep_elaboration.proofs.Trees.{address_of, array_field, call_of, declaration, declarator, does_call, field, global, head, in_block, init, int_words, local, main_at, number, object_of, param, params, plain_main, pointer, pointer_field, sets, struct_of, struct_words, type_name, typedef, typedef_at, typedef_words, variable, variable_of, void_words, zero_at}
+use Rattle.ep_elaboration.proofs.Trees.{address_of, array_field, call_of, declaration, declarator, does_call, field}
+use Rattle.ep_elaboration.proofs.Trees.{global, head, in_block, init, int_words, local, main_at, number, object_of}
+use Rattle.ep_elaboration.proofs.Trees.{param, params, plain_main, pointer, pointer_field, sets, struct_of}
+use Rattle.ep_elaboration.proofs.Trees.{struct_words, type_name, typedef, typedef_at, typedef_words, variable}
+use Rattle.ep_elaboration.proofs.Trees.{variable_of, void_words, zero_at}
 
 -- in this order of kinds and lines
 loop_1 : answers Ilp32 (

@@ -3,13 +3,17 @@ use Rattle.std.proofs.Common.{None, Some, [], refl, ◌∷◌, ◌≡◌}
 use Rattle.std.specs.Prelude.{codes}
 use Rattle.ep_int.specs.declared.types.Model.TheVariants.{Ilp32}
 use Rattle.ep_ast.specs.Declaration.{single}
-use Rattle.ep_ast.specs.Expression.{assign, binary, cast, conditional, id, index, post_decrement, post_increment, sizeof_expr, step, unary}
+use Rattle.ep_ast.specs.Expression.{assign, binary, cast, conditional, id, index, post_decrement, post_increment}
+use Rattle.ep_ast.specs.Expression.{sizeof_expr, step, unary}
 use Rattle.ep_ast.specs.Mark as mark
 use Rattle.ep_ast.specs.Statement.{continue_loop, declares, evaluate, evaluates, for_loop, if_then, states, while_loop}
 use Rattle.ep_ast.specs.declared.marks.TheConstants as marks
 use Rattle.ep_elaboration.proofs.Opened.{answers}
 use Rattle.ep_elaboration.proofs.Shared.{behind_shared, in_main}
-use Rattle.ep_elaboration.proofs.Trees.{array, array_object, call_of, declaration, declarator, does, does_call, global, in_block, init, int_word_at, int_words, local, member_of, number, object, plain_main, returns, sets, struct_words, type_name, variable, variable_of, void_word_at, void_words, zero_at}
+use Rattle.ep_elaboration.proofs.Trees.{array, array_object, call_of, declaration, declarator, does, does_call}
+use Rattle.ep_elaboration.proofs.Trees.{global, in_block, init, int_word_at, int_words, local, member_of, number}
+use Rattle.ep_elaboration.proofs.Trees.{object, plain_main, returns, sets, struct_words, type_name, variable}
+use Rattle.ep_elaboration.proofs.Trees.{variable_of, void_word_at, void_words, zero_at}
 
 -- bounds that are no constants from 1 to 65,536: 17
 array_bounds_in_main : answers Ilp32 (

@@ -6,7 +6,13 @@ use Rattle.ep_ast.specs.Expression.{arrow, assign, binary, cast, id, index, post
 use Rattle.ep_ast.specs.Mark as mark
 use Rattle.ep_ast.specs.Statement.{completes, defines, evaluate, if_then, prototype, return_value, states, typedefs}
 use Rattle.ep_elaboration.proofs.Opened.{answers}
-use Rattle.ep_elaboration.proofs.Trees.{address_of, array, block_at, declarator, defines_function, does, does_call, field, function, global, head, int_word_at, int_words, literal, local, long_word_at, main_at, member_of, no_params, number, object, param, params, plain_main, pointer, pointer_object, returns, sets, struct_at, struct_of, struct_words, takes, takes_pointer, type_name, typedef, typedef_words, union_of, union_words, unsigned_words, variable, variable_of, void_word_at, void_words, zero_at}
+use Rattle.ep_elaboration.proofs.Trees.{address_of, array, block_at, declarator, defines_function, does, does_call}
+use Rattle.ep_elaboration.proofs.Trees.{field, function, global, head, int_word_at, int_words, literal, local}
+use Rattle.ep_elaboration.proofs.Trees.{long_word_at, main_at, member_of, no_params, number, object, param, params}
+use Rattle.ep_elaboration.proofs.Trees.{plain_main, pointer, pointer_object, returns, sets, struct_at, struct_of}
+use Rattle.ep_elaboration.proofs.Trees.{struct_words, takes, takes_pointer, type_name, typedef, typedef_words}
+use Rattle.ep_elaboration.proofs.Trees.{union_of, union_words, unsigned_words, variable, variable_of, void_word_at}
+use Rattle.ep_elaboration.proofs.Trees.{void_words, zero_at}
 
 -- types that don't fit: 32
 mismatches : answers Ilp32 (

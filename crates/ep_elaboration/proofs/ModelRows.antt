@@ -8,7 +8,12 @@ use Rattle.ep_ast.specs.Mark as mark
 use Rattle.ep_ast.specs.Statement.{Item, completes, functions_by_order, prototype}
 use Rattle.ep_ast.specs.declared.orders.NamedOrder.TheVariants.{Little}
 use Rattle.ep_elaboration.proofs.Opened.{all_sound, answers}
-use Rattle.ep_elaboration.proofs.Trees.{address_of, array, array_field, declarator, defined, defines_function, does_call, global, head, init, int_word_at, int_words, literal, local, long_word_at, main_at, no_params, number, one_word, params, plain_main, pointer, returns, sets, struct_of, takes, takes_pointer, two_words, type_name, typedef_at, typedef_words, unsigned_words, variable, variable_of, void_words, zero_at}
+use Rattle.ep_elaboration.proofs.Trees.{address_of, array, array_field, declarator, defined, defines_function}
+use Rattle.ep_elaboration.proofs.Trees.{does_call, global, head, init, int_word_at, int_words, literal, local}
+use Rattle.ep_elaboration.proofs.Trees.{long_word_at, main_at, no_params, number, one_word, params, plain_main}
+use Rattle.ep_elaboration.proofs.Trees.{pointer, returns, sets, struct_of, takes, takes_pointer, two_words, type_name}
+use Rattle.ep_elaboration.proofs.Trees.{typedef_at, typedef_words, unsigned_words, variable, variable_of, void_words}
+use Rattle.ep_elaboration.proofs.Trees.{zero_at}
 
 -- right where long has 64 bits alone
 abbrev with_long_of_64_bits : List (List Item)

@@ -8,7 +8,12 @@ use Rattle.ep_ast.specs.Mark as mark
 use Rattle.ep_ast.specs.Statement.{break_loop, completes, functions_by_order, if_then, prototype, states}
 use Rattle.ep_ast.specs.declared.orders.NamedOrder.TheVariants.{Little}
 use Rattle.ep_elaboration.proofs.Opened.{answers}
-use Rattle.ep_elaboration.proofs.Trees.{address_of, array, array_field, call_of, declarator, defined, defines_function, does, does_call, field, global, head, init, int_word_at, int_words, local, main_at, member_of, no_params, number, object, one_word, params, plain_main, pointer, pointer_field, pointer_object, returns, sets, struct_of, struct_words, takes, two_words, typedef_words, union_words, variable, variable_of, void_words, zero_at}
+use Rattle.ep_elaboration.proofs.Trees.{address_of, array, array_field, call_of, declarator, defined}
+use Rattle.ep_elaboration.proofs.Trees.{defines_function, does, does_call, field, global, head, init, int_word_at}
+use Rattle.ep_elaboration.proofs.Trees.{int_words, local, main_at, member_of, no_params, number, object, one_word}
+use Rattle.ep_elaboration.proofs.Trees.{params, plain_main, pointer, pointer_field, pointer_object, returns, sets}
+use Rattle.ep_elaboration.proofs.Trees.{struct_of, struct_words, takes, two_words, typedef_words, union_words}
+use Rattle.ep_elaboration.proofs.Trees.{variable, variable_of, void_words, zero_at}
 
 -- names that were not declared before: 30
 unknown_names_1 : answers Ilp32 (

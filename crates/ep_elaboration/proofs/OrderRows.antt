@@ -7,7 +7,10 @@ use Rattle.ep_ast.specs.Mark as mark
 use Rattle.ep_ast.specs.Statement.{defines, prototype}
 use Rattle.ep_elaboration.proofs.Opened.{answers}
 use Rattle.ep_elaboration.proofs.Shared.{behind_objects}
-use Rattle.ep_elaboration.proofs.Trees.{block_at, call_of, char_word_at, defines_function, does, does_call, function, global, head, int_word_at, int_words, no_params, number, params, plain_main, returns, sets, struct_words, takes, takes_pointer, type_name, variable, void_word_at, void_words, zero_at}
+use Rattle.ep_elaboration.proofs.Trees.{block_at, call_of, char_word_at, defines_function, does, does_call, function}
+use Rattle.ep_elaboration.proofs.Trees.{global, head, int_word_at, int_words, no_params, number, params, plain_main}
+use Rattle.ep_elaboration.proofs.Trees.{returns, sets, struct_words, takes, takes_pointer, type_name, variable}
+use Rattle.ep_elaboration.proofs.Trees.{void_word_at, void_words, zero_at}
 
 -- a whole assignment, and a head
 order_1 : answers Ilp32 (

@@ -5,11 +5,16 @@ use Rattle.ep_int.specs.declared.types.Model.TheVariants.{Ilp32, Lp64}
 use Rattle.ep_ast.specs.Declaration.{plain}
 use Rattle.ep_ast.specs.Expression.{arrow, assign, binary, cast, id, index, post_increment, tagged, typedef_name, word}
 use Rattle.ep_ast.specs.Mark as mark
-use Rattle.ep_ast.specs.Statement.{Item, block, completes, defines, evaluate, evaluates, for_loop, functions_by_order, if_then, states, to_parts}
+use Rattle.ep_ast.specs.Statement.{Item, block, completes, defines, evaluate, evaluates, for_loop, functions_by_order}
+use Rattle.ep_ast.specs.Statement.{if_then, states, to_parts}
 use Rattle.ep_ast.specs.declared.marks.TheConstants as marks
 use Rattle.ep_ast.specs.declared.orders.NamedOrder.TheVariants.{Little}
 use Rattle.ep_elaboration.proofs.Opened.{is_sound}
-use Rattle.ep_elaboration.proofs.Trees.{address_of, array, array_field, block_at, call_of, does_call, field, function, head, int_words, literal, local, member_of, no_params, number, params, returns, sets, struct_at, struct_of, struct_words, takes, takes_pointer, two_words, type_name, typedef_at, typedef_words, variable, variable_of, zero_at}
+use Rattle.ep_elaboration.proofs.Trees.{address_of, array, array_field, block_at, call_of, does_call, field, function}
+use Rattle.ep_elaboration.proofs.Trees.{head, int_words, literal, local, member_of, no_params, number, params}
+use Rattle.ep_elaboration.proofs.Trees.{returns, sets, struct_at, struct_of, struct_words, takes, takes_pointer}
+use Rattle.ep_elaboration.proofs.Trees.{two_words, type_name, typedef_at, typedef_words, variable, variable_of}
+use Rattle.ep_elaboration.proofs.Trees.{zero_at}
 
 -- #include <stdint.h>
 -- #include <string.h>

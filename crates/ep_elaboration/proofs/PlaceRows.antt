@@ -5,9 +5,13 @@ use Rattle.ep_int.specs.declared.types.Model.TheVariants.{Ilp32}
 use Rattle.ep_ast.specs.Declaration.{single}
 use Rattle.ep_ast.specs.Expression.{assign, binary, id, index, post_increment, sizeof_expr, unary}
 use Rattle.ep_ast.specs.Mark as mark
-use Rattle.ep_ast.specs.Statement.{block, break_loop, continue_loop, do_loop, evaluate, if_then, prototype, states, to_parts, while_loop}
+use Rattle.ep_ast.specs.Statement.{block, break_loop, continue_loop, do_loop, evaluate, if_then, prototype, states}
+use Rattle.ep_ast.specs.Statement.{to_parts, while_loop}
 use Rattle.ep_elaboration.proofs.Opened.{answers}
-use Rattle.ep_elaboration.proofs.Trees.{address_of, array, array_object, call_of, declarator, defines_function, does_call, global, head, in_block, init, int_word_at, int_words, local, main_at, no_params, number, object, object_of, param, params, plain_main, returns, sets, typedef_words, variable, variable_of, zero_at}
+use Rattle.ep_elaboration.proofs.Trees.{address_of, array, array_object, call_of, declarator, defines_function}
+use Rattle.ep_elaboration.proofs.Trees.{does_call, global, head, in_block, init, int_word_at, int_words, local}
+use Rattle.ep_elaboration.proofs.Trees.{main_at, no_params, number, object, object_of, param, params, plain_main}
+use Rattle.ep_elaboration.proofs.Trees.{returns, sets, typedef_words, variable, variable_of, zero_at}
 
 -- bounds that are no constants from 1 to 65,536: 17
 array_bounds : answers Ilp32 (

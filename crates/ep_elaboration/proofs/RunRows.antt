@@ -8,12 +8,17 @@ use Rattle.ep_int.specs.declared.types.Order.TheVariants.{Big, Little, SwappedWo
 use Rattle.ep_ast.specs.Declaration.{listed, single, to_values}
 use Rattle.ep_ast.specs.Expression.{assign, binary, conditional, id, index, post_increment, step, unary}
 use Rattle.ep_ast.specs.Mark as mark
-use Rattle.ep_ast.specs.Statement.{Item, block, completes, defines, do_loop, evaluate, evaluates, for_loop, functions_by_order, states, to_parts, while_loop}
+use Rattle.ep_ast.specs.Statement.{Item, block, completes, defines, do_loop, evaluate, evaluates, for_loop}
+use Rattle.ep_ast.specs.Statement.{functions_by_order, states, to_parts, while_loop}
 use Rattle.ep_ast.specs.declared.orders.NamedOrder.TheVariants as named
 use Rattle.ep_core.specs.Runs.{ended, still_running, undefined_on, wants_input}
 use Rattle.ep_elaboration.proofs.Opened.{puts, ran}
 use Rattle.ep_elaboration.proofs.Shared.{extremes}
-use Rattle.ep_elaboration.proofs.Trees.{address_of, array, block_at, call_of, declarator, defined, defines_function, does, does_call, field, function, global, head, in_block, init, int_word_at, int_words, local, main_at, member_of, no_params, number, params, pointer, returns, sets, struct_of, struct_words, takes, typedef_words, union_of, union_words, variable, variable_of, zero_at}
+use Rattle.ep_elaboration.proofs.Trees.{address_of, array, block_at, call_of, declarator, defined, defines_function}
+use Rattle.ep_elaboration.proofs.Trees.{does, does_call, field, function, global, head, in_block, init, int_word_at}
+use Rattle.ep_elaboration.proofs.Trees.{int_words, local, main_at, member_of, no_params, number, params, pointer}
+use Rattle.ep_elaboration.proofs.Trees.{returns, sets, struct_of, struct_words, takes, typedef_words, union_of}
+use Rattle.ep_elaboration.proofs.Trees.{union_words, variable, variable_of, zero_at}
 
 -- int main(void) {}
 abbrev run_1 : List Item

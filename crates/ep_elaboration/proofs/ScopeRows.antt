@@ -7,7 +7,12 @@ use Rattle.ep_ast.specs.Expression.{id, index, sizeof_expr, sizeof_type, unary}
 use Rattle.ep_ast.specs.Mark as mark
 use Rattle.ep_ast.specs.Statement.{completes, defines, evaluate, if_then, prototype, return_value, states, typedefs}
 use Rattle.ep_elaboration.proofs.Opened.{answers}
-use Rattle.ep_elaboration.proofs.Trees.{array, block_at, call_of, declarator, defines_function, field, function, global, head, int_word_at, int_words, local, main_at, member_of, no_params, number, param, params, plain_main, pointer, returns, sets, struct_at, struct_of, struct_words, takes, takes_pointer, type_name, typedef, typedef_at, typedef_words, union_of, union_words, variable, variable_of, void_word_at, void_words, zero_at}
+use Rattle.ep_elaboration.proofs.Trees.{array, block_at, call_of, declarator, defines_function, field, function}
+use Rattle.ep_elaboration.proofs.Trees.{global, head, int_word_at, int_words, local, main_at, member_of, no_params}
+use Rattle.ep_elaboration.proofs.Trees.{number, param, params, plain_main, pointer, returns, sets, struct_at}
+use Rattle.ep_elaboration.proofs.Trees.{struct_of, struct_words, takes, takes_pointer, type_name, typedef, typedef_at}
+use Rattle.ep_elaboration.proofs.Trees.{typedef_words, union_of, union_words, variable, variable_of, void_word_at}
+use Rattle.ep_elaboration.proofs.Trees.{void_words, zero_at}
 
 -- in this order of kinds and lines
 scope_1 : answers Ilp32 (

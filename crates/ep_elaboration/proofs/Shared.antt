@@ -5,7 +5,12 @@ use Rattle.ep_ast.specs.Declaration.{body}
 use Rattle.ep_ast.specs.Expression.{binary, id, unary}
 use Rattle.ep_ast.specs.Mark as mark
 use Rattle.ep_ast.specs.Statement.{Item, Part, defines, evaluate, prototype, states}
-use Rattle.ep_elaboration.proofs.Trees.{address_of, array_field, array_object, block_at, call_of, char_word_at, char_words, declarator, defines_function, field, function, global, head, ifs, init, int_word_at, int_words, main_at, no_params, number, object, object_of, params, pointer, pointer_field, pointer_object, returns, struct_of, struct_words, takes, takes_pointer, two_words, typedef_words, union_of, unsigned_words, variable, void_words, zero_at}
+use Rattle.ep_elaboration.proofs.Trees.{address_of, array_field, array_object, block_at, call_of, char_word_at}
+use Rattle.ep_elaboration.proofs.Trees.{char_words, declarator, defines_function, field, function, global, head, ifs}
+use Rattle.ep_elaboration.proofs.Trees.{init, int_word_at, int_words, main_at, no_params, number, object, object_of}
+use Rattle.ep_elaboration.proofs.Trees.{params, pointer, pointer_field, pointer_object, returns, struct_of}
+use Rattle.ep_elaboration.proofs.Trees.{struct_words, takes, takes_pointer, two_words, typedef_words, union_of}
+use Rattle.ep_elaboration.proofs.Trees.{unsigned_words, variable, void_words, zero_at}
 
 -- struct s { int a; int b[3]; struct s *n; } s, s2; union u { int i; uint8_t b[4]; } u; struct o *o; int x,
 -- a[4], m[2][3]; unsigned w; uint8_t c; long long q; int *p, **pp; char *cp; void *vp; struct s *sp; int f1(int

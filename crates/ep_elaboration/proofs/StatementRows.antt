@@ -9,7 +9,9 @@ use Rattle.ep_ast.specs.Statement.{evaluate, return_value, states, while_loop}
 use Rattle.ep_ast.specs.declared.marks.TheConstants as marks
 use Rattle.ep_elaboration.proofs.Opened.{answers}
 use Rattle.ep_elaboration.proofs.Shared.{in_main}
-use Rattle.ep_elaboration.proofs.Trees.{address_of, call_of, declarator, does, does_call, init, int_word_at, int_words, local, member_of, number, sets, struct_at, struct_words, type_name, variable, variable_of, void_word_at, zero_at}
+use Rattle.ep_elaboration.proofs.Trees.{address_of, call_of, declarator, does, does_call, init, int_word_at}
+use Rattle.ep_elaboration.proofs.Trees.{int_words, local, member_of, number, sets, struct_at, struct_words, type_name}
+use Rattle.ep_elaboration.proofs.Trees.{variable, variable_of, void_word_at, zero_at}
 
 -- types that don't fit: 32
 mismatches_in_main_1 : answers Ilp32 (

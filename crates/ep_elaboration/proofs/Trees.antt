@@ -5,7 +5,8 @@ use Rattle.ep_ast.specs.Mark as mark
 use Rattle.ep_ast.specs.Expression as source
 use Rattle.ep_ast.specs.Expression.{Expr, TypeName, TypeWord, to_exprs}
 use Rattle.ep_ast.specs.Declaration as declarations
-use Rattle.ep_ast.specs.Declaration.{Declarator, Spec, Member, Aggregate, Value, Init, Declaration, Typedef, Param, Params, Head, to_specs, to_members}
+use Rattle.ep_ast.specs.Declaration.{Declarator, Spec, Member, Aggregate, Value, Init, Declaration, Typedef, Param}
+use Rattle.ep_ast.specs.Declaration.{Params, Head, to_specs, to_members}
 use Rattle.ep_ast.specs.Statement as tree
 use Rattle.ep_ast.specs.Statement.{Part, Block, Function, Item, Stmt, to_parts}
 

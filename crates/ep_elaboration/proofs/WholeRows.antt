@@ -8,7 +8,11 @@ use Rattle.ep_ast.specs.Statement.{completes, evaluate, functions_by_order, prot
 use Rattle.ep_ast.specs.declared.orders.NamedOrder.TheVariants.{Big, Little}
 use Rattle.ep_elaboration.proofs.Opened.{answers}
 use Rattle.ep_elaboration.proofs.Shared.{behind_deep_functions}
-use Rattle.ep_elaboration.proofs.Trees.{array, array_field, array_object, call_of, char_word_at, char_words, defined, defines_function, does_call, global, head, ifs, int_word_at, int_words, local, main_at, no_params, number, one_word, params, plain_main, returns, sets, struct_of, takes, typedef_words, unsigned_words, variable, variable_of, void_words, zero_at}
+use Rattle.ep_elaboration.proofs.Trees.{array, array_field, array_object, call_of, char_word_at, char_words, defined}
+use Rattle.ep_elaboration.proofs.Trees.{defines_function, does_call, global, head, ifs, int_word_at, int_words, local}
+use Rattle.ep_elaboration.proofs.Trees.{main_at, no_params, number, one_word, params, plain_main, returns, sets}
+use Rattle.ep_elaboration.proofs.Trees.{struct_of, takes, typedef_words, unsigned_words, variable, variable_of}
+use Rattle.ep_elaboration.proofs.Trees.{void_words, zero_at}
 
 -- recursion: 35
 recursive : answers Ilp32 (

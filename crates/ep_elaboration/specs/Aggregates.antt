@@ -1,10 +1,12 @@
 -- Type words with the bodies of structs and unions, and what they declare: C11 6.7.2.1 and 6.7.2.3.
-use Rattle.std.specs.Prelude.{ℕ, ◌==◌, Bool, ◌||◌, not, if◌then◌else◌, List, [], ◌∷◌, ◌++◌, length, Option, Some, None, is_some, Result, Ok, Err}
+use Rattle.std.specs.Prelude.{ℕ, ◌==◌, Bool, ◌||◌, not, if◌then◌else◌, List, [], ◌∷◌, ◌++◌, length, Option, Some}
+use Rattle.std.specs.Prelude.{None, is_some, Result, Ok, Err}
 use Rattle.ep_ast.specs.Kind as kinds
 use Rattle.ep_int.specs.Memory.{contains}
 use Rattle.ep_ast.specs.declared.refusals.Refusal.{Refusal}
 use Rattle.ep_ast.specs.Expression.{TypeWord}
-use Rattle.ep_ast.specs.Declaration.{Declarator, Specs, no_specs, more_specs, plain, body, Aggregate, aggregate, Members, no_members, more_members, member}
+use Rattle.ep_ast.specs.Declaration.{Declarator, Specs, no_specs, more_specs, plain, body, Aggregate, aggregate}
+use Rattle.ep_ast.specs.Declaration.{Members, no_members, more_members, member}
 use Rattle.ep_ast.specs.Mark.{union_word}
 use Rattle.ep_layout.specs.declared.types.LayoutStop.{LayoutStop}
 use Rattle.ep_layout.specs.SameTypes.{is_same_sign}

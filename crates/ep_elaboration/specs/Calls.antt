@@ -1,11 +1,16 @@
 -- The calls of a program: in which order they stand in the text, how deep, and which functions they lead to. This
 -- project's rules on recursion, on missing bodies and on depth.
-use Rattle.std.specs.Prelude.{ℕ, zero, suc, ◌+◌, ◌==◌, max, Bool, ◌||◌, if◌then◌else◌, List, [], ◌∷◌, ◌++◌, map, Option, Some, None, is_some}
+use Rattle.std.specs.Prelude.{ℕ, zero, suc, ◌+◌, ◌==◌, max, Bool, ◌||◌, if◌then◌else◌, List, [], ◌∷◌, ◌++◌, map}
+use Rattle.std.specs.Prelude.{Option, Some, None, is_some}
 use Rattle.std.specs.List.{list_any, filter}
 use Rattle.ep_int.specs.Memory.{contains}
 use Rattle.ep_ast.specs.Expression as source
 use Rattle.ep_ast.specs.Declaration.{Value, single, listed, Init}
-use Rattle.ep_ast.specs.Statement.{First, declares, evaluates, Stmt, block, evaluate, if_then, if_else, while_loop, do_loop, for_loop, break_loop, continue_loop, return_value, Stmts, no_stmts, more_stmts, Part, declares_in, states, arm, two_arms, Parts, no_parts, more_parts, to_parts, Function, Item, typedefs, defines, prototype, declares_all, completes, functions_by_order}
+use Rattle.ep_ast.specs.Statement.{First, declares, evaluates, Stmt, block, evaluate, if_then, if_else, while_loop}
+use Rattle.ep_ast.specs.Statement.{do_loop, for_loop, break_loop, continue_loop, return_value, Stmts, no_stmts}
+use Rattle.ep_ast.specs.Statement.{more_stmts, Part, declares_in, states, arm, two_arms, Parts, no_parts, more_parts}
+use Rattle.ep_ast.specs.Statement.{to_parts, Function, Item, typedefs, defines, prototype, declares_all, completes}
+use Rattle.ep_ast.specs.Statement.{functions_by_order}
 use Rattle.ep_typing.specs.Env.{entry}
 use Rattle.ep_typing.specs.Parts.{built_in}
 

@@ -1,5 +1,6 @@
 -- What a declarator declares, and its kinds in order: C11 6.7.6, 6.7.6.2 and 6.7p3.
-use Rattle.std.specs.Prelude.{ℕ, Bool, if◌then◌else◌, ◌||◌, List, [], ◌∷◌, ◌++◌, length, Option, Some, None, is_some, Result, Ok, Err, pos}
+use Rattle.std.specs.Prelude.{ℕ, Bool, if◌then◌else◌, ◌||◌, List, [], ◌∷◌, ◌++◌, length, Option, Some, None, is_some}
+use Rattle.std.specs.Prelude.{Result, Ok, Err, pos}
 use Rattle.ep_ast.specs.Kind as kinds
 use Rattle.ep_ast.specs.declared.refusals.Refusal.{Refusal}
 use Rattle.ep_ast.specs.Expression as source

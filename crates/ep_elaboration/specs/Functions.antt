@@ -1,5 +1,6 @@
 -- Heads of functions, prototypes and definitions: C11 6.7.6.3 and 6.9.1, and this project's functions by byte order.
-use Rattle.std.specs.Prelude.{ℕ, ◌+◌, Bool, true, false, ◌&&◌, ◌||◌, not, if◌then◌else◌, List, [], ◌∷◌, ◌++◌, length, map, position, Option, Some, None, is_some, unwrap_or, bytes_eq, codes, Result, Ok, Err}
+use Rattle.std.specs.Prelude.{ℕ, ◌+◌, Bool, true, false, ◌&&◌, ◌||◌, not, if◌then◌else◌, List, [], ◌∷◌, ◌++◌, length}
+use Rattle.std.specs.Prelude.{map, position, Option, Some, None, is_some, unwrap_or, bytes_eq, codes, Result, Ok, Err}
 use Rattle.ep_ast.specs.Kind as kinds
 use Rattle.ep_int.specs.Memory.{contains}
 use Rattle.ep_int.specs.declared.types.IntType.TheVariants.{I32}
@@ -13,7 +14,8 @@ use Rattle.ep_layout.specs.Table.{Table}
 use Rattle.ep_core.specs.Program as core
 use Rattle.ep_typing.specs.declared.types.CType.{CType}
 use Rattle.ep_typing.specs.Results.{◌>>=◌, at}
-use Rattle.ep_typing.specs.Types.{c_type_number, element_of, int_type, is_aggregate, is_array, is_same, is_void, pointer_to, scalar_of, size_of_type, with_c_type, with_stars}
+use Rattle.ep_typing.specs.Types.{c_type_number, element_of, int_type, is_aggregate, is_array, is_same, is_void}
+use Rattle.ep_typing.specs.Types.{pointer_to, scalar_of, size_of_type, with_c_type, with_stars}
 use Rattle.ep_typing.specs.Env as env
 use Rattle.ep_typing.specs.Env.{Env, Meaning, Scope, Signature, entry, no_names}
 use Rattle.ep_typing.specs.Parts.{built_in}

@@ -1,5 +1,6 @@
 -- First values: an expression, or a list in braces. C11 6.7.9, less lists that leave braces out.
-use Rattle.std.specs.Prelude.{ℕ, zero, suc, ◌+◌, ◌*◌, nat_lt, Bool, true, false, ◌||◌, if◌then◌else◌, List, [], ◌∷◌, ◌++◌, slice_get, Option, Some, None, option_map, unwrap_or, Result, Ok, Err, ℤ, pos}
+use Rattle.std.specs.Prelude.{ℕ, zero, suc, ◌+◌, ◌*◌, nat_lt, Bool, true, false, ◌||◌, if◌then◌else◌, List, [], ◌∷◌}
+use Rattle.std.specs.Prelude.{◌++◌, slice_get, Option, Some, None, option_map, unwrap_or, Result, Ok, Err, ℤ, pos}
 use Rattle.ep_ast.specs.Kind as kinds
 use Rattle.ep_int.specs.declared.types.IntType.TheVariants.{I32}
 use Rattle.ep_int.specs.Types.{wrapped}
@@ -11,7 +12,8 @@ use Rattle.ep_ast.specs.Declaration.{single, listed, Values, no_values, more_val
 use Rattle.ep_layout.specs.Table.{Table, MemberRow, is_union, members_of}
 use Rattle.ep_core.specs.Program as core
 use Rattle.ep_typing.specs.Results.{◌>>=◌, at, needed}
-use Rattle.ep_typing.specs.Types.{bound_of, c_type_number, element_of, int_of, is_aggregate, is_array, is_pointer, number_in, size_of_type, type_of}
+use Rattle.ep_typing.specs.Types.{bound_of, c_type_number, element_of, int_of, is_aggregate, is_array, is_pointer}
+use Rattle.ep_typing.specs.Types.{number_in, size_of_type, type_of}
 use Rattle.ep_typing.specs.Env.{Env}
 use Rattle.ep_typing.specs.Names.{mentioned}
 use Rattle.ep_typing.specs.Constant.{constant_of}

@@ -1,5 +1,6 @@
 -- What whole programs mean, or for what they are refused: C11 6.9, and this project's checks of the whole program.
-use Rattle.std.specs.Prelude.{ℕ, Bool, true, not, nat_lt, if◌then◌else◌, List, [], ◌∷◌, ◌++◌, length, map, find, position, sum_by, Option, Some, None, option_map, unwrap_or, ◌==◌, Result, Ok, Err}
+use Rattle.std.specs.Prelude.{ℕ, Bool, true, not, nat_lt, if◌then◌else◌, List, [], ◌∷◌, ◌++◌, length, map, find}
+use Rattle.std.specs.Prelude.{position, sum_by, Option, Some, None, option_map, unwrap_or, ◌==◌, Result, Ok, Err}
 use Rattle.ep_ast.specs.Kind as kinds
 use Rattle.ep_int.specs.Memory.{contains}
 use Rattle.ep_int.specs.declared.types.Model.{Model}
@@ -13,8 +14,10 @@ use Rattle.ep_typing.specs.Env.{Env, Signature, start}
 use Rattle.ep_elaboration.specs.Declarators.{types_declared}
 use Rattle.ep_elaboration.specs.Aggregates.{body_declared, specs_declared}
 use Rattle.ep_elaboration.specs.Declarations.{declaration}
-use Rattle.ep_elaboration.specs.Functions.{Defined, arms_defined, function_defined, is_main, number_of_function, numbers_of, prototype}
-use Rattle.ep_elaboration.specs.Calls.{Call, Place, Placed, calls_of, function_depth, in_items, is_recursive, one_after_another, with_function}
+use Rattle.ep_elaboration.specs.Functions.{Defined, arms_defined, function_defined, is_main, number_of_function}
+use Rattle.ep_elaboration.specs.Functions.{numbers_of, prototype}
+use Rattle.ep_elaboration.specs.Calls.{Call, Place, Placed, calls_of, function_depth, in_items, is_recursive}
+use Rattle.ep_elaboration.specs.Calls.{one_after_another, with_function}
 
 -- ---- the text
 

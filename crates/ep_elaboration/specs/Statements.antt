@@ -1,6 +1,7 @@
 -- What statements mean, or the first offence in the order of the text: C11 6.8, and this project's statements by byte
 -- order.
-use Rattle.std.specs.Prelude.{ℕ, Bool, true, false, if◌then◌else◌, List, [], ◌∷◌, ◌++◌, drop, Option, Some, None, Result, Ok, Err, pos}
+use Rattle.std.specs.Prelude.{ℕ, Bool, true, false, if◌then◌else◌, List, [], ◌∷◌, ◌++◌, drop, Option, Some, None}
+use Rattle.std.specs.Prelude.{Result, Ok, Err, pos}
 use Rattle.ep_ast.specs.Kind as kinds
 use Rattle.ep_int.specs.declared.types.IntType.TheVariants.{I32}
 use Rattle.ep_int.specs.declared.types.Order.{Order}
@@ -9,7 +10,9 @@ use Rattle.ep_ast.specs.declared.orders.NamedOrder.{NamedOrder}
 use Rattle.ep_ast.specs.declared.orders.NamedOrder.TheVariants.{Little, Big}
 use Rattle.ep_ast.specs.declared.refusals.Refusal.{Refusal}
 use Rattle.ep_ast.specs.Expression as source
-use Rattle.ep_ast.specs.Statement.{First, declares, evaluates, Stmt, block, evaluate, if_then, if_else, while_loop, do_loop, for_loop, break_loop, continue_loop, return_value, Stmts, no_stmts, more_stmts, Part, declares_in, states, arm, two_arms, Parts, no_parts, more_parts}
+use Rattle.ep_ast.specs.Statement.{First, declares, evaluates, Stmt, block, evaluate, if_then, if_else, while_loop}
+use Rattle.ep_ast.specs.Statement.{do_loop, for_loop, break_loop, continue_loop, return_value, Stmts, no_stmts}
+use Rattle.ep_ast.specs.Statement.{more_stmts, Part, declares_in, states, arm, two_arms, Parts, no_parts, more_parts}
 use Rattle.ep_layout.specs.Table.{Table}
 use Rattle.ep_core.specs.Program as core
 use Rattle.ep_typing.specs.declared.types.CType.{CType}

@@ -1,13 +1,34 @@
 -- The functions of the definition against the rules: declarators, type words, structs and unions.
 use Rattle.std.proofs.Common.{◌≡◌, [], ◌∷◌, ◌++◌, ℕ, Bool, List, Option, Some, None, Ok, Err, refl, subst, inl, inr}
 use Rattle.std.specs.Prelude.{◌==◌, pos, length}
-use Rattle.ep_ast.specs.Declaration.{Aggregate, Declarator, Members, Specs, aggregate, body, member, more_members, more_specs, no_members, no_specs, plain}
+use Rattle.ep_ast.specs.Declaration.{Aggregate, Declarator, Members, Specs, aggregate, body, member, more_members}
+use Rattle.ep_ast.specs.Declaration.{more_specs, no_members, no_specs, plain}
 use Rattle.ep_ast.specs.Expression.{Expr, TypeWord}
 use Rattle.ep_ast.specs.Mark.{union_word}
 use Rattle.ep_ast.specs.declared.refusals.Refusal.{Refusal}
-use Rattle.ep_elaboration.specs.Aggregates.{Named, all_members, body_declared, closed, member_declared, members_declared, opened, specs_declared, with_member, words_declared}
-use Rattle.ep_elaboration.specs.Declarators.{Object, bound, bounds, counted, declared_object, declared_type, object_bounds, object_declared, type_declared, types_declared}
-use Rattle.ep_elaboration_laws.specs.DeclaratorRules.{BodyOffends, BoundOffends, BoundsOffend, MeansBody, MeansBound, MeansBounds, MeansMemberName, MeansMemberNames, MeansMembers, MeansObject, MeansObjectBounds, MeansSpecs, MeansTypedef, MeansTypedefs, MeansWords, MemberNameOffends, MemberNamesOffend, MembersOffend, ObjectBoundsOffend, ObjectOffends, SpecsOffend, TypedefOffends, TypedefsOffend, WordsOffend, bad_bound, bad_member_name, bad_object, bad_size, bad_tag, bad_typedef, bad_words, from_list, has_body, in_bound, in_bound_behind, in_bounds, in_bounds_of_list, in_first_bound, in_first_member_name, in_first_typedef, in_later_bound, in_later_member_name, in_later_members, in_later_specs, in_later_typedef, in_member_bounds, in_member_names, in_member_specs, in_members, in_no_bounds, in_object_bounds, in_spec_body, in_typedef_bounds, in_words, is_body, is_bound, is_member_name, is_object, is_plain, is_typedef, is_words, listed_with_bound, listed_without_bounds, missing_bound, more_bounds, more_member_names, more_typedefs, no_bounds, no_member_names, no_more_members, no_typedefs, one_member_more, one_word_more, too_many_values, without_list}
+use Rattle.ep_elaboration.specs.Aggregates.{Named, all_members, body_declared, closed, member_declared}
+use Rattle.ep_elaboration.specs.Aggregates.{members_declared, opened, specs_declared, with_member, words_declared}
+use Rattle.ep_elaboration.specs.Declarators.{Object, bound, bounds, counted, declared_object, declared_type}
+use Rattle.ep_elaboration.specs.Declarators.{object_bounds, object_declared, type_declared, types_declared}
+use Rattle.ep_elaboration_laws.specs.DeclaratorRules.{BodyOffends, BoundOffends, BoundsOffend, MeansBody, MeansBound}
+use Rattle.ep_elaboration_laws.specs.DeclaratorRules.{MeansBounds, MeansMemberName, MeansMemberNames, MeansMembers}
+use Rattle.ep_elaboration_laws.specs.DeclaratorRules.{MeansObject, MeansObjectBounds, MeansSpecs, MeansTypedef}
+use Rattle.ep_elaboration_laws.specs.DeclaratorRules.{MeansTypedefs, MeansWords, MemberNameOffends, MemberNamesOffend}
+use Rattle.ep_elaboration_laws.specs.DeclaratorRules.{MembersOffend, ObjectBoundsOffend, ObjectOffends, SpecsOffend}
+use Rattle.ep_elaboration_laws.specs.DeclaratorRules.{TypedefOffends, TypedefsOffend, WordsOffend, bad_bound}
+use Rattle.ep_elaboration_laws.specs.DeclaratorRules.{bad_member_name, bad_object, bad_size, bad_tag, bad_typedef}
+use Rattle.ep_elaboration_laws.specs.DeclaratorRules.{bad_words, from_list, has_body, in_bound, in_bound_behind}
+use Rattle.ep_elaboration_laws.specs.DeclaratorRules.{in_bounds, in_bounds_of_list, in_first_bound}
+use Rattle.ep_elaboration_laws.specs.DeclaratorRules.{in_first_member_name, in_first_typedef, in_later_bound}
+use Rattle.ep_elaboration_laws.specs.DeclaratorRules.{in_later_member_name, in_later_members, in_later_specs}
+use Rattle.ep_elaboration_laws.specs.DeclaratorRules.{in_later_typedef, in_member_bounds, in_member_names}
+use Rattle.ep_elaboration_laws.specs.DeclaratorRules.{in_member_specs, in_members, in_no_bounds, in_object_bounds}
+use Rattle.ep_elaboration_laws.specs.DeclaratorRules.{in_spec_body, in_typedef_bounds, in_words, is_body, is_bound}
+use Rattle.ep_elaboration_laws.specs.DeclaratorRules.{is_member_name, is_object, is_plain, is_typedef, is_words}
+use Rattle.ep_elaboration_laws.specs.DeclaratorRules.{listed_with_bound, listed_without_bounds, missing_bound}
+use Rattle.ep_elaboration_laws.specs.DeclaratorRules.{more_bounds, more_member_names, more_typedefs, no_bounds}
+use Rattle.ep_elaboration_laws.specs.DeclaratorRules.{no_member_names, no_more_members, no_typedefs, one_member_more}
+use Rattle.ep_elaboration_laws.specs.DeclaratorRules.{one_word_more, too_many_values, without_list}
 use Rattle.ep_layout.specs.Table.{members_stop}
 use Rattle.ep_typing.specs.Constant.{count_in}
 use Rattle.ep_typing.specs.Env.{Env}

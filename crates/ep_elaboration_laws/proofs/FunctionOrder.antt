@@ -1,5 +1,6 @@
 -- The functions of the definition against the rules: heads and functions.
-use Rattle.std.proofs.Common.{◌≡◌, [], ◌∷◌, ◌++◌, ℕ, Bool, true, false, List, Option, Some, None, Ok, Err, refl, subst, inl, inr}
+use Rattle.std.proofs.Common.{◌≡◌, [], ◌∷◌, ◌++◌, ℕ, Bool, true, false, List, Option, Some, None, Ok, Err, refl}
+use Rattle.std.proofs.Common.{subst, inl, inr}
 use Rattle.std.specs.Prelude.{◌+◌, length}
 use Rattle.ep_ast.specs.Declaration.{Head, Param, to_specs}
 use Rattle.ep_ast.specs.Expression.{Expr}
@@ -8,15 +9,37 @@ use Rattle.ep_ast.specs.declared.orders.NamedOrder.{NamedOrder}
 use Rattle.ep_ast.specs.declared.refusals.Refusal.{Refusal}
 use Rattle.ep_elaboration.specs.Aggregates.{specs_declared, words_declared}
 use Rattle.ep_elaboration.specs.Declarators.{bound, bounds, with_types}
-use Rattle.ep_elaboration.specs.Functions.{Body, Defined, Headed, Typed, agreeing, arms_agree, arms_defined, behind_result, blocks_if, body_env, first_block, function_declared, function_defined, function_typed, functions_defined, given_back, headed, others_typed, param_bounds, param_declared, params_declared, params_of, prototype, rest_of, results, signature_of, with_param}
+use Rattle.ep_elaboration.specs.Functions.{Body, Defined, Headed, Typed, agreeing, arms_agree, arms_defined}
+use Rattle.ep_elaboration.specs.Functions.{behind_result, blocks_if, body_env, first_block, function_declared}
+use Rattle.ep_elaboration.specs.Functions.{function_defined, function_typed, functions_defined, given_back, headed}
+use Rattle.ep_elaboration.specs.Functions.{others_typed, param_bounds, param_declared, params_declared, params_of}
+use Rattle.ep_elaboration.specs.Functions.{prototype, rest_of, results, signature_of, with_param}
 use Rattle.ep_elaboration.specs.Statements.{entered, innermost, left, parts}
-use Rattle.ep_elaboration_laws.specs.FunctionRules.{ArmsOffend, DefinitionOffends, DefinitionsOffend, FunctionOffends, HeadOffends, MeansArms, MeansDefinition, MeansDefinitions, MeansFunction, MeansHead, MeansOthers, MeansParam, MeansParamBounds, MeansParams, MeansPrototype, OthersOffend, ParamBoundsOffend, ParamOffends, ParamsOffend, PrototypeOffends, bad_arms, bad_function, bad_param, bad_prototype, bad_result, bound_array, in_arm_named, in_array_bound, in_body, in_element_bounds, in_first_definition, in_first_other, in_first_param, in_function, in_head, in_later_definition, in_later_other, in_later_param, in_open_array, in_other_arm, in_param_bounds, in_param_words, in_params, in_prototype, in_result, is_arms, is_definition, is_function, is_head, is_param, is_prototype, more_definitions, more_others, more_params, no_array, no_definitions, no_others, no_params, open_array}
+use Rattle.ep_elaboration_laws.specs.FunctionRules.{ArmsOffend, DefinitionOffends, DefinitionsOffend, FunctionOffends}
+use Rattle.ep_elaboration_laws.specs.FunctionRules.{HeadOffends, MeansArms, MeansDefinition, MeansDefinitions}
+use Rattle.ep_elaboration_laws.specs.FunctionRules.{MeansFunction, MeansHead, MeansOthers, MeansParam}
+use Rattle.ep_elaboration_laws.specs.FunctionRules.{MeansParamBounds, MeansParams, MeansPrototype, OthersOffend}
+use Rattle.ep_elaboration_laws.specs.FunctionRules.{ParamBoundsOffend, ParamOffends, ParamsOffend, PrototypeOffends}
+use Rattle.ep_elaboration_laws.specs.FunctionRules.{bad_arms, bad_function, bad_param, bad_prototype, bad_result}
+use Rattle.ep_elaboration_laws.specs.FunctionRules.{bound_array, in_arm_named, in_array_bound, in_body}
+use Rattle.ep_elaboration_laws.specs.FunctionRules.{in_element_bounds, in_first_definition, in_first_other}
+use Rattle.ep_elaboration_laws.specs.FunctionRules.{in_first_param, in_function, in_head, in_later_definition}
+use Rattle.ep_elaboration_laws.specs.FunctionRules.{in_later_other, in_later_param, in_open_array, in_other_arm}
+use Rattle.ep_elaboration_laws.specs.FunctionRules.{in_param_bounds, in_param_words, in_params, in_prototype}
+use Rattle.ep_elaboration_laws.specs.FunctionRules.{in_result, is_arms, is_definition, is_function, is_head, is_param}
+use Rattle.ep_elaboration_laws.specs.FunctionRules.{is_prototype, more_definitions, more_others, more_params}
+use Rattle.ep_elaboration_laws.specs.FunctionRules.{no_array, no_definitions, no_others, no_params, open_array}
 use Rattle.ep_typing.specs.Env.{Env}
 use Rattle.ep_typing.specs.Results.{at}
 use Rattle.ep_typing.specs.Types.{with_c_type, with_stars}
 use Rattle.ep_typing.specs.declared.types.CType.{CType}
 use Rattle.ep_typing_laws.proofs.Order.{bind_ok, bind_err, at_ok, at_err, ok_is}
-use Rattle.ep_elaboration_laws.proofs.DeclaratorOrder.{meant_bound, means_bound, offended_bound, refused_bound, meant_bounds, means_bounds, offended_bounds, refused_bounds, meant_words_declared, means_words_declared, offended_words_declared, refused_words_declared, meant_specs_declared, means_specs_declared, offended_specs_declared, refused_specs_declared}
+use Rattle.ep_elaboration_laws.proofs.DeclaratorOrder.{meant_bound, means_bound, offended_bound, refused_bound}
+use Rattle.ep_elaboration_laws.proofs.DeclaratorOrder.{meant_bounds, means_bounds, offended_bounds, refused_bounds}
+use Rattle.ep_elaboration_laws.proofs.DeclaratorOrder.{meant_words_declared, means_words_declared}
+use Rattle.ep_elaboration_laws.proofs.DeclaratorOrder.{offended_words_declared, refused_words_declared}
+use Rattle.ep_elaboration_laws.proofs.DeclaratorOrder.{meant_specs_declared, means_specs_declared}
+use Rattle.ep_elaboration_laws.proofs.DeclaratorOrder.{offended_specs_declared, refused_specs_declared}
 use Rattle.ep_elaboration_laws.proofs.StatementOrder.{meant_parts, means_parts, offended_parts, refused_parts}
 
 pub meant_param_bounds : {G : Env} {l : ℕ} {bs : List (Option Expr)} {out : (Option (List ℕ) × Env)}

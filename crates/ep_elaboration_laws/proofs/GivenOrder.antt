@@ -8,8 +8,20 @@ use Rattle.ep_ast.specs.declared.refusals.Refusal.{Refusal}
 use Rattle.ep_elaboration.specs.Aggregates.{specs_declared}
 use Rattle.ep_elaboration.specs.Declarations.{Made, declaration, initialised, variable_declared, variables_declared}
 use Rattle.ep_elaboration.specs.Declarators.{Object, object_declared}
-use Rattle.ep_elaboration.specs.Given.{Given, all_given, count_listed, expression_given, first_values, line_of_value, object_operand, part_at, value_given, with_parts}
-use Rattle.ep_elaboration_laws.specs.GivenRules.{AllGivenOffend, DeclarationOffends, FirstValueOffends, GivenExpressionOffends, GivenOffends, MeansAllGiven, MeansDeclaration, MeansFirstValue, MeansGiven, MeansGivenExpression, MeansVariable, MeansVariables, VariableOffends, VariablesOffend, bad_given_expression, bad_list, in_declarator, in_declared_type, in_expression_too_many, in_first_value, in_first_values, in_first_variable, in_given_expression, in_initialiser, in_later_value, in_later_variable, in_listed, in_single, in_variables, is_declaration, is_first_value, is_given_expression, is_listed, is_single, is_variable, more_values_given, more_variables, no_constant, no_first_value, no_values_given, no_variables, one_expression_too_many}
+use Rattle.ep_elaboration.specs.Given.{Given, all_given, count_listed, expression_given, first_values, line_of_value}
+use Rattle.ep_elaboration.specs.Given.{object_operand, part_at, value_given, with_parts}
+use Rattle.ep_elaboration_laws.specs.GivenRules.{AllGivenOffend, DeclarationOffends, FirstValueOffends}
+use Rattle.ep_elaboration_laws.specs.GivenRules.{GivenExpressionOffends, GivenOffends, MeansAllGiven}
+use Rattle.ep_elaboration_laws.specs.GivenRules.{MeansDeclaration, MeansFirstValue, MeansGiven, MeansGivenExpression}
+use Rattle.ep_elaboration_laws.specs.GivenRules.{MeansVariable, MeansVariables, VariableOffends, VariablesOffend}
+use Rattle.ep_elaboration_laws.specs.GivenRules.{bad_given_expression, bad_list, in_declarator, in_declared_type}
+use Rattle.ep_elaboration_laws.specs.GivenRules.{in_expression_too_many, in_first_value, in_first_values}
+use Rattle.ep_elaboration_laws.specs.GivenRules.{in_first_variable, in_given_expression, in_initialiser}
+use Rattle.ep_elaboration_laws.specs.GivenRules.{in_later_value, in_later_variable, in_listed, in_single}
+use Rattle.ep_elaboration_laws.specs.GivenRules.{in_variables, is_declaration, is_first_value, is_given_expression}
+use Rattle.ep_elaboration_laws.specs.GivenRules.{is_listed, is_single, is_variable, more_values_given, more_variables}
+use Rattle.ep_elaboration_laws.specs.GivenRules.{no_constant, no_first_value, no_values_given, no_variables}
+use Rattle.ep_elaboration_laws.specs.GivenRules.{one_expression_too_many}
 use Rattle.ep_typing.specs.Env.{Env}
 use Rattle.ep_typing.specs.Names.{mentioned}
 use Rattle.ep_typing.specs.Results.{at}
@@ -17,8 +29,12 @@ use Rattle.ep_typing.specs.Typing.{assigned_from, right_side, typed}
 use Rattle.ep_typing.specs.declared.types.CType.{CType}
 use Rattle.ep_typing_laws.specs.Rules.{refusal}
 use Rattle.ep_typing_laws.proofs.Order.{bind_ok, bind_err, at_ok, at_err, means, meant, refused, first, ok_is}
-use Rattle.ep_elaboration_laws.proofs.WholeOrder.{meant_right_side, means_right_side, offended_right_side, refused_right_side}
-use Rattle.ep_elaboration_laws.proofs.DeclaratorOrder.{meant_object_declared, means_object_declared, offended_object_declared, refused_object_declared, meant_specs_declared, means_specs_declared, offended_specs_declared, refused_specs_declared}
+use Rattle.ep_elaboration_laws.proofs.WholeOrder.{meant_right_side, means_right_side, offended_right_side}
+use Rattle.ep_elaboration_laws.proofs.WholeOrder.{refused_right_side}
+use Rattle.ep_elaboration_laws.proofs.DeclaratorOrder.{meant_object_declared, means_object_declared}
+use Rattle.ep_elaboration_laws.proofs.DeclaratorOrder.{offended_object_declared, refused_object_declared}
+use Rattle.ep_elaboration_laws.proofs.DeclaratorOrder.{meant_specs_declared, means_specs_declared}
+use Rattle.ep_elaboration_laws.proofs.DeclaratorOrder.{offended_specs_declared, refused_specs_declared}
 
 pub meant_expression_given : {G : Env} {global c : Bool} {l : ℕ} {o : Option Object} {e : Expr} {out : Given}
     → MeansGivenExpression G global c l o e out → expression_given G global c l o e ≡ Ok out

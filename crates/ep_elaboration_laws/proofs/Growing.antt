@@ -1,5 +1,7 @@
 -- Expressions and places keep their sorts and types where the table grows, blocks come and more can be named.
-use Rattle.std.proofs.Common.{◌≡◌, ℕ, zero, suc, ◌≤◌, Bool, true, false, ◌&&◌, ◌||◌, cond, List, [], ◌∷◌, ◌++◌, length, slice_get, Option, Some, None, inl, inr, refl, sym, ap, ◌∙◌, subst, arith, ◌-◌, eq-zero-or-pos}
+use Rattle.std.proofs.Common.{◌≡◌, ℕ, zero, suc, ◌≤◌, Bool, true, false, ◌&&◌, ◌||◌, cond, List, [], ◌∷◌, ◌++◌}
+use Rattle.std.proofs.Common.{length, slice_get, Option, Some, None, inl, inr, refl, sym, ap, ◌∙◌, subst, arith, ◌-◌}
+use Rattle.std.proofs.Common.{eq-zero-or-pos}
 use Rattle.std.specs.List.{list_any, filter}
 use Rattle.std.proofs.lemmas.Bool.{and_parts}
 use Rattle.std.proofs.lemmas.Option.{slice_get-get_or, slice_get_past}
@@ -9,12 +11,18 @@ use Rattle.ep_int.specs.Memory.{contains}
 use Rattle.ep_layout.specs.declared.types.Ty.{Ty}
 use Rattle.ep_layout.specs.declared.types.Ty.TheVariants.{Void, Int, Ptr, Array, Aggregate}
 use Rattle.ep_layout.specs.Layout.{Layout}
-use Rattle.ep_layout.specs.Table.{Table, AggregateRow, MemberRow, Grows, size, layout_of, layout_rules, by_type, members_of}
+use Rattle.ep_layout.specs.Table.{Table, AggregateRow, MemberRow, Grows, size, layout_of, layout_rules, by_type}
+use Rattle.ep_layout.specs.Table.{members_of}
 use Rattle.ep_layout.proofs.Options.{map_some}
 use Rattle.ep_layout.proofs.Recursion.{by_type_grows}
-use Rattle.ep_core.specs.Program.{Block, Place, block, deref, member, element, Expr, const, null_value, load, addr_of, binary, convert, compare, ptr_compare, logical_and, logical_or, logical_not, conditional, ptr_add, cast}
+use Rattle.ep_core.specs.Program.{Block, Place, block, deref, member, element, Expr, const, null_value, load, addr_of}
+use Rattle.ep_core.specs.Program.{binary, convert, compare, ptr_compare, logical_and, logical_or, logical_not}
+use Rattle.ep_core.specs.Program.{conditional, ptr_add, cast}
 use Rattle.ep_core.specs.Runs.{is_global}
-use Rattle.ep_core.specs.WellFormed.{Sort, integer, pointer_to, is_pointer_where, sort_of, is_sort, has_scalar, is_array_of, has_bound, has_member, is_number, int_type_of, right_type, is_int, numbers_below, some_type, is_pointer, is_test, is_named, block_has, place_has, has_sort}
+use Rattle.ep_core.specs.WellFormed.{Sort, integer, pointer_to, is_pointer_where, sort_of, is_sort, has_scalar}
+use Rattle.ep_core.specs.WellFormed.{is_array_of, has_bound, has_member, is_number, int_type_of, right_type, is_int}
+use Rattle.ep_core.specs.WellFormed.{numbers_below, some_type, is_pointer, is_test, is_named, block_has, place_has}
+use Rattle.ep_core.specs.WellFormed.{has_sort}
 use Rattle.ep_core.proofs.Sorts.{never, either_is}
 
 -- ---- tests

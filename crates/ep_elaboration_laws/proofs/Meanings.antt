@@ -6,7 +6,8 @@ use Rattle.ep_ast.specs.Statement.{Item}
 use Rattle.ep_core.specs.Program.{Program}
 use Rattle.ep_elaboration.specs.Programs.{elaborated}
 use Rattle.ep_elaboration_laws.specs.ProgramRules.{MeansProgram, ProgramOffends}
-use Rattle.ep_elaboration_laws.proofs.ProgramOrder.{means_elaborated, meant_elaborated, refused_elaborated, offended_elaborated}
+use Rattle.ep_elaboration_laws.proofs.ProgramOrder.{means_elaborated, meant_elaborated, refused_elaborated}
+use Rattle.ep_elaboration_laws.proofs.ProgramOrder.{offended_elaborated}
 
 same_answer : (t : Result Program Refusal) (p q : Program) → t ≡ Ok p → t ≡ Ok q → p ≡ q
 same_answer t p q e f = cc

@@ -11,14 +11,32 @@ use Rattle.ep_elaboration.specs.Calls.{Place, calls_of, function_depth}
 use Rattle.ep_elaboration.specs.Declarations.{declaration}
 use Rattle.ep_elaboration.specs.Declarators.{types_declared}
 use Rattle.ep_elaboration.specs.Functions.{Defined, arms_defined, function_defined, numbers_of, prototype}
-use Rattle.ep_elaboration.specs.Programs.{Sofar, all_fit, all_have_bodies, begun, checked, elaborated, functions_in, item, items, main_of, none_recurs, not_too_deep, places_of}
-use Rattle.ep_elaboration_laws.specs.ProgramRules.{IsSound, ItemOffends, ItemsOffend, MeansItem, MeansItems, MeansProgram, ProgramOffends, UnsoundBy, in_aggregate, in_arms, in_checks, in_definition, in_first_item, in_global_declaration, in_item_prototype, in_later_item, in_text, in_typedef_specs, in_typedefs, is_program, is_sound, item_arms, item_completes, item_declares, item_defines, item_prototype, item_typedefs, more_items, no_body, no_items, no_main, recursion, too_deep, too_large}
+use Rattle.ep_elaboration.specs.Programs.{Sofar, all_fit, all_have_bodies, begun, checked, elaborated, functions_in}
+use Rattle.ep_elaboration.specs.Programs.{item, items, main_of, none_recurs, not_too_deep, places_of}
+use Rattle.ep_elaboration_laws.specs.ProgramRules.{IsSound, ItemOffends, ItemsOffend, MeansItem, MeansItems}
+use Rattle.ep_elaboration_laws.specs.ProgramRules.{MeansProgram, ProgramOffends, UnsoundBy, in_aggregate, in_arms}
+use Rattle.ep_elaboration_laws.specs.ProgramRules.{in_checks, in_definition, in_first_item, in_global_declaration}
+use Rattle.ep_elaboration_laws.specs.ProgramRules.{in_item_prototype, in_later_item, in_text, in_typedef_specs}
+use Rattle.ep_elaboration_laws.specs.ProgramRules.{in_typedefs, is_program, is_sound, item_arms, item_completes}
+use Rattle.ep_elaboration_laws.specs.ProgramRules.{item_declares, item_defines, item_prototype, item_typedefs}
+use Rattle.ep_elaboration_laws.specs.ProgramRules.{more_items, no_body, no_items, no_main, recursion, too_deep}
+use Rattle.ep_elaboration_laws.specs.ProgramRules.{too_large}
 use Rattle.ep_int.specs.declared.types.Model.{Model}
 use Rattle.ep_typing.specs.Results.{at, needed}
 use Rattle.ep_typing_laws.proofs.Order.{bind_ok, bind_err, at_ok, at_err, ok_is}
-use Rattle.ep_elaboration_laws.proofs.DeclaratorOrder.{meant_types_declared, means_types_declared, offended_types_declared, refused_types_declared, meant_specs_declared, meant_body_declared, means_specs_declared, means_body_declared, offended_specs_declared, offended_body_declared, refused_specs_declared, refused_body_declared}
-use Rattle.ep_elaboration_laws.proofs.GivenOrder.{meant_declaration, means_declaration, offended_declaration, refused_declaration}
-use Rattle.ep_elaboration_laws.proofs.FunctionOrder.{meant_prototype, means_prototype, offended_prototype, refused_prototype, meant_function_defined, means_function_defined, offended_function_defined, refused_function_defined, meant_arms_defined, means_arms_defined, offended_arms_defined, refused_arms_defined}
+use Rattle.ep_elaboration_laws.proofs.DeclaratorOrder.{meant_types_declared, means_types_declared}
+use Rattle.ep_elaboration_laws.proofs.DeclaratorOrder.{offended_types_declared, refused_types_declared}
+use Rattle.ep_elaboration_laws.proofs.DeclaratorOrder.{meant_specs_declared, meant_body_declared}
+use Rattle.ep_elaboration_laws.proofs.DeclaratorOrder.{means_specs_declared, means_body_declared}
+use Rattle.ep_elaboration_laws.proofs.DeclaratorOrder.{offended_specs_declared, offended_body_declared}
+use Rattle.ep_elaboration_laws.proofs.DeclaratorOrder.{refused_specs_declared, refused_body_declared}
+use Rattle.ep_elaboration_laws.proofs.GivenOrder.{meant_declaration, means_declaration, offended_declaration}
+use Rattle.ep_elaboration_laws.proofs.GivenOrder.{refused_declaration}
+use Rattle.ep_elaboration_laws.proofs.FunctionOrder.{meant_prototype, means_prototype, offended_prototype}
+use Rattle.ep_elaboration_laws.proofs.FunctionOrder.{refused_prototype, meant_function_defined}
+use Rattle.ep_elaboration_laws.proofs.FunctionOrder.{means_function_defined, offended_function_defined}
+use Rattle.ep_elaboration_laws.proofs.FunctionOrder.{refused_function_defined, meant_arms_defined, means_arms_defined}
+use Rattle.ep_elaboration_laws.proofs.FunctionOrder.{offended_arms_defined, refused_arms_defined}
 
 pub meant_item : {s : Sofar} {i : Item} {out : Sofar} → MeansItem s i out → item s i ≡ Ok out
 unfolding item

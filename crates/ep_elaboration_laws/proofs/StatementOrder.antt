@@ -2,19 +2,44 @@
 use Rattle.std.proofs.Common.{◌≡◌, ℕ, Bool, true, false, List, Option, Some, None, Ok, Err, refl, subst, inl, inr}
 use Rattle.ep_core.specs.Program as core
 use Rattle.ep_ast.specs.Expression.{Expr, line_of}
-use Rattle.ep_ast.specs.Statement.{First, Part, Parts, Stmt, Stmts, arm, block, break_loop, continue_loop, declares, declares_in, do_loop, evaluate, evaluates, for_loop, if_else, if_then, more_parts, more_stmts, no_parts, no_stmts, return_value, states, two_arms, while_loop}
+use Rattle.ep_ast.specs.Statement.{First, Part, Parts, Stmt, Stmts, arm, block, break_loop, continue_loop, declares}
+use Rattle.ep_ast.specs.Statement.{declares_in, do_loop, evaluate, evaluates, for_loop, if_else, if_then, more_parts}
+use Rattle.ep_ast.specs.Statement.{more_stmts, no_parts, no_stmts, return_value, states, two_arms, while_loop}
 use Rattle.ep_ast.specs.declared.refusals.Refusal.{Refusal}
 use Rattle.ep_elaboration.specs.Declarations.{Line, declaration}
-use Rattle.ep_elaboration.specs.Statements.{entered, evaluated_if, evaluated_in, first_part, jump, left, nothing_returned, operand_returned, part, parts, statement, statements, tested_if, tested_in}
-use Rattle.ep_elaboration_laws.specs.StatementRules.{EvaluationIfOffends, EvaluationOffends, FirstOffends, MeansEvaluation, MeansEvaluationIf, MeansFirst, MeansPart, MeansParts, MeansStatement, MeansStatements, MeansTestIf, MeansTestIn, PartOffends, PartsOffend, StatementOffends, StatementsOffend, TestIfOffends, TestInOffends, bad_break, bad_continue, bad_return, bad_returned, first_declares, first_evaluates, in_arm, in_block, in_declaration, in_do, in_do_test, in_else, in_evaluated, in_evaluation, in_first_arm, in_first_declaration, in_first_evaluation, in_first_part, in_first_statement, in_for, in_for_first, in_for_next, in_for_test, in_if, in_if_else_test, in_if_test, in_later_part, in_later_statement, in_returned, in_second_arm, in_some_evaluation, in_some_test, in_statement, in_test_in, in_then, in_while, in_while_test, is_arm, is_block, is_break, is_continue, is_do, is_evaluated, is_evaluation, is_for, is_if, is_if_else, is_nothing, is_test_in, is_two_arms, is_while, more_statements, no_evaluation, no_parts_left, no_statements, no_test, one_part_more, part_declares, part_states, returns_nothing, returns_value, some_evaluation, some_test}
+use Rattle.ep_elaboration.specs.Statements.{entered, evaluated_if, evaluated_in, first_part, jump, left}
+use Rattle.ep_elaboration.specs.Statements.{nothing_returned, operand_returned, part, parts, statement, statements}
+use Rattle.ep_elaboration.specs.Statements.{tested_if, tested_in}
+use Rattle.ep_elaboration_laws.specs.StatementRules.{EvaluationIfOffends, EvaluationOffends, FirstOffends}
+use Rattle.ep_elaboration_laws.specs.StatementRules.{MeansEvaluation, MeansEvaluationIf, MeansFirst, MeansPart}
+use Rattle.ep_elaboration_laws.specs.StatementRules.{MeansParts, MeansStatement, MeansStatements, MeansTestIf}
+use Rattle.ep_elaboration_laws.specs.StatementRules.{MeansTestIn, PartOffends, PartsOffend, StatementOffends}
+use Rattle.ep_elaboration_laws.specs.StatementRules.{StatementsOffend, TestIfOffends, TestInOffends, bad_break}
+use Rattle.ep_elaboration_laws.specs.StatementRules.{bad_continue, bad_return, bad_returned, first_declares}
+use Rattle.ep_elaboration_laws.specs.StatementRules.{first_evaluates, in_arm, in_block, in_declaration, in_do}
+use Rattle.ep_elaboration_laws.specs.StatementRules.{in_do_test, in_else, in_evaluated, in_evaluation, in_first_arm}
+use Rattle.ep_elaboration_laws.specs.StatementRules.{in_first_declaration, in_first_evaluation, in_first_part}
+use Rattle.ep_elaboration_laws.specs.StatementRules.{in_first_statement, in_for, in_for_first, in_for_next}
+use Rattle.ep_elaboration_laws.specs.StatementRules.{in_for_test, in_if, in_if_else_test, in_if_test, in_later_part}
+use Rattle.ep_elaboration_laws.specs.StatementRules.{in_later_statement, in_returned, in_second_arm}
+use Rattle.ep_elaboration_laws.specs.StatementRules.{in_some_evaluation, in_some_test, in_statement, in_test_in}
+use Rattle.ep_elaboration_laws.specs.StatementRules.{in_then, in_while, in_while_test, is_arm, is_block, is_break}
+use Rattle.ep_elaboration_laws.specs.StatementRules.{is_continue, is_do, is_evaluated, is_evaluation, is_for, is_if}
+use Rattle.ep_elaboration_laws.specs.StatementRules.{is_if_else, is_nothing, is_test_in, is_two_arms, is_while}
+use Rattle.ep_elaboration_laws.specs.StatementRules.{more_statements, no_evaluation, no_parts_left, no_statements}
+use Rattle.ep_elaboration_laws.specs.StatementRules.{no_test, one_part_more, part_declares, part_states}
+use Rattle.ep_elaboration_laws.specs.StatementRules.{returns_nothing, returns_value, some_evaluation, some_test}
 use Rattle.ep_typing.specs.Env.{Env}
 use Rattle.ep_typing.specs.Names.{mentioned}
 use Rattle.ep_typing.specs.Results.{at}
 use Rattle.ep_typing.specs.Typing.{test, typed, whole_statement}
 use Rattle.ep_typing.specs.declared.types.CType.{CType}
 use Rattle.ep_typing_laws.proofs.Order.{bind_ok, bind_err, at_ok, at_err, means, meant, refused, first, ok_is}
-use Rattle.ep_elaboration_laws.proofs.WholeOrder.{meant_test, means_test, offended_test, refused_test, meant_whole_statement, means_whole_statement, offended_whole_statement, refused_whole_statement}
-use Rattle.ep_elaboration_laws.proofs.GivenOrder.{meant_declaration, means_declaration, offended_declaration, refused_declaration}
+use Rattle.ep_elaboration_laws.proofs.WholeOrder.{meant_test, means_test, offended_test, refused_test}
+use Rattle.ep_elaboration_laws.proofs.WholeOrder.{meant_whole_statement, means_whole_statement}
+use Rattle.ep_elaboration_laws.proofs.WholeOrder.{offended_whole_statement, refused_whole_statement}
+use Rattle.ep_elaboration_laws.proofs.GivenOrder.{meant_declaration, means_declaration, offended_declaration}
+use Rattle.ep_elaboration_laws.proofs.GivenOrder.{refused_declaration}
 
 pub meant_tested_in : {G : Env} {e : Expr} {out : (core.Expr × Env)} → MeansTestIn G e out → tested_in G e ≡ Ok out
 unfolding tested_in

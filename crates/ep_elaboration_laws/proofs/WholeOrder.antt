@@ -3,16 +3,29 @@ use Rattle.std.proofs.Common.{◌≡◌, ℕ, Bool, true, false, Result, Ok, Err
 use Rattle.std.specs.Prelude.{◌&&◌, ◌==◌}
 use Rattle.ep_core.specs.Program as core
 use Rattle.ep_ast.specs.declared.marks.TheConstants as marks
-use Rattle.ep_ast.specs.Expression.{Expr, Exprs, arrow, assign, binary, call, cast, conditional, id, index, line_of, member, number, post_decrement, post_increment, sizeof_expr, sizeof_type, step, unary}
+use Rattle.ep_ast.specs.Expression.{Expr, Exprs, arrow, assign, binary, call, cast, conditional, id, index, line_of}
+use Rattle.ep_ast.specs.Expression.{member, number, post_decrement, post_increment, sizeof_expr, sizeof_type, step}
+use Rattle.ep_ast.specs.Expression.{unary}
 use Rattle.ep_ast.specs.Mark.{equal}
 use Rattle.ep_ast.specs.declared.refusals.Refusal.{Refusal}
-use Rattle.ep_elaboration_laws.specs.WholeRules.{AssignmentOffends, CallOffends, MeansAssignment, MeansCall, MeansRight, MeansStep, MeansTest, MeansWhole, RightOffends, StepOffends, TestOffends, WholeOffends, bad_assignment, bad_call, bad_left_value, bad_step, bad_stepped_value, bad_test, bad_test_value, in_arguments, in_assignment, in_call, in_callee, in_decrement, in_increment, in_left_side, in_right, in_right_call, in_right_side, in_step, in_stepped, in_test, in_value, is_assignment, is_call, is_decrement, is_increment, is_no_call, is_only_value, is_operand, is_result, is_step, is_test, is_value, is_whole_assignment, is_whole_call, is_whole_step}
+use Rattle.ep_elaboration_laws.specs.WholeRules.{AssignmentOffends, CallOffends, MeansAssignment, MeansCall}
+use Rattle.ep_elaboration_laws.specs.WholeRules.{MeansRight, MeansStep, MeansTest, MeansWhole, RightOffends}
+use Rattle.ep_elaboration_laws.specs.WholeRules.{StepOffends, TestOffends, WholeOffends, bad_assignment, bad_call}
+use Rattle.ep_elaboration_laws.specs.WholeRules.{bad_left_value, bad_step, bad_stepped_value, bad_test}
+use Rattle.ep_elaboration_laws.specs.WholeRules.{bad_test_value, in_arguments, in_assignment, in_call, in_callee}
+use Rattle.ep_elaboration_laws.specs.WholeRules.{in_decrement, in_increment, in_left_side, in_right, in_right_call}
+use Rattle.ep_elaboration_laws.specs.WholeRules.{in_right_side, in_step, in_stepped, in_test, in_value, is_assignment}
+use Rattle.ep_elaboration_laws.specs.WholeRules.{is_call, is_decrement, is_increment, is_no_call, is_only_value}
+use Rattle.ep_elaboration_laws.specs.WholeRules.{is_operand, is_result, is_step, is_test, is_value}
+use Rattle.ep_elaboration_laws.specs.WholeRules.{is_whole_assignment, is_whole_call, is_whole_step}
 use Rattle.ep_typing.specs.Calls.{Called, called}
 use Rattle.ep_typing.specs.Env.{Env}
 use Rattle.ep_typing.specs.Operand.{tested, value, value_of}
 use Rattle.ep_typing.specs.Results.{at, ◌>>=◌}
-use Rattle.ep_typing.specs.Typing.{Right, an_object, assigned_from, assignment, call_typed, one, read_first, right_side, step_mark, stepped, test, typed, typed_all, whole_statement}
-use Rattle.ep_typing_laws.proofs.Order.{bind_ok, bind_err, at_ok, at_err, means, meant, refused, first, means_all, meant_all, refused_all, first_all, ok_is}
+use Rattle.ep_typing.specs.Typing.{Right, an_object, assigned_from, assignment, call_typed, one, read_first}
+use Rattle.ep_typing.specs.Typing.{right_side, step_mark, stepped, test, typed, typed_all, whole_statement}
+use Rattle.ep_typing_laws.proofs.Order.{bind_ok, bind_err, at_ok, at_err, means, meant, refused, first, means_all}
+use Rattle.ep_typing_laws.proofs.Order.{meant_all, refused_all, first_all, ok_is}
 
 abbrev right_done : Right → Result Right Refusal
 right_done y = Ok y

@@ -2,7 +2,8 @@
 -- and 6.7.6.
 use Rattle.std.specs.Prelude.{◌≡◌, [], ◌∷◌, ◌++◌, ◌==◌, ℕ, Bool, List, Option, Some, None, Ok, Err, pos, length}
 use Rattle.ep_ast.specs.Kind as kinds
-use Rattle.ep_ast.specs.Declaration.{Aggregate, Declarator, Members, Specs, aggregate, body, member, more_members, more_specs, no_members, no_specs, plain}
+use Rattle.ep_ast.specs.Declaration.{Aggregate, Declarator, Members, Specs, aggregate, body, member, more_members}
+use Rattle.ep_ast.specs.Declaration.{more_specs, no_members, no_specs, plain}
 use Rattle.ep_ast.specs.Expression.{Expr, TypeWord}
 use Rattle.ep_ast.specs.Mark.{union_word}
 use Rattle.ep_ast.specs.declared.refusals.Refusal.{Refusal}

@@ -7,9 +7,13 @@ use Rattle.ep_ast.specs.declared.orders.NamedOrder.{NamedOrder}
 use Rattle.ep_ast.specs.declared.refusals.Refusal.{Refusal}
 use Rattle.ep_elaboration.specs.Declarations.{Line}
 use Rattle.ep_elaboration.specs.Declarators.{with_types}
-use Rattle.ep_elaboration.specs.Functions.{Body, Defined, Headed, Typed, agreeing, all_joined, arms_agree, behind_result, blocks_if, body_env, defined_of, first_block, function_declared, given_back, params_of, rest_of, results, signature_of, with_param}
+use Rattle.ep_elaboration.specs.Functions.{Body, Defined, Headed, Typed, agreeing, all_joined, arms_agree}
+use Rattle.ep_elaboration.specs.Functions.{behind_result, blocks_if, body_env, defined_of, first_block}
+use Rattle.ep_elaboration.specs.Functions.{function_declared, given_back, params_of, rest_of, results, signature_of}
+use Rattle.ep_elaboration.specs.Functions.{with_param}
 use Rattle.ep_elaboration.specs.Statements.{blocks_behind, entered, innermost, left, to_core}
-use Rattle.ep_elaboration_laws.specs.DeclaratorRules.{BoundOffends, BoundsOffend, MeansBound, MeansBounds, MeansSpecs, MeansWords, SpecsOffend, WordsOffend}
+use Rattle.ep_elaboration_laws.specs.DeclaratorRules.{BoundOffends, BoundsOffend, MeansBound, MeansBounds, MeansSpecs}
+use Rattle.ep_elaboration_laws.specs.DeclaratorRules.{MeansWords, SpecsOffend, WordsOffend}
 use Rattle.ep_elaboration_laws.specs.StatementRules.{MeansParts, PartsOffend}
 use Rattle.ep_typing.specs.Env.{Env}
 use Rattle.ep_typing.specs.Types.{with_c_type, with_stars}

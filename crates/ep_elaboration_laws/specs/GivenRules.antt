@@ -8,7 +8,8 @@ use Rattle.ep_ast.specs.Mark.{equal}
 use Rattle.ep_ast.specs.declared.refusals.Refusal.{Refusal}
 use Rattle.ep_elaboration.specs.Declarations.{Made, both_made, lined}
 use Rattle.ep_elaboration.specs.Declarators.{Object}
-use Rattle.ep_elaboration.specs.Given.{Given, both_given, cleared, count_listed, first_values, line_of_value, nothing_given, object_operand, part_at, with_parts}
+use Rattle.ep_elaboration.specs.Given.{Given, both_given, cleared, count_listed, first_values, line_of_value}
+use Rattle.ep_elaboration.specs.Given.{nothing_given, object_operand, part_at, with_parts}
 use Rattle.ep_elaboration_laws.specs.DeclaratorRules.{MeansObject, MeansSpecs, ObjectOffends, SpecsOffend}
 use Rattle.ep_elaboration_laws.specs.WholeRules.{MeansRight, RightOffends}
 use Rattle.ep_typing.specs.Env.{Env}

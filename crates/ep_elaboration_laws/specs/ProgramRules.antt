@@ -10,9 +10,12 @@ use Rattle.ep_ast.specs.declared.refusals.Refusal.{Refusal}
 use Rattle.ep_elaboration.specs.Calls.{Place, calls_of, function_depth}
 use Rattle.ep_elaboration.specs.Declarations.{Made}
 use Rattle.ep_elaboration.specs.Functions.{Defined, numbers_of}
-use Rattle.ep_elaboration.specs.Programs.{Sofar, all_fit, all_have_bodies, begun, functions_in, main_of, none_recurs, not_too_deep, order_of, places_of, program_of, with_defined, with_env}
-use Rattle.ep_elaboration_laws.specs.DeclaratorRules.{BodyOffends, MeansBody, MeansSpecs, MeansTypedefs, SpecsOffend, TypedefsOffend}
-use Rattle.ep_elaboration_laws.specs.FunctionRules.{ArmsOffend, DefinitionOffends, MeansArms, MeansDefinition, MeansPrototype, PrototypeOffends}
+use Rattle.ep_elaboration.specs.Programs.{Sofar, all_fit, all_have_bodies, begun, functions_in, main_of, none_recurs}
+use Rattle.ep_elaboration.specs.Programs.{not_too_deep, order_of, places_of, program_of, with_defined, with_env}
+use Rattle.ep_elaboration_laws.specs.DeclaratorRules.{BodyOffends, MeansBody, MeansSpecs, MeansTypedefs, SpecsOffend}
+use Rattle.ep_elaboration_laws.specs.DeclaratorRules.{TypedefsOffend}
+use Rattle.ep_elaboration_laws.specs.FunctionRules.{ArmsOffend, DefinitionOffends, MeansArms, MeansDefinition}
+use Rattle.ep_elaboration_laws.specs.FunctionRules.{MeansPrototype, PrototypeOffends}
 use Rattle.ep_elaboration_laws.specs.GivenRules.{DeclarationOffends, MeansDeclaration}
 use Rattle.ep_int.specs.declared.types.Model.{Model}
 use Rattle.ep_typing.specs.Env.{Env}

@@ -3,11 +3,14 @@ use Rattle.std.specs.Prelude.{◌≡◌, [], ◌++◌, ℕ, Bool, true, false, L
 use Rattle.ep_core.specs.Program as core
 use Rattle.ep_ast.specs.Declaration.{Declaration}
 use Rattle.ep_ast.specs.Expression.{Expr, line_of}
-use Rattle.ep_ast.specs.Statement.{First, Part, Parts, Stmt, Stmts, arm, block, break_loop, continue_loop, declares, declares_in, do_loop, evaluate, evaluates, for_loop, if_else, if_then, more_parts, more_stmts, no_parts, no_stmts, return_value, states, two_arms, while_loop}
+use Rattle.ep_ast.specs.Statement.{First, Part, Parts, Stmt, Stmts, arm, block, break_loop, continue_loop, declares}
+use Rattle.ep_ast.specs.Statement.{declares_in, do_loop, evaluate, evaluates, for_loop, if_else, if_then, more_parts}
+use Rattle.ep_ast.specs.Statement.{more_stmts, no_parts, no_stmts, return_value, states, two_arms, while_loop}
 use Rattle.ep_ast.specs.declared.orders.NamedOrder.{NamedOrder}
 use Rattle.ep_ast.specs.declared.refusals.Refusal.{Refusal}
 use Rattle.ep_elaboration.specs.Declarations.{Line, Made}
-use Rattle.ep_elaboration.specs.Statements.{blocks_behind, entered, for_lines, jump, left, nothing_returned, one_line, operand_returned, order_of, to_core}
+use Rattle.ep_elaboration.specs.Statements.{blocks_behind, entered, for_lines, jump, left, nothing_returned, one_line}
+use Rattle.ep_elaboration.specs.Statements.{operand_returned, order_of, to_core}
 use Rattle.ep_elaboration_laws.specs.GivenRules.{DeclarationOffends, MeansDeclaration}
 use Rattle.ep_elaboration_laws.specs.WholeRules.{MeansTest, MeansWhole, TestOffends, WholeOffends}
 use Rattle.ep_int.specs.declared.types.IntType.TheVariants.{I32}

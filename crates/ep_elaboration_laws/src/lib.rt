@@ -2,7 +2,8 @@
 //! of work.
 #![tactic(auto)]
 
-ghost use Rattle.ep_elaboration_laws.specs.Laws.{WholeStatements, Declarations, Statements, Programs, OneMeaning, OneOfBoth, NeverBoth, SortsStay, PlacesStay};
+ghost use Rattle.ep_elaboration_laws.specs.Laws.{WholeStatements, Declarations, Statements, Programs, OneMeaning};
+ghost use Rattle.ep_elaboration_laws.specs.Laws.{OneOfBoth, NeverBoth, SortsStay, PlacesStay};
 
 /// What an expression means as a whole statement is what the rules say, and it is refused for the first offence.
 pub fn whole_statements()

@@ -1,6 +1,7 @@
 -- What evaluating an expression, and an lvalue (a place), gives over what is known of two memories; and what assuming
 -- that it is true or false leaves of that (this project's rules, after Miné 2006 and Delmas, Ouadjaout and Miné 2021).
-use Rattle.std.specs.Prelude.{ℕ, nat_le, ℤ, pos, Bool, true, false, ◌&&◌, ◌||◌, not, if◌then◌else◌, List, [], ◌++◌, map, Option, Some, None}
+use Rattle.std.specs.Prelude.{ℕ, nat_le, ℤ, pos, Bool, true, false, ◌&&◌, ◌||◌, not, if◌then◌else◌, List, [], ◌++◌}
+use Rattle.std.specs.Prelude.{map, Option, Some, None}
 use Rattle.std.specs.Option.{option_map, option_map_or}
 use Rattle.ep_int.specs.declared.types.IntType.{IntType}
 use Rattle.ep_int.specs.declared.types.BinOp.{BinOp}
@@ -31,12 +32,17 @@ use Rattle.ep_equalities.specs.declared.pair.Fault.{Fault}
 use Rattle.ep_equalities.specs.declared.pair.PairValue.{PairValue}
 use Rattle.ep_equalities.specs.declared.pair.SideValue.{SideValue}
 use Rattle.ep_equalities.specs.Same.{is_same}
-use Rattle.ep_evaluation.specs.Given.{Given, cells_of, alone, is_both, mode_where, on, nothing, pair_on, Shown, faults_on, shown_if, shows_if, are_sure}
+use Rattle.ep_evaluation.specs.Given.{Given, cells_of, alone, is_both, mode_where, on, nothing, pair_on, Shown}
+use Rattle.ep_evaluation.specs.Given.{faults_on, shown_if, shows_if, are_sure}
 use Rattle.ep_pass.specs.States.{Fault as Told, Tested, Verdict, stuck, same as same_truths, differs}
-use Rattle.ep_evaluation.specs.Operators.{number_in, pointer_in, kind_of, outcome_of, Form, constant_form, form_by, converted_form, may_be, is_only, truth_value, compared, truths_of, test_of}
-use Rattle.ep_evaluation.specs.Accesses.{spots, bounds_of, may_be_odd, reads_of, joined_reads, form_of_reads, is_unset, is_mixed, are_shared, moved_by, move_leaves, moves_null, element_of, index_leaves, element_passes}
+use Rattle.ep_evaluation.specs.Operators.{number_in, pointer_in, kind_of, outcome_of, Form, constant_form, form_by}
+use Rattle.ep_evaluation.specs.Operators.{converted_form, may_be, is_only, truth_value, compared, truths_of, test_of}
+use Rattle.ep_evaluation.specs.Accesses.{spots, bounds_of, may_be_odd, reads_of, joined_reads, form_of_reads}
+use Rattle.ep_evaluation.specs.Accesses.{is_unset, is_mixed, are_shared, moved_by, move_leaves, moves_null}
+use Rattle.ep_evaluation.specs.Accesses.{element_of, index_leaves, element_passes}
 use Rattle.ep_cell_ranges.specs.Spots.{Spot}
-use Rattle.ep_evaluation.specs.Narrowed.{then_with, either_of, cell_of, again, if_kept, when_not, numbers_narrowed, pointers_narrowed}
+use Rattle.ep_evaluation.specs.Narrowed.{then_with, either_of, cell_of, again, if_kept, when_not, numbers_narrowed}
+use Rattle.ep_evaluation.specs.Narrowed.{pointers_narrowed}
 
 -- a cell of a side, or none, by what is known
 abbrev pub ToCell : Type 0 → Type 0

@@ -1,5 +1,7 @@
 -- A place at which nothing may go wrong is inside its block and at a multiple.
-use Rattle.std.proofs.Common.{◌≡◌, ℕ, zero, suc, ◌+◌, ◌%◌, ◌≤◌, ℤ, pos, ◌+ℤ◌, ◌-ℤ◌, ◌≤ℤ◌, ◌<ℤ◌, Bool, true, false, ◌&&◌, ◌||◌, not, nat_eq, cond, List, [], ◌∷◌, slice_get, Option, Some, None, IsSomeAnd, refl, sym, ap, ◌∙◌, subst, arith}
+use Rattle.std.proofs.Common.{◌≡◌, ℕ, zero, suc, ◌+◌, ◌%◌, ◌≤◌, ℤ, pos, ◌+ℤ◌, ◌-ℤ◌, ◌≤ℤ◌, ◌<ℤ◌, Bool, true, false}
+use Rattle.std.proofs.Common.{◌&&◌, ◌||◌, not, nat_eq, cond, List, [], ◌∷◌, slice_get, Option, Some, None, IsSomeAnd}
+use Rattle.std.proofs.Common.{refl, sym, ap, ◌∙◌, subst, arith}
 use Rattle.std.specs.Prelude.{int_le, int_lt, unsigned_abs}
 use Rattle.std.proofs.lemmas.Int.{ints}
 use Rattle.std.proofs.lemmas.Bool.{eqb-true}
@@ -8,7 +10,8 @@ use Rattle.ep_range_laws.proofs.Comparisons.{from_le_true, from_le_false, from_l
 use Rattle.ep_domain.specs.Domain.{Ops, Lawful, Holds}
 use Rattle.ep_pointers.specs.Value.{Target, offset_at}
 use Rattle.ep_evaluation.specs.Given.{shows_if}
-use Rattle.ep_evaluation.specs.Accesses.{leaves_block, may_leave, offsets_range, bounds_of, is_some_odd, holds_odd, may_be_odd}
+use Rattle.ep_evaluation.specs.Accesses.{leaves_block, may_leave, offsets_range, bounds_of, is_some_odd, holds_odd}
+use Rattle.ep_evaluation.specs.Accesses.{may_be_odd}
 
 or_parts : (a b : Bool) → (a || b) ≡ false → (a ≡ false) × (b ≡ false)
 or_parts true b e = absurd cc

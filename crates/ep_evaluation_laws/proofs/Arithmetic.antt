@@ -1,5 +1,6 @@
 -- Arithmetic and conversions, given what their forms say.
-use Rattle.std.proofs.Common.{◌≡◌, ℤ, Bool, true, false, ◌++◌, Option, Some, None, IfSome, IsSomeAnd, IsTrue, Result, Ok, Err, refl, sym, ap, ◌∙◌, subst}
+use Rattle.std.proofs.Common.{◌≡◌, ℤ, Bool, true, false, ◌++◌, Option, Some, None, IfSome, IsSomeAnd, IsTrue, Result}
+use Rattle.std.proofs.Common.{Ok, Err, refl, sym, ap, ◌∙◌, subst}
 use Rattle.std.specs.Prelude.{MatchResult}
 use Rattle.std.specs.Option.{option_map}
 use Rattle.ep_int.specs.declared.types.Order.{Order}

@@ -1,5 +1,6 @@
 -- What assuming a truth leaves holds where it is the truth.
-use Rattle.std.proofs.Common.{◌≡◌, ℤ, pos, true, false, List, Option, Some, None, IfSome, IsSomeAnd, refl, sym, ap, ◌∙◌, subst, arith}
+use Rattle.std.proofs.Common.{◌≡◌, ℤ, pos, true, false, List, Option, Some, None, IfSome, IsSomeAnd, refl, sym, ap}
+use Rattle.std.proofs.Common.{◌∙◌, subst, arith}
 use Rattle.std.specs.Option.{option_map}
 use Rattle.std.proofs.lemmas.Int.{ints}
 use Rattle.ep_int.specs.declared.types.Order.{Order}

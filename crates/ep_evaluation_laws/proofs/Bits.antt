@@ -1,5 +1,7 @@
 -- Bits of which each is known or that of a sure cell, and the forms that they make.
-use Rattle.std.proofs.Common.{◌≡◌, ℕ, zero, suc, ◌+◌, ◌-◌, ◌/◌, ◌%◌, ◌^◌, ◌<◌, ◌≤◌, ℤ, Bool, true, false, cond, List, [], ◌∷◌, ◌++◌, length, take, drop, ⊎_elim, Some, None, IfSome, refl, sym, ap, ◌∙◌, subst, arith}
+use Rattle.std.proofs.Common.{◌≡◌, ℕ, zero, suc, ◌+◌, ◌-◌, ◌/◌, ◌%◌, ◌^◌, ◌<◌, ◌≤◌, ℤ, Bool, true, false, cond, List}
+use Rattle.std.proofs.Common.{[], ◌∷◌, ◌++◌, length, take, drop, ⊎_elim, Some, None, IfSome, refl, sym, ap, ◌∙◌}
+use Rattle.std.proofs.Common.{subst, arith}
 use Rattle.std.specs.Prelude.{nat_le}
 use Rattle.std.proofs.lemmas.Bool.{or_left, or_right, or_cases, leb-true}
 use Rattle.ep_int.specs.declared.types.IntType.{IntType}
@@ -8,7 +10,8 @@ use Rattle.ep_int.specs.Memory.{int}
 use Rattle.ep_int.specs.Types.{bits_of, residue}
 use Rattle.ep_bitslice.specs.declared.cell.CellName.{CellName}
 use Rattle.ep_bitslice.specs.declared.segment.Segment.{Segment}
-use Rattle.ep_bitslice.specs.Bits.{Bit, fixed, cell_bit, Numbers, number_of_bits, zeros, masked, is_zero, either_of, is_same_cell, is_bit_of, mentions, is_odd}
+use Rattle.ep_bitslice.specs.Bits.{Bit, fixed, cell_bit, Numbers, number_of_bits, zeros, masked, is_zero, either_of}
+use Rattle.ep_bitslice.specs.Bits.{is_same_cell, is_bit_of, mentions, is_odd}
 use Rattle.ep_bitslice.specs.Segments.{bits, number, normal, form_of}
 use Rattle.ep_bitslice.proofs.Appending.{length-bits, bits-normal}
 use Rattle.ep_bitslice.proofs.Joining.{same_cell, cell_itself}

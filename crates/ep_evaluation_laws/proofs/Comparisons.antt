@@ -1,5 +1,6 @@
 -- Comparisons of pointers.
-use Rattle.std.proofs.Common.{◌≡◌, pos, Bool, true, false, cond, ◌++◌, Option, Some, None, IfSome, refl, sym, ap, ◌∙◌, subst}
+use Rattle.std.proofs.Common.{◌≡◌, pos, Bool, true, false, cond, ◌++◌, Option, Some, None, IfSome, refl, sym, ap, ◌∙◌}
+use Rattle.std.proofs.Common.{subst}
 use Rattle.ep_alarms.specs.declared.types.AlarmKind.TheVariants.{U8}
 use Rattle.ep_int.specs.declared.types.Order.{Order}
 use Rattle.ep_int.specs.declared.types.Cmp.{Cmp}
@@ -26,12 +27,14 @@ use Rattle.ep_equalities.specs.Pairs.{SideIn}
 use Rattle.ep_evaluation.specs.Given.{Given, on, alone, are_sure, shown_if, faults_on}
 use Rattle.ep_evaluation.specs.Operators.{pointer_in}
 use Rattle.ep_evaluation.specs.Narrowed.{again, pointers_narrowed}
-use Rattle.ep_evaluation.specs.Evaluation.{Means, pointer as pointer_of, truths, pointers_side, pointers_given, pointers_means}
+use Rattle.ep_evaluation.specs.Evaluation.{Means, pointer as pointer_of, truths, pointers_side, pointers_given}
+use Rattle.ep_evaluation.specs.Evaluation.{pointers_means}
 use Rattle.ep_evaluation_laws.specs.Laws.{memory_of, Machine, IsKept, IfKept, Sound}
 use Rattle.ep_evaluation_laws.proofs.General.{none_left, sure_parts, reliable_parts, unmarked, not_shown, both_found}
 use Rattle.ep_evaluation_laws.proofs.Generic.{Typed, Parts, Operator, IsOperator, HasFaults, two_hold, two_fit}
 use Rattle.ep_evaluation_laws.proofs.Operators.{truth_allowed, truth_sort, truth_rising}
-use Rattle.ep_evaluation_laws.proofs.Pointers.{at, IsPointer, Linked, as_truth, as_mix, linked, pointers_kept, pointers_state}
+use Rattle.ep_evaluation_laws.proofs.Pointers.{at, IsPointer, Linked, as_truth, as_mix, linked, pointers_kept}
+use Rattle.ep_evaluation_laws.proofs.Pointers.{pointers_state}
 use Rattle.ep_evaluation_laws.proofs.Again.{again_has, again_there}
 use Rattle.ep_evaluation_laws.proofs.Sounds.{reliable_alone, runs_alone, sure_kept, sure_state}
 

@@ -1,5 +1,6 @@
 -- `? :`.
-use Rattle.std.proofs.Common.{◌≡◌, Bool, true, false, ◌&&◌, ◌||◌, not, [], ◌++◌, Option, Some, None, refl, sym, ap, ◌∙◌, subst}
+use Rattle.std.proofs.Common.{◌≡◌, Bool, true, false, ◌&&◌, ◌||◌, not, [], ◌++◌, Option, Some, None, refl, sym, ap}
+use Rattle.std.proofs.Common.{◌∙◌, subst}
 use Rattle.std.proofs.lemmas.Bool.{and_parts}
 use Rattle.ep_int.specs.declared.types.Order.{Order}
 use Rattle.ep_int.specs.declared.types.Scalar.{Scalar}
@@ -18,9 +19,12 @@ use Rattle.ep_equalities.specs.declared.pair.Mode.TheVariants.{Both, Left, Right
 use Rattle.ep_equalities.specs.Pairs.{SideIn}
 use Rattle.ep_evaluation.specs.Given.{Given, runs, on, is_both, mode_where}
 use Rattle.ep_evaluation.specs.Operators.{may_be}
-use Rattle.ep_evaluation.specs.Evaluation.{Means, same, assumed, state_for, given_in, given_where, later, later_side, later_faults, later_same, chosen_side, chosen_in, conditional_means}
-use Rattle.ep_evaluation_laws.specs.Laws.{memory_of, Machine, IsReliable, IsState, IfState, IsKept, SideFits, Holds, Sound}
-use Rattle.ep_evaluation_laws.proofs.General.{none_left, reliable_parts, reliable_none, on_running, equal_is, runs_both, both_found}
+use Rattle.ep_evaluation.specs.Evaluation.{Means, same, assumed, state_for, given_in, given_where, later, later_side}
+use Rattle.ep_evaluation.specs.Evaluation.{later_faults, later_same, chosen_side, chosen_in, conditional_means}
+use Rattle.ep_evaluation_laws.specs.Laws.{memory_of, Machine, IsReliable, IsState, IfState, IsKept, SideFits, Holds}
+use Rattle.ep_evaluation_laws.specs.Laws.{Sound}
+use Rattle.ep_evaluation_laws.proofs.General.{none_left, reliable_parts, reliable_none, on_running, equal_is}
+use Rattle.ep_evaluation_laws.proofs.General.{runs_both, both_found}
 use Rattle.ep_evaluation_laws.proofs.Generic.{same_found, pair_fits}
 use Rattle.ep_evaluation_laws.proofs.Assuming.{then_state}
 use Rattle.ep_evaluation_laws.proofs.Later.{IsOf, LaterIs, later_is}

@@ -1,5 +1,7 @@
 -- Constants and conversions.
-use Rattle.std.proofs.Common.{◌≡◌, ℕ, ◌+◌, ◌-◌, ◌*◌, ◌%◌, ◌^◌, ◌<◌, ◌≤◌, ℤ, pos, Bool, true, false, ◌||◌, not, cond, List, [], ◌∷◌, length, ⊎_elim, Option, Some, None, IfSome, refl, sym, ap, ◌∙◌, subst, arith, length-append}
+use Rattle.std.proofs.Common.{◌≡◌, ℕ, ◌+◌, ◌-◌, ◌*◌, ◌%◌, ◌^◌, ◌<◌, ◌≤◌, ℤ, pos, Bool, true, false, ◌||◌, not, cond}
+use Rattle.std.proofs.Common.{List, [], ◌∷◌, length, ⊎_elim, Option, Some, None, IfSome, refl, sym, ap, ◌∙◌, subst}
+use Rattle.std.proofs.Common.{arith, length-append}
 use Rattle.std.specs.Prelude.{int_le, nat_eq, nat_lt}
 use Rattle.std.specs.Option.{option_map}
 use Rattle.std.proofs.lemmas.Bool.{and_parts, or_cases, eqb-true, eqb-false, ltb-true, ltb-false}
@@ -41,11 +43,13 @@ use Rattle.ep_equalities.specs.declared.pair.SideValue.{SideValue}
 use Rattle.ep_equalities.specs.Pairs.{SideIn, HasFormNumber}
 use Rattle.ep_evaluation.specs.Narrowed.{has_range, if_kept}
 use Rattle.ep_evaluation.specs.Operators.{Form, constant_form, converted_form, number_in}
-use Rattle.ep_evaluation.specs.Evaluation.{Means, plain, number, constant_given, convert_form, convert_side, convert_given, convert_means}
+use Rattle.ep_evaluation.specs.Evaluation.{Means, plain, number, constant_given, convert_form, convert_side}
+use Rattle.ep_evaluation.specs.Evaluation.{convert_given, convert_means}
 use Rattle.ep_evaluation_laws.specs.Laws.{memory_of, Machine, IsOfCell, SideFits, Holds, Sound}
 use Rattle.ep_evaluation_laws.proofs.General.{on_running, number_found, IsNum, is_int}
 use Rattle.ep_evaluation_laws.proofs.Generic.{Typed, Part, OperatorOf, IsOperatorOf, one_holds, one_fits, pair_fits}
-use Rattle.ep_evaluation_laws.proofs.Bits.{good_append, good_zeros, good_form, form_length, bits_fit_form, bits_say, form_number as number_is, form_below}
+use Rattle.ep_evaluation_laws.proofs.Bits.{good_append, good_zeros, good_form, form_length, bits_fit_form, bits_say}
+use Rattle.ep_evaluation_laws.proofs.Bits.{form_number as number_is, form_below}
 use Rattle.ep_evaluation_laws.proofs.Leaves.{any_sound, plain_sound}
 use Rattle.ep_evaluation_laws.proofs.Residues.{wrapped_bits, wider_bits}
 

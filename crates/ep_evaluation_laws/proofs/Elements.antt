@@ -1,5 +1,7 @@
 -- Elements of arrays in place.
-use Rattle.std.proofs.Common.{◌≡◌, ℕ, zero, suc, ◌+◌, ◌*◌, ◌<◌, ◌≤◌, ℤ, pos, negsuc, ◌+ℤ◌, ◌-ℤ◌, ◌*ℤ◌, ◌≤ℤ◌, Bool, true, false, ◌&&◌, ◌||◌, eqb, cond, List, [], ◌∷◌, ◌++◌, Option, Some, None, IsSomeAnd, refl, sym, ap, ◌∙◌, subst, arith}
+use Rattle.std.proofs.Common.{◌≡◌, ℕ, zero, suc, ◌+◌, ◌*◌, ◌<◌, ◌≤◌, ℤ, pos, negsuc, ◌+ℤ◌, ◌-ℤ◌, ◌*ℤ◌, ◌≤ℤ◌, Bool}
+use Rattle.std.proofs.Common.{true, false, ◌&&◌, ◌||◌, eqb, cond, List, [], ◌∷◌, ◌++◌, Option, Some, None, IsSomeAnd}
+use Rattle.std.proofs.Common.{refl, sym, ap, ◌∙◌, subst, arith}
 use Rattle.std.specs.Prelude.{int_le, int_lt, nat_le, unsigned_abs, slice_index, option_and_then}
 use Rattle.std.specs.Option.{option_map}
 use Rattle.std.proofs.lemmas.Int.{ints}
@@ -9,7 +11,8 @@ use Rattle.ep_alarms.specs.declared.types.AlarmKind.TheVariants.{U5, U6}
 use Rattle.ep_int.specs.declared.types.Order.{Order}
 use Rattle.ep_int.specs.declared.types.IntType.{IntType}
 use Rattle.ep_int.specs.declared.types.Scalar.TheVariants.{Int, Pointer}
-use Rattle.ep_int.specs.Memory.{Value as Datum, int, null, pointer, Found, has, faults, bounds, with_place, null_pointer as null_access}
+use Rattle.ep_int.specs.Memory.{Value as Datum, int, null, pointer, Found, has, faults, bounds, with_place}
+use Rattle.ep_int.specs.Memory.{null_pointer as null_access}
 use Rattle.ep_range_laws.specs.Ranges.{LiesIn}
 use Rattle.ep_range_laws.proofs.Comparisons.{from_le_true, from_lt_true, from_le_false, from_lt_false, le_true, lt_true}
 use Rattle.ep_range_laws.proofs.Corners.{product_up}
@@ -35,11 +38,13 @@ use Rattle.ep_equalities.specs.declared.pair.Mode.{Mode}
 use Rattle.ep_equalities.specs.declared.pair.SideValue.{SideValue}
 use Rattle.ep_equalities.specs.Pairs.{SideIn}
 use Rattle.ep_evaluation.specs.Given.{Given, on, shown_if, shows_if, faults_on}
-use Rattle.ep_evaluation.specs.Accesses.{moves_null, index_in, element_targets, element_of, leaves_array, index_leaves, may_pass, passes_by, element_passes}
+use Rattle.ep_evaluation.specs.Accesses.{moves_null, index_in, element_targets, element_of, leaves_array}
+use Rattle.ep_evaluation.specs.Accesses.{index_leaves, may_pass, passes_by, element_passes}
 use Rattle.ep_evaluation.specs.Operators.{pointer_in}
 use Rattle.ep_evaluation.specs.Evaluation.{Means, Reaches, number, pointer as pointer_of, element_side, element_given}
 use Rattle.ep_evaluation_laws.specs.Laws.{Machine, SideFits, Sound, SoundPlace}
-use Rattle.ep_evaluation_laws.proofs.General.{none_left, reliable_parts, unmarked, not_shown, both_found, number_found, IsNum, is_int}
+use Rattle.ep_evaluation_laws.proofs.General.{none_left, reliable_parts, unmarked, not_shown, both_found}
+use Rattle.ep_evaluation_laws.proofs.General.{number_found, IsNum, is_int}
 use Rattle.ep_evaluation_laws.proofs.Generic.{Typed, Parts, Operator, IsOperator, HasFaults, two_hold, two_fit}
 use Rattle.ep_evaluation_laws.proofs.Arithmetic.{not_marked}
 use Rattle.ep_evaluation_laws.proofs.Pointers.{at, IsPointer}

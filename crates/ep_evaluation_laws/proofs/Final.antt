@@ -1,5 +1,6 @@
 -- Every expression and every place is sound.
-use Rattle.std.proofs.Common.{◌≡◌, ℕ, ◌≤◌, ℤ, Bool, true, false, ◌&&◌, ◌||◌, List, Option, Some, ⊎_elim, refl, sym, subst}
+use Rattle.std.proofs.Common.{◌≡◌, ℕ, ◌≤◌, ℤ, Bool, true, false, ◌&&◌, ◌||◌, List, Option, Some, ⊎_elim, refl, sym}
+use Rattle.std.proofs.Common.{subst}
 use Rattle.std.specs.Prelude.{nat_le}
 use Rattle.std.proofs.lemmas.Bool.{and_parts, leb-true}
 use Rattle.ep_int.specs.declared.types.Order.{Order}
@@ -24,9 +25,13 @@ use Rattle.ep_core.specs.Program.{convert, compare, ptr_compare, logical_and, lo
 use Rattle.ep_core.specs.Program.{ptr_add, cast, Program}
 use Rattle.ep_core.specs.Exec.{value, address}
 use Rattle.ep_core.specs.Runs.{Side}
-use Rattle.ep_core.specs.WellFormed.{Sort, integer, pointer_to, is_integer, is_pointer_where, is_pointer, has_scalar, is_sort, sort_of, ty_at, int_type_of, is_test, has_sort, place_has, blocks_fit, is_length, is_int, right_type, is_number, some_type, is_array_of, has_bound, has_member}
+use Rattle.ep_core.specs.WellFormed.{Sort, integer, pointer_to, is_integer, is_pointer_where, is_pointer, has_scalar}
+use Rattle.ep_core.specs.WellFormed.{is_sort, sort_of, ty_at, int_type_of, is_test, has_sort, place_has, blocks_fit}
+use Rattle.ep_core.specs.WellFormed.{is_length, is_int, right_type, is_number, some_type, is_array_of, has_bound}
+use Rattle.ep_core.specs.WellFormed.{has_member}
 use Rattle.ep_core.specs.Typed.{IfHas, ValueFits, scalar_of}
-use Rattle.ep_core.proofs.Sorts.{three, either_is, integer_scalar, pointer_scalar, loaded_scalar, type_where, pointer_where, tested_where, int_where}
+use Rattle.ep_core.proofs.Sorts.{three, either_is, integer_scalar, pointer_scalar, loaded_scalar, type_where}
+use Rattle.ep_core.proofs.Sorts.{pointer_where, tested_where, int_where}
 use Rattle.ep_core.proofs.Typing.{expr_fits, place_lies}
 use Rattle.ep_evaluation.specs.Evaluation.{Means, convert_means, expression, place}
 use Rattle.ep_evaluation_laws.specs.Laws.{Machine, Sound, SoundPlace, sizes_of}

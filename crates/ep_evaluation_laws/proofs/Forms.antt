@@ -1,5 +1,7 @@
 -- The forms of operators: they may be those of cells, and say what the result is.
-use Rattle.std.proofs.Common.{◌≡◌, ℕ, ◌+◌, ◌-◌, ◌*◌, ◌/◌, ◌%◌, ◌^◌, ◌<◌, ◌≤◌, ℤ, pos, Bool, true, false, ◌&&◌, cond, List, length, take, drop, Option, Some, None, Ok, IfSome, refl, sym, ap, ◌∙◌, subst, arith, bit_and, bit_or, length-append, length-drop}
+use Rattle.std.proofs.Common.{◌≡◌, ℕ, ◌+◌, ◌-◌, ◌*◌, ◌/◌, ◌%◌, ◌^◌, ◌<◌, ◌≤◌, ℤ, pos, Bool, true, false, ◌&&◌, cond}
+use Rattle.std.proofs.Common.{List, length, take, drop, Option, Some, None, Ok, IfSome, refl, sym, ap, ◌∙◌, subst}
+use Rattle.std.proofs.Common.{arith, bit_and, bit_or, length-append, length-drop}
 use Rattle.std.specs.Prelude.{int_le, int_lt, unsigned_abs}
 use Rattle.std.proofs.lemmas.Nat.{and_comm}
 use Rattle.std.proofs.lemmas.Bool.{and_parts}
@@ -15,18 +17,24 @@ use Rattle.ep_int.proofs.Wrapping.{representation_below}
 use Rattle.ep_range_laws.specs.Ranges.{LiesIn}
 use Rattle.ep_range_laws.proofs.Comparisons.{from_le_true, le_true, le_trans}
 use Rattle.ep_bitslice.specs.declared.segment.Segment.{Segment}
-use Rattle.ep_bitslice.specs.Bits.{Bit, Numbers, number_of_bits, zeros, shifted_left, shifted_right, masked, are_disjoint, either_of}
+use Rattle.ep_bitslice.specs.Bits.{Bit, Numbers, number_of_bits, zeros, shifted_left, shifted_right, masked}
+use Rattle.ep_bitslice.specs.Bits.{are_disjoint, either_of}
 use Rattle.ep_bitslice.specs.Segments.{bits, form_of}
 use Rattle.ep_bitslice.proofs.Numbers.{number_below}
-use Rattle.ep_bitslice.proofs.Operations.{length_take, length-zeros, number-shifted_left, number-shifted_right, number-masked, number-either_of, or-number}
+use Rattle.ep_bitslice.proofs.Operations.{length_take, length-zeros, number-shifted_left, number-shifted_right}
+use Rattle.ep_bitslice.proofs.Operations.{number-masked, number-either_of, or-number}
 use Rattle.ep_bitslice.proofs.Parts.{length-masked, length-either}
 use Rattle.ep_cells.specs.declared.cell.Cell.{Cell}
 use Rattle.ep_cells.specs.Reshare.{is_single}
 use Rattle.ep_reads_laws.specs.Laws.{IsFormRead}
 use Rattle.ep_equalities.specs.Pairs.{HasFormNumber}
-use Rattle.ep_evaluation.specs.Operators.{Form, amount_in, left_shift, right_shift, mask_of, and_form, disjoint_form, form_by}
-use Rattle.ep_evaluation_laws.proofs.Bits.{AllGood, good_append, good_take, good_drop, good_zeros, good_masked, good_either, good_form, form_length, bits_fit_form, bits_say, form_number, form_below}
-use Rattle.ep_evaluation_laws.proofs.Residues.{add_bits, and_bits, or_bits, xor_bits, amount_below, left_bits, right_bits}
+use Rattle.ep_evaluation.specs.Operators.{Form, amount_in, left_shift, right_shift, mask_of, and_form, disjoint_form}
+use Rattle.ep_evaluation.specs.Operators.{form_by}
+use Rattle.ep_evaluation_laws.proofs.Bits.{AllGood, good_append, good_take, good_drop, good_zeros, good_masked}
+use Rattle.ep_evaluation_laws.proofs.Bits.{good_either, good_form, form_length, bits_fit_form, bits_say, form_number}
+use Rattle.ep_evaluation_laws.proofs.Bits.{form_below}
+use Rattle.ep_evaluation_laws.proofs.Residues.{add_bits, and_bits, or_bits, xor_bits, amount_below, left_bits}
+use Rattle.ep_evaluation_laws.proofs.Residues.{right_bits}
 use Rattle.ep_evaluation_laws.proofs.Taken.{in_single}
 
 module _ {N : Type 0} (cs : List (Cell N)) (t : IntType) where

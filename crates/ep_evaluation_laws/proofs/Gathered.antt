@@ -1,5 +1,6 @@
 -- The laws, gathered.
-use Rattle.std.proofs.Common.{◌≡◌, ℕ, ℤ, pos, Bool, true, false, ◌||◌, not, List, [], ◌∷◌, ◌++◌, append-nil, map, Option, Some, None, is_some, refl, sym, ap, ◌∙◌, subst}
+use Rattle.std.proofs.Common.{◌≡◌, ℕ, ℤ, pos, Bool, true, false, ◌||◌, not, List, [], ◌∷◌, ◌++◌, append-nil, map}
+use Rattle.std.proofs.Common.{Option, Some, None, is_some, refl, sym, ap, ◌∙◌, subst}
 use Rattle.std.specs.Ordering.{int_eq}
 use Rattle.std.proofs.lemmas.Bool.Decides.{Decides-int_eq}
 use Rattle.ep_int.specs.declared.types.Order.{Order}
@@ -31,8 +32,11 @@ use Rattle.ep_pass.specs.Laws.{Truths, TruthAlone, Fits, GoesOn}
 use Rattle.ep_evaluation.specs.Given.{Given, runs, on, alone, is_both, mode_where}
 use Rattle.ep_evaluation.specs.Operators.{may_be, is_only, test_of}
 use Rattle.ep_evaluation.specs.Narrowed.{then_with}
-use Rattle.ep_evaluation.specs.Evaluation.{Means, same, later, later_faults, given_where, expression, place, is_none, is_stuck, verdict_by, told, unless, is_other}
-use Rattle.ep_evaluation_laws.specs.Laws.{memory_of, Machine, IsState, IfState, IsKept, Holds, Sound, sizes_of, HasFault, HasPair, AreOnly, TestHolds, TestStays, told_by, IsOnly, only_number, only_null, only_place, OnlyLaws, EvaluationLaws, TestLaws}
+use Rattle.ep_evaluation.specs.Evaluation.{Means, same, later, later_faults, given_where, expression, place, is_none}
+use Rattle.ep_evaluation.specs.Evaluation.{is_stuck, verdict_by, told, unless, is_other}
+use Rattle.ep_evaluation_laws.specs.Laws.{memory_of, Machine, IsState, IfState, IsKept, Holds, Sound, sizes_of}
+use Rattle.ep_evaluation_laws.specs.Laws.{HasFault, HasPair, AreOnly, TestHolds, TestStays, told_by, IsOnly}
+use Rattle.ep_evaluation_laws.specs.Laws.{only_number, only_null, only_place, OnlyLaws, EvaluationLaws, TestLaws}
 use Rattle.ep_evaluation_laws.proofs.General.{reliable_none}
 use Rattle.ep_evaluation_laws.proofs.Generic.{same_found}
 use Rattle.ep_evaluation_laws.proofs.Assuming.{then_state, zero_type}

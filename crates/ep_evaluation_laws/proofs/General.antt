@@ -17,7 +17,8 @@ use Rattle.ep_equalities.specs.declared.pair.Mode.TheVariants.{Both, Left, Right
 use Rattle.ep_equalities.specs.declared.pair.Fault.{Fault}
 use Rattle.ep_equalities.specs.declared.pair.SideValue.{SideValue}
 use Rattle.ep_evaluation_laws.specs.Laws.{IsReliable}
-use Rattle.ep_evaluation.specs.Given.{runs, on, pair_on, Shown, shown_if, fault, fault_of, no_range, faults_on, is_sure, are_sure}
+use Rattle.ep_evaluation.specs.Given.{runs, on, pair_on, Shown, shown_if, fault, fault_of, no_range, faults_on}
+use Rattle.ep_evaluation.specs.Given.{is_sure, are_sure}
 
 -- ---- lists of faults
 

@@ -20,8 +20,10 @@ use Rattle.ep_core.specs.Runs.{Side, left, right}
 use Rattle.ep_equalities.specs.declared.pair.Mode.{Mode}
 use Rattle.ep_equalities.specs.Pairs.{SideIn}
 use Rattle.ep_evaluation.specs.Given.{Given, on, are_sure, alone}
-use Rattle.ep_evaluation.specs.Evaluation.{ToCell, no_cell, value_narrowed, with_cell, plain, formless, pointer_given, same_side, same_given, pointer_means}
-use Rattle.ep_evaluation_laws.specs.Laws.{memory_of, Machine, IsState, IfState, IsKept, IfKept, IsOfCell, SideFits, Holds, Sound, SoundPlace}
+use Rattle.ep_evaluation.specs.Evaluation.{ToCell, no_cell, value_narrowed, with_cell, plain, formless, pointer_given}
+use Rattle.ep_evaluation.specs.Evaluation.{same_side, same_given, pointer_means}
+use Rattle.ep_evaluation_laws.specs.Laws.{memory_of, Machine, IsState, IfState, IsKept, IfKept, IsOfCell, SideFits}
+use Rattle.ep_evaluation_laws.specs.Laws.{Holds, Sound, SoundPlace}
 use Rattle.ep_evaluation_laws.proofs.General.{on_running, is_int}
 use Rattle.ep_evaluation_laws.proofs.Generic.{Typed, OperatorOf, IsOperatorOf, one_holds, one_fits, pair_fits}
 use Rattle.ep_evaluation_laws.proofs.Assuming.{zero_type, CellHas, CellThere}

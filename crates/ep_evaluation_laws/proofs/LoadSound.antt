@@ -1,5 +1,6 @@
 -- Loads are sound.
-use Rattle.std.proofs.Common.{◌≡◌, ℕ, ◌+◌, ◌%◌, ◌≤◌, Bool, true, false, ◌&&◌, List, [], ◌∷◌, ◌++◌, slice_get, Option, Some, None, refl, sym, ap, ◌∙◌, subst}
+use Rattle.std.proofs.Common.{◌≡◌, ℕ, ◌+◌, ◌%◌, ◌≤◌, Bool, true, false, ◌&&◌, List, [], ◌∷◌, ◌++◌, slice_get, Option}
+use Rattle.std.proofs.Common.{Some, None, refl, sym, ap, ◌∙◌, subst}
 use Rattle.std.specs.List.{list_any, list_all}
 use Rattle.std.specs.Option.{option_map}
 use Rattle.std.proofs.lemmas.Bool.{and_parts}
@@ -8,7 +9,8 @@ use Rattle.ep_int.specs.declared.types.Order.{Order}
 use Rattle.ep_int.specs.declared.types.Scalar.{Scalar}
 use Rattle.ep_int.specs.declared.types.Scalar.TheVariants.{Pointer}
 use Rattle.ep_int.specs.Types.{size_of}
-use Rattle.ep_int.specs.Memory.{Memory, Value as Datum, int, null, pointer, Found, has, faults, null_pointer, bytes_from, is_undefined, value_of_bytes, loaded, with_place}
+use Rattle.ep_int.specs.Memory.{Memory, Value as Datum, int, null, pointer, Found, has, faults, null_pointer}
+use Rattle.ep_int.specs.Memory.{bytes_from, is_undefined, value_of_bytes, loaded, with_place}
 use Rattle.ep_int.proofs.Memories.{loaded_inside}
 use Rattle.ep_alarms.specs.declared.types.AlarmKind.{AlarmKind}
 use Rattle.ep_alarms.specs.declared.types.AlarmKind.TheVariants.{U4, U5, U6, U7, U10}
@@ -28,17 +30,21 @@ use Rattle.ep_equalities.specs.declared.pair.Mode.TheVariants.{Both, Left, Right
 use Rattle.ep_equalities.specs.declared.pair.PairValue.{PairValue}
 use Rattle.ep_equalities.specs.declared.pair.SideValue.{SideValue}
 use Rattle.ep_equalities.specs.Pairs.{SideIn}
-use Rattle.ep_evaluation.specs.Given.{Given, cells_of, runs, on, Shown, shown_if, fault_of, faults_on, are_sure, is_of_reading}
+use Rattle.ep_evaluation.specs.Given.{Given, cells_of, runs, on, Shown, shown_if, fault_of, faults_on, are_sure}
+use Rattle.ep_evaluation.specs.Given.{is_of_reading}
 use Rattle.ep_evaluation.specs.Operators.{pointer_in}
 use Rattle.ep_evaluation.specs.Accesses.{spots, bounds_of, may_be_odd, is_unset, is_mixed}
 use Rattle.ep_cell_ranges.specs.Shared.{is_shared_cell}
 use Rattle.ep_cell_ranges.specs.Spots.{Spot}
-use Rattle.ep_evaluation.specs.Evaluation.{pointer as pointer_on, same, targets_of, is_null, places_at, reads_at, load_side, load_shared, all_shared, load_faults, load_given}
+use Rattle.ep_evaluation.specs.Evaluation.{pointer as pointer_on, same, targets_of, is_null, places_at, reads_at}
+use Rattle.ep_evaluation.specs.Evaluation.{load_side, load_shared, all_shared, load_faults, load_given}
 use Rattle.ep_evaluation_laws.specs.Laws.{memory_of, Machine, IsReliable, IsKept, Holds, sizes_of}
-use Rattle.ep_evaluation_laws.proofs.General.{none_left, reliable_parts, reliable_none, on_running, equal_is, unmarked, not_shown}
+use Rattle.ep_evaluation_laws.proofs.General.{none_left, reliable_parts, reliable_none, on_running, equal_is}
+use Rattle.ep_evaluation_laws.proofs.General.{unmarked, not_shown}
 use Rattle.ep_evaluation_laws.proofs.Generic.{same_found}
 use Rattle.ep_evaluation_laws.proofs.Spots.{Among, here, behind, spot_there, set_at, pure_at}
-use Rattle.ep_evaluation_laws.proofs.Loads.{some_bytes, loads, memory_at, order_at, sure_read, is_ptr, place_there, load_held}
+use Rattle.ep_evaluation_laws.proofs.Loads.{some_bytes, loads, memory_at, order_at, sure_read, is_ptr, place_there}
+use Rattle.ep_evaluation_laws.proofs.Loads.{load_held}
 use Rattle.ep_evaluation_laws.proofs.Shareds.{shared_same}
 use Rattle.ep_evaluation_laws.proofs.Access.{even_there, inside_there}
 

@@ -1,5 +1,7 @@
 -- What a load gives on a side is what the machine loads.
-use Rattle.std.proofs.Common.{◌≡◌, ℕ, ◌+◌, ◌%◌, ◌<◌, ◌≤◌, ℤ, pos, Bool, true, false, ◌||◌, not, nat_lt, cond, List, [], ◌∷◌, slice_get, Option, Some, None, IfSome, IsSomeAnd, refl, sym, ap, ◌∙◌, subst, arith}
+use Rattle.std.proofs.Common.{◌≡◌, ℕ, ◌+◌, ◌%◌, ◌<◌, ◌≤◌, ℤ, pos, Bool, true, false, ◌||◌, not, nat_lt, cond, List}
+use Rattle.std.proofs.Common.{[], ◌∷◌, slice_get, Option, Some, None, IfSome, IsSomeAnd, refl, sym, ap, ◌∙◌, subst}
+use Rattle.std.proofs.Common.{arith}
 use Rattle.std.specs.List.{list_any}
 use Rattle.std.specs.Option.{option_map}
 use Rattle.std.proofs.lemmas.Bool.{eqb-true, ltb-false}
@@ -11,7 +13,8 @@ use Rattle.ep_int.specs.declared.types.IntType.TheVariants.{I8, U8, I16, U16, I3
 use Rattle.ep_int.specs.declared.types.Scalar.{Scalar}
 use Rattle.ep_int.specs.declared.types.Scalar.TheVariants.{Int, Pointer}
 use Rattle.ep_int.specs.Types.{size_of}
-use Rattle.ep_int.specs.Memory.{Memory, Value as Datum, int, null, pointer, Found, has, faults, bounds, alignment, uninitialised, bytes_from, is_undefined, value_of_bytes, is_aligned, loaded}
+use Rattle.ep_int.specs.Memory.{Memory, Value as Datum, int, null, pointer, Found, has, faults, bounds, alignment}
+use Rattle.ep_int.specs.Memory.{uninitialised, bytes_from, is_undefined, value_of_bytes, is_aligned, loaded}
 use Rattle.ep_bitslice.specs.declared.cell.CellName.{CellName}
 use Rattle.ep_bitslice.specs.declared.segment.Segment.{Segment}
 use Rattle.ep_bitslice.specs.Segments.{number}

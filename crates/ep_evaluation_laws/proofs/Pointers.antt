@@ -1,5 +1,6 @@
 -- Pointers: comparisons, and what assuming leaves of their cells.
-use Rattle.std.proofs.Common.{◌≡◌, ℕ, pos, Bool, true, false, ◌&&◌, not, nat_eq, cond, List, [], ◌∷◌, Option, Some, None, IfSome, IsSomeAnd, IsTrue, refl, sym, ap, ◌∙◌, subst, arith}
+use Rattle.std.proofs.Common.{◌≡◌, ℕ, pos, Bool, true, false, ◌&&◌, not, nat_eq, cond, List, [], ◌∷◌, Option, Some}
+use Rattle.std.proofs.Common.{None, IfSome, IsSomeAnd, IsTrue, refl, sym, ap, ◌∙◌, subst, arith}
 use Rattle.std.specs.Prelude.{int_le}
 use Rattle.std.specs.List.{list_any}
 use Rattle.std.proofs.lemmas.Int.{ints}
@@ -12,7 +13,8 @@ use Rattle.ep_int.specs.declared.types.Scalar.TheVariants.{Pointer}
 use Rattle.ep_int.specs.Arith.{compares, int_eq}
 use Rattle.ep_int.specs.Memory.{Value as Datum, int, null, pointer, Found, faults, pointer_mix}
 use Rattle.ep_domain.specs.Domain.{Ops, Lawful}
-use Rattle.ep_pointers.specs.Value.{Pointers, null_alone, HoldsPointer, Pointer as Address, null_pointer, into, offset_at}
+use Rattle.ep_pointers.specs.Value.{Pointers, null_alone, HoldsPointer, Pointer as Address, null_pointer, into}
+use Rattle.ep_pointers.specs.Value.{offset_at}
 use Rattle.ep_pointers.specs.Compare.{pointers_compare as compare_of, comparison_of, Answers}
 use Rattle.ep_pointers.proofs.Gathered.{pointer_laws}
 use Rattle.ep_cells.specs.declared.cell.Cell.{Cell}

@@ -1,5 +1,7 @@
 -- What the bits of results of arithmetic are, by those of the operands.
-use Rattle.std.proofs.Common.{◌≡◌, ℕ, suc, ◌+◌, ◌-◌, ◌*◌, ◌/◌, ◌%◌, ◌^◌, ◌<◌, ◌≤◌, ℤ, pos, negsuc, ◌+ℤ◌, ◌*ℤ◌, Bool, true, false, ◌&&◌, cond, Result, Ok, Err, refl, sym, ap, ◌∙◌, arith, bit_and, bit_or, bit_xor}
+use Rattle.std.proofs.Common.{◌≡◌, ℕ, suc, ◌+◌, ◌-◌, ◌*◌, ◌/◌, ◌%◌, ◌^◌, ◌<◌, ◌≤◌, ℤ, pos, negsuc, ◌+ℤ◌, ◌*ℤ◌, Bool}
+use Rattle.std.proofs.Common.{true, false, ◌&&◌, cond, Result, Ok, Err, refl, sym, ap, ◌∙◌, arith, bit_and, bit_or}
+use Rattle.std.proofs.Common.{bit_xor}
 use Rattle.std.specs.Prelude.{int_le, int_lt, nat_le, unsigned_abs}
 use Rattle.std.specs.Int.{int_shr}
 use Rattle.std.specs.Int.Bits.{or_add_and, xor_disjoint}

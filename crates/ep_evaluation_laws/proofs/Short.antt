@@ -1,5 +1,6 @@
 -- `&&` and `||`.
-use Rattle.std.proofs.Common.{◌≡◌, pos, Bool, true, false, ◌&&◌, ◌||◌, not, cond, [], Option, Some, refl, sym, ap, ◌∙◌, subst}
+use Rattle.std.proofs.Common.{◌≡◌, pos, Bool, true, false, ◌&&◌, ◌||◌, not, cond, [], Option, Some, refl, sym, ap}
+use Rattle.std.proofs.Common.{◌∙◌, subst}
 use Rattle.std.proofs.lemmas.Bool.{and_parts, or_left, or_right}
 use Rattle.ep_int.specs.declared.types.Order.{Order}
 use Rattle.ep_int.specs.declared.types.IntType.TheVariants.{I32}
@@ -21,8 +22,10 @@ use Rattle.ep_equalities.specs.Pairs.{SideIn}
 use Rattle.ep_evaluation.specs.Given.{Given, runs, on}
 use Rattle.ep_evaluation.specs.Operators.{may_be}
 use Rattle.ep_evaluation.specs.Narrowed.{then_with}
-use Rattle.ep_evaluation.specs.Evaluation.{Means, same, later, later_side, later_faults, later_same, short_side, short_in, short_assumed}
-use Rattle.ep_evaluation_laws.specs.Laws.{memory_of, Machine, IsReliable, IsState, IfState, IsKept, IfKept, Holds, Sound}
+use Rattle.ep_evaluation.specs.Evaluation.{Means, same, later, later_side, later_faults, later_same, short_side}
+use Rattle.ep_evaluation.specs.Evaluation.{short_in, short_assumed}
+use Rattle.ep_evaluation_laws.specs.Laws.{memory_of, Machine, IsReliable, IsState, IfState, IsKept, IfKept, Holds}
+use Rattle.ep_evaluation_laws.specs.Laws.{Sound}
 use Rattle.ep_evaluation_laws.proofs.General.{none_left, reliable_parts, reliable_none, on_running, equal_is, runs_both}
 use Rattle.ep_evaluation_laws.proofs.Generic.{same_found}
 use Rattle.ep_evaluation_laws.proofs.Operators.{truth_allowed}

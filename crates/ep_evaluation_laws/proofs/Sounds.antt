@@ -1,5 +1,6 @@
 -- What forms of expressions mean is sound where what their parts mean is.
-use Rattle.std.proofs.Common.{◌≡◌, ℤ, pos, Bool, true, false, ◌&&◌, not, cond, List, ◌++◌, Option, Some, None, IfSome, refl, sym, ap, ◌∙◌, subst}
+use Rattle.std.proofs.Common.{◌≡◌, ℤ, pos, Bool, true, false, ◌&&◌, not, cond, List, ◌++◌, Option, Some, None, IfSome}
+use Rattle.std.proofs.Common.{refl, sym, ap, ◌∙◌, subst}
 use Rattle.ep_int.specs.declared.types.Order.{Order}
 use Rattle.ep_int.specs.declared.types.Cmp.{Cmp}
 use Rattle.ep_int.specs.declared.types.IntType.{IntType}
@@ -29,16 +30,23 @@ use Rattle.ep_equalities.specs.Pairs.{SideIn}
 use Rattle.ep_evaluation.specs.Given.{Given, runs, on, are_sure, alone}
 use Rattle.ep_evaluation.specs.Operators.{number_in, test_of, may_be}
 use Rattle.ep_evaluation.specs.Narrowed.{again, when_not, numbers_narrowed}
-use Rattle.ep_evaluation.specs.Evaluation.{Means, ToCell, same, number, if_sure, value_narrowed, with_cell, not_side, compare_side, compare_means, short_side, later, later_side, later_same, and_means, or_means, not_means}
-use Rattle.ep_evaluation_laws.specs.Laws.{memory_of, Machine, IsReliable, IsState, IfState, IsKept, IfKept, IsOfCell, SideFits, Holds, Sound}
-use Rattle.ep_evaluation_laws.proofs.General.{none_left, sure_parts, reliable_parts, both_found, number_found, IsNum, is_int}
-use Rattle.ep_evaluation_laws.proofs.Generic.{Typed, Part, HasFaults, OperatorOf, one_holds, one_fits, two_hold, two_fit, pair_fits}
-use Rattle.ep_evaluation_laws.proofs.Operators.{on_numbers, of_numbers, numbers_are, comparison, opposite_compares, truth_allowed, truth_sort, truth_rising}
+use Rattle.ep_evaluation.specs.Evaluation.{Means, ToCell, same, number, if_sure, value_narrowed, with_cell, not_side}
+use Rattle.ep_evaluation.specs.Evaluation.{compare_side, compare_means, short_side, later, later_side, later_same}
+use Rattle.ep_evaluation.specs.Evaluation.{and_means, or_means, not_means}
+use Rattle.ep_evaluation_laws.specs.Laws.{memory_of, Machine, IsReliable, IsState, IfState, IsKept, IfKept, IsOfCell}
+use Rattle.ep_evaluation_laws.specs.Laws.{SideFits, Holds, Sound}
+use Rattle.ep_evaluation_laws.proofs.General.{none_left, sure_parts, reliable_parts, both_found, number_found, IsNum}
+use Rattle.ep_evaluation_laws.proofs.General.{is_int}
+use Rattle.ep_evaluation_laws.proofs.Generic.{Typed, Part, HasFaults, OperatorOf, one_holds, one_fits, two_hold}
+use Rattle.ep_evaluation_laws.proofs.Generic.{two_fit, pair_fits}
+use Rattle.ep_evaluation_laws.proofs.Operators.{on_numbers, of_numbers, numbers_are, comparison, opposite_compares}
+use Rattle.ep_evaluation_laws.proofs.Operators.{truth_allowed, truth_sort, truth_rising}
 use Rattle.ep_evaluation_laws.proofs.Assuming.{CellHas, CellThere, numbers_kept, numbers_state}
 use Rattle.ep_evaluation_laws.proofs.Again.{again_has, again_there}
 use Rattle.ep_evaluation_laws.proofs.Tests.{number_kept}
 use Rattle.ep_evaluation_laws.proofs.Later.{may_be_of}
-use Rattle.ep_evaluation_laws.proofs.Short.{ShortParts, of_second, of_first, IsShort, short_holds, short_stays, short_all_kept, short_first_kept, short_second_kept}
+use Rattle.ep_evaluation_laws.proofs.Short.{ShortParts, of_second, of_first, IsShort, short_holds, short_stays}
+use Rattle.ep_evaluation_laws.proofs.Short.{short_all_kept, short_first_kept, short_second_kept}
 
 pub reliable_alone : (s : Side) (fs : List Fault) → are_sure fs ≡ true → IsReliable (alone s) fs
 reliable_alone left fs e = e

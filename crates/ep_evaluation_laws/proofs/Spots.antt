@@ -1,5 +1,7 @@
 -- The places of an access, and what is read there.
-use Rattle.std.proofs.Common.{zero-mul, add-zero, ◌≡◌, ℕ, zero, suc, ◌+◌, ◌-◌, ◌*◌, ◌/◌, ◌%◌, ◌<◌, ◌≤◌, pos, Bool, true, false, ◌||◌, nat_eq, cond, List, [], ◌∷◌, ◌++◌, map, slice_get, Option, Some, None, IsSomeAnd, refl, sym, ap, ◌∙◌, subst, arith}
+use Rattle.std.proofs.Common.{zero-mul, add-zero, ◌≡◌, ℕ, zero, suc, ◌+◌, ◌-◌, ◌*◌, ◌/◌, ◌%◌, ◌<◌, ◌≤◌, pos, Bool}
+use Rattle.std.proofs.Common.{true, false, ◌||◌, nat_eq, cond, List, [], ◌∷◌, ◌++◌, map, slice_get, Option, Some}
+use Rattle.std.proofs.Common.{None, IsSomeAnd, refl, sym, ap, ◌∙◌, subst, arith}
 use Rattle.std.specs.List.{filter}
 use Rattle.std.proofs.lemmas.Bool.{eqb-true, le-leb}
 use Rattle.std.proofs.Math.Nat.{le-div_iff_mul-le, mod-eq-sub-div-mul, div-mul-le_self, suc-mul}
@@ -16,7 +18,8 @@ use Rattle.ep_cells.specs.Meaning.{Allows}
 use Rattle.ep_cells_laws.proofs.Both.{allowed_left, allowed_right, join_unites, sort_both, rising_both}
 use Rattle.ep_reads.specs.Read.{read}
 use Rattle.ep_reads_laws.specs.Laws.{ReadLaws}
-use Rattle.ep_evaluation.specs.Accesses.{multiples, offsets_in, held_spots, spots, reads_of, joined_from, joined_reads, lacks_value, is_unset, is_mixed}
+use Rattle.ep_evaluation.specs.Accesses.{multiples, offsets_in, held_spots, spots, reads_of, joined_from}
+use Rattle.ep_evaluation.specs.Accesses.{joined_reads, lacks_value, is_unset, is_mixed}
 use Rattle.ep_cell_ranges.specs.Spots.{Spot}
 
 pub data Among {A : Type 0} (x : A) : List A → Type 0 where

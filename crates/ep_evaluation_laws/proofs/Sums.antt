@@ -1,5 +1,7 @@
 -- Sums of pointers and numbers, and members.
-use Rattle.std.proofs.Common.{◌≡◌, ℕ, zero, suc, ◌+◌, ◌*◌, ◌<◌, ◌≤◌, ℤ, pos, negsuc, ◌+ℤ◌, ◌-ℤ◌, ◌*ℤ◌, inl, inr, Bool, true, false, ◌&&◌, cond, List, [], ◌∷◌, ◌++◌, length, map, slice_get, Option, Some, None, IfSome, IsSomeAnd, refl, sym, ap, ◌∙◌, subst, arith}
+use Rattle.std.proofs.Common.{◌≡◌, ℕ, zero, suc, ◌+◌, ◌*◌, ◌<◌, ◌≤◌, ℤ, pos, negsuc, ◌+ℤ◌, ◌-ℤ◌, ◌*ℤ◌, inl, inr, Bool}
+use Rattle.std.proofs.Common.{true, false, ◌&&◌, cond, List, [], ◌∷◌, ◌++◌, length, map, slice_get, Option, Some}
+use Rattle.std.proofs.Common.{None, IfSome, IsSomeAnd, refl, sym, ap, ◌∙◌, subst, arith}
 use Rattle.std.specs.Prelude.{int_le, nat_le, unsigned_abs, sum_by, slice_index}
 use Rattle.std.specs.Option.{option_map}
 use Rattle.std.proofs.lemmas.Int.{ints}
@@ -12,7 +14,8 @@ use Rattle.ep_int.specs.declared.types.Order.{Order}
 use Rattle.ep_int.specs.declared.types.IntType.{IntType}
 use Rattle.ep_int.specs.declared.types.Scalar.TheVariants.{Int, Pointer}
 use Rattle.ep_int.specs.Arith.{IsOfSomeType}
-use Rattle.ep_int.specs.Memory.{Value as Datum, int, null, pointer, Found, has, faults, bounds, null_pointer as null_access}
+use Rattle.ep_int.specs.Memory.{Value as Datum, int, null, pointer, Found, has, faults, bounds}
+use Rattle.ep_int.specs.Memory.{null_pointer as null_access}
 use Rattle.ep_range_laws.proofs.Comparisons.{from_le_true, from_le_false}
 use Rattle.ep_bitslice.specs.Bits.{Numbers}
 use Rattle.ep_domain.specs.Domain.{Ops, Lawful, Holds as HoldsNumber}
@@ -26,7 +29,8 @@ use Rattle.ep_cells.specs.declared.cell.Value.TheVariants.{Num, Ptr}
 use Rattle.ep_cells.specs.States.{Known, IsOfSort, HasRisingBlocks}
 use Rattle.ep_cells.specs.Meaning.{Allows}
 use Rattle.ep_core.specs.Program.{Block, Program}
-use Rattle.ep_core.specs.Exec.{with, with_number, distance, place_in, block_size, size_at, greatest_offset, moved as machine_moved}
+use Rattle.ep_core.specs.Exec.{with, with_number, distance, place_in, block_size, size_at, greatest_offset}
+use Rattle.ep_core.specs.Exec.{moved as machine_moved}
 use Rattle.ep_core.specs.Runs.{Side, left, right}
 use Rattle.ep_core.specs.Typed.{IsTarget, ValueFits}
 use Rattle.ep_core.specs.WellFormed.{blocks_fit}
@@ -36,10 +40,13 @@ use Rattle.ep_equalities.specs.Pairs.{SideIn}
 use Rattle.ep_evaluation.specs.Given.{Given, on, shown_if, shows_if, faults_on}
 use Rattle.ep_evaluation.specs.Accesses.{moved_by, move_leaves, moves_null}
 use Rattle.ep_evaluation.specs.Operators.{pointer_in}
-use Rattle.ep_evaluation.specs.Evaluation.{Means, Reaches, number, pointer as pointer_of, offset_number, move_side, sum_side, sum_given, sum_means, member_given}
+use Rattle.ep_evaluation.specs.Evaluation.{Means, Reaches, number, pointer as pointer_of, offset_number, move_side}
+use Rattle.ep_evaluation.specs.Evaluation.{sum_side, sum_given, sum_means, member_given}
 use Rattle.ep_evaluation_laws.specs.Laws.{Machine, SideFits, Sound, SoundPlace, sizes_of}
-use Rattle.ep_evaluation_laws.proofs.General.{none_left, reliable_parts, unmarked, not_shown, both_found, number_found, IsNum, is_int}
-use Rattle.ep_evaluation_laws.proofs.Generic.{Typed, Parts, Part, Operator, IsOperator, HasFaults, two_hold, two_fit, OperatorOf, IsOperatorOf, HasFaultsOf, one_holds, one_fits}
+use Rattle.ep_evaluation_laws.proofs.General.{none_left, reliable_parts, unmarked, not_shown, both_found}
+use Rattle.ep_evaluation_laws.proofs.General.{number_found, IsNum, is_int}
+use Rattle.ep_evaluation_laws.proofs.Generic.{Typed, Parts, Part, Operator, IsOperator, HasFaults, two_hold, two_fit}
+use Rattle.ep_evaluation_laws.proofs.Generic.{OperatorOf, IsOperatorOf, HasFaultsOf, one_holds, one_fits}
 use Rattle.ep_evaluation_laws.proofs.Arithmetic.{not_marked}
 use Rattle.ep_evaluation_laws.proofs.Leaves.{plain_sound}
 use Rattle.ep_evaluation_laws.proofs.Pointers.{at, IsPointer}

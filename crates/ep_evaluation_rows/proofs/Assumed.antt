@@ -11,7 +11,8 @@ use Rattle.ep_cells.specs.declared.cell.Cell.{Cell}
 use Rattle.ep_cells.specs.declared.cell.Value.{Value}
 use Rattle.ep_cells.specs.declared.cell.Value.TheVariants.{Num, Ptr}
 use Rattle.ep_cells.specs.States.{Known}
-use Rattle.ep_core.specs.Program.{block, element, Expr, const, null_value, load, convert, compare, ptr_compare, logical_or, logical_not, cast}
+use Rattle.ep_core.specs.Program.{block, element, Expr, const, null_value, load, convert, compare, ptr_compare}
+use Rattle.ep_core.specs.Program.{logical_or, logical_not, cast}
 use Rattle.ep_core.specs.Runs.{left}
 use Rattle.ep_evaluation.specs.Evaluation.{expression, test_taken, test_taken_by}
 use Rattle.ep_int.specs.declared.types.Cmp.TheVariants as order

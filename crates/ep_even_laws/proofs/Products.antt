@@ -1,6 +1,8 @@
 -- A product of congruences by 1 has the strides of the other factor.
 use Prim.Native.Nat.{◌∣◌}
-use Rattle.std.proofs.Common.{◌≡◌, ℕ, ◌*◌, ◌<◌, ◌≤◌, ℤ, pos, ◌-ℤ◌, ◌*ℤ◌, ◌≤ℤ◌, Bool, true, false, cond, ◌&&◌, Option, Some, None, option_and_then, Result, Ok, Err, IsTrue, IfSome, nat_le, refl, sym, ap, ◌∙◌, subst, ◌⊎◌, inl, inr, arith}
+use Rattle.std.proofs.Common.{◌≡◌, ℕ, ◌*◌, ◌<◌, ◌≤◌, ℤ, pos, ◌-ℤ◌, ◌*ℤ◌, ◌≤ℤ◌, Bool, true, false, cond, ◌&&◌, Option}
+use Rattle.std.proofs.Common.{Some, None, option_and_then, Result, Ok, Err, IsTrue, IfSome, nat_le, refl, sym, ap}
+use Rattle.std.proofs.Common.{◌∙◌, subst, ◌⊎◌, inl, inr, arith}
 use Rattle.std.specs.Prelude.{unsigned_abs}
 use Rattle.std.proofs.lemmas.Int.{ints}
 use Rattle.std.proofs.lemmas.Bool.{and_from}
@@ -15,7 +17,8 @@ use Rattle.ep_domain.specs.Domain.{IsStride}
 use Rattle.ep_congruence_laws.specs.Multiples.{IsMultiple, gcd}
 use Rattle.ep_congruence_laws.specs.Classes as classes
 use Rattle.ep_congruence_laws.specs.Classes.{Class, one, is_one, reduced, greatest_modulus}
-use Rattle.ep_congruence_laws.specs.Results.{greatest_product, products, are_small, product_modulus, product_of, past_limits, results_between, single_result, left_operand, value_of}
+use Rattle.ep_congruence_laws.specs.Results.{greatest_product, products, are_small, product_modulus, product_of}
+use Rattle.ep_congruence_laws.specs.Results.{past_limits, results_between, single_result, left_operand, value_of}
 use Rattle.ep_congruence_laws.proofs.Classes.{le_test, class_small}
 use Rattle.ep_congruence_laws.proofs.Operations.{In, Is, one_member, gcd_greatest, gcd_small}
 use Rattle.ep_congruence_laws.proofs.Cuts as cuts

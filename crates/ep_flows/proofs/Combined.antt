@@ -1,11 +1,13 @@
 -- Where statements were gone through, piece by piece, as a pass says.
-use Rattle.std.proofs.Common.{◌≡◌, ℕ, ◌+◌, List, [], fold, refl, sym, ap, ◌∙◌, subst, arith, Option, Some, None, Result, Ok, Err, IfOk}
+use Rattle.std.proofs.Common.{◌≡◌, ℕ, ◌+◌, List, [], fold, refl, sym, ap, ◌∙◌, subst, arith, Option, Some, None}
+use Rattle.std.proofs.Common.{Result, Ok, Err, IfOk}
 use Rattle.ep_int.specs.declared.types.Memory.{Memory}
 use Rattle.ep_alarms.specs.declared.types.Alarm.{Alarm}
 use Rattle.ep_alarms.specs.Report.{added}
 use Rattle.ep_core.specs.Exec.{Way, on, broken, continued, returned}
 use Rattle.ep_pass.specs.States.{StateOps}
-use Rattle.ep_pass.specs.Pass.{Ways, Log, logged, both_logs, Pass, passed, after, branch, left_by, leave_loop, join_on, join_ways, either_pass, go_on}
+use Rattle.ep_pass.specs.Pass.{Ways, Log, logged, both_logs, Pass, passed, after, branch, left_by, leave_loop}
+use Rattle.ep_pass.specs.Pass.{join_on, join_ways, either_pass, go_on}
 use Rattle.ep_flows.specs.Shown.{Told, Tells, HasPassed, Passes, CountsUpTo, shown_ways, shown_flow, capped, more_heads}
 use Rattle.ep_flows.specs.declared.flow.Flow.{Flow}
 use Rattle.ep_flows.proofs.Telling.{nil_right, tells_both, tells_nothing}

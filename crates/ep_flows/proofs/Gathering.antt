@@ -1,10 +1,12 @@
 -- Alarms that are gathered first and added then are those that are added one by one.
-use Rattle.std.proofs.Common.{◌≡◌, ℕ, ltb, ℤ, Bool, true, false, nat_eq, List, [], ◌∷◌, fold, refl, sym, ap, ◌∙◌, arith, if◌then◌else◌}
+use Rattle.std.proofs.Common.{◌≡◌, ℕ, ltb, ℤ, Bool, true, false, nat_eq, List, [], ◌∷◌, fold, refl, sym, ap, ◌∙◌}
+use Rattle.std.proofs.Common.{arith, if◌then◌else◌}
 use Rattle.std.specs.Int.{int_min, int_max}
 use Rattle.std.proofs.lemmas.Int.{ints, clamps}
 use Rattle.ep_alarms.specs.declared.types.Alarm.{Alarm}
 use Rattle.ep_alarms.specs.declared.types.AlarmKind.{AlarmKind}
-use Rattle.ep_alarms.specs.declared.types.AlarmKind.TheVariants.{U1, U2, U3, U4, U5, U6, U7, U8, U9, U10, E1, E2, E3, E4}
+use Rattle.ep_alarms.specs.declared.types.AlarmKind.TheVariants.{U1, U2, U3, U4, U5, U6, U7, U8, U9, U10, E1, E2, E3}
+use Rattle.ep_alarms.specs.declared.types.AlarmKind.TheVariants.{E4}
 use Rattle.ep_alarms.specs.Alarm.{place_of, before, least_range, joined}
 use Rattle.ep_alarms.specs.Report.{added}
 use Rattle.ep_alarms.proofs.Order.{rank, place_small, before_by_rank, lt_by_before, before_by_lt, le_by_not_before}

@@ -1,11 +1,13 @@
 -- What the code has done where it went through statements as a pass says. This project's words.
-use Rattle.std.specs.Prelude.{◌≡◌, ℕ, ◌+◌, ◌≤◌, List, [], ◌∷◌, ◌++◌, fold, Option, Some, None, Result, Ok, Err, Bool, true, false, if◌then◌else◌}
+use Rattle.std.specs.Prelude.{◌≡◌, ℕ, ◌+◌, ◌≤◌, List, [], ◌∷◌, ◌++◌, fold, Option, Some, None, Result, Ok, Err, Bool}
+use Rattle.std.specs.Prelude.{true, false, if◌then◌else◌}
 use Prim.Native.Nat.{min}
 use Rattle.ep_int.specs.declared.types.Memory.{Memory}
 use Rattle.ep_int.specs.declared.types.Order.{Order}
 use Rattle.ep_alarms.specs.declared.types.Alarm.{Alarm}
 use Rattle.ep_alarms.specs.Report.{added}
-use Rattle.ep_core.specs.Program.{What, Simple, simple, nothing, call, if_else, loop, break_loop, continue_loop, by_order, scope, Program}
+use Rattle.ep_core.specs.Program.{What, Simple, simple, nothing, call, if_else, loop, break_loop, continue_loop}
+use Rattle.ep_core.specs.Program.{by_order, scope, Program}
 use Rattle.ep_core.specs.Runs.{Side, left, right}
 use Rattle.ep_core.specs.Shown.{shown}
 use Rattle.ep_pass.specs.States.{Mode, Both, One, Verdict, stuck, same, differs, StateOps}

@@ -3,7 +3,8 @@
 ghost use Rattle.std.specs.Prelude.{◌≡◌, ◌++◌, IfOk, OnOk, None, Some, fold};
 ghost use Rattle.ep_core.specs.Exec.{frame_of};
 ghost use Rattle.ep_core.specs.View.{shown_function};
-ghost use Rattle.ep_pass.specs.Pass.{comes_after, join_on, join_ways, leave_call, leave_loop, leave_on, none, only_broken, only_continued, only_on, only_returned, scope_pass};
+ghost use Rattle.ep_pass.specs.Pass.{comes_after, join_on, join_ways, leave_call, leave_loop, leave_on, none};
+ghost use Rattle.ep_pass.specs.Pass.{only_broken, only_continued, only_on, only_returned, scope_pass};
 ghost use Rattle.ep_flows.specs.Shown.{Passes, mode_of, ops_for, plan_of, shown_flow, shown_ways};
 
 use crate::log::Log;

@@ -1,6 +1,7 @@
 -- Calls.
 use Rattle.std.proofs.Common.{◌≡◌, ℕ, suc, ◌<◌, List, [], ◌∷◌, ◌++◌, map, slice_get, Option, Some, None, option_to_list}
-use Rattle.std.proofs.Common.{Bool, true, false, nat_lt, if◌then◌else◌, length, get_or, ◌≤◌, arith, refl, sym, ap, ◌∙◌, subst}
+use Rattle.std.proofs.Common.{Bool, true, false, nat_lt, if◌then◌else◌, length, get_or, ◌≤◌, arith, refl, sym, ap}
+use Rattle.std.proofs.Common.{◌∙◌, subst}
 use Rattle.std.specs.Option.{option_map}
 use Rattle.ep_int.specs.declared.types.Scalar.{Scalar}
 use Rattle.std.specs.List.{AllByRecursion}

@@ -1,5 +1,7 @@
 -- The values of a list, one after another.
-use Rattle.std.proofs.Common.{◌≡◌, ℕ, suc, ◌+◌, ◌<◌, ◌≤◌, Bool, false, length, List, [], ◌∷◌, map, drop, get_or, Option, Some, Result, Ok, Err, refl, sym, ap, ◌∙◌, append_assoc, drop-cons, subst, arith}
+use Rattle.std.proofs.Common.{◌≡◌, ℕ, suc, ◌+◌, ◌<◌, ◌≤◌, Bool, false, length, List, [], ◌∷◌, map, drop, get_or}
+use Rattle.std.proofs.Common.{Option, Some, Result, Ok, Err, refl, sym, ap, ◌∙◌, append_assoc, drop-cons, subst}
+use Rattle.std.proofs.Common.{arith}
 use Rattle.std.proofs.lemmas.List.{append-nil, drop_all, length-map}
 use Rattle.std.specs.Prelude.{OnOk}
 use Rattle.std.specs.Global.{Vec}
@@ -15,7 +17,9 @@ use Rattle.ep_layout.specs.Table.{Grows, Table}
 use Rattle.ep_elaboration.specs.Declarators.{Object}
 use Rattle.ep_ast.specs.Expression.{Expr}
 use Rattle.ep_declared.specs.Gives.{GivesIn}
-use Rattle.ep_elaboration.specs.Given.{Given, all_given, both_given, expression_given, line_of_value, nothing_given, part_at, value_given, with_parts, cleared, count_listed, count_values, object_operand}
+use Rattle.ep_elaboration.specs.Given.{Given, all_given, both_given, expression_given, line_of_value, nothing_given}
+use Rattle.ep_elaboration.specs.Given.{part_at, value_given, with_parts, cleared, count_listed, count_values}
+use Rattle.ep_elaboration.specs.Given.{object_operand}
 use Rattle.ep_typing.specs.Env.{Env}
 use Rattle.ep_typing.specs.Typing.{Right, assigned_from, right_side}
 use Rattle.ep_declared.proofs.Growth.{mentioned_more}

@@ -1,5 +1,7 @@
 -- Laws of arithmetic on numbers of the types.
-use Rattle.std.proofs.Common.{◌≡◌, ℕ, zero, suc, ◌+◌, ◌-◌, ◌*◌, ◌%◌, ◌^◌, ◌<◌, ◌≤◌, ◌↔◌, ◌/◌, Bool, true, false, ◌&&◌, not, neg_ℤ, if◌then◌else◌, IsTrue, ℤ, pos, negsuc, ◌+ℤ◌, ◌-ℤ◌, ◌*ℤ◌, ◌≤ℤ◌, Result, Ok, Err, FitsSigned, to_z, of_z, bit_and, bit_or, refl, sym, ◌∙◌, ap, subst, arith}
+use Rattle.std.proofs.Common.{◌≡◌, ℕ, zero, suc, ◌+◌, ◌-◌, ◌*◌, ◌%◌, ◌^◌, ◌<◌, ◌≤◌, ◌↔◌, ◌/◌, Bool, true, false, ◌&&◌}
+use Rattle.std.proofs.Common.{not, neg_ℤ, if◌then◌else◌, IsTrue, ℤ, pos, negsuc, ◌+ℤ◌, ◌-ℤ◌, ◌*ℤ◌, ◌≤ℤ◌, Result, Ok}
+use Rattle.std.proofs.Common.{Err, FitsSigned, to_z, of_z, bit_and, bit_or, refl, sym, ◌∙◌, ap, subst, arith}
 use Rattle.std.specs.Int.{w128, int_shr}
 use Rattle.std.specs.Prelude.{bit_xor, int_lt, int_le, int_div, int_rem, unsigned_abs}
 use Rattle.std.proofs.lemmas.Bool.{and_parts, cond-false}
@@ -9,8 +11,10 @@ use Rattle.std.proofs.Math.Nat.{div-le_self, mod-le}
 use Rattle.std.proofs.Math.Pow.{pow_mono}
 use Rattle.ep_int.specs.declared.types.IntType.{IntType}
 use Rattle.ep_int.specs.declared.types.IntType.TheVariants.{I8, U8, I16, U16, I32, U32, I64, U64}
-use Rattle.ep_int.specs.Types.{bits_of, is_signed, least_of, greatest_of, InRange, residue, representation, represented, wrapped}
-use Rattle.ep_int.specs.Arith.{is_in_range, IsOfSomeType, IsRightOperand, int_eq, settled, is_divisible, is_amount, arith_of}
+use Rattle.ep_int.specs.Types.{bits_of, is_signed, least_of, greatest_of, InRange, residue, representation}
+use Rattle.ep_int.specs.Types.{represented, wrapped}
+use Rattle.ep_int.specs.Arith.{is_in_range, IsOfSomeType, IsRightOperand, int_eq, settled, is_divisible, is_amount}
+use Rattle.ep_int.specs.Arith.{arith_of}
 use Rattle.ep_int.specs.declared.types.BinOp.{BinOp}
 use Rattle.ep_int.specs.declared.types.BinOp.TheVariants.{Add, Sub, Mul, Div, Rem, And, Or, Xor, Shl, Shr}
 use Rattle.ep_int.specs.declared.types.Undef.{Undef}

@@ -1,8 +1,10 @@
 -- Numbers and their bytes.
-use Rattle.std.proofs.Common.{◌≡◌, ℕ, zero, suc, ◌+◌, ◌-◌, ◌*◌, ◌/◌, ◌%◌, ◌^◌, ◌<◌, ◌≤◌, ℤ, ⊎_elim, refl, sym, ◌∙◌, ap, subst, arith}
+use Rattle.std.proofs.Common.{◌≡◌, ℕ, zero, suc, ◌+◌, ◌-◌, ◌*◌, ◌/◌, ◌%◌, ◌^◌, ◌<◌, ◌≤◌, ℤ, ⊎_elim, refl, sym, ◌∙◌}
+use Rattle.std.proofs.Common.{ap, subst, arith}
 use Rattle.std.proofs.lemmas.Bool.{cases_lt}
 use Rattle.std.proofs.lemmas.Nat.{mod_below, pow-add}
-use Rattle.std.proofs.Math.Nat.{pow-suc, pow-succ', one-le-pow, mod-one, mod-eq_of_lt, add-mul-div_right, add-mul-mod_self_right, div-eq_of_lt, mul-le-mul_right}
+use Rattle.std.proofs.Math.Nat.{pow-suc, pow-succ', one-le-pow, mod-one, mod-eq_of_lt, add-mul-div_right}
+use Rattle.std.proofs.Math.Nat.{add-mul-mod_self_right, div-eq_of_lt, mul-le-mul_right}
 use Rattle.std.proofs.Math.Arith.{mod-mul}
 use Rattle.ep_int.specs.declared.types.IntType.{IntType}
 use Rattle.ep_int.specs.declared.types.Order.{Order}

@@ -1,7 +1,10 @@
 -- What is read from a memory, and what a write leaves.
-use Rattle.std.proofs.Common.{◌≡◌, ℕ, zero, suc, ◌+◌, ◌-◌, ◌%◌, ◌<◌, ◌≤◌, ℤ, Bool, true, false, ◌&&◌, ◌==◌, nat_eq, nat_lt, nat_le, if◌then◌else◌, slice_index_or, ◌⊎◌, ⊎_elim, zero-add, add-zero, length, List, [], ◌∷◌, refl, sym, ◌∙◌, ap, subst, arith}
+use Rattle.std.proofs.Common.{◌≡◌, ℕ, zero, suc, ◌+◌, ◌-◌, ◌%◌, ◌<◌, ◌≤◌, ℤ, Bool, true, false, ◌&&◌, ◌==◌, nat_eq}
+use Rattle.std.proofs.Common.{nat_lt, nat_le, if◌then◌else◌, slice_index_or, ◌⊎◌, ⊎_elim, zero-add, add-zero, length}
+use Rattle.std.proofs.Common.{List, [], ◌∷◌, refl, sym, ◌∙◌, ap, subst, arith}
 use Rattle.std.specs.List.{list_any, list_all}
-use Rattle.std.proofs.lemmas.Bool.{cases_lt, le-ltb, lt-ltb, le-leb, lt-leb, eq-eqb, and_parts, and_left, and_right, and_from, or_from, or_left, or_right}
+use Rattle.std.proofs.lemmas.Bool.{cases_lt, le-ltb, lt-ltb, le-leb, lt-leb, eq-eqb, and_parts, and_left, and_right}
+use Rattle.std.proofs.lemmas.Bool.{and_from, or_from, or_left, or_right}
 use Rattle.std.proofs.lemmas.Bool.Decides.{nat_tests}
 use Rattle.std.proofs.Math.Nat.{zero-mod}
 use Rattle.ep_int.specs.declared.types.IntType.{IntType}
@@ -12,7 +15,10 @@ use Rattle.ep_int.specs.declared.types.Scalar.{Scalar}
 use Rattle.ep_int.specs.declared.types.Scalar.TheVariants.{Int, Pointer}
 use Rattle.ep_int.specs.Types.{bytes_of, size_of, pointer_bytes, InRange}
 use Rattle.ep_int.specs.Encoding.{encoded, decoded}
-use Rattle.ep_int.specs.Memory.{Byte, undefined, number, fragment, Memory, Value, int, null, pointer, has, faults, uninitialised, lies_partly, replaced, stored, bytes_of_value, bytes_from, is_undefined, is_number, is_zero, are_parts, pointer_in, number_in, value_of_bytes, loaded}
+use Rattle.ep_int.specs.Memory.{Byte, undefined, number, fragment, Memory, Value, int, null, pointer, has, faults}
+use Rattle.ep_int.specs.Memory.{uninitialised, lies_partly, replaced, stored, bytes_of_value, bytes_from}
+use Rattle.ep_int.specs.Memory.{is_undefined, is_number, is_zero, are_parts, pointer_in, number_in, value_of_bytes}
+use Rattle.ep_int.specs.Memory.{loaded}
 use Rattle.ep_int.proofs.Wrapping.{bytes_of_positive}
 use Rattle.ep_int.proofs.Encodings.{decoded_same, decoded_encoded}
 

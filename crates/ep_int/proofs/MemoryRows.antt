@@ -4,7 +4,9 @@ use Rattle.ep_int.specs.declared.types.IntType.TheVariants.{U16, U32}
 use Rattle.ep_int.specs.declared.types.Model.TheVariants.{Ilp32, Lp64}
 use Rattle.ep_int.specs.declared.types.Order.TheVariants.{Little, Big, SwappedWords}
 use Rattle.ep_int.specs.declared.types.Scalar.TheVariants.{Int, Pointer}
-use Rattle.ep_int.specs.Memory.{undefined, number, fragment, Memory, int, null, pointer, has, faults, uninitialised, bounds, alignment, pointer_part, stored, filled, copied, killed, zeroed, loaded, store_fault}
+use Rattle.ep_int.specs.Memory.{undefined, number, fragment, Memory, int, null, pointer, has, faults, uninitialised}
+use Rattle.ep_int.specs.Memory.{bounds, alignment, pointer_part, stored, filled, copied, killed, zeroed, loaded}
+use Rattle.ep_int.specs.Memory.{store_fault}
 
 abbrev nowhere : Memory
 nowhere b p = undefined

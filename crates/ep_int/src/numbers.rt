@@ -1,6 +1,9 @@
+//! The numbers of integer types.
+
 ghost use Rattle.std.specs.Prelude.{◌≡◌, ◌-◌, ◌^◌, ◌<◌, ◌≤◌, ◌↔◌, IsTrue};
 ghost use Rattle.ep_int.specs.Encoding.{is_width};
-ghost use Rattle.ep_int.specs.Types.{bytes_of, bits_of, least_of, greatest_of, is_signed, InRange, IsCongruent, representation, represented, wrapped};
+ghost use Rattle.ep_int.specs.Types.{bytes_of, bits_of, least_of, greatest_of, is_signed, InRange, IsCongruent};
+ghost use Rattle.ep_int.specs.Types.{representation, represented, wrapped};
 
 use crate::IntType;
 

@@ -1,3 +1,5 @@
+//! C's operators on numbers.
+
 ghost use Rattle.std.specs.Prelude.{◌≡◌, if◌then◌else◌, unsigned_abs};
 ghost use Rattle.ep_int.specs.Types.{InRange};
 ghost use Rattle.ep_int.specs.Arith.{promoted, common_of, IsRightOperand, settled, is_divisible, is_amount, arith_of};

@@ -1,3 +1,5 @@
+//! Integer types, scalar types, byte orders, data models, operators, and what is undefined.
+
 /// An integer type by its width in bits and whether it is signed. Types of one size and sign are one type.
 #[derive(Clone, Copy, Debug, PartialEq, Eq)]
 pub enum IntType {

@@ -1,5 +1,6 @@
 -- An interval by its ends.
-use Rattle.std.specs.Prelude.{◌≡◌, ℤ, ◌≤ℤ◌, ◌<ℤ◌, Bool, true, false, Some, None, IsTrue, IsSomeAnd, IfSome, refl, int_le}
+use Rattle.std.specs.Prelude.{◌≡◌, ℤ, ◌≤ℤ◌, ◌<ℤ◌, Bool, true, false, Some, None, IsTrue, IsSomeAnd, IfSome, refl}
+use Rattle.std.specs.Prelude.{int_le}
 use Rattle.std.proofs.Common.{ap, sym, subst}
 use Rattle.std.proofs.Props.{props}
 use Rattle.ep_int.specs.declared.types.IntType.TheVariants.{I64, U64}

@@ -1,5 +1,6 @@
 -- The laws of comparisons.
-use Rattle.std.specs.Prelude.{◌≡◌, ℤ, pos, ◌+ℤ◌, ◌-ℤ◌, ◌≤ℤ◌, ◌<ℤ◌, ◌⊎◌, Bool, true, false, cond, Option, Some, None, IsSomeAnd, refl, int_le}
+use Rattle.std.specs.Prelude.{◌≡◌, ℤ, pos, ◌+ℤ◌, ◌-ℤ◌, ◌≤ℤ◌, ◌<ℤ◌, ◌⊎◌, Bool, true, false, cond, Option, Some, None}
+use Rattle.std.specs.Prelude.{IsSomeAnd, refl, int_le}
 use Rattle.std.specs.Option.{option_zip}
 use Rattle.std.proofs.Common.{arith, ap, sym, ◌∙◌, subst, inl, inr}
 use Rattle.std.proofs.lemmas.Bool.{not-true, not-false}
@@ -9,10 +10,12 @@ use Rattle.ep_int.specs.declared.types.Cmp.{Cmp}
 use Rattle.ep_int.specs.declared.types.Cmp.TheVariants.{Eq, Ne, Lt, Le, Gt, Ge}
 use Rattle.ep_int.specs.Types.{least_of, greatest_of}
 use Rattle.ep_int.specs.Arith.{int_eq, compares}
-use Rattle.ep_range_laws.proofs.Comparisons.{between_true, from_between, from_between_false, from_le_true, from_le_false, from_lt_true, from_lt_false, le_self, le_antisym}
+use Rattle.ep_range_laws.proofs.Comparisons.{between_true, from_between, from_between_false, from_le_true}
+use Rattle.ep_range_laws.proofs.Comparisons.{from_le_false, from_lt_true, from_lt_false, le_self, le_antisym}
 use Rattle.ep_interval_laws.specs.Interval.{Interval, HasNumber, ends_of, between, apart_from, filter_of}
 use Rattle.ep_interval_laws.proofs.Between.{between_none, between_holds}
-use Rattle.ep_interval_laws.proofs.Simple.{has_low, has_high, overlap_holds, cut_single_away, first_of_pair, second_of_pair}
+use Rattle.ep_interval_laws.proofs.Simple.{has_low, has_high, overlap_holds, cut_single_away, first_of_pair}
+use Rattle.ep_interval_laws.proofs.Simple.{second_of_pair}
 
 equal : (x y : ℤ) → int_eq x y ≡ true → x ≡ y
 equal x y e = let p = from_between x y y x e in le_antisym x y p.0 p.1

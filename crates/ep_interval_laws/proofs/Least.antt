@@ -1,5 +1,6 @@
 -- Which results are the least intervals.
-use Rattle.std.proofs.Common.{◌≡◌, ℤ, pos, ◌+ℤ◌, ◌-ℤ◌, ◌≤ℤ◌, Bool, true, false, cond, ◌&&◌, ◌⊎◌, inl, inr, Option, Some, None, Result, Ok, Err, IfSome, refl, sym, ap, ◌∙◌, subst, arith}
+use Rattle.std.proofs.Common.{◌≡◌, ℤ, pos, ◌+ℤ◌, ◌-ℤ◌, ◌≤ℤ◌, Bool, true, false, cond, ◌&&◌, ◌⊎◌, inl, inr, Option}
+use Rattle.std.proofs.Common.{Some, None, Result, Ok, Err, IfSome, refl, sym, ap, ◌∙◌, subst, arith}
 use Rattle.std.specs.Prelude.{IsSomeAnd}
 use Rattle.std.specs.Option.{option_and_then}
 use Rattle.std.specs.Int.{int_min, int_max}
@@ -18,8 +19,10 @@ use Rattle.ep_range_laws.proofs.Comparisons.{between_true, le_self}
 use Rattle.ep_range_laws.proofs.Types.{in_range_true}
 use Rattle.ep_range_laws.proofs.FaultAt.{ShownAt, low_shown, high_shown}
 use Rattle.ep_interval_laws.specs.Ends.{in_one_stretch, wrapped_low, wrapped_high}
-use Rattle.ep_interval_laws.specs.Interval.{Interval, HasNumber, ends_of, between, overlap, join_of, meet_of, conversion_of}
-use Rattle.ep_interval_laws.specs.Results.{clipped, settled_between, single_result, results_of, results_between, value_of}
+use Rattle.ep_interval_laws.specs.Interval.{Interval, HasNumber, ends_of, between, overlap, join_of, meet_of}
+use Rattle.ep_interval_laws.specs.Interval.{conversion_of}
+use Rattle.ep_interval_laws.specs.Results.{clipped, settled_between, single_result, results_of, results_between}
+use Rattle.ep_interval_laws.specs.Results.{value_of}
 use Rattle.ep_interval_laws.specs.Least.{IsLeast, IsLeastOf, IsResult, IsConverted, HasLeast, IsCommon}
 use Rattle.ep_interval_laws.proofs.Between.{between_parts}
 use Rattle.ep_interval_laws.proofs.Wrapping.{Passes, passes}

@@ -1,5 +1,7 @@
 -- Each result of each operator is held.
-use Rattle.std.specs.Prelude.{◌≡◌, ℕ, zero, suc, ◌-◌, ◌^◌, ◌<◌, ◌≤◌, ℤ, pos, negsuc, ◌+ℤ◌, ◌-ℤ◌, ◌*ℤ◌, ◌≤ℤ◌, ◌<ℤ◌, Bool, true, false, cond, not, ◌&&◌, Option, None, Result, Ok, Err, refl, int_le, int_lt, int_div, int_rem, unsigned_abs, bit_and, bit_or, bit_xor}
+use Rattle.std.specs.Prelude.{◌≡◌, ℕ, zero, suc, ◌-◌, ◌^◌, ◌<◌, ◌≤◌, ℤ, pos, negsuc, ◌+ℤ◌, ◌-ℤ◌, ◌*ℤ◌, ◌≤ℤ◌, ◌<ℤ◌}
+use Rattle.std.specs.Prelude.{Bool, true, false, cond, not, ◌&&◌, Option, None, Result, Ok, Err, refl, int_le, int_lt}
+use Rattle.std.specs.Prelude.{int_div, int_rem, unsigned_abs, bit_and, bit_or, bit_xor}
 use Rattle.std.specs.Int.{int_min, int_max, int_shr}
 use Rattle.std.proofs.Common.{arith, sym, subst}
 use Rattle.std.proofs.Math.Nat.{pow-le-pow_right}
@@ -22,7 +24,8 @@ use Rattle.ep_range_laws.proofs.Types.{number_low, number_high, from_in_range}
 use Rattle.ep_range_laws.proofs.FaultAt.{each_shown}
 use Rattle.ep_range_laws.proofs.Undefined.{amount_from, nearest_above, bits_positive}
 use Rattle.ep_interval_laws.specs.Interval.{Interval, HasNumber, ends_of, between}
-use Rattle.ep_interval_laws.specs.Results.{divided, remainders, greatest_size, whole, anded, ored, xored, ones_over, has_amount, powers, shifted_left, shifted_right, results_of}
+use Rattle.ep_interval_laws.specs.Results.{divided, remainders, greatest_size, whole, anded, ored, xored, ones_over}
+use Rattle.ep_interval_laws.specs.Results.{has_amount, powers, shifted_left, shifted_right, results_of}
 use Rattle.ep_interval_laws.proofs.Between.{between_holds}
 use Rattle.ep_interval_laws.proofs.Results.{HaveNumber, ok_same, ok_if, settled_holds, divided_holds}
 use Rattle.ep_interval_laws.proofs.Simple.{has_low, has_high, range_encloses}

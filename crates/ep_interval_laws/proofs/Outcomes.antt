@@ -1,5 +1,6 @@
 -- The laws of operators.
-use Rattle.std.specs.Prelude.{◌≡◌, ℤ, pos, ◌≤ℤ◌, Bool, true, false, cond, ◌&&◌, Option, Some, None, Result, Ok, Err, IsTrue, IsSomeAnd, MatchResult, is_some, is_err, refl}
+use Rattle.std.specs.Prelude.{◌≡◌, ℤ, pos, ◌≤ℤ◌, Bool, true, false, cond, ◌&&◌, Option, Some, None, Result, Ok, Err}
+use Rattle.std.specs.Prelude.{IsTrue, IsSomeAnd, MatchResult, is_some, is_err, refl}
 use Rattle.std.specs.Option.{unwrap_or, option_and_then}
 use Rattle.std.proofs.Common.{ap, sym, ◌∙◌, subst}
 use Rattle.std.proofs.lemmas.Bool.{and_parts, and_from}
@@ -17,10 +18,12 @@ use Rattle.ep_range_laws.proofs.Comparisons.{between_true, from_between, le_self
 use Rattle.ep_range_laws.proofs.Types.{number_of}
 use Rattle.ep_range_laws.proofs.RangeFaults.{fault_is_found, fault_is_shown}
 use Rattle.ep_interval_laws.specs.Interval.{Interval, HasNumber, interval, ends_of, overlap}
-use Rattle.ep_interval_laws.specs.Results.{single_result, results_of, results_between, right_operands, value_of, outcome_of}
+use Rattle.ep_interval_laws.specs.Results.{single_result, results_of, results_between, right_operands, value_of}
+use Rattle.ep_interval_laws.specs.Results.{outcome_of}
 use Rattle.ep_interval_laws.specs.Domain.{interval_ops}
 use Rattle.ep_interval_laws.proofs.Between.{between_holds, between_some}
-use Rattle.ep_interval_laws.proofs.Simple.{has_low, has_high, overlap_holds, cut_single, range_encloses, first_of_pair, second_of_pair}
+use Rattle.ep_interval_laws.proofs.Simple.{has_low, has_high, overlap_holds, cut_single, range_encloses}
+use Rattle.ep_interval_laws.proofs.Simple.{first_of_pair, second_of_pair}
 use Rattle.ep_interval_laws.proofs.Results.{HaveNumber}
 use Rattle.ep_interval_laws.proofs.Operators.{results_hold}
 

@@ -1,5 +1,6 @@
 -- The rank of an interval falls where an end moves.
-use Rattle.std.specs.Prelude.{◌≡◌, ℕ, ◌+◌, ◌<◌, ◌≤◌, ℤ, pos, negsuc, ◌≤ℤ◌, ◌<ℤ◌, Bool, true, false, cond, int_lt, int_le, refl}
+use Rattle.std.specs.Prelude.{◌≡◌, ℕ, ◌+◌, ◌<◌, ◌≤◌, ℤ, pos, negsuc, ◌≤ℤ◌, ◌<ℤ◌, Bool, true, false, cond, int_lt}
+use Rattle.std.specs.Prelude.{int_le, refl}
 use Rattle.std.proofs.Common.{arith, ap, sym, subst}
 use Rattle.std.proofs.lemmas.Int.{ints}
 use Rattle.ep_int.specs.declared.types.IntType.TheVariants.{I64, U64}

@@ -1,5 +1,6 @@
 -- Each operator's results are held.
-use Rattle.std.specs.Prelude.{◌≡◌, zero, suc, ℤ, pos, negsuc, ◌≤ℤ◌, ◌⊎◌, Bool, true, false, cond, not, Option, None, Result, Ok, Err, IsSomeAnd, refl, int_div}
+use Rattle.std.specs.Prelude.{◌≡◌, zero, suc, ℤ, pos, negsuc, ◌≤ℤ◌, ◌⊎◌, Bool, true, false, cond, not, Option, None}
+use Rattle.std.specs.Prelude.{Result, Ok, Err, IsSomeAnd, refl, int_div}
 use Rattle.std.specs.Int.{int_min, int_max}
 use Rattle.std.proofs.Common.{arith, subst, inl, inr}
 use Rattle.std.proofs.lemmas.Int.{ints, clamps}
@@ -15,7 +16,8 @@ use Rattle.ep_range_laws.proofs.Comparisons.{le_true, le_trans}
 use Rattle.ep_range_laws.proofs.Types.{number_low, number_high, from_in_range}
 use Rattle.ep_interval_laws.specs.Ends.{in_one_stretch, wrapped_low, wrapped_high}
 use Rattle.ep_interval_laws.specs.Interval.{Interval, HasNumber, between}
-use Rattle.ep_interval_laws.specs.Results.{clipped, settled_between, negative_part, positive_part, quotients, hull, divided}
+use Rattle.ep_interval_laws.specs.Results.{clipped, settled_between, negative_part, positive_part, quotients, hull}
+use Rattle.ep_interval_laws.specs.Results.{divided}
 use Rattle.ep_interval_laws.proofs.Between.{between_holds}
 use Rattle.ep_interval_laws.proofs.Simple.{wrapped_ends_hold}
 use Rattle.ep_interval_laws.proofs.Division.{quotient_of_positive, quotient_of_negative}

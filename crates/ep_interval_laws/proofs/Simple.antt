@@ -1,5 +1,6 @@
 -- The laws of what does not depend on an operator.
-use Rattle.std.specs.Prelude.{◌≡◌, ◌≢◌, ℕ, ◌+◌, ◌<◌, ◌≤◌, ℤ, ◌-ℤ◌, ◌≤ℤ◌, ◌<ℤ◌, ◌⊎◌, Bool, true, false, cond, Option, Some, None, IsTrue, IfSome, IsSomeAnd, refl, int_lt}
+use Rattle.std.specs.Prelude.{◌≡◌, ◌≢◌, ℕ, ◌+◌, ◌<◌, ◌≤◌, ℤ, ◌-ℤ◌, ◌≤ℤ◌, ◌<ℤ◌, ◌⊎◌, Bool, true, false, cond, Option}
+use Rattle.std.specs.Prelude.{Some, None, IsTrue, IfSome, IsSomeAnd, refl, int_lt}
 use Rattle.std.specs.Option.{option_map}
 use Rattle.std.specs.Int.{int_min, int_max}
 use Rattle.std.proofs.Common.{arith, ap, sym, ◌∙◌, subst, inl, inr}
@@ -9,9 +10,12 @@ use Rattle.ep_int.specs.Types.{least_of, greatest_of, wrapped}
 use Rattle.ep_int.specs.Arith.{IsOfSomeType}
 use Rattle.ep_int.proofs.Wrapping.{wrapped_in_range}
 use Rattle.ep_range_laws.specs.Ranges.{IsRange, LiesIn, Encloses}
-use Rattle.ep_range_laws.proofs.Comparisons.{between_true, from_between, from_lt_true, from_between_false, le_trans, le_self, le_antisym}
-use Rattle.ep_interval_laws.specs.Ends.{nearest_number, low_limit, high_limit, in_one_stretch, wrapped_low, wrapped_high}
-use Rattle.ep_interval_laws.specs.Interval.{Interval, HasNumber, interval, ends_of, between, single_of, is_within, join_of, overlap, edges_of, widening_of, rank_of, conversion_of}
+use Rattle.ep_range_laws.proofs.Comparisons.{between_true, from_between, from_lt_true, from_between_false, le_trans}
+use Rattle.ep_range_laws.proofs.Comparisons.{le_self, le_antisym}
+use Rattle.ep_interval_laws.specs.Ends.{nearest_number, low_limit, high_limit, in_one_stretch, wrapped_low}
+use Rattle.ep_interval_laws.specs.Ends.{wrapped_high}
+use Rattle.ep_interval_laws.specs.Interval.{Interval, HasNumber, interval, ends_of, between, single_of, is_within}
+use Rattle.ep_interval_laws.specs.Interval.{join_of, overlap, edges_of, widening_of, rank_of, conversion_of}
 use Rattle.ep_interval_laws.specs.Ranges.{lowered_kept, lowered_new, raised_kept, raised_new}
 use Rattle.ep_interval_laws.proofs.Between.{same_ends, between_some, between_none, between_parts, between_holds}
 use Rattle.ep_interval_laws.proofs.Ranks.{lowered_falls, lowered_stays, raised_falls, raised_stays}

@@ -1,5 +1,6 @@
 -- What the numbers between two ends are converted to.
-use Rattle.std.proofs.Common.{◌≡◌, ℕ, ◌^◌, ℤ, pos, ◌+ℤ◌, ◌-ℤ◌, ◌*ℤ◌, ◌≤ℤ◌, ◌<ℤ◌, Bool, true, false, arith, refl, sym, ap, ◌∙◌, subst}
+use Rattle.std.proofs.Common.{◌≡◌, ℕ, ◌^◌, ℤ, pos, ◌+ℤ◌, ◌-ℤ◌, ◌*ℤ◌, ◌≤ℤ◌, ◌<ℤ◌, Bool, true, false, arith, refl, sym}
+use Rattle.std.proofs.Common.{ap, ◌∙◌, subst}
 use Rattle.std.proofs.Math.IntN.{suc_ℤ, pred_ℤ, +ℤ_one, suc_ℤ-*ℤ, pred_ℤ-*ℤ}
 use Rattle.std.specs.Prelude.{int_lt}
 use Rattle.std.proofs.lemmas.Int.{ints}
@@ -7,7 +8,8 @@ use Rattle.ep_int.specs.declared.types.IntType.{IntType}
 use Rattle.ep_int.specs.declared.types.IntType.TheVariants.{I8, U8, I16, U16, I32, U32, I64, U64}
 use Rattle.ep_int.specs.Types.{bits_of, least_of, greatest_of, InRange, wrapped}
 use Rattle.ep_int.proofs.Wrapping.{wrapped_in_range, wrapped_congruent}
-use Rattle.ep_range_laws.proofs.Comparisons.{from_between, between_true, from_lt_true, from_lt_false, le_antisym, le_self}
+use Rattle.ep_range_laws.proofs.Comparisons.{from_between, between_true, from_lt_true, from_lt_false, le_antisym}
+use Rattle.ep_range_laws.proofs.Comparisons.{le_self}
 use Rattle.ep_range_laws.proofs.Types.{ends_ordered}
 use Rattle.ep_range_laws.proofs.Corners.{product_up}
 use Rattle.ep_interval_laws.specs.Ends.{in_one_stretch}

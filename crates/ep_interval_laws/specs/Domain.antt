@@ -1,7 +1,9 @@
 -- Intervals as a domain.
 use Rattle.ep_domain.specs.Domain.{Ops}
 use Rattle.std.specs.Prelude.{false}
-use Rattle.ep_interval_laws.specs.Interval.{Interval, ends_of, holds_of, top_of, single_of, is_within, join_of, overlap, meet_of, edges_of, widening_of, rank_of, conversion_of, filter_of}
+use Rattle.ep_interval_laws.specs.Interval.{Interval, ends_of, holds_of, top_of, single_of, is_within, join_of}
+use Rattle.ep_interval_laws.specs.Interval.{overlap, meet_of, edges_of, widening_of, rank_of, conversion_of}
+use Rattle.ep_interval_laws.specs.Interval.{filter_of}
 use Rattle.ep_interval_laws.specs.Results.{outcome_of}
 
 abbrev pub interval_ops : Ops Interval

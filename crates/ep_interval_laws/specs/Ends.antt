@@ -57,12 +57,15 @@ low_rank v =
 -- how many upper limits are above it
 abbrev pub high_rank : ℤ → ℕ
 high_rank v =
-    one_if (int_lt v (pos 0)) + one_if (int_lt v (pos 127)) + one_if (int_lt v (pos 255)) + one_if (int_lt v (pos 32767)) + one_if (int_lt v (pos 65535))
-    + one_if (int_lt v (pos 2147483647)) + one_if (int_lt v (pos 4294967295)) + one_if (int_lt v (pos 9223372036854775807)) + one_if (int_lt v (pos 18446744073709551615))
+    one_if (int_lt v (pos 0)) + one_if (int_lt v (pos 127)) + one_if (int_lt v (pos 255))
+    + one_if (int_lt v (pos 32767)) + one_if (int_lt v (pos 65535))
+    + one_if (int_lt v (pos 2147483647)) + one_if (int_lt v (pos 4294967295))
+    + one_if (int_lt v (pos 9223372036854775807)) + one_if (int_lt v (pos 18446744073709551615))
 
 -- ---- conversion
 
--- Both lie in one of the stretches of numbers, as many as the type has, into which the range of the type and those congruent to it part the whole numbers: they are as far from what they are converted to.
+-- Both lie in one of the stretches of numbers, as many as the type has, into which the range of the type and those
+-- congruent to it part the whole numbers: they are as far from what they are converted to.
 abbrev pub in_one_stretch : IntType → ℤ → ℤ → Bool
 in_one_stretch t lo hi = int_eq (lo -ℤ wrapped t lo) (hi -ℤ wrapped t hi)
 

@@ -1,5 +1,6 @@
 -- Intervals of numbers, and what does not depend on an operator (this project's rules).
-use Rattle.std.specs.Prelude.{◌≡◌, ℕ, ◌+◌, ℤ, pos, ◌+ℤ◌, ◌-ℤ◌, Bool, true, false, ◌&&◌, Option, Some, None, int_le, if◌then◌else◌, refl, IsTrue}
+use Rattle.std.specs.Prelude.{◌≡◌, ℕ, ◌+◌, ℤ, pos, ◌+ℤ◌, ◌-ℤ◌, Bool, true, false, ◌&&◌, Option, Some, None, int_le}
+use Rattle.std.specs.Prelude.{if◌then◌else◌, refl, IsTrue}
 use Rattle.std.specs.Option.{option_map, option_zip}
 use Rattle.std.specs.Int.{int_min, int_max}
 use Rattle.ep_int.specs.declared.types.IntType.{IntType}
@@ -8,8 +9,10 @@ use Rattle.ep_int.specs.declared.types.Cmp.TheVariants.{Eq, Ne, Lt, Le, Gt, Ge}
 use Rattle.ep_int.specs.Types.{least_of, greatest_of}
 use Rattle.ep_int.specs.Arith.{int_eq}
 use Rattle.ep_range_laws.specs.Ranges.{IsRange}
-use Rattle.ep_interval_laws.specs.Ends.{is_range, nearest_number, lowered, raised, low_rank, high_rank, wrapped_low, wrapped_high, low_apart, high_apart}
-use Rattle.ep_interval_laws.specs.Ranges.{is_range_true, range_of_type, range_of_one, range_of_join, range_of_widening, range_of_conversion}
+use Rattle.ep_interval_laws.specs.Ends.{is_range, nearest_number, lowered, raised, low_rank, high_rank, wrapped_low}
+use Rattle.ep_interval_laws.specs.Ends.{wrapped_high, low_apart, high_apart}
+use Rattle.ep_interval_laws.specs.Ranges.{is_range_true, range_of_type, range_of_one, range_of_join}
+use Rattle.ep_interval_laws.specs.Ranges.{range_of_widening, range_of_conversion}
 
 -- two ends in order, of some integer type each, and the numbers between them
 pub record Interval : Type 0 where
@@ -73,7 +76,8 @@ rank_of a = low_rank a.lo + high_rank a.hi
 -- ---- conversion
 
 abbrev pub conversion_of : Interval → IntType → Interval
-conversion_of a t = interval (wrapped_low t a.lo a.hi) (wrapped_high t a.lo a.hi) (range_of_conversion t a.lo a.hi a.ends)
+conversion_of a t = interval (wrapped_low t a.lo a.hi)
+    (wrapped_high t a.lo a.hi) (range_of_conversion t a.lo a.hi a.ends)
 
 -- ---- comparisons
 

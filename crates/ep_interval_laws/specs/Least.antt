@@ -41,4 +41,5 @@ HasLeast o t a b = ⊥
 
 -- the interval of the numbers that both have, or none where there is none
 abbrev pub IsCommon : Interval → Interval → Option Interval → Type 0
-IsCommon a b o = MatchOption o ((z : ℤ) → HasNumber a z → HasNumber b z → ⊥) (λ c. (z : ℤ) → HasNumber c z ↔ (HasNumber a z × HasNumber b z))
+IsCommon a b o = MatchOption o ((z : ℤ) → HasNumber a z → HasNumber b z → ⊥)
+    (λ c. (z : ℤ) → HasNumber c z ↔ (HasNumber a z × HasNumber b z))

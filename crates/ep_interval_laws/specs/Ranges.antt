@@ -9,9 +9,11 @@ use Rattle.ep_int.specs.declared.types.IntType.TheVariants.{I64, U64}
 use Rattle.ep_int.specs.Types.{least_of, greatest_of, wrapped}
 use Rattle.ep_int.proofs.Wrapping.{wrapped_in_range}
 use Rattle.ep_range_laws.specs.Ranges.{IsRange}
-use Rattle.ep_range_laws.proofs.Comparisons.{le_true, from_le_true, from_lt_true, from_lt_false, from_between, le_trans, le_self}
+use Rattle.ep_range_laws.proofs.Comparisons.{le_true, from_le_true, from_lt_true, from_lt_false, from_between}
+use Rattle.ep_range_laws.proofs.Comparisons.{le_trans, le_self}
 use Rattle.ep_range_laws.proofs.Types.{number_low, number_high, ends_ordered}
-use Rattle.ep_interval_laws.specs.Ends.{is_range, nearest_number, low_limit, high_limit, lowered, raised, in_one_stretch, wrapped_low, wrapped_high}
+use Rattle.ep_interval_laws.specs.Ends.{is_range, nearest_number, low_limit, high_limit, lowered, raised}
+use Rattle.ep_interval_laws.specs.Ends.{in_one_stretch, wrapped_low, wrapped_high}
 
 pub is_range_true : (lo hi : ℤ) → is_range lo hi ≡ true → IsRange lo hi
 is_range_true lo hi e =
@@ -26,12 +28,22 @@ pub range_of_type : (t : IntType) → IsRange (least_of t) (greatest_of t)
 range_of_type t = record { above = number_low t; ordered = ends_ordered t; below = number_high t }
 
 pub range_of_one : (v : ℤ) → IsRange (nearest_number v) (nearest_number v)
-range_of_one v = record { above = omega (arith, ints, clamps); ordered = omega (arith, ints, clamps); below = omega (arith, ints, clamps) }
+range_of_one v =
+    record {
+      above = omega (arith, ints, clamps);
+      ordered = omega (arith, ints, clamps);
+      below = omega (arith, ints, clamps);
+    }
 
 pub range_of_join : (a b c d : ℤ) → IsRange a b → IsRange c d → IsRange (int_min a c) (int_max b d)
 range_of_join a b c d h k =
-    let p = h.above in let q = h.ordered in let r = h.below in let p' = k.above in let q' = k.ordered in let r' = k.below in
-    record { above = omega (arith, ints, clamps); ordered = omega (arith, ints, clamps); below = omega (arith, ints, clamps) }
+    let p = h.above in let q = h.ordered in let r = h.below in
+    let p' = k.above in let q' = k.ordered in let r' = k.below in
+    record {
+      above = omega (arith, ints, clamps);
+      ordered = omega (arith, ints, clamps);
+      below = omega (arith, ints, clamps);
+    }
 
 pub low_limit_below : (v : ℤ) → least_of I64 ≤ℤ v → low_limit v ≤ℤ v
 low_limit_below v h = grind (arith, ints)
@@ -70,7 +82,8 @@ pub raised_kept : (a b : ℤ) → b ≤ℤ greatest_of U64 → a ≤ℤ raised a
 raised_kept a b h = by_test (int_lt a b) refl
   where
     by_test : (t : Bool) → int_lt a b ≡ t → a ≤ℤ cond t (high_limit b) a
-    by_test true e = let l = high_limit_above b h in let m = from_lt_true a b e in le_trans a b _ (omega (arith, ints)) l
+    by_test true e = let l = high_limit_above b h in let m = from_lt_true a b e in
+        le_trans a b _ (omega (arith, ints)) l
     by_test false e = le_self a
 
 pub raised_new : (a b : ℤ) → b ≤ℤ greatest_of U64 → b ≤ℤ raised a b
@@ -94,13 +107,15 @@ range_of_widening a b c d h k = record {
   below = raised_greatest b d h.below;
 }
 
-pub range_of_conversion : (t : IntType) (lo hi : ℤ) → IsRange lo hi → IsRange (wrapped_low t lo hi) (wrapped_high t lo hi)
+pub range_of_conversion : (t : IntType) (lo hi : ℤ) → IsRange lo hi
+    → IsRange (wrapped_low t lo hi) (wrapped_high t lo hi)
 range_of_conversion t lo hi h = by_test (in_one_stretch t lo hi) refl
   where
     order : (l h w v : ℤ) → l ≤ℤ h → (h -ℤ v) ≤ℤ (l -ℤ w) → w ≤ℤ v
     order l h w v p q = omega (arith, ints)
 
-    by_test : (b : Bool) → in_one_stretch t lo hi ≡ b → IsRange (cond b (wrapped t lo) (least_of t)) (cond b (wrapped t hi) (greatest_of t))
+    by_test : (b : Bool) → in_one_stretch t lo hi ≡ b
+        → IsRange (cond b (wrapped t lo) (least_of t)) (cond b (wrapped t hi) (greatest_of t))
     by_test true e =
         let p = wrapped_in_range t lo in let q = wrapped_in_range t hi in
         let r = from_between (lo -ℤ wrapped t lo) (hi -ℤ wrapped t hi) (hi -ℤ wrapped t hi) (lo -ℤ wrapped t lo) e in

@@ -1,5 +1,6 @@
 -- What an operator gives of two intervals (this project's rules).
-use Rattle.std.specs.Prelude.{ℕ, ◌-◌, ◌^◌, ℤ, pos, negsuc, ◌-ℤ◌, neg_ℤ, Bool, ◌&&◌, Option, Some, None, Result, Ok, Err, is_some, int_le, int_lt, int_div, unsigned_abs, if◌then◌else◌}
+use Rattle.std.specs.Prelude.{ℕ, ◌-◌, ◌^◌, ℤ, pos, negsuc, ◌-ℤ◌, neg_ℤ, Bool, ◌&&◌, Option, Some, None, Result, Ok}
+use Rattle.std.specs.Prelude.{Err, is_some, int_le, int_lt, int_div, unsigned_abs, if◌then◌else◌}
 use Rattle.std.specs.Option.{unwrap_or, option_and_then}
 use Rattle.std.specs.Int.{w64, leading_zeros, int_min, int_max, int_shr}
 use Rattle.ep_int.specs.declared.types.IntType.{IntType}
@@ -9,7 +10,8 @@ use Rattle.ep_int.specs.declared.types.Undef.{Undef}
 use Rattle.ep_int.specs.Types.{bits_of, is_signed, least_of, greatest_of}
 use Rattle.ep_int.specs.Arith.{int_eq, arith_of}
 use Rattle.ep_domain.specs.declared.outcome.Outcome.{Outcome}
-use Rattle.ep_range_laws.specs.Faults.{is_shift, is_ordered, least_of_four, greatest_of_four, shown_range, nearest_amount, range_fault_of}
+use Rattle.ep_range_laws.specs.Faults.{is_shift, is_ordered, least_of_four, greatest_of_four, shown_range}
+use Rattle.ep_range_laws.specs.Faults.{nearest_amount, range_fault_of}
 use Rattle.ep_interval_laws.specs.Ends.{wrapped_low, wrapped_high}
 use Rattle.ep_interval_laws.specs.Interval.{Interval, ends_of, between, overlap}
 
@@ -31,8 +33,10 @@ positive_part s = (int_max s.0 (pos 1), s.1)
 
 -- the range of the quotients by divisors of one sign
 abbrev pub quotients : ℤ × ℤ → ℤ × ℤ → ℤ × ℤ
-quotients r s =
-    (least_of_four (int_div r.0 s.0) (int_div r.0 s.1) (int_div r.1 s.0) (int_div r.1 s.1), greatest_of_four (int_div r.0 s.0) (int_div r.0 s.1) (int_div r.1 s.0) (int_div r.1 s.1))
+quotients r s = (
+  least_of_four (int_div r.0 s.0) (int_div r.0 s.1) (int_div r.1 s.0) (int_div r.1 s.1),
+  greatest_of_four (int_div r.0 s.0) (int_div r.0 s.1) (int_div r.1 s.0) (int_div r.1 s.1),
+)
 
 abbrev pub hull : ℤ × ℤ → ℤ × ℤ → ℤ × ℤ
 hull d e = (int_min d.0 e.0, int_max d.1 e.1)
@@ -40,16 +44,20 @@ hull d e = (int_min d.0 e.0, int_max d.1 e.1)
 abbrev pub divided : IntType → ℤ × ℤ → ℤ × ℤ → Option Interval
 divided t r s =
     if is_ordered (negative_part s)
-    then (if is_ordered (positive_part s) then clipped t (hull (quotients r (negative_part s)) (quotients r (positive_part s))) else clipped t (quotients r (negative_part s)))
+    then (if is_ordered (positive_part s)
+    then clipped t (hull (quotients r (negative_part s)) (quotients r (positive_part s)))
+    else clipped t (quotients r (negative_part s)))
     else (if is_ordered (positive_part s) then clipped t (quotients r (positive_part s)) else None)
 
 -- the greatest size of a divisor
 abbrev pub greatest_size : ℤ × ℤ → ℤ
 greatest_size s = int_max (neg_ℤ s.0) s.1
 
--- A remainder is smaller in size than the divisor, and lies between zero and the left operand. Where the only divisor is zero, the ends are out of order.
+-- A remainder is smaller in size than the divisor, and lies between zero and the left operand. Where the only divisor
+-- is zero, the ends are out of order.
 abbrev pub remainders : ℤ × ℤ → ℤ × ℤ → Option Interval
-remainders r s = between (int_max (pos 1 -ℤ greatest_size s) (int_min r.0 (pos 0))) (int_min (greatest_size s -ℤ pos 1) (int_max r.1 (pos 0)))
+remainders r s = between (int_max (pos 1 -ℤ greatest_size s) (int_min r.0 (pos 0)))
+    (int_min (greatest_size s -ℤ pos 1) (int_max r.1 (pos 0)))
 
 -- ---- bits
 
@@ -100,7 +108,8 @@ shifted_right_between r j k =
     (greatest_of_four (int_shr r.0 j) (int_shr r.0 k) (int_shr r.1 j) (int_shr r.1 k))
 
 abbrev pub shifted_right : IntType → ℤ × ℤ → ℤ × ℤ → Option Interval
-shifted_right t r s = if has_amount t s then shifted_right_between r (nearest_amount t s.0) (nearest_amount t s.1) else None
+shifted_right t r s = if has_amount t s
+    then shifted_right_between r (nearest_amount t s.0) (nearest_amount t s.1) else None
 
 -- ---- each operator
 
@@ -122,7 +131,8 @@ results_of Shr t r s = shifted_right t r s
 
 -- single numbers by arithmetic, others by their ends
 abbrev pub results_between : BinOp → IntType → Interval → Interval → Option Interval
-results_between o t a b = if int_eq a.lo a.hi && int_eq b.lo b.hi then single_result (arith_of o t a.lo b.lo) else results_of o t (ends_of a) (ends_of b)
+results_between o t a b = if int_eq a.lo a.hi && int_eq b.lo b.hi then single_result (arith_of o t a.lo b.lo)
+    else results_of o t (ends_of a) (ends_of b)
 
 -- the right operands that arithmetic takes
 abbrev pub right_operands : BinOp → IntType → Interval → Option Interval
@@ -130,7 +140,8 @@ right_operands o t b = if is_shift o then Some b else overlap b (least_of t) (gr
 
 -- the results, where both operands hold a number that arithmetic takes
 abbrev pub value_of : BinOp → IntType → Interval → Interval → Option Interval
-value_of o t a b = option_and_then (λ x. option_and_then (λ y. results_between o t x y) (right_operands o t b)) (overlap a (least_of t) (greatest_of t))
+value_of o t a b = option_and_then (λ x. option_and_then (λ y. results_between o t x y) (right_operands o t b))
+    (overlap a (least_of t) (greatest_of t))
 
 abbrev pub outcome_of : BinOp → IntType → Interval → Interval → Outcome Interval
 outcome_of o t a b = record {

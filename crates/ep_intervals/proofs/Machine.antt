@@ -1,5 +1,7 @@
 -- What the code of intervals needs.
-use Rattle.std.proofs.Common.{◌≡◌, ℕ, ◌-◌, ◌^◌, ◌<◌, ◌≤◌, ◌*ℤ◌, ℤ, pos, negsuc, neg_ℤ, ◌+ℤ◌, ◌-ℤ◌, ◌≤ℤ◌, Bool, true, false, cond, Option, Some, None, FitsSigned, refl, sym, ap, ◌∙◌, subst, arith, to_z, of_z}
+use Rattle.std.proofs.Common.{◌≡◌, ℕ, ◌-◌, ◌^◌, ◌<◌, ◌≤◌, ◌*ℤ◌, ℤ, pos, negsuc, neg_ℤ, ◌+ℤ◌, ◌-ℤ◌, ◌≤ℤ◌, Bool, true}
+use Rattle.std.proofs.Common.{false, cond, Option, Some, None, FitsSigned, refl, sym, ap, ◌∙◌, subst, arith, to_z}
+use Rattle.std.proofs.Common.{of_z}
 use mir.Syntax.{w128}
 use Rattle.std.specs.Prelude.{int_le, unsigned_abs, IfSome}
 use Rattle.std.specs.Option.{option_zip, option_and_then}
@@ -17,7 +19,10 @@ use Rattle.ep_domain.proofs.FaultCode.{fits_number, sum_fits, difference_fits}
 use Rattle.ep_intervals.specs.declared.interval.Interval.TheInside.{Inside}
 use Rattle.ep_interval_laws.specs.Ends.{in_one_stretch, wrapped_low, wrapped_high, low_apart, high_apart}
 use Rattle.ep_interval_laws.specs.Interval.{Interval, interval, between, overlap, apart_from, filter_of}
-use Rattle.ep_interval_laws.specs.Results.{clipped, settled_between, negative_part, positive_part, quotients, hull, divided, greatest_size, remainders, anded, ored, xored, ones_over, whole, has_amount, powers, shifted_left, shifted_right, shifted_right_between, results_between, right_operands, value_of}
+use Rattle.ep_interval_laws.specs.Results.{clipped, settled_between, negative_part, positive_part, quotients, hull}
+use Rattle.ep_interval_laws.specs.Results.{divided, greatest_size, remainders, anded, ored, xored, ones_over, whole}
+use Rattle.ep_interval_laws.specs.Results.{has_amount, powers, shifted_left, shifted_right, shifted_right_between}
+use Rattle.ep_interval_laws.specs.Results.{results_between, right_operands, value_of}
 use Rattle.ep_range_laws.specs.Faults.{is_ordered, least_of_four, greatest_of_four, shown_range, nearest_amount}
 use Rattle.ep_range_laws.proofs.Types.{number_of, number_low, number_high, least_unsigned}
 use Rattle.ep_int.proofs.Wrapping.{wrapped_in_range}

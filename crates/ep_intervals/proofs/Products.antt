@@ -1,5 +1,6 @@
 -- Products of unsigned numbers, as the code makes them of 128 bits.
-use Rattle.std.proofs.Common.{◌≡◌, ℕ, ◌-◌, ◌*◌, ◌/◌, ◌%◌, ◌^◌, ◌<◌, ◌≤◌, ℤ, pos, negsuc, ◌-ℤ◌, ◌≤ℤ◌, Bool, true, false, cond, ◌&&◌, Option, refl, sym, ap, ◌∙◌, subst, arith, to_z}
+use Rattle.std.proofs.Common.{◌≡◌, ℕ, ◌-◌, ◌*◌, ◌/◌, ◌%◌, ◌^◌, ◌<◌, ◌≤◌, ℤ, pos, negsuc, ◌-ℤ◌, ◌≤ℤ◌, Bool, true}
+use Rattle.std.proofs.Common.{false, cond, ◌&&◌, Option, refl, sym, ap, ◌∙◌, subst, arith, to_z}
 use mir.Syntax.{w128}
 use Rattle.std.specs.Prelude.{nat_le, unsigned_abs}
 use Rattle.std.proofs.Math.Nat.{mul-le-mul_right, mul-le-mul_left, mul-div_cancel, pow-le-pow_right}

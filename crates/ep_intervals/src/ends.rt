@@ -4,7 +4,8 @@ ghost use Rattle.std.specs.Prelude.{◌≡◌, ◌≤◌, ◌-ℤ◌, FitsSigned
 ghost use Rattle.std.specs.Int.{w128};
 ghost use Rattle.ep_int.specs.Types.{wrapped};
 ghost use Rattle.ep_int.specs.Arith.{IsOfSomeType};
-ghost use Rattle.ep_interval_laws.specs.Ends.{low_limit, high_limit, lowered, raised, low_rank, high_rank, wrapped_low, wrapped_high, low_apart, high_apart};
+ghost use Rattle.ep_interval_laws.specs.Ends.{low_limit, high_limit, lowered, raised, low_rank, high_rank};
+ghost use Rattle.ep_interval_laws.specs.Ends.{wrapped_low, wrapped_high, low_apart, high_apart};
 
 use ep_int::{IntType, greatest, least, wrap};
 

@@ -6,7 +6,10 @@ ghost use Rattle.ep_int.specs.Types.{InRange, is_signed, wrapped};
 ghost use Rattle.ep_int.specs.Arith.{IsOfSomeType, IsRightOperand, arith_of};
 ghost use Rattle.ep_range_laws.specs.Ranges.{IsRange};
 ghost use Rattle.ep_range_laws.specs.Faults.{shown_range};
-ghost use Rattle.ep_interval_laws.specs.Results.{clipped, settled_between, quotients, hull, divided, remainders, whole, anded, ored, xored, ones_over, has_amount, shifted_left, shifted_right, single_result, results_of, results_between, right_operands, value_of};
+ghost use Rattle.ep_interval_laws.specs.Results.{clipped, settled_between, quotients, hull, divided, remainders};
+ghost use Rattle.ep_interval_laws.specs.Results.{whole, anded, ored, xored, ones_over, has_amount, shifted_left};
+ghost use Rattle.ep_interval_laws.specs.Results.{shifted_right, single_result, results_of, results_between};
+ghost use Rattle.ep_interval_laws.specs.Results.{right_operands, value_of};
 
 use crate::{Interval, ends};
 use ep_domain::ranges::{corners, is_shift, nearest_amount, power_of_two, products};

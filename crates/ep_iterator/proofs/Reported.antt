@@ -1,5 +1,6 @@
 -- What a walk tells is what the report has.
-use Rattle.std.proofs.Common.{◌≡◌, ℕ, ◌+◌, ◌≤◌, Bool, true, false, List, [], Option, Some, None, IsTrue, if◌then◌else◌, unwrap_or, sym, ap, ◌∙◌, subst, arith}
+use Rattle.std.proofs.Common.{◌≡◌, ℕ, ◌+◌, ◌≤◌, Bool, true, false, List, [], Option, Some, None, IsTrue}
+use Rattle.std.proofs.Common.{if◌then◌else◌, unwrap_or, sym, ap, ◌∙◌, subst, arith}
 use Rattle.ep_int.specs.declared.types.Order.{Order}
 use Rattle.ep_alarms.specs.declared.types.Alarm.{Alarm}
 use Rattle.ep_alarm_laws.specs.Laws.{ProductsKeepStrides}

@@ -1,5 +1,6 @@
 -- What is kept beside the types stays right in a copy.
-use Rattle.std.proofs.Common.{◌≡◌, ℕ, List, length, map, slice_get, Option, Some, option_map, is_some, unwrap_or, true≢false, sym, ◌∙◌, ap, subst, inl, inr}
+use Rattle.std.proofs.Common.{◌≡◌, ℕ, List, length, map, slice_get, Option, Some, option_map, is_some, unwrap_or}
+use Rattle.std.proofs.Common.{true≢false, sym, ◌∙◌, ap, subst, inl, inr}
 use Rattle.std.specs.Global.{Vec}
 use Rattle.std.proofs.lemmas.Option.{slice_get-map}
 use Rattle.std.proofs.lemmas.List.{length-map}

@@ -1,5 +1,6 @@
 -- What is kept beside the types stays right when the table grows.
-use Rattle.std.proofs.Common.{◌≡◌, ℕ, ◌*◌, ◌<◌, ◌≤◌, true, false, List, [], length, map, slice_get, Option, Some, None, option_map, option_and_then, IfSome, refl, sym, ◌∙◌, ap, subst, arith, nat_lt}
+use Rattle.std.proofs.Common.{◌≡◌, ℕ, ◌*◌, ◌<◌, ◌≤◌, true, false, List, [], length, map, slice_get, Option, Some}
+use Rattle.std.proofs.Common.{None, option_map, option_and_then, IfSome, refl, sym, ◌∙◌, ap, subst, arith, nat_lt}
 use Rattle.std.proofs.lemmas.Bool.Decides.{nat_tests}
 use Rattle.std.proofs.lemmas.Option.{slice_get-map}
 use Rattle.std.proofs.lemmas.List.{length-map}
@@ -9,7 +10,8 @@ use Rattle.ep_layout.specs.declared.table.Types.TheInside.{Inside}
 use Rattle.ep_layout.specs.declared.types.Ty.{Ty}
 use Rattle.ep_layout.specs.declared.types.Ty.TheVariants.{Void, Int, Ptr, Array, Aggregate}
 use Rattle.ep_layout.specs.Layout.{Layout, most_bytes}
-use Rattle.ep_layout.specs.Table.{Table, AggregateRow, IsBuilt, at_type, at_aggregate, aggregate_layout, layout_rules, layout_of, type_stop, stop_at_size, empty}
+use Rattle.ep_layout.specs.Table.{Table, AggregateRow, IsBuilt, at_type, at_aggregate, aggregate_layout, layout_rules}
+use Rattle.ep_layout.specs.Table.{layout_of, type_stop, stop_at_size, empty}
 use Rattle.ep_layout.specs.Table.IsBuilt.{start}
 use Rattle.ep_layout.specs.Extents.{IsExtent, extent_of, kept_extent}
 use Rattle.ep_layout.specs.Kept.{IsKept, table_of, view_entry, entry_extent}

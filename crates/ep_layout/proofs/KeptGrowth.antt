@@ -1,5 +1,7 @@
 -- What is kept beside the types stays right when the table grows.
-use Rattle.std.proofs.Common.{◌≡◌, ℕ, zero, suc, ◌<◌, ◌^◌, Bool, false, List, [], ◌∷◌, ◌++◌, length, map, slice_get, slice_set, Option, Some, None, option_map, option_and_then, is_some, unwrap_or, true≢false, refl, sym, ◌∙◌, ap, subst, inl, inr, arith, length-append, IsTrue}
+use Rattle.std.proofs.Common.{◌≡◌, ℕ, zero, suc, ◌<◌, ◌^◌, Bool, false, List, [], ◌∷◌, ◌++◌, length, map, slice_get}
+use Rattle.std.proofs.Common.{slice_set, Option, Some, None, option_map, option_and_then, is_some, unwrap_or}
+use Rattle.std.proofs.Common.{true≢false, refl, sym, ◌∙◌, ap, subst, inl, inr, arith, length-append, IsTrue}
 use Rattle.std.specs.Global.{Vec}
 use Rattle.std.specs.List.{list_all}
 use Rattle.std.proofs.lemmas.Option.{slice_get-map}
@@ -13,13 +15,17 @@ use Rattle.ep_layout.specs.declared.table.Types.TheInside.{Inside}
 use Rattle.ep_layout.specs.declared.types.Ty.{Ty}
 use Rattle.ep_layout.specs.declared.types.Ty.TheVariants.{Void, Int, Ptr, Array, Aggregate}
 use Rattle.ep_layout.specs.Layout.{Layout, scalar_layout, array_layout}
-use Rattle.ep_layout.specs.Table.{Table, AggregateRow, MemberRow, IsBuilt, Grows, at_aggregate, at_whole, layout_rules, layout_of, layout_with, names_known, number_of, type_stop, members_stop, with_type, declared, completed_with, laid_out, is_type, is_completed, is_union}
+use Rattle.ep_layout.specs.Table.{Table, AggregateRow, MemberRow, IsBuilt, Grows, at_aggregate, at_whole}
+use Rattle.ep_layout.specs.Table.{layout_rules, layout_of, layout_with, names_known, number_of, type_stop}
+use Rattle.ep_layout.specs.Table.{members_stop, with_type, declared, completed_with, laid_out, is_type, is_completed}
+use Rattle.ep_layout.specs.Table.{is_union}
 use Rattle.ep_layout.specs.Table.IsBuilt.{type_more, aggregate_more, members_more}
 use Rattle.ep_layout.specs.Extents.{extent_of, kept_extent}
 use Rattle.ep_layout.specs.Kept.{IsKept, table_of, view_entry, entry_extent}
 use Rattle.ep_layout.proofs.Options.{some_or_none, get_push, get_front, get_last, get_set}
 use Rattle.ep_layout.proofs.Recursion.{types_of, at_aggregate_at, at_aggregate_more, at_whole_more}
-use Rattle.ep_layout.proofs.Laid.{laid, whole_at, new_elements, grows_with_type, grows_declared, grows_with_members, with_members, completed_is, types_of_laid_out}
+use Rattle.ep_layout.proofs.Laid.{laid, whole_at, new_elements, grows_with_type, grows_declared, grows_with_members}
+use Rattle.ep_layout.proofs.Laid.{with_members, completed_is, types_of_laid_out}
 use Rattle.ep_layout.proofs.Sizes.{layout_grows, element_laid, layout_there}
 
 ---- in a table that grows

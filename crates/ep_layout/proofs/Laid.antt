@@ -1,13 +1,21 @@
 -- In a table that was built each type but void and incomplete aggregates has a value, so recursion on a type is an equation.
-use Rattle.std.proofs.Common.{◌≡◌, ℕ, suc, ◌+◌, ◌≤◌, Bool, true, false, List, [], ◌∷◌, ◌++◌, length, map, slice_get, slice_set, Option, Some, None, option_and_then, is_some, refl, sym, ◌∙◌, ap, subst, inl, inr, arith, length-append, true≢false, if◌then◌else◌}
+use Rattle.std.proofs.Common.{◌≡◌, ℕ, suc, ◌+◌, ◌≤◌, Bool, true, false, List, [], ◌∷◌, ◌++◌, length, map, slice_get}
+use Rattle.std.proofs.Common.{slice_set, Option, Some, None, option_and_then, is_some, refl, sym, ◌∙◌, ap, subst, inl}
+use Rattle.std.proofs.Common.{inr, arith, length-append, true≢false, if◌then◌else◌}
 use Rattle.ep_int.specs.declared.types.Scalar.TheVariants.{Int as Number, Pointer}
 use Rattle.ep_layout.specs.declared.types.Ty.{Ty}
 use Rattle.ep_layout.specs.declared.types.Ty.TheVariants.{Void, Int, Ptr, Array, Aggregate}
 use Rattle.ep_layout.specs.declared.types.LayoutStop.TheVariants.{Incomplete}
-use Rattle.ep_layout.specs.Table.{Table, AggregateRow, MemberRow, TypeRules, IsBuilt, Grows, at_each, at_whole, at_type, at_depth, by_type, layout_rules, layout_of, layout_with, is_completed, type_stop, members_stop, with_type, declared, completed_with, empty, laid_out, struct_members, union_members}
+use Rattle.ep_layout.specs.Table.{Table, AggregateRow, MemberRow, TypeRules, IsBuilt, Grows, at_each, at_whole}
+use Rattle.ep_layout.specs.Table.{at_type, at_depth, by_type, layout_rules, layout_of, layout_with, is_completed}
+use Rattle.ep_layout.specs.Table.{type_stop, members_stop, with_type, declared, completed_with, empty, laid_out}
+use Rattle.ep_layout.specs.Table.{struct_members, union_members}
 use Rattle.ep_layout.specs.Table.IsBuilt.{start, type_more, aggregate_more, members_more}
-use Rattle.ep_layout.proofs.Options.{and_then_some, and_then_is, map_some, map_is, same_some, some_or_none, is_some_some, at_each_more, at_each_other, get_push, get_front, get_last, get_set, get_set_same, get_set_other}
-use Rattle.ep_layout.proofs.Recursion.{types_of, at_aggregate_some, at_aggregate_at, at_depth_grows, at_depth_suc, at_depth_more, by_type_grows, at_depth_other}
+use Rattle.ep_layout.proofs.Options.{and_then_some, and_then_is, map_some, map_is, same_some, some_or_none}
+use Rattle.ep_layout.proofs.Options.{is_some_some, at_each_more, at_each_other, get_push, get_front, get_last}
+use Rattle.ep_layout.proofs.Options.{get_set, get_set_same, get_set_other}
+use Rattle.ep_layout.proofs.Recursion.{types_of, at_aggregate_some, at_aggregate_at, at_depth_grows, at_depth_suc}
+use Rattle.ep_layout.proofs.Recursion.{at_depth_more, by_type_grows, at_depth_other}
 
 ---- growing
 

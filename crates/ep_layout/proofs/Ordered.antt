@@ -1,5 +1,6 @@
 -- The leaves of a layout rise, don't overlap, are aligned and end inside the size.
-use Rattle.std.proofs.Common.{◌≡◌, ℕ, zero, suc, ◌+◌, ◌*◌, ◌%◌, ◌≤◌, max, List, [], ◌∷◌, ◌++◌, Option, Some, None, option_map, unwrap_or, refl, sym, ◌∙◌, ap, subst, ◌⊎◌, inl, inr, arith}
+use Rattle.std.proofs.Common.{◌≡◌, ℕ, zero, suc, ◌+◌, ◌*◌, ◌%◌, ◌≤◌, max, List, [], ◌∷◌, ◌++◌, Option, Some, None}
+use Rattle.std.proofs.Common.{option_map, unwrap_or, refl, sym, ◌∙◌, ap, subst, ◌⊎◌, inl, inr, arith}
 use Rattle.std.specs.Int.{next_multiple_of}
 use Rattle.std.specs.List.{All}
 use Rattle.std.proofs.lemmas.List.Elements.{All-head, All-tail}
@@ -10,7 +11,8 @@ use Rattle.ep_int.specs.declared.types.Scalar.TheVariants.{Int as Number, Pointe
 use Rattle.ep_int.specs.declared.types.IntType.TheVariants.{I8, U8, I16, U16, I32, U32, I64, U64}
 use Rattle.ep_int.specs.Types.{size_of}
 use Rattle.ep_layout.specs.declared.types.Leaf.{Leaf}
-use Rattle.ep_layout.specs.Layout.{Layout, AreLeavesFrom, shifted, repeated, greatest_align, greatest_size, first_leaves, leaves_after, end_of, array_layout, scalar_layout}
+use Rattle.ep_layout.specs.Layout.{Layout, AreLeavesFrom, shifted, repeated, greatest_align, greatest_size}
+use Rattle.ep_layout.specs.Layout.{first_leaves, leaves_after, end_of, array_layout, scalar_layout}
 use Rattle.ep_layout.specs.Table.{Table, layout_rules, layout_of, leaves, AreLeavesOf}
 use Rattle.ep_layout.proofs.Sizes.{IsKept, kept_by_type}
 

@@ -1,5 +1,7 @@
 -- Members that are placed one by one lie where the rule says.
-use Rattle.std.proofs.Common.{◌≡◌, ℕ, ◌+◌, ◌<◌, ◌≤◌, max, Bool, true, false, List, [], ◌∷◌, ◌++◌, map, Option, Some, None, option_map, option_and_then, unwrap_or, is_some, refl, sym, ◌∙◌, ap, inl, inr, arith, ◌&&◌, true≢false, if◌then◌else◌, nat_lt}
+use Rattle.std.proofs.Common.{◌≡◌, ℕ, ◌+◌, ◌<◌, ◌≤◌, max, Bool, true, false, List, [], ◌∷◌, ◌++◌, map, Option, Some}
+use Rattle.std.proofs.Common.{None, option_map, option_and_then, unwrap_or, is_some, refl, sym, ◌∙◌, ap, inl, inr}
+use Rattle.std.proofs.Common.{arith, ◌&&◌, true≢false, if◌then◌else◌, nat_lt}
 use Rattle.std.specs.List.{list_all}
 use Rattle.std.specs.Int.{next_multiple_of}
 use Rattle.std.proofs.lemmas.Bool.Decides.{nat_tests}
@@ -8,8 +10,10 @@ use Rattle.ep_layout.specs.declared.extent.Extent.{Extent}
 use Rattle.ep_layout.specs.declared.table.bodies.Placing.{Placing}
 use Rattle.ep_layout.specs.declared.types.LayoutStop.{LayoutStop}
 use Rattle.ep_layout.specs.declared.types.LayoutStop.TheVariants.{Incomplete, TooLarge}
-use Rattle.ep_layout.specs.Layout.{Layout, most_bytes, end_of, greatest_size, greatest_align, struct_layout, union_layout}
-use Rattle.ep_layout.specs.Table.{Table, MemberRow, at_each, layout_of, layout_with, known_layout, struct_members, laid_out, members_stop, stop_at_size}
+use Rattle.ep_layout.specs.Layout.{Layout, most_bytes, end_of, greatest_size, greatest_align, struct_layout}
+use Rattle.ep_layout.specs.Layout.{union_layout}
+use Rattle.ep_layout.specs.Table.{Table, MemberRow, at_each, layout_of, layout_with, known_layout, struct_members}
+use Rattle.ep_layout.specs.Table.{laid_out, members_stop, stop_at_size}
 use Rattle.ep_layout.specs.Extents.{IsExtent, extent_of}
 use Rattle.ep_layout.specs.Placed.{IsPlaced, next_offset, next_end, row, end_of_all, layouts_of}
 use Rattle.ep_layout.specs.Stops.{IsStop}

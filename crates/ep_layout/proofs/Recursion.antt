@@ -1,10 +1,12 @@
 -- Recursion on the types of a table: deeper is no other, and a table that grows keeps what it has.
-use Rattle.std.proofs.Common.{◌≡◌, ℕ, zero, suc, ◌+◌, ◌≤◌, ◌-◌, Bool, List, length, map, slice_get, Option, Some, None, option_and_then, refl, ap, subst, inl, inr, arith, eq-zero-or-pos, if◌then◌else◌}
+use Rattle.std.proofs.Common.{◌≡◌, ℕ, zero, suc, ◌+◌, ◌≤◌, ◌-◌, Bool, List, length, map, slice_get, Option, Some}
+use Rattle.std.proofs.Common.{None, option_and_then, refl, ap, subst, inl, inr, arith, eq-zero-or-pos, if◌then◌else◌}
 use Rattle.std.proofs.lemmas.Option.{slice_get_past}
 use Rattle.ep_int.specs.declared.types.Scalar.TheVariants.{Int as Number, Pointer}
 use Rattle.ep_layout.specs.declared.types.Ty.{Ty}
 use Rattle.ep_layout.specs.declared.types.Ty.TheVariants.{Void, Int, Ptr, Array, Aggregate}
-use Rattle.ep_layout.specs.Table.{Table, AggregateRow, MemberRow, TypeRules, at_each, at_whole, at_aggregate, at_type, at_depth, by_type, Grows}
+use Rattle.ep_layout.specs.Table.{Table, AggregateRow, MemberRow, TypeRules, at_each, at_whole, at_aggregate, at_type}
+use Rattle.ep_layout.specs.Table.{at_depth, by_type, Grows}
 use Rattle.ep_layout.proofs.Options.{and_then_some, and_then_is, map_some, map_is, at_each_more, at_each_other}
 
 abbrev pub types_of : List MemberRow → List ℕ

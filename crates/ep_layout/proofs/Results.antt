@@ -1,5 +1,6 @@
 -- What a result says where it is known which one it is.
-use Rattle.std.proofs.Common.{◌≡◌, sym, refl, Bool, true, false, true≢false, Result, Ok, Err, is_ok, is_err, OnOk, IfOk, if◌then◌else◌}
+use Rattle.std.proofs.Common.{◌≡◌, sym, refl, Bool, true, false, true≢false, Result, Ok, Err, is_ok, is_err, OnOk}
+use Rattle.std.proofs.Common.{IfOk, if◌then◌else◌}
 
 pub on_ok : {X E : Type 0} (r : Result X E) (P : Type 0) → is_err r ≡ false → OnOk r P → P
 on_ok (Ok x) P e h = h

@@ -1,16 +1,20 @@
 -- Members lie where the layouts of their types put them, also when the table has grown.
-use Rattle.std.proofs.Common.{◌≡◌, ℕ, ◌+◌, ◌<◌, ◌≤◌, ◌-◌, Bool, true, false, List, [], ◌∷◌, ◌++◌, length, slice_get, Option, Some, None, option_map, unwrap_or, refl, sym, ◌∙◌, ap, subst, inl, inr, arith, eq-zero-or-pos, if◌then◌else◌}
+use Rattle.std.proofs.Common.{◌≡◌, ℕ, ◌+◌, ◌<◌, ◌≤◌, ◌-◌, Bool, true, false, List, [], ◌∷◌, ◌++◌, length, slice_get}
+use Rattle.std.proofs.Common.{Option, Some, None, option_map, unwrap_or, refl, sym, ◌∙◌, ap, subst, inl, inr, arith}
+use Rattle.std.proofs.Common.{eq-zero-or-pos, if◌then◌else◌}
 use Rattle.std.specs.Int.{next_multiple_of}
 use Rattle.std.specs.List.{All}
 use Rattle.std.proofs.lemmas.List.Elements.{All-nil, All-cons}
 use Rattle.ep_layout.specs.declared.types.Leaf.{Leaf}
 use Rattle.ep_layout.specs.Layout.{Layout, shifted, end_of, greatest_size, leaves_after, first_leaves, most_bytes}
-use Rattle.ep_layout.specs.Table.{Table, AggregateRow, MemberRow, IsBuilt, Grows, at_each, layout_rules, layout_of, known_layout, leaves, struct_members, union_members, laid_out, with_type, declared}
+use Rattle.ep_layout.specs.Table.{Table, AggregateRow, MemberRow, IsBuilt, Grows, at_each, layout_rules, layout_of}
+use Rattle.ep_layout.specs.Table.{known_layout, leaves, struct_members, union_members, laid_out, with_type, declared}
 use Rattle.ep_layout.specs.Table.IsBuilt.{start, type_more, aggregate_more, members_more}
 use Rattle.ep_layout.specs.Pending.{rows_leaves, RowFits}
 use Rattle.ep_layout.proofs.Options.{at_each_some, at_each_more, get_push, get_set}
 use Rattle.ep_layout.proofs.Recursion.{types_of, at_depth_past}
-use Rattle.ep_layout.proofs.Laid.{grows_with_type, grows_declared, grows_with_members, with_members, completed_is, new_members}
+use Rattle.ep_layout.proofs.Laid.{grows_with_type, grows_declared, grows_with_members, with_members, completed_is}
+use Rattle.ep_layout.proofs.Laid.{new_members}
 use Rattle.ep_layout.proofs.Sizes.{layout_grows}
 use Rattle.ep_layout.proofs.PlacingLemmas.{end_rises}
 

@@ -1,5 +1,7 @@
 -- Sizes and alignments of the types of a table that was built.
-use Rattle.std.proofs.Common.{◌≡◌, ℕ, zero, suc, ◌+◌, ◌*◌, ◌<◌, ◌≤◌, Bool, true, false, List, [], ◌∷◌, length, map, slice_get, slice_set, Option, Some, None, option_and_then, refl, sym, ◌∙◌, ap, subst, inl, inr, arith, length-append, if◌then◌else◌, nat_lt}
+use Rattle.std.proofs.Common.{◌≡◌, ℕ, zero, suc, ◌+◌, ◌*◌, ◌<◌, ◌≤◌, Bool, true, false, List, [], ◌∷◌, length, map}
+use Rattle.std.proofs.Common.{slice_get, slice_set, Option, Some, None, option_and_then, refl, sym, ◌∙◌, ap, subst}
+use Rattle.std.proofs.Common.{inl, inr, arith, length-append, if◌then◌else◌, nat_lt}
 use Rattle.std.proofs.lemmas.Bool.Decides.{nat_tests}
 use Rattle.std.proofs.lemmas.List.Elements.{All-nil, All-cons, All-head, All-tail}
 use Rattle.std.specs.List.{All}
@@ -13,12 +15,15 @@ use Rattle.ep_layout.specs.declared.types.Ty.{Ty}
 use Rattle.ep_layout.specs.declared.types.Ty.TheVariants.{Void, Int, Ptr, Array, Aggregate}
 use Rattle.ep_layout.specs.declared.types.LayoutStop.TheVariants.{TooLarge}
 use Rattle.ep_layout.specs.Layout.{Layout, most_bytes, scalar_layout, array_layout, greatest_align}
-use Rattle.ep_layout.specs.Table.{Table, AggregateRow, MemberRow, TypeRules, IsBuilt, Grows, at_each, at_whole, at_aggregate, at_type, at_depth, by_type, layout_rules, layout_of, layout_with, names_known, type_stop, members_stop, with_type, declared, laid_out, stop_at_size}
+use Rattle.ep_layout.specs.Table.{Table, AggregateRow, MemberRow, TypeRules, IsBuilt, Grows, at_each, at_whole}
+use Rattle.ep_layout.specs.Table.{at_aggregate, at_type, at_depth, by_type, layout_rules, layout_of, layout_with}
+use Rattle.ep_layout.specs.Table.{names_known, type_stop, members_stop, with_type, declared, laid_out, stop_at_size}
 use Rattle.ep_layout.specs.Table.IsBuilt.{start, type_more, aggregate_more, members_more}
 use Rattle.ep_layout.specs.Extents.{IsExtent, extent_of}
 use Rattle.ep_layout.proofs.Options.{and_then_some, map_some, same_some, at_each_some, get_push, get_set}
 use Rattle.ep_layout.proofs.Recursion.{types_of, at_whole_more, at_aggregate_some, at_aggregate_at, by_type_grows}
-use Rattle.ep_layout.proofs.Laid.{grows_with_type, grows_declared, grows_with_members, with_members, completed_is, laid, by_type_is, types_of_laid_out, whole_at, new_elements, new_members}
+use Rattle.ep_layout.proofs.Laid.{grows_with_type, grows_declared, grows_with_members, with_members, completed_is}
+use Rattle.ep_layout.proofs.Laid.{laid, by_type_is, types_of_laid_out, whole_at, new_elements, new_members}
 
 -- what holds of all values by recursion: of scalars, and of arrays, structs and unions where it holds of their parts
 pub record IsKept {A : Type 0} (r : TypeRules A) (P : A → Type 0) : Type 0 where

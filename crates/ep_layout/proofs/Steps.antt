@@ -1,5 +1,7 @@
 -- One step of the walk over a type's leaves.
-use Rattle.std.proofs.Common.{◌≡◌, ℕ, zero, suc, ◌+◌, ◌*◌, ◌<◌, ◌≤◌, Bool, true, false, List, [], ◌∷◌, ◌++◌, length, drop, slice_get, Option, Some, None, option_map, option_and_then, unwrap_or, refl, sym, ◌∙◌, ap, subst, arith, nat_lt, append_assoc, if◌then◌else◌}
+use Rattle.std.proofs.Common.{◌≡◌, ℕ, zero, suc, ◌+◌, ◌*◌, ◌<◌, ◌≤◌, Bool, true, false, List, [], ◌∷◌, ◌++◌, length}
+use Rattle.std.proofs.Common.{drop, slice_get, Option, Some, None, option_map, option_and_then, unwrap_or, refl, sym}
+use Rattle.std.proofs.Common.{◌∙◌, ap, subst, arith, nat_lt, append_assoc, if◌then◌else◌}
 use Rattle.std.specs.List.{All}
 use Rattle.std.proofs.lemmas.Bool.Decides.{nat_tests}
 use Rattle.std.proofs.lemmas.List.Elements.{All-nil, All-cons, All-head, All-tail, All-push}
@@ -11,15 +13,19 @@ use Rattle.ep_layout.specs.declared.types.Ty.{Ty}
 use Rattle.ep_layout.specs.declared.types.Ty.TheVariants.{Void, Int, Ptr, Array, Aggregate}
 use Rattle.ep_layout.specs.declared.table.leaves.Task.{Task}
 use Rattle.ep_layout.specs.declared.table.leaves.Task.TheVariants.{Object, Elements, Members}
-use Rattle.ep_layout.specs.Layout.{Layout, AreLeavesFrom, shifted, repeated, most_bytes, struct_layout, union_layout, array_layout}
-use Rattle.ep_layout.specs.Table.{Table, AggregateRow, MemberRow, IsBuilt, TypeRules, at_each, at_type, at_aggregate, by_type, layout_rules, layout_of, known_layout, leaves, size, members_of, is_union}
-use Rattle.ep_layout.specs.Pending.{RowFits, TaskFits, IsStep, task_leaves, pending, rows_leaves, step_rules, steps, steps_of_all, rows_steps, task_steps, pending_steps}
+use Rattle.ep_layout.specs.Layout.{Layout, AreLeavesFrom, shifted, repeated, most_bytes, struct_layout, union_layout}
+use Rattle.ep_layout.specs.Layout.{array_layout}
+use Rattle.ep_layout.specs.Table.{Table, AggregateRow, MemberRow, IsBuilt, TypeRules, at_each, at_type, at_aggregate}
+use Rattle.ep_layout.specs.Table.{by_type, layout_rules, layout_of, known_layout, leaves, size, members_of, is_union}
+use Rattle.ep_layout.specs.Pending.{RowFits, TaskFits, IsStep, task_leaves, pending, rows_leaves, step_rules, steps}
+use Rattle.ep_layout.specs.Pending.{steps_of_all, rows_steps, task_steps, pending_steps}
 use Rattle.ep_layout.proofs.Options.{map_some, map_is, and_then_is, at_each_some}
 use Rattle.ep_layout.proofs.Recursion.{types_of, at_aggregate_at}
 use Rattle.ep_layout.proofs.Laid.{laid, by_type_is, whole_at}
 use Rattle.ep_layout.proofs.Sizes.{known, element_laid, size_of_scalar, layout_fits}
 use Rattle.ep_layout.proofs.Ordered.{leaves_ordered}
-use Rattle.ep_layout.proofs.Rows.{placed, known_of, leaves_of, type_there, rows_leaves_are, rows_fit, whole_leaves, whole_end, shifted_none, append_none}
+use Rattle.ep_layout.proofs.Rows.{placed, known_of, leaves_of, type_there, rows_leaves_are, rows_fit, whole_leaves}
+use Rattle.ep_layout.proofs.Rows.{whole_end, shifted_none, append_none}
 
 ---- tasks
 

@@ -1,12 +1,14 @@
 -- The text of one aggregate, from what is kept of it.
-use Rattle.std.proofs.Common.{◌≡◌, ◌∙◌, ℕ, List, ◌++◌, map, slice_get, Option, Some, option_map, option_and_then, ap, sym}
+use Rattle.std.proofs.Common.{◌≡◌, ◌∙◌, ℕ, List, ◌++◌, map, slice_get, Option, Some, option_map, option_and_then, ap}
+use Rattle.std.proofs.Common.{sym}
 use Rattle.std.proofs.lemmas.Option.{slice_get-map}
 use Rattle.ep_layout.specs.declared.table.Body.{Body}
 use Rattle.ep_layout.specs.declared.table.AggregateEntry.{AggregateEntry}
 use Rattle.ep_layout.specs.declared.table.Types.TheInside.{Inside}
 use Rattle.ep_layout.specs.declared.extent.Extent.{Extent}
 use Rattle.ep_layout.specs.Layout.{Layout}
-use Rattle.ep_layout.specs.Table.{Table, AggregateRow, MemberRow, at_aggregate, layout_rules, layout_of, aggregate_layout}
+use Rattle.ep_layout.specs.Table.{Table, AggregateRow, MemberRow, at_aggregate, layout_rules, layout_of}
+use Rattle.ep_layout.specs.Table.{aggregate_layout}
 use Rattle.ep_layout.specs.Extents.{extent_of}
 use Rattle.ep_layout.specs.Kept.{IsKept, table_of, view_entry}
 use Rattle.ep_layout.specs.Text.{head_line, members_text, aggregate_text, text_with}

@@ -6,7 +6,8 @@ use Rattle.ep_int.specs.declared.types.Model.TheVariants.{Ilp32, Lp64}
 use Rattle.ep_int.specs.declared.types.Scalar.TheVariants.{Int as Number, Pointer}
 use Rattle.ep_layout.specs.declared.types.Ty.TheVariants.{Int, Ptr, Array, Aggregate}
 use Rattle.ep_layout.specs.declared.types.LayoutStop.TheVariants.{Incomplete, TooLarge}
-use Rattle.ep_layout.specs.Table.{Table, at_depth, size, align, leaves, empty, type_added, declared, completed_with, members_stop, type_stop, members_of, MemberRow, number_of}
+use Rattle.ep_layout.specs.Table.{Table, at_depth, size, align, leaves, empty, type_added, declared, completed_with}
+use Rattle.ep_layout.specs.Table.{members_stop, type_stop, members_of, MemberRow, number_of}
 use Rattle.ep_layout.specs.Text.{layout_text_of}
 
 -- `struct packet { uint8_t kind; uint16_t station; uint32_t stamp; uint16_t level[3]; uint16_t sum; };`

@@ -1,6 +1,8 @@
 -- A table of types: types by number, the aggregates that they name, and the layout of each type by recursion on the
 -- type.
-use Rattle.std.specs.Prelude.{◌≡◌, ℕ, zero, suc, ◌+◌, ◌*◌, ◌≤◌, Bool, true, false, ◌&&◌, ◌==◌, nat_lt, if◌then◌else◌, IsTrue, List, [], ◌∷◌, ◌++◌, length, map, find, position, slice_get, slice_set, Option, Some, None, option_map, option_and_then, is_some, unwrap_or, bytes_eq}
+use Rattle.std.specs.Prelude.{◌≡◌, ℕ, zero, suc, ◌+◌, ◌*◌, ◌≤◌, Bool, true, false, ◌&&◌, ◌==◌, nat_lt, if◌then◌else◌}
+use Rattle.std.specs.Prelude.{IsTrue, List, [], ◌∷◌, ◌++◌, length, map, find, position, slice_get, slice_set, Option}
+use Rattle.std.specs.Prelude.{Some, None, option_map, option_and_then, is_some, unwrap_or, bytes_eq}
 use Rattle.std.specs.List.{list_any, list_all}
 use Rattle.std.specs.Int.{next_multiple_of}
 use Rattle.ep_int.specs.declared.types.Model.{Model}
@@ -12,7 +14,8 @@ use Rattle.ep_layout.specs.declared.types.Leaf.{Leaf}
 use Rattle.ep_layout.specs.declared.types.LayoutStop.{LayoutStop}
 use Rattle.ep_layout.specs.declared.types.LayoutStop.TheVariants.{Incomplete, TooLarge}
 use Rattle.ep_layout.specs.SameTypes.{is_same_type}
-use Rattle.ep_layout.specs.Layout.{Layout, AreLeavesFrom, scalar_layout, array_layout, struct_layout, union_layout, most_bytes}
+use Rattle.ep_layout.specs.Layout.{Layout, AreLeavesFrom, scalar_layout, array_layout, struct_layout, union_layout}
+use Rattle.ep_layout.specs.Layout.{most_bytes}
 
 -- a member of an aggregate: its name, its type, and where it lies in the aggregate
 pub record MemberRow : Type 0 where

@@ -1,5 +1,6 @@
 -- The text of the layouts of a table. This project's rule.
-use Rattle.std.specs.Prelude.{ℕ, Bool, List, [], ◌∷◌, ◌++◌, Option, Some, unwrap_or, slice_get, flat_map, codes, decimal, if◌then◌else◌}
+use Rattle.std.specs.Prelude.{ℕ, Bool, List, [], ◌∷◌, ◌++◌, Option, Some, unwrap_or, slice_get, flat_map, codes}
+use Rattle.std.specs.Prelude.{decimal, if◌then◌else◌}
 use Rattle.ep_layout.specs.Layout.{Layout}
 use Rattle.ep_layout.specs.Table.{Table, AggregateRow, MemberRow, aggregate_layout, size}
 

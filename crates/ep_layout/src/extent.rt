@@ -1,3 +1,5 @@
+//! Sizes and alignments.
+
 /// How many bytes a type takes, and what its address is a multiple of.
 #[derive(Clone, Copy, Debug)]
 pub(crate) struct Extent {

@@ -1,6 +1,7 @@
 //! The types of a table in the order of their coming, each once.
 
-ghost use Rattle.std.specs.Prelude.{◌≡◌, List, [], ◌∷◌, ◌++◌, length, ◌<◌, IfSome, OnOk, OnErr, IfOk, Some, None, slice_get, position};
+ghost use Rattle.std.specs.Prelude.{◌≡◌, List, [], ◌∷◌, ◌++◌, length, ◌<◌, IfSome, OnOk, OnErr, IfOk, Some, None};
+ghost use Rattle.std.specs.Prelude.{slice_get, position};
 ghost use Rattle.ep_layout.specs.declared.types.Ty.{Ty};
 ghost use Rattle.ep_layout.specs.SameTypes.{is_same_type};
 
@@ -23,6 +24,7 @@ impl Model for TypeList {
 }
 
 impl TypeList {
+    /// No type.
     pub fn new(alloc: Global) -> TypeList
         ensures { result ≡ [] }
     {
@@ -31,6 +33,7 @@ impl TypeList {
         }
     }
 
+    /// How many types there are.
     pub fn count(&self) -> usize
         ensures { result ≡ length self.now }
     {
@@ -45,6 +48,7 @@ impl TypeList {
         self.types.get_index_of(&ty)
     }
 
+    /// The type of a number.
     pub fn get(&self, n: usize) -> &Ty
         requires { n < length self.now }
         ensures { slice_get self.now n ≡ Some result.now }
@@ -52,6 +56,7 @@ impl TypeList {
         &self.types[n]
     }
 
+    /// One type more, which has the next number.
     pub fn push(&mut self, ty: Ty) -> Result<(), Memory>
         requires { position (is_same_type ty) self.old ≡ None }
         ensures ok { OnOk result (self.new ≡ self.old ++ ty ∷ []) }

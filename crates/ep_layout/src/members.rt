@@ -53,6 +53,7 @@ fn copied_members(alloc: Global, members: &[Member]) -> Result<Vec<Member>, Allo
 }
 
 impl MemberList {
+    /// Members in this order. Of two with one name the first is found.
     pub fn new(alloc: Global, members: Vec<Member>) -> Result<MemberList, AllocError>
         ensures { IfOk result (λ s. s ≡ view_members members.items) }
     {
@@ -66,6 +67,7 @@ impl MemberList {
         Ok(MemberList { members, places })
     }
 
+    /// All members, in their order.
     pub fn all(&self) -> &[Member]
         ensures { view_members result.now ≡ self.now }
     {

@@ -1,6 +1,8 @@
 //! A table of types, and what it answers of each.
 
-ghost use Rattle.std.specs.Prelude.{◌≡◌, ◌≢◌, ◌+◌, ◌<◌, ◌≤◌, ◌^◌, [], Some, None, Ok, Err, IsTrue, IsOk, IsSome, IfOk, IfErr, IfSome, OnOk, OnErr, option_map, slice_get, length, unwrap_or, is_some};
+ghost use Rattle.std.specs.Prelude.{◌≡◌, ◌≢◌, ◌+◌, ◌<◌, ◌≤◌, ◌^◌, [], Some, None, Ok, Err, IsTrue, IsOk, IsSome};
+ghost use Rattle.std.specs.Prelude.{IfOk, IfErr, IfSome, OnOk, OnErr, option_map, slice_get, length, unwrap_or};
+ghost use Rattle.std.specs.Prelude.{is_some};
 ghost use Rattle.std.specs.List.{list_all};
 ghost use Rattle.ep_layout.specs.declared.types.LayoutStop.{LayoutStop};
 ghost use Rattle.ep_layout.specs.declared.table.Body.{Body};
@@ -103,12 +105,14 @@ impl Types {
         self.model
     }
 
+    /// How many types there are. Their numbers are those below it.
     pub fn type_count(&self) -> u32
         ensures { result ≡ length self.now.types }
     {
         self.types.count() as u32
     }
 
+    /// How many aggregates there are. Their numbers are those below it.
     pub fn aggregate_count(&self) -> u32
         ensures { result ≡ length self.now.aggregates }
     {
@@ -123,6 +127,7 @@ impl Types {
         self.types.get(ty as usize)
     }
 
+    /// Whether an aggregate is a union.
     pub fn is_union(&self, aggregate: u32) -> bool
         requires { aggregate < length self.now.aggregates }
         ensures { result ≡ table.is_union self.now aggregate }

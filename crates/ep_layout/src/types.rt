@@ -1,3 +1,5 @@
+//! Types, members, leaves, and why a type cannot be made.
+
 use ep_int::{IntType, Scalar, bytes, is_signed};
 use std::hash::{Hash, Hasher};
 

@@ -8,7 +8,8 @@ use Rattle.ep_int.specs.declared.types.Order.{Order}
 use Rattle.ep_int.specs.declared.types.Scalar.{Scalar}
 use Rattle.ep_int.specs.declared.types.Scalar.TheVariants.{Int, Pointer}
 use Rattle.ep_int.specs.Types.{size_of}
-use Rattle.ep_int.specs.Memory.{Byte, undefined, number, fragment, Memory, Value, int, null, pointer, broken, bytes_of_value}
+use Rattle.ep_int.specs.Memory.{Byte, undefined, number, fragment, Memory, Value, int, null, pointer, broken}
+use Rattle.ep_int.specs.Memory.{bytes_of_value}
 use Rattle.ep_int.specs.Memory.{contains, copied, filled, forgotten, killed, lies_partly, replaced, stored}
 use Rattle.ep_machine.specs.Machines.{IsPart, ArePartsOf}
 

@@ -1,5 +1,7 @@
 -- Values whose numbers are of their types.
-use Rattle.std.proofs.Common.{◌≡◌, ℕ, ◌≤◌, Bool, true, false, true≢false, cond, ◌&&◌, ◌||◌, not, Option, Some, None, option_map, option_and_then, slice_get, refl, sym, ap, ◌∙◌, subst, arith, ℤ, pos, negsuc}
+use Rattle.std.proofs.Common.{◌≡◌, ℕ, ◌≤◌, Bool, true, false, true≢false, cond, ◌&&◌, ◌||◌, not, Option, Some, None}
+use Rattle.std.proofs.Common.{option_map, option_and_then, slice_get, refl, sym, ap, ◌∙◌, subst, arith, ℤ, pos}
+use Rattle.std.proofs.Common.{negsuc}
 use Rattle.std.specs.List.{list_any, list_all}
 use Rattle.ep_int.specs.declared.types.IntType.{IntType}
 use Rattle.ep_int.specs.declared.types.IntType.TheVariants.{I8, U8, I16, U16, I32, U32, I64, U64}
@@ -12,7 +14,8 @@ use Rattle.ep_core.specs.Program.{Expr}
 use Rattle.ep_core.specs.Program as core
 use Rattle.ep_core.specs.WellFormed.{is_same_type}
 use Rattle.ep_typing.specs.declared.types.CType.{CType}
-use Rattle.ep_typing.specs.Types.{int_of, int_type, is_same, is_int_base, is_integer, is_pointer, is_scalar, is_void_pointer, is_void, target, void_pointer}
+use Rattle.ep_typing.specs.Types.{int_of, int_type, is_same, is_int_base, is_integer, is_pointer, is_scalar}
+use Rattle.ep_typing.specs.Types.{is_void_pointer, is_void, target, void_pointer}
 use Rattle.ep_typing.specs.SameTypes.{int_itself, same_int, same_types}
 use Rattle.ep_typing.specs.Operand.{Value, as_pointer, as_type, converted, plain_value, promoted_type, is_mixed}
 use Rattle.ep_typing.specs.Operators.{are_integers, are_mixed, chosen_type, opposite, turned}

@@ -6,7 +6,8 @@ use Rattle.ep_int.specs.declared.types.IntType.TheVariants.{I8, U8, I16, U16, I3
 use Rattle.ep_int.specs.declared.types.BinOp.{BinOp}
 use Rattle.ep_int.specs.declared.types.BinOp.TheVariants.{Add, Sub, Mul, Div, Rem, And, Or, Xor, Shl, Shr}
 use Rattle.ep_int.specs.Arith.{is_in_range}
-use Rattle.ep_core.specs.Program.{Expr, const, null_value, load, addr_of, binary, convert, compare, ptr_compare, logical_and, logical_or, logical_not, conditional, ptr_add, cast}
+use Rattle.ep_core.specs.Program.{Expr, const, null_value, load, addr_of, binary, convert, compare, ptr_compare}
+use Rattle.ep_core.specs.Program.{logical_and, logical_or, logical_not, conditional, ptr_add, cast}
 use Rattle.ep_core.specs.WellFormed.{is_same_type}
 use Rattle.ep_typing.specs.declared.types.CType.{CType}
 use Rattle.ep_typing.specs.Types.{is_pointer, int_of}

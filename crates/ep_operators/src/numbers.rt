@@ -50,7 +50,10 @@ pub(crate) fn arithmetic(
 fn shift(alloc: Global, op: BinOp, a: Value, b: Value) -> Result<Value, AllocError>
     requires shifts { (t : Kind) (test : Kind → Bool) → is_right op t test ≡ some test }
     requires integers { rule.are_integers (seen.value a) (seen.value b) ≡ true }
-    ensures { IfOk result (λ v. seen.value v ≡ values.int_value (core.binary op (values.promoted_type (seen.value a)) (values.promoted_value (seen.value a)) (values.promoted_value (seen.value b))) (values.promoted_type (seen.value a))) }
+    ensures { IfOk result (λ v. seen.value v
+        ≡ values.int_value (core.binary op (values.promoted_type (seen.value a))
+        (values.promoted_value (seen.value a)) (values.promoted_value (seen.value b)))
+        (values.promoted_type (seen.value a))) }
 {
     let t = promoted_type(&a);
     let left = promoted_value(alloc, a)?;

@@ -4,7 +4,8 @@ use Rattle.std.specs.Prelude.{◌≡◌, ℕ, Bool, true, false, List, [], Optio
 use Rattle.ep_int.specs.declared.types.Order.{Order}
 use Rattle.ep_int.specs.Memory.{Memory, has, killed, Value}
 use Rattle.ep_core.specs.Program.{Expr, Dest, Simple, Function, Program}
-use Rattle.ep_core.specs.Exec.{State, Way, on, Outcome, leaves, no_input, Going, uncounted, is_true, is_order, given_all, first_of, frame_of, without, value, values, bound, does, received}
+use Rattle.ep_core.specs.Exec.{State, Way, on, Outcome, leaves, no_input, Going, uncounted, is_true, is_order}
+use Rattle.ep_core.specs.Exec.{given_all, first_of, frame_of, without, value, values, bound, does, received}
 use Rattle.ep_core.specs.Runs.{Side, left, right, Run, IsDefined, initial, main_ends}
 use Rattle.ep_core.specs.WellFormed.{result_type, is_tested, simple_fits, arguments_fit, takes_result}
 use Rattle.ep_core.specs.Typed.{StateFits}

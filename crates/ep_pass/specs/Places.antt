@@ -1,5 +1,6 @@
 -- Where alarms may stand, by the text of a program. The rules are this project's.
-use Rattle.std.specs.Prelude.{ℕ, zero, suc, Bool, true, false, ◌&&◌, ◌||◌, not, nat_eq, List, [], ◌∷◌, ◌++◌, slice_get, Option, Some, None}
+use Rattle.std.specs.Prelude.{ℕ, zero, suc, Bool, true, false, ◌&&◌, ◌||◌, not, nat_eq, List, [], ◌∷◌, ◌++◌}
+use Rattle.std.specs.Prelude.{slice_get, Option, Some, None}
 use Rattle.ep_int.specs.declared.types.BinOp.{BinOp}
 use Rattle.ep_int.specs.declared.types.BinOp.TheVariants.{Add, Sub, Mul, Div, Rem, And, Or, Xor, Shl, Shr}
 use Rattle.ep_int.specs.declared.types.Cmp.{Cmp}
@@ -7,9 +8,15 @@ use Rattle.ep_int.specs.declared.types.Cmp.TheVariants.{Eq, Ne, Lt, Le, Gt, Ge}
 use Rattle.ep_int.specs.declared.types.IntType.{IntType}
 use Rattle.ep_int.specs.Types.{is_signed}
 use Rattle.ep_alarms.specs.declared.types.AlarmKind.{AlarmKind}
-use Rattle.ep_alarms.specs.declared.types.AlarmKind.TheVariants.{U1, U2, U3, U4, U5, U6, U7, U8, U9, U10, E1, E2, E3, E4}
+use Rattle.ep_alarms.specs.declared.types.AlarmKind.TheVariants.{U1, U2, U3, U4, U5, U6, U7, U8, U9, U10, E1, E2, E3}
+use Rattle.ep_alarms.specs.declared.types.AlarmKind.TheVariants.{E4}
 use Rattle.ep_alarms.specs.Alarm.{place_of}
-use Rattle.ep_core.specs.Program.{Place, block, deref, member, element, Expr, const, null_value, load, addr_of, binary, convert, compare, ptr_compare, logical_and, logical_or, logical_not, conditional, ptr_add, cast, Dest, Simple, nothing, eval, assign, clear, copy_aggregate, copy_bytes, fill, input, output, read_bytes, write_bytes, returns, What, simple, call, if_else, loop, break_loop, continue_loop, by_order, scope, Stmts, stop, more, Function, Program}
+use Rattle.ep_core.specs.Program.{Place, block, deref, member, element, Expr, const, null_value, load, addr_of}
+use Rattle.ep_core.specs.Program.{binary, convert, compare, ptr_compare, logical_and, logical_or, logical_not}
+use Rattle.ep_core.specs.Program.{conditional, ptr_add, cast, Dest, Simple, nothing, eval, assign, clear}
+use Rattle.ep_core.specs.Program.{copy_aggregate, copy_bytes, fill, input, output, read_bytes, write_bytes, returns}
+use Rattle.ep_core.specs.Program.{What, simple, call, if_else, loop, break_loop, continue_loop, by_order, scope}
+use Rattle.ep_core.specs.Program.{Stmts, stop, more, Function, Program}
 use Rattle.ep_core.specs.Ways.{Ways, ways_of_all}
 
 abbrev pub is_kind : AlarmKind → AlarmKind → Bool
@@ -166,7 +173,8 @@ module _ (strides : Bool) (k : AlarmKind) (line : ℕ) where
     abbrev mutual
       pub what_may : (alone : Bool) → What → (its_line : ℕ) → Bool
       what_may alone (simple w) l = nat_eq l line && simple_may strides k alone w
-      what_may alone (call f es d) l = nat_eq l line && (exprs_may strides k es || result_may strides k d) || bodies alone f
+      what_may alone (call f es d) l =
+          nat_eq l line && (exprs_may strides k es || result_may strides k d) || bodies alone f
       what_may alone (if_else e a b) l =
           nat_eq l line && (expr_may strides k e || is_kind E3 k && may_differ (ways_of_all a) (ways_of_all b))
           || (stmts_may true a || stmts_may true b)

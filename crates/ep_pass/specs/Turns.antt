@@ -1,7 +1,9 @@
 -- How often the analysis goes through bodies of loops at most.
-use Rattle.std.specs.Prelude.{ℕ, zero, suc, ◌+◌, ◌*◌, Bool, true, false, nat_eq, sum_by, length, slice_get, Option, Some, None}
+use Rattle.std.specs.Prelude.{ℕ, zero, suc, ◌+◌, ◌*◌, Bool, true, false, nat_eq, sum_by, length, slice_get, Option}
+use Rattle.std.specs.Prelude.{Some, None}
 use Rattle.ep_int.specs.declared.types.Order.{Order}
-use Rattle.ep_core.specs.Program.{What, simple, call, if_else, loop, break_loop, continue_loop, by_order, scope, Stmts, stop, more, Block, Function, Program}
+use Rattle.ep_core.specs.Program.{What, simple, call, if_else, loop, break_loop, continue_loop, by_order, scope}
+use Rattle.ep_core.specs.Program.{Stmts, stop, more, Block, Function, Program}
 use Rattle.ep_core.specs.Runs.{Side}
 
 -- ---- the number of the last head

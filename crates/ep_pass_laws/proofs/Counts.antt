@@ -1,13 +1,21 @@
 -- A pass goes through bodies at most so often, whatever the operations do.
-use Rattle.std.proofs.Common.{◌≡◌, ℕ, zero, suc, ◌+◌, ◌-◌, ◌*◌, ◌≤◌, List, [], refl, subst, Option, Some, None, Bool, true, false, if◌then◌else◌, nat_eq, slice_get, arith}
+use Rattle.std.proofs.Common.{◌≡◌, ℕ, zero, suc, ◌+◌, ◌-◌, ◌*◌, ◌≤◌, List, [], refl, subst, Option, Some, None, Bool}
+use Rattle.std.proofs.Common.{true, false, if◌then◌else◌, nat_eq, slice_get, arith}
 use Rattle.std.proofs.Math.Nat.{suc-mul, zero-mul, add-mul, one-mul, mul-le-mul_right}
 use Rattle.ep_int.specs.declared.types.Order.{Order}
-use Rattle.ep_core.specs.Program.{Expr, Dest, What, simple, call, if_else, loop, break_loop, continue_loop, by_order, scope, Stmts, stop, more, Function, Program}
+use Rattle.ep_core.specs.Program.{Expr, Dest, What, simple, call, if_else, loop, break_loop, continue_loop, by_order}
+use Rattle.ep_core.specs.Program.{scope, Stmts, stop, more, Function, Program}
 use Rattle.ep_core.specs.Exec.{Way, on, broken, continued, returned, is_order, callee_of, frame_of}
 use Rattle.ep_core.specs.Runs.{Side, left, right}
 use Rattle.ep_pass.specs.States.{Mode, Both, One, Gives, Verdict, stuck, same, differs, StateOps}
-use Rattle.ep_pass.specs.Pass.{Ways, none, Log, Pass, ends, so_far, branch, too_long, jumps, way_of, simple_pass, go_on, join_ways, then_pass, rowed, leave_call, scope_pass, call_pass, next_pass, body_ends, decided, tested, parted, apart, arm_of, unrolled, in_body, one_turn, cut_turn, one_rounds, entered, lone, joint_turn, is_stable, next_head, dropped, settled, from_head, last_turns, joint_rounds, loop_pass, pass, pass_all, body_pass, bodies_pass, turns_of}
-use Rattle.ep_pass.specs.Turns.{number_of, alone_most, alone_most_all, most, most_all, alone_most_body, most_body, alone_most_before, most_before, most_turns}
+use Rattle.ep_pass.specs.Pass.{Ways, none, Log, Pass, ends, so_far, branch, too_long, jumps, way_of, simple_pass}
+use Rattle.ep_pass.specs.Pass.{go_on, join_ways, then_pass, rowed, leave_call, scope_pass, call_pass, next_pass}
+use Rattle.ep_pass.specs.Pass.{body_ends, decided, tested, parted, apart, arm_of, unrolled, in_body, one_turn}
+use Rattle.ep_pass.specs.Pass.{cut_turn, one_rounds, entered, lone, joint_turn, is_stable, next_head, dropped}
+use Rattle.ep_pass.specs.Pass.{settled, from_head, last_turns, joint_rounds, loop_pass, pass, pass_all, body_pass}
+use Rattle.ep_pass.specs.Pass.{bodies_pass, turns_of}
+use Rattle.ep_pass.specs.Turns.{number_of, alone_most, alone_most_all, most, most_all, alone_most_body, most_body}
+use Rattle.ep_pass.specs.Turns.{alone_most_before, most_before, most_turns}
 
 abbrev pub Within : {S : Type 0} → ℕ → Pass S → Type 0
 Within k p = p.log.count ≤ k

@@ -1,7 +1,8 @@
 -- A machine that is stopped, and what it and the other have put out by then.
 use Rattle.std.proofs.Common.{◌≡◌, ℕ, List, [], ◌∷◌, ◌++◌, refl, sym, subst, Bool}
 use Rattle.ep_int.specs.Memory.{Value, Found, has}
-use Rattle.ep_core.specs.Exec.{State, on, broken, continued, returned, Outcome, leaves, running, no_input, undefined_at, Going, is_true, given, and_then, scope_left, arm_left}
+use Rattle.ep_core.specs.Exec.{State, on, broken, continued, returned, Outcome, leaves, running, no_input}
+use Rattle.ep_core.specs.Exec.{undefined_at, Going, is_true, given, and_then, scope_left, arm_left}
 use Rattle.ep_core.specs.Runs.{Side, left, right, Begins}
 use Rattle.ep_core.proofs.Prefixes.{begins_refl, begins_trans}
 use Rattle.ep_core.proofs.Grows.{state_in, Growing, grown}

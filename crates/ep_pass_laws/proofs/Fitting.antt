@@ -1,13 +1,18 @@
 -- Memories go on to be as the types of the program say.
-use Rattle.std.proofs.Common.{◌≡◌, ℕ, List, [], ◌∷◌, refl, sym, subst, Option, Some, None, option_to_list, true, false, slice_get}
+use Rattle.std.proofs.Common.{◌≡◌, ℕ, List, [], ◌∷◌, refl, sym, subst, Option, Some, None, option_to_list, true}
+use Rattle.std.proofs.Common.{false, slice_get}
 use Rattle.std.specs.List.{list_all}
 use Rattle.std.proofs.lemmas.Bool.{and_from}
 use Rattle.ep_int.specs.declared.types.Order.{Order}
 use Rattle.ep_int.specs.declared.types.Scalar.{Scalar}
-use Rattle.ep_int.specs.Memory.{Memory, Value, int, null, pointer, Kind, Found, has, faults, loaded, stored, store_fault}
+use Rattle.ep_int.specs.Memory.{Memory, Value, int, null, pointer, Kind, Found, has, faults, loaded, stored}
+use Rattle.ep_int.specs.Memory.{store_fault}
 use Rattle.ep_core.specs.Program.{Expr, Dest, Simple, simple, Function, Program}
-use Rattle.ep_core.specs.Exec.{State, on, Outcome, leaves, uncounted, given, unless, at_place, remembers, converted, without, Values, have, stops, first_and, given_all, first_of, frame_of, result_in, model, size_at, value, address, values, put_at, put_dest, does, bound, received}
-use Rattle.ep_core.specs.WellFormed.{holds_scalar, result_type, arguments_fit, takes_result, simple_fits, is_well_formed}
+use Rattle.ep_core.specs.Exec.{State, on, Outcome, leaves, uncounted, given, unless, at_place, remembers, converted}
+use Rattle.ep_core.specs.Exec.{without, Values, have, stops, first_and, given_all, first_of, frame_of, result_in}
+use Rattle.ep_core.specs.Exec.{model, size_at, value, address, values, put_at, put_dest, does, bound, received}
+use Rattle.ep_core.specs.WellFormed.{holds_scalar, result_type, arguments_fit, takes_result, simple_fits}
+use Rattle.ep_core.specs.WellFormed.{is_well_formed}
 use Rattle.ep_core.specs.Typed.{ValueFits, IfHas, StateFits, OutcomeFits, ArgumentsFit, ReceivedFits}
 use Rattle.ep_core.proofs.Bytes.{stored_bytes, killed_bytes}
 use Rattle.ep_core.proofs.Fitting.{leaves_keeps, exec_keeps}

@@ -11,7 +11,8 @@ use Rattle.ep_core.proofs.Bytes.{initial_bytes}
 use Rattle.ep_core.proofs.Operands.{first_values_fit}
 use Rattle.ep_pass.specs.States.{Both, One, StateOps}
 use Rattle.ep_pass.specs.Laws.{Kept, KeptBeside, Lawful}
-use Rattle.ep_pass.specs.Laws.{Reaches as StandsAt, ReachesBeside as StandsBeside, Meets as Goes, meet, meet_starved, MeetsAlone as GoesAlone, meet_alone}
+use Rattle.ep_pass.specs.Laws.{Reaches as StandsAt, ReachesBeside as StandsBeside, Meets as Goes, meet, meet_starved}
+use Rattle.ep_pass.specs.Laws.{MeetsAlone as GoesAlone, meet_alone}
 use Rattle.ep_pass_laws.proofs.Fitting.{without_fits, does_fits, passes_fit, result_fits}
 use Rattle.ep_pass_laws.proofs.Sure.{told, Reaches, Seen, Beside, Meets, meet_on, meet_none, MeetsAlone, meet_one, Sure}
 

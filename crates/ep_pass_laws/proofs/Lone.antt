@@ -1,9 +1,11 @@
 -- One side goes on alone in a loop that the other has left.
-use Rattle.std.proofs.Common.{◌≡◌, ◌⊎◌, inl, inr, ℕ, zero, suc, ◌+◌, ◌≤◌, refl, sym, subst, Option, Some, None, Bool, true, false, arith}
+use Rattle.std.proofs.Common.{◌≡◌, ◌⊎◌, inl, inr, ℕ, zero, suc, ◌+◌, ◌≤◌, refl, sym, subst, Option, Some, None, Bool}
+use Rattle.std.proofs.Common.{true, false, arith}
 use Rattle.ep_int.specs.declared.types.Order.{Order}
 use Rattle.ep_int.specs.Memory.{Memory, Found, has, faults}
 use Rattle.ep_core.specs.Program.{Expr, Program}
-use Rattle.ep_core.specs.Exec.{State, on, broken, continued, returned, Outcome, leaves, running, no_input, undefined_at, Going, given, and_then, listed, is_true, either, value}
+use Rattle.ep_core.specs.Exec.{State, on, broken, continued, returned, Outcome, leaves, running, no_input}
+use Rattle.ep_core.specs.Exec.{undefined_at, Going, given, and_then, listed, is_true, either, value}
 use Rattle.ep_core.specs.Runs.{Side, left, right, Begins}
 use Rattle.ep_core.proofs.Prefixes.{begins_trans}
 use Rattle.ep_core.proofs.Grows.{state_in, grown, Growing}

@@ -1,13 +1,19 @@
 -- What statements come to, told in parts: a loop as a row of turns, a call as a row of three.
-use Rattle.std.proofs.Common.{◌≡◌, ℕ, zero, suc, List, [], ◌∷◌, refl, ap, ◌∙◌, Option, Some, None, option_to_list, Bool, true, false}
+use Rattle.std.proofs.Common.{◌≡◌, ℕ, zero, suc, List, [], ◌∷◌, refl, ap, ◌∙◌, Option, Some, None, option_to_list}
+use Rattle.std.proofs.Common.{Bool, true, false}
 use Rattle.ep_int.specs.declared.types.Order.{Order}
 use Rattle.ep_int.specs.declared.types.Scalar.{Scalar}
 use Rattle.ep_int.specs.Memory.{Memory, Value, Kind, Found, has, faults, store_fault, stored}
 use Rattle.ep_core.specs.Program.{Expr, Dest, Function, Program}
-use Rattle.ep_core.specs.Exec.{State, on, broken, continued, returned, Outcome, leaves, running, no_input, undefined_at, Going, given, unless, uncounted, and_then, remembers, listed, code_of_test, is_true, either, turned, turn, looped, first_turn, scope_left, Values, have, stops, given_all, first_of, frame_of, without, model, size_at, values, bound, received, called, call_of}
+use Rattle.ep_core.specs.Exec.{State, on, broken, continued, returned, Outcome, leaves, running, no_input}
+use Rattle.ep_core.specs.Exec.{undefined_at, Going, given, unless, uncounted, and_then, remembers, listed}
+use Rattle.ep_core.specs.Exec.{code_of_test, is_true, either, turned, turn, looped, first_turn, scope_left, Values}
+use Rattle.ep_core.specs.Exec.{have, stops, given_all, first_of, frame_of, without, model, size_at, values, bound}
+use Rattle.ep_core.specs.Exec.{received, called, call_of}
 use Rattle.ep_core.specs.Ways.{end_alone}
 use Rattle.ep_core.specs.Laws.{IsAmong}
-use Rattle.ep_core.proofs.Grows.{later_refl, Grows, Growing, leaves_grows, given_grows, and_then_grows, either_grows, scope_grows}
+use Rattle.ep_core.proofs.Grows.{later_refl, Grows, Growing, leaves_grows, given_grows, and_then_grows, either_grows}
+use Rattle.ep_core.proofs.Grows.{scope_grows}
 use Rattle.ep_pass.specs.Laws.{passes}
 
 -- ---- loops

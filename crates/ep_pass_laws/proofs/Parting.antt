@@ -1,13 +1,22 @@
 -- A pass has no state for a way out that the text doesn't have.
-use Rattle.std.proofs.Common.{◌≡◌, ◌⊎◌, inl, inr, ℕ, zero, suc, ◌-◌, ◌&&◌, ◌||◌, List, [], refl, sym, subst, Option, Some, None, Bool, true, false, if◌then◌else◌, slice_get}
+use Rattle.std.proofs.Common.{◌≡◌, ◌⊎◌, inl, inr, ℕ, zero, suc, ◌-◌, ◌&&◌, ◌||◌, List, [], refl, sym, subst, Option}
+use Rattle.std.proofs.Common.{Some, None, Bool, true, false, if◌then◌else◌, slice_get}
 use Rattle.ep_int.specs.declared.types.Order.{Order}
-use Rattle.ep_core.specs.Program.{Expr, Dest, Simple, nothing, eval, assign, clear, copy_aggregate, copy_bytes, fill, input, output, read_bytes, write_bytes, returns, What, simple, call, if_else, loop, break_loop, continue_loop, by_order, scope, Stmts, stop, more, Function, Program}
+use Rattle.ep_core.specs.Program.{Expr, Dest, Simple, nothing, eval, assign, clear, copy_aggregate, copy_bytes, fill}
+use Rattle.ep_core.specs.Program.{input, output, read_bytes, write_bytes, returns, What, simple, call, if_else, loop}
+use Rattle.ep_core.specs.Program.{break_loop, continue_loop, by_order, scope, Stmts, stop, more, Function, Program}
 use Rattle.ep_core.specs.Exec.{Way, on, broken, continued, returned, is_order, result_in, callee_of, frame_of}
 use Rattle.ep_core.specs.Runs.{Side, left, right}
 use Rattle.ep_core.specs.Ways.{one_way, end_alone, has_way, either_way, then_ways, ways_of_simple, ways_of, ways_of_all}
 use Rattle.ep_core.specs.Ways.{Ways as TextWays}
 use Rattle.ep_pass.specs.States.{Mode, Both, One, Gives, Verdict, stuck, same, differs, StateOps}
-use Rattle.ep_pass.specs.Pass.{Ways, none, Log, logged, Pass, passed, after, ends, so_far, branch, too_long, jumps, way_of, simple_pass, only_on, only_broken, only_continued, only_returned, join_on, go_on, join_ways, then_pass, rowed, either_pass, leave_call, call_pass, next_pass, body_ends, leave_on, scope_pass, agreed, decided, tested, parted, apart, arm_of, by_order_pass, unrolled, in_body, one_turn, cut_turn, one_rounds, entered, lone, joint_turn, is_stable, next_head, dropped, settled, from_head, last_turns, joint_rounds, loop_pass, pass, pass_all}
+use Rattle.ep_pass.specs.Pass.{Ways, none, Log, logged, Pass, passed, after, ends, so_far, branch, too_long, jumps}
+use Rattle.ep_pass.specs.Pass.{way_of, simple_pass, only_on, only_broken, only_continued, only_returned, join_on}
+use Rattle.ep_pass.specs.Pass.{go_on, join_ways, then_pass, rowed, either_pass, leave_call, call_pass, next_pass}
+use Rattle.ep_pass.specs.Pass.{body_ends, leave_on, scope_pass, agreed, decided, tested, parted, apart, arm_of}
+use Rattle.ep_pass.specs.Pass.{by_order_pass, unrolled, in_body, one_turn, cut_turn, one_rounds, entered, lone}
+use Rattle.ep_pass.specs.Pass.{joint_turn, is_stable, next_head, dropped, settled, from_head, last_turns}
+use Rattle.ep_pass.specs.Pass.{joint_rounds, loop_pass, pass, pass_all}
 use Rattle.ep_pass_laws.proofs.Reaching.{way, at}
 
 or_left : (a b : Bool) → (a || b) ≡ false → a ≡ false

@@ -1,10 +1,17 @@
 -- Where a run by turns is stopped, enough steps come as far: what was put out by then is put out.
-use Rattle.std.proofs.Common.{◌≡◌, ℕ, zero, suc, ◌+◌, ◌-◌, ◌≤◌, List, [], ◌∷◌, sym, subst, Option, Some, None, option_to_list, arith, nat_eq, slice_get, Bool, true, false}
+use Rattle.std.proofs.Common.{◌≡◌, ℕ, zero, suc, ◌+◌, ◌-◌, ◌≤◌, List, [], ◌∷◌, sym, subst, Option, Some, None}
+use Rattle.std.proofs.Common.{option_to_list, arith, nat_eq, slice_get, Bool, true, false}
 use Rattle.ep_int.specs.declared.types.Scalar.{Scalar}
 use Rattle.ep_int.specs.declared.types.Order.{Order}
 use Rattle.ep_int.specs.Memory.{Memory, Value, Kind, Found, has, faults, stored, store_fault}
-use Rattle.ep_core.specs.Program.{Expr, Dest, What, simple, call, if_else, loop, break_loop, continue_loop, by_order, scope, Stmts, stop, more, Function, Program}
-use Rattle.ep_core.specs.Exec.{State, Way, on, broken, continued, returned, Outcome, leaves, running, no_input, undefined_at, Going, given, unless, counted, uncounted, step, and_then, remembers, without, is_true, either, turned, turn, looped, around, first_turn, scope_left, is_order, chosen, arm_left, Values, have, stops, given_all, first_of, frame_of, result_in, callee_of, model, size_at, value, values, bound, received, called, call_of, exec, exec_all, body_of, bodies}
+use Rattle.ep_core.specs.Program.{Expr, Dest, What, simple, call, if_else, loop, break_loop, continue_loop, by_order}
+use Rattle.ep_core.specs.Program.{scope, Stmts, stop, more, Function, Program}
+use Rattle.ep_core.specs.Exec.{State, Way, on, broken, continued, returned, Outcome, leaves, running, no_input}
+use Rattle.ep_core.specs.Exec.{undefined_at, Going, given, unless, counted, uncounted, step, and_then, remembers}
+use Rattle.ep_core.specs.Exec.{without, is_true, either, turned, turn, looped, around, first_turn, scope_left}
+use Rattle.ep_core.specs.Exec.{is_order, chosen, arm_left, Values, have, stops, given_all, first_of, frame_of}
+use Rattle.ep_core.specs.Exec.{result_in, callee_of, model, size_at, value, values, bound, received, called, call_of}
+use Rattle.ep_core.specs.Exec.{exec, exec_all, body_of, bodies}
 use Rattle.ep_core.specs.Runs.{Begins}
 use Rattle.ep_core.proofs.Prefixes.{begins_refl, begins_trans}
 use Rattle.ep_core.proofs.Grows.{state_in, grown, Growing, and_then_grows, looped_grows, all_grow, received_grows}

@@ -1,5 +1,7 @@
 -- Alarms stand where the text allows their kind.
-use Rattle.std.proofs.Common.{◌≡◌, ◌⊎◌, inl, inr, sym, subst, ℕ, zero, suc, ◌-◌, List, [], ◌∷◌, ◌++◌, refl, fold, Option, Some, None, Bool, true, false, ◌&&◌, ◌||◌, if◌then◌else◌, nat_eq, slice_get, arith}
+use Rattle.std.proofs.Common.{◌≡◌, ◌⊎◌, inl, inr, sym, subst, ℕ, zero, suc, ◌-◌, List, [], ◌∷◌, ◌++◌, refl, fold}
+use Rattle.std.proofs.Common.{Option, Some, None, Bool, true, false, ◌&&◌, ◌||◌, if◌then◌else◌, nat_eq, slice_get}
+use Rattle.std.proofs.Common.{arith}
 use Rattle.std.specs.List.{AllByRecursion}
 use Rattle.std.proofs.lemmas.Bool.{or_left, or_right, and_from, and_parts}
 use Rattle.ep_int.specs.declared.types.Order.{Order}
@@ -8,17 +10,28 @@ use Rattle.ep_alarms.specs.declared.types.AlarmKind.{AlarmKind}
 use Rattle.ep_alarms.specs.declared.types.AlarmKind.TheVariants.{E1, E2, E3, E4}
 use Rattle.ep_alarms.specs.Alarm.{before, joined}
 use Rattle.ep_alarms.specs.Report.{added, gathered}
-use Rattle.ep_core.specs.Program.{Expr, Dest, Simple, nothing, eval, assign, clear, copy_aggregate, copy_bytes, fill, input, output, read_bytes, write_bytes, returns, What, simple, call, if_else, loop, break_loop, continue_loop, by_order, scope, Stmts, stop, more, Function, Program}
+use Rattle.ep_core.specs.Program.{Expr, Dest, Simple, nothing, eval, assign, clear, copy_aggregate, copy_bytes, fill}
+use Rattle.ep_core.specs.Program.{input, output, read_bytes, write_bytes, returns, What, simple, call, if_else, loop}
+use Rattle.ep_core.specs.Program.{break_loop, continue_loop, by_order, scope, Stmts, stop, more, Function, Program}
 use Rattle.ep_core.specs.Exec.{Way, on, broken, continued, returned, is_order, result_in, callee_of, frame_of}
 use Rattle.ep_core.specs.Runs.{Side, left, right}
 use Rattle.ep_core.specs.Ways.{has_way, ways_of_all}
-use Rattle.ep_core.specs.WellFormed.{result_type, is_tested, are_plain, arguments_fit, takes_result, call_fits, simple_fits, what_fits, stmts_fit, is_well_formed}
+use Rattle.ep_core.specs.WellFormed.{result_type, is_tested, are_plain, arguments_fit, takes_result, call_fits}
+use Rattle.ep_core.specs.WellFormed.{simple_fits, what_fits, stmts_fit, is_well_formed}
 use Rattle.ep_core.proofs.Operands.{fits_at}
 use Rattle.ep_core.proofs.Sorts.{three as three_parts}
 use Rattle.ep_core.specs.Ways.{Ways as TextWays}
 use Rattle.ep_pass.specs.States.{Mode, Both, One, Fault, Gives, Verdict, stuck, same, differs, StateOps}
-use Rattle.ep_pass.specs.Pass.{Ways, none, Log, Pass, ends, so_far, branch, alarms_at, differ, too_long, jumps, way_of, simple_pass, only_on, only_broken, only_continued, only_returned, join_on, go_on, join_ways, then_pass, rowed, either_pass, leave_call, scope_pass, call_pass, next_pass, body_ends, agreed, decided, tested, parted, apart, arm_of, by_order_pass, unrolled, in_body, one_turn, cut_turn, one_rounds, entered, lone, joint_turn, is_stable, next_head, dropped, settled, from_head, last_turns, joint_rounds, loop_pass, pass, pass_all, body_pass, bodies_pass, main_pass, faults_at_end, all_faults, report_of}
-use Rattle.ep_pass.specs.Places.{is_one_of, kinds_if, is_kind, expr_may, exprs_may, dest_may, simple_may, result_may, may_differ, what_may, stmts_may, body_may, answer_if, bodies_may, end_may, may_stand}
+use Rattle.ep_pass.specs.Pass.{Ways, none, Log, Pass, ends, so_far, branch, alarms_at, differ, too_long, jumps}
+use Rattle.ep_pass.specs.Pass.{way_of, simple_pass, only_on, only_broken, only_continued, only_returned, join_on}
+use Rattle.ep_pass.specs.Pass.{go_on, join_ways, then_pass, rowed, either_pass, leave_call, scope_pass, call_pass}
+use Rattle.ep_pass.specs.Pass.{next_pass, body_ends, agreed, decided, tested, parted, apart, arm_of, by_order_pass}
+use Rattle.ep_pass.specs.Pass.{unrolled, in_body, one_turn, cut_turn, one_rounds, entered, lone, joint_turn}
+use Rattle.ep_pass.specs.Pass.{is_stable, next_head, dropped, settled, from_head, last_turns, joint_rounds, loop_pass}
+use Rattle.ep_pass.specs.Pass.{pass, pass_all, body_pass, bodies_pass, main_pass, faults_at_end, all_faults}
+use Rattle.ep_pass.specs.Pass.{report_of}
+use Rattle.ep_pass.specs.Places.{is_one_of, kinds_if, is_kind, expr_may, exprs_may, dest_may, simple_may, result_may}
+use Rattle.ep_pass.specs.Places.{may_differ, what_may, stmts_may, body_may, answer_if, bodies_may, end_may, may_stand}
 use Rattle.ep_pass.specs.Honest.{is_alone, AreOf, Honest}
 use Rattle.ep_pass_laws.proofs.Reaching.{at}
 use Rattle.ep_pass_laws.proofs.Text.{callee_at}

@@ -2,14 +2,19 @@
 use Rattle.std.proofs.Common.{◌≡◌, ℕ, List, [], ◌∷◌, ◌++◌, refl, subst, Option, Some, None, Bool, true, false}
 use Rattle.ep_int.specs.declared.types.Order.{Order}
 use Rattle.ep_core.specs.Program.{Expr, Program}
-use Rattle.ep_core.specs.Exec.{State, Way, on, broken, continued, returned, Outcome, leaves, no_input, Going, is_true, given, and_then, listed, either, scope_left, without, arm_left, code_of_way, value}
+use Rattle.ep_core.specs.Exec.{State, Way, on, broken, continued, returned, Outcome, leaves, no_input, Going, is_true}
+use Rattle.ep_core.specs.Exec.{given, and_then, listed, either, scope_left, without, arm_left, code_of_way, value}
 use Rattle.ep_core.specs.Runs.{Side, left, right}
 use Rattle.ep_core.proofs.Grows.{Growing}
 use Rattle.ep_pass.specs.States.{Mode, Both, One, Fault, Verdict, stuck, same, differs, StateOps}
-use Rattle.ep_pass.specs.Pass.{Ways, none, Log, logged, Pass, passed, after, so_far, branch, alarms_at, differ, only_on, only_broken, only_continued, only_returned, leave_loop, join_on, join_ways, go_on, then_pass, either_pass, leave_call, body_ends, next_pass, rowed, leave_on, scope_pass, agreed, two_ways, decided, tested, parted, apart}
+use Rattle.ep_pass.specs.Pass.{Ways, none, Log, logged, Pass, passed, after, so_far, branch, alarms_at, differ}
+use Rattle.ep_pass.specs.Pass.{only_on, only_broken, only_continued, only_returned, leave_loop, join_on, join_ways}
+use Rattle.ep_pass.specs.Pass.{go_on, then_pass, either_pass, leave_call, body_ends, next_pass, rowed, leave_on}
+use Rattle.ep_pass.specs.Pass.{scope_pass, agreed, two_ways, decided, tested, parted, apart}
 use Rattle.ep_pass.specs.Laws.{Fits, GoesOn}
 use Rattle.ep_pass_laws.proofs.Outcomes.{loop_left, body_end, called_end, IsTurn, IsPlain, IsCall}
-use Rattle.ep_pass_laws.proofs.Cuts.{front_empty, back_empty, Cut, cut_then, cut_ends, loop_ends, bodies_end, scope_ends, calls_end, arms_end, with_truth}
+use Rattle.ep_pass_laws.proofs.Cuts.{front_empty, back_empty, Cut, cut_then, cut_ends, loop_ends, bodies_end}
+use Rattle.ep_pass_laws.proofs.Cuts.{scope_ends, calls_end, arms_end, with_truth}
 use Rattle.ep_pass_laws.proofs.Sure.{IsTest, told, Reaches, Seen, Beside, Sure}
 
 -- the state in which a pass is left so

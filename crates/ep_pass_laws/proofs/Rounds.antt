@@ -1,16 +1,23 @@
 -- Joint loops: turns one by one, and heads.
-use Rattle.std.proofs.Common.{◌≡◌, ◌⊎◌, inl, inr, ℕ, zero, suc, ◌+◌, ◌-◌, ◌≤◌, ◌<◌, [], ◌∷◌, ◌++◌, refl, sym, subst, Option, Some, None, Bool, true, false, if◌then◌else◌, arith}
+use Rattle.std.proofs.Common.{◌≡◌, ◌⊎◌, inl, inr, ℕ, zero, suc, ◌+◌, ◌-◌, ◌≤◌, ◌<◌, [], ◌∷◌, ◌++◌, refl, sym, subst}
+use Rattle.std.proofs.Common.{Option, Some, None, Bool, true, false, if◌then◌else◌, arith}
 use Rattle.ep_int.specs.declared.types.Order.{Order}
 use Rattle.ep_core.specs.Program.{Expr, Program}
-use Rattle.ep_core.specs.Exec.{State, on, broken, continued, returned, Outcome, leaves, running, Going, and_then, listed, either, value}
+use Rattle.ep_core.specs.Exec.{State, on, broken, continued, returned, Outcome, leaves, running, Going, and_then}
+use Rattle.ep_core.specs.Exec.{listed, either, value}
 use Rattle.ep_core.specs.Runs.{Side, left, right, Begins}
 use Rattle.ep_core.proofs.Grows.{state_in, Growing, grown}
 use Rattle.ep_pass.specs.States.{Mode, Both, One, StateOps}
-use Rattle.ep_pass.specs.Pass.{Ways, none, logged, Pass, so_far, jumps, alarms_at, from_head, join_ways, then_pass, decided, last_pass, turn_then, in_body, lone, joint_turn, is_stable, next_head, dropped, settled, last_turns, joint_rounds, loop_pass}
+use Rattle.ep_pass.specs.Pass.{Ways, none, logged, Pass, so_far, jumps, alarms_at, from_head, join_ways, then_pass}
+use Rattle.ep_pass.specs.Pass.{decided, last_pass, turn_then, in_body, lone, joint_turn, is_stable, next_head}
+use Rattle.ep_pass.specs.Pass.{dropped, settled, last_turns, joint_rounds, loop_pass}
 use Rattle.ep_pass_laws.proofs.Outcomes.{rounds, first_rounds, loop_left, IsTurn, rounds_turn, first_turns, rounds_grow}
 use Rattle.ep_pass_laws.proofs.Sure.{IsTest, Reaches, Sure}
 use Rattle.ep_pass_laws.proofs.Cuts.{front_empty, back_empty, Cut, left_cut, right_cut}
-use Rattle.ep_pass_laws.proofs.Reaching.{no_alarms, IsQuiet, Less, WaysLess, PassLess, Sound1, Together, both_leave, one_cut, Sound2, tested_keeps, go_on_keeps, go_on_front, then_front, after_together, goes_on, go_on_together, then_together, leave_loop_together, test_cases, decided_into}
+use Rattle.ep_pass_laws.proofs.Reaching.{no_alarms, IsQuiet, Less, WaysLess, PassLess, Sound1, Together, both_leave}
+use Rattle.ep_pass_laws.proofs.Reaching.{one_cut, Sound2, tested_keeps, go_on_keeps, go_on_front, then_front}
+use Rattle.ep_pass_laws.proofs.Reaching.{after_together, goes_on, go_on_together, then_together, leave_loop_together}
+use Rattle.ep_pass_laws.proofs.Reaching.{test_cases, decided_into}
 use Rattle.ep_pass_laws.proofs.Turns.{unrolled_none, unrolled_keeps, go_on_none}
 use Rattle.ep_pass_laws.proofs.Lone.{Outs, outs, stops, lone_outs}
 

@@ -5,8 +5,11 @@ use Rattle.ep_int.specs.declared.types.Scalar.{Scalar}
 use Rattle.ep_int.specs.Memory.{int, null, pointer, Found, has, faults, loaded}
 use Rattle.std.proofs.Common.{Option, Some, None}
 use Rattle.ep_core.specs.Program.{Program}
-use Rattle.ep_core.specs.Exec.{State, Outcome, leaves, running, no_input, undefined_at, uncounted, counted, model, size_at, result_in, bodies}
-use Rattle.ep_core.specs.Runs.{Ending, still_running, ended, wants_input, undefined_on, Run, result_out, main_function, main_ends, line_of, finished, start, main_from, run_by, run, IsDefined, IsOver, Begins, Agree}
+use Rattle.ep_core.specs.Exec.{State, Outcome, leaves, running, no_input, undefined_at, uncounted, counted, model}
+use Rattle.ep_core.specs.Exec.{size_at, result_in, bodies}
+use Rattle.ep_core.specs.Runs.{Ending, still_running, ended, wants_input, undefined_on, Run, result_out}
+use Rattle.ep_core.specs.Runs.{main_function, main_ends, line_of, finished, start, main_from, run_by, run, IsDefined}
+use Rattle.ep_core.specs.Runs.{IsOver, Begins, Agree}
 use Rattle.ep_core.specs.Laws.{Continues}
 use Rattle.ep_core.proofs.Prefixes.{begins_refl, begins_trans, begins_more, begins_either}
 use Rattle.ep_core.proofs.Grows.{state_in}

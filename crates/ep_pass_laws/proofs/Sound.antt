@@ -1,13 +1,16 @@
 -- A report that is empty means that the machines agree.
-use Rattle.std.proofs.Common.{◌≡◌, ℕ, suc, ◌≤◌, ◌<◌, List, [], ◌∷◌, refl, sym, subst, Option, Some, None, Bool, true, false, slice_get, fold, arith, if◌then◌else◌}
+use Rattle.std.proofs.Common.{◌≡◌, ℕ, suc, ◌≤◌, ◌<◌, List, [], ◌∷◌, refl, sym, subst, Option, Some, None, Bool, true}
+use Rattle.std.proofs.Common.{false, slice_get, fold, arith, if◌then◌else◌}
 use Rattle.ep_int.specs.declared.types.Order.{Order}
 use Rattle.ep_int.specs.Memory.{Memory}
 use Rattle.ep_alarms.specs.declared.types.Alarm.{Alarm}
 use Rattle.ep_alarms.specs.Alarm.{before, joined}
 use Rattle.ep_alarms.specs.Report.{added, gathered}
 use Rattle.ep_core.specs.Program.{Function, Program}
-use Rattle.ep_core.specs.Exec.{State, on, broken, continued, returned, Outcome, uncounted, result_in, frame_of, body_of, bodies}
-use Rattle.ep_core.specs.Runs.{Side, left, right, still_running, wants_input, Run, run_of, main_function, main_ends, line_of, finished, start, main_from, IsDefined, Begins}
+use Rattle.ep_core.specs.Exec.{State, on, broken, continued, returned, Outcome, uncounted, result_in, frame_of}
+use Rattle.ep_core.specs.Exec.{body_of, bodies}
+use Rattle.ep_core.specs.Runs.{Side, left, right, still_running, wants_input, Run, run_of, main_function, main_ends}
+use Rattle.ep_core.specs.Runs.{line_of, finished, start, main_from, IsDefined, Begins}
 use Rattle.ep_core.specs.WellFormed.{is_well_formed, result_type}
 use Rattle.ep_core.proofs.Prefixes.{begins_refl, begins_trans}
 use Rattle.ep_core.proofs.Grows.{state_in}

@@ -1,21 +1,33 @@
 -- A pass that is quiet has the outcomes of both machines.
-use Rattle.std.proofs.Common.{◌≡◌, ℕ, zero, suc, ◌≤◌, List, [], ◌++◌, refl, sym, subst, Option, Some, None, Bool, true, false, ◌&&◌, slice_get, nat_eq}
+use Rattle.std.proofs.Common.{◌≡◌, ℕ, zero, suc, ◌≤◌, List, [], ◌++◌, refl, sym, subst, Option, Some, None, Bool}
+use Rattle.std.proofs.Common.{true, false, ◌&&◌, slice_get, nat_eq}
 use Rattle.std.proofs.lemmas.Bool.{and_parts}
 use Rattle.ep_int.specs.declared.types.Order.{Order}
-use Rattle.ep_core.specs.Program.{Expr, Dest, Simple, What, simple, call, if_else, loop, break_loop, continue_loop, by_order, scope, Stmts, stop, more, Function, Program}
-use Rattle.ep_core.specs.Exec.{State, Way, on, broken, continued, returned, Outcome, Going, uncounted, and_then, is_order, chosen, scope_left, result_in, callee_of, frame_of, without, value, does, received, call_of, exec, exec_all, body_of, bodies}
+use Rattle.ep_core.specs.Program.{Expr, Dest, Simple, What, simple, call, if_else, loop, break_loop, continue_loop}
+use Rattle.ep_core.specs.Program.{by_order, scope, Stmts, stop, more, Function, Program}
+use Rattle.ep_core.specs.Exec.{State, Way, on, broken, continued, returned, Outcome, Going, uncounted, and_then}
+use Rattle.ep_core.specs.Exec.{is_order, chosen, scope_left, result_in, callee_of, frame_of, without, value, does}
+use Rattle.ep_core.specs.Exec.{received, call_of, exec, exec_all, body_of, bodies}
 use Rattle.ep_core.specs.Runs.{Side, left, right, main_from, start}
-use Rattle.ep_core.specs.WellFormed.{result_type, is_tested, are_plain, arguments_fit, takes_result, call_fits, simple_fits, what_fits, stmts_fit, is_well_formed}
+use Rattle.ep_core.specs.WellFormed.{result_type, is_tested, are_plain, arguments_fit, takes_result, call_fits}
+use Rattle.ep_core.specs.WellFormed.{simple_fits, what_fits, stmts_fit, is_well_formed}
 use Rattle.ep_core.proofs.Grows.{Growing, leaves_grows, received_grows, all_grow, bodies_grow}
 use Rattle.ep_core.proofs.Operands.{fits_at}
 use Rattle.ep_core.proofs.Sorts.{three}
 use Rattle.ep_pass.specs.States.{Mode, Both, One, Gives, StateOps}
-use Rattle.ep_pass.specs.Pass.{none, Pass, ends, way_of, simple_pass, then_pass, rowed, leave_call, scope_pass, call_pass, next_pass, apart, arm_of, pass, pass_all, body_pass, bodies_pass, main_pass}
+use Rattle.ep_pass.specs.Pass.{none, Pass, ends, way_of, simple_pass, then_pass, rowed, leave_call, scope_pass}
+use Rattle.ep_pass.specs.Pass.{call_pass, next_pass, apart, arm_of, pass, pass_all, body_pass, bodies_pass, main_pass}
 use Rattle.ep_pass.specs.Laws.{passes}
-use Rattle.ep_pass_laws.proofs.Outcomes.{with_next, IsCall, IsPlain, next_turn, loop_is, run_called, run_called_grows, next_grows, call_is, scope_call}
+use Rattle.ep_pass_laws.proofs.Outcomes.{with_next, IsCall, IsPlain, next_turn, loop_is, run_called, run_called_grows}
+use Rattle.ep_pass_laws.proofs.Outcomes.{next_grows, call_is, scope_call}
 use Rattle.ep_pass_laws.proofs.Text.{plain_part, bodies_call, callee_at}
 use Rattle.ep_pass_laws.proofs.Sure.{Seen, Meets, meet_on, meet_none, MeetsAlone, meet_one, Sure}
-use Rattle.ep_pass_laws.proofs.Reaching.{no_alarms, IsQuiet, Keeps, seen_some, Alone, alone, Sound1, After1, Together, both_leave, both_starved, Sound2, After2, then_keeps, then_front, next_front, then_alone, rowed_alone, next_alone, scope_alone, leave_call_alone, arm_alone, tested_alone, then_together, rowed_together, next_together, scope_together, leave_call_together, arm_together, tested_together, apart_together}
+use Rattle.ep_pass_laws.proofs.Reaching.{no_alarms, IsQuiet, Keeps, seen_some, Alone, alone, Sound1, After1, Together}
+use Rattle.ep_pass_laws.proofs.Reaching.{both_leave, both_starved, Sound2, After2, then_keeps, then_front, next_front}
+use Rattle.ep_pass_laws.proofs.Reaching.{then_alone, rowed_alone, next_alone, scope_alone, leave_call_alone}
+use Rattle.ep_pass_laws.proofs.Reaching.{arm_alone, tested_alone, then_together, rowed_together, next_together}
+use Rattle.ep_pass_laws.proofs.Reaching.{scope_together, leave_call_together, arm_together, tested_together}
+use Rattle.ep_pass_laws.proofs.Reaching.{apart_together}
 use Rattle.ep_pass_laws.proofs.Turns.{one_loop}
 use Rattle.ep_pass_laws.proofs.Rounds.{loop_together, Ahead}
 

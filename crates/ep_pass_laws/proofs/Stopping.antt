@@ -1,11 +1,18 @@
 -- A run by turns is stopped in loops alone: no statement without statements in it is.
-use Rattle.std.proofs.Common.{ℕ, zero, suc, ◌+◌, ◌%◌, ℤ, pos, List, [], ◌∷◌, Option, Some, None, nat_eq, ◌&&◌, Bool, false}
+use Rattle.std.proofs.Common.{ℕ, zero, suc, ◌+◌, ◌%◌, ℤ, pos, List, [], ◌∷◌, Option, Some, None, nat_eq, ◌&&◌, Bool}
+use Rattle.std.proofs.Common.{false}
 use Rattle.ep_int.specs.declared.types.Scalar.{Scalar}
 use Rattle.ep_int.specs.declared.types.Order.{Order}
 use Rattle.ep_int.specs.Types.{wrapped}
-use Rattle.ep_int.specs.Memory.{Byte, undefined, number, fragment, Memory, Value, int, null, pointer, Kind, Found, has, faults, loaded, stored, filled, range_fault, store_fault}
-use Rattle.ep_core.specs.Program.{Expr, Dest, Simple, nothing, eval, assign, clear, copy_aggregate, copy_bytes, fill, input, output, read_bytes, write_bytes, returns, Program}
-use Rattle.ep_core.specs.Exec.{State, Way, on, returned, Outcome, leaves, running, no_input, undefined_at, given, with_int, at_place, unless, uncounted, remembers, taken, converted, ByteStep, bytewise, bytewise_rest, byte_out, model, size_at, bytes_in, value, address, put_at, put_to, put_dest, put_result, returned_with, change, copy_fault, copy_at, out_of, into, does, received}
+use Rattle.ep_int.specs.Memory.{Byte, undefined, number, fragment, Memory, Value, int, null, pointer, Kind, Found}
+use Rattle.ep_int.specs.Memory.{has, faults, loaded, stored, filled, range_fault, store_fault}
+use Rattle.ep_core.specs.Program.{Expr, Dest, Simple, nothing, eval, assign, clear, copy_aggregate, copy_bytes, fill}
+use Rattle.ep_core.specs.Program.{input, output, read_bytes, write_bytes, returns, Program}
+use Rattle.ep_core.specs.Exec.{State, Way, on, returned, Outcome, leaves, running, no_input, undefined_at, given}
+use Rattle.ep_core.specs.Exec.{with_int, at_place, unless, uncounted, remembers, taken, converted, ByteStep, bytewise}
+use Rattle.ep_core.specs.Exec.{bytewise_rest, byte_out, model, size_at, bytes_in, value, address, put_at, put_to}
+use Rattle.ep_core.specs.Exec.{put_dest, put_result, returned_with, change, copy_fault, copy_at, out_of, into, does}
+use Rattle.ep_core.specs.Exec.{received}
 
 abbrev pub Stops : Outcome → Type 0
 Stops (leaves w n s) = Unit {0}

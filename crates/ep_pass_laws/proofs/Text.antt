@@ -1,9 +1,13 @@
 -- What well-formed statements can't come to: a step part is left at its end alone, and a function by no jump.
-use Rattle.std.proofs.Common.{◌≡◌, ℕ, List, ◌++◌, refl, ap, ◌∙◌, subst, Option, Some, None, Bool, true, false, ◌&&◌, ◌||◌, slice_get, nat_lt, nat_eq, zero, suc, if◌then◌else◌}
+use Rattle.std.proofs.Common.{◌≡◌, ℕ, List, ◌++◌, refl, ap, ◌∙◌, subst, Option, Some, None, Bool, true, false, ◌&&◌}
+use Rattle.std.proofs.Common.{◌||◌, slice_get, nat_lt, nat_eq, zero, suc, if◌then◌else◌}
 use Rattle.std.proofs.lemmas.Bool.{and_parts}
 use Rattle.ep_int.specs.declared.types.Order.{Order}
-use Rattle.ep_core.specs.Program.{Simple, nothing, eval, assign, clear, copy_aggregate, copy_bytes, fill, input, output, read_bytes, write_bytes, returns, What, simple, call, if_else, loop, break_loop, continue_loop, by_order, scope, Stmts, stop, more, Function, Program}
-use Rattle.ep_core.specs.Exec.{State, on, broken, continued, returned, Outcome, leaves, running, no_input, undefined_at, Going, Counting, chosen, callee_of, frame_of, exec_all, body_of, bodies}
+use Rattle.ep_core.specs.Program.{Simple, nothing, eval, assign, clear, copy_aggregate, copy_bytes, fill, input}
+use Rattle.ep_core.specs.Program.{output, read_bytes, write_bytes, returns, What, simple, call, if_else, loop}
+use Rattle.ep_core.specs.Program.{break_loop, continue_loop, by_order, scope, Stmts, stop, more, Function, Program}
+use Rattle.ep_core.specs.Exec.{State, on, broken, continued, returned, Outcome, leaves, running, no_input}
+use Rattle.ep_core.specs.Exec.{undefined_at, Going, Counting, chosen, callee_of, frame_of, exec_all, body_of, bodies}
 use Rattle.ep_core.specs.Ways.{Ways, either_way, then_ways, ways_of_simple, ways_of, ways_of_all}
 use Rattle.ep_core.specs.WellFormed.{is_tested, are_plain, result_type, what_fits, stmts_fit, is_well_formed}
 use Rattle.ep_core.specs.Laws.{IsAmong}

@@ -1,15 +1,20 @@
 -- Loops: of one side, which comes to its end, and of both.
-use Rattle.std.proofs.Common.{◌≡◌, ℕ, zero, suc, ◌≤◌, ◌<◌, [], refl, sym, subst, Option, Some, None, Bool, true, false, arith}
+use Rattle.std.proofs.Common.{◌≡◌, ℕ, zero, suc, ◌≤◌, ◌<◌, [], refl, sym, subst, Option, Some, None, Bool, true}
+use Rattle.std.proofs.Common.{false, arith}
 use Rattle.ep_int.specs.declared.types.Order.{Order}
 use Rattle.ep_int.specs.Memory.{Memory, Found, has, faults}
 use Rattle.ep_core.specs.Program.{Expr, Program}
 use Rattle.ep_core.specs.Exec.{State, broken, leaves, Going, given, and_then, is_true, either, value}
 use Rattle.ep_core.specs.Runs.{Side}
 use Rattle.ep_pass.specs.States.{Mode, One, Verdict, stuck, same, differs, StateOps}
-use Rattle.ep_pass.specs.Pass.{Ways, none, Log, logged, Pass, ends, so_far, branch, too_long, jumps, join_on, join_ways, go_on, last_pass, turn_then, unrolled, in_body, one_turn, cut_turn, one_rounds, entered, loop_pass, two_ways, decided}
+use Rattle.ep_pass.specs.Pass.{Ways, none, Log, logged, Pass, ends, so_far, branch, too_long, jumps, join_on}
+use Rattle.ep_pass.specs.Pass.{join_ways, go_on, last_pass, turn_then, unrolled, in_body, one_turn, cut_turn}
+use Rattle.ep_pass.specs.Pass.{one_rounds, entered, loop_pass, two_ways, decided}
 use Rattle.ep_pass_laws.proofs.Outcomes.{rounds, first_rounds, loop_left, IsTurn, rounds_turn, first_turns}
 use Rattle.ep_pass_laws.proofs.Sure.{IsTest, Seen, Beside, Sure}
-use Rattle.ep_pass_laws.proofs.Reaching.{IsQuiet, WaysLess, Keeps, seen_some, beside_none, Alone, alone, Sound1, After1, tested_keeps, go_on_keeps, go_on_front, go_on_alone, then_front, after_alone, goes_on_alone, then_alone, leave_loop_alone, tested_alone}
+use Rattle.ep_pass_laws.proofs.Reaching.{IsQuiet, WaysLess, Keeps, seen_some, beside_none, Alone, alone, Sound1}
+use Rattle.ep_pass_laws.proofs.Reaching.{After1, tested_keeps, go_on_keeps, go_on_front, go_on_alone, then_front}
+use Rattle.ep_pass_laws.proofs.Reaching.{after_alone, goes_on_alone, then_alone, leave_loop_alone, tested_alone}
 
 -- one turn of a loop, after its test
 abbrev pub once : (test : Memory → Found) → (line : ℕ) → (body : Going) → Going

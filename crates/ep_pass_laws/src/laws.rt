@@ -6,7 +6,8 @@ ghost use Rattle.ep_int.specs.Memory.{Memory};
 ghost use Rattle.ep_core.specs.Program.{Program};
 ghost use Rattle.ep_core.specs.Runs.{Side};
 ghost use Rattle.ep_pass.specs.States.{StateOps};
-ghost use Rattle.ep_pass_laws.specs.Laws.{AreLawful, EmptyReportsAgree, TurnsAreBounded, AlarmsStand, HeadsRepeat, HeadsGoRound};
+ghost use Rattle.ep_pass_laws.specs.Laws.{AreLawful, EmptyReportsAgree, TurnsAreBounded, AlarmsStand, HeadsRepeat};
+ghost use Rattle.ep_pass_laws.specs.Laws.{HeadsGoRound};
 
 /// States that an analysis keeps of a program, for two machines of different byte orders: what is done with them, for
 /// which memories of the machines one stands, and that the operations keep this.

@@ -50,7 +50,8 @@ fn element_of_array(
     c: CType,
     index: Value,
 ) -> Result<Operand, Halt>
-    ensures { Gives seen.operand (at line (rule.element_of_array types.now (shown_place array) c (seen.value index))) result }
+    ensures { Gives seen.operand (at line
+        (rule.element_of_array types.now (shown_place array) c (seen.value index))) result }
 {
     let element = element_of(types, c);
     match size_of_type(types, element) {
@@ -72,7 +73,8 @@ fn element_behind(
     pointer: Value,
     index: Value,
 ) -> Result<Operand, Halt>
-    ensures { Gives seen.operand (at line (rule.element_behind types.now (seen.value pointer) (seen.value index))) result }
+    ensures { Gives seen.operand (at line
+        (rule.element_behind types.now (seen.value pointer) (seen.value index))) result }
 {
     let there = moved(alloc, types, line, pointer, index, false)?;
     pointed(alloc, line, there)

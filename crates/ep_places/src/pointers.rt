@@ -23,7 +23,9 @@ fn steps(
     count: Value,
     backwards: bool,
 ) -> Result<Value, AllocError>
-    ensures { IfOk result (λ v. seen.value v ≡ values.plain_value (core.ptr_add (shown_expr pointer.expr) unit (shown_expr count.expr) backwards) pointer.ty) }
+    ensures { IfOk result (λ v. seen.value v
+        ≡ values.plain_value (core.ptr_add (shown_expr pointer.expr) unit
+        (shown_expr count.expr) backwards) pointer.ty) }
 {
     let ty = pointer.ty;
     let expr = Box::new(alloc, pointer.expr)?;
@@ -41,7 +43,8 @@ pub fn moved(
     count: Value,
     backwards: bool,
 ) -> Result<Value, Halt>
-    ensures { Gives seen.value (at line (rule.moved types.now (seen.value pointer) (seen.value count) backwards)) result }
+    ensures { Gives seen.value (at line
+        (rule.moved types.now (seen.value pointer) (seen.value count) backwards)) result }
 {
     match size_of_type(types, target(pointer.ty)) {
         Some(unit) => {

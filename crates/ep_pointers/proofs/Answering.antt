@@ -1,5 +1,6 @@
 -- What a comparison may answer: each pair of pointers has its answer, and two values with one member have one.
-use Rattle.std.proofs.Common.{◌≡◌, ℕ, ℤ, pos, Bool, true, false, ◌&&◌, ◌||◌, not, eqb, List, [], ◌∷◌, refl, ap, ◌∙◌, Option, Some, None, is_some, IsSomeAnd, arith}
+use Rattle.std.proofs.Common.{◌≡◌, ℕ, ℤ, pos, Bool, true, false, ◌&&◌, ◌||◌, not, eqb, List, [], ◌∷◌, refl, ap, ◌∙◌}
+use Rattle.std.proofs.Common.{Option, Some, None, is_some, IsSomeAnd, arith}
 use Rattle.std.specs.Prelude.{int_le, int_lt}
 use Rattle.std.specs.List.{list_any}
 use Rattle.std.proofs.lemmas.Int.{ints}
@@ -8,8 +9,11 @@ use Rattle.ep_int.specs.declared.types.Cmp.{Cmp}
 use Rattle.ep_int.specs.declared.types.Cmp.TheVariants.{Eq, Ne, Lt, Le, Gt, Ge}
 use Rattle.ep_int.specs.Arith.{compares, int_eq}
 use Rattle.ep_domain.specs.Domain.{Ops, Holds, IsSingle, Lawful}
-use Rattle.ep_pointers.specs.Value.{Target, Pointers, Pointer, null_pointer, into, offset_at, HoldsPointer, null_alone, one_target, HasOneMember, only_null, only_place}
-use Rattle.ep_pointers.specs.Compare.{when_alike, when_apart, pointers_compare, opposite, gives, has_targets, in_two_blocks, may_be_alike, may_be_apart, elsewhere, allows, in_one_block, comparison_of, Answers, truths, IsOneAnswer, only_yes, only_no, only_mixed}
+use Rattle.ep_pointers.specs.Value.{Target, Pointers, Pointer, null_pointer, into, offset_at, HoldsPointer}
+use Rattle.ep_pointers.specs.Value.{null_alone, one_target, HasOneMember, only_null, only_place}
+use Rattle.ep_pointers.specs.Compare.{when_alike, when_apart, pointers_compare, opposite, gives, has_targets}
+use Rattle.ep_pointers.specs.Compare.{in_two_blocks, may_be_alike, may_be_apart, elsewhere, allows, in_one_block}
+use Rattle.ep_pointers.specs.Compare.{comparison_of, Answers, truths, IsOneAnswer, only_yes, only_no, only_mixed}
 use Rattle.ep_pointers.proofs.Lists.{less, equals, more, order}
 use Rattle.ep_pointers.proofs.Moving.{found}
 use Rattle.ep_pointers.proofs.Leaving.{any_at}

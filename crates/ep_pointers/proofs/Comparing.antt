@@ -1,5 +1,6 @@
 -- Comparisons: pointers into two blocks, what the answers mean, and values with one member.
-use Rattle.std.proofs.Common.{◌≡◌, ℕ, suc, Bool, true, false, ◌||◌, not, eqb, ltb, List, [], ◌∷◌, length, slice_get, refl, sym, ap, subst, Some, None, arith}
+use Rattle.std.proofs.Common.{◌≡◌, ℕ, suc, Bool, true, false, ◌||◌, not, eqb, ltb, List, [], ◌∷◌, length, slice_get}
+use Rattle.std.proofs.Common.{refl, sym, ap, subst, Some, None, arith}
 use Rattle.std.proofs.lemmas.Bool.{lt-ltb}
 use Rattle.ep_pointers.specs.Value.{Target, IsRising}
 use Rattle.ep_pointers.specs.Compare.{in_two_blocks}

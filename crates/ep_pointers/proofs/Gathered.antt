@@ -5,7 +5,8 @@ use Rattle.ep_pointers.specs.Value.{Target, Pointers, IsRising, join_of, widenin
 use Rattle.ep_pointers.specs.Sum.{of_targets, moved_targets}
 use Rattle.ep_pointers.specs.Laws.{PointerLaws}
 use Rattle.ep_pointers.proofs.Lists.{rising_together, offset_together}
-use Rattle.ep_pointers.proofs.Holding.{within_holds, both_held, join_operands, widen_operands, keeps_ranks, rising_kept, forgotten}
+use Rattle.ep_pointers.proofs.Holding.{within_holds, both_held, join_operands, widen_operands, keeps_ranks}
+use Rattle.ep_pointers.proofs.Holding.{rising_kept, forgotten}
 use Rattle.ep_pointers.proofs.Moving.{rising_moved, sums_held}
 use Rattle.ep_pointers.proofs.MovingOne.{moves_one, keeps_stride}
 use Rattle.ep_pointers.proofs.Answering.{pair_answers, one_answers}

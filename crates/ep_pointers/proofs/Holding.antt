@@ -1,10 +1,14 @@
 -- What values hold: inclusion, join and widening, ranks, and a block that is gone.
-use Rattle.std.proofs.Common.{◌≡◌, ℕ, ◌<◌, ◌≤◌, ℤ, pos, Bool, true, false, ◌&&◌, ◌||◌, not, eqb, ltb, if◌then◌else◌, IsTrue, List, [], ◌∷◌, refl, ap, subst, Option, Some, None, IsSomeAnd, ◌↔◌, arith}
+use Rattle.std.proofs.Common.{◌≡◌, ℕ, ◌<◌, ◌≤◌, ℤ, pos, Bool, true, false, ◌&&◌, ◌||◌, not, eqb, ltb, if◌then◌else◌}
+use Rattle.std.proofs.Common.{IsTrue, List, [], ◌∷◌, refl, ap, subst, Option, Some, None, IsSomeAnd, ◌↔◌, arith}
 use Rattle.std.specs.List.{filter}
 use Rattle.std.proofs.lemmas.Bool.{and_parts, ltb-true, ltb-false, eqb-true, eqb-false}
 use Rattle.std.proofs.lemmas.Bool.Decides.{nat_tests}
 use Rattle.ep_domain.specs.Domain.{Ops, Holds, Lawful}
-use Rattle.ep_pointers.specs.Value.{Target, Pointers, AreAbove, IsRising, offset_at, Pointer, null_pointer, into, HoldsPointer, HoldsAllOf, is_offset_within, are_within, is_within, either, HoldsBoth, HasOffsetsOf, Grows, new_null, new_block, rank_falls, KeepsRanks, without, IsInto}
+use Rattle.ep_pointers.specs.Value.{Target, Pointers, AreAbove, IsRising, offset_at, Pointer, null_pointer, into}
+use Rattle.ep_pointers.specs.Value.{HoldsPointer, HoldsAllOf, is_offset_within, are_within, is_within, either}
+use Rattle.ep_pointers.specs.Value.{HoldsBoth, HasOffsetsOf, Grows, new_null, new_block, rank_falls, KeepsRanks}
+use Rattle.ep_pointers.specs.Value.{without, IsInto}
 use Rattle.ep_pointers.proofs.Lists.{Order, less, equals, more, order, same, none_above}
 
 some_is_none : {N : Type 0} {P : Type 0} (o : Option N) (n : N) → o ≡ Some n → o ≡ None → P

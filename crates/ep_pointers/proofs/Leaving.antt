@@ -1,5 +1,6 @@
 -- What ranges allow outside a block, and the least range of the results.
-use Rattle.std.proofs.Common.{◌≡◌, ℕ, ℤ, ◌+ℤ◌, ◌-ℤ◌, ◌≤ℤ◌, ◌<ℤ◌, Bool, true, false, ◌||◌, IsTrue, List, [], ◌∷◌, slice_get, fold, refl, sym, ◌∙◌, subst, Option, Some, None, ◌⊎◌, inl, inr, ◌↔◌, arith}
+use Rattle.std.proofs.Common.{◌≡◌, ℕ, ℤ, ◌+ℤ◌, ◌-ℤ◌, ◌≤ℤ◌, ◌<ℤ◌, Bool, true, false, ◌||◌, IsTrue, List, [], ◌∷◌}
+use Rattle.std.proofs.Common.{slice_get, fold, refl, sym, ◌∙◌, subst, Option, Some, None, ◌⊎◌, inl, inr, ◌↔◌, arith}
 use Rattle.std.specs.Prelude.{int_lt}
 use Rattle.std.specs.List.{list_any}
 use Rattle.std.specs.Int.{int_min, int_max}
@@ -8,7 +9,8 @@ use Rattle.ep_domain.specs.Domain.{Ops, Lawful}
 use Rattle.ep_range_laws.specs.Ranges.{LiesIn}
 use Rattle.ep_range_laws.proofs.Corners.{product_up}
 use Rattle.ep_pointers.specs.Value.{Target, AreAbove, IsRising, offset_at}
-use Rattle.ep_pointers.specs.Sum.{move, exact_at, IsOutside, exact_range, leaves, may_leave, hull, shown_of, IsResult, MayLeave, ShowsResults}
+use Rattle.ep_pointers.specs.Sum.{move, exact_at, IsOutside, exact_range, leaves, may_leave, hull, shown_of, IsResult}
+use Rattle.ep_pointers.specs.Sum.{MayLeave, ShowsResults}
 use Rattle.ep_pointers.proofs.Lists.{Order, less, equals, more, order, same, none_above}
 
 -- ---- numbers

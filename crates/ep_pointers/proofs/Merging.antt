@@ -1,5 +1,6 @@
 -- Two lists of targets are gone through once.
-use Rattle.std.proofs.Common.{◌≡◌, ℕ, suc, ◌+◌, ◌<◌, ◌≤◌, List, [], ◌∷◌, ◌++◌, append_assoc, drop, length, get_or, refl, sym, ap, ◌∙◌, subst, arith, drop-cons, ◌⊎◌, inl, inr}
+use Rattle.std.proofs.Common.{◌≡◌, ℕ, suc, ◌+◌, ◌<◌, ◌≤◌, List, [], ◌∷◌, ◌++◌, append_assoc, drop, length, get_or}
+use Rattle.std.proofs.Common.{refl, sym, ap, ◌∙◌, subst, arith, drop-cons, ◌⊎◌, inl, inr}
 use Rattle.std.proofs.lemmas.List.{drop_all, drop-drop}
 use Rattle.ep_pointers.specs.Value.{Target, AreAbove, IsRising, together}
 use Rattle.ep_pointers.specs.Parts.{first_of}

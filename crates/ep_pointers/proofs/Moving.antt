@@ -1,5 +1,7 @@
 -- What a sum of a pointer and a number of units holds.
-use Rattle.std.proofs.Common.{◌≡◌, ℕ, suc, ◌*◌, ◌<◌, ◌≤◌, ℤ, pos, negsuc, neg_ℤ, ◌+ℤ◌, ◌-ℤ◌, ◌*ℤ◌, ◌≤ℤ◌, Bool, true, false, eqb, if◌then◌else◌, IsTrue, List, [], ◌∷◌, slice_get, get_or, refl, sym, ap, ◌∙◌, subst, Option, Some, None, IsSomeAnd, Ok, Err, MatchResult, arith}
+use Rattle.std.proofs.Common.{◌≡◌, ℕ, suc, ◌*◌, ◌<◌, ◌≤◌, ℤ, pos, negsuc, neg_ℤ, ◌+ℤ◌, ◌-ℤ◌, ◌*ℤ◌, ◌≤ℤ◌, Bool, true}
+use Rattle.std.proofs.Common.{false, eqb, if◌then◌else◌, IsTrue, List, [], ◌∷◌, slice_get, get_or, refl, sym, ap, ◌∙◌}
+use Rattle.std.proofs.Common.{subst, Option, Some, None, IsSomeAnd, Ok, Err, MatchResult, arith}
 use Rattle.std.proofs.Math.Nat.{mul-le-mul_left}
 use Rattle.std.proofs.lemmas.Int.{ints}
 use Rattle.std.proofs.lemmas.Option.{get_or_from_slice_get}
@@ -14,7 +16,8 @@ use Rattle.ep_range_laws.proofs.Comparisons.{le_true, from_le_true}
 use Rattle.std.proofs.lemmas.Bool.{and_from, and_parts}
 use Rattle.ep_pointers.specs.declared.sum.Move.{Move}
 use Rattle.ep_pointers.specs.Value.{Target, Pointers, pointers, AreAbove, IsRising, offset_at, HoldsPointer, into}
-use Rattle.ep_pointers.specs.Sum.{exact_at, cut_to, offsets_and, bytes_of, moved_offset, put, moved_targets, of_targets, moved, HoldsSums}
+use Rattle.ep_pointers.specs.Sum.{exact_at, cut_to, offsets_and, bytes_of, moved_offset, put, moved_targets}
+use Rattle.ep_pointers.specs.Sum.{of_targets, moved, HoldsSums}
 use Rattle.ep_pointers.proofs.Lists.{less, equals, more, order, same, none_above}
 
 -- ---- numbers

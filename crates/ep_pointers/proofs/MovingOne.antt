@@ -1,5 +1,7 @@
 -- A sum of one place and a single number, and strides of sums.
-use Rattle.std.proofs.Common.{◌≡◌, ℕ, ◌+◌, ◌*◌, ◌%◌, ◌<◌, ◌≤◌, ℤ, pos, ◌-ℤ◌, ◌*ℤ◌, ◌<ℤ◌, Bool, true, false, if◌then◌else◌, IsTrue, List, [], ◌∷◌, slice_get, refl, sym, ap, ◌∙◌, subst, Option, Some, None, IsSomeAnd, IfSome, Ok, Err, MatchResult, ◌⊎◌, inl, inr, arith}
+use Rattle.std.proofs.Common.{◌≡◌, ℕ, ◌+◌, ◌*◌, ◌%◌, ◌<◌, ◌≤◌, ℤ, pos, ◌-ℤ◌, ◌*ℤ◌, ◌<ℤ◌, Bool, true, false}
+use Rattle.std.proofs.Common.{if◌then◌else◌, IsTrue, List, [], ◌∷◌, slice_get, refl, sym, ap, ◌∙◌, subst, Option}
+use Rattle.std.proofs.Common.{Some, None, IsSomeAnd, IfSome, Ok, Err, MatchResult, ◌⊎◌, inl, inr, arith}
 use Rattle.std.specs.Prelude.{int_le}
 use Rattle.std.proofs.Math.Nat.{mod-eq_of_lt}
 use Rattle.std.proofs.lemmas.Int.{ints}
@@ -13,7 +15,8 @@ use Rattle.ep_domain.specs.Domain.{Ops, IsSingle, Lawful, IsStride, KeepsStrides
 use Rattle.ep_range_laws.specs.Ranges.{LiesIn}
 use Rattle.ep_pointers.specs.declared.sum.Move.{Move}
 use Rattle.ep_pointers.specs.Value.{Target, Pointers, IsRising, offset_at, HaveStride}
-use Rattle.ep_pointers.specs.Sum.{exact_at, cut_to, offsets_and, bytes_of, moved_offset, put, moved_targets, of_targets, moved, IsPlaceAt, MovesOne, KeepsStride}
+use Rattle.ep_pointers.specs.Sum.{exact_at, cut_to, offsets_and, bytes_of, moved_offset, put, moved_targets}
+use Rattle.ep_pointers.specs.Sum.{of_targets, moved, IsPlaceAt, MovesOne, KeepsStride}
 use Rattle.ep_pointers.proofs.Moving.{in_range_from, offset_in_range, offset_of_some_type, moved_at, moved_none}
 
 -- what arithmetic gives of an exact result: it is in range, and of A, or it is of B

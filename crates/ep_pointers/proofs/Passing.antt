@@ -1,5 +1,6 @@
 -- A list of targets is gone through while the other is followed by block.
-use Rattle.std.proofs.Common.{◌≡◌, ℕ, suc, ◌+◌, ◌<◌, ◌≤◌, Bool, true, false, ◌&&◌, ◌||◌, List, [], ◌∷◌, drop, length, get_or, refl, sym, ap, ◌∙◌, subst, Option, arith, add-one, drop-cons}
+use Rattle.std.proofs.Common.{◌≡◌, ℕ, suc, ◌+◌, ◌<◌, ◌≤◌, Bool, true, false, ◌&&◌, ◌||◌, List, [], ◌∷◌, drop, length}
+use Rattle.std.proofs.Common.{get_or, refl, sym, ap, ◌∙◌, subst, Option, arith, add-one, drop-cons}
 use Rattle.std.specs.List.{list_all, list_any}
 use Rattle.ep_pointers.specs.Value.{Target, AreAbove, IsRising, offset_at}
 use Rattle.ep_pointers.specs.Parts.{from_block, offset_first}

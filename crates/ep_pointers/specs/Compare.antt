@@ -1,5 +1,6 @@
 -- Comparisons of pointers. C11 6.5.9p6 and 6.5.8p5. By this project's choice ordered ones are undefined also of null.
-use Rattle.std.specs.Prelude.{◌≡◌, pos, Bool, true, false, ◌&&◌, ◌||◌, not, nat_eq, if◌then◌else◌, IsTrue, List, [], ◌∷◌, Option, Some, None, is_some}
+use Rattle.std.specs.Prelude.{◌≡◌, pos, Bool, true, false, ◌&&◌, ◌||◌, not, nat_eq, if◌then◌else◌, IsTrue, List, []}
+use Rattle.std.specs.Prelude.{◌∷◌, Option, Some, None, is_some}
 use Rattle.std.specs.List.{list_any}
 use Rattle.ep_int.specs.declared.types.Cmp.{Cmp}
 use Rattle.ep_int.specs.declared.types.Cmp.TheVariants.{Eq, Ne, Lt, Le, Gt, Ge}

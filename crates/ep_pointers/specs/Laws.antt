@@ -3,7 +3,8 @@ use Rattle.std.specs.Prelude.{ℕ, ◌^◌, ◌<◌, ◌≤◌, IsTrue, List, If
 use Rattle.ep_int.specs.declared.types.Cmp.{Cmp}
 use Rattle.ep_domain.specs.Domain.{Ops}
 use Rattle.ep_pointers.specs.declared.sum.Move.{Move}
-use Rattle.ep_pointers.specs.Value.{Pointers, IsRising, HoldsAllOf, is_within, join_of, widening_of, HoldsBoth, HasOffsetsOf, KeepsRanks, without, LosesBlock, HasOneMember}
+use Rattle.ep_pointers.specs.Value.{Pointers, IsRising, HoldsAllOf, is_within, join_of, widening_of, HoldsBoth}
+use Rattle.ep_pointers.specs.Value.{HasOffsetsOf, KeepsRanks, without, LosesBlock, HasOneMember}
 use Rattle.ep_pointers.specs.Sum.{moved, HoldsSums, MovesOne, KeepsStride}
 use Rattle.ep_pointers.specs.Compare.{comparison_of, AnswersAll, IsOneAnswer}
 

@@ -1,5 +1,6 @@
 -- What the parts of the code answer, for their own contracts.
-use Rattle.std.specs.Prelude.{ℕ, Bool, ◌&&◌, ◌||◌, true, false, nat_eq, nat_lt, if◌then◌else◌, List, [], ◌∷◌, Option, Some, None}
+use Rattle.std.specs.Prelude.{ℕ, Bool, ◌&&◌, ◌||◌, true, false, nat_eq, nat_lt, if◌then◌else◌, List, [], ◌∷◌, Option}
+use Rattle.std.specs.Prelude.{Some, None}
 use Rattle.ep_int.specs.declared.types.Cmp.{Cmp}
 use Rattle.ep_domain.specs.Domain.{Ops}
 use Rattle.ep_pointers.specs.declared.compare.Truths.{Truths}

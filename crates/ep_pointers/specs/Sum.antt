@@ -1,5 +1,7 @@
 -- A pointer and a number: the sum in units of what is pointed to. C11 6.5.6p8; the values are this project's rules.
-use Rattle.std.specs.Prelude.{◌≡◌, ℕ, ◌*◌, ◌^◌, ◌<◌, ◌≤◌, ℤ, pos, ◌+ℤ◌, ◌-ℤ◌, ◌*ℤ◌, ◌<ℤ◌, Bool, true, false, ◌||◌, if◌then◌else◌, ◌⊎◌, List, [], ◌∷◌, Option, Some, None, int_lt, slice_get, fold, IfSome, IsSomeAnd, IsTrue, ◌↔◌}
+use Rattle.std.specs.Prelude.{◌≡◌, ℕ, ◌*◌, ◌^◌, ◌<◌, ◌≤◌, ℤ, pos, ◌+ℤ◌, ◌-ℤ◌, ◌*ℤ◌, ◌<ℤ◌, Bool, true, false, ◌||◌}
+use Rattle.std.specs.Prelude.{if◌then◌else◌, ◌⊎◌, List, [], ◌∷◌, Option, Some, None, int_lt, slice_get, fold, IfSome}
+use Rattle.std.specs.Prelude.{IsSomeAnd, IsTrue, ◌↔◌}
 use Rattle.std.specs.List.{list_any}
 use Rattle.std.specs.Int.{int_min, int_max}
 use Rattle.ep_int.specs.declared.types.IntType.TheVariants.{I64}
@@ -9,7 +11,8 @@ use Rattle.ep_domain.specs.Domain.{Ops, Holds, IsSingle, IsStride}
 use Rattle.ep_int.specs.Types.{InRange}
 use Rattle.ep_range_laws.specs.Ranges.{LiesIn}
 use Rattle.ep_pointers.specs.declared.sum.Move.{Move}
-use Rattle.ep_pointers.specs.Value.{Target, Pointers, pointers, offset_at, HoldsPointer, into, null_alone, one_target, HaveStride}
+use Rattle.ep_pointers.specs.Value.{Target, Pointers, pointers, offset_at, HoldsPointer, into, null_alone, one_target}
+use Rattle.ep_pointers.specs.Value.{HaveStride}
 
 abbrev pub move : {N : Type 0} → N → ℕ → Bool → Move N
 move delta unit subtract = record { delta = delta; unit = unit; subtract = subtract }

@@ -1,6 +1,7 @@
 -- What a pointer may be: null, or into one of some blocks, at an offset that a value of a domain holds
 -- (this project's rules).
-use Rattle.std.specs.Prelude.{◌≡◌, ℕ, ◌<◌, ◌≤◌, ℤ, pos, Bool, true, false, ◌&&◌, ◌||◌, not, nat_eq, nat_lt, if◌then◌else◌, IsTrue, List, [], ◌∷◌, Option, Some, None, IsSomeAnd, ◌↔◌}
+use Rattle.std.specs.Prelude.{◌≡◌, ℕ, ◌<◌, ◌≤◌, ℤ, pos, Bool, true, false, ◌&&◌, ◌||◌, not, nat_eq, nat_lt}
+use Rattle.std.specs.Prelude.{if◌then◌else◌, IsTrue, List, [], ◌∷◌, Option, Some, None, IsSomeAnd, ◌↔◌}
 use Rattle.std.specs.List.{list_all, filter}
 use Rattle.ep_domain.specs.Domain.{Ops, Holds, IsSingle}
 

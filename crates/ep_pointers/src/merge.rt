@@ -1,6 +1,7 @@
 //! Lists of targets, in order of blocks.
 
-ghost use Rattle.std.specs.Prelude.{◌≡◌, ◌↔◌, ◌≤◌, ◌<◌, ◌++◌, drop, length, slice_index_or, IfOk, IfSome, IsTrue, nat_eq, not};
+ghost use Rattle.std.specs.Prelude.{◌≡◌, ◌↔◌, ◌≤◌, ◌<◌, ◌++◌, drop, length, slice_index_or, IfOk, IfSome, IsTrue};
+ghost use Rattle.std.specs.Prelude.{nat_eq, not};
 ghost use Rattle.std.specs.List.{filter};
 ghost use Rattle.ep_pointers.specs.Value.{IsRising, together, are_within, is_offset_within};
 ghost use Rattle.ep_pointers.specs.Parts.{from_block, offset_first, united, first_of};
@@ -95,7 +96,7 @@ fn append<N: Num>(targets: &mut Vec<(u32, N)>, more: &[(u32, N)], from: usize) -
         .map_err(|_| Memory)
 }
 
-// From a place on, the place of the first block that is not below this one.
+/// From a place on, the place of the first block that is not below this one.
 pub fn place_from<N: Num>(targets: &[(u32, N)], from: usize, block: u32) -> usize
     requires { from ≤ length targets.now }
     ensures within { result ≤ length targets.now }

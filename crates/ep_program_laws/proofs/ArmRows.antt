@@ -8,22 +8,34 @@ use Rattle.ep_ast.specs.Mark as mark
 use Rattle.ep_ast.specs.Expression.{id, index, sizeof_type, tagged}
 use Rattle.ep_ast.specs.Declaration.{aggregate, body, member, plain, some_params, to_members, to_specs, void}
 use Rattle.ep_ast.specs.Statement.{Function, Item, return_value, states, declares_all}
-use Rattle.ep_elaboration.proofs.Trees.{literal, number, declarator, declaration as tree_declaration, param, head, block_at, function, int_words, int_word_at, pointer, type_name}
+use Rattle.ep_elaboration.proofs.Trees.{literal, number, declarator, declaration as tree_declaration, param, head}
+use Rattle.ep_elaboration.proofs.Trees.{block_at, function, int_words, int_word_at, pointer, type_name}
 use Rattle.ep_layout.specs.Table.{at_depth}
 use Rattle.ep_typing.specs.Types.{type_within, with_pointers, pointer_number}
 use Rattle.ep_typing.specs.Names.{words_type, named_type, mentioned_name, mentioned, mentioned_all}
 use Rattle.ep_typing.specs.Operand.{value_of, fitted, tested}
 use Rattle.ep_typing.specs.Constant.{number_of, count_of}
-use Rattle.ep_typing.specs.Operators.{arithmetic, shifted, moved, added, subtracted, ordered, equated, both, either, chosen, kept, negated, complemented, denied, operated_on_numbers, decided, operated, unary_operated}
-use Rattle.ep_typing.specs.Parts.{named, addressed, pointed, unary_typed, indexable, element_of_array, element_behind, indexed, member_of, selected, selected_through, casted, type_sized, sized}
+use Rattle.ep_typing.specs.Operators.{arithmetic, shifted, moved, added, subtracted, ordered, equated, both, either}
+use Rattle.ep_typing.specs.Operators.{chosen, kept, negated, complemented, denied, operated_on_numbers, decided}
+use Rattle.ep_typing.specs.Operators.{operated, unary_operated}
+use Rattle.ep_typing.specs.Parts.{named, addressed, pointed, unary_typed, indexable, element_of_array, element_behind}
+use Rattle.ep_typing.specs.Parts.{indexed, member_of, selected, selected_through, casted, type_sized, sized}
 use Rattle.ep_typing.specs.Calls.{passed, all_passed, called}
-use Rattle.ep_typing.specs.Typing.{read_first, joined, chosen_from, cast_to, indexed_by, selected_behind, typed, typed_all, test, assignable, not_stored, stored, copied, put, assigned, updated, taken, call_typed, right_side, assignment, stepped, whole_statement}
-use Rattle.ep_elaboration.specs.Declarators.{bound, bounds, object_bounds, array_of, arrays_of, sized_object, declared_object, object_declared, declared_type, type_declared, types_declared}
-use Rattle.ep_elaboration.specs.Aggregates.{opened, with_member, member_declared, members_declared, words_declared, specs_declared, body_declared, all_members}
+use Rattle.ep_typing.specs.Typing.{read_first, joined, chosen_from, cast_to, indexed_by, selected_behind, typed}
+use Rattle.ep_typing.specs.Typing.{typed_all, test, assignable, not_stored, stored, copied, put, assigned, updated}
+use Rattle.ep_typing.specs.Typing.{taken, call_typed, right_side, assignment, stepped, whole_statement}
+use Rattle.ep_elaboration.specs.Declarators.{bound, bounds, object_bounds, array_of, arrays_of, sized_object}
+use Rattle.ep_elaboration.specs.Declarators.{declared_object, object_declared, declared_type, type_declared}
+use Rattle.ep_elaboration.specs.Declarators.{types_declared}
+use Rattle.ep_elaboration.specs.Aggregates.{opened, with_member, member_declared, members_declared, words_declared}
+use Rattle.ep_elaboration.specs.Aggregates.{specs_declared, body_declared, all_members}
 use Rattle.ep_elaboration.specs.Given.{first_values, expression_given, value_given, all_given}
 use Rattle.ep_elaboration.specs.Declarations.{initialised, variable_declared, variables_declared, declaration}
-use Rattle.ep_elaboration.specs.Statements.{tested_in, tested_if, evaluated_in, evaluated_if, first_part, nothing_returned, operand_returned, statement, statements, part, parts}
-use Rattle.ep_elaboration.specs.Functions.{param_bounds, param_type, with_param, param_declared, params_declared, headed, function_declared, prototype, function_typed, function_defined, functions_defined, others_typed, are_alike, arms_agree, arms_defined}
+use Rattle.ep_elaboration.specs.Statements.{tested_in, tested_if, evaluated_in, evaluated_if, first_part}
+use Rattle.ep_elaboration.specs.Statements.{nothing_returned, operand_returned, statement, statements, part, parts}
+use Rattle.ep_elaboration.specs.Functions.{param_bounds, param_type, with_param, param_declared, params_declared}
+use Rattle.ep_elaboration.specs.Functions.{headed, function_declared, prototype, function_typed, function_defined}
+use Rattle.ep_elaboration.specs.Functions.{functions_defined, others_typed, are_alike, arms_agree, arms_defined}
 use Rattle.ep_elaboration.specs.Calls.{reaches, with_function, function_depth}
 use Rattle.ep_elaboration.specs.Programs.{item, items, checked, renumbered_what, renumbered, elaborated}
 use Rattle.ep_program_laws.specs.Laws.{ArmsMayDiffer}

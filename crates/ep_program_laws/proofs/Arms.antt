@@ -1,5 +1,7 @@
 -- Functions by byte order.
-use Rattle.std.proofs.Common.{◌≡◌, ℕ, zero, suc, ◌+◌, ◌<◌, ◌≤◌, nat_eq, Bool, true, false, true≢false, cond, ◌&&◌, ◌||◌, List, [], ◌∷◌, ◌++◌, length, length-append, map, slice_get, option_to_list, Option, Some, None, bytes_eq, refl, sym, ap, ◌∙◌, subst, ◌⊎◌, inl, inr, arith}
+use Rattle.std.proofs.Common.{◌≡◌, ℕ, zero, suc, ◌+◌, ◌<◌, ◌≤◌, nat_eq, Bool, true, false, true≢false, cond, ◌&&◌}
+use Rattle.std.proofs.Common.{◌||◌, List, [], ◌∷◌, ◌++◌, length, length-append, map, slice_get, option_to_list}
+use Rattle.std.proofs.Common.{Option, Some, None, bytes_eq, refl, sym, ap, ◌∙◌, subst, ◌⊎◌, inl, inr, arith}
 use Rattle.std.proofs.lemmas.Bool.Decides.{nat_tests}
 use Rattle.std.proofs.lemmas.Bool.{and_parts}
 use Rattle.ep_int.specs.Memory.{contains}
@@ -15,8 +17,11 @@ use Rattle.ep_core.specs.WellFormed.{own_blocks, scoped}
 use Rattle.ep_typing.specs.Env as env
 use Rattle.ep_typing.specs.Env.{Env, Meaning, Scope, Signature, entry}
 use Rattle.ep_elaboration.specs.Calls.{Placed, conditionals, in_function, in_functions, stands_in_parts}
-use Rattle.ep_elaboration.specs.Functions.{Body, Defined, all_joined, are_alike, are_named_alike, arms_agree, file_names, have_same_names, joined, number_of_function, numbers_of, params_of}
-use Rattle.ep_elaboration_laws.specs.FunctionRules.{MeansArms, MeansDefinitions, MeansOthers, is_arms, more_definitions, more_others, no_definitions, no_others}
+use Rattle.ep_elaboration.specs.Functions.{Body, Defined, all_joined, are_alike, are_named_alike, arms_agree}
+use Rattle.ep_elaboration.specs.Functions.{file_names, have_same_names, joined, number_of_function, numbers_of}
+use Rattle.ep_elaboration.specs.Functions.{params_of}
+use Rattle.ep_elaboration_laws.specs.FunctionRules.{MeansArms, MeansDefinitions, MeansOthers, is_arms}
+use Rattle.ep_elaboration_laws.specs.FunctionRules.{more_definitions, more_others, no_definitions, no_others}
 use Rattle.ep_well_formed_laws.specs.Environments.{CanName, EachMeaning, IsPlaced}
 use Rattle.ep_well_formed_laws.proofs.Additions.{grows_on, type_number_stays}
 use Rattle.ep_well_formed_laws.proofs.DefinedFunctions.{globals_later}
@@ -31,7 +36,8 @@ use Rattle.ep_program_laws.proofs.Definitions.{DefinitionWalks, definition_walks
 use Rattle.ep_program_laws.proofs.FunctionNames.{AreNumbered, StayNamed, number_is, scopes_front}
 use Rattle.ep_program_laws.proofs.FunctionParts.{AllIn, AtFile}
 use Rattle.ep_program_laws.proofs.Others.{other_walks}
-use Rattle.ep_program_laws.proofs.TextCalls.{BodyCalls, CalledIn, EachDefined, NumbersFit, all_own, called_back, called_front, called_of, calls_later, each_defined}
+use Rattle.ep_program_laws.proofs.TextCalls.{BodyCalls, CalledIn, EachDefined, NumbersFit, all_own, called_back}
+use Rattle.ep_program_laws.proofs.TextCalls.{called_front, called_of, calls_later, each_defined}
 use Rattle.ep_program_laws.proofs.Walks.{LocalCome, blocks_on, no_block}
 
 -- ---- environments that go on

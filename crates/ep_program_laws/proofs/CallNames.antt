@@ -1,5 +1,7 @@
 -- What is called, by the names of the text.
-use Rattle.std.proofs.Common.{◌≡◌, ℕ, ◌==◌, Bool, true, false, cond, if◌then◌else◌, ◌&&◌, List, [], ◌∷◌, ◌++◌, map, Option, Some, None, is_some, bytes_eq, codes, Result, Ok, Err, refl, sym, ap, ◌∙◌, subst, ◌⊎◌, inl, inr}
+use Rattle.std.proofs.Common.{◌≡◌, ℕ, ◌==◌, Bool, true, false, cond, if◌then◌else◌, ◌&&◌, List, [], ◌∷◌, ◌++◌, map}
+use Rattle.std.proofs.Common.{Option, Some, None, is_some, bytes_eq, codes, Result, Ok, Err, refl, sym, ap, ◌∙◌}
+use Rattle.std.proofs.Common.{subst, ◌⊎◌, inl, inr}
 use Rattle.std.proofs.lemmas.Slice.Eq.{bytes_eq-Decides}
 use Rattle.ep_int.specs.declared.types.IntType.{IntType}
 use Rattle.ep_ast.specs.Expression as source
@@ -11,15 +13,23 @@ use Rattle.ep_typing.specs.Results.{needed}
 use Rattle.ep_typing.specs.Types.{element_of, is_aggregate, is_integer, is_pointer, number_in, size_of_type, target}
 use Rattle.ep_typing.specs.Env as env
 use Rattle.ep_typing.specs.Env.{Env, Meaning, Scope, Signature, entry, first_of, look_up}
-use Rattle.ep_typing.specs.Operand.{Callee, Operand, Value, declared, function, input, output, copy_bytes, fill_bytes, read_bytes, write_bytes, place, value, value_of}
+use Rattle.ep_typing.specs.Operand.{Callee, Operand, Value, declared, function, input, output, copy_bytes, fill_bytes}
+use Rattle.ep_typing.specs.Operand.{read_bytes, write_bytes, place, value, value_of}
 use Rattle.ep_typing.specs.Operators.{moved, unary_operated}
-use Rattle.ep_typing.specs.Parts.{addressed, an_operand, built_in, element_behind, element_in, element_of_array, ends, indexed, meant, member_at, member_of, named, named_callee, pointed, selected, selected_through, unary_of_value, unary_typed}
-use Rattle.ep_typing.specs.Calls.{Called, a_call, an_action, an_input, all_passed, called, called_into, done_by, parameters}
-use Rattle.ep_typing.specs.Typing.{Right, a_result, an_object, assigned, assigned_from, cast_to, chosen_from, indexed_by, joined, one, operator_of, selected_behind, taken, updated}
-use Rattle.ep_typing_laws.specs.Rules.{Means, is_binary, is_cast, is_choice, is_element, is_member, is_member_behind, is_name, is_number, is_size, is_type_size, is_unary}
+use Rattle.ep_typing.specs.Parts.{addressed, an_operand, built_in, element_behind, element_in, element_of_array, ends}
+use Rattle.ep_typing.specs.Parts.{indexed, meant, member_at, member_of, named, named_callee, pointed, selected}
+use Rattle.ep_typing.specs.Parts.{selected_through, unary_of_value, unary_typed}
+use Rattle.ep_typing.specs.Calls.{Called, a_call, an_action, an_input, all_passed, called, called_into, done_by}
+use Rattle.ep_typing.specs.Calls.{parameters}
+use Rattle.ep_typing.specs.Typing.{Right, a_result, an_object, assigned, assigned_from, cast_to, chosen_from}
+use Rattle.ep_typing.specs.Typing.{indexed_by, joined, one, operator_of, selected_behind, taken, updated}
+use Rattle.ep_typing_laws.specs.Rules.{Means, is_binary, is_cast, is_choice, is_element, is_member, is_member_behind}
+use Rattle.ep_typing_laws.specs.Rules.{is_name, is_number, is_size, is_type_size, is_unary}
 use Rattle.ep_elaboration.specs.Calls.{Stand, call_in, evaluation, named_call}
 use Rattle.ep_elaboration.specs.Functions.{number_of_function}
-use Rattle.ep_elaboration_laws.specs.WholeRules.{MeansCall, MeansRight, MeansStep, MeansWhole, is_assignment, is_call, is_decrement, is_increment, is_operand, is_result, is_step, is_value, is_whole_assignment, is_whole_call, is_whole_step}
+use Rattle.ep_elaboration_laws.specs.WholeRules.{MeansCall, MeansRight, MeansStep, MeansWhole, is_assignment, is_call}
+use Rattle.ep_elaboration_laws.specs.WholeRules.{is_decrement, is_increment, is_operand, is_result, is_step, is_value}
+use Rattle.ep_elaboration_laws.specs.WholeRules.{is_whole_assignment, is_whole_call, is_whole_step}
 use Rattle.ep_well_formed_laws.proofs.Scopes.{HaveNames}
 use Rattle.ep_well_formed_laws.proofs.Tests.{after, either_way, given, needed_is}
 

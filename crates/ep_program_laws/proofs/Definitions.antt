@@ -1,5 +1,7 @@
 -- Definitions of functions: with blocks of their own, or over those of another.
-use Rattle.std.proofs.Common.{◌≡◌, ℕ, zero, suc, ◌+◌, ◌<◌, Bool, true, false, true≢false, List, [], ◌∷◌, ◌++◌, length, length-append, map, slice_get, option_to_list, Option, Some, None, Ok, refl, sym, ap, ◌∙◌, subst, ◌⊎◌, inl, inr, arith}
+use Rattle.std.proofs.Common.{◌≡◌, ℕ, zero, suc, ◌+◌, ◌<◌, Bool, true, false, true≢false, List, [], ◌∷◌, ◌++◌, length}
+use Rattle.std.proofs.Common.{length-append, map, slice_get, option_to_list, Option, Some, None, Ok, refl, sym, ap}
+use Rattle.std.proofs.Common.{◌∙◌, subst, ◌⊎◌, inl, inr, arith}
 use Rattle.ep_int.specs.Memory.{contains}
 use Rattle.ep_ast.specs.Statement.{Function, to_parts}
 use Rattle.ep_layout.specs.Table.{Grows, Table}
@@ -11,14 +13,17 @@ use Rattle.ep_typing.specs.Types.{c_type_number, is_void, void_type}
 use Rattle.ep_typing.specs.Env as env
 use Rattle.ep_typing.specs.Env.{Env, Meaning, Scope, Signature, entry}
 use Rattle.ep_elaboration.specs.Calls.{stands_in_parts}
-use Rattle.ep_elaboration.specs.Functions.{Defined, Headed, behind_result, file_names, function_declared, number_of_function, numbered_from, own_block, result_at, results, signature_of, with_blocks}
+use Rattle.ep_elaboration.specs.Functions.{Defined, Headed, behind_result, file_names, function_declared}
+use Rattle.ep_elaboration.specs.Functions.{number_of_function, numbered_from, own_block, result_at, results}
+use Rattle.ep_elaboration.specs.Functions.{signature_of, with_blocks}
 use Rattle.ep_elaboration.specs.Statements.{blocks_behind, innermost, left, outer, to_core}
 use Rattle.ep_elaboration_laws.specs.FunctionRules.{MeansDefinition, MeansHead, is_definition, is_function}
 use Rattle.ep_well_formed_laws.specs.Numbers.{type_number}
 use Rattle.ep_well_formed_laws.specs.Environments.{CanName, Covers, EachName, IsPassed}
 use Rattle.ep_well_formed_laws.specs.Statements.{StmtsFit}
 use Rattle.ep_well_formed_laws.proofs.Additions.{c_number_is, grows_on, type_number_stays}
-use Rattle.ep_well_formed_laws.proofs.DefinedFunctions.{all_hold, body_is, globals_later, holds_at, param_get, passed_at, result_get, result_is, result_number, result_part}
+use Rattle.ep_well_formed_laws.proofs.DefinedFunctions.{all_hold, body_is, globals_later, holds_at, param_get}
+use Rattle.ep_well_formed_laws.proofs.DefinedFunctions.{passed_at, result_get, result_is, result_number, result_part}
 use Rattle.ep_well_formed_laws.proofs.Heads.{IsParamName, head_comes}
 use Rattle.ep_well_formed_laws.proofs.Scopes.{HaveNames, meaning_more}
 use Rattle.ep_well_formed_laws.proofs.Steps.{front}
@@ -26,7 +31,8 @@ use Rattle.ep_program_laws.proofs.Counts.{below, count, count_both}
 use Rattle.ep_program_laws.proofs.CallNames.{CallsTo, EachCall, ScopesFit, scopes_fit_same}
 use Rattle.ep_program_laws.proofs.DefinedFits.{DefinedFits, IsTypedBlock, ParamsAre, ResultIs, a_block, no_block}
 use Rattle.ep_program_laws.proofs.FunctionNames.{AreNumbered, StayNamed, declared_as, same_file_names}
-use Rattle.ep_program_laws.proofs.FunctionParts.{AtFile, BodyStands, body_stands, body_walks, one_scope, own_lists, own_local}
+use Rattle.ep_program_laws.proofs.FunctionParts.{AtFile, BodyStands, body_stands, body_walks, one_scope, own_lists}
+use Rattle.ep_program_laws.proofs.FunctionParts.{own_local}
 use Rattle.ep_program_laws.proofs.Walks.{LocalCome, blocks_on}
 
 -- ---- a function whose name is known, before its body

@@ -1,5 +1,7 @@
 -- What stands at file scope, but functions: types, tags and globals.
-use Rattle.std.proofs.Common.{◌≡◌, ℕ, zero, suc, ◌+◌, ◌<◌, ◌≤◌, nat_eq, nat_lt, Bool, true, false, true≢false, cond, not, ◌||◌, List, [], ◌∷◌, ◌++◌, length, length-append, slice_get, Option, Some, None, refl, sym, ap, ◌∙◌, subst, arith}
+use Rattle.std.proofs.Common.{◌≡◌, ℕ, zero, suc, ◌+◌, ◌<◌, ◌≤◌, nat_eq, nat_lt, Bool, true, false, true≢false, cond}
+use Rattle.std.proofs.Common.{not, ◌||◌, List, [], ◌∷◌, ◌++◌, length, length-append, slice_get, Option, Some, None}
+use Rattle.std.proofs.Common.{refl, sym, ap, ◌∙◌, subst, arith}
 use Rattle.std.specs.List.{list_all, list_any}
 use Rattle.std.proofs.lemmas.Bool.Decides.{nat_tests}
 use Rattle.std.proofs.lemmas.Bool.{and_parts}
@@ -19,18 +21,22 @@ use Rattle.ep_typing.specs.Types.{c_type_number, with_stars}
 use Rattle.ep_typing.specs.Env as env
 use Rattle.ep_typing.specs.Env.{Env, Meaning, Scope, Signature, entry}
 use Rattle.ep_elaboration.specs.Declarations.{Made}
-use Rattle.ep_elaboration.specs.Declarators.{arrays_of, declared_type, is_taken, name_in, named_type_of, with_name, with_types}
+use Rattle.ep_elaboration.specs.Declarators.{arrays_of, declared_type, is_taken, name_in, named_type_of, with_name}
+use Rattle.ep_elaboration.specs.Declarators.{with_types}
 use Rattle.ep_elaboration.specs.Given.{count_listed}
 use Rattle.ep_elaboration.specs.Statements.{innermost}
-use Rattle.ep_elaboration_laws.specs.DeclaratorRules.{MeansTypedef, MeansTypedefs, is_typedef, more_typedefs, no_typedefs}
-use Rattle.ep_elaboration_laws.specs.GivenRules.{MeansDeclaration, MeansVariable, MeansVariables, is_declaration, is_variable, more_variables, no_variables}
+use Rattle.ep_elaboration_laws.specs.DeclaratorRules.{MeansTypedef, MeansTypedefs, is_typedef, more_typedefs}
+use Rattle.ep_elaboration_laws.specs.DeclaratorRules.{no_typedefs}
+use Rattle.ep_elaboration_laws.specs.GivenRules.{MeansDeclaration, MeansVariable, MeansVariables, is_declaration}
+use Rattle.ep_elaboration_laws.specs.GivenRules.{is_variable, more_variables, no_variables}
 use Rattle.ep_well_formed_laws.specs.Numbers.{HasNumber}
 use Rattle.ep_well_formed_laws.specs.Environments.{CanName, EachMeaning, EachName, HasScope}
 use Rattle.ep_well_formed_laws.proofs.Additions.{c_number_is, grows_on, has_number_stays}
 use Rattle.ep_well_formed_laws.proofs.DefinedFunctions.{globals_later, names_both}
 use Rattle.ep_well_formed_laws.proofs.Extents.{same_size}
 use Rattle.ep_well_formed_laws.proofs.FirstValues.{first_mentions}
-use Rattle.ep_well_formed_laws.proofs.Mentions.{Declares, declares_mentions, env_declares, known_base, same_rows_open, table_mentioned}
+use Rattle.ep_well_formed_laws.proofs.Mentions.{Declares, declares_mentions, env_declares, known_base, same_rows_open}
+use Rattle.ep_well_formed_laws.proofs.Mentions.{table_mentioned}
 use Rattle.ep_well_formed_laws.proofs.Objects.{arrays_come, bounds_are, env_named, object_declared_is}
 use Rattle.ep_well_formed_laws.proofs.Scopes.{each_same, meaning_more}
 use Rattle.ep_well_formed_laws.proofs.Specs.{fine_is, specified}

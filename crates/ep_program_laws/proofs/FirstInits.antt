@@ -1,5 +1,7 @@
 -- The first values of globals: each of a leaf of its block, behind one another.
-use Rattle.std.proofs.Common.{◌≡◌, ℕ, zero, suc, ◌+◌, ◌<◌, ◌≤◌, nat_eq, Bool, true, false, true≢false, not, ◌&&◌, ◌||◌, if◌then◌else◌, List, [], ◌∷◌, ◌++◌, slice_get, Option, Some, None, option_map, unwrap_or, Result, Ok, refl, sym, ap, ◌∙◌, subst, inl, inr, arith, ℤ}
+use Rattle.std.proofs.Common.{◌≡◌, ℕ, zero, suc, ◌+◌, ◌<◌, ◌≤◌, nat_eq, Bool, true, false, true≢false, not, ◌&&◌}
+use Rattle.std.proofs.Common.{◌||◌, if◌then◌else◌, List, [], ◌∷◌, ◌++◌, slice_get, Option, Some, None, option_map}
+use Rattle.std.proofs.Common.{unwrap_or, Result, Ok, refl, sym, ap, ◌∙◌, subst, inl, inr, arith, ℤ}
 use Rattle.std.specs.List.{list_all, list_any}
 use Rattle.std.proofs.lemmas.Bool.Decides.{nat_tests}
 use Rattle.std.proofs.lemmas.Bool.{and_parts}
@@ -28,10 +30,14 @@ use Rattle.ep_typing.specs.Constant.{constant_of, has_only_numbers, number_of}
 use Rattle.ep_typing.specs.Env.{Env}
 use Rattle.ep_typing.specs.Names.{mentioned}
 use Rattle.ep_typing.specs.Operand.{Operand, Value, are_scalars, fitted, function, loaded, place, value, value_of}
-use Rattle.ep_typing.specs.Typing.{Right, a_result, an_object, assignable, assigned, assigned_from, moves_aggregate, put, stored}
+use Rattle.ep_typing.specs.Typing.{Right, a_result, an_object, assignable, assigned, assigned_from, moves_aggregate}
+use Rattle.ep_typing.specs.Typing.{put, stored}
 use Rattle.ep_elaboration.specs.Declarators.{Object}
-use Rattle.ep_elaboration.specs.Given.{Given, cleared, constant_given, constant_value, first_values, line_of_value, object_operand, part_at, with_parts}
-use Rattle.ep_elaboration_laws.specs.GivenRules.{MeansAllGiven, MeansFirstValue, MeansGiven, MeansGivenExpression, is_first_value, is_given_expression, is_listed, is_single, more_values_given, no_first_value, no_values_given}
+use Rattle.ep_elaboration.specs.Given.{Given, cleared, constant_given, constant_value, first_values, line_of_value}
+use Rattle.ep_elaboration.specs.Given.{object_operand, part_at, with_parts}
+use Rattle.ep_elaboration_laws.specs.GivenRules.{MeansAllGiven, MeansFirstValue, MeansGiven, MeansGivenExpression}
+use Rattle.ep_elaboration_laws.specs.GivenRules.{is_first_value, is_given_expression, is_listed, is_single}
+use Rattle.ep_elaboration_laws.specs.GivenRules.{more_values_given, no_first_value, no_values_given}
 use Rattle.ep_well_formed_laws.specs.Numbers.{IsTable}
 use Rattle.ep_well_formed_laws.specs.Environments.{IsDeclared}
 use Rattle.ep_well_formed_laws.proofs.Additions.{grows_on}
@@ -41,7 +47,8 @@ use Rattle.ep_well_formed_laws.proofs.Mentions.{expression_mentioned}
 use Rattle.ep_well_formed_laws.proofs.Operators.{wrapped_fits}
 use Rattle.ep_well_formed_laws.proofs.Parts.{integer_row}
 use Rattle.ep_well_formed_laws.proofs.Steps.{front, nothing_more}
-use Rattle.ep_well_formed_laws.proofs.Tests.{after, and_is, either_way, given, is_so, left_is, needed_is, same_self, unless}
+use Rattle.ep_well_formed_laws.proofs.Tests.{after, and_is, either_way, given, is_so, left_is, needed_is, same_self}
+use Rattle.ep_well_formed_laws.proofs.Tests.{unless}
 use Rattle.ep_well_formed_laws.proofs.Values.{scalar_is}
 use Rattle.ep_program_laws.proofs.FunctionNames.{same_c}
 use Rattle.ep_program_laws.proofs.Leaves.{InBlock, Spread, has_leaf, in_block_later, spread}

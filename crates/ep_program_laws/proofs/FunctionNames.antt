@@ -1,5 +1,7 @@
 -- Functions by their names: what is declared has its name's number, and keeps its type.
-use Rattle.std.proofs.Common.{◌≡◌, ℕ, ◌<◌, ◌≤◌, ◌==◌, Bool, true, false, true≢false, not, ◌&&◌, ◌||◌, if◌then◌else◌, List, [], ◌∷◌, ◌++◌, length, slice_get, Option, Some, None, is_some, unwrap_or, bytes_eq, Ok, refl, sym, ap, ◌∙◌, subst, ◌⊎◌, inl, inr, arith}
+use Rattle.std.proofs.Common.{◌≡◌, ℕ, ◌<◌, ◌≤◌, ◌==◌, Bool, true, false, true≢false, not, ◌&&◌, ◌||◌, if◌then◌else◌}
+use Rattle.std.proofs.Common.{List, [], ◌∷◌, ◌++◌, length, slice_get, Option, Some, None, is_some, unwrap_or}
+use Rattle.std.proofs.Common.{bytes_eq, Ok, refl, sym, ap, ◌∙◌, subst, ◌⊎◌, inl, inr, arith}
 use Rattle.std.proofs.lemmas.Bool.{and_parts, eqb-true}
 use Rattle.ep_int.specs.Memory.{contains}
 use Rattle.ep_layout.proofs.Options.{get_last, get_push}
@@ -14,7 +16,9 @@ use Rattle.ep_typing.specs.Types.{is_same, is_same_base}
 use Rattle.ep_typing.specs.Env as env
 use Rattle.ep_typing.specs.Env.{Env, Meaning, Scope, Signature, entry}
 use Rattle.ep_elaboration.specs.Declarators.{name_in, with_name}
-use Rattle.ep_elaboration.specs.Functions.{are_same, file_names, fits_main, function_declared, is_same_signature, is_unlike, named_function, number_of_function, numbered_function, stands_against}
+use Rattle.ep_elaboration.specs.Functions.{are_same, file_names, fits_main, function_declared, is_same_signature}
+use Rattle.ep_elaboration.specs.Functions.{is_unlike, named_function, number_of_function, numbered_function}
+use Rattle.ep_elaboration.specs.Functions.{stands_against}
 use Rattle.ep_elaboration.specs.Statements.{innermost}
 use Rattle.ep_well_formed_laws.specs.Environments.{HasScope}
 use Rattle.ep_well_formed_laws.proofs.Scopes.{HaveNames}

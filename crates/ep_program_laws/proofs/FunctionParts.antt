@@ -1,5 +1,6 @@
 -- Functions: their heads, their blocks and their bodies.
-use Rattle.std.proofs.Common.{◌≡◌, ℕ, suc, ◌+◌, ◌<◌, Bool, true, false, List, [], ◌∷◌, ◌++◌, length, map, slice_get, option_to_list, Option, Ok, refl, sym, ap, ◌∙◌, subst, ◌⊎◌, inl, inr, arith}
+use Rattle.std.proofs.Common.{◌≡◌, ℕ, suc, ◌+◌, ◌<◌, Bool, true, false, List, [], ◌∷◌, ◌++◌, length, map, slice_get}
+use Rattle.std.proofs.Common.{option_to_list, Option, Ok, refl, sym, ap, ◌∙◌, subst, ◌⊎◌, inl, inr, arith}
 use Rattle.ep_int.specs.Memory.{contains}
 use Rattle.ep_ast.specs.Statement.{Function, Parts}
 use Rattle.ep_layout.specs.Table.{Grows, Table}
@@ -14,12 +15,15 @@ use Rattle.ep_typing.specs.Env as env
 use Rattle.ep_typing.specs.Env.{Env, Meaning, Scope, Signature}
 use Rattle.ep_elaboration.specs.Calls.{Stand, stands_in_parts}
 use Rattle.ep_elaboration.specs.Declarations.{Line}
-use Rattle.ep_elaboration.specs.Functions.{Headed, behind_result, body_env, function_declared, numbered_from, own_block, result_at, results, signature_of}
+use Rattle.ep_elaboration.specs.Functions.{Headed, behind_result, body_env, function_declared, numbered_from}
+use Rattle.ep_elaboration.specs.Functions.{own_block, result_at, results, signature_of}
 use Rattle.ep_elaboration.specs.Statements.{blocks_behind, blocks_of, innermost, left, outer, to_core}
 use Rattle.ep_elaboration_laws.specs.StatementRules.{MeansParts}
-use Rattle.ep_well_formed_laws.specs.Environments.{ArePassed, CanName, Covers, EachMeaning, EachName, EachOf, EachTag, IsEnv, IsPassed, IsTyped}
+use Rattle.ep_well_formed_laws.specs.Environments.{ArePassed, CanName, Covers, EachMeaning, EachName, EachOf, EachTag}
+use Rattle.ep_well_formed_laws.specs.Environments.{IsEnv, IsPassed, IsTyped}
 use Rattle.ep_well_formed_laws.specs.Statements.{IsResultOf, StmtsFit}
-use Rattle.ep_well_formed_laws.proofs.DefinedFunctions.{behind_head, frame_covers, function_comes, globals_later, locals_are}
+use Rattle.ep_well_formed_laws.proofs.DefinedFunctions.{behind_head, frame_covers, function_comes, globals_later}
+use Rattle.ep_well_formed_laws.proofs.DefinedFunctions.{locals_are}
 use Rattle.ep_well_formed_laws.proofs.Heads.{HeadComes, IsParamName}
 use Rattle.ep_well_formed_laws.proofs.Lines.{parts_fit}
 use Rattle.ep_well_formed_laws.proofs.Mentions.{more_types}

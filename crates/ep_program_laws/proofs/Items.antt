@@ -1,5 +1,7 @@
 -- What the items of a text keep.
-use Rattle.std.proofs.Common.{◌≡◌, ℕ, ◌+◌, ◌<◌, ◌≤◌, nat_eq, nat_lt, true, false, cond, List, [], ◌∷◌, ◌++◌, length, length-append, slice_get, Option, Some, None, refl, sym, ap, ◌∙◌, subst, inl, inr, arith}
+use Rattle.std.proofs.Common.{◌≡◌, ℕ, ◌+◌, ◌<◌, ◌≤◌, nat_eq, nat_lt, true, false, cond, List, [], ◌∷◌, ◌++◌, length}
+use Rattle.std.proofs.Common.{length-append, slice_get, Option, Some, None, refl, sym, ap, ◌∙◌, subst, inl, inr}
+use Rattle.std.proofs.Common.{arith}
 use Rattle.std.specs.List.{list_all}
 use Rattle.std.proofs.lemmas.Bool.Decides.{nat_tests}
 use Rattle.ep_int.specs.declared.types.Model.{Model}
@@ -11,27 +13,34 @@ use Rattle.ep_core.specs.Program as core
 use Rattle.ep_core.specs.Program.{Block}
 use Rattle.ep_core.specs.WellFormed.{are_different_leaves, init_fits, own_blocks}
 use Rattle.ep_typing.specs.Env.{Env, Signature, no_names}
-use Rattle.ep_elaboration.specs.Calls.{Placed, conditionals, in_arm, in_function, in_functions, in_item, in_items, stands_in_parts}
+use Rattle.ep_elaboration.specs.Calls.{Placed, conditionals, in_arm, in_function, in_functions, in_item, in_items}
+use Rattle.ep_elaboration.specs.Calls.{stands_in_parts}
 use Rattle.ep_elaboration.specs.Functions.{Defined, numbers_of, signature_of}
 use Rattle.ep_elaboration.specs.Programs.{Sofar, begun, functions_in, with_defined, with_env}
 use Rattle.ep_elaboration.specs.Statements.{left, outer}
 use Rattle.ep_elaboration_laws.specs.FunctionRules.{MeansPrototype, is_prototype}
-use Rattle.ep_elaboration_laws.specs.ProgramRules.{MeansItem, MeansItems, item_arms, item_completes, item_declares, item_defines, item_prototype, item_typedefs, more_items, no_items}
+use Rattle.ep_elaboration_laws.specs.ProgramRules.{MeansItem, MeansItems, item_arms, item_completes, item_declares}
+use Rattle.ep_elaboration_laws.specs.ProgramRules.{item_defines, item_prototype, item_typedefs, more_items, no_items}
 use Rattle.ep_well_formed_laws.specs.Environments.{CanName, EachMeaning}
 use Rattle.ep_well_formed_laws.proofs.DefinedFunctions.{behind_head, function_comes}
 use Rattle.ep_well_formed_laws.proofs.Heads.{head_comes}
 use Rattle.ep_well_formed_laws.proofs.Scopes.{HaveNames, each_same}
 use Rattle.ep_well_formed_laws.proofs.Specs.{body_specified, specified}
 use Rattle.ep_well_formed_laws.proofs.Steps.{nothing_more, regrouped}
-use Rattle.ep_program_laws.proofs.Arms.{Advances, AllNamed, arms_walk, definition_advances, definition_named, definition_numbers, each_fits_later, named_on}
+use Rattle.ep_program_laws.proofs.Arms.{Advances, AllNamed, arms_walk, definition_advances, definition_named}
+use Rattle.ep_program_laws.proofs.Arms.{definition_numbers, each_fits_later, named_on}
 use Rattle.ep_program_laws.proofs.Counts.{below, count, count_both}
 use Rattle.ep_program_laws.proofs.CallNames.{CallsTo, EachCall, ScopesFit, each_call, scopes_fit_same}
 use Rattle.ep_program_laws.proofs.DefinedFits.{DefinedFits, defined_stays}
 use Rattle.ep_program_laws.proofs.Definitions.{definition_walks}
-use Rattle.ep_program_laws.proofs.FileSteps.{FileStep, GlobalsCome, all_inits_both, declares_step, different_both, global_item, globals, globals_local, inits_below, inits_stay, step_named, typedef_item}
+use Rattle.ep_program_laws.proofs.FileSteps.{FileStep, GlobalsCome, all_inits_both, declares_step, different_both}
+use Rattle.ep_program_laws.proofs.FileSteps.{global_item, globals, globals_local, inits_below, inits_stay, step_named}
+use Rattle.ep_program_laws.proofs.FileSteps.{typedef_item}
 use Rattle.ep_program_laws.proofs.FunctionNames.{AreNumbered, declared_as, same_file_names}
 use Rattle.ep_program_laws.proofs.FunctionParts.{AtFile, one_scope}
-use Rattle.ep_program_laws.proofs.TextCalls.{BodyCalls, CalledIn, EachDefined, NumbersFit, all_own, called_back, called_front, called_later, called_of, each_both, each_defined, numbers_both, own_both}
+use Rattle.ep_program_laws.proofs.TextCalls.{BodyCalls, CalledIn, EachDefined, NumbersFit, all_own, called_back}
+use Rattle.ep_program_laws.proofs.TextCalls.{called_front, called_later, called_of, each_both, each_defined}
+use Rattle.ep_program_laws.proofs.TextCalls.{numbers_both, own_both}
 
 -- ---- prototypes
 

@@ -1,5 +1,6 @@
 -- What expressions, type words, bounds and bodies declare changes neither names nor blocks nor functions.
-use Rattle.std.proofs.Common.{◌≡◌, ℕ, ◌==◌, Bool, List, [], ◌∷◌, ◌++◌, length, Option, Some, None, is_some, Result, Ok, Err, refl, ◌∙◌, subst}
+use Rattle.std.proofs.Common.{◌≡◌, ℕ, ◌==◌, Bool, List, [], ◌∷◌, ◌++◌, length, Option, Some, None, is_some, Result}
+use Rattle.std.proofs.Common.{Ok, Err, refl, ◌∙◌, subst}
 use Rattle.ep_ast.specs.Expression as source
 use Rattle.ep_ast.specs.Expression.{TypeWord, TypeName}
 use Rattle.ep_ast.specs.Mark.{union_word}
@@ -12,10 +13,17 @@ use Rattle.ep_typing.specs.declared.types.CType.{CType}
 use Rattle.ep_typing.specs.Types.{whole, with_c_type, with_stars, size_of_type, c_type_number}
 use Rattle.ep_typing.specs.Results.{needed}
 use Rattle.ep_typing.specs.Env.{Env, entry, look_up_tag, with_tag}
-use Rattle.ep_typing.specs.Names.{mentioned, mentioned_all, mentioned_name, mentioned_tag, mentioned_word, mentioned_words, named_type, with_type_of}
+use Rattle.ep_typing.specs.Names.{mentioned, mentioned_all, mentioned_name, mentioned_tag, mentioned_word}
+use Rattle.ep_typing.specs.Names.{mentioned_words, named_type, with_type_of}
 use Rattle.ep_elaboration.specs.Declarators.{arrays_of, with_types}
 use Rattle.ep_elaboration.specs.Aggregates.{Named, body_of, closed, has_body, opened, tags_here, with_member}
-use Rattle.ep_elaboration_laws.specs.DeclaratorRules.{MeansBody, MeansBound, MeansBounds, MeansMemberName, MeansMemberNames, MeansMembers, MeansObjectBounds, MeansSpecs, MeansWords, from_list, has_body as is_bodied, is_body, is_bound, is_member_name, is_plain, is_words, listed_with_bound, listed_without_bounds, more_bounds, more_member_names, no_bounds, no_member_names, no_more_members, one_member_more, one_word_more, without_list}
+use Rattle.ep_elaboration_laws.specs.DeclaratorRules.{MeansBody, MeansBound, MeansBounds, MeansMemberName}
+use Rattle.ep_elaboration_laws.specs.DeclaratorRules.{MeansMemberNames, MeansMembers, MeansObjectBounds, MeansSpecs}
+use Rattle.ep_elaboration_laws.specs.DeclaratorRules.{MeansWords, from_list, has_body as is_bodied, is_body, is_bound}
+use Rattle.ep_elaboration_laws.specs.DeclaratorRules.{is_member_name, is_plain, is_words, listed_with_bound}
+use Rattle.ep_elaboration_laws.specs.DeclaratorRules.{listed_without_bounds, more_bounds, more_member_names}
+use Rattle.ep_elaboration_laws.specs.DeclaratorRules.{no_bounds, no_member_names, no_more_members, one_member_more}
+use Rattle.ep_elaboration_laws.specs.DeclaratorRules.{one_word_more, without_list}
 use Rattle.ep_well_formed_laws.proofs.Scopes.{HaveNames, names_on, names_tagged, same_names}
 use Rattle.ep_well_formed_laws.proofs.Specs.{fine_is}
 use Rattle.ep_well_formed_laws.proofs.Tests.{after, unless}

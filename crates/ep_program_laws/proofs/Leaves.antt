@@ -1,5 +1,7 @@
 -- Parts of objects lie in their blocks, behind one another, and have leaves of them.
-use Rattle.std.proofs.Common.{◌≡◌, ℕ, zero, suc, ◌+◌, ◌*◌, ◌<◌, ◌≤◌, nat_eq, nat_lt, Bool, true, false, true≢false, cond, ◌||◌, if◌then◌else◌, List, [], ◌∷◌, ◌++◌, slice_get, Option, Some, option_map, option_and_then, unwrap_or, refl, sym, ap, ◌∙◌, subst, inl, inr, arith}
+use Rattle.std.proofs.Common.{◌≡◌, ℕ, zero, suc, ◌+◌, ◌*◌, ◌<◌, ◌≤◌, nat_eq, nat_lt, Bool, true, false, true≢false}
+use Rattle.std.proofs.Common.{cond, ◌||◌, if◌then◌else◌, List, [], ◌∷◌, ◌++◌, slice_get, Option, Some, option_map}
+use Rattle.std.proofs.Common.{option_and_then, unwrap_or, refl, sym, ap, ◌∙◌, subst, inl, inr, arith}
 use Rattle.std.specs.List.{list_any}
 use Rattle.std.specs.Int.{next_multiple_of}
 use Rattle.std.proofs.lemmas.Bool.Decides.{nat_tests}
@@ -7,8 +9,10 @@ use Rattle.std.proofs.lemmas.Bool.{and_parts, eqb-true}
 use Rattle.ep_int.specs.declared.types.Scalar.{Scalar}
 use Rattle.ep_layout.specs.declared.types.Leaf.{Leaf}
 use Rattle.ep_layout.specs.declared.types.Ty.TheVariants as rows
-use Rattle.ep_layout.specs.Layout.{Layout, array_layout, end_of, first_leaves, greatest_size, leaves_after, repeated, shifted, struct_layout, union_layout}
-use Rattle.ep_layout.specs.Table.{AggregateRow, Grows, IsBuilt, MemberRow, Table, at_aggregate, at_each, is_union, layout_of, layout_rules, members_of, size}
+use Rattle.ep_layout.specs.Layout.{Layout, array_layout, end_of, first_leaves, greatest_size, leaves_after, repeated}
+use Rattle.ep_layout.specs.Layout.{shifted, struct_layout, union_layout}
+use Rattle.ep_layout.specs.Table.{AggregateRow, Grows, IsBuilt, MemberRow, Table, at_aggregate, at_each, is_union}
+use Rattle.ep_layout.specs.Table.{layout_of, layout_rules, members_of, size}
 use Rattle.ep_layout.proofs.Options.{and_then_some, at_each_more, at_each_some, map_some, same_some}
 use Rattle.ep_layout.proofs.PlacingLemmas.{end_rises}
 use Rattle.ep_layout.proofs.Recursion.{types_of}

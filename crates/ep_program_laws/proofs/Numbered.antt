@@ -1,5 +1,7 @@
 -- Functions in their order: each is there, with what its calls ask.
-use Rattle.std.proofs.Common.{◌≡◌, ℕ, suc, ◌==◌, nat_eq, Bool, true, false, true≢false, cond, ◌&&◌, List, [], ◌∷◌, ◌++◌, position, slice_get, Option, Some, None, refl, sym, ap, ◌∙◌, subst, inl, inr, arith}
+use Rattle.std.proofs.Common.{◌≡◌, ℕ, suc, ◌==◌, nat_eq, Bool, true, false, true≢false, cond, ◌&&◌, List, [], ◌∷◌}
+use Rattle.std.proofs.Common.{◌++◌, position, slice_get, Option, Some, None, refl, sym, ap, ◌∙◌, subst, inl, inr}
+use Rattle.std.proofs.Common.{arith}
 use Rattle.std.proofs.lemmas.Bool.Decides.{nat_tests}
 use Rattle.std.proofs.lemmas.Bool.{and_parts, eqb-true}
 use Rattle.ep_int.specs.Memory.{contains}
@@ -11,7 +13,9 @@ use Rattle.ep_layout.proofs.Options.{same_some}
 use Rattle.ep_core.specs.Program as core
 use Rattle.ep_core.specs.Program.{Block, Expr}
 use Rattle.ep_core.specs.Exec.{callee_of}
-use Rattle.ep_core.specs.WellFormed.{are_plain, arguments_fit, block_type, call_fits, can_take, has_scalar, has_type, is_plain, is_tested, place_has, result_type, scoped, scoped_in, simple_fits, stmts_fit, takes_result, what_fits}
+use Rattle.ep_core.specs.WellFormed.{are_plain, arguments_fit, block_type, call_fits, can_take, has_scalar, has_type}
+use Rattle.ep_core.specs.WellFormed.{is_plain, is_tested, place_has, result_type, scoped, scoped_in, simple_fits}
+use Rattle.ep_core.specs.WellFormed.{stmts_fit, takes_result, what_fits}
 use Rattle.ep_core.proofs.Sorts.{either_is, never}
 use Rattle.ep_typing.specs.declared.types.CType.{CType}
 use Rattle.ep_typing.specs.Types.{void_type}

@@ -1,12 +1,15 @@
 -- The order of functions: each behind those that it calls, and just those with bodies.
-use Rattle.std.proofs.Common.{◌≡◌, ℕ, zero, suc, ◌+◌, ◌<◌, ◌≤◌, ◌==◌, nat_eq, Bool, true, false, true≢false, cond, ◌||◌, List, [], ◌∷◌, ◌++◌, length, map, find, Option, Some, None, option_map, unwrap_or, Ok, refl, sym, ap, ◌∙◌, subst, inl, inr, arith}
+use Rattle.std.proofs.Common.{◌≡◌, ℕ, zero, suc, ◌+◌, ◌<◌, ◌≤◌, ◌==◌, nat_eq, Bool, true, false, true≢false, cond}
+use Rattle.std.proofs.Common.{◌||◌, List, [], ◌∷◌, ◌++◌, length, map, find, Option, Some, None, option_map, unwrap_or}
+use Rattle.std.proofs.Common.{Ok, refl, sym, ap, ◌∙◌, subst, inl, inr, arith}
 use Rattle.std.specs.List.{filter}
 use Rattle.std.proofs.lemmas.Bool.Decides.{nat_tests}
 use Rattle.std.proofs.lemmas.Bool.{eqb-true}
 use Rattle.ep_int.specs.Memory.{contains}
 use Rattle.ep_core.proofs.Sorts.{either_is, never}
 use Rattle.ep_typing.specs.Env.{Signature}
-use Rattle.ep_elaboration.specs.Calls.{Call, Place, Placed, call_at, callees, calls_of, is_recursive, one_after_another, reaches, with_function}
+use Rattle.ep_elaboration.specs.Calls.{Call, Place, Placed, call_at, callees, calls_of, is_recursive}
+use Rattle.ep_elaboration.specs.Calls.{one_after_another, reaches, with_function}
 use Rattle.ep_elaboration.specs.Functions.{number_of_function}
 use Rattle.ep_elaboration.specs.Programs.{function_number, none_breaks, place_of}
 use Rattle.ep_call_laws.specs.Leads.{AreAmong, AreInOrder, Descends, DoesCall, calls as leads_on, is_there}

@@ -1,5 +1,6 @@
 -- The functions of a second arm, each over the blocks of the one that it stands for.
-use Rattle.std.proofs.Common.{◌≡◌, ℕ, ◌+◌, Bool, false, if◌then◌else◌, List, ◌++◌, length, slice_get, Option, Some, None, sym, ap, ◌∙◌, subst, ◌⊎◌, arith}
+use Rattle.std.proofs.Common.{◌≡◌, ℕ, ◌+◌, Bool, false, if◌then◌else◌, List, ◌++◌, length, slice_get, Option, Some}
+use Rattle.std.proofs.Common.{None, sym, ap, ◌∙◌, subst, ◌⊎◌, arith}
 use Rattle.ep_int.specs.declared.types.Scalar.{Scalar}
 use Rattle.ep_ast.specs.Statement.{Function, to_parts}
 use Rattle.ep_layout.specs.Table.{Grows, Table}
@@ -12,7 +13,8 @@ use Rattle.ep_typing.specs.Types.{c_type_number}
 use Rattle.ep_typing.specs.Env as env
 use Rattle.ep_typing.specs.Env.{Env, Scope, Signature, entry}
 use Rattle.ep_elaboration.specs.Calls.{stands_in_parts}
-use Rattle.ep_elaboration.specs.Functions.{Body, Defined, Typed, behind_result, body_env, file_names, number_of_function, numbered_from}
+use Rattle.ep_elaboration.specs.Functions.{Body, Defined, Typed, behind_result, body_env, file_names}
+use Rattle.ep_elaboration.specs.Functions.{number_of_function, numbered_from}
 use Rattle.ep_elaboration.specs.Statements.{blocks_behind, innermost, left, to_core}
 use Rattle.ep_elaboration_laws.specs.FunctionRules.{MeansFunction, is_function}
 use Rattle.ep_well_formed_laws.specs.Environments.{IsEnv, IsPlaced}
@@ -24,7 +26,8 @@ use Rattle.ep_well_formed_laws.proofs.Scopes.{name_more}
 use Rattle.ep_well_formed_laws.proofs.Steps.{front}
 use Rattle.ep_program_laws.proofs.Counts.{below, count}
 use Rattle.ep_program_laws.proofs.CallNames.{CallsTo, EachCall, ScopesFit, scopes_fit_same}
-use Rattle.ep_program_laws.proofs.DefinedFits.{BodyFits, DefinedFits, IsTypedBlock, ParamsAre, ResultIs, a_block, no_block}
+use Rattle.ep_program_laws.proofs.DefinedFits.{BodyFits, DefinedFits, IsTypedBlock, ParamsAre, ResultIs, a_block}
+use Rattle.ep_program_laws.proofs.DefinedFits.{no_block}
 use Rattle.ep_program_laws.proofs.Definitions.{param_at, started}
 use Rattle.ep_program_laws.proofs.FunctionNames.{AreNumbered, StayNamed, same_file_names}
 use Rattle.ep_program_laws.proofs.FunctionParts.{AllIn, AtFile, body_walks, one_scope}

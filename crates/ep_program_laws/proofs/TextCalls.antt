@@ -1,5 +1,6 @@
 -- The calls of functions, in the text of a program.
-use Rattle.std.proofs.Common.{◌≡◌, ℕ, ◌+◌, ◌<◌, ◌≤◌, List, [], ◌∷◌, ◌++◌, map, Option, Some, None, refl, ◌⊎◌, inl, inr, arith}
+use Rattle.std.proofs.Common.{◌≡◌, ℕ, ◌+◌, ◌<◌, ◌≤◌, List, [], ◌∷◌, ◌++◌, map, Option, Some, None, refl, ◌⊎◌, inl}
+use Rattle.std.proofs.Common.{inr, arith}
 use Rattle.ep_core.specs.WellFormed.{own_blocks}
 use Rattle.ep_typing.specs.Env.{Signature}
 use Rattle.ep_elaboration.specs.Calls.{Placed, Stand}

@@ -1,5 +1,6 @@
 -- Statements of a function: the blocks that come, and what is called.
-use Rattle.std.proofs.Common.{◌≡◌, ℕ, suc, Bool, true, false, List, [], ◌∷◌, ◌++◌, length, Option, Some, None, Ok, refl, ap, subst, inl, inr, arith}
+use Rattle.std.proofs.Common.{◌≡◌, ℕ, suc, Bool, true, false, List, [], ◌∷◌, ◌++◌, length, Option, Some, None, Ok}
+use Rattle.std.proofs.Common.{refl, ap, subst, inl, inr, arith}
 use Rattle.ep_ast.specs.Expression as source
 use Rattle.ep_ast.specs.Statement.{Part, Parts, Stmt, Stmts}
 use Rattle.ep_core.specs.Program as core
@@ -7,18 +8,29 @@ use Rattle.ep_core.specs.WellFormed.{scoped, scoped_in}
 use Rattle.ep_typing.specs.declared.types.CType.{CType}
 use Rattle.ep_typing.specs.Env.{Env, Signature, no_names}
 use Rattle.ep_typing.specs.Names.{mentioned}
-use Rattle.ep_elaboration.specs.Calls.{Stand, calls_none, evaluation, initialisations, stands, stands_in_part, stands_in_parts, stands_in_stmts}
+use Rattle.ep_elaboration.specs.Calls.{Stand, calls_none, evaluation, initialisations, stands, stands_in_part}
+use Rattle.ep_elaboration.specs.Calls.{stands_in_parts, stands_in_stmts}
 use Rattle.ep_elaboration.specs.Declarations.{Line}
-use Rattle.ep_elaboration.specs.Statements.{blocks_behind, entered, jump, left, nothing_returned, one_line, operand_returned, order_of, returned, to_core, value_returned}
-use Rattle.ep_elaboration_laws.specs.StatementRules.{MeansEvaluation, MeansEvaluationIf, MeansPart, MeansParts, MeansStatement, MeansStatements, MeansTestIf, MeansTestIn, first_declares, first_evaluates, is_arm, is_block, is_break, is_continue, is_do, is_evaluated, is_evaluation, is_for, is_if, is_if_else, is_nothing, is_test_in, is_two_arms, is_while, more_statements, no_evaluation, no_parts_left, no_statements, no_test, one_part_more, part_declares, part_states, returns_nothing, returns_value, some_evaluation, some_test}
+use Rattle.ep_elaboration.specs.Statements.{blocks_behind, entered, jump, left, nothing_returned, one_line}
+use Rattle.ep_elaboration.specs.Statements.{operand_returned, order_of, returned, to_core, value_returned}
+use Rattle.ep_elaboration_laws.specs.StatementRules.{MeansEvaluation, MeansEvaluationIf, MeansPart, MeansParts}
+use Rattle.ep_elaboration_laws.specs.StatementRules.{MeansStatement, MeansStatements, MeansTestIf, MeansTestIn}
+use Rattle.ep_elaboration_laws.specs.StatementRules.{first_declares, first_evaluates, is_arm, is_block, is_break}
+use Rattle.ep_elaboration_laws.specs.StatementRules.{is_continue, is_do, is_evaluated, is_evaluation, is_for, is_if}
+use Rattle.ep_elaboration_laws.specs.StatementRules.{is_if_else, is_nothing, is_test_in, is_two_arms, is_while}
+use Rattle.ep_elaboration_laws.specs.StatementRules.{more_statements, no_evaluation, no_parts_left, no_statements}
+use Rattle.ep_elaboration_laws.specs.StatementRules.{no_test, one_part_more, part_declares, part_states}
+use Rattle.ep_elaboration_laws.specs.StatementRules.{returns_nothing, returns_value, some_evaluation, some_test}
 use Rattle.ep_well_formed_laws.specs.Environments.{HasScope}
 use Rattle.ep_well_formed_laws.proofs.Tests.{after, given, unless}
 use Rattle.ep_typing.specs.Types.{is_void}
 use Rattle.ep_typing.specs.Operand.{Operand, fitted, value_of}
 use Rattle.ep_program_laws.proofs.Counts.{below, count, count_both}
-use Rattle.ep_program_laws.proofs.CallNames.{CallsTo, EachCall, EachCallIn, ScopesFit, callee_number, each_call, each_call_in, no_whole, scopes_fit_same, whole_flat, whole_named}
+use Rattle.ep_program_laws.proofs.CallNames.{CallsTo, EachCall, EachCallIn, ScopesFit, callee_number, each_call}
+use Rattle.ep_program_laws.proofs.CallNames.{each_call_in, no_whole, scopes_fit_same, whole_flat, whole_named}
 use Rattle.ep_program_laws.proofs.Keeps.{Keeps, expression_keeps, keeps_itself}
-use Rattle.ep_program_laws.proofs.Walks.{Still, Walk, calls_first, calls_second, closed, count_lines, count_one, same_blocks, still_as, still_keeps, still_left, still_on, walk_of, walk_on}
+use Rattle.ep_program_laws.proofs.Walks.{Still, Walk, calls_first, calls_second, closed, count_lines, count_one}
+use Rattle.ep_program_laws.proofs.Walks.{same_blocks, still_as, still_keeps, still_left, still_on, walk_of, walk_on}
 use Rattle.ep_program_laws.proofs.WalkedValues.{declaration_walks, scope_comes}
 
 module _ (fs : List Signature) where

@@ -1,5 +1,6 @@
 -- Objects and first values: the blocks and names that come, and what is called.
-use Rattle.std.proofs.Common.{◌≡◌, ℕ, suc, ◌+◌, Bool, false, List, [], ◌∷◌, ◌++◌, length, length-append, map, Option, Some, refl, ap, ◌∙◌, subst, inl, arith}
+use Rattle.std.proofs.Common.{◌≡◌, ℕ, suc, ◌+◌, Bool, false, List, [], ◌∷◌, ◌++◌, length, length-append, map, Option}
+use Rattle.std.proofs.Common.{Some, refl, ap, ◌∙◌, subst, inl, arith}
 use Rattle.ep_ast.specs.Expression as source
 use Rattle.ep_ast.specs.Mark as mark
 use Rattle.ep_ast.specs.Declaration as tree
@@ -16,19 +17,27 @@ use Rattle.ep_typing.specs.Env.{Env, Meaning, Scope, Signature}
 use Rattle.ep_typing.specs.Names.{mentioned}
 use Rattle.ep_elaboration.specs.Calls.{call_in, initialisation, initialisations}
 use Rattle.ep_elaboration.specs.Declarations.{Made}
-use Rattle.ep_elaboration.specs.Declarators.{Object, arrays_of, declared_object, is_taken, name_in, object_of, sized_object, with_types}
+use Rattle.ep_elaboration.specs.Declarators.{Object, arrays_of, declared_object, is_taken, name_in, object_of}
+use Rattle.ep_elaboration.specs.Declarators.{sized_object, with_types}
 use Rattle.ep_elaboration.specs.Given.{Given, cleared, count_listed, line_of_value, object_operand, part_at}
 use Rattle.ep_elaboration.specs.Statements.{to_core}
 use Rattle.ep_elaboration_laws.specs.DeclaratorRules.{MeansObject, is_object}
-use Rattle.ep_elaboration_laws.specs.GivenRules.{MeansAllGiven, MeansDeclaration, MeansFirstValue, MeansGiven, MeansGivenExpression, MeansVariable, MeansVariables, is_declaration, is_first_value, is_given_expression, is_listed, is_single, is_variable, more_values_given, more_variables, no_first_value, no_values_given, no_variables}
+use Rattle.ep_elaboration_laws.specs.GivenRules.{MeansAllGiven, MeansDeclaration, MeansFirstValue, MeansGiven}
+use Rattle.ep_elaboration_laws.specs.GivenRules.{MeansGivenExpression, MeansVariable, MeansVariables, is_declaration}
+use Rattle.ep_elaboration_laws.specs.GivenRules.{is_first_value, is_given_expression, is_listed, is_single}
+use Rattle.ep_elaboration_laws.specs.GivenRules.{is_variable, more_values_given, more_variables, no_first_value}
+use Rattle.ep_elaboration_laws.specs.GivenRules.{no_values_given, no_variables}
 use Rattle.ep_well_formed_laws.specs.Environments.{HasScope}
 use Rattle.ep_well_formed_laws.proofs.Scopes.{HaveNames, same_names}
 use Rattle.ep_well_formed_laws.proofs.Specs.{fine_is}
 use Rattle.ep_well_formed_laws.proofs.Tests.{after, unless}
 use Rattle.ep_program_laws.proofs.Counts.{below, count, lists_one}
-use Rattle.ep_program_laws.proofs.CallNames.{CallsTo, EachCall, EachCallIn, ScopesFit, assigned_flat, assigned_named, callee_number, each_call_in, no_right, right_named, scopes_fit_same}
-use Rattle.ep_program_laws.proofs.Keeps.{Keeps, expression_keeps, keeps_itself, keeps_on, object_bounds_keep, specs_keep}
-use Rattle.ep_program_laws.proofs.Walks.{NamesCome, Walk, come_on, none_come, scopes_fit_more, still_keeps, walk_of, walk_on}
+use Rattle.ep_program_laws.proofs.CallNames.{CallsTo, EachCall, EachCallIn, ScopesFit, assigned_flat, assigned_named}
+use Rattle.ep_program_laws.proofs.CallNames.{callee_number, each_call_in, no_right, right_named, scopes_fit_same}
+use Rattle.ep_program_laws.proofs.Keeps.{Keeps, expression_keeps, keeps_itself, keeps_on, object_bounds_keep}
+use Rattle.ep_program_laws.proofs.Keeps.{specs_keep}
+use Rattle.ep_program_laws.proofs.Walks.{NamesCome, Walk, come_on, none_come, scopes_fit_more, still_keeps, walk_of}
+use Rattle.ep_program_laws.proofs.Walks.{walk_on}
 
 -- ---- objects
 

@@ -7,11 +7,13 @@ use Rattle.ep_typing.specs.Env as env
 use Rattle.ep_typing.specs.Env.{Env, Meaning, Scope, Signature, no_names}
 use Rattle.ep_elaboration.specs.Calls.{Stand}
 use Rattle.ep_elaboration.specs.Declarations.{Line}
-use Rattle.ep_elaboration.specs.Statements.{block_of, blocks_behind, blocks_of, entered, innermost, left, one_line, outer, to_core}
+use Rattle.ep_elaboration.specs.Statements.{block_of, blocks_behind, blocks_of, entered, innermost, left, one_line}
+use Rattle.ep_elaboration.specs.Statements.{outer, to_core}
 use Rattle.ep_well_formed_laws.proofs.Scopes.{HaveNames, names_on}
 use Rattle.ep_well_formed_laws.proofs.Steps.{nothing_more, regrouped, same_left}
 use Rattle.ep_program_laws.proofs.Counts.{below, count, count_both}
-use Rattle.ep_program_laws.proofs.CallNames.{CallsTo, EachCall, NameFits, NamesFit, ScopesFit, calls_back, calls_front, each_call, scopes_fit_same}
+use Rattle.ep_program_laws.proofs.CallNames.{CallsTo, EachCall, NameFits, NamesFit, ScopesFit, calls_back}
+use Rattle.ep_program_laws.proofs.CallNames.{calls_front, each_call, scopes_fit_same}
 use Rattle.ep_program_laws.proofs.Keeps.{Keeps}
 
 -- ---- blocks that come

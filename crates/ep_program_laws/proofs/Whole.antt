@@ -1,5 +1,8 @@
 -- Every program that a source means is well formed.
-use Rattle.std.proofs.Common.{◌≡◌, ℕ, zero, suc, ◌+◌, ◌<◌, ◌≤◌, ◌==◌, nat_eq, nat_lt, Bool, true, false, true≢false, cond, not, ◌&&◌, ◌||◌, if◌then◌else◌, List, [], ◌∷◌, ◌++◌, length, length-append, map, position, slice_get, sum_by, option_map, option_to_list, Option, Some, None, is_some, unwrap_or, Ok, refl, sym, ap, ◌∙◌, subst, inl, inr, arith}
+use Rattle.std.proofs.Common.{◌≡◌, ℕ, zero, suc, ◌+◌, ◌<◌, ◌≤◌, ◌==◌, nat_eq, nat_lt, Bool, true, false, true≢false}
+use Rattle.std.proofs.Common.{cond, not, ◌&&◌, ◌||◌, if◌then◌else◌, List, [], ◌∷◌, ◌++◌, length, length-append, map}
+use Rattle.std.proofs.Common.{position, slice_get, sum_by, option_map, option_to_list, Option, Some, None, is_some}
+use Rattle.std.proofs.Common.{unwrap_or, Ok, refl, sym, ap, ◌∙◌, subst, inl, inr, arith}
 use Rattle.std.specs.List.{flat_map, list_all}
 use Rattle.std.proofs.lemmas.Bool.Decides.{nat_tests}
 use Rattle.std.proofs.lemmas.Bool.{eqb-true}
@@ -14,14 +17,18 @@ use Rattle.ep_core.specs.Program as core
 use Rattle.ep_core.specs.Program.{Block, Expr}
 use Rattle.ep_core.specs.Exec.{callee_of, first_of, frame_of}
 use Rattle.ep_core.specs.Runs.{is_global}
-use Rattle.ep_core.specs.WellFormed.{are_different, are_different_leaves, are_listed, arguments_fit, block_fits, blocks_fit, call_fits, function_fits, functions_fit, holds_scalar, init_fits, is_int_result, is_main, is_well_formed, own_blocks, result_type}
+use Rattle.ep_core.specs.WellFormed.{are_different, are_different_leaves, are_listed, arguments_fit, block_fits}
+use Rattle.ep_core.specs.WellFormed.{blocks_fit, call_fits, function_fits, functions_fit, holds_scalar, init_fits}
+use Rattle.ep_core.specs.WellFormed.{is_int_result, is_main, is_well_formed, own_blocks, result_type}
 use Rattle.ep_core.proofs.Sorts.{either_is, never}
 use Rattle.ep_typing.specs.Types.{int_type}
 use Rattle.ep_typing.specs.Env.{Signature}
 use Rattle.ep_elaboration.specs.Calls.{Call, Placed, calls_of, in_items, is_recursive, one_after_another, with_function}
 use Rattle.ep_elaboration.specs.Functions as functions
-use Rattle.ep_elaboration.specs.Functions.{Defined, behind_result, fits_main, is_same_signature, number_of_function, numbered_from, numbers_of, result_at}
-use Rattle.ep_elaboration.specs.Programs.{Sofar, begun, all_in_order, main_of, numbered, order_of, place_in, place_of, program_of}
+use Rattle.ep_elaboration.specs.Functions.{Defined, behind_result, fits_main, is_same_signature, number_of_function}
+use Rattle.ep_elaboration.specs.Functions.{numbered_from, numbers_of, result_at}
+use Rattle.ep_elaboration.specs.Programs.{Sofar, begun, all_in_order, main_of, numbered, order_of, place_in, place_of}
+use Rattle.ep_elaboration.specs.Programs.{program_of}
 use Rattle.ep_elaboration_laws.specs.ProgramRules.{MeansProgram, is_program, is_sound}
 use Rattle.ep_elaboration_laws.proofs.FunctionOrder.{means_functions_defined}
 use Rattle.ep_elaboration_laws.proofs.ProgramOrder.{means_items}
@@ -32,14 +39,17 @@ use Rattle.ep_well_formed_laws.proofs.Steps.{regrouped}
 use Rattle.ep_well_formed_laws.proofs.Tests.{and_is, is_so, left_is, needed_is, right_is, unless}
 use Rattle.ep_program_laws.specs.Laws.{AllAreSeen}
 use Rattle.ep_program_laws.proofs.Arms.{arm_walks, none_unnamed}
-use Rattle.ep_program_laws.proofs.Counts.{below, contains_counted, count, count_both, counted_contains, different, each_below, each_passes}
+use Rattle.ep_program_laws.proofs.Counts.{below, contains_counted, count, count_both, counted_contains, different}
+use Rattle.ep_program_laws.proofs.Counts.{each_below, each_passes}
 use Rattle.ep_program_laws.proofs.CallNames.{each_call}
 use Rattle.ep_program_laws.proofs.DefinedFits.{DefinedFits}
 use Rattle.ep_program_laws.proofs.FileSteps.{globals}
 use Rattle.ep_program_laws.proofs.FunctionNames.{same_signature}
 use Rattle.ep_program_laws.proofs.Items.{Holds, text_holds}
-use Rattle.ep_program_laws.proofs.Numbered.{AreThere, are_there, arguments_are, at_place, in_order_cons, numbered_has, numbered_is, placed_as, scoped_same, stmts_are, takes_is}
-use Rattle.ep_program_laws.proofs.Ordered.{EachOne, among, does_call, none_breaks_is, once_in_order, order_within, ranks}
+use Rattle.ep_program_laws.proofs.Numbered.{AreThere, are_there, arguments_are, at_place, in_order_cons, numbered_has}
+use Rattle.ep_program_laws.proofs.Numbered.{numbered_is, placed_as, scoped_same, stmts_are, takes_is}
+use Rattle.ep_program_laws.proofs.Ordered.{EachOne, among, does_call, none_breaks_is, once_in_order, order_within}
+use Rattle.ep_program_laws.proofs.Ordered.{ranks}
 use Rattle.ep_program_laws.proofs.Places.{below_length, place_first, place_front, place_is, place_later}
 use Rattle.ep_program_laws.proofs.TextCalls.{BodyCalls, CalledIn, EachDefined, all_own, each_defined}
 

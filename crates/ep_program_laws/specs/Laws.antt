@@ -10,7 +10,8 @@ use Rattle.ep_core.specs.WellFormed.{is_well_formed}
 use Rattle.ep_typing.specs.Env.{Env, entry}
 use Rattle.ep_typing.specs.Results.{◌>>=◌}
 use Rattle.ep_typing_laws.specs.Rules.{refusal}
-use Rattle.ep_elaboration.specs.Functions.{Defined, arms_agree, file_names, functions_defined, number_of_function, numbers_of}
+use Rattle.ep_elaboration.specs.Functions.{Defined, arms_agree, file_names, functions_defined, number_of_function}
+use Rattle.ep_elaboration.specs.Functions.{numbers_of}
 use Rattle.ep_elaboration.specs.Programs.{Sofar, begun, elaborated, items}
 
 -- What a source means in a data model is a well-formed program.

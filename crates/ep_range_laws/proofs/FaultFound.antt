@@ -1,5 +1,6 @@
 -- The test for a pair of which arithmetic is undefined is true exactly where there is one.
-use Rattle.std.proofs.Common.{◌≡◌, ℕ, ◌^◌, ◌≤◌, ℤ, pos, negsuc, ◌+ℤ◌, ◌-ℤ◌, ◌*ℤ◌, ◌≤ℤ◌, ◌<ℤ◌, Bool, true, false, cond, ◌&&◌, ◌⊎◌, inl, inr, Err, is_err, refl, arith, subst}
+use Rattle.std.proofs.Common.{◌≡◌, ℕ, ◌^◌, ◌≤◌, ℤ, pos, negsuc, ◌+ℤ◌, ◌-ℤ◌, ◌*ℤ◌, ◌≤ℤ◌, ◌<ℤ◌, Bool, true, false, cond}
+use Rattle.std.proofs.Common.{◌&&◌, ◌⊎◌, inl, inr, Err, is_err, refl, arith, subst}
 use Rattle.std.specs.Prelude.{int_le, int_lt, unsigned_abs}
 use Rattle.std.proofs.Math.Nat.{pow-le-pow_right, mul-le-mul_left}
 use Rattle.std.proofs.lemmas.Bool.{and_parts, and_from, or_cases, or_left, or_right}
@@ -12,11 +13,15 @@ use Rattle.ep_int.specs.declared.types.Undef.TheVariants.{Overflow, Division, Sh
 use Rattle.ep_int.specs.Types.{bits_of, is_signed, least_of, greatest_of, InRange}
 use Rattle.ep_int.specs.Arith.{arith_of, settled, is_divisible, is_amount}
 use Rattle.ep_range_laws.specs.Ranges.{LiesIn}
-use Rattle.ep_range_laws.specs.Faults.{shown_range, lies_in, may_overflow, may_not_divide, may_pass_width, may_not_shift, may_fault, nearest_amount}
-use Rattle.ep_range_laws.proofs.Comparisons.{le_true, le_false, lt_true, from_le_true, from_le_false, from_lt_true, between_true, from_between, outside_true, from_outside}
+use Rattle.ep_range_laws.specs.Faults.{shown_range, lies_in, may_overflow, may_not_divide, may_pass_width}
+use Rattle.ep_range_laws.specs.Faults.{may_not_shift, may_fault, nearest_amount}
+use Rattle.ep_range_laws.proofs.Comparisons.{le_true, le_false, lt_true, from_le_true, from_le_false, from_lt_true}
+use Rattle.ep_range_laws.proofs.Comparisons.{between_true, from_between, outside_true, from_outside}
 use Rattle.ep_range_laws.proofs.Corners.{product_up}
 use Rattle.ep_range_laws.proofs.Types.{least_negative, least_unsigned}
-use Rattle.ep_range_laws.proofs.Undefined.{IsOut, settled_out, out_settled, error_if, if_error, IsLeastByMinusOne, undivided, not_by_zero, not_by_minus_one, no_amount, amount_false, nearest_same, nearest_above}
+use Rattle.ep_range_laws.proofs.Undefined.{IsOut, settled_out, out_settled, error_if, if_error, IsLeastByMinusOne}
+use Rattle.ep_range_laws.proofs.Undefined.{undivided, not_by_zero, not_by_minus_one, no_amount, amount_false}
+use Rattle.ep_range_laws.proofs.Undefined.{nearest_same, nearest_above}
 use Rattle.ep_range_laws.proofs.FaultAt.{FaultAt, ShownAt, low_lies, high_lies, low_shown, high_shown, each_shown}
 
 -- ---- exact results

@@ -6,9 +6,11 @@ use Rattle.ep_int.specs.declared.types.IntType.{IntType}
 use Rattle.ep_int.specs.declared.types.BinOp.{BinOp}
 use Rattle.ep_int.specs.Arith.{IsRightOperand}
 use Rattle.ep_range_laws.specs.Ranges.{IsRange, LiesIn}
-use Rattle.ep_range_laws.specs.Faults.{Takes, MayFault, IsShown, ShowsRange, shown_range, is_ordered, may_fault, part_of, right_part, range_fault_of}
+use Rattle.ep_range_laws.specs.Faults.{Takes, MayFault, IsShown, ShowsRange, shown_range, is_ordered, may_fault}
+use Rattle.ep_range_laws.specs.Faults.{part_of, right_part, range_fault_of}
 use Rattle.ep_range_laws.proofs.Comparisons.{le_true, from_le_true, le_trans}
-use Rattle.ep_range_laws.proofs.Parts.{part_in_range, part_in_whole, into_part, right_is_right, right_in_whole, into_right}
+use Rattle.ep_range_laws.proofs.Parts.{part_in_range, part_in_whole, into_part, right_is_right, right_in_whole}
+use Rattle.ep_range_laws.proofs.Parts.{into_right}
 use Rattle.ep_range_laws.proofs.FaultAt.{ShownAt, low_lies, low_shown, high_shown, each_shown}
 use Rattle.ep_range_laws.proofs.FaultFound.{fault_found, found_fault}
 

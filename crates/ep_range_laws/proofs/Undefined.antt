@@ -1,5 +1,6 @@
 -- Where arithmetic is undefined of two numbers.
-use Rattle.std.proofs.Common.{◌≡◌, ℕ, zero, suc, ◌*◌, ◌/◌, ◌-◌, ◌≤◌, ℤ, pos, negsuc, ◌≤ℤ◌, ◌<ℤ◌, neg_ℤ, Bool, true, false, cond, not, ◌&&◌, ◌⊎◌, inl, inr, Ok, Err, is_err, refl, ap, ◌∙◌, arith}
+use Rattle.std.proofs.Common.{◌≡◌, ℕ, zero, suc, ◌*◌, ◌/◌, ◌-◌, ◌≤◌, ℤ, pos, negsuc, ◌≤ℤ◌, ◌<ℤ◌, neg_ℤ, Bool, true}
+use Rattle.std.proofs.Common.{false, cond, not, ◌&&◌, ◌⊎◌, inl, inr, Ok, Err, is_err, refl, ap, ◌∙◌, arith}
 use Rattle.std.specs.Prelude.{int_le, int_lt, int_div, unsigned_abs}
 use Rattle.std.specs.Int.{int_min, int_max}
 use Rattle.std.proofs.Math.Nat.{div-le_self}
@@ -10,8 +11,10 @@ use Rattle.ep_int.specs.declared.types.Undef.{Undef}
 use Rattle.ep_int.specs.Types.{bits_of, is_signed, least_of, greatest_of, InRange, wrapped}
 use Rattle.ep_int.specs.Arith.{is_in_range, settled, is_divisible, is_amount}
 use Rattle.ep_range_laws.specs.Faults.{nearest_amount}
-use Rattle.ep_range_laws.proofs.Comparisons.{le_true, le_false, lt_true, lt_false, from_le_true, from_le_false, from_lt_true, from_lt_false, between_false, from_between_false}
-use Rattle.ep_range_laws.proofs.Types.{least_negative, greatest_positive, least_signed, least_unsigned, reach, in_range_true}
+use Rattle.ep_range_laws.proofs.Comparisons.{le_true, le_false, lt_true, lt_false, from_le_true, from_le_false}
+use Rattle.ep_range_laws.proofs.Comparisons.{from_lt_true, from_lt_false, between_false, from_between_false}
+use Rattle.ep_range_laws.proofs.Types.{least_negative, greatest_positive, least_signed, least_unsigned, reach}
+use Rattle.ep_range_laws.proofs.Types.{in_range_true}
 
 -- ---- exact results
 

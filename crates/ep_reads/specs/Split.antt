@@ -1,6 +1,7 @@
 -- Cells that lie partly in a place are split into cells of single bytes, on one side (this project's rules, after Miné
 -- 2006).
-use Rattle.std.specs.Prelude.{ℕ, zero, suc, ◌+◌, Bool, true, ◌&&◌, ◌||◌, nat_eq, if◌then◌else◌, List, [], ◌∷◌, map, Option, Some, None, pos}
+use Rattle.std.specs.Prelude.{ℕ, zero, suc, ◌+◌, Bool, true, ◌&&◌, ◌||◌, nat_eq, if◌then◌else◌, List, [], ◌∷◌, map}
+use Rattle.std.specs.Prelude.{Option, Some, None, pos}
 use Rattle.std.specs.Option.{option_map, option_map_or}
 use Rattle.std.specs.List.{filter}
 use Rattle.ep_int.specs.declared.types.IntType.TheVariants.{U8}
@@ -18,7 +19,8 @@ use Rattle.ep_cells.specs.declared.cell.Cell.{Cell}
 use Rattle.ep_cells.specs.declared.cell.Value.{Value}
 use Rattle.ep_cells.specs.declared.cell.Value.TheVariants.{Num, Ptr}
 use Rattle.ep_cells.specs.declared.place.Place.{Place}
-use Rattle.ep_cells.specs.Cells.{each_becomes, is_partly_in, is_same_cell, is_same_scalar, is_same_side, place_of, put_all, side_without, with_side}
+use Rattle.ep_cells.specs.Cells.{each_becomes, is_partly_in, is_same_cell, is_same_scalar, is_same_side, place_of}
+use Rattle.ep_cells.specs.Cells.{put_all, side_without, with_side}
 use Rattle.ep_cells.specs.Forms.{Fate, reformed}
 use Rattle.ep_cells.specs.Both.{cell_like}
 use Rattle.ep_cells.specs.States.{Known}

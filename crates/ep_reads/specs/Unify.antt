@@ -1,5 +1,6 @@
 -- Two states come to have cells of the same sides, places and types (this project's rules).
-use Rattle.std.specs.Prelude.{ℕ, zero, suc, ◌+◌, Bool, true, false, ◌&&◌, not, if◌then◌else◌, List, [], ◌∷◌, length, map, Some, None, is_some}
+use Rattle.std.specs.Prelude.{ℕ, zero, suc, ◌+◌, Bool, true, false, ◌&&◌, not, if◌then◌else◌, List, [], ◌∷◌, length}
+use Rattle.std.specs.Prelude.{map, Some, None, is_some}
 use Rattle.std.specs.Option.{option_map_or}
 use Rattle.std.specs.List.{list_any, filter}
 use Rattle.ep_int.specs.declared.types.IntType.TheVariants.{I8, U8, I16, U16, I32, U32, I64, U64}
@@ -10,7 +11,8 @@ use Rattle.ep_bitslice.specs.declared.cell.Side.TheVariants.{Left, Shared}
 use Rattle.ep_domain.specs.Domain.{Ops}
 use Rattle.ep_cells.specs.declared.cell.Cell.{Cell}
 use Rattle.ep_cells.specs.declared.place.Place.{Place}
-use Rattle.ep_cells.specs.Cells.{each_becomes, is_same_cell, is_same_side, meets, parts_of, place_of, place_of_name, put_all}
+use Rattle.ep_cells.specs.Cells.{each_becomes, is_same_cell, is_same_side, meets, parts_of, place_of, place_of_name}
+use Rattle.ep_cells.specs.Cells.{put_all}
 use Rattle.ep_cells.specs.Forms.{Fate, reformed}
 use Rattle.ep_cells.specs.Both.{cell_like}
 use Rattle.ep_cells.specs.Reshare.{reshared}

@@ -1,3 +1,5 @@
+//! What is read of a scalar.
+
 use ep_bitslice::Form;
 use ep_cells::Value;
 

@@ -1,5 +1,7 @@
 -- What is read of one byte.
-use Rattle.std.proofs.Common.{◌≡◌, ℕ, ◌+◌, ◌-◌, ◌*◌, ◌/◌, ◌%◌, ◌^◌, ◌<◌, ◌≤◌, ℤ, pos, Bool, true, false, not, cond, IsSomeAnd, IfSome, List, [], ◌∷◌, length, ⊎_elim, Option, Some, None, refl, sym, ◌∙◌, ap, subst, arith}
+use Rattle.std.proofs.Common.{◌≡◌, ℕ, ◌+◌, ◌-◌, ◌*◌, ◌/◌, ◌%◌, ◌^◌, ◌<◌, ◌≤◌, ℤ, pos, Bool, true, false, not, cond}
+use Rattle.std.proofs.Common.{IsSomeAnd, IfSome, List, [], ◌∷◌, length, ⊎_elim, Option, Some, None, refl, sym, ◌∙◌}
+use Rattle.std.proofs.Common.{ap, subst, arith}
 use Rattle.std.specs.Option.{option_map}
 use Rattle.std.specs.List.{list_any}
 use Rattle.std.proofs.lemmas.Bool.{and_parts, or_cases, not-true}
@@ -37,7 +39,8 @@ use Rattle.ep_cells.specs.States.{Known, IsThere, HasWidth, IsFormOf, AreCells}
 use Rattle.ep_cells.specs.Meaning.{Memories, Allows, HasBytes, StandsAt, numbers_of, name_of, HasNumber, FormSays, In}
 use Rattle.ep_cells_laws.proofs.Bytes.{number_of_cell}
 use Rattle.ep_reads.specs.declared.read.ReadValue.{ReadValue}
-use Rattle.ep_reads.specs.Bytes.{byte_form, byte_at, own_form, form_or, form_of_cell, has_targets, is_null_alone, zero_form, number_byte, byte_of_value, byte_of_cell}
+use Rattle.ep_reads.specs.Bytes.{byte_form, byte_at, own_form, form_or, form_of_cell, has_targets, is_null_alone}
+use Rattle.ep_reads.specs.Bytes.{zero_form, number_byte, byte_of_value, byte_of_cell}
 use Rattle.ep_reads_laws.specs.Laws.{IsFormRead}
 use Rattle.ep_reads_laws.proofs.Slices.{IsSlice, slice_is}
 use Rattle.ep_reads_laws.proofs.Numbers.{at_most_eight, small_number, byte_held}

@@ -1,5 +1,6 @@
 -- The cell that has a byte, and what is read there.
-use Rattle.std.proofs.Common.{◌≡◌, ℕ, ◌+◌, ◌-◌, ◌<◌, ◌≤◌, Bool, true, false, ◌&&◌, ◌||◌, nat_eq, nat_le, nat_lt, cond, IfSome, List, [], ◌∷◌, Option, Some, None, refl, subst, arith}
+use Rattle.std.proofs.Common.{◌≡◌, ℕ, ◌+◌, ◌-◌, ◌<◌, ◌≤◌, Bool, true, false, ◌&&◌, ◌||◌, nat_eq, nat_le, nat_lt, cond}
+use Rattle.std.proofs.Common.{IfSome, List, [], ◌∷◌, Option, Some, None, refl, subst, arith}
 use Rattle.std.proofs.lemmas.Bool.{and_parts, eqb-true, leb-true, ltb-true}
 use Rattle.ep_int.specs.declared.types.IntType.TheVariants.{U8}
 use Rattle.ep_int.specs.declared.types.Order.{Order}
@@ -21,7 +22,8 @@ use Rattle.ep_cells.specs.declared.cell.Value.TheVariants.{Num, Ptr}
 use Rattle.ep_reads.specs.Bytes.{order_on, is_null_alone, byte_of_value}
 use Rattle.ep_reads.specs.Read.{byte_read, byte_there, is_zero_value}
 use Rattle.ep_reads_laws.specs.Laws.{memory_on, IsFormRead}
-use Rattle.ep_reads_laws.proofs.Bytes.{null_read, part_read, cell_form_fits, cell_form_says, byte_fits, IsByte, byte_holds}
+use Rattle.ep_reads_laws.proofs.Bytes.{null_read, part_read, cell_form_fits, cell_form_says, byte_fits, IsByte}
+use Rattle.ep_reads_laws.proofs.Bytes.{byte_holds}
 
 -- ---- the covering cell
 

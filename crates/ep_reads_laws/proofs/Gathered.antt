@@ -1,5 +1,6 @@
 -- What is read fits, and holds.
-use Rattle.std.proofs.Common.{◌≡◌, ℕ, zero, suc, ◌+◌, ◌^◌, ◌<◌, ◌≤◌, ℤ, pos, Bool, true, false, ◌&&◌, nat_eq, cond, IfSome, List, ⊎_elim, Option, Some, None, refl, sym, ◌∙◌, ap, subst, arith}
+use Rattle.std.proofs.Common.{◌≡◌, ℕ, zero, suc, ◌+◌, ◌^◌, ◌<◌, ◌≤◌, ℤ, pos, Bool, true, false, ◌&&◌, nat_eq, cond}
+use Rattle.std.proofs.Common.{IfSome, List, ⊎_elim, Option, Some, None, refl, sym, ◌∙◌, ap, subst, arith}
 use Rattle.std.specs.Option.{option_map}
 use Rattle.std.specs.List.{list_any, list_all}
 use Rattle.std.specs.Ordering.{int_eq}
@@ -35,7 +36,9 @@ use Rattle.ep_cells.specs.States.{Known, IsOfSort, HasRisingBlocks, AreCells}
 use Rattle.ep_cells.specs.Meaning.{Memories, Allows, Has, HasBytes, StandsAt, numbers_of, HasNumber, In}
 use Rattle.ep_reads.specs.declared.read.ReadValue.{ReadValue}
 use Rattle.ep_reads.specs.Bytes.{order_on, form_of_cell}
-use Rattle.ep_reads.specs.Read.{is_same_sort, is_exact, whole_read, byte_there, bytes_from, bytes_there, may_be_undefined, may_be_mixed, unsigned_of, sum_of, bits_of_all, is_zero_value, is_undefined_byte, read_in_parts, read_with}
+use Rattle.ep_reads.specs.Read.{is_same_sort, is_exact, whole_read, byte_there, bytes_from, bytes_there}
+use Rattle.ep_reads.specs.Read.{may_be_undefined, may_be_mixed, unsigned_of, sum_of, bits_of_all, is_zero_value}
+use Rattle.ep_reads.specs.Read.{is_undefined_byte, read_in_parts, read_with}
 use Rattle.ep_reads_laws.specs.Laws.{memory_on, IsNumberOf, FindsValue, FitsRead, ReadLaws}
 use Rattle.ep_reads_laws.proofs.Numbers.{is_unsigned, bytes_of_unsigned}
 use Rattle.ep_reads_laws.proofs.Bytes.{cell_form_fits, cell_form_says, IsByte, cell_of}

@@ -1,5 +1,7 @@
 -- Bytes of numbers, and what a domain knows of them and of their sums.
-use Rattle.std.proofs.Common.{◌≡◌, ℕ, suc, ◌+◌, ◌-◌, ◌*◌, ◌/◌, ◌%◌, ◌^◌, ◌<◌, ◌≤◌, ℤ, pos, negsuc, ◌+ℤ◌, ◌*ℤ◌, true, false, ◌&&◌, nat_le, int_le, int_lt, cond, IsTrue, IsSomeAnd, MatchResult, Result, Ok, Err, Option, Some, None, refl, sym, ◌∙◌, ap, subst, arith}
+use Rattle.std.proofs.Common.{◌≡◌, ℕ, suc, ◌+◌, ◌-◌, ◌*◌, ◌/◌, ◌%◌, ◌^◌, ◌<◌, ◌≤◌, ℤ, pos, negsuc, ◌+ℤ◌, ◌*ℤ◌, true}
+use Rattle.std.proofs.Common.{false, ◌&&◌, nat_le, int_le, int_lt, cond, IsTrue, IsSomeAnd, MatchResult, Result, Ok}
+use Rattle.std.proofs.Common.{Err, Option, Some, None, refl, sym, ◌∙◌, ap, subst, arith}
 use Rattle.std.specs.Option.{option_map}
 use Rattle.std.specs.Int.{int_shr}
 use Rattle.std.proofs.lemmas.Int.{ints}

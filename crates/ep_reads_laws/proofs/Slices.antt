@@ -1,12 +1,15 @@
 -- Bits that are few enough are those of a form: slices of forms, and forms one behind the other.
-use Rattle.std.proofs.Common.{◌≡◌, ℕ, zero, suc, ◌+◌, ◌-◌, ◌/◌, ◌%◌, ◌^◌, ◌<◌, ◌≤◌, true, false, List, [], ◌∷◌, ◌++◌, length, take, drop, ⊎_elim, Option, Some, None, refl, sym, ◌∙◌, ap, subst, arith}
+use Rattle.std.proofs.Common.{◌≡◌, ℕ, zero, suc, ◌+◌, ◌-◌, ◌/◌, ◌%◌, ◌^◌, ◌<◌, ◌≤◌, true, false, List, [], ◌∷◌, ◌++◌}
+use Rattle.std.proofs.Common.{length, take, drop, ⊎_elim, Option, Some, None, refl, sym, ◌∙◌, ap, subst, arith}
 use Rattle.std.specs.Option.{option_map_or}
 use Rattle.std.proofs.lemmas.Bool.{or_cases, or_left, or_right}
 use Rattle.ep_bitslice.specs.declared.cell.CellName.{CellName}
 use Rattle.ep_bitslice.specs.declared.segment.Segment.{Segment}
 use Rattle.ep_bitslice.specs.declared.segment.Segment.TheVariants.{Bits, Fixed}
 use Rattle.ep_bitslice.specs.Bits.{Bit, fixed, cell_bit, Numbers, number_of_bits, part_of, is_bit_of, mentions}
-use Rattle.ep_bitslice.specs.Segments.{fixed_bits, run_bits, segment_bits, bits, segment_width, width, number, joined, put_before, bit_segment, normal, IsSegment, AreSegments, IsApart, AreApart, IsForm}
+use Rattle.ep_bitslice.specs.Segments.{fixed_bits, run_bits, segment_bits, bits, segment_width, width, number, joined}
+use Rattle.ep_bitslice.specs.Segments.{put_before, bit_segment, normal, IsSegment, AreSegments, IsApart, AreApart}
+use Rattle.ep_bitslice.specs.Segments.{IsForm}
 use Rattle.ep_bitslice.proofs.Joining.{joined_below, segment-joined}
 use Rattle.ep_bitslice.proofs.NormalForm.{form_is_normal, fewer_in_part}
 use Rattle.ep_bitslice.proofs.Appending.{length-bits, bits-normal}

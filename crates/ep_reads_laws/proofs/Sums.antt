@@ -1,5 +1,7 @@
 -- An integer from its bytes, and its form from theirs.
-use Rattle.std.proofs.Common.{◌≡◌, ℕ, zero, suc, ◌+◌, ◌*◌, ◌^◌, ◌%◌, ◌<◌, ◌≤◌, zero-add, add-zero, ℤ, pos, Bool, true, false, ◌||◌, nat_le, cond, IfSome, List, [], ◌∷◌, ◌++◌, length, length-append, ⊎_elim, Option, Some, None, refl, sym, ◌∙◌, ap, subst, arith}
+use Rattle.std.proofs.Common.{◌≡◌, ℕ, zero, suc, ◌+◌, ◌*◌, ◌^◌, ◌%◌, ◌<◌, ◌≤◌, zero-add, add-zero, ℤ, pos, Bool, true}
+use Rattle.std.proofs.Common.{false, ◌||◌, nat_le, cond, IfSome, List, [], ◌∷◌, ◌++◌, length, length-append, ⊎_elim}
+use Rattle.std.proofs.Common.{Option, Some, None, refl, sym, ◌∙◌, ap, subst, arith}
 use Rattle.std.specs.Option.{option_and_then}
 use Rattle.std.specs.List.{list_any}
 use Rattle.std.proofs.lemmas.Bool.{or_parts, or_cases, or_from, leb-true, cases_order}

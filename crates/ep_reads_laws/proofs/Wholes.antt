@@ -1,5 +1,6 @@
 -- Reads of a whole cell, and values that stand in a memory.
-use Rattle.std.proofs.Common.{◌≡◌, ℕ, ℤ, zero, suc, ◌+◌, ◌*◌, ◌%◌, ◌^◌, ◌<◌, ◌≤◌, zero-add, add-zero, Bool, true, false, cond, IfSome, List, ◌∷◌, Option, Some, None, refl, sym, ◌∙◌, ap, subst, arith}
+use Rattle.std.proofs.Common.{◌≡◌, ℕ, ℤ, zero, suc, ◌+◌, ◌*◌, ◌%◌, ◌^◌, ◌<◌, ◌≤◌, zero-add, add-zero, Bool, true}
+use Rattle.std.proofs.Common.{false, cond, IfSome, List, ◌∷◌, Option, Some, None, refl, sym, ◌∙◌, ap, subst, arith}
 use Rattle.std.specs.Option.{option_map}
 use Rattle.std.specs.List.{list_any}
 use Rattle.std.proofs.Math.Nat.{zero-mod}
@@ -10,7 +11,8 @@ use Rattle.ep_int.specs.declared.types.Scalar.{Scalar}
 use Rattle.ep_int.specs.declared.types.Scalar.TheVariants.{Int, Pointer}
 use Rattle.ep_int.specs.Types.{bytes_of, bits_of, size_of, pointer_bytes, residue, representation, wrapped}
 use Rattle.ep_int.specs.Encoding.{place, byte_of, encoded}
-use Rattle.ep_int.specs.Memory.{Memory, number, Value as Datum, int, null, pointer, Found, has, faults, uninitialised, bytes_from, is_undefined, value_of_bytes, loaded}
+use Rattle.ep_int.specs.Memory.{Memory, number, Value as Datum, int, null, pointer, Found, has, faults, uninitialised}
+use Rattle.ep_int.specs.Memory.{bytes_from, is_undefined, value_of_bytes, loaded}
 use Rattle.ep_int.proofs.Wrapping.{representation_below, representation_represented, wrapped_in_range}
 use Rattle.ep_int.proofs.Memories.{loaded_inside, loaded_of, loaded_pointer_at, loaded_null_at}
 use Rattle.ep_bitslice.specs.declared.cell.Side.{Side}

@@ -4,7 +4,8 @@ use Rattle.std.specs.List.{list_any}
 use Rattle.ep_int.specs.declared.types.Scalar.{Scalar}
 use Rattle.ep_int.specs.declared.types.Scalar.TheVariants.{Int, Pointer}
 use Rattle.ep_int.specs.Types.{bits_of, size_of, residue}
-use Rattle.ep_int.specs.Memory.{Memory, Value as Datum, int, null, pointer, has, bytes_from, is_undefined, value_of_bytes}
+use Rattle.ep_int.specs.Memory.{Memory, Value as Datum, int, null, pointer, has, bytes_from, is_undefined}
+use Rattle.ep_int.specs.Memory.{value_of_bytes}
 use Rattle.ep_bitslice.specs.declared.cell.Side.{Side}
 use Rattle.ep_bitslice.specs.declared.cell.Side.TheVariants.{Left, Right, Shared}
 use Rattle.ep_bitslice.specs.declared.cell.CellName.{CellName}

@@ -4,7 +4,9 @@ ghost use Rattle.std.specs.Prelude.{◌≡◌, ◌<◌, ◌≤◌, ◌+◌, ◌*
 ghost use Rattle.std.specs.Option.{option_map};
 ghost use Rattle.ep_bitslice.specs.Segments.{width};
 ghost use Rattle.ep_cells.specs.States.{HasWidth};
-ghost use Rattle.ep_reads.specs.Bytes.{order_on, byte_value, byte_form, own_form, form_or, form_of_cell, has_targets, is_null_alone, zero_form, undefined_byte, unknown_byte, number_byte, pointer_byte, byte_of_value, byte_of_cell};
+ghost use Rattle.ep_reads.specs.Bytes.{order_on, byte_value, byte_form, own_form, form_or, form_of_cell, has_targets};
+ghost use Rattle.ep_reads.specs.Bytes.{is_null_alone, zero_form, undefined_byte, unknown_byte, number_byte};
+ghost use Rattle.ep_reads.specs.Bytes.{pointer_byte, byte_of_value, byte_of_cell};
 ghost use Rattle.ep_scalar_reads.specs.Parts.{HasFittingForm, HasByte};
 
 use ep_bitslice::{CellName, Form, Side};

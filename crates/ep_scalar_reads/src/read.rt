@@ -4,7 +4,9 @@ ghost use Rattle.std.specs.Prelude.{◌≡◌, ◌<◌, ◌≤◌, ◌^◌, leng
 ghost use Rattle.std.specs.List.{list_all, list_any};
 ghost use Rattle.std.specs.Option.{option_map, option_and_then};
 ghost use Rattle.ep_bitslice.specs.Segments.{width, concat_of, IsForm};
-ghost use Rattle.ep_reads.specs.Read.{is_same_sort, is_exact, converted, whole_read, may_be_undefined, may_be_mixed, unsigned_of, weighted, plus, sum_after, sum_of, integer_read, is_zero_value, is_undefined_byte, pointer_read, read_from_bytes};
+ghost use Rattle.ep_reads.specs.Read.{is_same_sort, is_exact, converted, whole_read, may_be_undefined, may_be_mixed};
+ghost use Rattle.ep_reads.specs.Read.{unsigned_of, weighted, plus, sum_after, sum_of, integer_read, is_zero_value};
+ghost use Rattle.ep_reads.specs.Read.{is_undefined_byte, pointer_read, read_from_bytes};
 ghost use Rattle.ep_int.specs.declared.types.IntType.TheVariants.{U8};
 ghost use Rattle.ep_scalar_reads.specs.Parts.{HaveByteForms, form_with, form_of_all};
 

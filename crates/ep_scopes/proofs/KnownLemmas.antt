@@ -1,5 +1,6 @@
 -- Environments stay known as their tables grow.
-use Rattle.std.proofs.Common.{◌≡◌, ℕ, zero, suc, ◌+◌, ◌<◌, ◌≤◌, nat_eq, Bool, true, false, cond, List, [], ◌∷◌, ◌++◌, length, find, Option, Some, None, Result, Ok, Err, refl, sym, ap, ◌∙◌, subst, arith}
+use Rattle.std.proofs.Common.{◌≡◌, ℕ, zero, suc, ◌+◌, ◌<◌, ◌≤◌, nat_eq, Bool, true, false, cond, List, [], ◌∷◌, ◌++◌}
+use Rattle.std.proofs.Common.{length, find, Option, Some, None, Result, Ok, Err, refl, sym, ap, ◌∙◌, subst, arith}
 use Rattle.std.specs.Prelude.{OnOk}
 use Rattle.std.specs.Str.{bytes_eq}
 use Rattle.std.proofs.lemmas.List.{length_push}
@@ -15,11 +16,15 @@ use Rattle.ep_layout.specs.SameTypes.{is_same_sign}
 use Rattle.ep_typing.specs.declared.types.Base.{Base}
 use Rattle.ep_typing.specs.declared.types.Base.TheVariants as bases
 use Rattle.ep_typing.specs.declared.types.CType.{CType}
-use Rattle.ep_typing.specs.Env.{Env, Scope, Meaning, variable, function, type_name, entry, first_of, look_up, look_up_tag, tag_in, with_tag}
+use Rattle.ep_typing.specs.Env.{Env, Scope, Meaning, variable, function, type_name, entry, first_of, look_up}
+use Rattle.ep_typing.specs.Env.{look_up_tag, tag_in, with_tag}
 use Rattle.ep_typing.specs.Results.{◌>>=◌, at}
 use Rattle.ep_typing.specs.Types.{known_number, with_base, with_pointers, with_c_type, base_number, pointer_number}
-use Rattle.ep_typing.specs.Names.{built_in_types, integer_of, is_whole, meant_tag, meant_type, mentioned_name, mentioned_tag, mentioned_word, mentioned_words, named_type, of_whole, with_type_of, words_type}
-use Rattle.ep_scopes.specs.Known.{IsKnownBase, IsKnown, IsKnownMeaning, AreKnownNames, AreKnownTags, AreKnownScopes, IsKnownEnv}
+use Rattle.ep_typing.specs.Names.{built_in_types, integer_of, is_whole, meant_tag, meant_type, mentioned_name}
+use Rattle.ep_typing.specs.Names.{mentioned_tag, mentioned_word, mentioned_words, named_type, of_whole, with_type_of}
+use Rattle.ep_typing.specs.Names.{words_type}
+use Rattle.ep_scopes.specs.Known.{IsKnownBase, IsKnown, IsKnownMeaning, AreKnownNames, AreKnownTags, AreKnownScopes}
+use Rattle.ep_scopes.specs.Known.{IsKnownEnv}
 
 -- a table that has at least as many types and aggregates
 pub record IsGreater (t u : Table) : Type 0 where

@@ -234,7 +234,8 @@ impl Env {
     pub fn add_function(&mut self, name: &[u8], ty: FunctionType) -> Result<u32, Memory>
         requires { position (λ (s : rule.Signature). bytes_eq name.now s.name) (seen.env self.old).functions ≡ None }
         ensures number { IfOk result (λ n. n ≡ length (seen.env self.old).functions) }
-        ensures grown { OnOk result (seen.env self.new ≡ seen.with_function (seen.env self.old) name.now (seen.function_type ty)) }
+        ensures grown { OnOk result (seen.env self.new
+            ≡ seen.with_function (seen.env self.old) name.now (seen.function_type ty)) }
     {
         let number = as_number(self.functions.len())?;
         let text = self.text(name)?;

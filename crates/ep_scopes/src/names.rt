@@ -40,7 +40,9 @@ pub fn named(env: &Env, line: u32, name: &[u8]) -> Result<Operand, Halt>
 
 // The type of a typedef name.
 fn meant_type(env: &Env, line: u32, name: &[u8]) -> Result<CType, Halt>
-    ensures { Gives (λ c. c) (at line (rule.meant_type (look_up name.now (seen.env env.now).scopes) (entry name.now (rule.built_in_types (seen.env env.now).types.model)))) result }
+    ensures { Gives (λ c. c) (at line
+        (rule.meant_type (look_up name.now (seen.env env.now).scopes)
+        (entry name.now (rule.built_in_types (seen.env env.now).types.model)))) result }
 {
     match env.scopes.get(name) {
         Some(Meaning::Variable(_, _)) => Err(refused(RefusalKind::UnknownName, line)),
@@ -68,7 +70,8 @@ fn is_union(env: &Env, aggregate: u32) -> bool
 
 // The aggregate of a tag, which was declared with the same word.
 fn meant_tag(env: &Env, line: u32, with_union: bool, tag: &[u8]) -> Result<CType, Halt>
-    ensures { Gives (λ c. c) (at line (rule.meant_tag (seen.env env.now) with_union (look_up_tag tag.now (seen.env env.now).scopes))) result }
+    ensures { Gives (λ c. c) (at line
+        (rule.meant_tag (seen.env env.now) with_union (look_up_tag tag.now (seen.env env.now).scopes))) result }
 {
     match env.scopes.tag(tag) {
         Some(aggregate) => {

@@ -71,7 +71,8 @@ impl Scope {
 
     fn add_name(&mut self, alloc: Global, name: &[u8], meaning: Meaning) -> Result<(), AllocError>
         requires { rule.entry name.now (seen.scope self.old).names ≡ None }
-        ensures names { OnOk result ((seen.scope self.new).names ≡ (seen.scope self.old).names ++ (name.now, seen.meaning meaning) ∷ []) }
+        ensures names { OnOk result ((seen.scope self.new).names
+            ≡ (seen.scope self.old).names ++ (name.now, seen.meaning meaning) ∷ []) }
         ensures tags { OnOk result ((seen.scope self.new).tags ≡ (seen.scope self.old).tags) }
     {
         let text = Vec::from_slice(alloc, name)?;
@@ -276,7 +277,8 @@ impl Scopes {
     /// Adds a name to the innermost scope.
     pub fn declare(&mut self, name: &[u8], meaning: Meaning) -> Result<(), AllocError>
         requires { rule.entry name.now (seen.innermost (seen.scopes self.old)).names ≡ None }
-        ensures { OnOk result (seen.scopes self.new ≡ seen.name_in (seen.scopes self.old) name.now (seen.meaning meaning)) }
+        ensures { OnOk result (seen.scopes self.new
+            ≡ seen.name_in (seen.scopes self.old) name.now (seen.meaning meaning)) }
     {
         match self.all.pop() {
             Some(mut scope) => {
@@ -330,7 +332,8 @@ impl Scopes {
 
     /// The blocks of the innermost scope's names behind so many first ones.
     pub fn blocks_behind(&self, names: usize) -> Result<Vec<u32>, AllocError>
-        ensures { IfOk result (λ v. v.items ≡ seen.blocks_of (drop names (seen.innermost (seen.scopes self.now)).names)) }
+        ensures { IfOk result (λ v. v.items
+            ≡ seen.blocks_of (drop names (seen.innermost (seen.scopes self.now)).names)) }
     {
         match self.all.last() {
             Some(scope) => scope.blocks_behind(self.alloc, names),

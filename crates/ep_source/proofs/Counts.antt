@@ -1,10 +1,16 @@
 -- A source has no more tokens than bytes: each takes a byte at least.
-use Rattle.std.proofs.Common.{◌≡◌, refl, ◌∙◌, ap, ℕ, suc, zero, ◌+◌, ◌-◌, ◌≤◌, ◌<◌, ◌⊎◌, inl, inr, Bool, true, false, ◌||◌, not, if◌then◌else◌, nat_eq, List, [], ◌∷◌, ◌++◌, length, drop, Option, Some, slice_index_or, arith, cond}
+use Rattle.std.proofs.Common.{◌≡◌, refl, ◌∙◌, ap, ℕ, suc, zero, ◌+◌, ◌-◌, ◌≤◌, ◌<◌, ◌⊎◌, inl, inr, Bool, true, false}
+use Rattle.std.proofs.Common.{◌||◌, not, if◌then◌else◌, nat_eq, List, [], ◌∷◌, ◌++◌, length, drop, Option, Some}
+use Rattle.std.proofs.Common.{slice_index_or, arith, cond}
 use Rattle.std.proofs.lemmas.Bool.{and_parts}
 use Rattle.std.specs.List.{prefix_len, position_from, starts_with, list_all}
 use Rattle.ep_ast.specs.Token.{Tok, marks}
-use Rattle.ep_ast.specs.Lexeme.{Thing, Gap, here, blank, remark, comment, Begins, at_end, at_newline, a_hash, a_quote, a_name, a_number, a_character, a_mark, Next, is_letter, is_word, is_digit, number_len, mark_at, mark_len, to_line_end, past_comment, line_after}
-use Rattle.ep_ast.specs.Cut.{Place, Stand, none, more, Piece, line_end, word, own_name, defined, literal, sign, include, define, condition, otherwise, end_if, Cuts, ends, piece, after, headers, is_over}
+use Rattle.ep_ast.specs.Lexeme.{Thing, Gap, here, blank, remark, comment, Begins, at_end, at_newline, a_hash, a_quote}
+use Rattle.ep_ast.specs.Lexeme.{a_name, a_number, a_character, a_mark, Next, is_letter, is_word, is_digit, number_len}
+use Rattle.ep_ast.specs.Lexeme.{mark_at, mark_len, to_line_end, past_comment, line_after}
+use Rattle.ep_ast.specs.Cut.{Place, Stand, none, more, Piece, line_end, word, own_name, defined, literal, sign}
+use Rattle.ep_ast.specs.Cut.{include, define, condition, otherwise, end_if, Cuts, ends, piece, after, headers}
+use Rattle.ep_ast.specs.Cut.{is_over}
 
 -- ---- rests
 

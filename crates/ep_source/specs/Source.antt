@@ -23,8 +23,8 @@ pub record Means (m : Model) (source : List ℕ) (program : Program) : Type 0 wh
   pub spells : SpellsTree source tree
   pub means : MeansProgram m tree program
 
--- The first offence of three stages: how the bytes cut, what the tokens are, and what their tree means. A later stage is
--- come to where nothing offends in those before.
+-- The first offence of three stages: how the bytes cut, what the tokens are, and what their tree means. A later stage
+-- is come to where nothing offends in those before.
 pub data Offends (m : Model) (source : List ℕ) : Refusal → Type 0 where
   in_bytes : {r : Refusal} → bytes.Offends start source r → Offends m source r
   in_tokens : {r : Refusal} (ts : List Tok) → Spells source ts → tokens.Offends ts r → Offends m source r

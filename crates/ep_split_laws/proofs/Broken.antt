@@ -1,14 +1,17 @@
 -- Memories in which pointers that lie partly in a place are undefined: what cells say of them, and what a split leaves.
-use Rattle.std.proofs.Common.{◌≡◌, ℕ, ◌+◌, ◌-◌, ◌<◌, Bool, true, false, ◌&&◌, not, nat_eq, nat_le, nat_lt, cond, List, [], ◌∷◌, map, ⊎_elim, Option, Some, None, IfSome, refl, sym, ◌∙◌, ap, subst, arith}
+use Rattle.std.proofs.Common.{◌≡◌, ℕ, ◌+◌, ◌-◌, ◌<◌, Bool, true, false, ◌&&◌, not, nat_eq, nat_le, nat_lt, cond, List}
+use Rattle.std.proofs.Common.{[], ◌∷◌, map, ⊎_elim, Option, Some, None, IfSome, refl, sym, ◌∙◌, ap, subst, arith}
 use Rattle.std.specs.Option.{option_map}
-use Rattle.std.proofs.lemmas.Bool.{and_parts, and_from, and_left, and_right, or_left, or_right, eqb-true, eq-eqb, leb-true, le-leb, lt-ltb, ltb-true, not-true, false_from_ne_true, both_ways}
+use Rattle.std.proofs.lemmas.Bool.{and_parts, and_from, and_left, and_right, or_left, or_right, eqb-true, eq-eqb}
+use Rattle.std.proofs.lemmas.Bool.{leb-true, le-leb, lt-ltb, ltb-true, not-true, false_from_ne_true, both_ways}
 use Rattle.ep_int.specs.declared.types.IntType.{IntType}
 use Rattle.ep_int.specs.declared.types.Order.{Order}
 use Rattle.ep_int.specs.declared.types.Model.{Model}
 use Rattle.ep_int.specs.declared.types.Scalar.{Scalar}
 use Rattle.ep_int.specs.declared.types.Scalar.TheVariants.{Int, Pointer}
 use Rattle.ep_int.specs.Types.{size_of, pointer_bytes}
-use Rattle.ep_int.specs.Memory.{Byte, undefined, number, fragment, Memory, Value as Datum, int, null, pointer, is_number, lies_partly, broken, bytes_of_value}
+use Rattle.ep_int.specs.Memory.{Byte, undefined, number, fragment, Memory, Value as Datum, int, null, pointer}
+use Rattle.ep_int.specs.Memory.{is_number, lies_partly, broken, bytes_of_value}
 use Rattle.ep_bitslice.specs.declared.cell.Side.{Side}
 use Rattle.ep_bitslice.specs.declared.cell.Side.TheVariants.{Left, Right, Shared}
 use Rattle.ep_bitslice.specs.declared.segment.Segment.{Segment}
@@ -20,7 +23,8 @@ use Rattle.ep_cells.specs.declared.cell.Cell.{Cell}
 use Rattle.ep_cells.specs.declared.cell.Value.{Value}
 use Rattle.ep_cells.specs.declared.cell.Value.TheVariants.{Num, Ptr}
 use Rattle.ep_cells.specs.declared.place.Place.{Place}
-use Rattle.ep_cells.specs.Cells.{on_left, on_right, share_memory, place_of, touches, meets, encloses, is_partly_in, is_same_side, IsNamed, IsIn, first, later}
+use Rattle.ep_cells.specs.Cells.{on_left, on_right, share_memory, place_of, touches, meets, encloses, is_partly_in}
+use Rattle.ep_cells.specs.Cells.{is_same_side, IsNamed, IsIn, first, later}
 use Rattle.ep_cells.specs.Forms.{Fate, put_bit, bits_after, form_after, reformed}
 use Rattle.ep_cells.specs.States.{IsThere, IsFormOf, HasForm, AreCells}
 use Rattle.ep_cells.specs.Meaning.{Memories, Allows, HasBytes, In}

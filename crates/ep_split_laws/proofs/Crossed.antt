@@ -1,5 +1,6 @@
 -- Cells that overlap others and aren't alike are split on their sides, or are gone.
-use Rattle.std.proofs.Common.{◌≡◌, ℕ, ◌+◌, ◌<◌, Bool, true, false, not, if◌then◌else◌, cond, List, [], ◌∷◌, ⊎_elim, Option, Some, None, IfSome, refl, sym, ◌∙◌, ap, subst, arith}
+use Rattle.std.proofs.Common.{◌≡◌, ℕ, ◌+◌, ◌<◌, Bool, true, false, not, if◌then◌else◌, cond, List, [], ◌∷◌, ⊎_elim}
+use Rattle.std.proofs.Common.{Option, Some, None, IfSome, refl, sym, ◌∙◌, ap, subst, arith}
 use Rattle.std.specs.Option.{option_map_or}
 use Rattle.std.specs.List.{filter}
 use Rattle.std.proofs.lemmas.Bool.{and_left, and_right, and_cases}
@@ -15,7 +16,8 @@ use Rattle.ep_bitslice.specs.declared.cell.CellName.{CellName}
 use Rattle.ep_bitslice.specs.Segments.{number}
 use Rattle.ep_domain.specs.Domain.{Ops, Lawful}
 use Rattle.ep_cells.specs.declared.cell.Cell.{Cell}
-use Rattle.ep_cells.specs.Cells.{share_memory, place_of, touches, meets, is_same_side, is_same_cell, IsNamed, IsIn, first, later, put_all, each_becomes, parts_on, parts_of}
+use Rattle.ep_cells.specs.Cells.{share_memory, place_of, touches, meets, is_same_side, is_same_cell, IsNamed, IsIn}
+use Rattle.ep_cells.specs.Cells.{first, later, put_all, each_becomes, parts_on, parts_of}
 use Rattle.ep_cells.specs.Both.{cell_like}
 use Rattle.ep_cells.specs.States.{Known, HasForm, EachPair, AreApart, IsCell, AreCells}
 use Rattle.ep_cells.specs.Meaning.{Memories, Allows, HasBytes, Says, numbers_of, HasNumber, FormSays}
@@ -26,11 +28,13 @@ use Rattle.ep_cells_laws.proofs.Write.{numbers_kept}
 use Rattle.ep_cells_laws.proofs.Both.{alike_same, only_one}
 use Rattle.ep_reads.specs.Bytes.{order_on}
 use Rattle.ep_reads.specs.Split.{byte_of, is_name_of}
-use Rattle.ep_reads.specs.Unify.{is_of_one_side, is_byte, bytes_on, crossed_parts, left_by_crossing, fate_by_crossing, crossed_cell, crossed_like, crossed_all, is_crossed, uncrossed}
+use Rattle.ep_reads.specs.Unify.{is_of_one_side, is_byte, bytes_on, crossed_parts, left_by_crossing, fate_by_crossing}
+use Rattle.ep_reads.specs.Unify.{crossed_cell, crossed_like, crossed_all, is_crossed, uncrossed}
 use Rattle.ep_reads_laws.specs.Laws.{memory_on}
 use Rattle.ep_split_laws.proofs.Sides.{on_one, inside_apart, others_apart, named_same}
 use Rattle.ep_split_laws.proofs.Steps.{IsSided, sided_cell, form_more, Misses, apart_misses}
-use Rattle.ep_split_laws.proofs.ByteCells.{IsByteCell, byte_is, byte_cell, IsLoose, integer_loose, byte_says, says_on_side, byte_has_form, byte_numbers, one_of, bytes_pairs}
+use Rattle.ep_split_laws.proofs.ByteCells.{IsByteCell, byte_is, byte_cell, IsLoose, integer_loose, byte_says}
+use Rattle.ep_split_laws.proofs.ByteCells.{says_on_side, byte_has_form, byte_numbers, one_of, bytes_pairs}
 use Rattle.ep_split_laws.proofs.OneSplit.{stored_says, in_range_by}
 use Rattle.ep_split_laws.proofs.Splits.{first_like}
 use Rattle.ep_split_laws.proofs.Same.{Keeps, keeps_same, keeps_trans, sided_kept, GoesTo, IsSameStep, same_step_keeps}

@@ -1,5 +1,7 @@
 -- One cell is split on one side: what is left is a state, and holds.
-use Rattle.std.proofs.Common.{◌≡◌, ℕ, ◌+◌, ◌^◌, ◌%◌, ◌<◌, ℤ, Bool, true, false, ◌&&◌, nat_eq, if◌then◌else◌, cond, IfSome, List, [], ◌∷◌, ◌++◌, ⊎_elim, Option, Some, None, refl, sym, ◌∙◌, ap, subst, arith}
+use Rattle.std.proofs.Common.{◌≡◌, ℕ, ◌+◌, ◌^◌, ◌%◌, ◌<◌, ℤ, Bool, true, false, ◌&&◌, nat_eq, if◌then◌else◌, cond}
+use Rattle.std.proofs.Common.{IfSome, List, [], ◌∷◌, ◌++◌, ⊎_elim, Option, Some, None, refl, sym, ◌∙◌, ap, subst}
+use Rattle.std.proofs.Common.{arith}
 use Rattle.std.specs.Option.{option_map}
 use Rattle.std.proofs.lemmas.Bool.{and_parts, and_left, and_cases, false_from_ne_true, both_ways, cases_Bool}
 use Rattle.ep_int.specs.declared.types.IntType.{IntType}
@@ -18,9 +20,11 @@ use Rattle.ep_domain.specs.Domain.{Ops, Lawful}
 use Rattle.ep_cells.specs.declared.cell.Cell.{Cell}
 use Rattle.ep_cells.specs.declared.cell.Value.{Value}
 use Rattle.ep_cells.specs.declared.cell.Value.TheVariants.{Num, Ptr}
-use Rattle.ep_cells.specs.Cells.{share_memory, side_without, place_of, touches, meets, is_same_side, is_same_scalar, is_same_cell, IsNamed, IsIn, first, later, put_all, each_becomes, with_side}
+use Rattle.ep_cells.specs.Cells.{share_memory, side_without, place_of, touches, meets, is_same_side, is_same_scalar}
+use Rattle.ep_cells.specs.Cells.{is_same_cell, IsNamed, IsIn, first, later, put_all, each_becomes, with_side}
 use Rattle.ep_cells.specs.States.{Known, IsThere, IsFormOf, HasForm, EachPair, AreApart, IsCell, AreCells}
-use Rattle.ep_cells.specs.Meaning.{Memories, Allows, HasBytes, StandsAt, Says, numbers_of, name_of, HasNumber, FormSays, In}
+use Rattle.ep_cells.specs.Meaning.{Memories, Allows, HasBytes, StandsAt, Says, numbers_of, name_of, HasNumber}
+use Rattle.ep_cells.specs.Meaning.{FormSays, In}
 use Rattle.ep_cells_laws.specs.Memories.{AreRewritten}
 use Rattle.ep_cells_laws.proofs.Lists.{each_in, put_all_keeps}
 use Rattle.ep_cells_laws.proofs.Bytes.{number_of_cell}
@@ -34,8 +38,10 @@ use Rattle.ep_reads.specs.Split.{form_beside, byte_of, byte_cells, is_name_of, f
 use Rattle.ep_reads_laws.specs.Laws.{memory_on}
 use Rattle.ep_reads_laws.proofs.Bytes.{own_is_form, form_says_by}
 use Rattle.ep_split_laws.proofs.Steps.{form_more, apart_misses, IsSided, IsStep, step_cells, step_holds}
-use Rattle.ep_split_laws.proofs.Sides.{one_within, on_one, side_same, inside_apart, same_itself, others_apart, named_same}
-use Rattle.ep_split_laws.proofs.ByteCells.{IsByteCell, byte_is, byte_cell, IsLoose, byte_says, says_on_side, byte_has_form, SaysBeside, byte_numbers, one_of, bytes_pairs}
+use Rattle.ep_split_laws.proofs.Sides.{one_within, on_one, side_same, inside_apart, same_itself, others_apart}
+use Rattle.ep_split_laws.proofs.Sides.{named_same}
+use Rattle.ep_split_laws.proofs.ByteCells.{IsByteCell, byte_is, byte_cell, IsLoose, byte_says, says_on_side}
+use Rattle.ep_split_laws.proofs.ByteCells.{byte_has_form, SaysBeside, byte_numbers, one_of, bytes_pairs}
 
 -- ---- what becomes of a cell
 

@@ -1,5 +1,6 @@
 -- Shared cells that face cells of one side are parted.
-use Rattle.std.proofs.Common.{◌≡◌, ℕ, zero, suc, Bool, true, false, ◌&&◌, cond, List, [], ◌∷◌, map, Some, refl, sym, ◌∙◌, ap, subst}
+use Rattle.std.proofs.Common.{◌≡◌, ℕ, zero, suc, Bool, true, false, ◌&&◌, cond, List, [], ◌∷◌, map, Some, refl, sym}
+use Rattle.std.proofs.Common.{◌∙◌, ap, subst}
 use Rattle.std.specs.List.{list_any}
 use Rattle.std.proofs.lemmas.Bool.{and_parts}
 use Rattle.ep_int.specs.declared.types.Model.{Model}
@@ -8,7 +9,8 @@ use Rattle.ep_bitslice.specs.declared.cell.Side.TheVariants.{Left, Right, Shared
 use Rattle.ep_bitslice.specs.declared.cell.CellName.{CellName}
 use Rattle.ep_domain.specs.Domain.{Ops}
 use Rattle.ep_cells.specs.declared.cell.Cell.{Cell}
-use Rattle.ep_cells.specs.Cells.{place_of, place_of_name, meets, is_same_side, IsNamed, IsIn, first, later, put, put_all, each_becomes, parts_on, parts_of}
+use Rattle.ep_cells.specs.Cells.{place_of, place_of_name, meets, is_same_side, IsNamed, IsIn, first, later, put}
+use Rattle.ep_cells.specs.Cells.{put_all, each_becomes, parts_on, parts_of}
 use Rattle.ep_cells.specs.Forms.{reformed}
 use Rattle.ep_cells.specs.States.{Known, Each, EachPair, AreApart, AreCells}
 use Rattle.ep_cells_laws.proofs.Lists.{each_in}

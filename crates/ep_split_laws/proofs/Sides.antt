@@ -1,6 +1,8 @@
 -- Sides of one memory, and cells that don't meet.
-use Rattle.std.proofs.Common.{◌≡◌, ℕ, ◌+◌, ◌<◌, Bool, true, false, ◌&&◌, nat_eq, nat_lt, List, ⊎_elim, refl, sym, ◌∙◌, ap, subst, arith}
-use Rattle.std.proofs.lemmas.Bool.{and_parts, and_from, and_cases, and_left, and_right, eqb-true, eq-eqb, lt-ltb, ltb-true, false_from_ne_true, both_ways}
+use Rattle.std.proofs.Common.{◌≡◌, ℕ, ◌+◌, ◌<◌, Bool, true, false, ◌&&◌, nat_eq, nat_lt, List, ⊎_elim, refl, sym, ◌∙◌}
+use Rattle.std.proofs.Common.{ap, subst, arith}
+use Rattle.std.proofs.lemmas.Bool.{and_parts, and_from, and_cases, and_left, and_right, eqb-true, eq-eqb, lt-ltb}
+use Rattle.std.proofs.lemmas.Bool.{ltb-true, false_from_ne_true, both_ways}
 use Rattle.ep_int.specs.declared.types.Order.{Order}
 use Rattle.ep_int.specs.declared.types.Model.{Model}
 use Rattle.ep_int.specs.declared.types.Scalar.{Scalar}
@@ -12,7 +14,8 @@ use Rattle.ep_bitslice.specs.declared.cell.Side.TheVariants.{Left, Right, Shared
 use Rattle.ep_bitslice.specs.declared.cell.CellName.{CellName}
 use Rattle.ep_bitslice.specs.Bits.{side_number}
 use Rattle.ep_cells.specs.declared.cell.Cell.{Cell}
-use Rattle.ep_cells.specs.Cells.{on_left, on_right, share_memory, is_same_side, is_same_scalar, is_same_cell, scalar_number, place_of, touches, meets, IsNamed, IsIn}
+use Rattle.ep_cells.specs.Cells.{on_left, on_right, share_memory, is_same_side, is_same_scalar, is_same_cell}
+use Rattle.ep_cells.specs.Cells.{scalar_number, place_of, touches, meets, IsNamed, IsIn}
 use Rattle.ep_cells.specs.States.{EachPair, AreApart}
 use Rattle.ep_cells.specs.Meaning.{Memories}
 use Rattle.ep_cells_laws.proofs.Places.{at, Within, within_itself, within_shared, apart_within, side_back, meets_sym}

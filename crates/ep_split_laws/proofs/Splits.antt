@@ -1,8 +1,10 @@
 -- All cells that lie partly in a place are split, one after the other.
-use Rattle.std.proofs.Common.{◌≡◌, ℕ, ◌+◌, Bool, true, false, ◌&&◌, not, nat_eq, nat_le, nat_lt, cond, List, [], ◌∷◌, ⊎_elim, Option, Some, None, refl, sym, ◌∙◌, ap, subst, arith}
+use Rattle.std.proofs.Common.{◌≡◌, ℕ, ◌+◌, Bool, true, false, ◌&&◌, not, nat_eq, nat_le, nat_lt, cond, List, [], ◌∷◌}
+use Rattle.std.proofs.Common.{⊎_elim, Option, Some, None, refl, sym, ◌∙◌, ap, subst, arith}
 use Rattle.std.specs.Option.{option_map_or}
 use Rattle.std.specs.List.{filter, list_any}
-use Rattle.std.proofs.lemmas.Bool.{and_parts, and_from, or_from, le-leb, ltb-true, not-true, false_from_ne_true, both_ways}
+use Rattle.std.proofs.lemmas.Bool.{and_parts, and_from, or_from, le-leb, ltb-true, not-true, false_from_ne_true}
+use Rattle.std.proofs.lemmas.Bool.{both_ways}
 use Rattle.ep_int.specs.declared.types.Model.{Model}
 use Rattle.ep_int.specs.declared.types.Scalar.{Scalar}
 use Rattle.ep_int.specs.Types.{size_of}
@@ -11,7 +13,8 @@ use Rattle.ep_bitslice.specs.declared.cell.Side.TheVariants.{Shared}
 use Rattle.ep_domain.specs.Domain.{Ops, Lawful}
 use Rattle.ep_cells.specs.declared.cell.Cell.{Cell}
 use Rattle.ep_cells.specs.declared.place.Place.{Place}
-use Rattle.ep_cells.specs.Cells.{share_memory, side_without, place_of, touches, meets, encloses, is_partly_in, is_same_side, is_same_cell, IsIn, first, later, put_all, each_becomes}
+use Rattle.ep_cells.specs.Cells.{share_memory, side_without, place_of, touches, meets, encloses, is_partly_in}
+use Rattle.ep_cells.specs.Cells.{is_same_side, is_same_cell, IsIn, first, later, put_all, each_becomes}
 use Rattle.ep_cells.specs.Forms.{reformed}
 use Rattle.ep_cells.specs.Both.{cell_like}
 use Rattle.ep_cells.specs.States.{Known, AreCells, AreAlike}
@@ -20,7 +23,8 @@ use Rattle.ep_cells_laws.proofs.Lists.{in_map, in_each, in_put_all}
 use Rattle.ep_cells_laws.proofs.Places.{at, no_share, share_itself, size_positive}
 use Rattle.ep_cells_laws.proofs.Both.{alike_same, alike_sym, only_one}
 use Rattle.ep_reads.specs.Bytes.{order_on}
-use Rattle.ep_reads.specs.Split.{form_beside, byte_of, byte_cells, fate_by_split, left_by_split, split_cell, cut_cells, split_all, split}
+use Rattle.ep_reads.specs.Split.{form_beside, byte_of, byte_cells, fate_by_split, left_by_split, split_cell}
+use Rattle.ep_reads.specs.Split.{cut_cells, split_all, split}
 use Rattle.ep_split_laws.specs.Laws.{AreBroken, SplitLaws}
 use Rattle.ep_split_laws.proofs.Sides.{on_one, same_itself}
 use Rattle.ep_split_laws.proofs.ByteCells.{byte_is, one_of}

@@ -1,5 +1,6 @@
 -- Two lists in order, walked together.
-use Rattle.std.proofs.Common.{◌≡◌, ℕ, ◌+◌, ◌*◌, ◌&&◌, ◌||◌, nat_eq, nat_lt, Bool, true, false, not, cond, is_some, Some, List, [], ◌∷◌, ◌++◌, append_assoc, append-nil, refl, sym, ◌∙◌, ap, subst}
+use Rattle.std.proofs.Common.{◌≡◌, ℕ, ◌+◌, ◌*◌, ◌&&◌, ◌||◌, nat_eq, nat_lt, Bool, true, false, not, cond, is_some}
+use Rattle.std.proofs.Common.{Some, List, [], ◌∷◌, ◌++◌, append_assoc, append-nil, refl, sym, ◌∙◌, ap, subst}
 use Rattle.std.specs.List.{filter}
 use Rattle.std.proofs.lemmas.Bool.{false_from_ne_true, both_ways}
 use Rattle.ep_bitslice.specs.declared.cell.Side.{Side}

@@ -1,5 +1,6 @@
 -- What is looked for is in a window about its place.
-use Rattle.std.proofs.Common.{◌≡◌, ℕ, ◌+◌, nat_eq, nat_lt, Bool, true, false, ◌&&◌, ◌||◌, not, cond, List, [], ◌∷◌, ◌++◌, append_assoc, Some, refl, sym, ◌∙◌, ap, subst}
+use Rattle.std.proofs.Common.{◌≡◌, ℕ, ◌+◌, nat_eq, nat_lt, Bool, true, false, ◌&&◌, ◌||◌, not, cond, List, [], ◌∷◌}
+use Rattle.std.proofs.Common.{◌++◌, append_assoc, Some, refl, sym, ◌∙◌, ap, subst}
 use Rattle.std.specs.List.{list_any, filter}
 use Rattle.std.proofs.lemmas.Bool.{and_parts, and_from, and_right, eqb-true, eq-eqb, false_from_ne_true, both_ways}
 use Rattle.ep_int.specs.declared.types.Model.{Model}
@@ -8,7 +9,8 @@ use Rattle.ep_bitslice.specs.declared.cell.Side.TheVariants.{Shared}
 use Rattle.ep_bitslice.specs.declared.cell.Side.{Side}
 use Rattle.ep_cells.specs.declared.cell.Cell.{Cell}
 use Rattle.ep_cells.specs.declared.place.Place.{Place}
-use Rattle.ep_cells.specs.Cells.{place_of, share_memory, touches, meets, encloses, is_partly_in, is_same_side, is_same_cell, IsIn, first, later}
+use Rattle.ep_cells.specs.Cells.{place_of, share_memory, touches, meets, encloses, is_partly_in, is_same_side}
+use Rattle.ep_cells.specs.Cells.{is_same_cell, IsIn, first, later}
 use Rattle.ep_cells.specs.Both.{cell_like}
 use Rattle.ep_cells_laws.proofs.Places.{at}
 use Rattle.ep_cells_laws.proofs.Both.{alike_same}

@@ -69,8 +69,8 @@ fn same_twins<N: Num>(l: Option<&Cell<N>>, r: Option<&Cell<N>>) -> Result<Option
     }
 }
 
-/// The Left and the Right cell that begin at an offset, if both are there and surely the same. Costs a look at the cells
-/// by the offset.
+/// The Left and the Right cell that begin at an offset, if both are there and surely the same. Costs a look at the
+/// cells by the offset.
 pub fn twins_at<N: Num>(
     state: &State<N>,
     block: u32,

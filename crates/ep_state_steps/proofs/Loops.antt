@@ -1,5 +1,6 @@
 -- Cells of a list change a state, one after another.
-use Rattle.std.proofs.Common.{◌≡◌, ℕ, ◌+◌, ◌≤◌, List, [], ◌∷◌, ◌++◌, map, length, drop, append_assoc, append-nil, refl, sym, ◌∙◌, ap}
+use Rattle.std.proofs.Common.{◌≡◌, ℕ, ◌+◌, ◌≤◌, List, [], ◌∷◌, ◌++◌, map, length, drop, append_assoc, append-nil}
+use Rattle.std.proofs.Common.{refl, sym, ◌∙◌, ap}
 use Rattle.std.proofs.lemmas.List.{drop_all}
 use Rattle.ep_bitslice.specs.declared.cell.Side.{Side}
 use Rattle.ep_domain.specs.Domain.{Ops}
@@ -7,7 +8,8 @@ use Rattle.ep_cells.specs.declared.cell.Cell.{Cell}
 use Rattle.ep_cells.specs.States.{Known, AreCells}
 use Rattle.ep_reads.specs.Split.{split_like, split_all}
 use Rattle.ep_reads.specs.Unify.{crossed_like, crossed_all}
-use Rattle.ep_step_laws.specs.Single.{facing, begins_as, begins_among, parted_where, shared_where, faced, on_left_alone, is_kind_of, is_kind_among}
+use Rattle.ep_step_laws.specs.Single.{facing, begins_as, begins_among, parted_where, shared_where, faced}
+use Rattle.ep_step_laws.specs.Single.{on_left_alone, is_kind_of, is_kind_among}
 use Rattle.ep_step_laws.proofs.Composed.{map_append}
 use Rattle.ep_step_laws.proofs.Parting.{parted_twice}
 use Rattle.ep_step_laws.proofs.Dropping.{without_twice}

@@ -1,5 +1,6 @@
 -- Cells that are surely the same become one, place after place.
-use Rattle.std.proofs.Common.{◌≡◌, ℕ, ◌+◌, ◌≤◌, Bool, true, false, cond, List, [], ◌∷◌, map, length, drop, Option, Some, None, refl, sym, ◌∙◌, ap, subst}
+use Rattle.std.proofs.Common.{◌≡◌, ℕ, ◌+◌, ◌≤◌, Bool, true, false, cond, List, [], ◌∷◌, map, length, drop, Option}
+use Rattle.std.proofs.Common.{Some, None, refl, sym, ◌∙◌, ap, subst}
 use Rattle.std.proofs.lemmas.List.{drop_all}
 use Rattle.ep_int.specs.declared.types.Model.{Model}
 use Rattle.ep_bitslice.specs.declared.cell.Side.TheVariants.{Left, Right}
@@ -7,7 +8,8 @@ use Rattle.ep_domain.specs.Domain.{Ops}
 use Rattle.ep_cells.specs.declared.cell.Cell.{Cell}
 use Rattle.ep_cells.specs.Cells.{put, each_becomes}
 use Rattle.ep_cells.specs.Forms.{reformed}
-use Rattle.ep_cells.specs.Reshare.{are_same, reshared_cell, left_by_reshare, fate_by_reshare, cell_from, reshared_pair, reshared_at, places, reshared}
+use Rattle.ep_cells.specs.Reshare.{are_same, reshared_cell, left_by_reshare, fate_by_reshare, cell_from}
+use Rattle.ep_cells.specs.Reshare.{reshared_pair, reshared_at, places, reshared}
 use Rattle.ep_cells.specs.States.{Known, AreCells}
 use Rattle.ep_bicells.specs.Steps.{changed_by}
 use Rattle.ep_bicells.specs.declared.changes.Step.TheVariants.{Reshare}

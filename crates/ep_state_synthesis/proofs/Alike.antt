@@ -1,5 +1,6 @@
 -- Two states with cells alike of which none are to be reshared stay as they are where they are unified.
-use Rattle.std.proofs.Common.{◌≡◌, ℕ, ◌+◌, Bool, true, false, ◌&&◌, ◌||◌, not, is_some, cond, List, [], ◌∷◌, ◌++◌, length, map, IfSome, Option, Some, None, refl, sym, ◌∙◌, ap, subst}
+use Rattle.std.proofs.Common.{◌≡◌, ℕ, ◌+◌, Bool, true, false, ◌&&◌, ◌||◌, not, is_some, cond, List, [], ◌∷◌, ◌++◌}
+use Rattle.std.proofs.Common.{length, map, IfSome, Option, Some, None, refl, sym, ◌∙◌, ap, subst}
 use Rattle.std.specs.List.{list_any, filter}
 use Rattle.std.proofs.lemmas.Bool.{and_right, or_left, or_right, both_ways}
 use Rattle.ep_int.specs.declared.types.Model.{Model}
@@ -22,7 +23,8 @@ use Rattle.ep_cells.specs.States.{Known, IsFormOf, EachPair, AreApart, AreCells,
 use Rattle.ep_cells_laws.proofs.Places.{meets_sym}
 use Rattle.ep_cells_laws.proofs.Both.{one, left_first, right_first, one_order, alike_sym}
 use Rattle.ep_reads.specs.Split.{is_name_of}
-use Rattle.ep_reads.specs.Unify.{is_of_one_side, faces, parted_both, is_crossed, crossed_all, uncrossed, uncrossed_both, left_by_lack, fate_by_lack, had_by_both, had_both, unified}
+use Rattle.ep_reads.specs.Unify.{is_of_one_side, faces, parted_both, is_crossed, crossed_all, uncrossed}
+use Rattle.ep_reads.specs.Unify.{uncrossed_both, left_by_lack, fate_by_lack, had_by_both, had_both, unified}
 use Rattle.ep_split_laws.proofs.Sides.{same_itself, named_same}
 use Rattle.ep_cell_steps.proofs.Local.{same_reformed}
 use Rattle.ep_step_laws.proofs.Rounds.{none_parted, times_same}

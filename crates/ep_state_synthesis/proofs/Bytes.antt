@@ -1,5 +1,7 @@
 -- Cells that have a byte, and bytes of places.
-use Rattle.std.proofs.Common.{◌≡◌, ℕ, ◌+◌, ◌-◌, ◌*◌, ◌^◌, ◌<◌, ◌≤◌, zero, suc, pos, Bool, true, false, cond, IfSome, List, [], ◌∷◌, ◌++◌, append_assoc, append-nil, length, Option, Some, None, refl, sym, ◌∙◌, ap, subst, arith}
+use Rattle.std.proofs.Common.{◌≡◌, ℕ, ◌+◌, ◌-◌, ◌*◌, ◌^◌, ◌<◌, ◌≤◌, zero, suc, pos, Bool, true, false, cond, IfSome}
+use Rattle.std.proofs.Common.{List, [], ◌∷◌, ◌++◌, append_assoc, append-nil, length, Option, Some, None, refl, sym}
+use Rattle.std.proofs.Common.{◌∙◌, ap, subst, arith}
 use Rattle.ep_int.specs.declared.types.IntType.{IntType}
 use Rattle.ep_int.specs.declared.types.Order.{Order}
 use Rattle.ep_int.specs.declared.types.Model.{Model}
@@ -21,7 +23,8 @@ use Rattle.ep_cells.specs.declared.place.Place.{Place}
 use Rattle.ep_cells.specs.States.{Known, HasWidth, IsFormOf, AreCells}
 use Rattle.ep_cells.specs.Look.{cell_at}
 use Rattle.ep_reads.specs.declared.read.ReadValue.{ReadValue}
-use Rattle.ep_reads.specs.Bytes.{order_on, byte_at, own_form, form_or, form_of_cell, is_null_alone, zero_form, pointer_byte, byte_of_value, byte_of_cell}
+use Rattle.ep_reads.specs.Bytes.{order_on, byte_at, own_form, form_or, form_of_cell, is_null_alone, zero_form}
+use Rattle.ep_reads.specs.Bytes.{pointer_byte, byte_of_value, byte_of_cell}
 use Rattle.ep_reads.specs.Read.{is_exact, whole_read, byte_there, bytes_from, read_in_parts, read_with, read}
 use Rattle.ep_reads_laws.proofs.Numbers.{at_most_eight}
 use Rattle.ep_reads_laws.proofs.Found.{covering}

@@ -1,5 +1,6 @@
 -- Cells go where a test holds, and forms that mention them.
-use Rattle.std.proofs.Common.{◌≡◌, ℕ, Bool, true, false, ◌||◌, cond, List, [], ◌∷◌, ◌++◌, map, Some, None, refl, sym, ◌∙◌, ap, subst}
+use Rattle.std.proofs.Common.{◌≡◌, ℕ, Bool, true, false, ◌||◌, cond, List, [], ◌∷◌, ◌++◌, map, Some, None, refl, sym}
+use Rattle.std.proofs.Common.{◌∙◌, ap, subst}
 use Rattle.ep_int.specs.declared.types.Model.{Model}
 use Rattle.ep_int.specs.declared.types.Scalar.{Scalar}
 use Rattle.ep_int.specs.declared.types.Scalar.TheVariants.{Int}
@@ -15,7 +16,8 @@ use Rattle.ep_split_laws.proofs.Steps.{IsSided}
 use Rattle.ep_split_laws.proofs.Same.{GoesTo}
 use Rattle.ep_split_laws.proofs.Parted.{stays_to}
 use Rattle.ep_step_laws.specs.Single.{Kinds, left_without, fate_without, without, either_kind}
-use Rattle.ep_step_laws.proofs.Composed.{then_fate, gone_on, changed_twice, same_changes, reformed_same, same_step_cells}
+use Rattle.ep_step_laws.proofs.Composed.{then_fate, gone_on, changed_twice, same_changes, reformed_same}
+use Rattle.ep_step_laws.proofs.Composed.{same_step_cells}
 
 -- ---- one after the other
 

@@ -1,5 +1,6 @@
 -- What is parted, split or lacked has no cell like it in the other state.
-use Rattle.std.proofs.Common.{◌≡◌, Bool, true, false, ◌&&◌, not, cond, List, [], ◌∷◌, is_some, Option, Some, None, refl, sym, ◌∙◌, ap, subst}
+use Rattle.std.proofs.Common.{◌≡◌, Bool, true, false, ◌&&◌, not, cond, List, [], ◌∷◌, is_some, Option, Some, None}
+use Rattle.std.proofs.Common.{refl, sym, ◌∙◌, ap, subst}
 use Rattle.std.specs.List.{list_any, filter}
 use Rattle.std.proofs.lemmas.Bool.{and_parts, both_ways, false_from_ne_true, not-true}
 use Rattle.ep_int.specs.declared.types.Model.{Model}
@@ -15,13 +16,16 @@ use Rattle.ep_cells.specs.States.{Known, AreCells}
 use Rattle.ep_cells_laws.proofs.Places.{at}
 use Rattle.ep_cells_laws.proofs.Both.{alike_same, only_one}
 use Rattle.ep_reads.specs.Split.{is_name_of}
-use Rattle.ep_reads.specs.Unify.{is_of_one_side, is_crossed, crossed_all, uncrossed, left_by_lack, fate_by_lack, had_by_both}
+use Rattle.ep_reads.specs.Unify.{is_of_one_side, is_crossed, crossed_all, uncrossed, left_by_lack, fate_by_lack}
+use Rattle.ep_reads.specs.Unify.{had_by_both}
 use Rattle.ep_split_laws.proofs.Sides.{same_itself, named_same}
 use Rattle.ep_split_laws.proofs.Splits.{first_like, none_like, filter_keeps, filter_tests}
-use Rattle.ep_step_laws.specs.Single.{without_like, shared_at, facing, left_without, fate_without, without, is_kind_among}
+use Rattle.ep_step_laws.specs.Single.{without_like, shared_at, facing, left_without, fate_without, without}
+use Rattle.ep_step_laws.specs.Single.{is_kind_among}
 use Rattle.ep_step_laws.proofs.Composed.{same_changes, reformed_same}
 use Rattle.ep_step_laws.proofs.Dropping.{kind_named, drop_form}
-use Rattle.ep_step_laws.proofs.Members.{bool_same, any_in, any_from, in_filter, filter_within, place_alike, same_back, meet_one}
+use Rattle.ep_step_laws.proofs.Members.{bool_same, any_in, any_from, in_filter, filter_within, place_alike, same_back}
+use Rattle.ep_step_laws.proofs.Members.{meet_one}
 
 -- ---- cells like others
 

@@ -1,5 +1,6 @@
 -- Shared cells are parted where a test holds.
-use Rattle.std.proofs.Common.{◌≡◌, ℕ, Bool, true, false, ◌&&◌, ◌||◌, cond, List, [], ◌∷◌, ◌++◌, map, Option, Some, refl, sym, ◌∙◌, ap, subst}
+use Rattle.std.proofs.Common.{◌≡◌, ℕ, Bool, true, false, ◌&&◌, ◌||◌, cond, List, [], ◌∷◌, ◌++◌, map, Option, Some}
+use Rattle.std.proofs.Common.{refl, sym, ◌∙◌, ap, subst}
 use Rattle.std.specs.List.{list_any}
 use Rattle.ep_int.specs.declared.types.Model.{Model}
 use Rattle.ep_int.specs.declared.types.Scalar.{Scalar}
@@ -10,7 +11,8 @@ use Rattle.ep_bitslice.specs.declared.cell.Side.{Side}
 use Rattle.ep_bitslice.specs.declared.cell.Side.TheVariants.{Left, Right, Shared}
 use Rattle.ep_cells.specs.declared.cell.Cell.{Cell}
 use Rattle.ep_cells.specs.declared.place.Place.{Place}
-use Rattle.ep_cells.specs.Cells.{place_of, meets, is_same_side, IsNamed, IsIn, first, later, put_all, each_becomes, parts_on, parts_of}
+use Rattle.ep_cells.specs.Cells.{place_of, meets, is_same_side, IsNamed, IsIn, first, later, put_all, each_becomes}
+use Rattle.ep_cells.specs.Cells.{parts_on, parts_of}
 use Rattle.ep_cells.specs.Forms.{reformed}
 use Rattle.ep_cells.specs.States.{IsThere, EachPair, AreApart, AreCells}
 use Rattle.ep_cells_laws.proofs.Lists.{each_in}
@@ -20,7 +22,8 @@ use Rattle.ep_split_laws.proofs.Steps.{IsSided, left_pairs}
 use Rattle.ep_split_laws.proofs.Same.{GoesTo, IsSameStep}
 use Rattle.ep_split_laws.proofs.Parted.{put_sorted, parts_sided, parts_pairs, parts_go, stays_to}
 use Rattle.ep_step_laws.specs.Laws.{Agree}
-use Rattle.ep_step_laws.specs.Single.{changed_cells, Spots, parts_where, left_where, name_where, fate_where, parted_where, facing, either}
+use Rattle.ep_step_laws.specs.Single.{changed_cells, Spots, parts_where, left_where, name_where, fate_where}
+use Rattle.ep_step_laws.specs.Single.{parted_where, facing, either}
 use Rattle.ep_step_laws.proofs.Composed.{then_fate, changed_twice, same_changes, reformed_same, same_step_cells}
 
 -- ---- one after the other

@@ -1,7 +1,9 @@
 -- A Left and a Right cell of one place that become a Shared one, as a step.
-use Rattle.std.proofs.Common.{◌≡◌, ℕ, ◌+◌, Bool, true, false, ◌&&◌, ◌||◌, nat_eq, nat_lt, cond, List, [], ◌∷◌, map, ◌⊎◌, inl, inr, ⊎_elim, Option, Some, None, IfSome, refl, sym, ◌∙◌, ap, subst, arith}
+use Rattle.std.proofs.Common.{◌≡◌, ℕ, ◌+◌, Bool, true, false, ◌&&◌, ◌||◌, nat_eq, nat_lt, cond, List, [], ◌∷◌, map}
+use Rattle.std.proofs.Common.{◌⊎◌, inl, inr, ⊎_elim, Option, Some, None, IfSome, refl, sym, ◌∙◌, ap, subst, arith}
 use Rattle.std.specs.Option.{option_map_or}
-use Rattle.std.proofs.lemmas.Bool.{and_parts, and_from, and_right, or_left, or_from, eqb-true, eq-eqb, lt-ltb, both_ways}
+use Rattle.std.proofs.lemmas.Bool.{and_parts, and_from, and_right, or_left, or_from, eqb-true, eq-eqb, lt-ltb}
+use Rattle.std.proofs.lemmas.Bool.{both_ways}
 use Rattle.ep_int.specs.declared.types.Model.{Model}
 use Rattle.ep_int.specs.declared.types.Scalar.{Scalar}
 use Rattle.ep_int.specs.declared.types.Scalar.TheVariants.{Int, Pointer}
@@ -14,10 +16,13 @@ use Rattle.ep_domain.specs.Domain.{Ops}
 use Rattle.ep_cells.specs.declared.cell.Cell.{Cell}
 use Rattle.ep_cells.specs.declared.cell.Value.{Value}
 use Rattle.ep_cells.specs.declared.cell.Value.TheVariants.{Num, Ptr}
-use Rattle.ep_cells.specs.Cells.{share_memory, place_of, touches, meets, is_same_side, is_same_scalar, is_same_cell, IsNamed, IsIn, first, later, put, each_becomes}
+use Rattle.ep_cells.specs.Cells.{share_memory, place_of, touches, meets, is_same_side, is_same_scalar, is_same_cell}
+use Rattle.ep_cells.specs.Cells.{IsNamed, IsIn, first, later, put, each_becomes}
 use Rattle.ep_cells.specs.Forms.{reformed, have_same_form, common_form}
-use Rattle.ep_cells.specs.States.{IsOfSort, HasRisingBlocks, IsThere, IsFormOf, HasForm, EachPair, AreApart, IsCell, AreCells}
-use Rattle.ep_cells.specs.Reshare.{are_one_number, is_integer, are_same, met_value, reshared_cell, left_by_reshare, fate_by_side, fate_by_reshare, cell_from}
+use Rattle.ep_cells.specs.States.{IsOfSort, HasRisingBlocks, IsThere, IsFormOf, HasForm, EachPair, AreApart, IsCell}
+use Rattle.ep_cells.specs.States.{AreCells}
+use Rattle.ep_cells.specs.Reshare.{are_one_number, is_integer, are_same, met_value, reshared_cell, left_by_reshare}
+use Rattle.ep_cells.specs.Reshare.{fate_by_side, fate_by_reshare, cell_from}
 use Rattle.ep_cells_laws.proofs.Lists.{each_in, put_there, put_keeps}
 use Rattle.ep_cells_laws.proofs.Places.{at, size_positive, within_itself}
 use Rattle.ep_cells_laws.proofs.Both.{scalar_same, common_is, form_at, alike_same, only_one}

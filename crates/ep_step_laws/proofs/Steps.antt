@@ -1,5 +1,6 @@
 -- Steps, each with one cell, and what they come to together.
-use Rattle.std.proofs.Common.{◌≡◌, Bool, true, false, ◌&&◌, if◌then◌else◌, cond, List, [], ◌∷◌, ◌++◌, Option, Some, None, IfSome, refl, sym, ◌∙◌, ap, subst}
+use Rattle.std.proofs.Common.{◌≡◌, Bool, true, false, ◌&&◌, if◌then◌else◌, cond, List, [], ◌∷◌, ◌++◌, Option, Some}
+use Rattle.std.proofs.Common.{None, IfSome, refl, sym, ◌∙◌, ap, subst}
 use Rattle.std.specs.Option.{option_map}
 use Rattle.std.specs.List.{filter}
 use Rattle.std.proofs.lemmas.Bool.{and_parts, and_from}
@@ -20,7 +21,9 @@ use Rattle.ep_cells_laws.proofs.Both.{alike_same, only_one}
 use Rattle.ep_reads.specs.Split.{is_name_of}
 use Rattle.ep_split_laws.proofs.Sides.{same_itself, side_same}
 use Rattle.ep_split_laws.proofs.Splits.{filter_keeps, filter_tests}
-use Rattle.ep_step_laws.specs.Single.{changed_cells, Spots, parts_where, left_where, name_where, fate_where, parted_where, facing, begins_as, begins_among, is_shared_where, shared_where, without, is_kind_of, is_kind_among}
+use Rattle.ep_step_laws.specs.Single.{changed_cells, Spots, parts_where, left_where, name_where, fate_where}
+use Rattle.ep_step_laws.specs.Single.{parted_where, facing, begins_as, begins_among, is_shared_where, shared_where}
+use Rattle.ep_step_laws.specs.Single.{without, is_kind_of, is_kind_among}
 use Rattle.ep_step_laws.proofs.Composed.{same_changes}
 use Rattle.ep_step_laws.proofs.Parting.{parted_same}
 use Rattle.ep_step_laws.proofs.Members.{bool_same, any_in, any_from, in_filter}

@@ -13,7 +13,8 @@ use Rattle.ep_cells_laws.proofs.Lists.{in_each, in_map}
 use Rattle.ep_reads.specs.Unify.{is_of_one_side, faces, parted}
 use Rattle.ep_split_laws.proofs.Sides.{side_same}
 use Rattle.ep_split_laws.proofs.Splits.{none_any}
-use Rattle.ep_step_laws.specs.Single.{Spots, parts_where, left_where, fate_where, parted_where, shared_at, facing, either, is_shared_where, shared_where, faced, on_left_alone, without_like}
+use Rattle.ep_step_laws.specs.Single.{Spots, parts_where, left_where, fate_where, parted_where, shared_at, facing}
+use Rattle.ep_step_laws.specs.Single.{either, is_shared_where, shared_where, faced, on_left_alone, without_like}
 use Rattle.ep_step_laws.specs.Laws.{Agree, Turning, more_for}
 use Rattle.ep_step_laws.proofs.Parting.{parted_twice, parted_same, parted_is, where_cells}
 use Rattle.ep_step_laws.proofs.Composed.{map_append}

@@ -11,7 +11,8 @@ use Rattle.ep_cells.specs.Forms.{reformed}
 use Rattle.ep_cells.specs.Reshare.{are_same, cell_from, reshared_cell, left_by_reshare, fate_by_reshare}
 use Rattle.ep_cells.specs.States.{Known, AreCells}
 use Rattle.ep_reads.specs.Unify.{parted, is_crossed, crossed_all, uncrossed, had_by_both}
-use Rattle.ep_step_laws.specs.Single.{Spots, parted_where, facing, either, faced, on_left_alone, Kinds, without, is_kind_among, either_kind, without_like}
+use Rattle.ep_step_laws.specs.Single.{Spots, parted_where, facing, either, faced, on_left_alone, Kinds, without}
+use Rattle.ep_step_laws.specs.Single.{is_kind_among, either_kind, without_like}
 
 -- the tests agree on the Shared ones of these cells
 abbrev pub Agree : {N : Type 0} → Spots → Spots → List (Cell N) → Type 0

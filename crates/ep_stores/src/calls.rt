@@ -146,7 +146,8 @@ pub fn all_passed(
     parameters: &[Parameter],
     values: Vec<Value>,
 ) -> Result<Vec<Expr>, Halt>
-    ensures { Gives (λ v. map shown_expr v.items) (at line (rule.all_passed (map seen.parameter parameters.now) (map seen.value values.items))) result }
+    ensures { Gives (λ v. map shown_expr v.items)
+        (at line (rule.all_passed (map seen.parameter parameters.now) (map seen.value values.items))) result }
 {
     let mut arguments = Vec::new(alloc);
     let mut kind = None;

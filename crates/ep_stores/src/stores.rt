@@ -143,7 +143,8 @@ pub fn updated(
     old: Value,
     y: Operand,
 ) -> Result<What, Halt>
-    ensures { Gives shown_what (at line (simply (updated_with types.now mark (seen.operand x) (seen.value old) (seen.operand y)))) result }
+    ensures { Gives shown_what (at line
+        (simply (updated_with types.now mark (seen.operand x) (seen.value old) (seen.operand y)))) result }
 {
     let v = value_of(alloc, types, line, y)?;
     let w = operated(alloc, types, line, mark, old, v)?;

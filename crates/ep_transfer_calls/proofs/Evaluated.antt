@@ -1,5 +1,6 @@
 -- Arguments are evaluated in order.
-use Rattle.std.proofs.Common.{◌≡◌, ℕ, zero, suc, ◌+◌, ◌<◌, List, [], ◌∷◌, ◌++◌, length, map, drop, get_or, sym, ap, ◌∙◌, append_assoc, subst, arith}
+use Rattle.std.proofs.Common.{◌≡◌, ℕ, zero, suc, ◌+◌, ◌<◌, List, [], ◌∷◌, ◌++◌, length, map, drop, get_or, sym, ap}
+use Rattle.std.proofs.Common.{◌∙◌, append_assoc, subst, arith}
 use Rattle.std.proofs.lemmas.List.{drop_more}
 use Rattle.ep_int.specs.declared.types.Scalar.{Scalar}
 use Rattle.ep_domain.specs.Domain.{Ops}

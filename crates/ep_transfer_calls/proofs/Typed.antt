@@ -1,5 +1,6 @@
 -- What the tests of a well-formed program tell of arguments, and of places that take results.
-use Rattle.std.proofs.Common.{◌≡◌, ℕ, Bool, true, ◌&&◌, nat_eq, List, [], ◌∷◌, slice_get, Option, Some, None, option_to_list, refl, subst}
+use Rattle.std.proofs.Common.{◌≡◌, ℕ, Bool, true, ◌&&◌, nat_eq, List, [], ◌∷◌, slice_get, Option, Some, None}
+use Rattle.std.proofs.Common.{option_to_list, refl, subst}
 use Rattle.std.specs.List.{list_all}
 use Rattle.std.specs.Option.{option_and_then}
 use Rattle.std.proofs.lemmas.Bool.{and_parts}
@@ -8,7 +9,8 @@ use Rattle.ep_int.specs.declared.types.Scalar.TheVariants.{Int as Number, Pointe
 use Rattle.ep_layout.specs.declared.types.Ty.{Ty}
 use Rattle.ep_layout.specs.declared.types.Ty.TheVariants.{Void, Int, Ptr, Array, Aggregate}
 use Rattle.ep_core.specs.Program.{Expr, Dest, Function, Program}
-use Rattle.ep_core.specs.WellFormed.{has_scalar, has_type, place_has, ty_at, can_take, takes_result, block_type, holds_scalar, result_type, arguments_fit, is_well_formed}
+use Rattle.ep_core.specs.WellFormed.{has_scalar, has_type, place_has, ty_at, can_take, takes_result, block_type}
+use Rattle.ep_core.specs.WellFormed.{holds_scalar, result_type, arguments_fit, is_well_formed}
 use Rattle.ep_core.proofs.Operands.{holds_at}
 use Rattle.ep_core.proofs.Sorts.{never, type_where, typed_where, sort_scalar, same_scalar}
 use Rattle.ep_transfer_stores.specs.Typed.{IsExpr, IsPlace}

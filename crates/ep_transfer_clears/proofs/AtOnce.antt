@@ -1,5 +1,7 @@
 -- A clear at one place is one change of the cells there, where none lies partly in its bytes.
-use Rattle.std.proofs.Common.{◌≡◌, ℕ, zero, suc, ◌+◌, ◌-◌, ◌^◌, ◌<◌, ◌≤◌, Bool, true, false, ◌&&◌, ◌||◌, nat_eq, nat_lt, if◌then◌else◌, List, [], ◌∷◌, ◌++◌, Option, Some, None, IfSome, refl, sym, ap, ◌∙◌, subst, append_assoc, arith, drop}
+use Rattle.std.proofs.Common.{◌≡◌, ℕ, zero, suc, ◌+◌, ◌-◌, ◌^◌, ◌<◌, ◌≤◌, Bool, true, false, ◌&&◌, ◌||◌, nat_eq}
+use Rattle.std.proofs.Common.{nat_lt, if◌then◌else◌, List, [], ◌∷◌, ◌++◌, Option, Some, None, IfSome, refl, sym, ap}
+use Rattle.std.proofs.Common.{◌∙◌, subst, append_assoc, arith, drop}
 use Rattle.std.specs.Option.{option_map_or}
 use Rattle.std.proofs.lemmas.Bool.{and_from, and_parts, eq-eqb}
 use Rattle.std.proofs.lemmas.Bool.Decides.{nat_tests}
@@ -32,13 +34,15 @@ use Rattle.ep_equalities.specs.declared.pair.Mode.TheVariants.{Both, Left, Right
 use Rattle.ep_split_laws.specs.Laws.{SplitLaws}
 use Rattle.ep_transfers.specs.Places.{Places, moved_spots, moved_places}
 use Rattle.ep_transfers.specs.Transfers.{zero_item, undefined_item, cleared_here, cleared_from}
-use Rattle.ep_transfers.specs.Writes.{Item, underway, value_of_same, write_side, write_both, write_same, write_shared, write_shared_each, write_now}
+use Rattle.ep_transfers.specs.Writes.{Item, underway, value_of_same, write_side, write_both, write_same, write_shared}
+use Rattle.ep_transfers.specs.Writes.{write_shared_each, write_now}
 use Rattle.ep_transfer_writes.proofs.Standing.{new_stands, common_fits, same_sort}
 use Rattle.ep_transfer_writes.specs.Running.{RunsAt, item_cell}
 use Rattle.ep_transfer_writes.specs.Waiting.{ItemFits, CanStand}
 use Rattle.ep_transfer_clears.specs.OnePlace.{cells_here, cells_from}
 use Rattle.ep_transfer_clears.specs.Walk.{first_at, IsAt}
-use Rattle.ep_transfer_clears.proofs.Stepping.{starts, leaf_is, inside_is, no_leaf, leaf_begins, leaf_ends, leaf_low, end_low}
+use Rattle.ep_transfer_clears.proofs.Stepping.{starts, leaf_is, inside_is, no_leaf, leaf_begins, leaf_ends, leaf_low}
+use Rattle.ep_transfer_clears.proofs.Stepping.{end_low}
 use Rattle.ep_transfer_clears.proofs.Tiles.{IsTile, Tiles, tiles_new, in_turn, in_turn_append, in_turn_model, at_once}
 use Rattle.ep_transfer_clears.proofs.Zeros.{zero_fits, undefined_fits}
 

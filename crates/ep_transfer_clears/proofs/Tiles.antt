@@ -1,5 +1,6 @@
 -- Cells that lie one behind the other and mention no cell: to write one after the other is to write all at once.
-use Rattle.std.proofs.Common.{◌≡◌, ℕ, ◌+◌, ◌-◌, ◌≤◌, Bool, true, false, ◌&&◌, nat_eq, nat_lt, nat_le, List, [], ◌∷◌, ◌++◌, map, Option, Some, None, IfSome, refl, sym, ap, ◌∙◌, subst, arith}
+use Rattle.std.proofs.Common.{◌≡◌, ℕ, ◌+◌, ◌-◌, ◌≤◌, Bool, true, false, ◌&&◌, nat_eq, nat_lt, nat_le, List, [], ◌∷◌}
+use Rattle.std.proofs.Common.{◌++◌, map, Option, Some, None, IfSome, refl, sym, ap, ◌∙◌, subst, arith}
 use Rattle.std.specs.Option.{option_map_or}
 use Rattle.std.proofs.lemmas.Bool.Decides.{nat_tests}
 use Rattle.ep_int.specs.declared.types.Model.{Model}
@@ -22,7 +23,8 @@ use Rattle.ep_cells_laws.proofs.Lists.{each_from}
 use Rattle.ep_cells_laws.proofs.Places.{at}
 use Rattle.ep_cell_steps.proofs.Local.{same_reformed}
 use Rattle.ep_reads.specs.Split.{cut_cells, fate_by_split, split_like}
-use Rattle.ep_cell_ranges.specs.Ranges.{Form, with_form, form_by_splits, form_by_split, split_at, form_by_cut, replaced, form_by_replace}
+use Rattle.ep_cell_ranges.specs.Ranges.{Form, with_form, form_by_splits, form_by_split, split_at, form_by_cut}
+use Rattle.ep_cell_ranges.specs.Ranges.{replaced, form_by_replace}
 use Rattle.ep_cell_ranges_laws.specs.Laws.{MoreSplitLaws, ReplaceLaws}
 use Rattle.ep_cell_ranges_laws.specs.Sound.{AreNew, IsInside, Misses}
 use Rattle.ep_split_laws.specs.Laws.{SplitLaws}

@@ -1,5 +1,7 @@
 -- The first cells of all blocks are cells of a state.
-use Rattle.std.proofs.Common.{◌≡◌, ℕ, zero, suc, ◌+◌, ◌<◌, ◌≤◌, ℤ, pos, Bool, true, false, ◌||◌, if◌then◌else◌, List, [], ◌∷◌, ◌++◌, ⊎_elim, slice_get, Option, Some, None, unwrap_or, refl, sym, ap, ◌∙◌, subst, arith}
+use Rattle.std.proofs.Common.{◌≡◌, ℕ, zero, suc, ◌+◌, ◌<◌, ◌≤◌, ℤ, pos, Bool, true, false, ◌||◌, if◌then◌else◌, List}
+use Rattle.std.proofs.Common.{[], ◌∷◌, ◌++◌, ⊎_elim, slice_get, Option, Some, None, unwrap_or, refl, sym, ap, ◌∙◌}
+use Rattle.std.proofs.Common.{subst, arith}
 use Rattle.ep_int.specs.declared.types.IntType.{IntType}
 use Rattle.ep_int.specs.declared.types.IntType.TheVariants.{U8}
 use Rattle.ep_int.specs.declared.types.Order.TheVariants.{Little}
@@ -29,7 +31,8 @@ use Rattle.ep_core.proofs.Operands.{sizes}
 use Rattle.ep_cell_ranges.specs.First.{filled_here, filled_from}
 use Rattle.ep_cell_ranges_laws.specs.Sound.{IsMade, AreMade, IsFilled, of_leaf, of_byte}
 use Rattle.ep_cell_ranges_laws.proofs.Firsts.{of_firsts}
-use Rattle.ep_transfers.specs.Ends.{value_in, first_cell, zero_byte, first_here, first_from, main_result, first_of_block, first_of_blocks}
+use Rattle.ep_transfers.specs.Ends.{value_in, first_cell, zero_byte, first_here, first_from, main_result}
+use Rattle.ep_transfers.specs.Ends.{first_of_block, first_of_blocks}
 use Rattle.ep_transfers_laws.proofs.Kills.{room}
 
 -- ---- forms of constants

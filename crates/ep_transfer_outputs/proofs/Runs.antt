@@ -1,5 +1,6 @@
 -- Bytes that are put out one after another.
-use Rattle.std.proofs.Common.{◌≡◌, ℕ, suc, ◌+◌, ◌-◌, ◌<◌, Bool, true, false, ◌&&◌, List, ◌++◌, None, Some, refl, sym, ap, ◌∙◌, append_assoc, arith}
+use Rattle.std.proofs.Common.{◌≡◌, ℕ, suc, ◌+◌, ◌-◌, ◌<◌, Bool, true, false, ◌&&◌, List, ◌++◌, None, Some, refl, sym}
+use Rattle.std.proofs.Common.{ap, ◌∙◌, append_assoc, arith}
 use Rattle.std.proofs.lemmas.List.{append-nil}
 use Rattle.ep_domain.specs.Domain.{Ops}
 use Rattle.ep_alarms.specs.declared.types.AlarmKind.TheVariants.{U4, U10}
@@ -16,7 +17,8 @@ use Rattle.ep_eval_sides.specs.Sides.{pick}
 use Rattle.ep_eval_loads.specs.declared.loads.SideReads.{SideReads}
 use Rattle.ep_eval_loads.proofs.LoadSteps.{shown_is}
 use Rattle.ep_transfers.specs.Places.{Places, at_side, on_all, moved_spots}
-use Rattle.ep_transfers.specs.Transfers.{Stepped, stepped, after_faults, bytes_out, byte_pair, byte_reads, byte_faults, differs}
+use Rattle.ep_transfers.specs.Transfers.{Stepped, stepped, after_faults, bytes_out, byte_pair, byte_reads}
+use Rattle.ep_transfers.specs.Transfers.{byte_faults, differs}
 use Rattle.ep_transfer_outputs.specs.Bytes.{AreReads, goes_on, next_faults}
 
 module _ {N : Type 0} (D : Ops N) (m : Mode) (same : Bool) (k : Known N) (p : Places) where

@@ -56,7 +56,8 @@ fn note_reads<N: Num>(
 ) -> Result<(), Memory>
     ensures { IfOk result (λ _. faults.new.items ≡ faults.old.items
         ++ (given.faults_on mode AlarmKind.U4 (pick (given.shown_if left.now.unset) (given.shown_if right.now.unset))
-        ++ given.faults_on mode AlarmKind.U10 (pick (given.shown_if left.now.mixed) (given.shown_if right.now.mixed)))) }
+        ++ given.faults_on mode AlarmKind.U10
+        (pick (given.shown_if left.now.mixed) (given.shown_if right.now.mixed)))) }
 {
     note(
         faults,
@@ -84,7 +85,8 @@ fn byte_pair<N: Num>(
     faults: &mut Vec<Fault>,
 ) -> Result<PairValue<N>, Memory>
     requires room { BothHaveRoom (byte + 1) (shown_places places.now) }
-    ensures value { IfOk result (λ v. v ≡ spec.byte_pair N.ops mode same_from state.now (shown_places places.now) byte) }
+    ensures value { IfOk result (λ v. v
+        ≡ spec.byte_pair N.ops mode same_from state.now (shown_places places.now) byte) }
     ensures faults { OnOk result (faults.new.items
         ≡ faults.old.items ++ spec.byte_faults N.ops mode state.now (shown_places places.now) byte) }
 {

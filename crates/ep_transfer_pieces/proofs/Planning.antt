@@ -1,5 +1,6 @@
 -- Writes that are added to a list, and what they do.
-use Rattle.std.proofs.Common.{◌≡◌, ℕ, ◌+◌, ◌≤◌, Bool, true, false, cond, List, [], ◌∷◌, ◌++◌, None, refl, sym, ap, ◌∙◌, subst}
+use Rattle.std.proofs.Common.{◌≡◌, ℕ, ◌+◌, ◌≤◌, Bool, true, false, cond, List, [], ◌∷◌, ◌++◌, None, refl, sym, ap}
+use Rattle.std.proofs.Common.{◌∙◌, subst}
 use Rattle.ep_int.specs.declared.types.Model.{Model}
 use Rattle.ep_int.specs.declared.types.Scalar.{Scalar}
 use Rattle.ep_int.specs.Types.{size_of}
@@ -18,7 +19,8 @@ use Rattle.ep_transfer_pieces.specs.declared.puts.Put.{Put}
 use Rattle.ep_transfer_pieces.specs.declared.walk.Piece.{Piece}
 use Rattle.ep_transfer_pieces.specs.declared.walk.Piece.TheVariants.{Nothing, Whole, Byte}
 use Rattle.ep_transfer_pieces.specs.Pieces.{shown_piece, CanPut}
-use Rattle.ep_transfer_pieces.specs.Puts.{after_put, after_puts, FitsPut, FitPuts, IsPut, alone_item, together_item, is_nothing, are_alike, Adds}
+use Rattle.ep_transfer_pieces.specs.Puts.{after_put, after_puts, FitsPut, FitPuts, IsPut, alone_item, together_item}
+use Rattle.ep_transfer_pieces.specs.Puts.{is_nothing, are_alike, Adds}
 
 module _ {N : Type 0} (D : Ops N) (joint : Bool) where
   one_more : (to : Places) (ps : List (Put N)) (p : Put N) (j : Known N)

@@ -1,5 +1,6 @@
 -- What is loaded from the block of a result.
-use Rattle.std.proofs.Common.{◌≡◌, ℕ, ◌≤◌, pos, Bool, false, ◌&&◌, List, [], ◌∷◌, ◌++◌, length, arith, refl, sym, ap, ◌∙◌, subst}
+use Rattle.std.proofs.Common.{◌≡◌, ℕ, ◌≤◌, pos, Bool, false, ◌&&◌, List, [], ◌∷◌, ◌++◌, length, arith, refl, sym, ap}
+use Rattle.std.proofs.Common.{◌∙◌, subst}
 use Rattle.std.specs.List.{list_all}
 use Rattle.ep_int.specs.declared.types.Order.{Order}
 use Rattle.ep_int.specs.declared.types.Scalar.{Scalar}

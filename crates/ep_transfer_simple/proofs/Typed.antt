@@ -1,5 +1,6 @@
 -- What the tests of a well-formed program tell of the expressions and places in its statements.
-use Rattle.std.proofs.Common.{◌≡◌, ℕ, ◌<◌, true, false, ◌&&◌, not, length, List, slice_get, Option, Some, None, IfSome, ⊎_elim, refl, sym, ap, subst}
+use Rattle.std.proofs.Common.{◌≡◌, ℕ, ◌<◌, true, false, ◌&&◌, not, length, List, slice_get, Option, Some, None}
+use Rattle.std.proofs.Common.{IfSome, ⊎_elim, refl, sym, ap, subst}
 use Rattle.std.specs.Prelude.{is_some, option_to_list}
 use Rattle.std.specs.List.{list_all}
 use Rattle.std.specs.Option.{option_and_then, option_map, option_map_or}
@@ -13,12 +14,19 @@ use Rattle.ep_layout.specs.declared.types.Ty.TheVariants.{Void, Int, Ptr, Array,
 use Rattle.ep_layout.specs.Table.{size}
 use Rattle.ep_core.specs.declared.tree.Dest as tree
 use Rattle.ep_core.specs.declared.tree.Expr as tree_expr
-use Rattle.ep_core.specs.Program.{Expr, const, null_value, load, addr_of, binary, convert, compare, ptr_compare, logical_and, logical_or, logical_not, conditional, ptr_add, cast, Place, Dest, Program, What, simple, Simple, eval, assign, clear, copy_aggregate, copy_bytes, fill, input, output, read_bytes, write_bytes, returns}
+use Rattle.ep_core.specs.Program.{Expr, const, null_value, load, addr_of, binary, convert, compare, ptr_compare}
+use Rattle.ep_core.specs.Program.{logical_and, logical_or, logical_not, conditional, ptr_add, cast, Place, Dest}
+use Rattle.ep_core.specs.Program.{Program, What, simple, Simple, eval, assign, clear, copy_aggregate, copy_bytes}
+use Rattle.ep_core.specs.Program.{fill, input, output, read_bytes, write_bytes, returns}
 use Rattle.ep_core.specs.Typed.{scalar_of}
 use Rattle.ep_core.specs.View.{shown_dest, shown_expr, shown_place}
-use Rattle.ep_core.specs.WellFormed.{Sort, integer, pointer_to, int_type_of, is_int, is_pointer, is_tested, is_address, is_length, has_scalar, has_sort, has_type, is_sort, sort_of, place_has, ty_at, block_type, holds_scalar, result_type, result_fits, is_well_formed}
+use Rattle.ep_core.specs.WellFormed.{Sort, integer, pointer_to, int_type_of, is_int, is_pointer, is_tested}
+use Rattle.ep_core.specs.WellFormed.{is_address, is_length, has_scalar, has_sort, has_type, is_sort, sort_of}
+use Rattle.ep_core.specs.WellFormed.{place_has, ty_at, block_type, holds_scalar, result_type, result_fits}
+use Rattle.ep_core.specs.WellFormed.{is_well_formed}
 use Rattle.ep_core.proofs.Operands.{holds_at}
-use Rattle.ep_core.proofs.Sorts.{never, three, either_is, int_where, type_where, pointer_where, typed_where, sort_scalar, number_scalar}
+use Rattle.ep_core.proofs.Sorts.{never, three, either_is, int_where, type_where, pointer_where, typed_where}
+use Rattle.ep_core.proofs.Sorts.{sort_scalar, number_scalar}
 use Rattle.ep_flows.specs.Shown.{simple_of}
 use Rattle.ep_flows.specs.Typed.{IsTypedSimple}
 use Rattle.ep_transfer_stores.specs.Typed.{IsExpr, IsPlace, IsNumber}

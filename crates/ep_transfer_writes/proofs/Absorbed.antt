@@ -1,5 +1,6 @@
 -- What is split in a place that is then written is gone: a split before the write changes nothing.
-use Rattle.std.proofs.Common.{◌≡◌, ℕ, ◌+◌, ◌<◌, Bool, true, false, cond, List, [], ◌∷◌, ◌++◌, map, Option, Some, None, refl, sym, ap, ◌∙◌, subst, append_assoc, arith}
+use Rattle.std.proofs.Common.{◌≡◌, ℕ, ◌+◌, ◌<◌, Bool, true, false, cond, List, [], ◌∷◌, ◌++◌, map, Option, Some, None}
+use Rattle.std.proofs.Common.{refl, sym, ap, ◌∙◌, subst, append_assoc, arith}
 use Rattle.std.specs.Option.{option_map_or}
 use Rattle.ep_int.specs.declared.types.Model.{Model}
 use Rattle.ep_int.specs.declared.types.IntType.TheVariants.{U8}
@@ -11,13 +12,15 @@ use Rattle.ep_bitslice.specs.declared.cell.CellName.{CellName}
 use Rattle.ep_domain.specs.Domain.{Ops}
 use Rattle.ep_cells.specs.declared.cell.Cell.{Cell}
 use Rattle.ep_cells.specs.declared.place.Place.{Place}
-use Rattle.ep_cells.specs.Cells.{place_of, touches, side_without, with_side, comes_before, is_same_cell, put, put_all, each_becomes, IsIn, first, later}
+use Rattle.ep_cells.specs.Cells.{place_of, touches, side_without, with_side, comes_before, is_same_cell, put, put_all}
+use Rattle.ep_cells.specs.Cells.{each_becomes, IsIn, first, later}
 use Rattle.ep_cells.specs.declared.cell.Value.{Value}
 use Rattle.ep_cells.specs.Forms.{Fate, form_after, reformed}
 use Rattle.ep_cells.specs.Both.{cell_like}
 use Rattle.ep_cells.specs.Write.{left_by_write, fate_by_write}
 use Rattle.ep_cells.specs.States.{Known}
-use Rattle.ep_reads.specs.Split.{byte_of, byte_cells, form_beside, is_name_of, fate_by_split, left_by_split, split_cell, split_like, split_all}
+use Rattle.ep_reads.specs.Split.{byte_of, byte_cells, form_beside, is_name_of, fate_by_split, left_by_split}
+use Rattle.ep_reads.specs.Split.{split_cell, split_like, split_all}
 use Rattle.ep_reads.specs.Bytes.{order_on}
 use Rattle.ep_cell_ranges.specs.Ranges.{Form, form_by_like, form_by_splits}
 use Rattle.ep_cells_laws.proofs.Both.{alike_same}

@@ -1,5 +1,6 @@
 -- New cells at a place and at the one behind it, and at both together.
-use Rattle.std.proofs.Common.{◌≡◌, ℕ, ◌+◌, ◌<◌, Bool, true, false, ◌&&◌, not, nat_eq, nat_lt, nat_le, cond, List, [], ◌∷◌, map, ⊎_elim, Option, Some, None, refl, sym, ap, ◌∙◌, subst, arith}
+use Rattle.std.proofs.Common.{◌≡◌, ℕ, ◌+◌, ◌<◌, Bool, true, false, ◌&&◌, not, nat_eq, nat_lt, nat_le, cond, List, []}
+use Rattle.std.proofs.Common.{◌∷◌, map, ⊎_elim, Option, Some, None, refl, sym, ap, ◌∙◌, subst, arith}
 use Rattle.std.proofs.lemmas.Bool.Decides.{nat_tests}
 use Rattle.ep_int.specs.declared.types.Model.{Model}
 use Rattle.ep_bitslice.specs.declared.cell.Side.{Side}
@@ -9,7 +10,8 @@ use Rattle.ep_cells.specs.Forms.{Fate, form_after, reformed}
 use Rattle.ep_cells.specs.Write.{left_by_write, fate_by_write}
 use Rattle.ep_cells.specs.States.{EachPair, AreApart}
 use Rattle.ep_cell_ranges.specs.Ranges.{Form, with_form}
-use Rattle.ep_cells_laws.proofs.Lists.{in_each, each_in, in_map, map_in, in_put, put_there, put_keeps, in_put_all, put_all_keeps}
+use Rattle.ep_cells_laws.proofs.Lists.{in_each, each_in, in_map, map_in, in_put, put_there, put_keeps, in_put_all}
+use Rattle.ep_cells_laws.proofs.Lists.{put_all_keeps}
 use Rattle.ep_cells_laws.proofs.Places.{at}
 use Rattle.ep_step_laws.proofs.Composed.{then_fate, reformed_twice}
 use Rattle.ep_transfer_writes.proofs.Ordered.{same_cells}

@@ -1,5 +1,6 @@
 -- A write of a cell and then of those behind it is one write of all of them, where no cell lies partly in their bytes.
-use Rattle.std.proofs.Common.{◌≡◌, ℕ, ◌+◌, ◌<◌, ◌≤◌, Bool, true, false, ◌&&◌, not, nat_eq, nat_lt, nat_le, cond, List, [], ◌∷◌, map, ⊎_elim, Option, Some, None, refl, sym, ap, ◌∙◌, subst, arith}
+use Rattle.std.proofs.Common.{◌≡◌, ℕ, ◌+◌, ◌<◌, ◌≤◌, Bool, true, false, ◌&&◌, not, nat_eq, nat_lt, nat_le, cond, List}
+use Rattle.std.proofs.Common.{[], ◌∷◌, map, ⊎_elim, Option, Some, None, refl, sym, ap, ◌∙◌, subst, arith}
 use Rattle.std.proofs.lemmas.Bool.Decides.{nat_tests}
 use Rattle.ep_int.specs.declared.types.Model.{Model}
 use Rattle.ep_int.specs.declared.types.Scalar.TheVariants.{Pointer}
@@ -8,12 +9,14 @@ use Rattle.ep_bitslice.specs.declared.cell.Side.{Side}
 use Rattle.ep_bitslice.specs.declared.cell.Side.TheVariants.{Left, Right, Shared}
 use Rattle.ep_domain.specs.Domain.{Ops}
 use Rattle.ep_cells.specs.declared.cell.Cell.{Cell}
-use Rattle.ep_cells.specs.Cells.{place_of, share_memory, side_without, with_side, touches, encloses, is_partly_in, each_becomes, IsIn, first, later}
+use Rattle.ep_cells.specs.Cells.{place_of, share_memory, side_without, with_side, touches, encloses, is_partly_in}
+use Rattle.ep_cells.specs.Cells.{each_becomes, IsIn, first, later}
 use Rattle.ep_cells.specs.Forms.{form_after, reformed}
 use Rattle.ep_cells.specs.Look.{is_some_partly_in}
 use Rattle.ep_cells.specs.Write.{left_by_write}
 use Rattle.ep_cells.specs.States.{Known, EachPair, AreApart, AreCells}
-use Rattle.ep_cell_ranges.specs.Ranges.{Form, Reform, with_cells, with_form, split_at, cut, form_by_cut, overwritten, replaced, form_by_replace}
+use Rattle.ep_cell_ranges.specs.Ranges.{Form, Reform, with_cells, with_form, split_at, cut, form_by_cut, overwritten}
+use Rattle.ep_cell_ranges.specs.Ranges.{replaced, form_by_replace}
 use Rattle.ep_split_laws.specs.Laws.{SplitLaws}
 use Rattle.ep_cell_ranges_laws.specs.Sound.{AreNew}
 use Rattle.ep_cell_ranges_laws.specs.Laws.{MoreSplitLaws, ReplaceLaws}
@@ -21,7 +24,8 @@ use Rattle.ep_cell_ranges_laws.proofs.Cut.{is_cut}
 use Rattle.ep_cells_laws.proofs.Lists.{in_each, in_map, in_put}
 use Rattle.ep_cells_laws.proofs.Places.{at, size_positive}
 use Rattle.ep_transfer_writes.proofs.Uncut.{none_in, none_from, cut_gone, cut_form_gone, no_cut_replaced, cut_is}
-use Rattle.ep_transfer_writes.proofs.Behind.{F1, F2, F, both_reformed, written_once, written_twice, written_together, one_write, behind_by}
+use Rattle.ep_transfer_writes.proofs.Behind.{F1, F2, F, both_reformed, written_once, written_twice, written_together}
+use Rattle.ep_transfer_writes.proofs.Behind.{one_write, behind_by}
 
 -- ---- sides and places
 

@@ -1,5 +1,6 @@
 -- A run of bytes at one place is one write of all of them, where no cell lies partly in them.
-use Rattle.std.proofs.Common.{◌≡◌, ℕ, zero, suc, ◌+◌, ◌^◌, ◌<◌, ◌≤◌, Bool, true, false, ◌&&◌, ◌||◌, nat_eq, cond, if◌then◌else◌, [], ◌∷◌, Option, Some, None, refl, sym, ap, ◌∙◌, arith}
+use Rattle.std.proofs.Common.{◌≡◌, ℕ, zero, suc, ◌+◌, ◌^◌, ◌<◌, ◌≤◌, Bool, true, false, ◌&&◌, ◌||◌, nat_eq, cond}
+use Rattle.std.proofs.Common.{if◌then◌else◌, [], ◌∷◌, Option, Some, None, refl, sym, ap, ◌∙◌, arith}
 use Rattle.std.proofs.lemmas.Bool.{eq-eqb}
 use Rattle.std.proofs.lemmas.Bool.{and_from}
 use Rattle.ep_int.specs.declared.types.IntType.TheVariants.{U8}
@@ -24,11 +25,13 @@ use Rattle.ep_core.specs.Runs.{left, right}
 use Rattle.ep_equalities.specs.declared.pair.Mode.{Mode}
 use Rattle.ep_equalities.specs.declared.pair.Mode.TheVariants.{Both, Left, Right}
 use Rattle.ep_transfers.specs.Places.{Places, moved_spots, moved_places}
-use Rattle.ep_transfers.specs.Writes.{Item, Underway, underway, formed, write_side, write_same, write_shared, write_shared_each, value_of_same, write_both, write, write_run}
+use Rattle.ep_transfers.specs.Writes.{Item, Underway, underway, formed, write_side, write_same, write_shared}
+use Rattle.ep_transfers.specs.Writes.{write_shared_each, value_of_same, write_both, write, write_run}
 use Rattle.ep_cell_ranges.specs.Spots.{all_spots}
 use Rattle.ep_evaluation.specs.Given.{pair}
 use Rattle.ep_transfer_writes.specs.Waiting.{ItemFits, CanStand}
-use Rattle.ep_transfer_writes.specs.Running.{Agree, alike, none_left, none_right, RunsAt, run_cell, copies, range_of, range_written}
+use Rattle.ep_transfer_writes.specs.Running.{Agree, alike, none_left, none_right, RunsAt, run_cell, copies, range_of}
+use Rattle.ep_transfer_writes.specs.Running.{range_written}
 use Rattle.ep_transfer_writes.proofs.Ranged.{cell, cells, many, reform, many_is, reform_is}
 
 -- ---- forms that agree

@@ -1,6 +1,7 @@
 -- Where no cell lies partly in a place, a cut of its first bytes doesn't matter once the place is written, and the
 -- place itself cuts nothing.
-use Rattle.std.proofs.Common.{◌≡◌, ℕ, ◌+◌, ◌≤◌, ◌<◌, Bool, true, false, ◌&&◌, ◌||◌, not, nat_eq, nat_lt, nat_le, cond, List, [], ◌∷◌, map, Some, None, refl, ap, ◌∙◌, arith}
+use Rattle.std.proofs.Common.{◌≡◌, ℕ, ◌+◌, ◌≤◌, ◌<◌, Bool, true, false, ◌&&◌, ◌||◌, not, nat_eq, nat_lt, nat_le, cond}
+use Rattle.std.proofs.Common.{List, [], ◌∷◌, map, Some, None, refl, ap, ◌∙◌, arith}
 use Rattle.std.specs.List.{filter}
 use Rattle.std.proofs.lemmas.Bool.Decides.{nat_tests}
 use Rattle.std.proofs.lemmas.Bool.{and_parts}
@@ -11,13 +12,15 @@ use Rattle.ep_bitslice.specs.declared.cell.Side.TheVariants.{Left, Right, Shared
 use Rattle.ep_domain.specs.Domain.{Ops}
 use Rattle.ep_cells.specs.declared.cell.Cell.{Cell}
 use Rattle.ep_cells.specs.declared.place.Place.{Place}
-use Rattle.ep_cells.specs.Cells.{place_of, share_memory, side_without, touches, meets, encloses, is_partly_in, IsIn, first, later}
+use Rattle.ep_cells.specs.Cells.{place_of, share_memory, side_without, touches, meets, encloses, is_partly_in, IsIn}
+use Rattle.ep_cells.specs.Cells.{first, later}
 use Rattle.ep_cells.specs.Forms.{form_after}
 use Rattle.ep_cells.specs.Look.{is_some_partly_in}
 use Rattle.ep_cells.specs.Write.{fate_by_write}
 use Rattle.ep_cells.specs.States.{Known, AreCells}
 use Rattle.ep_reads.specs.Split.{cut_cells, split_all, split}
-use Rattle.ep_cell_ranges.specs.Ranges.{Form, with_cells, with_form, form_by_splits, split_at, cut, form_by_split, form_by_cut, replaced, overwritten}
+use Rattle.ep_cell_ranges.specs.Ranges.{Form, with_cells, with_form, form_by_splits, split_at, cut, form_by_split}
+use Rattle.ep_cell_ranges.specs.Ranges.{form_by_cut, replaced, overwritten}
 use Rattle.ep_split_laws.specs.Laws.{SplitLaws}
 use Rattle.ep_cell_ranges_laws.specs.Laws.{MoreSplitLaws}
 use Rattle.ep_cells_laws.proofs.Places.{at}

@@ -16,7 +16,8 @@ use Rattle.ep_equalities.specs.declared.pair.PairValue.{PairValue}
 use Rattle.ep_evaluation.specs.Given.{Given}
 use Rattle.ep_evaluation.specs.Evaluation.{place, pointer_given, convert_given, load_given}
 use Rattle.ep_transfers.specs.Writes.{formed_pair}
-use Rattle.ep_transfers.specs.Transfers.{Stepped, stepped, fate_off_blocks, after_faults, to_block, sizes, gives, entered, with_two, assigned}
+use Rattle.ep_transfers.specs.Transfers.{Stepped, stepped, fate_off_blocks, after_faults, to_block, sizes, gives}
+use Rattle.ep_transfers.specs.Transfers.{entered, with_two, assigned}
 
 module _ {N : Type 0} (D : Ops N) (p : Program) where
   -- ---- calls

@@ -1,7 +1,8 @@
 -- The two ends of main: what is known where it begins, and its result compared
 -- (this project's rules, after Miné 2006 and
 -- Delmas, Ouadjaout and Miné 2021).
-use Rattle.std.specs.Prelude.{ℕ, zero, suc, ◌+◌, ℤ, pos, Bool, true, false, ◌&&◌, ◌||◌, nat_eq, if◌then◌else◌, List, [], ◌∷◌, ◌++◌, slice_get, Option, Some, None, unwrap_or}
+use Rattle.std.specs.Prelude.{ℕ, zero, suc, ◌+◌, ℤ, pos, Bool, true, false, ◌&&◌, ◌||◌, nat_eq, if◌then◌else◌, List}
+use Rattle.std.specs.Prelude.{[], ◌∷◌, ◌++◌, slice_get, Option, Some, None, unwrap_or}
 use Rattle.std.specs.List.{list_all}
 use Rattle.ep_int.specs.declared.types.IntType.TheVariants.{U8}
 use Rattle.ep_int.specs.declared.types.Order.{Order}

@@ -1,7 +1,8 @@
 -- What each statement without statements in it does to what is known of two memories, and so blocks that come and go
 -- (this
 -- project's rules, after Miné 2006 and Delmas, Ouadjaout and Miné 2021).
-use Rattle.std.specs.Prelude.{ℕ, zero, suc, ◌+◌, ℤ, pos, Bool, true, false, ◌&&◌, if◌then◌else◌, List, [], ◌∷◌, ◌++◌, map, slice_get, Option, Some, None, is_some, unwrap_or}
+use Rattle.std.specs.Prelude.{ℕ, zero, suc, ◌+◌, ℤ, pos, Bool, true, false, ◌&&◌, if◌then◌else◌, List, [], ◌∷◌, ◌++◌}
+use Rattle.std.specs.Prelude.{map, slice_get, Option, Some, None, is_some, unwrap_or}
 use Rattle.ep_int.specs.declared.types.IntType.{IntType}
 use Rattle.ep_int.specs.declared.types.IntType.TheVariants.{U8}
 use Rattle.ep_int.specs.declared.types.Scalar.{Scalar}
@@ -30,11 +31,13 @@ use Rattle.ep_equalities.specs.declared.pair.Fault.{Fault}
 use Rattle.ep_equalities.specs.declared.pair.PairValue.{PairValue}
 use Rattle.ep_equalities.specs.declared.pair.SideValue.{SideValue}
 use Rattle.ep_equalities.specs.Same.{is_same}
-use Rattle.ep_evaluation.specs.Given.{Given, cells_of, alone, is_both, nothing as no_side, pair, pair_on, fault, no_range, shown_if, faults_on}
+use Rattle.ep_evaluation.specs.Given.{Given, cells_of, alone, is_both, nothing as no_side, pair, pair_on, fault}
+use Rattle.ep_evaluation.specs.Given.{no_range, shown_if, faults_on}
 use Rattle.ep_evaluation.specs.Operators.{number_in}
 use Rattle.ep_evaluation.specs.Accesses.{reads_of, joined_reads, form_of_reads, is_unset, is_mixed, are_shared}
 use Rattle.ep_evaluation.specs.Evaluation.{expression, place, constant_given, pointer_given}
-use Rattle.ep_transfers.specs.Places.{Places, at_side, on_all, has_places, has_values, is_one, moved_spots, moved_places, places_of, range_faults, aligned_faults}
+use Rattle.ep_transfers.specs.Places.{Places, at_side, on_all, has_places, has_values, is_one, moved_spots}
+use Rattle.ep_transfers.specs.Places.{moved_places, places_of, range_faults, aligned_faults}
 use Rattle.ep_transfers.specs.Writes.{Item, Underway, item_of, underway, write_now, write_run, blurred_side}
 use Rattle.ep_transfers.specs.Copies.{Leaves, copied, can_copy, overlap_faults}
 

@@ -1,5 +1,6 @@
 -- An aggregate is copied on one side that isn't moved: what is known then holds of a machine that copies it.
-use Rattle.std.proofs.Common.{◌≡◌, ℕ, zero, suc, ◌+◌, ◌<◌, ◌≤◌, Bool, true, false, if◌then◌else◌, List, Option, Some, None, ◌⊎◌, inl, inr, refl, sym, ap, ◌∙◌, subst, arith}
+use Rattle.std.proofs.Common.{◌≡◌, ℕ, zero, suc, ◌+◌, ◌<◌, ◌≤◌, Bool, true, false, if◌then◌else◌, List, Option, Some}
+use Rattle.std.proofs.Common.{None, ◌⊎◌, inl, inr, refl, sym, ap, ◌∙◌, subst, arith}
 use Rattle.std.proofs.lemmas.Bool.{cases_lt}
 use Rattle.ep_int.specs.declared.types.Model.{Model}
 use Rattle.ep_int.specs.Memory.{Byte, Memory, Value as Datum, replaced, copied}
@@ -16,7 +17,8 @@ use Rattle.ep_cell_ranges.specs.Spots.{Spot, is_same_spot}
 use Rattle.ep_cell_ranges.specs.Moves.{blurred_each}
 use Rattle.ep_transfers.specs.Places.{Places, at_side}
 use Rattle.ep_transfers.specs.Writes.{lacks}
-use Rattle.ep_transfers.specs.Copies.{Piece, none, leaf, byte, scalar_of_piece, some_maybe, loosened_places, mode_alone, pieces_from, copy_many}
+use Rattle.ep_transfers.specs.Copies.{Piece, none, leaf, byte, scalar_of_piece, some_maybe, loosened_places}
+use Rattle.ep_transfers.specs.Copies.{mode_alone, pieces_from, copy_many}
 use Rattle.ep_transfers_laws.specs.Laws.{CellLaws}
 use Rattle.ep_transfers_laws.proofs.Changes.{IsOne, IsKnown}
 use Rattle.ep_transfers_laws.proofs.Puts.{order_on, memory_on, IsStill}

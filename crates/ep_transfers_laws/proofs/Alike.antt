@@ -1,12 +1,14 @@
 -- What is known says nothing of bytes that are parts of pointers, where no pointer has so many parts: it holds of
 -- memories that are alike but for such bytes.
-use Rattle.std.proofs.Common.{◌≡◌, ℕ, ◌+◌, ◌^◌, ◌<◌, ◌≤◌, Bool, true, false, List, Option, Some, None, IfSome, ◌⊎◌, inl, inr, ⊎_elim, refl, sym, ap, ◌∙◌, subst, arith}
+use Rattle.std.proofs.Common.{◌≡◌, ℕ, ◌+◌, ◌^◌, ◌<◌, ◌≤◌, Bool, true, false, List, Option, Some, None, IfSome, ◌⊎◌}
+use Rattle.std.proofs.Common.{inl, inr, ⊎_elim, refl, sym, ap, ◌∙◌, subst, arith}
 use Rattle.ep_int.specs.declared.types.Model.{Model}
 use Rattle.ep_int.specs.declared.types.Order.{Order}
 use Rattle.ep_int.specs.declared.types.Scalar.{Scalar}
 use Rattle.ep_int.specs.declared.types.Scalar.TheVariants.{Int, Pointer}
 use Rattle.ep_int.specs.Types.{bits_of, pointer_bytes, size_of, residue}
-use Rattle.ep_int.specs.Memory.{Byte, undefined, number as byte_number, fragment, Memory, Value as Datum, int, null, pointer, bytes_of_value, is_number, number_in}
+use Rattle.ep_int.specs.Memory.{Byte, undefined, number as byte_number, fragment, Memory, Value as Datum, int, null}
+use Rattle.ep_int.specs.Memory.{pointer, bytes_of_value, is_number, number_in}
 use Rattle.ep_int.proofs.Encodings.{decoded_same}
 use Rattle.ep_bitslice.specs.declared.cell.Side.{Side as CellSide}
 use Rattle.ep_bitslice.specs.declared.cell.Side.TheVariants as cell_side
@@ -16,7 +18,8 @@ use Rattle.ep_bitslice.specs.Segments.{number}
 use Rattle.ep_domain.specs.Domain.{Ops}
 use Rattle.ep_cells.specs.declared.cell.Cell.{Cell}
 use Rattle.ep_cells.specs.States.{Known}
-use Rattle.ep_cells.specs.Meaning.{Memories, IsUndefined, Has, HasBytes, Says, HasNumber, FormSays, number_at, number_on, numbers_of, name_of, In}
+use Rattle.ep_cells.specs.Meaning.{Memories, IsUndefined, Has, HasBytes, Says, HasNumber, FormSays, number_at}
+use Rattle.ep_cells.specs.Meaning.{number_on, numbers_of, name_of, In}
 use Rattle.ep_reads_laws.specs.Laws.{IsNumberOf}
 use Rattle.ep_cell_ranges.specs.Ranges.{Form}
 use Rattle.ep_cell_ranges_laws.specs.Follow.{FormHas}

@@ -1,6 +1,7 @@
 -- A value goes to the places of its address, in each mode: without a fault each running machine stores one, and what is
 -- known then holds of the memories after it.
-use Rattle.std.proofs.Common.{◌≡◌, ℕ, ◌+◌, ◌^◌, ◌<◌, ◌≤◌, Bool, true, false, ◌&&◌, List, [], ◌∷◌, slice_get, Option, Some, None, IfSome, is_some, refl, sym, ap, ◌∙◌, subst, arith}
+use Rattle.std.proofs.Common.{◌≡◌, ℕ, ◌+◌, ◌^◌, ◌<◌, ◌≤◌, Bool, true, false, ◌&&◌, List, [], ◌∷◌, slice_get, Option}
+use Rattle.std.proofs.Common.{Some, None, IfSome, is_some, refl, sym, ap, ◌∙◌, subst, arith}
 use Rattle.std.proofs.lemmas.Bool.{and_from, and_parts}
 use Rattle.ep_int.specs.declared.types.Model.{Model}
 use Rattle.ep_int.specs.declared.types.Order.{Order}
@@ -31,7 +32,8 @@ use Rattle.ep_cell_ranges_laws.specs.Follow.{FormHas}
 use Rattle.ep_evaluation_laws.specs.Laws.{Holds, SideFits}
 use Rattle.ep_evaluation_laws.proofs.General.{reliable_none}
 use Rattle.ep_evaluation_laws.proofs.Spots.{Among, here as at_head, behind}
-use Rattle.ep_transfers.specs.Places.{Places, at_side, is_some_place, has_places, has_values, on_all, places_of, aligned_faults}
+use Rattle.ep_transfers.specs.Places.{Places, at_side, is_some_place, has_places, has_values, on_all, places_of}
+use Rattle.ep_transfers.specs.Places.{aligned_faults}
 use Rattle.ep_transfers.specs.Writes.{Underway, underway, item_of, lacks, value_of_same, write}
 use Rattle.ep_transfers.specs.Transfers.{assigned, if_goes_on}
 use Rattle.ep_transfers_laws.specs.Laws.{CellLaws}

@@ -1,5 +1,6 @@
 -- The parameters of a call are set, one after another, while the arguments behind them wait.
-use Rattle.std.proofs.Common.{◌≡◌, ℕ, ◌+◌, pos, Bool, true, false, nat_eq, List, [], ◌∷◌, ◌++◌, map, slice_get, Option, Some, None, refl, sym, ap, ◌∙◌, subst}
+use Rattle.std.proofs.Common.{◌≡◌, ℕ, ◌+◌, pos, Bool, true, false, nat_eq, List, [], ◌∷◌, ◌++◌, map, slice_get}
+use Rattle.std.proofs.Common.{Option, Some, None, refl, sym, ap, ◌∙◌, subst}
 use Rattle.std.specs.Option.{option_map, option_map_or}
 use Rattle.std.specs.List.{filter}
 use Rattle.std.proofs.lemmas.Bool.{eqb-true, both_ways}
@@ -7,7 +8,8 @@ use Rattle.ep_int.specs.declared.types.Model.{Model}
 use Rattle.ep_int.specs.declared.types.Order.{Order}
 use Rattle.ep_int.specs.declared.types.Scalar.{Scalar}
 use Rattle.ep_int.specs.Types.{size_of}
-use Rattle.ep_int.specs.Memory.{Memory, Value as Datum, null, pointer, Found, has, faults, contains, stored, store_fault, number_in}
+use Rattle.ep_int.specs.Memory.{Memory, Value as Datum, null, pointer, Found, has, faults, contains, stored}
+use Rattle.ep_int.specs.Memory.{store_fault, number_in}
 use Rattle.ep_int.proofs.Encodings.{decoded_same}
 use Rattle.ep_bitslice.specs.declared.cell.Side.{Side as CellSide}
 use Rattle.ep_bitslice.specs.declared.cell.Side.TheVariants as cell_side
@@ -47,7 +49,8 @@ use Rattle.ep_transfers_laws.specs.Laws.{memories, CellLaws}
 use Rattle.ep_transfers_laws.proofs.Changes.{Blocks}
 use Rattle.ep_transfers_laws.proofs.Puts.{memory_on}
 use Rattle.ep_transfers_laws.proofs.Rooms.{small}
-use Rattle.ep_transfers_laws.proofs.Assigned.{AreInside, Operands, With, AreStored, At, at, u, after, assigned_goes, next_is}
+use Rattle.ep_transfers_laws.proofs.Assigned.{AreInside, Operands, With, AreStored, At, at, u, after, assigned_goes}
+use Rattle.ep_transfers_laws.proofs.Assigned.{next_is}
 use Rattle.ep_transfers_laws.proofs.Evaluated.{Evaluated, goes_state, known, operated, stores_there, stored_so}
 use Rattle.ep_transfers_laws.proofs.Stored.{block_is}
 use Rattle.ep_transfers_laws.proofs.Waiting.{OthersStay, still_evaluated}

@@ -1,5 +1,6 @@
 -- What stands in a place that is copied stands there too where pointers that lie partly in the place are undefined.
-use Rattle.std.proofs.Common.{◌≡◌, ℕ, ◌+◌, ◌≤◌, Bool, true, false, ◌&&◌, not, nat_eq, nat_le, nat_lt, cond, Option, Some, None, inl, inr, ⊎_elim, refl, ap, ◌∙◌, arith}
+use Rattle.std.proofs.Common.{◌≡◌, ℕ, ◌+◌, ◌≤◌, Bool, true, false, ◌&&◌, not, nat_eq, nat_le, nat_lt, cond, Option}
+use Rattle.std.proofs.Common.{Some, None, inl, inr, ⊎_elim, refl, ap, ◌∙◌, arith}
 use Rattle.std.proofs.lemmas.Bool.{and_from, and_right, le-leb}
 use Rattle.ep_int.specs.declared.types.IntType.{IntType}
 use Rattle.ep_int.specs.declared.types.Model.{Model}
@@ -8,7 +9,8 @@ use Rattle.ep_int.specs.declared.types.Scalar.{Scalar}
 use Rattle.ep_int.specs.declared.types.Scalar.TheVariants.{Int, Pointer}
 use Rattle.ep_int.specs.Types.{pointer_bytes, size_of}
 use Rattle.ep_int.specs.Encoding.{encoded}
-use Rattle.ep_int.specs.Memory.{Byte, undefined, number, fragment, Memory, Value as Datum, int, null, pointer, is_number, lies_partly, broken, bytes_of_value}
+use Rattle.ep_int.specs.Memory.{Byte, undefined, number, fragment, Memory, Value as Datum, int, null, pointer}
+use Rattle.ep_int.specs.Memory.{is_number, lies_partly, broken, bytes_of_value}
 use Rattle.ep_cells.specs.Meaning.{HasBytes}
 use Rattle.ep_split_laws.proofs.ByteCells.{IsLoose}
 

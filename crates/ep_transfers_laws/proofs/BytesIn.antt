@@ -1,5 +1,6 @@
 -- Bytes that are taken in: both machines take the same inputs in turn, and each goes to the next byte of a place.
-use Rattle.std.proofs.Common.{◌≡◌, ℕ, zero, suc, ◌+◌, ◌%◌, ◌<◌, ◌≤◌, pos, Bool, true, false, ◌&&◌, List, [], ◌∷◌, Option, Some, None, refl, sym, ap, ◌∙◌, subst, arith}
+use Rattle.std.proofs.Common.{◌≡◌, ℕ, zero, suc, ◌+◌, ◌%◌, ◌<◌, ◌≤◌, pos, Bool, true, false, ◌&&◌, List, [], ◌∷◌}
+use Rattle.std.proofs.Common.{Option, Some, None, refl, sym, ap, ◌∙◌, subst, arith}
 use Rattle.std.proofs.lemmas.Bool.{and_parts}
 use Rattle.std.proofs.lemmas.Nat.{mod_below}
 use Rattle.ep_int.specs.declared.types.IntType.TheVariants.{U8}
@@ -28,7 +29,8 @@ use Rattle.ep_equalities.specs.Same.{is_same}
 use Rattle.ep_evaluation_laws.specs.Laws.{Machine, sizes_of, ExpressionsHold, PlacesHold}
 use Rattle.ep_evaluation_laws.proofs.General.{none_left}
 use Rattle.ep_transfers.specs.Places.{Places, moved_places, has_places}
-use Rattle.ep_transfers.specs.Writes.{Item, Underway, underway, maybe_on, lacks, item_of, value_of_same, write, write_run}
+use Rattle.ep_transfers.specs.Writes.{Item, Underway, underway, maybe_on, lacks, item_of, value_of_same, write}
+use Rattle.ep_transfers.specs.Writes.{write_run}
 use Rattle.ep_transfers.specs.Transfers.{alone_faults, if_goes_on, input_pair, simple_step}
 use Rattle.ep_transfers_laws.specs.Laws.{memories, StandsFor, CellLaws}
 use Rattle.ep_transfers_laws.proofs.Changes.{IsSide}
@@ -37,7 +39,8 @@ use Rattle.ep_transfers_laws.proofs.Stored.{expr_is}
 use Rattle.ep_transfers_laws.proofs.RunPlaces.{rest_is, at_zero, no_range_fault, at_run_is, run_places, at, has_all}
 use Rattle.ep_transfers_laws.proofs.RunSpots.{both_spotted}
 use Rattle.ep_transfers_laws.proofs.Filled.{byte_encoded, room_for_one, fewer}
-use Rattle.ep_transfers_laws.proofs.RunSteps.{IsAt, Waits, waits_after, step_goes, RunSpotted, moved_at, spotted_at, all_blocks, spot_on, both_have, any_bytes}
+use Rattle.ep_transfers_laws.proofs.RunSteps.{IsAt, Waits, waits_after, step_goes, RunSpotted, moved_at, spotted_at}
+use Rattle.ep_transfers_laws.proofs.RunSteps.{all_blocks, spot_on, both_have, any_bytes}
 use Rattle.ep_transfers_laws.proofs.Sides.{same_allowed}
 use Rattle.ep_transfers_laws.proofs.Assigned.{sure_allowed}
 

@@ -1,5 +1,7 @@
 -- Bytes that are put out: without a fault both machines put out the same, each in turn.
-use Rattle.std.proofs.Common.{◌≡◌, ℕ, zero, suc, ◌+◌, ◌*◌, ◌^◌, pos, Bool, true, false, ◌&&◌, if◌then◌else◌, List, [], ◌∷◌, ◌++◌, Option, Some, None, IfSome, is_some, slice_index_or, refl, sym, ap, ◌∙◌, subst, arith}
+use Rattle.std.proofs.Common.{◌≡◌, ℕ, zero, suc, ◌+◌, ◌*◌, ◌^◌, pos, Bool, true, false, ◌&&◌, if◌then◌else◌, List, []}
+use Rattle.std.proofs.Common.{◌∷◌, ◌++◌, Option, Some, None, IfSome, is_some, slice_index_or, refl, sym, ap, ◌∙◌}
+use Rattle.std.proofs.Common.{subst, arith}
 use Rattle.std.specs.List.{list_all}
 use Rattle.std.proofs.lemmas.Bool.{and_from, and_parts}
 use Rattle.ep_int.specs.declared.types.IntType.TheVariants.{U8}
@@ -8,7 +10,8 @@ use Rattle.ep_int.specs.declared.types.Order.TheVariants.{Little, Big, SwappedWo
 use Rattle.ep_int.specs.declared.types.Scalar.{Scalar}
 use Rattle.ep_int.specs.declared.types.Scalar.TheVariants.{Int, Pointer}
 use Rattle.ep_int.specs.Encoding.{decoded}
-use Rattle.ep_int.specs.Memory.{Byte, undefined, number, fragment, Memory, Value as Datum, int, null, pointer, has, faults, number_in, bytes_from, value_of_bytes, range_fault}
+use Rattle.ep_int.specs.Memory.{Byte, undefined, number, fragment, Memory, Value as Datum, int, null, pointer, has}
+use Rattle.ep_int.specs.Memory.{faults, number_in, bytes_from, value_of_bytes, range_fault}
 use Rattle.ep_alarms.specs.declared.types.AlarmKind.TheVariants.{U4, U10}
 use Rattle.ep_bitslice.specs.declared.segment.Segment.{Segment}
 use Rattle.ep_bitslice.specs.Segments.{number as form_number}
@@ -19,7 +22,8 @@ use Rattle.ep_cells.specs.Meaning.{Memories, Allows, numbers_of}
 use Rattle.ep_reads.specs.Read.{read}
 use Rattle.ep_reads_laws.specs.Laws.{IsNumberOf}
 use Rattle.ep_core.specs.Program.{Expr, write_bytes, Program}
-use Rattle.ep_core.specs.Exec.{State, Output, Outcome, on, uncounted, value, does, byte_out, out_of, bytewise, bytewise_rest, size_at, put_out as put_number}
+use Rattle.ep_core.specs.Exec.{State, Output, Outcome, on, uncounted, value, does, byte_out, out_of, bytewise}
+use Rattle.ep_core.specs.Exec.{bytewise_rest, size_at, put_out as put_number}
 use Rattle.ep_core.specs.Runs.{Side, left, right}
 use Rattle.ep_core.specs.WellFormed.{is_length, is_address, has_sort, pointer_to, blocks_fit}
 use Rattle.ep_core.proofs.Sorts.{pointer_where}
@@ -41,12 +45,14 @@ use Rattle.ep_evaluation_laws.proofs.Spots.{Among, here, behind, set_at, pure_at
 use Rattle.ep_evaluation_laws.proofs.Loads.{sure_read}
 use Rattle.ep_evaluation_laws.proofs.Shareds.{shared_same}
 use Rattle.ep_transfers.specs.Places.{Places, at_side, moved_spots, range_faults, has_values, has_places}
-use Rattle.ep_transfers.specs.Transfers.{Stepped, stepped, after_faults, alone_faults, differ_faults, byte_pair, byte_faults, bytes_out, simple_step}
+use Rattle.ep_transfers.specs.Transfers.{Stepped, stepped, after_faults, alone_faults, differ_faults, byte_pair}
+use Rattle.ep_transfers.specs.Transfers.{byte_faults, bytes_out, simple_step}
 use Rattle.ep_transfers_laws.specs.Laws.{memories, StandsFor, CellLaws}
 use Rattle.ep_transfers_laws.proofs.Assigned.{valued}
 use Rattle.ep_transfers_laws.proofs.Evaluated.{kept_both}
 use Rattle.ep_transfers_laws.proofs.Stored.{expr_is}
-use Rattle.ep_transfers_laws.proofs.RunPlaces.{rest_is, at_zero, among_moved, no_range_fault, at_run_is, run_places, at, has_all, one_place}
+use Rattle.ep_transfers_laws.proofs.RunPlaces.{rest_is, at_zero, among_moved, no_range_fault, at_run_is, run_places}
+use Rattle.ep_transfers_laws.proofs.RunPlaces.{at, has_all, one_place}
 
 -- ---- a byte
 

@@ -1,6 +1,7 @@
 -- What holds of all memories in which some bytes are numbers or undefined, each as it likes, holds where these bytes
 -- are parts of pointers.
-use Rattle.std.proofs.Common.{◌≡◌, ℕ, zero, suc, ◌+◌, ◌^◌, ◌<◌, ◌≤◌, Bool, true, false, ◌&&◌, not, nat_eq, Option, Some, None, IfSome, List, ◌⊎◌, inl, inr, ⊎_elim, refl, sym, ap, ◌∙◌, subst, arith}
+use Rattle.std.proofs.Common.{◌≡◌, ℕ, zero, suc, ◌+◌, ◌^◌, ◌<◌, ◌≤◌, Bool, true, false, ◌&&◌, not, nat_eq, Option}
+use Rattle.std.proofs.Common.{Some, None, IfSome, List, ◌⊎◌, inl, inr, ⊎_elim, refl, sym, ap, ◌∙◌, subst, arith}
 use Rattle.std.proofs.lemmas.Bool.{eq-eqb, eqb-true, false_from_ne_true}
 use Rattle.ep_int.specs.declared.types.Model.{Model}
 use Rattle.ep_int.specs.declared.types.Model.TheVariants.{Ilp32, Lp64}
@@ -8,7 +9,8 @@ use Rattle.ep_int.specs.declared.types.Order.{Order}
 use Rattle.ep_int.specs.declared.types.Scalar.{Scalar}
 use Rattle.ep_int.specs.declared.types.Scalar.TheVariants.{Int, Pointer}
 use Rattle.ep_int.specs.Types.{bits_of, size_of, residue}
-use Rattle.ep_int.specs.Memory.{Byte, undefined, number as byte_number, fragment, Memory, Value as Datum, int, null, pointer, is_number, number_in, bytes_of_value}
+use Rattle.ep_int.specs.Memory.{Byte, undefined, number as byte_number, fragment, Memory, Value as Datum, int, null}
+use Rattle.ep_int.specs.Memory.{pointer, is_number, number_in, bytes_of_value}
 use Rattle.ep_int.proofs.Encodings.{decoded_same}
 use Rattle.ep_bitslice.specs.declared.cell.Side.{Side as CellSide}
 use Rattle.ep_bitslice.specs.declared.cell.Side.TheVariants as cell_side
@@ -21,7 +23,8 @@ use Rattle.ep_cells.specs.declared.cell.Value.{Value}
 use Rattle.ep_cells.specs.declared.cell.Value.TheVariants.{Num, Ptr}
 use Rattle.ep_cells.specs.Cells.{IsIn}
 use Rattle.ep_cells.specs.States.{Known}
-use Rattle.ep_cells.specs.Meaning.{Memories, Allows, IsUndefined, Has, HasBytes, Says, HasNumber, FormSays, number_at, number_on, numbers_of, name_of, In}
+use Rattle.ep_cells.specs.Meaning.{Memories, Allows, IsUndefined, Has, HasBytes, Says, HasNumber, FormSays, number_at}
+use Rattle.ep_cells.specs.Meaning.{number_on, numbers_of, name_of, In}
 use Rattle.ep_cell_ranges_laws.proofs.Same.{number_same}
 
 -- ---- bytes that are marked with a number: they are it, or undefined

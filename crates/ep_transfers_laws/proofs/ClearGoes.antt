@@ -1,5 +1,6 @@
 -- What is known after a place is cleared holds of the memories in which each running machine has cleared its own.
-use Rattle.std.proofs.Common.{◌≡◌, ℕ, zero, suc, ◌+◌, ◌*◌, ◌%◌, ◌^◌, ◌<◌, ◌≤◌, pos, Bool, true, false, List, [], ◌++◌, Option, Some, None, refl, sym, ap, ◌∙◌, subst, arith}
+use Rattle.std.proofs.Common.{◌≡◌, ℕ, zero, suc, ◌+◌, ◌*◌, ◌%◌, ◌^◌, ◌<◌, ◌≤◌, pos, Bool, true, false, List, [], ◌++◌}
+use Rattle.std.proofs.Common.{Option, Some, None, refl, sym, ap, ◌∙◌, subst, arith}
 use Rattle.std.proofs.lemmas.Int.{ints}
 use Rattle.std.proofs.Math.Nat.{mod-eq_of_lt}
 use Rattle.ep_int.specs.declared.types.IntType.{IntType}
@@ -39,8 +40,10 @@ use Rattle.ep_transfers_laws.proofs.Evaluated.{goes_state}
 use Rattle.ep_transfers_laws.proofs.Alike.{IsAlike, AreAlike, alike_itself, in_like}
 use Rattle.ep_transfers_laws.proofs.Patches.{Patch, patched, eased_memory, patched_alike}
 use Rattle.ep_transfers_laws.proofs.Eased.{eased_on, eased_first}
-use Rattle.ep_transfers_laws.proofs.RunSteps.{all_blocks, IsAt, at_with, Changed, IsSame, Waits, step_goes, RunSpotted, moved_at, spotted_at}
-use Rattle.ep_transfers_laws.proofs.ClearPatches.{zero_of, cleared_byte, clear_here, clear_patches, leaf_inside, are_patches, cover_all, plain_byte}
+use Rattle.ep_transfers_laws.proofs.RunSteps.{all_blocks, IsAt, at_with, Changed, IsSame, Waits, step_goes}
+use Rattle.ep_transfers_laws.proofs.RunSteps.{RunSpotted, moved_at, spotted_at}
+use Rattle.ep_transfers_laws.proofs.ClearPatches.{zero_of, cleared_byte, clear_here, clear_patches, leaf_inside}
+use Rattle.ep_transfers_laws.proofs.ClearPatches.{are_patches, cover_all, plain_byte}
 
 -- ---- what waits to be written at a leaf, or at a byte
 

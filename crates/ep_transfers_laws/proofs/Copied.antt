@@ -1,5 +1,6 @@
 -- Bytes are copied on machines: what is known of a place is moved to another one, or a place may have been written.
-use Rattle.std.proofs.Common.{◌≡◌, ℕ, ◌+◌, ◌^◌, ◌<◌, ◌≤◌, Bool, true, false, ◌&&◌, if◌then◌else◌, List, [], ◌∷◌, map, refl, sym, ◌∙◌, subst}
+use Rattle.std.proofs.Common.{◌≡◌, ℕ, ◌+◌, ◌^◌, ◌<◌, ◌≤◌, Bool, true, false, ◌&&◌, if◌then◌else◌, List, [], ◌∷◌, map}
+use Rattle.std.proofs.Common.{refl, sym, ◌∙◌, subst}
 use Rattle.ep_int.specs.declared.types.Model.{Model}
 use Rattle.ep_int.specs.Memory.{Byte, undefined, number, Memory, broken, copied}
 use Rattle.ep_int.proofs.Memories.{replaced_covered}
@@ -14,7 +15,8 @@ use Rattle.ep_evaluation.specs.Given.{cells_of}
 use Rattle.ep_cell_ranges.specs.Ranges.{replaced, blurred_at}
 use Rattle.ep_cell_ranges.specs.Moves.{place_at, moved_to, taken, taken_by_both, blurred_each}
 use Rattle.ep_cell_ranges.specs.Spots.{Spot, is_same_spot}
-use Rattle.ep_cell_ranges_laws.specs.Sound.{AreStored, AreNew, SayNew, AreCopied, changed, unchanged, MayBothBeChanged, IsAmong, at_first, behind}
+use Rattle.ep_cell_ranges_laws.specs.Sound.{AreStored, AreNew, SayNew, AreCopied, changed, unchanged}
+use Rattle.ep_cell_ranges_laws.specs.Sound.{MayBothBeChanged, IsAmong, at_first, behind}
 use Rattle.ep_cell_ranges_laws.specs.Laws.{ReplaceLaws, TakenLaws, MoveLaws, BlurEachLaws}
 use Rattle.ep_cell_ranges_laws.proofs.Same.{SameMemories, in_same}
 use Rattle.ep_transfers.specs.Copies.{moved_alone, moved_both}

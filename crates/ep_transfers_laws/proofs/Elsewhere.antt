@@ -1,5 +1,6 @@
 -- Cells that forms mention stay where other blocks are written.
-use Rattle.std.proofs.Common.{◌≡◌, ℕ, Bool, true, false, ◌&&◌, nat_eq, cond, List, [], ◌∷◌, ◌++◌, Option, Some, None, refl, sym, ap, ◌∙◌, subst}
+use Rattle.std.proofs.Common.{◌≡◌, ℕ, Bool, true, false, ◌&&◌, nat_eq, cond, List, [], ◌∷◌, ◌++◌, Option, Some, None}
+use Rattle.std.proofs.Common.{refl, sym, ap, ◌∙◌, subst}
 use Rattle.std.specs.Option.{option_map, option_map_or}
 use Rattle.std.proofs.lemmas.Bool.{and_parts, false_from_ne_true, both_ways, eqb-true, eq-eqb}
 use Rattle.ep_int.specs.declared.types.Model.{Model}
@@ -9,7 +10,8 @@ use Rattle.ep_bitslice.specs.declared.cell.CellName.{CellName}
 use Rattle.ep_domain.specs.Domain.{Ops}
 use Rattle.ep_cells.specs.declared.cell.Cell.{Cell}
 use Rattle.ep_cells.specs.declared.place.Place.{Place}
-use Rattle.ep_cells.specs.Cells.{place_of, place_of_name, touches, share_memory, side_without, is_partly_in, is_same_side, IsIn, first, later}
+use Rattle.ep_cells.specs.Cells.{place_of, place_of_name, touches, share_memory, side_without, is_partly_in}
+use Rattle.ep_cells.specs.Cells.{is_same_side, IsIn, first, later}
 use Rattle.ep_cells.specs.Both.{cell_like}
 use Rattle.ep_cells.specs.Write.{written, fate_by_write}
 use Rattle.ep_cells.specs.Weaken.{weakened, fate_by_weak_write}

@@ -1,6 +1,8 @@
 -- Main begins: the cells of globals and of main's result say what the bytes of both memories are, and then main's
 -- locals come.
-use Rattle.std.proofs.Common.{◌≡◌, ℕ, zero, suc, ◌+◌, ◌<◌, ◌≤◌, ℤ, pos, Bool, true, false, ◌||◌, nat_eq, if◌then◌else◌, List, [], ◌∷◌, ◌++◌, ⊎_elim, slice_get, Option, Some, None, IfSome, unwrap_or, refl, sym, ap, ◌∙◌, subst, arith}
+use Rattle.std.proofs.Common.{◌≡◌, ℕ, zero, suc, ◌+◌, ◌<◌, ◌≤◌, ℤ, pos, Bool, true, false, ◌||◌, nat_eq}
+use Rattle.std.proofs.Common.{if◌then◌else◌, List, [], ◌∷◌, ◌++◌, ⊎_elim, slice_get, Option, Some, None, IfSome}
+use Rattle.std.proofs.Common.{unwrap_or, refl, sym, ap, ◌∙◌, subst, arith}
 use Rattle.std.proofs.lemmas.Bool.{and_left, both_ways, eqb-true}
 use Rattle.ep_int.specs.declared.types.IntType.{IntType}
 use Rattle.ep_int.specs.declared.types.IntType.TheVariants.{U8}
@@ -41,7 +43,8 @@ use Rattle.ep_cell_ranges_laws.proofs.Same.{in_same}
 use Rattle.ep_evaluation_laws.specs.Laws.{memory_of, IsKept}
 use Rattle.ep_evaluation_laws.proofs.Conversions.{constant_sound}
 use Rattle.ep_transfers.specs.Cells.{empty_known}
-use Rattle.ep_transfers.specs.Ends.{value_in, first_cell, zero_byte, first_here, first_from, main_result, first_of_block, first_of_blocks, locals_in, entry_known}
+use Rattle.ep_transfers.specs.Ends.{value_in, first_cell, zero_byte, first_here, first_from, main_result}
+use Rattle.ep_transfers.specs.Ends.{first_of_block, first_of_blocks, locals_in, entry_known}
 use Rattle.ep_transfers_laws.specs.Laws.{memories, StandsFor}
 use Rattle.ep_transfers_laws.specs.Statements.{Each}
 use Rattle.ep_transfers_laws.specs.Calls.{EntryHolds}
@@ -52,7 +55,8 @@ use Rattle.ep_transfers_laws.proofs.Kills.{room, entered_both}
 use Rattle.ep_transfers_laws.proofs.Sides.{form_says}
 use Rattle.ep_transfers_laws.proofs.Locals.{not_global, not_result}
 use Rattle.ep_transfers_laws.proofs.FirstBytes.{ArePlain, forgotten_plain, begun_plain, begun_off, covers}
-use Rattle.ep_transfers_laws.proofs.FirstCells.{zero_fits, InitAt, all_off, blank_plain, first_datum, leaf_bytes, leaf_range, outer_byte}
+use Rattle.ep_transfers_laws.proofs.FirstCells.{zero_fits, InitAt, all_off, blank_plain, first_datum, leaf_bytes}
+use Rattle.ep_transfers_laws.proofs.FirstCells.{leaf_range, outer_byte}
 
 module _ {N : Type 0} (D : Ops N) (law : Lawful D) (p : Program) (ord : Side → Order)
     (formed : is_well_formed p ≡ true) where

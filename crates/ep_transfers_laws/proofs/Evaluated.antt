@@ -1,5 +1,6 @@
 -- What is evaluated in a kept state, and how two machines go on from there.
-use Rattle.std.proofs.Common.{◌≡◌, ℕ, zero, suc, true, List, [], ◌∷◌, map, slice_get, Some, None, refl, sym, ap, ◌∙◌, subst}
+use Rattle.std.proofs.Common.{◌≡◌, ℕ, zero, suc, true, List, [], ◌∷◌, map, slice_get, Some, None, refl, sym, ap, ◌∙◌}
+use Rattle.std.proofs.Common.{subst}
 use Rattle.ep_int.specs.declared.types.Order.{Order}
 use Rattle.ep_int.specs.declared.types.Scalar.{Scalar}
 use Rattle.ep_int.specs.declared.types.Scalar.TheVariants.{Pointer}
@@ -23,7 +24,8 @@ use Rattle.ep_evaluation.specs.Accesses.{spots}
 use Rattle.ep_evaluation.specs.Evaluation.{targets_of}
 use Rattle.ep_evaluation.specs.Evaluation.{pointer as pointer_of}
 use Rattle.ep_evaluation.specs.Evaluation.{expression, told}
-use Rattle.ep_evaluation_laws.specs.Laws.{Machine, memory_of, sizes_of, IsState, IsKept, Holds, SideFits, Sound, SoundPlace}
+use Rattle.ep_evaluation_laws.specs.Laws.{Machine, memory_of, sizes_of, IsState, IsKept, Holds, SideFits, Sound}
+use Rattle.ep_evaluation_laws.specs.Laws.{SoundPlace}
 use Rattle.ep_transfers.specs.Places.{aligned_faults}
 use Rattle.ep_transfers.specs.Writes.{Underway}
 use Rattle.ep_transfers_laws.specs.Laws.{memories, StandsFor, CellLaws}

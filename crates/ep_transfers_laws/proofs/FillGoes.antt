@@ -1,5 +1,6 @@
 -- What is known after a place is filled holds of the memories in which each running machine has filled its own.
-use Rattle.std.proofs.Common.{◌≡◌, ℕ, zero, suc, ◌+◌, ◌<◌, ◌≤◌, ℤ, Bool, true, false, if◌then◌else◌, List, [], ◌∷◌, refl, sym, ◌∙◌, subst, arith}
+use Rattle.std.proofs.Common.{◌≡◌, ℕ, zero, suc, ◌+◌, ◌<◌, ◌≤◌, ℤ, Bool, true, false, if◌then◌else◌, List, [], ◌∷◌}
+use Rattle.std.proofs.Common.{refl, sym, ◌∙◌, subst, arith}
 use Rattle.ep_int.specs.declared.types.IntType.TheVariants.{U8}
 use Rattle.ep_int.specs.declared.types.Model.{Model}
 use Rattle.ep_int.specs.declared.types.Order.{Order}
@@ -26,10 +27,12 @@ use Rattle.ep_transfers_laws.proofs.Changes.{IsOne, here, there, IsKnown, Goes, 
 use Rattle.ep_transfers_laws.proofs.Rooms.{EndBy}
 use Rattle.ep_transfers_laws.proofs.Assigned.{is_one}
 use Rattle.ep_transfers_laws.proofs.Alike.{AreAlike, stays_like}
-use Rattle.ep_transfers_laws.proofs.RunSteps.{all_blocks, Waits, waits_after, step_goes, RunSpotted, moved_at, spotted_at}
+use Rattle.ep_transfers_laws.proofs.RunSteps.{all_blocks, Waits, waits_after, step_goes, RunSpotted, moved_at}
+use Rattle.ep_transfers_laws.proofs.RunSteps.{spotted_at}
 use Rattle.ep_transfers_laws.proofs.RunWaits.{alone_waits, not_both}
 use Rattle.ep_transfers_laws.proofs.Eased.{eased_on, eased_first}
-use Rattle.ep_transfers_laws.proofs.Filled.{room_for_one, fewer, fill_broken, fill_bytes, filled_on, run_on, filled_last, fill_datum, one_changed}
+use Rattle.ep_transfers_laws.proofs.Filled.{room_for_one, fewer, fill_broken, fill_bytes, filled_on, run_on}
+use Rattle.ep_transfers_laws.proofs.Filled.{filled_last, fill_datum, one_changed}
 
 all_bytes : (n : ℕ) → 0 + n ≤ n
 all_bytes n = omega arith

@@ -1,6 +1,7 @@
 -- A place is filled with one byte: by writes of each byte in turn where a machine has one place, and where it has
 -- several, each may have been written.
-use Rattle.std.proofs.Common.{◌≡◌, ℕ, zero, suc, ◌+◌, ◌/◌, ◌%◌, ◌<◌, ◌≤◌, ℤ, true, List, [], ◌∷◌, Option, Some, inl, inr, ⊎_elim, refl, sym, ap, ◌∙◌, subst, arith}
+use Rattle.std.proofs.Common.{◌≡◌, ℕ, zero, suc, ◌+◌, ◌/◌, ◌%◌, ◌<◌, ◌≤◌, ℤ, true, List, [], ◌∷◌, Option, Some, inl}
+use Rattle.std.proofs.Common.{inr, ⊎_elim, refl, sym, ap, ◌∙◌, subst, arith}
 use Rattle.std.proofs.lemmas.Bool.{cases_lt}
 use Rattle.ep_int.specs.declared.types.IntType.TheVariants.{U8}
 use Rattle.ep_int.specs.declared.types.Model.{Model}

@@ -1,5 +1,6 @@
 -- Fills: a byte goes to each byte of a place.
-use Rattle.std.proofs.Common.{◌≡◌, ℕ, ◌<◌, ℤ, true, ◌&&◌, nat_le, List, [], ◌++◌, Option, None, is_some, refl, sym, ap, ◌∙◌, subst, arith}
+use Rattle.std.proofs.Common.{◌≡◌, ℕ, ◌<◌, ℤ, true, ◌&&◌, nat_le, List, [], ◌++◌, Option, None, is_some, refl, sym}
+use Rattle.std.proofs.Common.{ap, ◌∙◌, subst, arith}
 use Rattle.std.proofs.lemmas.Bool.{and_from, and_parts, leb-true}
 use Rattle.ep_int.specs.declared.types.IntType.TheVariants.{U8}
 use Rattle.ep_int.specs.declared.types.Model.{Model}
@@ -32,7 +33,8 @@ use Rattle.ep_transfers.specs.Transfers.{if_goes_on, fill_places, simple_step}
 use Rattle.ep_transfers_laws.specs.Laws.{memories, StandsFor, CellLaws}
 use Rattle.ep_transfers_laws.proofs.Changes.{Goes}
 use Rattle.ep_transfers_laws.proofs.Assigned.{on_all_by}
-use Rattle.ep_transfers_laws.proofs.Evaluated.{pair_of, kept_both, kept_beside, alike_beside, stands_beside, goes_state, Evaluated}
+use Rattle.ep_transfers_laws.proofs.Evaluated.{pair_of, kept_both, kept_beside, alike_beside, stands_beside}
+use Rattle.ep_transfers_laws.proofs.Evaluated.{goes_state, Evaluated}
 use Rattle.ep_transfers_laws.proofs.Outputs.{side_valued}
 use Rattle.ep_transfers_laws.proofs.Stored.{expr_is}
 use Rattle.ep_transfers_laws.proofs.RunPlaces.{no_range_fault, run_places, at, has_all}

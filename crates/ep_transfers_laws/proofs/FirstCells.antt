@@ -1,7 +1,10 @@
 -- The cells with which a program begins are cells in order, and say what the bytes of its memories are.
-use Rattle.std.proofs.Common.{◌≡◌, ℕ, ◌+◌, ◌<◌, ◌≤◌, ℤ, pos, Bool, true, false, ◌&&◌, ◌||◌, nat_eq, nat_lt, nat_le, if◌then◌else◌, List, [], ◌∷◌, slice_get, Option, Some, None, IfSome, unwrap_or, refl, sym, ap, ◌∙◌, subst, arith}
+use Rattle.std.proofs.Common.{◌≡◌, ℕ, ◌+◌, ◌<◌, ◌≤◌, ℤ, pos, Bool, true, false, ◌&&◌, ◌||◌, nat_eq, nat_lt, nat_le}
+use Rattle.std.proofs.Common.{if◌then◌else◌, List, [], ◌∷◌, slice_get, Option, Some, None, IfSome, unwrap_or, refl}
+use Rattle.std.proofs.Common.{sym, ap, ◌∙◌, subst, arith}
 use Rattle.std.specs.List.{list_all, list_any}
-use Rattle.std.proofs.lemmas.Bool.{and_left, and_right, and_parts, eqb-true, ne_eqb, false_from_ne_true, leb-true, ltb-true}
+use Rattle.std.proofs.lemmas.Bool.{and_left, and_right, and_parts, eqb-true, ne_eqb, false_from_ne_true, leb-true}
+use Rattle.std.proofs.lemmas.Bool.{ltb-true}
 use Rattle.ep_int.specs.declared.types.IntType.{IntType}
 use Rattle.ep_int.specs.declared.types.IntType.TheVariants.{I8, U8, I16, U16, I32, U32, I64, U64}
 use Rattle.ep_int.specs.declared.types.Order.{Order}
@@ -22,7 +25,9 @@ use Rattle.ep_core.specs.Runs.{Side, is_global, is_result, blank, main_function,
 use Rattle.ep_core.specs.WellFormed.{is_leaf_at, init_fits, blocks_fit}
 use Rattle.ep_transfers.specs.Ends.{value_in, main_result}
 use Rattle.ep_transfers_laws.proofs.Kills.{room}
-use Rattle.ep_transfers_laws.proofs.FirstBytes.{ArePlain, plain_if, zero_bytes, Meeting, is_one, before, behind, leaves_meet, outside_leaf, covers, AllOff, begun_off, Standing, here, beside, AllStand, byte_or, AreBytes, begun_at}
+use Rattle.ep_transfers_laws.proofs.FirstBytes.{ArePlain, plain_if, zero_bytes, Meeting, is_one, before, behind}
+use Rattle.ep_transfers_laws.proofs.FirstBytes.{leaves_meet, outside_leaf, covers, AllOff, begun_off, Standing, here}
+use Rattle.ep_transfers_laws.proofs.FirstBytes.{beside, AllStand, byte_or, AreBytes, begun_at}
 
 zero_is : (t : IntType) → is_in_range t (pos 0) ≡ true
 zero_is I8 = refl

@@ -18,7 +18,8 @@ use Rattle.ep_core.specs.Runs.{Side}
 use Rattle.ep_evaluation_laws.specs.Laws.{IsState}
 use Rattle.ep_cell_ranges.specs.Tests.{are_alike}
 use Rattle.ep_transfers.specs.Guards.{is_state}
-use Rattle.ep_transfers.specs.Cells.{empty_known, known_or_empty, are_states, fit_to_join, guarded, unified_known, joined_known, widened_known, is_within, reshared_known}
+use Rattle.ep_transfers.specs.Cells.{empty_known, known_or_empty, are_states, fit_to_join, guarded, unified_known}
+use Rattle.ep_transfers.specs.Cells.{joined_known, widened_known, is_within, reshared_known}
 use Rattle.ep_transfers_laws.specs.Laws.{memories, StandsFor}
 use Rattle.ep_cell_ranges_laws.proofs.Tests.{alike_by}
 use Rattle.ep_transfers_laws.proofs.Tests.{state_by}

@@ -1,5 +1,6 @@
 -- Blocks that come and go.
-use Rattle.std.proofs.Common.{◌≡◌, ℕ, zero, suc, ◌+◌, ◌^◌, ◌≤◌, Bool, true, false, ◌||◌, nat_eq, nat_le, cond, List, [], ◌∷◌, sum_by, slice_get, Option, Some, None, unwrap_or, refl, sym, ◌∙◌, subst, arith}
+use Rattle.std.proofs.Common.{◌≡◌, ℕ, zero, suc, ◌+◌, ◌^◌, ◌≤◌, Bool, true, false, ◌||◌, nat_eq, nat_le, cond, List}
+use Rattle.std.proofs.Common.{[], ◌∷◌, sum_by, slice_get, Option, Some, None, unwrap_or, refl, sym, ◌∙◌, subst, arith}
 use Rattle.std.specs.List.{list_all}
 use Rattle.std.proofs.lemmas.List.Sums.{sum_by-cons}
 use Rattle.std.proofs.lemmas.Bool.{and_parts, leb-true, eqb-true}

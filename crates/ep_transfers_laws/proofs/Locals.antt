@@ -1,5 +1,7 @@
 -- The locals of a function of a well-formed program are neither global nor the function's result.
-use Rattle.std.proofs.Common.{◌≡◌, ℕ, zero, suc, Bool, true, false, ◌&&◌, ◌||◌, not, nat_eq, List, [], ◌∷◌, ◌++◌, length, ⊎_elim, slice_get, Option, Some, None, is_some, option_to_list, refl, sym, subst}
+use Rattle.std.proofs.Common.{◌≡◌, ℕ, zero, suc, Bool, true, false, ◌&&◌, ◌||◌, not, nat_eq, List, [], ◌∷◌, ◌++◌}
+use Rattle.std.proofs.Common.{length, ⊎_elim, slice_get, Option, Some, None, is_some, option_to_list, refl, sym}
+use Rattle.std.proofs.Common.{subst}
 use Rattle.std.specs.List.{list_all, flat_map}
 use Rattle.std.proofs.lemmas.Bool.{and_parts, eq-eqb, eqb-true, or_left, or_right, both_ways, false_from_ne_true}
 use Rattle.ep_int.specs.declared.types.Scalar.{Scalar}
@@ -7,7 +9,8 @@ use Rattle.ep_int.specs.Memory.{contains}
 use Rattle.ep_core.specs.Program.{Function, Program}
 use Rattle.ep_core.specs.Exec.{first_of, frame_of}
 use Rattle.ep_core.specs.Runs.{is_global, is_result}
-use Rattle.ep_core.specs.WellFormed.{scoped, own_blocks, are_different, are_listed, blocks_fit, init_fits, are_different_leaves, functions_fit, is_main, is_well_formed}
+use Rattle.ep_core.specs.WellFormed.{scoped, own_blocks, are_different, are_listed, blocks_fit, init_fits}
+use Rattle.ep_core.specs.WellFormed.{are_different_leaves, functions_fit, is_main, is_well_formed}
 use Rattle.ep_core.specs.WellFormed.{numbers_below}
 use Rattle.ep_core.proofs.Sorts.{either_is}
 

@@ -1,6 +1,8 @@
 -- Where an access of a run of bytes lists no fault, a machine's place is among the places, and ends in its block; and
 -- where a copy lists none, its two places have no byte in common.
-use Rattle.std.proofs.Common.{◌≡◌, ℕ, zero, suc, ◌+◌, ◌-◌, ◌*◌, ◌/◌, ◌<◌, ◌≤◌, ℤ, pos, ◌-ℤ◌, ◌≤ℤ◌, Bool, true, false, ◌&&◌, ◌||◌, not, nat_eq, nat_lt, nat_le, cond, if◌then◌else◌, List, [], ◌∷◌, ◌++◌, map, slice_get, Option, Some, None, IsSomeAnd, refl, sym, ap, ◌∙◌, subst, arith, add-zero}
+use Rattle.std.proofs.Common.{◌≡◌, ℕ, zero, suc, ◌+◌, ◌-◌, ◌*◌, ◌/◌, ◌<◌, ◌≤◌, ℤ, pos, ◌-ℤ◌, ◌≤ℤ◌, Bool, true, false}
+use Rattle.std.proofs.Common.{◌&&◌, ◌||◌, not, nat_eq, nat_lt, nat_le, cond, if◌then◌else◌, List, [], ◌∷◌, ◌++◌, map}
+use Rattle.std.proofs.Common.{slice_get, Option, Some, None, IsSomeAnd, refl, sym, ap, ◌∙◌, subst, arith, add-zero}
 use Rattle.std.specs.Prelude.{int_le}
 use Rattle.std.specs.List.{filter, list_any}
 use Rattle.std.proofs.lemmas.Int.{ints}
@@ -28,7 +30,8 @@ use Rattle.ep_evaluation.specs.Evaluation.{pointer as pointer_of}
 use Rattle.ep_evaluation_laws.proofs.General.{none_left, unmarked, not_shown as unshown}
 use Rattle.ep_evaluation_laws.proofs.Access.{inside_there}
 use Rattle.ep_transfers.specs.Places.{range_faults}
-use Rattle.ep_transfers.specs.Copies.{larger, smaller, may_be_between, ranges_overlap, target_overlaps, may_overlap, overlap_faults, are_apart, some_apart}
+use Rattle.ep_transfers.specs.Copies.{larger, smaller, may_be_between, ranges_overlap, target_overlaps, may_overlap}
+use Rattle.ep_transfers.specs.Copies.{overlap_faults, are_apart, some_apart}
 use Rattle.ep_transfers_laws.proofs.Changes.{IsOne, here, there}
 
 -- ---- places in lists

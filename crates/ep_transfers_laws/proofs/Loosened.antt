@@ -1,6 +1,7 @@
 -- An aggregate that is assigned to itself is written as one of several places: what is known then holds of the machine
 -- that stays as it is.
-use Rattle.std.proofs.Common.{◌≡◌, ℕ, zero, suc, ◌+◌, ◌<◌, ◌≤◌, Bool, true, false, if◌then◌else◌, List, [], ◌∷◌, Option, None, refl, sym, ◌∙◌, subst, arith}
+use Rattle.std.proofs.Common.{◌≡◌, ℕ, zero, suc, ◌+◌, ◌<◌, ◌≤◌, Bool, true, false, if◌then◌else◌, List, [], ◌∷◌}
+use Rattle.std.proofs.Common.{Option, None, refl, sym, ◌∙◌, subst, arith}
 use Rattle.std.specs.List.{list_any}
 use Rattle.std.proofs.lemmas.Bool.{and_from, eq-eqb, or_left, or_right}
 use Rattle.ep_int.specs.declared.types.IntType.TheVariants.{U8}
@@ -19,7 +20,8 @@ use Rattle.ep_evaluation.specs.Given.{cells_of, on}
 use Rattle.ep_cell_ranges.specs.Spots.{Spot, is_same_spot}
 use Rattle.ep_transfers.specs.Places.{Places, at_side, moved_spot, moved_spots}
 use Rattle.ep_transfers.specs.Writes.{Item, underway, maybe_on, new_cell, write_side}
-use Rattle.ep_transfers.specs.Copies.{Piece, none, leaf, byte, loosened, loosened_places, piece_item, write_alone, mode_alone, pieces_from}
+use Rattle.ep_transfers.specs.Copies.{Piece, none, leaf, byte, loosened, loosened_places, piece_item, write_alone}
+use Rattle.ep_transfers.specs.Copies.{mode_alone, pieces_from}
 use Rattle.ep_transfers_laws.specs.Laws.{CellLaws}
 use Rattle.ep_transfers_laws.proofs.Changes.{IsOne, here, there, HaveRoom, IsKnown, each_goes}
 use Rattle.ep_transfers_laws.proofs.Rooms.{EndBy}

@@ -1,6 +1,7 @@
 -- A copy in each mode: where one place of a side goes to one, its cells are moved; of other sides it is a premise what
 -- becomes of them.
-use Rattle.std.proofs.Common.{◌≡◌, ℕ, ◌+◌, ◌^◌, ◌≤◌, Bool, true, false, ◌&&◌, ◌||◌, not, if◌then◌else◌, List, [], ◌∷◌, Some, None, is_some, refl, sym, ap, ◌∙◌, subst, arith}
+use Rattle.std.proofs.Common.{◌≡◌, ℕ, ◌+◌, ◌^◌, ◌≤◌, Bool, true, false, ◌&&◌, ◌||◌, not, if◌then◌else◌, List, [], ◌∷◌}
+use Rattle.std.proofs.Common.{Some, None, is_some, refl, sym, ap, ◌∙◌, subst, arith}
 use Rattle.std.proofs.lemmas.Bool.{and_parts, eqb-true}
 use Rattle.ep_int.specs.declared.types.Model.{Model}
 use Rattle.ep_int.specs.Memory.{Memory}
@@ -14,7 +15,8 @@ use Rattle.ep_equalities.specs.declared.pair.Mode.TheVariants.{Both, Left, Right
 use Rattle.ep_cell_ranges.specs.Spots.{Spot, is_same_spot}
 use Rattle.ep_cell_ranges_laws.specs.Laws.{ReplaceLaws, TakenLaws, MoveLaws, BlurEachLaws}
 use Rattle.ep_transfers.specs.Places.{Places, at_side, is_one}
-use Rattle.ep_transfers.specs.Copies.{Leaves, moved_both, is_one_to_one, move_one, copy_many, copy_alone, copy_sides, write_alike, copy_pieces, copy_moved, copy_both, copied}
+use Rattle.ep_transfers.specs.Copies.{Leaves, moved_both, is_one_to_one, move_one, copy_many, copy_alone, copy_sides}
+use Rattle.ep_transfers.specs.Copies.{write_alike, copy_pieces, copy_moved, copy_both, copied}
 use Rattle.ep_transfers_laws.proofs.Changes.{IsOne, here, there, IsKnown}
 use Rattle.ep_transfers_laws.proofs.Puts.{memory_on, IsStill}
 use Rattle.ep_transfers_laws.proofs.Rooms.{EndBy}

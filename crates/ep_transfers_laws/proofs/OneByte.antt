@@ -1,6 +1,8 @@
 -- What is read of one byte of a cell allows what stands there, where pointers that lie partly in a place may be
 -- undefined.
-use Rattle.std.proofs.Common.{◌≡◌, ℕ, ◌+◌, ◌-◌, ◌*◌, ◌^◌, ◌<◌, ℤ, pos, negsuc, Bool, true, false, ◌||◌, not, cond, IsSomeAnd, List, [], ◌∷◌, Option, Some, None, ◌⊎◌, inl, inr, ⊎_elim, refl, sym, ap, ◌∙◌, subst, arith}
+use Rattle.std.proofs.Common.{◌≡◌, ℕ, ◌+◌, ◌-◌, ◌*◌, ◌^◌, ◌<◌, ℤ, pos, negsuc, Bool, true, false, ◌||◌, not, cond}
+use Rattle.std.proofs.Common.{IsSomeAnd, List, [], ◌∷◌, Option, Some, None, ◌⊎◌, inl, inr, ⊎_elim, refl, sym, ap, ◌∙◌}
+use Rattle.std.proofs.Common.{subst, arith}
 use Rattle.std.specs.Option.{option_map}
 use Rattle.std.specs.List.{list_any}
 use Rattle.std.proofs.lemmas.Int.{ints}
@@ -14,7 +16,8 @@ use Rattle.ep_int.specs.declared.types.Scalar.{Scalar}
 use Rattle.ep_int.specs.declared.types.Scalar.TheVariants.{Int, Pointer}
 use Rattle.ep_int.specs.Types.{bytes_of, bits_of, size_of, InRange, residue, representation, wrapped}
 use Rattle.ep_int.specs.Encoding.{place, byte_of, encoded}
-use Rattle.ep_int.specs.Memory.{Byte, undefined, number, fragment, Memory, Value as Datum, int, null, pointer, is_number, broken}
+use Rattle.ep_int.specs.Memory.{Byte, undefined, number, fragment, Memory, Value as Datum, int, null, pointer}
+use Rattle.ep_int.specs.Memory.{is_number, broken}
 use Rattle.ep_int.proofs.Places.{width_of, place_below}
 use Rattle.ep_int.proofs.Wrapping.{representation_below, representation_represented, wrapped_in_range, wrapped_same}
 use Rattle.ep_bitslice.specs.declared.cell.Side.TheVariants as cell_side
@@ -26,7 +29,8 @@ use Rattle.ep_cells.specs.declared.cell.Value.TheVariants.{Num, Ptr}
 use Rattle.ep_cells.specs.States.{IsOfSort}
 use Rattle.ep_cells.specs.Meaning.{Allows, HasBytes}
 use Rattle.ep_reads.specs.declared.read.ReadValue.{ReadValue}
-use Rattle.ep_reads.specs.Bytes.{byte_at, byte_value, has_targets, is_null_alone, byte_of_value, pointer_byte, zero_form}
+use Rattle.ep_reads.specs.Bytes.{byte_at, byte_value, has_targets, is_null_alone, byte_of_value, pointer_byte}
+use Rattle.ep_reads.specs.Bytes.{zero_form}
 use Rattle.ep_reads.specs.Read.{integer_read, weighted, whole_read}
 use Rattle.ep_reads.specs.Split.{byte_with}
 use Rattle.ep_reads_laws.proofs.Numbers.{product_held, single_held, small_number, byte_held}

@@ -22,7 +22,8 @@ use Rattle.ep_transfers_laws.proofs.Patches.{Patch, patched, eased_memory, eased
 use Rattle.ep_transfers_laws.proofs.Chosen.{filled_by, holds_of_parts}
 use Rattle.ep_transfers_laws.proofs.Copied.{IsNext}
 use Rattle.ep_transfers_laws.proofs.PieceWrites.{piece_of}
-use Rattle.ep_transfers_laws.proofs.PieceEnds.{by_choice, choice_of, marks_at, marks_parts, filled_is, AllPieces, patches, are_patches}
+use Rattle.ep_transfers_laws.proofs.PieceEnds.{by_choice, choice_of, marks_at, marks_parts, filled_is, AllPieces}
+use Rattle.ep_transfers_laws.proofs.PieceEnds.{patches, are_patches}
 use Rattle.ep_transfers_laws.proofs.PieceCovers.{all_covered}
 use Rattle.ep_transfers_laws.proofs.PieceMarks.{IfStands, mark, mark_part, stays_chosen, misses}
 use Rattle.ep_transfers_laws.proofs.PairWrites.{value_at, maybe_at, IfAs, if_says, IfTogether, pieces_both}

@@ -1,5 +1,6 @@
 -- The sources of a piece that have one form on both sides are one number.
-use Rattle.std.proofs.Common.{◌≡◌, ℕ, ◌+◌, ◌-◌, pos, Bool, true, false, ◌&&◌, ◌||◌, nat_eq, cond, IfSome, List, [], ◌∷◌, Option, Some, None, refl, sym, ap, ◌∙◌, subst, arith}
+use Rattle.std.proofs.Common.{◌≡◌, ℕ, ◌+◌, ◌-◌, pos, Bool, true, false, ◌&&◌, ◌||◌, nat_eq, cond, IfSome, List, []}
+use Rattle.std.proofs.Common.{◌∷◌, Option, Some, None, refl, sym, ap, ◌∙◌, subst, arith}
 use Rattle.std.specs.Option.{option_map, option_map_or, option_and_then}
 use Rattle.std.proofs.lemmas.Bool.{and_from, and_parts, eqb-true, eq-eqb}
 use Rattle.ep_int.specs.declared.types.IntType.TheVariants.{U8}
@@ -8,7 +9,8 @@ use Rattle.ep_int.specs.declared.types.Scalar.{Scalar}
 use Rattle.ep_int.specs.declared.types.Scalar.TheVariants.{Int, Pointer}
 use Rattle.ep_int.specs.Types.{size_of}
 use Rattle.ep_int.specs.Encoding.{encoded}
-use Rattle.ep_int.specs.Memory.{Byte, undefined, number, Value as Datum, int, null, pointer, has, broken, bytes_from, value_of_bytes}
+use Rattle.ep_int.specs.Memory.{Byte, undefined, number, Value as Datum, int, null, pointer, has, broken, bytes_from}
+use Rattle.ep_int.specs.Memory.{value_of_bytes}
 use Rattle.ep_bitslice.specs.declared.segment.Segment.{Segment}
 use Rattle.ep_bitslice.specs.Segments.{form_of}
 use Rattle.ep_domain.specs.Domain.{Ops}
@@ -24,7 +26,8 @@ use Rattle.ep_cells_laws.proofs.Both.{scalar_same}
 use Rattle.ep_reads.specs.declared.read.ReadValue.{ReadValue}
 use Rattle.ep_reads.specs.Bytes.{is_null_alone, zero_form, byte_of_value, byte_of_cell}
 use Rattle.ep_reads.specs.Bytes.{order_on as order_of}
-use Rattle.ep_reads.specs.Read.{is_same_sort, is_exact, whole_read, read_in_parts, read_with, read, integer_read, converted, appended}
+use Rattle.ep_reads.specs.Read.{is_same_sort, is_exact, whole_read, read_in_parts, read_with, read, integer_read}
+use Rattle.ep_reads.specs.Read.{converted, appended}
 use Rattle.ep_reads_laws.specs.Laws.{memory_on as memory_of, IsFormRead}
 use Rattle.ep_reads_laws.proofs.Wholes.{found_of}
 use Rattle.ep_core.specs.Runs.{Side, left, right}
@@ -36,7 +39,8 @@ use Rattle.ep_cell_ranges.specs.Spots.{Spot}
 use Rattle.ep_cell_ranges_laws.specs.Follow.{FormHas}
 use Rattle.ep_transfers.specs.Places.{moved_spots}
 use Rattle.ep_transfers.specs.Writes.{lacks}
-use Rattle.ep_transfers.specs.Copies.{exact_cell, exact_at, whole_source, fragment_source, may_point, byte_source, leaf_sources, byte_sources, some_maybe}
+use Rattle.ep_transfers.specs.Copies.{exact_cell, exact_at, whole_source, fragment_source, may_point, byte_source}
+use Rattle.ep_transfers.specs.Copies.{leaf_sources, byte_sources, some_maybe}
 use Rattle.ep_transfers_laws.specs.Laws.{CellLaws}
 use Rattle.ep_transfers_laws.proofs.Sides.{from_held}
 use Rattle.ep_transfers_laws.proofs.Changes.{IsOne, here, there, IsKnown}

@@ -1,5 +1,6 @@
 -- A piece that is the same on both sides is one thing on both machines.
-use Rattle.std.proofs.Common.{◌≡◌, ℕ, ◌+◌, ◌<◌, Bool, true, false, ◌&&◌, ◌||◌, nat_eq, cond, is_some, List, Option, Some, None, ⊎_elim, refl, sym, ap, ◌∙◌, subst, arith}
+use Rattle.std.proofs.Common.{◌≡◌, ℕ, ◌+◌, ◌<◌, Bool, true, false, ◌&&◌, ◌||◌, nat_eq, cond, is_some, List, Option}
+use Rattle.std.proofs.Common.{Some, None, ⊎_elim, refl, sym, ap, ◌∙◌, subst, arith}
 use Rattle.std.specs.Option.{option_map_or}
 use Rattle.std.proofs.lemmas.Bool.{and_parts, or_cases, eqb-true}
 use Rattle.ep_int.specs.declared.types.IntType.TheVariants.{U8}
@@ -28,7 +29,8 @@ use Rattle.ep_evaluation_laws.proofs.Spots.{Among}
 use Rattle.ep_cell_ranges.specs.Spots.{Spot}
 use Rattle.ep_transfers.specs.Places.{Places, moved_spots}
 use Rattle.ep_transfers.specs.Writes.{lacks}
-use Rattle.ep_transfers.specs.Copies.{Piece, leaf, byte, scalar_of_piece, exact_cell, are_exact, whole_source, fragment_source, leaf_sources, byte_sources, are_shared_whole}
+use Rattle.ep_transfers.specs.Copies.{Piece, leaf, byte, scalar_of_piece, exact_cell, are_exact, whole_source}
+use Rattle.ep_transfers.specs.Copies.{fragment_source, leaf_sources, byte_sources, are_shared_whole}
 use Rattle.ep_transfers_laws.specs.Laws.{CellLaws}
 use Rattle.ep_transfers_laws.proofs.Changes.{IsOne, here, there, IsKnown}
 use Rattle.ep_transfers_laws.proofs.Copied.{AreBelow}
@@ -38,7 +40,8 @@ use Rattle.ep_transfers_laws.proofs.PieceSources.{AllFit, SourceAs, joined_as}
 use Rattle.ep_transfers_laws.proofs.PairWrites.{value_at, maybe_at, PieceAs, item_of_both}
 use Rattle.ep_transfers_laws.proofs.PairSame.{are_one, by_value}
 use Rattle.ep_transfers_laws.proofs.PairForms.{IsSure, leaf_sure, bytes_sure, is_datum, one_number}
-use Rattle.ep_transfers_laws.proofs.PairShared.{as_byte, shared_there, both_at, whole_as, leaf_among, byte_among, byte_as}
+use Rattle.ep_transfers_laws.proofs.PairShared.{as_byte, shared_there, both_at, whole_as, leaf_among, byte_among}
+use Rattle.ep_transfers_laws.proofs.PairShared.{byte_as}
 
 module _ {N : Type 0} (D : Ops N) (laws : CellLaws D) (k : Known N) (to from : Places) (leaves : List Leaf) (n : ℕ)
     (m : Memories) (i : IsKnown D k m) (p : Spot) (bl : AreBelow m.left) (br : AreBelow m.right)

@@ -1,6 +1,7 @@
 -- Two values that can only be one number or one pointer: what one allows the other allows too, and there is one thing
 -- that may stand for both.
-use Rattle.std.proofs.Common.{◌≡◌, ℕ, ℤ, pos, Bool, true, false, ◌&&◌, ◌||◌, not, nat_eq, cond, IsSomeAnd, List, [], ◌∷◌, Option, Some, None, inr, ⊎_elim, refl, sym, ap, ◌∙◌, subst, arith}
+use Rattle.std.proofs.Common.{◌≡◌, ℕ, ℤ, pos, Bool, true, false, ◌&&◌, ◌||◌, not, nat_eq, cond, IsSomeAnd, List, []}
+use Rattle.std.proofs.Common.{◌∷◌, Option, Some, None, inr, ⊎_elim, refl, sym, ap, ◌∙◌, subst, arith}
 use Rattle.std.specs.List.{list_any}
 use Rattle.std.specs.Ordering.{int_eq}
 use Rattle.std.proofs.lemmas.Int.{ints}

@@ -1,5 +1,6 @@
 -- Where the sources of a piece are Shared cells on both sides, the machines have one thing there.
-use Rattle.std.proofs.Common.{◌≡◌, ℕ, ◌+◌, ◌-◌, ◌<◌, ◌≤◌, Bool, true, false, ◌&&◌, nat_eq, nat_lt, cond, List, [], ◌∷◌, Option, Some, None, refl, sym, ap, ◌∙◌, subst, arith}
+use Rattle.std.proofs.Common.{◌≡◌, ℕ, ◌+◌, ◌-◌, ◌<◌, ◌≤◌, Bool, true, false, ◌&&◌, nat_eq, nat_lt, cond, List, []}
+use Rattle.std.proofs.Common.{◌∷◌, Option, Some, None, refl, sym, ap, ◌∙◌, subst, arith}
 use Rattle.std.specs.Option.{option_map_or}
 use Rattle.std.proofs.lemmas.Bool.{and_from, and_parts, both_ways, eqb-true, eq-eqb, lt-ltb}
 use Rattle.ep_int.specs.declared.types.IntType.{IntType}
@@ -33,7 +34,8 @@ use Rattle.ep_evaluation.specs.Given.{cells_of}
 use Rattle.ep_evaluation_laws.proofs.Spots.{Among, here as at_head, behind}
 use Rattle.ep_cell_ranges.specs.Spots.{Spot}
 use Rattle.ep_transfers.specs.Places.{moved_spots}
-use Rattle.ep_transfers.specs.Copies.{exact_at, whole_source, fragment_source, may_point, byte_source, leaf_sources, byte_sources, is_shared_whole, are_shared_whole}
+use Rattle.ep_transfers.specs.Copies.{exact_at, whole_source, fragment_source, may_point, byte_source, leaf_sources}
+use Rattle.ep_transfers.specs.Copies.{byte_sources, is_shared_whole, are_shared_whole}
 use Rattle.ep_transfers_laws.specs.Laws.{CellLaws}
 use Rattle.ep_transfers_laws.proofs.Changes.{IsOne, here, there, IsKnown}
 use Rattle.ep_transfers_laws.proofs.Puts.{order_on, memory_on}

@@ -1,5 +1,6 @@
 -- An aggregate is assigned to itself on both sides: what is known then holds of the machines that stay as they are.
-use Rattle.std.proofs.Common.{◌≡◌, ℕ, zero, suc, ◌+◌, ◌<◌, ◌≤◌, Bool, true, false, ◌||◌, if◌then◌else◌, List, ◌∷◌, refl, sym, ◌∙◌, subst, arith}
+use Rattle.std.proofs.Common.{◌≡◌, ℕ, zero, suc, ◌+◌, ◌<◌, ◌≤◌, Bool, true, false, ◌||◌, if◌then◌else◌, List, ◌∷◌}
+use Rattle.std.proofs.Common.{refl, sym, ◌∙◌, subst, arith}
 use Rattle.ep_int.specs.declared.types.Scalar.{Scalar}
 use Rattle.ep_int.specs.Types.{size_of}
 use Rattle.ep_int.specs.Memory.{Byte}
@@ -16,8 +17,10 @@ use Rattle.ep_equalities.specs.declared.pair.Mode.TheVariants.{Both}
 use Rattle.ep_evaluation.specs.Given.{cells_of, on}
 use Rattle.ep_cell_ranges.specs.Spots.{Spot, all_spots}
 use Rattle.ep_transfers.specs.Places.{Places}
-use Rattle.ep_transfers.specs.Writes.{Item, Underway, underway, maybe_on, value_of_same, write_side, write_sides, write_same, write_both}
-use Rattle.ep_transfers.specs.Copies.{Piece, none, leaf, byte, scalar_of_piece, to_at, write_alone, write_together, write_apart, write_pieces, pieces_from}
+use Rattle.ep_transfers.specs.Writes.{Item, Underway, underway, maybe_on, value_of_same, write_side, write_sides}
+use Rattle.ep_transfers.specs.Writes.{write_same, write_both}
+use Rattle.ep_transfers.specs.Copies.{Piece, none, leaf, byte, scalar_of_piece, to_at, write_alone, write_together}
+use Rattle.ep_transfers.specs.Copies.{write_apart, write_pieces, pieces_from}
 use Rattle.ep_transfers_laws.specs.Laws.{CellLaws}
 use Rattle.ep_transfers_laws.proofs.Sides.{same_sort, same_rising}
 use Rattle.ep_transfers_laws.proofs.Changes.{here, HaveRoom, IsKnown, Goes, then_goes, each_goes}

@@ -1,6 +1,7 @@
 -- The pieces of an aggregate are written on both sides: where both have the same piece it is one thing, and of the same
 -- values one cell of both.
-use Rattle.std.proofs.Common.{◌≡◌, ℕ, zero, suc, ◌+◌, ◌<◌, ◌≤◌, Bool, true, false, ◌&&◌, ◌||◌, if◌then◌else◌, List, [], ◌++◌, Option, Some, None, not, refl, sym, ◌∙◌, subst, arith}
+use Rattle.std.proofs.Common.{◌≡◌, ℕ, zero, suc, ◌+◌, ◌<◌, ◌≤◌, Bool, true, false, ◌&&◌, ◌||◌, if◌then◌else◌, List}
+use Rattle.std.proofs.Common.{[], ◌++◌, Option, Some, None, not, refl, sym, ◌∙◌, subst, arith}
 use Rattle.ep_int.specs.declared.types.Model.{Model}
 use Rattle.ep_int.specs.declared.types.Order.{Order}
 use Rattle.ep_int.specs.declared.types.Scalar.{Scalar}
@@ -20,7 +21,9 @@ use Rattle.ep_evaluation.specs.Accesses.{joined_reads}
 use Rattle.ep_cell_ranges.specs.Spots.{Spot}
 use Rattle.ep_transfers.specs.Places.{Places, moved_spot}
 use Rattle.ep_transfers.specs.Writes.{Item, underway, lacks, value_of_same}
-use Rattle.ep_transfers.specs.Copies.{Piece, none, leaf, byte, scalar_of_piece, some_maybe, piece_item, sources_on, shared_on, to_at, write_alone, write_together, write_apart, write_pieces, pieces_from}
+use Rattle.ep_transfers.specs.Copies.{Piece, none, leaf, byte, scalar_of_piece, some_maybe, piece_item, sources_on}
+use Rattle.ep_transfers.specs.Copies.{shared_on, to_at, write_alone, write_together, write_apart, write_pieces}
+use Rattle.ep_transfers.specs.Copies.{pieces_from}
 use Rattle.ep_transfers_laws.specs.Laws.{CellLaws}
 use Rattle.ep_transfers_laws.proofs.Sides.{same_allowed}
 use Rattle.ep_transfers_laws.proofs.Changes.{IsOne, IsKnown}
@@ -29,8 +32,11 @@ use Rattle.ep_transfers_laws.proofs.Rooms.{EndBy}
 use Rattle.ep_transfers_laws.proofs.Assigned.{any_block}
 use Rattle.ep_transfers_laws.proofs.Copied.{IsNext, same_next, then_next}
 use Rattle.ep_transfers_laws.proofs.Patches.{Patch, patched}
-use Rattle.ep_transfers_laws.proofs.PieceWrites.{moved_one, moved_rooms, bytes_moved, bytes_as, FitsPiece, with_bytes, piece_of, sources_at, PieceSays, IfPiece, patch_of, patches_from, patched_both, one_next}
-use Rattle.ep_transfers_laws.proofs.PieceSources.{or_left, or_right, some_any, nothing_allowed, lacks_more, bytes_weaker}
+use Rattle.ep_transfers_laws.proofs.PieceWrites.{moved_one, moved_rooms, bytes_moved, bytes_as, FitsPiece, with_bytes}
+use Rattle.ep_transfers_laws.proofs.PieceWrites.{piece_of, sources_at, PieceSays, IfPiece, patch_of, patches_from}
+use Rattle.ep_transfers_laws.proofs.PieceWrites.{patched_both, one_next}
+use Rattle.ep_transfers_laws.proofs.PieceSources.{or_left, or_right, some_any, nothing_allowed, lacks_more}
+use Rattle.ep_transfers_laws.proofs.PieceSources.{bytes_weaker}
 
 more_true : (a : Bool) → (a || not true) ≡ true → a ≡ true
 more_true true e = refl

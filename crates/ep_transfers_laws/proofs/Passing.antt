@@ -1,5 +1,6 @@
 -- A call up to its body: arguments are evaluated, the frame comes, and the parameters are set.
-use Rattle.std.proofs.Common.{◌≡◌, ℕ, true, nat_eq, List, [], ◌∷◌, ◌++◌, slice_get, Option, Some, None, option_and_then, option_to_list, refl, sym, ap, ◌∙◌, subst}
+use Rattle.std.proofs.Common.{◌≡◌, ℕ, true, nat_eq, List, [], ◌∷◌, ◌++◌, slice_get, Option, Some, None}
+use Rattle.std.proofs.Common.{option_and_then, option_to_list, refl, sym, ap, ◌∙◌, subst}
 use Rattle.std.specs.List.{list_all}
 use Rattle.std.proofs.lemmas.Bool.{and_parts, eq-eqb, or_left, or_right}
 use Rattle.ep_int.specs.declared.types.Order.{Order}
@@ -9,7 +10,8 @@ use Rattle.ep_domain.specs.Domain.{Ops}
 use Rattle.ep_cells.specs.States.{Known}
 use Rattle.ep_cells.specs.Meaning.{Memories}
 use Rattle.ep_core.specs.Program.{Expr, Function, Program}
-use Rattle.ep_core.specs.Exec.{State, Outcome, Values, on, leaves, first_of, frame_of, value, values, without, remembers}
+use Rattle.ep_core.specs.Exec.{State, Outcome, Values, on, leaves, first_of, frame_of, value, values, without}
+use Rattle.ep_core.specs.Exec.{remembers}
 use Rattle.ep_core.specs.Exec.{given_all as with_values, bound as set}
 use Rattle.ep_core.specs.Runs.{Side, left, right}
 use Rattle.ep_core.specs.Typed.{ValueFits, IfHas}
@@ -31,7 +33,8 @@ use Rattle.ep_transfers_laws.proofs.Results.{if_has}
 use Rattle.ep_transfers_laws.proofs.Stored.{typed_is}
 use Rattle.ep_transfers_laws.proofs.Evaluated.{kept_both, kept_beside}
 use Rattle.ep_transfers_laws.proofs.Waiting.{OthersStay, still_evaluated, killed_others}
-use Rattle.ep_transfers_laws.proofs.Bound.{changed, fits_changed, found_is, Waits, AllWait, all_found, datum_at, puts_all, all_bound}
+use Rattle.ep_transfers_laws.proofs.Bound.{changed, fits_changed, found_is, Waits, AllWait, all_found, datum_at}
+use Rattle.ep_transfers_laws.proofs.Bound.{puts_all, all_bound}
 
 -- ---- the parameters are in the frame
 

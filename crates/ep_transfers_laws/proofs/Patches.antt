@@ -1,6 +1,8 @@
 -- Several writes in one place, one after the other, are one write of the place, but for parts that no pointer has.
-use Rattle.std.proofs.Common.{◌≡◌, ℕ, ◌+◌, ◌-◌, ◌<◌, ◌≤◌, Bool, true, false, ◌&&◌, not, nat_eq, nat_le, nat_lt, cond, List, [], ◌∷◌, ◌⊎◌, inl, inr, ⊎_elim, refl, sym, ap, ◌∙◌, subst, arith}
-use Rattle.std.proofs.lemmas.Bool.{and_from, and_parts, and_left, and_right, le-leb, lt-ltb, le-ltb, lt-leb, leb-true, leb-false, ltb-true, eqb-true, eq-eqb, false_from_ne_true, both_ways, cases_lt}
+use Rattle.std.proofs.Common.{◌≡◌, ℕ, ◌+◌, ◌-◌, ◌<◌, ◌≤◌, Bool, true, false, ◌&&◌, not, nat_eq, nat_le, nat_lt, cond}
+use Rattle.std.proofs.Common.{List, [], ◌∷◌, ◌⊎◌, inl, inr, ⊎_elim, refl, sym, ap, ◌∙◌, subst, arith}
+use Rattle.std.proofs.lemmas.Bool.{and_from, and_parts, and_left, and_right, le-leb, lt-ltb, le-ltb, lt-leb, leb-true}
+use Rattle.std.proofs.lemmas.Bool.{leb-false, ltb-true, eqb-true, eq-eqb, false_from_ne_true, both_ways, cases_lt}
 use Rattle.ep_int.specs.declared.types.Model.{Model}
 use Rattle.ep_int.specs.declared.types.Model.TheVariants.{Ilp32, Lp64}
 use Rattle.ep_int.specs.Types.{pointer_bytes}

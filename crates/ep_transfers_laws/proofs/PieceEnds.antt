@@ -1,6 +1,7 @@
 -- All pieces of an aggregate are written on one side: what is known then holds of a machine whose place has all
 -- bytes at once, parts of pointers too.
-use Rattle.std.proofs.Common.{◌≡◌, ℕ, zero, suc, ◌+◌, ◌-◌, ◌<◌, ◌≤◌, Bool, true, false, ◌&&◌, nat_eq, nat_le, nat_lt, if◌then◌else◌, List, ◌++◌, Option, Some, None, refl, sym, ap, ◌∙◌, subst, arith}
+use Rattle.std.proofs.Common.{◌≡◌, ℕ, zero, suc, ◌+◌, ◌-◌, ◌<◌, ◌≤◌, Bool, true, false, ◌&&◌, nat_eq, nat_le, nat_lt}
+use Rattle.std.proofs.Common.{if◌then◌else◌, List, ◌++◌, Option, Some, None, refl, sym, ap, ◌∙◌, subst, arith}
 use Rattle.std.proofs.lemmas.Bool.{and_parts, eqb-true, leb-true}
 use Rattle.ep_int.specs.declared.types.IntType.TheVariants.{U8}
 use Rattle.ep_int.specs.declared.types.Model.{Model}
@@ -21,7 +22,8 @@ use Rattle.ep_transfers_laws.proofs.Changes.{IsOne, IsKnown}
 use Rattle.ep_transfers_laws.proofs.Puts.{memory_on}
 use Rattle.ep_transfers_laws.proofs.Rooms.{EndBy}
 use Rattle.ep_transfers_laws.proofs.Alike.{AreAlike, in_like, alike_itself}
-use Rattle.ep_transfers_laws.proofs.Patches.{Patch, patched, ArePatches, Covers, AllMiss, eased_memory, eased_alike, missed_alike}
+use Rattle.ep_transfers_laws.proofs.Patches.{Patch, patched, ArePatches, Covers, AllMiss, eased_memory, eased_alike}
+use Rattle.ep_transfers_laws.proofs.Patches.{missed_alike}
 use Rattle.ep_transfers_laws.proofs.Chosen.{Marks, Choice, chosen, filled_by, AreParts, holds_of_parts}
 use Rattle.ep_transfers_laws.proofs.Copied.{IsNext}
 use Rattle.ep_transfers_laws.proofs.PieceWrites.{with_memory, piece_of, IfPiece, patch_of, patches_from, pieces_next}

@@ -1,5 +1,6 @@
 -- What is read of each piece of an aggregate on one side allows the bytes that a machine copies.
-use Rattle.std.proofs.Common.{◌≡◌, ℕ, ◌+◌, ◌-◌, ◌<◌, ◌≤◌, Bool, true, false, ◌&&◌, ◌||◌, nat_eq, cond, is_some, List, [], ◌∷◌, Option, Some, None, refl, sym, ap, ◌∙◌, subst, arith}
+use Rattle.std.proofs.Common.{◌≡◌, ℕ, ◌+◌, ◌-◌, ◌<◌, ◌≤◌, Bool, true, false, ◌&&◌, ◌||◌, nat_eq, cond, is_some, List}
+use Rattle.std.proofs.Common.{[], ◌∷◌, Option, Some, None, refl, sym, ap, ◌∙◌, subst, arith}
 use Rattle.std.specs.Option.{option_map_or}
 use Rattle.std.proofs.lemmas.Bool.{and_parts, eqb-true}
 use Rattle.ep_int.specs.declared.types.IntType.TheVariants.{U8}
@@ -25,7 +26,8 @@ use Rattle.ep_cells_laws.proofs.Both.{scalar_same}
 use Rattle.ep_reads.specs.declared.read.ReadValue.{ReadValue}
 use Rattle.ep_reads.specs.Bytes.{byte_of_cell}
 use Rattle.ep_reads.specs.Bytes.{order_on as order_of}
-use Rattle.ep_reads.specs.Read.{is_same_sort, is_exact, whole_read, byte_read, byte_there, integer_read, read_with, read}
+use Rattle.ep_reads.specs.Read.{is_same_sort, is_exact, whole_read, byte_read, byte_there, integer_read, read_with}
+use Rattle.ep_reads.specs.Read.{read}
 use Rattle.ep_reads_laws.proofs.Found.{covering, stands_there}
 use Rattle.ep_core.specs.Runs.{Side, left, right}
 use Rattle.ep_evaluation.specs.Given.{cells_of}
@@ -34,7 +36,9 @@ use Rattle.ep_evaluation_laws.proofs.Spots.{Among, here as at_head, behind}
 use Rattle.ep_cell_ranges.specs.Spots.{Spot}
 use Rattle.ep_transfers.specs.Places.{Places, at_side, moved_spots}
 use Rattle.ep_transfers.specs.Writes.{lacks}
-use Rattle.ep_transfers.specs.Copies.{Piece, none, leaf, byte, exact_cell, exact_at, are_exact, is_in_whole, whole_source, fragment_source, may_point, byte_source, leaf_sources, byte_sources, some_maybe}
+use Rattle.ep_transfers.specs.Copies.{Piece, none, leaf, byte, exact_cell, exact_at, are_exact, is_in_whole}
+use Rattle.ep_transfers.specs.Copies.{whole_source, fragment_source, may_point, byte_source, leaf_sources}
+use Rattle.ep_transfers.specs.Copies.{byte_sources, some_maybe}
 use Rattle.ep_transfers_laws.specs.Laws.{CellLaws}
 use Rattle.ep_transfers_laws.proofs.Changes.{IsOne, here, there, IsKnown}
 use Rattle.ep_transfers_laws.proofs.Puts.{order_on, memory_on}

@@ -1,5 +1,6 @@
 -- A piece of an aggregate is written on one side: one of a machine's places takes its bytes.
-use Rattle.std.proofs.Common.{◌≡◌, ℕ, zero, suc, ◌+◌, ◌<◌, ◌≤◌, Bool, true, false, List, [], ◌∷◌, ◌++◌, Option, Some, None, inl, inr, ⊎_elim, refl, sym, ap, ◌∙◌, subst, arith}
+use Rattle.std.proofs.Common.{◌≡◌, ℕ, zero, suc, ◌+◌, ◌<◌, ◌≤◌, Bool, true, false, List, [], ◌∷◌, ◌++◌, Option, Some}
+use Rattle.std.proofs.Common.{None, inl, inr, ⊎_elim, refl, sym, ap, ◌∙◌, subst, arith}
 use Rattle.ep_int.specs.declared.types.IntType.TheVariants.{U8}
 use Rattle.ep_int.specs.declared.types.Model.{Model}
 use Rattle.ep_int.specs.declared.types.Order.{Order}
@@ -19,7 +20,8 @@ use Rattle.ep_evaluation.specs.Accesses.{joined_reads}
 use Rattle.ep_cell_ranges.specs.Spots.{Spot}
 use Rattle.ep_transfers.specs.Places.{Places, at_side, moved_spot, moved_spots}
 use Rattle.ep_transfers.specs.Writes.{underway, lacks, write_side}
-use Rattle.ep_transfers.specs.Copies.{Piece, none, leaf, byte, scalar_of_piece, some_maybe, piece_item, piece_on, sources_on, write_alone, mode_alone, pieces_from}
+use Rattle.ep_transfers.specs.Copies.{Piece, none, leaf, byte, scalar_of_piece, some_maybe, piece_item, piece_on}
+use Rattle.ep_transfers.specs.Copies.{sources_on, write_alone, mode_alone, pieces_from}
 use Rattle.ep_transfers_laws.specs.Laws.{CellLaws}
 use Rattle.ep_transfers_laws.proofs.Changes.{IsOne, here, there, HaveRoom, IsKnown}
 use Rattle.ep_transfers_laws.proofs.Puts.{order_on, memory_on, side_goes}

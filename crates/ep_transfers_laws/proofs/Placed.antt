@@ -1,5 +1,6 @@
 -- Where an access lists no fault, a machine's place is among the places, and the machine has no fault there.
-use Rattle.std.proofs.Common.{◌≡◌, ℕ, ◌+◌, ◌%◌, ◌<◌, ◌≤◌, pos, Bool, true, false, nat_lt, List, [], ◌∷◌, slice_get, Option, Some, None, IsSomeAnd, refl, arith}
+use Rattle.std.proofs.Common.{◌≡◌, ℕ, ◌+◌, ◌%◌, ◌<◌, ◌≤◌, pos, Bool, true, false, nat_lt, List, [], ◌∷◌, slice_get}
+use Rattle.std.proofs.Common.{Option, Some, None, IsSomeAnd, refl, arith}
 use Rattle.std.proofs.lemmas.Bool.{eq-eqb, false_from_ne_true, ltb-true}
 use Rattle.ep_int.specs.declared.types.Model.{Model}
 use Rattle.ep_int.specs.declared.types.Scalar.{Scalar}

@@ -19,7 +19,8 @@ use Rattle.ep_transfers_laws.specs.Laws.{memories, StandsFor, CellLaws}
 use Rattle.ep_transfers_laws.proofs.Rooms.{small}
 use Rattle.ep_transfers_laws.proofs.Assigned.{any_block, all_inside, at, next_is}
 use Rattle.ep_cells_laws.proofs.Places.{size_positive}
-use Rattle.ep_transfers_laws.proofs.Evaluated.{pair_of, Alike, Evaluated, known, operated, stores_there, both_meet, runs_alone, alone_meet}
+use Rattle.ep_transfers_laws.proofs.Evaluated.{pair_of, Alike, Evaluated, known, operated, stores_there, both_meet}
+use Rattle.ep_transfers_laws.proofs.Evaluated.{runs_alone, alone_meet}
 
 -- ---- machines
 

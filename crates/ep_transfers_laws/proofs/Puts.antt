@@ -1,6 +1,7 @@
 -- What waits is written at the places of an access, in each mode: what is known after it holds of the memories in which
 -- each running machine has it at one of its places.
-use Rattle.std.proofs.Common.{◌≡◌, ℕ, ◌+◌, ◌^◌, ◌≤◌, Bool, true, false, ◌&&◌, ◌||◌, cond, if◌then◌else◌, List, [], ◌∷◌, Option, Some, None, IfSome, refl, sym, ap, ◌∙◌, subst}
+use Rattle.std.proofs.Common.{◌≡◌, ℕ, ◌+◌, ◌^◌, ◌≤◌, Bool, true, false, ◌&&◌, ◌||◌, cond, if◌then◌else◌, List, []}
+use Rattle.std.proofs.Common.{◌∷◌, Option, Some, None, IfSome, refl, sym, ap, ◌∙◌, subst}
 use Rattle.std.proofs.lemmas.Bool.{and_parts, eqb-true}
 use Rattle.ep_int.specs.declared.types.Model.{Model}
 use Rattle.ep_int.specs.declared.types.Order.{Order}
@@ -30,9 +31,11 @@ use Rattle.ep_cell_ranges_laws.specs.Follow.{FormFits, FormHas}
 use Rattle.ep_cell_ranges_laws.specs.Sound.{AreStored}
 use Rattle.ep_cell_ranges_laws.specs.Laws.{MoreSplitLaws, MoreWriteLaws, MoreWeakWriteLaws}
 use Rattle.ep_transfers.specs.Places.{Places}
-use Rattle.ep_transfers.specs.Writes.{Item, Underway, maybe_on, lacks, form_unless, new_cell, write_side, write_sides, value_of_same, write_shared, write_shared_each, write_same, write_both, write}
+use Rattle.ep_transfers.specs.Writes.{Item, Underway, maybe_on, lacks, form_unless, new_cell, write_side, write_sides}
+use Rattle.ep_transfers.specs.Writes.{value_of_same, write_shared, write_shared_each, write_same, write_both, write}
 use Rattle.ep_transfers_laws.proofs.Sides.{same_sort, same_rising, form_says}
-use Rattle.ep_transfers_laws.proofs.Changes.{IsOne, here, there, Blocks, HaveRoom, IsKnown, Goes, then_goes, IsSide, side_after, strong_goes, each_goes}
+use Rattle.ep_transfers_laws.proofs.Changes.{IsOne, here, there, Blocks, HaveRoom, IsKnown, Goes, then_goes, IsSide}
+use Rattle.ep_transfers_laws.proofs.Changes.{side_after, strong_goes, each_goes}
 
 -- ---- the places of either side
 

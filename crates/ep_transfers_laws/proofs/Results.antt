@@ -1,5 +1,6 @@
 -- The result of a call goes to its place, converted; and main's result is compared at its end.
-use Rattle.std.proofs.Common.{◌≡◌, ℕ, pos, Bool, true, ◌&&◌, nat_eq, List, [], ◌++◌, slice_get, Option, Some, None, option_and_then, option_to_list, refl, sym, ap, subst}
+use Rattle.std.proofs.Common.{◌≡◌, ℕ, pos, Bool, true, ◌&&◌, nat_eq, List, [], ◌++◌, slice_get, Option, Some, None}
+use Rattle.std.proofs.Common.{option_and_then, option_to_list, refl, sym, ap, subst}
 use Rattle.std.specs.List.{list_all}
 use Rattle.std.proofs.lemmas.Bool.{and_parts}
 use Rattle.ep_int.specs.declared.types.IntType.{IntType}
@@ -19,7 +20,8 @@ use Rattle.ep_core.specs.Program.{Place, Dest, Block, Function, Program}
 use Rattle.ep_core.specs.Exec.{State, on, leaves, with_number, model, size_at, address, received}
 use Rattle.ep_core.specs.Runs.{Side, left, right}
 use Rattle.ep_core.specs.Typed.{ValueFits, IfHas}
-use Rattle.ep_core.specs.WellFormed.{has_scalar, ty_at, place_has, can_take, takes_result, holds_scalar, block_type, result_type, blocks_fit}
+use Rattle.ep_core.specs.WellFormed.{has_scalar, ty_at, place_has, can_take, takes_result, holds_scalar, block_type}
+use Rattle.ep_core.specs.WellFormed.{result_type, blocks_fit}
 use Rattle.ep_core.proofs.Sorts.{type_where, same_scalar}
 use Rattle.ep_core.proofs.Bytes.{loaded_fits}
 use Rattle.ep_pass.specs.Laws.{Kept, KeptBeside, Meets, meet, MeetsAlone, meet_alone}

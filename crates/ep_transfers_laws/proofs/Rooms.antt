@@ -1,5 +1,6 @@
 -- The places of an access end inside their blocks, and so below 2 to the 32.
-use Rattle.std.proofs.Common.{◌≡◌, ℕ, zero, suc, ◌+◌, ◌-◌, ◌*◌, ◌/◌, ◌≤◌, pos, Bool, true, false, nat_le, cond, List, [], ◌∷◌, ◌++◌, map, sum_by, slice_get, Option, Some, None, refl, subst, arith}
+use Rattle.std.proofs.Common.{◌≡◌, ℕ, zero, suc, ◌+◌, ◌-◌, ◌*◌, ◌/◌, ◌≤◌, pos, Bool, true, false, nat_le, cond, List}
+use Rattle.std.proofs.Common.{[], ◌∷◌, ◌++◌, map, sum_by, slice_get, Option, Some, None, refl, subst, arith}
 use Rattle.std.specs.List.{filter, list_all}
 use Rattle.std.proofs.lemmas.Bool.{and_parts, leb-true}
 use Rattle.std.proofs.Math.Nat.{div-mul-le_self, suc-mul}

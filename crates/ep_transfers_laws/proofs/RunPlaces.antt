@@ -1,5 +1,7 @@
 -- The places of a run of bytes: where an access lists no fault, a machine's place is among them, and inside its block.
-use Rattle.std.proofs.Common.{◌≡◌, ℕ, zero, suc, ◌+◌, ◌-◌, ◌/◌, ◌<◌, ◌≤◌, pos, Bool, true, false, nat_eq, nat_lt, cond, List, [], ◌∷◌, ◌++◌, map, slice_get, Option, Some, None, IsSomeAnd, refl, sym, ap, ◌∙◌, subst, arith}
+use Rattle.std.proofs.Common.{◌≡◌, ℕ, zero, suc, ◌+◌, ◌-◌, ◌/◌, ◌<◌, ◌≤◌, pos, Bool, true, false, nat_eq, nat_lt}
+use Rattle.std.proofs.Common.{cond, List, [], ◌∷◌, ◌++◌, map, slice_get, Option, Some, None, IsSomeAnd, refl, sym, ap}
+use Rattle.std.proofs.Common.{◌∙◌, subst, arith}
 use Rattle.std.specs.List.{filter}
 use Rattle.std.proofs.lemmas.Bool.{eqb-true, le-leb, le-ltb}
 use Rattle.ep_int.specs.declared.types.Order.{Order}
@@ -13,7 +15,8 @@ use Rattle.ep_cells.specs.declared.cell.Value.TheVariants.{Num, Ptr}
 use Rattle.ep_cells.specs.States.{Known}
 use Rattle.ep_cells.specs.Meaning.{Memories, Allows, numbers_of}
 use Rattle.ep_core.specs.Program.{Program}
-use Rattle.ep_core.specs.Exec.{State, Outcome, given, at_place, unless, size_at, ByteStep, uncounted, bytewise, bytewise_rest}
+use Rattle.ep_core.specs.Exec.{State, Outcome, given, at_place, unless, size_at, ByteStep, uncounted, bytewise}
+use Rattle.ep_core.specs.Exec.{bytewise_rest}
 use Rattle.ep_core.specs.Runs.{Side, left, right}
 use Rattle.ep_core.specs.WellFormed.{blocks_fit}
 use Rattle.ep_equalities.specs.declared.pair.Mode.{Mode}
@@ -30,7 +33,8 @@ use Rattle.ep_evaluation_laws.specs.Laws.{Machine, memory_of, sizes_of}
 use Rattle.ep_evaluation_laws.proofs.General.{none_left, not_shown, unmarked, reliable_none}
 use Rattle.ep_evaluation_laws.proofs.Spots.{Among, here, behind}
 use Rattle.ep_evaluation_laws.proofs.Access.{inside_there}
-use Rattle.ep_transfers.specs.Places.{Places, at_side, is_some_place, has_places, places_of, moved_spot, moved_spots, range_faults}
+use Rattle.ep_transfers.specs.Places.{Places, at_side, is_some_place, has_places, places_of, moved_spot, moved_spots}
+use Rattle.ep_transfers.specs.Places.{range_faults}
 use Rattle.ep_transfers_laws.specs.Laws.{CellLaws}
 use Rattle.ep_transfers_laws.proofs.Rooms.{EndBy, small, spots_end}
 use Rattle.ep_transfers_laws.proofs.Assigned.{is_one, some_place, on_all_by}

@@ -15,7 +15,8 @@ use Rattle.ep_core.specs.Program.{Expr, Place, eval, assign, output, returns, Pr
 use Rattle.ep_core.specs.Exec.{State, on, returned, uncounted, value, address, does}
 use Rattle.ep_core.specs.Runs.{Side, left, right}
 use Rattle.ep_core.specs.Typed.{scalar_of}
-use Rattle.ep_core.specs.WellFormed.{Sort, integer, has_scalar, ty_at, has_sort, has_type, place_has, some_type, is_tested, int_type_of, blocks_fit}
+use Rattle.ep_core.specs.WellFormed.{Sort, integer, has_scalar, ty_at, has_sort, has_type, place_has, some_type}
+use Rattle.ep_core.specs.WellFormed.{is_tested, int_type_of, blocks_fit}
 use Rattle.ep_core.proofs.Sorts.{type_where, typed_where, tested_where, sort_scalar}
 use Rattle.ep_pass.specs.Laws.{Kept, KeptBeside, Meets, meet, MeetsAlone, meet_alone}
 use Rattle.ep_equalities.specs.declared.pair.Mode.{Mode}
@@ -32,7 +33,8 @@ use Rattle.ep_transfers.specs.Transfers.{if_goes_on, alone_faults, put_out, simp
 use Rattle.ep_transfers.specs.Transfers.{returned as returned_step}
 use Rattle.ep_transfers_laws.specs.Laws.{memories, StandsFor, CellLaws}
 use Rattle.ep_transfers_laws.proofs.Assigned.{on_all_by}
-use Rattle.ep_transfers_laws.proofs.Evaluated.{pair_of, kept_both, kept_beside, alike_beside, Evaluated, sound_evaluated, place_evaluated}
+use Rattle.ep_transfers_laws.proofs.Evaluated.{pair_of, kept_both, kept_beside, alike_beside, Evaluated}
+use Rattle.ep_transfers_laws.proofs.Evaluated.{sound_evaluated, place_evaluated}
 use Rattle.ep_transfers_laws.proofs.Outputs.{side_valued}
 use Rattle.ep_transfers_laws.proofs.Plain.{both_put, alone_put}
 use Rattle.ep_transfers_laws.proofs.PutsOut.{output_meets}

@@ -1,10 +1,12 @@
 -- Values that wait while blocks come: their forms lose each mention of these blocks, and what is left of them is still
 -- said, whatever is done in these blocks.
-use Rattle.std.proofs.Common.{◌≡◌, ℕ, ◌+◌, Bool, true, false, ◌||◌, nat_eq, cond, List, [], ◌∷◌, slice_get, Some, None, IfSome, refl, sym, ap, ◌∙◌, subst}
+use Rattle.std.proofs.Common.{◌≡◌, ℕ, ◌+◌, Bool, true, false, ◌||◌, nat_eq, cond, List, [], ◌∷◌, slice_get, Some}
+use Rattle.std.proofs.Common.{None, IfSome, refl, sym, ap, ◌∙◌, subst}
 use Rattle.ep_int.specs.declared.types.Order.{Order}
 use Rattle.ep_int.specs.declared.types.Scalar.{Scalar}
 use Rattle.ep_int.specs.declared.types.Scalar.TheVariants.{Int, Pointer}
-use Rattle.ep_int.specs.Memory.{Byte, undefined, number as byte_number, fragment, Memory, Value as Datum, int, null, pointer, contains, forgotten, number_in}
+use Rattle.ep_int.specs.Memory.{Byte, undefined, number as byte_number, fragment, Memory, Value as Datum, int, null}
+use Rattle.ep_int.specs.Memory.{pointer, contains, forgotten, number_in}
 use Rattle.ep_int.proofs.Encodings.{decoded_same}
 use Rattle.ep_bitslice.specs.declared.cell.Side.{Side as CellSide}
 use Rattle.ep_bitslice.specs.declared.cell.Side.TheVariants as cell_side

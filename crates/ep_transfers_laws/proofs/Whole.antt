@@ -1,5 +1,6 @@
 -- The laws of statements, blocks and pairs of states, as the record of laws asks them.
-use Rattle.std.proofs.Common.{◌≡◌, ℕ, true, List, [], Option, Some, None, slice_get, option_and_then, option_to_list, refl, sym, ap, ◌∙◌, subst}
+use Rattle.std.proofs.Common.{◌≡◌, ℕ, true, List, [], Option, Some, None, slice_get, option_and_then, option_to_list}
+use Rattle.std.proofs.Common.{refl, sym, ap, ◌∙◌, subst}
 use Rattle.std.specs.List.{list_all}
 use Rattle.std.proofs.lemmas.Bool.{and_parts}
 use Rattle.ep_int.specs.declared.types.Model.{Model}
@@ -14,7 +15,8 @@ use Rattle.ep_split_laws.specs.Laws.{UnifyLaws}
 use Rattle.ep_core.specs.Program.{Expr, Simple, nothing, eval, assign, input, output, returns, Function, Program}
 use Rattle.ep_core.specs.Exec.{State, Way, Outcome, on, leaves, uncounted, does, received}
 use Rattle.ep_core.specs.Runs.{Side, left, right}
-use Rattle.ep_core.specs.WellFormed.{has_scalar, result_type, block_type, holds_scalar, result_fits, simple_fits, is_main, is_int_result, blocks_fit, is_well_formed}
+use Rattle.ep_core.specs.WellFormed.{has_scalar, result_type, block_type, holds_scalar, result_fits, simple_fits}
+use Rattle.ep_core.specs.WellFormed.{is_main, is_int_result, blocks_fit, is_well_formed}
 use Rattle.ep_core.proofs.Operands.{fits_at}
 use Rattle.ep_pass.specs.States.{Both, One, Gives}
 use Rattle.ep_pass.specs.Laws.{Kept, KeptBeside, InBeside, Meets, meet, MeetsAlone, meet_alone}
@@ -29,12 +31,14 @@ use Rattle.ep_transfers.specs.Cells.{mode_of, told_of, when_known, is_told_so, e
 use Rattle.ep_transfers_laws.specs.Laws.{StandsFor, CellLaws}
 use Rattle.ep_transfers_laws.specs.Statements.{SimpleHolds, StatementsHold, ResultsHold, BlocksHold, PairsHold}
 use Rattle.ep_transfers_laws.proofs.Evaluated.{none_told}
-use Rattle.ep_transfers_laws.proofs.Stored.{eval_sound, eval_alone, assign_sound, assign_alone, output_sound, output_alone, return_sound, return_alone}
+use Rattle.ep_transfers_laws.proofs.Stored.{eval_sound, eval_alone, assign_sound, assign_alone, output_sound}
+use Rattle.ep_transfers_laws.proofs.Stored.{output_alone, return_sound, return_alone}
 use Rattle.ep_transfers_laws.proofs.Inputs.{input_sound, input_alone}
 use Rattle.ep_transfers_laws.proofs.Results.{result_sound, result_alone}
 use Rattle.ep_transfers_laws.proofs.Ended.{ended_sound}
 use Rattle.ep_transfers_laws.proofs.Kills.{entered_both, entered_left, entered_right}
-use Rattle.ep_transfers_laws.proofs.Guarded.{unified_left, unified_right, joined_left, joined_right, widened_left, within_stands, reshared_stands, empty_stands, known_stands}
+use Rattle.ep_transfers_laws.proofs.Guarded.{unified_left, unified_right, joined_left, joined_right, widened_left}
+use Rattle.ep_transfers_laws.proofs.Guarded.{within_stands, reshared_stands, empty_stands, known_stands}
 
 same_model : (d : Model) → is_model d d ≡ true
 same_model Ilp32 = refl

@@ -7,13 +7,15 @@ use Rattle.ep_int.specs.declared.types.Scalar.{Scalar}
 use Rattle.ep_int.specs.Memory.{Memory, killed}
 use Rattle.ep_domain.specs.Domain.{Ops}
 use Rattle.ep_cells.specs.States.{Known}
-use Rattle.ep_core.specs.Program.{Expr, Place, Dest, Simple, nothing, eval, assign, input, output, returns, Function, Program}
+use Rattle.ep_core.specs.Program.{Expr, Place, Dest, Simple, nothing, eval, assign, input, output, returns, Function}
+use Rattle.ep_core.specs.Program.{Program}
 use Rattle.ep_core.specs.Exec.{State, on, uncounted, does, received}
 use Rattle.ep_core.specs.Runs.{Side, left, right, main_ends}
 use Rattle.ep_core.specs.WellFormed.{result_type, is_tested, simple_fits, takes_result, is_well_formed}
 use Rattle.ep_pass.specs.States.{Both, One}
 use Rattle.ep_pass.specs.Pass.{way_of}
-use Rattle.ep_pass.specs.Laws.{Kept, KeptBeside, Reaches, ReachesBeside, InBeside, Meets, MeetsAlone, IsTruth, Truths, TruthAlone, EndAlike}
+use Rattle.ep_pass.specs.Laws.{Kept, KeptBeside, Reaches, ReachesBeside, InBeside, Meets, MeetsAlone, IsTruth, Truths}
+use Rattle.ep_pass.specs.Laws.{TruthAlone, EndAlike}
 use Rattle.ep_transfers.specs.Cells.{cell_ops}
 use Rattle.ep_transfers_laws.specs.Laws.{StandsFor}
 

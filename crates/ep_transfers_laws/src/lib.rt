@@ -2,7 +2,8 @@
 #![tactic(auto)]
 
 ghost use Rattle.ep_transfers_laws.specs.Copying.{CopiesHold};
-ghost use Rattle.ep_transfers_laws.specs.Statements.{Each, StatementsHold, ResultsHold, TestsHold, BlocksHold, PairsHold};
+ghost use Rattle.ep_transfers_laws.specs.Statements.{Each, StatementsHold, ResultsHold, TestsHold, BlocksHold};
+ghost use Rattle.ep_transfers_laws.specs.Statements.{PairsHold};
 ghost use Rattle.ep_transfers_laws.specs.Calls.{ArgumentsHold, EntryHolds};
 ghost use Rattle.ep_transfers_laws.specs.Runs.{RunsHold};
 

@@ -11,9 +11,12 @@ use lib.Count.{count_leading_zeros}
 use Rattle.ep_alarms.specs.declared.types.AlarmKind.TheVariants.{U4}
 use Rattle.ep_bitslice.specs.declared.cell.Side.TheVariants as side
 use Rattle.ep_bitslice.specs.declared.segment.Segment.TheVariants.{Bits, Fixed}
-use Rattle.ep_core.specs.Program.{block, deref, element, const, load, addr_of, binary, convert, ptr_add, assign, input, output, read_bytes, write_bytes, returns, stop, Program}
+use Rattle.ep_core.specs.Program.{block, deref, element, const, load, addr_of, binary, convert, ptr_add, assign}
+use Rattle.ep_core.specs.Program.{input, output, read_bytes, write_bytes, returns, stop, Program}
 use Rattle.ep_equalities.specs.declared.pair.Mode.TheVariants.{Both, Left, Right}
-use Rattle.ep_transfers_rows.specs.Steps.{nothing_known, between, shape, does, comes, goes, passes, does_in, receives, Step, run, faults_of, shapes_of, is_state_after, local, shared_block, main_of, to_place, listed, cell_of}
+use Rattle.ep_transfers_rows.specs.Steps.{nothing_known, between, shape, does, comes, goes, passes, does_in, receives}
+use Rattle.ep_transfers_rows.specs.Steps.{Step, run, faults_of, shapes_of, is_state_after, local, shared_block}
+use Rattle.ep_transfers_rows.specs.Steps.{main_of, to_place, listed, cell_of}
 
 -- #if little: uint16_t swap(uint16_t v) { return (v >> 8) | (v << 8); } #else: uint16_t swap(uint16_t v) { return
 -- v; } #endif uint16_t x, y; ep_read(&x, 2); y = swap(x); ep_out_u16(y);

@@ -11,9 +11,12 @@ use lib.Count.{count_leading_zeros}
 use Rattle.ep_alarms.specs.declared.types.AlarmKind.TheVariants.{U9, E1}
 use Rattle.ep_bitslice.specs.declared.cell.Side.TheVariants as side
 use Rattle.ep_bitslice.specs.declared.segment.Segment.TheVariants.{Bits, Fixed}
-use Rattle.ep_core.specs.Program.{block, member, element, const, load, addr_of, binary, convert, ptr_add, assign, clear, copy_bytes, fill, input, output, read_bytes, write_bytes, Program}
+use Rattle.ep_core.specs.Program.{block, member, element, const, load, addr_of, binary, convert, ptr_add, assign}
+use Rattle.ep_core.specs.Program.{clear, copy_bytes, fill, input, output, read_bytes, write_bytes, Program}
 use Rattle.ep_equalities.specs.declared.pair.Mode.TheVariants.{Both}
-use Rattle.ep_transfers_rows.specs.Steps.{nothing_known, between, points, shape, does, Step, run, faults_of, shapes_of, is_state_after, local, member_of, main_of, to_place, listed, cell_of}
+use Rattle.ep_transfers_rows.specs.Steps.{nothing_known, between, points, shape, does, Step, run, faults_of}
+use Rattle.ep_transfers_rows.specs.Steps.{shapes_of, is_state_after, local, member_of, main_of, to_place, listed}
+use Rattle.ep_transfers_rows.specs.Steps.{cell_of}
 
 -- uint8_t a[3] = {1, 2}; ep_write(a, 3);
 abbrev twenty_nine_program : Program

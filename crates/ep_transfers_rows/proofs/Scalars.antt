@@ -10,9 +10,12 @@ use lib.Count.{count_leading_zeros}
 use Rattle.ep_alarms.specs.declared.types.AlarmKind.TheVariants.{U1, U2, U4, E1, E2}
 use Rattle.ep_bitslice.specs.declared.cell.Side.TheVariants as side
 use Rattle.ep_bitslice.specs.declared.segment.Segment.TheVariants.{Bits, Fixed}
-use Rattle.ep_core.specs.Program.{block, member, element, const, load, addr_of, binary, convert, assign, input, output, read_bytes, write_bytes, returns, Program}
+use Rattle.ep_core.specs.Program.{block, member, element, const, load, addr_of, binary, convert, assign, input}
+use Rattle.ep_core.specs.Program.{output, read_bytes, write_bytes, returns, Program}
 use Rattle.ep_equalities.specs.declared.pair.Mode.TheVariants.{Both, Left, Right}
-use Rattle.ep_transfers_rows.specs.Steps.{nothing_known, between, points, shape, does, Step, run, faults_of, shapes_of, is_state_after, local, shared_block, member_of, main_of, to_place, listed, cell_of}
+use Rattle.ep_transfers_rows.specs.Steps.{nothing_known, between, points, shape, does, Step, run, faults_of}
+use Rattle.ep_transfers_rows.specs.Steps.{shapes_of, is_state_after, local, shared_block, member_of, main_of}
+use Rattle.ep_transfers_rows.specs.Steps.{to_place, listed, cell_of}
 
 -- uint32_t x; x = ep_in_u32(); ep_write(&x, 4);
 abbrev two_program : Program

@@ -10,9 +10,12 @@ use lib.Count.{count_leading_zeros}
 use Rattle.ep_alarms.specs.declared.types.AlarmKind.TheVariants.{U4, E1}
 use Rattle.ep_bitslice.specs.declared.cell.Side.TheVariants as side
 use Rattle.ep_bitslice.specs.declared.segment.Segment.TheVariants.{Bits, Fixed}
-use Rattle.ep_core.specs.Program.{block, deref, member, element, const, load, addr_of, binary, convert, conditional, assign, copy_aggregate, copy_bytes, input, output, Program}
+use Rattle.ep_core.specs.Program.{block, deref, member, element, const, load, addr_of, binary, convert, conditional}
+use Rattle.ep_core.specs.Program.{assign, copy_aggregate, copy_bytes, input, output, Program}
 use Rattle.ep_equalities.specs.declared.pair.Mode.TheVariants.{Both, Left, Right}
-use Rattle.ep_transfers_rows.specs.Steps.{nothing_known, between, points, shape, does, Step, run, faults_of, shapes_of, is_state_after, local, member_of, main_of, to_place, listed, cell_of}
+use Rattle.ep_transfers_rows.specs.Steps.{nothing_known, between, points, shape, does, Step, run, faults_of}
+use Rattle.ep_transfers_rows.specs.Steps.{shapes_of, is_state_after, local, member_of, main_of, to_place, listed}
+use Rattle.ep_transfers_rows.specs.Steps.{cell_of}
 
 -- struct item { uint8_t tag; uint32_t *p; } s, d; uint32_t x = 5, y; s.tag = 1; s.p = &x; memcpy(&d, &s,
 -- sizeof(struct item)); y = *d.p; ep_out_u32(y);

@@ -10,7 +10,8 @@ ghost use Rattle.ep_ast.specs.Mark.{const_word};
 ghost use Rattle.ep_lexer.specs.Tokens.{view};
 ghost use Rattle.ep_reading.specs.Names.{is_type};
 ghost use Rattle.ep_reading.specs.Answer.{GivesAs, IsPast, IsWithin, after};
-ghost use Rattle.ep_type_names.specs.Words.{bag, Joins, OneRead, IsPastWord, CountsConsts, ReadsStars, words_of, name_of};
+ghost use Rattle.ep_type_names.specs.Words.{bag, Joins, OneRead, IsPastWord, CountsConsts, ReadsStars, words_of};
+ghost use Rattle.ep_type_names.specs.Words.{name_of};
 
 use crate::look::{is_tag_word, is_type_word};
 use ep_ast::marks::{RIGHT_PAREN, STAR};

@@ -23,7 +23,8 @@ pub fn elaborate(alloc: Global, tree: &ProgramTree, model: Model) -> Result<Core
     ensures only { IfOk result (λ p. (q : Program) → MeansProgram model (items tree.now) q → q ≡ shown p) }
     ensures faultless { IfOk result (λ _. (r : Refusal) → ProgramOffends model (items tree.now) r → ⊥) }
     ensures offends { IfErr result (λ e. IfRefused e (ProgramOffends model (items tree.now))) }
-    ensures means_nothing { IfErr result (λ e. IfRefused e (λ _. (p : Program) → MeansProgram model (items tree.now) p → ⊥)) }
+    ensures means_nothing { IfErr result
+        (λ e. IfRefused e (λ _. (p : Program) → MeansProgram model (items tree.now) p → ⊥)) }
 {
     let parts = parts_of_program(alloc, tree, model)?;
     Ok(program_of(

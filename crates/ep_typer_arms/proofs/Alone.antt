@@ -1,5 +1,6 @@
 -- Heads where they stand by themselves.
-use Rattle.std.proofs.Common.{◌≡◌, ℕ, Bool, true, false, cond, List, length, Option, Some, None, Result, Ok, Err, refl, sym, ap, ◌∙◌, subst}
+use Rattle.std.proofs.Common.{◌≡◌, ℕ, Bool, true, false, cond, List, length, Option, Some, None, Result, Ok, Err}
+use Rattle.std.proofs.Common.{refl, sym, ap, ◌∙◌, subst}
 use Rattle.ep_ast.specs.declared.refusals.Refusal.{Refusal}
 use Rattle.ep_ast.specs.declared.refusals.Halt.{Halt}
 use Rattle.ep_ast.specs.declared.refusals.Halt.TheVariants as halts
@@ -9,7 +10,9 @@ use Rattle.ep_typing.specs.Env.{Env, Meaning, Signature, entry}
 use Rattle.ep_typing.specs.Results.{◌>>=◌, at}
 use Rattle.ep_operands.specs.Gives.{Stops}
 use Rattle.ep_elaboration.specs.Declarators.{with_types}
-use Rattle.ep_elaboration.specs.Functions.{Headed, are_alike, are_typed_alike, file_names, fits_main, function_declared, headed, is_alike, named_function, number_of_function, numbered_function, signature_of, stands_against, stands_alone}
+use Rattle.ep_elaboration.specs.Functions.{Headed, are_alike, are_typed_alike, file_names, fits_main}
+use Rattle.ep_elaboration.specs.Functions.{function_declared, headed, is_alike, named_function, number_of_function}
+use Rattle.ep_elaboration.specs.Functions.{numbered_function, signature_of, stands_against, stands_alone}
 use Rattle.ep_elaboration.specs.Statements.{left}
 use Rattle.ep_typing_laws.proofs.Order.{at_ok}
 

@@ -1,5 +1,7 @@
 -- The functions of an arm one after another.
-use Rattle.std.proofs.Common.{◌≡◌, ℕ, zero, suc, ◌+◌, ◌<◌, ◌≤◌, nat_eq, Bool, false, ◌||◌, List, [], ◌∷◌, ◌++◌, map, length, drop, get_or, slice_get, Some, None, Result, Ok, Err, refl, sym, ap, ◌∙◌, append_assoc, arith}
+use Rattle.std.proofs.Common.{◌≡◌, ℕ, zero, suc, ◌+◌, ◌<◌, ◌≤◌, nat_eq, Bool, false, ◌||◌, List, [], ◌∷◌, ◌++◌, map}
+use Rattle.std.proofs.Common.{length, drop, get_or, slice_get, Some, None, Result, Ok, Err, refl, sym, ap, ◌∙◌}
+use Rattle.std.proofs.Common.{append_assoc, arith}
 use Rattle.std.proofs.lemmas.List.{append-nil, drop_all, map-append}
 use Rattle.ep_ast.specs.declared.refusals.Refusal.{Refusal}
 use Rattle.ep_ast.specs.declared.refusals.Halt.{Halt}
@@ -10,7 +12,8 @@ use Rattle.ep_typing.specs.Env.{Env}
 use Rattle.ep_typing.specs.Results.{◌>>=◌}
 use Rattle.ep_operands.specs.Gives.{Stops}
 use Rattle.ep_elaboration.specs.Functions as rule
-use Rattle.ep_elaboration.specs.Functions.{first_block, function_defined, function_typed, functions_defined, others_typed, rest_of}
+use Rattle.ep_elaboration.specs.Functions.{first_block, function_defined, function_typed, functions_defined}
+use Rattle.ep_elaboration.specs.Functions.{others_typed, rest_of}
 use Rattle.ep_defined.specs.declared.sofar.Defined.{Defined}
 use Rattle.ep_defined.specs.Seen.{defined}
 use Rattle.ep_typer_functions.specs.declared.done.Done.{Done}

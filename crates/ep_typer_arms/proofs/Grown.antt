@@ -8,7 +8,8 @@ use Rattle.ep_typing.specs.Env.{Env}
 use Rattle.ep_typing.specs.Results.{at}
 use Rattle.ep_typing_laws.proofs.Order.{bind_ok, ok_is}
 use Rattle.ep_elaboration.specs.Declarators.{with_types}
-use Rattle.ep_elaboration.specs.Functions.{Defined, Headed, function_declared, functions_defined, headed, signature_of, stands_alone}
+use Rattle.ep_elaboration.specs.Functions.{Defined, Headed, function_declared, functions_defined, headed}
+use Rattle.ep_elaboration.specs.Functions.{signature_of, stands_alone}
 use Rattle.ep_elaboration.specs.Statements.{left}
 use Rattle.ep_elaboration_laws.specs.FunctionRules.{MeansDefinitions, more_definitions, no_definitions}
 use Rattle.ep_elaboration_laws.proofs.FunctionOrder.{means_functions_defined, means_headed}

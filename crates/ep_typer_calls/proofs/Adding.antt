@@ -1,5 +1,6 @@
 -- Statements that come behind others.
-use Rattle.std.proofs.Common.{◌≡◌, ℕ, suc, ◌+◌, ◌<◌, ◌≤◌, List, [], ◌∷◌, ◌++◌, length, get_or, map, drop, refl, sym, ap, ◌∙◌, subst, append_assoc, append-nil, drop-cons, arith}
+use Rattle.std.proofs.Common.{◌≡◌, ℕ, suc, ◌+◌, ◌<◌, ◌≤◌, List, [], ◌∷◌, ◌++◌, length, get_or, map, drop, refl, sym}
+use Rattle.std.proofs.Common.{ap, ◌∙◌, subst, append_assoc, append-nil, drop-cons, arith}
 use Rattle.std.proofs.lemmas.List.{drop_all, map-append}
 use Rattle.ep_call_graph.specs.declared.places.Place.{Place}
 use Rattle.ep_call_graph.specs.Seen.{place, places}

@@ -13,7 +13,8 @@ use Rattle.ep_ast.proofs.Rows.{parts-vec, stmts-option, stmts-vec}
 use Rattle.ep_call_graph.specs.declared.places.Place.{Place}
 use Rattle.ep_call_graph.specs.Seen.{place}
 use Rattle.ep_elaboration.specs.Calls as rule
-use Rattle.ep_elaboration.specs.Calls.{Stand, calls_none, first_stands, stands, stands_in_part, stands_in_parts, stands_in_stmts}
+use Rattle.ep_elaboration.specs.Calls.{Stand, calls_none, first_stands, stands, stands_in_part, stands_in_parts}
+use Rattle.ep_elaboration.specs.Calls.{stands_in_stmts}
 use Rattle.ep_typer_calls.specs.Seen.{Adds, inner, itself}
 use Rattle.ep_typer_calls.proofs.Adding.{both, one}
 

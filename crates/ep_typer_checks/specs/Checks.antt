@@ -1,5 +1,6 @@
 -- What the checks of a whole program answer, and its parts in code as those of the definition.
-use Rattle.std.specs.Prelude.{ℕ, Bool, true, false, not, ◌||◌, ◌==◌, List, Option, slice_index, slice_index_or, Result, Ok}
+use Rattle.std.specs.Prelude.{ℕ, Bool, true, false, not, ◌||◌, ◌==◌, List, Option, slice_index, slice_index_or}
+use Rattle.std.specs.Prelude.{Result, Ok}
 use Rattle.ep_ast.specs.Kind as kinds
 use Rattle.ep_ast.specs.declared.refusals.Refusal.{Refusal}
 use Rattle.ep_typing.specs.Results.{◌>>=◌, at, needed}

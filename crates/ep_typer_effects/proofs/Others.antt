@@ -4,7 +4,12 @@ use Rattle.std.specs.Global.{Box, Vec}
 use Rattle.ep_ast.specs.declared.expressions.ExprTree.{ExprTree, out-ExprTree, roll-ExprTree, roll-out-ExprTree}
 use Rattle.ep_ast.specs.declared.expressions.ExprTree.TheOpen.{ExprTree-F}
 use Rattle.ep_ast.specs.declared.expressions.ExprTree.TheVariants.{Call}
-use Rattle.ep_ast.specs.declared.expressions.ExprTree.TheVariants.{rolls-Assign, rolls-Conditional, rolls-Binary, rolls-Cast, rolls-Step, rolls-Unary, rolls-SizeofExpr, rolls-SizeofType, rolls-Index, rolls-Call, rolls-Member, rolls-Arrow, rolls-PostIncrement, rolls-PostDecrement, rolls-Id, rolls-Number}
+use Rattle.ep_ast.specs.declared.expressions.ExprTree.TheVariants.{rolls-Assign, rolls-Conditional, rolls-Binary}
+use Rattle.ep_ast.specs.declared.expressions.ExprTree.TheVariants.{rolls-Cast, rolls-Step, rolls-Unary}
+use Rattle.ep_ast.specs.declared.expressions.ExprTree.TheVariants.{rolls-SizeofExpr, rolls-SizeofType, rolls-Index}
+use Rattle.ep_ast.specs.declared.expressions.ExprTree.TheVariants.{rolls-Call, rolls-Member, rolls-Arrow}
+use Rattle.ep_ast.specs.declared.expressions.ExprTree.TheVariants.{rolls-PostIncrement, rolls-PostDecrement, rolls-Id}
+use Rattle.ep_ast.specs.declared.expressions.ExprTree.TheVariants.{rolls-Number}
 use Rattle.ep_ast.specs.Expression as source
 use Rattle.ep_typing.specs.Env.{Env}
 use Rattle.ep_typing.specs.Typing.{right_side}

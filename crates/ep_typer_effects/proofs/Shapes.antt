@@ -1,5 +1,6 @@
 -- What a statement or a right side is by the shape of its tree, and by its mark.
-use Rattle.std.proofs.Common.{◌≡◌, ℕ, Bool, true, false, cond, nat_eq, ◌&&◌, List, map, Result, Ok, Err, refl, sym, ap, ◌∙◌}
+use Rattle.std.proofs.Common.{◌≡◌, ℕ, Bool, true, false, cond, nat_eq, ◌&&◌, List, map, Result, Ok, Err, refl, sym}
+use Rattle.std.proofs.Common.{ap, ◌∙◌}
 use Rattle.std.specs.Global.{Box, Vec}
 use Rattle.ep_ast.specs.declared.expressions.ExprTree.{ExprTree, Call, PostDecrement, PostIncrement, Step}
 use Rattle.ep_ast.specs.declared.refusals.Refusal.{Refusal}
@@ -13,7 +14,8 @@ use Rattle.ep_typing.specs.Env.{Env}
 use Rattle.ep_typing.specs.Operand.{Operand, Value, value, value_of}
 use Rattle.ep_typing.specs.Parts.{an_operand}
 use Rattle.ep_typing.specs.Results.{◌>>=◌, at}
-use Rattle.ep_typing.specs.Typing.{Right, an_object, assigned, assigned_from, assignment, one, operator_of, read_first, right_side, step_mark, stepped, typed, updated, whole_statement}
+use Rattle.ep_typing.specs.Typing.{Right, an_object, assigned, assigned_from, assignment, one, operator_of}
+use Rattle.ep_typing.specs.Typing.{read_first, right_side, step_mark, stepped, typed, updated, whole_statement}
 use Rattle.ep_typer_exprs.proofs.WalkLemmas.{call_tree}
 use Rattle.ep_typer_effects.specs.Whole as whole
 

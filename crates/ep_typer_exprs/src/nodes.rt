@@ -64,7 +64,8 @@ pub(crate) fn chosen_from(
     no: Operand,
 ) -> Result<Operand, Halt>
     ensures { Gives seen.operand
-        (at line (rule.chosen_from (around env.now).types (seen.value test) (seen.value yes) (seen.operand no))) result }
+        (at line (rule.chosen_from (around env.now).types (seen.value test) (seen.value yes)
+        (seen.operand no))) result }
 {
     let v = valued(env, line, no)?;
     let w = chosen(env.alloc, line, test, yes, v)?;

@@ -1,5 +1,7 @@
 -- Types of parameters.
-use Rattle.std.proofs.Common.{◌≡◌, ℕ, zero, suc, ◌+◌, ◌<◌, ◌≤◌, Bool, ◌&&◌, List, [], ◌∷◌, ◌++◌, map, length, drop, get_or, Option, Some, None, Result, Ok, Err, slice_get, refl, sym, ap, ◌∙◌, arith, subst, append_assoc, drop-cons}
+use Rattle.std.proofs.Common.{◌≡◌, ℕ, zero, suc, ◌+◌, ◌<◌, ◌≤◌, Bool, ◌&&◌, List, [], ◌∷◌, ◌++◌, map, length, drop}
+use Rattle.std.proofs.Common.{get_or, Option, Some, None, Result, Ok, Err, slice_get, refl, sym, ap, ◌∙◌, arith}
+use Rattle.std.proofs.Common.{subst, append_assoc, drop-cons}
 use Rattle.std.specs.Prelude.{option_map, unwrap_or}
 use lib.Pointwise.{pointwise}
 use Rattle.std.proofs.lemmas.List.{append-nil, drop_all}
@@ -17,7 +19,8 @@ use Rattle.ep_layout.proofs.Sizes.{known}
 use Rattle.ep_typing.specs.declared.types.CType.{CType}
 use Rattle.ep_typing.specs.Env.{Env}
 use Rattle.ep_typing.specs.Results.{◌>>=◌}
-use Rattle.ep_typing.specs.Types.{element_of, is_same, number_in, of_row, pointer_to, type_within, with_c_type, with_stars}
+use Rattle.ep_typing.specs.Types.{element_of, is_same, number_in, of_row, pointer_to, type_within, with_c_type}
+use Rattle.ep_typing.specs.Types.{with_stars}
 use Rattle.ep_operands.specs.Gives.{Stops}
 use Rattle.ep_elaboration.specs.Functions.{are_same, param_declared, params_declared}
 use Rattle.ep_scopes.specs.Known.{IsKnown}

@@ -1,5 +1,6 @@
 -- What the code keeps of functions, seen as what the definitions speak of.
-use Rattle.std.specs.Prelude.{◌≡◌, ℕ, Bool, false, if◌then◌else◌, List, Option, Some, None, Result, Ok, Err, slice_get, unwrap_or}
+use Rattle.std.specs.Prelude.{◌≡◌, ℕ, Bool, false, if◌then◌else◌, List, Option, Some, None, Result, Ok, Err}
+use Rattle.std.specs.Prelude.{slice_get, unwrap_or}
 use Rattle.std.specs.Global.{Vec}
 use Rattle.ep_ast.specs.Kind as kinds
 use Rattle.ep_int.specs.Memory.{contains}

@@ -83,7 +83,8 @@ fn enter(env: &mut Env) -> Result<(), Memory>
 #[tactic(auto, unfolding(ep_elaboration::specs::Functions::headed))]
 pub fn headed(env: &mut Env, block: u32, head: &HeadTree) -> Result<FunctionType, Halt>
     requires { IsKnownEnv (around env.old) }
-    ensures means { GivesIn seen.headed (rule.headed (around env.old) block (shape.head_of head.now)) (around env.new) result }
+    ensures means { GivesIn seen.headed (rule.headed (around env.old) block (shape.head_of head.now))
+        (around env.new) result }
     ensures known { OnOk result (IsKnownEnv (around env.new)) }
 {
     let c = specs_declared(env, &head.specs)?;

@@ -80,7 +80,8 @@ fn fits_main(name: &[u8], ty: &FunctionType) -> bool
 // The number that a function has, or takes.
 fn numbered(env: &mut Env, name: &[u8], ty: &FunctionType) -> Result<u32, Memory>
     requires { IsKnownEnv (around env.old) }
-    ensures means { IfOk result (λ n. (n, around env.new) ≡ rule.numbered_function (around env.old) (seen.signature name.now ty.now)
+    ensures means { IfOk result (λ n. (n, around env.new)
+        ≡ rule.numbered_function (around env.old) (seen.signature name.now ty.now)
         (rule.number_of_function (around env.old).functions name.now)) }
     ensures scopes { OnOk result ((around env.new).scopes ≡ (around env.old).scopes) }
     ensures known { OnOk result (IsKnownEnv (around env.new)) }
@@ -116,7 +117,8 @@ pub fn function_declared(
 ) -> Result<u32, Halt>
     requires { IsKnownEnv (around env.old) }
     ensures means { (ds : List ℕ) → AreDone done.now ds → GivesIn (λ n. n)
-        (at line (rule.function_declared (around env.old) ds with_body (seen.signature name.now ty.now))) (around env.new) result }
+        (at line (rule.function_declared (around env.old) ds with_body (seen.signature name.now ty.now)))
+        (around env.new) result }
     ensures known { OnOk result (IsKnownEnv (around env.new)) }
 {
     if stands_against(env, done, with_body, name, ty) {

@@ -108,7 +108,7 @@ fn param_type(
     }
 }
 
-// The lowest of 33 and 43 where a type isn't passed.
+// An incomplete type before a structure by value, where a type isn't passed.
 fn passable(line: u32, c: CType) -> Result<CType, Halt>
     ensures { Gives (λ d. d) (at line (passable_type c)) result }
 {
@@ -134,7 +134,8 @@ fn name_param(env: &mut Env, name: &Option<Vec<u8>>, block: u32, c: CType) -> Re
     requires free { IsFalse (rule.is_name_taken (around env.old) (option_map text_of name.now)) }
     requires known { IsKnownEnv (around env.old) }
     requires inside { IsKnown (around env.old).types c }
-    ensures means { OnOk result ((c, around env.new) ≡ rule.named_param (option_map text_of name.now) block (c, around env.old)) }
+    ensures means { OnOk result ((c, around env.new)
+        ≡ rule.named_param (option_map text_of name.now) block (c, around env.old)) }
     ensures known { OnOk result (IsKnownEnv (around env.new)) }
 {
     match name {
@@ -154,7 +155,8 @@ fn with_param(
     requires known { IsKnownEnv (around env.old) }
     requires inside { IsKnown (around env.old).types c }
     ensures means { GivesIn (λ d. d)
-        (at tree.now.line (rule.with_param (around env.old) (option_map text_of tree.now.name) block c (counts_of counts.now)))
+        (at tree.now.line (rule.with_param (around env.old) (option_map text_of tree.now.name) block c
+        (counts_of counts.now)))
         (around env.new) result }
     ensures known { OnOk result (IsKnownEnv (around env.new)) }
 {
@@ -178,7 +180,8 @@ pub(crate) fn starred(c: CType, stars: &[u32]) -> Result<CType, Memory>
 #[tactic(auto, unfolding(ep_elaboration::specs::Functions::param_declared))]
 fn param_declared(env: &mut Env, block: u32, tree: &ParamTree) -> Result<CType, Halt>
     requires { IsKnownEnv (around env.old) }
-    ensures means { GivesIn (λ d. d) (rule.param_declared (around env.old) block (param_of tree.now)) (around env.new) result }
+    ensures means { GivesIn (λ d. d) (rule.param_declared (around env.old) block (param_of tree.now))
+        (around env.new) result }
     ensures known { OnOk result (IsKnownEnv (around env.new)) }
 {
     let c = words_declared(env, &tree.specs)?;

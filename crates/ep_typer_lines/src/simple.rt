@@ -31,7 +31,8 @@ use std::alloc::Global;
 #[tactic(auto, unfolding(ep_elaboration::specs::Statements::tested_in))]
 pub fn tested_in(env: &mut Env, tree: &ExprTree) -> Result<Expr, Halt>
     requires { IsKnownEnv (around env.old) }
-    ensures means { GivesIn shown_expr (rule.tested_in (around env.old) (source.expr tree.now)) (around env.new) result }
+    ensures means { GivesIn shown_expr (rule.tested_in (around env.old) (source.expr tree.now))
+        (around env.new) result }
     ensures known { OnOk result (IsKnownEnv (around env.new)) }
 {
     mention(env, tree)?;

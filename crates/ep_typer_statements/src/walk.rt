@@ -45,7 +45,8 @@ fn inside(
 ) -> Result<Vec<Stmt>, Halt>
     requires { IsKnownEnv (around env.old) }
     ensures means { GivesIn seen_lines
-        (rule.statement (rule.entered (around env.old)) result_type in_loop (shape.stmt_of tree.now)) (around env.new) result }
+        (rule.statement (rule.entered (around env.old)) result_type in_loop (shape.stmt_of tree.now))
+        (around env.new) result }
     ensures known { OnOk result (IsKnownEnv (around env.new)) }
 {
     enter(env)?;
@@ -220,7 +221,8 @@ fn arm(
 ) -> Result<Vec<Stmt>, Halt>
     requires { IsKnownEnv (around env.old) }
     ensures means { GivesIn seen_lines
-        (rule.statements (rule.entered (around env.old)) result_type in_loop (shape.to_stmts (map shape.stmt_of list.now)))
+        (rule.statements (rule.entered (around env.old)) result_type in_loop
+        (shape.to_stmts (map shape.stmt_of list.now)))
         (around env.new) result }
     ensures known { OnOk result (IsKnownEnv (around env.new)) }
 {

@@ -13,7 +13,9 @@ use Rattle.ep_ast.specs.Expression as source
 use Rattle.ep_ast.specs.Expression.{Expr}
 use Rattle.ep_core.specs.Program as core
 use Rattle.ep_typing.proofs.Opened.{statement}
-use Rattle.ep_typing.proofs.Trees.{assign, conditional, binary, type_name, cast, step, unary, sizeof_expr, sizeof_type, index, call, member, arrow, post_increment, id, literal, number, load_int, load_pointer}
+use Rattle.ep_typing.proofs.Trees.{assign, conditional, binary, type_name, cast, step, unary, sizeof_expr}
+use Rattle.ep_typing.proofs.Trees.{sizeof_type, index, call, member, arrow, post_increment, id, literal, number}
+use Rattle.ep_typing.proofs.Trees.{load_int, load_pointer}
 
 abbrev evaluated : core.Expr → core.What
 evaluated e = core.simple (core.eval e)

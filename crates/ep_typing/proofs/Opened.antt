@@ -10,10 +10,16 @@ use Rattle.ep_typing.specs.Types.{type_within, with_pointers, pointer_number}
 use Rattle.ep_typing.specs.Names.{words_type, named_type, mentioned_name, mentioned, mentioned_all}
 use Rattle.ep_typing.specs.Operand.{value_of, fitted, tested}
 use Rattle.ep_typing.specs.Constant.{number_of, count_of}
-use Rattle.ep_typing.specs.Operators.{arithmetic, shifted, moved, added, subtracted, ordered, equated, both, either, chosen, kept, negated, complemented, denied, operated_on_numbers, decided, operated, unary_operated}
-use Rattle.ep_typing.specs.Parts.{named, addressed, pointed, unary_typed, indexable, element_of_array, element_behind, indexed, member_of, selected, selected_through, casted, type_sized, sized}
+use Rattle.ep_typing.specs.Operators.{arithmetic, shifted, moved, added, subtracted, ordered, equated, both, either}
+use Rattle.ep_typing.specs.Operators.{chosen, kept, negated, complemented, denied, operated_on_numbers, decided}
+use Rattle.ep_typing.specs.Operators.{operated, unary_operated}
+use Rattle.ep_typing.specs.Parts.{named, addressed, pointed, unary_typed, indexable, element_of_array, element_behind}
+use Rattle.ep_typing.specs.Parts.{indexed, member_of, selected, selected_through, casted, type_sized, sized}
 use Rattle.ep_typing.specs.Calls.{passed, all_passed, called}
-use Rattle.ep_typing.specs.Typing.{statement_meaning, read_first, joined, chosen_from, cast_to, indexed_by, selected_behind, test, assignable, not_stored, stored, copied, put, assigned, updated, taken, call_typed, right_side, assignment, stepped, whole_statement, typed, typed_all}
+use Rattle.ep_typing.specs.Typing.{statement_meaning, read_first, joined, chosen_from, cast_to, indexed_by}
+use Rattle.ep_typing.specs.Typing.{selected_behind, test, assignable, not_stored, stored, copied, put, assigned}
+use Rattle.ep_typing.specs.Typing.{updated, taken, call_typed, right_side, assignment, stepped, whole_statement}
+use Rattle.ep_typing.specs.Typing.{typed, typed_all}
 use Rattle.ep_typing.proofs.Around.{around}
 use Rattle.ep_typing.proofs.Trees.{kind}
 

@@ -7,7 +7,9 @@ use Rattle.ep_ast.specs.declared.marks.TheConstants as marks
 use Rattle.ep_ast.specs.Mark as mark
 use Rattle.ep_ast.specs.Expression as source
 use Rattle.ep_typing.proofs.Opened.{kinds}
-use Rattle.ep_typing.proofs.Trees.{assign, conditional, binary, type_name, cast, step, unary, sizeof_expr, sizeof_type, index, call, member, arrow, post_increment, post_decrement, id, literal, number}
+use Rattle.ep_typing.proofs.Trees.{assign, conditional, binary, type_name, cast, step, unary, sizeof_expr}
+use Rattle.ep_typing.proofs.Trees.{sizeof_type, index, call, member, arrow, post_increment, post_decrement, id}
+use Rattle.ep_typing.proofs.Trees.{literal, number}
 
 -- names that were not declared before: 30
 unknown_names : kinds Ilp32 (

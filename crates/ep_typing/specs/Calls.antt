@@ -1,6 +1,7 @@
 -- Calls of functions and of the built-in ones, with their kinds in order: C11 6.5.2.2, and this project's inputs and
 -- outputs.
-use Rattle.std.specs.Prelude.{ℕ, not, if◌then◌else◌, List, [], ◌∷◌, map, slice_get, slice_index_or, Option, unwrap_or, option_map, option_and_then, Result, Ok, Err}
+use Rattle.std.specs.Prelude.{ℕ, not, if◌then◌else◌, List, [], ◌∷◌, map, slice_get, slice_index_or, Option, unwrap_or}
+use Rattle.std.specs.Prelude.{option_map, option_and_then, Result, Ok, Err}
 use Rattle.ep_ast.specs.Kind as kinds
 use Rattle.ep_int.specs.declared.types.IntType.{IntType}
 use Rattle.ep_int.specs.declared.types.IntType.TheVariants.{U8}
@@ -10,7 +11,8 @@ use Rattle.ep_typing.specs.Results.{◌>>=◌, lowest, needed}
 use Rattle.ep_typing.specs.Types.{int_type, is_pointer, is_scalar, void_type}
 use Rattle.ep_typing.specs.Env.{Env, Signature}
 use Rattle.ep_typing.specs.Constant.{count_of}
-use Rattle.ep_typing.specs.Operand.{Operand, place, value, function, Value, Callee, declared, input, output, copy_bytes, fill_bytes, read_bytes, write_bytes, fitted}
+use Rattle.ep_typing.specs.Operand.{Operand, place, value, function, Value, Callee, declared, input, output}
+use Rattle.ep_typing.specs.Operand.{copy_bytes, fill_bytes, read_bytes, write_bytes, fitted}
 use Rattle.ep_typing.specs.Operators.{bare}
 
 -- what a parameter asks: a value of a type, a pointer of any type, or a length

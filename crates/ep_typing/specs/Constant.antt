@@ -1,10 +1,12 @@
 -- Constants: C11 6.6, with this project's rule that each part is a number, a `sizeof`, a cast to an integer or an
 -- operator.
-use Rattle.std.specs.Prelude.{ℕ, ◌&&◌, Bool, true, false, not, if◌then◌else◌, nat_le, Option, Some, None, option_and_then, option_map, Result, Ok, Err, ℤ, pos, negsuc}
+use Rattle.std.specs.Prelude.{ℕ, ◌&&◌, Bool, true, false, not, if◌then◌else◌, nat_le, Option, Some, None}
+use Rattle.std.specs.Prelude.{option_and_then, option_map, Result, Ok, Err, ℤ, pos, negsuc}
 use Rattle.ep_int.specs.declared.types.Undef.{Undef}
 use Rattle.ep_int.specs.Arith.{arith_of, compares, int_eq}
 use Rattle.ep_int.specs.Types.{wrapped}
-use Rattle.ep_core.specs.Program.{Expr, const, null_value, load, addr_of, binary, convert, compare, ptr_compare, logical_and, logical_or, logical_not, conditional, ptr_add, cast}
+use Rattle.ep_core.specs.Program.{Expr, const, null_value, load, addr_of, binary, convert, compare, ptr_compare}
+use Rattle.ep_core.specs.Program.{logical_and, logical_or, logical_not, conditional, ptr_add, cast}
 use Rattle.ep_typing.specs.Types.{is_integer}
 use Rattle.ep_typing.specs.Operand.{Value}
 

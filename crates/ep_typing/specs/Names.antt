@@ -1,5 +1,6 @@
 -- Type words and type names: C11 6.7.2, 6.7.2.3 and 6.7.7.
-use Rattle.std.specs.Prelude.{ℕ, ◌==◌, Bool, true, false, if◌then◌else◌, List, [], ◌∷◌, length, find, Option, Some, None, codes, Result, Ok, Err}
+use Rattle.std.specs.Prelude.{ℕ, ◌==◌, Bool, true, false, if◌then◌else◌, List, [], ◌∷◌, length, find, Option, Some}
+use Rattle.std.specs.Prelude.{None, codes, Result, Ok, Err}
 use Rattle.std.specs.List.{list_any}
 use Rattle.ep_ast.specs.Kind as kinds
 use Rattle.ep_int.specs.declared.types.IntType.{IntType}

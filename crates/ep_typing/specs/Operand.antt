@@ -7,7 +7,8 @@ use Rattle.ep_layout.specs.Table.{Table}
 use Rattle.ep_core.specs.Program as core
 use Rattle.ep_core.specs.WellFormed.{is_same_type}
 use Rattle.ep_typing.specs.declared.types.CType.{CType}
-use Rattle.ep_typing.specs.Types.{element_of, int_of, int_type, is_aggregate, is_array, is_integer, is_pointer, is_same, is_scalar, is_void, is_void_pointer, pointer_to, scalar_of, void_pointer}
+use Rattle.ep_typing.specs.Types.{element_of, int_of, int_type, is_aggregate, is_array, is_integer, is_pointer}
+use Rattle.ep_typing.specs.Types.{is_same, is_scalar, is_void, is_void_pointer, pointer_to, scalar_of, void_pointer}
 
 -- a value with its type; whether it is a null constant: the number 0 as it stands, or NULL (this project's rule)
 pub record Value : Type 0 where

@@ -14,8 +14,10 @@ use Rattle.ep_layout.specs.Table.{Table}
 use Rattle.ep_core.specs.Program as core
 use Rattle.ep_typing.specs.declared.types.CType.{CType}
 use Rattle.ep_typing.specs.Results.{◌>>=◌, needed}
-use Rattle.ep_typing.specs.Types.{int_of, is_integer, is_pointer, is_same, is_scalar, is_void_pointer, size_of_type, target, void_pointer}
-use Rattle.ep_typing.specs.Operand.{Value, as_pointer, converted, int_value, is_mixed, are_compatible, plain_value, promoted_type, promoted_value}
+use Rattle.ep_typing.specs.Types.{int_of, is_integer, is_pointer, is_same, is_scalar, is_void_pointer, size_of_type}
+use Rattle.ep_typing.specs.Types.{target, void_pointer}
+use Rattle.ep_typing.specs.Operand.{Value, as_pointer, converted, int_value, is_mixed, are_compatible, plain_value}
+use Rattle.ep_typing.specs.Operand.{promoted_type, promoted_value}
 
 abbrev pub are_integers : Value → Value → Bool
 are_integers a b = is_integer a.ty && is_integer b.ty

@@ -1,5 +1,6 @@
 -- Names, numbers, parts of objects, addresses, casts and sizes, with their kinds in order: C11 6.5.1 to 6.5.4.
-use Rattle.std.specs.Prelude.{ℕ, ◌==◌, Bool, false, ◌&&◌, not, if◌then◌else◌, List, [], ◌∷◌, ◌++◌, map, Option, Some, None, codes, Result, Ok, Err, pos}
+use Rattle.std.specs.Prelude.{ℕ, ◌==◌, Bool, false, ◌&&◌, not, if◌then◌else◌, List, [], ◌∷◌, ◌++◌, map, Option, Some}
+use Rattle.std.specs.Prelude.{None, codes, Result, Ok, Err, pos}
 use Rattle.ep_ast.specs.Kind as kinds
 use Rattle.ep_int.specs.declared.types.IntType.{IntType}
 use Rattle.ep_int.specs.declared.types.IntType.TheVariants.{I8, U8, I16, U16, I32, U32, I64, U64}
@@ -11,10 +12,14 @@ use Rattle.ep_layout.specs.Table.{Table, MemberRow, member_named}
 use Rattle.ep_core.specs.Program as core
 use Rattle.ep_typing.specs.declared.types.CType.{CType}
 use Rattle.ep_typing.specs.Results.{◌>>=◌, needed}
-use Rattle.ep_typing.specs.Types.{bound_of, element_of, int_type, is_aggregate, is_array, is_integer, is_pointer, is_scalar, number_in, number_type, pointer_to, size_of_type, size_type, target, type_of}
+use Rattle.ep_typing.specs.Types.{bound_of, element_of, int_type, is_aggregate, is_array, is_integer, is_pointer}
+use Rattle.ep_typing.specs.Types.{is_scalar, number_in, number_type, pointer_to, size_of_type, size_type, target}
+use Rattle.ep_typing.specs.Types.{type_of}
 use Rattle.ep_typing.specs.Env as env
 use Rattle.ep_typing.specs.Env.{Env, Meaning, entry, look_up}
-use Rattle.ep_typing.specs.Operand.{Operand, place, value, function, Value, Callee, declared, input, output, copy_bytes, fill_bytes, read_bytes, write_bytes, as_type, int_value, is_mixed, null_pointer, plain_value, value_of}
+use Rattle.ep_typing.specs.Operand.{Operand, place, value, function, Value, Callee, declared, input, output}
+use Rattle.ep_typing.specs.Operand.{copy_bytes, fill_bytes, read_bytes, write_bytes, as_type, int_value, is_mixed}
+use Rattle.ep_typing.specs.Operand.{null_pointer, plain_value, value_of}
 use Rattle.ep_typing.specs.Operators.{moved, unary_operated}
 
 abbrev pub an_operand : Result Value ℕ → Result Operand ℕ

@@ -1,6 +1,7 @@
 -- What expressions mean, or the first offence in the order of the text: operands before operators, left before right,
 -- at one node the lowest kind. C11 6.5 and 6.8.3.
-use Rattle.std.specs.Prelude.{ℕ, ◌==◌, Bool, true, ◌&&◌, ◌||◌, not, if◌then◌else◌, List, [], ◌∷◌, Some, None, Result, Ok, Err, pos}
+use Rattle.std.specs.Prelude.{ℕ, ◌==◌, Bool, true, ◌&&◌, ◌||◌, not, if◌then◌else◌, List, [], ◌∷◌, Some, None, Result}
+use Rattle.std.specs.Prelude.{Ok, Err, pos}
 use Rattle.ep_ast.specs.Kind as kinds
 use Rattle.ep_int.specs.declared.types.IntType.TheVariants.{I32}
 use Rattle.ep_ast.specs.declared.marks.TheConstants as marks
@@ -12,12 +13,15 @@ use Rattle.ep_layout.specs.declared.types.Ty.TheVariants as rows
 use Rattle.ep_core.specs.Program as core
 use Rattle.ep_typing.specs.declared.types.CType.{CType}
 use Rattle.ep_typing.specs.Results.{◌>>=◌, at, needed}
-use Rattle.ep_typing.specs.Types.{is_aggregate, is_array, is_pointer, is_same, is_void, known_number, number_in, scalar_of, size_of_type}
+use Rattle.ep_typing.specs.Types.{is_aggregate, is_array, is_pointer, is_same, is_void, known_number, number_in}
+use Rattle.ep_typing.specs.Types.{scalar_of, size_of_type}
 use Rattle.ep_typing.specs.Env.{Env}
 use Rattle.ep_typing.specs.Names.{mentioned, named_type}
-use Rattle.ep_typing.specs.Operand.{Operand, place, value, function, Value, are_scalars, fitted, int_value, is_mixed, plain_value, tested, value_of}
+use Rattle.ep_typing.specs.Operand.{Operand, place, value, function, Value, are_scalars, fitted, int_value, is_mixed}
+use Rattle.ep_typing.specs.Operand.{plain_value, tested, value_of}
 use Rattle.ep_typing.specs.Operators.{chosen, operated}
-use Rattle.ep_typing.specs.Parts.{an_operand, casted, indexable, indexed, named, numbered, selected, selected_through, sized, type_sized, unary_typed}
+use Rattle.ep_typing.specs.Parts.{an_operand, casted, indexable, indexed, named, numbered, selected, selected_through}
+use Rattle.ep_typing.specs.Parts.{sized, type_sized, unary_typed}
 use Rattle.ep_typing.specs.Calls.{Called, called, called_into, result_of}
 
 -- ---- expressions

@@ -1,15 +1,24 @@
 -- The function of the definition against the rules and the order.
 use Rattle.std.proofs.Common.{◌≡◌, ℕ, List, [], ◌∷◌, ◌++◌, Bool, true, Result, Ok, Err, refl, ap, subst, ◌⊎◌, inl, inr}
 use Rattle.ep_ast.specs.declared.refusals.Refusal.{Refusal}
-use Rattle.ep_ast.specs.Expression.{Expr, Exprs, TypeName, assign, conditional, binary, cast, step, unary, sizeof_expr, sizeof_type, index, call, member, arrow, post_increment, post_decrement, id, number, no_exprs, more_exprs}
+use Rattle.ep_ast.specs.Expression.{Expr, Exprs, TypeName, assign, conditional, binary, cast, step, unary}
+use Rattle.ep_ast.specs.Expression.{sizeof_expr, sizeof_type, index, call, member, arrow, post_increment}
+use Rattle.ep_ast.specs.Expression.{post_decrement, id, number, no_exprs, more_exprs}
 use Rattle.ep_typing.specs.declared.types.CType.{CType}
 use Rattle.ep_typing.specs.Results.{at, ◌>>=◌}
 use Rattle.ep_typing.specs.Env.{Env}
 use Rattle.ep_typing.specs.Names.{named_type}
 use Rattle.ep_typing.specs.Operand.{Operand, Value, value_of}
 use Rattle.ep_typing.specs.Parts.{an_operand, indexable, named, selected, sized, type_sized, unary_typed}
-use Rattle.ep_typing.specs.Typing.{typed, typed_all, read_first, joined, chosen_from, cast_to, indexed_by, selected_behind}
-use Rattle.ep_typing_laws.specs.Rules.{Means, HaveValues, Point, node, type_named, value_asked, update_asked, index_asked, Breaks, First, here, order, order_all, refusal, no_values, more_values, is_number, is_name, is_choice, is_binary, is_cast, is_unary, is_size, is_type_size, is_element, is_member, is_member_behind, bad_type_name, bad_value, bad_update, bad_array, bad_name, bad_choice, bad_binary, bad_cast, bad_unary, bad_size, bad_type_size, bad_element, bad_member, bad_member_behind, assigns, steps, steps_up, steps_down, calls}
+use Rattle.ep_typing.specs.Typing.{typed, typed_all, read_first, joined, chosen_from, cast_to, indexed_by}
+use Rattle.ep_typing.specs.Typing.{selected_behind}
+use Rattle.ep_typing_laws.specs.Rules.{Means, HaveValues, Point, node, type_named, value_asked, update_asked}
+use Rattle.ep_typing_laws.specs.Rules.{index_asked, Breaks, First, here, order, order_all, refusal, no_values}
+use Rattle.ep_typing_laws.specs.Rules.{more_values, is_number, is_name, is_choice, is_binary, is_cast, is_unary}
+use Rattle.ep_typing_laws.specs.Rules.{is_size, is_type_size, is_element, is_member, is_member_behind, bad_type_name}
+use Rattle.ep_typing_laws.specs.Rules.{bad_value, bad_update, bad_array, bad_name, bad_choice, bad_binary, bad_cast}
+use Rattle.ep_typing_laws.specs.Rules.{bad_unary, bad_size, bad_type_size, bad_element, bad_member, bad_member_behind}
+use Rattle.ep_typing_laws.specs.Rules.{assigns, steps, steps_up, steps_down, calls}
 use Rattle.ep_typing_laws.proofs.Firsts.{Clean, both, in_front, past, none_first, only_first}
 
 -- ---- results

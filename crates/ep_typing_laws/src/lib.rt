@@ -9,8 +9,8 @@ ghost use Rattle.ep_typing.specs.Operand.{Operand};
 ghost use Rattle.ep_typing.specs.Typing.{typed};
 ghost use Rattle.ep_typing_laws.specs.Rules.{Means, Offends};
 
-/// What an expression means is what the rules without an order say; and for what it is refused is the first point in the
-/// order of the text that breaks a rule.
+/// What an expression means is what the rules without an order say; and for what it is refused is the first point in
+/// the order of the text that breaks a rule.
 pub fn expressions()
     ensures means { (G : Env) (e : Expr) (z : Operand) → typed G e ≡ Ok z → Means G e z }
     ensures meant { (G : Env) (e : Expr) (z : Operand) → Means G e z → typed G e ≡ Ok z }

@@ -1,6 +1,7 @@
 -- Values that wait while a callee's frame comes and its parameters are set may still be written: they keep their sort,
 -- and what is left of their forms mentions cells that are there.
-use Rattle.std.proofs.Common.{◌≡◌, ℕ, ◌+◌, ◌^◌, ◌≤◌, pos, Bool, true, false, ◌&&◌, ◌||◌, nat_eq, cond, List, [], ◌∷◌, ◌++◌, map, slice_get, Option, Some, None, refl, sym, ap, ◌∙◌, subst}
+use Rattle.std.proofs.Common.{◌≡◌, ℕ, ◌+◌, ◌^◌, ◌≤◌, pos, Bool, true, false, ◌&&◌, ◌||◌, nat_eq, cond, List, [], ◌∷◌}
+use Rattle.std.proofs.Common.{◌++◌, map, slice_get, Option, Some, None, refl, sym, ap, ◌∙◌, subst}
 use Rattle.std.specs.List.{filter}
 use Rattle.ep_int.specs.declared.types.Order.{Order}
 use Rattle.ep_int.specs.declared.types.Scalar.{Scalar}
@@ -40,8 +41,11 @@ use Rattle.ep_evaluation.specs.Evaluation.{pointer_given, targets_of}
 use Rattle.ep_evaluation.specs.Evaluation.{pointer as pointer_of}
 use Rattle.ep_evaluation_laws.specs.Laws.{IsState, SideFits}
 use Rattle.ep_transfers.specs.Places.{Places, places_of, has_places, has_values}
-use Rattle.ep_transfers.specs.Writes.{Item, Underway, underway, formed_side, item_of, lacks, new_cell, strongly, weakly, weakly_each, shared_cell, write_side, write_sides, write_same, write_both, write, write_shared, write_shared_each}
-use Rattle.ep_transfers.specs.Transfers.{if_goes_on, sizes, cells_of_mode, fate_off_blocks, leaves_in, bytes_in, killed_block, killed_blocks, entered, to_block, assigned}
+use Rattle.ep_transfers.specs.Writes.{Item, Underway, underway, formed_side, item_of, lacks, new_cell, strongly}
+use Rattle.ep_transfers.specs.Writes.{weakly, weakly_each, shared_cell, write_side, write_sides, write_same}
+use Rattle.ep_transfers.specs.Writes.{write_both, write, write_shared, write_shared_each}
+use Rattle.ep_transfers.specs.Transfers.{if_goes_on, sizes, cells_of_mode, fate_off_blocks, leaves_in, bytes_in}
+use Rattle.ep_transfers.specs.Transfers.{killed_block, killed_blocks, entered, to_block, assigned}
 use Rattle.ep_transfers_laws.specs.Laws.{CellLaws}
 use Rattle.ep_transfers_laws.proofs.Assigned.{AreInside, rooms}
 use Rattle.ep_transfers_laws.proofs.Changes.{Blocks, HaveRoom}

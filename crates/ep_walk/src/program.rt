@@ -14,9 +14,9 @@ use ep_flows::states::AbstractStates;
 use ep_int::Memory;
 use ep_walk_parts::follow::function_at;
 
-/// Goes through main once, and tells the alarms and, where they are wanted, the heads that are kept. To `turns` come the
-/// passes through bodies of loops, up to the largest number of 64 bits, where memory runs out those before. Where heads
-/// come round, passes are counted and not made. An error says that memory ran out.
+/// Goes through main once, and tells the alarms and, where they are wanted, the heads that are kept. To `turns` come
+/// the passes through bodies of loops, up to the largest number of 64 bits, where memory runs out those before. Where
+/// heads come round, passes are counted and not made. An error says that memory ran out.
 pub fn walk<K: AbstractStates>(
     c: &Setting<'_>,
     keeps_heads: bool,

@@ -8,7 +8,9 @@ ghost use Rattle.ep_flows.specs.declared.setting.Running.TheVariants.{Together};
 ghost use Rattle.ep_flows.specs.Shown.{Passes, mode_of, plan_of, shown_flow, shown_ways, side_of};
 ghost use Rattle.ep_flows.specs.Typed.{IsTypedTest};
 ghost use Rattle.ep_pass.specs.Pass.{apart, branch, either_pass, four_ways, two_ways};
-ghost use Rattle.ep_walk_parts.specs.Pieces.{alone_of, begun_of, entered_of, followed, followed_of, function, last_of, loop_of, loop_pass_of, o, one, rounds_of, row, settled_of, tested_of, turn_of, turned};
+ghost use Rattle.ep_walk_parts.specs.Pieces.{alone_of, begun_of, entered_of, followed, followed_of, function};
+ghost use Rattle.ep_walk_parts.specs.Pieces.{last_of, loop_of, loop_pass_of, o, one, rounds_of, row, settled_of};
+ghost use Rattle.ep_walk_parts.specs.Pieces.{tested_of, turn_of, turned};
 ghost use Rattle.ep_walk_parts.specs.Typed.{AreTyped, FollowIsTyped, IsTyped, LoopIsTyped};
 
 use ep_alarms::AlarmKind;

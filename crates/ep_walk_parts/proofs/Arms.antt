@@ -1,5 +1,6 @@
 -- Statements, kind by kind.
-use Rattle.std.proofs.Common.{◌≡◌, ℕ, zero, suc, ◌+◌, ◌<◌, Bool, true, false, List, [], ◌++◌, map, slice_get, refl, sym, ap, ◌∙◌, subst, arith, Option, Some, None, Result, Ok, Err, IfOk, nat_eq}
+use Rattle.std.proofs.Common.{◌≡◌, ℕ, zero, suc, ◌+◌, ◌<◌, Bool, true, false, List, [], ◌++◌, map, slice_get, refl}
+use Rattle.std.proofs.Common.{sym, ap, ◌∙◌, subst, arith, Option, Some, None, Result, Ok, Err, IfOk, nat_eq}
 use Rattle.std.specs.Option.{option_map}
 use Rattle.std.proofs.Math.Path.{fun_ext}
 use Rattle.std.specs.declared.alloc.Global.{Global}
@@ -19,8 +20,13 @@ use Rattle.ep_core.specs.Exec.{on, broken, continued, returned, callee_of, frame
 use Rattle.ep_core.specs.View.{shown_expr, shown_dest, shown_what, shown_stmts}
 use Rattle.ep_core.proofs.Views.{if_is, loop_is, by_order_is, scope_is}
 use Rattle.ep_pass.specs.States.{Mode, Both, One, StateOps, Verdict, stuck, same, differs}
-use Rattle.ep_pass.specs.Pass.{Ways, none, Log, logged, both_logs, Pass, passed, after, so_far, branch, alarms_at, simple_pass, join_on, join_ways, either_pass, go_on, then_pass, rowed, leave_on, scope_pass, leave_call, call_pass, next_pass, decided, two_ways, four_ways, parted, differ, only_on, only_broken, only_continued, only_returned, arm_of, body_pass, bodies_pass}
-use Rattle.ep_flows.specs.Shown.{Told, Tells, HasPassed, Passes, CountsUpTo, shown_ways, shown_flow, Plan, mode_of, side_of, verdict_of}
+use Rattle.ep_pass.specs.Pass.{Ways, none, Log, logged, both_logs, Pass, passed, after, so_far, branch, alarms_at}
+use Rattle.ep_pass.specs.Pass.{simple_pass, join_on, join_ways, either_pass, go_on, then_pass, rowed, leave_on}
+use Rattle.ep_pass.specs.Pass.{scope_pass, leave_call, call_pass, next_pass, decided, two_ways, four_ways, parted}
+use Rattle.ep_pass.specs.Pass.{differ, only_on, only_broken, only_continued, only_returned, arm_of, body_pass}
+use Rattle.ep_pass.specs.Pass.{bodies_pass}
+use Rattle.ep_flows.specs.Shown.{Told, Tells, HasPassed, Passes, CountsUpTo, shown_ways, shown_flow, Plan, mode_of}
+use Rattle.ep_flows.specs.Shown.{side_of, verdict_of}
 use Rattle.ep_flows.specs.declared.setting.Machine.{Machine}
 use Rattle.ep_flows.specs.declared.setting.Running.{Running}
 use Rattle.ep_flows.specs.declared.setting.Running.TheVariants.{Together, Alone}

@@ -1,5 +1,6 @@
 -- Statements inside a statement are less deep, and functions that are called come before their callers.
-use Rattle.std.proofs.Common.{◌≡◌, ℕ, zero, suc, ◌+◌, ◌*◌, ◌<◌, ◌≤◌, Bool, List, [], ◌∷◌, Some, slice_get, length, get_or, arith, ap, ◌∙◌}
+use Rattle.std.proofs.Common.{◌≡◌, ℕ, zero, suc, ◌+◌, ◌*◌, ◌<◌, ◌≤◌, Bool, List, [], ◌∷◌, Some, slice_get, length}
+use Rattle.std.proofs.Common.{get_or, arith, ap, ◌∙◌}
 use Rattle.std.specs.declared.alloc.Global.{Global}
 use Rattle.std.specs.declared.vec.Vec.{Vec}
 use Prim.Native.Nat.{max}
@@ -9,7 +10,8 @@ use Rattle.ep_core.specs.declared.program.Function.{Function}
 use Rattle.ep_core.specs.declared.tree.Expr.{Expr}
 use Rattle.ep_core.specs.declared.tree.Stmt.{Stmt}
 use Rattle.ep_core.specs.declared.tree.What.TheVariants.{If, Loop, ByOrder, Scope}
-use Rattle.ep_core.specs.declared.tree.What.TheViews.{size-Stmt, size-What, size_is-Stmt, sized-If, sized-Loop, sized-ByOrder, sized-Scope}
+use Rattle.ep_core.specs.declared.tree.What.TheViews.{size-Stmt, size-What, size_is-Stmt, sized-If, sized-Loop}
+use Rattle.ep_core.specs.declared.tree.What.TheViews.{sized-ByOrder, sized-Scope}
 use Rattle.ep_flows.specs.declared.setting.Running.{Running}
 use Rattle.ep_flows.specs.declared.setting.Running.TheVariants.{Together, Alone}
 use Rattle.ep_walk_parts.specs.declared.follow.Parts.{Parts}

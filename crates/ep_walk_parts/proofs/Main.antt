@@ -1,12 +1,14 @@
 -- Main, and the report on a program.
-use Rattle.std.proofs.Common.{◌≡◌, ℕ, ◌+◌, ◌≤◌, Bool, true, false, List, [], ◌++◌, fold, slice_get, refl, sym, ap, ◌∙◌, subst, arith, Option, Some, None, Result, Ok, Err, OnOk, OnErr, if◌then◌else◌}
+use Rattle.std.proofs.Common.{◌≡◌, ℕ, ◌+◌, ◌≤◌, Bool, true, false, List, [], ◌++◌, fold, slice_get, refl, sym, ap}
+use Rattle.std.proofs.Common.{◌∙◌, subst, arith, Option, Some, None, Result, Ok, Err, OnOk, OnErr, if◌then◌else◌}
 use Rattle.ep_int.specs.declared.types.Order.{Order}
 use Rattle.ep_alarms.specs.declared.types.Alarm.{Alarm}
 use Rattle.ep_alarms.specs.Report.{added}
 use Rattle.ep_core.specs.Program.{Function, Program}
 use Rattle.ep_core.specs.Runs.{Side}
 use Rattle.ep_pass.specs.States.{Both, StateOps}
-use Rattle.ep_pass.specs.Pass.{Ways, logged, both_logs, Pass, alarms_at, join_on, main_pass, faults_at_end, report_of, turns_of, heads_of}
+use Rattle.ep_pass.specs.Pass.{Ways, logged, both_logs, Pass, alarms_at, join_on, main_pass, faults_at_end, report_of}
+use Rattle.ep_pass.specs.Pass.{turns_of, heads_of}
 use Rattle.ep_flows.specs.Shown.{Told, Tells, HasPassed, CountsUpTo, shown_ways, Plan, capped, more_heads}
 use Rattle.ep_walk_parts.specs.Pieces.{o, function}
 use Rattle.ep_flows.specs.declared.flow.Flow.{Flow}

@@ -1,5 +1,6 @@
 -- Rows of statements, and turns one by one.
-use Rattle.std.proofs.Common.{◌≡◌, ℕ, zero, suc, ◌+◌, ◌-◌, ◌<◌, ◌≤◌, List, [], ◌∷◌, drop, get_or, length, refl, sym, ap, ◌∙◌, subst, arith, Some, None}
+use Rattle.std.proofs.Common.{◌≡◌, ℕ, zero, suc, ◌+◌, ◌-◌, ◌<◌, ◌≤◌, List, [], ◌∷◌, drop, get_or, length, refl, sym}
+use Rattle.std.proofs.Common.{ap, ◌∙◌, subst, arith, Some, None}
 use Rattle.ep_core.specs.declared.tree.Stmt.{Stmt}
 use Rattle.ep_core.specs.Program.{Program}
 use Rattle.ep_core.specs.Runs.{Side}

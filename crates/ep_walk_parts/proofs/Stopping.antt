@@ -1,5 +1,7 @@
 -- Where memory runs out in a part of a pass, no more was counted than the whole pass counts.
-use Rattle.std.proofs.Common.{◌≡◌, ℕ, suc, ◌+◌, ◌-◌, ◌*◌, ◌<◌, ◌≤◌, Bool, true, false, List, length, get_or, drop, sym, ap, ◌∙◌, subst, arith, Option, Some, None, Result, Ok, Err, IsErrAnd, if◌then◌else◌}
+use Rattle.std.proofs.Common.{◌≡◌, ℕ, suc, ◌+◌, ◌-◌, ◌*◌, ◌<◌, ◌≤◌, Bool, true, false, List, length, get_or, drop}
+use Rattle.std.proofs.Common.{sym, ap, ◌∙◌, subst, arith, Option, Some, None, Result, Ok, Err, IsErrAnd}
+use Rattle.std.proofs.Common.{if◌then◌else◌}
 use Rattle.ep_int.specs.declared.types.Memory.{Memory}
 use Rattle.ep_int.specs.declared.types.Order.{Order}
 use Rattle.ep_core.specs.declared.tree.Stmt.{Stmt}
@@ -7,13 +9,16 @@ use Rattle.ep_core.specs.Program.{Program}
 use Rattle.ep_core.specs.Runs.{Side}
 use Rattle.ep_core.specs.View.{shown_what, shown_stmts}
 use Rattle.ep_pass.specs.States.{Mode, Both, One, StateOps}
-use Rattle.ep_pass.specs.Pass.{Ways, none, Log, Pass, branch, join_on, join_ways, either_pass, go_on, then_pass, turn_then, rowed, next_pass, parted, unrolled, from_head, dropped, is_stable, next_head}
+use Rattle.ep_pass.specs.Pass.{Ways, none, Log, Pass, branch, join_on, join_ways, either_pass, go_on, then_pass}
+use Rattle.ep_pass.specs.Pass.{turn_then, rowed, next_pass, parted, unrolled, from_head, dropped, is_stable}
+use Rattle.ep_pass.specs.Pass.{next_head}
 use Rattle.ep_flows.specs.Shown.{Told, HasPassed, Passes, CountsUpTo, capped, shown_ways, shown_flow, Plan}
 use Rattle.ep_flows.specs.declared.flow.Flow.{Flow}
 use Rattle.ep_flows.specs.declared.heads.Rounds.{Rounds}
 use Rattle.ep_flows.proofs.Combined.{Leads}
 use Rattle.ep_flows.proofs.Counting.{both_count, leads_count, more_count, same_count, told_count}
-use Rattle.ep_walk_parts.specs.Pieces.{Loop, o, all, one, alone_of, begun_of, body_of, entered_of, loop_pass_of, rounds_of, settled_of, turn_of, turned}
+use Rattle.ep_walk_parts.specs.Pieces.{Loop, o, all, one, alone_of, begun_of, body_of, entered_of, loop_pass_of}
+use Rattle.ep_walk_parts.specs.Pieces.{rounds_of, settled_of, turn_of, turned}
 use Rattle.ep_walk_parts.proofs.Heading.{GoesIn}
 use Rattle.ep_walk_parts.proofs.Rows.{drop_next}
 

@@ -1,5 +1,6 @@
 -- Loops, branches and what follows a test, piece by piece.
-use Rattle.std.proofs.Common.{◌≡◌, ℕ, suc, ◌-◌, Bool, true, false, [], ◌∷◌, sym, ◌∙◌, subst, Option, Some, None, Result, Ok, Err}
+use Rattle.std.proofs.Common.{◌≡◌, ℕ, suc, ◌-◌, Bool, true, false, [], ◌∷◌, sym, ◌∙◌, subst, Option, Some, None}
+use Rattle.std.proofs.Common.{Result, Ok, Err}
 use Rattle.ep_int.specs.declared.types.Memory.{Memory}
 use Rattle.ep_int.specs.declared.types.Order.{Order}
 use Rattle.ep_alarms.specs.declared.types.AlarmKind.TheVariants.{E4}
@@ -7,13 +8,15 @@ use Rattle.ep_core.specs.Exec.{broken}
 use Rattle.ep_core.specs.Program.{Program}
 use Rattle.ep_core.specs.Runs.{Side}
 use Rattle.ep_pass.specs.States.{Mode, Both, One, StateOps}
-use Rattle.ep_pass.specs.Pass.{Ways, none, logged, Pass, ends, branch, differ, plain_alarm, comes_after, leave_loop, join_ways, then_pass}
+use Rattle.ep_pass.specs.Pass.{Ways, none, logged, Pass, ends, branch, differ, plain_alarm, comes_after, leave_loop}
+use Rattle.ep_pass.specs.Pass.{join_ways, then_pass}
 use Rattle.ep_flows.specs.Shown.{Told, Tells, HasPassed, Passes, shown_ways, shown_flow, Plan}
 use Rattle.ep_flows.specs.declared.flow.Flow.{Flow}
 use Rattle.ep_flows.proofs.Telling.{tells_nothing}
 use Rattle.ep_flows.proofs.Combined.{goes_on, stops_there, leave_loop_passed, keeps_passed}
 use Rattle.ep_flows.proofs.Counting.{both_count, leads_passes, told_count}
-use Rattle.ep_walk_parts.specs.Pieces.{Loop, Followed, turns, cut, o, alone_of, begun_of, entered_of, followed, last_of, loop_pass_of, rounds_of, settled_of, tested_of, turn_of}
+use Rattle.ep_walk_parts.specs.Pieces.{Loop, Followed, turns, cut, o, alone_of, begun_of, entered_of, followed}
+use Rattle.ep_walk_parts.specs.Pieces.{last_of, loop_pass_of, rounds_of, settled_of, tested_of, turn_of}
 
 module _ {S : Type 0} where
   -- nothing is reached, and nothing told

@@ -1,5 +1,7 @@
 -- The parts of typed statements are typed.
-use Rattle.std.proofs.Common.{◌≡◌, ℕ, zero, suc, ◌<◌, Bool, true, false, ◌&&◌, List, [], ◌∷◌, ◌++◌, length, get_or, map, slice_get, refl, sym, ap, ◌∙◌, subst, arith, Option, Some, None, nat_lt, if◌then◌else◌}
+use Rattle.std.proofs.Common.{◌≡◌, ℕ, zero, suc, ◌<◌, Bool, true, false, ◌&&◌, List, [], ◌∷◌, ◌++◌, length, get_or}
+use Rattle.std.proofs.Common.{map, slice_get, refl, sym, ap, ◌∙◌, subst, arith, Option, Some, None, nat_lt}
+use Rattle.std.proofs.Common.{if◌then◌else◌}
 use Rattle.std.specs.Option.{option_map}
 use Rattle.std.specs.declared.alloc.Global.{Global}
 use Rattle.std.specs.declared.vec.Vec.{Vec}
@@ -18,7 +20,8 @@ use Rattle.ep_core.specs.Program as plain
 use Rattle.ep_core.specs.Program.{What, call, if_else, loop, by_order, scope, Stmts, Dest, Function, Program}
 use Rattle.ep_core.specs.Shown.{shown}
 use Rattle.ep_core.specs.View.{shown_dest, shown_expr, shown_what, shown_stmts, shown_function}
-use Rattle.ep_core.specs.WellFormed.{result_type, is_tested, are_plain, arguments_fit, takes_result, call_fits, what_fits, stmts_fit}
+use Rattle.ep_core.specs.WellFormed.{result_type, is_tested, are_plain, arguments_fit, takes_result, call_fits}
+use Rattle.ep_core.specs.WellFormed.{what_fits, stmts_fit}
 use Rattle.ep_core.proofs.Operands.{fits_at}
 use Rattle.ep_core.proofs.Views.{if_is, loop_is, by_order_is, scope_is}
 use Rattle.ep_flows.specs.Typed.{IsTypedTest, IsFunction, AreArguments, TakesResult}

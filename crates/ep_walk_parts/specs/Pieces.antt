@@ -6,7 +6,9 @@ use Rattle.ep_core.specs.Exec.{broken, frame_of}
 use Rattle.ep_core.specs.Runs.{Side, left, right}
 use Rattle.ep_core.specs.View.{shown_expr, shown_stmts}
 use Rattle.ep_pass.specs.States.{Mode, Both, One, StateOps}
-use Rattle.ep_pass.specs.Pass.{Ways, none, Pass, ends, so_far, jumps, too_long, then_pass, tested, apart, next_pass, unrolled, in_body, one_turn, cut_turn, lone, joint_turn, settled, last_turns, entered, loop_pass, leave_call, scope_pass, pass, pass_all, body_pass, bodies_pass}
+use Rattle.ep_pass.specs.Pass.{Ways, none, Pass, ends, so_far, jumps, too_long, then_pass, tested, apart, next_pass}
+use Rattle.ep_pass.specs.Pass.{unrolled, in_body, one_turn, cut_turn, lone, joint_turn, settled, last_turns, entered}
+use Rattle.ep_pass.specs.Pass.{loop_pass, leave_call, scope_pass, pass, pass_all, body_pass, bodies_pass}
 use Rattle.ep_flows.specs.Shown.{Plan}
 use Rattle.ep_walk_parts.specs.declared.follow.Parts.{Parts}
 use Rattle.ep_walk_parts.specs.declared.follow.Follow as declared

@@ -1,5 +1,6 @@
 -- What comes into a table: types, aggregates, members.
-use Rattle.std.proofs.Common.{◌≡◌, ℕ, zero, suc, ◌<◌, true, [], ◌∷◌, ◌++◌, length, slice_get, Option, Some, None, option_and_then, unwrap_or, refl, sym, ap, ◌∙◌, subst, inl, inr, arith}
+use Rattle.std.proofs.Common.{◌≡◌, ℕ, zero, suc, ◌<◌, true, [], ◌∷◌, ◌++◌, length, slice_get, Option, Some, None}
+use Rattle.std.proofs.Common.{option_and_then, unwrap_or, refl, sym, ap, ◌∙◌, subst, inl, inr, arith}
 use Rattle.std.proofs.lemmas.Bool.Decides.{nat_tests}
 use Rattle.ep_layout.specs.declared.types.Ty.{Ty}
 use Rattle.ep_layout.specs.declared.types.Ty.TheVariants.{Void, Int, Ptr, Array, Aggregate}
@@ -14,8 +15,10 @@ use Rattle.ep_core.specs.WellFormed.{is_length}
 use Rattle.ep_typing.specs.declared.types.Base.{Base}
 use Rattle.ep_typing.specs.declared.types.Base.TheVariants as bases
 use Rattle.ep_typing.specs.declared.types.CType.{CType}
-use Rattle.ep_typing.specs.Types.{base_number, c_type_number, known_number, pointer_number, with_base, with_c_type, with_pointers}
-use Rattle.ep_well_formed_laws.specs.Numbers.{HasNumber, IsTable, array_number, number_behind, number_of_base, type_number}
+use Rattle.ep_typing.specs.Types.{base_number, c_type_number, known_number, pointer_number, with_base, with_c_type}
+use Rattle.ep_typing.specs.Types.{with_pointers}
+use Rattle.ep_well_formed_laws.specs.Numbers.{HasNumber, IsTable, array_number, number_behind, number_of_base}
+use Rattle.ep_well_formed_laws.specs.Numbers.{type_number}
 use Rattle.ep_well_formed_laws.proofs.Tables.{behind_first, behind_none, number_at, row_at, there}
 
 -- ---- growing, one step after another

@@ -1,5 +1,7 @@
 -- Functions that are defined fit, and leave an environment in which all that is named is there.
-use Rattle.std.proofs.Common.{◌≡◌, ℕ, zero, suc, ◌+◌, ◌<◌, nat_eq, Bool, true, false, true≢false, if◌then◌else◌, List, [], ◌∷◌, ◌++◌, length, map, drop, slice_get, option_to_list, Option, Some, None, unwrap_or, bytes_eq, Ok, refl, sym, ap, ◌∙◌, subst, ◌⊎◌, inl, inr, arith}
+use Rattle.std.proofs.Common.{◌≡◌, ℕ, zero, suc, ◌+◌, ◌<◌, nat_eq, Bool, true, false, true≢false, if◌then◌else◌, List}
+use Rattle.std.proofs.Common.{[], ◌∷◌, ◌++◌, length, map, drop, slice_get, option_to_list, Option, Some, None}
+use Rattle.std.proofs.Common.{unwrap_or, bytes_eq, Ok, refl, sym, ap, ◌∙◌, subst, ◌⊎◌, inl, inr, arith}
 use Rattle.std.specs.List.{list_all}
 use Rattle.std.proofs.lemmas.Bool.Decides.{nat_tests}
 use Rattle.ep_int.specs.Memory.{contains}
@@ -17,14 +19,19 @@ use Rattle.ep_core.proofs.Sorts.{either_is, never}
 use Rattle.ep_typing.specs.declared.types.Base.{Base}
 use Rattle.ep_typing.specs.declared.types.Base.TheVariants as bases
 use Rattle.ep_typing.specs.declared.types.CType.{CType}
-use Rattle.ep_typing.specs.Types.{base_size, c_type_number, int_of, is_int_base, is_integer, is_pointer, is_scalar, is_void, scalar_of, size_of_type, void_type}
+use Rattle.ep_typing.specs.Types.{base_size, c_type_number, int_of, is_int_base, is_integer, is_pointer, is_scalar}
+use Rattle.ep_typing.specs.Types.{is_void, scalar_of, size_of_type, void_type}
 use Rattle.ep_typing.specs.Env.{Env, Meaning, Scope, Signature, entry, function, type_name, variable}
 use Rattle.ep_elaboration.specs.Declarators.{with_name}
-use Rattle.ep_elaboration.specs.Functions.{Defined, Headed, behind_result, body_env, file_names, fits_main, function_declared, named_function, number_of_function, numbered_from, numbered_function, own_block, result_at, results, signature_of, stands_against, with_blocks}
+use Rattle.ep_elaboration.specs.Functions.{Defined, Headed, behind_result, body_env, file_names, fits_main}
+use Rattle.ep_elaboration.specs.Functions.{function_declared, named_function, number_of_function, numbered_from}
+use Rattle.ep_elaboration.specs.Functions.{numbered_function, own_block, result_at, results, signature_of}
+use Rattle.ep_elaboration.specs.Functions.{stands_against, with_blocks}
 use Rattle.ep_elaboration.specs.Statements.{blocks_behind, blocks_of, innermost, left, outer, to_core}
 use Rattle.ep_elaboration_laws.specs.FunctionRules.{MeansDefinition, is_definition, is_function}
 use Rattle.ep_well_formed_laws.specs.Numbers.{IsTable, type_number}
-use Rattle.ep_well_formed_laws.specs.Environments.{ArePassed, CanName, Covers, EachMeaning, EachName, EachOf, EachTag, IsEnv, IsPassed, IsPlaced, IsSignature, IsTyped}
+use Rattle.ep_well_formed_laws.specs.Environments.{ArePassed, CanName, Covers, EachMeaning, EachName, EachOf, EachTag}
+use Rattle.ep_well_formed_laws.specs.Environments.{IsEnv, IsPassed, IsPlaced, IsSignature, IsTyped}
 use Rattle.ep_well_formed_laws.specs.Statements.{IsDefined, IsResultOf, StmtsFit, a_result, no_result}
 use Rattle.ep_well_formed_laws.proofs.Additions.{c_number_is, type_number_stays}
 use Rattle.ep_well_formed_laws.proofs.Heads.{HeadComes, IsParamName, head_comes}

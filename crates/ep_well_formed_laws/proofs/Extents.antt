@@ -1,5 +1,7 @@
 -- Sizes of types: by number and by type alike, and from 1 to 65,536 bytes.
-use Rattle.std.proofs.Common.{◌≡◌, ℕ, zero, suc, ◌+◌, ◌*◌, ◌≤◌, nat_lt, nat_le, Bool, true, false, List, [], ◌∷◌, slice_get, Option, Some, None, option_map, option_and_then, refl, sym, ap, ◌∙◌, subst, arith, if◌then◌else◌}
+use Rattle.std.proofs.Common.{◌≡◌, ℕ, zero, suc, ◌+◌, ◌*◌, ◌≤◌, nat_lt, nat_le, Bool, true, false, List, [], ◌∷◌}
+use Rattle.std.proofs.Common.{slice_get, Option, Some, None, option_map, option_and_then, refl, sym, ap, ◌∙◌, subst}
+use Rattle.std.proofs.Common.{arith, if◌then◌else◌}
 use Rattle.std.specs.Int.{next_multiple_of}
 use Rattle.std.proofs.lemmas.Bool.Decides.{nat_tests}
 use Rattle.std.proofs.lemmas.Bool.{and_parts}
@@ -7,7 +9,8 @@ use Rattle.ep_int.specs.declared.types.Scalar.TheVariants.{Int as Number, Pointe
 use Rattle.ep_layout.specs.declared.types.Ty.{Ty}
 use Rattle.ep_layout.specs.declared.types.Ty.TheVariants.{Void, Int, Ptr, Array, Aggregate}
 use Rattle.ep_layout.specs.Layout.{Layout, array_layout, end_of, struct_layout, union_layout}
-use Rattle.ep_layout.specs.Table.{Table, MemberRow, IsBuilt, at_aggregate, at_depth, at_each, at_type, at_whole, layout_of, layout_rules, size}
+use Rattle.ep_layout.specs.Table.{Table, MemberRow, IsBuilt, at_aggregate, at_depth, at_each, at_type, at_whole}
+use Rattle.ep_layout.specs.Table.{layout_of, layout_rules, size}
 use Rattle.ep_layout.proofs.Options.{and_then_some, at_each_some, map_some}
 use Rattle.ep_layout.proofs.Laid.{by_type_is}
 use Rattle.ep_layout.proofs.Recursion.{types_of}

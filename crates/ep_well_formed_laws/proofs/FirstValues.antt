@@ -1,5 +1,8 @@
 -- First values of objects, and declarations of variables, come to statements that fit.
-use Rattle.std.proofs.Common.{◌≡◌, ℕ, zero, suc, ◌+◌, ◌*◌, ◌<◌, ◌≤◌, nat_lt, nat_le, Bool, true, false, true≢false, ◌||◌, if◌then◌else◌, List, [], ◌∷◌, ◌++◌, length, map, slice_get, Option, Some, None, option_map, unwrap_or, is_some, int_le, Ok, refl, sym, ap, ◌∙◌, subst, inl, inr, arith, pos, negsuc}
+use Rattle.std.proofs.Common.{◌≡◌, ℕ, zero, suc, ◌+◌, ◌*◌, ◌<◌, ◌≤◌, nat_lt, nat_le, Bool, true, false, true≢false}
+use Rattle.std.proofs.Common.{◌||◌, if◌then◌else◌, List, [], ◌∷◌, ◌++◌, length, map, slice_get, Option, Some, None}
+use Rattle.std.proofs.Common.{option_map, unwrap_or, is_some, int_le, Ok, refl, sym, ap, ◌∙◌, subst, inl, inr, arith}
+use Rattle.std.proofs.Common.{pos, negsuc}
 use Rattle.std.proofs.lemmas.Bool.Decides.{nat_tests}
 use Rattle.std.proofs.lemmas.Bool.{and_parts}
 use Rattle.std.proofs.lemmas.Int.{ints}
@@ -21,22 +24,31 @@ use Rattle.ep_typing.specs.Env.{Env}
 use Rattle.ep_typing.specs.Names.{mentioned}
 use Rattle.ep_elaboration.specs.Declarators.{Object}
 use Rattle.ep_elaboration.specs.Declarations.{Line, Made}
-use Rattle.ep_elaboration.specs.Given.{Given, cleared, count_listed, element_at, first_member, given_members, line_of_value, member_object, object_operand, part_at, with_parts}
+use Rattle.ep_elaboration.specs.Given.{Given, cleared, count_listed, element_at, first_member, given_members}
+use Rattle.ep_elaboration.specs.Given.{line_of_value, member_object, object_operand, part_at, with_parts}
 use Rattle.ep_elaboration.specs.Statements.{to_core}
-use Rattle.ep_elaboration_laws.specs.GivenRules.{MeansAllGiven, MeansDeclaration, MeansFirstValue, MeansGiven, MeansGivenExpression, MeansVariable, MeansVariables, is_declaration, is_first_value, is_given_expression, is_listed, is_single, is_variable, more_values_given, more_variables, no_first_value, no_values_given, no_variables}
+use Rattle.ep_elaboration_laws.specs.GivenRules.{MeansAllGiven, MeansDeclaration, MeansFirstValue, MeansGiven}
+use Rattle.ep_elaboration_laws.specs.GivenRules.{MeansGivenExpression, MeansVariable, MeansVariables, is_declaration}
+use Rattle.ep_elaboration_laws.specs.GivenRules.{is_first_value, is_given_expression, is_listed, is_single}
+use Rattle.ep_elaboration_laws.specs.GivenRules.{is_variable, more_values_given, more_variables, no_first_value}
+use Rattle.ep_elaboration_laws.specs.GivenRules.{no_values_given, no_variables}
 use Rattle.ep_well_formed_laws.specs.Numbers.{HasNumber, may_be, type_number}
 use Rattle.ep_well_formed_laws.specs.Environments.{Covers, HasScope, IsDeclared, IsEnv}
 use Rattle.ep_well_formed_laws.specs.Operands.{PlaceFits}
 use Rattle.ep_well_formed_laws.specs.Statements.{StmtsFit, WhatFits}
 use Rattle.ep_well_formed_laws.proofs.Extents.{same_size}
 use Rattle.ep_well_formed_laws.proofs.Additions.{c_number_is, has_number_stays, type_number_stays}
-use Rattle.ep_well_formed_laws.proofs.Mentions.{AreThere, Mentions, covers_mentioned, expression_mentioned, mentions_none, mentions_on, more_types}
+use Rattle.ep_well_formed_laws.proofs.Mentions.{AreThere, Mentions, covers_mentioned, expression_mentioned}
+use Rattle.ep_well_formed_laws.proofs.Mentions.{mentions_none, mentions_on, more_types}
 use Rattle.ep_well_formed_laws.proofs.Objects.{object_declared_is, scope_stays}
-use Rattle.ep_well_formed_laws.proofs.Parts.{IsAmong, array_is_of, element_fits, got_among, member_fits, place_of_number, member_number}
+use Rattle.ep_well_formed_laws.proofs.Parts.{IsAmong, array_is_of, element_fits, got_among, member_fits}
+use Rattle.ep_well_formed_laws.proofs.Parts.{place_of_number, member_number}
 use Rattle.ep_well_formed_laws.proofs.Scopes.{same_names}
 use Rattle.ep_well_formed_laws.proofs.Specs.{specified}
 use Rattle.ep_well_formed_laws.proofs.StatementGrowth.{place_stays, sized_stays}
-use Rattle.ep_well_formed_laws.proofs.Steps.{Follows, NamesGrow, covers_before, follows_declares, follows_itself, follows_mentions, follows_on, names_grow_on, names_stay, stmts_later, what_later}
+use Rattle.ep_well_formed_laws.proofs.Steps.{Follows, NamesGrow, covers_before, follows_declares, follows_itself}
+use Rattle.ep_well_formed_laws.proofs.Steps.{follows_mentions, follows_on, names_grow_on, names_stay, stmts_later}
+use Rattle.ep_well_formed_laws.proofs.Steps.{what_later}
 use Rattle.ep_well_formed_laws.proofs.Tests.{and_is, either_way, given}
 use Rattle.ep_well_formed_laws.proofs.Values.{self_may_be}
 use Rattle.ep_well_formed_laws.proofs.WholeStatements.{from_fits, right_fits}

@@ -1,5 +1,7 @@
 -- Heads of functions: their results and parameters, and the scope of the parameters.
-use Rattle.std.proofs.Common.{◌≡◌, ℕ, ◌+◌, ◌<◌, Bool, true, false, true≢false, ◌||◌, if◌then◌else◌, List, [], ◌∷◌, ◌++◌, length, length-append, slice_get, Option, Some, None, Ok, refl, sym, ap, ◌∙◌, subst, ◌⊎◌, inl, inr, arith}
+use Rattle.std.proofs.Common.{◌≡◌, ℕ, ◌+◌, ◌<◌, Bool, true, false, true≢false, ◌||◌, if◌then◌else◌, List, [], ◌∷◌}
+use Rattle.std.proofs.Common.{◌++◌, length, length-append, slice_get, Option, Some, None, Ok, refl, sym, ap, ◌∙◌}
+use Rattle.std.proofs.Common.{subst, ◌⊎◌, inl, inr, arith}
 use Rattle.ep_ast.specs.Expression as source
 use Rattle.ep_ast.specs.Declaration.{Head, Param, to_specs}
 use Rattle.ep_layout.specs.Table.{Grows, Table}
@@ -8,17 +10,23 @@ use Rattle.ep_core.proofs.Sorts.{never}
 use Rattle.ep_typing.specs.declared.types.Base.{Base}
 use Rattle.ep_typing.specs.declared.types.Base.TheVariants as bases
 use Rattle.ep_typing.specs.declared.types.CType.{CType}
-use Rattle.ep_typing.specs.Types.{element_of, is_aggregate, is_array, is_array_base, is_int_base, is_void_base, is_pointer, is_scalar, is_void, pointer_to, void_type, with_c_type, with_stars}
+use Rattle.ep_typing.specs.Types.{element_of, is_aggregate, is_array, is_array_base, is_int_base, is_void_base}
+use Rattle.ep_typing.specs.Types.{is_pointer, is_scalar, is_void, pointer_to, void_type, with_c_type, with_stars}
 use Rattle.ep_typing.specs.Env.{Env, Meaning, Scope, function, no_names, type_name, variable}
 use Rattle.ep_elaboration.specs.Declarators.{arrays_of, name_in, with_types}
-use Rattle.ep_elaboration.specs.Functions.{Headed, behind_result, given_back, is_name_taken, named_param, param_type, params_of, passable, with_param}
+use Rattle.ep_elaboration.specs.Functions.{Headed, behind_result, given_back, is_name_taken, named_param, param_type}
+use Rattle.ep_elaboration.specs.Functions.{params_of, passable, with_param}
 use Rattle.ep_elaboration.specs.Statements.{entered}
-use Rattle.ep_elaboration_laws.specs.FunctionRules.{MeansHead, MeansParam, MeansParamBounds, MeansParams, bound_array, is_head, is_param, more_params, no_array, no_params, open_array}
+use Rattle.ep_elaboration_laws.specs.FunctionRules.{MeansHead, MeansParam, MeansParamBounds, MeansParams, bound_array}
+use Rattle.ep_elaboration_laws.specs.FunctionRules.{is_head, is_param, more_params, no_array, no_params, open_array}
 use Rattle.ep_well_formed_laws.specs.Numbers.{HasNumber, IsTable}
 use Rattle.ep_well_formed_laws.specs.Environments.{ArePassed, EachName, IsDeclared, IsPassed, IsTyped}
 use Rattle.ep_well_formed_laws.proofs.Additions.{IsKnownBase, grows_on, has_number_stays, type_comes}
-use Rattle.ep_well_formed_laws.proofs.Mentions.{Declares, Mentions, declares_mentions, declares_on, known_base, mentions_none, type_mentioned, mentions_on, passed_stays, same_rows_open, table_mentioned}
-use Rattle.ep_well_formed_laws.proofs.Objects.{AreLengths, TypeComes, arrays_come, bound_is, bounds_are, name_comes, names_same_or_more, tags_named}
+use Rattle.ep_well_formed_laws.proofs.Mentions.{Declares, Mentions, declares_mentions, declares_on, known_base}
+use Rattle.ep_well_formed_laws.proofs.Mentions.{mentions_none, type_mentioned, mentions_on, passed_stays}
+use Rattle.ep_well_formed_laws.proofs.Mentions.{same_rows_open, table_mentioned}
+use Rattle.ep_well_formed_laws.proofs.Objects.{AreLengths, TypeComes, arrays_come, bound_is, bounds_are, name_comes}
+use Rattle.ep_well_formed_laws.proofs.Objects.{names_same_or_more, tags_named}
 use Rattle.ep_well_formed_laws.proofs.Parts.{array_is_of, integer_left, of_base}
 use Rattle.ep_well_formed_laws.proofs.Scopes.{HaveNames, name_more, name_push, names_on, same_names}
 use Rattle.ep_well_formed_laws.proofs.Specs.{fine_is, specified, words_specified}

@@ -1,5 +1,7 @@
 -- Environments stay what they are while expressions declare tags and types, and the types of type names are there.
-use Rattle.std.proofs.Common.{◌≡◌, ℕ, zero, suc, ◌<◌, ◌≤◌, ◌==◌, Bool, true, false, cond, if◌then◌else◌, List, [], ◌∷◌, length, length-append, find, slice_get, Option, Some, None, Result, Ok, Err, refl, sym, ap, ◌∙◌, subst, ◌⊎◌, inl, inr, arith}
+use Rattle.std.proofs.Common.{◌≡◌, ℕ, zero, suc, ◌<◌, ◌≤◌, ◌==◌, Bool, true, false, cond, if◌then◌else◌, List, []}
+use Rattle.std.proofs.Common.{◌∷◌, length, length-append, find, slice_get, Option, Some, None, Result, Ok, Err, refl}
+use Rattle.std.proofs.Common.{sym, ap, ◌∙◌, subst, ◌⊎◌, inl, inr, arith}
 use Rattle.std.proofs.lemmas.Bool.Decides.{nat_tests}
 use Rattle.std.proofs.lemmas.Bool.{and_parts}
 use Rattle.ep_int.specs.declared.types.IntType.{IntType}
@@ -23,15 +25,21 @@ use Rattle.ep_typing.specs.declared.types.Base.TheVariants as bases
 use Rattle.ep_typing.specs.declared.types.CType.{CType}
 use Rattle.ep_typing.specs.Results.{◌>>=◌, at}
 use Rattle.ep_typing.specs.Types.{int_type, void_type, whole, with_c_type, with_stars}
-use Rattle.ep_typing.specs.Env.{Env, Meaning, Scope, Signature, entry, look_up, look_up_tag, tag_in, variable, function, type_name, with_tag}
-use Rattle.ep_typing.specs.Names.{built_in_types, integer_of, is_whole, meant_tag, meant_type, mentioned, mentioned_all, mentioned_name, mentioned_tag, mentioned_word, mentioned_words, named_type, of_whole, with_type_of, words_type}
+use Rattle.ep_typing.specs.Env.{Env, Meaning, Scope, Signature, entry, look_up, look_up_tag, tag_in, variable}
+use Rattle.ep_typing.specs.Env.{function, type_name, with_tag}
+use Rattle.ep_typing.specs.Names.{built_in_types, integer_of, is_whole, meant_tag, meant_type, mentioned}
+use Rattle.ep_typing.specs.Names.{mentioned_all, mentioned_name, mentioned_tag, mentioned_word, mentioned_words}
+use Rattle.ep_typing.specs.Names.{named_type, of_whole, with_type_of, words_type}
 use Rattle.ep_elaboration_laws.proofs.Growing.{size_on}
 use Rattle.ep_well_formed_laws.specs.Numbers.{HasNumber, IsTable, number_behind, number_of_base}
-use Rattle.ep_well_formed_laws.specs.Environments.{ArePassed, CanName, Covers, EachMeaning, IsDeclared, IsEnv, IsPassed, IsPlaced, IsSignature, IsTyped}
+use Rattle.ep_well_formed_laws.specs.Environments.{ArePassed, CanName, Covers, EachMeaning, IsDeclared, IsEnv}
+use Rattle.ep_well_formed_laws.specs.Environments.{IsPassed, IsPlaced, IsSignature, IsTyped}
 use Rattle.ep_well_formed_laws.proofs.Tables.{behind_none, row_at}
 use Rattle.ep_well_formed_laws.proofs.Extents.{array_is}
 use Rattle.ep_well_formed_laws.proofs.Additions.{IsKnownBase, grows_on, has_number_stays, type_comes, type_number_stays}
-use Rattle.ep_well_formed_laws.proofs.Scopes.{HaveNames, each_same, looked_up, meaning_more, names_on, names_tagged, same_meaning, same_names, tag_found, tag_looked_up, tag_more, tag_push, tag_stays}
+use Rattle.ep_well_formed_laws.proofs.Scopes.{HaveNames, each_same, looked_up, meaning_more, names_on, names_tagged}
+use Rattle.ep_well_formed_laws.proofs.Scopes.{same_meaning, same_names, tag_found, tag_looked_up, tag_more, tag_push}
+use Rattle.ep_well_formed_laws.proofs.Scopes.{tag_stays}
 use Rattle.ep_well_formed_laws.proofs.Tests.{after, and_is}
 
 -- ---- in a table that has grown

@@ -1,5 +1,7 @@
 -- Bounds, arrays and objects that are declared.
-use Rattle.std.proofs.Common.{◌≡◌, ℕ, ◌<◌, nat_le, nat_eq, Bool, true, false, ◌&&◌, ◌||◌, cond, List, [], ◌∷◌, ◌++◌, length, slice_get, Option, Some, None, option_and_then, unwrap_or, Result, Ok, Err, refl, sym, ap, ◌∙◌, subst, ◌⊎◌, inl, inr, arith, ℤ, pos, negsuc}
+use Rattle.std.proofs.Common.{◌≡◌, ℕ, ◌<◌, nat_le, nat_eq, Bool, true, false, ◌&&◌, ◌||◌, cond, List, [], ◌∷◌, ◌++◌}
+use Rattle.std.proofs.Common.{length, slice_get, Option, Some, None, option_and_then, unwrap_or, Result, Ok, Err}
+use Rattle.std.proofs.Common.{refl, sym, ap, ◌∙◌, subst, ◌⊎◌, inl, inr, arith, ℤ, pos, negsuc}
 use Rattle.std.proofs.lemmas.Bool.Decides.{nat_tests}
 use Rattle.std.proofs.lemmas.Bool.{and_parts}
 use Rattle.ep_int.specs.Memory.{contains}
@@ -20,17 +22,24 @@ use Rattle.ep_typing.specs.Types.{c_type_number, known_number, size_of_type, who
 use Rattle.ep_typing.specs.Env.{Env, Meaning, Scope, Signature, function, type_name, variable}
 use Rattle.ep_typing.specs.Constant.{constant_of, count_in, count_of}
 use Rattle.ep_typing.specs.Operand.{Value}
-use Rattle.ep_elaboration.specs.Declarators.{Object, array_of, arrays_of, counted, declared_object, is_taken, made, name_in, object_of, sized_object, with_block, with_name, with_types}
-use Rattle.ep_elaboration_laws.specs.DeclaratorRules.{MeansBound, MeansBounds, MeansObject, MeansObjectBounds, from_list, is_bound, is_object, listed_with_bound, listed_without_bounds, more_bounds, no_bounds, without_list}
+use Rattle.ep_elaboration.specs.Declarators.{Object, array_of, arrays_of, counted, declared_object, is_taken, made}
+use Rattle.ep_elaboration.specs.Declarators.{name_in, object_of, sized_object, with_block, with_name, with_types}
+use Rattle.ep_elaboration_laws.specs.DeclaratorRules.{MeansBound, MeansBounds, MeansObject, MeansObjectBounds}
+use Rattle.ep_elaboration_laws.specs.DeclaratorRules.{from_list, is_bound, is_object, listed_with_bound}
+use Rattle.ep_elaboration_laws.specs.DeclaratorRules.{listed_without_bounds, more_bounds, no_bounds, without_list}
 use Rattle.ep_well_formed_laws.specs.Numbers.{HasNumber, IsTable, array_number, may_be, type_number}
-use Rattle.ep_well_formed_laws.specs.Environments.{CanName, Covers, EachMeaning, EachName, EachTag, HasScope, IsDeclared, IsEnv, IsPlaced, IsTyped}
+use Rattle.ep_well_formed_laws.specs.Environments.{CanName, Covers, EachMeaning, EachName, EachTag, HasScope}
+use Rattle.ep_well_formed_laws.specs.Environments.{IsDeclared, IsEnv, IsPlaced, IsTyped}
 use Rattle.ep_well_formed_laws.specs.Operands.{PlaceFits}
 use Rattle.ep_well_formed_laws.proofs.Tables.{row_at}
 use Rattle.ep_well_formed_laws.proofs.Extents.{same_size, size_is_length}
-use Rattle.ep_well_formed_laws.proofs.Additions.{IsKnownBase, added, c_number_is, grows_on, type_comes, type_number_stays}
+use Rattle.ep_well_formed_laws.proofs.Additions.{IsKnownBase, added, c_number_is, grows_on, type_comes}
+use Rattle.ep_well_formed_laws.proofs.Additions.{type_number_stays}
 use Rattle.ep_well_formed_laws.proofs.Scopes.{meaning_more, name_push, same_names}
-use Rattle.ep_well_formed_laws.proofs.Mentions.{Mentions, expression_mentioned, known_base, mentions_none, mentions_on, same_rows_open, table_mentioned, env_mentioned}
-use Rattle.ep_well_formed_laws.proofs.Steps.{Follows, NamesGrow, follows_mentions, follows_on, front, names_grow_on, names_stay}
+use Rattle.ep_well_formed_laws.proofs.Mentions.{Mentions, expression_mentioned, known_base, mentions_none}
+use Rattle.ep_well_formed_laws.proofs.Mentions.{mentions_on, same_rows_open, table_mentioned, env_mentioned}
+use Rattle.ep_well_formed_laws.proofs.Steps.{Follows, NamesGrow, follows_mentions, follows_on, front, names_grow_on}
+use Rattle.ep_well_formed_laws.proofs.Steps.{names_stay}
 use Rattle.ep_well_formed_laws.proofs.Tests.{after, and_is, left_is, needed_is, unless}
 use Rattle.ep_well_formed_laws.proofs.Values.{number_below, same_number, self_may_be}
 

@@ -1,5 +1,6 @@
 -- What operators on two values come to computes what its type says.
-use Rattle.std.proofs.Common.{◌≡◌, ℕ, ◌<◌, ◌==◌, Bool, true, false, ◌&&◌, not, if◌then◌else◌, List, length, Option, Some, Ok, refl, sym, ap, ◌∙◌, subst, inl, inr, arith, ℤ, pos, negsuc, ◌≤ℤ◌, int_le}
+use Rattle.std.proofs.Common.{◌≡◌, ℕ, ◌<◌, ◌==◌, Bool, true, false, ◌&&◌, not, if◌then◌else◌, List, length, Option}
+use Rattle.std.proofs.Common.{Some, Ok, refl, sym, ap, ◌∙◌, subst, inl, inr, arith, ℤ, pos, negsuc, ◌≤ℤ◌, int_le}
 use Rattle.std.proofs.lemmas.Bool.{and_parts}
 use Rattle.std.proofs.lemmas.Int.{ints}
 use Rattle.ep_int.specs.declared.types.IntType.{IntType}
@@ -16,17 +17,25 @@ use Rattle.ep_layout.specs.Table.{Table, size}
 use Rattle.ep_core.specs.Program as core
 use Rattle.ep_core.specs.Program.{Block, Expr}
 use Rattle.ep_core.specs.WellFormed as formed
-use Rattle.ep_core.specs.WellFormed.{has_sort, integer, is_same_type, pointer_to as pointing, int_type_of, is_number, is_length}
+use Rattle.ep_core.specs.WellFormed.{has_sort, integer, is_same_type, pointer_to as pointing, int_type_of, is_number}
+use Rattle.ep_core.specs.WellFormed.{is_length}
 use Rattle.ep_typing.specs.declared.types.CType.{CType}
 use Rattle.ep_typing.specs.Results.{needed}
-use Rattle.ep_typing.specs.Types.{int_of, is_integer, is_pointer, is_same, is_scalar, is_void_pointer, size_of_type, target}
+use Rattle.ep_typing.specs.Types.{int_of, is_integer, is_pointer, is_same, is_scalar, is_void_pointer, size_of_type}
+use Rattle.ep_typing.specs.Types.{target}
 use Rattle.ep_typing.specs.Operand.{Value, as_pointer, converted, plain_value, promoted_type, promoted_value}
-use Rattle.ep_typing.specs.Operators.{added, are_foreign, are_integers, are_mixed, arithmetic, both, chosen, chosen_type, common_type, compared, complemented, computed, decided, denied, either, equated, is_null_either, kept, moved, negated, numbers_chosen, operated, operated_on_numbers, opposite, ordered, pointers_chosen, pointers_compared, shifted, subtracted, turned, unary_operated, binary_of, decides, ordering_of}
+use Rattle.ep_typing.specs.Operators.{added, are_foreign, are_integers, are_mixed, arithmetic, both, chosen}
+use Rattle.ep_typing.specs.Operators.{chosen_type, common_type, compared, complemented, computed, decided, denied}
+use Rattle.ep_typing.specs.Operators.{either, equated, is_null_either, kept, moved, negated, numbers_chosen, operated}
+use Rattle.ep_typing.specs.Operators.{operated_on_numbers, opposite, ordered, pointers_chosen, pointers_compared}
+use Rattle.ep_typing.specs.Operators.{shifted, subtracted, turned, unary_operated, binary_of, decides, ordering_of}
 use Rattle.ep_well_formed_laws.specs.Numbers.{IsMade, IsTable, may_be, type_number}
 use Rattle.ep_well_formed_laws.specs.Operands.{ValueFits}
 use Rattle.ep_well_formed_laws.proofs.Extents.{same_size, size_is_length}
-use Rattle.ep_well_formed_laws.proofs.Tests.{after, and_is, both_not, either_way, given, if_not, if_so, int_is, is_so, needed_is, right_operand_is, same_self, unless}
-use Rattle.ep_well_formed_laws.proofs.Values.{IsAddress, as_pointer_is, bare_is, converted_is, int_fits, pointer_fits, same_number, scalar_is, scalar_tested, self_may_be, unmixed_address}
+use Rattle.ep_well_formed_laws.proofs.Tests.{after, and_is, both_not, either_way, given, if_not, if_so, int_is, is_so}
+use Rattle.ep_well_formed_laws.proofs.Tests.{needed_is, right_operand_is, same_self, unless}
+use Rattle.ep_well_formed_laws.proofs.Values.{IsAddress, as_pointer_is, bare_is, converted_is, int_fits, pointer_fits}
+use Rattle.ep_well_formed_laws.proofs.Values.{same_number, scalar_is, scalar_tested, self_may_be, unmixed_address}
 
 -- ---- numbers of types
 

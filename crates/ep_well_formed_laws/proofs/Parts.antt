@@ -1,5 +1,8 @@
 -- Names, numbers, parts of objects, addresses, casts and sizes are what their types say.
-use Rattle.std.proofs.Common.{◌≡◌, ℕ, zero, suc, ◌<◌, ◌≤◌, ◌==◌, nat_eq, Bool, true, false, true≢false, cond, ◌&&◌, ◌||◌, not, if◌then◌else◌, List, [], ◌∷◌, ◌++◌, length, map, find, slice_get, Option, Some, None, option_map, option_and_then, unwrap_or, bytes_eq, codes, int_le, Result, Ok, Err, refl, sym, ap, ◌∙◌, subst, ◌⊎◌, inl, inr, arith, pos}
+use Rattle.std.proofs.Common.{◌≡◌, ℕ, zero, suc, ◌<◌, ◌≤◌, ◌==◌, nat_eq, Bool, true, false, true≢false, cond, ◌&&◌}
+use Rattle.std.proofs.Common.{◌||◌, not, if◌then◌else◌, List, [], ◌∷◌, ◌++◌, length, map, find, slice_get, Option}
+use Rattle.std.proofs.Common.{Some, None, option_map, option_and_then, unwrap_or, bytes_eq, codes, int_le, Result, Ok}
+use Rattle.std.proofs.Common.{Err, refl, sym, ap, ◌∙◌, subst, ◌⊎◌, inl, inr, arith, pos}
 use Rattle.std.specs.List.{list_any}
 use Rattle.std.proofs.lemmas.Bool.Decides.{nat_tests}
 use Rattle.std.proofs.lemmas.Bool.{and_parts}
@@ -16,7 +19,8 @@ use Rattle.ep_ast.specs.Mark as mark
 use Rattle.ep_layout.specs.declared.types.Ty.{Ty}
 use Rattle.ep_layout.specs.declared.types.Ty.TheVariants as rows
 use Rattle.ep_layout.specs.Layout.{Layout}
-use Rattle.ep_layout.specs.Table.{AggregateRow, MemberRow, Table, aggregate_layout, at_aggregate, at_each, elements_of, layout_of, layout_rules, member_named, members_of, size}
+use Rattle.ep_layout.specs.Table.{AggregateRow, MemberRow, Table, aggregate_layout, at_aggregate, at_each}
+use Rattle.ep_layout.specs.Table.{elements_of, layout_of, layout_rules, member_named, members_of, size}
 use Rattle.ep_layout.proofs.Options.{and_then_some, at_each_some, map_some}
 use Rattle.ep_layout.proofs.Recursion.{types_of}
 use Rattle.ep_layout.proofs.Rows.{placed, type_there}
@@ -24,25 +28,37 @@ use Rattle.ep_layout.proofs.Sizes.{known, layout_fits, small}
 use Rattle.ep_core.specs.Program as core
 use Rattle.ep_core.specs.Program.{Block, Expr, Place}
 use Rattle.ep_core.specs.WellFormed as formed
-use Rattle.ep_core.specs.WellFormed.{has_sort, has_member, integer, is_array_of, has_bound, is_same_type, is_same_scalar, pointer_to as pointing, int_type_of, is_number, is_length, place_has, has_scalar, is_sort, sort_of, some_type, is_int, block_has, is_named}
+use Rattle.ep_core.specs.WellFormed.{has_sort, has_member, integer, is_array_of, has_bound, is_same_type}
+use Rattle.ep_core.specs.WellFormed.{is_same_scalar, pointer_to as pointing, int_type_of, is_number, is_length}
+use Rattle.ep_core.specs.WellFormed.{place_has, has_scalar, is_sort, sort_of, some_type, is_int, block_has, is_named}
 use Rattle.ep_core.proofs.Sorts.{never}
 use Rattle.ep_typing.specs.declared.types.Base.{Base}
 use Rattle.ep_typing.specs.declared.types.Base.TheVariants as bases
 use Rattle.ep_typing.specs.declared.types.CType.{CType}
 use Rattle.ep_typing.specs.Results.{needed}
-use Rattle.ep_typing.specs.Types.{base_size, bound_of, element_of, int_of, is_aggregate, is_aggregate_base, is_array, is_array_base, is_int_base, is_integer, is_pointer, is_scalar, is_void, is_void_base, number_in, number_type, pointer_to, scalar_of, size_of_type, size_type, target, type_of, void_type, whole}
+use Rattle.ep_typing.specs.Types.{base_size, bound_of, element_of, int_of, is_aggregate, is_aggregate_base, is_array}
+use Rattle.ep_typing.specs.Types.{is_array_base, is_int_base, is_integer, is_pointer, is_scalar, is_void}
+use Rattle.ep_typing.specs.Types.{is_void_base, number_in, number_type, pointer_to, scalar_of, size_of_type}
+use Rattle.ep_typing.specs.Types.{size_type, target, type_of, void_type, whole}
 use Rattle.ep_typing.specs.Env as env
 use Rattle.ep_typing.specs.Env.{Env, Meaning, Signature, entry, look_up}
-use Rattle.ep_typing.specs.Operand.{Callee, Operand, Value, as_type, declared, function, int_value, is_mixed, loaded, place, plain_value, value, value_of, input, output}
+use Rattle.ep_typing.specs.Operand.{Callee, Operand, Value, as_type, declared, function, int_value, is_mixed, loaded}
+use Rattle.ep_typing.specs.Operand.{place, plain_value, value, value_of, input, output}
 use Rattle.ep_typing.specs.Operators.{moved, unary_operated}
-use Rattle.ep_typing.specs.Parts.{address_of, addressed, an_operand, built_in, casted, element_behind, element_in, element_of_array, ends, indexable, indexed, is_array_object, meant, member_at, member_of, named, named_callee, numbered, pointed, selected, selected_through, sized, type_sized, unary_of_value, unary_typed}
+use Rattle.ep_typing.specs.Parts.{address_of, addressed, an_operand, built_in, casted, element_behind, element_in}
+use Rattle.ep_typing.specs.Parts.{element_of_array, ends, indexable, indexed, is_array_object, meant, member_at}
+use Rattle.ep_typing.specs.Parts.{member_of, named, named_callee, numbered, pointed, selected, selected_through}
+use Rattle.ep_typing.specs.Parts.{sized, type_sized, unary_of_value, unary_typed}
 use Rattle.ep_well_formed_laws.specs.Numbers.{HasNumber, IsMade, IsTable, may_be, type_number, number_of_base}
 use Rattle.ep_well_formed_laws.specs.Environments.{CanName, IsPlaced}
 use Rattle.ep_well_formed_laws.specs.Operands.{IsCallee, OperandFits, PlaceFits, ValueFits}
 use Rattle.ep_well_formed_laws.proofs.Tables.{base_again, row_at, target_number, there, type_of_number}
 use Rattle.ep_well_formed_laws.proofs.Extents.{array_is, same_size, size_is_length}
-use Rattle.ep_well_formed_laws.proofs.Tests.{after, and_is, both_not, either_way, given, if_not, if_so, int_is, is_so, left_is, needed_is, right_is, same_self, some_type_is, type_below, unless}
-use Rattle.ep_well_formed_laws.proofs.Values.{as_type_fits, int_fits, null_fits, number_fits, pointer_fits, same_number, scalar_is, self_may_be, target_made, to_type_fits}
+use Rattle.ep_well_formed_laws.proofs.Tests.{after, and_is, both_not, either_way, given, if_not, if_so, int_is, is_so}
+use Rattle.ep_well_formed_laws.proofs.Tests.{left_is, needed_is, right_is, same_self, some_type_is, type_below}
+use Rattle.ep_well_formed_laws.proofs.Tests.{unless}
+use Rattle.ep_well_formed_laws.proofs.Values.{as_type_fits, int_fits, null_fits, number_fits, pointer_fits}
+use Rattle.ep_well_formed_laws.proofs.Values.{same_number, scalar_is, self_may_be, target_made, to_type_fits}
 use Rattle.ep_well_formed_laws.proofs.Operators.{moved_fits, number_is, unary_fits, wrapped_fits}
 
 -- ---- what stands at the number of a type

@@ -1,5 +1,6 @@
 -- Names and tags in scopes: what is found, and what stays when a tag comes.
-use Rattle.std.proofs.Common.{◌≡◌, ℕ, Bool, true, false, cond, List, [], ◌∷◌, ◌++◌, Option, Some, None, bytes_eq, refl, sym, ap, ◌∙◌, subst, ◌⊎◌, inl, inr}
+use Rattle.std.proofs.Common.{◌≡◌, ℕ, Bool, true, false, cond, List, [], ◌∷◌, ◌++◌, Option, Some, None, bytes_eq}
+use Rattle.std.proofs.Common.{refl, sym, ap, ◌∙◌, subst, ◌⊎◌, inl, inr}
 use Rattle.std.proofs.lemmas.Slice.Eq.{bytes_eq-Decides}
 use Rattle.ep_typing.specs.Env.{Meaning, Scope, entry, first_of, look_up, look_up_tag, tag_in}
 use Rattle.ep_well_formed_laws.specs.Environments.{EachMeaning, EachName, EachOf, EachTag}

@@ -1,5 +1,7 @@
 -- Type words and the bodies of structs and unions leave an environment in which all that is named is there.
-use Rattle.std.proofs.Common.{◌≡◌, ℕ, zero, suc, ◌<◌, ◌≤◌, ◌==◌, nat_eq, Bool, true, false, true≢false, ◌||◌, not, List, [], ◌∷◌, ◌++◌, length, length-append, slice_get, Option, Some, None, option_map, is_some, unwrap_or, Result, Ok, refl, sym, ap, ◌∙◌, subst, inl, inr, arith}
+use Rattle.std.proofs.Common.{◌≡◌, ℕ, zero, suc, ◌<◌, ◌≤◌, ◌==◌, nat_eq, Bool, true, false, true≢false, ◌||◌, not}
+use Rattle.std.proofs.Common.{List, [], ◌∷◌, ◌++◌, length, length-append, slice_get, Option, Some, None, option_map}
+use Rattle.std.proofs.Common.{is_some, unwrap_or, Result, Ok, refl, sym, ap, ◌∙◌, subst, inl, inr, arith}
 use Rattle.std.specs.List.{list_all}
 use Rattle.std.proofs.lemmas.Bool.Decides.{nat_tests}
 use Rattle.std.proofs.lemmas.Bool.{and_parts}
@@ -10,7 +12,8 @@ use Rattle.ep_ast.specs.Mark.{union_word}
 use Rattle.ep_layout.specs.declared.types.Ty.TheVariants as rows
 use Rattle.ep_layout.specs.declared.types.LayoutStop.{LayoutStop}
 use Rattle.ep_layout.specs.SameTypes.{is_same_sign}
-use Rattle.ep_layout.specs.Table.{AggregateRow, Grows, MemberRow, Table, completed_with, declared, is_completed, is_type, is_union, laid_out, members_stop}
+use Rattle.ep_layout.specs.Table.{AggregateRow, Grows, MemberRow, Table, completed_with, declared, is_completed}
+use Rattle.ep_layout.specs.Table.{is_type, is_union, laid_out, members_stop}
 use Rattle.ep_layout.specs.Table.IsBuilt.{members_more}
 use Rattle.ep_layout.proofs.Options.{get_front, get_last, get_set, get_set_other}
 use Rattle.ep_layout.proofs.Laid.{completed_is, grows_with_members, with_members}
@@ -25,13 +28,20 @@ use Rattle.ep_typing.specs.Env.{Env, Scope, entry, tag_in, with_tag}
 use Rattle.ep_typing.specs.Names.{mentioned_words}
 use Rattle.ep_elaboration.specs.Declarators.{arrays_of, with_types}
 use Rattle.ep_elaboration.specs.Aggregates.{Named, body_of, closed, has_body, opened, tags_here, with_member}
-use Rattle.ep_elaboration_laws.specs.DeclaratorRules.{MeansBody, MeansMemberName, MeansMemberNames, MeansMembers, MeansSpecs, MeansWords, has_body as is_bodied, is_body, is_member_name, is_plain, is_words, more_member_names, no_member_names, no_more_members, one_member_more, one_word_more}
+use Rattle.ep_elaboration_laws.specs.DeclaratorRules.{MeansBody, MeansMemberName, MeansMemberNames, MeansMembers}
+use Rattle.ep_elaboration_laws.specs.DeclaratorRules.{MeansSpecs, MeansWords, has_body as is_bodied, is_body}
+use Rattle.ep_elaboration_laws.specs.DeclaratorRules.{is_member_name, is_plain, is_words, more_member_names}
+use Rattle.ep_elaboration_laws.specs.DeclaratorRules.{no_member_names, no_more_members, one_member_more}
+use Rattle.ep_elaboration_laws.specs.DeclaratorRules.{one_word_more}
 use Rattle.ep_well_formed_laws.specs.Numbers.{HasNumber, IsTable}
 use Rattle.ep_well_formed_laws.specs.Environments.{EachTag, IsDeclared, IsTyped}
 use Rattle.ep_well_formed_laws.proofs.Additions.{IsKnownBase, c_number_is, type_number_stays}
 use Rattle.ep_well_formed_laws.proofs.Objects.{AreLengths, arrays_come, bounds_are}
 use Rattle.ep_well_formed_laws.proofs.Scopes.{each_same, names_tagged, same_names, tag_entry_is, tag_push}
-use Rattle.ep_well_formed_laws.proofs.Mentions.{Declares, IsOpen, declares_mentions, declares_on, known_base, mentions_on, more_aggregates, more_types, same_rows_open, table_declared, table_mentioned, type_mentioned, with_table, words_known, words_mentioned, below_aggregate}
+use Rattle.ep_well_formed_laws.proofs.Mentions.{Declares, IsOpen, declares_mentions, declares_on, known_base}
+use Rattle.ep_well_formed_laws.proofs.Mentions.{mentions_on, more_aggregates, more_types, same_rows_open}
+use Rattle.ep_well_formed_laws.proofs.Mentions.{table_declared, table_mentioned, type_mentioned, with_table}
+use Rattle.ep_well_formed_laws.proofs.Mentions.{words_known, words_mentioned, below_aggregate}
 use Rattle.ep_well_formed_laws.proofs.Tests.{after, and_is, is_so, left_is, right_is, unless}
 use Rattle.ep_well_formed_laws.proofs.Values.{number_below}
 

@@ -1,5 +1,6 @@
 -- Statements fit where the table grows, and blocks and functions come.
-use Rattle.std.proofs.Common.{◌≡◌, ℕ, ◌<◌, Bool, true, false, ◌&&◌, not, List, [], ◌∷◌, ◌++◌, length, slice_get, Option, Some, None, is_some, nat_eq, refl, sym, ◌∙◌, inl, inr, arith}
+use Rattle.std.proofs.Common.{◌≡◌, ℕ, ◌<◌, Bool, true, false, ◌&&◌, not, List, [], ◌∷◌, ◌++◌, length, slice_get}
+use Rattle.std.proofs.Common.{Option, Some, None, is_some, nat_eq, refl, sym, ◌∙◌, inl, inr, arith}
 use Rattle.std.proofs.lemmas.Bool.{and_parts}
 use Rattle.ep_int.specs.declared.types.IntType.{IntType}
 use Rattle.ep_int.specs.declared.types.IntType.TheVariants.{U8}
@@ -10,7 +11,9 @@ use Rattle.ep_layout.specs.Table.{Grows, IsBuilt, Table, size}
 use Rattle.ep_core.specs.Program as core
 use Rattle.ep_core.specs.Program.{Block, Expr, Place}
 use Rattle.ep_core.specs.WellFormed as formed
-use Rattle.ep_core.specs.WellFormed.{Sort, can_take, has_scalar, has_sort, has_type, int_type_of, integer, is_address, is_int, is_test, is_tested, numbers_below, place_has, pointer_to as pointing, result_fits, simple_fits, some_type, sort_of, takes_input, takes_result}
+use Rattle.ep_core.specs.WellFormed.{Sort, can_take, has_scalar, has_sort, has_type, int_type_of, integer, is_address}
+use Rattle.ep_core.specs.WellFormed.{is_int, is_test, is_tested, numbers_below, place_has, pointer_to as pointing}
+use Rattle.ep_core.specs.WellFormed.{result_fits, simple_fits, some_type, sort_of, takes_input, takes_result}
 use Rattle.ep_core.proofs.Sorts.{either_is, never}
 use Rattle.ep_typing.specs.declared.types.CType.{CType}
 use Rattle.ep_typing.specs.Env.{Signature}
@@ -18,7 +21,8 @@ use Rattle.ep_elaboration_laws.proofs.Growing.{place_on, size_is, sort_on}
 use Rattle.ep_well_formed_laws.specs.Statements.{ArgumentsFit, CallFits, SimpleFits, StmtsFit, TakesResult, WhatFits}
 use Rattle.ep_well_formed_laws.proofs.Additions.{type_number_stays}
 use Rattle.ep_well_formed_laws.proofs.Mentions.{more_types}
-use Rattle.ep_well_formed_laws.proofs.Tests.{and_is, left_is, pointer_below, pointer_is, right_is, some_type_is, type_below}
+use Rattle.ep_well_formed_laws.proofs.Tests.{and_is, left_is, pointer_below, pointer_is, right_is, some_type_is}
+use Rattle.ep_well_formed_laws.proofs.Tests.{type_below}
 
 module _ (t u : Table) (g : Grows t u) (built : IsBuilt u) (bs more : List Block) where
   sort_stays : (seen : List ℕ) (e : Expr) (x : Sort) → has_sort t bs seen e x ≡ true

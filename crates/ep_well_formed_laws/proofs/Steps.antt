@@ -1,5 +1,6 @@
 -- How environments follow one another inside of a function: the table grows, blocks come, names come to the scopes.
-use Rattle.std.proofs.Common.{◌≡◌, ℕ, zero, suc, ◌<◌, Bool, true, List, [], ◌∷◌, ◌++◌, length, slice_get, Option, Some, refl, sym, ap, ◌∙◌, subst, inl, inr, arith, nat_eq}
+use Rattle.std.proofs.Common.{◌≡◌, ℕ, zero, suc, ◌<◌, Bool, true, List, [], ◌∷◌, ◌++◌, length, slice_get, Option}
+use Rattle.std.proofs.Common.{Some, refl, sym, ap, ◌∙◌, subst, inl, inr, arith, nat_eq}
 use Rattle.std.proofs.lemmas.Bool.Decides.{nat_tests}
 use Rattle.ep_int.specs.Memory.{contains}
 use Rattle.ep_layout.specs.Table.{Grows, Table}
@@ -10,7 +11,8 @@ use Rattle.ep_core.specs.Runs.{is_global}
 use Rattle.ep_core.proofs.Sorts.{either_is, never}
 use Rattle.ep_typing.specs.Env.{Env, Meaning, Scope, Signature, function, no_names, type_name, variable}
 use Rattle.ep_elaboration.specs.Statements.{block_of, blocks_of, entered, innermost, left, outer}
-use Rattle.ep_well_formed_laws.specs.Environments.{CanName, Covers, EachMeaning, EachName, EachTag, IsEnv, IsPlaced, IsTyped}
+use Rattle.ep_well_formed_laws.specs.Environments.{CanName, Covers, EachMeaning, EachName, EachTag, IsEnv, IsPlaced}
+use Rattle.ep_well_formed_laws.specs.Environments.{IsTyped}
 use Rattle.ep_well_formed_laws.specs.Statements.{StmtsFit, WhatFits}
 use Rattle.ep_well_formed_laws.proofs.Additions.{grows_on}
 use Rattle.ep_well_formed_laws.proofs.Scopes.{HaveNames, name_more, names_on}

@@ -1,5 +1,8 @@
 -- Stores, copies and calls are as their types say.
-use Rattle.std.proofs.Common.{◌≡◌, ℕ, ◌<◌, nat_le, nat_eq, Bool, true, false, cond, ◌&&◌, ◌||◌, not, List, [], ◌∷◌, length, map, slice_get, Option, Some, None, option_map, option_and_then, unwrap_or, is_some, Result, Ok, Err, refl, sym, ap, ◌∙◌, subst, ◌⊎◌, inl, inr, arith, ℤ, pos, negsuc}
+use Rattle.std.proofs.Common.{◌≡◌, ℕ, ◌<◌, nat_le, nat_eq, Bool, true, false, cond, ◌&&◌, ◌||◌, not, List, [], ◌∷◌}
+use Rattle.std.proofs.Common.{length, map, slice_get, Option, Some, None, option_map, option_and_then, unwrap_or}
+use Rattle.std.proofs.Common.{is_some, Result, Ok, Err, refl, sym, ap, ◌∙◌, subst, ◌⊎◌, inl, inr, arith, ℤ, pos}
+use Rattle.std.proofs.Common.{negsuc}
 use Rattle.std.proofs.lemmas.Bool.Decides.{nat_tests}
 use Rattle.std.proofs.lemmas.Bool.{and_parts}
 use Rattle.ep_int.specs.declared.types.IntType.{IntType}
@@ -9,27 +12,36 @@ use Rattle.ep_layout.specs.Table.{Table, size}
 use Rattle.ep_core.specs.Program as core
 use Rattle.ep_core.specs.Program.{Block, Expr, Place}
 use Rattle.ep_core.specs.WellFormed as formed
-use Rattle.ep_core.specs.WellFormed.{can_take, has_scalar, has_sort, has_type, integer, is_address, is_length, is_return, is_same_scalar, is_same_type, place_has, pointer_to as pointing, some_type, sort_of, takes_input, takes_result}
+use Rattle.ep_core.specs.WellFormed.{can_take, has_scalar, has_sort, has_type, integer, is_address, is_length}
+use Rattle.ep_core.specs.WellFormed.{is_return, is_same_scalar, is_same_type, place_has, pointer_to as pointing}
+use Rattle.ep_core.specs.WellFormed.{some_type, sort_of, takes_input, takes_result}
 use Rattle.ep_core.proofs.Sorts.{never}
 use Rattle.ep_typing.specs.declared.types.CType.{CType}
 use Rattle.ep_typing.specs.Results.{lowest, needed}
-use Rattle.ep_typing.specs.Types.{int_of, int_type, is_aggregate, is_array, is_integer, is_pointer, is_same, is_scalar, is_void, known_number, number_in, scalar_of, size_of_type, target, void_type}
+use Rattle.ep_typing.specs.Types.{int_of, int_type, is_aggregate, is_array, is_integer, is_pointer, is_same}
+use Rattle.ep_typing.specs.Types.{is_scalar, is_void, known_number, number_in, scalar_of, size_of_type, target}
+use Rattle.ep_typing.specs.Types.{void_type}
 use Rattle.ep_typing.specs.Env.{Signature}
 use Rattle.ep_typing.specs.Constant.{constant_of, count_in, count_of}
-use Rattle.ep_typing.specs.Operand.{Operand, Value, are_scalars, fitted, function, is_mixed, place, plain_value, value, value_of}
+use Rattle.ep_typing.specs.Operand.{Operand, Value, are_scalars, fitted, function, is_mixed, place, plain_value}
+use Rattle.ep_typing.specs.Operand.{value, value_of}
 use Rattle.ep_typing.specs.Operators.{bare, operated}
 use Rattle.ep_typing.specs.Calls.{all_passed, as_any_pointer, as_length, of_type, passed}
-use Rattle.ep_typing.specs.Typing.{assignable, assigned, copied, dest, moves_aggregate, not_stored, put, stored, taken, updated}
+use Rattle.ep_typing.specs.Typing.{assignable, assigned, copied, dest, moves_aggregate, not_stored, put, stored}
+use Rattle.ep_typing.specs.Typing.{taken, updated}
 use Rattle.ep_well_formed_laws.specs.Numbers.{HasNumber, IsMade, IsTable, type_number}
 use Rattle.ep_well_formed_laws.specs.Environments.{ArePassed, IsPassed}
 use Rattle.ep_well_formed_laws.specs.Operands.{Computes, OperandFits, PlaceFits, ValueFits, ValuesFit}
 use Rattle.ep_well_formed_laws.specs.Statements.{ArgumentsFit, SimpleFits, TakesResult}
 use Rattle.ep_well_formed_laws.proofs.Tables.{number_at, target_number}
 use Rattle.ep_well_formed_laws.proofs.Extents.{same_size}
-use Rattle.ep_well_formed_laws.proofs.Tests.{after, and_is, both_not, either_way, given, if_not, if_so, is_so, left_is, needed_is, right_is, same_self, some_type_is, unless}
-use Rattle.ep_well_formed_laws.proofs.Values.{bare_is, fitted_fits, null_is, number_below, same_is, scalar_is, self_may_be, target_made}
+use Rattle.ep_well_formed_laws.proofs.Tests.{after, and_is, both_not, either_way, given, if_not, if_so, is_so}
+use Rattle.ep_well_formed_laws.proofs.Tests.{left_is, needed_is, right_is, same_self, some_type_is, unless}
+use Rattle.ep_well_formed_laws.proofs.Values.{bare_is, fitted_fits, null_is, number_below, same_is, scalar_is}
+use Rattle.ep_well_formed_laws.proofs.Values.{self_may_be, target_made}
 use Rattle.ep_well_formed_laws.proofs.Operators.{operated_fits}
-use Rattle.ep_well_formed_laws.proofs.Parts.{aggregate_not_void, aggregate_row, integer_row, numbered_if, scalar_not_void, value_fits}
+use Rattle.ep_well_formed_laws.proofs.Parts.{aggregate_not_void, aggregate_row, integer_row, numbered_if}
+use Rattle.ep_well_formed_laws.proofs.Parts.{scalar_not_void, value_fits}
 
 -- ---- scalars of the table
 

@@ -1,5 +1,7 @@
 -- How the tests of well-formed programs are passed.
-use Rattle.std.proofs.Common.{◌≡◌, ℕ, zero, suc, ◌-◌, ◌<◌, nat_eq, Bool, true, false, true≢false, cond, ◌&&◌, ◌||◌, not, if◌then◌else◌, List, [], ◌∷◌, ◌++◌, length, slice_get, Option, Some, None, Result, Ok, Err, refl, sym, ap, ◌∙◌, subst, ◌⊎◌, inl, inr, arith, eq-zero-or-pos}
+use Rattle.std.proofs.Common.{◌≡◌, ℕ, zero, suc, ◌-◌, ◌<◌, nat_eq, Bool, true, false, true≢false, cond, ◌&&◌, ◌||◌}
+use Rattle.std.proofs.Common.{not, if◌then◌else◌, List, [], ◌∷◌, ◌++◌, length, slice_get, Option, Some, None, Result}
+use Rattle.std.proofs.Common.{Ok, Err, refl, sym, ap, ◌∙◌, subst, ◌⊎◌, inl, inr, arith, eq-zero-or-pos}
 use Rattle.std.specs.List.{list_any, filter}
 use Rattle.std.proofs.lemmas.Bool.Decides.{nat_tests}
 use Rattle.std.proofs.lemmas.Bool.{and_parts, eqb-true}
@@ -11,8 +13,11 @@ use Rattle.ep_int.specs.declared.types.Scalar.{Scalar}
 use Rattle.ep_int.specs.declared.types.Scalar.TheVariants.{Int as Number}
 use Rattle.ep_layout.specs.declared.types.Ty.{Ty}
 use Rattle.ep_layout.specs.Table.{Table}
-use Rattle.ep_core.specs.Program.{Block, Expr, const, null_value, load, addr_of, binary, convert, compare, ptr_compare, logical_and, logical_or, logical_not, conditional, ptr_add, cast}
-use Rattle.ep_core.specs.WellFormed.{Sort, integer, pointer_to, has_scalar, has_sort, int_type_of, is_int, is_pointer, is_same_type, is_sort, is_test, numbers_below, place_has, right_type, some_type, sort_of}
+use Rattle.ep_core.specs.Program.{Block, Expr, const, null_value, load, addr_of, binary, convert, compare}
+use Rattle.ep_core.specs.Program.{ptr_compare, logical_and, logical_or, logical_not, conditional, ptr_add, cast}
+use Rattle.ep_core.specs.WellFormed.{Sort, integer, pointer_to, has_scalar, has_sort, int_type_of, is_int, is_pointer}
+use Rattle.ep_core.specs.WellFormed.{is_same_type, is_sort, is_test, numbers_below, place_has, right_type, some_type}
+use Rattle.ep_core.specs.WellFormed.{sort_of}
 use Rattle.ep_typing.specs.Results.{◌>>=◌, needed}
 use Rattle.ep_core.proofs.Sorts.{either_is, loaded_scalar, never, same_type, type_where}
 

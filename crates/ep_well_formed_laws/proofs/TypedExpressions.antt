@@ -8,8 +8,10 @@ use Rattle.ep_typing.specs.Env.{Env}
 use Rattle.ep_typing.specs.Names.{named_type}
 use Rattle.ep_typing.specs.Operand.{Operand, Value, value_of}
 use Rattle.ep_typing.specs.Operators.{chosen, operated}
-use Rattle.ep_typing.specs.Parts.{an_operand, casted, indexable, indexed, named, numbered, selected, selected_through, sized, type_sized, unary_typed}
-use Rattle.ep_typing.specs.Typing.{cast_to, chosen_from, indexed_by, joined, read_first, selected_behind, typed, typed_all}
+use Rattle.ep_typing.specs.Parts.{an_operand, casted, indexable, indexed, named, numbered, selected, selected_through}
+use Rattle.ep_typing.specs.Parts.{sized, type_sized, unary_typed}
+use Rattle.ep_typing.specs.Typing.{cast_to, chosen_from, indexed_by, joined, read_first, selected_behind, typed}
+use Rattle.ep_typing.specs.Typing.{typed_all}
 use Rattle.ep_typing_laws.proofs.Order.{at_ok, bind_ok}
 use Rattle.ep_well_formed_laws.specs.Numbers.{HasNumber}
 use Rattle.ep_well_formed_laws.specs.Environments.{CanName, Covers, IsEnv, IsPlaced}
@@ -18,7 +20,9 @@ use Rattle.ep_well_formed_laws.proofs.Mentions.{AllThere, AreThere, mentions_non
 use Rattle.ep_well_formed_laws.proofs.Scopes.{looked_up}
 use Rattle.ep_well_formed_laws.proofs.Tests.{after, either_way}
 use Rattle.ep_well_formed_laws.proofs.Operators.{chosen_fits, operated_fits}
-use Rattle.ep_well_formed_laws.proofs.Parts.{casted_fits, indexable_fits, indexable_is, indexed_fits, named_fits, numbered_fits, operand_fits, selected_fits, selected_through_fits, sized_fits, type_sized_fits, unary_typed_fits, value_fits, IsIndexed}
+use Rattle.ep_well_formed_laws.proofs.Parts.{casted_fits, indexable_fits, indexable_is, indexed_fits, named_fits}
+use Rattle.ep_well_formed_laws.proofs.Parts.{numbered_fits, operand_fits, selected_fits, selected_through_fits}
+use Rattle.ep_well_formed_laws.proofs.Parts.{sized_fits, type_sized_fits, unary_typed_fits, value_fits, IsIndexed}
 
 module _ (G : Env) (seen : List ℕ) (h : IsEnv G) (covers : Covers seen G) (some : 0 < length G.types.types) where
   abbrev O : Operand → Type 0

@@ -1,5 +1,7 @@
 -- Values as operands of operators: numbers, addresses, conversions.
-use Rattle.std.proofs.Common.{◌≡◌, ℕ, zero, suc, ◌+◌, ◌-◌, ◌<◌, nat_lt, ◌==◌, Bool, true, false, ◌&&◌, not, if◌then◌else◌, List, length, option_and_then, Option, Some, None, Ok, refl, sym, ap, ◌∙◌, subst, ◌⊎◌, inl, inr, arith}
+use Rattle.std.proofs.Common.{◌≡◌, ℕ, zero, suc, ◌+◌, ◌-◌, ◌<◌, nat_lt, ◌==◌, Bool, true, false, ◌&&◌, not}
+use Rattle.std.proofs.Common.{if◌then◌else◌, List, length, option_and_then, Option, Some, None, Ok, refl, sym, ap}
+use Rattle.std.proofs.Common.{◌∙◌, subst, ◌⊎◌, inl, inr, arith}
 use Rattle.std.proofs.lemmas.Bool.Decides.{nat_tests}
 use Rattle.std.proofs.lemmas.Bool.{and_parts, eqb-true}
 use Rattle.ep_int.specs.declared.types.IntType.{IntType}
@@ -8,19 +10,23 @@ use Rattle.ep_layout.specs.Table.{Table, number_of}
 use Rattle.ep_core.specs.Program as core
 use Rattle.ep_core.specs.Program.{Block, Expr}
 use Rattle.ep_core.specs.WellFormed as formed
-use Rattle.ep_core.specs.WellFormed.{has_sort, integer, is_same_type, pointer_to as pointing, int_type_of, is_test, place_has, is_int}
+use Rattle.ep_core.specs.WellFormed.{has_sort, integer, is_same_type, pointer_to as pointing, int_type_of, is_test}
+use Rattle.ep_core.specs.WellFormed.{place_has, is_int}
 use Rattle.ep_core.proofs.Sorts.{never, same_type}
 use Rattle.ep_typing.specs.declared.types.Base.{Base}
 use Rattle.ep_typing.specs.declared.types.Base.TheVariants as bases
 use Rattle.ep_typing.specs.declared.types.CType.{CType}
-use Rattle.ep_typing.specs.Types.{int_of, int_type, is_int_base, is_integer, is_pointer, is_same, is_same_base, is_scalar, pointer_to, target, void_pointer}
-use Rattle.ep_typing.specs.Operand.{Value, as_pointer, as_type, are_scalars, converted, fitted, is_foreign, is_mixed, tested}
+use Rattle.ep_typing.specs.Types.{int_of, int_type, is_int_base, is_integer, is_pointer, is_same, is_same_base}
+use Rattle.ep_typing.specs.Types.{is_scalar, pointer_to, target, void_pointer}
+use Rattle.ep_typing.specs.Operand.{Value, as_pointer, as_type, are_scalars, converted, fitted, is_foreign, is_mixed}
+use Rattle.ep_typing.specs.Operand.{tested}
 use Rattle.ep_typing.specs.Operators.{bare}
 use Rattle.ep_well_formed_laws.specs.Numbers.{HasNumber, IsMade, may_be, number_behind, number_of_base, type_number}
 use Rattle.ep_well_formed_laws.specs.Operands.{Computes, ValueFits}
 use Rattle.ep_well_formed_laws.proofs.Tables.{row_at, target_number, there}
 use Rattle.ep_well_formed_laws.proofs.Additions.{base_below}
-use Rattle.ep_well_formed_laws.proofs.Tests.{and_is, both_not, either_way, given, int_is, is_so, number_tested, pointer_is, pointer_tested, same_self, unless}
+use Rattle.ep_well_formed_laws.proofs.Tests.{and_is, both_not, either_way, given, int_is, is_so, number_tested}
+use Rattle.ep_well_formed_laws.proofs.Tests.{pointer_is, pointer_tested, same_self, unless}
 
 -- ---- types
 

@@ -1,5 +1,7 @@
 -- What whole statements mean is as the types say.
-use Rattle.std.proofs.Common.{◌≡◌, ℕ, ◌<◌, ◌==◌, Bool, true, false, true≢false, ◌&&◌, not, if◌then◌else◌, List, [], ◌∷◌, length, map, slice_get, Option, Some, None, unwrap_or, Ok, refl, sym, ap, ◌∙◌, subst, ◌⊎◌, inl, inr}
+use Rattle.std.proofs.Common.{◌≡◌, ℕ, ◌<◌, ◌==◌, Bool, true, false, true≢false, ◌&&◌, not, if◌then◌else◌, List, []}
+use Rattle.std.proofs.Common.{◌∷◌, length, map, slice_get, Option, Some, None, unwrap_or, Ok, refl, sym, ap, ◌∙◌}
+use Rattle.std.proofs.Common.{subst, ◌⊎◌, inl, inr}
 use Rattle.ep_int.specs.declared.types.IntType.{IntType}
 use Rattle.ep_int.specs.declared.types.IntType.TheVariants.{I32, U8}
 use Rattle.ep_ast.specs.Expression as source
@@ -12,19 +14,26 @@ use Rattle.ep_core.proofs.Sorts.{never}
 use Rattle.ep_typing.specs.declared.types.CType.{CType}
 use Rattle.ep_typing.specs.Types.{int_type, void_type}
 use Rattle.ep_typing.specs.Env.{Env, Signature}
-use Rattle.ep_typing.specs.Operand.{Callee, Operand, Value, copy_bytes, declared, fill_bytes, function, input, output, place, read_bytes, value, write_bytes}
-use Rattle.ep_typing.specs.Calls.{Called, Parameter, a_call, a_length, all_passed, an_action, an_input, any_pointer, called, called_into, done_by, of_type, parameters, passed, result_of, signature}
-use Rattle.ep_typing.specs.Typing.{Right, a_result, an_object, assigned, assigned_from, one, operator_of, taken, updated}
+use Rattle.ep_typing.specs.Operand.{Callee, Operand, Value, copy_bytes, declared, fill_bytes, function, input, output}
+use Rattle.ep_typing.specs.Operand.{place, read_bytes, value, write_bytes}
+use Rattle.ep_typing.specs.Calls.{Called, Parameter, a_call, a_length, all_passed, an_action, an_input, any_pointer}
+use Rattle.ep_typing.specs.Calls.{called, called_into, done_by, of_type, parameters, passed, result_of, signature}
+use Rattle.ep_typing.specs.Typing.{Right, a_result, an_object, assigned, assigned_from, one, operator_of, taken}
+use Rattle.ep_typing.specs.Typing.{updated}
 use Rattle.ep_typing_laws.specs.Rules.{HaveValues, no_values, more_values}
 use Rattle.ep_typing_laws.proofs.Order.{meant}
-use Rattle.ep_elaboration_laws.specs.WholeRules.{MeansAssignment, MeansCall, MeansRight, MeansStep, MeansWhole, is_assignment, is_call, is_decrement, is_increment, is_operand, is_result, is_step, is_test as is_tested_value, is_value, is_whole_assignment, is_whole_call, is_whole_step}
+use Rattle.ep_elaboration_laws.specs.WholeRules.{MeansAssignment, MeansCall, MeansRight, MeansStep, MeansWhole}
+use Rattle.ep_elaboration_laws.specs.WholeRules.{is_assignment, is_call, is_decrement, is_increment, is_operand}
+use Rattle.ep_elaboration_laws.specs.WholeRules.{is_result, is_step, is_test as is_tested_value, is_value}
+use Rattle.ep_elaboration_laws.specs.WholeRules.{is_whole_assignment, is_whole_call, is_whole_step}
 use Rattle.ep_well_formed_laws.specs.Environments.{Covers, IsEnv, IsPassed}
 use Rattle.ep_well_formed_laws.specs.Numbers.{IsTable}
 use Rattle.ep_well_formed_laws.specs.Operands.{IsCallee, OperandFits, ValueFits, ValuesFit}
 use Rattle.ep_well_formed_laws.specs.Statements.{ArgumentsFit, TakesResult, WhatFits}
 use Rattle.ep_well_formed_laws.proofs.Mentions.{AllThere, AreThere}
 use Rattle.ep_well_formed_laws.proofs.Parts.{value_fits}
-use Rattle.ep_well_formed_laws.proofs.Stores.{IsDone, any_pointer_is, arguments_fit, assigned_fits, counted, input_taken, lowest_is, no_void_taken, taken_fits, updated_fits}
+use Rattle.ep_well_formed_laws.proofs.Stores.{IsDone, any_pointer_is, arguments_fit, assigned_fits, counted}
+use Rattle.ep_well_formed_laws.proofs.Stores.{input_taken, lowest_is, no_void_taken, taken_fits, updated_fits}
 use Rattle.ep_well_formed_laws.proofs.Tests.{after, and_is, either_way}
 use Rattle.ep_well_formed_laws.proofs.TypedExpressions.{read_first_fits, typed_fits}
 use Rattle.ep_well_formed_laws.proofs.Values.{fitted_fits, int_fits, tested_is}

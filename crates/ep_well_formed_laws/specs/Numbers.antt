@@ -1,5 +1,6 @@
 -- The number that a type of C has in a table, if it is there.
-use Rattle.std.specs.Prelude.{◌≡◌, ◌⊎◌, ℕ, zero, suc, Bool, true, List, ◌∷◌, nat_eq, slice_get, Option, Some, None, option_and_then}
+use Rattle.std.specs.Prelude.{◌≡◌, ◌⊎◌, ℕ, zero, suc, Bool, true, List, ◌∷◌, nat_eq, slice_get, Option, Some, None}
+use Rattle.std.specs.Prelude.{option_and_then}
 use Rattle.ep_layout.specs.declared.types.Ty.{Ty}
 use Rattle.ep_layout.specs.declared.types.Ty.TheVariants as rows
 use Rattle.ep_layout.specs.Table.{Table, AggregateRow, MemberRow, IsBuilt, number_of}

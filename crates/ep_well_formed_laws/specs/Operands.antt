@@ -5,7 +5,8 @@ use Rattle.ep_core.specs.Program as core
 use Rattle.ep_core.specs.WellFormed.{has_sort, integer, place_has, pointer_to}
 use Rattle.ep_typing.specs.declared.types.CType.{CType}
 use Rattle.ep_typing.specs.Types.{int_of, is_integer, is_pointer, target}
-use Rattle.ep_typing.specs.Operand.{Callee, Operand, Value, copy_bytes, declared, fill_bytes, function, input, output, place, read_bytes, value, write_bytes}
+use Rattle.ep_typing.specs.Operand.{Callee, Operand, Value, copy_bytes, declared, fill_bytes, function, input, output}
+use Rattle.ep_typing.specs.Operand.{place, read_bytes, value, write_bytes}
 use Rattle.ep_typing.specs.Env.{Signature}
 use Rattle.ep_well_formed_laws.specs.Numbers.{IsMade, may_be, type_number}
 

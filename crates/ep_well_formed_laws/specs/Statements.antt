@@ -1,10 +1,12 @@
 -- Statements are as their types say, among the functions that were declared; what they call need not have a body yet.
-use Rattle.std.specs.Prelude.{◌≡◌, ℕ, Bool, true, false, List, [], ◌∷◌, ◌++◌, slice_get, option_to_list, Option, Some, None}
+use Rattle.std.specs.Prelude.{◌≡◌, ℕ, Bool, true, false, List, [], ◌∷◌, ◌++◌, slice_get, option_to_list, Option, Some}
+use Rattle.std.specs.Prelude.{None}
 use Rattle.std.specs.List.{list_all}
 use Rattle.ep_core.specs.Exec.{frame_of}
 use Rattle.ep_layout.specs.Table.{Table}
 use Rattle.ep_core.specs.Program as core
-use Rattle.ep_core.specs.WellFormed.{are_plain, has_type, holds_scalar, is_tested, result_type, simple_fits, takes_result}
+use Rattle.ep_core.specs.WellFormed.{are_plain, has_type, holds_scalar, is_tested, result_type, simple_fits}
+use Rattle.ep_core.specs.WellFormed.{takes_result}
 use Rattle.ep_typing.specs.declared.types.CType.{CType}
 use Rattle.ep_typing.specs.Types.{is_scalar, is_void}
 use Rattle.ep_typing.specs.Env.{Signature}

@@ -1,7 +1,8 @@
 //! That what has a meaning is well formed, apart from any order of work.
 #![tactic(auto)]
 
-ghost use Rattle.ep_well_formed_laws.specs.Laws.{BlocksFit, DeclarationsFit, DefinitionsFit, ExpressionsFit, MentionsKeep, WholeStatementsFit};
+ghost use Rattle.ep_well_formed_laws.specs.Laws.{BlocksFit, DeclarationsFit, DefinitionsFit, ExpressionsFit};
+ghost use Rattle.ep_well_formed_laws.specs.Laws.{MentionsKeep, WholeStatementsFit};
 
 /// Expressions compute what their types say.
 pub fn expressions()

@@ -9,7 +9,8 @@ use Rattle.ep_int.specs.Arith.{int_eq, IsOfSomeType}
 use Rattle.ep_range_laws.specs.Ranges.{IsRange, LiesIn, Encloses, nearest_number}
 use Rattle.ep_domain.specs.Domain.{Ops, Holds, Lawful}
 use Rattle.ep_domain.specs.Common.{common_part, common_range, is_shared, may_pair}
-use Rattle.ep_range_laws.proofs.Comparisons.{le_self, le_antisym, le_trans, from_lt_true, from_lt_false, between_true, from_between}
+use Rattle.ep_range_laws.proofs.Comparisons.{le_self, le_antisym, le_trans, from_lt_true, from_lt_false, between_true}
+use Rattle.ep_range_laws.proofs.Comparisons.{from_between}
 use Rattle.ep_range_laws.proofs.Types.{least_negative, greatest_positive}
 
 abbrev pub pair : ℤ → ℤ → ℤ × ℤ
@@ -19,12 +20,16 @@ pub same_pair : (a b c d : ℤ) → a ≡ c → b ≡ d → pair a b ≡ pair c 
 same_pair a b c d e f = ap (λ x. pair x b) e ∙ ap (pair c) f
 
 pub common_lies : (r s : ℤ × ℤ) (z : ℤ) → LiesIn r z → LiesIn s z → LiesIn (common_part r s) z
-common_lies r s z h k = let a = h.low in let b = h.high in let c = k.low in let d = k.high in record { low = omega (arith, ints, clamps); high = omega (arith, ints, clamps) }
+common_lies r s z h k = let a = h.low in let b = h.high in let c = k.low in let d = k.high in
+    record { low = omega (arith, ints, clamps); high = omega (arith, ints, clamps) }
 
 pub from_common : (r s : ℤ × ℤ) (z : ℤ) → LiesIn (common_part r s) z → LiesIn r z × LiesIn s z
 from_common r s z h =
-    let a = h.low in let b = h.high in
-    (record { low = omega (arith, ints, clamps); high = omega (arith, ints, clamps) }, record { low = omega (arith, ints, clamps); high = omega (arith, ints, clamps) })
+    let a = h.low in let b = h.high in (
+      record { low = omega (arith, ints, clamps); high = omega (arith, ints, clamps) },
+      record
+          { low = omega (arith, ints, clamps); high = omega (arith, ints, clamps) },
+    )
 
 -- one number alone
 pub same_ends : (e : ℤ × ℤ) (v : ℤ) → LiesIn e v → Encloses (pair v v) e → e ≡ pair v v
@@ -59,7 +64,8 @@ module _ {A B : Type 0} (d : Ops A) (e : Ops B) (law : Lawful d) (too : Lawful e
       by_test false n =
           let k = from_lt_false r.0 r.1 n in
           let l : z ≡ r.0 = le_antisym z r.0 (le_trans _ _ _ h.high k) h.low in
-          or_right (int_lt r.0 r.1) _ (and_from _ _ (eq_true r.0 r.1 (le_antisym _ _ (le_trans _ _ _ h.low h.high) k)) (and_from _ _ (subst (Holds d a) l p) (subst (Holds e b) l q)))
+          or_right (int_lt r.0 r.1) _ (and_from _ _ (eq_true r.0 r.1 (le_antisym _ _ (le_trans _ _ _ h.low h.high) k))
+          (and_from _ _ (subst (Holds d a) l p) (subst (Holds e b) l q)))
 
   pub common_holds : (a : A) (b : B) (z : ℤ) → Holds d a z → Holds e b z → LiesIn (common_range d e a b) z
   common_holds a b z p q = common_lies _ _ z (law.range_encloses a z p) (too.range_encloses b z q)
@@ -75,7 +81,8 @@ module _ {A B : Type 0} (d : Ops A) (e : Ops B) (law : Lawful d) (too : Lawful e
   singles_shared v h = held_shared _ _ v (law.single_holds v h) (too.single_holds v h)
 
   -- of a pair of which the range is one number, both parts hold it
-  pub shared_single : (a : A) (b : B) (v : ℤ) → may_pair d e a b ≡ true → common_range d e a b ≡ pair v v → Holds d a v × Holds e b v
+  pub shared_single : (a : A) (b : B) (v : ℤ) → may_pair d e a b ≡ true → common_range d e a b ≡ pair v v →
+      Holds d a v × Holds e b v
   shared_single a b v m n = by_cases (or_cases _ _ m)
     where
       first : (common_range d e a b).0 ≡ v
@@ -87,13 +94,17 @@ module _ {A B : Type 0} (d : Ops A) (e : Ops B) (law : Lawful d) (too : Lawful e
       not_below : (l h : ℤ) → l ≡ v → h ≡ v → int_lt l h ≡ true → ⊥
       not_below l h d e k = let i = from_lt_true l h k in omega (arith, ints)
 
-      by_cases : (int_lt (common_range d e a b).0 (common_range d e a b).1 ≡ true) ⊎ ((int_eq (common_range d e a b).0 (common_range d e a b).1 && (d.holds a (common_range d e a b).0 && e.holds b (common_range d e a b).0)) ≡ true) → Holds d a v × Holds e b v
+      by_cases : (int_lt (common_range d e a b).0 (common_range d e a b).1 ≡ true)
+          ⊎ ((int_eq (common_range d e a b).0 (common_range d e a b).1 &&
+          (d.holds a (common_range d e a b).0 && e.holds b (common_range d e a b).0)) ≡ true) → Holds d a v
+          × Holds e b v
       by_cases (inl h) = absurd (not_below _ _ first second h)
       by_cases (inr h) =
           let q = and_parts _ _ (and_parts (int_eq (common_range d e a b).0 (common_range d e a b).1) _ h).1 in
           (subst (Holds d a) first q.0, subst (Holds e b) first q.1)
 
-  pub shared_ends : (a : A) (b : B) → may_pair d e a b ≡ true → IsRange (common_range d e a b).0 (common_range d e a b).1
+  pub shared_ends : (a : A) (b : B) → may_pair d e a b ≡ true →
+      IsRange (common_range d e a b).0 (common_range d e a b).1
   shared_ends a b m =
       let i = law.range_ends a in let j = too.range_ends b in
       let k = i.above in let l = i.below in let n = j.above in let o = j.below in
@@ -106,9 +117,14 @@ module _ {A B : Type 0} (d : Ops A) (e : Ops B) (law : Lawful d) (too : Lawful e
       below : (a b : ℤ) → a <ℤ b → a ≤ℤ b
       below a b h = omega (arith, ints)
 
-      by_cases : (int_lt (common_range d e a b).0 (common_range d e a b).1 ≡ true) ⊎ ((int_eq (common_range d e a b).0 (common_range d e a b).1 && (d.holds a (common_range d e a b).0 && e.holds b (common_range d e a b).0)) ≡ true) → (common_range d e a b).0 ≤ℤ (common_range d e a b).1
+      by_cases : (int_lt (common_range d e a b).0 (common_range d e a b).1 ≡ true)
+          ⊎ ((int_eq (common_range d e a b).0 (common_range d e a b).1 &&
+          (d.holds a (common_range d e a b).0 && e.holds b (common_range d e a b).0)) ≡ true) →
+          (common_range d e a b).0 ≤ℤ (common_range d e a b).1
       by_cases (inl h) = below (common_range d e a b).0 (common_range d e a b).1 (from_lt_true _ _ h)
-      by_cases (inr h) = let i = from_eq _ _ (and_parts (int_eq (common_range d e a b).0 (common_range d e a b).1) _ h).0 in subst (λ x. (common_range d e a b).0 ≤ℤ x) i (le_self _)
+      by_cases (inr h) = let i = from_eq _ _
+          (and_parts (int_eq (common_range d e a b).0 (common_range d e a b).1) _ h).0 in
+          subst (λ x. (common_range d e a b).0 ≤ℤ x) i (le_self _)
 
   -- the parts of a pair, widened, are those of a pair
   pub widened_shared : (a c : A) (b f : B) → may_pair d e a b ≡ true → may_pair d e (d.widen a c) (e.widen b f) ≡ true
@@ -125,7 +141,12 @@ module _ {A B : Type 0} (d : Ops A) (e : Ops B) (law : Lawful d) (too : Lawful e
       by_test false n =
           let k = from_lt_false r.0 r.1 n in
           let i = shared_ends a b m in
-          let low : (common_range d e a b).0 ≡ r.0 = le_antisym _ _ (le_trans _ _ _ i.ordered (le_trans _ _ _ encloses.high k)) encloses.low in
-          let high : (common_range d e a b).1 ≡ r.0 = le_antisym _ _ (le_trans _ _ _ encloses.high k) (le_trans _ _ _ encloses.low i.ordered) in
+          let low : (common_range d e a b).0 ≡ r.0 =
+          le_antisym _ _ (le_trans _ _ _ i.ordered (le_trans _ _ _ encloses.high k)) encloses.low in
+          let high : (common_range d e a b).1 ≡ r.0 =
+          le_antisym _ _ (le_trans _ _ _ encloses.high k) (le_trans _ _ _ encloses.low i.ordered) in
           let h = shared_single a b r.0 m (same_pair _ _ _ _ low high) in
-          or_right (int_lt r.0 r.1) _ (and_from _ _ (eq_true r.0 r.1 (le_antisym _ _ (le_trans _ _ _ encloses.low (le_trans _ _ _ i.ordered encloses.high)) k)) (and_from _ _ (law.widen_left _ _ _ h.0) (too.widen_left _ _ _ h.1)))
+          or_right (int_lt r.0 r.1) _ (and_from _ _
+          (eq_true r.0 r.1 (le_antisym _ _
+          (le_trans _ _ _ encloses.low (le_trans _ _ _ i.ordered encloses.high)) k))
+          (and_from _ _ (law.widen_left _ _ _ h.0) (too.widen_left _ _ _ h.1)))

@@ -1,4 +1,5 @@
-use Rattle.ep_elaboration_laws.proofs.GivenOrder.{means_declaration, meant_declaration, refused_declaration, offended_declaration}
+use Rattle.ep_elaboration_laws.proofs.GivenOrder.{means_declaration, meant_declaration, refused_declaration}
+use Rattle.ep_elaboration_laws.proofs.GivenOrder.{offended_declaration}
 use Rattle.ep_elaboration_laws.proofs.declarations.Goals as goal
 
 pub returns : goal.returns

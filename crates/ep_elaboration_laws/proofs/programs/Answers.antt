@@ -1,4 +1,5 @@
-use Rattle.ep_elaboration_laws.proofs.ProgramOrder.{means_elaborated, meant_elaborated, refused_elaborated, offended_elaborated}
+use Rattle.ep_elaboration_laws.proofs.ProgramOrder.{means_elaborated, meant_elaborated, refused_elaborated}
+use Rattle.ep_elaboration_laws.proofs.ProgramOrder.{offended_elaborated}
 use Rattle.ep_elaboration_laws.proofs.Meanings.{one_meaning, one_of_both, not_both}
 use Rattle.ep_elaboration_laws.proofs.programs.Goals as goal
 

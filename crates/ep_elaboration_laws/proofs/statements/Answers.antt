@@ -1,4 +1,5 @@
-use Rattle.ep_elaboration_laws.proofs.StatementOrder.{means_statement, meant_statement, refused_statement, offended_statement}
+use Rattle.ep_elaboration_laws.proofs.StatementOrder.{means_statement, meant_statement, refused_statement}
+use Rattle.ep_elaboration_laws.proofs.StatementOrder.{offended_statement}
 use Rattle.ep_elaboration_laws.proofs.statements.Goals as goal
 
 pub returns : goal.returns

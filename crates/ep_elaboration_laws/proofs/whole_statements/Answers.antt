@@ -1,4 +1,5 @@
-use Rattle.ep_elaboration_laws.proofs.WholeOrder.{means_whole_statement, meant_whole_statement, refused_whole_statement, offended_whole_statement}
+use Rattle.ep_elaboration_laws.proofs.WholeOrder.{means_whole_statement, meant_whole_statement}
+use Rattle.ep_elaboration_laws.proofs.WholeOrder.{refused_whole_statement, offended_whole_statement}
 use Rattle.ep_elaboration_laws.proofs.whole_statements.Goals as goal
 
 pub returns : goal.returns

@@ -1,6 +1,7 @@
 //! The bodies of aggregates.
 
-ghost use Rattle.std.specs.Prelude.{◌≡◌, ◌<◌, ◌≤◌, ◌^◌, [], ◌∷◌, ◌++◌, max, Some, None, IsTrue, IfOk, IfErr, OnOk, OnErr, is_some, length, option_map};
+ghost use Rattle.std.specs.Prelude.{◌≡◌, ◌<◌, ◌≤◌, ◌^◌, [], ◌∷◌, ◌++◌, max, Some, None, IsTrue, IfOk, IfErr, OnOk};
+ghost use Rattle.std.specs.Prelude.{OnErr, is_some, length, option_map};
 ghost use Rattle.std.specs.List.{list_all};
 ghost use Rattle.ep_layout.specs.Layout.{most_bytes};
 ghost use Rattle.ep_layout.specs.Table as table;

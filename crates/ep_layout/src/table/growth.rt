@@ -1,6 +1,7 @@
 //! How a table grows.
 
-ghost use Rattle.std.specs.Prelude.{◌≡◌, ◌<◌, ◌≤◌, ◌^◌, Some, None, IsTrue, IsFalse, IsOk, IsSome, IfSome, IfOk, IfErr, OnOk, OnErr, length};
+ghost use Rattle.std.specs.Prelude.{◌≡◌, ◌<◌, ◌≤◌, ◌^◌, Some, None, IsTrue, IsFalse, IsOk, IsSome, IfSome, IfOk};
+ghost use Rattle.std.specs.Prelude.{IfErr, OnOk, OnErr, length};
 ghost use Rattle.std.specs.List.{list_all};
 ghost use Rattle.ep_layout.specs.Table as table;
 ghost use Rattle.ep_layout.specs.Extents.{IsExtent, kept_extent};

@@ -1,4 +1,5 @@
-use Rattle.std.proofs.Common.{◌≡◌, ◌<◌, ◌≢◌, length, arith, ap, ◌∙◌, below_more, slice_set, get_or, get_or-set_same, get_or-set_other, length-set}
+use Rattle.std.proofs.Common.{◌≡◌, ◌<◌, ◌≢◌, length, arith, ap, ◌∙◌, below_more, slice_set, get_or, get_or-set_same}
+use Rattle.std.proofs.Common.{get_or-set_other, length-set}
 use Rattle.ep_int.specs.Encoding.{byte_of, place}
 use Rattle.ep_bytes.proofs.numbers.encode.Goals as goal
 

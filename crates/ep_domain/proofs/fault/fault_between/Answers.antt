@@ -5,7 +5,8 @@ use Rattle.ep_int.specs.Types.{is_signed}
 use Rattle.ep_int.specs.declared.types.BinOp.TheVariants.{Add, Sub, Mul, Div, Rem, Shl}
 use Rattle.ep_range_laws.specs.Faults.{may_fault, may_not_shift, fault_between}
 use Rattle.ep_range_laws.proofs.Types.{number_of}
-use Rattle.ep_domain.proofs.FaultCode.{passed, in_long, product_fits, overflow_is, then_is, sum_fits, difference_fits, right_number, right_in_range}
+use Rattle.ep_domain.proofs.FaultCode.{passed, in_long, product_fits, overflow_is, then_is, sum_fits, difference_fits}
+use Rattle.ep_domain.proofs.FaultCode.{right_number, right_in_range}
 use Rattle.std.proofs.lemmas.Bool.{or_left}
 use Rattle.ep_domain.proofs.fault.fault_between.Goals as goal
 use Rattle.ep_domain.proofs.fault.fault_between.Goals.{then-may_pass_width, else-may_pass_width}

@@ -9,7 +9,11 @@ use Rattle.ep_core.specs.declared.tree.Expr.{Expr}
 use Rattle.ep_core.specs.View.{shown_expr}
 use Rattle.ep_typing.specs.Constant.{no_fault}
 use Rattle.ep_operands.specs.Numbers.{IsNumber, IsSomeNumber}
-use Rattle.ep_operands.proofs.ConstantLemmas.{Fits, and_fits, and_left, and_right, below, binary_fits, binary_left, binary_right, compare_fits, compare_left, compare_right, cond_no, cond_test, cond_yes, convert_fits, convert_operand, left_in_range, no_fits, not_operand, or_fits, or_left, or_right, right_in_range, typed_part, yes_fits}
+use Rattle.ep_operands.proofs.ConstantLemmas.{Fits, and_fits, and_left, and_right, below, binary_fits, binary_left}
+use Rattle.ep_operands.proofs.ConstantLemmas.{binary_right, compare_fits, compare_left, compare_right, cond_no}
+use Rattle.ep_operands.proofs.ConstantLemmas.{cond_test, cond_yes, convert_fits, convert_operand, left_in_range}
+use Rattle.ep_operands.proofs.ConstantLemmas.{no_fits, not_operand, or_fits, or_left, or_right, right_in_range}
+use Rattle.ep_operands.proofs.ConstantLemmas.{typed_part, yes_fits}
 use Rattle.ep_operands.proofs.constants.+number_of.Goals as goal
 
 pub arith-requires-clause-right : goal.arith-requires-clause-right

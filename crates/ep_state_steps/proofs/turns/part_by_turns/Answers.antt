@@ -1,5 +1,6 @@
 use Rattle.std.proofs.Common.{sym, ◌∙◌, arith}
-use Rattle.ep_state_steps.proofs.ByTurns.{turns_begin, turns_next, first_stopped, second_stopped, first_ended, second_ended}
+use Rattle.ep_state_steps.proofs.ByTurns.{turns_begin, turns_next, first_stopped, second_stopped, first_ended}
+use Rattle.ep_state_steps.proofs.ByTurns.{second_ended}
 use Rattle.ep_state_steps.proofs.turns.part_by_turns.Goals as goal
 
 pub loop-init : goal.loop-init

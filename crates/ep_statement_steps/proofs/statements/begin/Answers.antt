@@ -10,7 +10,8 @@ use Rattle.ep_values.specs.Settings.{program_in}
 use Rattle.ep_machine.specs.Machines.{state_in}
 use Rattle.ep_core.specs.declared.tree.What.TheVariants.{If, Loop, ByOrder}
 use Rattle.ep_frames.specs.Stack.{one_of, piled, OneFits}
-use Rattle.ep_statement_steps.proofs.Begins.{if_does, loop_does, arm_does, if_fits, loop_fits, arm_fits, if_test, loop_test}
+use Rattle.ep_statement_steps.proofs.Begins.{if_does, loop_does, arm_does, if_fits, loop_fits, arm_fits, if_test}
+use Rattle.ep_statement_steps.proofs.Begins.{loop_test}
 use Rattle.ep_statement_steps.proofs.Begins.{simple_fits, simple_does}
 use Rattle.ep_statement_steps.proofs.statements.begin.Goals as goal
 

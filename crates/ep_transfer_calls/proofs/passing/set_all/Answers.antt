@@ -6,7 +6,8 @@ use Rattle.ep_int.specs.declared.types.Scalar.TheVariants.{Int}
 use Rattle.ep_core.specs.Shown.{shown}
 use Rattle.ep_transfers.specs.Transfers.{Stepped}
 use Rattle.ep_waiting_laws.specs.Laws.{OthersThere}
-use Rattle.ep_transfer_calls.proofs.Set.{is_empty, none_left, first_waits, rest_waits, then_next, then_faults, stop_next, stop_faults}
+use Rattle.ep_transfer_calls.proofs.Set.{is_empty, none_left, first_waits, rest_waits, then_next, then_faults}
+use Rattle.ep_transfer_calls.proofs.Set.{stop_next, stop_faults}
 use Rattle.ep_transfer_calls.proofs.passing.set_all.Goals as goal
 
 pub returns-in-None-clause-next : goal.returns-in-None-clause-next

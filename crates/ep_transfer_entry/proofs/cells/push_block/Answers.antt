@@ -5,7 +5,8 @@ use Rattle.ep_core.specs.Shown.{shown}
 use Rattle.ep_core.specs.View.{shown_block}
 use Rattle.ep_transfer_entry.proofs.Begins.{begun}
 use Rattle.ep_transfer_entry.proofs.Blocks.{type_there}
-use Rattle.ep_transfer_entry.proofs.Turns.{number_fits, numbers_left, cell_turn, block_leaves, block_numbers, block_ends}
+use Rattle.ep_transfer_entry.proofs.Turns.{number_fits, numbers_left, cell_turn, block_leaves, block_numbers}
+use Rattle.ep_transfer_entry.proofs.Turns.{block_ends}
 use Rattle.ep_transfer_entry.proofs.cells.push_block.Goals as goal
 
 pub leaves-requires : goal.leaves-requires

@@ -2,7 +2,9 @@ use Rattle.std.proofs.Common.{ap}
 use Rattle.ep_core.specs.Shown.{shown}
 use Rattle.ep_core.specs.View.{shown_what}
 use Rattle.ep_transfer_simple.proofs.Doing.{next_by, faults_by}
-use Rattle.ep_transfer_simple.proofs.Typed.{typed_by, eval_typed, assign_typed, clear_typed, aggregate_typed, bytes_typed, fill_typed, input_place, input_number, output_typed, read_typed, write_typed}
+use Rattle.ep_transfer_simple.proofs.Typed.{typed_by, eval_typed, assign_typed, clear_typed, aggregate_typed}
+use Rattle.ep_transfer_simple.proofs.Typed.{bytes_typed, fill_typed, input_place, input_number, output_typed}
+use Rattle.ep_transfer_simple.proofs.Typed.{read_typed, write_typed}
 use Rattle.ep_transfer_simple.proofs.statements.simple.Goals as goal
 
 pub evaluate-requires-clause-typed : goal.evaluate-requires-clause-typed

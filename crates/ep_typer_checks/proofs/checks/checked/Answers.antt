@@ -6,7 +6,8 @@ use Rattle.ep_call_graph.specs.Seen.{places}
 use Rattle.ep_defined.specs.declared.sofar.Defined.{Defined}
 use Rattle.ep_defined.specs.Seen.{defined, sofar}
 use Rattle.ep_elaboration.specs.Functions.{numbers_of}
-use Rattle.ep_typer_checks.proofs.Checking.{bodies_fail, checks_pass, cycles_fail, depths_fail, main_comes, no_main, sizes_fail, some, within}
+use Rattle.ep_typer_checks.proofs.Checking.{bodies_fail, checks_pass, cycles_fail, depths_fail, main_comes, no_main}
+use Rattle.ep_typer_checks.proofs.Checking.{sizes_fail, some, within}
 use Rattle.ep_typer_checks.proofs.checks.checked.Goals as goal
 
 pub returns-in_err-main-clause-means : goal.returns-in_err-main-clause-means

@@ -4,7 +4,8 @@ use Rattle.ep_core.specs.View.{shown_what}
 use Rattle.ep_stores.proofs.StoreLemmas.{same_gives}
 use Rattle.ep_scopes.specs.Seen.{env}
 use Rattle.ep_typing.specs.Typing.{whole_statement}
-use Rattle.ep_typer_effects.proofs.Shapes.{a_call_alone, a_decrement, a_step, an_increment, called_tree, decrement_tree, increment_tree, step_tree}
+use Rattle.ep_typer_effects.proofs.Shapes.{a_call_alone, a_decrement, a_step, an_increment, called_tree}
+use Rattle.ep_typer_effects.proofs.Shapes.{decrement_tree, increment_tree, step_tree}
 use Rattle.ep_typer_effects.proofs.statements.whole_statement.Goals as goal
 
 pub returns-in-Step : goal.returns-in-Step

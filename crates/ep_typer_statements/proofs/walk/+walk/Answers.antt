@@ -7,7 +7,8 @@ use Rattle.ep_elaboration.specs.Statements.{statement}
 use Rattle.ep_scopes.specs.Seen.{env}
 use Rattle.ep_declared.specs.Seen.{line}
 use Rattle.ep_typer_statements.specs.Seen.{lines}
-use Rattle.ep_typer_statements.proofs.Trees.{arm_is, arms_stop, block_tree, do_tree, for_tree, second_stops, two_arms_are, while_tree}
+use Rattle.ep_typer_statements.proofs.Trees.{arm_is, arms_stop, block_tree, do_tree, for_tree, second_stops}
+use Rattle.ep_typer_statements.proofs.Trees.{two_arms_are, while_tree}
 use Rattle.ep_typer_statements.proofs.walk.+walk.Goals as goal
 
 pub part-returns-in_err-a-in-Arms-clause-means : goal.part-returns-in_err-a-in-Arms-clause-means

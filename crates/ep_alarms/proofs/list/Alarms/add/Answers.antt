@@ -1,4 +1,6 @@
-use Rattle.std.proofs.Common.{◌≡◌, ◌<◌, arith, refl, sym, ◌∙◌, subst, Bool, true, false, true≢false, OnOk, is_ok, if◌then◌else◌, Result, Ok, Err, List, All, rules, length, insert, slice_index_or, slice_set}
+use Rattle.std.proofs.Common.{◌≡◌, ◌<◌, arith, refl, sym, ◌∙◌, subst, Bool, true, false, true≢false, OnOk, is_ok}
+use Rattle.std.proofs.Common.{if◌then◌else◌, Result, Ok, Err, List, All, rules, length, insert, slice_index_or}
+use Rattle.std.proofs.Common.{slice_set}
 use Rattle.std.proofs.lemmas.List.{get_or_read_under}
 use Rattle.ep_alarms.specs.declared.types.Alarm.{Alarm}
 use Rattle.ep_alarms.specs.Alarm.{before, FitsTypes}
@@ -8,7 +10,8 @@ use Rattle.std.proofs.lemmas.Result.{on_ok_weaker}
 use Rattle.ep_alarms.proofs.Others.{others_stay_in}
 use Rattle.ep_alarms.proofs.Ranges.{FitsTypes-added}
 use Rattle.ep_alarms.proofs.list.Alarms.add.Goals as goal
-use Rattle.ep_alarms.proofs.list.Alarms.add.Goals.{else-place-len-via-then-place-len+else-not-is_before, else-place-len-via-else-place-len}
+use Rattle.ep_alarms.proofs.list.Alarms.add.Goals.{else-place-len-via-then-place-len+else-not-is_before}
+use Rattle.ep_alarms.proofs.list.Alarms.add.Goals.{else-place-len-via-else-place-len}
 
 -- the alarm of this place widened
 widened : (c : goal.After-self-1) → slice_set c.self.inside.alarms.items c.place_of-place.result c.joined.result ≡ added c.self.inside.alarms.items c.args.a

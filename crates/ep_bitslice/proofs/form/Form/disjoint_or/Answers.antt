@@ -1,11 +1,14 @@
-use Rattle.std.proofs.Common.{◌≡◌, ℕ, ◌+◌, ◌-◌, ◌++◌, true, false, List, [], length, drop, length-drop, refl, sym, ap, ◌∙◌, arith}
+use Rattle.std.proofs.Common.{◌≡◌, ℕ, ◌+◌, ◌-◌, ◌++◌, true, false, List, [], length, drop, length-drop, refl, sym, ap}
+use Rattle.std.proofs.Common.{◌∙◌, arith}
 use Rattle.ep_bitslice.specs.declared.segment.Segment.{Segment}
 use Rattle.ep_bitslice.specs.Bits.{Bit, are_disjoint, either_of}
 use Rattle.ep_bitslice.specs.Segments.{bits, width, segment_bits, segment_width}
 use Rattle.ep_bitslice.proofs.Appending.{length-bits}
 use Rattle.ep_bitslice.proofs.Numbers.{number-bits}
 use Rattle.ep_bitslice.proofs.Operations.{number-either_of, or-number}
-use Rattle.ep_bitslice.proofs.Parts.{number_is, some_result, no_result, where_true, where_false, either_way, drop-whole, ahead_full, ahead_step, ahead_end, ahead_width, length-either, either_step, disjoint_step, not_as_wide}
+use Rattle.ep_bitslice.proofs.Parts.{number_is, some_result, no_result, where_true, where_false, either_way}
+use Rattle.ep_bitslice.proofs.Parts.{drop-whole, ahead_full, ahead_step, ahead_end, ahead_width, length-either}
+use Rattle.ep_bitslice.proofs.Parts.{either_step, disjoint_step, not_as_wide}
 use Rattle.ep_bitslice.proofs.Parts.{width-either}
 use Rattle.ep_bitslice.proofs.form.Form.disjoint_or.Goals as goal
 

@@ -4,7 +4,8 @@ use Rattle.ep_bitslice.specs.Segments.{bits, segment_bits}
 use Rattle.ep_bitslice.proofs.Appending.{length-bits}
 use Rattle.ep_bitslice.proofs.Numbers.{number-bits}
 use Rattle.ep_bitslice.proofs.Operations.{number-masked}
-use Rattle.ep_bitslice.proofs.Parts.{number_is, some_result, no_result, drop-whole, ahead_full, ahead_step, ahead_end, ahead_width, length-masked, masked_step}
+use Rattle.ep_bitslice.proofs.Parts.{number_is, some_result, no_result, drop-whole, ahead_full, ahead_step, ahead_end}
+use Rattle.ep_bitslice.proofs.Parts.{ahead_width, length-masked, masked_step}
 use Rattle.ep_bitslice.proofs.Parts.{width-masked}
 use Rattle.ep_bitslice.proofs.form.Form.mask.Goals as goal
 

@@ -6,7 +6,8 @@ use Rattle.ep_bitslice.proofs.Appending.{length-bits}
 use Rattle.ep_bitslice.proofs.Numbers.{number-bits}
 use Rattle.ep_bitslice.proofs.Operations.{number-renamed}
 use Rattle.ep_bitslice.proofs.Walks.{segment_at}
-use Rattle.ep_bitslice.proofs.Parts.{number_is, one_more, appended_length, length-renamed, renamed_step, drop_all, ahead_step, ahead_end, ahead_width, normal_is}
+use Rattle.ep_bitslice.proofs.Parts.{number_is, one_more, appended_length, length-renamed, renamed_step, drop_all}
+use Rattle.ep_bitslice.proofs.Parts.{ahead_step, ahead_end, ahead_width, normal_is}
 use Rattle.ep_bitslice.proofs.Parts.{width-renamed}
 use Rattle.ep_bitslice.proofs.form.Form.rename.Goals as goal
 

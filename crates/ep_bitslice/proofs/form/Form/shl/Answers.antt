@@ -4,7 +4,8 @@ use Rattle.ep_bitslice.specs.Segments.{TooMany, bits, number}
 use Rattle.ep_bitslice.proofs.Appending.{length-bits}
 use Rattle.ep_bitslice.proofs.Numbers.{number-bits}
 use Rattle.ep_bitslice.proofs.Operations.{number-shifted_left, length-zeros}
-use Rattle.ep_bitslice.proofs.Parts.{number_is, some_result, no_result, no_result_with, after_nothing, too_many_after, shifted_up_bits, width_of_bits}
+use Rattle.ep_bitslice.proofs.Parts.{number_is, some_result, no_result, no_result_with, after_nothing, too_many_after}
+use Rattle.ep_bitslice.proofs.Parts.{shifted_up_bits, width_of_bits}
 use Rattle.ep_bitslice.proofs.Parts.{width-shifted_left}
 use Rattle.ep_bitslice.proofs.form.Form.shl.Goals as goal
 

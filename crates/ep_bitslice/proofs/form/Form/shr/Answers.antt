@@ -4,7 +4,8 @@ use Rattle.ep_bitslice.specs.Segments.{TooMany, bits}
 use Rattle.ep_bitslice.proofs.Appending.{length-bits}
 use Rattle.ep_bitslice.proofs.Numbers.{number-bits}
 use Rattle.ep_bitslice.proofs.Operations.{number-shifted_right}
-use Rattle.ep_bitslice.proofs.Parts.{part_length, part_end, number_is, some_result, no_result, no_result_with, after_nothing, too_many_after, shifted_down_bits, width_of_bits}
+use Rattle.ep_bitslice.proofs.Parts.{part_length, part_end, number_is, some_result, no_result, no_result_with}
+use Rattle.ep_bitslice.proofs.Parts.{after_nothing, too_many_after, shifted_down_bits, width_of_bits}
 use Rattle.ep_bitslice.proofs.Parts.{width-shifted_right}
 use Rattle.ep_bitslice.proofs.form.Form.shr.Goals as goal
 

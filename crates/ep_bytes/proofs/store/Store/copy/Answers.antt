@@ -1,4 +1,5 @@
-use Rattle.std.proofs.Common.{◌≡◌, ◌+◌, ◌≢◌, unsigned_abs, false, ◌&&◌, nat_eq, if◌then◌else◌, FitsSigned, rules, sym, ◌∙◌, ap, subst}
+use Rattle.std.proofs.Common.{◌≡◌, ◌+◌, ◌≢◌, unsigned_abs, false, ◌&&◌, nat_eq, if◌then◌else◌, FitsSigned, rules, sym}
+use Rattle.std.proofs.Common.{◌∙◌, ap, subst}
 use Rattle.std.specs.Int.{w64}
 use Rattle.std.proofs.lemmas.Int.{to_z-of_z}
 use Rattle.std.proofs.lemmas.Bool.{ne_eqb, and_left, and_right}
@@ -7,8 +8,11 @@ use Rattle.ep_bytes.specs.Cells.{taken_from}
 use Rattle.ep_bytes.specs.Held.{IsPlace, block_of, is_same, memory_in}
 use Rattle.ep_bytes.proofs.Places.{replaced_place, taken_place, apart_within, apart_between}
 use Rattle.ep_bytes.proofs.store.Store.copy.Goals as goal
-use Rattle.ep_bytes.proofs.store.Store.copy.Goals.{else-same_place-via-then-same_place+then-to-from+else-target-source, else-same_place-via-then-same_place+else-to-from, else-same_place-via-else-same_place}
-use Rattle.ep_bytes.proofs.store.Store.copy.Goals.{else-to-from-2-via-then-to-from-2+else-overlaps, else-to-from-2-via-else-to-from-2}
+use Rattle.ep_bytes.proofs.store.Store.copy.Goals.{else-same_place-via-then-same_place+then-to-from+else-target-source}
+use Rattle.ep_bytes.proofs.store.Store.copy.Goals.{else-same_place-via-then-same_place+else-to-from}
+use Rattle.ep_bytes.proofs.store.Store.copy.Goals.{else-same_place-via-else-same_place}
+use Rattle.ep_bytes.proofs.store.Store.copy.Goals.{else-to-from-2-via-then-to-from-2+else-overlaps}
+use Rattle.ep_bytes.proofs.store.Store.copy.Goals.{else-to-from-2-via-else-to-from-2}
 
 pub copy-requires-clause-apart : goal.copy-requires-clause-apart
 copy-requires-clause-apart c =

@@ -4,7 +4,8 @@ use Rattle.ep_layout.specs.declared.types.Member.{Member}
 use Rattle.ep_layout.specs.Places.{ArePlaces}
 use Rattle.ep_layout.proofs.Naming.{places_there, places_new}
 use Rattle.ep_layout.proofs.members.MemberList.new.Goals as goal
-use Rattle.ep_layout.proofs.members.MemberList.new.Goals.{then-not-contains_key+in_ok-name+in_ok-insert, else-not-contains_key}
+use Rattle.ep_layout.proofs.members.MemberList.new.Goals.{then-not-contains_key+in_ok-name+in_ok-insert}
+use Rattle.ep_layout.proofs.members.MemberList.new.Goals.{else-not-contains_key}
 
 pub loop-place-preserved : goal.loop-place-preserved
 loop-place-preserved c =

@@ -3,7 +3,8 @@ use Rattle.std.specs.Global.{Vec}
 use Rattle.std.specs.List.{list_all}
 use Rattle.ep_layout.specs.Table.{layout_of}
 use Rattle.ep_layout.specs.Views.{view_named}
-use Rattle.ep_layout.proofs.PlacingLemmas.{all_named, unsized_stop, placed_extent, placed_stop, past_limit, within_limit}
+use Rattle.ep_layout.proofs.PlacingLemmas.{all_named, unsized_stop, placed_extent, placed_stop, past_limit}
+use Rattle.ep_layout.proofs.PlacingLemmas.{within_limit}
 use Rattle.ep_layout.proofs.table.Types.body.Goals as goal
 
 abbrev Item : Type 0

@@ -3,7 +3,8 @@ use Rattle.std.proofs.lemmas.Result.{on_ok_weaker}
 use Rattle.ep_layout.specs.declared.table.leaves.Task.TheVariants.{Object, Elements}
 use Rattle.ep_layout.proofs.Steps.{none_pushed, two_pushed, no_bytes, no_elements, elements_step, known_size}
 use Rattle.ep_layout.proofs.table.Types.next_element.Goals as goal
-use Rattle.ep_layout.proofs.table.Types.next_element.Goals.{then-count-eq0-via-then-count-eq0, then-count-eq0-via-else-count-eq0+then-size-eq0}
+use Rattle.ep_layout.proofs.table.Types.next_element.Goals.{then-count-eq0-via-then-count-eq0}
+use Rattle.ep_layout.proofs.table.Types.next_element.Goals.{then-count-eq0-via-else-count-eq0+then-size-eq0}
 
 pub returns-then-count-eq0 : goal.returns-then-count-eq0
 returns-then-count-eq0 c =

@@ -2,7 +2,8 @@ use Rattle.std.proofs.Common.{◌∙◌, ap, Some}
 use Rattle.std.proofs.lemmas.Result.{on_ok_weaker}
 use Rattle.ep_int.specs.declared.types.Scalar.TheVariants.{Int as Number, Pointer}
 use Rattle.ep_layout.specs.declared.table.leaves.Task.TheVariants.{Object, Elements, Members}
-use Rattle.ep_layout.proofs.Steps.{none_pushed, leaf_pushed, one_pushed, void_step, number_step, pointer_step, array_instead, aggregate_instead}
+use Rattle.ep_layout.proofs.Steps.{none_pushed, leaf_pushed, one_pushed, void_step, number_step, pointer_step}
+use Rattle.ep_layout.proofs.Steps.{array_instead, aggregate_instead}
 use Rattle.ep_layout.proofs.table.Types.open.Goals as goal
 
 pub returns-in-Void : goal.returns-in-Void

@@ -1,4 +1,5 @@
-use Rattle.std.proofs.Common.{◌≡◌, ◌∙◌, ◌++◌, ◌∷◌, [], ◌<◌, List, ℕ, true, is_some, ap, sym, subst, append_assoc, nat_lt, arith, Some, None, Option, option_map, true≢false, Bool, rules}
+use Rattle.std.proofs.Common.{◌≡◌, ◌∙◌, ◌++◌, ◌∷◌, [], ◌<◌, List, ℕ, true, is_some, ap, sym, subst, append_assoc}
+use Rattle.std.proofs.Common.{nat_lt, arith, Some, None, Option, option_map, true≢false, Bool, rules}
 use Rattle.std.specs.Global.{Vec}
 use Rattle.std.specs.List.{list_all}
 use Rattle.std.specs.Vec.Iter.{into_iter_items}

@@ -1,6 +1,7 @@
 use Rattle.std.proofs.Common.{rules, ◌≡◌, ℕ, ◌<◌, ◌↔◌, IsTrue, get_or, sym, ◌∙◌, subst}
 use Rattle.ep_pointers.specs.Value.{IsRising}
-use Rattle.ep_pointers.specs.Sum.{move, moved, moved_targets, may_leave, MayLeave, shown_of, ShowsResults, HoldsSums, MovesOne, KeepsStride}
+use Rattle.ep_pointers.specs.Sum.{move, moved, moved_targets, may_leave, MayLeave, shown_of, ShowsResults, HoldsSums}
+use Rattle.ep_pointers.specs.Sum.{MovesOne, KeepsStride}
 use Rattle.ep_pointers.proofs.Moving.{rising_moved, sums_held}
 use Rattle.ep_pointers.proofs.MovingOne.{moves_one, keeps_stride}
 use Rattle.ep_pointers.proofs.Leaving.{leaves_so, least_shown}
