@@ -121,12 +121,7 @@ def least(program, words, wanted):
 def main():
     failed = 0
     with tempfile.TemporaryDirectory() as folder:
-        if len(sys.argv) > 1:
-            program = os.path.abspath(sys.argv[1])
-        else:
-            build = os.path.join(folder, "build")
-            os.mkdir(build)
-            program = measure.build(build, "endport_cli")
+        program = measure.named_or_built(folder, sys.argv[1:])
         print("| | `check` | `run` | `layout` | time of `check` |\n|---|---|---|---|---|")
         for name, source in TABLE:
             path = os.path.join(folder, "deep.c")

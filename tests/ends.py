@@ -130,12 +130,7 @@ def parts(tries):
 
 def main():
     with tempfile.TemporaryDirectory() as folder:
-        if len(sys.argv) > 1:
-            program = os.path.abspath(sys.argv[1])
-        else:
-            build = os.path.join(folder, "build")
-            os.mkdir(build)
-            program = measure.build(build, "endport_cli")
+        program = measure.named_or_built(folder, sys.argv[1:])
         room = os.path.join(folder, "files")
         os.mkdir(room)
         tries = Tries(program, room)

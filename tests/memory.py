@@ -90,12 +90,7 @@ def measured(program, words):
 def main():
     worst = (0, "")
     with tempfile.TemporaryDirectory() as folder:
-        if len(sys.argv) > 1:
-            program = os.path.abspath(sys.argv[1])
-        else:
-            build = os.path.join(folder, "build")
-            os.mkdir(build)
-            program = measure.build(build, "endport_cli")
+        program = measure.named_or_built(folder, sys.argv[1:])
         print("| | `check` | `run` | `layout` | status | time |\n|---|---|---|---|---|---|")
         for name, source in TABLE:
             path = os.path.join(folder, "full.c")

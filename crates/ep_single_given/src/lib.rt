@@ -5,8 +5,8 @@ ghost use Rattle.ep_single_given.specs.Laws.{ConstantsGiveOne, LoadsGiveOne, Poi
 
 use ep_domain::Num;
 
-/// Does nothing: its contract is that constants, addresses of blocks and null, and what is the same as another, give one
-/// value each, without a fault, over every domain.
+/// Does nothing: its contract is that constants, addresses of blocks and null, and what is the same as another, give
+/// one value each, without a fault, over every domain.
 pub fn single_given<N: Num>()
     ensures constants { ConstantsGiveOne N.ops }
     ensures pointers { PointersGiveOne N.ops }

@@ -12,8 +12,8 @@ pub fn single_stores<N: Num>()
     ensures { StoresKeepOne N.ops }
 {}
 
-/// Does nothing: its contract is that such a state stays one where a pair of values is written, in each mode, over every
-/// domain that keeps single numbers.
+/// Does nothing: its contract is that such a state stays one where a pair of values is written, in each mode, over
+/// every domain that keeps single numbers.
 pub fn single_writes<N: Num>()
     ensures { WritesKeepOne N.ops }
 {}
