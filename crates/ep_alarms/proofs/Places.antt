@@ -1,5 +1,6 @@
 -- Where an alarm goes in a report, and what the report is then.
 use Rattle.std.proofs.Common.{◌≡◌, ℕ, ◌<◌, ◌≤◌, zero, suc, Bool, true, false, ltb, eqb, ◌||◌, arith, refl, subst}
+use Rattle.std.proofs.lemmas.Bool.{cases_Bool}
 use Rattle.std.proofs.Common.{IsTrue, List, [], ◌∷◌, length, ◌-◌, eq-zero-or-pos, get_or, set, insert, if◌then◌else◌}
 use Rattle.std.proofs.Common.{◌⊎◌, inl, inr}
 use Rattle.std.specs.List.Sorted.{IsPartitionedBy}
@@ -34,10 +35,6 @@ added_inserted (c ∷ cs) a (suc i) p h n =
     let passed : before c a ≡ true = p.front 0 c (omega arith) in
     rw (passed, ← added_inserted cs a i (later c a cs i p) (omega arith) (λ d l. n d (omega arith)))
 
-tested : (b : Bool) → (b ≡ true) ⊎ (b ≡ false)
-tested true = inl refl
-tested false = inr refl
-
 -- the first of the list stands after this alarm
 abbrev LeadsTo : Alarm → List Alarm → Type 0
 LeadsTo a [] = Unit {0}
@@ -68,9 +65,9 @@ IsReport-added [] a r = tt
 IsReport-added (b ∷ bs) a r =
     let leads = (tail_report b bs r).0 in
     let rest = (tail_report b bs r).1 in
-    elim (tested (before b a)) [
+    elim (cases_Bool (before b a)) [
       | inl passed ↦ rw passed (cons_report b (added bs a) (leads_to_added b bs a leads passed) (IsReport-added bs a rest))
-      | inr not_passed ↦ rw not_passed (elim (tested (before a b)) [
+      | inr not_passed ↦ rw not_passed (elim (cases_Bool (before a b)) [
         | inl after ↦ rw after (after, r)
         | inr same ↦ rw same (cons_report (joined b a) bs (leads_joined b a bs leads) rest)
       ])

@@ -1,5 +1,7 @@
 -- A bit of a result is known exactly where all results agree in it.
 use Rattle.std.specs.Prelude.{◌≡◌, ℕ, ◌+◌, ◌-◌, ◌*◌, ◌^◌, ◌<◌, ◌≤◌, ℤ, pos, negsuc, ◌≤ℤ◌, ◌*ℤ◌, ◌⊎◌, Bool, true}
+use Rattle.ep_int.proofs.Arithmetic.{le_test}
+use Rattle.ep_int.proofs.Basics.{true_and_false}
 use Rattle.std.specs.Prelude.{false, cond, ◌&&◌, ◌||◌, not, Option, Some, None, Result, Ok, Err, IfSome, IsSomeAnd}
 use Rattle.std.specs.Prelude.{int_le, unsigned_abs, bit_and, bit_or, bit_xor, refl}
 use Rattle.std.specs.Option.{unwrap_or, option_and_then}
@@ -16,15 +18,14 @@ use Rattle.ep_int.specs.declared.types.Undef.TheVariants.{Shift}
 use Rattle.ep_int.specs.Types.{bits_of, is_signed, InRange, representation, represented, wrapped, least_of}
 use Rattle.ep_int.specs.Arith.{arith_of, settled, is_in_range, is_amount, IsOfSomeType, IsRightOperand}
 use Rattle.ep_int.proofs.Wrapping.{wrapped_in_range}
-use Rattle.ep_int.proofs.Arithmetic.{arith_in_range, amount_below, right_operand}
+use Rattle.ep_int.proofs.Arithmetic.{arith_in_range, amount_below, right_operand, in_range_some_type}
 use Rattle.ep_range_laws.proofs.Types as types
-use Rattle.ep_range_laws.proofs.Comparisons.{le_true}
 use Rattle.ep_bit_laws.specs.Bits.{bit, bit_of}
 use Rattle.ep_bit_laws.specs.Patterns.{Pattern, known_bit, Has, closed, in_type, low_part}
 use Rattle.ep_bit_laws.specs.Results.{both_of, either_of, one_of, right_by, left_by}
 use Rattle.ep_bit_laws.proofs.Bits.{differ}
 use Rattle.ep_bit_laws.proofs.Numbers.{bit_of_shifted, bit_above_all, bit_wrapped, width_small, number_of_bits}
-use Rattle.ep_bit_laws.proofs.Patterns.{clash, closed_zeros, closed_ones}
+use Rattle.ep_bit_laws.proofs.Patterns.{closed_zeros, closed_ones}
 use Rattle.ep_bit_laws.proofs.Types.{from_in_type, low_part_has, has_low}
 use Rattle.ep_bit_laws.proofs.Results.{IsBitwise, and_bitwise, or_bitwise, xor_bitwise, bit_of_result, product_high}
 use Rattle.ep_bit_laws.proofs.Exact.{bit_or_else, known_holds, exact_known, closed_open, IsOfType, in_type_of}
@@ -105,7 +106,7 @@ module _ (t : IntType) (c : KnownBits) (s : is_signed t ≡ false) where
   one_converted : is_one c ≡ true → KnowsExactly (IsConverted t c) (single_of (wrapped t (number_of c)))
   one_converted e =
       exactly_single (IsConverted t c) (wrapped t (number_of c))
-      (types.number_of t _ (wrapped_in_range t (number_of c)))
+      (in_range_some_type t _ (wrapped_in_range t (number_of c)))
       (record { number = number_of c; held = range_single c (number_of c) (one_range c e); converted = refl })
       (λ w h. h.converted ∙ ap (wrapped t) (only_member c (number_of c) h.number (one_range c e)
       (holds c h.number h.held)))
@@ -175,7 +176,7 @@ operand_of t a = at (left_operand t a) (formed_is (in_type t (pattern_of a))) (�
         back : (b : Bool) → bit (in_type t (pattern_of a)).ones k ≡ b → b ≡ false
         back false g = refl
         back true g =
-            absurd (clash (bit c.ones k) (ap (λ (p : Pattern). bit p.ones k) e ∙ closed_ones
+            absurd (true_and_false (bit c.ones k) (ap (λ (p : Pattern). bit p.ones k) e ∙ closed_ones
             (in_type t (pattern_of a)) k g)
             ((is_pattern_of c).apart k (ap (λ (p : Pattern). bit p.zeros k) e ∙ closed_zeros
             (in_type t (pattern_of a)) k f)))
@@ -270,7 +271,7 @@ module _ (o : BinOp) (t : IntType) (a b c d : KnownBits) (g : Given o t a b c d)
       at (Err u) i = λ v h. err_ok u v (sym i ∙ same v h)
       at (Ok v) i =
           let r = one_in_range t a c g.left e in
-          exactly_single (IsResult o t a b) v (types.number_of t v
+          exactly_single (IsResult o t a b) v (in_range_some_type t v
           (arith_in_range o t (number_of c) (number_of d) v r i))
           (result_of (number_of c) (number_of d) v (holds c _ (range_single c (number_of c) (one_range c e)))
           (holds d _ (range_single d (number_of d) (one_range d f))) r (g.right_one f) i)
@@ -347,7 +348,7 @@ left_result : (t : IntType) (n : ℕ) (y : ℤ) → is_signed t ≡ false → is
     (pos n) y ≡ Ok (wrapped t (pos (n * 2 ^ unsigned_abs y)))
 left_result t n y s e =
     ap (λ b. cond b (settled Shift t (pos n *ℤ pos (2 ^ unsigned_abs y))) (Err Shift))
-    (and_from _ _ e (le_true (pos 0) (pos n) (omega (arith, ints))))
+    (and_from _ _ e (le_test (pos 0) (pos n) (omega (arith, ints))))
     ∙ ap (λ b. cond b (cond (is_in_range t (pos n *ℤ pos (2 ^ unsigned_abs y)))
     (Ok (pos n *ℤ pos (2 ^ unsigned_abs y))) (Err Shift)) (Ok (wrapped t (pos n *ℤ pos (2 ^ unsigned_abs y))))) s
     ∙ ap (λ z. Ok (wrapped t z)) (pos-*ℤ-pos n (2 ^ unsigned_abs y))

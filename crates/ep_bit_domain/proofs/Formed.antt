@@ -1,14 +1,11 @@
 -- Values of patterns.
 use Rattle.std.specs.Prelude.{◌≡◌, ℤ, Bool, true, false, Option, Some, None, IsSomeAnd, IfSome, IsTrue, refl}
+use Rattle.ep_int.proofs.Basics.{is_true-prop}
 use Rattle.std.proofs.Common.{ap, sym, subst}
-use Rattle.std.proofs.Props.{props}
 use Rattle.ep_bit_laws.specs.Patterns.{Pattern, Has, is_pattern, IsPattern, closed}
 use Rattle.ep_bit_laws.proofs.Patterns.{pattern_from, pattern_test, has_from, has_test, HasBits, closed_has}
 use Rattle.ep_bit_laws.proofs.Patterns.{closed_pattern, from_closed}
 use Rattle.ep_bit_domain.specs.KnownBits.{KnownBits, pattern_of, IsValid, made, made_if, formed, holds_of}
-
-test_prop : (b : Bool) → IsProp (b ≡ true)
-test_prop b = Prim.hlevel props
 
 pub is_pattern_of : (c : KnownBits) → IsPattern (pattern_of c)
 is_pattern_of c = pattern_from (pattern_of c) c.valid
@@ -24,12 +21,12 @@ pub same_pattern : (a b : KnownBits) → pattern_of a ≡ pattern_of b → a ≡
 same_pattern a b e =
     let f : (p : Pattern) → pattern_of a ≡ p → (q : IsValid p) → made (pattern_of a) a.valid ≡ made p q = λ p d. subst
     (λ p. (q : IsValid p) → made (pattern_of a) a.valid ≡ made p q) d
-    (λ q. ap (made (pattern_of a)) (test_prop _ a.valid q)) in
+    (λ q. ap (made (pattern_of a)) (is_true-prop _ a.valid q)) in
     f (pattern_of b) e b.valid
 
 pub made_some : (p : Pattern) (b : Bool) (e : is_pattern p.zeros p.ones ≡ b) → (q : IsValid p) → made_if p b e ≡ Some
     (made p q)
-made_some p true e q = ap (λ (r : IsValid p). Some (made p r)) (test_prop _ e q)
+made_some p true e q = ap (λ (r : IsValid p). Some (made p r)) (is_true-prop _ e q)
 made_some p false e q = absurd (clash e q)
   where
     clash : {b : Bool} → b ≡ false → b ≡ true → ⊥

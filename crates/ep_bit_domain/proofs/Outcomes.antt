@@ -1,8 +1,9 @@
 -- The laws of operators.
 use Rattle.std.specs.Prelude.{◌≡◌, ℕ, ◌≤◌, ◌*◌, ◌^◌, ℤ, pos, negsuc, ◌*ℤ◌, Bool, true, false, cond, ◌&&◌, Option}
-use Rattle.std.specs.Prelude.{Some, None, Result, Ok, Err, IsTrue, IfSome, IsSomeAnd, MatchResult, is_some, is_err}
+use Rattle.ep_int.proofs.Basics.{ok-injective, is_some-value}
+use Rattle.std.specs.Prelude.{Some, None, Result, Ok, Err, IsTrue, IfSome, IsSomeAnd, MatchResult, is_err}
 use Rattle.std.specs.Prelude.{unsigned_abs, int_le, refl}
-use Rattle.std.specs.Option.{unwrap_or, option_and_then}
+use Rattle.std.specs.Option.{option_and_then}
 use Rattle.std.specs.Int.{int_shr}
 use Rattle.std.proofs.Common.{arith, ap, sym, ◌∙◌, subst}
 use Rattle.std.proofs.Math.IntN.{pos-*ℤ-pos}
@@ -14,9 +15,8 @@ use Rattle.ep_int.specs.declared.types.Undef.{Undef}
 use Rattle.ep_int.specs.declared.types.Undef.TheVariants.{Overflow, Shift}
 use Rattle.ep_int.specs.Types.{bits_of, is_signed, InRange, residue, wrapped}
 use Rattle.ep_int.specs.Arith.{arith_of, settled, is_in_range, is_amount, IsOfSomeType, IsRightOperand}
-use Rattle.ep_int.proofs.Arithmetic.{arith_in_range, amount_below}
+use Rattle.ep_int.proofs.Arithmetic.{arith_in_range, amount_below, in_range_some_type}
 use Rattle.ep_range_laws.specs.Faults.{Takes, MayFault, range_fault_of}
-use Rattle.ep_range_laws.proofs.Types as types
 use Rattle.ep_range_laws.proofs.RangeFaults.{fault_is_found, fault_is_shown}
 use Rattle.ep_range_laws.proofs.Options.{then_some}
 use Rattle.ep_range_laws.proofs.Comparisons.{le_self}
@@ -62,9 +62,6 @@ settled_gives u t e v h n l = at (is_signed t) h
         (Ok v) → residue (2 ^ n) v ≡ residue (2 ^ n) e
     at true g = ap (residue (2 ^ n)) (sym (checked (is_in_range t e) g))
     at false g = ap (residue (2 ^ n)) (sym (inner g)) ∙ residue_wrapped t n e l
-
-same_ok : (v w : ℤ) → ◌≡◌ {A = Result ℤ Undef} (Ok v) (Ok w) → v ≡ w
-same_ok v w e = cc
 
 -- ---- operators of operands that arithmetic takes
 
@@ -112,12 +109,12 @@ module _ (t : IntType) (a b : KnownBits) (x y v : ℤ) (h : Has (pattern_of a) x
       at false f g = absurd cc
       at true f g =
           let i = arith_in_range Shr t x y v r e in
-          let j : int_shr x (unsigned_abs y) ≡ v = same_ok _ _ g in
+          let j : int_shr x (unsigned_abs y) ≡ v = ok-injective _ _ g in
           shifts_hold (shifted_right a) i f
           (subst (HaveIn (shifted_right a (unsigned_abs y))) j
           (formed_has (right_by (unsigned_abs y) (pattern_of a)) (int_shr x (unsigned_abs y))
           (right_has (unsigned_abs y) (pattern_of a) x (amount_small f) (is_pattern_of a) h
-          (subst IsOfSomeType (sym j) (types.number_of t v i)))))
+          (subst IsOfSomeType (sym j) (in_range_some_type t v i)))))
 
   left_holds : InRange t x → arith_of Shl t x y ≡ Ok v → HaveIn (shifted_by t b (shifted_left t a)) v
   left_holds r e = at (is_amount t y && int_le (pos 0) x) refl e
@@ -139,7 +136,7 @@ module _ (t : IntType) (a b : KnownBits) (x y v : ℤ) (h : Has (pattern_of a) x
           (Err Shift)) (Ok (wrapped t (x *ℤ pos (2 ^ unsigned_abs y))))) (Ok v) → HaveIn
           (cond s (Some (top_of t)) (formed (left_by t (unsigned_abs y) (pattern_of a)))) v
       by_sign true f p q = type_has t v i
-      by_sign false f p q = of_natural x refl p f (same_ok _ _ q)
+      by_sign false f p q = of_natural x refl p f (ok-injective _ _ q)
 
       at : (c : Bool) → (is_amount t y && int_le (pos 0) x) ≡ c → ◌≡◌ {A = Result ℤ Undef}
           (cond c (settled Shift t (x *ℤ pos (2 ^ unsigned_abs y))) (Err Shift)) (Ok v) → HaveIn
@@ -157,20 +154,20 @@ module _ (t : IntType) (a b : KnownBits) (x y v : ℤ) (h : Has (pattern_of a) x
   results_hold Div r q e = type_holds (arith_in_range Div t x y v r e)
   results_hold Rem r q e = type_holds (arith_in_range Rem t x y v r e)
   results_hold And r q e =
-      let i = types.number_of t v (arith_in_range And t x y v r e) in
+      let i = in_range_some_type t v (arith_in_range And t x y v r e) in
       bits_hold (both_of (pattern_of a) (pattern_of b))
       (both_has (pattern_of a) (pattern_of b) x y v (is_pattern_of a) (is_pattern_of b) h k i
-      (λ j. ap (λ z. bit_of z j) (sym (same_ok _ _ e)) ∙ bit_of_result _ _ and_bitwise t x y r q j))
+      (λ j. ap (λ z. bit_of z j) (sym (ok-injective _ _ e)) ∙ bit_of_result _ _ and_bitwise t x y r q j))
   results_hold Or r q e =
-      let i = types.number_of t v (arith_in_range Or t x y v r e) in
+      let i = in_range_some_type t v (arith_in_range Or t x y v r e) in
       bits_hold (either_of (pattern_of a) (pattern_of b))
       (either_has (pattern_of a) (pattern_of b) x y v (is_pattern_of a) (is_pattern_of b) h k i
-      (λ j. ap (λ z. bit_of z j) (sym (same_ok _ _ e)) ∙ bit_of_result _ _ or_bitwise t x y r q j))
+      (λ j. ap (λ z. bit_of z j) (sym (ok-injective _ _ e)) ∙ bit_of_result _ _ or_bitwise t x y r q j))
   results_hold Xor r q e =
-      let i = types.number_of t v (arith_in_range Xor t x y v r e) in
+      let i = in_range_some_type t v (arith_in_range Xor t x y v r e) in
       bits_hold (one_of (pattern_of a) (pattern_of b))
       (one_has (pattern_of a) (pattern_of b) x y v (is_pattern_of a) (is_pattern_of b) h k i
-      (λ j. ap (λ z. bit_of z j) (sym (same_ok _ _ e)) ∙ bit_of_result _ _ xor_bitwise t x y r q j))
+      (λ j. ap (λ z. bit_of z j) (sym (ok-injective _ _ e)) ∙ bit_of_result _ _ xor_bitwise t x y r q j))
   results_hold Shl r q e = left_holds r e
   results_hold Shr r q e = right_holds r e
 
@@ -199,7 +196,7 @@ between_hold o t a b x y v h k i e = at (is_one a && is_one b) refl
   where
     of_single : (r : Result ℤ Undef) → r ≡ Ok v → HaveIn (single_result r) v
     of_single r f = subst (λ r. HaveIn (single_result r) v) (sym f)
-        (single_has v (types.number_of t v (arith_in_range o t x y v i.left e)))
+        (single_has v (in_range_some_type t v (arith_in_range o t x y v i.left e)))
 
     at : (c : Bool) → (is_one a && is_one b) ≡ c → HaveIn
         (cond c (single_result (arith_of o t (number_of a) (number_of b))) (results_of o t a b)) v
@@ -244,10 +241,6 @@ pub outcome_faults : (o : BinOp) (t : IntType) (a b : KnownBits) → IsTrue (out
     (range_of a) (range_of b)
 outcome_faults o t a b h = fault_is_found o t (range_of a) (range_of b) (range_ends b) h
 
-some_value : (f : Option (ℤ × ℤ)) → is_some f ≡ true → f ≡ Some (unwrap_or f (pos 0, pos 0))
-some_value None e = cc
-some_value (Some v) e = refl
-
 pub outcome_shows : (o : BinOp) (t : IntType) (a b : KnownBits) → IsTrue (outcome_of o t a b).fault
     → ShowsPart bit_ops o t a b (outcome_of o t a b).shown
 outcome_shows o t a b h = record {
@@ -257,7 +250,7 @@ outcome_shows o t a b h = record {
   right_inside = record { low = le_self _; high = le_self _ };
   left_has = λ z i k. range_encloses a z k;
   right_has = λ z i k. range_encloses b z k;
-  shows = some_value (range_fault_of o t (range_of a) (range_of b)) h;
+  shows = is_some-value (range_fault_of o t (range_of a) (range_of b)) h;
 }
 
 -- ---- single numbers
@@ -319,5 +312,5 @@ outcome_single o t a b x y i e f = at (arith_of o t x y) refl
     at : (r : Result ℤ Undef) → arith_of o t x y ≡ r → MatchResult r
         (λ v. IsSomeAnd (outcome_of o t a b).value (Single v)) (λ _. (outcome_of o t a b).value ≡ None)
     at (Ok v) g = subst (λ o. IsSomeAnd o (Single v)) (sym (value_single o t a b x y i e f ∙ ap single_result g))
-        (single_range v (types.number_of t v (arith_in_range o t x y v i.left g)))
+        (single_range v (in_range_some_type t v (arith_in_range o t x y v i.left g)))
     at (Err u) g = value_single o t a b x y i e f ∙ ap single_result g

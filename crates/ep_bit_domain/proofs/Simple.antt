@@ -1,5 +1,6 @@
 -- The laws of what does not depend on an operator.
 use Rattle.std.specs.Prelude.{◌≡◌, ℤ, pos, ◌≤ℤ◌, ◌<ℤ◌, ◌⊎◌, Bool, true, false, cond, ◌||◌, not, Option, Some, None}
+use Rattle.ep_int.proofs.Arithmetic.{le_fact, le_test, in_range_some_type}
 use Rattle.std.specs.Prelude.{IsTrue, IfSome, IsSomeAnd, int_lt, refl}
 use Rattle.std.specs.Option.{unwrap_or, option_map}
 use Rattle.std.proofs.Common.{arith, ap, sym, ◌∙◌, subst, inl, inr}
@@ -13,8 +14,7 @@ use Rattle.ep_int.specs.Types.{least_of, greatest_of, InRange, wrapped, is_signe
 use Rattle.ep_int.specs.Arith.{int_eq, compares, IsOfSomeType}
 use Rattle.ep_int.proofs.Wrapping.{wrapped_in_range}
 use Rattle.ep_range_laws.specs.Ranges.{IsRange, LiesIn, Encloses}
-use Rattle.ep_range_laws.proofs.Types as types
-use Rattle.ep_range_laws.proofs.Comparisons.{le_trans, le_antisym, le_true, lt_true, from_lt_true, from_le_true}
+use Rattle.ep_range_laws.proofs.Comparisons.{le_trans, le_antisym, lt_true, from_lt_true}
 use Rattle.ep_range_laws.proofs.Comparisons.{from_lt_false}
 use Rattle.ep_range_laws.proofs.Options.{weaken, default_holds}
 use Rattle.ep_domain.specs.Laws.Shared.{pair, same_pair, from_eq, eq_true, nearest_same}
@@ -242,7 +242,7 @@ converted_more c t z h = at (is_signed t) refl
         (low_part_has t (pattern_of c) z e (has_low _ (pattern_of c) z h)))
 
 converted_type : (t : IntType) (z : ℤ) → IsOfSomeType (wrapped t z)
-converted_type t z = types.number_of t (wrapped t z) (wrapped_in_range t z)
+converted_type t z = in_range_some_type t (wrapped t z) (wrapped_in_range t z)
 
 pub conversion_has : (c : KnownBits) (t : IntType) (z : ℤ) → Has (pattern_of c) z → Has
     (pattern_of (conversion_of c t)) (wrapped t z)
@@ -276,7 +276,7 @@ pub compared : (c : Cmp) (r s : ℤ × ℤ) (x y : ℤ) → LiesIn r x → LiesI
     → may_compare c r s ≡ true
 compared Eq r s x y h k e =
     let i = from_eq x y e in let a = h.low in let b = h.high in let d = k.low in let f = k.high in
-    and_from _ _ (le_true r.0 s.1 (omega (arith, ints))) (le_true s.0 r.1 (omega (arith, ints)))
+    and_from _ _ (le_test r.0 s.1 (omega (arith, ints))) (le_test s.0 r.1 (omega (arith, ints)))
 compared Ne r s x y h k e = at (int_lt r.0 s.1) (int_lt s.0 r.1) refl refl
   where
     same : (b l : ℤ) → s.1 ≤ℤ r.0 → r.1 ≤ℤ s.0 → x ≡ y
@@ -295,11 +295,11 @@ compared Ne r s x y h k e = at (int_lt r.0 s.1) (int_lt s.0 r.1) refl refl
     at false false f g = absurd (differ (same r.0 s.0 (from_lt_false r.0 s.1 f) (from_lt_false s.0 r.1 g)))
 compared Lt r s x y h k e = let i = from_lt_true x y e in let a = h.low in let b = k.high in lt_true r.0 s.1
     (omega (arith, ints))
-compared Le r s x y h k e = let i = from_le_true x y e in let a = h.low in let b = k.high in le_true r.0 s.1
+compared Le r s x y h k e = let i = le_fact x y e in let a = h.low in let b = k.high in le_test r.0 s.1
     (omega (arith, ints))
 compared Gt r s x y h k e = let i = from_lt_true y x e in let a = h.high in let b = k.low in lt_true s.0 r.1
     (omega (arith, ints))
-compared Ge r s x y h k e = let i = from_le_true y x e in let a = h.high in let b = k.low in le_true s.0 r.1
+compared Ge r s x y h k e = let i = le_fact y x e in let a = h.high in let b = k.low in le_test s.0 r.1
     (omega (arith, ints))
 
 abbrev pub HaveBoth : ℤ → ℤ → KnownBits × KnownBits → Type 0

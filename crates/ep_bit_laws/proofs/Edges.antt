@@ -1,5 +1,7 @@
 -- The least and the greatest number of a pattern between two numbers.
 use Rattle.std.proofs.Common.{◌≡◌, ℕ, ◌-◌, ◌%◌, ◌^◌, ◌<◌, ◌≤◌, ℤ, pos, negsuc, ◌-ℤ◌, ◌≤ℤ◌, Bool, true, false, not}
+use Rattle.ep_int.proofs.Arithmetic.{le_fact, le_test}
+use Rattle.ep_int.proofs.Basics.{true_and_false, not_not}
 use Rattle.std.proofs.Common.{cond, ◌⊎◌, inl, inr, Option, Some, None, IsSomeAnd, IfSome, arith, refl, sym, ap, ◌∙◌}
 use Rattle.std.specs.Prelude.{int_le}
 use Rattle.std.specs.Option.{option_map}
@@ -11,13 +13,12 @@ use Rattle.ep_int.specs.declared.types.IntType.TheVariants.{I64, U64}
 use Rattle.ep_int.specs.Types.{least_of, greatest_of}
 use Rattle.ep_int.specs.Arith.{IsOfSomeType}
 use Rattle.ep_range_laws.specs.Ranges.{LiesIn}
-use Rattle.ep_range_laws.proofs.Comparisons.{from_le_true, le_true, le_trans}
+use Rattle.ep_range_laws.proofs.Comparisons.{le_trans}
 use Rattle.ep_bit_laws.specs.Bits.{bit, bit_of}
 use Rattle.ep_bit_laws.specs.Patterns.{Pattern, Has, IsPattern}
 use Rattle.ep_bit_laws.specs.Edges.{first_at, least_positive, below_zero, or_positive, first_from, turned, last_to}
 use Rattle.ep_bit_laws.specs.Edges.{edges_at, edges_from, edges_of}
 use Rattle.ep_bit_laws.proofs.Bits.{bit_above, bit_within, bit_turned}
-use Rattle.ep_bit_laws.proofs.Patterns.{clash}
 use Rattle.ep_bit_laws.proofs.Least.{Fits, first_is_least, least_fits, least_below}
 
 -- a whole number of 65 bits with these bits
@@ -34,10 +35,6 @@ place k l = by (cases_lt k 64)
     by (inl m) = inl m
     by (inr m) = inr (omega arith)
 
-not_not : (b : Bool) → not (not b) ≡ b
-not_not true = refl
-not_not false = refl
-
 module _ (z o : ℕ) (a : (j : ℕ) → bit z j ≡ true → bit o j ≡ false) where
   positive_fits : (m : ℕ) → Fits z o 64 m → bit o 64 ≡ false → Fits65 z o (pos m)
   positive_fits m h e = record {
@@ -53,7 +50,7 @@ module _ (z o : ℕ) (a : (j : ℕ) → bit z j ≡ true → bit o j ≡ false) 
 
       one : (k : ℕ) → (k < 64) ⊎ (k ≡ 64) → bit o k ≡ true → bit m k ≡ true
       one k (inl l) f = h.ones k l f
-      one k (inr i) f = absurd (clash _ (ap (bit o) (sym i) ∙ f) e)
+      one k (inr i) f = absurd (true_and_false _ (ap (bit o) (sym i) ∙ f) e)
 
   from_positive : (m : ℕ) → Fits65 z o (pos m) → Fits z o 64 m × (bit o 64 ≡ false)
   from_positive m h = (
@@ -71,7 +68,7 @@ module _ (z o : ℕ) (a : (j : ℕ) → bit z j ≡ true → bit o j ≡ false) 
 
       at : (b : Bool) → bit o 64 ≡ b → b ≡ false
       at false e = refl
-      at true e = absurd (clash _ (h.ones 64 (omega arith) e) (bit_above m 64 64 small (omega arith)))
+      at true e = absurd (true_and_false _ (h.ones 64 (omega arith) e) (bit_above m 64 64 small (omega arith)))
 
   bit_below_zero : (m k : ℕ) → m < 2 ^ 64 → k < 64 → bit_of (below_zero m) k ≡ bit m k
   bit_below_zero m k h l = ap not (bit_turned 64 m k h l) ∙ not_not (bit m k)
@@ -86,7 +83,7 @@ module _ (z o : ℕ) (a : (j : ℕ) → bit z j ≡ true → bit o j ≡ false) 
     where
       zero : (k : ℕ) → (k < 64) ⊎ (k ≡ 64) → bit z k ≡ true → bit_of (below_zero m) k ≡ false
       zero k (inl l) f = bit_below_zero m k h.below l ∙ h.zeros k l f
-      zero k (inr i) f = absurd (clash _ (ap (bit z) (sym i) ∙ f) e)
+      zero k (inr i) f = absurd (true_and_false _ (ap (bit z) (sym i) ∙ f) e)
 
       one : (k : ℕ) → (k < 64) ⊎ (k ≡ 64) → bit o k ≡ true → bit_of (below_zero m) k ≡ true
       one k (inl l) f = bit_below_zero m k h.below l ∙ h.ones k l f
@@ -107,7 +104,7 @@ module _ (z o : ℕ) (a : (j : ℕ) → bit z j ≡ true → bit o j ≡ false) 
 
       at : (b : Bool) → bit z 64 ≡ b → b ≡ false
       at false e = refl
-      at true e = absurd (clash _ (ap not (bit_above m 64 64 small (omega arith))) (h.zeros 64 (omega arith) e))
+      at true e = absurd (true_and_false _ (ap not (bit_above m 64 64 small (omega arith))) (h.zeros 64 (omega arith) e))
 
   -- ---- the least from a number on
 
@@ -234,7 +231,7 @@ module _ (z o : ℕ) (a : (j : ℕ) → bit z j ≡ true → bit o j ≡ false) 
     where
       at : (b : Bool) → bit z j ≡ b → b ≡ false
       at false f = refl
-      at true f = absurd (clash _ e (a j f))
+      at true f = absurd (true_and_false _ e (a j f))
 
   last_found : (u : ℤ) → negsuc 18446744073709551615 ≤ℤ u → u ≤ℤ pos 18446744073709551615 → IfSome (last_to z o u)
       (λ v. Fits65 z o v × (v ≤ℤ u))
@@ -297,7 +294,7 @@ module _ (p : Pattern) (i : IsPattern p) where
           → int_le f g ≡ b → IfSome (cond b (Some (f, g)) None) (AreEnds p l u)
       both f g h k false e = tt
       both f g h k true e =
-          let o = from_le_true f g e in let a = h.1 in let b = k.1 in let x = m.low in let y = n.high in
+          let o = le_fact f g e in let a = h.1 in let b = k.1 in let x = m.low in let y = n.high in
           record {
             first = fits_has p f i h.0 (record { low = omega (arith, ints); high = omega (arith, ints) });
             last = fits_has p g i k.0 (record { low = omega (arith, ints); high = omega (arith, ints) });
@@ -324,7 +321,7 @@ module _ (p : Pattern) (i : IsPattern p) where
           (λ e. LiesIn e v)
       at None s h k = absurd h
       at (Some f) None h k = absurd k
-      at (Some f) (Some g) h k = by (int_le f g) (le_true f g (le_trans f v g h k))
+      at (Some f) (Some g) h k = by (int_le f g) (le_test f g (le_trans f v g h k))
         where
           by : (b : Bool) → b ≡ true → IsSomeAnd (cond b (Some (f, g)) None) (λ e. LiesIn e v)
           by true e = record { low = h; high = k }
@@ -350,7 +347,7 @@ module _ (p : Pattern) (i : IsPattern p) where
           (cond b (edges_from p (int_max lo (least_of I64)) (int_min hi (greatest_of U64))) None) (AreEnds p lo hi)
       at false e = tt
       at true e =
-          let o = from_le_true (int_max lo (least_of I64)) (int_min hi (greatest_of U64)) e in
+          let o = le_fact (int_max lo (least_of I64)) (int_min hi (greatest_of U64)) e in
           wide (edges_from p (int_max lo (least_of I64)) (int_min hi (greatest_of U64)))
           (from_between (int_max lo (least_of I64)) (int_min hi (greatest_of U64))
           (record { low = omega (arith, ints, clamps); high = omega (arith, ints, clamps) })
@@ -358,7 +355,7 @@ module _ (p : Pattern) (i : IsPattern p) where
 
   pub edges_enclose : (lo hi v : ℤ) → Has p v → lo ≤ℤ v → v ≤ℤ hi → IsSomeAnd (edges_of p lo hi) (λ e. LiesIn e v)
   edges_enclose lo hi v h j k = at (int_le (int_max lo (least_of I64)) (int_min hi (greatest_of U64)))
-      (le_true (int_max lo (least_of I64)) (int_min hi (greatest_of U64))
+      (le_test (int_max lo (least_of I64)) (int_min hi (greatest_of U64))
       (let x = h.number.low in let y = h.number.high in omega (arith, ints, clamps)))
     where
       at : (b : Bool) → b ≡ true → IsSomeAnd (cond b

@@ -1,5 +1,8 @@
 -- Every bit that a pattern does not know takes both values, also among the numbers of a type.
 use Rattle.std.proofs.Common.{◌≡◌, ℕ, ◌-◌, ◌^◌, ◌<◌, ◌≤◌, ℤ, Bool, true, false, ◌&&◌, ◌||◌, not, cond, nat_eq}
+use Rattle.ep_int.proofs.Arithmetic.{in_range_some_type}
+use Rattle.ep_int.proofs.Basics.{true_and_false}
+use Rattle.std.proofs.lemmas.Bool.{eqb-true}
 use Rattle.std.proofs.Common.{bit_and, bit_or, Option, Some, None, ◌⊎◌, inl, inr, arith, refl, sym, ap, ◌∙◌}
 use Rattle.std.specs.Option.{unwrap_or}
 use Rattle.std.proofs.lemmas.Nat.{or_lt}
@@ -7,14 +10,13 @@ use Rattle.std.proofs.Math.Pow.{pow_mono}
 use Rattle.std.proofs.lemmas.Bool.{cases_lt, cases_eq, and_parts, or_right, or_from}
 use Rattle.ep_int.specs.declared.types.IntType.{IntType}
 use Rattle.ep_int.specs.Types.{bits_of, is_signed, InRange}
-use Rattle.ep_range_laws.proofs.Types.{number_of}
 use Rattle.ep_bit_laws.specs.Bits.{bit, bit_of}
 use Rattle.ep_bit_laws.specs.Patterns.{Pattern, pattern, known_bit, Has, IsPattern, closed, sign_place, sign_bits}
 use Rattle.ep_bit_laws.specs.Patterns.{in_type, exactly}
 use Rattle.ep_bit_laws.proofs.Bits.{same_numbers, bit-or, bit_within, bit_power, bit_power_other, bit_turned}
 use Rattle.ep_bit_laws.proofs.Numbers.{number_of_bits, bit_of_number, number_in_range, number_of_some_type}
 use Rattle.ep_bit_laws.proofs.Numbers.{sign_place_small, width_small, low_bits_below}
-use Rattle.ep_bit_laws.proofs.Patterns.{clash, given_bit, keeps_bit, has_bit, apart_from, eq_from, closed_zeros}
+use Rattle.ep_bit_laws.proofs.Patterns.{given_bit, keeps_bit, has_bit, apart_from, closed_zeros}
 use Rattle.ep_bit_laws.proofs.Patterns.{closed_ones}
 use Rattle.ep_bit_laws.proofs.Types.{sign_bits_below, in_sign, from_sign}
 
@@ -70,7 +72,7 @@ closed_open p k e =
     not_known p k (back _ _ (closed_ones p k) h.0) (back _ _ (closed_zeros p k) h.1)
   where
     back : (a b : Bool) → (a ≡ true → b ≡ true) → b ≡ false → a ≡ false
-    back true b f e = absurd (clash b (f refl) e)
+    back true b f e = absurd (true_and_false b (f refl) e)
     back false b f e = refl
 
 -- a number has the known bits
@@ -93,7 +95,7 @@ known_holds p z k b h e = by (ways p k)
 
 -- all bits of one number are known
 pub exact_known : (v : ℤ) (k : ℕ) → k < 65 → known_bit (exactly v) k ≡ None → ⊥
-exact_known v k l e = let h = open_bit (exactly v) k e in clash _
+exact_known v k l e = let h = open_bit (exactly v) k e in true_and_false _
     (bit_turned 65 _ k (low_bits_below v) l ∙ ap not h.0) h.1
 
 -- ---- among all numbers
@@ -129,8 +131,8 @@ module _ (p : Pattern) (i : IsPattern p) where
       zero j f true g = by (given_bit p.ones k j g)
         where
           by : (bit p.ones j ≡ true) ⊎ (j ≡ k) → true ≡ false
-          by (inl h) = absurd (clash _ h (i.apart j f))
-          by (inr h) = absurd (clash _ (ap (bit p.zeros) (sym h) ∙ f) e)
+          by (inl h) = absurd (true_and_false _ h (i.apart j f))
+          by (inr h) = absurd (true_and_false _ (ap (bit p.zeros) (sym h) ∙ f) e)
 
   -- a number whose bit is as wanted, where it is not known
   pub pick_any : (k : ℕ) (b : Bool) → k < 64 → (x : ℤ) × Has p x × (bit_of x k ≡ bit_or_else p k b)
@@ -184,13 +186,13 @@ module _ (t : IntType) (p : Pattern) (a : (k : ℕ) → bit (in_type t p).zeros 
     where
       at : (c : Bool) → bit m k ≡ c → c ≡ false
       at false f = refl
-      at true f = absurd (clash _ (in_sign t k l u) (apart_from m (sign_bits t) (e refl) k f))
+      at true f = absurd (true_and_false _ (in_sign t k l u) (apart_from m (sign_bits t) (e refl) k f))
   all_or_none m false e k l u = bit-or m (sign_bits t) k ∙ or_right (bit m k) _ (in_sign t k l u)
 
   zero_sign_bits : (k : ℕ) → sign_place t ≤ k → k < 65 → bit (in_type t p).zeros k ≡ not
       (is_signed t && nat_eq (bit_and p.zeros (sign_bits t)) 0)
   zero_sign_bits k l u = all_or_none p.zeros (is_signed t && nat_eq (bit_and p.zeros (sign_bits t)) 0)
-      (λ e. eq_from _ _ (and_parts (is_signed t) (nat_eq (bit_and p.zeros (sign_bits t)) 0) e).1) k l u
+      (λ e. eqb-true _ _ (and_parts (is_signed t) (nat_eq (bit_and p.zeros (sign_bits t)) 0) e).1) k l u
 
   unsigned_zeros : is_signed t ≡ false → (k : ℕ) → sign_place t ≤ k → k < 65 → bit (in_type t p).zeros k ≡ true
   unsigned_zeros e k l u = zero_sign_bits k l u ∙ ap (λ s. not (s && nat_eq (bit_and p.zeros (sign_bits t)) 0)) e
@@ -198,7 +200,7 @@ module _ (t : IntType) (p : Pattern) (a : (k : ℕ) → bit (in_type t p).zeros 
   one_sign_bits : is_signed t ≡ true → (k : ℕ) → sign_place t ≤ k → k < 65 → bit (in_type t p).ones k ≡ not
       (not (is_signed t) || nat_eq (bit_and p.ones (sign_bits t)) 0)
   one_sign_bits e k l u = all_or_none p.ones (not (is_signed t) || nat_eq (bit_and p.ones (sign_bits t)) 0)
-      (λ f. eq_from _ _ (sym (ap (λ s. not s || nat_eq (bit_and p.ones (sign_bits t)) 0) e) ∙ f)) k l u
+      (λ f. eqb-true _ _ (sym (ap (λ s. not s || nat_eq (bit_and p.ones (sign_bits t)) 0) e) ∙ f)) k l u
 
   pub in_type_of : IsOfType t (in_type t p)
   in_type_of = record {
@@ -231,7 +233,7 @@ closed_same t p u a = ap (λ z. pattern z (closed p).ones) (zeros_same (bit p.ze
         at k false f = below (bit m k) (keeps_bit m (2 ^ j) k)
           where
             below : (c : Bool) → (c ≡ true → bit (bit_or m (2 ^ j)) k ≡ true) → false ≡ c
-            below true g = absurd (clash _ (g refl) f)
+            below true g = absurd (true_and_false _ (g refl) f)
             below false g = refl
 
     signed_place : (s : Bool) → is_signed t ≡ s → bit p.zeros 63 ≡ true → bit p.zeros 64 ≡ true
@@ -246,7 +248,7 @@ closed_same t p u a = ap (λ z. pattern z (closed p).ones) (zeros_same (bit p.ze
             width t = (width_small t).1
 
     ones_place : (s : Bool) → is_signed t ≡ s → bit p.ones 64 ≡ true → bit p.ones 63 ≡ true
-    ones_place false e f = absurd (clash _ f (a 64 (u.unsigned e)))
+    ones_place false e f = absurd (true_and_false _ f (a 64 (u.unsigned e)))
     ones_place true e f = u.ones 63 (small e) (omega arith) ∙ f
       where
         small : is_signed t ≡ true → sign_place t ≤ 63
@@ -280,7 +282,7 @@ module _ (t : IntType) (p : Pattern) (i : IsPattern p) (u : IsOfType t p) where
   module _ (k : ℕ) (l : k < 65) (e : bit p.ones k ≡ false) (f : bit p.zeros k ≡ false) where
     signed_alone : sign_place t ≤ k → (s : Bool) → is_signed t ≡ s → s ≡ true
     signed_alone m true g = refl
-    signed_alone m false g = absurd (clash _ (u.zeros k m l ∙ u.unsigned g) f)
+    signed_alone m false g = absurd (true_and_false _ (u.zeros k m l ∙ u.unsigned g) f)
 
     high_with : (m : ℕ) → m < 2 ^ 65 → ((j : ℕ) → bit m j ≡ true → bit p.zeros j ≡ false) →
         ((j : ℕ) → sign_place t ≤ j → j < 65 → bit (bit_or p.ones m) j ≡ bit (bit_or p.ones m) 64) →
@@ -290,7 +292,7 @@ module _ (t : IntType) (p : Pattern) (i : IsPattern p) (u : IsOfType t p) where
       number_of_bits (bit_or p.ones m),
       range,
       record {
-        number = number_of t _ range;
+        number = in_range_some_type t _ range;
         zeros = λ j h. bit_of_number (bit_or p.ones m) j small (bit_within p.zeros 65 j i.zeros_below h)
             ∙ bit-or p.ones m j ∙ or_from _ _ (i.apart j h) (none j h (bit m j) refl);
         ones = λ j h. bit_of_number (bit_or p.ones m) j small (bit_within p.ones 65 j i.ones_below h)
@@ -307,7 +309,7 @@ module _ (t : IntType) (p : Pattern) (i : IsPattern p) (u : IsOfType t p) where
 
         none : (j : ℕ) → bit p.zeros j ≡ true → (b : Bool) → bit m j ≡ b → b ≡ false
         none j h false q = refl
-        none j h true q = absurd (clash _ h (a j q))
+        none j h true q = absurd (true_and_false _ h (a j q))
 
     one_set : (x : ℤ) × InRange t x × Has p x × (bit_of x k ≡ true)
     one_set = by (cases_lt k (sign_place t))
@@ -323,7 +325,7 @@ module _ (t : IntType) (p : Pattern) (i : IsPattern p) (u : IsOfType t p) where
           where
             at : (j : ℕ) → bit (2 ^ k) j ≡ true → (j ≡ k) ⊎ (j ≡ k → ⊥) → bit p.zeros j ≡ false
             at j g (inl h) = ap (bit p.zeros) h ∙ f
-            at j g (inr h) = absurd (clash _ g (bit_power_other k j h))
+            at j g (inr h) = absurd (true_and_false _ g (bit_power_other k j h))
 
             same : (j : ℕ) → k < j → bit (bit_or p.ones (2 ^ k)) j ≡ bit p.ones j
             same j g = bit-or p.ones (2 ^ k) j ∙ right (bit p.ones j) _
@@ -336,7 +338,7 @@ module _ (t : IntType) (p : Pattern) (i : IsPattern p) (u : IsOfType t p) where
             high_with (sign_bits t) (sign_bits_below t)
             (λ j g. let h = from_sign t j g in u.zeros j h.0 h.1 ∙ sym (u.zeros k m l) ∙ f)
             (λ j g h. set j g h ∙ sym (set 64 (sign_place_small t) (omega arith)))
-            (λ g. absurd (clash _ (signed_alone m (is_signed t) refl) g))
+            (λ g. absurd (true_and_false _ (signed_alone m (is_signed t) refl) g))
             (in_sign t k m l)
           where
             set : (j : ℕ) → sign_place t ≤ j → j < 65 → bit (bit_or p.ones (sign_bits t)) j ≡ true

@@ -1,5 +1,6 @@
 -- The least natural number with given bits that is not below another.
 use Rattle.std.proofs.Common.{◌≡◌, ℕ, zero, suc, ◌+◌, ◌-◌, ◌*◌, ◌%◌, ◌^◌, ◌<◌, ◌≤◌, Bool, true, false, cond, nat_eq}
+use Rattle.ep_int.proofs.Basics.{true_and_false}
 use Rattle.std.proofs.Common.{◌⊎◌, inl, inr, Option, Some, None, IsSomeAnd, IfSome, arith, refl, sym, ap, ◌∙◌, subst}
 use Rattle.std.specs.Option.{option_map}
 use Rattle.std.specs.Int.{bit_at}
@@ -10,7 +11,7 @@ use Rattle.std.proofs.lemmas.Nat.Bits.{bit_at-lt, bit_at_cat_low, bit_at_cat_hig
 use Rattle.ep_bit_laws.specs.Bits.{bit}
 use Rattle.ep_bit_laws.specs.Edges.{with_bit, first_at}
 use Rattle.ep_bit_laws.proofs.Bits.{bit_low, bit_low_above, bit_above}
-use Rattle.ep_bit_laws.proofs.Patterns.{clash, from_inside}
+use Rattle.ep_bit_laws.proofs.Patterns.{from_inside}
 
 -- of k bits, those that have to be 0 or 1 are
 pub record Fits (z o k m : ℕ) : Type 0 where
@@ -80,7 +81,7 @@ module _ (z o n k : ℕ) where
     where
       zero : (j : ℕ) → (j < k) ⊎ (j ≡ k) → bit z j ≡ true → bit (2 ^ k + m) j ≡ false
       zero j (inl l) f = bit_raised m j l ∙ h.zeros j l f
-      zero j (inr i) f = absurd (clash (bit z k) (sym (ap (bit z) i) ∙ f) e)
+      zero j (inr i) f = absurd (true_and_false (bit z k) (sym (ap (bit z) i) ∙ f) e)
 
       one : (j : ℕ) → (j < k) ⊎ (j ≡ k) → bit o j ≡ true → bit (2 ^ k + m) j ≡ true
       one j (inl l) f = bit_raised m j l ∙ h.ones j l f
@@ -99,7 +100,7 @@ module _ (z o n k : ℕ) where
 
       one : (j : ℕ) → (j < k) ⊎ (j ≡ k) → bit o j ≡ true → bit m j ≡ true
       one j (inl l) f = h.ones j l f
-      one j (inr i) f = absurd (clash (bit o k) (sym (ap (bit o) i) ∙ f) e)
+      one j (inr i) f = absurd (true_and_false (bit o k) (sym (ap (bit o) i) ∙ f) e)
 
   -- the least number with these bits
   pub least_fits : ((j : ℕ) → bit z j ≡ true → bit o j ≡ false) → Fits z o k (o % 2 ^ k)
@@ -117,7 +118,7 @@ module _ (z o n k : ℕ) where
         where
           by : (j < k) ⊎ (k ≤ j) → bit m j ≡ true
           by (inl l) = h.ones j l (sym (bit_low o k j l) ∙ e)
-          by (inr l) = absurd (clash _ e (bit_low_above o k j l))
+          by (inr l) = absurd (true_and_false _ e (bit_low_above o k j l))
 
   -- the bit of a number above its low bits
   abbrev Top : ℕ → Bool → Type 0
@@ -179,7 +180,7 @@ module _ (z o n k : ℕ) where
     where
       nothing : (m : ℕ) → Fits z o (suc k) m → n % 2 ^ suc k ≤ m → ((bit m k ≡ true) × (m ≡ 2 ^ k + m % 2 ^ k)) ⊎
           ((bit m k ≡ false) × (m ≡ m % 2 ^ k)) → ⊥
-      nothing m i l (inl w) = clash _ w.0 (i.zeros k (omega arith) f)
+      nothing m i l (inl w) = true_and_false _ w.0 (i.zeros k (omega arith) f)
       nothing m i l (inr w) = let s = start_one e in let q = low_small m in let p = w.1 in absurd (omega arith)
   step a true false b e f g r h = record { found = mapped r h.found e f; least = λ m i l. at m i l (ways m i) }
     where
@@ -196,12 +197,12 @@ module _ (z o n k : ℕ) where
     where
       not_zero : (x : Bool) → bit z k ≡ x → x ≡ false
       not_zero false p = refl
-      not_zero true p = absurd (clash (bit o k) g (a k p))
+      not_zero true p = absurd (true_and_false (bit o k) g (a k p))
 
       at : (m : ℕ) → Fits z o (suc k) m → ((bit m k ≡ true) × (m ≡ 2 ^ k + m % 2 ^ k)) ⊎
           ((bit m k ≡ false) × (m ≡ m % 2 ^ k)) → 2 ^ k + o % 2 ^ k ≤ m
       at m i (inl w) = let q = least_below (m % 2 ^ k) (lower m i) in let p = w.1 in omega arith
-      at m i (inr w) = absurd (clash _ (i.ones k (omega arith) g) w.0)
+      at m i (inr w) = absurd (true_and_false _ (i.ones k (omega arith) g) w.0)
   step a false d false e f g (Some x) h = record {
     found =
         (raised_zero x h.found.0 g, let s = start_zero e in let l = h.found.1 in omega arith);
@@ -218,7 +219,7 @@ module _ (z o n k : ℕ) where
     where
       at : (m : ℕ) → Fits z o (suc k) m → n % 2 ^ suc k ≤ m → ((bit m k ≡ true) × (m ≡ 2 ^ k + m % 2 ^ k)) ⊎
           ((bit m k ≡ false) × (m ≡ m % 2 ^ k)) → ⊥
-      at m i l (inl w) = clash _ w.0 (i.zeros k (omega arith) f)
+      at m i l (inl w) = true_and_false _ w.0 (i.zeros k (omega arith) f)
       at m i l (inr w) = h.least (m % 2 ^ k) (lower m i) (let s = start_zero e in let p = w.1 in omega arith)
   step a false false false e f g None h = record { found = some_low a e f; least = λ m i l. at m i l (ways m i) }
     where

@@ -1,5 +1,6 @@
 -- Laws of the bits of whole numbers.
 use Rattle.std.proofs.Common.{◌≡◌, ℕ, suc, ◌+◌, ◌-◌, ◌*◌, ◌%◌, ◌^◌, ◌<◌, ◌≤◌, ℤ, pos, negsuc, Bool, true, false, ◌&&◌}
+use Rattle.ep_int.proofs.Basics.{not_not}
 use Rattle.std.proofs.Common.{not, cond, nat_le, ◌⊎◌, inl, inr, arith, refl, sym, ap, ◌∙◌, subst}
 use Rattle.std.specs.Int.{int_shr}
 use Rattle.std.proofs.lemmas.Int.{ints}
@@ -15,10 +16,6 @@ use Rattle.ep_int.proofs.Wrapping.{residue_below, representation_below}
 use Rattle.ep_bit_laws.specs.Bits.{bit, bit_of, low_bits}
 use Rattle.ep_bit_laws.specs.Patterns.{sign_place}
 use Rattle.ep_bit_laws.proofs.Bits.{same_below, bit_above, bit_low, bit_low_above, bit_turned, bit_shifted}
-
-not_not : (b : Bool) → not (not b) ≡ b
-not_not true = refl
-not_not false = refl
 
 -- the bits that are left at a power of 2
 pub bit_residue : (w : ℕ) (z : ℤ) (k : ℕ) → k < w → bit (residue (2 ^ w) z) k ≡ bit_of z k

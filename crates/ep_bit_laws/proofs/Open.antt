@@ -1,5 +1,6 @@
 -- Where a bit of a result is not known, neither is that of the operand from which it comes.
 use Rattle.std.proofs.Common.{◌≡◌, ℕ, ◌+◌, ◌-◌, ◌*◌, ◌/◌, ◌%◌, ◌^◌, ◌<◌, ◌≤◌, Bool, true, false, ◌&&◌, ◌||◌, cond}
+use Rattle.ep_int.proofs.Basics.{true_and_false, and_false-not_both}
 use Rattle.std.proofs.Common.{bit_and, bit_or, None, ◌⊎◌, inl, inr, arith, refl, sym, ap, ◌∙◌, subst}
 use Rattle.std.specs.Option.{unwrap_or}
 use Rattle.std.proofs.lemmas.Nat.{pow_pos}
@@ -10,7 +11,6 @@ use Rattle.ep_bit_laws.specs.Bits.{bit}
 use Rattle.ep_bit_laws.specs.Patterns.{Pattern, pattern, known_bit, sign_bits, low_part}
 use Rattle.ep_bit_laws.specs.Results.{both_of, either_of, one_of, shifted_down, right_by, left_by}
 use Rattle.ep_bit_laws.proofs.Bits.{bit-and, bit-or, differ, bit_low, bit_shifted, bit_ones, mask_inside}
-use Rattle.ep_bit_laws.proofs.Patterns.{clash}
 use Rattle.ep_bit_laws.proofs.Types.{in_sign, unsigned_place}
 use Rattle.ep_bit_laws.proofs.Results.{bit_moved_low, bit_moved_high, product_high}
 use Rattle.ep_bit_laws.proofs.Exact.{bit_or_else, known_one, known_zero, not_known, Ways, is_one, is_zero, is_open}
@@ -37,9 +37,6 @@ pub record Chosen (f : Bool → Bool → Bool) (p q : Pattern) (k : ℕ) (b : Bo
 two : (f : Bool → Bool → Bool) (a b c d : Bool) → a ≡ c → b ≡ d → f a b ≡ f c d
 two f a b c d e g = ap (λ x. f x b) e ∙ ap (f c) g
 
-parts_false : (a b : Bool) → (a && b) ≡ false → a ≡ true → b ≡ true → ⊥
-parts_false a b e f g = clash (a && b) (two (λ x y. x && y) a b true true f g) e
-
 pub and_chosen : (p q : Pattern) (k : ℕ) (b : Bool) → known_bit (both_of p q) k ≡ None → Chosen (λ x y. x && y) p q k b
 and_chosen p q k b e = by (ways p k) (ways q k)
   where
@@ -61,9 +58,9 @@ and_chosen p q k b e = by (ways p k) (ways q k)
     right_true false = refl
 
     by : Ways p k → Ways q k → Chosen (λ x y. x && y) p q k b
-    by (is_zero f g) w = absurd (clash _ g z.0)
-    by w (is_zero f g) = absurd (clash _ g z.1)
-    by (is_one f) (is_one g) = absurd (parts_false (bit p.ones k) (bit q.ones k) o f g)
+    by (is_zero f g) w = absurd (true_and_false _ g z.0)
+    by w (is_zero f g) = absurd (true_and_false _ g z.1)
+    by (is_one f) (is_one g) = absurd (and_false-not_both (bit p.ones k) (bit q.ones k) o f g)
     by (is_one f) (is_open g i) = record {
       left = b;
       right = b;
@@ -105,9 +102,9 @@ or_chosen p q k b e = by (ways p k) (ways q k)
     right_false false = refl
 
     by : Ways p k → Ways q k → Chosen (λ x y. x || y) p q k b
-    by (is_one f) w = absurd (clash _ f o.0)
-    by w (is_one f) = absurd (clash _ f o.1)
-    by (is_zero f g) (is_zero i j) = absurd (parts_false (bit p.zeros k) (bit q.zeros k) z g j)
+    by (is_one f) w = absurd (true_and_false _ f o.0)
+    by w (is_one f) = absurd (true_and_false _ f o.1)
+    by (is_zero f g) (is_zero i j) = absurd (and_false-not_both (bit p.zeros k) (bit q.zeros k) z g j)
     by (is_zero f g) (is_open i j) = record {
       left = b;
       right = b;
@@ -175,10 +172,10 @@ xor_chosen p q k b e = by (ways p k) (ways q k)
     }
 
     by : Ways p k → Ways q k → Chosen differ p q k b
-    by (is_one f) (is_one g) = absurd (parts_false _ _ (sym (bit-and p.ones q.ones k) ∙ z.1) f g)
-    by (is_one f) (is_zero g i) = absurd (parts_false _ _ (sym (bit-and p.ones q.zeros k) ∙ o.1) f i)
-    by (is_zero f g) (is_one i) = absurd (parts_false _ _ (sym (bit-and p.zeros q.ones k) ∙ o.0) g i)
-    by (is_zero f g) (is_zero i j) = absurd (parts_false _ _ (sym (bit-and p.zeros q.zeros k) ∙ z.0) g j)
+    by (is_one f) (is_one g) = absurd (and_false-not_both _ _ (sym (bit-and p.ones q.ones k) ∙ z.1) f g)
+    by (is_one f) (is_zero g i) = absurd (and_false-not_both _ _ (sym (bit-and p.ones q.zeros k) ∙ o.1) f i)
+    by (is_zero f g) (is_one i) = absurd (and_false-not_both _ _ (sym (bit-and p.zeros q.ones k) ∙ o.0) g i)
+    by (is_zero f g) (is_zero i j) = absurd (and_false-not_both _ _ (sym (bit-and p.zeros q.zeros k) ∙ z.0) g j)
     by (is_open f g) (is_one i) = left_open true f g (given_one q k false i)
     by (is_open f g) (is_zero i j) = left_open false f g (given_zero q k false i j)
     by (is_one f) (is_open i j) = right_open true (given_one p k false f) i j
@@ -201,7 +198,7 @@ shifted_open n m k l e = (sym (bit_shifted m n k) ∙ h.0, λ u. at (bit m 64) h
 
     at : (b : Bool) → bit (cond b (2 ^ 65 - 2 ^ (65 - n)) 0) k ≡ false → 65 ≤ n + k → b ≡ false
     at false f u = refl
-    at true f u = absurd (clash _ (mask_inside (65 - n) 65 k (omega arith) l) f)
+    at true f u = absurd (true_and_false _ (mask_inside (65 - n) 65 k (omega arith) l) f)
 
 pub right_open : (n : ℕ) (p : Pattern) (k : ℕ) → k < 65 → known_bit (right_by n p) k ≡ None →
     ((n + k < 65) × (known_bit p (n + k) ≡ None)) ⊎ ((65 ≤ n + k) × (known_bit p 64 ≡ None))
@@ -227,7 +224,7 @@ low_open t p k s l e = by (cases_lt k (bits_of t))
 
     by : (k < bits_of t) ⊎ (bits_of t ≤ k) → (k < bits_of t) × (bit p.ones k ≡ false) × (bit p.zeros k ≡ false)
     by (inl u) = (u, sym (bit_low p.ones (bits_of t) k u) ∙ h.0, sym (bit_low p.zeros (bits_of t) k u) ∙ z.0)
-    by (inr u) = absurd (clash _ (in_sign t k (subst (λ n. n ≤ k) (sym (unsigned_place t s)) u) l) z.1)
+    by (inr u) = absurd (true_and_false _ (in_sign t k (subst (λ n. n ≤ k) (sym (unsigned_place t s)) u) l) z.1)
 
 pub left_open : (t : IntType) (n : ℕ) (p : Pattern) (k : ℕ) → is_signed t ≡ false → k < 65 → known_bit
     (left_by t n p) k ≡ None → (k < bits_of t) × (n ≤ k) × (known_bit p (k - n) ≡ None)
@@ -240,7 +237,7 @@ left_open t n p k s l e = by (cases_lt k n)
     h = low_open t (pattern (p.zeros * 2 ^ n + (2 ^ n - 1)) (p.ones * 2 ^ n)) k s l e
 
     by : (k < n) ⊎ (n ≤ k) → (k < bits_of t) × (n ≤ k) × (known_bit p (k - n) ≡ None)
-    by (inl u) = absurd (clash _ (bit_moved_low p.zeros n (2 ^ n - 1) k u ∙ bit_ones n k u) h.2)
+    by (inl u) = absurd (true_and_false _ (bit_moved_low p.zeros n (2 ^ n - 1) k u ∙ bit_ones n k u) h.2)
     by (inr u) = (
       h.0,
       u,

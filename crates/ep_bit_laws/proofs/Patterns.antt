@@ -1,9 +1,10 @@
 -- Laws of patterns.
 use Rattle.std.proofs.Common.{◌≡◌, ℕ, ◌-◌, ◌^◌, ◌<◌, ℤ, Bool, true, false, ◌&&◌, ◌||◌, not, cond, nat_eq, nat_lt}
+use Rattle.ep_int.proofs.Basics.{true_and_false, implied as holds_too}
+use Rattle.std.proofs.lemmas.Bool.{eq-eqb, eqb-true, lt-ltb, ltb-true}
 use Rattle.std.proofs.Common.{bit_and, bit_or, ◌⊎◌, inl, inr, arith, refl, sym, ap, ◌∙◌}
 use Rattle.std.proofs.lemmas.Nat.{or_lt, and_le_l}
 use Rattle.std.proofs.lemmas.Bool.{cases_eq, and_parts, and_from, or_cases, or_left, or_right}
-use Rattle.std.proofs.lemmas.Bool.Decides.{nat_tests}
 use Rattle.ep_int.specs.Arith.{IsOfSomeType}
 use Rattle.ep_range_laws.proofs.Comparisons.{between_true, from_between}
 use Rattle.ep_bit_laws.specs.Bits.{bit, bit_of, low_bits}
@@ -15,28 +16,13 @@ use Rattle.ep_bit_laws.proofs.Numbers.{low_bits_below, bit_low_bits, negative_bi
 
 -- ---- tests
 
-pub eq_from : (m n : ℕ) → nat_eq m n ≡ true → m ≡ n
-eq_from m n h = grind (arith, nat_tests)
-
-pub eq_test : (m n : ℕ) → m ≡ n → nat_eq m n ≡ true
-eq_test m n h = grind (arith, nat_tests)
-
-pub lt_from : (m n : ℕ) → nat_lt m n ≡ true → m < n
-lt_from m n h = grind (arith, nat_tests)
-
-pub lt_test : (m n : ℕ) → m < n → nat_lt m n ≡ true
-lt_test m n h = grind (arith, nat_tests)
-
-pub clash : (b : Bool) → b ≡ true → b ≡ false → ⊥
-clash b e f = absurd cc
-
 -- no bit of both
 pub apart_from : (a b : ℕ) → bit_and a b ≡ 0 → (k : ℕ) → bit a k ≡ true → bit b k ≡ false
 apart_from a b e k h = at (bit b k) refl
   where
     at : (c : Bool) → bit b k ≡ c → c ≡ false
     at false f = refl
-    at true f = absurd (clash (bit (bit_and a b) k) (bit-and a b k ∙ and_from _ _ h f)
+    at true f = absurd (true_and_false (bit (bit_and a b) k) (bit-and a b k ∙ and_from _ _ h f)
         (ap (λ n. bit n k) e ∙ bit_of_zero k))
 
 pub from_apart : (a b : ℕ) → ((k : ℕ) → bit a k ≡ true → bit b k ≡ false) → bit_and a b ≡ 0
@@ -56,7 +42,7 @@ from_inside a b h = same_numbers (bit_and a b) b (λ k. bit-and a b k ∙ at (bi
   where
     at : (x y : Bool) → (y ≡ true → x ≡ true) → (x && y) ≡ y
     at true y f = refl
-    at false true f = absurd (clash false (f refl) refl)
+    at false true f = absurd (true_and_false false (f refl) refl)
     at false false f = refl
 
 -- ---- members
@@ -68,9 +54,9 @@ has_from p z h l m =
     let t = and_parts (nat_eq (bit_and (low_bits z) p.zeros) 0) (nat_eq (bit_and (low_bits z) p.ones) p.ones) s.1 in
     record {
       number = record { low = q.0; high = q.1 };
-      zeros = λ k e. zero k e (bit_within p.zeros 65 k l e) (eq_from _ _ t.0);
+      zeros = λ k e. zero k e (bit_within p.zeros 65 k l e) (eqb-true _ _ t.0);
       ones = λ k e. sym (bit_low_bits z k (bit_within p.ones 65 k m e)) ∙ inside_from (low_bits z) p.ones
-          (eq_from _ _ t.1) k e;
+          (eqb-true _ _ t.1) k e;
     }
   where
     zero : (k : ℕ) → bit p.zeros k ≡ true → k < 65 → bit_and (low_bits z) p.zeros ≡ 0 → bit_of z k ≡ false
@@ -78,20 +64,20 @@ has_from p z h l m =
       where
         at : (c : Bool) → bit (low_bits z) k ≡ c → c ≡ false
         at false i = refl
-        at true i = absurd (clash (bit p.zeros k) e (apart_from (low_bits z) p.zeros f k i))
+        at true i = absurd (true_and_false (bit p.zeros k) e (apart_from (low_bits z) p.zeros f k i))
 
 pub has_test : (p : Pattern) (z : ℤ) → p.zeros < 2 ^ 65 → p.ones < 2 ^ 65 → Has p z → has p z ≡ true
 has_test p z l m h =
     and_from (is_number z) (matches p (low_bits z)) (between_true _ _ _ _ h.number.low h.number.high)
-    (and_from _ _ (eq_test _ _ (from_apart (low_bits z) p.zeros zero))
-    (eq_test _ _ (from_inside (low_bits z) p.ones one)))
+    (and_from _ _ (eq-eqb _ _ (from_apart (low_bits z) p.zeros zero))
+    (eq-eqb _ _ (from_inside (low_bits z) p.ones one)))
   where
     zero : (k : ℕ) → bit (low_bits z) k ≡ true → bit p.zeros k ≡ false
     zero k e = at (bit p.zeros k) refl
       where
         at : (c : Bool) → bit p.zeros k ≡ c → c ≡ false
         at false i = refl
-        at true i = absurd (clash (bit (low_bits z) k) e
+        at true i = absurd (true_and_false (bit (low_bits z) k) e
             (bit_low_bits z k (bit_within p.zeros 65 k l i) ∙ h.zeros k i))
 
     one : (k : ℕ) → bit p.ones k ≡ true → bit (low_bits z) k ≡ true
@@ -103,10 +89,6 @@ implied : (a b : Bool) → (a ≡ true → b ≡ true) → (not a || b) ≡ true
 implied true b h = h refl
 implied false b h = refl
 
-implies : (a b : Bool) → (not a || b) ≡ true → a ≡ true → b ≡ true
-implies true b h e = h
-implies false b h e = absurd cc
-
 pub pattern_from : (p : Pattern) → is_pattern p.zeros p.ones ≡ true → IsPattern p
 pattern_from p h =
     let s = and_parts (nat_lt p.zeros (2 ^ 65) && nat_lt p.ones (2 ^ 65))
@@ -117,11 +99,11 @@ pattern_from p h =
     ((not (bit p.ones 64) || bit p.ones 63) && (not (bit p.zeros 63) || bit p.zeros 64)) s.1 in
     let n = and_parts (not (bit p.ones 64) || bit p.ones 63) (not (bit p.zeros 63) || bit p.zeros 64) m.1 in
     record {
-      zeros_below = lt_from _ _ l.0;
-      ones_below = lt_from _ _ l.1;
-      apart = apart_from p.zeros p.ones (eq_from _ _ m.0);
-      negative = implies (bit p.ones 64) (bit p.ones 63) n.0;
-      small = implies (bit p.zeros 63) (bit p.zeros 64) n.1;
+      zeros_below = ltb-true _ _ l.0;
+      ones_below = ltb-true _ _ l.1;
+      apart = apart_from p.zeros p.ones (eqb-true _ _ m.0);
+      negative = holds_too (bit p.ones 64) (bit p.ones 63) n.0;
+      small = holds_too (bit p.zeros 63) (bit p.zeros 64) n.1;
     }
 
 pub pattern_test : (p : Pattern) → IsPattern p → is_pattern p.zeros p.ones ≡ true
@@ -129,9 +111,9 @@ pattern_test p h =
     and_from (nat_lt p.zeros (2 ^ 65) && nat_lt p.ones (2 ^ 65))
     (nat_eq (bit_and p.zeros p.ones) 0 && ((not (bit p.ones 64) || bit p.ones 63) &&
     (not (bit p.zeros 63) || bit p.zeros 64)))
-    (and_from _ _ (lt_test _ _ h.zeros_below) (lt_test _ _ h.ones_below))
+    (and_from _ _ (lt-ltb _ _ h.zeros_below) (lt-ltb _ _ h.ones_below))
     (and_from (nat_eq (bit_and p.zeros p.ones) 0) ((not (bit p.ones 64) || bit p.ones 63) &&
-    (not (bit p.zeros 63) || bit p.zeros 64)) (eq_test _ _ (from_apart p.zeros p.ones h.apart))
+    (not (bit p.zeros 63) || bit p.zeros 64)) (eq-eqb _ _ (from_apart p.zeros p.ones h.apart))
     (and_from _ _ (implied (bit p.ones 64) (bit p.ones 63) h.negative)
     (implied (bit p.zeros 63) (bit p.zeros 64) h.small)))
 
@@ -143,7 +125,7 @@ given_bit m j k e = by (or_cases _ _ (sym (bit-or m (2 ^ j) k) ∙ e))
   where
     at : (k ≡ j) ⊎ (k ≡ j → ⊥) → bit (2 ^ j) k ≡ true → k ≡ j
     at (inl i) f = i
-    at (inr n) f = absurd (clash _ f (bit_power_other j k n))
+    at (inr n) f = absurd (true_and_false _ f (bit_power_other j k n))
 
     same : (k j : ℕ) → (k ≡ j) ⊎ (k ≡ j → ⊥)
     same k j = cases_eq k j
@@ -184,7 +166,7 @@ positive_bits z h e = at (bit_of z 64) refl
   where
     at : (c : Bool) → bit_of z 64 ≡ c → c ≡ false
     at false f = refl
-    at true f = absurd (clash _ (negative_bits z h f) e)
+    at true f = absurd (true_and_false _ (negative_bits z h f) e)
 
 -- closing says nothing new of numbers
 pub closed_has : (p : Pattern) (z : ℤ) → Has p z → Has (closed p) z
@@ -238,17 +220,17 @@ closed_pattern p z h = record {
       where
         at : (c : Bool) → bit (closed p).ones k ≡ c → c ≡ false
         at false f = refl
-        at true f = absurd (clash (bit_of z k) (member.ones k f) (member.zeros k e))
+        at true f = absurd (true_and_false (bit_of z k) (member.ones k f) (member.zeros k e))
 
     negative : (c : Bool) → bit p.ones 64 ≡ c → bit (cond c (bit_or p.ones (2 ^ 63)) p.ones) 64 ≡ true → bit
         (cond c (bit_or p.ones (2 ^ 63)) p.ones) 63 ≡ true
     negative true e f = has_bit p.ones 63
-    negative false e f = absurd (clash _ f e)
+    negative false e f = absurd (true_and_false _ f e)
 
     small : (c : Bool) → bit p.zeros 63 ≡ c → bit (cond c (bit_or p.zeros (2 ^ 64)) p.zeros) 63 ≡ true → bit
         (cond c (bit_or p.zeros (2 ^ 64)) p.zeros) 64 ≡ true
     small true e f = has_bit p.zeros 64
-    small false e f = absurd (clash _ f e)
+    small false e f = absurd (true_and_false _ f e)
 
 -- ---- one number
 
@@ -298,8 +280,8 @@ within_has p q z e h =
     let s = and_parts (nat_eq (bit_and p.zeros q.zeros) q.zeros) (nat_eq (bit_and p.ones q.ones) q.ones) e in
     record {
       number = h.number;
-      zeros = λ k f. h.zeros k (inside_from p.zeros q.zeros (eq_from _ _ s.0) k f);
-      ones = λ k f. h.ones k (inside_from p.ones q.ones (eq_from _ _ s.1) k f);
+      zeros = λ k f. h.zeros k (inside_from p.zeros q.zeros (eqb-true _ _ s.0) k f);
+      ones = λ k f. h.ones k (inside_from p.ones q.ones (eqb-true _ _ s.1) k f);
     }
 
 pub common_left : (p q : Pattern) (z : ℤ) → Has p z → Has (common p q) z

@@ -1,5 +1,7 @@
 -- How many bits are known.
 use lib.Count.{ones, ones_step}
+use Rattle.ep_int.proofs.Basics.{true_and_false}
+use Rattle.std.proofs.lemmas.Bool.{eq-eqb}
 use Rattle.std.proofs.Common.{◌≡◌, ℕ, zero, suc, ◌+◌, ◌/◌, ◌%◌, ◌^◌, ◌<◌, ◌≤◌, Bool, true, false, ◌&&◌, ◌||◌, nat_eq}
 use Rattle.std.proofs.Common.{bit_and, bit_or, ◌⊎◌, inl, inr, arith, refl, sym, ap, ◌∙◌}
 use Rattle.std.proofs.Math.Nat.{pow-suc}
@@ -9,7 +11,6 @@ use Rattle.std.proofs.lemmas.Bool.{cases_lt, and_from, and_parts, or_cases, or_l
 use Rattle.ep_bit_laws.specs.Bits.{bit}
 use Rattle.ep_bit_laws.specs.Patterns.{Pattern, pattern, IsPattern, common, is_within, rank_of}
 use Rattle.ep_bit_laws.proofs.Bits.{same_numbers, bit-and, bit-or, bit_shifted}
-use Rattle.ep_bit_laws.proofs.Patterns.{clash, eq_test}
 
 -- ---- numbers of which one has all bits of the other
 
@@ -24,7 +25,7 @@ low_le a b h = by (a % 2) (b % 2) (omega arith) (omega arith) (λ e. sym (lowest
   where
     by : (x y : ℕ) → x < 2 → y < 2 → (nat_eq x 1 ≡ true → nat_eq y 1 ≡ true) → x ≤ y
     by zero y p q f = omega arith
-    by (suc zero) zero p q f = absurd (clash false (f refl) refl)
+    by (suc zero) zero p q f = absurd (true_and_false false (f refl) refl)
     by (suc zero) (suc y) p q f = omega arith
     by (suc (suc x)) y p q f = absurd (omega arith)
 
@@ -53,7 +54,7 @@ rank_bound p h = ones-le 65 (bit_or p.zeros p.ones) (or_lt 65 p.zeros p.ones h.z
 and_le : (a b c d : Bool) → ((a && b) || (c && d)) ≡ true → (a || c) ≡ true
 and_le true b c d h = refl
 and_le false b true d h = refl
-and_le false b false d h = absurd (clash false h refl)
+and_le false b false d h = absurd (true_and_false false h refl)
 
 known_inside : (p q : Pattern) → Inside (bit_or (common p q).zeros (common p q).ones) (bit_or p.zeros p.ones)
 unfolding Inside
@@ -93,13 +94,13 @@ known_same p q h i e = ap (λ z. pattern z (common p q).ones)
       where
         by : (bit (common p q).zeros k ≡ true) ⊎ (bit (common p q).ones k ≡ true) → bit (common p q).zeros k ≡ true
         by (inl g) = g
-        by (inr g) = absurd (clash _ (one_in k g) (h.apart k f))
+        by (inr g) = absurd (true_and_false _ (one_in k g) (h.apart k f))
 
     one_back : (k : ℕ) → bit p.ones k ≡ true → bit (common p q).ones k ≡ true
     one_back k f = by (known k (bit-or p.zeros p.ones k ∙ or_right (bit p.zeros k) _ f))
       where
         by : (bit (common p q).zeros k ≡ true) ⊎ (bit (common p q).ones k ≡ true) → bit (common p q).ones k ≡ true
-        by (inl g) = absurd (clash _ f (h.apart k (zero_in k g)))
+        by (inl g) = absurd (true_and_false _ f (h.apart k (zero_in k g)))
         by (inr g) = g
 
 pub rank_changes : (p q : Pattern) → IsPattern p → IsPattern (common p q) → (common p q ≡ p → ⊥) → rank_of
@@ -117,9 +118,9 @@ rank_changes p q h i n = by (cases_lt (rank_of (common p q)) (rank_of p))
 -- what changes nothing was within
 pub within_from_same : (p q : Pattern) → common p q ≡ p → is_within q p ≡ true
 within_from_same p q e =
-    and_from _ _ (eq_test _ _ (and_comm q.zeros p.zeros ∙ ap (λ (r : Pattern). r.zeros) e))
-    (eq_test _ _ (and_comm q.ones p.ones ∙ ap (λ (r : Pattern). r.ones) e))
+    and_from _ _ (eq-eqb _ _ (and_comm q.zeros p.zeros ∙ ap (λ (r : Pattern). r.zeros) e))
+    (eq-eqb _ _ (and_comm q.ones p.ones ∙ ap (λ (r : Pattern). r.ones) e))
 
 pub rank_falls : (p q : Pattern) → IsPattern p → IsPattern (common p q) → is_within q p ≡ false → rank_of
     (common p q) < rank_of p
-rank_falls p q h i f = rank_changes p q h i (λ e. clash _ (within_from_same p q e) f)
+rank_falls p q h i f = rank_changes p q h i (λ e. true_and_false _ (within_from_same p q e) f)

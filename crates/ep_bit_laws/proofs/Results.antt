@@ -1,11 +1,13 @@
 -- What an operator gives has the bits of its pattern.
 use Rattle.std.proofs.Common.{◌≡◌, ℕ, ◌+◌, ◌-◌, ◌*◌, ◌/◌, ◌%◌, ◌^◌, ◌<◌, ◌≤◌, ℤ, pos, ◌+ℤ◌, ◌-ℤ◌, ◌*ℤ◌, Bool, true}
-use Rattle.std.proofs.Common.{false, ◌&&◌, ◌||◌, not, cond, nat_eq, bit_and, bit_or, ◌⊎◌, inl, inr, arith, refl, sym}
+use Rattle.ep_congruence_laws.proofs.Results.{difference_members, sum_members}
+use Rattle.ep_int.proofs.Basics.{true_and_false, plus-zero}
+use Rattle.std.proofs.lemmas.Bool.{not-true}
+use Rattle.std.proofs.Common.{false, ◌&&◌, ◌||◌, cond, nat_eq, bit_and, bit_or, ◌⊎◌, inl, inr, arith, refl, sym}
 use Rattle.std.proofs.Common.{ap, ◌∙◌, subst}
 use Rattle.std.specs.Prelude.{bit_xor, min}
 use Rattle.std.specs.Int.{w128, trailing_ones, int_shr}
 use Rattle.std.proofs.Math.IntN.{*ℤ_comm}
-use Rattle.std.proofs.lemmas.Int.{ints}
 use Rattle.std.proofs.lemmas.Nat.{or_lt, xor_lt, and_le_l, pow_pos, mod_below}
 use Rattle.std.proofs.lemmas.Nat.Bits.{bit_at_cat_low, bit_at_cat_high, bit_at-trailing_ones}
 use Rattle.std.proofs.Math.Pow.{pow_mono}
@@ -27,7 +29,7 @@ use Rattle.ep_bit_laws.proofs.Bits.{same_below, bit-and, bit-or, bit-xor, differ
 use Rattle.ep_bit_laws.proofs.Bits.{bit_shifted, bit_turned, mask_below}
 use Rattle.ep_bit_laws.proofs.Numbers.{sign_bit, unsigned_sign, width_small, bit_residue, bit_represented}
 use Rattle.ep_bit_laws.proofs.Numbers.{bit_represented_above, bit_above_all, bit_of_shifted, bit_wrapped}
-use Rattle.ep_bit_laws.proofs.Patterns.{clash, HasBits}
+use Rattle.ep_bit_laws.proofs.Patterns.{HasBits}
 use Rattle.ep_bit_laws.proofs.Types.{type_has, type_is_pattern, low_part_has}
 
 -- ---- bit by bit
@@ -178,9 +180,9 @@ from_shifted n m k l e = by (or_cases _ _ (sym (bit-or (m / 2 ^ n) (cond (bit m 
     filled true f = (refl, at (cases_lt k (65 - n)))
       where
         at : (k < 65 - n) ⊎ (65 - n ≤ k) → 65 ≤ n + k
-        at (inl u) = absurd (clash _ f (mask_below (65 - n) 65 k u))
+        at (inl u) = absurd (true_and_false _ f (mask_below (65 - n) 65 k u))
         at (inr u) = omega arith
-    filled false f = absurd (clash _ f (bit_of_zero k))
+    filled false f = absurd (true_and_false _ f (bit_of_zero k))
 
     by : (bit (m / 2 ^ n) k ≡ true) ⊎ (bit (cond (bit m 64) (2 ^ 65 - 2 ^ (65 - n)) 0) k ≡ true) →
         (bit m (n + k) ≡ true) ⊎ ((bit m 64 ≡ true) × (65 ≤ n + k))
@@ -214,14 +216,11 @@ bit_moved_low a n r k l = ap (λ d. nat_eq d 1) (bit_at_cat_low a n r k l)
 pub bit_moved_high : (a n r k : ℕ) → r < 2 ^ n → n ≤ k → bit (a * 2 ^ n + r) k ≡ bit a (k - n)
 bit_moved_high a n r k h l = ap (λ d. nat_eq d 1) (bit_at_cat_high a n r k h l)
 
-plus_zero : (m : ℕ) → m ≡ m + 0
-plus_zero m = omega arith
-
 pub product_low : (a n k : ℕ) → k < n → bit (a * 2 ^ n) k ≡ false
-product_low a n k l = ap (λ m. bit m k) (plus_zero (a * 2 ^ n)) ∙ bit_moved_low a n 0 k l ∙ bit_of_zero k
+product_low a n k l = ap (λ m. bit m k) (plus-zero (a * 2 ^ n)) ∙ bit_moved_low a n 0 k l ∙ bit_of_zero k
 
 pub product_high : (a n k : ℕ) → n ≤ k → bit (a * 2 ^ n) k ≡ bit a (k - n)
-product_high a n k l = ap (λ m. bit m k) (plus_zero (a * 2 ^ n)) ∙ bit_moved_high a n 0 k (pow_pos n) l
+product_high a n k l = ap (λ m. bit m k) (plus-zero (a * 2 ^ n)) ∙ bit_moved_high a n 0 k (pow_pos n) l
 
 pub left_has : (t : IntType) (n a : ℕ) (p : Pattern) → is_signed t ≡ false → Has p (pos a) → HasBits (left_by t n p)
     (wrapped t (pos (a * 2 ^ n)))
@@ -237,14 +236,10 @@ left_has t n a p s h = low_part_has t (pattern (p.zeros * 2 ^ n + (2 ^ n - 1)) (
         (sym (bit_moved_high p.zeros n (2 ^ n - 1) k ones_small l) ∙ e)
 
     one : (k : ℕ) → bit (p.ones * 2 ^ n) k ≡ true → (k < n) ⊎ (n ≤ k) → bit (a * 2 ^ n) k ≡ true
-    one k e (inl l) = absurd (clash _ e (product_low p.ones n k l))
+    one k e (inl l) = absurd (true_and_false _ e (product_low p.ones n k l))
     one k e (inr l) = product_high a n k l ∙ h.ones (k - n) (sym (product_high p.ones n k l) ∙ e)
 
 -- ---- low bits
-
-turned_true : (b : Bool) → not b ≡ true → b ≡ false
-turned_true true e = absurd cc
-turned_true false e = refl
 
 pub with_low_has : (t : IntType) (n r : ℕ) (v : ℤ) → n ≤ 64 → InRange t v → r ≡ residue (2 ^ n) v → HasBits
     (with_low t n r) v
@@ -270,7 +265,7 @@ with_low_has t n r v l h e = record {
 
     zero : (k : ℕ) → (bit (2 ^ n - 1 - r) k ≡ true) ⊎ (bit (type_pattern t).zeros k ≡ true) → bit_of v k ≡ false
     zero k (inl f) = let z = pow_pos n in let m = bit_within (2 ^ n - 1 - r) n k (omega arith) f in sym (same k m)
-        ∙ turned_true _ (sym (bit_turned n r k small m) ∙ f)
+        ∙ not-true _ (sym (bit_turned n r k small m) ∙ f)
     zero k (inr f) = (type_has t v h).zeros k f
 
 -- bits below the count are known
@@ -309,12 +304,6 @@ residue_known n p x i h f = same_below n (residue (2 ^ n) x) (p.ones % 2 ^ n) (r
 
 -- ---- exact results at a modulus
 
-sum_differ : (x y a b : ℤ) → (x -ℤ a) +ℤ (y -ℤ b) ≡ (x +ℤ y) -ℤ (a +ℤ b)
-sum_differ x y a b = omega (arith, ints)
-
-difference_differ : (x y a b : ℤ) → (x -ℤ a) -ℤ (y -ℤ b) ≡ (x -ℤ y) -ℤ (a -ℤ b)
-difference_differ x y a b = omega (arith, ints)
-
 product_differ : (m : ℕ) (x y a b : ℤ) → IsMultiple m (x -ℤ a) → IsMultiple m (y -ℤ b) → IsMultiple m
     ((x *ℤ y) -ℤ (a *ℤ b))
 product_differ m x y a b h k =
@@ -328,8 +317,8 @@ product_differ m x y a b h k =
 
 exact_differ : (o : BinOp) (m : ℕ) (x y a b : ℤ) → IsMultiple m (x -ℤ a) → IsMultiple m (y -ℤ b) → IsMultiple m
     (exact_of o x y -ℤ exact_of o a b)
-exact_differ Add m x y a b h k = subst (IsMultiple m) (sum_differ x y a b) (multiple_sum m (x -ℤ a) (y -ℤ b) h k)
-exact_differ Sub m x y a b h k = subst (IsMultiple m) (difference_differ x y a b)
+exact_differ Add m x y a b h k = subst (IsMultiple m) (sum_members x y a b) (multiple_sum m (x -ℤ a) (y -ℤ b) h k)
+exact_differ Sub m x y a b h k = subst (IsMultiple m) (difference_members x y a b)
     (multiple_difference m (x -ℤ a) (y -ℤ b) h k)
 exact_differ Mul m x y a b h k = product_differ m x y a b h k
 exact_differ Div m x y a b h k = product_differ m x y a b h k

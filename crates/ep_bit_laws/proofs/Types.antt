@@ -1,5 +1,7 @@
 -- Patterns and the integer types.
 use Rattle.std.proofs.Common.{◌≡◌, ℕ, ◌-◌, ◌%◌, ◌^◌, ◌<◌, ◌≤◌, ℤ, Bool, true, false, ◌&&◌, ◌||◌, not, cond, nat_eq}
+use Rattle.ep_int.proofs.Arithmetic.{in_range_some_type}
+use Rattle.ep_int.proofs.Basics.{true_and_false}
 use Rattle.std.proofs.Common.{bit_and, bit_or, ◌⊎◌, inl, inr, arith, refl, sym, ap, ◌∙◌, subst}
 use Rattle.std.proofs.lemmas.Nat.{or_lt, pow_pos, mod_below}
 use Rattle.std.proofs.Math.Pow.{pow_mono}
@@ -7,13 +9,12 @@ use Rattle.std.proofs.lemmas.Bool.{cases_lt, or_cases}
 use Rattle.ep_int.specs.declared.types.IntType.{IntType}
 use Rattle.ep_int.specs.Types.{bits_of, is_signed, InRange, wrapped}
 use Rattle.ep_int.proofs.Wrapping.{wrapped_in_range}
-use Rattle.ep_range_laws.proofs.Types.{number_of}
 use Rattle.ep_bit_laws.specs.Bits.{bit, bit_of}
 use Rattle.ep_bit_laws.specs.Patterns.{Pattern, Has, IsPattern, sign_place, sign_bits, type_pattern, in_type, low_part}
 use Rattle.ep_bit_laws.proofs.Bits.{bit-or, bit_of_zero, bit_within, bit_low, mask_inside, mask_below}
 use Rattle.ep_bit_laws.proofs.Numbers.{is_negative, sign_bit, unsigned_sign, sign_place_small, width_small}
 use Rattle.ep_bit_laws.proofs.Numbers.{bit_wrapped, bit_wrapped_above}
-use Rattle.ep_bit_laws.proofs.Patterns.{clash, from_apart, HasBits, keeps_bit}
+use Rattle.ep_bit_laws.proofs.Patterns.{from_apart, HasBits, keeps_bit}
 
 -- ---- the bits of the sign
 
@@ -27,7 +28,7 @@ pub from_sign : (t : IntType) (k : ℕ) → bit (sign_bits t) k ≡ true → (si
 from_sign t k e = (at (cases_lt k (sign_place t)), bit_within (sign_bits t) 65 k (sign_bits_below t) e)
   where
     at : (k < sign_place t) ⊎ (sign_place t ≤ k) → sign_place t ≤ k
-    at (inl l) = absurd (clash _ e (mask_below (sign_place t) 65 k l))
+    at (inl l) = absurd (true_and_false _ e (mask_below (sign_place t) 65 k l))
     at (inr l) = l
 
 pub unsigned_place : (t : IntType) → is_signed t ≡ false → sign_place t ≡ bits_of t
@@ -37,13 +38,13 @@ unsigned_place t e = ap (λ s. cond s (bits_of t - 1) (bits_of t)) e
 
 pub type_has : (t : IntType) (z : ℤ) → InRange t z → Has (type_pattern t) z
 type_has t z h = record {
-  number = number_of t z h;
+  number = in_range_some_type t z h;
   zeros = λ k e. zero (is_signed t) refl k e;
-  ones = λ k e. absurd (clash _ e (bit_of_zero k));
+  ones = λ k e. absurd (true_and_false _ e (bit_of_zero k));
 }
   where
     zero : (s : Bool) → is_signed t ≡ s → (k : ℕ) → bit (cond s 0 (sign_bits t)) k ≡ true → bit_of z k ≡ false
-    zero true e k f = absurd (clash _ f (bit_of_zero k))
+    zero true e k f = absurd (true_and_false _ f (bit_of_zero k))
     zero false e k f = sign_bit t z k h (from_sign t k f).0 ∙ unsigned_sign t z h e
 
 pub type_is_pattern : (t : IntType) → IsPattern (type_pattern t)
@@ -51,7 +52,7 @@ type_is_pattern t = record {
   zeros_below = below (is_signed t);
   ones_below = omega arith;
   apart = λ k e. bit_of_zero k;
-  negative = λ e. absurd (clash _ e (bit_of_zero 64));
+  negative = λ e. absurd (true_and_false _ e (bit_of_zero 64));
   small = λ e. small (is_signed t) e;
 }
   where
@@ -60,7 +61,7 @@ type_is_pattern t = record {
     below false = sign_bits_below t
 
     small : (s : Bool) → bit (cond s 0 (sign_bits t)) 63 ≡ true → bit (cond s 0 (sign_bits t)) 64 ≡ true
-    small true e = absurd (clash _ e (bit_of_zero 63))
+    small true e = absurd (true_and_false _ e (bit_of_zero 63))
     small false e = in_sign t 64 (sign_place_small t) (omega arith)
 
 -- ---- the numbers of a pattern that are of a type
@@ -81,7 +82,7 @@ in_type_ones t p k e = at (not (is_signed t) || nat_eq (bit_and p.ones (sign_bit
 
 -- a bit that both masks have
 some_bit : (a b : ℕ) → nat_eq (bit_and a b) 0 ≡ false → (((k : ℕ) → bit a k ≡ true → bit b k ≡ false) → ⊥)
-some_bit a b e h = clash _ (zero_is (bit_and a b) (from_apart a b h)) e
+some_bit a b e h = true_and_false _ (zero_is (bit_and a b) (from_apart a b h)) e
   where
     zero_is : (n : ℕ) → n ≡ 0 → nat_eq n 0 ≡ true
     zero_is n e = ap (λ m. nat_eq m 0) e
@@ -97,7 +98,7 @@ module _ (t : IntType) (p : Pattern) (z : ℤ) (i : IsPattern p) (h : Has p z) (
         where
           none : (k : ℕ) → bit p.zeros k ≡ true → (c : Bool) → bit (sign_bits t) k ≡ c → c ≡ false
           none k g false j = refl
-          none k g true j = absurd (clash _ (sign_bit t z k r (from_sign t k j).0 ∙ f) (h.zeros k g))
+          none k g true j = absurd (true_and_false _ (sign_bit t z k r (from_sign t k j).0 ∙ f) (h.zeros k g))
 
   one_sign : nat_eq (bit_and p.ones (sign_bits t)) 0 ≡ false → is_negative z ≡ true
   one_sign e = at (is_negative z) refl
@@ -108,7 +109,7 @@ module _ (t : IntType) (p : Pattern) (z : ℤ) (i : IsPattern p) (h : Has p z) (
         where
           none : (k : ℕ) → bit p.ones k ≡ true → (c : Bool) → bit (sign_bits t) k ≡ c → c ≡ false
           none k g false j = refl
-          none k g true j = absurd (clash _ (h.ones k g) (sign_bit t z k r (from_sign t k j).0 ∙ f))
+          none k g true j = absurd (true_and_false _ (h.ones k g) (sign_bit t z k r (from_sign t k j).0 ∙ f))
 
   zeros_in : (s n : Bool) → is_signed t ≡ s → nat_eq (bit_and p.zeros (sign_bits t)) 0 ≡ n → (k : ℕ) → bit
       (cond (s && n) p.zeros (bit_or p.zeros (sign_bits t))) k ≡ true → bit_of z k ≡ false
@@ -177,7 +178,7 @@ low_part_has t p z s h = record {
   zeros_below = or_lt 65 (p.zeros % 2 ^ bits_of t) (sign_bits t) (small p.zeros) (sign_bits_below t);
   ones_below = small p.ones;
   has = record {
-    number = number_of t (wrapped t z) (wrapped_in_range t z);
+    number = in_range_some_type t (wrapped t z) (wrapped_in_range t z);
     zeros = λ k e. zero k (or_cases _ _ (sym (bit-or (p.zeros % 2 ^ bits_of t) (sign_bits t) k) ∙ e));
     ones = λ k e. one k e (bit_within (p.ones % 2 ^ bits_of t) (bits_of t) k
         (mod_below p.ones (2 ^ bits_of t) (pow_pos (bits_of t))) e);

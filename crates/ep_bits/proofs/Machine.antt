@@ -1,5 +1,6 @@
 -- What the code of known bits needs.
 use Rattle.std.proofs.Common.{◌≡◌, ℕ, suc, ◌+◌, ◌-◌, ◌*◌, ◌%◌, ◌^◌, ◌<◌, ◌≤◌, ℤ, pos, negsuc, ◌+ℤ◌, ◌≤ℤ◌, ◌⊎◌, inl}
+use Rattle.ep_int.proofs.Arithmetic.{le_fact}
 use Rattle.std.proofs.Common.{inr, Bool, true, false, cond, Option, Some, None, FitsSigned, of_z, bit_or, refl, sym}
 use Rattle.std.proofs.Common.{ap, ◌∙◌, subst, arith}
 use Rattle.std.specs.Prelude.{IfSome, unsigned_abs, int_le}
@@ -17,7 +18,7 @@ use Rattle.ep_int.specs.Types.{is_signed, bits_of, residue, wrapped}
 use Rattle.ep_int.specs.Arith.{IsOfSomeType, int_eq}
 use Rattle.ep_int.proofs.Wrapping.{masked}
 use Rattle.ep_range_laws.specs.Ranges.{IsRange}
-use Rattle.ep_range_laws.proofs.Comparisons.{from_le_true, from_le_false, le_antisym}
+use Rattle.ep_range_laws.proofs.Comparisons.{from_le_false, le_antisym}
 use Rattle.ep_bit_laws.specs.Bits.{bit}
 use Rattle.ep_bit_laws.specs.Patterns.{Pattern, pattern, is_pattern, closed, sign_bits, low_part, type_pattern}
 use Rattle.ep_bit_laws.specs.Edges.{with_bit, first_at, first_negative, least_positive, or_positive, first_from}
@@ -158,7 +159,7 @@ int_unequal a b n = at (int_eq a b) refl
     at : (t : Bool) → int_eq a b ≡ t → t ≡ false
     at false e = refl
     at true e = let p = and_parts (int_le a b) (int_le b a) e in absurd
-        (n (le_antisym a b (from_le_true a b p.0) (from_le_true b a p.1)))
+        (n (le_antisym a b (le_fact a b p.0) (le_fact b a p.1)))
 
 pub cut_itself : (c : KnownBits) (lo hi f l : ℤ) → edges_of c lo hi ≡ Some (f, l) → (f ≡ l → ⊥)
     → Some c ≡ cut_of c lo hi

@@ -1,11 +1,16 @@
 -- What the code of congruences needs.
 use Rattle.std.proofs.Common.{◌≡◌, ℕ, ◌*◌, ◌^◌, ◌<◌, ◌≤◌, ℤ, pos, negsuc, ◌*ℤ◌, ◌≤ℤ◌, ◌<ℤ◌, Bool, true, false, cond}
-use Rattle.std.proofs.Common.{◌&&◌, ◌⊎◌, inl, inr, Option, Some, None, FitsSigned, of_z, to_z, nat_eq, nat_le, refl}
+use Rattle.ep_congruence_laws.proofs.Multiples.{eq_zero}
+use Rattle.ep_int.proofs.Arithmetic.{le_fact}
+use Rattle.ep_int.proofs.Basics.{of_z-injective}
+use Rattle.ep_domain.proofs.Basics.{int_eq-true}
+use Rattle.std.proofs.lemmas.Bool.{le-leb, leb-true}
+use Rattle.std.proofs.Common.{◌&&◌, ◌⊎◌, inl, inr, Option, Some, None, FitsSigned, of_z, nat_eq, nat_le, refl}
 use Rattle.std.proofs.Common.{sym, ap, ◌∙◌, subst, arith}
 use Rattle.std.specs.Prelude.{int_le, unsigned_abs, IfSome, IsSome}
 use Rattle.std.specs.Option.{unwrap_or}
 use Rattle.std.specs.Int.{w128}
-use Rattle.std.proofs.lemmas.Int.{ints, fits_signed_mul, to_z-of_z}
+use Rattle.std.proofs.lemmas.Int.{ints, fits_signed_mul}
 use Rattle.std.proofs.Math.Nat.{mul-le-mul_left, mul-le-mul_right, mod-eq_of_lt}
 use Rattle.std.proofs.lemmas.Bool.Decides.{nat_tests}
 use Rattle.std.proofs.lemmas.Bool.{and_parts}
@@ -16,7 +21,7 @@ use Rattle.ep_int.specs.declared.types.BinOp.TheVariants.{Add, Sub, Mul, Div, Re
 use Rattle.ep_int.specs.Types.{least_of, greatest_of, residue, InRange}
 use Rattle.ep_int.specs.Arith.{int_eq, is_amount, IsOfSomeType, IsRightOperand}
 use Rattle.ep_range_laws.proofs.Types.{number_low, number_high, ends_ordered}
-use Rattle.ep_range_laws.proofs.Comparisons.{between_true, from_le_true, from_le_false, le_antisym, le_trans, le_self}
+use Rattle.ep_range_laws.proofs.Comparisons.{from_le_false, le_antisym, le_trans}
 use Rattle.ep_congruence_laws.specs.Multiples.{gcd}
 use Rattle.ep_congruence_laws.specs.Classes.{Class, class, everything, one, is_one, is_class, reduced, edges_of}
 use Rattle.ep_congruence_laws.specs.Classes.{cut_at, cut_of, greatest_modulus}
@@ -24,8 +29,8 @@ use Rattle.ep_congruence_laws.specs.Results.{greatest_product, kept_modulus, lim
 use Rattle.ep_congruence_laws.specs.Results.{past_limits, products, product_at, product_of, product_modulus}
 use Rattle.ep_congruence_laws.specs.Results.{product_leaves, ends_of, shifted_of, results_of, left_operand}
 use Rattle.ep_congruence_laws.specs.Results.{right_operand}
-use Rattle.ep_congruence_laws.proofs.Classes.{zero_from, nonzero_from, class_one, class_remainder, class_small}
-use Rattle.ep_congruence_laws.proofs.Classes.{class_has, class_with, le_from, le_test, reduced_zero, reduced_more}
+use Rattle.ep_congruence_laws.proofs.Classes.{nonzero_from, class_one, class_remainder, class_small}
+use Rattle.ep_congruence_laws.proofs.Classes.{class_has, class_with, reduced_zero, reduced_more}
 use Rattle.ep_congruence_laws.proofs.Operations.{In, Is, AreEdges, remainder_bounds}
 use Rattle.ep_congruence_laws.proofs.Cuts.{IsCut, cut_is, cut_away, edges_within}
 use Rattle.ep_congruence.specs.declared.congruence.Congruence.TheInside.{Inside}
@@ -54,10 +59,7 @@ int_unequal a b n = at (int_eq a b) refl
   where
     at : (t : Bool) → int_eq a b ≡ t → t ≡ false
     at false e = refl
-    at true e = let p = and_parts (int_le a b) (int_le b a) e in absurd (n (le_antisym a b (from_le_true a b p.0) (from_le_true b a p.1)))
-
-pub int_same : (a b : ℤ) → a ≡ b → int_eq a b ≡ true
-int_same a b e = subst (λ z. int_eq a z ≡ true) e (between_true a a a a (le_self a) (le_self a))
+    at true e = let p = and_parts (int_le a b) (int_le b a) e in absurd (n (le_antisym a b (le_fact a b p.0) (le_fact b a p.1)))
 
 -- the same number of 128 bits
 pub same_number : (a b : ℤ) → FitsSigned w128 a → FitsSigned w128 b → (of_z w128 a ≡ of_z w128 b → ⊥) → a ≡ b → ⊥
@@ -120,11 +122,11 @@ cut_in k d lo hi e m = by (subst (λ o. IfSome o (IsCut k lo hi)) e (cut_is k lo
     within v f = (low (int_le lo v) refl, high (int_le v hi) refl)
       where
         low : (t : Bool) → int_le lo v ≡ t → lo ≤ℤ v
-        low true g = from_le_true lo v g
+        low true g = le_fact lo v g
         low false g = absurd (nothing v f (inl (from_le_false lo v g)))
 
         high : (t : Bool) → int_le v hi ≡ t → v ≤ℤ hi
-        high true g = from_le_true v hi g
+        high true g = le_fact v hi g
         high false g = absurd (nothing v f (inr (from_le_false v hi g)))
 
     by : (d ≡ k) ⊎ ((v : ℤ) × (d ≡ one v) × IsOfSomeType v × In k v × (lo ≤ℤ v) × (v ≤ℤ hi)) → (lo ≤ℤ d.remainder) × (d.remainder ≤ℤ hi)
@@ -182,10 +184,10 @@ pub products_fit : (a b : Class) (d : ℕ) → Is a → Is b → (is_one a && is
 products_fit a b d p q n e =
     let w = (and_parts (nat_le (products a b).0 greatest_product) (nat_le (products a b).1 greatest_product && nat_le (products a b).2 greatest_product) (small_from (products a b) d e).0).1 in
     let v = and_parts (nat_le (products a b).1 greatest_product) (nat_le (products a b).2 greatest_product) w in
-    remainders_fit a b p q n (le_from (unsigned_abs a.remainder * b.modulus) greatest_product v.1) (le_from (a.modulus * unsigned_abs b.remainder) greatest_product v.0)
+    remainders_fit a b p q n (leb-true (unsigned_abs a.remainder * b.modulus) greatest_product v.1) (leb-true (a.modulus * unsigned_abs b.remainder) greatest_product v.0)
 
 pub at_small : (t : IntType) (a b : Class) (m : ℕ) → m ≤ greatest_modulus → product_at t a b m ≡ reduced (a.remainder *ℤ b.remainder) m
-at_small t a b m h = ap (λ s. cond s (reduced (a.remainder *ℤ b.remainder) m) (past_limits t a b)) (le_test m greatest_modulus h)
+at_small t a b m h = ap (λ s. cond s (reduced (a.remainder *ℤ b.remainder) m) (past_limits t a b)) (le-leb m greatest_modulus h)
 
 pub at_great : (t : IntType) (a b : Class) (m : ℕ) → greatest_modulus < m → product_at t a b m ≡ past_limits t a b
 at_great t a b m h = ap (λ s. cond s (reduced (a.remainder *ℤ b.remainder) m) (past_limits t a b)) (fails m greatest_modulus h)
@@ -269,7 +271,7 @@ itself_reduced r m h = at (nat_eq m 0) refl
     more m l = omega (arith, ints)
 
     at : (c : Bool) → nat_eq m 0 ≡ c → reduced r m ≡ class r m
-    at true e = reduced_zero r m e ∙ ap (class r) (sym (zero_from m e))
+    at true e = reduced_zero r m e ∙ ap (class r) (sym (eq_zero m e))
     at false e = let b = h (more m (nonzero_from m e)) in reduced_more r m e ∙ ap (λ z. class z m) (back r m b.0 b.1)
 
 class_given : (r : ℤ) (m : ℕ) → Is (class r m) → AreOfClass r (pos m)
@@ -311,10 +313,7 @@ others o t a b (inr (inr (inr (inr (inr e))))) = ap (λ p. results_of p t a b) e
 
 -- ---- two congruences that are one value
 
-pub same_bits : (a b : ℤ) → FitsSigned w128 a → FitsSigned w128 b → of_z w128 a ≡ of_z w128 b → a ≡ b
-same_bits a b f g e = sym (to_z-of_z w128 a f) ∙ ap (to_z w128) e ∙ to_z-of_z w128 b g
-
 pub same_congruence : (a b : Congruence) → of_z w128 a.remainder ≡ of_z w128 b.remainder → a.modulus ≡ b.modulus → a ≡ b
 same_congruence a b e f =
-    let q : a.remainder ≡ b.remainder = same_bits a.remainder b.remainder (remainder_fits a) (remainder_fits b) e in
+    let q : a.remainder ≡ b.remainder = of_z-injective a.remainder b.remainder (remainder_fits a) (remainder_fits b) e in
     same_class a b (ap (λ r. class r a.modulus) q ∙ ap (class b.remainder) f)

@@ -1,23 +1,21 @@
 -- Congruences of classes.
 use Rattle.std.specs.Prelude.{◌≡◌, ℕ, ◌<◌, ℤ, pos, Bool, true, false, Option, Some, None, IsSomeAnd, IfSome, refl}
+use Rattle.ep_congruence_laws.proofs.Multiples.{zero_eq}
+use Rattle.ep_int.proofs.Basics.{is_true-prop}
 use Rattle.std.specs.Option.{option_map, option_and_then}
 use Rattle.std.proofs.Common.{ap, sym, ◌∙◌, subst}
-use Rattle.std.proofs.Props.{props}
 use Rattle.ep_range_laws.proofs.Options.{then_some, then_if}
 use Rattle.ep_congruence_laws.specs.Classes.{Class, class, is_class, reduced}
 use Rattle.ep_int.specs.Types.{residue}
-use Rattle.ep_congruence_laws.proofs.Classes.{zero_test, nonzero_test, reduced_zero, reduced_more}
+use Rattle.ep_congruence_laws.proofs.Classes.{nonzero_test, reduced_zero, reduced_more}
 use Rattle.ep_congruence_laws.proofs.Operations.{Is}
 use Rattle.ep_congruence_domain.specs.Congruence.{Congruence, class_of, made, formed_at, formed}
-
-test_prop : (b : Bool) → IsProp (b ≡ true)
-test_prop b = Prim.hlevel props
 
 pub formed_some : (k : Class) (p : Is k) → formed k ≡ Some (made k p)
 formed_some k p = at _ refl
   where
     at : (b : Bool) (e : is_class k.remainder k.modulus ≡ b) → formed_at k b e ≡ Some (made k p)
-    at true e = ap (λ (q : is_class k.remainder k.modulus ≡ true). Some (made k q)) (test_prop _ e p)
+    at true e = ap (λ (q : is_class k.remainder k.modulus ≡ true). Some (made k q)) (is_true-prop _ e p)
     at false e = absurd cc
 
 pub formed_gives : (P : Class → Type 0) (k : Class) → Is k → P k → IsSomeAnd (formed k) (λ c. P (class_of c))
@@ -39,7 +37,7 @@ then_kept P o h = then_if P (λ c. P (class_of c)) o formed h (λ k i. formed_ke
 -- congruences of one class are the same
 pub same_class : (a b : Congruence) → class_of a ≡ class_of b → a ≡ b
 same_class a b e =
-    let f : (k : Class) → class_of a ≡ k → (p : Is k) → made (class_of a) a.valid ≡ made k p = λ k d. subst (λ k. (p : Is k) → made (class_of a) a.valid ≡ made k p) d (λ p. ap (made (class_of a)) (test_prop _ a.valid p)) in
+    let f : (k : Class) → class_of a ≡ k → (p : Is k) → made (class_of a) a.valid ≡ made k p = λ k d. subst (λ k. (p : Is k) → made (class_of a) a.valid ≡ made k p) d (λ p. ap (made (class_of a)) (is_true-prop _ a.valid p)) in
     f (class_of b) e b.valid
 
 -- what the code gives as classes
@@ -63,7 +61,7 @@ pub same_reduced : (r s : ℤ) (m n : ℕ) → r ≡ s → m ≡ n → reduced r
 same_reduced r s m n e f = ap (λ x. reduced x m) e ∙ ap (λ (k : ℕ). reduced s k) f
 
 pub one_code : (r z : ℤ) (m : ℕ) (o : Option Congruence) → m ≡ 0 → o ≡ formed (class z 0) → z ≡ r → o ≡ formed (reduced r m)
-one_code r z m o n e f = e ∙ ap (λ x. formed (class x 0)) f ∙ ap formed (sym (reduced_zero r m (zero_test m n)))
+one_code r z m o n e f = e ∙ ap (λ x. formed (class x 0)) f ∙ ap formed (sym (reduced_zero r m (zero_eq m n)))
 
 pub reduced_code : (r z : ℤ) (m : ℕ) (o : Option Congruence) → 0 < m → o ≡ formed (class z m) → z ≡ pos (residue m r) → o ≡ formed (reduced r m)
 reduced_code r z m o n e f = e ∙ ap (λ x. formed (class x m)) f ∙ ap formed (sym (reduced_more r m (nonzero_test m n)))

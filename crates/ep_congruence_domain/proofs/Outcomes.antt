@@ -1,5 +1,7 @@
 -- The laws of operators.
 use Rattle.std.specs.Prelude.{◌≡◌, ℤ, pos, ◌≤ℤ◌, ◌⊎◌, true, Option, Some, None, Result, Ok, Err, IsTrue, IfSome}
+use Rattle.ep_int.proofs.Arithmetic.{in_range_some_type}
+use Rattle.ep_int.proofs.Basics.{is_some-value}
 use Rattle.std.specs.Prelude.{IsSomeAnd, MatchResult, is_some, is_err, refl}
 use Rattle.std.specs.Option.{unwrap_or, option_and_then}
 use Rattle.std.proofs.Common.{ap, sym, ◌∙◌, subst, inl, inr}
@@ -13,7 +15,6 @@ use Rattle.ep_int.proofs.Arithmetic.{arith_in_range}
 use Rattle.ep_range_laws.specs.Ranges.{LiesIn, Encloses}
 use Rattle.ep_range_laws.specs.Faults.{Takes, MayFault, range_fault_of}
 use Rattle.ep_domain.specs.Domain.{ShowsPart}
-use Rattle.ep_range_laws.proofs.Types.{number_of}
 use Rattle.ep_range_laws.proofs.RangeFaults.{fault_is_found, fault_is_shown}
 use Rattle.ep_range_laws.proofs.Options.{then_some, weaken}
 use Rattle.ep_domain.specs.Laws.Shared.{pair}
@@ -109,7 +110,7 @@ outcome_holds o t a b x y n h k = at (arith_of o t x y) refl
     at : (w : Result ℤ Undef) → arith_of o t x y ≡ w → MatchResult w (λ v. IsSomeAnd (outcome_of o t a b).value (λ c. IsTrue (holds_of c v))) (λ _. IsTrue (outcome_of o t a b).fault)
     at (Ok v) e =
         let i = holds a x h in let j = holds b y k in
-        held_some (outcome_of o t a b).value v (number_of t v (arith_in_range o t x y v n.left e))
+        held_some (outcome_of o t a b).value v (in_range_some_type t v (arith_in_range o t x y v n.left e))
         (then_formed (HasClass v) (value_of o t (class_of a) (class_of b)) (value_gives o t (class_of a) (class_of b) x y v a.valid b.valid i.number j.number i.congruent j.congruent n e))
     at (Err u) e =
         let i = holds a x h in let j = holds b y k in
@@ -117,10 +118,6 @@ outcome_holds o t a b x y n h k = at (arith_of o t x y) refl
         (left_there t (class_of a) x a.valid i.number i.congruent n.left) (right_there o t (class_of b) y b.valid j.number j.congruent n.right)
 
 -- ---- a fault and what it shows
-
-some_value : (r : Option (ℤ × ℤ)) → is_some r ≡ true → r ≡ Some (unwrap_or r (pos 0, pos 0))
-some_value None e = cc
-some_value (Some v) e = refl
 
 record Shown (o : BinOp) (t : IntType) (a b : Congruence) (shown : ℤ × ℤ) : Type 0 where
   left : Class
@@ -138,7 +135,7 @@ shown_at o t a b (Some d) (Some f) h k e = record {
   right = f;
   left_taken = h;
   right_taken = k;
-  shows = some_value (range_fault_of o t (classes.range_of d) (classes.range_of f)) e;
+  shows = is_some-value (range_fault_of o t (classes.range_of d) (classes.range_of f)) e;
   faults = fault_is_found o t (classes.range_of d) (classes.range_of f) (class_range f k.valid) e;
 }
 
@@ -197,5 +194,5 @@ outcome_single o t a b x y n e f = at (arith_of o t x y) refl
 
     at : (w : Result ℤ Undef) → arith_of o t x y ≡ w → MatchResult w (λ v. IsSomeAnd (outcome_of o t a b).value (λ c. range_of c ≡ pair v v)) (λ _. (outcome_of o t a b).value ≡ None)
     at (Ok v) g =
-        subst (λ o. IsSomeAnd o (λ c. range_of c ≡ pair v v)) (sym (ap (option_and_then formed) (value ∙ ap single_result g) ∙ formed_some (one v) (one_class v (number_of t v (arith_in_range o t x y v n.left g))))) refl
+        subst (λ o. IsSomeAnd o (λ c. range_of c ≡ pair v v)) (sym (ap (option_and_then formed) (value ∙ ap single_result g) ∙ formed_some (one v) (one_class v (in_range_some_type t v (arith_in_range o t x y v n.left g))))) refl
     at (Err u) g = ap (option_and_then formed) (value ∙ ap single_result g)

@@ -1,5 +1,7 @@
 -- The laws of what does not depend on an operator.
 use Rattle.std.specs.Prelude.{◌≡◌, ℕ, ℤ, pos, ◌-ℤ◌, ◌+ℤ◌, ◌≤ℤ◌, ◌<ℤ◌, ◌⊎◌, Bool, true, false, cond, ◌&&◌, not, Option}
+use Rattle.ep_congruence_laws.proofs.Multiples.{eq_zero, zero_eq}
+use Rattle.ep_int.proofs.Arithmetic.{in_range_some_type}
 use Rattle.std.specs.Prelude.{Some, None, IsTrue, IfSome, IsSomeAnd, nat_eq, refl}
 use Rattle.std.specs.Option.{option_map, option_and_then}
 use Rattle.std.proofs.Common.{arith, ap, sym, ◌∙◌, subst, inl, inr}
@@ -13,14 +15,13 @@ use Rattle.ep_int.specs.Types.{least_of, greatest_of, InRange, wrapped}
 use Rattle.ep_int.specs.Arith.{int_eq, compares, IsOfSomeType}
 use Rattle.ep_int.proofs.Wrapping.{wrapped_in_range}
 use Rattle.ep_range_laws.specs.Ranges.{IsRange, LiesIn, Encloses}
-use Rattle.ep_range_laws.proofs.Types.{number_of}
 use Rattle.ep_domain.specs.Laws.Shared.{pair, same_pair, from_eq, nearest_same}
 use Rattle.ep_range_laws.proofs.Comparisons.{le_self}
 use Rattle.ep_range_laws.proofs.Options.{weaken}
 use Rattle.ep_congruence_laws.specs.Multiples.{IsMultiple}
 use Rattle.ep_congruence_laws.specs.Classes as classes
 use Rattle.ep_congruence_laws.specs.Classes.{Class, class, everything, one, is_one, is_class, Has}
-use Rattle.ep_congruence_laws.proofs.Classes.{zero_from, zero_test, nonzero_from, has_from, has_test, class_one}
+use Rattle.ep_congruence_laws.proofs.Classes.{nonzero_from, has_from, has_test, class_one}
 use Rattle.ep_congruence_laws.proofs.Multiples.{itself}
 use Rattle.ep_congruence_laws.proofs.Operations as operations
 use Rattle.ep_congruence_laws.proofs.Operations.{In, Is, one_member, range_one, range_more, single_is}
@@ -48,7 +49,7 @@ held_some o z i h = weaken (λ c. In (class_of c) z) (λ c. IsTrue (holds_of c z
 -- ---- single numbers
 
 pub top_holds : (t : IntType) (z : ℤ) → InRange t z → IsTrue (holds_of (top_of t) z)
-top_holds t z h = held (top_of t) z (number_of t z h) (of_one (z -ℤ pos 0))
+top_holds t z h = held (top_of t) z (in_range_some_type t z h) (of_one (z -ℤ pos 0))
 
 pub single_class : (v : ℤ) → IsOfSomeType v → class_of (single_of v) ≡ one v
 single_class v h = ap one (nearest_same v h)
@@ -82,7 +83,7 @@ class_range k p = at (nat_eq k.modulus 0) refl
   where
     at : (t : Bool) → nat_eq k.modulus 0 ≡ t → IsRange (cond t (pair k.remainder k.remainder) (pair (least_of I64) (greatest_of U64))).0 (cond t (pair k.remainder k.remainder) (pair (least_of I64) (greatest_of U64))).1
     at true e =
-        let i = class_one k.remainder (subst (λ m. is_class k.remainder m ≡ true) (zero_from k.modulus e) p) in
+        let i = class_one k.remainder (subst (λ m. is_class k.remainder m ≡ true) (eq_zero k.modulus e) p) in
         record { above = i.low; ordered = le_self k.remainder; below = i.high }
     at false e = record { above = le_self (least_of I64); ordered = omega (arith, ints); below = le_self (greatest_of U64) }
 
@@ -109,7 +110,7 @@ larger_range k d p go = at (nat_eq d.modulus 0) refl
 
     at : (t : Bool) → nat_eq d.modulus 0 ≡ t → Encloses (classes.range_of d) (classes.range_of k)
     at true e =
-        let z = zero_from d.modulus e in
+        let z = eq_zero d.modulus e in
         encloses_self _ _ (range_one d z ∙ same_pair _ _ _ _ (sym (first z)) (sym (first z)) ∙ sym (range_one k (alone z)))
     at false e = let i = class_range k p in subst (λ r. Encloses r (classes.range_of k)) (sym (range_more d (nonzero_from d.modulus e))) (record { low = i.above; high = i.below })
 
@@ -150,7 +151,7 @@ meet_holds a b z h k =
 -- ---- conversion
 
 pub conversion_holds : (a : Congruence) (t : IntType) (z : ℤ) → IsTrue (holds_of a z) → IsTrue (holds_of (conversion_of a t) (wrapped t z))
-conversion_holds a t z h = let k = holds a z h in held (conversion_of a t) (wrapped t z) (number_of t (wrapped t z) (wrapped_in_range t z)) (cuts.conversion_holds (class_of a) t z k.congruent)
+conversion_holds a t z h = let k = holds a z h in held (conversion_of a t) (wrapped t z) (in_range_some_type t (wrapped t z) (wrapped_in_range t z)) (cuts.conversion_holds (class_of a) t z k.congruent)
 
 pub conversion_single : (a : Congruence) (t : IntType) (v : ℤ) → range_of a ≡ pair v v → range_of (conversion_of a t) ≡ pair (wrapped t v) (wrapped t v)
 conversion_single a t v e = let s = single_is (class_of a) v e in ap classes.range_of (cuts.conversion_one (class_of a) t v s.0 s.1)
@@ -172,8 +173,8 @@ kept_holds c a b x y e h k = at (are_apart c a b) refl
     at true d =
         let p = and_parts (is_one (class_of a) && is_one (class_of b)) (not (compares c a.remainder b.remainder)) d in
         let q = and_parts (is_one (class_of a)) (is_one (class_of b)) p.0 in
-        let f = one_member (class_of a) x (zero_from a.modulus q.0) (holds a x h).congruent in
-        let g = one_member (class_of b) y (zero_from b.modulus q.1) (holds b y k).congruent in
+        let f = one_member (class_of a) x (eq_zero a.modulus q.0) (holds a x h).congruent in
+        let g = one_member (class_of b) y (eq_zero b.modulus q.1) (holds b y k).congruent in
         absurd (of_not (compares c a.remainder b.remainder) p.1 (subst (λ z. compares c a.remainder z ≡ true) g (subst (λ z. compares c z y ≡ true) f e)))
 
 equal_holds : (a b : Congruence) (x y : ℤ) → int_eq x y ≡ true → IsTrue (holds_of a x) → IsTrue (holds_of b y) → IsSomeAnd (option_map twice (meet_of a b)) (Both x y)
@@ -197,7 +198,7 @@ kept_single : (c : Cmp) (a b : Congruence) (x y : ℤ) → compares c x y ≡ fa
 kept_single c a b x y e h k =
     let s = single_is (class_of a) x h in let t = single_is (class_of b) y k in
     ap (λ t. kept_unless t a b)
-    (and_from (is_one (class_of a) && is_one (class_of b)) (not (compares c a.remainder b.remainder)) (and_from _ _ (zero_test a.modulus s.0) (zero_test b.modulus t.0))
+    (and_from (is_one (class_of a) && is_one (class_of b)) (not (compares c a.remainder b.remainder)) (and_from _ _ (zero_eq a.modulus s.0) (zero_eq b.modulus t.0))
     (ap not (ap (λ z. compares c z b.remainder) s.1 ∙ ap (λ z. compares c x z) t.1 ∙ e)))
 
 equal_single : (a b : Congruence) (x y : ℤ) → int_eq x y ≡ false → range_of a ≡ pair x x → range_of b ≡ pair y y → option_map twice (meet_of a b) ≡ None

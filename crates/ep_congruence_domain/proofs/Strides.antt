@@ -1,5 +1,6 @@
 -- The strides of congruences.
 use Rattle.std.specs.Prelude.{◌≡◌, ℕ, zero, suc, ◌+◌, ◌*◌, ◌%◌, ◌<◌, ◌≤◌, ℤ, pos, ◌-ℤ◌, ◌≤ℤ◌, ◌⊎◌, true, Option, Some}
+use Rattle.ep_congruence_laws.proofs.Strides.{stride_multiple}
 use Rattle.std.specs.Prelude.{None, IsTrue, IfSome, unsigned_abs, refl}
 use Rattle.std.specs.Option.{option_and_then}
 use Rattle.std.proofs.Common.{arith, ap, sym, ◌∙◌, subst, inl, inr}
@@ -16,7 +17,7 @@ use Rattle.ep_congruence_laws.specs.Classes as classes
 use Rattle.ep_congruence_laws.specs.Classes.{Class, class, one, distance, joined_modulus}
 use Rattle.ep_congruence_laws.specs.Results.{results_between, left_operand, value_of}
 use Rattle.ep_congruence_laws.proofs.Multiples.{size_of_multiple}
-use Rattle.ep_congruence_laws.proofs.Classes.{residue_multiple, chain, turn}
+use Rattle.ep_congruence_laws.proofs.Classes.{chain, turn}
 use Rattle.ep_congruence_laws.proofs.Operations.{In, Is, one_member, gcd_greatest}
 use Rattle.ep_congruence_laws.proofs.Cuts as cuts
 use Rattle.ep_congruence_laws.proofs.Cuts.{HasStride, stride_from, stride_test, stride_of, IsCut, cut_is}
@@ -27,7 +28,7 @@ use Rattle.ep_congruence_domain.specs.Domain.{congruence_ops}
 use Rattle.ep_congruence_domain.proofs.Formed.{then_kept}
 use Rattle.ep_congruence_domain.proofs.Simple.{holds, single_class, single_of_range}
 
-positive : (r s : ℕ) → IsStride r s → 0 < s
+pub positive : (r s : ℕ) → IsStride r s → 0 < s
 positive r s i = let b = i.below in omega arith
 
 pub stride_holds : (a : Congruence) (r s : ℕ) (z : ℤ) → IsStride r s → IsTrue (classes.has_stride (class_of a) r s) → IsTrue (holds_of a z) → residue s z ≡ r
@@ -43,22 +44,18 @@ stride_divides a r s k i h = stride_test (class_of a) (r % s) s (cuts.stride_div
 single_stride : (v : ℤ) (s : ℕ) → IsOfSomeType v → 0 < s → s ≤ 65536 → IsTrue (classes.has_stride (class_of (single_of v)) (residue s v) s)
 single_stride v s h p q = subst (λ k. classes.has_stride k (residue s v) s ≡ true) (sym (single_class v h)) (stride_test (one v) (residue s v) s (one_stride v (residue s v) s refl))
 
--- the remainder of a class less its stride
-apart : (k : Class) (r s : ℕ) → 0 < s → HasStride k r s → IsMultiple s (k.remainder -ℤ pos r)
-apart k r s p h = subst (λ (n : ℕ). IsMultiple s (k.remainder -ℤ pos n)) h.remainder (residue_multiple s k.remainder p)
-
 join_stride : (a b : Congruence) (r s : ℕ) → IsStride r s → IsTrue (classes.has_stride (class_of a) r s) → IsTrue (classes.has_stride (class_of b) r s) → IsTrue (classes.has_stride (class_of (join_of a b)) r s)
 join_stride a b r s i h k =
     let p = positive r s i in
     let l = stride_from (class_of a) r s h in let u = stride_from (class_of b) r s k in
-    let x = apart (class_of a) r s p l in let y = apart (class_of b) r s p u in
+    let x = stride_multiple (class_of a) r s p l in let y = stride_multiple (class_of b) r s p u in
     let d : IsMultiple s (distance (class_of a) (class_of b)) = chain s a.remainder (pos r) b.remainder x (turn s b.remainder (pos r) y) in
     stride_test (class_of (join_of a b)) r s
     (stride_of a.remainder a.remainder (joined_modulus (class_of a) (class_of b)) r s p
     (gcd_greatest (gcd a.modulus b.modulus) (unsigned_abs (distance (class_of a) (class_of b))) s (gcd_greatest a.modulus b.modulus s l.divides u.divides) (size_of_multiple s (distance (class_of a) (class_of b)) d))
     (cuts.itself_in a.remainder s) l.remainder)
 
-cut_class_stride : (k d : Class) (lo hi : ℤ) (r s : ℕ) → 0 < s → HasStride k r s → IsCut k lo hi d → HasStride d r s
+pub cut_class_stride : (k d : Class) (lo hi : ℤ) (r s : ℕ) → 0 < s → HasStride k r s → IsCut k lo hi d → HasStride d r s
 cut_class_stride k d lo hi r s p h c = at c.inside
   where
     at : (d ≡ k) ⊎ ((v : ℤ) × (d ≡ one v) × IsOfSomeType v × In k v × (lo ≤ℤ v) × (v ≤ℤ hi)) → HasStride d r s
@@ -72,7 +69,7 @@ cut_strides k lo hi r s p h = at (classes.cut_of k lo hi) (cut_is k lo hi)
     at None c = tt
     at (Some d) c = cut_class_stride k d lo hi r s p h c
 
-tested : (o : Option Congruence) (r s : ℕ) → IfSome o (λ c. HasStride (class_of c) r s) → IfSome o (λ c. IsTrue (classes.has_stride (class_of c) r s))
+pub tested : (o : Option Congruence) (r s : ℕ) → IfSome o (λ c. HasStride (class_of c) r s) → IfSome o (λ c. IsTrue (classes.has_stride (class_of c) r s))
 tested None r s h = tt
 tested (Some c) r s h = stride_test (class_of c) r s h
 

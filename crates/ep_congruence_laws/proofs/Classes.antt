@@ -1,5 +1,8 @@
 -- Laws of congruence classes.
 use Prim.Native.Nat.{◌∣◌}
+use Rattle.ep_int.proofs.Arithmetic.{le_fact, le_test}
+use Rattle.ep_congruence_laws.proofs.Multiples.{eq_zero, zero_eq}
+use Rattle.std.proofs.lemmas.Bool.{le-leb, leb-true}
 use Rattle.std.proofs.Common.{◌≡◌, ℕ, zero, suc, ◌/◌, ◌<◌, ◌≤◌, ℤ, pos, negsuc, ◌+ℤ◌, ◌-ℤ◌, ◌*ℤ◌, ◌≤ℤ◌, ◌<ℤ◌, neg_ℤ}
 use Rattle.std.proofs.Common.{Bool, true, false, cond, ◌&&◌, ◌||◌, ◌⊎◌, inl, inr, nat_eq, nat_le, arith, refl, sym}
 use Rattle.std.proofs.Common.{ap, ◌∙◌, subst}
@@ -14,7 +17,7 @@ use Rattle.ep_int.specs.declared.types.IntType.TheVariants.{I64, U64}
 use Rattle.ep_int.specs.Types.{least_of, greatest_of, residue}
 use Rattle.ep_int.specs.Arith.{IsOfSomeType}
 use Rattle.ep_int.proofs.Wrapping.{residue_below}
-use Rattle.ep_range_laws.proofs.Comparisons.{le_true, from_le_true, from_le_false, lt_true, from_lt_true}
+use Rattle.ep_range_laws.proofs.Comparisons.{from_le_false, lt_true, from_lt_true}
 use Rattle.ep_range_laws.proofs.Comparisons.{between_true, from_between, le_trans}
 use Rattle.ep_congruence_laws.specs.Multiples.{IsMultiple, is_multiple}
 use Rattle.ep_congruence_laws.specs.Classes.{Class, class, one, is_number, has, Has, greatest_modulus, is_class}
@@ -22,23 +25,11 @@ use Rattle.ep_congruence_laws.specs.Classes.{reduced}
 use Rattle.ep_congruence_laws.proofs.Multiples.{multiple_sum, multiple_difference, size_of_multiple, none_of, itself}
 use Rattle.ep_congruence_laws.proofs.Multiples.{test_multiple, multiple_test}
 
-pub zero_from : (n : ℕ) → nat_eq n 0 ≡ true → n ≡ 0
-zero_from n h = grind (arith, nat_tests)
-
-pub zero_test : (n : ℕ) → n ≡ 0 → nat_eq n 0 ≡ true
-zero_test n h = grind (arith, nat_tests)
-
 pub nonzero_from : (n : ℕ) → nat_eq n 0 ≡ false → 0 < n
 nonzero_from n h = grind (arith, nat_tests)
 
 pub nonzero_test : (n : ℕ) → 0 < n → nat_eq n 0 ≡ false
 nonzero_test n h = grind (arith, nat_tests)
-
-pub le_from : (m n : ℕ) → nat_le m n ≡ true → m ≤ n
-le_from m n h = grind (arith, nat_tests)
-
-pub le_test : (m n : ℕ) → m ≤ n → nat_le m n ≡ true
-le_test m n h = grind (arith, nat_tests)
 
 -- ---- members
 
@@ -109,21 +100,21 @@ pub in_reduced : (r z : ℤ) (m : ℕ) → IsMultiple m (z -ℤ r) → IsMultipl
 in_reduced r z m h = at (nat_eq m 0) refl
   where
     at : (t : Bool) → nat_eq m 0 ≡ t → IsMultiple (cond t (one r) (class (pos (residue m r)) m)).modulus (z -ℤ (cond t (one r) (class (pos (residue m r)) m)).remainder)
-    at true e = subst (λ n. IsMultiple n (z -ℤ r)) (zero_from m e) h
+    at true e = subst (λ n. IsMultiple n (z -ℤ r)) (eq_zero m e) h
     at false e = chain m z r (pos (residue m r)) h (residue_multiple m r (nonzero_from m e))
 
 pub from_reduced : (r z : ℤ) (m : ℕ) → IsMultiple (reduced r m).modulus (z -ℤ (reduced r m).remainder) → IsMultiple m (z -ℤ r)
 from_reduced r z m = at (nat_eq m 0) refl
   where
     at : (t : Bool) → nat_eq m 0 ≡ t → IsMultiple (cond t (one r) (class (pos (residue m r)) m)).modulus (z -ℤ (cond t (one r) (class (pos (residue m r)) m)).remainder) → IsMultiple m (z -ℤ r)
-    at true e h = subst (λ n. IsMultiple n (z -ℤ r)) (sym (zero_from m e)) h
+    at true e h = subst (λ n. IsMultiple n (z -ℤ r)) (sym (eq_zero m e)) h
     at false e h = chain m z (pos (residue m r)) r h (turn m r (pos (residue m r)) (residue_multiple m r (nonzero_from m e)))
 
 pub reduced_modulus : (r : ℤ) (m : ℕ) → (reduced r m).modulus ≡ m
 reduced_modulus r m = at (nat_eq m 0) refl
   where
     at : (t : Bool) → nat_eq m 0 ≡ t → (cond t (one r) (class (pos (residue m r)) m)).modulus ≡ m
-    at true e = sym (zero_from m e)
+    at true e = sym (eq_zero m e)
     at false e = refl
 
 -- ---- which classes have a number of some type
@@ -146,29 +137,29 @@ class_with r z m l i h = at (nat_eq m 0) refl
             below m s z l u k = let n = small_multiple m (z -ℤ pos s) (omega (arith, ints)) (omega (arith, ints)) k in omega (arith, ints)
 
             by_le : (t : Bool) → int_le z (pos s -ℤ pos m) ≡ t → least_of I64 ≤ℤ (pos s -ℤ pos m)
-            by_le true e = le_trans (least_of I64) z (pos s -ℤ pos m) p (from_le_true z (pos s -ℤ pos m) e)
+            by_le true e = le_trans (least_of I64) z (pos s -ℤ pos m) p (le_fact z (pos s -ℤ pos m) e)
             by_le false e = absurd (below m s z (from_le_false z (pos s -ℤ pos m) e) (omega (arith, ints)) k)
 
         by_test : (t : Bool) → int_le (pos s) (greatest_of U64) ≡ t → (int_le (pos s) (greatest_of U64) || int_le (least_of I64) (pos s -ℤ pos m)) ≡ true
         by_test true e = or_left (int_le (pos s) (greatest_of U64)) (int_le (least_of I64) (pos s -ℤ pos m)) e
-        by_test false e = or_right (int_le (pos s) (greatest_of U64)) (int_le (least_of I64) (pos s -ℤ pos m)) (le_true (least_of I64) (pos s -ℤ pos m) (above m s z i.low i.high (from_le_false (pos s) (greatest_of U64) e) b k))
+        by_test false e = or_right (int_le (pos s) (greatest_of U64)) (int_le (least_of I64) (pos s -ℤ pos m)) (le_test (least_of I64) (pos s -ℤ pos m) (above m s z i.low i.high (from_le_false (pos s) (greatest_of U64) e) b k))
 
     at : (t : Bool) → nat_eq m 0 ≡ t → is_class (cond t (one r) (class (pos (residue m r)) m)).remainder (cond t (one r) (class (pos (residue m r)) m)).modulus ≡ true
     at true e =
-        let k = subst (λ n. IsMultiple n (z -ℤ r)) (zero_from m e) h in
+        let k = subst (λ n. IsMultiple n (z -ℤ r)) (eq_zero m e) h in
         let s : z ≡ r = same_zero z r k.0 k.1 (*ℤ_comm k.0 (pos 0) ∙ zero-*ℤ k.0) in
         subst (λ x. is_number x ≡ true) s (between_true _ _ _ _ i.low i.high)
     at false e =
         let b = residue_below m r (nonzero_from m e) in
         ap (λ t. cond t (is_number (pos (residue m r))) ((nat_le m greatest_modulus && (int_le (pos 0) (pos (residue m r)) && int_lt (pos (residue m r)) (pos m))) && (int_le (pos (residue m r)) (greatest_of U64) || int_le (least_of I64) (pos (residue m r) -ℤ pos m)))) e
-        ∙ and_from _ _ (and_from _ _ (le_test _ _ l) (and_from _ _ (le_true (pos 0) (pos (residue m r)) (omega (arith, ints))) (lt_true (pos (residue m r)) (pos m) (omega (arith, ints))))) (near m (residue m r) z b i (chain m z r (pos (residue m r)) h (residue_multiple m r (nonzero_from m e))))
+        ∙ and_from _ _ (and_from _ _ (le-leb _ _ l) (and_from _ _ (le_test (pos 0) (pos (residue m r)) (omega (arith, ints))) (lt_true (pos (residue m r)) (pos m) (omega (arith, ints))))) (near m (residue m r) z b i (chain m z r (pos (residue m r)) h (residue_multiple m r (nonzero_from m e))))
 
 pub class_small : (r : ℤ) (m : ℕ) → is_class r m ≡ true → m ≤ greatest_modulus
 class_small r m h = at (nat_eq m 0) refl h
   where
     at : (t : Bool) → nat_eq m 0 ≡ t → cond t (is_number r) ((nat_le m greatest_modulus && (int_le (pos 0) r && int_lt r (pos m))) && (int_le r (greatest_of U64) || int_le (least_of I64) (r -ℤ pos m))) ≡ true → m ≤ greatest_modulus
-    at true e k = let f = zero_from m e in omega arith
-    at false e k = le_from _ _ (and_parts (nat_le m greatest_modulus) (int_le (pos 0) r && int_lt r (pos m)) (and_parts (nat_le m greatest_modulus && (int_le (pos 0) r && int_lt r (pos m))) (int_le r (greatest_of U64) || int_le (least_of I64) (r -ℤ pos m)) k).0).0
+    at true e k = let f = eq_zero m e in omega arith
+    at false e k = leb-true _ _ (and_parts (nat_le m greatest_modulus) (int_le (pos 0) r && int_lt r (pos m)) (and_parts (nat_le m greatest_modulus && (int_le (pos 0) r && int_lt r (pos m))) (int_le r (greatest_of U64) || int_le (least_of I64) (r -ℤ pos m)) k).0).0
 
 -- the remainder of a modulus that isn't 0
 pub class_remainder : (r : ℤ) (m : ℕ) → is_class r m ≡ true → 0 < m → (pos 0 ≤ℤ r) × (r <ℤ pos m)
@@ -178,7 +169,7 @@ class_remainder r m h l = at (nat_eq m 0) (nonzero_test m l) h
     at true e k = cc
     at false e k =
         let p = and_parts (int_le (pos 0) r) (int_lt r (pos m)) (and_parts (nat_le m greatest_modulus) (int_le (pos 0) r && int_lt r (pos m)) (and_parts (nat_le m greatest_modulus && (int_le (pos 0) r && int_lt r (pos m))) (int_le r (greatest_of U64) || int_le (least_of I64) (r -ℤ pos m)) k).0).1 in
-        (from_le_true _ _ p.0, from_lt_true _ _ p.1)
+        (le_fact _ _ p.0, from_lt_true _ _ p.1)
 
 pub class_one : (r : ℤ) → is_class r 0 ≡ true → IsOfSomeType r
 class_one r h = let p = from_between _ _ _ _ h in record { low = p.0; high = p.1 }
@@ -201,9 +192,9 @@ class_has r m h = at (nat_eq m 0) refl h
     at false e k =
         let p = and_parts (nat_le m greatest_modulus && (int_le (pos 0) r && int_lt r (pos m))) (int_le r (greatest_of U64) || int_le (least_of I64) (r -ℤ pos m)) k in
         let q = and_parts (int_le (pos 0) r) (int_lt r (pos m)) (and_parts (nat_le m greatest_modulus) (int_le (pos 0) r && int_lt r (pos m)) p.0).1 in
-        let l = from_le_true (pos 0) r q.0 in let u = from_lt_true r (pos m) q.1 in
+        let l = le_fact (pos 0) r q.0 in let u = from_lt_true r (pos m) q.1 in
         by (or_cases (int_le r (greatest_of U64)) (int_le (least_of I64) (r -ℤ pos m)) p.1) l u
       where
         by : (int_le r (greatest_of U64) ≡ true) ⊎ (int_le (least_of I64) (r -ℤ pos m) ≡ true) → pos 0 ≤ℤ r → r <ℤ pos m → (z : ℤ) × IsOfSomeType z × IsMultiple m (z -ℤ r)
-        by (inl n) l u = (r, record { low = omega (arith, ints); high = from_le_true _ _ n }, here)
-        by (inr n) l u = (r -ℤ pos m, record { low = from_le_true _ _ n; high = omega (arith, ints) }, subst (IsMultiple m) (less r m) (multiple_difference m (pos 0) (pos m) (none_of m) (itself m)))
+        by (inl n) l u = (r, record { low = omega (arith, ints); high = le_fact _ _ n }, here)
+        by (inr n) l u = (r -ℤ pos m, record { low = le_fact _ _ n; high = omega (arith, ints) }, subst (IsMultiple m) (less r m) (multiple_difference m (pos 0) (pos m) (none_of m) (itself m)))

@@ -1,5 +1,7 @@
 -- Laws of cuts, conversions, meets and strides.
 use Prim.Native.Nat.{◌∣◌}
+use Rattle.ep_congruence_laws.proofs.Multiples.{eq_zero, zero_eq}
+use Rattle.ep_int.proofs.Arithmetic.{in_range_some_type}
 use Rattle.std.proofs.Common.{◌≡◌, ℕ, ◌*◌, ◌%◌, ◌^◌, ◌<◌, ◌≤◌, ℤ, pos, ◌+ℤ◌, ◌-ℤ◌, ◌*ℤ◌, ◌≤ℤ◌, ◌<ℤ◌, Bool, true}
 use Rattle.std.proofs.Common.{false, cond, ◌⊎◌, inl, inr, Option, Some, None, nat_eq, nat_le, arith, refl, sym, ap}
 use Rattle.std.proofs.Common.{◌∙◌, subst}
@@ -17,14 +19,13 @@ use Rattle.ep_int.specs.Types.{bits_of, least_of, greatest_of, residue, wrapped}
 use Rattle.ep_int.specs.Arith.{int_eq, IsOfSomeType}
 use Rattle.ep_int.proofs.Wrapping.{wrapped_congruent, wrapped_in_range}
 use Rattle.ep_range_laws.specs.Ranges.{LiesIn}
-use Rattle.ep_range_laws.proofs.Types.{number_of}
 use Rattle.ep_domain.specs.Laws.Shared.{eq_true, from_eq}
 use Rattle.ep_range_laws.proofs.Comparisons.{le_trans}
 use Rattle.ep_congruence_laws.specs.Multiples.{IsMultiple, is_multiple, gcd}
 use Rattle.ep_congruence_laws.specs.Classes.{Class, class, one, greatest_modulus, reduced, distance, edges_of, cut_at}
 use Rattle.ep_congruence_laws.specs.Classes.{cut_of, conversion_of, meeting, meet_of, has_stride}
 use Rattle.ep_congruence_laws.proofs.Multiples.{multiple_of, none_of, test_multiple, multiple_test}
-use Rattle.ep_congruence_laws.proofs.Classes.{zero_from, zero_test, nonzero_from, residue_multiple, residue_same}
+use Rattle.ep_congruence_laws.proofs.Classes.{nonzero_from, residue_multiple, residue_same}
 use Rattle.ep_congruence_laws.proofs.Classes.{chain, turn, in_reduced, reduced_modulus, class_with, class_has}
 use Rattle.ep_congruence_laws.proofs.Operations.{In, Is, gcd_left, gcd_right, gcd_small, one_member, AreEdges}
 use Rattle.ep_congruence_laws.proofs.Operations.{edges_are, edges_enclose}
@@ -147,7 +148,7 @@ pub conversion_holds : (c : Class) (t : IntType) (z : ℤ) → In c z → In (co
 conversion_holds c t z h = at (nat_eq c.modulus 0) refl
   where
     at : (b : Bool) → nat_eq c.modulus 0 ≡ b → In (cond b (one (wrapped t c.remainder)) (reduced c.remainder (gcd c.modulus (2 ^ bits_of t)))) (wrapped t z)
-    at true e = subst (λ x. IsMultiple 0 (wrapped t x -ℤ wrapped t c.remainder)) (sym (one_member c z (zero_from c.modulus e) h)) (itself_in (wrapped t c.remainder) 0)
+    at true e = subst (λ x. IsMultiple 0 (wrapped t x -ℤ wrapped t c.remainder)) (sym (one_member c z (eq_zero c.modulus e) h)) (itself_in (wrapped t c.remainder) 0)
     at false e =
         let g = gcd c.modulus (2 ^ bits_of t) in
         in_reduced c.remainder (wrapped t z) g
@@ -157,13 +158,13 @@ pub conversion_class : (c : Class) (t : IntType) → Is c → Is (conversion_of 
 conversion_class c t h = at (nat_eq c.modulus 0)
   where
     at : (b : Bool) → Is (cond b (one (wrapped t c.remainder)) (reduced c.remainder (gcd c.modulus (2 ^ bits_of t))))
-    at true = one_class (wrapped t c.remainder) (number_of t _ (wrapped_in_range t c.remainder))
+    at true = one_class (wrapped t c.remainder) (in_range_some_type t _ (wrapped_in_range t c.remainder))
     at false =
         let m = class_has c.remainder c.modulus h in
         class_with c.remainder m.0 (gcd c.modulus (2 ^ bits_of t)) (turn_small t c.modulus) m.1 (multiple_of _ c.modulus _ (gcd_left c.modulus (2 ^ bits_of t)) m.2)
 
 pub conversion_one : (c : Class) (t : IntType) (v : ℤ) → c.modulus ≡ 0 → c.remainder ≡ v → conversion_of c t ≡ one (wrapped t v)
-conversion_one c t v e f = ap (λ b. cond b (one (wrapped t c.remainder)) (reduced c.remainder (gcd c.modulus (2 ^ bits_of t)))) (zero_test c.modulus e) ∙ ap (λ x. one (wrapped t x)) f
+conversion_one c t v e f = ap (λ b. cond b (one (wrapped t c.remainder)) (reduced c.remainder (gcd c.modulus (2 ^ bits_of t)))) (zero_eq c.modulus e) ∙ ap (λ x. one (wrapped t x)) f
 
 -- ---- meets
 
@@ -222,13 +223,13 @@ pub record HasStride (c : Class) (r s : ℕ) : Type 0 where
 pub stride_from : (c : Class) (r s : ℕ) → has_stride c r s ≡ true → HasStride c r s
 stride_from c r s h =
     let p = and_parts (nat_eq (c.modulus % s) 0) (nat_eq (residue s c.remainder) r) h in
-    record { divides = dvd_of_mod-eq-zero s (zero_from _ p.0); remainder = equal _ _ p.1 }
+    record { divides = dvd_of_mod-eq-zero s (eq_zero _ p.0); remainder = equal _ _ p.1 }
   where
     equal : (a b : ℕ) → nat_eq a b ≡ true → a ≡ b
     equal a b e = grind (arith, nat_tests)
 
 pub stride_test : (c : Class) (r s : ℕ) → HasStride c r s → has_stride c r s ≡ true
-stride_test c r s h = and_from _ _ (zero_test _ (mod-eq-zero_of_dvd s h.divides)) (equal _ _ h.remainder)
+stride_test c r s h = and_from _ _ (zero_eq _ (mod-eq-zero_of_dvd s h.divides)) (equal _ _ h.remainder)
   where
     equal : (a b : ℕ) → a ≡ b → nat_eq a b ≡ true
     equal a b e = grind (arith, nat_tests)

@@ -117,10 +117,10 @@ multiple_by_size m (negsuc n) h = let k = of_dvd m (suc n) h in subst (IsMultipl
     flip : (n : ℕ) → pos 0 -ℤ pos (suc n) ≡ negsuc n
     flip n = omega (arith, ints)
 
-eq_zero : (n : ℕ) → nat_eq n 0 ≡ true → n ≡ 0
+pub eq_zero : (n : ℕ) → nat_eq n 0 ≡ true → n ≡ 0
 eq_zero n h = grind (arith, nat_tests)
 
-zero_eq : (n : ℕ) → n ≡ 0 → nat_eq n 0 ≡ true
+pub zero_eq : (n : ℕ) → n ≡ 0 → nat_eq n 0 ≡ true
 zero_eq n h = grind (arith, nat_tests)
 
 pub test_multiple : (m : ℕ) (z : ℤ) → is_multiple m z ≡ true → IsMultiple m z

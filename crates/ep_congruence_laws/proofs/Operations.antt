@@ -1,5 +1,8 @@
 -- Laws of what does not depend on an operator.
 use Prim.Native.Nat.{◌∣◌}
+use Rattle.ep_congruence_laws.proofs.Multiples.{eq_zero, zero_eq}
+use Rattle.ep_int.proofs.Arithmetic.{le_fact}
+use Rattle.std.proofs.lemmas.Bool.{leb-true}
 use Rattle.std.proofs.Common.{◌≡◌, ℕ, zero, suc, ◌+◌, ◌-◌, ◌*◌, ◌/◌, ◌%◌, ◌^◌, ◌<◌, ◌≤◌, ℤ, pos, negsuc, ◌+ℤ◌, ◌-ℤ◌}
 use Rattle.std.proofs.Common.{◌*ℤ◌, ◌≤ℤ◌, ◌<ℤ◌, neg_ℤ, Bool, true, false, cond, ◌&&◌, Some, None, nat_eq, nat_le}
 use Rattle.std.proofs.Common.{arith, refl, sym, ap, ◌∙◌, subst}
@@ -19,14 +22,14 @@ use Rattle.ep_int.specs.Arith.{IsOfSomeType}
 use Rattle.ep_int.proofs.Wrapping.{residue_below}
 use Rattle.ep_range_laws.specs.Ranges.{LiesIn, Encloses}
 use Rattle.ep_domain.specs.Laws.Shared.{pair}
-use Rattle.ep_range_laws.proofs.Comparisons.{le_false, from_le_true, from_le_false, between_true, from_between, le_self}
+use Rattle.ep_range_laws.proofs.Comparisons.{le_false, from_le_false, between_true, from_between, le_self}
 use Rattle.ep_congruence_laws.specs.Multiples.{IsMultiple, is_multiple, gcd_steps, gcd}
 use Rattle.ep_congruence_laws.specs.Classes.{Class, class, one, greatest_modulus, is_class, reduced, distance}
 use Rattle.ep_congruence_laws.specs.Classes.{is_within, joined_modulus, join_of, range_of, rank_of, edges_from}
 use Rattle.ep_congruence_laws.specs.Classes.{first_from, last_to}
 use Rattle.ep_congruence_laws.proofs.Multiples.{multiple_of, multiple_by_size, size_of_multiple, none_of, of_dvd}
 use Rattle.ep_congruence_laws.proofs.Multiples.{test_multiple, multiple_test, is_gcd}
-use Rattle.ep_congruence_laws.proofs.Classes.{zero_from, zero_test, nonzero_from, nonzero_test, le_from}
+use Rattle.ep_congruence_laws.proofs.Classes.{nonzero_from, nonzero_test}
 use Rattle.ep_congruence_laws.proofs.Classes.{residue_multiple, small_multiple, chain, turn, in_reduced}
 use Rattle.ep_congruence_laws.proofs.Classes.{reduced_modulus, class_with, class_small, class_remainder, class_one}
 use Rattle.ep_congruence_laws.proofs.Classes.{class_has}
@@ -96,14 +99,14 @@ unfolding gcd_steps
 gcd_small a b n h k = at (nat_eq a 0) refl
   where
     second : (t : Bool) → nat_eq b 0 ≡ t → a ≡ 0 → gcd a b ≤ n
-    second true e d = let f : gcd a b ∣ b = gcd_right a b in subst (λ (m : ℕ). m ≤ n) (sym (both_zero d (zero_from b e))) (omega arith)
+    second true e d = let f : gcd a b ∣ b = gcd_right a b in subst (λ (m : ℕ). m ≤ n) (sym (both_zero d (eq_zero b e))) (omega arith)
       where
         both_zero : a ≡ 0 → b ≡ 0 → gcd a b ≡ 0
         both_zero p q = ap (λ (m : ℕ). gcd m b) p ∙ ap (gcd 0) q
     second false e d = divisor_small _ _ n (gcd_right a b) k (nonzero_from b e)
 
     at : (t : Bool) → nat_eq a 0 ≡ t → gcd a b ≤ n
-    at true e = second (nat_eq b 0) refl (zero_from a e)
+    at true e = second (nat_eq b 0) refl (eq_zero a e)
     at false e = divisor_small _ _ n (gcd_left a b) h (nonzero_from a e)
 
 joined_small : (a b : Class) → Is a → Is b → joined_modulus a b ≤ greatest_modulus
@@ -113,8 +116,8 @@ joined_small a b h k = at (nat_eq a.modulus 0) (nat_eq b.modulus 0) refl refl
     at false u e f = divisor_small _ _ _ (joined_left a b) (class_small a.remainder a.modulus h) (nonzero_from _ e)
     at true false e f = divisor_small _ _ _ (joined_right a b) (class_small b.remainder b.modulus k) (nonzero_from _ f)
     at true true e f =
-        let p = class_one a.remainder (subst (λ m. is_class a.remainder m ≡ true) (zero_from _ e) h) in
-        let q = class_one b.remainder (subst (λ m. is_class b.remainder m ≡ true) (zero_from _ f) k) in
+        let p = class_one a.remainder (subst (λ m. is_class a.remainder m ≡ true) (eq_zero _ e) h) in
+        let q = class_one b.remainder (subst (λ m. is_class b.remainder m ≡ true) (eq_zero _ f) k) in
         gcd_small (gcd a.modulus b.modulus) (unsigned_abs (distance a b)) greatest_modulus
         (gcd_small a.modulus b.modulus greatest_modulus (class_small a.remainder a.modulus h) (class_small b.remainder b.modulus k)) (apart_small a.remainder b.remainder p q)
 
@@ -136,7 +139,7 @@ rank_more : (c : Class) → 0 < c.modulus → rank_of c ≡ 127 - leading_zeros 
 rank_more c h = ap (λ t. cond t 65 (127 - leading_zeros w128 c.modulus)) (nonzero_test c.modulus h)
 
 rank_zero : (c : Class) → c.modulus ≡ 0 → rank_of c ≡ 65
-rank_zero c h = ap (λ t. cond t 65 (127 - leading_zeros w128 c.modulus)) (zero_test c.modulus h)
+rank_zero c h = ap (λ t. cond t 65 (127 - leading_zeros w128 c.modulus)) (zero_eq c.modulus h)
 
 -- the whole part of the logarithm
 log_of : (m : ℕ) → 0 < m → m < 2 ^ 128 → (j : ℕ) × (127 - leading_zeros w128 m ≡ j) × (2 ^ j ≤ m) × (m < 2 ^ suc j)
@@ -165,7 +168,7 @@ log_small : (j m : ℕ) → 2 ^ j ≤ m → m ≤ greatest_modulus → j ≤ 64
 log_small j m p q = at (nat_le j 64) refl
   where
     at : (t : Bool) → nat_le j 64 ≡ t → j ≤ 64
-    at true e = le_from j 64 e
+    at true e = leb-true j 64 e
     at false e = let l : 2 ^ 65 ≤ 2 ^ j = pow_mono (above j e) in absurd (omega arith)
       where
         above : (j : ℕ) → nat_le j 64 ≡ false → 65 ≤ j
@@ -175,7 +178,7 @@ pub rank_bound : (c : Class) → Is c → rank_of c ≤ 65
 rank_bound c h = at (nat_eq c.modulus 0) refl
   where
     at : (t : Bool) → nat_eq c.modulus 0 ≡ t → rank_of c ≤ 65
-    at true e = let f = rank_zero c (zero_from c.modulus e) in omega arith
+    at true e = let f = rank_zero c (eq_zero c.modulus e) in omega arith
     at false e =
         let p = nonzero_from c.modulus e in let s = class_small c.remainder c.modulus h in let f = rank_more c p in
         let t = log_of c.modulus p (omega arith) in let l = log_small t.0 c.modulus t.2 s in let g = t.1 in omega arith
@@ -197,12 +200,12 @@ rank_falls c d h k v n = at (nat_eq d.modulus 0) (nat_eq c.modulus 0) refl refl
 
     at : (t u : Bool) → nat_eq d.modulus 0 ≡ t → nat_eq c.modulus 0 ≡ u → rank_of d < rank_of c
     at true u e f =
-        let z = zero_from d.modulus e in
+        let z = eq_zero d.modulus e in
         absurd (n (z ∙ sym (only c.modulus (subst (λ (m : ℕ). m ∣ c.modulus) z v))))
     at false true e f =
         let p = nonzero_from d.modulus e in let s = class_small d.remainder d.modulus k in
         let t = log_of d.modulus p (omega arith) in let l = log_small t.0 d.modulus t.2 s in let g = t.1 in
-        let i = rank_more d p in let j = rank_zero c (zero_from c.modulus f) in omega arith
+        let i = rank_more d p in let j = rank_zero c (eq_zero c.modulus f) in omega arith
     at false false e f =
         let p = nonzero_from d.modulus e in let q = nonzero_from c.modulus f in
         let s = class_small d.remainder d.modulus k in let r = class_small c.remainder c.modulus h in
@@ -215,7 +218,7 @@ pub join_same : (a b : Class) → Is a → joined_modulus a b ≡ a.modulus → 
 join_same a b h e = ap (reduced a.remainder) e ∙ at (nat_eq a.modulus 0) refl
   where
     at : (t : Bool) → nat_eq a.modulus 0 ≡ t → cond t (one a.remainder) (class (pos (residue a.modulus a.remainder)) a.modulus) ≡ a
-    at true f = ap (class a.remainder) (sym (zero_from _ f))
+    at true f = ap (class a.remainder) (sym (eq_zero _ f))
     at false f =
         let r = class_remainder a.remainder a.modulus h (nonzero_from _ f) in
         ap (λ z. class z a.modulus) (back a.remainder a.modulus r.0 r.1)
@@ -257,11 +260,11 @@ pub range_encloses : (c : Class) (z : ℤ) → IsOfSomeType z → In c z → Lie
 range_encloses c z i h = at (nat_eq c.modulus 0) refl
   where
     at : (t : Bool) → nat_eq c.modulus 0 ≡ t → LiesIn (cond t (pair c.remainder c.remainder) (pair (least_of I64) (greatest_of U64))) z
-    at true e = let s = one_member c z (zero_from c.modulus e) h in record { low = subst (λ x. c.remainder ≤ℤ x) (sym s) (le_self c.remainder); high = subst (λ x. x ≤ℤ c.remainder) (sym s) (le_self c.remainder) }
+    at true e = let s = one_member c z (eq_zero c.modulus e) h in record { low = subst (λ x. c.remainder ≤ℤ x) (sym s) (le_self c.remainder); high = subst (λ x. x ≤ℤ c.remainder) (sym s) (le_self c.remainder) }
     at false e = record { low = i.low; high = i.high }
 
 pub range_one : (c : Class) → c.modulus ≡ 0 → range_of c ≡ pair c.remainder c.remainder
-range_one c e = ap (λ t. cond t (pair c.remainder c.remainder) (pair (least_of I64) (greatest_of U64))) (zero_test c.modulus e)
+range_one c e = ap (λ t. cond t (pair c.remainder c.remainder) (pair (least_of I64) (greatest_of U64))) (zero_eq c.modulus e)
 
 pub range_more : (c : Class) → 0 < c.modulus → range_of c ≡ pair (least_of I64) (greatest_of U64)
 range_more c e = ap (λ t. cond t (pair c.remainder c.remainder) (pair (least_of I64) (greatest_of U64))) (nonzero_test c.modulus e)
@@ -274,7 +277,7 @@ single_is c v e = at (nat_eq c.modulus 0) refl
     apart l h p q r = omega (arith, ints)
 
     at : (t : Bool) → nat_eq c.modulus 0 ≡ t → (c.modulus ≡ 0) × (c.remainder ≡ v)
-    at true f = let z = zero_from c.modulus f in (z, ap (λ (r : ℤ × ℤ). r.0) (sym (range_one c z) ∙ e))
+    at true f = let z = eq_zero c.modulus f in (z, ap (λ (r : ℤ × ℤ). r.0) (sym (range_one c z) ∙ e))
     at false f =
         let r : pair (least_of I64) (greatest_of U64) ≡ pair v v = sym (range_more c (nonzero_from c.modulus f)) ∙ e in
         absurd (apart (least_of I64) (greatest_of U64) (ap (λ (r : ℤ × ℤ). r.0) r) (ap (λ (r : ℤ × ℤ). r.1) r) (omega (arith, ints)))
@@ -296,7 +299,7 @@ apart_by : (m : ℕ) (x y : ℤ) → IsMultiple m (x -ℤ y) → x <ℤ y → (x
 apart_by m x y h l = at (int_le (x +ℤ pos m) y) refl
   where
     at : (t : Bool) → int_le (x +ℤ pos m) y ≡ t → (x +ℤ pos m) ≤ℤ y
-    at true e = from_le_true _ _ e
+    at true e = le_fact _ _ e
     at false e = let f = from_le_false (x +ℤ pos m) y e in let n = small_multiple m (x -ℤ y) (omega (arith, ints)) (omega (arith, ints)) h in absurd (omega (arith, ints))
 
 between_members : (c : Class) (x y : ℤ) → In c x → In c y → IsMultiple c.modulus (x -ℤ y)
@@ -309,7 +312,7 @@ first_least c l z p h k = at (int_le (first_from c l) z) refl
     near l x y m s b e k f = omega (arith, ints)
 
     at : (t : Bool) → int_le (first_from c l) z ≡ t → first_from c l ≤ℤ z
-    at true e = from_le_true (first_from c l) z e
+    at true e = le_fact (first_from c l) z e
     at false e = absurd (near l (first_from c l) z c.modulus (residue c.modulus (c.remainder -ℤ l)) (residue_below c.modulus (c.remainder -ℤ l) p) refl k
         (apart_by c.modulus z (first_from c l) (between_members c z (first_from c l) h (first_member c l p)) (from_le_false (first_from c l) z e)))
 
@@ -320,7 +323,7 @@ last_greatest c h z p i k = at (int_le z (last_to c h)) refl
     near h x y m s b e k f = omega (arith, ints)
 
     at : (t : Bool) → int_le z (last_to c h) ≡ t → z ≤ℤ last_to c h
-    at true e = from_le_true z (last_to c h) e
+    at true e = le_fact z (last_to c h) e
     at false e = absurd (near h (last_to c h) z c.modulus (residue c.modulus (h -ℤ c.remainder)) (residue_below c.modulus (h -ℤ c.remainder) p) refl k
         (apart_by c.modulus (last_to c h) z (between_members c (last_to c h) z (last_member c h p) i) (from_le_false z (last_to c h) e)))
 
@@ -353,7 +356,7 @@ edges_are c l h = at (nat_eq c.modulus 0) refl
     at_more : 0 < c.modulus → (t : Bool) → int_le (first_from c l) h ≡ t → IfSome (cond t (Some (pair (first_from c l) (last_to c h))) None) (AreEdges c l h)
     at_more p false e = tt
     at_more p true e =
-        let f = from_le_true (first_from c l) h e in
+        let f = le_fact (first_from c l) h e in
         let o = last_greatest c h (first_from c l) p (first_member c l p) f in
         let x = below (first_from c l) l (residue c.modulus (c.remainder -ℤ l)) refl in
         let y = above (last_to c h) h (residue c.modulus (h -ℤ c.remainder)) refl in
@@ -386,7 +389,7 @@ edges_enclose c l h z i p q = at (nat_eq c.modulus 0) refl
 
     at : (t : Bool) → nat_eq c.modulus 0 ≡ t →
         IsSomeAnd (cond t (cond (int_le l c.remainder && int_le c.remainder h) (Some (pair c.remainder c.remainder)) None) (cond (int_le (first_from c l) h) (Some (pair (first_from c l) (last_to c h))) None)) (λ e. LiesIn e z)
-    at true e = at_one (zero_from c.modulus e) (int_le l c.remainder && int_le c.remainder h) refl
+    at true e = at_one (eq_zero c.modulus e) (int_le l c.remainder && int_le c.remainder h) refl
     at false e = at_more (nonzero_from c.modulus e) (int_le (first_from c l) h) refl
 
 -- how great a remainder may be
@@ -394,7 +397,7 @@ pub remainder_bounds : (r : ℤ) (m : ℕ) → is_class r m ≡ true → (least_
 remainder_bounds r m h = at (nat_eq m 0) refl
   where
     at : (t : Bool) → nat_eq m 0 ≡ t → (least_of I64 ≤ℤ r) × (r ≤ℤ pos greatest_modulus)
-    at true e = let i = class_one r (subst (λ n. is_class r n ≡ true) (zero_from m e) h) in let p = i.low in let q = i.high in (omega (arith, ints), omega (arith, ints))
+    at true e = let i = class_one r (subst (λ n. is_class r n ≡ true) (eq_zero m e) h) in let p = i.low in let q = i.high in (omega (arith, ints), omega (arith, ints))
     at false e = let i = class_remainder r m h (nonzero_from m e) in let p = i.0 in let q = i.1 in let s = class_small r m h in (omega (arith, ints), omega (arith, ints))
 
 -- the edges of a class of another modulus than 0, and where the ends are out of order

@@ -1,5 +1,9 @@
 -- Laws of operators on classes.
 use Prim.Native.Nat.{◌∣◌}
+use Rattle.ep_congruence_laws.proofs.Multiples.{eq_zero}
+use Rattle.ep_int.proofs.Arithmetic.{in_range_some_type, le_fact}
+use Rattle.ep_int.proofs.Basics.{ok-injective}
+use Rattle.std.proofs.lemmas.Bool.{leb-true}
 use Rattle.std.proofs.Common.{◌≡◌, ℕ, ◌*◌, ◌^◌, ◌≤◌, ℤ, pos, negsuc, ◌+ℤ◌, ◌-ℤ◌, ◌*ℤ◌, ◌≤ℤ◌, ◌<ℤ◌, Bool, true, false}
 use Rattle.std.proofs.Common.{cond, ◌&&◌, Option, Some, None, Result, Ok, Err, nat_eq, nat_le, arith, refl, sym, ap}
 use Rattle.std.proofs.Common.{◌∙◌, subst}
@@ -22,9 +26,9 @@ use Rattle.ep_int.specs.Arith.{is_in_range, settled, is_amount, arith_of, IsOfSo
 use Rattle.ep_int.proofs.Wrapping.{wrapped_same}
 use Rattle.ep_int.proofs.Arithmetic.{arith_in_range}
 use Rattle.ep_range_laws.specs.Ranges.{LiesIn}
-use Rattle.ep_range_laws.proofs.Types.{number_of, least_unsigned}
+use Rattle.ep_range_laws.proofs.Types.{least_unsigned}
 use Rattle.ep_range_laws.proofs.Corners.{product_up}
-use Rattle.ep_range_laws.proofs.Comparisons.{from_le_true, from_lt_true, from_lt_false, le_self, le_trans}
+use Rattle.ep_range_laws.proofs.Comparisons.{from_lt_true, from_lt_false, le_self, le_trans}
 use Rattle.ep_congruence_laws.specs.Multiples.{IsMultiple, gcd}
 use Rattle.ep_congruence_laws.specs.Classes.{Class, everything, one, is_one, greatest_modulus, is_class, reduced}
 use Rattle.ep_congruence_laws.specs.Classes.{edges_of}
@@ -34,7 +38,7 @@ use Rattle.ep_congruence_laws.specs.Results.{past_limits, product_at, product_mo
 use Rattle.ep_congruence_laws.specs.Results.{single_result, results_of, results_between}
 use Rattle.ep_congruence_laws.proofs.Multiples.{times_difference, times_assoc, multiple_sum, multiple_difference}
 use Rattle.ep_congruence_laws.proofs.Multiples.{multiple_product, multiple_of, multiple_by_size}
-use Rattle.ep_congruence_laws.proofs.Classes.{zero_from, le_from, chain, turn, in_reduced, class_with, class_one}
+use Rattle.ep_congruence_laws.proofs.Classes.{chain, turn, in_reduced, class_with, class_one}
 use Rattle.ep_congruence_laws.proofs.Operations.{In, Is, gcd_left, gcd_right, one_member}
 use Rattle.ep_congruence_laws.proofs.Cuts.{itself_in, edges_hold, wrapped_apart, turn_small, one_class}
 
@@ -63,18 +67,15 @@ by_signed {P} t f g = at (is_signed t) refl
 not_err : {P : Type 0} (u : Undef) (v : ℤ) → ◌≡◌ {A = Result ℤ Undef} (Err u) (Ok v) → P
 not_err u v e = absurd cc
 
-same_ok : (v w : ℤ) → ◌≡◌ {A = Result ℤ Undef} (Ok v) (Ok w) → v ≡ w
-same_ok v w e = cc
-
 pub signed_result : (u : Undef) (t : IntType) (e v : ℤ) → is_signed t ≡ true → settled u t e ≡ Ok v → v ≡ e
 signed_result u t e v s h = at (is_in_range t e) (sym (ap (λ b. cond b (cond (is_in_range t e) (Ok e) (Err u)) (Ok (wrapped t e))) s) ∙ h)
   where
     at : (b : Bool) → ◌≡◌ {A = Result ℤ Undef} (cond b (Ok e) (Err u)) (Ok v) → v ≡ e
-    at true k = sym (same_ok e v k)
+    at true k = sym (ok-injective e v k)
     at false k = not_err u v k
 
 unsigned_result : (u : Undef) (t : IntType) (e v : ℤ) → is_signed t ≡ false → settled u t e ≡ Ok v → v ≡ wrapped t e
-unsigned_result u t e v s h = sym (same_ok (wrapped t e) v (sym (ap (λ b. cond b (cond (is_in_range t e) (Ok e) (Err u)) (Ok (wrapped t e))) s) ∙ h))
+unsigned_result u t e v s h = sym (ok-injective (wrapped t e) v (sym (ap (λ b. cond b (cond (is_in_range t e) (Ok e) (Err u)) (Ok (wrapped t e))) s) ∙ h))
 
 kept_signed : (t : IntType) (l : Bool) (m : ℕ) → is_signed t ≡ true → kept_modulus t l m ≡ m
 kept_signed t l m s = ap (λ b. cond b m (cond l (gcd m (2 ^ bits_of t)) m)) s
@@ -102,7 +103,7 @@ pub limited_small : (m : ℕ) → limited m ≤ greatest_modulus
 limited_small m = at (nat_le m greatest_modulus) refl
   where
     at : (t : Bool) → nat_le m greatest_modulus ≡ t → cond t m 1 ≤ greatest_modulus
-    at true e = le_from m greatest_modulus e
+    at true e = leb-true m greatest_modulus e
     at false e = omega arith
 
 limited_divides : (m : ℕ) → limited m ∣ m
@@ -122,15 +123,15 @@ ends_hold t c x i h = at (nat_eq c.modulus 0) refl
     some (Some e) k = k
 
     at : (b : Bool) → nat_eq c.modulus 0 ≡ b → LiesIn (cond b (c.remainder, c.remainder) (unwrap_or (edges_of c (least_of t) (greatest_of t)) (least_of t, greatest_of t))) x
-    at true e = let s = one_member c x (zero_from c.modulus e) h in record { low = subst (λ y. c.remainder ≤ℤ y) (sym s) (le_self c.remainder); high = subst (λ y. y ≤ℤ c.remainder) (sym s) (le_self c.remainder) }
-    at false e = some (edges_of c (least_of t) (greatest_of t)) (edges_hold c (least_of t) (greatest_of t) x (number_of t x i) h i.low i.high)
+    at true e = let s = one_member c x (eq_zero c.modulus e) h in record { low = subst (λ y. c.remainder ≤ℤ y) (sym s) (le_self c.remainder); high = subst (λ y. y ≤ℤ c.remainder) (sym s) (le_self c.remainder) }
+    at false e = some (edges_of c (least_of t) (greatest_of t)) (edges_hold c (least_of t) (greatest_of t) x (in_range_some_type t x i) h i.low i.high)
 
 -- ---- sums and differences
 
-sum_members : (x y a b : ℤ) → (x -ℤ a) +ℤ (y -ℤ b) ≡ (x +ℤ y) -ℤ (a +ℤ b)
+pub sum_members : (x y a b : ℤ) → (x -ℤ a) +ℤ (y -ℤ b) ≡ (x +ℤ y) -ℤ (a +ℤ b)
 sum_members x y a b = omega (arith, ints)
 
-difference_members : (x y a b : ℤ) → (x -ℤ a) -ℤ (y -ℤ b) ≡ (x -ℤ y) -ℤ (a -ℤ b)
+pub difference_members : (x y a b : ℤ) → (x -ℤ a) -ℤ (y -ℤ b) ≡ (x -ℤ y) -ℤ (a -ℤ b)
 difference_members x y a b = omega (arith, ints)
 
 limited_gives : (r v : ℤ) (m : ℕ) → IsOfSomeType v → IsMultiple m (v -ℤ r) → Gives (reduced r (limited m)) v
@@ -242,13 +243,13 @@ past_gives u t a b x y v p q h k e n = at (nat_eq a.modulus 0) (nat_eq b.modulus
   where
     at : (s r : Bool) → nat_eq a.modulus 0 ≡ s → nat_eq b.modulus 0 ≡ r → Gives (cond s (multiples_of t a.remainder) (cond r (multiples_of t b.remainder) everything)) v
     at true r f g =
-        let i = class_one a.remainder (subst (λ m. is_class a.remainder m ≡ true) (zero_from a.modulus f) p) in
+        let i = class_one a.remainder (subst (λ m. is_class a.remainder m ≡ true) (eq_zero a.modulus f) p) in
         multiples_give u t a.remainder (x *ℤ y) v i
-        (subst (λ z. IsMultiple (unsigned_abs a.remainder) (z *ℤ y)) (sym (one_member a x (zero_from a.modulus f) h)) (multiple_product (unsigned_abs a.remainder) a.remainder y (size_multiple a.remainder))) e n
+        (subst (λ z. IsMultiple (unsigned_abs a.remainder) (z *ℤ y)) (sym (one_member a x (eq_zero a.modulus f) h)) (multiple_product (unsigned_abs a.remainder) a.remainder y (size_multiple a.remainder))) e n
     at false true f g =
-        let i = class_one b.remainder (subst (λ m. is_class b.remainder m ≡ true) (zero_from b.modulus g) q) in
+        let i = class_one b.remainder (subst (λ m. is_class b.remainder m ≡ true) (eq_zero b.modulus g) q) in
         multiples_give u t b.remainder (x *ℤ y) v i
-        (subst (IsMultiple (unsigned_abs b.remainder)) (*ℤ_comm y x) (subst (λ z. IsMultiple (unsigned_abs b.remainder) (z *ℤ x)) (sym (one_member b y (zero_from b.modulus g) k)) (multiple_product (unsigned_abs b.remainder) b.remainder x (size_multiple b.remainder)))) e n
+        (subst (IsMultiple (unsigned_abs b.remainder)) (*ℤ_comm y x) (subst (λ z. IsMultiple (unsigned_abs b.remainder) (z *ℤ x)) (sym (one_member b y (eq_zero b.modulus g) k)) (multiple_product (unsigned_abs b.remainder) b.remainder x (size_multiple b.remainder)))) e n
     at false false f g = gives_all v
 
 pub product_gives : (u : Undef) (t : IntType) (a b : Class) (x y v : ℤ) → Is a → Is b → In a x → In b y → InRange t x → LiesIn (ends_of t b) y → (is_signed t ≡ false → pos 0 ≤ℤ y) → settled u t (x *ℤ y) ≡ Ok v → IsOfSomeType v → Gives (product_of t a b) v
@@ -271,7 +272,7 @@ product_gives u t a b x y v p q h k i j z e n = at (are_small (products a b))
 
     at_modulus : (t' : Bool) → nat_le (product_modulus t a b) greatest_modulus ≡ t' → Gives (cond t' (reduced (a.remainder *ℤ b.remainder) (product_modulus t a b)) (past_limits t a b)) v
     at_modulus true f =
-        gives (a.remainder *ℤ b.remainder) v (product_modulus t a b) (le_from _ _ f) n
+        gives (a.remainder *ℤ b.remainder) v (product_modulus t a b) (leb-true _ _ f) n
         (settled_member u t (x *ℤ y) v (a.remainder *ℤ b.remainder) (three a b) (product_leaves t (ends_of t a) (ends_of t b)) e (exact_product a b x y h k) inside)
     at_modulus false f = past_gives u t a b x y v p q h k e n
 
@@ -284,7 +285,7 @@ product_gives u t a b x y v p q h k i j z e n = at (are_small (products a b))
 power_small : (t : IntType) (y : ℤ) → is_amount t y ≡ true → IsOfSomeType (pos (2 ^ unsigned_abs y))
 power_small t y h =
     let p = and_parts (int_le (pos 0) y) (int_lt y (pos (bits_of t))) h in
-    at y (from_le_true _ _ p.0) (from_lt_true _ _ p.1)
+    at y (le_fact _ _ p.0) (from_lt_true _ _ p.1)
   where
     at : (y : ℤ) → pos 0 ≤ℤ y → y <ℤ pos (bits_of t) → IsOfSomeType (pos (2 ^ unsigned_abs y))
     at (negsuc n) p q = absurd (omega (arith, ints))
@@ -322,7 +323,7 @@ shifted_gives t a b x y v p h k i e n = at (is_one b && is_amount t b.remainder)
     at true f =
         let q = and_parts (nat_eq b.modulus 0) (is_amount t b.remainder) f in
         let c = pos (2 ^ unsigned_abs b.remainder) in
-        let same : y ≡ b.remainder = one_member b y (zero_from b.modulus q.0) k in
+        let same : y ≡ b.remainder = one_member b y (eq_zero b.modulus q.0) k in
         let w = power_small t b.remainder q.1 in
         product_gives Shift t a (one c) x c v p (one_class c w) h (itself_in c 0) i (record { low = le_self c; high = le_self c }) (λ s. omega (arith, ints))
         (subst (λ z. settled Shift t (x *ℤ pos (2 ^ unsigned_abs z)) ≡ Ok v) same (product (is_amount t y && int_le (pos 0) x) refl e)) n
@@ -330,13 +331,13 @@ shifted_gives t a b x y v p h k i e n = at (is_one b && is_amount t b.remainder)
 -- ---- each operator
 
 pub results_give : (o : BinOp) (t : IntType) (a b : Class) (x y v : ℤ) → Is a → Is b → In a x → In b y → InRange t x → IsRightOperand o t y → arith_of o t x y ≡ Ok v → Gives (results_of o t a b) v
-results_give Add t a b x y v p q h k i j e = sum_gives t a b x y v h k i j e (number_of t v (arith_in_range Add t x y v i e))
-results_give Sub t a b x y v p q h k i j e = difference_gives t a b x y v h k i j e (number_of t v (arith_in_range Sub t x y v i e))
-results_give Mul t a b x y v p q h k i j e = product_gives Overflow t a b x y v p q h k i (ends_hold t b y j k) (λ s. lower (least_of t) y (least_unsigned t s) j.low) e (number_of t v (arith_in_range Mul t x y v i e))
+results_give Add t a b x y v p q h k i j e = sum_gives t a b x y v h k i j e (in_range_some_type t v (arith_in_range Add t x y v i e))
+results_give Sub t a b x y v p q h k i j e = difference_gives t a b x y v h k i j e (in_range_some_type t v (arith_in_range Sub t x y v i e))
+results_give Mul t a b x y v p q h k i j e = product_gives Overflow t a b x y v p q h k i (ends_hold t b y j k) (λ s. lower (least_of t) y (least_unsigned t s) j.low) e (in_range_some_type t v (arith_in_range Mul t x y v i e))
   where
     lower : (l x : ℤ) → l ≡ pos 0 → l ≤ℤ x → pos 0 ≤ℤ x
     lower l x d h = omega (arith, ints)
-results_give Shl t a b x y v p q h k i j e = shifted_gives t a b x y v p h k i e (number_of t v (arith_in_range Shl t x y v i e))
+results_give Shl t a b x y v p q h k i j e = shifted_gives t a b x y v p h k i e (in_range_some_type t v (arith_in_range Shl t x y v i e))
 results_give Div t a b x y v p q h k i j e = gives_all v
 results_give Rem t a b x y v p q h k i j e = gives_all v
 results_give And t a b x y v p q h k i j e = gives_all v
@@ -348,11 +349,11 @@ pub between_give : (o : BinOp) (t : IntType) (a b : Class) (x y v : ℤ) → Is 
 between_give o t a b x y v p q h k i j e = at (is_one a && is_one b) refl
   where
     of_single : (r : Result ℤ Undef) → r ≡ Ok v → IsSomeAnd (single_result r) (λ c. Gives c v)
-    of_single r f = subst (λ r. IsSomeAnd (single_result r) (λ c. Gives c v)) (sym f) (one_class v (number_of t v (arith_in_range o t x y v i e)), itself_in v 0)
+    of_single r f = subst (λ r. IsSomeAnd (single_result r) (λ c. Gives c v)) (sym f) (one_class v (in_range_some_type t v (arith_in_range o t x y v i e)), itself_in v 0)
 
     at : (s : Bool) → (is_one a && is_one b) ≡ s → IsSomeAnd (cond s (single_result (arith_of o t a.remainder b.remainder)) (Some (results_of o t a b))) (λ c. Gives c v)
     at true f =
         let r = and_parts (nat_eq a.modulus 0) (nat_eq b.modulus 0) f in
         of_single (arith_of o t a.remainder b.remainder)
-        (subst (λ z. arith_of o t a.remainder z ≡ Ok v) (one_member b y (zero_from b.modulus r.1) k) (subst (λ z. arith_of o t z y ≡ Ok v) (one_member a x (zero_from a.modulus r.0) h) e))
+        (subst (λ z. arith_of o t a.remainder z ≡ Ok v) (one_member b y (eq_zero b.modulus r.1) k) (subst (λ z. arith_of o t z y ≡ Ok v) (one_member a x (eq_zero a.modulus r.0) h) e))
     at false f = results_give o t a b x y v p q h k i j e

@@ -1,5 +1,7 @@
 -- Strides of the results of operators.
 use Prim.Native.Nat.{◌∣◌}
+use Rattle.ep_congruence_laws.proofs.Results.{difference_members, sum_members}
+use Rattle.std.proofs.lemmas.Bool.{le-leb}
 use Rattle.std.proofs.Common.{◌≡◌, ℕ, ◌+◌, ◌*◌, ◌%◌, ◌<◌, ◌≤◌, ℤ, pos, ◌+ℤ◌, ◌-ℤ◌, ◌*ℤ◌, Bool, true, false, cond}
 use Rattle.std.proofs.Common.{◌&&◌, Option, Some, Result, Ok, Err, nat_le, arith, refl, sym, ap, ◌∙◌, subst}
 use Rattle.std.specs.Prelude.{unsigned_abs, IfSome}
@@ -19,20 +21,14 @@ use Rattle.ep_congruence_laws.specs.Results.{limited, products, are_small, multi
 use Rattle.ep_congruence_laws.specs.Results.{product_modulus, product_of, single_result, results_of, results_between}
 use Rattle.ep_congruence_laws.proofs.Multiples.{multiple_sum, multiple_difference, multiple_product, multiple_of}
 use Rattle.ep_congruence_laws.proofs.Multiples.{none_of, itself}
-use Rattle.ep_congruence_laws.proofs.Classes.{le_test, residue_multiple, residue_same, class_small}
+use Rattle.ep_congruence_laws.proofs.Classes.{residue_multiple, residue_same, class_small}
 use Rattle.ep_congruence_laws.proofs.Operations.{Is, gcd_greatest, gcd_small}
 use Rattle.ep_congruence_laws.proofs.Cuts.{HasStride, stride_of}
 use Rattle.ep_congruence_laws.proofs.Results.{signed_result}
 
 -- the remainder of a class less its stride
-stride_multiple : (c : Class) (r s : ℕ) → 0 < s → HasStride c r s → IsMultiple s (c.remainder -ℤ pos r)
+pub stride_multiple : (c : Class) (r s : ℕ) → 0 < s → HasStride c r s → IsMultiple s (c.remainder -ℤ pos r)
 stride_multiple c r s p h = subst (λ (n : ℕ). IsMultiple s (c.remainder -ℤ pos n)) h.remainder (residue_multiple s c.remainder p)
-
-sum_members : (a b r q : ℤ) → (a -ℤ r) +ℤ (b -ℤ q) ≡ (a +ℤ b) -ℤ (r +ℤ q)
-sum_members a b r q = omega (arith, ints)
-
-difference_members : (a b r q : ℤ) → (a -ℤ r) -ℤ (b -ℤ q) ≡ (a -ℤ b) -ℤ (r -ℤ q)
-difference_members a b r q = omega (arith, ints)
 
 sum_apart : (a b : Class) (r q s : ℕ) → 0 < s → HasStride a r s → HasStride b q s → IsMultiple s ((a.remainder +ℤ b.remainder) -ℤ pos (r + q))
 sum_apart a b r q s p h k = subst (IsMultiple s) (sum_members a.remainder b.remainder (pos r) (pos q)) (multiple_sum s _ _ (stride_multiple a r s p h) (stride_multiple b q s p k))
@@ -41,7 +37,7 @@ difference_apart : (a b : Class) (r q s : ℕ) → 0 < s → HasStride a r s →
 difference_apart a b r q s p h k = subst (IsMultiple s) (difference_members a.remainder b.remainder (pos r) (pos q)) (multiple_difference s _ _ (stride_multiple a r s p h) (stride_multiple b q s p k))
 
 limited_same : (m : ℕ) → m ≤ greatest_modulus → limited m ≡ m
-limited_same m h = ap (λ t. cond t m 1) (le_test m greatest_modulus h)
+limited_same m h = ap (λ t. cond t m 1) (le-leb m greatest_modulus h)
 
 gcd_limited : (a b : Class) → Is a → Is b → limited (gcd a.modulus b.modulus) ≡ gcd a.modulus b.modulus
 gcd_limited a b p q = limited_same _ (gcd_small a.modulus b.modulus greatest_modulus (class_small a.remainder a.modulus p) (class_small b.remainder b.modulus q))
@@ -50,7 +46,7 @@ gcd_limited a b p q = limited_same _ (gcd_small a.modulus b.modulus greatest_mod
 pub one_stride : (v : ℤ) (q s : ℕ) → residue s v ≡ q → HasStride (one v) q s
 one_stride v q s h = record { divides = dvd-zero s; remainder = h }
 
-signed_ok : (r : Result ℤ Undef) (P : Class → Type 0) → ((v : ℤ) → r ≡ Ok v → P (one v)) → IfSome (single_result r) P
+pub signed_ok : (r : Result ℤ Undef) (P : Class → Type 0) → ((v : ℤ) → r ≡ Ok v → P (one v)) → IfSome (single_result r) P
 signed_ok (Ok v) P f = f v refl
 signed_ok (Err u) P f = tt
 

@@ -14,3 +14,4 @@ pub mod Sorts
 pub mod Typing
 pub mod Operands
 pub mod Fitting
+pub mod Basics

@@ -28,7 +28,7 @@ use Rattle.ep_core.specs.WellFormed.{takes_result, block_type, result_type, argu
 use Rattle.ep_core.specs.WellFormed.{call_fits, what_fits, stmts_fit, are_plain, blocks_fit, init_fits}
 use Rattle.ep_core.specs.WellFormed.{are_different_leaves, are_listed, own_blocks, holds_scalar, function_fits}
 use Rattle.ep_core.specs.WellFormed.{functions_fit, is_int_result, is_main, is_well_formed}
-use Rattle.ep_core.specs.Typed.{IsAddress, ValueFits, IfHas, MemoryFits, OperandsFit, Gives, InputFits, ReturnFits}
+use Rattle.ep_core.specs.Typed.{IsAddress, ValueFits, IfHas, MemoryFits, OperandsFit, ValueSatisfies, InputFits, ReturnFits}
 use Rattle.ep_core.specs.Typed.{SimpleOperandsFit, ArgumentsFit, result_value, ReceivedFits, CallOperandsFit}
 use Rattle.ep_core.specs.Typed.{WhatOperandsFit, AllOperandsFit, MainResultFits, StatementsFit, MainsFit}
 use Rattle.ep_core.proofs.Bytes.{loaded_fits}
@@ -94,13 +94,13 @@ module _ (o : Order) (p : Program) (fit : blocks_fit p.types p.blocks ≡ true) 
   module _ (seen : List ℕ) where
     -- an expression of the type of a scalar
     typed_fits : (e : Expr) (ty : ℕ) (what : Scalar) → has_scalar (ty_at p.types p.blocks seen ty) what ≡ true
-        → has_type p.types p.blocks seen e ty ≡ true → Gives o p m e (ValueFits p what)
+        → has_type p.types p.blocks seen e ty ≡ true → ValueSatisfies o p m e (ValueFits p what)
     typed_fits e ty what h i =
         let s = typed_where p.types p.blocks seen e ty i in
-        subst (λ w. Gives o p m e (ValueFits p w)) (sym (sort_scalar (ty_at p.types p.blocks seen ty) what s.0 h s.1))
+        subst (λ w. ValueSatisfies o p m e (ValueFits p w)) (sym (sort_scalar (ty_at p.types p.blocks seen ty) what s.0 h s.1))
         (expr_fits o p fit seen m bytes e s.0 s.2)
 
-    address_fits : (e : Expr) → is_address p.types p.blocks seen e ≡ true → Gives o p m e (IsAddress p)
+    address_fits : (e : Expr) → is_address p.types p.blocks seen e ≡ true → ValueSatisfies o p m e (IsAddress p)
     address_fits e h =
         let s = pointer_where p.types p.blocks seen (has_sort p.types p.blocks seen e) h in
         expr_fits o p fit seen m bytes e (pointer_to s.0) s.1
@@ -182,7 +182,7 @@ module _ (o : Order) (p : Program) (fit : blocks_fit p.types p.blocks ≡ true) 
       where
         split : (ty : Option ℕ) → block_type (slice_get p.blocks b.0) ≡ ty
             → has_scalar (option_and_then (slice_get p.types.types) ty) b.1 ≡ true
-            → Gives o p m e (ValueFits p b.1) × (arguments_fit p.types p.blocks seen params es ≡ true)
+            → ValueSatisfies o p m e (ValueFits p b.1) × (arguments_fit p.types p.blocks seen params es ≡ true)
         split None q k = never k
         split (Some ty) q k =
             let s = and_parts (has_type p.types p.blocks seen e ty) (arguments_fit p.types p.blocks seen params es)
@@ -230,7 +230,7 @@ module _ (o : Order) (p : Program) (fit : blocks_fit p.types p.blocks ≡ true) 
         (arguments f.params es k.params s.0, receive_fits f.result d k.result s.1)
 
 -- a callee is the function of its number
-callee_at : (p : Program) (here k : ℕ) (f : Function) → callee_of p here k ≡ Some f → slice_get p.functions k ≡ Some f
+pub callee_at : (p : Program) (here k : ℕ) (f : Function) → callee_of p here k ≡ Some f → slice_get p.functions k ≡ Some f
 callee_at p here k f h = split (nat_lt k here) h
   where
     split : (t : Bool) → (if t then slice_get p.functions k else None) ≡ Some f → slice_get p.functions k ≡ Some f

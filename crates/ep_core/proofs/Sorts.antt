@@ -1,6 +1,7 @@
 -- What the tests of well-formed programs tell.
 use Rattle.std.proofs.Common.{◌≡◌, ℕ, zero, suc, Bool, true, false, ◌&&◌, ◌||◌, not, cond, nat_eq, List, [], ◌∷◌}
-use Rattle.std.proofs.Common.{slice_get, Option, Some, None, ◌⊎◌, inl, inr, ⊎_elim, refl, sym, ap, ◌∙◌, subst}
+use Rattle.std.proofs.lemmas.Bool.{not-true, or_cases}
+use Rattle.std.proofs.Common.{slice_get, Option, Some, None, ◌⊎◌, ⊎_elim, refl, sym, ap, ◌∙◌, subst}
 use Rattle.std.specs.List.{list_any, list_all, filter}
 use Rattle.std.proofs.lemmas.Bool.{and_parts, eqb-true}
 use Rattle.ep_int.specs.declared.types.IntType.{IntType}
@@ -27,17 +28,9 @@ three a b c h =
     let first = and_parts a b most.0 in
     (first.0, first.1, most.1)
 
-pub either_is : (a b : Bool) → (a || b) ≡ true → (a ≡ true) ⊎ (b ≡ true)
-either_is true b h = inl refl
-either_is false b h = inr h
-
-not_true : (a : Bool) → not a ≡ true → a ≡ false
-not_true true h = never h
-not_true false h = refl
-
 pub any_where : (test : ℕ → Bool) (xs : List ℕ) → list_any test xs ≡ true → (x : ℕ) × (test x ≡ true)
 any_where test [] h = never h
-any_where test (x ∷ xs) h = ⊎_elim (λ a. (x, a)) (λ b. any_where test xs b) (either_is (test x) (list_any test xs) h)
+any_where test (x ∷ xs) h = ⊎_elim (λ a. (x, a)) (λ b. any_where test xs b) (or_cases (test x) (list_any test xs) h)
 
 kept_where : (keep test : ℕ → Bool) (xs : List ℕ) → list_any test (filter keep xs) ≡ true
     → (x : ℕ) × (keep x ≡ true) × (test x ≡ true)
@@ -47,7 +40,7 @@ kept_where keep test (x ∷ xs) h = split (keep x) refl h (kept_where keep test 
     split : (t : Bool) → keep x ≡ t → list_any test (cond t (x ∷ filter keep xs) (filter keep xs)) ≡ true
         → (list_any test (filter keep xs) ≡ true → (x : ℕ) × (keep x ≡ true) × (test x ≡ true))
         → (x : ℕ) × (keep x ≡ true) × (test x ≡ true)
-    split true e h later = ⊎_elim (λ a. (x, e, a)) later (either_is (test x) (list_any test (filter keep xs)) h)
+    split true e h later = ⊎_elim (λ a. (x, e, a)) later (or_cases (test x) (list_any test (filter keep xs)) h)
     split false e h later = later h
 
 pub all_at : {A : Type 0} (test : A → Bool) (xs : List A) (k : ℕ) (x : A) → list_all test xs ≡ true
@@ -152,7 +145,7 @@ module _ (t : Table) (bs : List Block) (seen : List ℕ) where
   tested_where own has h =
       ⊎_elim (λ a. (let i = int_where own has a in (integer i.0, i.2)))
       (λ b. (let i = pointer_where has b in (pointer_to i.0, i.1)))
-      (either_is (is_int own has) (is_pointer t bs seen has) h)
+      (or_cases (is_int own has) (is_pointer t bs seen has) h)
 
   pub typed_where : (e : Expr) (ty : ℕ) → has_type t bs seen e ty ≡ true
       → (x : Sort) × (sort_of (ty_at t bs seen ty) ≡ Some x) × (has_sort t bs seen e x ≡ true)

@@ -1,5 +1,7 @@
 -- The values of expressions fit their sorts, and places are addresses.
 use Rattle.std.proofs.Common.{◌≡◌, ℕ, zero, suc, ◌+◌, ◌*◌, ℤ, pos, negsuc, ◌+ℤ◌, ◌≤ℤ◌, Bool, true, false, ◌&&◌, not}
+use Rattle.ep_int.proofs.Arithmetic.{le_fact}
+use Rattle.std.proofs.lemmas.Bool.{or_cases}
 use Rattle.std.proofs.Common.{nat_eq, nat_le, int_le, int_lt, if◌then◌else◌, List, [], ◌∷◌, slice_get, length, ◌<◌}
 use Rattle.std.proofs.Common.{◌≤◌, Option, Some, Result, Ok, Err, ⊎_elim, refl, sym, subst, arith}
 use Rattle.std.specs.Prelude.{unsigned_abs, sum_by}
@@ -32,10 +34,10 @@ use Rattle.ep_core.specs.WellFormed.{Sort, integer, pointer_to, is_integer, is_p
 use Rattle.ep_core.specs.WellFormed.{has_scalar, is_array_of, has_bound, has_member, is_number, is_length}
 use Rattle.ep_core.specs.WellFormed.{int_type_of, right_type, is_int, some_type, is_pointer, is_test, is_named}
 use Rattle.ep_core.specs.WellFormed.{block_has, place_has, has_sort, blocks_fit}
-use Rattle.ep_core.specs.Typed.{IsNumber, IsAddress, ValueFits, scalar_of, IfHas, MemoryFits, IsTarget, Gives, Lies}
+use Rattle.ep_core.specs.Typed.{IsNumber, IsAddress, ValueFits, scalar_of, IfHas, MemoryFits, IsTarget, ValueSatisfies, Lies}
 use Rattle.ep_core.specs.Typed.{ValuesFit, PlacesLie}
 use Rattle.ep_core.proofs.Bytes.{found_choice, loaded_fits}
-use Rattle.ep_core.proofs.Sorts.{never, three, either_is, integer_scalar, pointer_scalar, loaded_scalar, int_where}
+use Rattle.ep_core.proofs.Sorts.{never, three, integer_scalar, pointer_scalar, loaded_scalar, int_where}
 use Rattle.ep_core.proofs.Sorts.{type_where, pointer_where, tested_where}
 
 -- ---- ways to go on
@@ -119,12 +121,9 @@ sized o p (x ∷ bs) zero n h = let e = sum_by-cons (λ (y : Block). y.size) x b
 sized o p (x ∷ bs) (suc b) n h =
     let e = sum_by-cons (λ (y : Block). y.size) x bs in sized o p bs b n (omega (arith, e))
 
-block_small : (o : Order) (p : Program) → blocks_fit p.types p.blocks ≡ true → (b : ℕ) → size_at o p b ≤ 65536
+pub block_small : (o : Order) (p : Program) → blocks_fit p.types p.blocks ≡ true → (b : ℕ) → size_at o p b ≤ 65536
 block_small o p fit b = sized o p p.blocks b 65536 (leb-true (sum_by (λ (x : Block). x.size) p.blocks) 65536
     (and_parts _ (nat_le (sum_by (λ (x : Block). x.size) p.blocks) 65536) fit).1)
-
-le_fact : (a b : ℤ) → int_le a b ≡ true → a ≤ℤ b
-le_fact a b h = omega (arith, ints)
 
 -- a place in a block of the program
 place_fits : (p : Program) (size b : ℕ) (q : ℤ) → size ≤ 65536 → b < length p.blocks
@@ -198,12 +197,12 @@ module _ (o : Order) (p : Program) (fit : blocks_fit p.types p.blocks ≡ true) 
       ⊎_elim (λ i. (ty, i, refl))
       (λ i. (let s = type_where p.types p.blocks seen (λ u. is_array_of u ty) (place_has p.types p.blocks seen a)
       i in (s.0, s.2, refl)))
-      (either_is (place_has p.types p.blocks seen a ty)
+      (or_cases (place_has p.types p.blocks seen a ty)
       (some_type p.types p.blocks seen (λ u. is_array_of u ty) (place_has p.types p.blocks seen a)) h)
 
   mutual
     pub expr_fits : (e : Expr) (x : Sort) → has_sort p.types p.blocks seen e x ≡ true
-        → Gives o p m e (ValueFits p (scalar_of x))
+        → ValueSatisfies o p m e (ValueFits p (scalar_of x))
     expr_fits (const u v) x h =
         let s = and_parts (is_integer x u) (is_in_range u v) h in
         (tt, sorted p (has (int v)) (Number u) x (integer_scalar x u s.0) (in_range_from_true u v s.1))

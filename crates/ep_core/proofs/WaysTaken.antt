@@ -1,6 +1,7 @@
 -- Statements are left by no other way than their text has.
 use Rattle.std.proofs.Common.{◌≡◌, ℕ, zero, suc, ◌+◌, ◌%◌, ℤ, pos, List, [], ◌∷◌, refl, ap, ◌∙◌, subst, Option, Some}
-use Rattle.std.proofs.Common.{None, option_to_list, nat_eq, ◌&&◌, not, slice_get, Bool, true, false}
+use Rattle.std.proofs.lemmas.Bool.{not-true}
+use Rattle.std.proofs.Common.{None, option_to_list, nat_eq, ◌&&◌, slice_get, Bool, true, false}
 use Rattle.std.proofs.lemmas.Bool.{and_parts, and_from, or_left, or_right}
 use Rattle.ep_int.specs.declared.types.IntType.TheVariants.{U8}
 use Rattle.ep_int.specs.declared.types.Scalar.{Scalar}
@@ -26,13 +27,13 @@ use Rattle.ep_core.specs.Laws.{IsAmong, LeavesByItsWays}
 
 -- ---- which ways there are
 
-has_left : (a b : Ways) (w : Way) → has_way a w ≡ true → has_way (either_way a b) w ≡ true
+pub has_left : (a b : Ways) (w : Way) → has_way a w ≡ true → has_way (either_way a b) w ≡ true
 has_left a b on h = or_left _ _ h
 has_left a b broken h = or_left _ _ h
 has_left a b continued h = or_left _ _ h
 has_left a b returned h = or_left _ _ h
 
-has_right : (a b : Ways) (w : Way) → has_way b w ≡ true → has_way (either_way a b) w ≡ true
+pub has_right : (a b : Ways) (w : Way) → has_way b w ≡ true → has_way (either_way a b) w ≡ true
 has_right a b on h = or_right _ _ h
 has_right a b broken h = or_right _ _ h
 has_right a b continued h = or_right _ _ h
@@ -44,7 +45,7 @@ has_after a b broken e h = or_right _ _ (and_from _ _ e h)
 has_after a b continued e h = or_right _ _ (and_from _ _ e h)
 has_after a b returned e h = or_right _ _ (and_from _ _ e h)
 
-widened : (a b : Ways) → ((w : Way) → has_way a w ≡ true → has_way b w ≡ true) → (x : Outcome) → IsAmong a x
+pub widened : (a b : Ways) → ((w : Way) → has_way a w ≡ true → has_way b w ≡ true) → (x : Outcome) → IsAmong a x
     → IsAmong b x
 widened a b h (leaves w left s) i = h w i
 widened a b h (running s) i = tt
@@ -134,7 +135,7 @@ module _ (ws : Ways) where
   arm_among joint (no_input s) h = tt
   arm_among joint (undefined_at l k s) h = tt
 
-then_among : (a b : Ways) (x : Outcome) (go : Going) → IsAmong a x → ((left : ℕ) (s : State) → IsAmong b (go left s))
+pub then_among : (a b : Ways) (x : Outcome) (go : Going) → IsAmong a x → ((left : ℕ) (s : State) → IsAmong b (go left s))
     → IsAmong (then_ways a b) (and_then x go)
 then_among a b (leaves on left s) go h i = widened b (then_ways a b) (λ w k. has_after a b w h k) (go left s) (i left s)
 then_among a b (leaves broken left s) go h i = or_left _ _ h
@@ -211,17 +212,13 @@ simple_ways (read_bytes e n) h = refl
 simple_ways (write_bytes e n) h = refl
 simple_ways (returns e) h = absurd cc
 
-not_true : (t : Bool) → not t ≡ true → t ≡ false
-not_true true h = absurd cc
-not_true false h = refl
-
 both_end : (f : Ways → Ways → Ways) (a b : Ways) → f end_alone end_alone ≡ end_alone → a ≡ end_alone → b ≡ end_alone
     → f a b ≡ end_alone
 both_end f a b e p q = ap (λ x. f x b) p ∙ ap (f end_alone) q ∙ e
 
 mutual
   pub plain_ways : (w : What) → is_plain w ≡ true → ways_of w ≡ end_alone
-  plain_ways (simple w) h = simple_ways w (not_true (is_return w) h)
+  plain_ways (simple w) h = simple_ways w (not-true (is_return w) h)
   plain_ways (call k es d) h = refl
   plain_ways (if_else e a b) h =
       let both = and_parts (are_plain a) (are_plain b) h in

@@ -113,7 +113,7 @@ pub record SameRun (x y : Run) : Type 0 where
   pub outputs : x.outputs ≡ y.outputs
 
 -- a run that is not over is not undefined
-defined_if : (e : Ending) → (IsOver e → IsDefined e) → IsDefined e
+pub defined_if : (e : Ending) → (IsOver e → IsDefined e) → IsDefined e
 defined_if still_running h = tt
 defined_if ended h = tt
 defined_if wants_input h = tt

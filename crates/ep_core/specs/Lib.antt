@@ -4,6 +4,6 @@ pub mod Exec
 pub mod Runs
 pub mod Ways
 pub mod WellFormed
-pub mod Shown
+pub mod ProgramView
 pub mod Laws
 pub mod Typed

@@ -131,8 +131,8 @@ module _ (o : Order) (p : Program) (m : Memory) where
         PlaceOperandsFit a × OperandsFit i × IsAt a × IfValue i (IsNumber IsOfSomeType)
 
   -- an expression whose operands fit, and of whose value this holds
-  abbrev pub Gives : Expr → (Value → Type 0) → Type 0
-  Gives e P = OperandsFit e × IfValue e P
+  abbrev pub ValueSatisfies : Expr → (Value → Type 0) → Type 0
+  ValueSatisfies e P = OperandsFit e × IfValue e P
 
   -- a place whose operands fit, and which is an address
   abbrev pub Lies : Place → Type 0
@@ -148,21 +148,21 @@ module _ (o : Order) (p : Program) (m : Memory) where
   ReturnFits None None = Unit {0}
   ReturnFits None (Some e) = ⊥
   ReturnFits (Some r) None = ⊥
-  ReturnFits (Some r) (Some e) = Gives e (ValueFits p r.1)
+  ReturnFits (Some r) (Some e) = ValueSatisfies e (ValueFits p r.1)
 
   -- in a statement without statements in it, in a function with this result
   abbrev pub SimpleOperandsFit : (result : Option (ℕ × Scalar)) → Simple → Type 0
   SimpleOperandsFit r nothing = Unit {0}
   SimpleOperandsFit r (eval e) = OperandsFit e
-  SimpleOperandsFit r (assign what a e) = Lies a × Gives e (ValueFits p what)
+  SimpleOperandsFit r (assign what a e) = Lies a × ValueSatisfies e (ValueFits p what)
   SimpleOperandsFit r (clear a ty) = Lies a
   SimpleOperandsFit r (copy_aggregate a b ty) = Lies a × Lies b
-  SimpleOperandsFit r (copy_bytes a b n) = Gives a (IsAddress p) × Gives b (IsAddress p)
-  SimpleOperandsFit r (fill a e n) = Gives a (IsAddress p) × Gives e (ValueFits p (Int U8))
+  SimpleOperandsFit r (copy_bytes a b n) = ValueSatisfies a (IsAddress p) × ValueSatisfies b (IsAddress p)
+  SimpleOperandsFit r (fill a e n) = ValueSatisfies a (IsAddress p) × ValueSatisfies e (ValueFits p (Int U8))
   SimpleOperandsFit r (input t d) = InputFits t d
-  SimpleOperandsFit r (output t e) = Gives e (ValueFits p (Int t))
-  SimpleOperandsFit r (read_bytes e n) = Gives e (IsAddress p)
-  SimpleOperandsFit r (write_bytes e n) = Gives e (IsAddress p)
+  SimpleOperandsFit r (output t e) = ValueSatisfies e (ValueFits p (Int t))
+  SimpleOperandsFit r (read_bytes e n) = ValueSatisfies e (IsAddress p)
+  SimpleOperandsFit r (write_bytes e n) = ValueSatisfies e (IsAddress p)
   SimpleOperandsFit r (returns e) = ReturnFits r e
 
   -- for each parameter an argument, which is of it
@@ -170,7 +170,7 @@ module _ (o : Order) (p : Program) (m : Memory) where
   ArgumentsFit [] [] = Unit {0}
   ArgumentsFit [] (e ∷ es) = ⊥
   ArgumentsFit (b ∷ params) [] = ⊥
-  ArgumentsFit (b ∷ params) (e ∷ es) = Gives e (ValueFits p b.1) × ArgumentsFit params es
+  ArgumentsFit (b ∷ params) (e ∷ es) = ValueSatisfies e (ValueFits p b.1) × ArgumentsFit params es
 
   -- the value in the block of a result
   abbrev pub result_value : ℕ × Scalar → Found
@@ -218,7 +218,8 @@ MainResultFits o p m (Some r) = IfHas (result_value o p m r) (ValueFits p (Int I
 abbrev pub ValuesFit : Type 0
 ValuesFit =
     (o : Order) (p : Program) → blocks_fit p.types p.blocks ≡ true → (seen : List ℕ) (m : Memory) → MemoryFits p m
-    → (e : Expr) (x : Sort) → has_sort p.types p.blocks seen e x ≡ true → Gives o p m e (ValueFits p (scalar_of x))
+    → (e : Expr) (x : Sort) → has_sort p.types p.blocks seen e x ≡ true →
+    ValueSatisfies o p m e (ValueFits p (scalar_of x))
 
 -- So a place of a type is an address, and the operands in it fit.
 abbrev pub PlacesLie : Type 0

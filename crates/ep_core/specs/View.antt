@@ -20,82 +20,82 @@ use Rattle.ep_layout.specs.Table.{Table}
 use Rattle.ep_core.specs.Program as plain
 
 abbrev mutual
-  pub shown_expr : tree.Expr → plain.Expr
-  shown_expr (Const t v) = plain.const t v
-  shown_expr Null = plain.null_value
-  shown_expr (Load' what p a) = plain.load what (shown_place a)
-  shown_expr (AddrOf' p a) = plain.addr_of (shown_place a)
-  shown_expr (Bin' op t p a q b) = plain.binary op t (shown_expr a) (shown_expr b)
-  shown_expr (Convert' t p e) = plain.convert t (shown_expr e)
-  shown_expr (Compare' c t p a q b) = plain.compare c t (shown_expr a) (shown_expr b)
-  shown_expr (PtrCompare' c p a q b) = plain.ptr_compare c (shown_expr a) (shown_expr b)
-  shown_expr (And' p a q b) = plain.logical_and (shown_expr a) (shown_expr b)
-  shown_expr (Or' p a q b) = plain.logical_or (shown_expr a) (shown_expr b)
-  shown_expr (Not' p a) = plain.logical_not (shown_expr a)
-  shown_expr (Cond' p t q a r b) = plain.conditional (shown_expr t) (shown_expr a) (shown_expr b)
-  shown_expr (PtrAdd' p e unit q n back) = plain.ptr_add (shown_expr e) unit (shown_expr n) back
-  shown_expr (Cast' p e) = plain.cast (shown_expr e)
+  pub expr_view : tree.Expr → plain.Expr
+  expr_view (Const t v) = plain.const t v
+  expr_view Null = plain.null_value
+  expr_view (Load' what p a) = plain.load what (place_view a)
+  expr_view (AddrOf' p a) = plain.addr_of (place_view a)
+  expr_view (Bin' op t p a q b) = plain.binary op t (expr_view a) (expr_view b)
+  expr_view (Convert' t p e) = plain.convert t (expr_view e)
+  expr_view (Compare' c t p a q b) = plain.compare c t (expr_view a) (expr_view b)
+  expr_view (PtrCompare' c p a q b) = plain.ptr_compare c (expr_view a) (expr_view b)
+  expr_view (And' p a q b) = plain.logical_and (expr_view a) (expr_view b)
+  expr_view (Or' p a q b) = plain.logical_or (expr_view a) (expr_view b)
+  expr_view (Not' p a) = plain.logical_not (expr_view a)
+  expr_view (Cond' p t q a r b) = plain.conditional (expr_view t) (expr_view a) (expr_view b)
+  expr_view (PtrAdd' p e unit q n back) = plain.ptr_add (expr_view e) unit (expr_view n) back
+  expr_view (Cast' p e) = plain.cast (expr_view e)
 
-  pub shown_place : part.Place → plain.Place
-  shown_place (Block b) = plain.block b
-  shown_place (Deref' p e) = plain.deref (shown_expr e)
-  shown_place (Member' p a offset) = plain.member (shown_place a) offset
-  shown_place (Element' p a bound unit q i) = plain.element (shown_place a) bound unit (shown_expr i)
+  pub place_view : part.Place → plain.Place
+  place_view (Block b) = plain.block b
+  place_view (Deref' p e) = plain.deref (expr_view e)
+  place_view (Member' p a offset) = plain.member (place_view a) offset
+  place_view (Element' p a bound unit q i) = plain.element (place_view a) bound unit (expr_view i)
 
-abbrev pub shown_dest : dest.Dest → plain.Dest
-shown_dest d = record { what = d.what; cast = d.cast; place = shown_place d.place }
+abbrev pub dest_view : dest.Dest → plain.Dest
+dest_view d = record { what = d.what; cast = d.cast; place = place_view d.place }
 
 abbrev mutual
-  pub shown_what : action.What → plain.What
-  shown_what Nothing = plain.simple plain.nothing
-  shown_what (Eval e) = plain.simple (plain.eval (shown_expr e))
-  shown_what (Assign what a e) = plain.simple (plain.assign what (shown_place a) (shown_expr e))
-  shown_what (Clear a ty) = plain.simple (plain.clear (shown_place a) ty)
-  shown_what (CopyAggregate to from ty) = plain.simple (plain.copy_aggregate (shown_place to) (shown_place from) ty)
-  shown_what (CopyBytes to from n) = plain.simple (plain.copy_bytes (shown_expr to) (shown_expr from) n)
-  shown_what (Fill to byte n) = plain.simple (plain.fill (shown_expr to) (shown_expr byte) n)
-  shown_what (Call k es d) = plain.call k (map shown_expr es.items) (option_map shown_dest d)
-  shown_what (Input t d) = plain.simple (plain.input t (option_map shown_dest d))
-  shown_what (Output t e) = plain.simple (plain.output t (shown_expr e))
-  shown_what (ReadBytes to n) = plain.simple (plain.read_bytes (shown_expr to) n)
-  shown_what (WriteBytes from n) = plain.simple (plain.write_bytes (shown_expr from) n)
-  shown_what (If' e p a q b) = plain.if_else (shown_expr e) (shown_row a) (shown_row b)
-  shown_what (Loop' first e p a q b) = plain.loop first (shown_expr e) (shown_row a) (shown_row b)
-  shown_what Break = plain.break_loop
-  shown_what Continue = plain.continue_loop
-  shown_what (Return e) = plain.simple (plain.returns (option_map shown_expr e))
-  shown_what (ByOrder' o p a q b) = plain.by_order o (shown_row a) (shown_row b)
-  shown_what (Scope' bs p a) = plain.scope bs.items (shown_row a)
+  pub what_view : action.What → plain.What
+  what_view Nothing = plain.simple plain.nothing
+  what_view (Eval e) = plain.simple (plain.eval (expr_view e))
+  what_view (Assign what a e) = plain.simple (plain.assign what (place_view a) (expr_view e))
+  what_view (Clear a ty) = plain.simple (plain.clear (place_view a) ty)
+  what_view (CopyAggregate to from ty) = plain.simple (plain.copy_aggregate (place_view to) (place_view from) ty)
+  what_view (CopyBytes to from n) = plain.simple (plain.copy_bytes (expr_view to) (expr_view from) n)
+  what_view (Fill to byte n) = plain.simple (plain.fill (expr_view to) (expr_view byte) n)
+  what_view (Call k es d) = plain.call k (map expr_view es.items) (option_map dest_view d)
+  what_view (Input t d) = plain.simple (plain.input t (option_map dest_view d))
+  what_view (Output t e) = plain.simple (plain.output t (expr_view e))
+  what_view (ReadBytes to n) = plain.simple (plain.read_bytes (expr_view to) n)
+  what_view (WriteBytes from n) = plain.simple (plain.write_bytes (expr_view from) n)
+  what_view (If' e p a q b) = plain.if_else (expr_view e) (row_view a) (row_view b)
+  what_view (Loop' first e p a q b) = plain.loop first (expr_view e) (row_view a) (row_view b)
+  what_view Break = plain.break_loop
+  what_view Continue = plain.continue_loop
+  what_view (Return e) = plain.simple (plain.returns (option_map expr_view e))
+  what_view (ByOrder' o p a q b) = plain.by_order o (row_view a) (row_view b)
+  what_view (Scope' bs p a) = plain.scope bs.items (row_view a)
 
-  pub shown_row : {m : _} → Row_of-Stmt m → plain.Stmts
-  shown_row end_of-Stmt = plain.stop
-  shown_row (more_of-Stmt l w rest) = plain.more l (shown_what w) (shown_row rest)
+  pub row_view : {m : _} → Row_of-Stmt m → plain.Stmts
+  row_view end_of-Stmt = plain.stop
+  row_view (more_of-Stmt l w rest) = plain.more l (what_view w) (row_view rest)
 
-abbrev pub shown_stmts : List statement.Stmt → plain.Stmts
-shown_stmts [] = plain.stop
-shown_stmts (s ∷ rest) = plain.more s.line (shown_what s.what) (shown_stmts rest)
+abbrev pub stmts_view : List statement.Stmt → plain.Stmts
+stmts_view [] = plain.stop
+stmts_view (s ∷ rest) = plain.more s.line (what_view s.what) (stmts_view rest)
 
-abbrev pub shown_block : BlockInfo → plain.Block
-shown_block b = record { size = b.size; ty = b.ty; global = b.global }
+abbrev pub block_view : BlockInfo → plain.Block
+block_view b = record { size = b.size; ty = b.ty; global = b.global }
 
-abbrev pub shown_init : InitByte → plain.Init
-shown_init i = record { block = i.block; offset = i.offset; t = i.t; value = i.value }
+abbrev pub init_view : InitByte → plain.Init
+init_view i = record { block = i.block; offset = i.offset; t = i.t; value = i.value }
 
-abbrev pub shown_function : function.Function → plain.Function
-shown_function f = record {
+abbrev pub function_view : function.Function → plain.Function
+function_view f = record {
   name = f.name.items;
   line = f.line;
   params = f.params.items;
   result = f.result;
   locals = f.locals.items;
-  body = shown_stmts f.body.items;
+  body = stmts_view f.body.items;
 }
 
-abbrev pub shown_parts : Table → List BlockInfo → List InitByte → List function.Function → ℕ → plain.Program
-shown_parts types blocks init functions main = record {
+abbrev pub parts_view : Table → List BlockInfo → List InitByte → List function.Function → ℕ → plain.Program
+parts_view types blocks init functions main = record {
   types = types;
-  blocks = map shown_block blocks;
-  init = map shown_init init;
-  functions = map shown_function functions;
+  blocks = map block_view blocks;
+  init = map init_view init;
+  functions = map function_view functions;
   main = main;
 }

@@ -1,8 +1,8 @@
 //! Programs from their parts.
 
 ghost use Rattle.std.specs.Prelude.{◌≡◌, IsTrue};
-ghost use Rattle.ep_core.specs.View.{shown_parts};
-ghost use Rattle.ep_core.specs.Shown.{shown};
+ghost use Rattle.ep_core.specs.View.{parts_view};
+ghost use Rattle.ep_core.specs.ProgramView.{program_view};
 ghost use Rattle.ep_core.specs.WellFormed.{is_well_formed};
 
 use crate::program::{BlockInfo, CoreProgram, Function, InitByte};
@@ -16,8 +16,8 @@ pub fn program_of(
     functions: Vec<Function>,
     main: u32,
 ) -> CoreProgram
-    requires { IsTrue (is_well_formed (shown_parts types blocks.items init.items functions.items main)) }
-    ensures { shown result ≡ shown_parts types blocks.items init.items functions.items main }
+    requires { IsTrue (is_well_formed (parts_view types blocks.items init.items functions.items main)) }
+    ensures { program_view result ≡ parts_view types blocks.items init.items functions.items main }
 {
     CoreProgram {
         types,

@@ -1,7 +1,7 @@
 //! Whole programs.
 
 ghost use Rattle.std.specs.Prelude.{◌≡◌, IsTrue};
-ghost use Rattle.ep_core.specs.View.{shown_parts};
+ghost use Rattle.ep_core.specs.View.{parts_view};
 ghost use Rattle.ep_core.specs.WellFormed.{is_well_formed};
 
 use crate::tree::Stmt;
@@ -49,5 +49,5 @@ pub struct CoreProgram {
     pub functions: Vec<Function>,
     /// The number of main in `functions`.
     pub main: u32,
-    ghost well_formed: { IsTrue (is_well_formed (shown_parts types blocks.items init.items functions.items main)) },
+    ghost well_formed: { IsTrue (is_well_formed (parts_view types blocks.items init.items functions.items main)) },
 }

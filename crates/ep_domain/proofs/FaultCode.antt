@@ -1,5 +1,6 @@
 -- What the code of the faults of two ranges needs.
 use Rattle.std.proofs.Common.{◌≡◌, ℕ, ◌^◌, ◌<◌, ◌≤◌, ℤ, pos, negsuc, ◌+ℤ◌, ◌-ℤ◌, ◌*ℤ◌, ◌≤ℤ◌, Bool, true, false, cond}
+use Rattle.ep_int.proofs.Arithmetic.{in_range_some_type, le_test}
 use Rattle.std.proofs.Common.{◌||◌, Option, Some, None, refl, sym, ap, ◌∙◌, subst, arith, to_z, of_z, FitsSigned}
 use mir.Syntax.{w128}
 use Rattle.std.specs.Prelude.{int_lt, unsigned_abs}
@@ -16,10 +17,10 @@ use Rattle.ep_int.specs.Arith.{IsOfSomeType, IsRightOperand}
 use Rattle.ep_range_laws.specs.Ranges.{IsRange, LiesIn}
 use Rattle.ep_range_laws.specs.Faults.{least_of_four, greatest_of_four, shown_range, may_overflow, may_not_shift}
 use Rattle.ep_range_laws.specs.Faults.{may_fault, nearest_amount, right_part, fault_between}
-use Rattle.ep_range_laws.proofs.Comparisons.{le_true, lt_false, from_lt_false, le_trans}
+use Rattle.ep_range_laws.proofs.Comparisons.{lt_false, from_lt_false, le_trans}
 use Rattle.ep_range_laws.proofs.Parts.{right_is_right}
 use Rattle.ep_range_laws.proofs.FaultAt.{low_lies, high_lies}
-use Rattle.ep_range_laws.proofs.Types.{number_of, number_low}
+use Rattle.ep_range_laws.proofs.Types.{number_low}
 
 -- a test that the code made on 128 bits
 pub passed : (a b : ℤ) → FitsSigned w128 a → FitsSigned w128 b → int_lt (to_z w128 (of_z w128 b)) (to_z w128 (of_z w128 a)) ≡ false → a ≤ℤ b
@@ -34,7 +35,7 @@ fits_number (pos n) h = let p = h.high in record { sfits = omega (arith, ints) }
 fits_number (negsuc n) h = let p = h.low in record { sfits = omega (arith, ints) }
 
 pub in_order : (o : BinOp) (t : IntType) (x y : ℤ × ℤ) → x.0 ≤ℤ x.1 → y.0 ≤ℤ y.1 → fault_between o t x y ≡ cond (may_fault o t x y) (Some (shown_range o x y)) None
-in_order o t x y p q = rw (le_true x.0 x.1 p, le_true y.0 y.1 q) refl
+in_order o t x y p q = rw (le_test x.0 x.1 p, le_test y.0 y.1 q) refl
 
 signed_in_long : (t : IntType) → is_signed t ≡ true → greatest_of t ≤ℤ greatest_of I64
 signed_in_long I8 e = omega (arith, ints)
@@ -85,21 +86,15 @@ not_negative x f e = let g = rw (to_z-of_z w128 x f) at e in from_lt_false x (po
 pub above_is : (t : IntType) (x : ℤ × ℤ) (g p y : ℤ) (n : ℕ) → g ≡ greatest_of t → p ≡ pos (2 ^ n) → n ≡ nearest_amount t y → int_lt g (x.1 *ℤ p) ≡ int_lt (greatest_of t) (x.1 *ℤ pos (2 ^ nearest_amount t y))
 above_is t x g p y n e f h = ap (λ z. int_lt z (x.1 *ℤ p)) e ∙ ap (λ z. int_lt (greatest_of t) (x.1 *ℤ z)) (f ∙ ap (λ k. pos (2 ^ k)) h)
 
-pub sum_fits : (x y : ℤ) → IsOfSomeType x → IsOfSomeType y → FitsSigned w128 (x +ℤ y)
-sum_fits x y h k = let p = h.low in let q = h.high in let r = k.low in let s = k.high in mag_fits (x +ℤ y) (omega (arith, ints)) (omega (arith, ints))
-
-pub difference_fits : (x y : ℤ) → IsOfSomeType x → IsOfSomeType y → FitsSigned w128 (x -ℤ y)
-difference_fits x y h k = let p = h.low in let q = h.high in let r = k.low in let s = k.high in mag_fits (x -ℤ y) (omega (arith, ints)) (omega (arith, ints))
-
 pub right_number : (o : BinOp) (t : IntType) (y : ℤ) → IsRightOperand o t y → IsOfSomeType y
-right_number Add t y h = number_of t y h
-right_number Sub t y h = number_of t y h
-right_number Mul t y h = number_of t y h
-right_number Div t y h = number_of t y h
-right_number Rem t y h = number_of t y h
-right_number And t y h = number_of t y h
-right_number Or t y h = number_of t y h
-right_number Xor t y h = number_of t y h
+right_number Add t y h = in_range_some_type t y h
+right_number Sub t y h = in_range_some_type t y h
+right_number Mul t y h = in_range_some_type t y h
+right_number Div t y h = in_range_some_type t y h
+right_number Rem t y h = in_range_some_type t y h
+right_number And t y h = in_range_some_type t y h
+right_number Or t y h = in_range_some_type t y h
+right_number Xor t y h = in_range_some_type t y h
 right_number Shl t y h = h
 right_number Shr t y h = h
 

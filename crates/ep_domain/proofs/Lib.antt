@@ -1,1 +1,2 @@
 pub mod FaultCode
+pub mod Basics

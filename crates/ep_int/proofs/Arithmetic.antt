@@ -52,10 +52,10 @@ difference_fits x y p q = omega (arith, ints)
 
 -- ---- tests
 
-le_test : (a b : ℤ) → a ≤ℤ b → int_le a b ≡ true
+pub le_test : (a b : ℤ) → a ≤ℤ b → int_le a b ≡ true
 le_test a b h = grind (arith, ints)
 
-le_fact : (a b : ℤ) → int_le a b ≡ true → a ≤ℤ b
+pub le_fact : (a b : ℤ) → int_le a b ≡ true → a ≤ℤ b
 le_fact a b h = omega (arith, ints)
 
 both : (p q b : Bool) → (b ≡ true → (p ≡ true) × (q ≡ true)) → (p ≡ true → q ≡ true → b ≡ true) → b ≡ (p && q)
@@ -145,7 +145,7 @@ amount_found t y k e = tested (is_amount t y) e
     tested true e = (refl, cc)
     tested false e = cc
 
-bits_at_most : (t : IntType) → bits_of t ≤ 64
+pub bits_at_most : (t : IntType) → bits_of t ≤ 64
 bits_at_most I8 = omega arith
 bits_at_most U8 = omega arith
 bits_at_most I16 = omega arith
@@ -186,7 +186,7 @@ shifted_left t x y k r h a e n s =
 
 -- ---- what an operator gives is of the type
 
-zero_in_range : (t : IntType) → InRange t (pos 0)
+pub zero_in_range : (t : IntType) → InRange t (pos 0)
 zero_in_range I8 = record { low = omega (arith, ints); high = omega (arith, ints) }
 zero_in_range U8 = record { low = omega (arith, ints); high = omega (arith, ints) }
 zero_in_range I16 = record { low = omega (arith, ints); high = omega (arith, ints) }
@@ -197,7 +197,7 @@ zero_in_range I64 = record { low = omega (arith, ints); high = omega (arith, int
 zero_in_range U64 = record { low = omega (arith, ints); high = omega (arith, ints) }
 
 -- from zero, or from a number below it, to this one
-up_to_in_range : (t : IntType) (v n : ℕ) → InRange t (pos v) → n ≤ v → InRange t (pos n)
+pub up_to_in_range : (t : IntType) (v n : ℕ) → InRange t (pos v) → n ≤ v → InRange t (pos n)
 up_to_in_range t v n h l =
     let zero = zero_in_range t in
     let low = zero.low in

@@ -5,3 +5,4 @@ pub mod Arithmetic
 pub mod Memories
 mod Worked
 mod MemoryRows
+pub mod Basics

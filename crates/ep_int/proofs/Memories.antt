@@ -1,11 +1,11 @@
 -- What is read from a memory, and what a write leaves.
 use Rattle.std.proofs.Common.{◌≡◌, ℕ, zero, suc, ◌+◌, ◌-◌, ◌%◌, ◌<◌, ◌≤◌, ℤ, Bool, true, false, ◌&&◌, ◌==◌, nat_eq}
+use Rattle.std.proofs.lemmas.Bool.{eqb-true}
 use Rattle.std.proofs.Common.{nat_lt, nat_le, if◌then◌else◌, slice_index_or, ◌⊎◌, ⊎_elim, zero-add, add-zero, length}
 use Rattle.std.proofs.Common.{List, [], ◌∷◌, refl, sym, ◌∙◌, ap, subst, arith}
 use Rattle.std.specs.List.{list_any, list_all}
 use Rattle.std.proofs.lemmas.Bool.{cases_lt, le-ltb, lt-ltb, le-leb, lt-leb, eq-eqb, and_parts, and_left, and_right}
 use Rattle.std.proofs.lemmas.Bool.{and_from, or_from, or_left, or_right}
-use Rattle.std.proofs.lemmas.Bool.Decides.{nat_tests}
 use Rattle.std.proofs.Math.Nat.{zero-mod}
 use Rattle.ep_int.specs.declared.types.IntType.{IntType}
 use Rattle.ep_int.specs.declared.types.Model.{Model}
@@ -21,9 +21,6 @@ use Rattle.ep_int.specs.Memory.{is_undefined, is_number, is_zero, are_parts, poi
 use Rattle.ep_int.specs.Memory.{loaded}
 use Rattle.ep_int.proofs.Wrapping.{bytes_of_positive}
 use Rattle.ep_int.proofs.Encodings.{decoded_same, decoded_encoded}
-
-pub equal_numbers : (m n : ℕ) → nat_eq m n ≡ true → m ≡ n
-equal_numbers m n h = grind (arith, nat_tests)
 
 -- ---- the bytes of a place
 
@@ -166,8 +163,8 @@ pointer_of_parts c q (fragment b o k ∷ more) l h =
     let parts = and_parts (nat_eq c b && nat_eq q o && nat_eq 0 k) (are_parts c q 1 more) h in
     let place = and_parts (nat_eq c b && nat_eq q o) (nat_eq 0 k) parts.0 in
     let both = and_parts (nat_eq c b) (nat_eq q o) place.0 in
-    let block : c ≡ b = equal_numbers c b both.0 in
-    let offset : q ≡ o = equal_numbers q o both.1 in
+    let block : c ≡ b = eqb-true c b both.0 in
+    let offset : q ≡ o = eqb-true q o both.1 in
     let all : are_parts b o 0 (fragment b o k ∷ more) ≡ true = subst
     (λ x. are_parts x o 0 (fragment b o k ∷ more) ≡ true) block
     (subst (λ x. are_parts c x 0 (fragment b o k ∷ more) ≡ true) offset h) in
@@ -177,7 +174,7 @@ length-bytes_from : (m : Memory) (b here n : ℕ) → length (bytes_from m b her
 length-bytes_from m b here zero = refl
 length-bytes_from m b here (suc n) = ap suc (length-bytes_from m b (here + 1) n)
 
-pointer_has_bytes : (d : Model) → 0 < pointer_bytes d
+pub pointer_has_bytes : (d : Model) → 0 < pointer_bytes d
 pointer_has_bytes Ilp32 = omega arith
 pointer_has_bytes Lp64 = omega arith
 

@@ -1,12 +1,13 @@
 -- An interval by its ends.
 use Rattle.std.specs.Prelude.{◌≡◌, ℤ, ◌≤ℤ◌, ◌<ℤ◌, Bool, true, false, Some, None, IsTrue, IsSomeAnd, IfSome, refl}
+use Rattle.ep_int.proofs.Arithmetic.{le_test}
 use Rattle.std.specs.Prelude.{int_le}
 use Rattle.std.proofs.Common.{ap, sym, subst}
 use Rattle.std.proofs.Props.{props}
 use Rattle.ep_int.specs.declared.types.IntType.TheVariants.{I64, U64}
 use Rattle.ep_int.specs.Types.{least_of, greatest_of}
 use Rattle.ep_range_laws.specs.Ranges.{IsRange}
-use Rattle.ep_range_laws.proofs.Comparisons.{between_true, le_true, le_false, le_trans}
+use Rattle.ep_range_laws.proofs.Comparisons.{between_true, le_false, le_trans}
 use Rattle.ep_interval_laws.specs.Ends.{is_range}
 use Rattle.ep_interval_laws.specs.Interval.{Interval, interval, between_at, between, holds_of}
 use Rattle.ep_interval_laws.specs.Ranges.{is_range_true, is_range_from}
@@ -37,7 +38,7 @@ pub between_none : (l h : ℤ) → h <ℤ l → between l h ≡ None
 between_none l h p = at_test (is_range l h) refl
   where
     at_test : (b : Bool) (e : is_range l h ≡ b) → between_at l h b e ≡ None
-    at_test true e = not_both (int_le l h) (le_true l h (is_range_true l h e).ordered) (le_false l h p)
+    at_test true e = not_both (int_le l h) (le_test l h (is_range_true l h e).ordered) (le_false l h p)
     at_test false e = refl
 
 -- what an interval of two ends has

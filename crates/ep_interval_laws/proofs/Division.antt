@@ -1,9 +1,11 @@
 -- Quotients, remainders and shifts to the right of numbers between two ends.
 use Rattle.std.specs.Prelude.{◌≡◌, ℕ, zero, suc, ◌/◌, ◌%◌, ◌^◌, ◌<◌, ◌≤◌, ℤ, pos, negsuc, neg_ℤ, ◌-ℤ◌, ◌≤ℤ◌, int_div}
+use Rattle.ep_int.proofs.Basics.{power-le}
+use Rattle.ep_range_laws.proofs.Corners.{le_pos, neg_le_pos}
 use Rattle.std.specs.Prelude.{int_rem, unsigned_abs, refl}
 use Rattle.std.specs.Int.{int_min, int_max, int_shr}
 use Rattle.std.proofs.Common.{arith, sym, subst}
-use Rattle.std.proofs.Math.Nat.{div-le_self, div-mul-le_self, mul-le-mul_left, mod-lt, mod-le, pow-le-pow_right}
+use Rattle.std.proofs.Math.Nat.{div-le_self, div-mul-le_self, mul-le-mul_left, mod-lt, mod-le}
 use Rattle.std.proofs.Math.IntN.{neg_ℤ-neg_ℤ}
 use Rattle.std.proofs.lemmas.Nat.{le-div, pow_pos}
 use Rattle.std.proofs.lemmas.Int.{ints, clamps}
@@ -24,25 +26,19 @@ quotient_down a m n p h = le-div (a / n) a m p (let e = div-mul-le_self a n in l
 neg_down : (m n : ℕ) → m ≤ n → neg_ℤ (pos n) ≤ℤ neg_ℤ (pos m)
 neg_down m n h = omega (arith, ints)
 
-pos_up : (m n : ℕ) → m ≤ n → pos m ≤ℤ pos n
-pos_up m n h = omega (arith, ints)
-
-neg_below : (m n : ℕ) → neg_ℤ (pos m) ≤ℤ pos n
-neg_below m n = omega (arith, ints)
-
 div_up : (x z : ℤ) (n : ℕ) → x ≤ℤ z → int_div x (pos (suc n)) ≤ℤ int_div z (pos (suc n))
-div_up (pos x) (pos z) n h = pos_up _ _ (quotient_up x z (suc n) (omega arith) (omega (arith, ints)))
+div_up (pos x) (pos z) n h = le_pos _ _ (quotient_up x z (suc n) (omega arith) (omega (arith, ints)))
 div_up (pos x) (negsuc z) n h = absurd (omega (arith, ints))
-div_up (negsuc x) (pos z) n h = neg_below _ _
+div_up (negsuc x) (pos z) n h = neg_le_pos _ _
 div_up (negsuc x) (negsuc z) n h = neg_down _ _ (quotient_up (suc z) (suc x) (suc n) (omega arith) (omega (arith, ints)))
 
 -- by a divisor between two
 div_high : (x : ℤ) (c y d : ℕ) → c ≤ y → y ≤ d → int_div x (pos (suc y)) ≤ℤ int_max (int_div x (pos (suc c))) (int_div x (pos (suc d)))
-div_high (pos x) c y d p q = let e = pos_up _ _ (quotient_down x (suc c) (suc y) (omega arith) (omega arith)) in omega (arith, ints, clamps)
+div_high (pos x) c y d p q = let e = le_pos _ _ (quotient_down x (suc c) (suc y) (omega arith) (omega arith)) in omega (arith, ints, clamps)
 div_high (negsuc x) c y d p q = let e = neg_down _ _ (quotient_down (suc x) (suc y) (suc d) (omega arith) (omega arith)) in omega (arith, ints, clamps)
 
 div_low : (x : ℤ) (c y d : ℕ) → c ≤ y → y ≤ d → int_min (int_div x (pos (suc c))) (int_div x (pos (suc d))) ≤ℤ int_div x (pos (suc y))
-div_low (pos x) c y d p q = let e = pos_up _ _ (quotient_down x (suc y) (suc d) (omega arith) (omega arith)) in omega (arith, ints, clamps)
+div_low (pos x) c y d p q = let e = le_pos _ _ (quotient_down x (suc y) (suc d) (omega arith) (omega arith)) in omega (arith, ints, clamps)
 div_low (negsuc x) c y d p q = let e = neg_down _ _ (quotient_down (suc x) (suc c) (suc y) (omega arith) (omega arith)) in omega (arith, ints, clamps)
 
 four_high : (v m a b c d : ℤ) → v ≤ℤ m → m ≤ℤ int_max c d → v ≤ℤ greatest_of_four a b c d
@@ -133,25 +129,22 @@ remainder_between r s x y h k p = by_size (unsigned_abs y) refl p
 
 -- ---- shifts to the right
 
-power_up : (j k : ℕ) → j ≤ k → 2 ^ j ≤ 2 ^ k
-power_up j k h = pow-le-pow_right {n = 2} (omega arith) h
-
 negsuc_down : (m n : ℕ) → m ≤ n → negsuc n ≤ℤ negsuc m
 negsuc_down m n h = omega (arith, ints)
 
 shr_up : (x z : ℤ) (k : ℕ) → x ≤ℤ z → int_shr x k ≤ℤ int_shr z k
-shr_up (pos x) (pos z) k h = pos_up _ _ (quotient_up x z (2 ^ k) (pow_pos k) (omega (arith, ints)))
+shr_up (pos x) (pos z) k h = le_pos _ _ (quotient_up x z (2 ^ k) (pow_pos k) (omega (arith, ints)))
 shr_up (pos x) (negsuc z) k h = absurd (omega (arith, ints))
 shr_up (negsuc x) (pos z) k h = omega (arith, ints)
 shr_up (negsuc x) (negsuc z) k h = negsuc_down _ _ (quotient_up z x (2 ^ k) (pow_pos k) (omega (arith, ints)))
 
 shr_high : (x : ℤ) (i k j : ℕ) → i ≤ k → k ≤ j → int_shr x k ≤ℤ int_max (int_shr x i) (int_shr x j)
-shr_high (pos x) i k j p q = let e = pos_up _ _ (quotient_down x (2 ^ i) (2 ^ k) (pow_pos i) (power_up i k p)) in omega (arith, ints, clamps)
-shr_high (negsuc x) i k j p q = let e = negsuc_down _ _ (quotient_down x (2 ^ k) (2 ^ j) (pow_pos k) (power_up k j q)) in omega (arith, ints, clamps)
+shr_high (pos x) i k j p q = let e = le_pos _ _ (quotient_down x (2 ^ i) (2 ^ k) (pow_pos i) (power-le i k p)) in omega (arith, ints, clamps)
+shr_high (negsuc x) i k j p q = let e = negsuc_down _ _ (quotient_down x (2 ^ k) (2 ^ j) (pow_pos k) (power-le k j q)) in omega (arith, ints, clamps)
 
 shr_low : (x : ℤ) (i k j : ℕ) → i ≤ k → k ≤ j → int_min (int_shr x i) (int_shr x j) ≤ℤ int_shr x k
-shr_low (pos x) i k j p q = let e = pos_up _ _ (quotient_down x (2 ^ k) (2 ^ j) (pow_pos k) (power_up k j q)) in omega (arith, ints, clamps)
-shr_low (negsuc x) i k j p q = let e = negsuc_down _ _ (quotient_down x (2 ^ i) (2 ^ k) (pow_pos i) (power_up i k p)) in omega (arith, ints, clamps)
+shr_low (pos x) i k j p q = let e = le_pos _ _ (quotient_down x (2 ^ k) (2 ^ j) (pow_pos k) (power-le k j q)) in omega (arith, ints, clamps)
+shr_low (negsuc x) i k j p q = let e = negsuc_down _ _ (quotient_down x (2 ^ i) (2 ^ k) (pow_pos i) (power-le i k p)) in omega (arith, ints, clamps)
 
 pub shift_between : (r : ℤ × ℤ) (x : ℤ) (i k j : ℕ) → LiesIn r x → i ≤ k → k ≤ j →
     LiesIn (least_of_four (int_shr r.0 i) (int_shr r.0 j) (int_shr r.1 i) (int_shr r.1 j), greatest_of_four (int_shr r.0 i) (int_shr r.0 j) (int_shr r.1 i) (int_shr r.1 j)) (int_shr x k)

@@ -1,5 +1,7 @@
 -- The laws of comparisons.
 use Rattle.std.specs.Prelude.{◌≡◌, ℤ, pos, ◌+ℤ◌, ◌-ℤ◌, ◌≤ℤ◌, ◌<ℤ◌, ◌⊎◌, Bool, true, false, cond, Option, Some, None}
+use Rattle.ep_int.proofs.Arithmetic.{le_fact}
+use Rattle.ep_domain.proofs.Basics.{int_eq-true}
 use Rattle.std.specs.Prelude.{IsSomeAnd, refl, int_le}
 use Rattle.std.specs.Option.{option_zip}
 use Rattle.std.proofs.Common.{arith, ap, sym, ◌∙◌, subst, inl, inr}
@@ -10,8 +12,8 @@ use Rattle.ep_int.specs.declared.types.Cmp.{Cmp}
 use Rattle.ep_int.specs.declared.types.Cmp.TheVariants.{Eq, Ne, Lt, Le, Gt, Ge}
 use Rattle.ep_int.specs.Types.{least_of, greatest_of}
 use Rattle.ep_int.specs.Arith.{int_eq, compares}
-use Rattle.ep_range_laws.proofs.Comparisons.{between_true, from_between, from_between_false, from_le_true}
-use Rattle.ep_range_laws.proofs.Comparisons.{from_le_false, from_lt_true, from_lt_false, le_self, le_antisym}
+use Rattle.ep_range_laws.proofs.Comparisons.{from_between, from_between_false}
+use Rattle.ep_range_laws.proofs.Comparisons.{from_le_false, from_lt_true, from_lt_false, le_antisym}
 use Rattle.ep_interval_laws.specs.Interval.{Interval, HasNumber, ends_of, between, apart_from, filter_of}
 use Rattle.ep_interval_laws.proofs.Between.{between_none, between_holds}
 use Rattle.ep_interval_laws.proofs.Simple.{has_low, has_high, overlap_holds, cut_single_away, first_of_pair}
@@ -26,9 +28,6 @@ different x y e f = by_order (from_between_false x y y x e)
     by_order : (y <ℤ x) ⊎ (x <ℤ y) → ⊥
     by_order (inl h) = omega (arith, ints)
     by_order (inr h) = omega (arith, ints)
-
-equal_true : (x y : ℤ) → x ≡ y → int_eq x y ≡ true
-equal_true x y e = subst (λ z. int_eq x z ≡ true) e (between_true x x x x (le_self x) (le_self x))
 
 module _ (a b : Interval) (x y : ℤ) where
   abbrev HavePair : Interval × Interval → Type 0
@@ -50,7 +49,7 @@ apart_holds a b x y n h k = by_test (int_eq b.lo b.hi) refl
         above l x m y p n e f = by_test (int_le (l +ℤ pos 1) x) refl
           where
             by_test : (t : Bool) → int_le (l +ℤ pos 1) x ≡ t → (l +ℤ pos 1) ≤ℤ x
-            by_test true e = from_le_true _ _ e
+            by_test true e = le_fact _ _ e
             by_test false g = let w = from_le_false (l +ℤ pos 1) x g in absurd (n (omega (arith, ints)))
     low_of false e f = has_low a x h
 
@@ -61,7 +60,7 @@ apart_holds a b x y n h k = by_test (int_eq b.lo b.hi) refl
         below u x m y p n e f = by_test (int_le x (u -ℤ pos 1)) refl
           where
             by_test : (t : Bool) → int_le x (u -ℤ pos 1) ≡ t → x ≤ℤ (u -ℤ pos 1)
-            by_test true e = from_le_true _ _ e
+            by_test true e = le_fact _ _ e
             by_test false g = let w = from_le_false x (u -ℤ pos 1) g in absurd (n (omega (arith, ints)))
     high_of false e f = has_high a x h
 
@@ -90,13 +89,13 @@ filter_holds Lt a b x y e h k =
     let f = from_lt_true x y e in let q = has_high b y k in let r = has_low a x h in
     both_hold a b x y _ _ (overlap_holds a a.lo (b.hi -ℤ pos 1) x h r (omega (arith, ints))) (overlap_holds b (a.lo +ℤ pos 1) b.hi y k (omega (arith, ints)) q)
 filter_holds Le a b x y e h k =
-    let f = from_le_true x y e in let q = has_high b y k in let r = has_low a x h in
+    let f = le_fact x y e in let q = has_high b y k in let r = has_low a x h in
     both_hold a b x y _ _ (overlap_holds a a.lo b.hi x h r (omega (arith, ints))) (overlap_holds b a.lo b.hi y k (omega (arith, ints)) q)
 filter_holds Gt a b x y e h k =
     let f = from_lt_true y x e in let q = has_low b y k in let r = has_high a x h in
     both_hold a b x y _ _ (overlap_holds a (b.lo +ℤ pos 1) a.hi x h (omega (arith, ints)) r) (overlap_holds b b.lo (a.hi -ℤ pos 1) y k q (omega (arith, ints)))
 filter_holds Ge a b x y e h k =
-    let f = from_le_true y x e in let q = has_low b y k in let r = has_high a x h in
+    let f = le_fact y x e in let q = has_low b y k in let r = has_high a x h in
     both_hold a b x y _ _ (overlap_holds a b.lo a.hi x h (omega (arith, ints)) r) (overlap_holds b b.lo a.hi y k q (omega (arith, ints)))
 
 both_none : (o p : Option Interval) → o ≡ None → option_zip o p ≡ None
@@ -114,7 +113,7 @@ filter_single Ne a b x y e f g =
     let same = equal x y (not-false _ e) in
     let p = first_of_pair b.lo b.hi y y g in let q = second_of_pair b.lo b.hi y y g in
     let r = first_of_pair a.lo a.hi x x f in let s = second_of_pair a.lo a.hi x x f in
-    both_none _ _ (none_of (int_eq b.lo b.hi) (int_eq a.lo b.lo) (int_eq a.hi b.lo) (equal_true b.lo b.hi (p ∙ sym q)) (equal_true a.lo b.lo (r ∙ same ∙ sym p)) (equal_true a.hi b.lo (s ∙ same ∙ sym p)) (above a.lo a.hi r s))
+    both_none _ _ (none_of (int_eq b.lo b.hi) (int_eq a.lo b.lo) (int_eq a.hi b.lo) (int_eq-true b.lo b.hi (p ∙ sym q)) (int_eq-true a.lo b.lo (r ∙ same ∙ sym p)) (int_eq-true a.hi b.lo (s ∙ same ∙ sym p)) (above a.lo a.hi r s))
   where
     above : (l h : ℤ) → l ≡ x → h ≡ x → (h -ℤ pos 1) <ℤ (l +ℤ pos 1)
     above l h p q = omega (arith, ints)

@@ -1,5 +1,6 @@
 -- Each result of each operator is held.
 use Rattle.std.specs.Prelude.{◌≡◌, ℕ, zero, suc, ◌-◌, ◌^◌, ◌<◌, ◌≤◌, ℤ, pos, negsuc, ◌+ℤ◌, ◌-ℤ◌, ◌*ℤ◌, ◌≤ℤ◌, ◌<ℤ◌}
+use Rattle.ep_int.proofs.Arithmetic.{in_range_from_true, le_fact, le_test}
 use Rattle.std.specs.Prelude.{Bool, true, false, cond, not, ◌&&◌, Option, None, Result, Ok, Err, refl, int_le, int_lt}
 use Rattle.std.specs.Prelude.{int_div, int_rem, unsigned_abs, bit_and, bit_or, bit_xor}
 use Rattle.std.specs.Int.{int_min, int_max, int_shr}
@@ -19,8 +20,8 @@ use Rattle.ep_int.specs.Arith.{arith_of, settled, is_in_range, is_divisible, is_
 use Rattle.ep_int.proofs.Arithmetic.{arith_in_range}
 use Rattle.ep_range_laws.specs.Ranges.{LiesIn}
 use Rattle.ep_range_laws.specs.Faults.{shown_range, least_of_four, greatest_of_four, nearest_amount}
-use Rattle.ep_range_laws.proofs.Comparisons.{le_true, lt_true, from_le_true, le_trans}
-use Rattle.ep_range_laws.proofs.Types.{number_low, number_high, from_in_range}
+use Rattle.ep_range_laws.proofs.Comparisons.{lt_true, le_trans}
+use Rattle.ep_range_laws.proofs.Types.{number_low, number_high}
 use Rattle.ep_range_laws.proofs.FaultAt.{each_shown}
 use Rattle.ep_range_laws.proofs.Undefined.{amount_from, nearest_above, bits_positive}
 use Rattle.ep_interval_laws.specs.Interval.{Interval, HasNumber, ends_of, between}
@@ -86,8 +87,8 @@ anded_holds t a b x y h k i j w = by_signs (int_le (pos 0) a.lo) (int_le (pos 0)
     by_signs : (p q : Bool) → int_le (pos 0) a.lo ≡ p → int_le (pos 0) b.lo ≡ q →
         HaveNumber (cond p (between (pos 0) (cond q (int_min a.hi b.hi) a.hi)) (cond q (between (pos 0) b.hi) (whole t))) (and_of t x y)
     by_signs true true e f =
-        let l = left_bound t x y i (le_trans _ _ _ (from_le_true (pos 0) a.lo e) (has_low a x h)) in
-        let r = right_bound t x y j (le_trans _ _ _ (from_le_true (pos 0) b.lo f) (has_low b y k)) in
+        let l = left_bound t x y i (le_trans _ _ _ (le_fact (pos 0) a.lo e) (has_low a x h)) in
+        let r = right_bound t x y j (le_trans _ _ _ (le_fact (pos 0) b.lo f) (has_low b y k)) in
         let p = has_high a x h in let q = has_high b y k in let g = a.ends.below in
         let l1 = l.1 in let r1 = r.1 in
         between_holds (pos 0) (int_min a.hi b.hi) (and_of t x y) least_below_zero (omega (arith, ints, clamps)) l.0 (min_of (and_of t x y) x y a.hi b.hi l1 r1 p q)
@@ -95,10 +96,10 @@ anded_holds t a b x y h k i j w = by_signs (int_le (pos 0) a.lo) (int_le (pos 0)
         min_of : (v x y a b : ℤ) → v ≤ℤ x → v ≤ℤ y → x ≤ℤ a → y ≤ℤ b → v ≤ℤ int_min a b
         min_of v x y a b p q r s = omega (arith, ints, clamps)
     by_signs true false e f =
-        let l = left_bound t x y i (le_trans _ _ _ (from_le_true (pos 0) a.lo e) (has_low a x h)) in
+        let l = left_bound t x y i (le_trans _ _ _ (le_fact (pos 0) a.lo e) (has_low a x h)) in
         between_holds (pos 0) a.hi (and_of t x y) least_below_zero a.ends.below l.0 (le_trans _ _ _ l.1 (has_high a x h))
     by_signs false true e f =
-        let r = right_bound t x y j (le_trans _ _ _ (from_le_true (pos 0) b.lo f) (has_low b y k)) in
+        let r = right_bound t x y j (le_trans _ _ _ (le_fact (pos 0) b.lo f) (has_low b y k)) in
         between_holds (pos 0) b.hi (and_of t x y) least_below_zero b.ends.below r.0 (le_trans _ _ _ r.1 (has_high b y k))
     by_signs false false e f = whole_holds t _ w
 
@@ -142,8 +143,8 @@ module _ (t : IntType) (a b : Interval) (x y : ℤ) (h : HasNumber a x) (k : Has
     where
       by_signs : (p q : Bool) → int_le (pos 0) a.lo ≡ p → int_le (pos 0) b.lo ≡ q → HaveNumber (cond (p && q) (between (int_max a.lo b.lo) (ones_over (int_max a.hi b.hi))) (whole t)) (or_of t x y)
       by_signs true true e f =
-          let p = le_trans _ _ _ (from_le_true (pos 0) a.lo e) (has_low a x h) in
-          let q = le_trans _ _ _ (from_le_true (pos 0) b.lo f) (has_low b y k) in
+          let p = le_trans _ _ _ (le_fact (pos 0) a.lo e) (has_low a x h) in
+          let q = le_trans _ _ _ (le_fact (pos 0) b.lo f) (has_low b y k) in
           let o = or_bounds t x y (int_max a.hi b.hi) i j p q left_under right_under under_greatest in
           between_holds (int_max a.lo b.lo) (ones_over (int_max a.hi b.hi)) (or_of t x y) low_under (ones_below _ under_greatest (le_trans _ _ _ p left_under)) (max_of a.lo b.lo x y (or_of t x y) (has_low a x h) (has_low b y k) o.0 o.1.0) o.1.1
         where
@@ -157,8 +158,8 @@ module _ (t : IntType) (a b : Interval) (x y : ℤ) (h : HasNumber a x) (k : Has
     where
       by_signs : (p q : Bool) → int_le (pos 0) a.lo ≡ p → int_le (pos 0) b.lo ≡ q → HaveNumber (cond (p && q) (between (pos 0) (ones_over (int_max a.hi b.hi))) (whole t)) (xor_of t x y)
       by_signs true true e f =
-          let p = le_trans _ _ _ (from_le_true (pos 0) a.lo e) (has_low a x h) in
-          let q = le_trans _ _ _ (from_le_true (pos 0) b.lo f) (has_low b y k) in
+          let p = le_trans _ _ _ (le_fact (pos 0) a.lo e) (has_low a x h) in
+          let q = le_trans _ _ _ (le_fact (pos 0) b.lo f) (has_low b y k) in
           let o = xor_bounds t x y (int_max a.hi b.hi) i j p q left_under right_under under_greatest in
           between_holds (pos 0) (ones_over (int_max a.hi b.hi)) (xor_of t x y) least_below_zero (ones_below _ under_greatest (le_trans _ _ _ p left_under)) o.0 o.1
       by_signs true false e f = whole_holds t _ w
@@ -183,7 +184,7 @@ nearest_below t c y e h =
 some_amount : (t : IntType) (s : ℤ × ℤ) (y : ℤ) → LiesIn s y → is_amount t y ≡ true → has_amount t s ≡ true
 some_amount t s y h e =
     let p = amount_from t y e in let q = p.0 in let r = p.1 in let l = h.low in let u = h.high in
-    and_from (int_le (pos 0) s.1) (int_lt s.0 (pos (bits_of t))) (le_true (pos 0) s.1 (omega (arith, ints))) (lt_true s.0 (pos (bits_of t)) (below_width s.0 y (bits_of t) l r))
+    and_from (int_le (pos 0) s.1) (int_lt s.0 (pos (bits_of t))) (le_test (pos 0) s.1 (omega (arith, ints))) (lt_true s.0 (pos (bits_of t)) (below_width s.0 y (bits_of t) l r))
   where
     below_width : (c y : ℤ) (w : ℕ) → c ≤ℤ y → y <ℤ pos w → c <ℤ pos w
     below_width c y w p q = omega (arith, ints)
@@ -204,7 +205,7 @@ shifted_left_holds t a b x y v h k e s =
     } in
     if_true _ _ v (some_amount t (ends_of b) y (range_encloses b y k) e) (settled_holds Shift t (shown_range Mul (ends_of a) (powers t (ends_of b))) (x *ℤ pos (2 ^ unsigned_abs y)) v (each_shown Mul (ends_of a) (powers t (ends_of b)) x (pos (2 ^ unsigned_abs y)) r p) s)
 
-four_above : (l a b c d : ℤ) → l ≤ℤ a → l ≤ℤ b → l ≤ℤ c → l ≤ℤ d → l ≤ℤ least_of_four a b c d
+pub four_above : (l a b c d : ℤ) → l ≤ℤ a → l ≤ℤ b → l ≤ℤ c → l ≤ℤ d → l ≤ℤ least_of_four a b c d
 four_above l a b c d p q r s = omega (arith, ints, clamps)
 
 four_below : (h a b c d : ℤ) → a ≤ℤ h → b ≤ℤ h → c ≤ℤ h → d ≤ℤ h → greatest_of_four a b c d ≤ℤ h
@@ -231,7 +232,7 @@ results_hold Mul t a b x y v h k i j e = settled_holds Overflow t _ (x *ℤ y) v
 results_hold Div t a b x y v h k i j e =
     let p = ok_if (is_divisible t x y) (int_div x y) v Division e in
     let q = and_parts (not (int_eq y (pos 0))) (is_in_range t (int_div x y)) p.0 in
-    subst (HaveNumber (divided t (ends_of a) (ends_of b))) p.1 (divided_holds t (ends_of a) (ends_of b) x y (range_encloses a x h) (range_encloses b y k) q.0 (from_in_range t (int_div x y) q.1))
+    subst (HaveNumber (divided t (ends_of a) (ends_of b))) p.1 (divided_holds t (ends_of a) (ends_of b) x y (range_encloses a x h) (range_encloses b y k) q.0 (in_range_from_true t (int_div x y) q.1))
 results_hold Rem t a b x y v h k i j e =
     let p = ok_if (is_divisible t x y) (int_rem x y) v Division e in
     let q = and_parts (not (int_eq y (pos 0))) (is_in_range t (int_div x y)) p.0 in

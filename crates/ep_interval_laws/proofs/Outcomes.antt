@@ -1,7 +1,9 @@
 -- The laws of operators.
-use Rattle.std.specs.Prelude.{◌≡◌, ℤ, pos, ◌≤ℤ◌, Bool, true, false, cond, ◌&&◌, Option, Some, None, Result, Ok, Err}
-use Rattle.std.specs.Prelude.{IsTrue, IsSomeAnd, MatchResult, is_some, is_err, refl}
-use Rattle.std.specs.Option.{unwrap_or, option_and_then}
+use Rattle.std.specs.Prelude.{◌≡◌, ℤ, ◌≤ℤ◌, Bool, true, false, cond, ◌&&◌, Option, Some, None, Result, Ok, Err}
+use Rattle.ep_int.proofs.Arithmetic.{in_range_some_type}
+use Rattle.ep_int.proofs.Basics.{is_some-value}
+use Rattle.std.specs.Prelude.{IsTrue, IsSomeAnd, MatchResult, is_err, refl}
+use Rattle.std.specs.Option.{option_and_then}
 use Rattle.std.proofs.Common.{ap, sym, ◌∙◌, subst}
 use Rattle.std.proofs.lemmas.Bool.{and_parts, and_from}
 use Rattle.ep_int.specs.declared.types.IntType.{IntType}
@@ -15,7 +17,6 @@ use Rattle.ep_range_laws.specs.Ranges.{IsRange}
 use Rattle.ep_range_laws.specs.Faults.{Takes, MayFault, range_fault_of}
 use Rattle.ep_domain.specs.Domain.{ShowsPart}
 use Rattle.ep_range_laws.proofs.Comparisons.{between_true, from_between, le_self, le_trans, le_antisym}
-use Rattle.ep_range_laws.proofs.Types.{number_of}
 use Rattle.ep_range_laws.proofs.RangeFaults.{fault_is_found, fault_is_shown}
 use Rattle.ep_interval_laws.specs.Interval.{Interval, HasNumber, interval, ends_of, overlap}
 use Rattle.ep_interval_laws.specs.Results.{single_result, results_of, results_between, right_operands, value_of}
@@ -34,7 +35,7 @@ results_between_hold : (o : BinOp) (t : IntType) (a b : Interval) (x y v : ℤ) 
 results_between_hold o t a b x y v h k i j e = by_test (int_eq a.lo a.hi && int_eq b.lo b.hi) refl
   where
     of_single : (r : Result ℤ Undef) → r ≡ Ok v → HaveNumber (single_result r) v
-    of_single r f = subst (λ r. HaveNumber (single_result r) v) (sym f) (let n = number_of t v (arith_in_range o t x y v i e) in between_holds v v v n.low n.high (le_self v) (le_self v))
+    of_single r f = subst (λ r. HaveNumber (single_result r) v) (sym f) (let n = in_range_some_type t v (arith_in_range o t x y v i e) in between_holds v v v n.low n.high (le_self v) (le_self v))
 
     by_test : (s : Bool) → (int_eq a.lo a.hi && int_eq b.lo b.hi) ≡ s → HaveNumber (cond s (single_result (arith_of o t a.lo b.lo)) (results_of o t (ends_of a) (ends_of b))) v
     by_test true f =
@@ -77,10 +78,6 @@ outcome_holds o t a b x y i h k = by_result (arith_of o t x y) refl
 pub outcome_faults : (o : BinOp) (t : IntType) (a b : Interval) → IsTrue (outcome_of o t a b).fault → MayFault o t (ends_of a) (ends_of b)
 outcome_faults o t a b h = fault_is_found o t (ends_of a) (ends_of b) b.ends h
 
-some_value : (f : Option (ℤ × ℤ)) → is_some f ≡ true → f ≡ Some (unwrap_or f (pos 0, pos 0))
-some_value None e = cc
-some_value (Some v) e = refl
-
 pub outcome_shows : (o : BinOp) (t : IntType) (a b : Interval) → IsTrue (outcome_of o t a b).fault → ShowsPart interval_ops o t a b (outcome_of o t a b).shown
 outcome_shows o t a b h = record {
   left = ends_of a;
@@ -89,7 +86,7 @@ outcome_shows o t a b h = record {
   right_inside = record { low = le_self _; high = le_self _ };
   left_has = λ z i k. range_encloses a z k;
   right_has = λ z i k. range_encloses b z k;
-  shows = some_value (range_fault_of o t (ends_of a) (ends_of b)) h;
+  shows = is_some-value (range_fault_of o t (ends_of a) (ends_of b)) h;
 }
 
 -- ---- single numbers
@@ -143,7 +140,7 @@ outcome_single o t a b x y i e f = by_result (arith_of o t x y) refl
 
     by_result : (r : Result ℤ Undef) → arith_of o t x y ≡ r → MatchResult r (λ v. IsSomeAnd (outcome_of o t a b).value (Single v)) (λ _. (outcome_of o t a b).value ≡ None)
     by_result (Ok v) g =
-        let n = number_of t v (arith_in_range o t x y v i.left g) in
+        let n = in_range_some_type t v (arith_in_range o t x y v i.left g) in
         let r : IsRange v v = record { above = n.low; ordered = le_self v; below = n.high } in
         some_single (value_of o t a b) v (interval v v r) (value_single o t a b x y i e f ∙ ap single_result g ∙ between_some v v r) refl
     by_result (Err u) g = value_single o t a b x y i e f ∙ ap single_result g

@@ -1,11 +1,12 @@
 -- The rank of an interval falls where an end moves.
 use Rattle.std.specs.Prelude.{◌≡◌, ℕ, ◌+◌, ◌<◌, ◌≤◌, ℤ, pos, negsuc, ◌≤ℤ◌, ◌<ℤ◌, Bool, true, false, cond, int_lt}
+use Rattle.ep_int.proofs.Arithmetic.{le_fact}
 use Rattle.std.specs.Prelude.{int_le, refl}
 use Rattle.std.proofs.Common.{arith, ap, sym, subst}
 use Rattle.std.proofs.lemmas.Int.{ints}
 use Rattle.ep_int.specs.declared.types.IntType.TheVariants.{I64, U64}
 use Rattle.ep_int.specs.Types.{least_of, greatest_of}
-use Rattle.ep_range_laws.proofs.Comparisons.{lt_true, from_lt_true, from_le_true}
+use Rattle.ep_range_laws.proofs.Comparisons.{lt_true, from_lt_true}
 use Rattle.ep_interval_laws.specs.Ends.{low_limit, high_limit, one_if, low_rank, high_rank, lowered, raised}
 
 counted : (a b : ℤ) → a <ℤ b → one_if (int_lt a b) ≡ 1
@@ -56,19 +57,19 @@ pub low_falls : (a b : ℤ) → least_of I64 ≤ℤ b → b <ℤ a → low_rank 
 low_falls a b h k = first (int_le (pos 0) b) refl
   where
     fourth : (t : Bool) → int_le (negsuc 2147483647) b ≡ t → low_rank (cond t (negsuc 2147483647) (negsuc 9223372036854775807)) < low_rank a
-    fourth true e = let p = from_le_true (negsuc 2147483647) b e in low_int a (omega (arith, ints))
+    fourth true e = let p = le_fact (negsuc 2147483647) b e in low_int a (omega (arith, ints))
     fourth false e = low_long a (omega (arith, ints))
 
     third : (t : Bool) → int_le (negsuc 32767) b ≡ t → low_rank (cond t (negsuc 32767) (cond (int_le (negsuc 2147483647) b) (negsuc 2147483647) (negsuc 9223372036854775807))) < low_rank a
-    third true e = let p = from_le_true (negsuc 32767) b e in low_short a (omega (arith, ints))
+    third true e = let p = le_fact (negsuc 32767) b e in low_short a (omega (arith, ints))
     third false e = fourth (int_le (negsuc 2147483647) b) refl
 
     second : (t : Bool) → int_le (negsuc 127) b ≡ t → low_rank (cond t (negsuc 127) (cond (int_le (negsuc 32767) b) (negsuc 32767) (cond (int_le (negsuc 2147483647) b) (negsuc 2147483647) (negsuc 9223372036854775807)))) < low_rank a
-    second true e = let p = from_le_true (negsuc 127) b e in low_char a (omega (arith, ints))
+    second true e = let p = le_fact (negsuc 127) b e in low_char a (omega (arith, ints))
     second false e = third (int_le (negsuc 32767) b) refl
 
     first : (t : Bool) → int_le (pos 0) b ≡ t → low_rank (cond t (pos 0) (cond (int_le (negsuc 127) b) (negsuc 127) (cond (int_le (negsuc 32767) b) (negsuc 32767) (cond (int_le (negsuc 2147483647) b) (negsuc 2147483647) (negsuc 9223372036854775807))))) < low_rank a
-    first true e = let p = from_le_true (pos 0) b e in low_zero a (omega (arith, ints))
+    first true e = let p = le_fact (pos 0) b e in low_zero a (omega (arith, ints))
     first false e = second (int_le (negsuc 127) b) refl
 
 -- ---- each upper limit
@@ -158,35 +159,35 @@ pub high_falls : (a b : ℤ) → b ≤ℤ greatest_of U64 → a <ℤ b → high_
 high_falls a b h k = first (int_le b (pos 0)) refl
   where
     eighth : (t : Bool) → int_le b (pos 9223372036854775807) ≡ t → high_rank (cond t (pos 9223372036854775807) (pos 18446744073709551615)) < high_rank a
-    eighth true e = let p = from_le_true b (pos 9223372036854775807) e in high_long a (omega (arith, ints))
+    eighth true e = let p = le_fact b (pos 9223372036854775807) e in high_long a (omega (arith, ints))
     eighth false e = high_last a (omega (arith, ints))
 
     seventh : (t : Bool) → int_le b (pos 4294967295) ≡ t → high_rank (cond t (pos 4294967295) (cond (int_le b (pos 9223372036854775807)) (pos 9223372036854775807) (pos 18446744073709551615))) < high_rank a
-    seventh true e = let p = from_le_true b (pos 4294967295) e in high_word a (omega (arith, ints))
+    seventh true e = let p = le_fact b (pos 4294967295) e in high_word a (omega (arith, ints))
     seventh false e = eighth (int_le b (pos 9223372036854775807)) refl
 
     sixth : (t : Bool) → int_le b (pos 2147483647) ≡ t → high_rank (cond t (pos 2147483647) (cond (int_le b (pos 4294967295)) (pos 4294967295) (cond (int_le b (pos 9223372036854775807)) (pos 9223372036854775807) (pos 18446744073709551615)))) < high_rank a
-    sixth true e = let p = from_le_true b (pos 2147483647) e in high_int a (omega (arith, ints))
+    sixth true e = let p = le_fact b (pos 2147483647) e in high_int a (omega (arith, ints))
     sixth false e = seventh (int_le b (pos 4294967295)) refl
 
     fifth : (t : Bool) → int_le b (pos 65535) ≡ t → high_rank (cond t (pos 65535) (cond (int_le b (pos 2147483647)) (pos 2147483647) (cond (int_le b (pos 4294967295)) (pos 4294967295) (cond (int_le b (pos 9223372036854775807)) (pos 9223372036854775807) (pos 18446744073709551615))))) < high_rank a
-    fifth true e = let p = from_le_true b (pos 65535) e in high_half a (omega (arith, ints))
+    fifth true e = let p = le_fact b (pos 65535) e in high_half a (omega (arith, ints))
     fifth false e = sixth (int_le b (pos 2147483647)) refl
 
     fourth : (t : Bool) → int_le b (pos 32767) ≡ t → high_rank (cond t (pos 32767) (cond (int_le b (pos 65535)) (pos 65535) (cond (int_le b (pos 2147483647)) (pos 2147483647) (cond (int_le b (pos 4294967295)) (pos 4294967295) (cond (int_le b (pos 9223372036854775807)) (pos 9223372036854775807) (pos 18446744073709551615)))))) < high_rank a
-    fourth true e = let p = from_le_true b (pos 32767) e in high_short a (omega (arith, ints))
+    fourth true e = let p = le_fact b (pos 32767) e in high_short a (omega (arith, ints))
     fourth false e = fifth (int_le b (pos 65535)) refl
 
     third : (t : Bool) → int_le b (pos 255) ≡ t → high_rank (cond t (pos 255) (cond (int_le b (pos 32767)) (pos 32767) (cond (int_le b (pos 65535)) (pos 65535) (cond (int_le b (pos 2147483647)) (pos 2147483647) (cond (int_le b (pos 4294967295)) (pos 4294967295) (cond (int_le b (pos 9223372036854775807)) (pos 9223372036854775807) (pos 18446744073709551615))))))) < high_rank a
-    third true e = let p = from_le_true b (pos 255) e in high_byte a (omega (arith, ints))
+    third true e = let p = le_fact b (pos 255) e in high_byte a (omega (arith, ints))
     third false e = fourth (int_le b (pos 32767)) refl
 
     second : (t : Bool) → int_le b (pos 127) ≡ t → high_rank (cond t (pos 127) (cond (int_le b (pos 255)) (pos 255) (cond (int_le b (pos 32767)) (pos 32767) (cond (int_le b (pos 65535)) (pos 65535) (cond (int_le b (pos 2147483647)) (pos 2147483647) (cond (int_le b (pos 4294967295)) (pos 4294967295) (cond (int_le b (pos 9223372036854775807)) (pos 9223372036854775807) (pos 18446744073709551615)))))))) < high_rank a
-    second true e = let p = from_le_true b (pos 127) e in high_char a (omega (arith, ints))
+    second true e = let p = le_fact b (pos 127) e in high_char a (omega (arith, ints))
     second false e = third (int_le b (pos 255)) refl
 
     first : (t : Bool) → int_le b (pos 0) ≡ t → high_rank (cond t (pos 0) (cond (int_le b (pos 127)) (pos 127) (cond (int_le b (pos 255)) (pos 255) (cond (int_le b (pos 32767)) (pos 32767) (cond (int_le b (pos 65535)) (pos 65535) (cond (int_le b (pos 2147483647)) (pos 2147483647) (cond (int_le b (pos 4294967295)) (pos 4294967295) (cond (int_le b (pos 9223372036854775807)) (pos 9223372036854775807) (pos 18446744073709551615))))))))) < high_rank a
-    first true e = let p = from_le_true b (pos 0) e in high_zero a (omega (arith, ints))
+    first true e = let p = le_fact b (pos 0) e in high_zero a (omega (arith, ints))
     first false e = second (int_le b (pos 127)) refl
 
 -- ---- the ends of a widening

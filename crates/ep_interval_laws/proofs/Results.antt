@@ -1,5 +1,6 @@
 -- Each operator's results are held.
 use Rattle.std.specs.Prelude.{◌≡◌, zero, suc, ℤ, pos, negsuc, ◌≤ℤ◌, ◌⊎◌, Bool, true, false, cond, not, Option, None}
+use Rattle.ep_int.proofs.Arithmetic.{in_range_from_true, le_test}
 use Rattle.std.specs.Prelude.{Result, Ok, Err, IsSomeAnd, refl, int_div}
 use Rattle.std.specs.Int.{int_min, int_max}
 use Rattle.std.proofs.Common.{arith, subst, inl, inr}
@@ -12,8 +13,8 @@ use Rattle.ep_int.specs.Arith.{settled, is_in_range, int_eq}
 use Rattle.ep_int.proofs.Wrapping.{wrapped_in_range}
 use Rattle.ep_range_laws.specs.Ranges.{LiesIn}
 use Rattle.ep_range_laws.specs.Faults.{is_ordered}
-use Rattle.ep_range_laws.proofs.Comparisons.{le_true, le_trans}
-use Rattle.ep_range_laws.proofs.Types.{number_low, number_high, from_in_range}
+use Rattle.ep_range_laws.proofs.Comparisons.{le_trans}
+use Rattle.ep_range_laws.proofs.Types.{number_low, number_high}
 use Rattle.ep_interval_laws.specs.Ends.{in_one_stretch, wrapped_low, wrapped_high}
 use Rattle.ep_interval_laws.specs.Interval.{Interval, HasNumber, between}
 use Rattle.ep_interval_laws.specs.Results.{clipped, settled_between, negative_part, positive_part, quotients, hull}
@@ -59,7 +60,7 @@ settled_holds u t e z v h s = by_sign (is_signed t) s
     by_sign : (b : Bool) → (let r : Result ℤ Undef = cond b (cond (is_in_range t z) (Ok z) (Err u)) (Ok (wrapped t z)) in r) ≡ Ok v → HaveNumber (cond b (clipped t e) (between (wrapped_low t e.0 e.1) (wrapped_high t e.0 e.1))) v
     by_sign true s =
         let p = ok_if (is_in_range t z) z v u s in
-        clipped_holds t e v (subst (LiesIn e) p.1 h) (subst (InRange t) p.1 (from_in_range t z p.0))
+        clipped_holds t e v (subst (LiesIn e) p.1 h) (subst (InRange t) p.1 (in_range_from_true t z p.0))
     by_sign false s =
         let p : wrapped t z ≡ v = ok_same (wrapped t z) v _ refl s in
         let w = wrapped_ends_hold t e.0 e.1 z h.low h.high in
@@ -97,7 +98,7 @@ divided_holds t r s x y h k n i = by_sign (not_zero y n)
     by_sign (inl p) =
         let m = of_negative p in
         let q = quotient_of_negative r (negative_part s) x y h m negative_low in
-        by_tests (is_ordered (negative_part s)) (is_ordered (positive_part s)) (le_true _ _ (le_trans _ _ _ m.low m.high)) q
+        by_tests (is_ordered (negative_part s)) (is_ordered (positive_part s)) (le_test _ _ (le_trans _ _ _ m.low m.high)) q
       where
         by_tests : (a b : Bool) → a ≡ true → LiesIn (quotients r (negative_part s)) (int_div x y) → HaveNumber (cond a (cond b (clipped t (hull (quotients r (negative_part s)) (quotients r (positive_part s)))) (clipped t (quotients r (negative_part s)))) (cond b (clipped t (quotients r (positive_part s))) None)) (int_div x y)
         by_tests true true e q = clipped_holds t _ _ (hull_left _ _ _ q) i
@@ -106,7 +107,7 @@ divided_holds t r s x y h k n i = by_sign (not_zero y n)
     by_sign (inr p) =
         let m = of_positive p in
         let q = quotient_of_positive r (positive_part s) x y h m positive_high in
-        by_tests (is_ordered (negative_part s)) (is_ordered (positive_part s)) (le_true _ _ (le_trans _ _ _ m.low m.high)) q
+        by_tests (is_ordered (negative_part s)) (is_ordered (positive_part s)) (le_test _ _ (le_trans _ _ _ m.low m.high)) q
       where
         by_tests : (a b : Bool) → b ≡ true → LiesIn (quotients r (positive_part s)) (int_div x y) → HaveNumber (cond a (cond b (clipped t (hull (quotients r (negative_part s)) (quotients r (positive_part s)))) (clipped t (quotients r (negative_part s)))) (cond b (clipped t (quotients r (positive_part s))) None)) (int_div x y)
         by_tests true true e q = clipped_holds t _ _ (hull_right _ _ _ q) i

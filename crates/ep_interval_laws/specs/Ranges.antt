@@ -1,5 +1,6 @@
 -- That the ends of intervals are ranges.
 use Rattle.std.proofs.Common.{◌≡◌, ℤ, ◌-ℤ◌, ◌≤ℤ◌, Bool, true, false, cond, ◌&&◌, arith, refl}
+use Rattle.ep_int.proofs.Arithmetic.{le_fact, le_test}
 use Rattle.std.specs.Prelude.{int_le, int_lt}
 use Rattle.std.specs.Int.{int_min, int_max}
 use Rattle.std.proofs.lemmas.Bool.{and_parts, and_from}
@@ -9,7 +10,7 @@ use Rattle.ep_int.specs.declared.types.IntType.TheVariants.{I64, U64}
 use Rattle.ep_int.specs.Types.{least_of, greatest_of, wrapped}
 use Rattle.ep_int.proofs.Wrapping.{wrapped_in_range}
 use Rattle.ep_range_laws.specs.Ranges.{IsRange}
-use Rattle.ep_range_laws.proofs.Comparisons.{le_true, from_le_true, from_lt_true, from_lt_false, from_between}
+use Rattle.ep_range_laws.proofs.Comparisons.{from_lt_true, from_lt_false, from_between}
 use Rattle.ep_range_laws.proofs.Comparisons.{le_trans, le_self}
 use Rattle.ep_range_laws.proofs.Types.{number_low, number_high, ends_ordered}
 use Rattle.ep_interval_laws.specs.Ends.{is_range, nearest_number, low_limit, high_limit, lowered, raised}
@@ -19,10 +20,10 @@ pub is_range_true : (lo hi : ℤ) → is_range lo hi ≡ true → IsRange lo hi
 is_range_true lo hi e =
     let p = and_parts (int_le (least_of I64) lo && int_le lo hi) (int_le hi (greatest_of U64)) e in
     let q = from_between _ _ _ _ p.0 in
-    record { above = q.0; ordered = q.1; below = from_le_true _ _ p.1 }
+    record { above = q.0; ordered = q.1; below = le_fact _ _ p.1 }
 
 pub is_range_from : (lo hi : ℤ) → IsRange lo hi → is_range lo hi ≡ true
-is_range_from lo hi h = and_from _ _ (and_from _ _ (le_true _ _ h.above) (le_true _ _ h.ordered)) (le_true _ _ h.below)
+is_range_from lo hi h = and_from _ _ (and_from _ _ (le_test _ _ h.above) (le_test _ _ h.ordered)) (le_test _ _ h.below)
 
 pub range_of_type : (t : IntType) → IsRange (least_of t) (greatest_of t)
 range_of_type t = record { above = number_low t; ordered = ends_ordered t; below = number_high t }

@@ -1,21 +1,26 @@
 -- What the code of intervals needs.
 use Rattle.std.proofs.Common.{◌≡◌, ℕ, ◌-◌, ◌^◌, ◌<◌, ◌≤◌, ◌*ℤ◌, ℤ, pos, negsuc, neg_ℤ, ◌+ℤ◌, ◌-ℤ◌, ◌≤ℤ◌, Bool, true}
-use Rattle.std.proofs.Common.{false, cond, Option, Some, None, FitsSigned, refl, sym, ap, ◌∙◌, subst, arith, to_z}
+use Rattle.ep_int.proofs.Arithmetic.{difference_fits, in_range_some_type, sum_fits}
+use Rattle.ep_int.proofs.Basics.{of_z-injective}
+use Rattle.ep_domain.proofs.FaultCode.{pair_same}
+use Rattle.ep_interval_laws.proofs.Operators.{four_above}
+use Rattle.ep_domain.proofs.Basics.{int_eq-true}
+use Rattle.std.proofs.Common.{false, cond, Option, Some, None, FitsSigned, refl, sym, ap, ◌∙◌, subst, arith}
 use Rattle.std.proofs.Common.{of_z}
 use mir.Syntax.{w128}
 use Rattle.std.specs.Prelude.{int_le, unsigned_abs, IfSome}
 use Rattle.std.specs.Option.{option_zip, option_and_then}
 use Rattle.std.specs.Int.{int_min, int_max, int_shr}
-use Rattle.std.proofs.lemmas.Int.{ints, clamps, to_z-of_z, fits_signed_mul}
+use Rattle.std.proofs.lemmas.Int.{ints, clamps, fits_signed_mul}
 use Rattle.ep_int.specs.declared.types.IntType.{IntType}
 use Rattle.ep_int.specs.declared.types.Cmp.{Cmp}
 use Rattle.ep_int.specs.declared.types.BinOp.{BinOp}
 use Rattle.ep_int.specs.declared.types.BinOp.TheVariants.{Add, Sub, Mul, Div, Rem, And, Or, Xor, Shl, Shr}
 use Rattle.ep_int.specs.Types.{is_signed, least_of, greatest_of, wrapped, InRange}
-use Rattle.ep_int.specs.Arith.{int_eq, IsOfSomeType, IsRightOperand}
+use Rattle.ep_int.specs.Arith.{IsOfSomeType, IsRightOperand}
 use Rattle.ep_range_laws.specs.Ranges.{IsRange}
-use Rattle.ep_range_laws.proofs.Comparisons.{between_true, from_between, le_self, le_trans, le_antisym}
-use Rattle.ep_domain.proofs.FaultCode.{fits_number, sum_fits, difference_fits}
+use Rattle.ep_range_laws.proofs.Comparisons.{from_between, le_trans, le_antisym}
+use Rattle.ep_domain.proofs.FaultCode.{fits_number}
 use Rattle.ep_intervals.specs.declared.interval.Interval.TheInside.{Inside}
 use Rattle.ep_interval_laws.specs.Ends.{in_one_stretch, wrapped_low, wrapped_high, low_apart, high_apart}
 use Rattle.ep_interval_laws.specs.Interval.{Interval, interval, between, overlap, apart_from, filter_of}
@@ -24,7 +29,7 @@ use Rattle.ep_interval_laws.specs.Results.{divided, greatest_size, remainders, a
 use Rattle.ep_interval_laws.specs.Results.{has_amount, powers, shifted_left, shifted_right, shifted_right_between}
 use Rattle.ep_interval_laws.specs.Results.{results_between, right_operands, value_of}
 use Rattle.ep_range_laws.specs.Faults.{is_ordered, least_of_four, greatest_of_four, shown_range, nearest_amount}
-use Rattle.ep_range_laws.proofs.Types.{number_of, number_low, number_high, least_unsigned}
+use Rattle.ep_range_laws.proofs.Types.{number_low, number_high, least_unsigned}
 use Rattle.ep_int.proofs.Wrapping.{wrapped_in_range}
 use Rattle.std.proofs.Math.Nat.{pow-le-pow_right, div-le_self}
 use Rattle.ep_interval_laws.proofs.Between.{same_ends, between_some, between_parts}
@@ -54,15 +59,6 @@ some_interval l h k j p e f =
     let q : IsRange k j = subst (λ z. IsRange k z) f (subst (λ z. IsRange z h) e p) in
     ap Some (same_ends l h p k j q e f) ∙ sym (between_some k j q)
 
-pub pair_same : (a b c d : ℤ) → a ≡ c → b ≡ d → (let p : ℤ × ℤ = (a, b) in p) ≡ (c, d)
-pair_same a b c d e f = ap (λ (x : ℤ). (let p : ℤ × ℤ = (x, b) in p)) e ∙ ap (λ (y : ℤ). (let p : ℤ × ℤ = (c, y) in p)) f
-
-pub same_bits : (a b : ℤ) → FitsSigned w128 a → FitsSigned w128 b → of_z w128 a ≡ of_z w128 b → a ≡ b
-same_bits a b f g e = sym (to_z-of_z w128 a f) ∙ ap (to_z w128) e ∙ to_z-of_z w128 b g
-
-pub equal_true : (x y : ℤ) → x ≡ y → int_eq x y ≡ true
-equal_true x y e = subst (λ z. int_eq x z ≡ true) e (between_true x x x x (le_self x) (le_self x))
-
 -- ---- conversion
 
 pub apart_stretches : (t : IntType) (l h a b : ℤ) → a ≡ wrapped t l → b ≡ wrapped t h → ((of_z w128 (l -ℤ a) ≡ of_z w128 (h -ℤ b)) → ⊥) → in_one_stretch t l h ≡ false
@@ -81,7 +77,7 @@ whole_ends t l h a b n e f = pair_same a b _ _ (e ∙ ap (λ s. cond s (wrapped 
 -- ---- comparisons
 
 pub apart_is : (a b : Interval) (l h : ℤ) (r : Option Interval) → b.lo ≡ b.hi → l ≡ low_apart a.lo b.lo → h ≡ high_apart a.hi b.lo → r ≡ between l h → r ≡ apart_from a b
-apart_is a b l h r e f g i = rw (equal_true b.lo b.hi e) (i ∙ ap (λ z. between z h) f ∙ ap (between (low_apart a.lo b.lo)) g)
+apart_is a b l h r e f g i = rw (int_eq-true b.lo b.hi e) (i ∙ ap (λ z. between z h) f ∙ ap (between (low_apart a.lo b.lo)) g)
 
 pub zipped : (a b : Interval) (c d : Cmp) (r : Option (Interval × Interval)) (o p l h : Option Interval) → c ≡ d → filter_of d a b ≡ option_zip l h → o ≡ l → p ≡ h → r ≡ option_zip o p → r ≡ filter_of c a b
 zipped a b c d r o p l h e f g i k = k ∙ ap (λ z. option_zip z p) g ∙ ap (option_zip l) i ∙ sym f ∙ ap (λ z. filter_of z a b) (sym e)
@@ -162,14 +158,11 @@ abs_number (negsuc n) h = let p = h.low in omega (arith, ints)
 pub shift_fits : (t : IntType) (x p : ℤ) (n : ℕ) → InRange t x → n < 64 → p ≡ pos (2 ^ n) → FitsSigned w128 (x *ℤ p)
 shift_fits t x p n i h e =
     let k : n ≤ 63 = omega arith in
-    subst (λ q. FitsSigned w128 (x *ℤ q)) (sym e) (fits_signed_mul w128 x (pos (2 ^ n)) (2 ^ 64 - 1) (2 ^ 63) (abs_number x (number_of t x i)) (pow-le-pow_right {n = 2} (omega arith) k) (omega arith))
+    subst (λ q. FitsSigned w128 (x *ℤ q)) (sym e) (fits_signed_mul w128 x (pos (2 ^ n)) (2 ^ 64 - 1) (2 ^ 63) (abs_number x (in_range_some_type t x i)) (pow-le-pow_right {n = 2} (omega arith) k) (omega arith))
 
 product_positive : (x p : ℤ) (n : ℕ) → pos 0 ≤ℤ x → p ≡ pos n → pos 0 ≤ℤ (x *ℤ p)
 product_positive (pos x) p n h e = subst (λ q. pos 0 ≤ℤ (pos x *ℤ q)) (sym e) (omega (arith, ints))
 product_positive (negsuc x) p n h e = absurd (omega (arith, ints))
-
-four_above : (l a b c d : ℤ) → l ≤ℤ a → l ≤ℤ b → l ≤ℤ c → l ≤ℤ d → l ≤ℤ least_of_four a b c d
-four_above l a b c d p q r s = omega (arith, ints, clamps)
 
 four_first : (l a b c d : ℤ) → l ≤ℤ a → l ≤ℤ greatest_of_four a b c d
 four_first l a b c d p = omega (arith, ints, clamps)
@@ -247,5 +240,5 @@ remainders_is x y s a b c d r e f g h i j =
 
 pub same_interval : (a b : Interval) → of_z w128 a.lo ≡ of_z w128 b.lo → of_z w128 a.hi ≡ of_z w128 b.hi → a ≡ b
 same_interval a b e f =
-    same_ends a.lo a.hi a.ends b.lo b.hi b.ends (same_bits a.lo b.lo (low_fits a) (low_fits b) e)
-    (same_bits a.hi b.hi (high_fits a) (high_fits b) f)
+    same_ends a.lo a.hi a.ends b.lo b.hi b.ends (of_z-injective a.lo b.lo (low_fits a) (low_fits b) e)
+    (of_z-injective a.hi b.hi (high_fits a) (high_fits b) f)

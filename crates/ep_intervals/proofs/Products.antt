@@ -1,5 +1,7 @@
 -- Products of unsigned numbers, as the code makes them of 128 bits.
 use Rattle.std.proofs.Common.{◌≡◌, ℕ, ◌-◌, ◌*◌, ◌/◌, ◌%◌, ◌^◌, ◌<◌, ◌≤◌, ℤ, pos, negsuc, ◌-ℤ◌, ◌≤ℤ◌, Bool, true}
+use Rattle.ep_domain.proofs.FaultCode.{pair_same}
+use Rattle.ep_range_laws.proofs.Corners.{le_pos}
 use Rattle.std.proofs.Common.{false, cond, ◌&&◌, Option, refl, sym, ap, ◌∙◌, subst, arith, to_z}
 use mir.Syntax.{w128}
 use Rattle.std.specs.Prelude.{nat_le, unsigned_abs}
@@ -16,7 +18,7 @@ use Rattle.ep_range_laws.proofs.Types.{least_unsigned, number_high}
 use Rattle.ep_interval_laws.specs.Ends.{in_one_stretch, wrapped_low}
 use Rattle.ep_interval_laws.specs.Interval.{Interval, between}
 use Rattle.ep_interval_laws.specs.Results.{settled_between, whole}
-use Rattle.ep_intervals.proofs.Machine.{pair_same, reduced_is}
+use Rattle.ep_intervals.proofs.Machine.{reduced_is}
 
 -- unsigned numbers are natural
 pub positive : (t : IntType) (x : ℤ) → is_signed t ≡ false → InRange t x → (x ≡ pos (unsigned_abs x)) × (unsigned_abs x < 2 ^ 64)
@@ -34,9 +36,6 @@ least_corner ac ad bc bd p q r = omega (arith, ints, clamps)
 
 greatest_corner : (ac ad bc bd : ℤ) → ac ≤ℤ bd → ad ≤ℤ bd → bc ≤ℤ bd → greatest_of_four ac ad bc bd ≡ bd
 greatest_corner ac ad bc bd p q r = omega (arith, ints, clamps)
-
-le_pos : (m n : ℕ) → m ≤ n → pos m ≤ℤ pos n
-le_pos m n h = omega (arith, ints)
 
 natural_products : (a b c d : ℕ) → a ≤ b → c ≤ d → shown_range Mul (pos a, pos b) (pos c, pos d) ≡ (pos (a * c), pos (b * d))
 natural_products a b c d p q =

@@ -1,5 +1,6 @@
 -- What is kept beside the types stays right when the table grows.
-use Rattle.std.proofs.Common.{◌≡◌, ℕ, ◌*◌, ◌<◌, ◌≤◌, true, false, List, [], length, map, slice_get, Option, Some}
+use Rattle.std.proofs.Common.{◌≡◌, ℕ, ◌*◌, ◌<◌, ◌≤◌, true, List, [], length, map, slice_get, Option, Some}
+use Rattle.ep_layout.proofs.PlacingLemmas.{within_limit}
 use Rattle.std.proofs.Common.{None, option_map, option_and_then, IfSome, refl, sym, ◌∙◌, ap, subst, arith, nat_lt}
 use Rattle.std.proofs.lemmas.Bool.Decides.{nat_tests}
 use Rattle.std.proofs.lemmas.Option.{slice_get-map}
@@ -9,12 +10,12 @@ use Rattle.ep_layout.specs.declared.table.AggregateEntry.{AggregateEntry}
 use Rattle.ep_layout.specs.declared.table.Types.TheInside.{Inside}
 use Rattle.ep_layout.specs.declared.types.Ty.{Ty}
 use Rattle.ep_layout.specs.declared.types.Ty.TheVariants.{Void, Int, Ptr, Array, Aggregate}
-use Rattle.ep_layout.specs.Layout.{Layout, most_bytes}
+use Rattle.ep_layout.specs.Layout.{Layout}
 use Rattle.ep_layout.specs.Table.{Table, AggregateRow, IsBuilt, at_type, at_aggregate, aggregate_layout, layout_rules}
-use Rattle.ep_layout.specs.Table.{layout_of, type_stop, stop_at_size, empty}
+use Rattle.ep_layout.specs.Table.{layout_of, type_stop, empty}
 use Rattle.ep_layout.specs.Table.IsBuilt.{start}
 use Rattle.ep_layout.specs.Extents.{IsExtent, extent_of, kept_extent}
-use Rattle.ep_layout.specs.Kept.{IsKept, table_of, view_entry, entry_extent}
+use Rattle.ep_layout.specs.TableInvariant.{IsKept, table_of, entry_view, entry_extent}
 use Rattle.ep_layout.proofs.Laid.{by_type_is}
 use Rattle.ep_layout.proofs.Sizes.{known, small, element_laid, layout_fits}
 
@@ -27,13 +28,13 @@ type_extent_is t b n ty h = ap (option_map extent_of) (by_type_is (layout_rules 
 
 pub row_there : (s : Inside) → IsKept s → (n a : ℕ) → slice_get s.types n ≡ Some (Aggregate a) → a < length s.aggregates.items
 row_there s k n a h =
-    let p : nat_lt a (length (map view_entry s.aggregates.items)) ≡ true = known (table_of s) k.built n (Aggregate a) h in
-    let e : length (map view_entry s.aggregates.items) ≡ length s.aggregates.items = simp length-map in
+    let p : nat_lt a (length (map entry_view s.aggregates.items)) ≡ true = known (table_of s) k.built n (Aggregate a) h in
+    let e : length (map entry_view s.aggregates.items) ≡ length s.aggregates.items = simp length-map in
     grind (arith, nat_tests)
 
 pub aggregate_extent_is : (s : Inside) → IsKept s → (n a : ℕ) (g : AggregateEntry) → slice_get s.types n ≡ Some (Aggregate a) → slice_get s.aggregates.items a ≡ Some g → entry_extent g ≡ type_extent (table_of s) n
 aggregate_extent_is s k n a g h q =
-    let row : slice_get (map view_entry s.aggregates.items) a ≡ Some (view_entry g) = slice_get-map view_entry s.aggregates.items a ∙ ap (option_map view_entry) q in
+    let row : slice_get (map entry_view s.aggregates.items) a ≡ Some (entry_view g) = slice_get-map entry_view s.aggregates.items a ∙ ap (option_map entry_view) q in
     k.aggregates a g q ∙ sym (type_extent_is (table_of s) k.built n (Aggregate a) h ∙ ap (λ (o : Option AggregateRow). option_map extent_of (option_and_then (at_aggregate (layout_rules s.model) (layout_of (table_of s))) o)) row)
 
 kept_is : (t : Table) (ty : Ty) → ((a : ℕ) → ty ≡ Aggregate a → ⊥) → kept_extent t ty ≡ option_map extent_of (at_type (layout_rules t.model) t (layout_of t) ty)
@@ -58,14 +59,11 @@ extent_fits t b n x e = subst (λ (o : Option Extent). IfSome o IsExtent) (sym e
 
 ---- a type that is there could be made again
 
-at_limit : (n : ℕ) → n ≤ most_bytes → stop_at_size n ≡ None
-at_limit n h = let e : nat_lt most_bytes n ≡ false = grind (arith, nat_tests) in rw e refl
-
 pub fits_again : (t : Table) → IsBuilt t → (n : ℕ) (ty : Ty) → slice_get t.types n ≡ Some ty → type_stop t ty ≡ None
 fits_again t b n Void h = refl
 fits_again t b n (Int i) h = refl
 fits_again t b n (Ptr e) h = refl
-fits_again t b n (Array e c) h = let l = element_laid t b n e c h in rw l.1 (at_limit (c * l.0.size) ((small t b).arrays n e c l.0 h l.1))
+fits_again t b n (Array e c) h = let l = element_laid t b n e c h in rw l.1 (within_limit (c * l.0.size) ((small t b).arrays n e c l.0 h l.1))
 fits_again t b n (Aggregate a) h = refl
 
 ---- the start
@@ -95,8 +93,8 @@ kept_start s types extents aggregates completed =
 pub entry_size_is : (s : Inside) → IsKept s → (a : ℕ) (g : AggregateEntry) (o : Option Extent) → slice_get s.aggregates.items a ≡ Some g
     → o ≡ entry_extent g → option_map (λ (e : Extent). e.size) o ≡ option_map (λ (l : Layout). l.size) (aggregate_layout (table_of s) a)
 entry_size_is s k a g o h e =
-    let row : slice_get (map view_entry s.aggregates.items) a ≡ Some (view_entry g) = slice_get-map view_entry s.aggregates.items a ∙ ap (option_map view_entry) h in
-    ap (option_map (λ (x : Extent). x.size)) (e ∙ k.aggregates a g h) ∙ twice (at_aggregate (layout_rules s.model) (layout_of (table_of s)) (view_entry g))
+    let row : slice_get (map entry_view s.aggregates.items) a ≡ Some (entry_view g) = slice_get-map entry_view s.aggregates.items a ∙ ap (option_map entry_view) h in
+    ap (option_map (λ (x : Extent). x.size)) (e ∙ k.aggregates a g h) ∙ twice (at_aggregate (layout_rules s.model) (layout_of (table_of s)) (entry_view g))
     ∙ sym (ap (λ (r : Option AggregateRow). option_map (λ (l : Layout). l.size) (option_and_then (at_aggregate (layout_rules s.model) (layout_of (table_of s))) r)) row)
   where
     twice : (o : Option Layout) → option_map (λ (x : Extent). x.size) (option_map extent_of o) ≡ option_map (λ (l : Layout). l.size) o

@@ -1,5 +1,6 @@
 -- What is kept beside the types stays right when the table grows.
 use Rattle.std.proofs.Common.{◌≡◌, ℕ, zero, suc, ◌<◌, ◌^◌, Bool, false, List, [], ◌∷◌, ◌++◌, length, map, slice_get}
+use Rattle.ep_layout.proofs.Sizes.{length_set}
 use Rattle.std.proofs.Common.{slice_set, Option, Some, None, option_map, option_and_then, is_some, unwrap_or}
 use Rattle.std.proofs.Common.{true≢false, refl, sym, ◌∙◌, ap, subst, inl, inr, arith, length-append, IsTrue}
 use Rattle.std.specs.Global.{Vec}
@@ -21,7 +22,7 @@ use Rattle.ep_layout.specs.Table.{members_stop, with_type, declared, completed_w
 use Rattle.ep_layout.specs.Table.{is_union}
 use Rattle.ep_layout.specs.Table.IsBuilt.{type_more, aggregate_more, members_more}
 use Rattle.ep_layout.specs.Extents.{extent_of, kept_extent}
-use Rattle.ep_layout.specs.Kept.{IsKept, table_of, view_entry, entry_extent}
+use Rattle.ep_layout.specs.TableInvariant.{IsKept, table_of, entry_view, entry_extent}
 use Rattle.ep_layout.proofs.Options.{some_or_none, get_push, get_front, get_last, get_set}
 use Rattle.ep_layout.proofs.Recursion.{types_of, at_aggregate_at, at_aggregate_more, at_whole_more}
 use Rattle.ep_layout.proofs.Laid.{laid, whole_at, new_elements, grows_with_type, grows_declared, grows_with_members}
@@ -70,7 +71,7 @@ type_kept s es ty k here new fits few e =
         | inl old ↦ old_kept n v old
         | inr last ↦ new_kept n v last.0 last.1
       ];
-      aggregates = λ a g h. k.aggregates a g h ∙ ap (option_map extent_of) (row_same t u grows k.built a (view_entry g) (slice_get-map view_entry s.aggregates.items a ∙ ap (option_map view_entry) h));
+      aggregates = λ a g h. k.aggregates a g h ∙ ap (option_map extent_of) (row_same t u grows k.built a (entry_view g) (slice_get-map entry_view s.aggregates.items a ∙ ap (option_map entry_view) h));
     }
   where
     counted : length s.extents.items ≡ length s.types → length es.items ≡ length (s.types ++ ty ∷ [])
@@ -103,7 +104,7 @@ pub kept_declared : (s : Inside) (ag : Vec AggregateEntry) (tag : Vec ℕ) (u : 
 kept_declared s ag tag u k few e =
     let t : Table = table_of s in
     let v : Table = declared t tag.items u in
-    let same : v ≡ table_of (record s { aggregates = ag }) = ap (λ (rows : List AggregateRow). record t { aggregates = rows }) (sym (map-append view_entry s.aggregates.items ((record { tag = tag; is_union = u; body = None }) ∷ [])) ∙ ap (map view_entry) (sym e)) in
+    let same : v ≡ table_of (record s { aggregates = ag }) = ap (λ (rows : List AggregateRow). record t { aggregates = rows }) (sym (map-append entry_view s.aggregates.items ((record { tag = tag; is_union = u; body = None }) ∷ [])) ∙ ap (map entry_view) (sym e)) in
     record {
       built = subst IsBuilt same (aggregate_more t tag.items u k.built);
       few_types = k.few_types;
@@ -111,8 +112,8 @@ kept_declared s ag tag u k few e =
       count = k.count;
       types = λ n ty h. k.types n ty h ∙ ap Some (kept_of_old t v (grows_declared t tag.items u) k.built n ty h ∙ ap (λ (w : Table). kept_extent w ty) same);
       aggregates = λ a g h. elim (get_push s.aggregates.items (record { tag = tag; is_union = u; body = None }) g a (subst (λ (l : List AggregateEntry). slice_get l a ≡ Some g) e h)) [
-        | inl old ↦ k.aggregates a g old ∙ ap (option_map extent_of) (row_same t v (grows_declared t tag.items u) k.built a (view_entry g) (slice_get-map view_entry s.aggregates.items a ∙ ap (option_map view_entry) old) ∙ ap (λ (w : Table). at_aggregate (layout_rules s.model) (layout_of w) (view_entry g)) same)
-        | inr last ↦ subst (λ (f : AggregateEntry). entry_extent f ≡ option_map extent_of (at_aggregate (layout_rules s.model) (layout_of (table_of (record s { aggregates = ag }))) (view_entry f))) last.1 refl
+        | inl old ↦ k.aggregates a g old ∙ ap (option_map extent_of) (row_same t v (grows_declared t tag.items u) k.built a (entry_view g) (slice_get-map entry_view s.aggregates.items a ∙ ap (option_map entry_view) old) ∙ ap (λ (w : Table). at_aggregate (layout_rules s.model) (layout_of w) (entry_view g)) same)
+        | inr last ↦ subst (λ (f : AggregateEntry). entry_extent f ≡ option_map extent_of (at_aggregate (layout_rules s.model) (layout_of (table_of (record s { aggregates = ag }))) (entry_view f))) last.1 refl
       ];
     }
 
@@ -122,11 +123,6 @@ map_set : {X Y : Type 0} (f : X → Y) (xs : List X) (i : ℕ) (x : X) → map f
 map_set f [] i x = refl
 map_set f (y ∷ ys) zero x = refl
 map_set f (y ∷ ys) (suc i) x = ap (λ (l : List _). f y ∷ l) (map_set f ys i x)
-
-length_set : {X : Type 0} (xs : List X) (i : ℕ) (x : X) → length (slice_set xs i x) ≡ length xs
-length_set [] i x = refl
-length_set (y ∷ ys) zero x = refl
-length_set (y ∷ ys) (suc i) x = ap suc (length_set ys i x)
 
 -- the extent that is kept with members is that of an aggregate of these types
 body_extent : (t u : Table) → Grows t u → (is_union : Bool) (members : List (List ℕ × ℕ)) (x : Extent) (row : AggregateRow) → members_stop t is_union members ≡ None
@@ -147,23 +143,23 @@ pub kept_completed : (s : Inside) (ag : Vec AggregateEntry) (cs : Vec ℕ) (a : 
 kept_completed s ag cs a g b members k here none_yet there fits rows x e c =
     let t : Table = table_of s in
     let ms : List MemberRow = laid_out t g.is_union members in
-    let row : slice_get t.aggregates a ≡ Some (view_entry g) = slice_get-map view_entry s.aggregates.items a ∙ ap (option_map view_entry) here in
-    let no_members : (view_entry g).members ≡ None = ap (option_map (λ (d : Body). d.members)) none_yet in
-    let v : Table = with_members t a (view_entry g) ms in
-    let grows : Grows t v = grows_with_members t a (view_entry g) ms row no_members in
-    let whole : completed_with t a members ≡ v = completed_is t a (view_entry g) members row in
-    let new_rows : map view_entry ag.items ≡ v.aggregates = ap (map view_entry) e ∙ map_set view_entry s.aggregates.items a (record g { body = Some b }) ∙ ap (λ (l : List MemberRow). slice_set t.aggregates a (record { tag = g.tag.items; is_union = g.is_union; members = Some l })) rows in
+    let row : slice_get t.aggregates a ≡ Some (entry_view g) = slice_get-map entry_view s.aggregates.items a ∙ ap (option_map entry_view) here in
+    let no_members : (entry_view g).members ≡ None = ap (option_map (λ (d : Body). d.members)) none_yet in
+    let v : Table = with_members t a (entry_view g) ms in
+    let grows : Grows t v = grows_with_members t a (entry_view g) ms row no_members in
+    let whole : completed_with t a members ≡ v = completed_is t a (entry_view g) members row in
+    let new_rows : map entry_view ag.items ≡ v.aggregates = ap (map entry_view) e ∙ map_set entry_view s.aggregates.items a (record g { body = Some b }) ∙ ap (λ (l : List MemberRow). slice_set t.aggregates a (record { tag = g.tag.items; is_union = g.is_union; members = Some l })) rows in
     let same : v ≡ table_of (record s { aggregates = ag; completed = cs }) = sym (ap (λ (l : List AggregateRow). record t { aggregates = l; completed = cs.items }) new_rows ∙ ap (λ (l : List ℕ). record t { aggregates = v.aggregates; completed = l }) c) in (
       record {
-        built = subst IsBuilt (whole ∙ same) (members_more t a (view_entry g) members k.built row no_members there fits);
+        built = subst IsBuilt (whole ∙ same) (members_more t a (entry_view g) members k.built row no_members there fits);
         few_types = k.few_types;
         few_aggregates = omega (arith, k.few_aggregates, ap length e, length_set s.aggregates.items a (record g { body = Some b }));
         count = k.count;
         types = λ n ty h. k.types n ty h ∙ ap Some (kept_of_old t v grows k.built n ty h ∙ ap (λ (w : Table). kept_extent w ty) same);
         aggregates = λ i f h. elim (get_set s.aggregates.items a i (record g { body = Some b }) f (subst (λ (l : List AggregateEntry). slice_get l i ≡ Some f) e h)) [
-          | inl p ↦ subst (λ (d : AggregateEntry). entry_extent d ≡ option_map extent_of (at_aggregate (layout_rules s.model) (layout_of (table_of (record s { aggregates = ag; completed = cs }))) (view_entry d))) p.1
-              (body_extent t v grows g.is_union members b.extent (view_entry (record g { body = Some b })) fits x refl (ap Some rows) ∙ ap (λ (w : Table). option_map extent_of (at_aggregate (layout_rules s.model) (layout_of w) (view_entry (record g { body = Some b })))) same)
-          | inr old ↦ k.aggregates i f old ∙ ap (option_map extent_of) (row_same t v grows k.built i (view_entry f) (slice_get-map view_entry s.aggregates.items i ∙ ap (option_map view_entry) old) ∙ ap (λ (w : Table). at_aggregate (layout_rules s.model) (layout_of w) (view_entry f)) same)
+          | inl p ↦ subst (λ (d : AggregateEntry). entry_extent d ≡ option_map extent_of (at_aggregate (layout_rules s.model) (layout_of (table_of (record s { aggregates = ag; completed = cs }))) (entry_view d))) p.1
+              (body_extent t v grows g.is_union members b.extent (entry_view (record g { body = Some b })) fits x refl (ap Some rows) ∙ ap (λ (w : Table). option_map extent_of (at_aggregate (layout_rules s.model) (layout_of w) (entry_view (record g { body = Some b })))) same)
+          | inr old ↦ k.aggregates i f old ∙ ap (option_map extent_of) (row_same t v grows k.built i (entry_view f) (slice_get-map entry_view s.aggregates.items i ∙ ap (option_map entry_view) old) ∙ ap (λ (w : Table). at_aggregate (layout_rules s.model) (layout_of w) (entry_view f)) same)
         ];
       },
       sym same ∙ sym whole,
@@ -179,7 +175,7 @@ kept_same_completed s cs k e =
       few_aggregates = k.few_aggregates;
       count = k.count;
       types = λ n ty h. k.types n ty h ∙ ap (λ (w : Table). Some (kept_extent w ty)) same;
-      aggregates = λ a g h. k.aggregates a g h ∙ ap (λ (w : Table). option_map extent_of (at_aggregate (layout_rules s.model) (layout_of w) (view_entry g))) same;
+      aggregates = λ a g h. k.aggregates a g h ∙ ap (λ (w : Table). option_map extent_of (at_aggregate (layout_rules s.model) (layout_of w) (entry_view g))) same;
     }
 
 no_body : (o : Option Body) → is_some (option_map (λ (b : Body). b.members) o) ≡ false → o ≡ None
@@ -196,9 +192,9 @@ Completes s ag cs a g b members u now =
 completes : (s : Inside) (ag : Vec AggregateEntry) (cs : Vec ℕ) (a : ℕ) (g : AggregateEntry) (b : Body) (members : List (List ℕ × ℕ)) (u : Bool) → IsKept s → slice_get s.aggregates.items a ≡ Some g
     → ag.items ≡ slice_set s.aggregates.items a (record g { body = Some b }) → cs.items ≡ s.completed.items ++ a ∷ [] → Completes s ag cs a g b members u (table_of s)
 completes s ag cs a g b members u k here e c none_yet there same fits rows x =
-    let row : slice_get (map view_entry s.aggregates.items) a ≡ Some (view_entry g) = slice_get-map view_entry s.aggregates.items a ∙ ap (option_map view_entry) here in
+    let row : slice_get (map entry_view s.aggregates.items) a ≡ Some (entry_view g) = slice_get-map entry_view s.aggregates.items a ∙ ap (option_map entry_view) here in
     let is_g : u ≡ g.is_union = same ∙ ap (λ (o : Option AggregateRow). unwrap_or (option_map (λ (r : AggregateRow). r.is_union) o) false) row in
-    let no : is_some ((view_entry g).members) ≡ false = ap (λ (o : Option AggregateRow). is_some (option_and_then (λ (r : AggregateRow). r.members) o)) (sym row) ∙ none_yet in
+    let no : is_some ((entry_view g).members) ≡ false = ap (λ (o : Option AggregateRow). is_some (option_and_then (λ (r : AggregateRow). r.members) o)) (sym row) ∙ none_yet in
     kept_completed s ag cs a g b members k here (no_body g.body no) there
     (subst (λ (v : Bool). members_stop (table_of s) v members ≡ None) is_g fits)
     (subst (λ (v : Bool). b.members ≡ laid_out (table_of s) v members) is_g rows)

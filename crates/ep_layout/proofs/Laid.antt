@@ -1,5 +1,6 @@
 -- In a table that was built each type but void and incomplete aggregates has a value, so recursion on a type is an equation.
 use Rattle.std.proofs.Common.{◌≡◌, ℕ, suc, ◌+◌, ◌≤◌, Bool, true, false, List, [], ◌∷◌, ◌++◌, length, map, slice_get}
+use Rattle.ep_int.proofs.Basics.{is_some-some}
 use Rattle.std.proofs.Common.{slice_set, Option, Some, None, option_and_then, is_some, refl, sym, ◌∙◌, ap, subst, inl}
 use Rattle.std.proofs.Common.{inr, arith, length-append, true≢false, if◌then◌else◌}
 use Rattle.ep_int.specs.declared.types.Scalar.TheVariants.{Int as Number, Pointer}
@@ -12,7 +13,7 @@ use Rattle.ep_layout.specs.Table.{type_stop, members_stop, with_type, declared, 
 use Rattle.ep_layout.specs.Table.{struct_members, union_members}
 use Rattle.ep_layout.specs.Table.IsBuilt.{start, type_more, aggregate_more, members_more}
 use Rattle.ep_layout.proofs.Options.{and_then_some, and_then_is, map_some, map_is, same_some, some_or_none}
-use Rattle.ep_layout.proofs.Options.{is_some_some, at_each_more, at_each_other, get_push, get_front, get_last}
+use Rattle.ep_layout.proofs.Options.{at_each_more, at_each_other, get_push, get_front, get_last}
 use Rattle.ep_layout.proofs.Options.{get_set, get_set_same, get_set_other}
 use Rattle.ep_layout.proofs.Recursion.{types_of, at_aggregate_some, at_aggregate_at, at_depth_grows, at_depth_suc}
 use Rattle.ep_layout.proofs.Recursion.{at_depth_more, by_type_grows, at_depth_other}
@@ -95,7 +96,7 @@ types_of_laid_out t false members = types_struct t members 0
 
 completed_members : (o : Option AggregateRow) → is_some (option_and_then (λ (g : AggregateRow). g.members) o) ≡ true → (g : AggregateRow) × (ms : List MemberRow) × (o ≡ Some g) × (g.members ≡ Some ms)
 completed_members None h = absurd (true≢false (sym h))
-completed_members (Some g) h = let s = is_some_some g.members h in (g, s.0, refl, s.1)
+completed_members (Some g) h = let s = is_some-some g.members h in (g, s.0, refl, s.1)
 
 -- the value of an aggregate one deeper than its members
 pub whole_at : {A : Type 0} (r : TypeRules A) (f : ℕ → Option A) (u : Bool) (ns : List ℕ) (xs : List A) → at_each f ns ≡ Some xs → at_whole r f u ns ≡ Some ((if u then r.union else r.struct) xs)

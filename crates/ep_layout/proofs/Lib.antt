@@ -13,4 +13,5 @@ pub mod Ordered
 pub mod Rows
 pub mod Steps
 pub mod Copies
-mod Worked
+pub mod Worked
+pub mod Basics

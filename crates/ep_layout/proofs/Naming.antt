@@ -1,17 +1,17 @@
 -- The places of names, as members are noted one by one.
 use Rattle.std.proofs.Common.{◌≡◌, ℕ, ◌<◌, Bool, true, false, cond, List, [], ◌∷◌, ◌++◌, length, map, slice_get, find}
+use Rattle.ep_int.proofs.Basics.{is_some-some, bytes_eq-equal}
 use Rattle.std.proofs.Common.{Option, Some, None, option_map, is_some, bytes_eq, refl, sym, ◌∙◌, ap, subst, inl, inr}
 use Rattle.std.proofs.Common.{true≢false, arith}
 use Rattle.std.specs.Global.{Vec}
 use Rattle.std.specs.Map.{lookup}
-use Rattle.std.proofs.lemmas.Slice.Eq.{bytes_eq-Decides}
 use Rattle.std.specs.List.{position_or_len}
 use Rattle.indexmap.specs.IndexMap.{insert_entry}
 use Rattle.ep_layout.specs.declared.types.Member.{Member}
 use Rattle.ep_layout.specs.Places.{place_of, ArePlaces}
 use Rattle.ep_layout.specs.Table.{MemberRow}
-use Rattle.ep_layout.specs.Views.{view_member, view_members}
-use Rattle.ep_layout.proofs.Options.{some_or_none, is_some_some}
+use Rattle.ep_layout.specs.Views.{member_view, members_view}
+use Rattle.ep_layout.proofs.Options.{some_or_none}
 use Rattle.ep_layout.proofs.Positions.{position_stays, position_push, position_fails, position_none, position_is}
 use Rattle.std.proofs.lemmas.Option.{slice_get_past}
 use Rattle.std.proofs.lemmas.List.Folds.{find_at}
@@ -52,9 +52,6 @@ new_entry k v (e ∷ es) h = step_new (is_key k.items e.0) e.1 (lookup (is_key k
 pub places_none : (ms : List Member) (es : Entries) → ms ≡ [] → es ≡ [] → ArePlaces ms es
 places_none ms es p q = λ name. rw (p, q) refl
 
-same_name : (x y : List ℕ) → bytes_eq x y ≡ true → x ≡ y
-same_name x y h = (bytes_eq-Decides x y).0 h
-
 -- a name that is noted already
 pub places_there : (ms : List Member) (m : Member) (es : Entries) → ArePlaces ms es → is_some (lookup (is_key m.name.items) es) ≡ true → ArePlaces (ms ++ m ∷ []) es
 places_there ms m es h there name = elim (some_or_none (place_of name ms)) [
@@ -65,8 +62,8 @@ places_there ms m es h there name = elim (some_or_none (place_of name ms)) [
     differs : (b : Bool) → bytes_eq name m.name.items ≡ b → place_of name ms ≡ None → bytes_eq name m.name.items ≡ false
     differs false e none = e
     differs true e none =
-        let s = is_some_some (lookup (is_key m.name.items) es) there in
-        let same = same_name name m.name.items e in
+        let s = is_some-some (lookup (is_key m.name.items) es) there in
+        let same = bytes_eq-equal name m.name.items e in
         let at : lookup (is_key name) es ≡ Some s.0 = subst (λ (n : List ℕ). lookup (is_key n) es ≡ Some s.0) (sym same) s.1 in
         absurd (clash (sym at ∙ h name ∙ none))
       where
@@ -100,15 +97,15 @@ find_map : {X Y : Type 0} (v : X → Y) (q : Y → Bool) (xs : List X) → find 
 find_map v q [] = refl
 find_map v q (x ∷ xs) = find_step v (q (v x)) x (find q (map v xs)) (find (λ y. q (v y)) xs) (find_map v q xs)
 
-named_is : (name : List ℕ) (ms : List Member) → find (λ (m : MemberRow). bytes_eq name m.name) (view_members ms) ≡ option_map view_member (slice_get ms (position_or_len (λ (m : Member). bytes_eq name m.name.items) ms))
-named_is name ms = find_map view_member (λ (m : MemberRow). bytes_eq name m.name) ms ∙ ap (option_map view_member) (find_at (λ (m : Member). bytes_eq name m.name.items) ms)
+named_is : (name : List ℕ) (ms : List Member) → find (λ (m : MemberRow). bytes_eq name m.name) (members_view ms) ≡ option_map member_view (slice_get ms (position_or_len (λ (m : Member). bytes_eq name m.name.items) ms))
+named_is name ms = find_map member_view (λ (m : MemberRow). bytes_eq name m.name) ms ∙ ap (option_map member_view) (find_at (λ (m : Member). bytes_eq name m.name.items) ms)
 
 -- the first member of a name stands at its place
-pub named_at : (name : List ℕ) (ms : List Member) (i : ℕ) → place_of name ms ≡ Some i → (i < length ms) × (find (λ (m : MemberRow). bytes_eq name m.name) (view_members ms) ≡ option_map view_member (slice_get ms i))
+pub named_at : (name : List ℕ) (ms : List Member) (i : ℕ) → place_of name ms ≡ Some i → (i < length ms) × (find (λ (m : MemberRow). bytes_eq name m.name) (members_view ms) ≡ option_map member_view (slice_get ms i))
 named_at name ms i h =
     let s = position_is _ ms i h in
-    (s.1, named_is name ms ∙ ap (λ (j : ℕ). option_map view_member (slice_get ms j)) s.0)
+    (s.1, named_is name ms ∙ ap (λ (j : ℕ). option_map member_view (slice_get ms j)) s.0)
 
-pub named_nowhere : (name : List ℕ) (ms : List Member) → place_of name ms ≡ None → find (λ (m : MemberRow). bytes_eq name m.name) (view_members ms) ≡ None
+pub named_nowhere : (name : List ℕ) (ms : List Member) → place_of name ms ≡ None → find (λ (m : MemberRow). bytes_eq name m.name) (members_view ms) ≡ None
 named_nowhere name ms h =
-    named_is name ms ∙ ap (λ (j : ℕ). option_map view_member (slice_get ms j)) (position_none _ ms h) ∙ ap (option_map view_member) (slice_get_past ms (length ms) (omega arith))
+    named_is name ms ∙ ap (λ (j : ℕ). option_map member_view (slice_get ms j)) (position_none _ ms h) ∙ ap (option_map member_view) (slice_get_past ms (length ms) (omega arith))

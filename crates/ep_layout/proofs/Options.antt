@@ -1,6 +1,6 @@
 -- Options and lists of them.
-use Rattle.std.proofs.Common.{◌≡◌, ℕ, zero, suc, true, List, [], ◌∷◌, ◌++◌, length, slice_get, slice_set, Option}
-use Rattle.std.proofs.Common.{Some, None, option_map, option_and_then, is_some, refl, sym, ap, ◌⊎◌, inl, inr}
+use Rattle.std.proofs.Common.{◌≡◌, ℕ, zero, suc, List, [], ◌∷◌, ◌++◌, length, slice_get, slice_set, Option}
+use Rattle.std.proofs.Common.{Some, None, option_map, option_and_then, refl, ap, ◌⊎◌, inl, inr}
 use Rattle.std.proofs.Common.{true≢false}
 use Rattle.ep_layout.specs.Table.{at_each}
 
@@ -24,10 +24,6 @@ same_some x y o p q = cc
 pub some_or_none : {X : Type 0} (o : Option X) → ((x : X) × (o ≡ Some x)) ⊎ (o ≡ None)
 some_or_none None = inr refl
 some_or_none (Some x) = inl (x, refl)
-
-pub is_some_some : {X : Type 0} (o : Option X) → is_some o ≡ true → (x : X) × (o ≡ Some x)
-is_some_some None h = absurd (true≢false (sym h))
-is_some_some (Some x) h = (x, refl)
 
 each_some : {A : Type 0} (o : Option A) (rest : Option (List A)) (xs : List A) → option_and_then (λ x. option_map (λ ys. x ∷ ys) rest) o ≡ Some xs → (x : A) × (ys : List A) × (o ≡ Some x) × (rest ≡ Some ys) × (x ∷ ys ≡ xs)
 each_some None rest xs h = absurd cc

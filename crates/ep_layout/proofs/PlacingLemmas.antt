@@ -18,7 +18,7 @@ use Rattle.ep_layout.specs.Extents.{IsExtent, extent_of}
 use Rattle.ep_layout.specs.Placed.{IsPlaced, next_offset, next_end, row, end_of_all, layouts_of}
 use Rattle.ep_layout.specs.Stops.{IsStop}
 use Rattle.std.specs.Global.{Vec}
-use Rattle.ep_layout.specs.Views.{view_members, view_named}
+use Rattle.ep_layout.specs.Views.{members_view, named_view}
 use Rattle.ep_layout.proofs.Options.{map_some, map_is}
 
 abbrev pub Named : Type 0
@@ -62,7 +62,7 @@ placed_none t false p m e a = record { rows = rw m refl; end = e; align = a; end
 
 -- one member more
 pub placed_step : (t : Table) (u : Bool) (ms : List Named) (p q : Placing) (m : Named) (x : Extent) → IsPlaced t u ms p → x ≡ extent_of (known_layout t m.1) → IsExtent x
-    → view_members q.members.items ≡ view_members p.members.items ++ row m.0 m.1 (next_offset u p.end x) ∷ [] → q.end ≡ next_end u p.end x → q.align ≡ max p.align x.align → q.end ≤ most_bytes
+    → members_view q.members.items ≡ members_view p.members.items ++ row m.0 m.1 (next_offset u p.end x) ∷ [] → q.end ≡ next_end u p.end x → q.align ≡ max p.align x.align → q.end ≤ most_bytes
     → IsPlaced t u (ms ++ m ∷ []) q
 placed_step t u ms p q m x placed same fits rows end align small =
     let there = ap (λ (y : Extent). next_offset u p.end y) same ∙ ap (λ (k : ℕ). next_offset u k (extent_of (known_layout t m.1))) placed.end in
@@ -157,7 +157,7 @@ in_all p [] x rest h = (both (p x) (list_all p rest) h).0
 in_all p (y ∷ ys) x rest h = in_all p ys x rest (both (p y) (list_all p (ys ++ x ∷ rest)) h).1
 
 -- a test of each type is one of each named type
-pub all_named : (p : ℕ → Bool) (ms : List (Vec ℕ × ℕ)) → list_all (λ m. p m.1) (view_named ms) ≡ list_all (λ m. p m.1) ms
+pub all_named : (p : ℕ → Bool) (ms : List (Vec ℕ × ℕ)) → list_all (λ m. p m.1) (named_view ms) ≡ list_all (λ m. p m.1) ms
 all_named p [] = refl
 all_named p (m ∷ ms) = ap (λ (b : Bool). p m.1 && b) (all_named p ms)
 

@@ -113,7 +113,7 @@ known_later t u grows (Ptr e) h p q = grind (arith, nat_tests)
 known_later t u grows (Array e n) h p q = grind (arith, nat_tests)
 known_later t u grows (Aggregate a) h p q = grind (arith, nat_tests)
 
-length_set : {X : Type 0} (xs : List X) (i : ℕ) (x : X) → length (slice_set xs i x) ≡ length xs
+pub length_set : {X : Type 0} (xs : List X) (i : ℕ) (x : X) → length (slice_set xs i x) ≡ length xs
 length_set [] i x = refl
 length_set (y ∷ ys) zero x = refl
 length_set (y ∷ ys) (suc i) x = ap suc (length_set ys i x)

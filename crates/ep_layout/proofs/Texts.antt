@@ -10,7 +10,7 @@ use Rattle.ep_layout.specs.Layout.{Layout}
 use Rattle.ep_layout.specs.Table.{Table, AggregateRow, MemberRow, at_aggregate, layout_rules, layout_of}
 use Rattle.ep_layout.specs.Table.{aggregate_layout}
 use Rattle.ep_layout.specs.Extents.{extent_of}
-use Rattle.ep_layout.specs.Kept.{IsKept, table_of, view_entry}
+use Rattle.ep_layout.specs.TableInvariant.{IsKept, table_of, entry_view}
 use Rattle.ep_layout.specs.Text.{head_line, members_text, aggregate_text, text_with}
 use Rattle.ep_layout.proofs.Options.{map_some}
 
@@ -21,7 +21,7 @@ with_row t o g p l ms x e f m q = rw (e, f, m) (ap (λ (y : Extent). head_line g
 pub aggregate_text_is : (s : Inside) → IsKept s → (a : ℕ) (g : AggregateEntry) (b : Body) → slice_get s.aggregates.items a ≡ Some g → g.body ≡ Some b
     → aggregate_text (table_of s) a ≡ head_line g.tag.items g.is_union b.extent.size b.extent.align ++ members_text (table_of s) b.members
 aggregate_text_is s k a g b here body =
-    let row : slice_get (map view_entry s.aggregates.items) a ≡ Some (view_entry g) = slice_get-map view_entry s.aggregates.items a ∙ ap (option_map view_entry) here in
-    let l = map_some extent_of (at_aggregate (layout_rules s.model) (layout_of (table_of s)) (view_entry g)) b.extent (sym (k.aggregates a g here) ∙ ap (option_map (λ (c : Body). c.extent)) body) in
+    let row : slice_get (map entry_view s.aggregates.items) a ≡ Some (entry_view g) = slice_get-map entry_view s.aggregates.items a ∙ ap (option_map entry_view) here in
+    let l = map_some extent_of (at_aggregate (layout_rules s.model) (layout_of (table_of s)) (entry_view g)) b.extent (sym (k.aggregates a g here) ∙ ap (option_map (λ (c : Body). c.extent)) body) in
     let layout : aggregate_layout (table_of s) a ≡ Some l.0 = ap (option_and_then (at_aggregate (layout_rules s.model) (layout_of (table_of s)))) row ∙ l.1 in
-    with_row (table_of s) (slice_get (map view_entry s.aggregates.items) a) (view_entry g) (aggregate_layout (table_of s) a) l.0 b.members b.extent row layout (ap (option_map (λ (c : Body). c.members)) body) l.2
+    with_row (table_of s) (slice_get (map entry_view s.aggregates.items) a) (entry_view g) (aggregate_layout (table_of s) a) l.0 b.members b.extent row layout (ap (option_map (λ (c : Body). c.members)) body) l.2

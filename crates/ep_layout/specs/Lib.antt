@@ -6,6 +6,6 @@ pub mod Placed
 pub mod Stops
 pub mod Places
 pub mod Extents
-pub mod Kept
+pub mod TableInvariant
 pub mod Text
 pub mod Pending

@@ -5,7 +5,7 @@ use Rattle.ep_layout.specs.declared.extent.Extent.{Extent}
 use Rattle.ep_layout.specs.declared.table.bodies.Placing.{Placing}
 use Rattle.ep_layout.specs.Layout.{Layout, most_bytes, end_of, greatest_size, greatest_align}
 use Rattle.ep_layout.specs.Table.{Table, MemberRow, known_layout, laid_out}
-use Rattle.ep_layout.specs.Views.{view_members}
+use Rattle.ep_layout.specs.Views.{members_view}
 
 -- where the next member lies, and where it ends, when those before end at e
 abbrev pub next_offset : Bool → ℕ → Extent → ℕ
@@ -26,7 +26,7 @@ layouts_of t members = map (λ m. known_layout t m.1) members
 
 -- these members are placed
 pub record IsPlaced (t : Table) (is_union : Bool) (members : List (List ℕ × ℕ)) (p : Placing) : Type 0 where
-  pub rows : view_members p.members.items ≡ laid_out t is_union members
+  pub rows : members_view p.members.items ≡ laid_out t is_union members
   pub end : p.end ≡ end_of_all is_union (layouts_of t members)
   pub align : p.align ≡ greatest_align (layouts_of t members)
   pub end_fits : p.end ≤ most_bytes

@@ -2,7 +2,7 @@
 
 ghost use Rattle.std.specs.Prelude.{◌≡◌, IfOk, find, bytes_eq, option_map};
 ghost use Rattle.ep_layout.specs.Table.{MemberRow};
-ghost use Rattle.ep_layout.specs.Views.{view_member, view_members};
+ghost use Rattle.ep_layout.specs.Views.{member_view, members_view};
 
 use crate::types::Member;
 use indexmap::IndexMap;
@@ -23,16 +23,16 @@ impl Model for MemberList {
 
     ghost Value = { List MemberRow };
 
-    ghost use Rattle.ep_layout.specs.Views.{view_members};
+    ghost use Rattle.ep_layout.specs.Views.{members_view};
     ghost use Rattle.ep_layout.specs.Places.{ArePlaces};
 
-    ghost view = { λ s. view_members s.members.items };
+    ghost view = { λ s. members_view s.members.items };
 
     ghost invariant = { λ s. ArePlaces s.members.items s.places.entries };
 }
 
 fn copied_member(alloc: Global, member: &Member) -> Result<Member, AllocError>
-    ensures { IfOk result (λ m. view_member m ≡ view_member member.now) }
+    ensures { IfOk result (λ m. member_view m ≡ member_view member.now) }
 {
     Ok(Member {
         name: Vec::from_slice(alloc, &member.name)?,
@@ -42,7 +42,7 @@ fn copied_member(alloc: Global, member: &Member) -> Result<Member, AllocError>
 }
 
 fn copied_members(alloc: Global, members: &[Member]) -> Result<Vec<Member>, AllocError>
-    ensures { IfOk result (λ v. view_members v.items ≡ view_members members.now) }
+    ensures { IfOk result (λ v. members_view v.items ≡ members_view members.now) }
 {
     let mut copies = Vec::new(alloc);
     for member in members {
@@ -55,7 +55,7 @@ fn copied_members(alloc: Global, members: &[Member]) -> Result<Vec<Member>, Allo
 impl MemberList {
     /// Members in this order. Of two with one name the first is found.
     pub fn new(alloc: Global, members: Vec<Member>) -> Result<MemberList, AllocError>
-        ensures { IfOk result (λ s. s ≡ view_members members.items) }
+        ensures { IfOk result (λ s. s ≡ members_view members.items) }
     {
         let mut places = IndexMap::new(alloc);
         for (place, member) in members.iter().enumerate() {
@@ -69,14 +69,14 @@ impl MemberList {
 
     /// All members, in their order.
     pub fn all(&self) -> &[Member]
-        ensures { view_members result.now ≡ self.now }
+        ensures { members_view result.now ≡ self.now }
     {
         self.members.as_slice()
     }
 
     /// The first member of a name.
     pub fn named(&self, name: &[u8]) -> Option<&Member>
-        ensures { option_map (λ m. view_member m.now) result
+        ensures { option_map (λ m. member_view m.now) result
             ≡ find (λ (m : MemberRow). bytes_eq name.now m.name) self.now }
     {
         match self.places.get(name) {

@@ -10,7 +10,7 @@ ghost use Rattle.ep_layout.specs.Layout.{Layout, most_bytes};
 ghost use Rattle.ep_layout.specs.Table as table;
 ghost use Rattle.ep_layout.specs.Table.{IsBuilt};
 ghost use Rattle.ep_layout.specs.Extents.{IsExtent, extent_of, kept_extent};
-ghost use Rattle.ep_layout.specs.Views.{view_member, view_members, view_named};
+ghost use Rattle.ep_layout.specs.Views.{member_view, members_view, named_view};
 
 mod bodies;
 mod copies;
@@ -75,7 +75,7 @@ impl Model for Types {
 
     ghost Value = { Table };
 
-    ghost use Rattle.ep_layout.specs.Kept.{table_of, IsKept};
+    ghost use Rattle.ep_layout.specs.TableInvariant.{table_of, IsKept};
 
     ghost view = { table_of };
 
@@ -146,7 +146,7 @@ impl Types {
     /// The members of an aggregate in their order. One that isn't completed has none.
     pub fn members(&self, aggregate: u32) -> &[Member]
         requires { aggregate < length self.now.aggregates }
-        ensures { view_members result.now ≡ table.members_of self.now aggregate }
+        ensures { members_view result.now ≡ table.members_of self.now aggregate }
     {
         match &self.aggregates[aggregate as usize].body {
             None => &[],
@@ -157,7 +157,7 @@ impl Types {
     /// The member of a name, the first one where several have it.
     pub fn member(&self, aggregate: u32, name: &[u8]) -> Option<&Member>
         requires { aggregate < length self.now.aggregates }
-        ensures { option_map (λ m. view_member m.now) result ≡ table.member_named self.now aggregate name.now }
+        ensures { option_map (λ m. member_view m.now) result ≡ table.member_named self.now aggregate name.now }
     {
         match &self.aggregates[aggregate as usize].body {
             None => None,

@@ -1,17 +1,12 @@
 -- Tests on whole numbers, and what they say.
 use Rattle.std.proofs.Common.{◌≡◌, ℤ, ◌≤ℤ◌, ◌<ℤ◌, Bool, true, false, ◌&&◌, ◌||◌, ◌⊎◌, inl, inr, refl, arith}
+use Rattle.ep_int.proofs.Arithmetic.{le_fact, le_test}
 use Rattle.std.specs.Prelude.{int_le, int_lt}
 use Rattle.std.specs.Int.{int_min, int_max}
 use Rattle.std.proofs.lemmas.Int.{ints}
 
-pub le_true : (a b : ℤ) → a ≤ℤ b → int_le a b ≡ true
-le_true a b h = grind (arith, ints)
-
 pub le_false : (a b : ℤ) → b <ℤ a → int_le a b ≡ false
 le_false a b h = grind (arith, ints)
-
-pub from_le_true : (a b : ℤ) → int_le a b ≡ true → a ≤ℤ b
-from_le_true a b h = grind (arith, ints)
 
 pub from_le_false : (a b : ℤ) → int_le a b ≡ false → b <ℤ a
 from_le_false a b h = grind (arith, ints)

@@ -6,16 +6,16 @@ use Rattle.std.proofs.Math.IntN.{*ℤ_comm}
 use Rattle.std.proofs.lemmas.Int.{ints, clamps}
 use Rattle.ep_range_laws.specs.Faults.{least_of_four, greatest_of_four}
 
-le_pos : (m n : ℕ) → m ≤ n → pos m ≤ℤ pos n
+pub le_pos : (m n : ℕ) → m ≤ n → pos m ≤ℤ pos n
 le_pos m n h = omega (arith, ints)
 
-from_le_pos : (m n : ℕ) → pos m ≤ℤ pos n → m ≤ n
+pub from_le_pos : (m n : ℕ) → pos m ≤ℤ pos n → m ≤ n
 from_le_pos m n h = omega (arith, ints)
 
 neg_le : (m n : ℕ) → n ≤ m → neg_ℤ (pos m) ≤ℤ neg_ℤ (pos n)
 neg_le m n h = omega (arith, ints)
 
-neg_le_pos : (m n : ℕ) → neg_ℤ (pos m) ≤ℤ pos n
+pub neg_le_pos : (m n : ℕ) → neg_ℤ (pos m) ≤ℤ pos n
 neg_le_pos m n = omega (arith, ints)
 
 from_le_negsuc : (m n : ℕ) → negsuc m ≤ℤ negsuc n → suc n ≤ suc m

@@ -1,5 +1,6 @@
 -- The test for a pair of which arithmetic is undefined is true exactly where there is one.
 use Rattle.std.proofs.Common.{◌≡◌, ℕ, ◌^◌, ◌≤◌, ℤ, pos, negsuc, ◌+ℤ◌, ◌-ℤ◌, ◌*ℤ◌, ◌≤ℤ◌, ◌<ℤ◌, Bool, true, false, cond}
+use Rattle.ep_int.proofs.Arithmetic.{le_fact, le_test}
 use Rattle.std.proofs.Common.{◌&&◌, ◌⊎◌, inl, inr, Err, is_err, refl, arith, subst}
 use Rattle.std.specs.Prelude.{int_le, int_lt, unsigned_abs}
 use Rattle.std.proofs.Math.Nat.{pow-le-pow_right, mul-le-mul_left}
@@ -15,7 +16,7 @@ use Rattle.ep_int.specs.Arith.{arith_of, settled, is_divisible, is_amount}
 use Rattle.ep_range_laws.specs.Ranges.{LiesIn}
 use Rattle.ep_range_laws.specs.Faults.{shown_range, lies_in, may_overflow, may_not_divide, may_pass_width}
 use Rattle.ep_range_laws.specs.Faults.{may_not_shift, may_fault, nearest_amount}
-use Rattle.ep_range_laws.proofs.Comparisons.{le_true, le_false, lt_true, from_le_true, from_le_false, from_lt_true}
+use Rattle.ep_range_laws.proofs.Comparisons.{le_false, lt_true, from_le_false, from_lt_true}
 use Rattle.ep_range_laws.proofs.Comparisons.{between_true, from_between, outside_true, from_outside}
 use Rattle.ep_range_laws.proofs.Corners.{product_up}
 use Rattle.ep_range_laws.proofs.Types.{least_negative, least_unsigned}
@@ -98,14 +99,14 @@ passes_at t s h e = by_case (or_cases (int_lt s.0 (pos 0)) (int_le (pos (bits_of
   where
     by_case : (int_lt s.0 (pos 0) ≡ true) ⊎ (int_le (pos (bits_of t)) s.1 ≡ true) → Amount t s
     by_case (inl p) = record { y = s.0; right = low_lies s h; undefined = amount_false t s.0 (inl (from_lt_true s.0 (pos 0) p)) }
-    by_case (inr p) = record { y = s.1; right = high_lies s h; undefined = amount_false t s.1 (inr (from_le_true (pos (bits_of t)) s.1 p)) }
+    by_case (inr p) = record { y = s.1; right = high_lies s h; undefined = amount_false t s.1 (inr (le_fact (pos (bits_of t)) s.1 p)) }
 
 at_passes : (t : IntType) (s : ℤ × ℤ) (y : ℤ) → LiesIn s y → is_amount t y ≡ false → may_pass_width t s ≡ true
 at_passes t s y h e = by_case (no_amount t y e)
   where
     by_case : (y <ℤ pos 0) ⊎ (pos (bits_of t) ≤ℤ y) → may_pass_width t s ≡ true
     by_case (inl p) = let q = h.low in or_left _ _ (lt_true s.0 (pos 0) (omega (arith, ints)))
-    by_case (inr p) = let q = h.high in or_right (int_lt s.0 (pos 0)) _ (le_true (pos (bits_of t)) s.1 (omega (arith, ints)))
+    by_case (inr p) = let q = h.high in or_right (int_lt s.0 (pos 0)) _ (le_test (pos (bits_of t)) s.1 (omega (arith, ints)))
 
 shl_no_amount : (t : IntType) (x y : ℤ) → is_amount t y ≡ false → is_err (arith_of Shl t x y) ≡ true
 shl_no_amount t x y e = by_test (is_amount t y) (int_le (pos 0) x) e
@@ -178,7 +179,7 @@ at_shift_left : (t : IntType) (r s : ℤ × ℤ) (x y : ℤ) → LiesIn r x → 
 at_shift_left t r s x y h k i e = by_tests (is_amount t y) (int_le (pos 0) x) refl refl e
   where
     by_tests : (p q : Bool) → is_amount t y ≡ p → int_le (pos 0) x ≡ q → is_err (cond (p && q) (settled Shift t (x *ℤ pos (2 ^ unsigned_abs y))) (Err Shift)) ≡ true → may_fault Shl t r s ≡ true
-    by_tests true true f g e = or_right (may_pass_width t s) _ (at_not_shifted t r s x y h k f (from_le_true (pos 0) x g) (settled_out Shift t _ e))
+    by_tests true true f g e = or_right (may_pass_width t s) _ (at_not_shifted t r s x y h k f (le_fact (pos 0) x g) (settled_out Shift t _ e))
     by_tests true false f g e = or_right (may_pass_width t s) _ (at_negative t r s x h i (from_le_false (pos 0) x g))
     by_tests false q f g e = or_left (may_pass_width t s) _ (at_passes t s y k f)
 

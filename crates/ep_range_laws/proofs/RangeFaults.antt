@@ -1,5 +1,6 @@
 -- The range that an alarm shows is there exactly where two ranges hold a pair of which arithmetic is undefined, and is exact.
 use Rattle.std.proofs.Common.{◌≡◌, ℤ, ◌≤ℤ◌, Bool, true, false, cond, ◌&&◌, Some, None, is_some, refl, sym, subst}
+use Rattle.ep_int.proofs.Arithmetic.{le_fact, le_test}
 use Rattle.std.specs.Prelude.{IfSome}
 use Rattle.std.proofs.lemmas.Bool.{and_parts, and_from}
 use Rattle.ep_int.specs.declared.types.IntType.{IntType}
@@ -8,7 +9,7 @@ use Rattle.ep_int.specs.Arith.{IsRightOperand}
 use Rattle.ep_range_laws.specs.Ranges.{IsRange, LiesIn}
 use Rattle.ep_range_laws.specs.Faults.{Takes, MayFault, IsShown, ShowsRange, shown_range, is_ordered, may_fault}
 use Rattle.ep_range_laws.specs.Faults.{part_of, right_part, range_fault_of}
-use Rattle.ep_range_laws.proofs.Comparisons.{le_true, from_le_true, le_trans}
+use Rattle.ep_range_laws.proofs.Comparisons.{le_trans}
 use Rattle.ep_range_laws.proofs.Parts.{part_in_range, part_in_whole, into_part, right_is_right, right_in_whole}
 use Rattle.ep_range_laws.proofs.Parts.{into_right}
 use Rattle.ep_range_laws.proofs.FaultAt.{ShownAt, low_lies, low_shown, high_shown, each_shown}
@@ -29,7 +30,7 @@ module _ (o : BinOp) (t : IntType) (r s : ℤ × ℤ) where
   found e =
       let p = and_parts (is_ordered (part_of t r) && is_ordered (right_part o t s)) _ e in
       let q = and_parts (is_ordered (part_of t r)) (is_ordered (right_part o t s)) p.0 in
-      record { left = from_le_true _ _ q.0; right = from_le_true _ _ q.1; faults = p.1 }
+      record { left = le_fact _ _ q.0; right = le_fact _ _ q.1; faults = p.1 }
 
   some_at : (b : Bool) (v : ℤ × ℤ) → is_some (cond b (Some v) None) ≡ true → b ≡ true
   some_at true v e = refl
@@ -73,7 +74,7 @@ module _ (o : BinOp) (t : IntType) (r s : ℤ × ℤ) where
       let p = into_part t r h.x h.left h.taken.left in
       let q = into_right o t s h.y h.right h.taken.right in
       let f = found_fault o t (part_of t r) (right_part o t s) h.x h.y p q h.taken.left (λ e. subst (λ o'. IsRightOperand o' t h.y) e h.taken.right) (λ e. subst (λ o'. IsRightOperand o' t h.y) e h.taken.right) h.undefined in
-      at_some test _ (and_from _ _ (and_from _ _ (le_true _ _ (le_trans _ _ _ p.low p.high)) (le_true _ _ (le_trans _ _ _ q.low q.high))) f)
+      at_some test _ (and_from _ _ (and_from _ _ (le_test _ _ (le_trans _ _ _ p.low p.high)) (le_test _ _ (le_trans _ _ _ q.low q.high))) f)
 
   pub range_is_exact : IsRange s.0 s.1 → IfSome (range_fault_of o t r s) (ShowsRange o t r s)
   unfolding test

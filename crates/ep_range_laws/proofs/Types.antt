@@ -1,11 +1,12 @@
 -- The ranges of the integer types.
 use Rattle.std.proofs.Common.{◌≡◌, ℤ, pos, ◌+ℤ◌, ◌≤ℤ◌, neg_ℤ, true, false, arith, refl}
+use Rattle.ep_int.proofs.Arithmetic.{in_range_from_true, in_range_some_type}
 use Rattle.std.proofs.lemmas.Int.{ints}
 use Rattle.ep_int.specs.declared.types.IntType.{IntType}
 use Rattle.ep_int.specs.declared.types.IntType.TheVariants.{I8, U8, I16, U16, I32, U32, I64, U64}
 use Rattle.ep_int.specs.Types.{is_signed, least_of, greatest_of, InRange}
-use Rattle.ep_int.specs.Arith.{is_in_range, IsOfSomeType}
-use Rattle.ep_range_laws.proofs.Comparisons.{between_true, from_between, le_trans}
+use Rattle.ep_int.specs.Arith.{is_in_range}
+use Rattle.ep_range_laws.proofs.Comparisons.{between_true}
 
 pub least_negative : (t : IntType) → least_of t ≤ℤ pos 0
 least_negative I8 = omega (arith, ints)
@@ -82,11 +83,5 @@ reach U32 = omega (arith, ints)
 reach I64 = omega (arith, ints)
 reach U64 = omega (arith, ints)
 
-pub number_of : (t : IntType) (v : ℤ) → InRange t v → IsOfSomeType v
-number_of t v h = record { low = le_trans _ _ _ (number_low t) h.low; high = le_trans _ _ _ h.high (number_high t) }
-
 pub in_range_true : (t : IntType) (v : ℤ) → InRange t v → is_in_range t v ≡ true
 in_range_true t v h = between_true _ _ _ _ h.low h.high
-
-pub from_in_range : (t : IntType) (v : ℤ) → is_in_range t v ≡ true → InRange t v
-from_in_range t v e = let p = from_between _ _ _ _ e in record { low = p.0; high = p.1 }

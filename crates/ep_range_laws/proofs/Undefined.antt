@@ -1,5 +1,6 @@
 -- Where arithmetic is undefined of two numbers.
 use Rattle.std.proofs.Common.{◌≡◌, ℕ, zero, suc, ◌*◌, ◌/◌, ◌-◌, ◌≤◌, ℤ, pos, negsuc, ◌≤ℤ◌, ◌<ℤ◌, neg_ℤ, Bool, true}
+use Rattle.ep_int.proofs.Arithmetic.{le_fact, le_test, up_to_in_range}
 use Rattle.std.proofs.Common.{false, cond, not, ◌&&◌, ◌⊎◌, inl, inr, Ok, Err, is_err, refl, ap, ◌∙◌, arith}
 use Rattle.std.specs.Prelude.{int_le, int_lt, int_div, unsigned_abs}
 use Rattle.std.specs.Int.{int_min, int_max}
@@ -11,7 +12,7 @@ use Rattle.ep_int.specs.declared.types.Undef.{Undef}
 use Rattle.ep_int.specs.Types.{bits_of, is_signed, least_of, greatest_of, InRange, wrapped}
 use Rattle.ep_int.specs.Arith.{is_in_range, settled, is_divisible, is_amount}
 use Rattle.ep_range_laws.specs.Faults.{nearest_amount}
-use Rattle.ep_range_laws.proofs.Comparisons.{le_true, le_false, lt_true, lt_false, from_le_true, from_le_false}
+use Rattle.ep_range_laws.proofs.Comparisons.{le_false, lt_true, lt_false, from_le_false}
 use Rattle.ep_range_laws.proofs.Comparisons.{from_lt_true, from_lt_false, between_false, from_between_false}
 use Rattle.ep_range_laws.proofs.Types.{least_negative, greatest_positive, least_signed, least_unsigned, reach}
 use Rattle.ep_range_laws.proofs.Types.{in_range_true}
@@ -67,9 +68,6 @@ negative_signed t n h = by_test (is_signed t) refl
     by_test true e = e
     by_test false e = let f = least_unsigned t e in let p = h.low in absurd (omega (arith, ints))
 
-in_positive : (t : IntType) (a q : ℕ) → InRange t (pos a) → q ≤ a → InRange t (pos q)
-in_positive t a q h k = let p = h.high in let l = least_negative t in record { low = omega (arith, ints); high = omega (arith, ints) }
-
 in_mirrored : (t : IntType) (a q : ℕ) → is_signed t ≡ true → InRange t (pos a) → q ≤ a → InRange t (neg_ℤ (pos q))
 in_mirrored t a q s h k = let p = h.high in let e = least_signed t s in let g = greatest_positive t in record { low = omega (arith, ints); high = omega (arith, ints) }
 
@@ -83,13 +81,13 @@ by_minus_one : (t : IntType) (a : ℕ) → InRange t (negsuc a) → (InRange t (
 by_minus_one t a h = by_test (int_le (pos (suc a)) (greatest_of t)) refl
   where
     by_test : (b : Bool) → int_le (pos (suc a)) (greatest_of t) ≡ b → (InRange t (pos (suc a / 1))) ⊎ IsLeastByMinusOne t (negsuc a) (negsuc 0)
-    by_test true e = let k = from_le_true (pos (suc a)) (greatest_of t) e in let l = least_negative t in inl (record { low = omega (arith, ints); high = omega (arith, ints) })
+    by_test true e = let k = le_fact (pos (suc a)) (greatest_of t) e in let l = least_negative t in inl (record { low = omega (arith, ints); high = omega (arith, ints) })
     by_test false e = let k = from_le_false (pos (suc a)) (greatest_of t) e in let s = negative_signed t a h in let m = least_signed t s in let p = h.low in inr (record { signed = s; least = omega (arith, ints); minus_one = refl })
 
 -- A quotient of two numbers of a type is of the type, but for these.
 pub quotient_cases : (t : IntType) (x y : ℤ) → InRange t x → InRange t y → (y ≡ pos 0) ⊎ (InRange t (int_div x y) ⊎ IsLeastByMinusOne t x y)
 quotient_cases t x (pos zero) h k = inl refl
-quotient_cases t (pos a) (pos (suc b)) h k = inr (inl (in_positive t a (a / suc b) h (div-le_self a (suc b))))
+quotient_cases t (pos a) (pos (suc b)) h k = inr (inl (up_to_in_range t a (a / suc b) h (div-le_self a (suc b))))
 quotient_cases t (pos a) (negsuc b) h k = inr (inl (in_mirrored t a (a / suc b) (negative_signed t b k) h (div-le_self a (suc b))))
 quotient_cases t (negsuc a) (pos (suc b)) h k = inr (inl (in_negative t a (suc a / suc b) h (div-le_self (suc a) (suc b))))
 quotient_cases t (negsuc a) (negsuc zero) h k = inr (by_minus_one t a h)
@@ -142,11 +140,11 @@ pub amount_from : (t : IntType) (y : ℤ) → is_amount t y ≡ true → (pos 0 
 amount_from t y e = parts (int_le (pos 0) y) (int_lt y (pos (bits_of t))) refl refl e
   where
     parts : (p q : Bool) → int_le (pos 0) y ≡ p → int_lt y (pos (bits_of t)) ≡ q → (p && q) ≡ true → (pos 0 ≤ℤ y) × (y <ℤ pos (bits_of t))
-    parts true q e f g = (from_le_true _ _ e, from_lt_true _ _ (f ∙ g))
+    parts true q e f g = (le_fact _ _ e, from_lt_true _ _ (f ∙ g))
     parts false q e f g = cc
 
 pub amount_true : (t : IntType) (y : ℤ) → pos 0 ≤ℤ y → y <ℤ pos (bits_of t) → is_amount t y ≡ true
-amount_true t y p q = both (int_le (pos 0) y) (int_lt y (pos (bits_of t))) (le_true _ _ p) (lt_true _ _ q)
+amount_true t y p q = both (int_le (pos 0) y) (int_lt y (pos (bits_of t))) (le_test _ _ p) (lt_true _ _ q)
   where
     both : (p q : Bool) → p ≡ true → q ≡ true → (p && q) ≡ true
     both true q e f = f

@@ -8,7 +8,7 @@ ghost use Rattle.ep_layout.specs.Table as table;
 ghost use Rattle.ep_layout.specs.Extents.{IsExtent, extent_of};
 ghost use Rattle.ep_layout.specs.Placed.{IsPlaced, next_offset, next_end, row};
 ghost use Rattle.ep_layout.specs.Stops.{IsStop};
-ghost use Rattle.ep_layout.specs.Views.{view_members, view_named};
+ghost use Rattle.ep_layout.specs.Views.{members_view, named_view};
 
 use super::{Body, Types};
 use crate::extent::{Extent, MOST_BYTES};
@@ -33,8 +33,8 @@ impl Placing {
     ) -> Result<(), LayoutStop>
         requires extent { IsExtent extent }
         requires end { self.old.end ≤ most_bytes }
-        ensures members { OnOk result (view_members self.new.members.items
-            ≡ view_members self.old.members.items
+        ensures members { OnOk result (members_view self.new.members.items
+            ≡ members_view self.old.members.items
             ++ row name.items ty (next_offset is_union self.old.end extent) ∷ []) }
         ensures end { OnOk result (self.new.end ≡ next_end is_union self.old.end extent) }
         ensures align { OnOk result (self.new.align ≡ max self.old.align extent.align) }
@@ -75,8 +75,8 @@ impl Types {
     fn placed(&self, is_union: bool, members: Vec<(Vec<u8>, u32)>) -> Result<Placing, LayoutStop>
         requires types { IsTrue (list_all (λ m. table.is_type self.now m.1) members.items) }
         requires sizes { IsTrue (list_all (λ m. is_some (table.layout_of self.now m.1)) members.items) }
-        ensures placed { IfOk result (λ p. IsPlaced self.now is_union (view_named members.items) p) }
-        ensures stop { IfErr result (IsStop (table.members_stop self.now is_union (view_named members.items))) }
+        ensures placed { IfOk result (λ p. IsPlaced self.now is_union (named_view members.items) p) }
+        ensures stop { IfErr result (IsStop (table.members_stop self.now is_union (named_view members.items))) }
     {
         let mut placing = Placing {
             members: Vec::new(self.alloc),
@@ -98,11 +98,11 @@ impl Types {
         members: Vec<(Vec<u8>, u32)>,
     ) -> Result<Body, LayoutStop>
         requires { IsTrue (list_all (λ m. table.is_type self.now m.1) members.items) }
-        ensures members { IfOk result (λ b. b.members ≡ table.laid_out self.now is_union (view_named members.items)) }
+        ensures members { IfOk result (λ b. b.members ≡ table.laid_out self.now is_union (named_view members.items)) }
         ensures extent { IfOk result (λ b.
-            option_map extent_of (table.layout_with self.now is_union (view_named members.items)) ≡ Some b.extent) }
-        ensures fits { OnOk result (table.members_stop self.now is_union (view_named members.items) ≡ None) }
-        ensures stop { IfErr result (IsStop (table.members_stop self.now is_union (view_named members.items))) }
+            option_map extent_of (table.layout_with self.now is_union (named_view members.items)) ≡ Some b.extent) }
+        ensures fits { OnOk result (table.members_stop self.now is_union (named_view members.items) ≡ None) }
+        ensures stop { IfErr result (IsStop (table.members_stop self.now is_union (named_view members.items))) }
     {
         if !self.have_sizes(&members) {
             return Err(LayoutStop::Incomplete);

@@ -1,7 +1,7 @@
 //! A copy of a table.
 
 ghost use Rattle.std.specs.Prelude.{◌≡◌, IfOk, map};
-ghost use Rattle.ep_layout.specs.Kept.{entry_extent, view_entry};
+ghost use Rattle.ep_layout.specs.TableInvariant.{entry_extent, entry_view};
 
 use super::{AggregateEntry, Body, Types};
 use ep_int::Memory;
@@ -19,7 +19,7 @@ fn copied_body(alloc: Global, body: &Body) -> Result<Body, AllocError>
 }
 
 fn copied_entry(alloc: Global, entry: &AggregateEntry) -> Result<AggregateEntry, AllocError>
-    ensures view { IfOk result (λ g. view_entry g ≡ view_entry entry.now) }
+    ensures view { IfOk result (λ g. entry_view g ≡ entry_view entry.now) }
     ensures extent { IfOk result (λ g. entry_extent g ≡ entry_extent entry.now) }
 {
     let tag = Vec::from_slice(alloc, &entry.tag)?;
@@ -38,7 +38,7 @@ fn copied_entries(
     alloc: Global,
     entries: &[AggregateEntry],
 ) -> Result<Vec<AggregateEntry>, AllocError>
-    ensures views { IfOk result (λ v. map view_entry v.items ≡ map view_entry entries.now) }
+    ensures views { IfOk result (λ v. map entry_view v.items ≡ map entry_view entries.now) }
     ensures extents { IfOk result (λ v. map entry_extent v.items ≡ map entry_extent entries.now) }
 {
     let mut copies = Vec::new(alloc);

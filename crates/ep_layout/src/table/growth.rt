@@ -6,7 +6,7 @@ ghost use Rattle.std.specs.List.{list_all};
 ghost use Rattle.ep_layout.specs.Table as table;
 ghost use Rattle.ep_layout.specs.Extents.{IsExtent, kept_extent};
 ghost use Rattle.ep_layout.specs.Stops.{IsStop};
-ghost use Rattle.ep_layout.specs.Views.{view_named};
+ghost use Rattle.ep_layout.specs.Views.{named_view};
 
 use super::{AggregateEntry, Body, Types};
 use crate::extent::{Extent, MOST_BYTES};
@@ -130,12 +130,12 @@ impl Types {
         requires exists { aggregate < length self.old.aggregates }
         requires open { IsFalse (table.is_completed self.old aggregate) }
         requires parts { IsTrue (list_all (λ m. table.is_type self.old m.1) members.items) }
-        ensures grown { OnOk result (self.new ≡ table.completed_with self.old aggregate (view_named members.items)) }
+        ensures grown { OnOk result (self.new ≡ table.completed_with self.old aggregate (named_view members.items)) }
         ensures fits { OnOk result
-            (table.members_stop self.old (table.is_union self.old aggregate) (view_named members.items) ≡ None) }
+            (table.members_stop self.old (table.is_union self.old aggregate) (named_view members.items) ≡ None) }
         ensures err { OnErr result (self.new ≡ self.old) }
         ensures stop { IfErr result
-            (IsStop (table.members_stop self.old (table.is_union self.old aggregate) (view_named members.items))) }
+            (IsStop (table.members_stop self.old (table.is_union self.old aggregate) (named_view members.items))) }
     {
         let body = self.body(self.is_union(aggregate), members)?;
         if self.completed.push(aggregate).is_err() {

@@ -3,7 +3,7 @@
 ghost use Rattle.std.specs.Prelude.{◌≡◌, ◌++◌, IfOk, OnOk, codes, unwrap_or, if◌then◌else◌};
 ghost use Rattle.ep_layout.specs.Table as table;
 ghost use Rattle.ep_layout.specs.Text.{aggregate_text, head_line, member_line, members_text, tag_text, layout_text_of};
-ghost use Rattle.ep_layout.specs.Views.{view_members};
+ghost use Rattle.ep_layout.specs.Views.{members_view};
 
 use super::{AggregateEntry, Types};
 use crate::extent::Extent;
@@ -97,7 +97,7 @@ impl Types {
     }
 
     fn push_members(&self, text: &mut Vec<u8>, members: &[Member]) -> Result<(), AllocError>
-        ensures { OnOk result (text.new.items ≡ text.old.items ++ members_text self.now (view_members members.now)) }
+        ensures { OnOk result (text.new.items ≡ text.old.items ++ members_text self.now (members_view members.now)) }
     {
         for member in members {
             push_member(text, member, self.member_size(member.ty))?;

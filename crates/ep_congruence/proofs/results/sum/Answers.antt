@@ -1,9 +1,10 @@
 use Rattle.std.proofs.Common.{ℤ, ◌+ℤ◌, FitsSigned, ap, ◌∙◌, rules, arith}
+use Rattle.ep_int.proofs.Arithmetic.{sum_fits}
 use Rattle.std.specs.Prelude.{int_lt}
 use Rattle.std.specs.Int.{w128}
 use Rattle.std.proofs.lemmas.Int.{ints, to_z-of_z}
 use Rattle.ep_int.specs.Types.{greatest_of}
-use Rattle.ep_domain.proofs.FaultCode.{fits_number, sum_fits}
+use Rattle.ep_domain.proofs.FaultCode.{fits_number}
 use Rattle.ep_congruence_laws.specs.Results.{ends_of}
 use Rattle.ep_congruence_domain.specs.Congruence.{class_of}
 use Rattle.ep_congruence.proofs.Machine.{gcd_both, results_code}

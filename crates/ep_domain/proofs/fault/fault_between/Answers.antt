@@ -1,11 +1,11 @@
 use Rattle.std.proofs.Common.{◌≡◌, ◌+ℤ◌, ◌-ℤ◌, ◌||◌, true, inl, inr, rules, FitsSigned, refl, sym, ap, ◌∙◌, subst}
+use Rattle.ep_int.proofs.Arithmetic.{difference_fits, in_range_some_type, sum_fits}
 use mir.Syntax.{w128}
 use Rattle.std.proofs.lemmas.Int.{to_z-of_z}
 use Rattle.ep_int.specs.Types.{is_signed}
 use Rattle.ep_int.specs.declared.types.BinOp.TheVariants.{Add, Sub, Mul, Div, Rem, Shl}
 use Rattle.ep_range_laws.specs.Faults.{may_fault, may_not_shift, fault_between}
-use Rattle.ep_range_laws.proofs.Types.{number_of}
-use Rattle.ep_domain.proofs.FaultCode.{passed, in_long, product_fits, overflow_is, then_is, sum_fits, difference_fits}
+use Rattle.ep_domain.proofs.FaultCode.{passed, in_long, product_fits, overflow_is, then_is}
 use Rattle.ep_domain.proofs.FaultCode.{right_number, right_in_range}
 use Rattle.std.proofs.lemmas.Bool.{or_left}
 use Rattle.ep_domain.proofs.fault.fault_between.Goals as goal
@@ -57,8 +57,8 @@ returns-in-Add c =
     let q = passed y.0 y.1 y0 y1 c.if-y.false in
     let i = c.requires.left p in
     let j = c.requires.right q in
-    let f = sum_fits x.0 y.0 (number_of c.args.t x.0 i.0) (right_number c.args.op c.args.t y.0 j.0) in
-    let g = sum_fits x.1 y.1 (number_of c.args.t x.1 i.1) (right_number c.args.op c.args.t y.1 j.1) in
+    let f = sum_fits x.0 y.0 (in_range_some_type c.args.t x.0 i.0) (right_number c.args.op c.args.t y.0 j.0) in
+    let g = sum_fits x.1 y.1 (in_range_some_type c.args.t x.1 i.1) (right_number c.args.op c.args.t y.1 j.1) in
     let o = simp to_z-of_z at c.overflow.ensures in
     subst (λ b. c.overflow.result ≡ fault_between b c.args.t x y) (sym c.in-Add.is) (overflow_is Add c.args.t x y (x.0 +ℤ y.0, x.1 +ℤ y.1) c.overflow.result p q refl refl o)
 
@@ -74,8 +74,8 @@ returns-in-Sub c =
     let q = passed y.0 y.1 y0 y1 c.if-y.false in
     let i = c.requires.left p in
     let j = c.requires.right q in
-    let f = difference_fits x.0 y.1 (number_of c.args.t x.0 i.0) (right_number c.args.op c.args.t y.1 j.1) in
-    let g = difference_fits x.1 y.0 (number_of c.args.t x.1 i.1) (right_number c.args.op c.args.t y.0 j.0) in
+    let f = difference_fits x.0 y.1 (in_range_some_type c.args.t x.0 i.0) (right_number c.args.op c.args.t y.1 j.1) in
+    let g = difference_fits x.1 y.0 (in_range_some_type c.args.t x.1 i.1) (right_number c.args.op c.args.t y.0 j.0) in
     let o = simp to_z-of_z at c.overflow-in-Sub.ensures in
     subst (λ b. c.overflow-in-Sub.result ≡ fault_between b c.args.t x y) (sym c.in-Sub.is) (overflow_is Sub c.args.t x y (x.0 -ℤ y.1, x.1 -ℤ y.0) c.overflow-in-Sub.result p q refl refl o)
 

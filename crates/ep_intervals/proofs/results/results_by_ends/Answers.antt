@@ -1,8 +1,8 @@
 use Rattle.std.proofs.Common.{◌≡◌, rules, FitsSigned, sym, subst}
+use Rattle.ep_int.proofs.Arithmetic.{difference_fits, in_range_some_type, sum_fits}
 use mir.Syntax.{w128}
 use Rattle.std.proofs.lemmas.Int.{to_z-of_z}
-use Rattle.ep_range_laws.proofs.Types.{number_of}
-use Rattle.ep_domain.proofs.FaultCode.{sum_fits, difference_fits, right_number}
+use Rattle.ep_domain.proofs.FaultCode.{right_number}
 use Rattle.ep_interval_laws.specs.Results.{results_of}
 use Rattle.ep_intervals.proofs.Machine.{sum_taken_fits, difference_taken_fits}
 use Rattle.ep_intervals.proofs.results.results_by_ends.Goals as goal
@@ -14,8 +14,8 @@ settled-requires-clause-low c = λ s.
     let x1 : FitsSigned w128 x.1 = search rules in
     let y0 : FitsSigned w128 y.0 = search rules in
     let y1 : FitsSigned w128 y.1 = search rules in
-    let i = number_of c.args.t x.0 c.requires.left.0 in
-    let j = number_of c.args.t x.1 c.requires.left.1 in
+    let i = in_range_some_type c.args.t x.0 c.requires.left.0 in
+    let j = in_range_some_type c.args.t x.1 c.requires.left.1 in
     let k = right_number c.args.op c.args.t y.0 c.requires.right.0 in
     let l = right_number c.args.op c.args.t y.1 c.requires.right.1 in
     let f = sum_fits x.0 y.0 i k in
@@ -29,8 +29,8 @@ settled-requires-clause-high c = λ s.
     let x1 : FitsSigned w128 x.1 = search rules in
     let y0 : FitsSigned w128 y.0 = search rules in
     let y1 : FitsSigned w128 y.1 = search rules in
-    let i = number_of c.args.t x.0 c.requires.left.0 in
-    let j = number_of c.args.t x.1 c.requires.left.1 in
+    let i = in_range_some_type c.args.t x.0 c.requires.left.0 in
+    let j = in_range_some_type c.args.t x.1 c.requires.left.1 in
     let k = right_number c.args.op c.args.t y.0 c.requires.right.0 in
     let l = right_number c.args.op c.args.t y.1 c.requires.right.1 in
     let f = sum_fits x.0 y.0 i k in
@@ -44,8 +44,8 @@ settled-requires-in-Sub-clause-low c = λ s.
     let x1 : FitsSigned w128 x.1 = search rules in
     let y0 : FitsSigned w128 y.0 = search rules in
     let y1 : FitsSigned w128 y.1 = search rules in
-    let i = number_of c.args.t x.0 c.requires.left.0 in
-    let j = number_of c.args.t x.1 c.requires.left.1 in
+    let i = in_range_some_type c.args.t x.0 c.requires.left.0 in
+    let j = in_range_some_type c.args.t x.1 c.requires.left.1 in
     let k = right_number c.args.op c.args.t y.0 c.requires.right.0 in
     let l = right_number c.args.op c.args.t y.1 c.requires.right.1 in
     let f = difference_fits x.0 y.1 i l in
@@ -59,8 +59,8 @@ settled-requires-in-Sub-clause-high c = λ s.
     let x1 : FitsSigned w128 x.1 = search rules in
     let y0 : FitsSigned w128 y.0 = search rules in
     let y1 : FitsSigned w128 y.1 = search rules in
-    let i = number_of c.args.t x.0 c.requires.left.0 in
-    let j = number_of c.args.t x.1 c.requires.left.1 in
+    let i = in_range_some_type c.args.t x.0 c.requires.left.0 in
+    let j = in_range_some_type c.args.t x.1 c.requires.left.1 in
     let k = right_number c.args.op c.args.t y.0 c.requires.right.0 in
     let l = right_number c.args.op c.args.t y.1 c.requires.right.1 in
     let f = difference_fits x.0 y.1 i l in
@@ -74,8 +74,8 @@ returns-in-Add c =
     let x1 : FitsSigned w128 x.1 = search rules in
     let y0 : FitsSigned w128 y.0 = search rules in
     let y1 : FitsSigned w128 y.1 = search rules in
-    let i = number_of c.args.t x.0 c.requires.left.0 in
-    let j = number_of c.args.t x.1 c.requires.left.1 in
+    let i = in_range_some_type c.args.t x.0 c.requires.left.0 in
+    let j = in_range_some_type c.args.t x.1 c.requires.left.1 in
     let k = right_number c.args.op c.args.t y.0 c.requires.right.0 in
     let l = right_number c.args.op c.args.t y.1 c.requires.right.1 in
     let f = sum_fits x.0 y.0 i k in
@@ -90,8 +90,8 @@ returns-in-Sub c =
     let x1 : FitsSigned w128 x.1 = search rules in
     let y0 : FitsSigned w128 y.0 = search rules in
     let y1 : FitsSigned w128 y.1 = search rules in
-    let i = number_of c.args.t x.0 c.requires.left.0 in
-    let j = number_of c.args.t x.1 c.requires.left.1 in
+    let i = in_range_some_type c.args.t x.0 c.requires.left.0 in
+    let j = in_range_some_type c.args.t x.1 c.requires.left.1 in
     let k = right_number c.args.op c.args.t y.0 c.requires.right.0 in
     let l = right_number c.args.op c.args.t y.1 c.requires.right.1 in
     let f = difference_fits x.0 y.1 i l in

@@ -1,12 +1,12 @@
 use Rattle.std.proofs.Common.{FitsSigned, rules, arith, sym, ◌∙◌}
+use Rattle.ep_int.proofs.Arithmetic.{in_range_some_type}
 use Rattle.std.specs.Int.{w128}
 use Rattle.std.proofs.lemmas.Int.{ints, to_z-of_z}
-use Rattle.ep_range_laws.proofs.Types.{number_of}
 use Rattle.ep_bits.proofs.Machine.{converted_one}
 use Rattle.ep_bits.proofs.known_bits.KnownBits.converted.Goals as goal
 
 pub exactly-requires : goal.exactly-requires
-exactly-requires c = let n = number_of c.args.t c.wrap.result c.wrap.ensures.in_range in let p = n.low in let q =
+exactly-requires c = let n = in_range_some_type c.args.t c.wrap.result c.wrap.ensures.in_range in let p = n.low in let q =
     n.high in record { low = omega (arith, ints); high = omega (arith, ints) }
 
 pub returns-then-is_one : goal.returns-then-is_one

@@ -1,8 +1,8 @@
 use Rattle.std.proofs.Common.{◌≡◌, ◌^◌, FitsSigned, nat_eq, false, cond, rules, arith, ap, sym, ◌∙◌}
+use Rattle.ep_int.proofs.Arithmetic.{in_range_some_type}
 use Rattle.std.specs.Int.{w128}
 use Rattle.std.proofs.lemmas.Int.{ints, to_z-of_z}
 use Rattle.ep_int.specs.Types.{bits_of, wrapped}
-use Rattle.ep_range_laws.proofs.Types.{number_of}
 use Rattle.ep_congruence_laws.specs.Multiples.{gcd}
 use Rattle.ep_congruence_laws.specs.Classes.{one, reduced}
 use Rattle.ep_congruence_laws.proofs.Cuts.{turned_class}
@@ -12,7 +12,7 @@ use Rattle.ep_congruence.proofs.Machine.{gcd_shown}
 use Rattle.ep_congruence.proofs.congruence.Congruence.converted.Goals as goal
 
 pub one-requires : goal.one-requires
-one-requires c = let n = number_of c.args.t c.wrap.result c.wrap.ensures.in_range in let p = n.low in let q = n.high in record { low = omega (arith, ints); high = omega (arith, ints) }
+one-requires c = let n = in_range_some_type c.args.t c.wrap.result c.wrap.ensures.in_range in let p = n.low in let q = n.high in record { low = omega (arith, ints); high = omega (arith, ints) }
 
 pub reduced-requires : goal.reduced-requires
 reduced-requires c =

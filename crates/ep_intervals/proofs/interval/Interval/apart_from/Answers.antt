@@ -1,7 +1,8 @@
 use Rattle.std.proofs.Common.{rules, FitsSigned}
+use Rattle.ep_int.proofs.Basics.{of_z-injective}
 use mir.Syntax.{w128}
 use Rattle.std.proofs.lemmas.Int.{to_z-of_z}
-use Rattle.ep_intervals.proofs.Machine.{seen, low_fits, high_fits, same_bits, apart_is}
+use Rattle.ep_intervals.proofs.Machine.{seen, low_fits, high_fits, apart_is}
 use Rattle.ep_intervals.proofs.interval.Interval.apart_from.Goals as goal
 
 pub returns-then-o : goal.returns-then-o
@@ -13,4 +14,4 @@ returns-then-o c =
     let m = simp to_z-of_z at c.low_apart.ensures in
     let n = simp to_z-of_z at c.high_apart.ensures in
     let d = simp to_z-of_z at c.between.ensures in
-    rw (← c.self.view_is, ← c.o.view_is) (apart_is a b c.low_apart.result c.high_apart.result c.between.result (same_bits b.lo b.hi r s c.if-o.true) m n d)
+    rw (← c.self.view_is, ← c.o.view_is) (apart_is a b c.low_apart.result c.high_apart.result c.between.result (of_z-injective b.lo b.hi r s c.if-o.true) m n d)

@@ -2,7 +2,7 @@ use Rattle.std.proofs.Common.{◌≡◌, ◌∙◌, sym, ap, refl, arith, Some, 
 use Rattle.std.proofs.lemmas.Option.{slice_get_read}
 use Rattle.ep_layout.specs.Places.{place_of}
 use Rattle.ep_layout.specs.Table.{MemberRow}
-use Rattle.ep_layout.specs.Views.{view_member}
+use Rattle.ep_layout.specs.Views.{member_view}
 use Rattle.ep_layout.proofs.Naming.{named_at, named_nowhere}
 use Rattle.ep_layout.proofs.members.MemberList.named.Goals as goal
 
@@ -22,4 +22,4 @@ returns-in-Some c =
     let place : place_of c.args.name.now c.self.inside.members.items ≡ Some c.in-Some.place.now = sym (c.self.invariant c.args.name.now) ∙ sym c.in-Some.ensures.value in
     let found = named_at c.args.name.now c.self.inside.members.items c.in-Some.place.now place in
     let member = slice_get_read c.self.inside.members.items _ c.in-Some.place.now c.index.result.now refl found.0 c.index.ensures in
-    sym (found.1 ∙ ap (option_map view_member) member) ∙ ap (find (λ (m : MemberRow). bytes_eq c.args.name.now m.name)) c.self.view_is
+    sym (found.1 ∙ ap (option_map member_view) member) ∙ ap (find (λ (m : MemberRow). bytes_eq c.args.name.now m.name)) c.self.view_is

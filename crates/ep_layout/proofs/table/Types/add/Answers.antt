@@ -2,7 +2,7 @@ use Rattle.std.proofs.Common.{◌≡◌, ◌∙◌, sym, ap, subst, Some, None, 
 use Rattle.ep_layout.specs.declared.types.Ty.{Ty}
 use Rattle.ep_layout.specs.declared.types.Ty.TheVariants.{Void}
 use Rattle.ep_layout.specs.Table.{Table, number_of, type_stop, with_type}
-use Rattle.ep_layout.specs.Kept.{table_of}
+use Rattle.ep_layout.specs.TableInvariant.{table_of}
 use Rattle.ep_layout.specs.SameTypes.{is_same_type, same_types, same_itself}
 use Rattle.ep_layout.proofs.Keeping.{fits_again}
 use Rattle.ep_layout.proofs.Positions.{position_some, position_push}

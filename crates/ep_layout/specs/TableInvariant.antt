@@ -8,8 +8,8 @@ use Rattle.ep_layout.specs.declared.types.Ty.{Ty}
 use Rattle.ep_layout.specs.Extents.{extent_of, kept_extent}
 use Rattle.ep_layout.specs.Table.{Table, AggregateRow, IsBuilt, at_aggregate, layout_rules, layout_of}
 
-abbrev pub view_entry : AggregateEntry → AggregateRow
-view_entry g = record {
+abbrev pub entry_view : AggregateEntry → AggregateRow
+entry_view g = record {
   tag = g.tag.items;
   is_union = g.is_union;
   members = option_map (λ (b : Body). b.members) g.body;
@@ -19,7 +19,7 @@ abbrev pub table_of : Inside → Table
 table_of s = record {
   model = s.model;
   types = s.types;
-  aggregates = map view_entry s.aggregates.items;
+  aggregates = map entry_view s.aggregates.items;
   completed = s.completed.items;
 }
 
@@ -35,4 +35,4 @@ pub record IsKept (s : Inside) : Type 0 where
       → slice_get s.extents.items n ≡ Some (kept_extent (table_of s) ty)
   pub aggregates : (a : ℕ) (g : AggregateEntry) → slice_get s.aggregates.items a ≡ Some g
       → entry_extent g
-      ≡ option_map extent_of (at_aggregate (layout_rules s.model) (layout_of (table_of s)) (view_entry g))
+      ≡ option_map extent_of (at_aggregate (layout_rules s.model) (layout_of (table_of s)) (entry_view g))
