@@ -4,6 +4,7 @@ use Rattle.std.specs.Prelude.{codes, slice_index_or}
 use Rattle.ep_ast.specs.Token.{marks, accepted_words}
 use Rattle.ep_ast.specs.Mark.{arrow, plus_plus, minus_minus, left_shift, right_shift, less_equal, greater_equal}
 use Rattle.ep_ast.specs.Mark.{equal_equal, not_equal, and_and, bar_bar, left_shift_equal, right_shift_equal, plus_equal}
+use Rattle.ep_ast.specs.Mark.{minus_equal, star_equal, slash_equal, percent_equal, ampersand_equal, bar_equal}
 use Rattle.ep_ast.specs.Mark.{caret_equal, left_paren, right_paren, left_bracket, right_bracket, left_brace}
 use Rattle.ep_ast.specs.Mark.{right_brace, dot, ampersand, star, plus, minus, tilde, exclamation, slash, percent, less}
 use Rattle.ep_ast.specs.Mark.{greater, caret, bar, question, colon, semicolon, equal, comma, break_word, char_word}
@@ -55,6 +56,24 @@ right_shift_equal-text = refl
 
 plus_equal-text : text_of marks plus_equal ≡ codes "+="
 plus_equal-text = refl
+
+minus_equal-text : text_of marks minus_equal ≡ codes "-="
+minus_equal-text = refl
+
+star_equal-text : text_of marks star_equal ≡ codes "*="
+star_equal-text = refl
+
+slash_equal-text : text_of marks slash_equal ≡ codes "/="
+slash_equal-text = refl
+
+percent_equal-text : text_of marks percent_equal ≡ codes "%="
+percent_equal-text = refl
+
+ampersand_equal-text : text_of marks ampersand_equal ≡ codes "&="
+ampersand_equal-text = refl
+
+bar_equal-text : text_of marks bar_equal ≡ codes "|="
+bar_equal-text = refl
 
 caret_equal-text : text_of marks caret_equal ≡ codes "^="
 caret_equal-text = refl

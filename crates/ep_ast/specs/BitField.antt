@@ -6,7 +6,7 @@ use Rattle.ep_ast.specs.Declaration.{Declarator, Spec, Member}
 use Rattle.ep_ast.specs.Statement.{Function, Item}
 use Rattle.ep_ast.specs.Mark.{typedef_word, left_brace, colon, comma}
 use Rattle.ep_ast.specs.TypeWords.{Bag, no_bag, with_whole, fits, is_tag_word, is_built_in_type}
-use Rattle.ep_ast.specs.DeclarationGrammar.{Place, at_file_scope, in_typedef, in_aggregate, has_bodies, spec_joined}
+use Rattle.ep_ast.specs.DeclarationGrammar.{Context, at_file_scope, in_typedef, in_aggregate, has_bodies, spec_joined}
 use Rattle.ep_ast.specs.DeclarationGrammar.{OneSpec, Specified, OneMember, Declared}
 use Rattle.ep_ast.specs.StatementGrammar.{IsIf}
 use Rattle.ep_ast.specs.ProgramGrammar.{Defines, Functions, OneItem}
@@ -20,14 +20,14 @@ pub data InDeclarators (is_type : List ℕ → Bool) : List Tok → (line : ℕ)
 
 mutual
   -- among the words that begin a declaration, after words that may stand together so far
-  pub data InSpecs (is_type : List ℕ → Bool) : Place → Bag → List Tok → (line : ℕ) → Type 0 where
-    after_word : {k : Place} {b : Bag} {l : ℕ} {xs ys : List Tok} {s : Spec} → OneSpec is_type k xs ys s
+  pub data InSpecs (is_type : List ℕ → Bool) : Context → Bag → List Tok → (line : ℕ) → Type 0 where
+    after_word : {k : Context} {b : Bag} {l : ℕ} {xs ys : List Tok} {s : Spec} → OneSpec is_type k xs ys s
         → fits (spec_joined b s) ≡ true
         → InSpecs is_type k (spec_joined b s) ys l → InSpecs is_type k b xs l
-    in_tagged : {k : Place} {b : Bag} {l m c n p d : ℕ} {text : List ℕ} {xs : List Tok} → has_bodies k ≡ true
+    in_tagged : {k : Context} {b : Bag} {l m c n p d : ℕ} {text : List ℕ} {xs : List Tok} → has_bodies k ≡ true
         → fits (with_whole b) ≡ true → is_tag_word c ≡ true → d ≡ left_brace
         → InMembers is_type xs l → InSpecs is_type k b (word m c ∷ name n text ∷ mark p d ∷ xs) l
-    in_untagged : {k : Place} {b : Bag} {l m c p d : ℕ} {xs : List Tok} → has_bodies k ≡ true
+    in_untagged : {k : Context} {b : Bag} {l m c p d : ℕ} {xs : List Tok} → has_bodies k ≡ true
         → fits (with_whole b) ≡ true → is_tag_word c ≡ true → d ≡ left_brace
         → InMembers is_type xs l → InSpecs is_type k b (word m c ∷ mark p d ∷ xs) l
 

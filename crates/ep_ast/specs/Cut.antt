@@ -9,6 +9,7 @@ use Rattle.ep_ast.specs.declared.orders.NamedOrder.TheVariants.{Little, Big}
 use Rattle.ep_ast.specs.declared.expressions.Literal.{Literal}
 use Rattle.ep_ast.specs.declared.refusals.Refusal.{Refusal}
 use Rattle.ep_ast.specs.Token as token
+use Rattle.ep_ast.specs.Mark.{equal_equal}
 use Rattle.ep_ast.specs.Token.{Tok, accepted_words, reserved_words}
 use Rattle.ep_ast.specs.Lexeme.{Thing, over, hash, quote, name, number, mark, Gap, Begins, Next, Breaks}
 
@@ -45,7 +46,7 @@ sense_of None None None = is_own
 abbrev pub sense : Constants → List ℕ → Sense
 sense cs t = sense_of (accepted t) (reserved t) (constant cs t)
 
--- ---- places
+-- ---- positions
 
 -- whether a conditional is open: its first arm, or the one behind `#else`, with the line of its `#if`
 pub data Open : Type 0 where
@@ -69,20 +70,20 @@ opened_at outside = None
 opened_at (first_arm l) = Some l
 opened_at (second_arm l) = Some l
 
--- A place in the source: its line, whether nothing but blanks and comments stands before it on its line, the constants
--- defined before it, and the conditional round it.
--- A comment counts as one space, so a newline inside one begins no line here.
-pub record Place : Type 0 where
+-- A position in the source: its line, whether nothing but blanks and comments stands before it on its line, the
+-- constants defined before it, and the conditional round it. A comment counts as one space, so a newline inside one
+-- begins no line here.
+pub record Position : Type 0 where
   pub line : ℕ
   pub fresh : Bool
   pub constants : Constants
   pub open_arm : Open
 
-abbrev pub start : Place
+abbrev pub start : Position
 start = record { line = 1; fresh = true; constants = []; open_arm = outside }
 
--- the place behind something on line l, with what may have changed
-abbrev pub behind : Place → ℕ → Place
+-- the position behind something on line l, with what may have changed
+abbrev pub behind : Position → ℕ → Position
 behind p l = record p { line = l; fresh = false }
 
 -- ---- directives
@@ -125,13 +126,13 @@ order_token Big l = token.if_big l
 
 -- the number of the mark `==`
 abbrev pub equals : ℕ
-equals = 10
+equals = equal_equal
 
 -- ---- the pieces of a source: one case for each rule
 
--- From the place p on the bytes begin with the end of a line, a token or a directive, and the place q and the rest come
--- after it.
-pub data Piece (p : Place) : List ℕ → List Tok → Place → List ℕ → Type 0 where
+-- From the position p on the bytes begin with the end of a line, a token or a directive, and the position q and the
+-- rest come after it.
+pub data Piece (p : Position) : List ℕ → List Tok → Position → List ℕ → Type 0 where
   line_end : {bs rest : List ℕ} (m b : ℕ) → Next p.line bs m over (b ∷ rest)
       → Piece p bs [] (record p { line = m + 1; fresh = true }) rest
   word : {bs rest : List ℕ} (m n : ℕ) (t : List ℕ) → Next p.line bs m (name t) rest
@@ -166,10 +167,10 @@ pub data Piece (p : Place) : List ℕ → List Tok → Place → List ℕ → Ty
       → Stand l cs (name (codes "endif") ∷ over ∷ []) m rest
       → Piece p bs (token.end_if l ∷ []) (record p { line = m; fresh = false; open_arm = outside }) rest
 
--- The bytes from this place on cut into the tokens.
-pub data Cuts : Place → List ℕ → List Tok → Type 0 where
-  ends : {p : Place} {bs : List ℕ} (m : ℕ) → Next p.line bs m over [] → p.open_arm ≡ outside → Cuts p bs []
-  piece : {p q : Place} {bs rest : List ℕ} {ts us all : List Tok} → Piece p bs ts q rest → Cuts q rest us
+-- The bytes from this position on cut into the tokens.
+pub data Cuts : Position → List ℕ → List Tok → Type 0 where
+  ends : {p : Position} {bs : List ℕ} (m : ℕ) → Next p.line bs m over [] → p.open_arm ≡ outside → Cuts p bs []
+  piece : {p q : Position} {bs rest : List ℕ} {ts us all : List Tok} → Piece p bs ts q rest → Cuts q rest us
       → all ≡ ts ++ us → Cuts p bs all
 
 -- ---- what offends in a directive: from left to right, the first thing with which it is no directive any more, or that
@@ -207,7 +208,7 @@ pass [] (t ∷ ts) = false
 pass (f ∷ fs) (t ∷ ts) = f t && pass fs ts
 
 -- what may stand in each directive behind `#`
-abbrev pub shapes : Place → List (List (Thing → Bool))
+abbrev pub shapes : Position → List (List (Thing → Bool))
 shapes p =
     let c = p.constants in
     let plain : List ℕ → Thing → Bool = λ w. is_named (λ t. bytes_eq t w && is_none (constant c t)) in
@@ -223,7 +224,7 @@ shapes p =
     [] else [])
 
 -- whether the things begin a directive
-abbrev pub may_begin : Place → List Thing → Bool
+abbrev pub may_begin : Position → List Thing → Bool
 may_begin p ts = list_any (λ fs. pass fs ts) (shapes p)
 
 -- whether they are `include` alone, behind which stands a header name
@@ -232,7 +233,7 @@ is_include [] = false
 is_include (t ∷ ts) = is_named (λ w. bytes_eq w (codes "include")) t
 
 -- the kind of a wrong directive that begins with this thing; inside a conditional each is one of the conditional's
-abbrev pub directive_kind : Place → List Thing → ℕ
+abbrev pub directive_kind : Position → List Thing → ℕ
 directive_kind p [] = kinds.directive
 directive_kind p (t ∷ ts) =
     if not (is_outside p.open_arm) || is_named (λ w. list_any (bytes_eq w)
@@ -253,8 +254,8 @@ wrong k l m (name t) = at_line k l
 wrong k l m (number n) = at_line k l
 wrong k l m (mark n) = at_line k l
 
--- At the place p, in the piece with which the bytes begin, this offends.
-pub data Offence (p : Place) : List ℕ → Refusal → Type 0 where
+-- At the position p, in the piece with which the bytes begin, this offends.
+pub data Offence (p : Position) : List ℕ → Refusal → Type 0 where
   broken : {bs : List ℕ} (k m : ℕ) → Breaks p.line bs k m → Offence p bs (at_line k m)
   stray_quote : {bs rest : List ℕ} (m : ℕ) → Next p.line bs m quote rest → Offence p bs (at_line kinds.string_literal m)
   stray_hash : {bs rest : List ℕ} (m : ℕ) → Next p.line bs m hash rest → p.fresh ≡ false
@@ -284,10 +285,10 @@ pub data Offence (p : Place) : List ℕ → Refusal → Type 0 where
       → Stand l cs (name (codes "include") ∷ []) m ds → Gap m ds n es → after headers es ≡ Some fs → Next n fs o t gs
       → is_over t ≡ false → Offence p bs (wrong kinds.include l o t)
 
--- The first offence from this place on: everything before it cuts.
-pub data Offends : Place → List ℕ → Refusal → Type 0 where
-  now : {p : Place} {bs : List ℕ} {r : Refusal} → Offence p bs r → Offends p bs r
-  later : {p q : Place} {bs rest : List ℕ} {ts : List Tok} {r : Refusal} → Piece p bs ts q rest → Offends q rest r
+-- The first offence from this position on: everything before it cuts.
+pub data Offends : Position → List ℕ → Refusal → Type 0 where
+  now : {p : Position} {bs : List ℕ} {r : Refusal} → Offence p bs r → Offends p bs r
+  later : {p q : Position} {bs rest : List ℕ} {ts : List Tok} {r : Refusal} → Piece p bs ts q rest → Offends q rest r
       → Offends p bs r
 
 -- The whole source cuts into the tokens.

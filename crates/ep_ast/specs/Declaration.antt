@@ -18,6 +18,7 @@ use Rattle.ep_ast.specs.declared.declarations.ParamsTree.{ParamsTree}
 use Rattle.ep_ast.specs.declared.declarations.ParamsTree.TheVariants as params
 use Rattle.ep_ast.specs.declared.declarations.HeadTree.{HeadTree}
 use Rattle.ep_ast.specs.Expression as expressions
+use Rattle.ep_ast.specs.Mark.{word_number}
 use Rattle.ep_ast.specs.Expression.{TypeWord, type_word, expr}
 
 -- a name with its derivations; `bounds` has each pair of `[ ]`
@@ -69,7 +70,7 @@ to_members (m ∷ ms) = more_members m (to_members ms)
 abbrev mutual
   pub spec_of : SpecTree → Spec
   spec_of (Plain w) = plain (type_word w)
-  spec_of (Body' l n t shape ms) = body (aggregate l n (option_map text_of t) (members_of ms))
+  spec_of (Body' l n t shape ms) = body (aggregate l (word_number n) (option_map text_of t) (members_of ms))
 
   pub specs_of : {m : _} → Row_of-SpecTree m → Specs
   specs_of end_of-SpecTree = no_specs
@@ -84,7 +85,8 @@ abbrev pub member_of : MemberTree → Member
 member_of m = member m.line (to_specs (map spec_of m.specs.items)) (map declarator m.declarators.items)
 
 abbrev pub aggregate_of : AggregateTree → Aggregate
-aggregate_of a = aggregate a.line a.word (option_map text_of a.tag) (to_members (map member_of a.members.items))
+aggregate_of a = aggregate a.line (word_number a.word) (option_map text_of a.tag)
+    (to_members (map member_of a.members.items))
 
 -- what an initialiser gives: an expression, or a list in braces
 mutual

@@ -39,21 +39,21 @@ pub data Declared (is_type : List ℕ → Bool) : List Tok → List Tok → Decl
 -- ---- the words that begin a declaration
 
 -- where a declaration stands
-pub data Place : Type 0 where
-  at_file_scope : Place
-  in_typedef : Place
-  in_aggregate : Place
-  in_block : Place
+pub data Context : Type 0 where
+  at_file_scope : Context
+  in_typedef : Context
+  in_aggregate : Context
+  in_block : Context
 
 -- whether a `struct` or `union` may have its members there
-abbrev pub has_bodies : Place → Bool
+abbrev pub has_bodies : Context → Bool
 has_bodies at_file_scope = true
 has_bodies in_typedef = true
 has_bodies in_aggregate = true
 has_bodies in_block = false
 
 -- whether `static` and `inline` may stand there
-abbrev pub has_storage : Place → Bool
+abbrev pub has_storage : Context → Bool
 has_storage at_file_scope = true
 has_storage in_typedef = false
 has_storage in_aggregate = false
@@ -74,7 +74,7 @@ specs_joined b (s ∷ ss) = specs_joined (spec_joined b s) ss
 abbrev pub name_type : List Spec → Bool
 name_type ss = fits (specs_joined no_bag ss) && not (is_no_bag (specs_joined no_bag ss))
 
-abbrev pub begins_spec : (List ℕ → Bool) → Place → List Tok → Bool
+abbrev pub begins_spec : (List ℕ → Bool) → Context → List Tok → Bool
 begins_spec is_type k (word l c ∷ ts) = begins_type is_type (word l c ∷ ts) || (has_storage k && is_storage_word c)
 begins_spec is_type k ts = begins_type is_type ts
 
@@ -89,22 +89,22 @@ specs_line [] = 0
 specs_line (s ∷ ss) = spec_line s
 
 mutual
-  pub data OneSpec (is_type : List ℕ → Bool) : Place → List Tok → List Tok → Spec → Type 0 where
-    type_word : {k : Place} {xs ys : List Tok} {w : TypeWord} → OneWord is_type xs ys w → Lacks left_brace ys
+  pub data OneSpec (is_type : List ℕ → Bool) : Context → List Tok → List Tok → Spec → Type 0 where
+    type_word : {k : Context} {xs ys : List Tok} {w : TypeWord} → OneWord is_type xs ys w → Lacks left_brace ys
         → OneSpec is_type k xs ys (tree.plain w)
-    storage : {k : Place} {l c : ℕ} {xs : List Tok} → has_storage k ≡ true → is_storage_word c ≡ true
+    storage : {k : Context} {l c : ℕ} {xs : List Tok} → has_storage k ≡ true → is_storage_word c ≡ true
         → OneSpec is_type k (word l c ∷ xs) xs (tree.plain (expressions.word l c))
-    with_members : {k : Place} {xs ys : List Tok} {a : Aggregate} → has_bodies k ≡ true → Aggregated is_type xs ys a
+    with_members : {k : Context} {xs ys : List Tok} {a : Aggregate} → has_bodies k ≡ true → Aggregated is_type xs ys a
         → OneSpec is_type k xs ys (tree.body a)
 
-  pub data Specs (is_type : List ℕ → Bool) : Place → List Tok → List Tok → List Spec → Type 0 where
-    no_specs : {k : Place} {xs : List Tok} → begins_spec is_type k xs ≡ false → Specs is_type k xs xs []
-    more_specs : {k : Place} {xs ys zs : List Tok} {s : Spec} {ss : List Spec} → OneSpec is_type k xs ys s
+  pub data Specs (is_type : List ℕ → Bool) : Context → List Tok → List Tok → List Spec → Type 0 where
+    no_specs : {k : Context} {xs : List Tok} → begins_spec is_type k xs ≡ false → Specs is_type k xs xs []
+    more_specs : {k : Context} {xs ys zs : List Tok} {s : Spec} {ss : List Spec} → OneSpec is_type k xs ys s
         → Specs is_type k ys zs ss → Specs is_type k xs zs (s ∷ ss)
 
   -- all the words, which are a type together
-  pub data Specified (is_type : List ℕ → Bool) : Place → List Tok → List Tok → List Spec → Type 0 where
-    specified : {k : Place} {xs ys : List Tok} {ss : List Spec} → name_type ss ≡ true → Specs is_type k xs ys ss
+  pub data Specified (is_type : List ℕ → Bool) : Context → List Tok → List Tok → List Spec → Type 0 where
+    specified : {k : Context} {xs ys : List Tok} {ss : List Spec} → name_type ss ≡ true → Specs is_type k xs ys ss
         → Specified is_type k xs ys ss
 
   -- `struct` or `union`, perhaps a tag, and members in braces
@@ -170,8 +170,8 @@ pub data Inits (is_type : List ℕ → Bool) : List Tok → List Tok → List In
       → Initialised is_type xs (mark l c ∷ ys) i → Inits is_type ys zs is → Inits is_type xs zs (i ∷ is)
 
 -- variables, at file scope or in a block
-pub data Declares (is_type : List ℕ → Bool) : Place → List Tok → List Tok → Declaration → Type 0 where
-  variables : {k : Place} {xs ys zs : List Tok} {ss : List Spec} {is : List Init} → Specified is_type k xs ys ss
+pub data Declares (is_type : List ℕ → Bool) : Context → List Tok → List Tok → Declaration → Type 0 where
+  variables : {k : Context} {xs ys zs : List Tok} {ss : List Spec} {is : List Init} → Specified is_type k xs ys ss
       → Inits is_type ys zs is
       → Declares is_type k xs zs (record { line = specs_line ss; specs = ss; inits = is })
 

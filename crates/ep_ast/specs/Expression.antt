@@ -8,6 +8,7 @@ use Rattle.ep_ast.specs.declared.expressions.ExprTree.{ExprTree, Assign', Condit
 use Rattle.ep_ast.specs.declared.expressions.ExprTree.{SizeofExpr', SizeofType, Index', Call', Member', Arrow'}
 use Rattle.ep_ast.specs.declared.expressions.ExprTree.{PostIncrement', PostDecrement', Id, Number, Row_of-ExprTree}
 use Rattle.ep_ast.specs.declared.expressions.ExprTree.{end_of-ExprTree, more_of-ExprTree}
+use Rattle.ep_ast.specs.Mark.{mark_number, word_number}
 
 -- a type word: an accepted word by its number, a typedef name, or a `struct` or `union` word and its tag
 pub data TypeWord : Type 0 where
@@ -16,9 +17,9 @@ pub data TypeWord : Type 0 where
   tagged : (line code : ℕ) (tag : List ℕ) → TypeWord
 
 abbrev pub type_word : TypeWordTree → TypeWord
-type_word (words.Word l n) = word l n
+type_word (words.Word l w) = word l (word_number w)
 type_word (words.Name l v) = typedef_name l v.items
-type_word (words.Tag l n v) = tagged l n v.items
+type_word (words.Tag l w v) = tagged l (word_number w) v.items
 
 -- the name of a type (C11 6.7.7); `stars` has for each `*` the number of `const` after it
 pub record TypeName : Type 0 where
@@ -78,12 +79,12 @@ line_of (number l n) = l
 -- with the pointer of each box left out
 abbrev mutual
   pub expr : ExprTree → Expr
-  expr (Assign' l c p a q b) = assign l c (expr a) (expr b)
+  expr (Assign' l c p a q b) = assign l (mark_number c) (expr a) (expr b)
   expr (Conditional' l p a q b r c) = conditional l (expr a) (expr b) (expr c)
-  expr (Binary' l c p a q b) = binary l c (expr a) (expr b)
+  expr (Binary' l c p a q b) = binary l (mark_number c) (expr a) (expr b)
   expr (Cast' l t p a) = cast l (type_name t.value) (expr a)
-  expr (Step' l c p a) = step l c (expr a)
-  expr (Unary' l c p a) = unary l c (expr a)
+  expr (Step' l c p a) = step l (mark_number c) (expr a)
+  expr (Unary' l c p a) = unary l (mark_number c) (expr a)
   expr (SizeofExpr' l p a) = sizeof_expr l (expr a)
   expr (SizeofType l t) = sizeof_type l (type_name t.value)
   expr (Index' l p a q b) = index l (expr a) (expr b)

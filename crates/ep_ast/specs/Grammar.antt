@@ -97,7 +97,8 @@ mutual
     sized_type : {l w m c : ℕ} {xs ys : List Tok} {t : TypeName} → w ≡ sizeof_word → c ≡ left_paren
         → TypeNamed is_type xs ys t → Derives is_type unary (word l w ∷ mark m c ∷ xs) ys (tree.sizeof_type l t)
     unary_not : {xs ys : List Tok} {a : Expr} → Derives is_type postfix xs ys a → Derives is_type unary xs ys a
-    suffixed : {xs ys zs : List Tok} {a : Expr} {s : Suffix} → Derives is_type postfix xs ys a → Behind is_type ys zs s
+    suffixed : {xs ys zs : List Tok} {a : Expr} {s : Suffix} → Derives is_type postfix xs ys a →
+        IsSuffix is_type ys zs s
         → Derives is_type postfix xs zs (apply s a)
     suffixed_not : {xs ys : List Tok} {a : Expr} → Derives is_type primary xs ys a → Derives is_type postfix xs ys a
     names : {l : ℕ} {text : List ℕ} {xs : List Tok} → is_type text ≡ false
@@ -106,17 +107,17 @@ mutual
     parens : {l c m d : ℕ} {xs ys : List Tok} {a : Expr} → c ≡ left_paren → d ≡ right_paren
         → Derives is_type expr xs (mark m d ∷ ys) a → Derives is_type primary (mark l c ∷ xs) ys a
 
-  pub data Behind (is_type : List ℕ → Bool) : List Tok → List Tok → Suffix → Type 0 where
+  pub data IsSuffix (is_type : List ℕ → Bool) : List Tok → List Tok → Suffix → Type 0 where
     indexed : {l c m d : ℕ} {xs ys : List Tok} {b : Expr} → c ≡ left_bracket → d ≡ right_bracket
-        → Derives is_type expr xs (mark m d ∷ ys) b → Behind is_type (mark l c ∷ xs) ys (at b)
+        → Derives is_type expr xs (mark m d ∷ ys) b → IsSuffix is_type (mark l c ∷ xs) ys (at b)
     called : {l c : ℕ} {xs ys : List Tok} {bs : List Expr} → c ≡ left_paren → Arguments is_type xs ys bs
-        → Behind is_type (mark l c ∷ xs) ys (with bs)
+        → IsSuffix is_type (mark l c ∷ xs) ys (with bs)
     member : {l c m : ℕ} {text : List ℕ} {xs : List Tok} → c ≡ dot
-        → Behind is_type (mark l c ∷ name m text ∷ xs) xs (of text)
+        → IsSuffix is_type (mark l c ∷ name m text ∷ xs) xs (of text)
     pointed : {l c m : ℕ} {text : List ℕ} {xs : List Tok} → c ≡ arrow
-        → Behind is_type (mark l c ∷ name m text ∷ xs) xs (through text)
-    incremented : {l c : ℕ} {xs : List Tok} → c ≡ plus_plus → Behind is_type (mark l c ∷ xs) xs increment
-    decremented : {l c : ℕ} {xs : List Tok} → c ≡ minus_minus → Behind is_type (mark l c ∷ xs) xs decrement
+        → IsSuffix is_type (mark l c ∷ name m text ∷ xs) xs (through text)
+    incremented : {l c : ℕ} {xs : List Tok} → c ≡ plus_plus → IsSuffix is_type (mark l c ∷ xs) xs increment
+    decremented : {l c : ℕ} {xs : List Tok} → c ≡ minus_minus → IsSuffix is_type (mark l c ∷ xs) xs decrement
 
   -- from behind the opening parenthesis to behind the closing one
   pub data Arguments (is_type : List ℕ → Bool) : List Tok → List Tok → List Expr → Type 0 where

@@ -3,6 +3,7 @@ pub mod Declaration
 pub mod Statement
 pub mod Token
 pub mod Kind
+pub mod Reserved
 pub mod Refusal
 pub mod Lexeme
 pub mod Cut

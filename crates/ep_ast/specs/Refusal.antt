@@ -1,10 +1,10 @@
 -- The line that says why a source is refused: this project's kinds and their names.
-use Rattle.std.specs.Prelude.{ℕ, ◌-◌, ◌==◌, if◌then◌else◌, List, [], ◌++◌, codes, decimal, slice_index_or}
+use Rattle.std.specs.Prelude.{ℕ, ◌==◌, if◌then◌else◌, List, [], ◌++◌, codes, decimal}
 use Rattle.ep_ast.specs.Kind as kinds
 use Rattle.ep_ast.specs.declared.refusals.Refusal.{Refusal}
 use Rattle.ep_ast.specs.declared.refusals.Halt.{Halt}
 use Rattle.ep_ast.specs.declared.refusals.Halt.TheVariants as halts
-use Rattle.ep_ast.specs.Token.{reserved_words}
+use Rattle.ep_ast.specs.Reserved.{reserved_word}
 
 -- each kind with its name
 abbrev pub kind_name : ℕ → List ℕ
@@ -43,10 +43,6 @@ kind_name k =
     else if k == kinds.stray_jump then codes "stray-jump"
     else if k == kinds.call_depth then codes "call-depth"
     else []
-
--- a reserved word by its number, from 1
-abbrev pub reserved_word : ℕ → List ℕ
-reserved_word n = if n == 0 then [] else slice_index_or reserved_words (n - 1) []
 
 abbrev pub word_part : Refusal → List ℕ
 word_part r = if r.kind == kinds.reserved_word then codes " " ++ reserved_word r.word else []

@@ -1,8 +1,10 @@
 ghost use Rattle.std.specs.Prelude.{◌≡◌, map};
 ghost use Rattle.std.specs.Option.{option_map};
 ghost use Rattle.ep_ast.specs.Declaration as shape;
+ghost use Rattle.ep_ast.specs.Mark.{word_number};
 
 use crate::expressions::{ExprTree, TypeWordTree};
+use crate::words::Word;
 
 /// A name with its derivations. `stars` has for each `*` the number of `const` after it, `bounds` each pair of `[ ]`.
 /// The line is that of the name.
@@ -19,14 +21,14 @@ pub struct DeclaratorTree {
 #[cycle(specs)]
 pub enum SpecTree {
     Plain(TypeWordTree),
-    Body(u32, u8, Option<Vec<u8>>, Vec<MemberTree>),
+    Body(u32, Word, Option<Vec<u8>>, Vec<MemberTree>),
 }
 
-/// A `struct` or `union` with its members. The line is that of its word, whose number is `word`.
+/// A `struct` or `union` with its members. The line is that of its word.
 #[derive(Debug, Drop)]
 pub struct AggregateTree {
     pub line: u32,
-    pub word: u8,
+    pub word: Word,
     pub tag: Option<Vec<u8>>,
     pub members: Vec<MemberTree>,
 }
@@ -100,8 +102,14 @@ pub struct HeadTree {
 
 impl SpecTree {
     /// A `struct` or `union` with its members.
-    pub fn new_body(line: u32, word: u8, tag: Option<Vec<u8>>, members: Vec<MemberTree>) -> SpecTree
-        ensures { shape.spec_of result ≡ shape.body (shape.aggregate line word (option_map shape.text_of tag)
+    pub fn new_body(
+        line: u32,
+        word: Word,
+        tag: Option<Vec<u8>>,
+        members: Vec<MemberTree>,
+    ) -> SpecTree
+        ensures { shape.spec_of result
+            ≡ shape.body (shape.aggregate line (word_number word) (option_map shape.text_of tag)
             (shape.to_members (map shape.member_of members.items))) }
     {
         SpecTree::Body(line, word, tag, members)

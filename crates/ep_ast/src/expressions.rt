@@ -1,6 +1,9 @@
 ghost use Rattle.std.specs.Prelude.{◌≡◌, map};
 ghost use Rattle.ep_ast.specs.Expression as shape;
 
+use crate::marks::Mark;
+use crate::words::Word;
+
 /// An integer constant: its value, whether it was written in decimal, and its suffix (`u`, and how many times `l`).
 /// A character constant counts as decimal and has no suffix.
 #[derive(Clone, Copy, Debug, PartialEq, Eq)]
@@ -11,13 +14,12 @@ pub struct Literal {
     pub longs: u8,
 }
 
-/// A type word without a body: an accepted word by its number, a typedef name, or a `struct` or `union` word and its
-/// tag.
+/// A type word without a body: an accepted word, a typedef name, or a `struct` or `union` word and its tag.
 #[derive(Debug, Drop)]
 pub enum TypeWordTree {
-    Word(u32, u8),
+    Word(u32, Word),
     Name(u32, Vec<u8>),
-    Tag(u32, u8, Vec<u8>),
+    Tag(u32, Word, Vec<u8>),
 }
 
 /// The name of a type, in a cast or a `sizeof`. `stars` has for each `*` the number of `const` after it.
@@ -29,16 +31,15 @@ pub struct TypeNameTree {
 }
 
 /// An expression. Each variant begins with its line, that of its first token, where parentheses round an expression
-/// don't
-/// count. A `u8` is the number of a mark.
+/// don't count.
 #[derive(Debug, Drop)]
 pub enum ExprTree {
-    Assign(u32, u8, Box<ExprTree>, Box<ExprTree>),
+    Assign(u32, Mark, Box<ExprTree>, Box<ExprTree>),
     Conditional(u32, Box<ExprTree>, Box<ExprTree>, Box<ExprTree>),
-    Binary(u32, u8, Box<ExprTree>, Box<ExprTree>),
+    Binary(u32, Mark, Box<ExprTree>, Box<ExprTree>),
     Cast(u32, Box<TypeNameTree>, Box<ExprTree>),
-    Step(u32, u8, Box<ExprTree>),
-    Unary(u32, u8, Box<ExprTree>),
+    Step(u32, Mark, Box<ExprTree>),
+    Unary(u32, Mark, Box<ExprTree>),
     SizeofExpr(u32, Box<ExprTree>),
     SizeofType(u32, Box<TypeNameTree>),
     Index(u32, Box<ExprTree>, Box<ExprTree>),

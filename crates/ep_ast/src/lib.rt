@@ -4,11 +4,11 @@
 mod declarations;
 mod expressions;
 mod kinds;
-pub mod marks;
+mod marks;
 mod orders;
 mod refusals;
 mod statements;
-pub mod words;
+mod words;
 
 pub use declarations::{
     AggregateTree, DeclarationTree, DeclaratorTree, HeadTree, InitTree, MemberTree, ParamTree,
@@ -16,9 +16,11 @@ pub use declarations::{
 };
 pub use expressions::{ExprTree, Literal, TypeNameTree, TypeWordTree};
 pub use kinds::RefusalKind;
+pub use marks::Mark;
 pub use orders::NamedOrder;
 pub use refusals::{Halt, Refusal, refusal_text};
 pub use statements::{
     BlockItemTree, BlockTree, ForInitTree, FunctionTree, HeadingTree, ItemTree, ProgramTree,
     StmtTree,
 };
+pub use words::{ReservedWord, Word};

@@ -1,34 +1,40 @@
 ghost use Rattle.std.specs.Prelude.{◌≡◌, ◌++◌, IfOk, OnOk};
 ghost use Rattle.ep_ast.specs.Kind.{number_of};
 ghost use Rattle.ep_ast.specs.Refusal as spec;
+ghost use Rattle.ep_ast.specs.Reserved.{reserved_number, reserved_word};
 ghost use Rattle.ep_ast.specs.declared.refusals.Halt.TheVariants.{Memory as wanting, Refused as refused};
 
 use crate::kinds::RefusalKind;
+use crate::words::ReservedWord;
 use ep_int::Memory;
 use itoa::Buffer;
 use std::alloc::{AllocError, AllocFailed, Global};
 use std::marker::Model;
 
-/// Why a source is refused: the kind, the line, and for a reserved word its number, else 0.
+/// Why a source is refused: the kind, the line, and the reserved word where it is one.
 #[derive(Clone, Copy, Debug)]
 pub struct Refusal {
     pub kind: RefusalKind,
     pub line: u32,
-    pub word: u8,
+    pub word: Option<ReservedWord>,
 }
 
 impl Model for Refusal {
-    ghost use Rattle.std.proofs.Common.{ap};
+    ghost use Rattle.std.proofs.Common.{ap, ◌∙◌, Option};
     ghost use Rattle.ep_ast.specs.Kind.{Refused, number_of, kind_of, kind_of_number};
+    ghost use Rattle.ep_ast.specs.Reserved.{reserved_number, reserved_of, reserved_of_number};
     ghost use Rattle.ep_ast.specs.declared.kinds.RefusalKind.{RefusalKind as TheKind};
+    ghost use Rattle.ep_ast.specs.declared.words.ReservedWord.{ReservedWord as TheWord};
 
     ghost Value = { Refused };
 
-    ghost view = { λ r. record { kind = number_of r.kind; line = r.line; word = r.word } };
+    ghost view = { λ r. record { kind = number_of r.kind; line = r.line; word = reserved_number r.word } };
 
-    ghost inverse = { λ r. record { kind = kind_of r.kind; line = r.line; word = r.word } };
+    ghost inverse = { λ r. record { kind = kind_of r.kind; line = r.line; word = reserved_of r.word } };
 
-    ghost inverse_ok = { λ r _. ap (λ (k : TheKind). record r { kind = k }) (kind_of_number r.kind) };
+    ghost inverse_ok = { λ r _.
+        ap (λ (k : TheKind). record r { kind = k; word = reserved_of (reserved_number r.word) }) (kind_of_number r.kind)
+        ∙ ap (λ (w : Option TheWord). record r { word = w }) (reserved_of_number r.word) };
 }
 
 impl Refusal {
@@ -39,7 +45,7 @@ impl Refusal {
         Refusal {
             kind,
             line,
-            word: 0,
+            word: None,
         }
     }
 
@@ -89,34 +95,12 @@ impl From<Refusal> for Halt {
     }
 }
 
-/// Empty for a number that is no reserved word's.
-fn reserved_word(word: u8) -> &'static [u8]
-    ensures { result.now ≡ spec.reserved_word word }
+fn reserved_text(word: Option<ReservedWord>) -> &'static [u8]
+    ensures { result.now ≡ reserved_word (reserved_number word) }
 {
     match word {
-        1 => b"auto",
-        2 => b"case",
-        3 => b"default",
-        4 => b"double",
-        5 => b"enum",
-        6 => b"extern",
-        7 => b"float",
-        8 => b"goto",
-        9 => b"register",
-        10 => b"restrict",
-        11 => b"switch",
-        12 => b"volatile",
-        13 => b"_Alignas",
-        14 => b"_Alignof",
-        15 => b"_Atomic",
-        16 => b"_Bool",
-        17 => b"_Complex",
-        18 => b"_Generic",
-        19 => b"_Imaginary",
-        20 => b"_Noreturn",
-        21 => b"_Static_assert",
-        22 => b"_Thread_local",
-        _ => b"",
+        Some(word) => word.text(),
+        None => b"",
     }
 }
 
@@ -125,7 +109,7 @@ fn add_word(text: &mut Vec<u8>, r: &Refusal) -> Result<(), AllocError>
 {
     if r.kind == RefusalKind::ReservedWord {
         text.extend_from_slice(b" ")?;
-        text.extend_from_slice(reserved_word(r.word))?;
+        text.extend_from_slice(reserved_text(r.word))?;
     }
     Ok(())
 }

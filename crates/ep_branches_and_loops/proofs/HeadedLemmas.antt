@@ -12,7 +12,7 @@ use Rattle.ep_reading.specs.declared.measured.Measured.{Measured}
 use Rattle.ep_reading.specs.declared.measured.Measured.TheVariants as measured
 use Rattle.ep_reading.specs.Measured.{Shows, joined}
 use Rattle.ep_reading.proofs.MeasuredLemmas.{or_else-assoc, joined_shows}
-use Rattle.ep_statement_parts.specs.Shown.{in_test, heading_of, in_heading, ShowsTest, ShowsHeading}
+use Rattle.ep_statement_parts.specs.View.{in_test, heading_of, in_heading, ShowsTest, ShowsHeading}
 use Rattle.ep_branches_and_loops.specs.Headed.{tested_of, in_tested, ShowsTested, both_of, in_both, ShowsBoth}
 use Rattle.ep_branches_and_loops.specs.Headed.{headed_of, in_headed, ShowsHeaded}
 

@@ -9,7 +9,7 @@ use Rattle.ep_ast.specs.Nesting.{is_too_deep}
 use Rattle.ep_ast.specs.Depth.{is_deep_if, in_first, in_stmt, or_else, line_if}
 use Rattle.ep_reading.specs.declared.measured.Measured.{Measured}
 use Rattle.ep_reading.specs.Measured.{Shows}
-use Rattle.ep_statement_parts.specs.Shown.{heading_of}
+use Rattle.ep_statement_parts.specs.View.{heading_of}
 
 abbrev pub tested_of : ExprTree × StmtTree → Expr × Stmt
 tested_of t = (expr t.0, stmt_of t.1)

@@ -6,7 +6,7 @@ ghost use Rattle.ep_ast.specs.Statement as shape;
 ghost use Rattle.ep_ast.specs.Statement.{First, Stmt, stmt_of};
 ghost use Rattle.ep_ast.specs.Depth.{in_stmt};
 ghost use Rattle.ep_reading.specs.Measured as measured;
-ghost use Rattle.ep_statement_parts.specs.Shown.{Counts, ShowsTest, ShowsHeading, ShowsStmt};
+ghost use Rattle.ep_statement_parts.specs.View.{Counts, ShowsTest, ShowsHeading, ShowsStmt};
 ghost use Rattle.ep_branches_and_loops.specs.Headed.{ShowsTested, ShowsBoth, ShowsHeaded};
 
 use ep_ast::{ExprTree, HeadingTree, StmtTree};

@@ -10,7 +10,7 @@ use Rattle.ep_ast.specs.Declaration.{Spec, plain, body, aggregate, Aggregate, Me
 use Rattle.ep_ast.specs.Mark.{left_brace}
 use Rattle.ep_ast.specs.TypeWords.{Bag, with_word, with_whole, joined, fits, is_type_word, is_tag_word, OneWord}
 use Rattle.ep_ast.specs.TypeWords.{plain_word, tag as tag_name, begins_type}
-use Rattle.ep_ast.specs.DeclarationGrammar.{Place, has_bodies, has_storage, is_storage_word, begins_spec, type_word}
+use Rattle.ep_ast.specs.DeclarationGrammar.{Context, has_bodies, has_storage, is_storage_word, begins_spec, type_word}
 use Rattle.ep_ast.specs.DeclarationGrammar.{storage, with_members, Aggregated, tagged, untagged, Members}
 use Rattle.ep_ast.specs.BitField.{InMembers}
 use Rattle.ep_ast.specs.Reading.{Takes, TakesNone, Lacks, AtMark}
@@ -41,7 +41,7 @@ storage_bag c b h f = (sym (storage_joins c b h), rw (storage_joins c b h) f)
 body_test : (c d : ℕ) → is_tag_word c ≡ true → d ≡ left_brace → (is_tag_word c && d == left_brace) ≡ true
 body_test c d h e = rw (h, e) refl
 
-storage_test : (k : Place) (c : ℕ) → has_storage k ≡ true → is_storage_word c ≡ true
+storage_test : (k : Context) (c : ℕ) → has_storage k ≡ true → is_storage_word c ≡ true
     → (has_storage k && is_storage_word c) ≡ true
 storage_test k c h i = rw (h, i) refl
 
@@ -71,7 +71,7 @@ module _ (N : List ℕ → Bool) where
   in_opens l c (Some text) us ts m o i = tagged_in (rw o.5 at i)
 
   -- what reads such a beginning
-  pub record Within (k : Place) (b : Bag) (l c : ℕ) (tag : Option (List ℕ)) (us zs : List Tok) (o : Option Spec) : Type
+  pub record Within (k : Context) (b : Bag) (l c : ℕ) (tag : Option (List ℕ)) (us zs : List Tok) (o : Option Spec) : Type
       0 where
     pub all : List Member
     pub is : o ≡ Some (body (aggregate l c tag (to_members all)))
@@ -79,7 +79,7 @@ module _ (N : List ℕ → Bool) where
     pub fit : fits (with_whole b) ≡ true
     pub inside : Members N us zs all
 
-  untagged_ahead : {k : Place} {b : Bag} {l c p d : ℕ} {us zs : List Tok} {o : Option Spec} → is_tag_word c ≡ true
+  untagged_ahead : {k : Context} {b : Bag} {l c p d : ℕ} {us zs : List Tok} {o : Option Spec} → is_tag_word c ≡ true
       → Ahead N k b (word l c ∷ mark p d ∷ us) zs o → Within k b l c None us zs o
   untagged_ahead {k = k} {c = c} h (over n) = let g = tag_begins c (has_storage k && is_storage_word c) h in absurd cc
   untagged_ahead {c = c} h (fitting (type_word (plain_word w) n) f) = absurd (apart c w h)
@@ -87,7 +87,7 @@ module _ (N : List ℕ → Bool) where
   untagged_ahead h (fitting (with_members i (untagged {ms = ms} t d m)) f) =
       record { all = ms; is = refl; may = i; fit = f; inside = m }
 
-  tagged_ahead : {k : Place} {b : Bag} {l c n p d : ℕ} {text : List ℕ} {us zs : List Tok} {o : Option Spec}
+  tagged_ahead : {k : Context} {b : Bag} {l c n p d : ℕ} {text : List ℕ} {us zs : List Tok} {o : Option Spec}
       → is_tag_word c ≡ true → d ≡ left_brace → Ahead N k b (word l c ∷ name n text ∷ mark p d ∷ us) zs o
       → Within k b l c (Some text) us zs o
   tagged_ahead {k = k} {c = c} h e (over n) = let g = tag_begins c (has_storage k && is_storage_word c) h in absurd cc
@@ -97,7 +97,7 @@ module _ (N : List ℕ → Bool) where
   tagged_ahead h e (fitting (with_members i (tagged {ms = ms} t d m)) f) =
       record { all = ms; is = refl; may = i; fit = f; inside = m }
 
-  within : (k : Place) (b : Bag) (l c : ℕ) (tag : Option (List ℕ)) (us ts zs : List Tok) (o : Option Spec)
+  within : (k : Context) (b : Bag) (l c : ℕ) (tag : Option (List ℕ)) (us ts zs : List Tok) (o : Option Spec)
       → Opens l c tag us ts → Ahead N k b ts zs o → Within k b l c tag us zs o
   within k b l c None us ts zs o e d = untagged_ahead e.3 (rw e.4 at d)
   within k b l c (Some text) us ts zs o e d = tagged_ahead e.4 e.3 (rw e.5 at d)
@@ -106,7 +106,7 @@ module _ (N : List ℕ → Bool) where
       → Some (body (aggregate l c tag (to_members ns))) ≡ Some (body (aggregate l c tag (to_members ms)))
   body_is l c tag ms ns e = ap (λ (xs : List Member). Some (body (aggregate l c tag (to_members xs)))) e
 
-  pub body_taken : (k : Place) (b : Bag) (l c : ℕ) (tag : Option (List ℕ)) (us ts zs : List Tok) (ms : List Member)
+  pub body_taken : (k : Context) (b : Bag) (l c : ℕ) (tag : Option (List ℕ)) (us ts zs : List Tok) (ms : List Member)
       → Opens l c tag us ts → has_bodies k ≡ true → fits (with_whole b) ≡ true
       → Takes (Members N) us ms zs → Clear (InMembers N) us
       → Takes (Ahead N k b) ts (Some (body (aggregate l c tag (to_members ms)))) zs × Clear (InBody N k b) ts
@@ -119,7 +119,7 @@ module _ (N : List ℕ → Bool) where
     λ m i. n m (in_opens l c tag us ts m o i.2),
   )
 
-  pub body_none : (k : Place) (b : Bag) (l c : ℕ) (tag : Option (List ℕ)) (us ts : List Tok) → Opens l c tag us ts
+  pub body_none : (k : Context) (b : Bag) (l c : ℕ) (tag : Option (List ℕ)) (us ts : List Tok) → Opens l c tag us ts
       → TakesNone (Members N) us → Clear (InMembers N) us
       → TakesNone (Ahead N k b) ts × Clear (InBody N k b) ts
   body_none k b l c tag us ts o t n = (
@@ -127,18 +127,18 @@ module _ (N : List ℕ → Bool) where
     λ m i. n m (in_opens l c tag us ts m o i.2),
   )
 
-  pub body_in : (k : Place) (b : Bag) (l c : ℕ) (tag : Option (List ℕ)) (us ts : List Tok) → Opens l c tag us ts
+  pub body_in : (k : Context) (b : Bag) (l c : ℕ) (tag : Option (List ℕ)) (us ts : List Tok) → Opens l c tag us ts
       → has_bodies k ≡ true → fits (with_whole b) ≡ true → (m : ℕ) → InMembers N us m → InBody N k b ts m
   body_in k b l c tag us ts o h f m i = (h, f, opens_in l c tag us ts m o i)
 
-  pub no_bodies : (k : Place) (b : Bag) (l c : ℕ) (tag : Option (List ℕ)) (us ts : List Tok) → Opens l c tag us ts
+  pub no_bodies : (k : Context) (b : Bag) (l c : ℕ) (tag : Option (List ℕ)) (us ts : List Tok) → Opens l c tag us ts
       → has_bodies k ≡ false → TakesNone (Ahead N k b) ts × Clear (InBody N k b) ts
   no_bodies k b l c tag us ts o h = (
     record { never = λ u vs d. let w = within k b l c tag us ts vs u o d in let g = w.may in cc },
     λ m i. let g = i.0 in cc,
   )
 
-  pub unfit_body : (k : Place) (b : Bag) (l c : ℕ) (tag : Option (List ℕ)) (us ts : List Tok) → Opens l c tag us ts
+  pub unfit_body : (k : Context) (b : Bag) (l c : ℕ) (tag : Option (List ℕ)) (us ts : List Tok) → Opens l c tag us ts
       → fits (with_whole b) ≡ false → TakesNone (Ahead N k b) ts × Clear (InBody N k b) ts
   unfit_body k b l c tag us ts o h = (
     record { never = λ u vs d. let w = within k b l c tag us ts vs u o d in let g = w.fit in cc },
@@ -155,10 +155,10 @@ module _ (N : List ℕ → Bool) where
   in_begins (in_tagged {c = c} {d = d} t e i) = body_test c d t e
   in_begins (in_untagged {c = c} {d = d} t e i) = body_test c d t e
 
-  pub plain_clear : (k : Place) (b : Bag) (ts : List Tok) → begins_body ts ≡ false → Clear (InBody N k b) ts
+  pub plain_clear : (k : Context) (b : Bag) (ts : List Tok) → begins_body ts ≡ false → Clear (InBody N k b) ts
   plain_clear k b ts h m i = let g = in_begins i.2 in cc
 
-  storage_only : {k : Place} {b : Bag} {l c : ℕ} {us zs : List Tok} {o : Option Spec}
+  storage_only : {k : Context} {b : Bag} {l c : ℕ} {us zs : List Tok} {o : Option Spec}
       → begins_body (word l c ∷ us) ≡ false → has_storage k ≡ true → is_storage_word c ≡ true
       → Ahead N k b (word l c ∷ us) zs o
       → (o ≡ Some (plain (expressions.word l c))) × (zs ≡ us)
@@ -169,7 +169,7 @@ module _ (N : List ℕ → Bool) where
   storage_only p h i (fitting (storage j e) f) = (refl, refl)
   storage_only p h i (fitting (with_members j a) f) = let g = aggregated_begins a in absurd cc
 
-  pub storage_taken : (k : Place) (b : Bag) (l c : ℕ) (us ts : List Tok) → begins_body ts ≡ false → has_storage k ≡ true
+  pub storage_taken : (k : Context) (b : Bag) (l c : ℕ) (us ts : List Tok) → begins_body ts ≡ false → has_storage k ≡ true
       → is_storage_word c ≡ true → ts ≡ word l c ∷ us → fits b ≡ true
       → Takes (Ahead N k b) ts (Some (plain (expressions.word l c))) us
   storage_taken k b l c us ts p h i e f =
@@ -177,12 +177,12 @@ module _ (N : List ℕ → Bool) where
       let p' : begins_body (word l c ∷ us) ≡ false = rw e at p in
       rw e (record { holds = fitting (storage h i) g; only = λ u vs d. storage_only p' h i d })
 
-  no_word_only : {k : Place} {b : Bag} {ts zs : List Tok} {o : Option Spec} → begins_spec N k ts ≡ false
+  no_word_only : {k : Context} {b : Bag} {ts zs : List Tok} {o : Option Spec} → begins_spec N k ts ≡ false
       → Ahead N k b ts zs o → (o ≡ None) × (zs ≡ ts)
   no_word_only n (over m) = (refl, refl)
   no_word_only n (fitting d f) = let g = one_spec_begins N d in absurd cc
 
-  pub no_word : (k : Place) (b : Bag) (ts : List Tok) → begins_type N ts ≡ false → begins_storage k ts ≡ false
+  pub no_word : (k : Context) (b : Bag) (ts : List Tok) → begins_type N ts ≡ false → begins_storage k ts ≡ false
       → Takes (Ahead N k b) ts None ts
   no_word k b ts h i = let n = begins_neither N k ts h i in record { holds = over n; only = λ u vs d. no_word_only n d }
 
@@ -194,7 +194,7 @@ module _ (N : List ℕ → Bool) where
     pub lacks : Lacks left_brace zs
     pub fit : fits (joined b one) ≡ true
 
-  alone : {k : Place} {b : Bag} {ts zs : List Tok} {o : Option Spec} → begins_body ts ≡ false
+  alone : {k : Context} {b : Bag} {ts zs : List Tok} {o : Option Spec} → begins_body ts ≡ false
       → begins_storage k ts ≡ false → begins_type N ts ≡ true → Ahead N k b ts zs o → Alone b ts zs o
   alone {k = k} {ts = ts} p s h (over n) = let g = type_begins N k ts h in absurd cc
   alone p s h (fitting (type_word {w = w} d n) f) = record { one = w; is = refl; reads = d; lacks = n; fit = f }
@@ -204,7 +204,7 @@ module _ (N : List ℕ → Bool) where
   plain_is : (w v : TypeWord) → v ≡ w → Some (plain v) ≡ Some (plain w)
   plain_is w v e = ap (λ (u : TypeWord). Some (plain u)) e
 
-  pub word_taken : (k : Place) (b : Bag) (ts us : List Tok) (w : TypeWord) → begins_body ts ≡ false
+  pub word_taken : (k : Context) (b : Bag) (ts us : List Tok) (w : TypeWord) → begins_body ts ≡ false
       → begins_storage k ts ≡ false → Takes (OneWord N) ts w us → Lacks left_brace us → fits (joined b w) ≡ true
       → Takes (Ahead N k b) ts (Some (plain w)) us
   word_taken k b ts us w p s t n f = record {
@@ -217,7 +217,7 @@ module _ (N : List ℕ → Bool) where
   lacks_at us vs l k n = let L : List Tok → Type 0 = λ ts. Lacks left_brace ts in
       let h : Lacks left_brace (mark l k.0 ∷ vs) = subst L k.2 n in h k.1
 
-  pub word_braced : (k : Place) (b : Bag) (ts us vs : List Tok) (w : TypeWord) (l : ℕ) → begins_body ts ≡ false
+  pub word_braced : (k : Context) (b : Bag) (ts us vs : List Tok) (w : TypeWord) (l : ℕ) → begins_body ts ≡ false
       → begins_storage k ts ≡ false → Takes (OneWord N) ts w us → AtMark left_brace us (Some (l, vs))
       → TakesNone (Ahead N k b) ts
   word_braced k b ts us vs w l p s t n = record {
@@ -225,7 +225,7 @@ module _ (N : List ℕ → Bool) where
         lacks_at us vs l n (rw q.1 at a.lacks);
   }
 
-  pub word_unfit : (k : Place) (b : Bag) (ts us : List Tok) (w : TypeWord) → begins_body ts ≡ false
+  pub word_unfit : (k : Context) (b : Bag) (ts us : List Tok) (w : TypeWord) → begins_body ts ≡ false
       → begins_storage k ts ≡ false → Takes (OneWord N) ts w us → fits (joined b w) ≡ false
       → TakesNone (Ahead N k b) ts
   word_unfit k b ts us w p s t n = record {
@@ -233,11 +233,11 @@ module _ (N : List ℕ → Bool) where
         let f : fits (joined b w) ≡ true = rw q.0 at a.fit in cc;
   }
 
-  word_stuck : (k : Place) (b : Bag) (ts : List Tok) → begins_body ts ≡ false → begins_storage k ts ≡ false
+  word_stuck : (k : Context) (b : Bag) (ts : List Tok) → begins_body ts ≡ false → begins_storage k ts ≡ false
       → TakesNone (OneWord N) ts → begins_type N ts ≡ true → TakesNone (Ahead N k b) ts
   word_stuck k b ts p s n h = record { never = λ u zs d. let a = alone p s h d in n.never a.one zs a.reads }
 
-  pub word_halts : (k : Place) (b : Bag) (ts : List Tok) (e : Halt) → begins_body ts ≡ false
+  pub word_halts : (k : Context) (b : Bag) (ts : List Tok) (e : Halt) → begins_body ts ≡ false
       → begins_storage k ts ≡ false → OneRead N ts (Err e)
       → Fails (Ahead N k b) (InBody N k b) ts e
   word_halts k b ts (halts.Refused f) p s h = inl (word_stuck k b ts p s h.0 h.1, plain_clear k b ts p, h.2)

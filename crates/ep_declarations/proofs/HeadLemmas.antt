@@ -7,7 +7,7 @@ use Rattle.ep_ast.specs.TypeWords.{AreStars}
 use Rattle.ep_ast.specs.DeclarationGrammar.{at_file_scope, Specified, Parameters, Headed, head}
 use Rattle.ep_ast.specs.Reading.{Takes, TakesNone, Lacks, AtMark, AtWord, LacksName}
 use Rattle.ep_reading.proofs.FirstLemmas.{tail_is, lacks_is}
-use Rattle.ep_declarators.proofs.DeclaratorLemmas.{same_name, no_const, lacks_name_is}
+use Rattle.ep_declarations.proofs.DeclaratorLemmas.{same_name, no_const, lacks_name_is}
 
 module _ (N : List ℕ → Bool) where
   -- words, and the stars behind them up to a name

@@ -1,3 +1,10 @@
+pub mod PartLemmas
+pub mod BoundLemmas
+pub mod DeclaratorLemmas
+pub mod TypedefLemmas
+pub mod ValueLemmas
+pub mod InitLemmas
+pub mod ParameterLemmas
 pub mod VariableLemmas
 pub mod HeadLemmas
 pub mod SpecLemmas

@@ -1,12 +1,15 @@
 -- Reading the words that begin a declaration, one after the other.
 use Rattle.std.proofs.Common.{◌≡◌, ℕ, Bool, true, false, List, [], ◌∷◌, ◌++◌, Some, None, refl, sym, ap, ◌∙◌}
+use Rattle.ep_type_names.proofs.TypeWordLemmas.{are_type, is_not}
+use Rattle.ep_int.proofs.Basics.{some-injective}
+use Rattle.std.proofs.lemmas.Bool.{and_parts, or_from, or_left, or_right}
 use Rattle.std.proofs.Common.{append_assoc, inl, inr}
 use Rattle.std.specs.Prelude.{◌&&◌, ◌||◌, not}
 use Rattle.std.proofs.lemmas.List.{append-nil}
 use Rattle.ep_ast.specs.Token.{Tok, word, name, number, mark, if_little, if_big, other, end_if}
 use Rattle.ep_ast.specs.Declaration.{Spec, plain, body}
 use Rattle.ep_ast.specs.TypeWords.{Bag, no_bag, with_whole, fits, is_no_bag, is_type_word, is_tag_word, begins_type}
-use Rattle.ep_ast.specs.DeclarationGrammar.{Place, has_bodies, has_storage, is_storage_word, spec_joined, specs_joined}
+use Rattle.ep_ast.specs.DeclarationGrammar.{Context, has_bodies, has_storage, is_storage_word, spec_joined, specs_joined}
 use Rattle.ep_ast.specs.DeclarationGrammar.{name_type, begins_spec, OneSpec, type_word, storage, with_members, Specs}
 use Rattle.ep_ast.specs.DeclarationGrammar.{no_specs, more_specs, Specified, specified, tagged, untagged}
 use Rattle.ep_ast.specs.BitField as bits
@@ -28,18 +31,10 @@ passes P B Q C ys xs (halts.Refused f) g h q =
     elim q [ inl r ↦ (let s = g r.0 r.1 in inl (s.0, s.1, r.2)) | inr r ↦ inr (h f.line r.0, r.1, r.2) ]
 passes P B Q C ys xs halts.Memory g h q = tt
 
-pub some_is : {A : Type 0} {x y : A} → Some x ≡ Some y → x ≡ y
-some_is e = cc
-
 -- ---- bags
 
 pub fits_is : (b c : Bag) → c ≡ b → fits c ≡ true → fits b ≡ true
 fits_is b c e f = rw (← e) f
-
-both_true : (a b : Bool) → (a && b) ≡ true → (a ≡ true) × (b ≡ true)
-both_true true true e = (refl, refl)
-both_true true false e = absurd cc
-both_true false b e = absurd cc
 
 less_spec : (b : Bag) (s : Spec) → fits (spec_joined b s) ≡ true → fits b ≡ true
 less_spec b (plain w) h = less_joined b w h
@@ -67,37 +62,20 @@ fits_next front more ss s b j e h =
     rw j (less_specs more (spec_joined (specs_joined no_bag front) s) g)
 
 type_fits : (ss : List Spec) → name_type ss ≡ true → fits (specs_joined no_bag ss) ≡ true
-type_fits ss h = (both_true (fits (specs_joined no_bag ss)) (not (is_no_bag (specs_joined no_bag ss))) h).0
-
-is_not : (b : Bool) → not b ≡ true → b ≡ true → ⊥
-is_not true h k = cc
-is_not false h k = cc
+type_fits ss h = (and_parts (fits (specs_joined no_bag ss)) (not (is_no_bag (specs_joined no_bag ss))) h).0
 
 type_some : (ss : List Spec) → name_type ss ≡ true → is_no_bag (specs_joined no_bag ss) ≡ true → ⊥
 type_some ss h k =
     is_not (is_no_bag (specs_joined no_bag ss))
-    (both_true (fits (specs_joined no_bag ss)) (not (is_no_bag (specs_joined no_bag ss))) h).1 k
-
-are_type : (b : Bag) → fits b ≡ true → is_no_bag b ≡ false → (fits b && not (is_no_bag b)) ≡ true
-are_type b h k = rw (h, k) refl
+    (and_parts (fits (specs_joined no_bag ss)) (not (is_no_bag (specs_joined no_bag ss))) h).1 k
 
 -- ---- beginnings
-
-or_left : (a b : Bool) → a ≡ true → (a || b) ≡ true
-or_left a b h = rw h refl
-
-pub or_right : (a b : Bool) → b ≡ true → (a || b) ≡ true
-or_right true b h = refl
-or_right false b h = h
-
-neither : (a b : Bool) → a ≡ false → b ≡ false → (a || b) ≡ false
-neither a b h k = rw (h, k) refl
 
 pub tag_begins : (c : ℕ) (b : Bool) → is_tag_word c ≡ true → ((is_type_word c || is_tag_word c) || b) ≡ true
 tag_begins c b h = or_left (is_type_word c || is_tag_word c) b (or_right (is_type_word c) (is_tag_word c) h)
 
 module _ (N : List ℕ → Bool) where
-  pub type_begins : (k : Place) (ts : List Tok) → begins_type N ts ≡ true → begins_spec N k ts ≡ true
+  pub type_begins : (k : Context) (ts : List Tok) → begins_type N ts ≡ true → begins_spec N k ts ≡ true
   type_begins k [] h = h
   type_begins k (word l c ∷ ts) h = or_left (is_type_word c || is_tag_word c) (has_storage k && is_storage_word c) h
   type_begins k (name l c ∷ ts) h = h
@@ -108,11 +86,11 @@ module _ (N : List ℕ → Bool) where
   type_begins k (other l ∷ ts) h = h
   type_begins k (end_if l ∷ ts) h = h
 
-  pub begins_neither : (k : Place) (ts : List Tok) → begins_type N ts ≡ false → ahead.begins_storage k ts ≡ false
+  pub begins_neither : (k : Context) (ts : List Tok) → begins_type N ts ≡ false → ahead.begins_storage k ts ≡ false
       → begins_spec N k ts ≡ false
   begins_neither k [] h e = h
   begins_neither k (word l c ∷ ts) h e =
-      neither (is_type_word c || is_tag_word c) (has_storage k && is_storage_word c) h e
+      or_from (is_type_word c || is_tag_word c) (has_storage k && is_storage_word c) h e
   begins_neither k (name l c ∷ ts) h e = h
   begins_neither k (number l c ∷ ts) h e = h
   begins_neither k (mark l c ∷ ts) h e = h
@@ -121,26 +99,26 @@ module _ (N : List ℕ → Bool) where
   begins_neither k (other l ∷ ts) h e = h
   begins_neither k (end_if l ∷ ts) h e = h
 
-  storage_begins : (k : Place) (l c : ℕ) (ts : List Tok) → has_storage k ≡ true → is_storage_word c ≡ true
+  storage_begins : (k : Context) (l c : ℕ) (ts : List Tok) → has_storage k ≡ true → is_storage_word c ≡ true
       → begins_spec N k (word l c ∷ ts) ≡ true
   storage_begins k l c ts h i =
       or_right (is_type_word c || is_tag_word c) (has_storage k && is_storage_word c) (rw (h, i) refl)
 
-  pub one_spec_begins : {k : Place} {xs ys : List Tok} {s : Spec} → OneSpec N k xs ys s → begins_spec N k xs ≡ true
+  pub one_spec_begins : {k : Context} {xs ys : List Tok} {s : Spec} → OneSpec N k xs ys s → begins_spec N k xs ≡ true
   one_spec_begins (type_word {k = k} {xs = xs} d h) = type_begins k xs (one_begins N d)
   one_spec_begins (storage {k = k} {l = l} {c = c} {xs = xs} h i) = storage_begins k l c xs h i
   one_spec_begins (with_members {k = k} h (tagged {c = c} t d m)) = tag_begins c (has_storage k && is_storage_word c) t
   one_spec_begins (with_members {k = k} h (untagged {c = c} t d m)) =
       tag_begins c (has_storage k && is_storage_word c) t
 
-  pub not_in_specs : {k : Place} {b : Bag} {xs : List Tok} {l : ℕ} → begins_spec N k xs ≡ false → InSpecs N k b xs l → ⊥
+  pub not_in_specs : {k : Context} {b : Bag} {xs : List Tok} {l : ℕ} → begins_spec N k xs ≡ false → InSpecs N k b xs l → ⊥
   not_in_specs n (after_word d f i) = let h = one_spec_begins d in cc
   not_in_specs n (bits.in_tagged {k = k} {c = c} h f t d i) =
       let g = tag_begins c (has_storage k && is_storage_word c) t in cc
   not_in_specs n (bits.in_untagged {k = k} {c = c} h f t d i) =
       let g = tag_begins c (has_storage k && is_storage_word c) t in cc
 
-  pub not_specified : {k : Place} {xs ys : List Tok} {ss : List Spec} → begins_spec N k xs ≡ false
+  pub not_specified : {k : Context} {xs ys : List Tok} {ss : List Spec} → begins_spec N k xs ≡ false
       → Specified N k xs ys ss → ⊥
   not_specified n (specified h (no_specs m)) = cc
   not_specified n (specified h (more_specs d r)) = let g = one_spec_begins d in cc
@@ -148,7 +126,7 @@ module _ (N : List ℕ → Bool) where
   -- ---- words
 
   -- these are read, and what comes are words again, with the same bit-fields
-  pub record SpecsSo (k : Place) (xs : List Tok) (front : List Spec) (b : Bag) (ys : List Tok) : Type 0 where
+  pub record SpecsSo (k : Context) (xs : List Tok) (front : List Spec) (b : Bag) (ys : List Tok) : Type 0 where
     pub forth : (zs : List Tok) (ss : List Spec) → Specs N k ys zs ss → Specs N k xs zs (front ++ ss)
     pub back : (zs : List Tok) (ss : List Spec) → Specs N k xs zs ss → fits (specs_joined no_bag ss) ≡ true
         → (more : List Spec) × (ss ≡ front ++ more) × Specs N k ys zs more
@@ -156,7 +134,7 @@ module _ (N : List ℕ → Bool) where
     pub clear : (l : ℕ) → InSpecs N k no_bag xs l → InSpecs N k b ys l
     pub joined : b ≡ specs_joined no_bag front
 
-  pub specs_begin : (k : Place) (xs : List Tok) → SpecsSo k xs [] no_bag xs
+  pub specs_begin : (k : Context) (xs : List Tok) → SpecsSo k xs [] no_bag xs
   specs_begin k xs =
       record {
         forth = λ zs ss d. d;
@@ -166,31 +144,31 @@ module _ (N : List ℕ → Bool) where
         joined = refl;
       }
 
-  one_more : (front : List Spec) {k : Place} {b : Bag} {ys us zs : List Tok} {s : Spec} {ss rest : List Spec}
+  one_more : (front : List Spec) {k : Context} {b : Bag} {ys us zs : List Tok} {s : Spec} {ss rest : List Spec}
       → Takes (Ahead N k b) ys (Some s) us → b ≡ specs_joined no_bag front → ss ≡ front ++ rest → Specs N k ys zs rest
       → fits (specs_joined no_bag ss) ≡ true
       → (more : List Spec) × (ss ≡ (front ++ s ∷ []) ++ more) × Specs N k us zs more
   one_more front {ys = ys} t j e (no_specs n) h = let q = t.only None ys (over n) in absurd cc
   one_more front {b = b} {s = s} {ss = ss} t j e (more_specs {ys = ys'} {s = s'} {ss = ss'} d r) h =
       let q = t.only (Some s') ys' (fitting d (fits_next front ss' ss s' b j e h)) in
-      (ss', e ∙ ap (λ (x : Spec). front ++ x ∷ ss') (some_is q.0) ∙ sym (append_assoc front (s ∷ []) ss'), rw (← q.1) r)
+      (ss', e ∙ ap (λ (x : Spec). front ++ x ∷ ss') (some-injective q.0) ∙ sym (append_assoc front (s ∷ []) ss'), rw (← q.1) r)
 
-  one_clear : {k : Place} {b : Bag} {ys us : List Tok} {s : Spec} {l : ℕ} → Takes (Ahead N k b) ys (Some s) us
+  one_clear : {k : Context} {b : Bag} {ys us : List Tok} {s : Spec} {l : ℕ} → Takes (Ahead N k b) ys (Some s) us
       → Clear (InBody N k b) ys → InSpecs N k b ys l → InSpecs N k (spec_joined b s) us l
   one_clear t n (after_word {ys = ys'} {s = s'} d f i) = let q = t.only (Some s') ys' (fitting d f) in
-      rw (some_is q.0, q.1) at i
+      rw (some-injective q.0, q.1) at i
   one_clear {l = l} t n (bits.in_tagged h f g d i) = absurd (n l (h, f, ahead.in_tagged g d i))
   one_clear {l = l} t n (bits.in_untagged h f g d i) = absurd (n l (h, f, ahead.in_untagged g d i))
 
-  one_within : {k : Place} {b : Bag} {ys us : List Tok} {s : Spec} {l : ℕ} → Ahead N k b ys us (Some s)
+  one_within : {k : Context} {b : Bag} {ys us : List Tok} {s : Spec} {l : ℕ} → Ahead N k b ys us (Some s)
       → InSpecs N k (spec_joined b s) us l → InSpecs N k b ys l
   one_within (fitting d f) i = after_word d f i
 
-  one_forth : {k : Place} {b : Bag} {ys us zs : List Tok} {s : Spec} {ss : List Spec} → Ahead N k b ys us (Some s)
+  one_forth : {k : Context} {b : Bag} {ys us zs : List Tok} {s : Spec} {ss : List Spec} → Ahead N k b ys us (Some s)
       → Specs N k us zs ss → Specs N k ys zs (s ∷ ss)
   one_forth (fitting d f) r = more_specs d r
 
-  pub specs_step : (k : Place) (xs : List Tok) (front : List Spec) (b : Bag) (ys us : List Tok) (s : Spec)
+  pub specs_step : (k : Context) (xs : List Tok) (front : List Spec) (b : Bag) (ys us : List Tok) (s : Spec)
       → SpecsSo k xs front b ys → Takes (Ahead N k b) ys (Some s) us → Clear (InBody N k b) ys
       → SpecsSo k xs (front ++ s ∷ []) (spec_joined b s) us
   specs_step k xs front b ys us s o t n = record {
@@ -201,26 +179,26 @@ module _ (N : List ℕ → Bool) where
     joined = specs-last b front s o.joined;
   }
 
-  words_over : {k : Place} {b : Bag} {ys us : List Tok} → Ahead N k b ys us None → begins_spec N k ys ≡ false
+  words_over : {k : Context} {b : Bag} {ys us : List Tok} → Ahead N k b ys us None → begins_spec N k ys ≡ false
   words_over (over n) = n
 
-  no_more : {k : Place} {ys zs : List Tok} {ss : List Spec} → begins_spec N k ys ≡ false → Specs N k ys zs ss
+  no_more : {k : Context} {ys zs : List Tok} {ss : List Spec} → begins_spec N k ys ≡ false → Specs N k ys zs ss
       → (ss ≡ []) × (zs ≡ ys)
   no_more n (no_specs m) = (refl, refl)
   no_more n (more_specs d r) = let h = one_spec_begins d in absurd cc
 
-  specs_only : (front : List Spec) {k : Place} {b : Bag} {xs ys zs : List Tok} {ss : List Spec}
+  specs_only : (front : List Spec) {k : Context} {b : Bag} {xs ys zs : List Tok} {ss : List Spec}
       → SpecsSo k xs front b ys → begins_spec N k ys ≡ false → Specified N k xs zs ss → (ss ≡ front) × (zs ≡ ys)
   specs_only front o n (specified {ys = zs} {ss = ss} h d) =
       let q = o.back zs ss d (type_fits ss h) in
       let r = no_more n q.2 in
       (q.1 ∙ ap (λ (us : List Spec). front ++ us) r.0 ∙ append-nil front, r.1)
 
-  over_clear : (k : Place) (xs : List Tok) (front : List Spec) (b : Bag) (ys : List Tok) → SpecsSo k xs front b ys
+  over_clear : (k : Context) (xs : List Tok) (front : List Spec) (b : Bag) (ys : List Tok) → SpecsSo k xs front b ys
       → begins_spec N k ys ≡ false → Clear (InSpecs N k no_bag) xs
   over_clear k xs front b ys o n = λ l i. not_in_specs n (o.clear l i)
 
-  pub specs_taken : (k : Place) (xs : List Tok) (front : List Spec) (b : Bag) (ys us : List Tok)
+  pub specs_taken : (k : Context) (xs : List Tok) (front : List Spec) (b : Bag) (ys us : List Tok)
       → SpecsSo k xs front b ys → Takes (Ahead N k b) ys None us → fits b ≡ true → is_no_bag b ≡ false
       → Takes (Specified N k) xs front ys × Clear (InSpecs N k no_bag) xs
   specs_taken k xs front b ys us o t f e =
@@ -229,51 +207,51 @@ module _ (N : List ℕ → Bool) where
       let h : name_type front ≡ true = are_type (specs_joined no_bag front) (rw o.joined at f) (rw o.joined at e) in
       (record { holds = specified h d; only = λ ss zs r. specs_only front o n r }, over_clear k xs front b ys o n)
 
-  none_never : (front : List Spec) {k : Place} {b : Bag} {xs ys zs : List Tok} {ss : List Spec}
+  none_never : (front : List Spec) {k : Context} {b : Bag} {xs ys zs : List Tok} {ss : List Spec}
       → SpecsSo k xs front b ys → begins_spec N k ys ≡ false → is_no_bag (specs_joined no_bag front) ≡ true
       → Specified N k xs zs ss → ⊥
   none_never front o n e (specified {ss = ss} h d) = let q = specs_only front o n (specified h d) in
       type_some ss h (rw q.0 e)
 
   -- no word is there but `const`, `static` and `inline`
-  pub specs_none : (k : Place) (xs : List Tok) (front : List Spec) (b : Bag) (ys us : List Tok)
+  pub specs_none : (k : Context) (xs : List Tok) (front : List Spec) (b : Bag) (ys us : List Tok)
       → SpecsSo k xs front b ys → Takes (Ahead N k b) ys None us → is_no_bag b ≡ true
       → TakesNone (Specified N k) xs × Clear (InSpecs N k no_bag) xs
   specs_none k xs front b ys us o t e =
       let n : begins_spec N k ys ≡ false = words_over t.holds in
       (record { never = λ ss zs d. none_never front o n (rw o.joined at e) d }, over_clear k xs front b ys o n)
 
-  stuck : (front ss : List Spec) {k : Place} {b : Bag} {rest : List Spec} {ys zs : List Tok}
+  stuck : (front ss : List Spec) {k : Context} {b : Bag} {rest : List Spec} {ys zs : List Tok}
       → TakesNone (Ahead N k b) ys → b ≡ specs_joined no_bag front → ss ≡ front ++ rest
       → fits (specs_joined no_bag ss) ≡ true → Specs N k ys zs rest → ⊥
   stuck front ss n j e h (no_specs {xs = xs} m) = n.never None xs (over m)
   stuck front ss {b = b} n j e h (more_specs {ys = ys} {s = s} {ss = ss'} d r) =
       n.never (Some s) ys (fitting d (fits_next front ss' ss s b j e h))
 
-  stuck_never : (front : List Spec) {k : Place} {b : Bag} {xs ys zs : List Tok} {ss : List Spec}
+  stuck_never : (front : List Spec) {k : Context} {b : Bag} {xs ys zs : List Tok} {ss : List Spec}
       → SpecsSo k xs front b ys → TakesNone (Ahead N k b) ys → Specified N k xs zs ss → ⊥
   stuck_never front o n (specified {ys = zs} {ss = ss} h d) = let q = o.back zs ss d (type_fits ss h) in
       stuck front ss n o.joined q.1 (type_fits ss h) q.2
 
-  stuck_clear : {k : Place} {b : Bag} {ys : List Tok} {l : ℕ} → TakesNone (Ahead N k b) ys → Clear (InBody N k b) ys
+  stuck_clear : {k : Context} {b : Bag} {ys : List Tok} {l : ℕ} → TakesNone (Ahead N k b) ys → Clear (InBody N k b) ys
       → InSpecs N k b ys l → ⊥
   stuck_clear n c (after_word {ys = ys} {s = s} d f i) = n.never (Some s) ys (fitting d f)
   stuck_clear {l = l} n c (bits.in_tagged h f g d i) = c l (h, f, ahead.in_tagged g d i)
   stuck_clear {l = l} n c (bits.in_untagged h f g d i) = c l (h, f, ahead.in_untagged g d i)
 
   -- a word begins here and can't be read
-  pub specs_stuck : (k : Place) (xs : List Tok) (front : List Spec) (b : Bag) (ys : List Tok) → SpecsSo k xs front b ys
+  pub specs_stuck : (k : Context) (xs : List Tok) (front : List Spec) (b : Bag) (ys : List Tok) → SpecsSo k xs front b ys
       → TakesNone (Ahead N k b) ys → Clear (InBody N k b) ys
       → TakesNone (Specified N k) xs × Clear (InSpecs N k no_bag) xs
   specs_stuck k xs front b ys o n c =
       (record { never = λ ss zs d. stuck_never front o n d }, λ l i. stuck_clear n c (o.clear l i))
 
-  in_body : {k : Place} {b : Bag} {ys : List Tok} {l : ℕ} → has_bodies k ≡ true → fits (with_whole b) ≡ true
+  in_body : {k : Context} {b : Bag} {ys : List Tok} {l : ℕ} → has_bodies k ≡ true → fits (with_whole b) ≡ true
       → ahead.InAggregate N ys l → InSpecs N k b ys l
   in_body h f (ahead.in_tagged g d i) = bits.in_tagged h f g d i
   in_body h f (ahead.in_untagged g d i) = bits.in_untagged h f g d i
 
   -- a bit-field stands in the members of the next word
-  pub specs_in : (k : Place) (xs : List Tok) (front : List Spec) (b : Bag) (ys : List Tok) → SpecsSo k xs front b ys
+  pub specs_in : (k : Context) (xs : List Tok) (front : List Spec) (b : Bag) (ys : List Tok) → SpecsSo k xs front b ys
       → (l : ℕ) → InBody N k b ys l → InSpecs N k no_bag xs l
   specs_in k xs front b ys o l i = o.within l (in_body i.0 i.1 i.2)

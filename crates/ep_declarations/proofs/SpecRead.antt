@@ -3,7 +3,7 @@ use Rattle.std.proofs.Common.{◌≡◌, ℕ, Bool, true, false, List, [], ◌�
 use Rattle.ep_ast.specs.Token.{Tok}
 use Rattle.ep_ast.specs.Declaration.{Spec, spec_of}
 use Rattle.ep_ast.specs.TypeWords.{Bag, no_bag, fits, is_no_bag}
-use Rattle.ep_ast.specs.DeclarationGrammar.{Place, spec_joined, specs_joined}
+use Rattle.ep_ast.specs.DeclarationGrammar.{Context, spec_joined, specs_joined}
 use Rattle.ep_ast.specs.Depth.{in_spec}
 use Rattle.ep_ast.specs.Reading.{Takes}
 use Rattle.ep_type_names.specs.Words.{bag}
@@ -15,12 +15,12 @@ use Rattle.ep_declarations.specs.Answer.{is_body}
 use Rattle.ep_declarations.proofs.SpecLemmas.{fits_is, SpecsSo, specs_step}
 
 module _ (N : List ℕ → Bool) where
-  pub none_read : {k : Place} {b : Bag} {ys us : List Tok} → IsTaken (ShowsAhead b) (Ahead N k b) ys None us
+  pub none_read : {k : Context} {b : Bag} {ys us : List Tok} → IsTaken (ShowsAhead b) (Ahead N k b) ys None us
       → Takes (Ahead N k b) ys None us
   none_read t = rw t.shows at t.takes
 
   -- a word, and the words with it
-  pub record Word (k : Place) (b : Bag) (ys us : List Tok) (o : OneMore) : Type 0 where
+  pub record Word (k : Context) (b : Bag) (ys us : List Tok) (o : OneMore) : Type 0 where
     pub word : Spec
     pub takes : Takes (Ahead N k b) ys (Some word) us
     pub shows : Shows spec_of in_spec o.tree word
@@ -28,7 +28,7 @@ module _ (N : List ℕ → Bool) where
     pub words : bag o.bag ≡ spec_joined b word
     pub fit : fits (spec_joined b word) ≡ true
 
-  pub some_read : {k : Place} {b : Bag} {ys us : List Tok} {o : OneMore}
+  pub some_read : {k : Context} {b : Bag} {ys us : List Tok} {o : OneMore}
       → IsTaken (ShowsAhead b) (Ahead N k b) ys (Some o) us → Word k b ys us o
   some_read t =
       record {
@@ -40,12 +40,12 @@ module _ (N : List ℕ → Bool) where
         fit = t.shows.5;
       }
 
-  step_at : (k : Place) (xs : List Tok) (front : List Spec) (b c : Bag) (ys us : List Tok) (s : Spec)
+  step_at : (k : Context) (xs : List Tok) (front : List Spec) (b c : Bag) (ys us : List Tok) (s : Spec)
       → c ≡ spec_joined b s → SpecsSo N k xs front b ys → Takes (Ahead N k b) ys (Some s) us → Clear (InBody N k b) ys
       → SpecsSo N k xs (front ++ s ∷ []) c us
   step_at k xs front b c ys us s e o t n = rw e (specs_step N k xs front b ys us s o t n)
 
-  pub word_step : (k : Place) (xs : List Tok) (front : List Spec) (b : Bag) (ys us : List Tok) (o : OneMore)
+  pub word_step : (k : Context) (xs : List Tok) (front : List Spec) (b : Bag) (ys us : List Tok) (o : OneMore)
       → SpecsSo N k xs front b ys → (w : Word k b ys us o) → Clear (InBody N k b) ys
       → SpecsSo N k xs (front ++ w.word ∷ []) (bag o.bag) us × (fits (bag o.bag) ≡ true)
   word_step k xs front b ys us o s w n = (

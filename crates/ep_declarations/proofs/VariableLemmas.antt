@@ -5,18 +5,18 @@ use Rattle.ep_ast.specs.declared.refusals.Halt.TheVariants as halts
 use Rattle.ep_ast.specs.Token.{Tok}
 use Rattle.ep_ast.specs.Declaration.{Spec, Init, Declaration}
 use Rattle.ep_ast.specs.TypeWords.{Bag}
-use Rattle.ep_ast.specs.DeclarationGrammar.{Place, has_bodies, specs_line, Specified, Inits, Declares, variables}
+use Rattle.ep_ast.specs.DeclarationGrammar.{Context, has_bodies, specs_line, Specified, Inits, Declares, variables}
 use Rattle.ep_ast.specs.BitField.{InSpecs, after_word, in_tagged, in_untagged}
 use Rattle.ep_ast.specs.Reading.{Takes, TakesNone, Stops}
 use Rattle.ep_reading.specs.Answer.{Fails}
 
 module _ (N : List ℕ → Bool) where
-  no_field : {k : Place} {b : Bag} {xs : List Tok} {l : ℕ} → has_bodies k ≡ false → InSpecs N k b xs l → ⊥
+  no_field : {k : Context} {b : Bag} {xs : List Tok} {l : ℕ} → has_bodies k ≡ false → InSpecs N k b xs l → ⊥
   no_field h (after_word s f d) = no_field h d
   no_field h (in_tagged g f k m d) = cc
   no_field h (in_untagged g f k m d) = cc
 
-  declares_only : {k : Place} {xs ys zs vs : List Tok} {ss : List Spec} {is : List Init} {u : Declaration}
+  declares_only : {k : Context} {xs ys zs vs : List Tok} {ss : List Spec} {is : List Init} {u : Declaration}
       → Takes (Specified N k) xs ss ys → Takes (Inits N) ys is zs → Declares N k xs vs u
       → (u ≡ record { line = specs_line ss; specs = ss; inits = is }) × (vs ≡ zs)
   declares_only s t (variables {ys = ys'} {zs = zs'} {ss = ss'} {is = is'} d e) =
@@ -24,27 +24,27 @@ module _ (N : List ℕ → Bool) where
       let r = t.only is' zs' (rw q.1 at e) in
       (rw (q.0, r.0) refl, r.1)
 
-  pub declares_taken : (k : Place) (xs ys zs : List Tok) (ss : List Spec) (is : List Init)
+  pub declares_taken : (k : Context) (xs ys zs : List Tok) (ss : List Spec) (is : List Init)
       → Takes (Specified N k) xs ss ys → Takes (Inits N) ys is zs
       → Takes (Declares N k) xs (record { line = specs_line ss; specs = ss; inits = is }) zs
   declares_taken k xs ys zs ss is s t =
       record { holds = variables s.holds t.holds; only = λ u vs d. declares_only s t d }
 
-  words_never : {k : Place} {xs vs : List Tok} {u : Declaration} → TakesNone (Specified N k) xs → Declares N k xs vs u
+  words_never : {k : Context} {xs vs : List Tok} {u : Declaration} → TakesNone (Specified N k) xs → Declares N k xs vs u
       → ⊥
   words_never n (variables {ys = ys} {ss = ss} d e) = n.never ss ys d
 
-  pub words_halt : (k : Place) (b : Bag) (xs : List Tok) (e : Halt) → has_bodies k ≡ false
+  pub words_halt : (k : Context) (b : Bag) (xs : List Tok) (e : Halt) → has_bodies k ≡ false
       → Fails (Specified N k) (InSpecs N k b) xs e → Stops (Declares N k) xs e
   words_halt k b xs (halts.Refused f) h d =
       elim d [ inl n ↦ (record { never = λ u vs e. words_never n.0 e }, n.2) | inr n ↦ absurd (no_field h n.0) ]
   words_halt k b xs halts.Memory h d = tt
 
-  inits_never : {k : Place} {xs ys vs : List Tok} {ss : List Spec} {u : Declaration} → Takes (Specified N k) xs ss ys
+  inits_never : {k : Context} {xs ys vs : List Tok} {ss : List Spec} {u : Declaration} → Takes (Specified N k) xs ss ys
       → TakesNone (Inits N) ys → Declares N k xs vs u → ⊥
   inits_never s n (variables {ys = ys'} {zs = zs'} {ss = ss'} {is = is'} d e) = let q = s.only ss' ys' d in
       n.never is' zs' (rw q.1 at e)
 
-  pub inits_refused : (k : Place) (xs ys : List Tok) (ss : List Spec) → Takes (Specified N k) xs ss ys
+  pub inits_refused : (k : Context) (xs ys : List Tok) (ss : List Spec) → Takes (Specified N k) xs ss ys
       → TakesNone (Inits N) ys → TakesNone (Declares N k) xs
   inits_refused k xs ys ss s n = record { never = λ u vs d. inits_never s n d }

@@ -12,16 +12,16 @@ use Rattle.ep_ast.specs.declared.declarations.DeclarationTree.{DeclarationTree}
 use Rattle.ep_ast.specs.declared.declarations.MemberTree.{MemberTree}
 use Rattle.ep_reading.specs.declared.measured.Measured.{Measured}
 use Rattle.ep_reading.specs.Measured.{Shows, ShowsAll}
-use Rattle.ep_declarations.specs.declared.specs.Place.{Place}
-use Rattle.ep_declarations.specs.declared.specs.Place.TheVariants as places
+use Rattle.ep_declarations.specs.declared.specs.Context.{Context}
+use Rattle.ep_declarations.specs.declared.specs.Context.TheVariants as contexts
 use Rattle.ep_declarations.specs.declared.specs.SpecList.{SpecList}
 use Rattle.ep_declarations.specs.declared.heads.Headed.{Headed}
 
-abbrev pub place : Place → grammar.Place
-place places.FileScope = grammar.at_file_scope
-place places.Typedef = grammar.in_typedef
-place places.Aggregate = grammar.in_aggregate
-place places.Block = grammar.in_block
+abbrev pub context : Context → grammar.Context
+context contexts.FileScope = grammar.at_file_scope
+context contexts.Typedef = grammar.in_typedef
+context contexts.Aggregate = grammar.in_aggregate
+context contexts.Block = grammar.in_block
 
 -- a `struct` or `union` with its members, and nothing else
 abbrev pub is_one_body : List Spec → Bool

@@ -1,2 +1,4 @@
+pub mod DeclaratorAnswer
+pub mod Parts
 pub mod Answer
 pub mod SpecAhead

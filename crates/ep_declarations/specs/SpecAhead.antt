@@ -5,12 +5,14 @@ use Rattle.std.specs.Prelude.{map, Option, Some, None, IfSome}
 use Rattle.std.specs.Option.{option_map}
 use Rattle.std.specs.Borrow.{Bor}
 use Rattle.ep_ast.specs.Token.{Tok, word, name, mark}
-use Rattle.ep_ast.specs.Mark.{left_brace}
+use Rattle.ep_ast.specs.declared.words.Word.{Word}
+use Rattle.ep_ast.specs.Mark.{left_brace, word_number}
 use Rattle.ep_ast.specs.TypeWords.{Bag, no_bag, with_whole, fits, is_tag_word}
 use Rattle.ep_ast.specs.Declaration.{Spec, Member, spec_of, member_of}
 use Rattle.ep_ast.specs.declared.declarations.MemberTree.{MemberTree}
 use Rattle.ep_lexer.specs.declared.tokens.Token.{Token}
-use Rattle.ep_ast.specs.DeclarationGrammar.{Place, in_aggregate, has_bodies, has_storage, is_storage_word, spec_joined}
+use Rattle.ep_ast.specs.DeclarationGrammar.{Context, in_aggregate, has_bodies, has_storage, is_storage_word}
+use Rattle.ep_ast.specs.DeclarationGrammar.{spec_joined}
 use Rattle.ep_ast.specs.DeclarationGrammar.{begins_spec, OneSpec, Specified}
 use Rattle.ep_ast.specs.BitField.{InSpecs, InMembers, InDeclarators}
 use Rattle.ep_ast.specs.Depth.{in_spec, in_member}
@@ -26,7 +28,7 @@ use Rattle.ep_declarations.specs.declared.words.OneMore.{OneMore}
 -- ---- the next word
 
 -- the next word may stand with those before it, or the words are over
-pub data Ahead (is_type : List ℕ → Bool) (k : Place) (b : Bag) : List Tok → List Tok → Option Spec → Type 0 where
+pub data Ahead (is_type : List ℕ → Bool) (k : Context) (b : Bag) : List Tok → List Tok → Option Spec → Type 0 where
   over : {xs : List Tok} → begins_spec is_type k xs ≡ false → Ahead is_type k b xs xs None
   fitting : {xs ys : List Tok} {s : Spec} → OneSpec is_type k xs ys s → fits (spec_joined b s) ≡ true
       → Ahead is_type k b xs ys (Some s)
@@ -47,18 +49,18 @@ abbrev pub IsPastWord : ℕ → Part (Option OneMore) → Type 0
 IsPastWord n p = IfSome p.value (λ o. length p.rest.now < n)
 
 -- `static` or `inline`, where it may stand
-abbrev pub begins_storage : Place → List Tok → Bool
+abbrev pub begins_storage : Context → List Tok → Bool
 begins_storage k (word l c ∷ ts) = has_storage k && is_storage_word c
 begins_storage k _ = false
 
-abbrev pub AtStorage : Place → List Tok → Option (ℕ × ℕ × List Tok) → Type 0
+abbrev pub AtStorage : Context → List Tok → Option (ℕ × ℕ × List Tok) → Type 0
 AtStorage k ts (Some r) = (has_storage k ≡ true) × (is_storage_word r.1 ≡ true) × (ts ≡ word r.0 r.1 ∷ r.2)
 AtStorage k ts None = begins_storage k ts ≡ false
 
-abbrev pub seen_storage : ℕ × ℕ × Bor (List Token) → ℕ × ℕ × List Tok
-seen_storage r = (r.0, r.1, map view r.2.now)
+abbrev pub seen_storage : ℕ × Word × Bor (List Token) → ℕ × ℕ × List Tok
+seen_storage r = (r.0, word_number r.1, map view r.2.now)
 
-abbrev pub IsPastStorage : ℕ → ℕ × ℕ × Bor (List Token) → Type 0
+abbrev pub IsPastStorage : ℕ → ℕ × Word × Bor (List Token) → Type 0
 IsPastStorage n r = length r.2.now < n
 
 -- ---- members
@@ -78,7 +80,7 @@ abbrev pub tag_text : Option (Bor (List ℕ)) → Option (List ℕ)
 tag_text t = option_map (λ b. b.now) t
 
 abbrev pub AtBody : List Tok → Option Opening → Type 0
-AtBody ts (Some o) = Opens o.line o.word (tag_text o.tag) (map view o.inside.now) ts
+AtBody ts (Some o) = Opens o.line (word_number o.word) (tag_text o.tag) (map view o.inside.now) ts
 AtBody ts None = begins_body ts ≡ false
 
 abbrev pub IsOpenPast : ℕ → Opening → Type 0
@@ -96,7 +98,7 @@ pub data InAggregate (is_type : List ℕ → Bool) : List Tok → (line : ℕ) �
       → InAggregate is_type (word m c ∷ mark p d ∷ xs) l
 
 -- the same, where members may stand behind words that fit
-abbrev pub InBody : (List ℕ → Bool) → Place → Bag → List Tok → (line : ℕ) → Type 0
+abbrev pub InBody : (List ℕ → Bool) → Context → Bag → List Tok → (line : ℕ) → Type 0
 InBody is_type k b xs l = (has_bodies k ≡ true) × (fits (with_whole b) ≡ true) × InAggregate is_type xs l
 
 -- a bit-field stands in the words or behind a name of the member that begins here

@@ -6,25 +6,25 @@ ghost use Rattle.ep_ast.specs.Declaration as shape;
 ghost use Rattle.ep_ast.specs.Declaration.{Spec, Member, Declarator, spec_of, member_of, text_of, to_specs, to_members};
 ghost use Rattle.ep_ast.specs.DeclarationGrammar as grammar;
 ghost use Rattle.ep_ast.specs.Depth.{in_spec, in_member};
+ghost use Rattle.ep_ast.specs.Mark.{word_number};
 ghost use Rattle.ep_lexer.specs.Tokens.{view};
 ghost use Rattle.ep_reading.specs.Measured.{Shows, ShowsAll};
-ghost use Rattle.ep_declarators.specs.Answer.{ShowsDeclarators};
+ghost use Rattle.ep_declarations.specs.DeclaratorAnswer.{ShowsDeclarators};
 ghost use Rattle.ep_declarations.specs.Answer.{ShowsMembers};
 ghost use Rattle.ep_declarations.specs.SpecAhead.{AtBody, IsOpenPast, tag_text};
 
-use ep_ast::marks::LEFT_BRACE;
-use ep_ast::{DeclaratorTree, MemberTree, SpecTree, TypeWordTree};
+use ep_ast::{DeclaratorTree, Mark, MemberTree, SpecTree, TypeWordTree, Word};
 use ep_lexer::Token;
 use ep_reading::{Head, Measured, at_mark, at_name, first_of};
 use ep_type_names::is_tag_word;
 use std::alloc::{AllocError, Global};
 
-/// A `struct` or `union` before its members: the line and the number of its word, its tag, what begins with the opening
+/// A `struct` or `union` before its members: the line of its word and that word, its tag, what begins with the opening
 /// brace, and what comes behind that.
 #[derive(Clone, Copy)]
 pub struct Opening<'a> {
     pub line: u32,
-    pub word: u8,
+    pub word: Word,
     pub tag: Option<&'a [u8]>,
     pub brace: &'a [Token],
     pub inside: &'a [Token],
@@ -41,7 +41,7 @@ pub fn at_body<'a>(tokens: &'a [Token]) -> Option<Opening<'a>>
     if !is_tag_word(word) {
         return None;
     }
-    if let Some((_, inside)) = at_mark(rest, LEFT_BRACE) {
+    if let Some((_, inside)) = at_mark(rest, Mark::LeftBrace) {
         return Some(Opening {
             line,
             word,
@@ -51,7 +51,7 @@ pub fn at_body<'a>(tokens: &'a [Token]) -> Option<Opening<'a>>
         });
     }
     let (_, tag, after) = at_name(rest)?;
-    let (_, inside) = at_mark(after, LEFT_BRACE)?;
+    let (_, inside) = at_mark(after, Mark::LeftBrace)?;
     Some(Opening {
         line,
         word,
@@ -74,13 +74,13 @@ pub fn owned_tag(alloc: Global, tag: Option<&[u8]>) -> Result<Option<Vec<u8>>, A
 /// The `struct` or `union` of these members.
 pub fn make_body(
     line: u32,
-    word: u8,
+    word: Word,
     tag: Option<Vec<u8>>,
     members: Measured<Vec<MemberTree>>,
 ) -> Measured<SpecTree>
     ensures { (ms : List Member) → ShowsMembers members ms
         → Shows spec_of in_spec result
-        (shape.body (shape.aggregate line word (option_map text_of tag) (to_members ms))) }
+        (shape.body (shape.aggregate line (word_number word) (option_map text_of tag) (to_members ms))) }
 {
     match members {
         Measured::Fits(members) => Measured::Fits(SpecTree::new_body(line, word, tag, members)),

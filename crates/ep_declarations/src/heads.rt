@@ -10,15 +10,13 @@ ghost use Rattle.ep_ast.specs.Depth.{line_if, are_deep, in_spec, in_params, in_h
 ghost use Rattle.ep_ast.specs.Reading.{Takes};
 ghost use Rattle.ep_lexer.specs.Tokens.{view};
 ghost use Rattle.ep_reading.specs.Names.{is_type};
-ghost use Rattle.ep_reading.specs.Answer.{Gives, IsPast};
+ghost use Rattle.ep_reading.specs.Answer.{Parses, IsPast};
 ghost use Rattle.ep_reading.specs.Measured.{Shows, ShowsAll};
 ghost use Rattle.ep_declarations.specs.Answer.{ShowsSpecs, ShowsHead};
 
+use crate::parameters::head_parameters;
 use crate::specs::SpecList;
-use ep_ast::marks::LEFT_PAREN;
-use ep_ast::words::CONST;
-use ep_ast::{Halt, HeadTree, ParamsTree, SpecTree};
-use ep_declarators::head_parameters;
+use ep_ast::{Halt, HeadTree, Mark, ParamsTree, SpecTree, Word};
 use ep_lexer::Token;
 use ep_reading::{Measured, Part, Reader, at_mark, at_name, at_word};
 use ep_type_names::stars;
@@ -83,10 +81,10 @@ pub fn head<'a>(
     ensures reads { (xs : List Tok) → (ss : List Spec)
         → Takes (Specified (is_type reader.now.names.now) at_file_scope) xs ss (map view tokens.now)
         → ShowsSpecs specs ss
-        → Gives ShowsHead (grammar.Headed (is_type reader.now.names.now)) xs result }
+        → Parses ShowsHead (grammar.Headed (is_type reader.now.names.now)) xs result }
     ensures shorter { IfOk result (IsPast (length tokens.now)) }
 {
-    if let Some(_) = at_word(tokens, CONST) {
+    if let Some(_) = at_word(tokens, Word::Const) {
         return Err(Halt::Refused(reader.stopped(tokens)));
     }
     let stars = stars(reader.alloc, tokens)?;
@@ -96,7 +94,7 @@ pub fn head<'a>(
     if reader.names.has(name) {
         return Err(Halt::Refused(reader.stopped(stars.rest)));
     }
-    let Some((_, inside)) = at_mark(behind, LEFT_PAREN) else {
+    let Some((_, inside)) = at_mark(behind, Mark::LeftParen) else {
         return Err(Halt::Refused(reader.stopped(behind)));
     };
     let parameters = head_parameters(reader, inside)?;

@@ -1,12 +1,21 @@
-//! Reading the words that begin a declaration, the members of aggregates, declarations and heads.
+//! Reading declarators with their initialisers and parameters, the words that begin a declaration, and declarations.
 #![tactic(auto)]
 
 mod aggregates;
+mod bracketed;
+mod declarators;
 mod heads;
+mod initialisers;
+mod parameters;
 mod specs;
+mod typedefs;
 mod variables;
 mod words;
 
+pub use declarators::{Named, declarator, member_declarators};
 pub use heads::{Headed, head};
-pub use specs::{Place, SpecList, only_body, spec_list};
+pub use initialisers::inits;
+pub use parameters::{ParameterList, head_parameters};
+pub use specs::{Context, SpecList, only_body, spec_list};
+pub use typedefs::typedef_names;
 pub use variables::{declaration, make_declaration};

@@ -8,7 +8,7 @@ ghost use Rattle.ep_ast.specs.BitField.{InSpecs, InMembers};
 ghost use Rattle.ep_ast.specs.Depth.{in_spec, in_member};
 ghost use Rattle.ep_lexer.specs.Tokens.{view};
 ghost use Rattle.ep_reading.specs.Names.{is_type};
-ghost use Rattle.ep_reading.specs.Answer.{GivesChecked, IsPast};
+ghost use Rattle.ep_reading.specs.Answer.{ParsesChecked, IsPast};
 ghost use Rattle.ep_reading.specs.Measured.{Shows};
 ghost use Rattle.ep_type_names.specs.Words.{bag};
 ghost use Rattle.ep_declarations.specs.Answer as answers;
@@ -17,10 +17,9 @@ ghost use Rattle.ep_declarations.specs.SpecAhead.{Ahead, InBody, InMember, Shows
 ghost use Rattle.ep_declarations.specs.SpecAhead.{are_none};
 
 use crate::aggregates::{at_body, make_body, make_member, owned_tag};
+use crate::declarators::member_declarators;
 use crate::words::{OneMore, plain_word};
-use ep_ast::marks::RIGHT_BRACE;
-use ep_ast::{AggregateTree, Halt, MemberTree, SpecTree};
-use ep_declarators::member_declarators;
+use ep_ast::{AggregateTree, Halt, Mark, MemberTree, SpecTree};
 use ep_lexer::Token;
 use ep_reading::{Measured, Part, Reader, at_mark};
 use ep_type_names::TypeBag;
@@ -28,7 +27,7 @@ use std::alloc::{AllocError, Global};
 
 /// Where a declaration stands. Members in braces stand in all but a block, `static` and `inline` at file scope alone.
 #[derive(Clone, Copy, Debug, PartialEq, Eq)]
-pub enum Place {
+pub enum Context {
     FileScope,
     Typedef,
     Aggregate,
@@ -89,12 +88,12 @@ fn as_aggregate(word: SpecTree) -> Option<AggregateTree>
 #[cycle(specs)]
 pub fn spec_list<'a>(
     reader: &Reader<'_>,
-    place: Place,
+    context: Context,
     tokens: &'a [Token],
 ) -> Result<Part<'a, SpecList>, Halt>
     requires { length tokens.now < 2 ^ 24 }
-    ensures reads { GivesChecked ShowsSpecs (Specified (is_type reader.now.names.now) (answers.place place))
-        (InSpecs (is_type reader.now.names.now) (answers.place place) no_bag) (map view tokens.now) result }
+    ensures reads { ParsesChecked ShowsSpecs (Specified (is_type reader.now.names.now) (answers.context context))
+        (InSpecs (is_type reader.now.names.now) (answers.context context) no_bag) (map view tokens.now) result }
     ensures shorter { IfOk result (IsPast (length tokens.now)) }
 {
     let mut found = SpecList::new(reader.alloc)?;
@@ -102,7 +101,7 @@ pub fn spec_list<'a>(
     let mut rest = tokens;
     let mut is_first = true;
     'words: loop {
-        let next = next_word(reader, place, &bag, rest)?;
+        let next = next_word(reader, context, &bag, rest)?;
         let after = next.rest;
         let word = next.value;
         let Some(one) = word else {
@@ -122,24 +121,24 @@ pub fn spec_list<'a>(
 #[cycle(specs)]
 fn next_word<'a>(
     reader: &Reader<'_>,
-    place: Place,
+    context: Context,
     words: &TypeBag,
     tokens: &'a [Token],
 ) -> Result<Part<'a, Option<OneMore>>, Halt>
     requires few { length tokens.now < 2 ^ 24 }
     requires fit { fits (bag words.now) ≡ true }
-    ensures reads { GivesChecked (ShowsAhead (bag words.now))
-        (Ahead (is_type reader.now.names.now) (answers.place place) (bag words.now))
-        (InBody (is_type reader.now.names.now) (answers.place place) (bag words.now)) (map view tokens.now) result }
+    ensures reads { ParsesChecked (ShowsAhead (bag words.now))
+        (Ahead (is_type reader.now.names.now) (answers.context context) (bag words.now))
+        (InBody (is_type reader.now.names.now) (answers.context context) (bag words.now)) (map view tokens.now) result }
     ensures shorter { IfOk result (IsPastWord (length tokens.now)) }
 {
     let Some(opening) = at_body(tokens) else {
-        return plain_word(reader, place, words, tokens);
+        return plain_word(reader, context, words, tokens);
     };
     let Some(bag) = words.with_whole() else {
         return Err(Halt::Refused(reader.stopped(tokens)));
     };
-    if !place.has_bodies() {
+    if !context.has_bodies() {
         return Err(Halt::Refused(reader.stopped(opening.brace)));
     }
     let members = members(reader, opening.inside)?;
@@ -162,7 +161,7 @@ fn members<'a>(
     tokens: &'a [Token],
 ) -> Result<Part<'a, Measured<Vec<MemberTree>>>, Halt>
     requires { length tokens.now < 2 ^ 24 }
-    ensures reads { GivesChecked ShowsMembers (Members (is_type reader.now.names.now))
+    ensures reads { ParsesChecked ShowsMembers (Members (is_type reader.now.names.now))
         (InMembers (is_type reader.now.names.now)) (map view tokens.now) result }
     ensures shorter { IfOk result (IsPast (length tokens.now)) }
 {
@@ -171,7 +170,7 @@ fn members<'a>(
     'members: loop {
         let one = one_member(reader, rest)?;
         found = found.longer(one.value)?;
-        if let Some((_, more)) = at_mark(one.rest, RIGHT_BRACE) {
+        if let Some((_, more)) = at_mark(one.rest, Mark::RightBrace) {
             return Ok(Part {
                 value: found,
                 rest: more,
@@ -188,11 +187,11 @@ fn one_member<'a>(
     tokens: &'a [Token],
 ) -> Result<Part<'a, Measured<MemberTree>>, Halt>
     requires { length tokens.now < 2 ^ 24 }
-    ensures reads { GivesChecked ShowsMember (OneMember (is_type reader.now.names.now))
+    ensures reads { ParsesChecked ShowsMember (OneMember (is_type reader.now.names.now))
         (InMember (is_type reader.now.names.now)) (map view tokens.now) result }
     ensures shorter { IfOk result (IsPast (length tokens.now)) }
 {
-    let specs = spec_list(reader, Place::Aggregate, tokens)?;
+    let specs = spec_list(reader, Context::Aggregate, tokens)?;
     let declarators = member_declarators(reader, specs.rest)?;
     Ok(Part {
         value: make_member(specs.value.tree, declarators.value),

@@ -6,14 +6,14 @@ ghost use Rattle.ep_ast.specs.DeclarationGrammar as grammar;
 ghost use Rattle.ep_ast.specs.DeclarationGrammar.{Declares, in_block};
 ghost use Rattle.ep_lexer.specs.Tokens.{view};
 ghost use Rattle.ep_reading.specs.Names.{is_type};
-ghost use Rattle.ep_reading.specs.Answer.{Gives, IsPast};
-ghost use Rattle.ep_declarators.specs.Answer.{ShowsInits};
+ghost use Rattle.ep_reading.specs.Answer.{Parses, IsPast};
+ghost use Rattle.ep_declarations.specs.DeclaratorAnswer.{ShowsInits};
 ghost use Rattle.ep_declarations.specs.Answer.{ShowsSpecs, ShowsDeclaration};
 
 use crate::aggregates::specs_line;
-use crate::specs::{Place, SpecList, spec_list};
+use crate::initialisers::inits;
+use crate::specs::{Context, SpecList, spec_list};
 use ep_ast::{DeclarationTree, Halt, InitTree};
-use ep_declarators::inits;
 use ep_lexer::Token;
 use ep_reading::{Measured, Part, Reader};
 
@@ -40,11 +40,11 @@ pub fn declaration<'a>(
     tokens: &'a [Token],
 ) -> Result<Part<'a, Measured<DeclarationTree>>, Halt>
     requires { length tokens.now < 2 ^ 24 }
-    ensures reads { Gives ShowsDeclaration (Declares (is_type reader.now.names.now) in_block) (map view tokens.now)
+    ensures reads { Parses ShowsDeclaration (Declares (is_type reader.now.names.now) in_block) (map view tokens.now)
         result }
     ensures shorter { IfOk result (IsPast (length tokens.now)) }
 {
-    let specs = spec_list(reader, Place::Block, tokens)?;
+    let specs = spec_list(reader, Context::Block, tokens)?;
     let variables = inits(reader, specs.rest)?;
     Ok(Part {
         value: make_declaration(specs.value, variables.value),

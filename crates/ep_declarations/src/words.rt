@@ -2,20 +2,19 @@
 
 ghost use Rattle.std.specs.Prelude.{◌≡◌, ◌<◌, ◌^◌, length, map, IfOk, IfSome, false, true};
 ghost use Rattle.std.specs.Option.{option_map};
+ghost use Rattle.ep_ast.specs.Mark.{word_number};
 ghost use Rattle.ep_ast.specs.TypeWords.{fits};
 ghost use Rattle.ep_ast.specs.DeclarationGrammar as grammar;
 ghost use Rattle.ep_lexer.specs.Tokens.{view};
 ghost use Rattle.ep_reading.specs.Names.{is_type};
-ghost use Rattle.ep_reading.specs.Answer.{GivesChecked};
+ghost use Rattle.ep_reading.specs.Answer.{ParsesChecked};
 ghost use Rattle.ep_type_names.specs.Words.{bag};
 ghost use Rattle.ep_declarations.specs.Answer as answers;
 ghost use Rattle.ep_declarations.specs.SpecAhead.{Ahead, InBody, ShowsAhead, IsPastWord, AtStorage, begins_body};
 ghost use Rattle.ep_declarations.specs.SpecAhead.{seen_storage, IsPastStorage};
 
-use crate::specs::Place;
-use ep_ast::marks::LEFT_BRACE;
-use ep_ast::words::{INLINE, STATIC};
-use ep_ast::{Halt, SpecTree, TypeWordTree};
+use crate::specs::Context;
+use ep_ast::{Halt, Mark, SpecTree, TypeWordTree, Word};
 use ep_lexer::Token;
 use ep_reading::{Head, Measured, Part, Reader, at_mark, first_of};
 use ep_type_names::{TypeBag, next_word};
@@ -28,42 +27,42 @@ pub struct OneMore {
     pub bag: TypeBag,
 }
 
-impl Place {
+impl Context {
     /// Whether a `struct` or `union` may have its members here.
     pub fn has_bodies(&self) -> bool
-        ensures { result ≡ grammar.has_bodies (answers.place self.now) }
+        ensures { result ≡ grammar.has_bodies (answers.context self.now) }
     {
         match self {
-            Place::FileScope | Place::Typedef | Place::Aggregate => true,
-            Place::Block => false,
+            Context::FileScope | Context::Typedef | Context::Aggregate => true,
+            Context::Block => false,
         }
     }
 
     /// Whether `static` and `inline` may stand here.
     fn has_storage(&self) -> bool
-        ensures { result ≡ grammar.has_storage (answers.place self.now) }
+        ensures { result ≡ grammar.has_storage (answers.context self.now) }
     {
         match self {
-            Place::FileScope => true,
-            Place::Typedef | Place::Aggregate | Place::Block => false,
+            Context::FileScope => true,
+            Context::Typedef | Context::Aggregate | Context::Block => false,
         }
     }
 }
 
-fn is_storage_word(code: u8) -> bool
-    ensures { result ≡ grammar.is_storage_word code }
+fn is_storage_word(word: Word) -> bool
+    ensures { result ≡ grammar.is_storage_word (word_number word) }
 {
-    code == STATIC || code == INLINE
+    word == Word::Static || word == Word::Inline
 }
 
-/// `static` or `inline`, where it may stand, with its line, its number and what comes after it.
-fn at_storage<'a>(place: Place, tokens: &'a [Token]) -> Option<(u32, u8, &'a [Token])>
-    ensures value { AtStorage (answers.place place) (map view tokens.now) (option_map seen_storage result) }
+/// `static` or `inline`, where it may stand, with its line and what comes after it.
+fn at_storage<'a>(context: Context, tokens: &'a [Token]) -> Option<(u32, Word, &'a [Token])>
+    ensures value { AtStorage (answers.context context) (map view tokens.now) (option_map seen_storage result) }
     ensures shorter { IfSome result (IsPastStorage (length tokens.now)) }
 {
     match first_of(tokens) {
-        Head::Word(line, code, rest) => if place.has_storage() && is_storage_word(code) {
-            Some((line, code, rest))
+        Head::Word(line, word, rest) => if context.has_storage() && is_storage_word(word) {
+            Some((line, word, rest))
         } else {
             None
         },
@@ -75,19 +74,19 @@ fn at_storage<'a>(place: Place, tokens: &'a [Token]) -> Option<(u32, u8, &'a [To
 /// something else is missing behind it.
 pub fn plain_word<'a>(
     reader: &Reader<'_>,
-    place: Place,
+    context: Context,
     words: &TypeBag,
     tokens: &'a [Token],
 ) -> Result<Part<'a, Option<OneMore>>, Halt>
     requires fit { fits (bag words.now) ≡ true }
     requires plain { begins_body (map view tokens.now) ≡ false }
-    ensures reads { GivesChecked (ShowsAhead (bag words.now))
-        (Ahead (is_type reader.now.names.now) (answers.place place) (bag words.now))
-        (InBody (is_type reader.now.names.now) (answers.place place) (bag words.now)) (map view tokens.now) result }
+    ensures reads { ParsesChecked (ShowsAhead (bag words.now))
+        (Ahead (is_type reader.now.names.now) (answers.context context) (bag words.now))
+        (InBody (is_type reader.now.names.now) (answers.context context) (bag words.now)) (map view tokens.now) result }
     ensures shorter { IfOk result (IsPastWord (length tokens.now)) }
 {
-    if let Some((line, code, rest)) = at_storage(place, tokens) {
-        let tree = Measured::Fits(SpecTree::Plain(TypeWordTree::Word(line, code)));
+    if let Some((line, word, rest)) = at_storage(context, tokens) {
+        let tree = Measured::Fits(SpecTree::Plain(TypeWordTree::Word(line, word)));
         let one = OneMore {
             tree,
             is_body: false,
@@ -107,7 +106,7 @@ pub fn plain_word<'a>(
     let Some(bag) = words.with(&word.value) else {
         return Err(Halt::Refused(reader.stopped(tokens)));
     };
-    if let Some(_) = at_mark(word.rest, LEFT_BRACE) {
+    if let Some(_) = at_mark(word.rest, Mark::LeftBrace) {
         return Err(Halt::Refused(reader.stopped(word.rest)));
     }
     let one = OneMore {

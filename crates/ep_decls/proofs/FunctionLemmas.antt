@@ -1,5 +1,6 @@
 -- Functions with their bodies, alone and in the arms of a conditional.
 use Rattle.std.proofs.Common.{◌≡◌, ℕ, Bool, true, false, List, [], ◌∷◌, ◌++◌, Option, Some, None, refl, sym, ap, ◌∙◌}
+use Rattle.std.proofs.lemmas.Bool.{both_ways}
 use Rattle.std.proofs.Common.{append_assoc, subst}
 use Rattle.std.proofs.lemmas.List.{append-nil}
 use Rattle.ep_ast.specs.declared.orders.NamedOrder.{NamedOrder}
@@ -17,7 +18,7 @@ use Rattle.ep_reading.proofs.FirstLemmas.{tail_is}
 use Rattle.ep_reading.specs.Answer.{Clear}
 use Rattle.ep_reading.specs.Look.{ends_arm, LacksElse, LacksEndIf}
 use Rattle.ep_decls.specs.Answer.{InWords, InOther, in_other, InArms, in_first, in_second, Arms, arms}
-use Rattle.ep_decls.proofs.BeginLemmas.{contrary, defines_not, in_specs_not}
+use Rattle.ep_decls.proofs.BeginLemmas.{defines_not, in_specs_not}
 
 abbrev made : Head → Block → Function
 made h b = record { line = h.line; head = h; body = b }
@@ -40,7 +41,7 @@ module _ (N : List ℕ → Bool) where
   unnamed_never : {xs ys zs : List Tok} {h : Head} {f : Function} → Takes (Headed N) xs h ys
       → are_named h.params ≡ false → Defines N xs zs f → ⊥
   unnamed_never {h = h} t n (function {ys = ys'} {h = h'} q d b) = let k = t.only h' ys' d in
-      contrary (are_named h.params) n (rw k.0 at q)
+      both_ways (are_named h.params) n (rw k.0 at q)
 
   pub unnamed_refused : (xs ys : List Tok) (h : Head) → Takes (Headed N) xs h ys → are_named h.params ≡ false
       → TakesNone (Defines N) xs

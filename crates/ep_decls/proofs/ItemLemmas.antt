@@ -1,5 +1,6 @@
 -- Items: which of them begins with the words that were read.
 use Rattle.std.proofs.Common.{◌≡◌, ℕ, Bool, true, false, List, [], ◌∷◌, Option, Some, refl, sym, ◌∙◌, arith}
+use Rattle.std.proofs.lemmas.Bool.{both_ways}
 use Rattle.std.proofs.lemmas.Bool.{ne_eqb}
 use Rattle.ep_ast.specs.declared.orders.NamedOrder.{NamedOrder}
 use Rattle.ep_ast.specs.declared.orders.NamedOrder.TheVariants.{Little, Big}
@@ -22,13 +23,13 @@ use Rattle.ep_ast.specs.ProgramGrammar.{Defines, function, OneItem}
 use Rattle.ep_ast.specs.Reading.{Takes, TakesNone, Lacks, AtMark, LacksWord}
 use Rattle.ep_reading.proofs.FirstLemmas.{lacks_is, tail_is}
 use Rattle.ep_reading.specs.Answer.{Clear}
-use Rattle.ep_declarators.specs.Answer.{NamesTypes}
+use Rattle.ep_declarations.specs.DeclaratorAnswer.{NamesTypes}
 use Rattle.ep_declarations.specs.Answer.{is_one_body}
 use Rattle.ep_reading.specs.Look.{LacksIf}
 use Rattle.ep_decls.specs.Look.{begins_call, begins_head}
 use Rattle.ep_decls.specs.Answer.{InWords, Worded, defines, prototype, declares, completes, NewTypes, new_types}
 use Rattle.ep_decls.specs.Answer.{InTypedefWords, Itemed, Arms, arms, InArms, InItem, in_words, in_typedef, in_arms}
-use Rattle.ep_decls.proofs.BeginLemmas.{contrary, in_specs_not, worded_not}
+use Rattle.ep_decls.proofs.BeginLemmas.{in_specs_not, worded_not}
 
 -- ---- heads and variables
 
@@ -134,15 +135,15 @@ module _ (N : List ℕ → Bool) where
   heads t b (defines d) = defined d
   heads t b (prototype e d) = declared e d
   heads {ys = ys} t b (declares (variables {ys = ys'} {ss = ss'} d i)) = let k = t.only ss' ys' d in
-      absurd (contrary (begins_head ys) (inits_not (rw k.1 at i)) b)
+      absurd (both_ways (begins_head ys) (inits_not (rw k.1 at i)) b)
   heads {ys = ys} t b (completes {l = l} {c = c} {ys = zs} {a = a} e d) =
       let k = t.only (body a ∷ []) (mark l c ∷ zs) (body_specified e d) in
-      let f : begins_head ys ≡ false = rw (← k.1) (at_semicolon l c zs e) in absurd (contrary (begins_head ys) f b)
+      let f : begins_head ys ≡ false = rw (← k.1) (at_semicolon l c zs e) in absurd (both_ways (begins_head ys) f b)
 
   ends : {xs ys zs : List Tok} {ss : List Spec} {i : Item} → Takes (Specified N at_file_scope) xs ss ys
       → begins_head ys ≡ false → Worded N xs zs i → Ends ss ys zs i
-  ends {ys = ys} t b (defines (function n d e)) = absurd (contrary (begins_head ys) b (head_begins t d))
-  ends {ys = ys} t b (prototype e d) = absurd (contrary (begins_head ys) b (head_begins t d))
+  ends {ys = ys} t b (defines (function n d e)) = absurd (both_ways (begins_head ys) b (head_begins t d))
+  ends {ys = ys} t b (prototype e d) = absurd (both_ways (begins_head ys) b (head_begins t d))
   ends t b (declares (variables {ys = ys'} {ss = ss'} d i)) = let k = t.only ss' ys' d in
       rw k.0 (at_inits (rw k.1 at i))
   ends t b (completes {l = l} {c = c} {ys = zs} {a = a} e d) = let k =
@@ -222,7 +223,7 @@ module _ (N : List ℕ → Bool) where
 
     alone_never : {vs zs : List Tok} {l c : ℕ} {i : Item} → c ≡ semicolon → ys ≡ mark l c ∷ vs → is_one_body ss ≡ false
         → Ends ss ys zs i → ⊥
-    alone_never e f k (at_end g k' f') = contrary (is_one_body ss) k (rw k' refl)
+    alone_never e f k (at_end g k' f') = both_ways (is_one_body ss) k (rw k' refl)
     alone_never e f k (at_inits d) = inits_no_semicolon e (rw f at d)
 
     pub alone_refused : begins_head ys ≡ false → (vs : List Tok) (l : ℕ) → AtMark semicolon ys (Some (l, vs))

@@ -9,7 +9,7 @@ ghost use Rattle.ep_ast.specs.BitField.{InFunctions};
 ghost use Rattle.ep_ast.specs.Reading.{Takes};
 ghost use Rattle.ep_lexer.specs.Tokens.{view};
 ghost use Rattle.ep_reading.specs.Names.{is_type};
-ghost use Rattle.ep_reading.specs.Answer.{Gives, GivesChecked, IsPast, IsWithin};
+ghost use Rattle.ep_reading.specs.Answer.{Parses, ParsesChecked, IsPast, IsWithin};
 ghost use Rattle.ep_declarations.specs.Answer.{ShowsSpecs, ShowsHead};
 ghost use Rattle.ep_decls.specs.Answer.{ShowsFunction, ShowsFunctions, ShowsOther, ShowsItem, Arms, InOther, InArms};
 ghost use Rattle.ep_decls.specs.Answer.{InWords};
@@ -17,7 +17,7 @@ ghost use Rattle.ep_decls.specs.Answer.{InWords};
 use crate::trees::{behind_else, by_order, function_of};
 use crate::unnamed::{behind_unnamed, no_later};
 use ep_ast::{FunctionTree, Halt, ItemTree, NamedOrder};
-use ep_declarations::{Headed, Place, SpecList, head, spec_list};
+use ep_declarations::{Context, Headed, SpecList, head, spec_list};
 use ep_lexer::Token;
 use ep_reading::{Measured, Part, Reader, at_else, at_end_if, ends_arm};
 use ep_statements::block;
@@ -31,7 +31,7 @@ pub fn body<'a>(
     requires { length tokens.now < 2 ^ 24 }
     ensures reads { (xs : List Tok) → (h : shape.Head)
         → Takes (grammar.Headed (is_type reader.now.names.now)) xs h (map view tokens.now) → ShowsHead headed h
-        → Gives ShowsFunction (Defines (is_type reader.now.names.now)) xs result }
+        → Parses ShowsFunction (Defines (is_type reader.now.names.now)) xs result }
     ensures shorter { IfOk result (IsPast (length tokens.now)) }
 {
     if !headed.named {
@@ -54,7 +54,7 @@ fn definition<'a>(
     ensures reads { (xs : List Tok) → (ss : List shape.Spec)
         → Takes (grammar.Specified (is_type reader.now.names.now) grammar.at_file_scope) xs ss (map view tokens.now)
         → ShowsSpecs specs ss
-        → Gives ShowsFunction (Defines (is_type reader.now.names.now)) xs result }
+        → Parses ShowsFunction (Defines (is_type reader.now.names.now)) xs result }
     ensures shorter { IfOk result (IsPast (length tokens.now)) }
 {
     let headed = head(reader, specs, tokens)?;
@@ -67,11 +67,11 @@ fn function<'a>(
     tokens: &'a [Token],
 ) -> Result<Part<'a, Measured<FunctionTree>>, Halt>
     requires { length tokens.now < 2 ^ 24 }
-    ensures reads { GivesChecked ShowsFunction (Defines (is_type reader.now.names.now))
+    ensures reads { ParsesChecked ShowsFunction (Defines (is_type reader.now.names.now))
         (InWords (is_type reader.now.names.now)) (map view tokens.now) result }
     ensures shorter { IfOk result (IsPast (length tokens.now)) }
 {
-    let specs = spec_list(reader, Place::FileScope, tokens)?;
+    let specs = spec_list(reader, Context::FileScope, tokens)?;
     match definition(reader, specs.value, specs.rest) {
         Ok(found) => Ok(found),
         Err(halt) => Err(no_later(halt, behind_unnamed(reader.names, specs.rest))),
@@ -84,7 +84,7 @@ fn all_functions<'a>(
     tokens: &'a [Token],
 ) -> Result<Part<'a, Measured<Vec<FunctionTree>>>, Halt>
     requires { length tokens.now < 2 ^ 24 }
-    ensures reads { GivesChecked ShowsFunctions (Functions (is_type reader.now.names.now))
+    ensures reads { ParsesChecked ShowsFunctions (Functions (is_type reader.now.names.now))
         (InFunctions (is_type reader.now.names.now)) (map view tokens.now) result }
     ensures shorter { IfOk result (IsWithin (length tokens.now)) }
 {
@@ -106,7 +106,7 @@ fn other_functions<'a>(
     tokens: &'a [Token],
 ) -> Result<Part<'a, Measured<Option<Vec<FunctionTree>>>>, Halt>
     requires { length tokens.now < 2 ^ 24 }
-    ensures reads { GivesChecked ShowsOther (OtherFunctions (is_type reader.now.names.now))
+    ensures reads { ParsesChecked ShowsOther (OtherFunctions (is_type reader.now.names.now))
         (InOther (is_type reader.now.names.now)) (map view tokens.now) result }
     ensures shorter { IfOk result (IsPast (length tokens.now)) }
 {
@@ -137,7 +137,7 @@ pub fn arms<'a>(
     tokens: &'a [Token],
 ) -> Result<Part<'a, Measured<ItemTree>>, Halt>
     requires { length tokens.now < 2 ^ 24 }
-    ensures reads { GivesChecked ShowsItem (Arms (is_type reader.now.names.now) line order)
+    ensures reads { ParsesChecked ShowsItem (Arms (is_type reader.now.names.now) line order)
         (InArms (is_type reader.now.names.now)) (map view tokens.now) result }
     ensures shorter { IfOk result (IsPast (length tokens.now)) }
 {

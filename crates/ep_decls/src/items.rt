@@ -7,7 +7,7 @@ ghost use Rattle.ep_ast.specs.DeclarationGrammar as grammar;
 ghost use Rattle.ep_ast.specs.Reading.{Takes};
 ghost use Rattle.ep_lexer.specs.Tokens.{view};
 ghost use Rattle.ep_reading.specs.Names.{is_type};
-ghost use Rattle.ep_reading.specs.Answer.{Gives, GivesChecked, IsPast};
+ghost use Rattle.ep_reading.specs.Answer.{Parses, ParsesChecked, IsPast};
 ghost use Rattle.ep_declarations.specs.Answer.{ShowsSpecs};
 ghost use Rattle.ep_decls.specs.Look as look;
 ghost use Rattle.ep_decls.specs.Answer.{ShowsItem, MakesTypes, Worded, InWords, NewTypes, InTypedefWords, Itemed};
@@ -16,11 +16,10 @@ ghost use Rattle.ep_decls.specs.Answer.{InItem};
 use crate::functions::{arms, body};
 use crate::look::begins_head;
 use crate::trees::{completed, declared, defined, new_types, prototype};
-use ep_ast::marks::SEMICOLON;
-use ep_ast::words::TYPEDEF;
-use ep_ast::{Halt, ItemTree};
-use ep_declarations::{Place, SpecList, head, make_declaration, only_body, spec_list};
-use ep_declarators::{inits, typedef_names};
+use ep_ast::{Halt, ItemTree, Mark, Word};
+use ep_declarations::{
+    Context, SpecList, head, inits, make_declaration, only_body, spec_list, typedef_names,
+};
 use ep_lexer::Token;
 use ep_reading::{Measured, Part, Reader, TypeNames, at_if, at_mark, at_word};
 use std::alloc::Global;
@@ -34,7 +33,7 @@ fn typedef<'a>(
     tokens: &'a [Token],
 ) -> Result<Part<'a, Measured<ItemTree>>, Halt>
     requires { length tokens.now < 2 ^ 24 }
-    ensures reads { GivesChecked (MakesTypes (is_type names.new)) (NewTypes (is_type names.old) line)
+    ensures reads { ParsesChecked (MakesTypes (is_type names.new)) (NewTypes (is_type names.old) line)
         (InTypedefWords (is_type names.old)) (map view tokens.now) result }
     ensures shorter { IfOk result (IsPast (length tokens.now)) }
 {
@@ -43,7 +42,7 @@ fn typedef<'a>(
         names: &*names,
         last,
     };
-    let specs = spec_list(&reader, Place::Typedef, tokens)?;
+    let specs = spec_list(&reader, Context::Typedef, tokens)?;
     let declarators = typedef_names(alloc, names, last, specs.rest)?;
     Ok(Part {
         value: new_types(line, specs.value, declarators.value),
@@ -62,11 +61,11 @@ fn headed_item<'a>(
         → Takes (grammar.Specified (is_type reader.now.names.now) grammar.at_file_scope) xs ss (map view tokens.now)
         → ShowsSpecs specs ss
         → look.begins_head (map view tokens.now) ≡ true
-        → Gives ShowsItem (Worded (is_type reader.now.names.now)) xs result }
+        → Parses ShowsItem (Worded (is_type reader.now.names.now)) xs result }
     ensures shorter { IfOk result (IsPast (length tokens.now)) }
 {
     let headed = head(reader, specs, tokens)?;
-    if let Some((_, more)) = at_mark(headed.rest, SEMICOLON) {
+    if let Some((_, more)) = at_mark(headed.rest, Mark::Semicolon) {
         return Ok(Part {
             value: prototype(headed.value.tree),
             rest: more,
@@ -85,15 +84,15 @@ fn worded_item<'a>(
     tokens: &'a [Token],
 ) -> Result<Part<'a, Measured<ItemTree>>, Halt>
     requires { length tokens.now < 2 ^ 24 }
-    ensures reads { GivesChecked ShowsItem (Worded (is_type reader.now.names.now))
+    ensures reads { ParsesChecked ShowsItem (Worded (is_type reader.now.names.now))
         (InWords (is_type reader.now.names.now)) (map view tokens.now) result }
     ensures shorter { IfOk result (IsPast (length tokens.now)) }
 {
-    let specs = spec_list(reader, Place::FileScope, tokens)?;
+    let specs = spec_list(reader, Context::FileScope, tokens)?;
     if begins_head(specs.rest) {
         return headed_item(reader, specs.value, specs.rest);
     }
-    if let Some((_, more)) = at_mark(specs.rest, SEMICOLON) {
+    if let Some((_, more)) = at_mark(specs.rest, Mark::Semicolon) {
         return match only_body(specs.value) {
             Some(aggregate) => Ok(Part {
                 value: completed(aggregate),
@@ -117,11 +116,11 @@ pub fn item<'a>(
     tokens: &'a [Token],
 ) -> Result<Part<'a, Measured<ItemTree>>, Halt>
     requires { length tokens.now < 2 ^ 24 }
-    ensures reads { GivesChecked (MakesTypes (is_type names.new)) (Itemed (is_type names.old))
+    ensures reads { ParsesChecked (MakesTypes (is_type names.new)) (Itemed (is_type names.old))
         (InItem (is_type names.old)) (map view tokens.now) result }
     ensures shorter { IfOk result (IsPast (length tokens.now)) }
 {
-    if let Some((line, behind)) = at_word(tokens, TYPEDEF) {
+    if let Some((line, behind)) = at_word(tokens, Word::Typedef) {
         return typedef(alloc, names, last, line, behind);
     }
     let reader = Reader {

@@ -6,8 +6,7 @@ ghost use Rattle.ep_lexer.specs.Tokens.{view};
 ghost use Rattle.ep_decls.specs.Look as look;
 ghost use Rattle.ep_decls.specs.Look.{IsBehind, HasFewer, tokens_of};
 
-use ep_ast::marks::{LEFT_PAREN, STAR};
-use ep_ast::words::CONST;
+use ep_ast::{Mark, Word};
 use ep_lexer::Token;
 use ep_reading::{at_mark, at_name, at_word};
 
@@ -15,7 +14,7 @@ fn begins_call(tokens: &[Token]) -> bool
     ensures { result ≡ look.begins_call (map view tokens.now) }
 {
     match at_name(tokens) {
-        Some((_, _, rest)) => at_mark(rest, LEFT_PAREN).is_some(),
+        Some((_, _, rest)) => at_mark(rest, Mark::LeftParen).is_some(),
         None => false,
     }
 }
@@ -25,10 +24,10 @@ fn behind_star(tokens: &[Token]) -> Option<&[Token]>
     ensures value { IsBehind (map view tokens.now) (option_map tokens_of result) }
     ensures shorter { IfSome result (HasFewer (length tokens.now)) }
 {
-    if let Some((_, rest)) = at_mark(tokens, STAR) {
+    if let Some((_, rest)) = at_mark(tokens, Mark::Star) {
         return Some(rest);
     }
-    if let Some((_, rest)) = at_word(tokens, CONST) {
+    if let Some((_, rest)) = at_word(tokens, Word::Const) {
         return Some(rest);
     }
     None

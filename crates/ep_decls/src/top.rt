@@ -7,7 +7,7 @@ ghost use Rattle.ep_ast.specs.Depth.{brackets_past, too_deep};
 ghost use Rattle.ep_ast.specs.Offence.{Offends};
 ghost use Rattle.ep_ast.specs.Refusal.{IfRefused};
 ghost use Rattle.ep_ast.specs.declared.refusals.Refusal.{Refusal};
-ghost use Rattle.ep_lexer.specs.Tokens.{view, view_all};
+ghost use Rattle.ep_lexer.specs.Tokens.{view, all_view};
 ghost use Rattle.ep_decls.specs.Answer.{ReadsAll};
 
 use crate::items::item;
@@ -41,12 +41,12 @@ fn all_items(alloc: Global, last: u32, tokens: &[Token]) -> Result<Measured<Vec<
 /// the bracket, or of what is too deep the first in the text.
 pub fn program(alloc: Global, tokens: &Tokens) -> Result<ProgramTree, Halt>
     requires few { length tokens.now.list.items < 2 ^ 24 }
-    ensures derives { IfOk result (λ t. Programs (view_all tokens.now) (program_of t)) }
-    ensures only { IfOk result (λ t. (is : List Item) → Programs (view_all tokens.now) is → is ≡ program_of t) }
-    ensures fits { IfOk result (λ t. (brackets_past 0 (view_all tokens.now) ≡ None)
+    ensures derives { IfOk result (λ t. Programs (all_view tokens.now) (program_of t)) }
+    ensures only { IfOk result (λ t. (is : List Item) → Programs (all_view tokens.now) is → is ≡ program_of t) }
+    ensures fits { IfOk result (λ t. (brackets_past 0 (all_view tokens.now) ≡ None)
         × (too_deep (program_of t) ≡ None)) }
-    ensures faultless { IfOk result (λ _. (r : Refusal) → Offends (view_all tokens.now) r → ⊥) }
-    ensures refused { IfErr result (λ e. IfRefused e (Offends (view_all tokens.now))) }
+    ensures faultless { IfOk result (λ _. (r : Refusal) → Offends (all_view tokens.now) r → ⊥) }
+    ensures refused { IfErr result (λ e. IfRefused e (Offends (all_view tokens.now))) }
 {
     let all = tokens.list.as_slice();
     if let Some(line) = brackets_past(all) {

@@ -7,7 +7,7 @@ ghost use Rattle.ep_ast.specs.Kind.{nesting};
 ghost use Rattle.ep_ast.specs.Statement as tree;
 ghost use Rattle.ep_ast.specs.Depth.{in_aggregate, in_head};
 ghost use Rattle.ep_reading.specs.Measured.{Shows};
-ghost use Rattle.ep_declarators.specs.Answer.{ShowsDeclarators};
+ghost use Rattle.ep_declarations.specs.DeclaratorAnswer.{ShowsDeclarators};
 ghost use Rattle.ep_declarations.specs.Answer.{ShowsSpecs, ShowsDeclaration};
 ghost use Rattle.ep_statement_parts.specs.Answer.{ShowsBlock};
 ghost use Rattle.ep_decls.specs.Answer.{ShowsFunction, ShowsFunctions, ShowsOther, ShowsItem, ShowsItems, IsWhole};

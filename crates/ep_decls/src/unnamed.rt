@@ -3,9 +3,7 @@
 ghost use Rattle.ep_decls.specs.Answer.{IsMoved};
 
 use crate::look::behind_stars;
-use ep_ast::marks::{COMMA, LEFT_BRACKET, LEFT_PAREN, RIGHT_BRACKET, RIGHT_PAREN, STAR};
-use ep_ast::words::{STRUCT, UNION, VOID};
-use ep_ast::{Halt, Refusal};
+use ep_ast::{Halt, Mark, Refusal, Word};
 use ep_lexer::{Token, TokenKind};
 use ep_reading::{TypeNames, at_mark, at_name, at_word};
 
@@ -21,13 +19,13 @@ enum Seen {
 /// With a token more, where no name has come; None where it can't stand before a name.
 fn before_name(names: &TypeNames, tag: bool, token: &Token) -> Option<Seen> {
     match &token.what {
-        TokenKind::Word(code) => Some(Seen::Type(*code == STRUCT || *code == UNION)),
+        TokenKind::Word(word) => Some(Seen::Type(*word == Word::Struct || *word == Word::Union)),
         TokenKind::Name(text) => if tag || names.has(text) {
             Some(Seen::Type(false))
         } else {
             Some(Seen::Name(0))
         },
-        TokenKind::Mark(code) => if *code == STAR {
+        TokenKind::Mark(mark) => if *mark == Mark::Star {
             Some(Seen::Type(false))
         } else {
             None
@@ -37,17 +35,17 @@ fn before_name(names: &TypeNames, tag: bool, token: &Token) -> Option<Seen> {
 }
 
 /// With a mark more behind the name; None where the parameters end.
-fn behind_name(open: u32, code: u8) -> Option<Seen> {
-    if code == LEFT_PAREN || code == LEFT_BRACKET {
+fn behind_name(open: u32, mark: Mark) -> Option<Seen> {
+    if mark == Mark::LeftParen || mark == Mark::LeftBracket {
         return Some(Seen::Name(open.saturating_add(1)));
     }
-    if open == 0 && code == COMMA {
+    if open == 0 && mark == Mark::Comma {
         return Some(Seen::Type(false));
     }
-    if open == 0 && code == RIGHT_PAREN {
+    if open == 0 && mark == Mark::RightParen {
         return None;
     }
-    if code == RIGHT_PAREN || code == RIGHT_BRACKET {
+    if mark == Mark::RightParen || mark == Mark::RightBracket {
         return Some(Seen::Name(open.saturating_sub(1)));
     }
     Some(Seen::Name(open))
@@ -55,18 +53,18 @@ fn behind_name(open: u32, code: u8) -> Option<Seen> {
 
 /// Whether no parameter stands behind the opening parenthesis.
 fn has_none(inside: &[Token]) -> bool {
-    let behind = match at_word(inside, VOID) {
+    let behind = match at_word(inside, Word::Void) {
         Some((_, rest)) => rest,
         None => inside,
     };
-    at_mark(behind, RIGHT_PAREN).is_some()
+    at_mark(behind, Mark::RightParen).is_some()
 }
 
 /// The line of the token behind the first parameter without a name, where these tokens begin behind the words of a
 /// head; where the head itself is to be refused, perhaps that of a token after the one that is refused.
 pub fn behind_unnamed(names: &TypeNames, tokens: &[Token]) -> Option<u32> {
     let (_, _, behind) = at_name(behind_stars(tokens))?;
-    let (_, inside) = at_mark(behind, LEFT_PAREN)?;
+    let (_, inside) = at_mark(behind, Mark::LeftParen)?;
     if has_none(inside) {
         return None;
     }
@@ -79,8 +77,8 @@ pub fn behind_unnamed(names: &TypeNames, tokens: &[Token]) -> Option<u32> {
                 };
                 seen = next;
             }
-            Seen::Name(open) => if let TokenKind::Mark(code) = token.what {
-                seen = behind_name(open, code)?;
+            Seen::Name(open) => if let TokenKind::Mark(mark) = token.what {
+                seen = behind_name(open, mark)?;
             },
         }
     }

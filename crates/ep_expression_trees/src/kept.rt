@@ -5,19 +5,20 @@ ghost use Rattle.ep_ast.specs.Expression as tree;
 ghost use Rattle.ep_ast.specs.Expression.{Expr, to_exprs, line_of, type_name};
 ghost use Rattle.ep_ast.specs.Grammar.{apply};
 ghost use Rattle.ep_ast.specs.Grammar as grammar;
+ghost use Rattle.ep_ast.specs.Mark.{mark_number};
 ghost use Rattle.ep_expression_trees.specs.Measured.{ShowsExpr};
-ghost use Rattle.ep_expression_trees.specs.Kept.{Shows, ShowsAll, ShowsSuffix, wrap};
-ghost use Rattle.ep_expression_trees.specs.Kept.{Over, Pair, Three, WithAll, OneMore};
+ghost use Rattle.ep_expression_trees.specs.BoundedTrees.{Shows, ShowsAll, ShowsSuffix, wrap};
+ghost use Rattle.ep_expression_trees.specs.BoundedTrees.{Over, Pair, Three, WithAll, OneMore};
 ghost use Rattle.ep_ast.specs.Nesting.{depth, heights, all_stars_in};
 
-use ep_ast::{ExprTree, Literal, TypeNameTree};
+use ep_ast::{ExprTree, Literal, Mark, TypeNameTree};
 use ep_reading::{Measured, pushed};
 use std::alloc::{AllocError, Global};
 
 /// An expression that was read: its line, its tree where that isn't too deep, and then how many operators stand inside
 /// one another.
 #[derive(Debug, Drop)]
-pub struct Kept {
+pub struct BoundedTree {
     pub line: u32,
     pub tree: Option<ExprTree>,
     pub height: u32,
@@ -33,7 +34,7 @@ pub struct Arguments {
 /// What stands behind an operand: an index, arguments, a member, a member through a pointer, `++` or `--`.
 #[derive(Debug, Drop)]
 pub enum Suffix {
-    At(Kept),
+    At(BoundedTree),
     With(Arguments),
     Of(Vec<u8>),
     Through(Vec<u8>),
@@ -44,13 +45,13 @@ pub enum Suffix {
 /// What stands before an operand, with its line: an operator, `++` or `--`, `sizeof`, or a type in parentheses.
 #[derive(Debug, Drop)]
 pub enum Prefix {
-    Operator(u32, u8),
-    Step(u32, u8),
+    Operator(u32, Mark),
+    Step(u32, Mark),
     Sizeof(u32),
     Typed(u32, Box<TypeNameTree>),
 }
 
-impl Kept {
+impl BoundedTree {
     /// The tree, or its line where it is too deep.
     pub fn measured(self) -> Measured<ExprTree>
         ensures { (t : Expr) → Shows self t → ShowsExpr result t }
@@ -63,10 +64,10 @@ impl Kept {
     }
 }
 
-fn too_deep(line: u32) -> Kept
+fn too_deep(line: u32) -> BoundedTree
     ensures { (t : Expr) → line ≡ line_of t → 64 < depth t → Shows result t }
 {
-    Kept {
+    BoundedTree {
         line,
         tree: None,
         height: 0,
@@ -74,7 +75,7 @@ fn too_deep(line: u32) -> Kept
 }
 
 /// The tree, and the height of a node over it, where that isn't too deep.
-fn over(operand: Kept) -> Option<(ExprTree, u32)>
+fn over(operand: BoundedTree) -> Option<(ExprTree, u32)>
     ensures { (t : Expr) → Shows operand t → Over result t }
 {
     let height = operand.height;
@@ -89,7 +90,7 @@ fn over(operand: Kept) -> Option<(ExprTree, u32)>
 }
 
 /// The same of two trees.
-fn both(left: Kept, right: Kept) -> Option<(ExprTree, ExprTree, u32)>
+fn both(left: BoundedTree, right: BoundedTree) -> Option<(ExprTree, ExprTree, u32)>
     ensures { (s t : Expr) → Shows left s → Shows right t → Pair result s t }
 {
     let height = left.height.max(right.height);
@@ -106,7 +107,11 @@ fn both(left: Kept, right: Kept) -> Option<(ExprTree, ExprTree, u32)>
 }
 
 /// The same of three trees.
-fn three(first: Kept, second: Kept, third: Kept) -> Option<(ExprTree, ExprTree, ExprTree, u32)>
+fn three(
+    first: BoundedTree,
+    second: BoundedTree,
+    third: BoundedTree,
+) -> Option<(ExprTree, ExprTree, ExprTree, u32)>
     ensures { (s t u : Expr) → Shows first s → Shows second t → Shows third u → Three result s t u }
 {
     match (first.tree, second.tree, third.tree) {
@@ -123,7 +128,7 @@ fn three(first: Kept, second: Kept, third: Kept) -> Option<(ExprTree, ExprTree, 
 }
 
 /// The same of a tree and arguments.
-fn with_all(callee: Kept, arguments: Arguments) -> Option<(ExprTree, Vec<ExprTree>, u32)>
+fn with_all(callee: BoundedTree, arguments: Arguments) -> Option<(ExprTree, Vec<ExprTree>, u32)>
     ensures { (s : Expr) → (ts : List Expr) → Shows callee s → ShowsAll arguments ts → WithAll result s ts }
 {
     match (callee.tree, arguments.trees) {
@@ -140,11 +145,11 @@ fn with_all(callee: Kept, arguments: Arguments) -> Option<(ExprTree, Vec<ExprTre
 }
 
 /// A name.
-pub fn name(alloc: Global, line: u32, text: &[u8]) -> Result<Kept, AllocError>
+pub fn name(alloc: Global, line: u32, text: &[u8]) -> Result<BoundedTree, AllocError>
     ensures { IfOk result (λ k. Shows k (tree.id line text.now)) }
 {
     let text = Vec::from_slice(alloc, text)?;
-    Ok(Kept {
+    Ok(BoundedTree {
         line,
         tree: Some(ExprTree::Id(line, text)),
         height: 0,
@@ -152,10 +157,10 @@ pub fn name(alloc: Global, line: u32, text: &[u8]) -> Result<Kept, AllocError>
 }
 
 /// A constant.
-pub fn number(line: u32, literal: Literal) -> Kept
+pub fn number(line: u32, literal: Literal) -> BoundedTree
     ensures { Shows result (tree.number line literal) }
 {
-    Kept {
+    BoundedTree {
         line,
         tree: Some(ExprTree::Number(line, literal)),
         height: 0,
@@ -163,11 +168,11 @@ pub fn number(line: u32, literal: Literal) -> Kept
 }
 
 /// The `sizeof` of a type.
-pub fn size_of(line: u32, of: Box<TypeNameTree>) -> Kept
+pub fn size_of(line: u32, of: Box<TypeNameTree>) -> BoundedTree
     ensures { Shows result (tree.sizeof_type line (type_name of.value)) }
 {
     if of.stars.len() <= 64 {
-        Kept {
+        BoundedTree {
             line,
             tree: Some(ExprTree::SizeofType(line, of)),
             height: 1,
@@ -178,16 +183,21 @@ pub fn size_of(line: u32, of: Box<TypeNameTree>) -> Kept
 }
 
 /// An assignment by this mark.
-pub fn assign(alloc: Global, mark: u8, place: Kept, value: Kept) -> Result<Kept, AllocError>
+pub fn assign(
+    alloc: Global,
+    mark: Mark,
+    place: BoundedTree,
+    value: BoundedTree,
+) -> Result<BoundedTree, AllocError>
     ensures { (s t : Expr) → Shows place s → Shows value t
-        → IfOk result (λ k. Shows k (tree.assign (line_of s) mark s t)) }
+        → IfOk result (λ k. Shows k (tree.assign (line_of s) (mark_number mark) s t)) }
 {
     let line = place.line;
     match both(place, value) {
         Some((a, b, height)) => {
             let a = Box::new(alloc, a)?;
             let b = Box::new(alloc, b)?;
-            Ok(Kept {
+            Ok(BoundedTree {
                 line,
                 tree: Some(ExprTree::Assign(line, mark, a, b)),
                 height,
@@ -198,16 +208,21 @@ pub fn assign(alloc: Global, mark: u8, place: Kept, value: Kept) -> Result<Kept,
 }
 
 /// Two operands with this operator between them.
-pub fn binary(alloc: Global, mark: u8, left: Kept, right: Kept) -> Result<Kept, AllocError>
+pub fn binary(
+    alloc: Global,
+    mark: Mark,
+    left: BoundedTree,
+    right: BoundedTree,
+) -> Result<BoundedTree, AllocError>
     ensures { (s t : Expr) → Shows left s → Shows right t
-        → IfOk result (λ k. Shows k (tree.binary (line_of s) mark s t)) }
+        → IfOk result (λ k. Shows k (tree.binary (line_of s) (mark_number mark) s t)) }
 {
     let line = left.line;
     match both(left, right) {
         Some((a, b, height)) => {
             let a = Box::new(alloc, a)?;
             let b = Box::new(alloc, b)?;
-            Ok(Kept {
+            Ok(BoundedTree {
                 line,
                 tree: Some(ExprTree::Binary(line, mark, a, b)),
                 height,
@@ -217,7 +232,7 @@ pub fn binary(alloc: Global, mark: u8, left: Kept, right: Kept) -> Result<Kept, 
     }
 }
 
-fn index(alloc: Global, operand: Kept, at: Kept) -> Result<Kept, AllocError>
+fn index(alloc: Global, operand: BoundedTree, at: BoundedTree) -> Result<BoundedTree, AllocError>
     ensures { (s t : Expr) → Shows operand s → Shows at t → IfOk result (λ k. Shows k (tree.index (line_of s) s t)) }
 {
     let line = operand.line;
@@ -225,7 +240,7 @@ fn index(alloc: Global, operand: Kept, at: Kept) -> Result<Kept, AllocError>
         Some((a, b, height)) => {
             let a = Box::new(alloc, a)?;
             let b = Box::new(alloc, b)?;
-            Ok(Kept {
+            Ok(BoundedTree {
                 line,
                 tree: Some(ExprTree::Index(line, a, b)),
                 height,
@@ -236,7 +251,12 @@ fn index(alloc: Global, operand: Kept, at: Kept) -> Result<Kept, AllocError>
 }
 
 /// A conditional.
-pub fn conditional(alloc: Global, test: Kept, yes: Kept, no: Kept) -> Result<Kept, AllocError>
+pub fn conditional(
+    alloc: Global,
+    test: BoundedTree,
+    yes: BoundedTree,
+    no: BoundedTree,
+) -> Result<BoundedTree, AllocError>
     ensures { (s t u : Expr) → Shows test s → Shows yes t → Shows no u
         → IfOk result (λ k. Shows k (tree.conditional (line_of s) s t u)) }
 {
@@ -246,7 +266,7 @@ pub fn conditional(alloc: Global, test: Kept, yes: Kept, no: Kept) -> Result<Kep
             let a = Box::new(alloc, a)?;
             let b = Box::new(alloc, b)?;
             let c = Box::new(alloc, c)?;
-            Ok(Kept {
+            Ok(BoundedTree {
                 line,
                 tree: Some(ExprTree::Conditional(line, a, b, c)),
                 height,
@@ -256,7 +276,7 @@ pub fn conditional(alloc: Global, test: Kept, yes: Kept, no: Kept) -> Result<Kep
     }
 }
 
-fn call(alloc: Global, callee: Kept, arguments: Arguments) -> Result<Kept, AllocError>
+fn call(alloc: Global, callee: BoundedTree, arguments: Arguments) -> Result<BoundedTree, AllocError>
     ensures { (s : Expr) → (ts : List Expr) → Shows callee s → ShowsAll arguments ts
         → IfOk result (λ k. Shows k (tree.call (line_of s) s (to_exprs ts))) }
 {
@@ -264,7 +284,7 @@ fn call(alloc: Global, callee: Kept, arguments: Arguments) -> Result<Kept, Alloc
     match with_all(callee, arguments) {
         Some((a, all, height)) => {
             let a = Box::new(alloc, a)?;
-            Ok(Kept {
+            Ok(BoundedTree {
                 line,
                 tree: Some(ExprTree::new_call(line, a, all)),
                 height,
@@ -274,14 +294,14 @@ fn call(alloc: Global, callee: Kept, arguments: Arguments) -> Result<Kept, Alloc
     }
 }
 
-fn member(alloc: Global, text: Vec<u8>, operand: Kept) -> Result<Kept, AllocError>
+fn member(alloc: Global, text: Vec<u8>, operand: BoundedTree) -> Result<BoundedTree, AllocError>
     ensures { (t : Expr) → Shows operand t → IfOk result (λ k. Shows k ((tree.member (line_of t) t text.items))) }
 {
     let line = operand.line;
     match over(operand) {
         Some((a, height)) => {
             let a = Box::new(alloc, a)?;
-            Ok(Kept {
+            Ok(BoundedTree {
                 line,
                 tree: Some(ExprTree::Member(line, a, text)),
                 height,
@@ -291,14 +311,14 @@ fn member(alloc: Global, text: Vec<u8>, operand: Kept) -> Result<Kept, AllocErro
     }
 }
 
-fn arrow(alloc: Global, text: Vec<u8>, operand: Kept) -> Result<Kept, AllocError>
+fn arrow(alloc: Global, text: Vec<u8>, operand: BoundedTree) -> Result<BoundedTree, AllocError>
     ensures { (t : Expr) → Shows operand t → IfOk result (λ k. Shows k ((tree.arrow (line_of t) t text.items))) }
 {
     let line = operand.line;
     match over(operand) {
         Some((a, height)) => {
             let a = Box::new(alloc, a)?;
-            Ok(Kept {
+            Ok(BoundedTree {
                 line,
                 tree: Some(ExprTree::Arrow(line, a, text)),
                 height,
@@ -308,14 +328,14 @@ fn arrow(alloc: Global, text: Vec<u8>, operand: Kept) -> Result<Kept, AllocError
     }
 }
 
-fn increment(alloc: Global, operand: Kept) -> Result<Kept, AllocError>
+fn increment(alloc: Global, operand: BoundedTree) -> Result<BoundedTree, AllocError>
     ensures { (t : Expr) → Shows operand t → IfOk result (λ k. Shows k ((tree.post_increment (line_of t) t))) }
 {
     let line = operand.line;
     match over(operand) {
         Some((a, height)) => {
             let a = Box::new(alloc, a)?;
-            Ok(Kept {
+            Ok(BoundedTree {
                 line,
                 tree: Some(ExprTree::PostIncrement(line, a)),
                 height,
@@ -325,14 +345,14 @@ fn increment(alloc: Global, operand: Kept) -> Result<Kept, AllocError>
     }
 }
 
-fn decrement(alloc: Global, operand: Kept) -> Result<Kept, AllocError>
+fn decrement(alloc: Global, operand: BoundedTree) -> Result<BoundedTree, AllocError>
     ensures { (t : Expr) → Shows operand t → IfOk result (λ k. Shows k ((tree.post_decrement (line_of t) t))) }
 {
     let line = operand.line;
     match over(operand) {
         Some((a, height)) => {
             let a = Box::new(alloc, a)?;
-            Ok(Kept {
+            Ok(BoundedTree {
                 line,
                 tree: Some(ExprTree::PostDecrement(line, a)),
                 height,
@@ -342,13 +362,18 @@ fn decrement(alloc: Global, operand: Kept) -> Result<Kept, AllocError>
     }
 }
 
-fn unary(alloc: Global, line: u32, mark: u8, operand: Kept) -> Result<Kept, AllocError>
-    ensures { (t : Expr) → Shows operand t → IfOk result (λ k. Shows k (tree.unary line mark t)) }
+fn unary(
+    alloc: Global,
+    line: u32,
+    mark: Mark,
+    operand: BoundedTree,
+) -> Result<BoundedTree, AllocError>
+    ensures { (t : Expr) → Shows operand t → IfOk result (λ k. Shows k (tree.unary line (mark_number mark) t)) }
 {
     match over(operand) {
         Some((a, height)) => {
             let a = Box::new(alloc, a)?;
-            Ok(Kept {
+            Ok(BoundedTree {
                 line,
                 tree: Some(ExprTree::Unary(line, mark, a)),
                 height,
@@ -358,13 +383,18 @@ fn unary(alloc: Global, line: u32, mark: u8, operand: Kept) -> Result<Kept, Allo
     }
 }
 
-fn step(alloc: Global, line: u32, mark: u8, operand: Kept) -> Result<Kept, AllocError>
-    ensures { (t : Expr) → Shows operand t → IfOk result (λ k. Shows k (tree.step line mark t)) }
+fn step(
+    alloc: Global,
+    line: u32,
+    mark: Mark,
+    operand: BoundedTree,
+) -> Result<BoundedTree, AllocError>
+    ensures { (t : Expr) → Shows operand t → IfOk result (λ k. Shows k (tree.step line (mark_number mark) t)) }
 {
     match over(operand) {
         Some((a, height)) => {
             let a = Box::new(alloc, a)?;
-            Ok(Kept {
+            Ok(BoundedTree {
                 line,
                 tree: Some(ExprTree::Step(line, mark, a)),
                 height,
@@ -374,13 +404,13 @@ fn step(alloc: Global, line: u32, mark: u8, operand: Kept) -> Result<Kept, Alloc
     }
 }
 
-fn size_of_value(alloc: Global, line: u32, operand: Kept) -> Result<Kept, AllocError>
+fn size_of_value(alloc: Global, line: u32, operand: BoundedTree) -> Result<BoundedTree, AllocError>
     ensures { (t : Expr) → Shows operand t → IfOk result (λ k. Shows k (tree.sizeof_expr line t)) }
 {
     match over(operand) {
         Some((a, height)) => {
             let a = Box::new(alloc, a)?;
-            Ok(Kept {
+            Ok(BoundedTree {
                 line,
                 tree: Some(ExprTree::SizeofExpr(line, a)),
                 height,
@@ -390,7 +420,12 @@ fn size_of_value(alloc: Global, line: u32, operand: Kept) -> Result<Kept, AllocE
     }
 }
 
-fn cast(alloc: Global, line: u32, to: Box<TypeNameTree>, operand: Kept) -> Result<Kept, AllocError>
+fn cast(
+    alloc: Global,
+    line: u32,
+    to: Box<TypeNameTree>,
+    operand: BoundedTree,
+) -> Result<BoundedTree, AllocError>
     ensures { (t : Expr) → Shows operand t → IfOk result (λ k. Shows k (tree.cast line (type_name to.value) t)) }
 {
     if to.stars.len() > 64 {
@@ -399,7 +434,7 @@ fn cast(alloc: Global, line: u32, to: Box<TypeNameTree>, operand: Kept) -> Resul
     match over(operand) {
         Some((a, height)) => {
             let a = Box::new(alloc, a)?;
-            Ok(Kept {
+            Ok(BoundedTree {
                 line,
                 tree: Some(ExprTree::Cast(line, to, a)),
                 height,
@@ -410,7 +445,11 @@ fn cast(alloc: Global, line: u32, to: Box<TypeNameTree>, operand: Kept) -> Resul
 }
 
 /// The operand with this before it.
-pub fn prefixed(alloc: Global, prefix: Prefix, operand: Kept) -> Result<Kept, AllocError>
+pub fn prefixed(
+    alloc: Global,
+    prefix: Prefix,
+    operand: BoundedTree,
+) -> Result<BoundedTree, AllocError>
     ensures { (t : Expr) → Shows operand t → IfOk result (λ k. Shows k (wrap prefix t)) }
 {
     match prefix {
@@ -422,7 +461,11 @@ pub fn prefixed(alloc: Global, prefix: Prefix, operand: Kept) -> Result<Kept, Al
 }
 
 /// The operand with this behind it.
-pub fn suffixed(alloc: Global, operand: Kept, suffix: Suffix) -> Result<Kept, AllocError>
+pub fn suffixed(
+    alloc: Global,
+    operand: BoundedTree,
+    suffix: Suffix,
+) -> Result<BoundedTree, AllocError>
     ensures { (t : Expr) → (s : grammar.Suffix) → Shows operand t → ShowsSuffix suffix s
         → IfOk result (λ k. Shows k (apply s t)) }
 {
@@ -437,7 +480,7 @@ pub fn suffixed(alloc: Global, operand: Kept, suffix: Suffix) -> Result<Kept, Al
 }
 
 /// The arguments and one more, and their height, where none is too deep.
-fn one_more(all: Arguments, one: Kept) -> Option<(Vec<ExprTree>, ExprTree, u32)>
+fn one_more(all: Arguments, one: BoundedTree) -> Option<(Vec<ExprTree>, ExprTree, u32)>
     ensures { (ts : List Expr) → (t : Expr) → ShowsAll all ts → Shows one t → OneMore result ts t }
 {
     match (all.trees, one.tree) {
@@ -468,7 +511,7 @@ impl Arguments {
     }
 
     /// With one argument more.
-    pub fn with(self, argument: Kept) -> Result<Arguments, AllocError>
+    pub fn with(self, argument: BoundedTree) -> Result<Arguments, AllocError>
         ensures { (ts : List Expr) → (t : Expr) → ShowsAll self ts → Shows argument t
             → IfOk result (λ a. ShowsAll a (ts ++ t ∷ [])) }
     {

@@ -4,6 +4,6 @@
 mod kept;
 
 pub use kept::{
-    Arguments, Kept, Prefix, Suffix, assign, binary, conditional, name, number, prefixed, size_of,
-    suffixed,
+    Arguments, BoundedTree, Prefix, Suffix, assign, binary, conditional, name, number, prefixed,
+    size_of, suffixed,
 };

@@ -1,5 +1,6 @@
 -- Conditionals and assignments.
 use Rattle.std.proofs.Common.{◌≡◌, ℕ, zero, suc, ◌+◌, ◌<◌, Bool, true, false, List, ◌∷◌, Some, refl, sym, subst, arith}
+use Rattle.std.proofs.lemmas.Bool.{or_right}
 use Rattle.std.specs.Prelude.{◌==◌, nat_le, ◌||◌}
 use Rattle.ep_ast.specs.Token.{Tok, mark}
 use Rattle.ep_ast.specs.Expression as tree
@@ -16,15 +17,11 @@ use Rattle.ep_exprs.proofs.MarkLemmas.{ends_cast, assigns_only}
 use Rattle.ep_exprs.proofs.LevelLemmas.{operand_read, refused_level, level_begins, level_done}
 use Rattle.ep_exprs.proofs.OperandLemmas.{no_unary, unary_read}
 
-or_end : (a b : Bool) → b ≡ true → (a || b) ≡ true
-or_end true b h = refl
-or_end false b h = h
-
 tested : (l c : ℕ) (ts : List Tok) → c ≡ question → Ends cond (mark l c ∷ ts) → ⊥
 tested l c ts h e = let f : goes_on cond question ≡ false = rw h at e in cc
 
 assigned : (l c : ℕ) (ts : List Tok) → is_assignment c ≡ true → Ends expr (mark l c ∷ ts) → ⊥
-assigned l c ts h e = let k = or_end (is_suffix c || nat_le 1 (level c) || c == question) (is_assignment c) h in cc
+assigned l c ts h e = let k = or_right (is_suffix c || nat_le 1 (level c) || c == question) (is_assignment c) h in cc
 
 module _ (N : List ℕ → Bool) where
   -- ---- conditionals

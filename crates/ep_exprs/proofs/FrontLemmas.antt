@@ -6,7 +6,7 @@ use Rattle.ep_ast.specs.TypeWords.{OneWord, plain_word, type_name, tag, Words, n
 use Rattle.ep_ast.specs.TypeWords.{one_const, Stars, no_stars, one_star, TypeNamed, closed, begins_type}
 use Rattle.ep_ast.specs.Grammar.{Rule, Suffix, Derives, assigns, assigns_not, chooses, chooses_not, left, tighter}
 use Rattle.ep_ast.specs.Grammar.{operand, casts, casts_not, steps, prefixed, sized, sized_type, unary_not, suffixed}
-use Rattle.ep_ast.specs.Grammar.{suffixed_not, names, numbers, parens, Behind, indexed, called, member, pointed}
+use Rattle.ep_ast.specs.Grammar.{suffixed_not, names, numbers, parens, IsSuffix, indexed, called, member, pointed}
 use Rattle.ep_ast.specs.Grammar.{incremented, decremented, Arguments, no_arguments, some_arguments, Listed, last, next}
 
 -- a front that stays one whatever follows it
@@ -197,7 +197,7 @@ module _ (N : List ℕ → Bool) where
           again = λ zs. rw append_assoc (parens h k (f.again (mark m d ∷ zs)));
         }
 
-    behind_front : {xs ys : List Tok} {s : Suffix} → Behind N xs ys s → Front (λ us vs. Behind N us vs s) xs ys
+    behind_front : {xs ys : List Tok} {s : Suffix} → IsSuffix N xs ys s → Front (λ us vs. IsSuffix N us vs s) xs ys
     behind_front (indexed {l = l} {c = c} {m = m} {d = d} {xs = xs} {ys = ys} h k e) = let f = front_of e in
         record {
           front = mark l c ∷ (f.front ++ mark m d ∷ []);

@@ -1,5 +1,7 @@
 -- Which marks are what, and what can't go on.
 use Rattle.std.proofs.Common.{◌≡◌, ℕ, zero, suc, ◌+◌, ◌-◌, ◌<◌, ◌≤◌, Bool, true, false, List, [], ◌∷◌, refl, sym, subst}
+use Rattle.std.proofs.lemmas.Bool.{leb-true}
+use Rattle.std.proofs.lemmas.Bool.{and_parts, false_from_ne_true, or_cases}
 use Rattle.std.proofs.Common.{arith, inl, inr, ◌⊎◌}
 use Rattle.std.specs.Prelude.{◌==◌, nat_le, ◌&&◌, ◌||◌}
 use Rattle.std.proofs.lemmas.Bool.{eqb-true}
@@ -9,15 +11,6 @@ use Rattle.ep_ast.specs.Mark.{left_paren, right_paren, right_bracket, question, 
 use Rattle.ep_ast.specs.Grammar.{level, is_assignment, is_prefix, is_step, Rule, expr, cond, bin, cast, unary, postfix}
 use Rattle.ep_ast.specs.Grammar.{primary}
 use Rattle.ep_ast.specs.Reading.{is_suffix, goes_on, Ends}
-
-pub both_true : (a b : Bool) → (a && b) ≡ true → (a ≡ true) × (b ≡ true)
-both_true true true e = (refl, refl)
-both_true true false e = absurd cc
-both_true false b e = absurd cc
-
-or_cases : (a b : Bool) → (a || b) ≡ true → (a ≡ true) ⊎ (b ≡ true)
-or_cases true b e = inl refl
-or_cases false b e = inr e
 
 at_is : (P : ℕ → Type 0) (c n : ℕ) → (c == n) ≡ true → P n → P c
 at_is P c n h p = subst P (sym (eqb-true c n h)) p
@@ -66,9 +59,6 @@ from_14 P a b e f g h i j (suc (suc (suc (suc (suc (suc zero)))))) l = i
 from_14 P a b e f g h i j (suc (suc (suc (suc (suc (suc (suc zero))))))) l = j
 from_14 P a b e f g h i j (suc (suc (suc (suc (suc (suc (suc (suc d)))))))) l = absurd (omega arith)
 
-le_true : (m n : ℕ) → nat_le m n ≡ true → m ≤ n
-le_true m n h = grind (arith, nat_tests)
-
 -- an assignment mark is at no level, stands behind no operand and is no `?`
 abbrev AssignsOnly : ℕ → Type 0
 AssignsOnly c = (level c ≡ 0) × (is_suffix c ≡ false) × ((c == 41) ≡ false)
@@ -94,7 +84,7 @@ in_row c l m =
 
 pub assigns_only : (c : ℕ) → is_assignment c ≡ true → AssignsOnly c
 assigns_only c h = elim (or_cases (c == 44 || c == 1 || c == 2) (nat_le 14 c && nat_le c 21) h) [
-  | inr k ↦ let q = both_true (nat_le 14 c) (nat_le c 21) k in in_row c (le_true 14 c q.0) (le_true c 21 q.1)
+  | inr k ↦ let q = and_parts (nat_le 14 c) (nat_le c 21) k in in_row c (leb-true 14 c q.0) (leb-true c 21 q.1)
   | inl k ↦ elim (or_cases (c == 44 || c == 1) (c == 2) k) [
     | inr m ↦ at_is AssignsOnly c 2 m (refl, refl, refl)
     | inl m ↦ elim (or_cases (c == 44) (c == 1) m) [
@@ -108,12 +98,8 @@ assigns_only c h = elim (or_cases (c == 44 || c == 1 || c == 2) (nat_le 14 c && 
 suffix_level : (c : ℕ) → is_suffix c ≡ true → level c ≡ 0
 suffix_level c h = suffix_is (λ n. level n ≡ 0) refl refl refl refl refl refl c h
 
-not_true : (b : Bool) → (b ≡ true → ⊥) → b ≡ false
-not_true true h = absurd (h refl)
-not_true false h = refl
-
 pub level_no_suffix : (c k : ℕ) → level c ≡ k → 0 < k → is_suffix c ≡ false
-level_no_suffix c k h p = not_true (is_suffix c) (λ s. let e = suffix_level c s in omega arith)
+level_no_suffix c k h p = false_from_ne_true (is_suffix c) (λ s. let e = suffix_level c s in omega arith)
 
 -- ---- prefixes and steps
 

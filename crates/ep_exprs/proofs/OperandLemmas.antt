@@ -1,5 +1,6 @@
 -- Casts, prefix operators and `sizeof`.
 use Rattle.std.proofs.Common.{◌≡◌, ℕ, Bool, true, false, List, ◌∷◌, Some, refl}
+use Rattle.std.proofs.lemmas.Bool.{and_parts}
 use Rattle.std.specs.Prelude.{◌==◌, ◌&&◌, ◌||◌}
 use Rattle.std.proofs.lemmas.Bool.{eqb-true}
 use Rattle.ep_ast.specs.Token.{Tok, word, mark}
@@ -14,7 +15,7 @@ use Rattle.ep_ast.specs.Grammar.{sized_type, unary_not, suffixed, suffixed_not, 
 use Rattle.ep_ast.specs.Reading.{Ends, Reads, Refuses, Takes, TakesNone}
 use Rattle.ep_exprs.specs.Look.{begins_cast, AtCast}
 use Rattle.ep_exprs.specs.Pending.{begins_unary}
-use Rattle.ep_exprs.proofs.MarkLemmas.{both_true, ends_unary, ends_cast, ends_postfix, prefix_not_paren, step_not_paren}
+use Rattle.ep_exprs.proofs.MarkLemmas.{ends_unary, ends_cast, ends_postfix, prefix_not_paren, step_not_paren}
 use Rattle.ep_exprs.proofs.MarkLemmas.{prefix_not_step}
 use Rattle.ep_type_names.proofs.TypeWordLemmas.{one_begins}
 
@@ -22,7 +23,7 @@ sizeof_no_type : (w : ℕ) → w ≡ sizeof_word → (is_type_word w || is_tag_w
 sizeof_no_type w k h = let f : (is_type_word sizeof_word || is_tag_word sizeof_word) ≡ true = rw k at h in cc
 
 paren_is : (c : ℕ) (b : Bool) → (c == left_paren && b) ≡ true → (c ≡ left_paren) × (b ≡ true)
-paren_is c b h = let q = both_true (c == left_paren) b h in (eqb-true c left_paren q.0, q.1)
+paren_is c b h = let q = and_parts (c == left_paren) b h in (eqb-true c left_paren q.0, q.1)
 
 module _ (N : List ℕ → Bool) where
   -- nothing begins with a word of a type

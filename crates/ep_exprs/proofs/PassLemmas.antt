@@ -4,7 +4,7 @@ use Rattle.ep_ast.specs.Token.{Tok}
 use Rattle.ep_ast.specs.Expression.{Expr}
 use Rattle.ep_ast.specs.Grammar.{expr, cast}
 use Rattle.ep_ast.specs.Reading.{Reads}
-use Rattle.ep_expression_trees.specs.declared.kept.Kept.{Kept}
+use Rattle.ep_expression_trees.specs.declared.kept.BoundedTree.{BoundedTree}
 use Rattle.ep_exprs.specs.declared.frames.Frame.{Frame}
 use Rattle.ep_exprs.specs.Look.{begins_cast, begins_assignment}
 use Rattle.ep_exprs.specs.Pending.{wanted, Plain, Waits, begins, Value}
@@ -26,9 +26,9 @@ module _ (N : List ℕ → Bool) where
     | inr o ↦ elim o [ inl k ↦ plain_cast N fs xs k | inr k ↦ plain_at (begins_cast N xs) fs xs ys a refl r k ]
   ]
 
-  whole_at : {xs ys : List Tok} (k : Kept) (zs : List Tok) (v : Value N xs [] k zs) → Waits N xs [] ys → ys ≡ v.from
+  whole_at : {xs ys : List Tok} (k : BoundedTree) (zs : List Tok) (v : Value N xs [] k zs) → Waits N xs [] ys → ys ≡ v.from
       → IsRead N expr xs k zs
   whole_at {xs = xs} k zs v begins e = record { tree = v.tree; shows = v.shows; reads = rw (← e) at v.reads }
 
-  pub whole_read : (xs : List Tok) (k : Kept) (zs : List Tok) → Value N xs [] k zs → IsRead N expr xs k zs
+  pub whole_read : (xs : List Tok) (k : BoundedTree) (zs : List Tok) → Value N xs [] k zs → IsRead N expr xs k zs
   whole_read xs k zs v = whole_at k zs v v.waits refl

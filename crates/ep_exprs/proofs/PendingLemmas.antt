@@ -3,13 +3,14 @@ use Rattle.std.proofs.Common.{◌≡◌, ℕ, Bool, true, false, List, [], ◌�
 use Rattle.ep_ast.specs.Token.{Tok}
 use Rattle.ep_ast.specs.Expression as tree
 use Rattle.ep_ast.specs.Expression.{Expr, line_of}
-use Rattle.ep_ast.specs.Mark.{question, colon}
+use Rattle.ep_ast.specs.declared.marks.Mark.{Mark}
+use Rattle.ep_ast.specs.Mark.{mark_number, question, colon}
 use Rattle.ep_ast.specs.Grammar.{Rule, expr, cond, bin, cast}
 use Rattle.ep_ast.specs.Reading.{Reads, Refuses, Lacks, AtMark}
-use Rattle.ep_expression_trees.specs.declared.kept.Kept.{Kept}
+use Rattle.ep_expression_trees.specs.declared.kept.BoundedTree.{BoundedTree}
 use Rattle.ep_exprs.specs.declared.frames.Frame.{Frame}
 use Rattle.ep_exprs.specs.declared.frames.Frame.TheVariants as frames
-use Rattle.ep_expression_trees.specs.Kept.{Shows}
+use Rattle.ep_expression_trees.specs.BoundedTrees.{Shows}
 use Rattle.ep_exprs.specs.Look.{begins_cast, begins_assignment}
 use Rattle.ep_exprs.specs.Pending.{wanted, Plain, Waits, begins, assigning, asking, choosing, Value, Asked}
 use Rattle.ep_exprs.proofs.ConditionalLemmas as laws
@@ -42,8 +43,8 @@ module _ (N : List ℕ → Bool) where
   -- a refusal where something waits is one of the whole
   pub unwound : {xs ys : List Tok} {fs : List Frame} → Waits N xs fs ys → Refuses N (wanted fs) ys → Refuses N expr xs
   unwound begins r = r
-  unwound (assigning {fs = fs} {ys = ys} {zs = zs} {ws = ws} {a = a} {l = l} {c = c} w u b s d k) r =
-      unwound u (subst (λ (q : Rule). Refuses N q ys) (sym w) (laws.assign_refused N ys zs ws l c a b d k r))
+  unwound (assigning {fs = fs} {ys = ys} {zs = zs} {ws = ws} {a = a} {l = l} {m = m} w u b s d k) r =
+      unwound u (subst (λ (q : Rule). Refuses N q ys) (sym w) (laws.assign_refused N ys zs ws l (mark_number m) a b d k r))
   unwound (asking {fs = fs} {ys = ys} {zs = zs} {ws = ws} {a = a} {l = l} u p s d k) r =
       unwound u (wanted_refused fs ys p (laws.yes_refused N ys zs ws l a d k r))
   unwound (choosing {fs = fs} {ys = ys} {zs = zs} {ws = ws} {vs = vs} {us = us} {a = a} {b = b} {l = l} {m = m} u p s d
@@ -54,14 +55,14 @@ module _ (N : List ℕ → Bool) where
       → Refuses N expr xs
   test_unwound {ys = ys} {fs = fs} u p r = unwound u (wanted_refused fs ys p (laws.test_refused N ys r))
 
-  pub colon_unwound : (xs : List Tok) (fs : List Frame) (k j : Kept) (zs : List Tok) → Asked N xs fs k j zs
+  pub colon_unwound : (xs : List Tok) (fs : List Frame) (k j : BoundedTree) (zs : List Tok) → Asked N xs fs k j zs
       → Lacks colon zs → Refuses N expr xs
   colon_unwound xs fs k j zs a n = unwound a.waits (wanted_refused fs a.from a.plain
       (laws.colon_refused N a.from a.behind a.inner zs a.line a.test a.yes a.reads_test a.at_question a.reads_yes n))
 
   -- ---- completed
 
-  pub test_value : (xs ys zs : List Tok) (fs : List Frame) (k : Kept) (t : Expr) → Waits N xs fs ys → Plain N fs ys
+  pub test_value : (xs ys zs : List Tok) (fs : List Frame) (k : BoundedTree) (t : Expr) → Waits N xs fs ys → Plain N fs ys
       → Shows k t → Reads N (bin 1) ys t zs → Lacks question zs → Value N xs fs k zs
   test_value xs ys zs fs k t u p s r n = record {
     from = ys;
@@ -71,25 +72,26 @@ module _ (N : List ℕ → Bool) where
     reads = wanted_read fs ys zs t p (laws.choice_none N ys zs t r n);
   }
 
-  assign_at : (xs zs : List Tok) {ys : List Tok} (fs : List Frame) (k new : Kept) (c : ℕ) (t : Expr)
-      → ((s : Expr) → Shows k s → Shows new (tree.assign (line_of s) c s t)) → Waits N xs (frames.Assign k c ∷ fs) ys
+  assign_at : (xs zs : List Tok) {ys : List Tok} (fs : List Frame) (k new : BoundedTree) (m : Mark) (t : Expr)
+      → ((s : Expr) → Shows k s → Shows new (tree.assign (line_of s) (mark_number m) s t))
+      → Waits N xs (frames.Assign k m ∷ fs) ys
       → Reads N expr ys t zs → Value N xs fs new zs
-  assign_at xs zs fs k new c t f (assigning {ys = ys} {zs = vs} {ws = ws} {a = a} {l = l} w u b s d o) r = record {
+  assign_at xs zs fs k new m t f (assigning {ys = ys} {zs = vs} {ws = ws} {a = a} {l = l} w u b s d o) r = record {
     from = ys;
-    tree = tree.assign (line_of a) c a t;
+    tree = tree.assign (line_of a) (mark_number m) a t;
     waits = u;
     shows = f a s;
-    reads = subst (λ (q : Rule). Reads N q ys (tree.assign (line_of a) c a t) zs) (sym w)
-        (laws.assign_read N ys vs ws zs l c a t b d o r);
+    reads = subst (λ (q : Rule). Reads N q ys (tree.assign (line_of a) (mark_number m) a t) zs) (sym w)
+        (laws.assign_read N ys vs ws zs l (mark_number m) a t b d o r);
   }
 
-  pub assign_value : (xs zs : List Tok) (fs : List Frame) (k old new : Kept) (c : ℕ)
-      → ((s t : Expr) → Shows k s → Shows old t → Shows new (tree.assign (line_of s) c s t))
-      → Value N xs (frames.Assign k c ∷ fs) old zs → Value N xs fs new zs
-  assign_value xs zs fs k old new c f v = assign_at xs zs fs k new c v.tree (λ s h. f s v.tree h v.shows) v.waits
+  pub assign_value : (xs zs : List Tok) (fs : List Frame) (k old new : BoundedTree) (m : Mark)
+      → ((s t : Expr) → Shows k s → Shows old t → Shows new (tree.assign (line_of s) (mark_number m) s t))
+      → Value N xs (frames.Assign k m ∷ fs) old zs → Value N xs fs new zs
+  assign_value xs zs fs k old new m f v = assign_at xs zs fs k new m v.tree (λ s h. f s v.tree h v.shows) v.waits
       v.reads
 
-  choice_at : (xs zs : List Tok) {ys : List Tok} (fs : List Frame) (k j new : Kept) (t : Expr)
+  choice_at : (xs zs : List Tok) {ys : List Tok} (fs : List Frame) (k j new : BoundedTree) (t : Expr)
       → ((s y : Expr) → Shows k s → Shows j y → Shows new (tree.conditional (line_of s) s y t))
       → Waits N xs (frames.Colon k j ∷ fs) ys → Reads N cond ys t zs → Value N xs fs new zs
   choice_at xs zs fs k j new t f (choosing {ys = ys} {zs = ws} {ws = qs} {vs = vs} {us = us} {a = a} {b = b} {l = l}
@@ -102,13 +104,13 @@ module _ (N : List ℕ → Bool) where
             (laws.choice_read N ys ws qs vs us zs l m a b t d o e h r);
       }
 
-  pub choice_value : (xs zs : List Tok) (fs : List Frame) (k j old new : Kept)
+  pub choice_value : (xs zs : List Tok) (fs : List Frame) (k j old new : BoundedTree)
       → ((s y t : Expr) → Shows k s → Shows j y → Shows old t → Shows new (tree.conditional (line_of s) s y t))
       → Value N xs (frames.Colon k j ∷ fs) old zs → Value N xs fs new zs
   choice_value xs zs fs k j old new f v = choice_at xs zs fs k j new v.tree (λ s y h g. f s y v.tree h g v.shows)
       v.waits v.reads
 
-  ask_at : (xs zs : List Tok) {ys : List Tok} (fs : List Frame) (k j : Kept) (t : Expr) → Shows j t
+  ask_at : (xs zs : List Tok) {ys : List Tok} (fs : List Frame) (k j : BoundedTree) (t : Expr) → Shows j t
       → Waits N xs (frames.Question k ∷ fs) ys → Reads N expr ys t zs → Asked N xs fs k j zs
   ask_at xs zs fs k j t g (asking {ys = ys} {zs = vs} {ws = ws} {a = a} {l = l} u p s d o) r = record {
     from = ys;
@@ -126,11 +128,11 @@ module _ (N : List ℕ → Bool) where
     reads_yes = r;
   }
 
-  pub ask_value : (xs zs : List Tok) (fs : List Frame) (k j : Kept) → Value N xs (frames.Question k ∷ fs) j zs
+  pub ask_value : (xs zs : List Tok) (fs : List Frame) (k j : BoundedTree) → Value N xs (frames.Question k ∷ fs) j zs
       → Asked N xs fs k j zs
   ask_value xs zs fs k j v = ask_at xs zs fs k j v.tree v.shows v.waits v.reads
 
-  pub colon_waits : (xs zs ws : List Tok) (fs : List Frame) (k j : Kept) (m : ℕ) → Asked N xs fs k j zs
+  pub colon_waits : (xs zs ws : List Tok) (fs : List Frame) (k j : BoundedTree) (m : ℕ) → Asked N xs fs k j zs
       → AtMark colon zs (Some (m, ws)) → Waits N xs (frames.Colon k j ∷ fs) ws
   colon_waits xs zs ws fs k j m a o = choosing a.waits a.plain a.shows_test a.reads_test a.at_question a.shows_yes
       a.reads_yes o

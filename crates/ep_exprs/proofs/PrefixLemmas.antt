@@ -1,5 +1,6 @@
 -- Prefixes in a row: what is read after them is read under them.
 use Rattle.std.proofs.Common.{◌≡◌, ℕ, Bool, true, false, List, [], ◌∷◌, ◌++◌, Some, refl, ap}
+use Rattle.std.proofs.lemmas.Bool.{and_parts, false_from_ne_true}
 use Rattle.std.specs.Prelude.{◌==◌, ◌&&◌}
 use Rattle.std.proofs.lemmas.Bool.{eqb-true}
 use Rattle.ep_ast.specs.Token.{Tok, word, mark}
@@ -7,16 +8,17 @@ use Rattle.std.specs.Global.{Box}
 use Rattle.ep_ast.specs.declared.expressions.TypeNameTree.{TypeNameTree}
 use Rattle.ep_ast.specs.Expression as tree
 use Rattle.ep_ast.specs.Expression.{Expr, type_name}
-use Rattle.ep_ast.specs.Mark.{left_paren, sizeof_word}
+use Rattle.ep_ast.specs.declared.marks.Mark.{Mark}
+use Rattle.ep_ast.specs.Mark.{mark_number, left_paren, sizeof_word}
 use Rattle.ep_ast.specs.TypeWords.{TypeNamed, begins_type}
 use Rattle.ep_ast.specs.Grammar.{is_prefix, is_step, Rule, cast, unary, postfix}
 use Rattle.ep_ast.specs.Reading.{Reads, Refuses, Takes, TakesNone}
 use Rattle.ep_expression_trees.specs.declared.kept.Prefix.{Prefix}
 use Rattle.ep_expression_trees.specs.declared.kept.Prefix.TheVariants as prefixes
-use Rattle.ep_expression_trees.specs.Kept.{wrap, wrap_all}
+use Rattle.ep_expression_trees.specs.BoundedTrees.{wrap, wrap_all}
 use Rattle.ep_exprs.specs.Look.{begins_cast, AtCast}
 use Rattle.ep_exprs.specs.Pending.{begins_unary}
-use Rattle.ep_exprs.proofs.MarkLemmas.{both_true, prefix_not_paren, step_not_paren}
+use Rattle.ep_exprs.proofs.MarkLemmas.{prefix_not_paren, step_not_paren}
 use Rattle.ep_exprs.proofs.OperandLemmas as operands
 
 pub wrap-last : (ps : List Prefix) (p : Prefix) (a : Expr) → wrap_all (ps ++ p ∷ []) a ≡ wrap_all ps (wrap p a)
@@ -28,14 +30,10 @@ abbrev pub operand_rule : Bool → Rule
 operand_rule true = unary
 operand_rule false = cast
 
-not_true : (b : Bool) → (b ≡ true → ⊥) → b ≡ false
-not_true true h = absurd (h refl)
-not_true false h = refl
-
 not_paren : (N : List ℕ → Bool) (c : ℕ) (ts : List Tok) → (c ≡ left_paren → ⊥)
     → (c == left_paren && begins_type N ts) ≡ false
-not_paren N c ts n = not_true (c == left_paren && begins_type N ts)
-    (λ h. n (eqb-true c left_paren (both_true (c == left_paren) (begins_type N ts) h).0))
+not_paren N c ts n = false_from_ne_true (c == left_paren && begins_type N ts)
+    (λ h. n (eqb-true c left_paren (and_parts (c == left_paren) (begins_type N ts) h).0))
 
 module _ (N : List ℕ → Bool) where
   pub record Under (xs : List Tok) (front : List Prefix) (bare : Bool) (ys : List Tok) : Type 0 where
@@ -57,26 +55,26 @@ module _ (N : List ℕ → Bool) where
   unary_refuses xs front true ys u b r = u.refuses r
   unary_refuses xs front false ys u b r = u.refuses (operands.uncast_refused N ys b r)
 
-  pub under_operator : (xs : List Tok) (front : List Prefix) (bare : Bool) (ys zs : List Tok) (l c : ℕ)
-      → Under xs front bare ys → is_prefix c ≡ true → ys ≡ mark l c ∷ zs
-      → Under xs (front ++ prefixes.Operator l c ∷ []) false zs
-  under_operator xs front bare ys zs l c u h e =
-      let b : begins_cast N ys ≡ false = rw e (not_paren N c zs (prefix_not_paren c h)) in
+  pub under_operator : (xs : List Tok) (front : List Prefix) (bare : Bool) (ys zs : List Tok) (l : ℕ) (m : Mark)
+      → Under xs front bare ys → is_prefix (mark_number m) ≡ true → ys ≡ mark l (mark_number m) ∷ zs
+      → Under xs (front ++ prefixes.Operator l m ∷ []) false zs
+  under_operator xs front bare ys zs l m u h e =
+      let b : begins_cast N ys ≡ false = rw e (not_paren N (mark_number m) zs (prefix_not_paren (mark_number m) h)) in
       record {
-        reads = λ a ws r. rw wrap-last (unary_reads xs front bare ys ws (tree.unary l c a) u b
-            (operands.prefix_read N l c ys zs ws a e h r));
-        refuses = λ r. unary_refuses xs front bare ys u b (operands.prefix_refused N l c ys zs e h r);
+        reads = λ a ws r. rw wrap-last (unary_reads xs front bare ys ws (tree.unary l (mark_number m) a) u b
+            (operands.prefix_read N l (mark_number m) ys zs ws a e h r));
+        refuses = λ r. unary_refuses xs front bare ys u b (operands.prefix_refused N l (mark_number m) ys zs e h r);
       }
 
-  pub under_step : (xs : List Tok) (front : List Prefix) (bare : Bool) (ys zs : List Tok) (l c : ℕ)
-      → Under xs front bare ys → is_step c ≡ true → ys ≡ mark l c ∷ zs
-      → Under xs (front ++ prefixes.Step l c ∷ []) true zs
-  under_step xs front bare ys zs l c u h e =
-      let b : begins_cast N ys ≡ false = rw e (not_paren N c zs (step_not_paren c h)) in
+  pub under_step : (xs : List Tok) (front : List Prefix) (bare : Bool) (ys zs : List Tok) (l : ℕ) (m : Mark)
+      → Under xs front bare ys → is_step (mark_number m) ≡ true → ys ≡ mark l (mark_number m) ∷ zs
+      → Under xs (front ++ prefixes.Step l m ∷ []) true zs
+  under_step xs front bare ys zs l m u h e =
+      let b : begins_cast N ys ≡ false = rw e (not_paren N (mark_number m) zs (step_not_paren (mark_number m) h)) in
       record {
-        reads = λ a ws r. rw wrap-last (unary_reads xs front bare ys ws (tree.step l c a) u b
-            (operands.step_read N l c ys zs ws a e h r));
-        refuses = λ r. unary_refuses xs front bare ys u b (operands.step_refused N l c ys zs e h r);
+        reads = λ a ws r. rw wrap-last (unary_reads xs front bare ys ws (tree.step l (mark_number m) a) u b
+            (operands.step_read N l (mark_number m) ys zs ws a e h r));
+        refuses = λ r. unary_refuses xs front bare ys u b (operands.step_refused N l (mark_number m) ys zs e h r);
       }
 
   pub under_sizeof : (xs : List Tok) (front : List Prefix) (bare : Bool) (ys zs : List Tok) (l w : ℕ)

@@ -82,3 +82,6 @@ module _ (N : List ℕ → Bool) where
   other_mark : {l c : ℕ} {xs zs : List Tok} {u : Expr} → (c ≡ left_paren → ⊥) → Derives N primary (mark l c ∷ xs) zs u
       → ⊥
   other_mark n (parens h k' e) = n h
+
+  pub other_refused : (l c : ℕ) (ts xs : List Tok) → ts ≡ mark l c ∷ xs → (c ≡ left_paren → ⊥) → Refuses N primary ts
+  other_refused l c ts xs e n = rw e (record { never = λ u zs d o. other_mark n d })

@@ -1,8 +1,10 @@
 -- What a look at the first tokens answers.
-use Rattle.std.specs.Prelude.{◌≡◌, ℕ, ◌<◌, Bool, true, false, ◌&&◌, ◌==◌, List, ◌∷◌, map, length, Option, Some, None}
+use Rattle.std.specs.Prelude.{◌≡◌, ℕ, ◌<◌, Bool, true, false, ◌&&◌, ◌||◌, ◌==◌, List, ◌∷◌, map, length, Option, Some}
+use Rattle.std.specs.Prelude.{None}
 use Rattle.std.specs.Borrow.{Bor}
 use Rattle.ep_ast.specs.Token.{Tok, mark}
-use Rattle.ep_ast.specs.Mark.{left_paren}
+use Rattle.ep_ast.specs.declared.marks.Mark.{Mark}
+use Rattle.ep_ast.specs.Mark.{mark_number, left_paren, right_paren, right_bracket, right_brace, comma, semicolon, colon}
 use Rattle.ep_ast.specs.TypeWords.{begins_type}
 use Rattle.ep_ast.specs.Grammar.{level, is_assignment}
 use Rattle.ep_ast.specs.Reading.{is_suffix}
@@ -10,12 +12,12 @@ use Rattle.ep_lexer.specs.declared.tokens.Token.{Token}
 use Rattle.ep_lexer.specs.Tokens.{view}
 
 -- a line, the number of a mark and the tokens behind it, without where they lie in memory
-abbrev pub seen_code : ℕ × ℕ × Bor (List Token) → ℕ × ℕ × List Tok
-seen_code r = (r.0, r.1, map view r.2.now)
+abbrev pub seen_mark : ℕ × Mark × Bor (List Token) → ℕ × ℕ × List Tok
+seen_mark r = (r.0, mark_number r.1, map view r.2.now)
 
 -- fewer tokens than so many stand behind
-abbrev pub IsShorterCode : ℕ → ℕ × ℕ × Bor (List Token) → Type 0
-IsShorterCode n r = length r.2.now < n
+abbrev pub IsShorterMark : ℕ → ℕ × Mark × Bor (List Token) → Type 0
+IsShorterMark n r = length r.2.now < n
 
 -- no operator of this level
 abbrev pub NotAt : ℕ → List Tok → Type 0
@@ -38,6 +40,10 @@ AtAssignment ts None = begins_assignment ts ≡ false
 abbrev pub begins_suffix : List Tok → Bool
 begins_suffix (mark l c ∷ ts) = is_suffix c
 begins_suffix _ = false
+
+-- `)`, `]`, `}`, `,`, `;` or `:`
+abbrev pub may_follow : ℕ → Bool
+may_follow c = c == right_paren || c == right_bracket || c == right_brace || c == comma || c == semicolon || c == colon
 
 -- the name of a type in parentheses begins here
 abbrev pub begins_cast : (List ℕ → Bool) → List Tok → Bool

@@ -2,11 +2,12 @@
 use Rattle.std.specs.Prelude.{◌≡◌, ℕ, Bool, true, false, ◌||◌, ◌==◌, List, [], ◌∷◌, Some, map, reverse, length, ◌<◌}
 use Rattle.ep_ast.specs.Token.{Tok, word, mark}
 use Rattle.ep_ast.specs.Expression.{Expr}
-use Rattle.ep_ast.specs.Mark.{question, colon, sizeof_word}
+use Rattle.ep_ast.specs.declared.marks.Mark.{Mark}
+use Rattle.ep_ast.specs.Mark.{mark_number, question, colon, sizeof_word}
 use Rattle.ep_ast.specs.Grammar.{is_prefix, is_step, is_assignment, Rule, expr, cond, bin, cast, unary, Derives}
 use Rattle.ep_ast.specs.Reading.{Reads, AtMark}
 use Rattle.ep_lexer.specs.Tokens.{view}
-use Rattle.ep_expression_trees.specs.declared.kept.Kept.{Kept}
+use Rattle.ep_expression_trees.specs.declared.kept.BoundedTree.{BoundedTree}
 use Rattle.ep_exprs.specs.declared.frames.Frame.{Frame}
 use Rattle.ep_exprs.specs.declared.frames.Frame.TheVariants as frames
 use Rattle.ep_exprs.specs.declared.frames.Combined.{Combined}
@@ -16,7 +17,7 @@ use Rattle.ep_exprs.specs.declared.frames.Completed.TheVariants as completes
 use Rattle.ep_exprs.specs.declared.frames.Before.{Before}
 use Rattle.ep_exprs.specs.declared.frames.Before.TheVariants as befores
 use Rattle.ep_exprs.specs.Look.{AtAssignment, AtCast, begins_cast}
-use Rattle.ep_expression_trees.specs.Kept.{Shows}
+use Rattle.ep_expression_trees.specs.BoundedTrees.{Shows}
 
 -- ---- before an operand
 
@@ -27,8 +28,10 @@ begins_unary (word l c ∷ ts) = c == sizeof_word
 begins_unary _ = false
 
 abbrev pub IsBefore : (List ℕ → Bool) → Before → List Tok → Type 0
-IsBefore is_type (befores.Operator l c r) ts = (is_prefix c ≡ true) × (ts ≡ mark l c ∷ map view r.now)
-IsBefore is_type (befores.Step l c r) ts = (is_step c ≡ true) × (ts ≡ mark l c ∷ map view r.now)
+IsBefore is_type (befores.Operator l m r) ts = (is_prefix (mark_number m) ≡ true)
+    × (ts ≡ mark l (mark_number m) ∷ map view r.now)
+IsBefore is_type (befores.Step l m r) ts = (is_step (mark_number m) ≡ true)
+    × (ts ≡ mark l (mark_number m) ∷ map view r.now)
 IsBefore is_type (befores.Sizeof l r) ts = (w : ℕ) × (w ≡ sizeof_word) × (ts ≡ word l w ∷ map view r.now)
     × (begins_cast is_type (map view r.now) ≡ false)
 IsBefore is_type (befores.SizeofType l r) ts = (w m : ℕ) × (us : List Tok) × (w ≡ sizeof_word) × (ts ≡ word l w ∷ us)
@@ -62,22 +65,24 @@ Plain is_type fs xs = wanted fs ≡ expr → NoAssignment is_type xs
 -- Behind these frames, which begin at xs, the wanted rule is to be read at the last list.
 pub data Waits (is_type : List ℕ → Bool) (xs : List Tok) : List Frame → List Tok → Type 0 where
   begins : Waits is_type xs [] xs
-  assigning : {fs : List Frame} {ys zs ws : List Tok} {k : Kept} {a : Expr} {l c : ℕ} → wanted fs ≡ expr
+  assigning : {fs : List Frame} {ys zs ws : List Tok} {k : BoundedTree} {a : Expr} {l : ℕ} {m : Mark} → wanted fs ≡ expr
       → Waits is_type xs fs ys → begins_cast is_type ys ≡ false
-      → Shows k a → Reads is_type cast ys a zs → AtAssignment zs (Some (l, c, ws))
-      → Waits is_type xs (frames.Assign k c ∷ fs) ws
-  asking : {fs : List Frame} {ys zs ws : List Tok} {k : Kept} {a : Expr} {l : ℕ} → Waits is_type xs fs ys
+      → Shows k a → Reads is_type cast ys a zs → AtAssignment zs (Some (l, mark_number m, ws))
+      → Waits is_type xs (frames.Assign k m ∷ fs) ws
+  asking : {fs : List Frame} {ys zs ws : List Tok} {k : BoundedTree} {a : Expr} {l : ℕ} → Waits is_type xs fs ys
       → Plain is_type fs ys
       → Shows k a → Reads is_type (bin 1) ys a zs → AtMark question zs (Some (l, ws))
       → Waits is_type xs (frames.Question k ∷ fs) ws
-  choosing : {fs : List Frame} {ys zs ws vs us : List Tok} {k j : Kept} {a b : Expr} {l m : ℕ} → Waits is_type xs fs ys
+  choosing : {fs : List Frame} {ys zs ws vs us : List Tok} {k j : BoundedTree} {a b : Expr} {l m : ℕ} →
+      Waits is_type xs fs ys
       → Plain is_type fs ys
       → Shows k a → Reads is_type (bin 1) ys a zs → AtMark question zs (Some (l, ws)) → Shows j b
       → Reads is_type expr ws b vs → AtMark colon vs (Some (m, us))
       → Waits is_type xs (frames.Colon k j ∷ fs) us
 
 -- a value is complete for what is pending
-pub record Value (is_type : List ℕ → Bool) (xs : List Tok) (fs : List Frame) (k : Kept) (zs : List Tok) : Type 0 where
+pub record Value (is_type : List ℕ → Bool) (xs : List Tok) (fs : List Frame) (k : BoundedTree)
+    (zs : List Tok) : Type 0 where
   pub from : List Tok
   pub tree : Expr
   pub waits : Waits is_type xs fs from
@@ -85,7 +90,8 @@ pub record Value (is_type : List ℕ → Bool) (xs : List Tok) (fs : List Frame)
   pub reads : Reads is_type (wanted fs) from tree zs
 
 -- a test and the part after its `?` are complete, so that `:` is to come
-pub record Asked (is_type : List ℕ → Bool) (xs : List Tok) (fs : List Frame) (k j : Kept) (zs : List Tok) : Type 0 where
+pub record Asked (is_type : List ℕ → Bool) (xs : List Tok) (fs : List Frame) (k j : BoundedTree)
+    (zs : List Tok) : Type 0 where
   pub from : List Tok
   pub behind : List Tok
   pub inner : List Tok

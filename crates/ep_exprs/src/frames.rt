@@ -5,13 +5,13 @@ ghost use Rattle.ep_ast.specs.Token.{Tok};
 ghost use Rattle.ep_ast.specs.Expression.{Expr};
 ghost use Rattle.ep_lexer.specs.Tokens.{view};
 ghost use Rattle.ep_reading.specs.Names.{is_type};
-ghost use Rattle.ep_expression_trees.specs.Kept.{Shows, wrap_all};
+ghost use Rattle.ep_expression_trees.specs.BoundedTrees.{Shows, wrap_all};
 ghost use Rattle.ep_exprs.specs.Pending.{IsBefore, Waits, Value, Combines, Completes, IsShorter};
 ghost use Rattle.ep_exprs.specs.declared.frames.Frame.{Frame as Pending};
 
 use crate::look::{at_cast, is_prefix, is_step};
-use ep_ast::words::SIZEOF;
-use ep_expression_trees::{Kept, Prefix, assign, conditional, prefixed};
+use ep_ast::{Mark, Word};
+use ep_expression_trees::{BoundedTree, Prefix, assign, conditional, prefixed};
 use ep_lexer::Token;
 use ep_reading::{Head, Part, TypeNames, first_of};
 use std::alloc::{AllocError, Global};
@@ -19,8 +19,8 @@ use std::alloc::{AllocError, Global};
 /// What stands first before an operand, with its line and what comes after it; for the types what comes after `(`.
 #[derive(Clone, Copy)]
 pub enum Before<'a> {
-    Operator(u32, u8, &'a [Token]),
-    Step(u32, u8, &'a [Token]),
+    Operator(u32, Mark, &'a [Token]),
+    Step(u32, Mark, &'a [Token]),
     Sizeof(u32, &'a [Token]),
     SizeofType(u32, &'a [Token]),
     Cast(u32, &'a [Token]),
@@ -35,14 +35,14 @@ pub fn prefix_at<'a>(names: &TypeNames, tokens: &'a [Token]) -> Before<'a>
         return Before::Cast(line, inside);
     }
     match first_of(tokens) {
-        Head::Mark(line, code, rest) => if is_prefix(code) {
-            Before::Operator(line, code, rest)
-        } else if is_step(code) {
-            Before::Step(line, code, rest)
+        Head::Mark(line, mark, rest) => if is_prefix(mark) {
+            Before::Operator(line, mark, rest)
+        } else if is_step(mark) {
+            Before::Step(line, mark, rest)
         } else {
             Before::Nothing
         },
-        Head::Word(line, code, rest) => if code == SIZEOF {
+        Head::Word(line, word, rest) => if word == Word::Sizeof {
             match at_cast(names, rest) {
                 Some((_, inside)) => Before::SizeofType(line, inside),
                 None => Before::Sizeof(line, rest),
@@ -55,7 +55,11 @@ pub fn prefix_at<'a>(names: &TypeNames, tokens: &'a [Token]) -> Before<'a>
 }
 
 /// The operand under these prefixes, of which the first is outermost.
-fn wrapped(alloc: Global, prefixes: Vec<Prefix>, operand: Kept) -> Result<Kept, AllocError>
+fn wrapped(
+    alloc: Global,
+    prefixes: Vec<Prefix>,
+    operand: BoundedTree,
+) -> Result<BoundedTree, AllocError>
     ensures { (t : Expr) → Shows operand t → IfOk result (λ k. Shows k (wrap_all prefixes.items t)) }
 {
     let mut left = prefixes;
@@ -70,9 +74,9 @@ fn wrapped(alloc: Global, prefixes: Vec<Prefix>, operand: Kept) -> Result<Kept, 
 pub fn wrapped_before<'a>(
     alloc: Global,
     prefixes: Vec<Prefix>,
-    operand: Kept,
+    operand: BoundedTree,
     rest: &'a [Token],
-) -> Result<Part<'a, Kept>, AllocError>
+) -> Result<Part<'a, BoundedTree>, AllocError>
     ensures value { (t : Expr) → Shows operand t → IfOk result (λ p. Shows p.value (wrap_all prefixes.items t)) }
     ensures rest { IfOk result (λ p. p.rest.now ≡ rest.now) }
 {
@@ -83,26 +87,26 @@ pub fn wrapped_before<'a>(
 /// What waits for more: a place and its assignment mark, a test before `?`, or a test and the part before `:`.
 #[derive(Debug, Drop)]
 pub enum Frame {
-    Assign(Kept, u8),
-    Question(Kept),
-    Colon(Kept, Kept),
+    Assign(BoundedTree, Mark),
+    Question(BoundedTree),
+    Colon(BoundedTree, BoundedTree),
 }
 
 /// A longer value, or a test and the part after its `?`.
 #[derive(Debug, Drop)]
 pub enum Combined {
-    More(Kept),
-    Asks(Kept, Kept),
+    More(BoundedTree),
+    Asks(BoundedTree, BoundedTree),
 }
 
 /// The whole value, or what still waits, a test and the part after its `?`.
 #[derive(Debug, Drop)]
 pub enum Completed {
-    Whole(Kept),
-    Asks(Vec<Frame>, Kept, Kept),
+    Whole(BoundedTree),
+    Asks(Vec<Frame>, BoundedTree, BoundedTree),
 }
 
-fn combine(alloc: Global, frame: Frame, value: Kept) -> Result<Combined, AllocError>
+fn combine(alloc: Global, frame: Frame, value: BoundedTree) -> Result<Combined, AllocError>
     ensures { (N : List ℕ → Bool) → (xs zs : List Tok) → (fs : List Pending) → Value N xs (frame ∷ fs) value zs
         → IfOk result (Combines N xs fs zs) }
 {
@@ -114,7 +118,11 @@ fn combine(alloc: Global, frame: Frame, value: Kept) -> Result<Combined, AllocEr
 }
 
 /// What the value completes of what waits, the last of which is innermost.
-pub fn complete(alloc: Global, frames: Vec<Frame>, value: Kept) -> Result<Completed, AllocError>
+pub fn complete(
+    alloc: Global,
+    frames: Vec<Frame>,
+    value: BoundedTree,
+) -> Result<Completed, AllocError>
     ensures { (N : List ℕ → Bool) → (xs zs : List Tok) → Value N xs (reverse frames.items) value zs
         → IfOk result (Completes N xs zs) }
 {

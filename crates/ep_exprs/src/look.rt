@@ -3,52 +3,47 @@
 ghost use Rattle.std.specs.Prelude.{◌≡◌, length, map, IfSome};
 ghost use Rattle.std.specs.Option.{option_map};
 ghost use Rattle.ep_ast.specs.Grammar as grammar;
+ghost use Rattle.ep_ast.specs.Mark.{mark_number};
 ghost use Rattle.ep_ast.specs.Reading.{is_suffix};
 ghost use Rattle.ep_lexer.specs.Tokens.{view};
 ghost use Rattle.ep_reading.specs.Names.{is_type};
 ghost use Rattle.ep_reading.specs.Look.{IsShorter, seen};
-ghost use Rattle.ep_exprs.specs.Look.{AtOperator, AtAssignment, AtCast, IsShorterCode, begins_cast, begins_suffix};
-ghost use Rattle.ep_exprs.specs.Look.{seen_code};
+ghost use Rattle.ep_exprs.specs.Look.{AtOperator, AtAssignment, AtCast, IsShorterMark, begins_cast, begins_suffix};
+ghost use Rattle.ep_exprs.specs.Look.{seen_mark, may_follow};
 
-use ep_ast::marks::{
-    AMPERSAND, AND_AND, ARROW, BAR, BAR_BAR, CARET, CARET_EQUAL, COLON, COMMA, DOT, EQUAL,
-    EQUAL_EQUAL, EXCLAMATION, GREATER, GREATER_EQUAL, LEFT_BRACKET, LEFT_PAREN, LEFT_SHIFT,
-    LEFT_SHIFT_EQUAL, LESS, LESS_EQUAL, MINUS, MINUS_MINUS, NOT_EQUAL, PERCENT, PLUS, PLUS_EQUAL,
-    PLUS_PLUS, RIGHT_BRACE, RIGHT_BRACKET, RIGHT_PAREN, RIGHT_SHIFT, RIGHT_SHIFT_EQUAL, SEMICOLON,
-    SLASH, STAR, TILDE,
-};
+use ep_ast::Mark;
 use ep_lexer::{Token, TokenKind};
 use ep_reading::{Head, TypeNames, at_mark, first_of};
 use ep_type_names::begins_type;
 
 /// The level of a binary operator, 0 for other marks.
-fn level(code: u8) -> u8
-    ensures { result ≡ grammar.level code }
+fn level(mark: Mark) -> u8
+    ensures { result ≡ grammar.level (mark_number mark) }
 {
-    match code {
-        BAR_BAR => 1,
-        AND_AND => 2,
-        BAR => 3,
-        CARET => 4,
-        AMPERSAND => 5,
-        EQUAL_EQUAL | NOT_EQUAL => 6,
-        LESS | LESS_EQUAL | GREATER | GREATER_EQUAL => 7,
-        LEFT_SHIFT | RIGHT_SHIFT => 8,
-        PLUS | MINUS => 9,
-        STAR | SLASH | PERCENT => 10,
+    match mark {
+        Mark::BarBar => 1,
+        Mark::AndAnd => 2,
+        Mark::Bar => 3,
+        Mark::Caret => 4,
+        Mark::Ampersand => 5,
+        Mark::EqualEqual | Mark::NotEqual => 6,
+        Mark::Less | Mark::LessEqual | Mark::Greater | Mark::GreaterEqual => 7,
+        Mark::LeftShift | Mark::RightShift => 8,
+        Mark::Plus | Mark::Minus => 9,
+        Mark::Star | Mark::Slash | Mark::Percent => 10,
         _ => 0,
     }
 }
 
 /// The operator of this level, if one stands first, with its line and what comes after it.
-pub fn at_operator<'a>(tokens: &'a [Token], at: u8) -> Option<(u32, u8, &'a [Token])>
-    ensures value { AtOperator at (map view tokens.now) (option_map seen_code result) }
-    ensures shorter { IfSome result (IsShorterCode (length tokens.now)) }
+pub fn at_operator<'a>(tokens: &'a [Token], at: u8) -> Option<(u32, Mark, &'a [Token])>
+    ensures value { AtOperator at (map view tokens.now) (option_map seen_mark result) }
+    ensures shorter { IfSome result (IsShorterMark (length tokens.now)) }
 {
     match tokens {
         [first, rest @ ..] => match first.what {
-            TokenKind::Mark(c) => if level(c) == at {
-                Some((first.line, c, rest))
+            TokenKind::Mark(mark) => if level(mark) == at {
+                Some((first.line, mark, rest))
             } else {
                 None
             },
@@ -58,24 +53,34 @@ pub fn at_operator<'a>(tokens: &'a [Token], at: u8) -> Option<(u32, u8, &'a [Tok
     }
 }
 
-fn is_assignment(code: u8) -> bool
-    ensures { result ≡ grammar.is_assignment code }
+fn is_assignment(mark: Mark) -> bool
+    ensures { result ≡ grammar.is_assignment (mark_number mark) }
 {
-    code == EQUAL
-        || code == LEFT_SHIFT_EQUAL
-        || code == RIGHT_SHIFT_EQUAL
-        || (PLUS_EQUAL <= code && code <= CARET_EQUAL)
+    matches!(
+        mark,
+        Mark::Equal
+            | Mark::LeftShiftEqual
+            | Mark::RightShiftEqual
+            | Mark::PlusEqual
+            | Mark::MinusEqual
+            | Mark::StarEqual
+            | Mark::SlashEqual
+            | Mark::PercentEqual
+            | Mark::AmpersandEqual
+            | Mark::BarEqual
+            | Mark::CaretEqual
+    )
 }
 
 /// The assignment mark that stands first, with its line and what comes after it.
-pub fn at_assignment<'a>(tokens: &'a [Token]) -> Option<(u32, u8, &'a [Token])>
-    ensures value { AtAssignment (map view tokens.now) (option_map seen_code result) }
-    ensures shorter { IfSome result (IsShorterCode (length tokens.now)) }
+pub fn at_assignment<'a>(tokens: &'a [Token]) -> Option<(u32, Mark, &'a [Token])>
+    ensures value { AtAssignment (map view tokens.now) (option_map seen_mark result) }
+    ensures shorter { IfSome result (IsShorterMark (length tokens.now)) }
 {
     match tokens {
         [first, rest @ ..] => match first.what {
-            TokenKind::Mark(c) => if is_assignment(c) {
-                Some((first.line, c, rest))
+            TokenKind::Mark(mark) => if is_assignment(mark) {
+                Some((first.line, mark, rest))
             } else {
                 None
             },
@@ -85,32 +90,33 @@ pub fn at_assignment<'a>(tokens: &'a [Token]) -> Option<(u32, u8, &'a [Token])>
     }
 }
 
-pub fn is_prefix(code: u8) -> bool
-    ensures { result ≡ grammar.is_prefix code }
+pub fn is_prefix(mark: Mark) -> bool
+    ensures { result ≡ grammar.is_prefix (mark_number mark) }
 {
-    code == AMPERSAND
-        || code == STAR
-        || code == PLUS
-        || code == MINUS
-        || code == TILDE
-        || code == EXCLAMATION
+    matches!(
+        mark,
+        Mark::Ampersand | Mark::Star | Mark::Plus | Mark::Minus | Mark::Tilde | Mark::Exclamation
+    )
 }
 
-pub fn is_step(code: u8) -> bool
-    ensures { result ≡ grammar.is_step code }
+pub fn is_step(mark: Mark) -> bool
+    ensures { result ≡ grammar.is_step (mark_number mark) }
 {
-    code == PLUS_PLUS || code == MINUS_MINUS
+    matches!(mark, Mark::PlusPlus | Mark::MinusMinus)
 }
 
-fn is_suffix(code: u8) -> bool
-    ensures { result ≡ is_suffix code }
+fn is_suffix(mark: Mark) -> bool
+    ensures { result ≡ is_suffix (mark_number mark) }
 {
-    code == LEFT_BRACKET
-        || code == LEFT_PAREN
-        || code == DOT
-        || code == ARROW
-        || code == PLUS_PLUS
-        || code == MINUS_MINUS
+    matches!(
+        mark,
+        Mark::LeftBracket
+            | Mark::LeftParen
+            | Mark::Dot
+            | Mark::Arrow
+            | Mark::PlusPlus
+            | Mark::MinusMinus
+    )
 }
 
 /// Whether a mark stands first that stands behind an operand.
@@ -118,7 +124,7 @@ pub fn begins_suffix(tokens: &[Token]) -> bool
     ensures { result ≡ begins_suffix (map view tokens.now) }
 {
     match first_of(tokens) {
-        Head::Mark(_, code, _) => is_suffix(code),
+        Head::Mark(_, mark, _) => is_suffix(mark),
         _ => false,
     }
 }
@@ -128,7 +134,7 @@ pub fn at_cast<'a>(names: &TypeNames, tokens: &'a [Token]) -> Option<(u32, &'a [
     ensures value { AtCast (is_type names.now) (map view tokens.now) (option_map seen result) }
     ensures shorter { IfSome result (IsShorter (length tokens.now)) }
 {
-    let (line, inside) = at_mark(tokens, LEFT_PAREN)?;
+    let (line, inside) = at_mark(tokens, Mark::LeftParen)?;
     if begins_type(names, inside) {
         Some((line, inside))
     } else {
@@ -146,6 +152,20 @@ pub fn begins_cast(names: &TypeNames, tokens: &[Token]) -> bool
     }
 }
 
+fn may_follow(mark: Mark) -> bool
+    ensures { result ≡ may_follow (mark_number mark) }
+{
+    matches!(
+        mark,
+        Mark::RightParen
+            | Mark::RightBracket
+            | Mark::RightBrace
+            | Mark::Comma
+            | Mark::Semicolon
+            | Mark::Colon
+    )
+}
+
 /// Whether something stands here that may follow an expression.
 pub fn follows(tokens: &[Token]) -> bool
     ensures { result ≡ grammar.follows (map view tokens.now) }
@@ -153,14 +173,7 @@ pub fn follows(tokens: &[Token]) -> bool
     match tokens {
         [] => true,
         [first, ..] => match first.what {
-            TokenKind::Mark(c) => {
-                c == RIGHT_PAREN
-                    || c == RIGHT_BRACKET
-                    || c == RIGHT_BRACE
-                    || c == COMMA
-                    || c == SEMICOLON
-                    || c == COLON
-            }
+            TokenKind::Mark(mark) => may_follow(mark),
             _ => false,
         },
     }

@@ -5,23 +5,19 @@
 ghost use Rattle.std.specs.Prelude.{◌≡◌, ◌<◌, ◌≤◌, ◌+◌, ◌^◌, length, map, IfOk, IfSome, List, ◌∷◌, ℕ, true};
 ghost use Rattle.ep_ast.specs.Token.{Tok, mark};
 ghost use Rattle.ep_ast.specs.Mark.{dot, arrow};
-ghost use Rattle.ep_ast.specs.Grammar.{Arguments as Argued, Behind};
+ghost use Rattle.ep_ast.specs.Grammar.{Arguments as Argued, IsSuffix};
 ghost use Rattle.ep_ast.specs.Grammar as rule;
 ghost use Rattle.ep_lexer.specs.Tokens.{view};
 ghost use Rattle.ep_reading.specs.Names.{is_type};
-ghost use Rattle.ep_reading.specs.Answer.{Gives, IsPast, IsWithin};
-ghost use Rattle.ep_expression_trees.specs.Kept.{ShowsAll, ShowsSuffix};
+ghost use Rattle.ep_reading.specs.Answer.{Parses, IsPast, IsWithin};
+ghost use Rattle.ep_expression_trees.specs.BoundedTrees.{ShowsAll, ShowsSuffix};
 ghost use Rattle.ep_exprs.specs.Parsed.{IsRead, Keeps, Assigned};
 
 use crate::frames::{Before, Completed, Frame, complete, prefix_at, wrapped_before};
 use crate::look::{at_assignment, at_operator, begins_cast, begins_suffix};
-use ep_ast::Halt;
-use ep_ast::marks::{
-    ARROW, COLON, COMMA, DOT, LEFT_BRACKET, LEFT_PAREN, MINUS_MINUS, PLUS_PLUS, QUESTION,
-    RIGHT_BRACKET, RIGHT_PAREN,
-};
+use ep_ast::{Halt, Mark};
 use ep_expression_trees::{
-    Arguments, Kept, Prefix, Suffix, binary as joined, name, number, size_of, suffixed,
+    Arguments, BoundedTree, Prefix, Suffix, binary as joined, name, number, size_of, suffixed,
 };
 use ep_lexer::Token;
 use ep_reading::{Head, Part, Reader, TypeNames, at_mark, at_name, first_of};
@@ -33,7 +29,7 @@ fn assigned<'a>(
     third_part: bool,
     tokens: &[Token],
     after: &'a [Token],
-) -> Option<Part<'a, u8>>
+) -> Option<Part<'a, Mark>>
     ensures value { Assigned (is_type names.now) third_part (map view tokens.now) (map view after.now) result }
     ensures shorter { IfSome result (IsPast (length after.now)) }
 {
@@ -52,7 +48,10 @@ fn assigned<'a>(
 
 /// The expression that begins here, and what comes after it.
 #[cycle(parser)]
-pub fn read_expression<'a>(reader: &Reader<'_>, tokens: &'a [Token]) -> Result<Part<'a, Kept>, Halt>
+pub fn read_expression<'a>(
+    reader: &Reader<'_>,
+    tokens: &'a [Token],
+) -> Result<Part<'a, BoundedTree>, Halt>
     requires { length tokens.now < 2 ^ 24 }
     ensures reads { Keeps (is_type reader.now.names.now) rule.expr (map view tokens.now) result }
     ensures shorter { IfOk result (IsPast (length tokens.now)) }
@@ -68,7 +67,7 @@ pub fn read_expression<'a>(reader: &Reader<'_>, tokens: &'a [Token]) -> Result<P
             rest = mark.rest;
         } else {
             let test = levels(reader, 1, first.value, first.rest)?;
-            if let Some((_, more)) = at_mark(test.rest, QUESTION) {
+            if let Some((_, more)) = at_mark(test.rest, Mark::Question) {
                 frames.push(Frame::Question(test.value))?;
                 third_part = false;
                 rest = more;
@@ -79,7 +78,7 @@ pub fn read_expression<'a>(reader: &Reader<'_>, tokens: &'a [Token]) -> Result<P
                         rest: test.rest,
                     }),
                     Completed::Asks(left, asked, yes) => {
-                        let Some((_, more)) = at_mark(test.rest, COLON) else {
+                        let Some((_, more)) = at_mark(test.rest, Mark::Colon) else {
                             return Err(Halt::Refused(reader.stopped(test.rest)));
                         };
                         frames = left;
@@ -95,7 +94,11 @@ pub fn read_expression<'a>(reader: &Reader<'_>, tokens: &'a [Token]) -> Result<P
 
 /// The operand of operators of a level and what comes after it, with all operators of tighter levels.
 #[cycle(parser)]
-fn tighter<'a>(reader: &Reader<'_>, level: u8, tokens: &'a [Token]) -> Result<Part<'a, Kept>, Halt>
+fn tighter<'a>(
+    reader: &Reader<'_>,
+    level: u8,
+    tokens: &'a [Token],
+) -> Result<Part<'a, BoundedTree>, Halt>
     requires few { length tokens.now < 2 ^ 24 }
     requires level { (1 ≤ level) × (level ≤ 11) }
     ensures reads { Keeps (is_type reader.now.names.now) (rule.bin level) (map view tokens.now) result }
@@ -110,9 +113,9 @@ fn tighter<'a>(reader: &Reader<'_>, level: u8, tokens: &'a [Token]) -> Result<Pa
 fn levels<'a>(
     reader: &Reader<'_>,
     least: u8,
-    first: Kept,
+    first: BoundedTree,
     tokens: &'a [Token],
-) -> Result<Part<'a, Kept>, Halt>
+) -> Result<Part<'a, BoundedTree>, Halt>
     requires few { length tokens.now < 2 ^ 24 }
     requires level { (1 ≤ least) × (least ≤ 11) }
     ensures reads { (xs : List Tok) → IsRead (is_type reader.now.names.now) (rule.bin 11) xs first (map view tokens.now)
@@ -136,9 +139,9 @@ fn levels<'a>(
 fn operators<'a>(
     reader: &Reader<'_>,
     level: u8,
-    first: Kept,
+    first: BoundedTree,
     tokens: &'a [Token],
-) -> Result<Part<'a, Kept>, Halt>
+) -> Result<Part<'a, BoundedTree>, Halt>
     requires few { length tokens.now < 2 ^ 24 }
     requires level { (1 ≤ level) × (level < 11) }
     ensures reads { (xs : List Tok) → IsRead (is_type reader.now.names.now) (rule.bin (level + 1)) xs first
@@ -158,7 +161,7 @@ fn operators<'a>(
 
 /// An operand of binary operators: prefixes, casts among them, and a postfix expression or a type's `sizeof`.
 #[cycle(parser)]
-fn operand<'a>(reader: &Reader<'_>, tokens: &'a [Token]) -> Result<Part<'a, Kept>, Halt>
+fn operand<'a>(reader: &Reader<'_>, tokens: &'a [Token]) -> Result<Part<'a, BoundedTree>, Halt>
     requires { length tokens.now < 2 ^ 24 }
     ensures reads { Keeps (is_type reader.now.names.now) rule.cast (map view tokens.now) result }
     ensures shorter { IfOk result (IsPast (length tokens.now)) }
@@ -206,7 +209,7 @@ fn operand<'a>(reader: &Reader<'_>, tokens: &'a [Token]) -> Result<Part<'a, Kept
 }
 
 #[cycle(parser)]
-fn postfix<'a>(reader: &Reader<'_>, tokens: &'a [Token]) -> Result<Part<'a, Kept>, Halt>
+fn postfix<'a>(reader: &Reader<'_>, tokens: &'a [Token]) -> Result<Part<'a, BoundedTree>, Halt>
     requires { length tokens.now < 2 ^ 24 }
     ensures reads { Keeps (is_type reader.now.names.now) rule.postfix (map view tokens.now) result }
     ensures shorter { IfOk result (IsPast (length tokens.now)) }
@@ -226,7 +229,7 @@ fn postfix<'a>(reader: &Reader<'_>, tokens: &'a [Token]) -> Result<Part<'a, Kept
 
 /// The member of what stands before a dot.
 fn behind_dot<'a>(reader: &Reader<'_>, tokens: &'a [Token]) -> Result<Part<'a, Suffix>, Halt>
-    ensures reads { (l c : ℕ) → c ≡ dot → Gives ShowsSuffix (Behind (is_type reader.now.names.now))
+    ensures reads { (l c : ℕ) → c ≡ dot → Parses ShowsSuffix (IsSuffix (is_type reader.now.names.now))
         (mark l c ∷ map view tokens.now) result }
     ensures shorter { IfOk result (IsPast (length tokens.now)) }
 {
@@ -241,7 +244,7 @@ fn behind_dot<'a>(reader: &Reader<'_>, tokens: &'a [Token]) -> Result<Part<'a, S
 
 /// The member of that to which what stands before an arrow points.
 fn behind_arrow<'a>(reader: &Reader<'_>, tokens: &'a [Token]) -> Result<Part<'a, Suffix>, Halt>
-    ensures reads { (l c : ℕ) → c ≡ arrow → Gives ShowsSuffix (Behind (is_type reader.now.names.now))
+    ensures reads { (l c : ℕ) → c ≡ arrow → Parses ShowsSuffix (IsSuffix (is_type reader.now.names.now))
         (mark l c ∷ map view tokens.now) result }
     ensures shorter { IfOk result (IsPast (length tokens.now)) }
 {
@@ -258,16 +261,16 @@ fn behind_arrow<'a>(reader: &Reader<'_>, tokens: &'a [Token]) -> Result<Part<'a,
 #[cycle(parser)]
 fn suffix<'a>(reader: &Reader<'_>, tokens: &'a [Token]) -> Result<Part<'a, Suffix>, Halt>
     requires { length tokens.now < 2 ^ 24 }
-    ensures reads { Gives ShowsSuffix (Behind (is_type reader.now.names.now)) (map view tokens.now) result }
+    ensures reads { Parses ShowsSuffix (IsSuffix (is_type reader.now.names.now)) (map view tokens.now) result }
     ensures shorter { IfOk result (IsPast (length tokens.now)) }
 {
-    let Head::Mark(_, code, rest) = first_of(tokens) else {
+    let Head::Mark(_, mark, rest) = first_of(tokens) else {
         return Err(Halt::Refused(reader.stopped(tokens)));
     };
-    match code {
-        LEFT_BRACKET => {
+    match mark {
+        Mark::LeftBracket => {
             let at = read_expression(reader, rest)?;
-            let Some((_, more)) = at_mark(at.rest, RIGHT_BRACKET) else {
+            let Some((_, more)) = at_mark(at.rest, Mark::RightBracket) else {
                 return Err(Halt::Refused(reader.stopped(at.rest)));
             };
             Ok(Part {
@@ -275,20 +278,20 @@ fn suffix<'a>(reader: &Reader<'_>, tokens: &'a [Token]) -> Result<Part<'a, Suffi
                 rest: more,
             })
         }
-        LEFT_PAREN => {
+        Mark::LeftParen => {
             let all = arguments(reader, rest)?;
             Ok(Part {
                 value: Suffix::With(all.value),
                 rest: all.rest,
             })
         }
-        DOT => behind_dot(reader, rest),
-        ARROW => behind_arrow(reader, rest),
-        PLUS_PLUS => Ok(Part {
+        Mark::Dot => behind_dot(reader, rest),
+        Mark::Arrow => behind_arrow(reader, rest),
+        Mark::PlusPlus => Ok(Part {
             value: Suffix::Increment,
             rest,
         }),
-        MINUS_MINUS => Ok(Part {
+        Mark::MinusMinus => Ok(Part {
             value: Suffix::Decrement,
             rest,
         }),
@@ -300,11 +303,11 @@ fn suffix<'a>(reader: &Reader<'_>, tokens: &'a [Token]) -> Result<Part<'a, Suffi
 #[cycle(parser)]
 fn arguments<'a>(reader: &Reader<'_>, tokens: &'a [Token]) -> Result<Part<'a, Arguments>, Halt>
     requires { length tokens.now < 2 ^ 24 }
-    ensures reads { Gives ShowsAll (Argued (is_type reader.now.names.now)) (map view tokens.now) result }
+    ensures reads { Parses ShowsAll (Argued (is_type reader.now.names.now)) (map view tokens.now) result }
     ensures shorter { IfOk result (IsPast (length tokens.now)) }
 {
     let mut found = Arguments::new(reader.alloc);
-    if let Some((_, after)) = at_mark(tokens, RIGHT_PAREN) {
+    if let Some((_, after)) = at_mark(tokens, Mark::RightParen) {
         return Ok(Part {
             value: found,
             rest: after,
@@ -314,13 +317,13 @@ fn arguments<'a>(reader: &Reader<'_>, tokens: &'a [Token]) -> Result<Part<'a, Ar
     'items: loop {
         let item = read_expression(reader, rest)?;
         found = found.with(item.value)?;
-        if let Some((_, end)) = at_mark(item.rest, RIGHT_PAREN) {
+        if let Some((_, end)) = at_mark(item.rest, Mark::RightParen) {
             return Ok(Part {
                 value: found,
                 rest: end,
             });
         }
-        let Some((_, more)) = at_mark(item.rest, COMMA) else {
+        let Some((_, more)) = at_mark(item.rest, Mark::Comma) else {
             return Err(Halt::Refused(reader.stopped(item.rest)));
         };
         rest = more;
@@ -328,7 +331,7 @@ fn arguments<'a>(reader: &Reader<'_>, tokens: &'a [Token]) -> Result<Part<'a, Ar
 }
 
 #[cycle(parser)]
-fn primary<'a>(reader: &Reader<'_>, tokens: &'a [Token]) -> Result<Part<'a, Kept>, Halt>
+fn primary<'a>(reader: &Reader<'_>, tokens: &'a [Token]) -> Result<Part<'a, BoundedTree>, Halt>
     requires { length tokens.now < 2 ^ 24 }
     ensures reads { Keeps (is_type reader.now.names.now) rule.primary (map view tokens.now) result }
     ensures shorter { IfOk result (IsPast (length tokens.now)) }
@@ -347,12 +350,12 @@ fn primary<'a>(reader: &Reader<'_>, tokens: &'a [Token]) -> Result<Part<'a, Kept
             value: number(line, literal),
             rest,
         }),
-        Head::Mark(_, code, rest) => {
-            if code != LEFT_PAREN {
+        Head::Mark(_, mark, rest) => {
+            if mark != Mark::LeftParen {
                 return Err(Halt::Refused(reader.stopped(tokens)));
             }
             let inner = read_expression(reader, rest)?;
-            let Some((_, more)) = at_mark(inner.rest, RIGHT_PAREN) else {
+            let Some((_, more)) = at_mark(inner.rest, Mark::RightParen) else {
                 return Err(Halt::Refused(reader.stopped(inner.rest)));
             };
             Ok(Part {

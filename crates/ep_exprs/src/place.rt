@@ -7,15 +7,15 @@ ghost use Rattle.ep_ast.specs.Grammar.{IsFront};
 ghost use Rattle.ep_ast.specs.Kind.{nesting};
 ghost use Rattle.ep_ast.specs.Nesting.{is_too_deep, opens_past};
 ghost use Rattle.ep_ast.specs.Refusal.{IfRefused};
-ghost use Rattle.ep_lexer.specs.Tokens.{view, view_all};
+ghost use Rattle.ep_lexer.specs.Tokens.{view, all_view};
 ghost use Rattle.ep_reading.specs.Names.{is_type};
-ghost use Rattle.ep_expression_trees.specs.Kept.{Shows};
+ghost use Rattle.ep_expression_trees.specs.BoundedTrees.{Shows};
 ghost use Rattle.ep_exprs.specs.Answer.{IsFound, IsRefused, Wholly};
 
 use crate::look::follows;
 use crate::parser::read_expression;
 use ep_ast::{ExprTree, Halt, Refusal, RefusalKind};
-use ep_expression_trees::Kept;
+use ep_expression_trees::BoundedTree;
 use ep_lexer::Tokens;
 use ep_reading::{Reader, TypeNames, last_line, opens_past};
 use std::alloc::Global;
@@ -27,7 +27,7 @@ fn too_deep(line: u32) -> Refusal
 }
 
 /// The tree, where it isn't too deep.
-fn whole(kept: Kept) -> Result<ExprTree, Refusal>
+fn whole(kept: BoundedTree) -> Result<ExprTree, Refusal>
     ensures { (t : Expr) → Shows kept t → Wholly result t }
 {
     let line = kept.line;
@@ -50,14 +50,14 @@ pub fn expression(
 ) -> Result<(ExprTree, usize), Halt>
     requires place { from ≤ length tokens.now.list.items }
     requires few { length tokens.now.list.items < 2 ^ 24 }
-    ensures found { IfOk result (λ p. IsFound (is_type names.now) (view_all tokens.now) from p.1 (expr p.0)) }
+    ensures found { IfOk result (λ p. IsFound (is_type names.now) (all_view tokens.now) from p.1 (expr p.0)) }
     ensures only { IfOk result (λ p. (front rest : List Tok) → (t : Expr)
-        → IsFront (is_type names.now) (drop from (view_all tokens.now)) front rest t
+        → IsFront (is_type names.now) (drop from (all_view tokens.now)) front rest t
         → (t ≡ expr p.0) × (length front + from ≡ p.1)) }
-    ensures nesting { IfOk result (λ p. (opens_past 0 (drop from (view_all tokens.now)) ≡ None)
+    ensures nesting { IfOk result (λ p. (opens_past 0 (drop from (all_view tokens.now)) ≡ None)
         × (is_too_deep (expr p.0) ≡ false)) }
     ensures refused { IfErr result (λ e. IfRefused e (IsRefused (is_type names.now)
-        (drop from (view_all tokens.now)))) }
+        (drop from (all_view tokens.now)))) }
 {
     let all = tokens.list.as_slice();
     let (_, here) = all.split_at(from);

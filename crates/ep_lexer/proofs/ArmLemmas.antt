@@ -1,5 +1,7 @@
 -- Reading the directives inside a conditional, and telling the directives apart.
 use Rattle.std.proofs.Common.{◌≡◌, ℕ, Bool, true, false, cond, ◌||◌, List, [], ◌∷◌, codes, refl, subst, inl, inr}
+use Rattle.ep_int.proofs.Basics.{bytes_eq-equal}
+use Rattle.std.proofs.lemmas.Bool.{cases_Bool}
 use Rattle.std.specs.List.{list_any}
 use Rattle.std.specs.Str.{bytes_eq}
 use Rattle.ep_ast.specs.Token.{Tok}
@@ -8,7 +10,6 @@ use Rattle.ep_ast.specs.Lexeme.{Thing, hash, name, Next}
 use Rattle.ep_ast.specs.Cut.{Constants, Open, outside, first_arm, second_arm, otherwise, end_if, none, more, is_named}
 use Rattle.ep_ast.specs.Cut.{wrong, at_line, directive_kind, Offence, broken_inside, wrong_inside}
 use Rattle.ep_lexer.specs.Step.{step, directive_at, word_kind}
-use Rattle.ep_lexer.proofs.Cases.{test_cases, same_bytes}
 use Rattle.ep_lexer.proofs.NextLemmas.{next_read, breaks_read, NextIs, there, broken, next_is}
 use Rattle.ep_lexer.proofs.DirectiveLemmas.{at, Outcome, goes, offends, name_cases, over_cases, define_is, include_is}
 use Rattle.ep_lexer.proofs.DirectiveLemmas.{condition_is}
@@ -58,16 +59,16 @@ turns_is a c bs cs ds l m from x y (there q t es z) = elim (over_cases t) [
       (rw r.0 refl) refl) (rw (next_read x, next_read y, next_read z, r.1) refl)
 ]
 
-renamed : {m n : ℕ} {bs cs : List ℕ} (w v : List ℕ) → bytes_eq w v ≡ true → Next m bs n (name w) cs
+pub renamed : {m n : ℕ} {bs cs : List ℕ} (w v : List ℕ) → bytes_eq w v ≡ true → Next m bs n (name w) cs
     → Next m bs n (name v) cs
-renamed {m} {n} {bs} {cs} w v e x = subst (λ (t : List ℕ). Next m bs n (name t) cs) (same_bytes w v e) x
+renamed {m} {n} {bs} {cs} w v e x = subst (λ (t : List ℕ). Next m bs n (name t) cs) (bytes_eq-equal w v e) x
 
 -- ---- by the word behind `#`
 
 word_in_second : (a : ℕ) (c : Constants) (bs cs ds w : List ℕ) (l m from : ℕ) → Next a bs l hash cs
     → Next l cs m (name w) ds → Outcome (at a true c (second_arm from)) bs
 unfolding step directive_at
-word_in_second a c bs cs ds w l m from x y = elim (test_cases (bytes_eq w (codes "endif"))) [
+word_in_second a c bs cs ds w l m from x y = elim (cases_Bool (bytes_eq w (codes "endif"))) [
   | inl h ↦ closes_second a c bs cs ds l m from x (renamed w (codes "endif") h y) (next_is m ds)
   | inr h ↦ offends (at_line 7 l) (wrong_inside l l m [] (name w) refl x none refl refl y (rw h refl) refl)
       (rw (next_read x, next_read y, h) refl)
@@ -76,9 +77,9 @@ word_in_second a c bs cs ds w l m from x y = elim (test_cases (bytes_eq w (codes
 word_in_first : (a : ℕ) (c : Constants) (bs cs ds w : List ℕ) (l m from : ℕ) → Next a bs l hash cs
     → Next l cs m (name w) ds → Outcome (at a true c (first_arm from)) bs
 unfolding step directive_at
-word_in_first a c bs cs ds w l m from x y = elim (test_cases (bytes_eq w (codes "endif"))) [
+word_in_first a c bs cs ds w l m from x y = elim (cases_Bool (bytes_eq w (codes "endif"))) [
   | inl h ↦ closes_first a c bs cs ds l m from x (renamed w (codes "endif") h y) (next_is m ds)
-  | inr h ↦ elim (test_cases (bytes_eq w (codes "else"))) [
+  | inr h ↦ elim (cases_Bool (bytes_eq w (codes "else"))) [
     | inl k ↦ turns_is a c bs cs ds l m from x (renamed w (codes "else") k y) (next_is m ds)
     | inr k ↦ offends (at_line 7 l) (wrong_inside l l m [] (name w) refl x none refl refl y (rw (h, k) refl) refl)
         (rw (next_read x, next_read y, h, k) refl)
@@ -99,11 +100,11 @@ kind_outside c w h k = rw (h, k) (kinds (bytes_eq w (codes "elif")) (bytes_eq w 
 word_outside : (a : ℕ) (c : Constants) (bs cs ds w : List ℕ) (l m : ℕ) → Next a bs l hash cs → Next l cs m (name w) ds
     → Outcome (at a true c outside) bs
 unfolding step directive_at
-word_outside a c bs cs ds w l m x y = elim (test_cases (bytes_eq w (codes "define"))) [
+word_outside a c bs cs ds w l m x y = elim (cases_Bool (bytes_eq w (codes "define"))) [
   | inl h ↦ define_is a c bs cs ds l m x (renamed w (codes "define") h y)
-  | inr h ↦ elim (test_cases (bytes_eq w (codes "include"))) [
+  | inr h ↦ elim (cases_Bool (bytes_eq w (codes "include"))) [
     | inl i ↦ include_is a c bs cs ds l m x (renamed w (codes "include") i y)
-    | inr i ↦ elim (test_cases (bytes_eq w (codes "if"))) [
+    | inr i ↦ elim (cases_Bool (bytes_eq w (codes "if"))) [
       | inl k ↦ condition_is a c bs cs ds l m x (renamed w (codes "if") k y)
       | inr k ↦
           let wrong_word : Offence (at a true c outside) bs

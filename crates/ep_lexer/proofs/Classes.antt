@@ -1,9 +1,11 @@
 -- Classes of bytes, and the marks that begin with a byte.
 use Rattle.std.proofs.Common.{◌≡◌, ℕ, Bool, true, false, ◌||◌, ◌==◌, List, ◌∷◌, Some, None, refl, sym, subst, arith}
+use Rattle.std.proofs.lemmas.Bool.{cases_Bool}
+use Rattle.std.proofs.lemmas.Bool.{or_parts}
 use Rattle.std.proofs.Common.{inl, inr}
 use Rattle.std.proofs.lemmas.Bool.Decides.{nat_tests}
 use Rattle.ep_ast.specs.Lexeme.{is_blank, is_letter, is_digit, is_word, opens_comment, opens_remark, mark_at}
-use Rattle.ep_lexer.proofs.Cases.{test_cases, no_number, none_some}
+use Rattle.ep_lexer.proofs.Cases.{no_number, none_some}
 
 -- no mark begins with another byte than these
 mark_none : (b : ℕ) (bs : List ℕ) → 60 == b ≡ false → 62 == b ≡ false → 45 == b ≡ false → 43 == b ≡ false
@@ -14,9 +16,6 @@ mark_none : (b : ℕ) (bs : List ℕ) → 60 == b ≡ false → 62 == b ≡ fals
 mark_none b bs h0 h1 h2 h3 h4 h5 h6 h7 h8 h9 h10 h11 h12 h13 h14 h15 h16 h17 h18 h19 h20 h21 h22 h23 =
     rw (h0, h1, h2, h3, h4, h5, h6, h7, h8, h9, h10, h11, h12, h13, h14, h15, h16, h17, h18, h19, h20, h21, h22, h23)
     refl
-
-apart : (b c : ℕ) → is_word b ≡ true → is_word c ≡ false → b == c ≡ false
-apart b c h k = no_number b c (λ e. let f : is_word c ≡ true = subst (λ (x : ℕ). is_word x ≡ true) e h in cc)
 
 pub from : (b c : ℕ) → is_word b ≡ true → is_word c ≡ false → c == b ≡ false
 from b c h k = no_number c b (λ e. let f : is_word c ≡ true = subst (λ (x : ℕ). is_word x ≡ true) (sym e) h in cc)
@@ -38,16 +37,16 @@ pub digit_word : (b : ℕ) → is_digit b ≡ true → is_word b ≡ true
 digit_word b h = rw (digit_no_letter b h, h) refl
 
 pub word_apart : (b c : ℕ) → is_word b ≡ true → is_word c ≡ false → b == c ≡ false
-word_apart = apart
+word_apart b c h k = no_number b c (λ e. let f : is_word c ≡ true = subst (λ (x : ℕ). is_word x ≡ true) e h in cc)
 
 pub word_no_blank : (b : ℕ) → is_word b ≡ true → is_blank b ≡ false
-word_no_blank b h = rw (apart b 32 h refl, apart b 9 h refl, apart b 13 h refl) refl
+word_no_blank b h = rw (word_apart b 32 h refl, word_apart b 9 h refl, word_apart b 13 h refl) refl
 
 pub word_no_comment : (b : ℕ) (bs : List ℕ) → is_word b ≡ true → opens_comment (b ∷ bs) ≡ false
-word_no_comment b bs h = rw (apart b 47 h refl) refl
+word_no_comment b bs h = rw (word_apart b 47 h refl) refl
 
 pub word_no_remark : (b : ℕ) (bs : List ℕ) → is_word b ≡ true → opens_remark (b ∷ bs) ≡ false
-word_no_remark b bs h = rw (apart b 47 h refl) refl
+word_no_remark b bs h = rw (word_apart b 47 h refl) refl
 
 -- where a mark stands, the byte is none of these
 along : (b c : ℕ) (bs : List ℕ) (n : ℕ) → mark_at (c ∷ bs) ≡ None → mark_at (b ∷ bs) ≡ Some n → b == c ≡ false
@@ -55,17 +54,13 @@ along b c bs n h e = no_number b c (λ k. let f : mark_at (c ∷ bs) ≡ Some n 
     subst (λ (x : ℕ). mark_at (x ∷ bs) ≡ Some n) k e in none_some h f)
 
 pub mark_no_word : (b : ℕ) (bs : List ℕ) (n : ℕ) → mark_at (b ∷ bs) ≡ Some n → is_word b ≡ false
-mark_no_word b bs n e = elim (test_cases (is_word b)) [ inl h ↦ absurd (none_some (word_no_mark b bs h) e) | inr h ↦ h ]
-
-word_parts : (x y : Bool) → (x || y) ≡ false → (x ≡ false) × (y ≡ false)
-word_parts true y h = absurd cc
-word_parts false y h = (refl, h)
+mark_no_word b bs n e = elim (cases_Bool (is_word b)) [ inl h ↦ absurd (none_some (word_no_mark b bs h) e) | inr h ↦ h ]
 
 pub no_letter : (b : ℕ) → is_word b ≡ false → is_letter b ≡ false
-no_letter b h = (word_parts (is_letter b) (is_digit b) h).0
+no_letter b h = (or_parts (is_letter b) (is_digit b) h).0
 
 pub no_digit : (b : ℕ) → is_word b ≡ false → is_digit b ≡ false
-no_digit b h = (word_parts (is_letter b) (is_digit b) h).1
+no_digit b h = (or_parts (is_letter b) (is_digit b) h).1
 
 pub mark_no_newline : (b : ℕ) (bs : List ℕ) (n : ℕ) → mark_at (b ∷ bs) ≡ Some n → b == 10 ≡ false
 mark_no_newline b bs n e = along b 10 bs n refl e

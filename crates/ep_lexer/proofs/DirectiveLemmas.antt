@@ -1,5 +1,8 @@
 -- Reading a directive: it is one, or something in it offends.
 use Rattle.std.proofs.Common.{◌≡◌, ℕ, Bool, true, false, ◌&&◌, ◌||◌, ◌==◌, List, [], ◌∷◌, ◌++◌, codes, Some, None}
+use Rattle.ep_int.proofs.Basics.{bytes_eq-equal}
+use Rattle.std.proofs.lemmas.Bool.{cases_Bool}
+use Rattle.std.proofs.lemmas.Bool.{and_parts}
 use Rattle.std.proofs.Common.{is_none, Err, refl, ap, ◌∙◌, subst, inl, inr, ◌⊎◌}
 use Rattle.std.specs.Str.{bytes_eq}
 use Rattle.ep_ast.specs.declared.orders.NamedOrder.{NamedOrder}
@@ -8,25 +11,25 @@ use Rattle.ep_ast.specs.declared.expressions.Literal.{Literal}
 use Rattle.ep_ast.specs.declared.refusals.Refusal.{Refusal}
 use Rattle.ep_ast.specs.Token.{Tok}
 use Rattle.ep_ast.specs.Lexeme.{Thing, over, hash, quote, name, number, mark, Gap, Next, spoilt, unclosed}
-use Rattle.ep_ast.specs.Cut.{Constants, constant, value, may_define, Place, Open, outside, first_arm, Piece, include}
+use Rattle.ep_ast.specs.Cut.{Constants, constant, value, may_define, Position, Open, outside, first_arm, Piece, include}
 use Rattle.ep_ast.specs.Cut.{define, condition, none, more, after, headers, order_name, order_token, equals, may_begin}
 use Rattle.ep_ast.specs.Cut.{is_named, is_over, is_mark, wrong, at_line, Offence, broken_inside, wrong_inside}
 use Rattle.ep_ast.specs.Cut.{no_header, broken_header, behind_header}
 use Rattle.ep_lexer.specs.Step.{step, skip, plain, unclosed as unclosed_at, directive_at, define_at, include_at}
 use Rattle.ep_lexer.specs.Step.{condition_at, header_at, header_found, name_found, over_found, equals_found, is_plain}
 use Rattle.ep_lexer.specs.Step.{order_of}
-use Rattle.ep_lexer.proofs.Cases.{test_cases, option_cases, is_number, and_parts, is_no_value, same_bytes}
+use Rattle.ep_lexer.proofs.Cases.{option_cases, is_number, is_no_value}
 use Rattle.ep_lexer.proofs.Gaps.{Stops, stays, gap_skips, gap_is, over_at, open_at}
 use Rattle.ep_lexer.proofs.NextLemmas.{next_read, breaks_read, NextIs, there, broken, next_is, thing_is, ThingIs}
 use Rattle.ep_lexer.proofs.NextLemmas.{some_thing, no_thing, begins_read, spoilt_read}
 use Rattle.ep_lexer.proofs.Pieces.{header_read}
 
-abbrev pub at : ℕ → Bool → Constants → Open → Place
+abbrev pub at : ℕ → Bool → Constants → Open → Position
 at l f c o = record { line = l; fresh = f; constants = c; open_arm = o }
 
 -- a step is a piece, or an offence
-pub data Outcome (p : Place) (bs : List ℕ) : Type 0 where
-  goes : (q : Place) (ts : List Tok) (rest : List ℕ) → Piece p bs ts q rest → Outcome p bs
+pub data Outcome (p : Position) (bs : List ℕ) : Type 0 where
+  goes : (q : Position) (ts : List Tok) (rest : List ℕ) → Piece p bs ts q rest → Outcome p bs
   offends : (r : Refusal) → Offence p bs r → step p bs ≡ Err r → Outcome p bs
 
 -- ---- things by what a directive asks of them
@@ -52,7 +55,7 @@ over_cases (mark n) = inr (refl, λ k h m rest. refl)
 
 mark_cases : (n : ℕ) → (mark n ≡ mark equals) ⊎ ((is_mark equals (mark n) ≡ false)
     × ((h m : ℕ) (rest : List ℕ) → equals_found h m (mark n) rest ≡ Err (wrong 7 h m (mark n))))
-mark_cases n = elim (test_cases (n == equals)) [
+mark_cases n = elim (cases_Bool (n == equals)) [
   | inl h ↦ inl (ap mark (is_number n equals h))
   | inr h ↦ inr (h, λ k m rest. rw h refl)
 ]
@@ -122,7 +125,7 @@ define_name a c bs cs ds l m x y (broken j i b) =
 define_name a c bs cs ds l m x y (there n w es z) = elim (name_cases w) [
   | inl q ↦
       let z' = subst (λ (j : Thing). Next m ds n j es) q.1 z in
-      elim (test_cases (may_define c q.0)) [
+      elim (cases_Bool (may_define c q.0)) [
         | inl d ↦ define_value a c bs cs ds es l m n q.0 x y z' d (next_is n es)
         | inr d ↦
             offends (at_line 5 l) (wrong_inside l m n (name (codes "define") ∷ []) (name q.0) refl x (more y none) refl
@@ -147,15 +150,15 @@ is_order c t = is_plain c (order_name Little) t || is_plain c (order_name Big) t
 pub plain_parts : (c : Constants) (w t : List ℕ) → is_plain c w t ≡ true → (t ≡ w) × (constant c w ≡ None)
 plain_parts c w t h =
     let p = and_parts (bytes_eq t w) (is_none (constant c t)) h in
-    let e = same_bytes t w p.0 in
+    let e = bytes_eq-equal t w p.0 in
     (e, subst (λ (x : List ℕ). constant c x ≡ None) e (is_no_value (constant c t) p.1))
 
 -- the name of a byte order by what reading takes it for
 pub order_cases : (c : Constants) (t : List ℕ) → ((o : NamedOrder) × (t ≡ order_name o)
     × (constant c (order_name o) ≡ None) × (order_of c t ≡ Some o)) ⊎ ((is_order c t ≡ false) × (order_of c t ≡ None))
-order_cases c t = elim (test_cases (is_plain c (order_name Little) t)) [
+order_cases c t = elim (cases_Bool (is_plain c (order_name Little) t)) [
   | inl h ↦ let p = plain_parts c (order_name Little) t h in inl (Little, p.0, p.1, rw h refl)
-  | inr h ↦ elim (test_cases (is_plain c (order_name Big) t)) [
+  | inr h ↦ elim (cases_Bool (is_plain c (order_name Big) t)) [
     | inl k ↦ let p = plain_parts c (order_name Big) t k in inl (Big, p.0, p.1, rw (h, k) refl)
     | inr k ↦ inr (rw (h, k) refl, rw (h, k) refl)
   ]
@@ -258,7 +261,7 @@ condition_name a c bs cs ds l m x y (broken j q b) =
 condition_name a c bs cs ds l m x y (there n t es z) = elim (name_cases t) [
   | inl q ↦
       let z' = subst (λ (j : Thing). Next m ds n j es) q.1 z in
-      elim (test_cases (is_plain c (codes "__BYTE_ORDER__") q.0)) [
+      elim (cases_Bool (is_plain c (codes "__BYTE_ORDER__") q.0)) [
         | inl h ↦
             let p = plain_parts c (codes "__BYTE_ORDER__") q.0 h in
             condition_equals a c bs cs ds es l m n p.1 x y (subst (λ (j : List ℕ). Next m ds n (name j) es) p.0 z')

@@ -1,11 +1,12 @@
 -- Blanks and comments, and reading past them.
 use Rattle.std.proofs.Common.{◌≡◌, ℕ, zero, suc, ◌≤◌, Bool, true, false, cond, ◌&&◌, ◌==◌, List, [], ◌∷◌, length, drop}
+use Rattle.std.proofs.lemmas.Bool.{cases_Bool}
 use Rattle.std.proofs.Common.{slice_index, Option, Some, None, refl, sym, ◌∙◌, subst, arith, inl, inr, length-drop}
 use Rattle.ep_ast.specs.Lexeme.{is_blank, opens_comment, opens_remark, line_after, past_comment, to_line_end, Gap, here}
 use Rattle.ep_ast.specs.Lexeme.{blank, remark, comment}
 use Rattle.ep_lexer.specs.Step.{stopped, unclosed, skip, plain}
 use Rattle.ep_lexer.proofs.Skips.{remark_skips, comment_open, comment_over}
-use Rattle.ep_lexer.proofs.Cases.{test_cases, option_cases, is_number}
+use Rattle.ep_lexer.proofs.Cases.{option_cases, is_number}
 
 -- no blank and no comment stands there
 abbrev pub Stops : List ℕ → Type 0
@@ -51,7 +52,7 @@ past_cases true l bs o p f e = let q : (l, drop 1 bs) ≡ p = cc in
     subst (λ (x : ℕ × List ℕ). length x.1 ≤ suc (length bs)) q (omega (arith, length-drop 1 bs))
 past_cases false l bs o p f e = let q = f p e in omega (arith, q)
 
-past_shorter : (l : ℕ) (bs : List ℕ) (p : ℕ × List ℕ) → past_comment l bs ≡ Some p → length p.1 ≤ length bs
+pub past_shorter : (l : ℕ) (bs : List ℕ) (p : ℕ × List ℕ) → past_comment l bs ≡ Some p → length p.1 ≤ length bs
 past_shorter l [] p e = absurd cc
 past_shorter l (b ∷ bs) p e =
     past_cases (b == 42 && slice_index bs 0 == 47) l bs (past_comment (line_after l b) bs) p
@@ -70,11 +71,11 @@ gap_within : (n l : ℕ) (bs : List ℕ) → length bs ≤ n → GapIs l bs
 gap_within n l [] k = over_at l [] here tt (stays l [] tt)
 gap_within zero l (b ∷ bs) k = absurd (omega arith)
 gap_within (suc n) l (b ∷ bs) k =
-    elim (test_cases (is_blank b)) [
+    elim (cases_Bool (is_blank b)) [
       | inl h ↦ under (λ m cs g. blank h g) (blank_over l b bs h) (gap_within n l bs (omega arith))
-      | inr h ↦ elim (test_cases (opens_remark (b ∷ bs))) [
+      | inr h ↦ elim (cases_Bool (opens_remark (b ∷ bs))) [
         | inl r ↦ over_at l (to_line_end bs) (remark r here) (line_end_stops bs) (remark_skips l (b ∷ bs) r)
-        | inr r ↦ elim (test_cases (opens_comment (b ∷ bs))) [
+        | inr r ↦ elim (cases_Bool (opens_comment (b ∷ bs))) [
           | inl c ↦ elim (option_cases (past_comment l (drop 1 bs))) [
             | inl e ↦ open_at l b bs here c e (comment_open l (b ∷ bs) c e)
             | inr e ↦

@@ -1,5 +1,7 @@
 -- What stands next on a line, and reading it.
 use Rattle.std.proofs.Common.{◌≡◌, ℕ, Bool, true, false, ◌||◌, ◌==◌, List, [], ◌∷◌, drop, Ok, Err, refl, ap, ◌∙◌, inl}
+use Rattle.std.proofs.lemmas.Bool.{cases_Bool}
+use Rattle.std.proofs.lemmas.Bool.{or_from}
 use Rattle.std.proofs.Common.{inr}
 use Rattle.ep_ast.specs.Lexeme.{is_letter, is_digit, word_text, after_word, number_text, after_number, literal}
 use Rattle.ep_ast.specs.Lexeme.{character, of_character, mark_at, mark_len, Thing, over, hash, quote, name, number}
@@ -8,7 +10,7 @@ use Rattle.ep_ast.specs.Lexeme.{a_mark, Spoilt, bad_number, bad_character, bad_b
 use Rattle.ep_ast.specs.Lexeme.{unclosed as unclosed_comment, spoilt}
 use Rattle.ep_ast.specs.Cut.{at_line}
 use Rattle.ep_lexer.specs.Step.{thing_at, next, next_from}
-use Rattle.ep_lexer.proofs.Cases.{test_cases, option_cases, is_number}
+use Rattle.ep_lexer.proofs.Cases.{option_cases, is_number}
 use Rattle.ep_lexer.proofs.Classes.{letter_word, digit_word, digit_no_letter, word_apart, word_no_blank}
 use Rattle.ep_lexer.proofs.Classes.{word_no_comment, word_no_remark, mark_no_word, no_letter, no_digit, mark_no_newline}
 use Rattle.ep_lexer.proofs.Classes.{mark_no_hash, mark_no_quote, mark_no_tick, mark_no_blank}
@@ -56,7 +58,7 @@ begins_read l (a_mark {b} {bs} n r c e) =
       mark_no_quote b bs n e,
     ) refl
 
-four_parts : (a b c d : Bool) → (a || (b || (c || (d || false)))) ≡ false → (a ≡ false) × (b ≡ false) × (c ≡ false)
+pub four_parts : (a b c d : Bool) → (a || (b || (c || (d || false)))) ≡ false → (a ≡ false) × (b ≡ false) × (c ≡ false)
     × (d ≡ false)
 four_parts true b c d h = absurd cc
 four_parts false true c d h = absurd cc
@@ -77,33 +79,30 @@ pub data ThingIs (l : ℕ) (bs : List ℕ) : Type 0 where
   some_thing : (t : Thing) (rest : List ℕ) → Begins bs t rest → ThingIs l bs
   no_thing : (k : ℕ) → Spoilt bs k → ThingIs l bs
 
-both_false : (x y : Bool) → x ≡ false → y ≡ false → (x || y) ≡ false
-both_false x y h k = rw (h, k) refl
-
 pub thing_is : (l : ℕ) (bs : List ℕ) → Stops bs → ThingIs l bs
 thing_is l [] s = some_thing over [] at_end
 thing_is l (b ∷ bs) s =
-    elim (test_cases (b == 10)) [
+    elim (cases_Bool (b == 10)) [
       | inl h ↦ some_thing over (b ∷ bs) (at_newline (is_number b 10 h))
-      | inr n ↦ elim (test_cases (is_letter b)) [
+      | inr n ↦ elim (cases_Bool (is_letter b)) [
         | inl h ↦ some_thing (name (word_text (b ∷ bs))) (after_word (b ∷ bs)) (a_name h)
-        | inr a ↦ elim (test_cases (is_digit b)) [
+        | inr a ↦ elim (cases_Bool (is_digit b)) [
           | inl h ↦ elim (option_cases (literal (number_text (b ∷ bs)))) [
             | inl e ↦ no_thing 3 (bad_number h e)
             | inr e ↦ some_thing (number e.0) (after_number (b ∷ bs)) (a_number e.0 h e.1)
           ]
-          | inr d ↦ elim (test_cases (b == 39)) [
+          | inr d ↦ elim (cases_Bool (b == 39)) [
             | inl h ↦ elim (option_cases (character bs)) [
               | inl e ↦ no_thing 3 (bad_character (is_number b 39 h) e)
               | inr e ↦ some_thing (number (of_character e.0.0)) (drop e.0.1 bs)
                   (a_character e.0.0 e.0.1 (is_number b 39 h) e.1)
             ]
-            | inr t ↦ elim (test_cases (b == 35)) [
+            | inr t ↦ elim (cases_Bool (b == 35)) [
               | inl h ↦ some_thing hash bs (a_hash (is_number b 35 h))
-              | inr g ↦ elim (test_cases (b == 34)) [
+              | inr g ↦ elim (cases_Bool (b == 34)) [
                 | inl h ↦ some_thing quote bs (a_quote (is_number b 34 h))
                 | inr q ↦ elim (option_cases (mark_at (b ∷ bs))) [
-                  | inl e ↦ no_thing 1 (bad_byte s.0 (both_false (is_letter b) (is_digit b) a d) (rw (n, q, g, t) refl)
+                  | inl e ↦ no_thing 1 (bad_byte s.0 (or_from (is_letter b) (is_digit b) a d) (rw (n, q, g, t) refl)
                       s.1 s.2 e)
                   | inr e ↦ some_thing (mark e.0) (drop (mark_len e.0) (b ∷ bs)) (a_mark e.0 s.1 s.2 e.1)
                 ]

@@ -1,5 +1,8 @@
 -- Each offence in a directive is what is read.
-use Rattle.std.proofs.Common.{◌≡◌, ℕ, Bool, true, false, ◌&&◌, ◌||◌, List, [], ◌∷◌, ◌++◌, codes, Option, Some, None}
+use Rattle.std.proofs.Common.{◌≡◌, ℕ, Bool, true, false, ◌&&◌, ◌||◌, List, [], ◌∷◌, ◌++◌, codes, Some, None}
+use Rattle.ep_int.proofs.Basics.{is_some-some}
+use Rattle.std.proofs.lemmas.Bool.{cases_Bool}
+use Rattle.std.proofs.lemmas.Bool.{and_parts, or_parts}
 use Rattle.std.proofs.Common.{is_some, Err, refl, sym, ap, ◌∙◌, subst, inl, inr}
 use Rattle.std.specs.List.{list_any}
 use Rattle.ep_ast.specs.declared.orders.NamedOrder.{NamedOrder}
@@ -7,25 +10,21 @@ use Rattle.ep_ast.specs.declared.orders.NamedOrder.TheVariants.{Little, Big}
 use Rattle.ep_ast.specs.declared.expressions.Literal.{Literal}
 use Rattle.ep_ast.specs.declared.refusals.Refusal.{Refusal}
 use Rattle.ep_ast.specs.Lexeme.{Thing, over, hash, quote, name, number, mark, Next, Breaks}
-use Rattle.ep_ast.specs.Cut.{Constants, constant, value, may_define, pass, Place, outside, Stand, none, more}
+use Rattle.ep_ast.specs.Cut.{Constants, constant, value, may_define, pass, Position, outside, Stand, none, more}
 use Rattle.ep_ast.specs.Cut.{order_name, equals, may_begin, directive_kind, is_include, is_named, is_over, is_mark}
 use Rattle.ep_ast.specs.Cut.{wrong, at_line}
 use Rattle.ep_lexer.specs.Step.{step, directive_at, define_at, condition_at, is_plain, order_of}
-use Rattle.ep_lexer.proofs.Cases.{test_cases, option_cases, true_false, and_parts}
+use Rattle.ep_lexer.proofs.Cases.{option_cases, true_false}
 use Rattle.ep_lexer.proofs.NextLemmas.{next_read, breaks_read}
 use Rattle.ep_lexer.proofs.DirectiveLemmas.{at, name_cases, over_cases, equals_cases, order_cases, plain_parts}
 
 -- What stands behind these things in a directive whose `#` stands on line l and offends: something broken, or a thing
 -- with which it is no directive any more.
-pub data Behind (p : Place) (l : ℕ) (ts : List Thing) (m : ℕ) (ds : List ℕ) : Refusal → Type 0 where
+pub data Behind (p : Position) (l : ℕ) (ts : List Thing) (m : ℕ) (ds : List ℕ) : Refusal → Type 0 where
   something_broken : (k n : ℕ) → Breaks m ds k n → Behind p l ts m ds (at_line k n)
   something_wrong : (n : ℕ) (t : Thing) (es : List ℕ) → Next m ds n t es → may_begin p (ts ++ t ∷ []) ≡ false
       → is_include ts ≡ false
       → Behind p l ts m ds (wrong (directive_kind p (ts ++ t ∷ [])) l n t)
-
-pub or_parts : (x y : Bool) → (x || y) ≡ false → (x ≡ false) × (y ≡ false)
-or_parts true y h = absurd cc
-or_parts false y h = (refl, h)
 
 pub no_and : (x : Bool) → (x && true) ≡ false → x ≡ false
 no_and true h = absurd cc
@@ -72,7 +71,7 @@ define_1 a c bs cs ds l m r x y (something_wrong i w gs g f h) = elim (name_case
   | inl q ↦
       let g' = subst (λ (j : Thing). Next m ds i j gs) q.1 g in
       let f' = subst (λ (j : Thing). may_begin (at a true c outside) (name (codes "define") ∷ j ∷ []) ≡ false) q.1 f in
-      elim (test_cases (may_define c q.0)) [
+      elim (cases_Bool (may_define c q.0)) [
         | inl d ↦
             let k : may_begin (at a true c outside) (name (codes "define") ∷ name q.0 ∷ []) ≡ true = rw d refl in
             absurd (true_false k f')
@@ -93,10 +92,6 @@ named_is f quote h = absurd cc
 named_is f (name w) h = (w, refl, h)
 named_is f (number n) h = absurd cc
 named_is f (mark n) h = absurd cc
-
-some_value : {A : Type 0} (o : Option A) → is_some o ≡ true → (x : A) × (o ≡ Some x)
-some_value None h = absurd cc
-some_value (Some x) h = (x, refl)
 
 -- the things behind `define`, the name and its value
 define_ends : (a : ℕ) (c : Constants) (bs cs ds es fs gs : List ℕ) (l m n i j : ℕ) (t : List ℕ) (v : Thing)
@@ -120,7 +115,7 @@ define_values : (a : ℕ) (c : Constants) (bs cs ds es gs : List ℕ) (l m n j :
 define_values a c bs cs ds es gs l m n j t ts r x y z d none o b w = define_2 a c bs cs ds es l m n t r x y z d w
 define_values a c bs cs ds es gs l m n j t ts r x y z d (more {m = i} {cs = fs} {t = v} {ts = us} g s) o b w =
     let p = and_parts (is_some (value c v)) (pass (is_over ∷ []) us) b in
-    let k = some_value (value c v) p.0 in
+    let k = is_some-some (value c v) p.0 in
     define_ends a c bs cs ds es fs gs l m n i j t v k.0 us r x y z d g k.1 s
     (or_parts (is_over v) (list_any is_over us) o).1 p.1 w
 
@@ -229,7 +224,7 @@ condition_1 a c bs cs ds l m r x y (something_wrong n t es z h d) = elim (name_c
   | inl q ↦
       let z' = subst (λ (j : Thing). Next m ds n j es) q.1 z in
       let h' = subst (λ (j : Thing). may_begin (at a true c outside) (name (codes "if") ∷ j ∷ []) ≡ false) q.1 h in
-      elim (test_cases (is_plain c (codes "__BYTE_ORDER__") q.0)) [
+      elim (cases_Bool (is_plain c (codes "__BYTE_ORDER__") q.0)) [
         | inl k ↦
             let f : may_begin (at a true c outside) (name (codes "if") ∷ name q.0 ∷ []) ≡ true = rw k refl in
             absurd (true_false f h')

@@ -1,5 +1,10 @@
 -- Each offence is what is read.
 use Rattle.std.proofs.Common.{◌≡◌, ℕ, Bool, true, false, cond, ◌&&◌, ◌||◌, ◌==◌, List, [], ◌∷◌, codes, Option, Some}
+use Rattle.ep_int.proofs.Basics.{bytes_eq-equal}
+use Rattle.ep_lexer.proofs.ArmLemmas.{renamed}
+use Rattle.ep_lexer.proofs.NextLemmas.{four_parts}
+use Rattle.std.proofs.lemmas.Bool.{cases_Bool}
+use Rattle.std.proofs.lemmas.Bool.{and_parts, or_parts}
 use Rattle.std.proofs.Common.{None, Err, refl, sym, ◌∙◌, subst, nat_eq, arith, inl, inr}
 use Rattle.std.proofs.lemmas.Bool.Decides.{nat_tests}
 use Rattle.std.specs.List.{list_any, starts_with}
@@ -7,12 +12,12 @@ use Rattle.std.specs.Str.{bytes_eq}
 use Rattle.ep_ast.specs.declared.refusals.Refusal.{Refusal}
 use Rattle.ep_ast.specs.Lexeme.{Thing, over, hash, name, mark_at, Next, Spoilt, bad_number, bad_character, bad_byte}
 use Rattle.ep_ast.specs.Lexeme.{spoilt, unclosed as unclosed_comment}
-use Rattle.ep_ast.specs.Cut.{Constants, Place, Open, outside, first_arm, second_arm, opened_at, Stand, none, more}
+use Rattle.ep_ast.specs.Cut.{Constants, Position, Open, outside, first_arm, second_arm, opened_at, Stand, none, more}
 use Rattle.ep_ast.specs.Cut.{after, headers, may_begin, directive_kind, is_over, pass, wrong, at_line, Offence}
 use Rattle.ep_ast.specs.Cut.{broken as broken_here, stray_quote, stray_hash, reserved_word, no_end_if, broken_inside}
 use Rattle.ep_ast.specs.Cut.{wrong_inside, no_header, broken_header, behind_header}
 use Rattle.ep_lexer.specs.Step.{step, directive_at}
-use Rattle.ep_lexer.proofs.Cases.{test_cases, true_false, and_parts, same_bytes, no_number}
+use Rattle.ep_lexer.proofs.Cases.{true_false, no_number}
 use Rattle.ep_lexer.proofs.Classes.{from, digit_word}
 use Rattle.ep_lexer.proofs.Gaps.{gap_skips}
 use Rattle.ep_lexer.proofs.Skips.{comment_open}
@@ -20,19 +25,10 @@ use Rattle.ep_lexer.proofs.NextLemmas.{next_read, breaks_read, begins_read, spoi
 use Rattle.ep_lexer.proofs.Pieces.{header_read}
 use Rattle.ep_lexer.proofs.DirectiveLemmas.{at, name_cases, over_cases, missing_read, open_read}
 use Rattle.ep_lexer.proofs.ArmLemmas.{kind_outside}
-use Rattle.ep_lexer.proofs.OffenceLemmas.{Behind, something_broken, something_wrong, or_parts, or_false, no_and}
+use Rattle.ep_lexer.proofs.OffenceLemmas.{Behind, something_broken, something_wrong, or_false, no_and}
 use Rattle.ep_lexer.proofs.OffenceLemmas.{define_things, condition_things}
 
 -- ---- `#include`
-
-four_parts : (a b c d : Bool) → (a || (b || (c || (d || false)))) ≡ false → (a ≡ false) × (b ≡ false) × (c ≡ false)
-    × (d ≡ false)
-four_parts a b c d h =
-    let p = or_parts a (b || (c || (d || false))) h in
-    let q = or_parts b (c || (d || false)) p.1 in
-    let r = or_parts c (d || false) q.1 in
-    let s = or_parts d false r.1 in
-    (p.0, q.0, r.0, s.0)
 
 -- a header name begins with `<` or `"`
 no_header_at : (b : ℕ) (bs : List ℕ) → 60 == b ≡ false → 34 == b ≡ false → after headers (b ∷ bs) ≡ None
@@ -81,29 +77,25 @@ include_things a c bs cs ds hs l m j ts r x y (more {t = t} {ts = us} g s) b q =
 
 -- ---- the first word of a directive outside conditionals
 
-renamed : {m n : ℕ} {bs cs : List ℕ} (w v : List ℕ) → bytes_eq w v ≡ true → Next m bs n (name w) cs
-    → Next m bs n (name v) cs
-renamed {m} {n} {bs} {cs} w v e x = subst (λ (t : List ℕ). Next m bs n (name t) cs) (same_bytes w v e) x
-
-retold : {p : Place} {l j : ℕ} {hs : List ℕ} {ts : List Thing} {r : Refusal} (w v : List ℕ) → bytes_eq w v ≡ true
+retold : {p : Position} {l j : ℕ} {hs : List ℕ} {ts : List Thing} {r : Refusal} (w v : List ℕ) → bytes_eq w v ≡ true
     → Behind p l (name w ∷ ts) j hs r → Behind p l (name v ∷ ts) j hs r
-retold {p} {l} {j} {hs} {ts} {r} w v e b = subst (λ (t : List ℕ). Behind p l (name t ∷ ts) j hs r) (same_bytes w v e) b
+retold {p} {l} {j} {hs} {ts} {r} w v e b = subst (λ (t : List ℕ). Behind p l (name t ∷ ts) j hs r) (bytes_eq-equal w v e) b
 
-begun : (p : Place) (ts : List Thing) (w v : List ℕ) → bytes_eq w v ≡ true → may_begin p (name w ∷ ts) ≡ true
+begun : (p : Position) (ts : List Thing) (w v : List ℕ) → bytes_eq w v ≡ true → may_begin p (name w ∷ ts) ≡ true
     → may_begin p (name v ∷ ts) ≡ true
-begun p ts w v e b = subst (λ (t : List ℕ). may_begin p (name t ∷ ts) ≡ true) (same_bytes w v e) b
+begun p ts w v e b = subst (λ (t : List ℕ). may_begin p (name t ∷ ts) ≡ true) (bytes_eq-equal w v e) b
 
 word_outside : (a : ℕ) (c : Constants) (bs cs ds hs w : List ℕ) (l m j : ℕ) (ts : List Thing) (r : Refusal)
     → Next a bs l hash cs → Next l cs m (name w) ds → Stand m ds ts j hs → list_any is_over ts ≡ false
     → may_begin (at a true c outside) (name w ∷ ts) ≡ true
     → Behind (at a true c outside) l (name w ∷ ts) j hs r → step (at a true c outside) bs ≡ Err r
-word_outside a c bs cs ds hs w l m j ts r x y s o b q = elim (test_cases (bytes_eq w (codes "define"))) [
+word_outside a c bs cs ds hs w l m j ts r x y s o b q = elim (cases_Bool (bytes_eq w (codes "define"))) [
   | inl h ↦ define_things a c bs cs ds hs l m j ts r x (renamed w (codes "define") h y) s o
       (begun (at a true c outside) ts w (codes "define") h b) (retold w (codes "define") h q)
-  | inr h ↦ elim (test_cases (bytes_eq w (codes "include"))) [
+  | inr h ↦ elim (cases_Bool (bytes_eq w (codes "include"))) [
     | inl i ↦ include_things a c bs cs ds hs l m j ts r x (renamed w (codes "include") i y) s
         (begun (at a true c outside) ts w (codes "include") i b) (retold w (codes "include") i q)
-    | inr i ↦ elim (test_cases (bytes_eq w (codes "if"))) [
+    | inr i ↦ elim (cases_Bool (bytes_eq w (codes "if"))) [
       | inl k ↦ condition_things a c bs cs ds hs l m j ts r x (renamed w (codes "if") k y) s o
           (begun (at a true c outside) ts w (codes "if") k b) (retold w (codes "if") k q)
       | inr k ↦
@@ -247,10 +239,10 @@ first_words : (a : ℕ) (c : Constants) (bs cs ds hs w : List ℕ) (l m j from :
     → Next a bs l hash cs → Next l cs m (name w) ds → Stand m ds ts j hs → list_any is_over ts ≡ false
     → may_begin (at a true c (first_arm from)) (name w ∷ ts) ≡ true
     → Behind (at a true c (first_arm from)) l (name w ∷ ts) j hs r → step (at a true c (first_arm from)) bs ≡ Err r
-first_words a c bs cs ds hs w l m j from ts r x y s o b q = elim (test_cases (bytes_eq w (codes "endif"))) [
+first_words a c bs cs ds hs w l m j from ts r x y s o b q = elim (cases_Bool (bytes_eq w (codes "endif"))) [
   | inl h ↦ first_ends a c bs cs ds hs l m j from ts r x (renamed w (codes "endif") h y) s o
       (begun (at a true c (first_arm from)) ts w (codes "endif") h b) (retold w (codes "endif") h q)
-  | inr h ↦ elim (test_cases (bytes_eq w (codes "else"))) [
+  | inr h ↦ elim (cases_Bool (bytes_eq w (codes "else"))) [
     | inl i ↦ first_elses a c bs cs ds hs l m j from ts r x (renamed w (codes "else") i y) s o
         (begun (at a true c (first_arm from)) ts w (codes "else") i b) (retold w (codes "else") i q)
     | inr i ↦
@@ -263,7 +255,7 @@ second_words : (a : ℕ) (c : Constants) (bs cs ds hs w : List ℕ) (l m j from 
     → Next a bs l hash cs → Next l cs m (name w) ds → Stand m ds ts j hs → list_any is_over ts ≡ false
     → may_begin (at a true c (second_arm from)) (name w ∷ ts) ≡ true
     → Behind (at a true c (second_arm from)) l (name w ∷ ts) j hs r → step (at a true c (second_arm from)) bs ≡ Err r
-second_words a c bs cs ds hs w l m j from ts r x y s o b q = elim (test_cases (bytes_eq w (codes "endif"))) [
+second_words a c bs cs ds hs w l m j from ts r x y s o b q = elim (cases_Bool (bytes_eq w (codes "endif"))) [
   | inl h ↦ second_ends a c bs cs ds hs l m j from ts r x (renamed w (codes "endif") h y) s o
       (begun (at a true c (second_arm from)) ts w (codes "endif") h b) (retold w (codes "endif") h q)
   | inr h ↦
@@ -372,5 +364,5 @@ offence_at a f c o bs r (behind_header l m n j t h i x (more y none) g e z v) = 
   | inr q ↦ rw (next_read x, h, i, next_read y, header_read l g e, next_read z, q.1) refl
 ]
 
-pub offence_read : {p : Place} {bs : List ℕ} {r : Refusal} → Offence p bs r → step p bs ≡ Err r
+pub offence_read : {p : Position} {bs : List ℕ} {r : Refusal} → Offence p bs r → step p bs ≡ Err r
 offence_read {p} {bs} {r} x = offence_at p.line p.fresh p.constants p.open_arm bs r x

@@ -3,7 +3,7 @@ use Rattle.std.proofs.Common.{◌≡◌, ℕ, false, ◌==◌, List, [], ◌∷�
 use Rattle.ep_ast.specs.declared.orders.NamedOrder.TheVariants.{Little, Big}
 use Rattle.ep_ast.specs.Token.{Tok}
 use Rattle.ep_ast.specs.Lexeme.{Gap}
-use Rattle.ep_ast.specs.Cut.{Place, Open, outside, first_arm, second_arm, is_outside, Piece, line_end, word, own_name}
+use Rattle.ep_ast.specs.Cut.{Position, Open, outside, first_arm, second_arm, is_outside, Piece, line_end, word, own_name}
 use Rattle.ep_ast.specs.Cut.{defined, literal, sign, include, define, condition, otherwise, end_if, none, more, after}
 use Rattle.ep_ast.specs.Cut.{headers}
 use Rattle.ep_lexer.specs.Step.{step, directive_at, define_at, include_at, condition_at, header_at, header_found}
@@ -37,7 +37,7 @@ unfolding include_at
 header_read {m} {n} {cs} {ds} {es} h g e =
     ap (header_at h) (gap_skips g ∙ stays n ds (header_stops ds es e)) ∙ ap (header_found h n ds) e
 
-pub piece_read : {p q : Place} {bs rest : List ℕ} {ts : List Tok} → Piece p bs ts q rest
+pub piece_read : {p q : Position} {bs rest : List ℕ} {ts : List Tok} → Piece p bs ts q rest
     → step p bs ≡ Ok (Some (ts, q, rest))
 unfolding step directive_at define_at condition_at
 piece_read (line_end m b n) = rw (next_read n) refl

@@ -12,14 +12,15 @@ use Rattle.ep_ast.specs.declared.orders.NamedOrder.{NamedOrder}
 use Rattle.ep_ast.specs.declared.orders.NamedOrder.TheVariants.{Little, Big}
 use Rattle.std.specs.Str.{bytes_eq}
 use Rattle.ep_ast.specs.Cut.{Constants, constant, value, may_define, wrong, at_line, after, headers, order_name, equals}
-use Rattle.ep_ast.specs.Cut.{Open, outside, first_arm, second_arm, opened_at, Place, behind, order_token, Sense}
+use Rattle.ep_ast.specs.Cut.{Open, outside, first_arm, second_arm, opened_at, Position, behind, order_token, Sense}
 use Rattle.ep_ast.specs.Cut.{is_accepted, is_reserved, is_constant, is_own, sense}
+use Rattle.ep_ast.specs.Mark.{mark_number}
 use Rattle.ep_ast.specs.Token as token
 use Rattle.ep_ast.specs.Token.{Tok}
 use Rattle.ep_ast.specs.declared.refusals.Halt.{Halt}
 use Rattle.ep_ast.specs.declared.refusals.Halt.TheVariants as halts
 use Rattle.ep_lexer.specs.Tokens.{view}
-use Rattle.ep_lexer.specs.declared.lexer.Place as places
+use Rattle.ep_lexer.specs.declared.lexer.Position as positions
 use Rattle.ep_lexer.specs.declared.lexer.Step as steps
 use Rattle.ep_lexer.specs.declared.tokens.Token.{Token}
 use Rattle.ep_lexer.specs.declared.definitions.Definitions as tables
@@ -69,16 +70,16 @@ skipped (Err from) = unclosed from
 abbrev pub Found : Type 0
 Found = ℕ × Thing × List ℕ
 
-abbrev pub view_thing : declared.Thing → Thing
-view_thing things.Over = over
-view_thing things.Hash = hash
-view_thing things.Quote = quote
-view_thing (things.Name text) = name text.now
-view_thing (things.Number n) = number n
-view_thing (things.Mark n) = mark n
+abbrev pub thing_view : declared.Thing → Thing
+thing_view things.Over = over
+thing_view things.Hash = hash
+thing_view things.Quote = quote
+thing_view (things.Name text) = name text.now
+thing_view (things.Number n) = number n
+thing_view (things.Mark n) = mark (mark_number n)
 
-abbrev pub view_next : nexts.Next → Found
-view_next n = (n.line, view_thing n.thing, n.rest.now)
+abbrev pub next_view : nexts.Next → Found
+next_view n = (n.line, thing_view n.thing, n.rest.now)
 
 -- with what it shows of an `Ok`
 abbrev pub shown : {A B : Type 0} → (A → B) → Result A Refusal → Result B Refusal
@@ -273,20 +274,20 @@ directive_at o cs h bs = chain (name_at (first_kind o) h h bs) (λ p. directive_
 abbrev pub constants : tables.Definitions → Constants
 constants d = map (λ e. (e.0.items, e.1)) d.table.entries
 
-abbrev pub view_open : opens.Open → Open
-view_open arms.Outside = outside
-view_open (arms.FirstArm l) = first_arm l
-view_open (arms.SecondArm l) = second_arm l
+abbrev pub open_view : opens.Open → Open
+open_view arms.Outside = outside
+open_view (arms.FirstArm l) = first_arm l
+open_view (arms.SecondArm l) = second_arm l
 
-abbrev pub view_effect : effects.Effect → Effect
-view_effect does.Nothing = nothing
-view_effect (does.Defines t c) = defines t.now c
-view_effect (does.Opens o) = conditions o
-view_effect (does.Turns from) = turns from
-view_effect does.Closes = closes
+abbrev pub effect_view : effects.Effect → Effect
+effect_view does.Nothing = nothing
+effect_view (does.Defines t c) = defines t.now c
+effect_view (does.Opens o) = conditions o
+effect_view (does.Turns from) = turns from
+effect_view does.Closes = closes
 
-abbrev pub view_done : directives.Directive → Done
-view_done d = (view_effect d.effect, d.line, d.rest.now)
+abbrev pub done_view : directives.Directive → Done
+done_view d = (effect_view d.effect, d.line, d.rest.now)
 
 -- whether the constant that a directive defines is a new one
 abbrev pub IsNew : Constants → Effect → Type 0
@@ -298,26 +299,26 @@ IsNew cs closes = Unit {0}
 
 -- ---- the pieces of a source
 
--- the tokens of a piece, the place behind it and what comes after it
+-- the tokens of a piece, the position behind it and what comes after it
 abbrev pub Went : Type 0
-Went = List Tok × Place × List ℕ
+Went = List Tok × Position × List ℕ
 
 -- what a directive that ends on line m and whose `#` stands on line h leaves
-abbrev pub applied : Place → ℕ → Effect → ℕ → List Tok × Place
+abbrev pub applied : Position → ℕ → Effect → ℕ → List Tok × Position
 applied p h nothing m = ([], behind p m)
 applied p h (defines t c) m = ([], record p { line = m; fresh = false; constants = p.constants ++ (t, c) ∷ [] })
 applied p h (conditions o) m = (order_token o h ∷ [], record p { line = m; fresh = false; open_arm = first_arm h })
 applied p h (turns from) m = (token.other h ∷ [], record p { line = m; fresh = false; open_arm = second_arm from })
 applied p h closes m = (token.end_if h ∷ [], record p { line = m; fresh = false; open_arm = outside })
 
-abbrev pub went : List Tok × Place → List ℕ → Result (Option Went) Refusal
+abbrev pub went : List Tok × Position → List ℕ → Result (Option Went) Refusal
 went t rest = Ok (Some (t.0, t.1, rest))
 
 abbrev pub ended : Option ℕ → Result (Option Went) Refusal
 ended None = Ok None
 ended (Some from) = Err (at_line kinds.conditional from)
 
-abbrev pub line_ended : Place → ℕ → List ℕ → Result (Option Went) Refusal
+abbrev pub line_ended : Position → ℕ → List ℕ → Result (Option Went) Refusal
 line_ended p m [] = ended (opened_at p.open_arm)
 line_ended p m (b ∷ rest) = went ([], record p { line = m + 1; fresh = true }) rest
 
@@ -327,11 +328,11 @@ token_of m t (is_reserved n) = Err (record { kind = kinds.reserved_word; line = 
 token_of m t (is_constant c) = Ok (token.number m c)
 token_of m t is_own = Ok (token.name m t)
 
-abbrev pub hash_on : Place → ℕ → List ℕ → Result (Option Went) Refusal
+abbrev pub hash_on : Position → ℕ → List ℕ → Result (Option Went) Refusal
 hash_on p m rest = if p.fresh then chain (directive_at p.open_arm p.constants m rest)
     (λ d. went (applied p m d.0 d.1) d.2) else Err (at_line kinds.byte m)
 
-abbrev pub step_on : Place → ℕ → Thing → List ℕ → Result (Option Went) Refusal
+abbrev pub step_on : Position → ℕ → Thing → List ℕ → Result (Option Went) Refusal
 step_on p m over rest = line_ended p m rest
 step_on p m hash rest = hash_on p m rest
 step_on p m quote rest = Err (at_line kinds.string_literal m)
@@ -340,7 +341,7 @@ step_on p m (number c) rest = went (token.number m c ∷ [], behind p m) rest
 step_on p m (mark n) rest = went (token.mark m n ∷ [], behind p m) rest
 
 -- None where the source ends
-unfoldable pub step : Place → List ℕ → Result (Option Went) Refusal
+unfoldable pub step : Position → List ℕ → Result (Option Went) Refusal
 step p bs = chain (next p.line bs) (λ n. step_on p n.0 n.1 n.2)
 
 -- what a function returned is this, unless memory ran out
@@ -348,17 +349,17 @@ abbrev pub Fails : {B : Type 0} → Halt → Result B Refusal → Type 0
 Fails halts.Memory read = Unit {0}
 Fails (halts.Refused r) read = read ≡ Err r
 
-abbrev pub Gives : {A B : Type 0} → (A → B) → Result A Halt → Result B Refusal → Type 0
-Gives f (Ok x) read = read ≡ Ok (f x)
-Gives f (Err e) read = Fails e read
+abbrev pub Refines : {A B : Type 0} → (A → B) → Result A Halt → Result B Refusal → Type 0
+Refines f (Ok x) read = read ≡ Ok (f x)
+Refines f (Err e) read = Fails e read
 
-abbrev pub view_place : places.Place → Constants → Place
-view_place p cs = record { line = p.line; fresh = p.fresh; constants = cs; open_arm = view_open p.arm }
+abbrev pub position_view : positions.Position → Constants → Position
+position_view p cs = record { line = p.line; fresh = p.fresh; constants = cs; open_arm = open_view p.arm }
 
-abbrev pub view_token : Option Token → List Tok
-view_token None = []
-view_token (Some t) = view t ∷ []
+abbrev pub token_view : Option Token → List Tok
+token_view None = []
+token_view (Some t) = view t ∷ []
 
-abbrev pub view_step : Constants → Option steps.Step → Option Went
-view_step cs None = None
-view_step cs (Some s) = Some (view_token s.token, view_place s.place cs, s.rest.now)
+abbrev pub step_view : Constants → Option steps.Step → Option Went
+step_view cs None = None
+step_view cs (Some s) = Some (token_view s.token, position_view s.position cs, s.rest.now)

@@ -8,7 +8,7 @@ use crate::bytes::{after, skip};
 use crate::definitions::Definitions;
 use crate::things::{Next, Thing, next_thing, refusal, thing_at};
 use crate::words::{accepted, reserved};
-use ep_ast::{Literal, NamedOrder, Refusal, RefusalKind};
+use ep_ast::{Literal, Mark, NamedOrder, Refusal, RefusalKind};
 
 /// Whether a conditional is open: its first arm, or the one behind `#else`, with the line of its `#if`.
 #[derive(Clone, Copy, Debug)]
@@ -38,7 +38,7 @@ pub struct Directive<'a> {
 
 /// How a thing is refused in a directive of this kind, whose `#` stands on line `hash`.
 fn wrong(kind: RefusalKind, hash: u32, next: &Next) -> Refusal
-    ensures { result ≡ cut.wrong (number_of kind) hash next.now.line (step.view_thing next.now.thing) }
+    ensures { result ≡ cut.wrong (number_of kind) hash next.now.line (step.thing_view next.now.thing) }
 {
     match next.thing {
         Thing::Hash => refusal(RefusalKind::Byte, next.line),
@@ -91,7 +91,7 @@ fn name_at<'a>(
 }
 
 fn value(defined: &Definitions, thing: Thing) -> Option<Literal>
-    ensures { result ≡ cut.value (step.constants defined.now) (step.view_thing thing.entry) }
+    ensures { result ≡ cut.value (step.constants defined.now) (step.thing_view thing.entry) }
 {
     match thing {
         Thing::Number(n) => Some(n),
@@ -119,6 +119,7 @@ fn constant_at<'a>(
     }
 }
 
+#[tactic(auto, using(crate::proofs::Cases::mapped_none))]
 fn may_define(defined: &Definitions, name: &[u8]) -> bool
     ensures { result ≡ cut.may_define (step.constants defined.now) name.now }
 {
@@ -133,8 +134,14 @@ fn equals_at<'a>(hash: u32, line: u32, bytes: &'a [u8]) -> Result<(u32, &'a [u8]
 {
     let next = next_thing(line, bytes)?;
     match next.thing {
-        Thing::Mark(10) => Ok((next.line, next.rest)),
-        _ => Err(wrong(RefusalKind::Conditional, hash, &next)),
+        Thing::Mark(mark) => if mark == Mark::EqualEqual {
+            Ok((next.line, next.rest))
+        } else {
+            Err(wrong(RefusalKind::Conditional, hash, &next))
+        },
+        Thing::Over | Thing::Hash | Thing::Quote | Thing::Name(_) | Thing::Number(_) => {
+            Err(wrong(RefusalKind::Conditional, hash, &next))
+        }
     }
 }
 
@@ -165,8 +172,8 @@ fn define_at<'a>(
     bytes: &'a [u8],
 ) -> Result<Directive<'a>, Refusal>
     requires { line + length bytes.now < 2 ^ 32 }
-    ensures value { step.shown step.view_done result ≡ step.define_at (step.constants defined.now) hash line bytes.now }
-    ensures fresh { IfOk result (λ d. step.IsNew (step.constants defined.now) (step.view_effect d.effect)) }
+    ensures value { step.shown step.done_view result ≡ step.define_at (step.constants defined.now) hash line bytes.now }
+    ensures fresh { IfOk result (λ d. step.IsNew (step.constants defined.now) (step.effect_view d.effect)) }
     ensures within { IfOk result (λ d. d.line + length d.rest.now ≤ line + length bytes.now) }
     ensures shorter { IfOk result (λ d. length d.rest.now ≤ length bytes.now) }
 {
@@ -192,9 +199,9 @@ fn condition_at<'a>(
     bytes: &'a [u8],
 ) -> Result<Directive<'a>, Refusal>
     requires { line + length bytes.now < 2 ^ 32 }
-    ensures value { step.shown step.view_done result ≡ step.condition_at (step.constants defined.now) hash line
+    ensures value { step.shown step.done_view result ≡ step.condition_at (step.constants defined.now) hash line
         bytes.now }
-    ensures fresh { IfOk result (λ d. step.IsNew (step.constants defined.now) (step.view_effect d.effect)) }
+    ensures fresh { IfOk result (λ d. step.IsNew (step.constants defined.now) (step.effect_view d.effect)) }
     ensures within { IfOk result (λ d. d.line + length d.rest.now ≤ line + length bytes.now) }
     ensures shorter { IfOk result (λ d. length d.rest.now ≤ length bytes.now) }
 {
@@ -242,10 +249,10 @@ fn ending_at<'a>(
     bytes: &'a [u8],
 ) -> Result<Directive<'a>, Refusal>
     requires { line + length bytes.now < 2 ^ 32 }
-    ensures value { step.shown step.view_done result ≡ step.ending_at (step.view_effect effect.entry)
+    ensures value { step.shown step.done_view result ≡ step.ending_at (step.effect_view effect.entry)
         (number_of kind) hash line
         bytes.now }
-    ensures effect { IfOk result (λ d. step.view_effect d.effect ≡ step.view_effect effect.entry) }
+    ensures effect { IfOk result (λ d. step.effect_view d.effect ≡ step.effect_view effect.entry) }
     ensures within { IfOk result (λ d. d.line + length d.rest.now ≤ line + length bytes.now) }
     ensures shorter { IfOk result (λ d. length d.rest.now ≤ length bytes.now) }
 {
@@ -257,8 +264,8 @@ fn ending_at<'a>(
 #[tactic(auto, unfolding(crate::specs::Step::include_at))]
 fn include_at<'a>(hash: u32, line: u32, bytes: &'a [u8]) -> Result<Directive<'a>, Refusal>
     requires { line + length bytes.now < 2 ^ 32 }
-    ensures value { step.shown step.view_done result ≡ step.include_at hash line bytes.now }
-    ensures effect { IfOk result (λ d. step.view_effect d.effect ≡ step.nothing) }
+    ensures value { step.shown step.done_view result ≡ step.include_at hash line bytes.now }
+    ensures effect { IfOk result (λ d. step.effect_view d.effect ≡ step.nothing) }
     ensures within { IfOk result (λ d. d.line + length d.rest.now ≤ line + length bytes.now) }
     ensures shorter { IfOk result (λ d. length d.rest.now ≤ length bytes.now) }
 {
@@ -292,9 +299,9 @@ fn directive_outside<'a>(
     bytes: &'a [u8],
 ) -> Result<Directive<'a>, Refusal>
     requires { line + length bytes.now < 2 ^ 32 }
-    ensures value { step.shown step.view_done result ≡ step.directive_outside (step.constants defined.now) hash word.now
+    ensures value { step.shown step.done_view result ≡ step.directive_outside (step.constants defined.now) hash word.now
         line bytes.now }
-    ensures fresh { IfOk result (λ d. step.IsNew (step.constants defined.now) (step.view_effect d.effect)) }
+    ensures fresh { IfOk result (λ d. step.IsNew (step.constants defined.now) (step.effect_view d.effect)) }
     ensures within { IfOk result (λ d. d.line + length d.rest.now ≤ line + length bytes.now) }
     ensures shorter { IfOk result (λ d. length d.rest.now ≤ length bytes.now) }
 {
@@ -317,8 +324,8 @@ fn directive_in_first<'a>(
     bytes: &'a [u8],
 ) -> Result<Directive<'a>, Refusal>
     requires { line + length bytes.now < 2 ^ 32 }
-    ensures value { step.shown step.view_done result ≡ step.directive_in_first from hash word.now line bytes.now }
-    ensures fresh { (cs : cut.Constants) → IfOk result (λ d. step.IsNew cs (step.view_effect d.effect)) }
+    ensures value { step.shown step.done_view result ≡ step.directive_in_first from hash word.now line bytes.now }
+    ensures fresh { (cs : cut.Constants) → IfOk result (λ d. step.IsNew cs (step.effect_view d.effect)) }
     ensures within { IfOk result (λ d. d.line + length d.rest.now ≤ line + length bytes.now) }
     ensures shorter { IfOk result (λ d. length d.rest.now ≤ length bytes.now) }
 {
@@ -344,8 +351,8 @@ fn directive_in_second<'a>(
     bytes: &'a [u8],
 ) -> Result<Directive<'a>, Refusal>
     requires { line + length bytes.now < 2 ^ 32 }
-    ensures value { step.shown step.view_done result ≡ step.directive_in_second hash word.now line bytes.now }
-    ensures fresh { (cs : cut.Constants) → IfOk result (λ d. step.IsNew cs (step.view_effect d.effect)) }
+    ensures value { step.shown step.done_view result ≡ step.directive_in_second hash word.now line bytes.now }
+    ensures fresh { (cs : cut.Constants) → IfOk result (λ d. step.IsNew cs (step.effect_view d.effect)) }
     ensures within { IfOk result (λ d. d.line + length d.rest.now ≤ line + length bytes.now) }
     ensures shorter { IfOk result (λ d. length d.rest.now ≤ length bytes.now) }
 {
@@ -357,7 +364,7 @@ fn directive_in_second<'a>(
 }
 
 fn first_kind(arm: Open) -> RefusalKind
-    ensures { number_of result ≡ step.first_kind (step.view_open arm) }
+    ensures { number_of result ≡ step.first_kind (step.open_view arm) }
 {
     match arm {
         Open::Outside => RefusalKind::Directive,
@@ -374,9 +381,9 @@ pub fn directive_at<'a>(
     bytes: &'a [u8],
 ) -> Result<Directive<'a>, Refusal>
     requires { hash + length bytes.now < 2 ^ 32 }
-    ensures value { step.shown step.view_done result ≡ step.directive_at (step.view_open arm)
+    ensures value { step.shown step.done_view result ≡ step.directive_at (step.open_view arm)
         (step.constants defined.now) hash bytes.now }
-    ensures fresh { IfOk result (λ d. step.IsNew (step.constants defined.now) (step.view_effect d.effect)) }
+    ensures fresh { IfOk result (λ d. step.IsNew (step.constants defined.now) (step.effect_view d.effect)) }
     ensures within { IfOk result (λ d. d.line + length d.rest.now ≤ hash + length bytes.now) }
     ensures shorter { IfOk result (λ d. length d.rest.now ≤ length bytes.now) }
 {

@@ -2,7 +2,7 @@ ghost use Rattle.std.specs.Prelude.{◌≡◌, ◌+◌, ◌-◌, ◌<◌, ◌≤
 ghost use Rattle.std.specs.Prelude.{IfSome, OnOk, ℕ, false};
 ghost use Rattle.ep_ast.specs.Cut as cut;
 ghost use Rattle.ep_lexer.specs.Step as step;
-ghost use Rattle.ep_lexer.specs.Tokens.{view, view_at, view_all};
+ghost use Rattle.ep_lexer.specs.Tokens.{view, at_view, all_view};
 ghost use Rattle.ep_ast.specs.Token.{Tok};
 ghost use Rattle.ep_ast.specs.Refusal.{IfRefused};
 ghost use Rattle.ep_ast.specs.declared.refusals.Refusal.{Refusal};
@@ -18,17 +18,17 @@ use std::alloc::{AllocError, Global};
 
 /// Where the reading stands: the line, whether nothing stands before it on its line, and the conditional round it.
 #[derive(Clone, Copy, Debug)]
-pub struct Place {
+pub struct Position {
     pub line: u32,
     pub fresh: bool,
     pub arm: Open,
 }
 
-/// A piece that was read: its token, where it has one, the place behind it and what comes after it.
+/// A piece that was read: its token, where it has one, the position behind it and what comes after it.
 #[derive(Debug, Drop)]
 pub struct Step<'a> {
     pub token: Option<Token>,
-    pub place: Place,
+    pub position: Position,
     pub rest: &'a [u8],
 }
 
@@ -38,7 +38,7 @@ fn named(
     line: u32,
     text: &[u8],
 ) -> Result<TokenKind, Halt>
-    ensures { step.Gives (λ k. view_at line k) result (step.token_of line text.now
+    ensures { step.Refines (λ k. at_view line k) result (step.token_of line text.now
         (cut.sense (step.constants definitions.now) text.now)) }
 {
     if let Some(word) = accepted(text) {
@@ -48,7 +48,7 @@ fn named(
         return Err(Halt::Refused(Refusal {
             kind: RefusalKind::ReservedWord,
             line,
-            word,
+            word: Some(word),
         }));
     }
     if let Some(number) = definitions.get(text) {
@@ -57,11 +57,11 @@ fn named(
     Ok(TokenKind::Name(Vec::from_slice(alloc, text)?))
 }
 
-/// The place behind something that ends on this line.
-fn behind(line: u32, arm: Open) -> Place
+/// The position behind something that ends on this line.
+fn behind(line: u32, arm: Open) -> Position
     ensures { result ≡ record { line = line; fresh = false; arm = arm } }
 {
-    Place {
+    Position {
         line,
         fresh: false,
         arm,
@@ -70,7 +70,7 @@ fn behind(line: u32, arm: Open) -> Place
 
 /// The token of an `#if` of this order.
 fn opening(order: NamedOrder) -> TokenKind
-    ensures { (l : ℕ) → view_at l result ≡ cut.order_token order l }
+    ensures { (l : ℕ) → at_view l result ≡ cut.order_token order l }
 {
     match order {
         NamedOrder::Little => TokenKind::IfLittle,
@@ -81,23 +81,23 @@ fn opening(order: NamedOrder) -> TokenKind
 /// What a directive leaves that ends on this line and whose `#` stands on line `hash`.
 fn apply(
     alloc: Global,
-    place: Place,
+    position: Position,
     definitions: &mut Definitions,
     hash: u32,
     effect: Effect,
     line: u32,
-) -> Result<(Option<Token>, Place), AllocError>
-    requires { step.IsNew (step.constants definitions.old) (step.view_effect effect) }
-    ensures value { IfOk result (λ p. (step.view_token p.0, step.view_place p.1 (step.constants definitions.new)) ≡
-        step.applied (step.view_place place (step.constants definitions.old)) hash (step.view_effect effect.entry)
+) -> Result<(Option<Token>, Position), AllocError>
+    requires { step.IsNew (step.constants definitions.old) (step.effect_view effect) }
+    ensures value { IfOk result (λ p. (step.token_view p.0, step.position_view p.1 (step.constants definitions.new)) ≡
+        step.applied (step.position_view position (step.constants definitions.old)) hash (step.effect_view effect.entry)
         line) }
     ensures same { IfOk result (λ p. p.1.line ≡ line) }
 {
     let (what, arm) = match effect {
-        Effect::Nothing => (None, place.arm),
+        Effect::Nothing => (None, position.arm),
         Effect::Defines(name, number) => {
             definitions.add(alloc, name, number)?;
-            (None, place.arm)
+            (None, position.arm)
         }
         Effect::Opens(order) => (Some(opening(order)), Open::FirstArm(hash)),
         Effect::Turns(from) => (Some(TokenKind::Other), Open::SecondArm(from)),
@@ -108,15 +108,15 @@ fn apply(
 }
 
 /// The end of a line, or of the source.
-fn line_end<'a>(place: Place, line: u32, bytes: &'a [u8]) -> Result<Option<Step<'a>>, Refusal>
+fn line_end<'a>(position: Position, line: u32, bytes: &'a [u8]) -> Result<Option<Step<'a>>, Refusal>
     requires { line + length bytes.now < 2 ^ 32 }
-    ensures value { (cs : cut.Constants) → step.shown (step.view_step cs) result ≡ step.line_ended
-        (step.view_place place cs) line bytes.now }
-    ensures within { IfOk result (λ o. IfSome o (λ s. s.place.line + length s.rest.now ≤ line + length bytes.now)) }
+    ensures value { (cs : cut.Constants) → step.shown (step.step_view cs) result ≡ step.line_ended
+        (step.position_view position cs) line bytes.now }
+    ensures within { IfOk result (λ o. IfSome o (λ s. s.position.line + length s.rest.now ≤ line + length bytes.now)) }
     ensures shorter { IfOk result (λ o. IfSome o (λ s. length s.rest.now < length bytes.now)) }
 {
     if bytes.is_empty() {
-        return match place.arm {
+        return match position.arm {
             Open::Outside => Ok(None),
             Open::FirstArm(from) | Open::SecondArm(from) => Err(refusal(
                 RefusalKind::Conditional,
@@ -126,10 +126,10 @@ fn line_end<'a>(place: Place, line: u32, bytes: &'a [u8]) -> Result<Option<Step<
     }
     Ok(Some(Step {
         token: None,
-        place: Place {
+        position: Position {
             line: line + 1,
             fresh: true,
-            arm: place.arm,
+            arm: position.arm,
         },
         rest: after(bytes, 1),
     }))
@@ -138,25 +138,25 @@ fn line_end<'a>(place: Place, line: u32, bytes: &'a [u8]) -> Result<Option<Step<
 /// Behind a `#` on this line.
 fn directive<'a>(
     alloc: Global,
-    place: Place,
+    position: Position,
     definitions: &mut Definitions,
     hash: u32,
     bytes: &'a [u8],
 ) -> Result<Option<Step<'a>>, Halt>
     requires { hash + length bytes.now < 2 ^ 32 }
-    ensures value { step.Gives (step.view_step (step.constants definitions.new)) result
-        (step.hash_on (step.view_place place (step.constants definitions.old)) hash bytes.now) }
-    ensures within { IfOk result (λ o. IfSome o (λ s. s.place.line + length s.rest.now ≤ hash + length bytes.now)) }
+    ensures value { step.Refines (step.step_view (step.constants definitions.new)) result
+        (step.hash_on (step.position_view position (step.constants definitions.old)) hash bytes.now) }
+    ensures within { IfOk result (λ o. IfSome o (λ s. s.position.line + length s.rest.now ≤ hash + length bytes.now)) }
     ensures shorter { IfOk result (λ o. IfSome o (λ s. length s.rest.now ≤ length bytes.now)) }
 {
-    if !place.fresh {
+    if !position.fresh {
         return Err(Halt::Refused(refusal(RefusalKind::Byte, hash)));
     }
-    let read = directive_at(place.arm, definitions, hash, bytes)?;
-    let (token, behind) = apply(alloc, place, definitions, hash, read.effect, read.line)?;
+    let read = directive_at(position.arm, definitions, hash, bytes)?;
+    let (token, behind) = apply(alloc, position, definitions, hash, read.effect, read.line)?;
     Ok(Some(Step {
         token,
-        place: behind,
+        position: behind,
         rest: read.rest,
     }))
 }
@@ -165,21 +165,21 @@ fn directive<'a>(
 #[tactic(auto, unfolding(crate::specs::Step::step))]
 fn read_piece<'a>(
     alloc: Global,
-    place: Place,
+    position: Position,
     definitions: &mut Definitions,
     bytes: &'a [u8],
 ) -> Result<Option<Step<'a>>, Halt>
-    requires { place.line + length bytes.now < 2 ^ 32 }
-    ensures value { step.Gives (step.view_step (step.constants definitions.new)) result
-        (step.step (step.view_place place (step.constants definitions.old)) bytes.now) }
-    ensures within { IfOk result (λ o. IfSome o (λ s. s.place.line + length s.rest.now ≤ place.line + length
+    requires { position.line + length bytes.now < 2 ^ 32 }
+    ensures value { step.Refines (step.step_view (step.constants definitions.new)) result
+        (step.step (step.position_view position (step.constants definitions.old)) bytes.now) }
+    ensures within { IfOk result (λ o. IfSome o (λ s. s.position.line + length s.rest.now ≤ position.line + length
         bytes.now)) }
     ensures shorter { IfOk result (λ o. IfSome o (λ s. length s.rest.now < length bytes.now)) }
 {
-    let next = next_thing(place.line, bytes)?;
+    let next = next_thing(position.line, bytes)?;
     let what = match next.thing {
-        Thing::Over => return Ok(line_end(place, next.line, next.rest)?),
-        Thing::Hash => return directive(alloc, place, definitions, next.line, next.rest),
+        Thing::Over => return Ok(line_end(position, next.line, next.rest)?),
+        Thing::Hash => return directive(alloc, position, definitions, next.line, next.rest),
         Thing::Quote => return Err(Halt::Refused(refusal(RefusalKind::StringLiteral, next.line))),
         Thing::Name(text) => named(alloc, definitions, next.line, text)?,
         Thing::Number(number) => TokenKind::Number(number),
@@ -190,13 +190,13 @@ fn read_piece<'a>(
             line: next.line,
             what,
         }),
-        place: behind(next.line, place.arm),
+        position: behind(next.line, position.arm),
         rest: next.rest,
     }))
 }
 
 fn keep(list: &mut Vec<Token>, token: Option<Token>) -> Result<(), AllocError>
-    ensures { OnOk result (map view list.new.items ≡ map view list.old.items ++ step.view_token token) }
+    ensures { OnOk result (map view list.new.items ≡ map view list.old.items ++ step.token_view token) }
 {
     match token {
         None => Ok(()),
@@ -210,8 +210,8 @@ fn keep(list: &mut Vec<Token>, token: Option<Token>) -> Result<(), AllocError>
 /// The tokens of a source, or the first of the refusals 1 to 8.
 pub fn lex(alloc: Global, source: &[u8]) -> Result<Tokens, Halt>
     requires { length source.now < 2 ^ 24 }
-    ensures spells { IfOk result (λ tokens. cut.Spells source.now (view_all tokens)) }
-    ensures only { IfOk result (λ tokens. (ts : List Tok) → cut.Spells source.now ts → ts ≡ view_all tokens) }
+    ensures spells { IfOk result (λ tokens. cut.Spells source.now (all_view tokens)) }
+    ensures only { IfOk result (λ tokens. (ts : List Tok) → cut.Spells source.now ts → ts ≡ all_view tokens) }
     ensures faultless { IfOk result (λ _. (r : Refusal) → cut.Offends cut.start source.now r → ⊥) }
     ensures offends { IfErr result (λ e. IfRefused e (λ r. cut.Offends cut.start source.now r)) }
     ensures first { IfErr result (λ e. IfRefused e (λ r. (q : Refusal) → cut.Offends cut.start source.now q → q ≡ r)) }
@@ -219,15 +219,15 @@ pub fn lex(alloc: Global, source: &[u8]) -> Result<Tokens, Halt>
 {
     let mut list = Vec::new(alloc);
     let mut definitions = Definitions::new(alloc);
-    let mut place = Place {
+    let mut position = Position {
         line: 1,
         fresh: true,
         arm: Open::Outside,
     };
     let mut rest = source;
-    'pieces: while let Some(step) = read_piece(alloc, place, &mut definitions, rest)? {
+    'pieces: while let Some(step) = read_piece(alloc, position, &mut definitions, rest)? {
         keep(&mut list, step.token)?;
-        place = step.place;
+        position = step.position;
         rest = step.rest;
     }
     Ok(Tokens { list })

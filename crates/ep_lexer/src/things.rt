@@ -7,7 +7,7 @@ ghost use Rattle.ep_lexer.specs.Step as step;
 use crate::bytes::{after, is_digit, is_letter, skip, word_len};
 use crate::numbers::{character, literal, number_len};
 use crate::words::mark_at;
-use ep_ast::{Literal, Refusal, RefusalKind};
+use ep_ast::{Literal, Mark, Refusal, RefusalKind};
 
 /// What stands next on a line: its end or the end of the source, a `#`, a `"`, or a token.
 #[derive(Clone, Copy, Debug)]
@@ -17,7 +17,7 @@ pub enum Thing<'a> {
     Quote,
     Name(&'a [u8]),
     Number(Literal),
-    Mark(u8),
+    Mark(Mark),
 }
 
 /// A thing, its line and what comes after it.
@@ -37,7 +37,7 @@ pub fn refusal(kind: RefusalKind, line: u32) -> Refusal
 
 fn name_at<'a>(line: u32, bytes: &'a [u8]) -> Next<'a>
     requires { IsTrue (spec.is_letter (slice_index bytes.now 0)) }
-    ensures value { step.view_next result ≡ (line, spec.name (spec.word_text bytes.now), spec.after_word bytes.now) }
+    ensures value { step.next_view result ≡ (line, spec.name (spec.word_text bytes.now), spec.after_word bytes.now) }
     ensures shorter { length result.rest.now + step.weight result.thing ≤ length bytes.now }
 {
     let (text, rest) = bytes.split_at(word_len(bytes));
@@ -50,7 +50,7 @@ fn name_at<'a>(line: u32, bytes: &'a [u8]) -> Next<'a>
 
 fn number_at<'a>(line: u32, bytes: &'a [u8]) -> Result<Next<'a>, Refusal>
     requires { IsTrue (spec.is_digit (slice_index bytes.now 0)) }
-    ensures value { step.shown step.view_next result ≡ step.number_found line
+    ensures value { step.shown step.next_view result ≡ step.number_found line
         (spec.literal (spec.number_text bytes.now)) (spec.after_number bytes.now) }
     ensures shorter { IfOk result (λ n. length n.rest.now + step.weight n.thing ≤ length bytes.now) }
     ensures same { IfOk result (λ n. n.line ≡ line) }
@@ -68,7 +68,7 @@ fn number_at<'a>(line: u32, bytes: &'a [u8]) -> Result<Next<'a>, Refusal>
 
 /// Behind `'`.
 fn character_at<'a>(line: u32, bytes: &'a [u8]) -> Result<Next<'a>, Refusal>
-    ensures value { step.shown step.view_next result ≡ step.character_found line (spec.character bytes.now) bytes.now }
+    ensures value { step.shown step.next_view result ≡ step.character_found line (spec.character bytes.now) bytes.now }
     ensures shorter { IfOk result (λ n. length n.rest.now + step.weight n.thing ≤ length bytes.now + 1) }
     ensures same { IfOk result (λ n. n.line ≡ line) }
 {
@@ -88,7 +88,7 @@ fn character_at<'a>(line: u32, bytes: &'a [u8]) -> Result<Next<'a>, Refusal>
 }
 
 fn sign_at<'a>(line: u32, bytes: &'a [u8]) -> Result<Next<'a>, Refusal>
-    ensures value { step.shown step.view_next result ≡ step.mark_found line (spec.mark_at bytes.now) bytes.now }
+    ensures value { step.shown step.next_view result ≡ step.mark_found line (spec.mark_at bytes.now) bytes.now }
     ensures shorter { IfOk result (λ n. length n.rest.now + step.weight n.thing ≤ length bytes.now) }
     ensures same { IfOk result (λ n. n.line ≡ line) }
 {
@@ -104,7 +104,7 @@ fn sign_at<'a>(line: u32, bytes: &'a [u8]) -> Result<Next<'a>, Refusal>
 
 #[tactic(auto, unfolding(crate::specs::Step::thing_at))]
 pub fn thing_at<'a>(line: u32, bytes: &'a [u8]) -> Result<Next<'a>, Refusal>
-    ensures value { step.shown step.view_next result ≡ step.thing_at line bytes.now }
+    ensures value { step.shown step.next_view result ≡ step.thing_at line bytes.now }
     ensures shorter { IfOk result (λ n. length n.rest.now + step.weight n.thing ≤ length bytes.now) }
     ensures same { IfOk result (λ n. n.line ≡ line) }
 {
@@ -149,7 +149,7 @@ pub fn thing_at<'a>(line: u32, bytes: &'a [u8]) -> Result<Next<'a>, Refusal>
 #[tactic(auto, unfolding(crate::specs::Step::next))]
 pub fn next_thing<'a>(line: u32, bytes: &'a [u8]) -> Result<Next<'a>, Refusal>
     requires { line + length bytes.now < 2 ^ 32 }
-    ensures value { step.shown step.view_next result ≡ step.next line bytes.now }
+    ensures value { step.shown step.next_view result ≡ step.next line bytes.now }
     ensures shorter { IfOk result (λ n. length n.rest.now + step.weight n.thing ≤ length bytes.now) }
     ensures within { IfOk result (λ n. n.line + length n.rest.now ≤ line + length bytes.now) }
 {

@@ -1,14 +1,12 @@
-use ep_ast::Literal;
+use ep_ast::{Literal, Mark, Word};
 
-/// A token. Words and marks are numbers from 1 in the lists of accepted words and of marks. The last four are
-/// directives:
-/// an `#if` of little or of big byte order, `#else` and `#endif`.
+/// A token. The last four are directives: an `#if` of little or of big byte order, `#else` and `#endif`.
 #[derive(Debug, Drop)]
 pub enum TokenKind {
-    Word(u8),
+    Word(Word),
     Name(Vec<u8>),
     Number(Literal),
-    Mark(u8),
+    Mark(Mark),
     IfLittle,
     IfBig,
     Other,

@@ -1,138 +1,136 @@
-ghost use Rattle.std.specs.Prelude.{◌≡◌, ◌-◌, ◌<◌, ◌≤◌, [], nat_eq, slice_index_or, length, IfSome};
-ghost use Rattle.std.specs.List.{position_from, starts_with};
+ghost use Rattle.std.specs.Prelude.{◌≡◌, ◌+◌, ◌<◌, ◌≤◌, Some, length, IfSome};
 ghost use Rattle.std.specs.Option.{option_map};
-ghost use Rattle.std.specs.Str.{bytes_eq};
-ghost use Rattle.ep_ast.specs.Token.{accepted_words, reserved_words, long_marks, short_marks, marks};
 ghost use Rattle.ep_ast.specs.Lexeme.{mark_at, mark_len};
+ghost use Rattle.ep_ast.specs.Mark.{mark_number, word_number};
+ghost use Rattle.ep_ast.specs.Reserved.{reserved_number};
 ghost use Rattle.ep_ast.specs.Cut as cut;
 
-fn accepted_word(at: u8) -> &'static [u8]
-    ensures { result.now ≡ slice_index_or accepted_words at [] }
+use ep_ast::{Mark, ReservedWord, Word};
+
+fn accepted_word(at: u8) -> Word
+    requires { at < 22 }
+    ensures { word_number result ≡ at + 1 }
 {
     match at {
-        0 => b"break",
-        1 => b"char",
-        2 => b"const",
-        3 => b"continue",
-        4 => b"do",
-        5 => b"else",
-        6 => b"for",
-        7 => b"if",
-        8 => b"inline",
-        9 => b"int",
-        10 => b"long",
-        11 => b"return",
-        12 => b"short",
-        13 => b"signed",
-        14 => b"sizeof",
-        15 => b"static",
-        16 => b"struct",
-        17 => b"typedef",
-        18 => b"union",
-        19 => b"unsigned",
-        20 => b"void",
-        21 => b"while",
-        _ => b"",
+        0 => Word::Break,
+        1 => Word::Char,
+        2 => Word::Const,
+        3 => Word::Continue,
+        4 => Word::Do,
+        5 => Word::Else,
+        6 => Word::For,
+        7 => Word::If,
+        8 => Word::Inline,
+        9 => Word::Int,
+        10 => Word::Long,
+        11 => Word::Return,
+        12 => Word::Short,
+        13 => Word::Signed,
+        14 => Word::Sizeof,
+        15 => Word::Static,
+        16 => Word::Struct,
+        17 => Word::Typedef,
+        18 => Word::Union,
+        19 => Word::Unsigned,
+        20 => Word::Void,
+        _ => Word::While,
     }
 }
 
-fn reserved_word(at: u8) -> &'static [u8]
-    ensures { result.now ≡ slice_index_or reserved_words at [] }
+fn reserved_word(at: u8) -> ReservedWord
+    requires { at < 22 }
+    ensures { reserved_number (Some result) ≡ at + 1 }
 {
     match at {
-        0 => b"auto",
-        1 => b"case",
-        2 => b"default",
-        3 => b"double",
-        4 => b"enum",
-        5 => b"extern",
-        6 => b"float",
-        7 => b"goto",
-        8 => b"register",
-        9 => b"restrict",
-        10 => b"switch",
-        11 => b"volatile",
-        12 => b"_Alignas",
-        13 => b"_Alignof",
-        14 => b"_Atomic",
-        15 => b"_Bool",
-        16 => b"_Complex",
-        17 => b"_Generic",
-        18 => b"_Imaginary",
-        19 => b"_Noreturn",
-        20 => b"_Static_assert",
-        21 => b"_Thread_local",
-        _ => b"",
+        0 => ReservedWord::Auto,
+        1 => ReservedWord::Case,
+        2 => ReservedWord::Default,
+        3 => ReservedWord::Double,
+        4 => ReservedWord::Enum,
+        5 => ReservedWord::Extern,
+        6 => ReservedWord::Float,
+        7 => ReservedWord::Goto,
+        8 => ReservedWord::Register,
+        9 => ReservedWord::Restrict,
+        10 => ReservedWord::Switch,
+        11 => ReservedWord::Volatile,
+        12 => ReservedWord::Alignas,
+        13 => ReservedWord::Alignof,
+        14 => ReservedWord::Atomic,
+        15 => ReservedWord::Bool,
+        16 => ReservedWord::Complex,
+        17 => ReservedWord::Generic,
+        18 => ReservedWord::Imaginary,
+        19 => ReservedWord::Noreturn,
+        20 => ReservedWord::StaticAssert,
+        _ => ReservedWord::ThreadLocal,
     }
 }
 
-fn long_mark(at: u8) -> &'static [u8]
-    ensures value { result.now ≡ slice_index_or long_marks at [] }
-    ensures some { at < 21 → 0 < length result.now }
+fn long_mark(at: u8) -> Mark
+    requires { at < 21 }
+    ensures { mark_number result ≡ at + 1 }
 {
     match at {
-        0 => b"<<=",
-        1 => b">>=",
-        2 => b"->",
-        3 => b"++",
-        4 => b"--",
-        5 => b"<<",
-        6 => b">>",
-        7 => b"<=",
-        8 => b">=",
-        9 => b"==",
-        10 => b"!=",
-        11 => b"&&",
-        12 => b"||",
-        13 => b"+=",
-        14 => b"-=",
-        15 => b"*=",
-        16 => b"/=",
-        17 => b"%=",
-        18 => b"&=",
-        19 => b"|=",
-        20 => b"^=",
-        _ => b"",
+        0 => Mark::LeftShiftEqual,
+        1 => Mark::RightShiftEqual,
+        2 => Mark::Arrow,
+        3 => Mark::PlusPlus,
+        4 => Mark::MinusMinus,
+        5 => Mark::LeftShift,
+        6 => Mark::RightShift,
+        7 => Mark::LessEqual,
+        8 => Mark::GreaterEqual,
+        9 => Mark::EqualEqual,
+        10 => Mark::NotEqual,
+        11 => Mark::AndAnd,
+        12 => Mark::BarBar,
+        13 => Mark::PlusEqual,
+        14 => Mark::MinusEqual,
+        15 => Mark::StarEqual,
+        16 => Mark::SlashEqual,
+        17 => Mark::PercentEqual,
+        18 => Mark::AmpersandEqual,
+        19 => Mark::BarEqual,
+        _ => Mark::CaretEqual,
     }
 }
 
-fn short_mark(at: u8) -> &'static [u8]
-    ensures value { result.now ≡ slice_index_or short_marks at [] }
-    ensures some { at < 24 → 0 < length result.now }
+fn short_mark(at: u8) -> Mark
+    requires { at < 24 }
+    ensures { mark_number result ≡ at + 22 }
 {
     match at {
-        0 => b"(",
-        1 => b")",
-        2 => b"[",
-        3 => b"]",
-        4 => b"{",
-        5 => b"}",
-        6 => b".",
-        7 => b"&",
-        8 => b"*",
-        9 => b"+",
-        10 => b"-",
-        11 => b"~",
-        12 => b"!",
-        13 => b"/",
-        14 => b"%",
-        15 => b"<",
-        16 => b">",
-        17 => b"^",
-        18 => b"|",
-        19 => b"?",
-        20 => b":",
-        21 => b";",
-        22 => b"=",
-        23 => b",",
-        _ => b"",
+        0 => Mark::LeftParen,
+        1 => Mark::RightParen,
+        2 => Mark::LeftBracket,
+        3 => Mark::RightBracket,
+        4 => Mark::LeftBrace,
+        5 => Mark::RightBrace,
+        6 => Mark::Dot,
+        7 => Mark::Ampersand,
+        8 => Mark::Star,
+        9 => Mark::Plus,
+        10 => Mark::Minus,
+        11 => Mark::Tilde,
+        12 => Mark::Exclamation,
+        13 => Mark::Slash,
+        14 => Mark::Percent,
+        15 => Mark::Less,
+        16 => Mark::Greater,
+        17 => Mark::Caret,
+        18 => Mark::Bar,
+        19 => Mark::Question,
+        20 => Mark::Colon,
+        21 => Mark::Semicolon,
+        22 => Mark::Equal,
+        _ => Mark::Comma,
     }
 }
 
-#[tactic(auto, using(crate::proofs::Numbered::of_two))]
-fn mark_text(at: u8) -> &'static [u8]
-    ensures value { result.now ≡ slice_index_or marks at [] }
-    ensures some { at < 45 → 0 < length result.now }
+fn mark_of(at: u8) -> Mark
+    requires { at < 45 }
+    ensures { mark_number result ≡ at + 1 }
 {
     if at < 21 {
         long_mark(at)
@@ -141,43 +139,46 @@ fn mark_text(at: u8) -> &'static [u8]
     }
 }
 
-/// An accepted word by its number from 1.
+/// The accepted word that a text is.
 #[tactic(auto, using(crate::proofs::Numbered::numbered))]
-pub fn accepted(text: &[u8]) -> Option<u8>
-    ensures { result ≡ cut.accepted text.now }
+pub fn accepted(text: &[u8]) -> Option<Word>
+    ensures { option_map word_number result ≡ cut.accepted text.now }
 {
     for at in 0..22u8 {
-        if text == accepted_word(at) {
-            return Some(at + 1);
+        let word = accepted_word(at);
+        if text == word.text() {
+            return Some(word);
         }
     }
     None
 }
 
-/// A reserved word by its number from 1.
+/// The reserved word that a text is.
 #[tactic(auto, using(crate::proofs::Numbered::numbered))]
-pub fn reserved(text: &[u8]) -> Option<u8>
-    ensures { result ≡ cut.reserved text.now }
+pub fn reserved(text: &[u8]) -> Option<ReservedWord>
+    ensures { option_map (λ w. reserved_number (Some w)) result ≡ cut.reserved text.now }
 {
     for at in 0..22u8 {
-        if text == reserved_word(at) {
-            return Some(at + 1);
+        let word = reserved_word(at);
+        if text == word.text() {
+            return Some(word);
         }
     }
     None
 }
 
-/// The number of the mark that stands there, and its length.
+/// The mark that stands there, and its length.
 #[tactic(auto, using(crate::proofs::Numbered::numbered))]
-pub fn mark_at(bytes: &[u8]) -> Option<(u8, usize)>
-    ensures value { option_map (λ p. p.0) result ≡ mark_at bytes.now }
-    ensures len { IfSome result (λ p. p.1 ≡ mark_len p.0) }
+pub fn mark_at(bytes: &[u8]) -> Option<(Mark, usize)>
+    ensures value { option_map (λ p. mark_number p.0) result ≡ mark_at bytes.now }
+    ensures len { IfSome result (λ p. p.1 ≡ mark_len (mark_number p.0)) }
     ensures within { IfSome result (λ p. (0 < p.1) × (p.1 ≤ length bytes.now)) }
 {
     for at in 0..45u8 {
-        let text = mark_text(at);
+        let mark = mark_of(at);
+        let text = mark.text();
         if bytes.starts_with(text) {
-            return Some((at + 1, text.len()));
+            return Some((mark, text.len()));
         }
     }
     None

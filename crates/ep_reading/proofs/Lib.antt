@@ -3,3 +3,4 @@ pub mod FirstLemmas
 pub mod PassLemmas
 pub mod MeasuredLemmas
 pub mod SequenceLemmas
+pub mod BracketLemmas

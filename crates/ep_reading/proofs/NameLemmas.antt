@@ -1,12 +1,12 @@
 -- The names that are types after one more.
 use Rattle.std.proofs.Common.{◌≡◌, ℕ, Bool, true, false, cond, List, [], ◌∷◌, ◌++◌, refl, sym, ap, subst, ◌∙◌}
+use Rattle.ep_int.proofs.Basics.{or_false-right, or-assoc, bytes_eq-equal}
 use Rattle.std.specs.Prelude.{◌||◌}
 use Rattle.std.specs.Global.{Vec}
 use Rattle.std.specs.List.{list_any}
 use Rattle.std.specs.Str.{bytes_eq}
 use Rattle.std.proofs.Math.Bool.{or-false}
 use Rattle.ep_ast.specs.ProgramGrammar.{with_name}
-use Rattle.ep_lexer.proofs.Cases.{same_bytes}
 use Rattle.indexmap.specs.IndexSet.{insert_key}
 use Rattle.ep_reading.specs.Names.{with_names}
 
@@ -17,25 +17,21 @@ bytes_swap_at : (t u : List ℕ) (b c : Bool) → bytes_eq t u ≡ b → bytes_e
 bytes_swap_at t u true true e f = refl
 bytes_swap_at t u false false e f = refl
 bytes_swap_at t u true false e f =
-    let s : t ≡ u = same_bytes t u e in
+    let s : t ≡ u = bytes_eq-equal t u e in
     sym e ∙ ap (λ (x : List ℕ). bytes_eq x u) s ∙ ap (λ (x : List ℕ). bytes_eq u x) (sym s) ∙ f
 bytes_swap_at t u false true e f =
-    let s : u ≡ t = same_bytes u t f in
+    let s : u ≡ t = bytes_eq-equal u t f in
     sym e ∙ ap (λ (x : List ℕ). bytes_eq x u) (sym s) ∙ ap (λ (x : List ℕ). bytes_eq u x) s ∙ f
 
 bytes_swap : (t u : List ℕ) → bytes_eq t u ≡ bytes_eq u t
 bytes_swap t u = bytes_swap_at t u (bytes_eq t u) (bytes_eq u t) refl refl
-
-or_joins : (a b c : Bool) → ((a || b) || c) ≡ (a || (b || c))
-or_joins true b c = refl
-or_joins false b c = refl
 
 -- a name is a type if it was one before, or is among those that were added
 pub is_among : (N : List ℕ → Bool) (ks : List (Vec ℕ)) (t : List ℕ) → with_names N ks t ≡ (N t || has t ks)
 is_among N [] t = sym (or-false (N t))
 is_among N (k ∷ ks) t =
     is_among (with_name N k.items) ks t ∙ ap (λ (b : Bool). (N t || b) || has t ks) (bytes_swap k.items t)
-    ∙ or_joins (N t) (bytes_eq t k.items) (has t ks)
+    ∙ or-assoc (N t) (bytes_eq t k.items) (has t ks)
 
 -- the last that is added
 snoc : (N : List ℕ → Bool) (ks : List (Vec ℕ)) (k : Vec ℕ)
@@ -50,7 +46,7 @@ or_swap false b c = refl
 
 or_at : (b : Bool) (t k : List ℕ) (ks : List (Vec ℕ)) → has k ks ≡ true → bytes_eq t k ≡ b → has t ks ≡ (b || has t ks)
 or_at false t k ks h e = refl
-or_at true t k ks h e = subst (λ (u : List ℕ). has u ks ≡ true) (sym (same_bytes t k e)) h
+or_at true t k ks h e = subst (λ (u : List ℕ). has u ks ≡ true) (sym (bytes_eq-equal t k e)) h
 
 last : (t : List ℕ) (k : Vec ℕ) (ks : List (Vec ℕ)) → has t (ks ++ k ∷ []) ≡ (bytes_eq t k.items || has t ks)
 last t k [] = refl
@@ -72,17 +68,13 @@ one_more N t name k ks new e h =
     ∙ ap (λ (n : List ℕ). bytes_eq t n || (N t || has t ks)) e
     ∙ ap (λ (b : Bool). bytes_eq t name || b) (sym (is_among N ks t))
 
-no_part : (a b : Bool) → (a || b) ≡ false → b ≡ false
-no_part true b e = absurd cc
-no_part false b e = e
-
 -- a name that was none is added behind the others
 pub one_added : (N : List ℕ → Bool) (name : List ℕ) (k : Vec ℕ) (ks new : List (Vec ℕ)) → k.items ≡ name
     → new ≡ insert_key (λ x y. bytes_eq x.items y.items) ks k
     → with_names N ks name ≡ false → with_names N new ≡ with_name (with_names N ks) name
 one_added N name k ks new e h out =
     let none : has k.items ks ≡ false = ap (λ (n : List ℕ). has n ks) e
-    ∙ no_part (N name) (has name ks) (sym (is_among N ks name) ∙ out) in
+    ∙ or_false-right (N name) (has name ks) (sym (is_among N ks name) ∙ out) in
     ap (λ (xs : List (Vec ℕ)). with_names N xs) (h ∙ ap (λ (b : Bool). cond b ks (ks ++ k ∷ [])) none)
     ∙ snoc N ks k ∙ ap (λ (n : List ℕ). with_name (with_names N ks) n) e
 

@@ -7,7 +7,7 @@ use Rattle.ep_ast.specs.Token.{Tok}
 use Rattle.ep_ast.specs.Grammar.{Rule}
 use Rattle.ep_ast.specs.Reading.{Refuses, Takes, TakesNone, Halts, Stops}
 use Rattle.ep_reading.specs.declared.reader.Part.{Part}
-use Rattle.ep_reading.specs.Answer.{after, Gives, Clear, Fails, GivesChecked}
+use Rattle.ep_reading.specs.Answer.{after, Parses, Clear, Fails, ParsesChecked}
 
 pub passes : (N : List ℕ → Bool) (r s : Rule) (ys xs : List Tok) (e : Halt)
     → (Refuses N r ys → Refuses N s xs) → Halts N r ys e → Halts N s xs e
@@ -54,7 +54,7 @@ fails_fail P B Q C ys xs halts.Memory g k w h = tt
 
 pub gives_checked : {K T : Type 0} (Shows : K → T → Type 0) (P : List Tok → List Tok → T → Type 0)
     (B : List Tok → ℕ → Type 0) (xs : List Tok) (r : Result (Part K) Halt)
-    → Clear B xs → Gives Shows P xs r → GivesChecked Shows P B xs r
+    → Clear B xs → Parses Shows P xs r → ParsesChecked Shows P B xs r
 gives_checked Shows P B xs (Ok p) k h = (h, k)
 gives_checked Shows P B xs (Err e) k h = stops_fail P P B xs xs e (λ n. n) (λ n. k) h
 
@@ -65,7 +65,7 @@ pub checked_checked : {K S T : Type 0} (Shows : K → S → Type 0) (Other : K �
     (r : Result (Part K) Halt)
     → ((k : K) (v : S) → Shows k v → Other k (f v)) → ((v : S) (zs : List Tok) → Takes P ys v zs → Takes Q xs (f v) zs)
     → (TakesNone P ys → TakesNone Q xs) → (Clear B ys → Clear C xs) → ((l : ℕ) → B ys l → C xs l)
-    → GivesChecked Shows P B ys r → GivesChecked Other Q C xs r
+    → ParsesChecked Shows P B ys r → ParsesChecked Other Q C xs r
 checked_checked Shows Other P B Q C ys xs f (Ok p) s t n c w h = (
   record { value = f h.0.value; shows = s p.value h.0.value h.0.shows; takes = t h.0.value (after p) h.0.takes },
   c h.1,

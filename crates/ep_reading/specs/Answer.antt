@@ -30,16 +30,16 @@ pub record IsTaken {K T : Type 0} (Shows : K → T → Type 0) (P : List Tok →
   pub shows : Shows k value
   pub takes : Takes P xs value ys
 
-abbrev pub Gives : {K T : Type 0} → (K → T → Type 0) → (List Tok → List Tok → T → Type 0) → List Tok
+abbrev pub Parses : {K T : Type 0} → (K → T → Type 0) → (List Tok → List Tok → T → Type 0) → List Tok
     → Result (Part K) Halt → Type 0
-Gives Shows P xs (Ok p) = IsTaken Shows P xs p.value (after p)
-Gives Shows P xs (Err e) = Stops P xs e
+Parses Shows P xs (Ok p) = IsTaken Shows P xs p.value (after p)
+Parses Shows P xs (Err e) = Stops P xs e
 
 -- the same where all of it is kept
-abbrev pub GivesAs : {K T : Type 0} → (K → T) → (List Tok → List Tok → T → Type 0) → List Tok → Result (Part K) Halt
+abbrev pub ParsesAs : {K T : Type 0} → (K → T) → (List Tok → List Tok → T → Type 0) → List Tok → Result (Part K) Halt
     → Type 0
-GivesAs shape P xs (Ok p) = Takes P xs (shape p.value) (after p)
-GivesAs shape P xs (Err e) = Stops P xs e
+ParsesAs shape P xs (Ok p) = Takes P xs (shape p.value) (after p)
+ParsesAs shape P xs (Err e) = Stops P xs e
 
 -- ---- where bit-fields may stand, which are refused by themselves
 
@@ -58,10 +58,10 @@ Fails P B xs (halts.Refused f) = (TakesNone P xs × Clear B xs × IsSyntax f) �
 Fails P B xs halts.Memory = Unit {0}
 
 -- a front is read, and no bit-field stands in it
-abbrev pub GivesChecked : {K T : Type 0} → (K → T → Type 0) → (List Tok → List Tok → T → Type 0)
+abbrev pub ParsesChecked : {K T : Type 0} → (K → T → Type 0) → (List Tok → List Tok → T → Type 0)
     → (List Tok → (line : ℕ) → Type 0) → List Tok → Result (Part K) Halt → Type 0
-GivesChecked Shows P B xs (Ok p) = IsTaken Shows P xs p.value (after p) × Clear B xs
-GivesChecked Shows P B xs (Err e) = Fails P B xs e
+ParsesChecked Shows P B xs (Ok p) = IsTaken Shows P xs p.value (after p) × Clear B xs
+ParsesChecked Shows P B xs (Err e) = Fails P B xs e
 
 -- ---- what ends where no expression goes on: values, and declarators with a value
 
@@ -85,7 +85,7 @@ pub record IsEnded {K T : Type 0} (Shows : K → T → Type 0) (P : List Tok →
   pub shows : Shows k value
   pub takes : TakesEnded P xs value ys
 
-abbrev pub GivesEnded : {K T : Type 0} → (K → T → Type 0) → (List Tok → List Tok → T → Type 0) → List Tok
+abbrev pub ParsesEnded : {K T : Type 0} → (K → T → Type 0) → (List Tok → List Tok → T → Type 0) → List Tok
     → Result (Part K) Halt → Type 0
-GivesEnded Shows P xs (Ok p) = IsEnded Shows P xs p.value (after p)
-GivesEnded Shows P xs (Err e) = StopsEnded P xs e
+ParsesEnded Shows P xs (Ok p) = IsEnded Shows P xs p.value (after p)
+ParsesEnded Shows P xs (Err e) = StopsEnded P xs e

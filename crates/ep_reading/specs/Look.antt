@@ -3,6 +3,7 @@ use Rattle.std.specs.Prelude.{◌≡◌, ℕ, ◌<◌, Bool, true, false, List, 
 use Rattle.std.specs.Borrow.{Bor}
 use Rattle.ep_ast.specs.declared.orders.NamedOrder.{NamedOrder}
 use Rattle.ep_ast.specs.Cut.{order_token}
+use Rattle.ep_ast.specs.Mark.{mark_number, word_number}
 use Rattle.ep_ast.specs.Token.{Tok, word, name, number, mark, if_little, if_big, other, end_if}
 use Rattle.ep_lexer.specs.declared.tokens.Token.{Token}
 use Rattle.ep_lexer.specs.Tokens.{view}
@@ -42,10 +43,10 @@ NoToken (mark l c ∷ ts) = ⊥
 NoToken _ = Unit {0}
 
 abbrev pub IsHead : Head → List Tok → Type 0
-IsHead (heads.Word l c r) ts = ts ≡ word l c ∷ map view r.now
+IsHead (heads.Word l w r) ts = ts ≡ word l (word_number w) ∷ map view r.now
 IsHead (heads.Name l text r) ts = ts ≡ name l text.now ∷ map view r.now
 IsHead (heads.Number l n r) ts = ts ≡ number l n ∷ map view r.now
-IsHead (heads.Mark l c r) ts = ts ≡ mark l c ∷ map view r.now
+IsHead (heads.Mark l m r) ts = ts ≡ mark l (mark_number m) ∷ map view r.now
 IsHead heads.Other ts = NoToken ts
 
 -- the number of a mark

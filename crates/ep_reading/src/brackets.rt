@@ -1,52 +1,55 @@
 //! How many brackets and conditionals are open.
 
 ghost use Rattle.std.specs.Prelude.{◌≡◌, ◌≤◌, map};
+ghost use Rattle.std.specs.Option.{option_map};
+ghost use Rattle.ep_ast.specs.Mark.{mark_number};
 ghost use Rattle.ep_ast.specs.Nesting as nesting;
 ghost use Rattle.ep_ast.specs.Depth as depth;
 ghost use Rattle.ep_lexer.specs.Tokens.{view};
 ghost use Rattle.ep_reading.specs.Look.{code_at};
 
-use ep_ast::marks::{
-    COMMA, LEFT_BRACE, LEFT_BRACKET, LEFT_PAREN, RIGHT_BRACE, RIGHT_BRACKET, RIGHT_PAREN, SEMICOLON,
-};
+use ep_ast::Mark;
 use ep_lexer::{Token, TokenKind};
 
-fn opens(code: u8) -> bool
-    ensures { result ≡ nesting.opens code }
+fn opens(mark: Mark) -> bool
+    ensures { result ≡ nesting.opens (mark_number mark) }
 {
-    code == LEFT_PAREN || code == LEFT_BRACKET || code == LEFT_BRACE
+    matches!(mark, Mark::LeftParen | Mark::LeftBracket | Mark::LeftBrace)
 }
 
-fn closes(code: u8) -> bool
-    ensures { result ≡ nesting.closes code }
+fn closes(mark: Mark) -> bool
+    ensures { result ≡ nesting.closes (mark_number mark) }
 {
-    code == RIGHT_PAREN || code == RIGHT_BRACKET || code == RIGHT_BRACE
+    matches!(
+        mark,
+        Mark::RightParen | Mark::RightBracket | Mark::RightBrace
+    )
 }
 
-fn counted(count: u32, code: u8) -> u32
+fn counted(count: u32, mark: Mark) -> u32
     requires { count ≤ 64 }
-    ensures { result ≡ nesting.counted count code }
+    ensures { result ≡ nesting.counted count (mark_number mark) }
 {
-    if opens(code) {
+    if opens(mark) {
         count + 1
-    } else if closes(code) {
+    } else if closes(mark) {
         count.saturating_sub(1)
     } else {
         count
     }
 }
 
-fn stops(count: u32, code: u8) -> bool
-    ensures { result ≡ nesting.stops count code }
+fn stops(count: u32, mark: Mark) -> bool
+    ensures { result ≡ nesting.stops count (mark_number mark) }
 {
-    count == 0 && (closes(code) || code == COMMA || code == SEMICOLON)
+    count == 0 && (closes(mark) || mark == Mark::Comma || mark == Mark::Semicolon)
 }
 
-fn code_of(token: &Token) -> Option<u8>
-    ensures { result ≡ code_at (view token.now) }
+fn mark_of(token: &Token) -> Option<Mark>
+    ensures { option_map mark_number result ≡ code_at (view token.now) }
 {
     match token.what {
-        TokenKind::Mark(code) => Some(code),
+        TokenKind::Mark(mark) => Some(mark),
         _ => None,
     }
 }
@@ -57,12 +60,12 @@ pub fn opens_past(tokens: &[Token]) -> Option<u32>
 {
     let mut count = 0;
     for token in tokens {
-        if let Some(code) = code_of(token) {
-            let next = counted(count, code);
+        if let Some(mark) = mark_of(token) {
+            let next = counted(count, mark);
             if next > 64 {
                 return Some(token.line);
             }
-            if stops(count, code) {
+            if stops(count, mark) {
                 return None;
             }
             count = next;
@@ -77,7 +80,7 @@ fn open_after(count: u32, token: &Token) -> u32
     ensures { result ≡ depth.open_after count (view token.now) }
 {
     match token.what {
-        TokenKind::Mark(code) => counted(count, code),
+        TokenKind::Mark(mark) => counted(count, mark),
         TokenKind::IfLittle => count + 1,
         TokenKind::IfBig => count + 1,
         TokenKind::EndIf => count.saturating_sub(1),

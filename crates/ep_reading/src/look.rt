@@ -1,23 +1,24 @@
 //! Looks at the first tokens.
 
-ghost use Rattle.std.specs.Prelude.{◌≡◌, ◌<◌, length, map, IfSome};
+ghost use Rattle.std.specs.Prelude.{◌≡◌, ◌<◌, length, map, IfSome, true, false};
 ghost use Rattle.std.specs.Option.{option_map};
+ghost use Rattle.ep_ast.specs.Mark.{mark_number, word_number};
 ghost use Rattle.ep_ast.specs.Reading.{AtMark, AtWord, AtName};
 ghost use Rattle.ep_lexer.specs.Tokens.{view};
 ghost use Rattle.ep_reading.specs.Look as look;
 ghost use Rattle.ep_reading.specs.Look.{AtIf, AtElse, AtEndIf, IsHead, IsShorter, IsShorterText, IsShorterOrder, seen};
 ghost use Rattle.ep_reading.specs.Look.{seen_text, seen_order};
 
-use ep_ast::{Literal, NamedOrder};
+use ep_ast::{Literal, Mark, NamedOrder, Word};
 use ep_lexer::{Token, TokenKind};
 
 /// The first token, and what comes after it. The last is a directive, or no token.
 #[derive(Clone, Copy)]
 pub enum Head<'a> {
-    Word(u32, u8, &'a [Token]),
+    Word(u32, Word, &'a [Token]),
     Name(u32, &'a [u8], &'a [Token]),
     Number(u32, Literal, &'a [Token]),
-    Mark(u32, u8, &'a [Token]),
+    Mark(u32, Mark, &'a [Token]),
     Other,
 }
 
@@ -27,10 +28,10 @@ pub fn first_of<'a>(tokens: &'a [Token]) -> Head<'a>
     match tokens {
         [] => Head::Other,
         [first, rest @ ..] => match &first.what {
-            TokenKind::Word(c) => Head::Word(first.line, *c, rest),
+            TokenKind::Word(word) => Head::Word(first.line, *word, rest),
             TokenKind::Name(text) => Head::Name(first.line, text, rest),
             TokenKind::Number(n) => Head::Number(first.line, *n, rest),
-            TokenKind::Mark(c) => Head::Mark(first.line, *c, rest),
+            TokenKind::Mark(mark) => Head::Mark(first.line, *mark, rest),
             TokenKind::IfLittle | TokenKind::IfBig | TokenKind::Other | TokenKind::EndIf => {
                 Head::Other
             }
@@ -38,14 +39,28 @@ pub fn first_of<'a>(tokens: &'a [Token]) -> Head<'a>
     }
 }
 
+fn is_mark(own: Mark, mark: Mark) -> bool
+    ensures same { result ≡ true → mark_number own ≡ mark_number mark }
+    ensures apart { result ≡ false → mark_number own ≡ mark_number mark → ⊥ }
+{
+    own == mark
+}
+
+fn is_word(own: Word, word: Word) -> bool
+    ensures same { result ≡ true → word_number own ≡ word_number word }
+    ensures apart { result ≡ false → word_number own ≡ word_number word → ⊥ }
+{
+    own == word
+}
+
 /// The line of this mark, if it stands first, and what comes after it.
-pub fn at_mark<'a>(tokens: &'a [Token], code: u8) -> Option<(u32, &'a [Token])>
-    ensures value { AtMark code (map view tokens.now) (option_map seen result) }
+pub fn at_mark<'a>(tokens: &'a [Token], mark: Mark) -> Option<(u32, &'a [Token])>
+    ensures value { AtMark (mark_number mark) (map view tokens.now) (option_map seen result) }
     ensures shorter { IfSome result (IsShorter (length tokens.now)) }
 {
     match tokens {
         [first, rest @ ..] => match first.what {
-            TokenKind::Mark(c) => if c == code {
+            TokenKind::Mark(own) => if is_mark(own, mark) {
                 Some((first.line, rest))
             } else {
                 None
@@ -57,13 +72,13 @@ pub fn at_mark<'a>(tokens: &'a [Token], code: u8) -> Option<(u32, &'a [Token])>
 }
 
 /// The line of this word, if it stands first, and what comes after it.
-pub fn at_word<'a>(tokens: &'a [Token], code: u8) -> Option<(u32, &'a [Token])>
-    ensures value { AtWord code (map view tokens.now) (option_map seen result) }
+pub fn at_word<'a>(tokens: &'a [Token], word: Word) -> Option<(u32, &'a [Token])>
+    ensures value { AtWord (word_number word) (map view tokens.now) (option_map seen result) }
     ensures shorter { IfSome result (IsShorter (length tokens.now)) }
 {
     match tokens {
         [first, rest @ ..] => match first.what {
-            TokenKind::Word(c) => if c == code {
+            TokenKind::Word(own) => if is_word(own, word) {
                 Some((first.line, rest))
             } else {
                 None

@@ -1,38 +1,38 @@
 //! Reading the pieces of statements in which no statement stands. The line is that of the statement.
 
 ghost use Rattle.std.specs.Prelude.{◌≡◌, ◌<◌, ◌^◌, length, map, IfOk};
+ghost use Rattle.ep_ast.specs.Mark.{mark_number};
 ghost use Rattle.ep_ast.specs.StatementGrammar as grammar;
 ghost use Rattle.ep_lexer.specs.Tokens.{view};
-ghost use Rattle.ep_expression_trees.specs.Kept as expressions;
+ghost use Rattle.ep_expression_trees.specs.BoundedTrees as expressions;
 ghost use Rattle.ep_reading.specs.Names.{is_type};
-ghost use Rattle.ep_reading.specs.Answer.{Gives, IsPast};
-ghost use Rattle.ep_statement_parts.specs.Shown.{ShowsTest, ShowsGiven, ShowsFirst, ShowsHeading};
+ghost use Rattle.ep_reading.specs.Answer.{Parses, IsPast};
+ghost use Rattle.ep_statement_parts.specs.View.{ShowsTest, ShowsGiven, ShowsFirst, ShowsHeading};
 ghost use Rattle.ep_simple_statements.specs.Piece.{CanClose, ExprThen, DoEnd, Headings};
 
-use ep_ast::marks::{LEFT_PAREN, RIGHT_PAREN, SEMICOLON};
-use ep_ast::words::WHILE;
-use ep_ast::{ExprTree, ForInitTree, Halt, HeadingTree};
+use ep_ast::{ExprTree, ForInitTree, Halt, HeadingTree, Mark, Word};
 use ep_declarations::declaration;
-use ep_exprs::{Kept, read_expression};
+use ep_exprs::{BoundedTree, read_expression};
 use ep_lexer::Token;
 use ep_reading::{Measured, Part, Reader, at_mark, at_word};
 use ep_statement_parts::{first_declares, first_evaluates, given_of, heading_from, test_of};
 use ep_type_names::begins_type;
 
-/// An expression and the mark of this number behind it, `;` or `)`.
+/// An expression and this mark behind it, `;` or `)`.
 fn expression_then<'a>(
     reader: &Reader<'_>,
-    code: u8,
+    mark: Mark,
     tokens: &'a [Token],
-) -> Result<Part<'a, Kept>, Halt>
+) -> Result<Part<'a, BoundedTree>, Halt>
     requires few { length tokens.now < 2 ^ 24 }
-    requires closes { CanClose code }
-    ensures reads { Gives expressions.Shows (ExprThen (is_type reader.now.names.now) code) (map view tokens.now)
+    requires closes { CanClose (mark_number mark) }
+    ensures reads { Parses expressions.Shows (ExprThen (is_type reader.now.names.now) (mark_number mark))
+        (map view tokens.now)
         result }
     ensures shorter { IfOk result (IsPast (length tokens.now)) }
 {
     let read = read_expression(reader, tokens)?;
-    match at_mark(read.rest, code) {
+    match at_mark(read.rest, mark) {
         Some((_, after)) => Ok(Part {
             value: read.value,
             rest: after,
@@ -41,26 +41,27 @@ fn expression_then<'a>(
     }
 }
 
-/// An expression or none, up to and with the mark of this number, `;` or `)`.
+/// An expression or none, up to and with this mark, `;` or `)`.
 pub fn up_to<'a>(
     reader: &Reader<'_>,
     line: u32,
-    code: u8,
+    mark: Mark,
     tokens: &'a [Token],
 ) -> Result<Part<'a, Measured<Option<ExprTree>>>, Halt>
     requires few { length tokens.now < 2 ^ 24 }
-    requires closes { CanClose code }
-    ensures reads { Gives (ShowsGiven line) (grammar.UpTo (is_type reader.now.names.now) code) (map view tokens.now)
+    requires closes { CanClose (mark_number mark) }
+    ensures reads { Parses (ShowsGiven line) (grammar.UpTo (is_type reader.now.names.now) (mark_number mark))
+        (map view tokens.now)
         result }
     ensures shorter { IfOk result (IsPast (length tokens.now)) }
 {
-    if let Some((_, after)) = at_mark(tokens, code) {
+    if let Some((_, after)) = at_mark(tokens, mark) {
         return Ok(Part {
             value: Measured::Fits(None),
             rest: after,
         });
     }
-    let read = expression_then(reader, code, tokens)?;
+    let read = expression_then(reader, mark, tokens)?;
     Ok(Part {
         value: given_of(line, read.value),
         rest: read.rest,
@@ -74,14 +75,14 @@ pub fn in_parens<'a>(
     tokens: &'a [Token],
 ) -> Result<Part<'a, Measured<ExprTree>>, Halt>
     requires { length tokens.now < 2 ^ 24 }
-    ensures reads { Gives (ShowsTest line) (grammar.InParens (is_type reader.now.names.now)) (map view tokens.now)
+    ensures reads { Parses (ShowsTest line) (grammar.InParens (is_type reader.now.names.now)) (map view tokens.now)
         result }
     ensures shorter { IfOk result (IsPast (length tokens.now)) }
 {
-    let Some((_, inside)) = at_mark(tokens, LEFT_PAREN) else {
+    let Some((_, inside)) = at_mark(tokens, Mark::LeftParen) else {
         return Err(Halt::Refused(reader.stopped(tokens)));
     };
-    let read = expression_then(reader, RIGHT_PAREN, inside)?;
+    let read = expression_then(reader, Mark::RightParen, inside)?;
     Ok(Part {
         value: test_of(line, read.value),
         rest: read.rest,
@@ -95,14 +96,14 @@ pub fn do_end<'a>(
     tokens: &'a [Token],
 ) -> Result<Part<'a, Measured<ExprTree>>, Halt>
     requires { length tokens.now < 2 ^ 24 }
-    ensures reads { Gives (ShowsTest line) (DoEnd (is_type reader.now.names.now)) (map view tokens.now) result }
+    ensures reads { Parses (ShowsTest line) (DoEnd (is_type reader.now.names.now)) (map view tokens.now) result }
     ensures shorter { IfOk result (IsPast (length tokens.now)) }
 {
-    let Some((_, inside)) = at_word(tokens, WHILE) else {
+    let Some((_, inside)) = at_word(tokens, Word::While) else {
         return Err(Halt::Refused(reader.stopped(tokens)));
     };
     let test = in_parens(reader, line, inside)?;
-    let Some((_, end)) = at_mark(test.rest, SEMICOLON) else {
+    let Some((_, end)) = at_mark(test.rest, Mark::Semicolon) else {
         return Err(Halt::Refused(reader.stopped(test.rest)));
     };
     Ok(Part {
@@ -118,7 +119,7 @@ fn first_part<'a>(
     tokens: &'a [Token],
 ) -> Result<Part<'a, Measured<ForInitTree>>, Halt>
     requires { length tokens.now < 2 ^ 24 }
-    ensures reads { Gives (ShowsFirst line) (grammar.Firsts (is_type reader.now.names.now)) (map view tokens.now)
+    ensures reads { Parses (ShowsFirst line) (grammar.Firsts (is_type reader.now.names.now)) (map view tokens.now)
         result }
     ensures shorter { IfOk result (IsPast (length tokens.now)) }
 {
@@ -129,7 +130,7 @@ fn first_part<'a>(
             rest: read.rest,
         })
     } else {
-        let given = up_to(reader, line, SEMICOLON, tokens)?;
+        let given = up_to(reader, line, Mark::Semicolon, tokens)?;
         Ok(Part {
             value: first_evaluates(given.value),
             rest: given.rest,
@@ -144,15 +145,15 @@ pub fn for_heading<'a>(
     tokens: &'a [Token],
 ) -> Result<Part<'a, Measured<HeadingTree>>, Halt>
     requires { length tokens.now < 2 ^ 24 }
-    ensures reads { Gives (ShowsHeading line) (Headings (is_type reader.now.names.now)) (map view tokens.now) result }
+    ensures reads { Parses (ShowsHeading line) (Headings (is_type reader.now.names.now)) (map view tokens.now) result }
     ensures shorter { IfOk result (IsPast (length tokens.now)) }
 {
-    let Some((_, inside)) = at_mark(tokens, LEFT_PAREN) else {
+    let Some((_, inside)) = at_mark(tokens, Mark::LeftParen) else {
         return Err(Halt::Refused(reader.stopped(tokens)));
     };
     let first = first_part(reader, line, inside)?;
-    let test = up_to(reader, line, SEMICOLON, first.rest)?;
-    let next = up_to(reader, line, RIGHT_PAREN, test.rest)?;
+    let test = up_to(reader, line, Mark::Semicolon, first.rest)?;
+    let next = up_to(reader, line, Mark::RightParen, test.rest)?;
     Ok(Part {
         value: heading_from(first.value, test.value, next.value),
         rest: next.rest,

@@ -6,14 +6,12 @@ ghost use Rattle.ep_ast.specs.Mark.{break_word, continue_word, return_word};
 ghost use Rattle.ep_ast.specs.StatementGrammar.{States};
 ghost use Rattle.ep_lexer.specs.Tokens.{view};
 ghost use Rattle.ep_reading.specs.Names.{is_type};
-ghost use Rattle.ep_reading.specs.Answer.{Gives, IsPast};
-ghost use Rattle.ep_statement_parts.specs.Shown.{ShowsStmt};
+ghost use Rattle.ep_reading.specs.Answer.{Parses, IsPast};
+ghost use Rattle.ep_statement_parts.specs.View.{ShowsStmt};
 ghost use Rattle.ep_simple_statements.specs.Piece.{IsOther, IsSimple};
 
 use crate::pieces::up_to;
-use ep_ast::marks::SEMICOLON;
-use ep_ast::words::{BREAK, CONTINUE, RETURN};
-use ep_ast::{Halt, StmtTree};
+use ep_ast::{Halt, Mark, StmtTree, Word};
 use ep_lexer::Token;
 use ep_reading::{Head, Part, Reader, at_mark, first_of};
 use ep_statement_parts::{Counted, break_loop, continue_loop, evaluate, return_value};
@@ -25,10 +23,10 @@ fn break_end<'a>(
     tokens: &'a [Token],
 ) -> Result<Part<'a, Counted<StmtTree>>, Halt>
     ensures reads { (N : List ℕ → Bool) (c : ℕ) → c ≡ break_word
-        → Gives ShowsStmt (States N) (word line c ∷ map view tokens.now) result }
+        → Parses ShowsStmt (States N) (word line c ∷ map view tokens.now) result }
     ensures shorter { IfOk result (IsPast (length tokens.now)) }
 {
-    match at_mark(tokens, SEMICOLON) {
+    match at_mark(tokens, Mark::Semicolon) {
         Some((_, after)) => Ok(Part {
             value: break_loop(line),
             rest: after,
@@ -44,10 +42,10 @@ fn continue_end<'a>(
     tokens: &'a [Token],
 ) -> Result<Part<'a, Counted<StmtTree>>, Halt>
     ensures reads { (N : List ℕ → Bool) (c : ℕ) → c ≡ continue_word
-        → Gives ShowsStmt (States N) (word line c ∷ map view tokens.now) result }
+        → Parses ShowsStmt (States N) (word line c ∷ map view tokens.now) result }
     ensures shorter { IfOk result (IsPast (length tokens.now)) }
 {
-    match at_mark(tokens, SEMICOLON) {
+    match at_mark(tokens, Mark::Semicolon) {
         Some((_, after)) => Ok(Part {
             value: continue_loop(line),
             rest: after,
@@ -63,11 +61,11 @@ fn return_end<'a>(
     tokens: &'a [Token],
 ) -> Result<Part<'a, Counted<StmtTree>>, Halt>
     requires { length tokens.now < 2 ^ 24 }
-    ensures reads { (c : ℕ) → c ≡ return_word → Gives ShowsStmt (States (is_type reader.now.names.now))
+    ensures reads { (c : ℕ) → c ≡ return_word → Parses ShowsStmt (States (is_type reader.now.names.now))
         (word line c ∷ map view tokens.now) result }
     ensures shorter { IfOk result (IsPast (length tokens.now)) }
 {
-    let given = up_to(reader, line, SEMICOLON, tokens)?;
+    let given = up_to(reader, line, Mark::Semicolon, tokens)?;
     Ok(Part {
         value: return_value(line, given.value),
         rest: given.rest,
@@ -83,10 +81,10 @@ fn evaluation<'a>(
     requires { length tokens.now < 2 ^ 24 }
     ensures reads { (t : Tok) (ts : List Tok) → map view tokens.now ≡ t ∷ ts → line ≡ line_of t
         → IsOther (map view tokens.now)
-        → Gives ShowsStmt (States (is_type reader.now.names.now)) (map view tokens.now) result }
+        → Parses ShowsStmt (States (is_type reader.now.names.now)) (map view tokens.now) result }
     ensures shorter { IfOk result (IsPast (length tokens.now)) }
 {
-    let given = up_to(reader, line, SEMICOLON, tokens)?;
+    let given = up_to(reader, line, Mark::Semicolon, tokens)?;
     Ok(Part {
         value: evaluate(line, given.value),
         rest: given.rest,
@@ -99,23 +97,17 @@ pub fn simple<'a>(
     tokens: &'a [Token],
 ) -> Result<Part<'a, Counted<StmtTree>>, Halt>
     requires { length tokens.now < 2 ^ 24 }
-    ensures reads { IsSimple (map view tokens.now) → Gives ShowsStmt (States (is_type reader.now.names.now))
+    ensures reads { IsSimple (map view tokens.now) → Parses ShowsStmt (States (is_type reader.now.names.now))
         (map view tokens.now) result }
     ensures shorter { IfOk result (IsPast (length tokens.now)) }
 {
     match first_of(tokens) {
-        Head::Word(line, code, rest) => {
-            if code == BREAK {
-                return break_end(reader, line, rest);
-            }
-            if code == CONTINUE {
-                return continue_end(reader, line, rest);
-            }
-            if code == RETURN {
-                return return_end(reader, line, rest);
-            }
-            evaluation(reader, line, tokens)
-        }
+        Head::Word(line, word, rest) => match word {
+            Word::Break => break_end(reader, line, rest),
+            Word::Continue => continue_end(reader, line, rest),
+            Word::Return => return_end(reader, line, rest),
+            _ => evaluation(reader, line, tokens),
+        },
         Head::Name(line, _, _) => evaluation(reader, line, tokens),
         Head::Number(line, _, _) => evaluation(reader, line, tokens),
         Head::Mark(line, _, _) => evaluation(reader, line, tokens),

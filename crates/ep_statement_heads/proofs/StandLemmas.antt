@@ -16,7 +16,7 @@ use Rattle.ep_statement_parts.specs.declared.kept.Counted.{Counted}
 use Rattle.ep_ast.specs.declared.statements.HeadingTree.{HeadingTree}
 use Rattle.ep_statement_heads.specs.declared.frames.Frame.{Frame}
 use Rattle.ep_statement_heads.specs.declared.frames.Frame.TheVariants as frames
-use Rattle.ep_statement_parts.specs.Shown.{ShowsTest, ShowsHeading, ShowsStmt}
+use Rattle.ep_statement_parts.specs.View.{ShowsTest, ShowsHeading, ShowsStmt}
 use Rattle.ep_simple_statements.specs.Piece.{DoEnd}
 use Rattle.ep_statement_heads.specs.Around.{Outer, if_head, else_head, while_head, for_head, do_head, Finishes, Opened}
 use Rattle.ep_statement_heads.specs.Around.{Waits, Stands}

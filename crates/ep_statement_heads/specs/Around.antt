@@ -17,7 +17,7 @@ use Rattle.ep_statement_heads.specs.declared.frames.Closed.{Closed}
 use Rattle.ep_statement_heads.specs.declared.frames.Closed.TheVariants as closes
 use Rattle.ep_statement_heads.specs.declared.frames.Completed.{Completed}
 use Rattle.ep_statement_heads.specs.declared.frames.Completed.TheVariants as completes
-use Rattle.ep_statement_parts.specs.Shown.{ShowsTest, ShowsHeading, ShowsStmt}
+use Rattle.ep_statement_parts.specs.View.{ShowsTest, ShowsHeading, ShowsStmt}
 use Rattle.ep_simple_statements.specs.Piece.{DoEnd, HasNoHead}
 
 pub data Outer : Type 0 where
@@ -108,16 +108,16 @@ Completes is_type xs (completes.Whole j) ys = IsTaken ShowsStmt (States is_type)
 Completes is_type xs (completes.Else v) ys = Waits is_type xs (reverse v.items) ys
 
 -- what the code answers, where nothing else is to be read
-abbrev pub GivesState : {K : Type 0} → (K → List Tok → Type 0) → (List ℕ → Bool) → List Tok → Result (Part K) Halt
+abbrev pub ParsesState : {K : Type 0} → (K → List Tok → Type 0) → (List ℕ → Bool) → List Tok → Result (Part K) Halt
     → Type 0
-GivesState Is is_type xs (Ok p) = Is p.value (after p)
-GivesState Is is_type xs (Err e) = Stops (States is_type) xs e
+ParsesState Is is_type xs (Ok p) = Is p.value (after p)
+ParsesState Is is_type xs (Err e) = Stops (States is_type) xs e
 
 -- a head, or that none begins here
-abbrev pub GivesHead : (List ℕ → Bool) → List Tok → Result (Option (Part Frame)) Halt → Type 0
-GivesHead is_type xs (Ok (Some p)) = Opened is_type xs p.value (after p)
-GivesHead is_type xs (Ok None) = HasNoHead xs
-GivesHead is_type xs (Err e) = Stops (States is_type) xs e
+abbrev pub ParsesHead : (List ℕ → Bool) → List Tok → Result (Option (Part Frame)) Halt → Type 0
+ParsesHead is_type xs (Ok (Some p)) = Opened is_type xs p.value (after p)
+ParsesHead is_type xs (Ok None) = HasNoHead xs
+ParsesHead is_type xs (Err e) = Stops (States is_type) xs e
 
 -- fewer tokens than so many stand behind a head
 abbrev pub IsPastHead : ℕ → Option (Part Frame) → Type 0

@@ -5,12 +5,11 @@ ghost use Rattle.ep_ast.specs.Token.{Tok};
 ghost use Rattle.ep_lexer.specs.Tokens.{view};
 ghost use Rattle.ep_reading.specs.Names.{is_type};
 ghost use Rattle.ep_reading.specs.Answer.{IsWithin, after};
-ghost use Rattle.ep_statement_heads.specs.Around.{Stands, Closes, Completes, GivesState, GivesHead, IsPastHead};
+ghost use Rattle.ep_statement_heads.specs.Around.{Stands, Closes, Completes, ParsesState, ParsesHead, IsPastHead};
 ghost use Rattle.ep_statement_heads.specs.declared.frames.Frame.{Frame as Pending};
 ghost use Rattle.ep_statement_heads.specs.declared.frames.Frame.TheVariants as frames;
 
-use ep_ast::words::{DO, ELSE, FOR, IF, WHILE};
-use ep_ast::{ExprTree, Halt, HeadingTree, StmtTree};
+use ep_ast::{ExprTree, Halt, HeadingTree, StmtTree, Word};
 use ep_branches_and_loops::{do_loop, for_loop, if_else, if_then, while_loop};
 use ep_lexer::Token;
 use ep_reading::{Head, Measured, Part, Reader, at_word, first_of};
@@ -48,41 +47,39 @@ pub fn opening<'a>(
     tokens: &'a [Token],
 ) -> Result<Option<Part<'a, Frame>>, Halt>
     requires { length tokens.now < 2 ^ 24 }
-    ensures reads { GivesHead (is_type reader.now.names.now) (map view tokens.now) result }
+    ensures reads { ParsesHead (is_type reader.now.names.now) (map view tokens.now) result }
     ensures shorter { IfOk result (IsPastHead (length tokens.now)) }
 {
     match first_of(tokens) {
-        Head::Word(line, code, rest) => {
-            if code == IF {
+        Head::Word(line, word, rest) => match word {
+            Word::If => {
                 let test = in_parens(reader, line, rest)?;
-                return Ok(Some(Part {
+                Ok(Some(Part {
                     value: Frame::If(line, test.value),
                     rest: test.rest,
-                }));
+                }))
             }
-            if code == WHILE {
+            Word::While => {
                 let test = in_parens(reader, line, rest)?;
-                return Ok(Some(Part {
+                Ok(Some(Part {
                     value: Frame::While(line, test.value),
                     rest: test.rest,
-                }));
+                }))
             }
-            if code == FOR {
+            Word::For => {
                 let heading = for_heading(reader, line, rest)?;
                 let boxed = Box::new(reader.alloc, heading.value)?;
-                return Ok(Some(Part {
+                Ok(Some(Part {
                     value: Frame::For(line, boxed),
                     rest: heading.rest,
-                }));
+                }))
             }
-            if code == DO {
-                return Ok(Some(Part {
-                    value: Frame::Do(line),
-                    rest,
-                }));
-            }
-            Ok(None)
-        }
+            Word::Do => Ok(Some(Part {
+                value: Frame::Do(line),
+                rest,
+            })),
+            _ => Ok(None),
+        },
         Head::Name(_, _, _) => Ok(None),
         Head::Number(_, _, _) => Ok(None),
         Head::Mark(_, _, _) => Ok(None),
@@ -103,7 +100,7 @@ fn close_if<'a>(
         → IfOk result (λ p. Closes is_type xs ks p.value (after p)) }
     ensures shorter { IfOk result (IsWithin (length tokens.now)) }
 {
-    match at_word(tokens, ELSE) {
+    match at_word(tokens, Word::Else) {
         Some((_, rest)) => {
             let then = Box::new(alloc, inner)?;
             Ok(Part {
@@ -131,7 +128,7 @@ fn close<'a>(
     requires { length tokens.now < 2 ^ 24 }
     ensures reads { (xs : List Tok) → (ks : List Pending) → Stands (is_type reader.now.names.now) xs (frame ∷ ks) inner
         (map view tokens.now)
-        → GivesState (Closes (is_type reader.now.names.now) xs ks) (is_type reader.now.names.now) xs result }
+        → ParsesState (Closes (is_type reader.now.names.now) xs ks) (is_type reader.now.names.now) xs result }
     ensures shorter { IfOk result (IsWithin (length tokens.now)) }
 {
     let alloc = reader.alloc;
@@ -171,7 +168,7 @@ pub fn complete<'a>(
     requires { length tokens.now < 2 ^ 24 }
     ensures reads { (xs : List Tok) → Stands (is_type reader.now.names.now) xs (reverse frames.items) inner
         (map view tokens.now)
-        → GivesState (Completes (is_type reader.now.names.now) xs) (is_type reader.now.names.now) xs result }
+        → ParsesState (Completes (is_type reader.now.names.now) xs) (is_type reader.now.names.now) xs result }
     ensures shorter { IfOk result (IsWithin (length tokens.now)) }
 {
     let mut left = frames;

@@ -17,8 +17,8 @@ use Rattle.ep_reading.specs.declared.measured.Measured.TheVariants as measured
 use Rattle.ep_reading.specs.Measured.{Shows, ShowsAll, all_of, joined}
 use Rattle.ep_reading.proofs.MeasuredLemmas.{longer_shows, joined_shows}
 use Rattle.ep_statement_parts.specs.declared.kept.Counted.{Counted}
-use Rattle.ep_statement_parts.specs.Shown.{Counts, HasNone, IsEmpty, IsLonger, ShowsStmt, ShowsPart, ShowsStmts}
-use Rattle.ep_statement_parts.specs.Shown.{ShowsParts, given, in_given, deep_first, in_heading, ShowsGiven, ShowsFirst}
+use Rattle.ep_statement_parts.specs.View.{Counts, HasNone, IsEmpty, IsLonger, ShowsStmt, ShowsPart, ShowsStmts}
+use Rattle.ep_statement_parts.specs.View.{ShowsParts, given, in_given, deep_first, in_heading, ShowsGiven, ShowsFirst}
 
 pub tall : (h n : ℕ) → Counts h n → 64 < h → nat_lt 64 n ≡ true
 tall h n c k = let m : 64 < n = grind (arith) in grind (arith, nat_tests)

@@ -6,19 +6,19 @@ ghost use Rattle.ep_ast.specs.Declaration.{Declaration};
 ghost use Rattle.ep_ast.specs.Statement as shape;
 ghost use Rattle.ep_ast.specs.Statement.{First, Stmt, Part, stmt_of, part_of};
 ghost use Rattle.ep_ast.specs.Depth.{in_stmt, in_part, height_of_parts};
-ghost use Rattle.ep_expression_trees.specs.Kept as expressions;
+ghost use Rattle.ep_expression_trees.specs.BoundedTrees as expressions;
 ghost use Rattle.ep_reading.specs.Measured as measured;
 ghost use Rattle.ep_declarations.specs.Answer.{ShowsDeclaration};
 ghost use Rattle.ep_statement_parts.specs.Answer.{ShowsBlock};
-ghost use Rattle.ep_statement_parts.specs.Shown.{body, Counts, IsEmpty, IsLonger, ShowsTest, ShowsGiven};
-ghost use Rattle.ep_statement_parts.specs.Shown.{ShowsFirst, ShowsHeading};
-ghost use Rattle.ep_statement_parts.specs.Shown.{ShowsStmt, ShowsPart, ShowsStmts, ShowsParts};
+ghost use Rattle.ep_statement_parts.specs.View.{body, Counts, IsEmpty, IsLonger, ShowsTest, ShowsGiven};
+ghost use Rattle.ep_statement_parts.specs.View.{ShowsFirst, ShowsHeading};
+ghost use Rattle.ep_statement_parts.specs.View.{ShowsStmt, ShowsPart, ShowsStmts, ShowsParts};
 
 use ep_ast::{
     BlockItemTree, BlockTree, DeclarationTree, ExprTree, ForInitTree, HeadingTree, NamedOrder,
     StmtTree,
 };
-use ep_expression_trees::Kept;
+use ep_expression_trees::BoundedTree;
 use ep_reading::Measured;
 use std::alloc::{AllocError, Global};
 
@@ -52,7 +52,7 @@ impl<T: Drop> Counted<Vec<T>> {
 }
 
 /// The test of a statement of this line.
-pub fn test_of(line: u32, read: Kept) -> Measured<ExprTree>
+pub fn test_of(line: u32, read: BoundedTree) -> Measured<ExprTree>
     ensures { (e : Expr) → expressions.Shows read e → ShowsTest line result e }
 {
     match read.tree {
@@ -62,7 +62,7 @@ pub fn test_of(line: u32, read: Kept) -> Measured<ExprTree>
 }
 
 /// An expression that could be missing in a statement of this line.
-pub fn given_of(line: u32, read: Kept) -> Measured<Option<ExprTree>>
+pub fn given_of(line: u32, read: BoundedTree) -> Measured<Option<ExprTree>>
     ensures { (e : Expr) → expressions.Shows read e → ShowsGiven line result (Some e) }
 {
     match read.tree {

@@ -18,7 +18,7 @@ use Rattle.ep_ast.specs.StatementGrammar.{do_first, for_each, break_off, go_on, 
 use Rattle.ep_ast.specs.StatementGrammar.{OnePart, declaration, statement, arms, Statements, before_else, before_end}
 use Rattle.ep_ast.specs.StatementGrammar.{more_statements, OtherArm, no_other, another, Blocks, braces}
 use Rattle.ep_ast.specs.Reading.{Takes, TakesNone, Lacks, AtMark}
-use Rattle.ep_statement_parts.specs.Shown.{body}
+use Rattle.ep_statement_parts.specs.View.{body}
 use Rattle.ep_ast.specs.Cut.{order_token}
 use Rattle.ep_reading.specs.Look.{LacksIf, LacksElse, LacksEndIf, ends_arm}
 use Rattle.ep_reading.proofs.SequenceLemmas.{Both, Makes}

@@ -6,13 +6,12 @@ ghost use Rattle.ep_ast.specs.StatementGrammar as grammar;
 ghost use Rattle.ep_ast.specs.StatementGrammar.{Blocks};
 ghost use Rattle.ep_lexer.specs.Tokens.{view};
 ghost use Rattle.ep_reading.specs.Names.{is_type};
-ghost use Rattle.ep_reading.specs.Answer.{Gives, IsPast, IsWithin};
+ghost use Rattle.ep_reading.specs.Answer.{Parses, IsPast, IsWithin};
 ghost use Rattle.ep_statement_parts.specs.Answer.{ShowsBlock};
-ghost use Rattle.ep_statement_parts.specs.Shown.{ShowsStmt, ShowsPart, ShowsStmts, ShowsParts, ShowsOther};
+ghost use Rattle.ep_statement_parts.specs.View.{ShowsStmt, ShowsPart, ShowsStmts, ShowsParts, ShowsOther};
 ghost use Rattle.ep_simple_statements.specs.Piece.{HasNoHead};
 
-use ep_ast::marks::{LEFT_BRACE, RIGHT_BRACE};
-use ep_ast::{BlockItemTree, BlockTree, Halt, StmtTree};
+use ep_ast::{BlockItemTree, BlockTree, Halt, Mark, StmtTree};
 use ep_declarations::declaration;
 use ep_lexer::Token;
 use ep_reading::{Measured, Part, Reader, at_else, at_end_if, at_if, at_mark, ends_arm};
@@ -27,10 +26,10 @@ pub fn block<'a>(
     tokens: &'a [Token],
 ) -> Result<Part<'a, Measured<BlockTree>>, Halt>
     requires { length tokens.now < 2 ^ 24 }
-    ensures reads { Gives ShowsBlock (Blocks (is_type reader.now.names.now)) (map view tokens.now) result }
+    ensures reads { Parses ShowsBlock (Blocks (is_type reader.now.names.now)) (map view tokens.now) result }
     ensures shorter { IfOk result (IsPast (length tokens.now)) }
 {
-    let Some((line, inside)) = at_mark(tokens, LEFT_BRACE) else {
+    let Some((line, inside)) = at_mark(tokens, Mark::LeftBrace) else {
         return Err(Halt::Refused(reader.stopped(tokens)));
     };
     let all = parts(reader, inside)?;
@@ -47,7 +46,7 @@ fn statement<'a>(
     tokens: &'a [Token],
 ) -> Result<Part<'a, Counted<StmtTree>>, Halt>
     requires { length tokens.now < 2 ^ 24 }
-    ensures reads { Gives ShowsStmt (grammar.States (is_type reader.now.names.now)) (map view tokens.now) result }
+    ensures reads { Parses ShowsStmt (grammar.States (is_type reader.now.names.now)) (map view tokens.now) result }
     ensures shorter { IfOk result (IsPast (length tokens.now)) }
 {
     let mut frames = Vec::new(reader.alloc);
@@ -86,11 +85,11 @@ fn innermost<'a>(
     tokens: &'a [Token],
 ) -> Result<Part<'a, Counted<StmtTree>>, Halt>
     requires { length tokens.now < 2 ^ 24 }
-    ensures reads { HasNoHead (map view tokens.now) → Gives ShowsStmt (grammar.States (is_type reader.now.names.now))
+    ensures reads { HasNoHead (map view tokens.now) → Parses ShowsStmt (grammar.States (is_type reader.now.names.now))
         (map view tokens.now) result }
     ensures shorter { IfOk result (IsPast (length tokens.now)) }
 {
-    let Some((line, inside)) = at_mark(tokens, LEFT_BRACE) else {
+    let Some((line, inside)) = at_mark(tokens, Mark::LeftBrace) else {
         return simple(reader, tokens);
     };
     let all = parts(reader, inside)?;
@@ -107,13 +106,13 @@ fn parts<'a>(
     tokens: &'a [Token],
 ) -> Result<Part<'a, Counted<Vec<BlockItemTree>>>, Halt>
     requires { length tokens.now < 2 ^ 24 }
-    ensures reads { Gives ShowsParts (grammar.Parts (is_type reader.now.names.now)) (map view tokens.now) result }
+    ensures reads { Parses ShowsParts (grammar.Parts (is_type reader.now.names.now)) (map view tokens.now) result }
     ensures shorter { IfOk result (IsPast (length tokens.now)) }
 {
     let mut found = Counted::new(reader.alloc);
     let mut rest = tokens;
     'parts: loop {
-        if let Some((_, end)) = at_mark(rest, RIGHT_BRACE) {
+        if let Some((_, end)) = at_mark(rest, Mark::RightBrace) {
             return Ok(Part {
                 value: found,
                 rest: end,
@@ -132,7 +131,7 @@ fn part<'a>(
     tokens: &'a [Token],
 ) -> Result<Part<'a, Counted<BlockItemTree>>, Halt>
     requires { length tokens.now < 2 ^ 24 }
-    ensures reads { Gives ShowsPart (grammar.OnePart (is_type reader.now.names.now)) (map view tokens.now) result }
+    ensures reads { Parses ShowsPart (grammar.OnePart (is_type reader.now.names.now)) (map view tokens.now) result }
     ensures shorter { IfOk result (IsPast (length tokens.now)) }
 {
     if begins_type(reader.names, tokens) {
@@ -171,7 +170,7 @@ fn arm<'a>(
     tokens: &'a [Token],
 ) -> Result<Part<'a, Counted<Vec<StmtTree>>>, Halt>
     requires { length tokens.now < 2 ^ 24 }
-    ensures reads { Gives ShowsStmts (grammar.Statements (is_type reader.now.names.now)) (map view tokens.now) result }
+    ensures reads { Parses ShowsStmts (grammar.Statements (is_type reader.now.names.now)) (map view tokens.now) result }
     ensures shorter { IfOk result (IsWithin (length tokens.now)) }
 {
     let mut found = Counted::new(reader.alloc);
@@ -193,7 +192,7 @@ fn other_arm<'a>(
     tokens: &'a [Token],
 ) -> Result<Part<'a, Option<Counted<Vec<StmtTree>>>>, Halt>
     requires { length tokens.now < 2 ^ 24 }
-    ensures reads { Gives ShowsOther (grammar.OtherArm (is_type reader.now.names.now)) (map view tokens.now) result }
+    ensures reads { Parses ShowsOther (grammar.OtherArm (is_type reader.now.names.now)) (map view tokens.now) result }
     ensures shorter { IfOk result (IsPast (length tokens.now)) }
 {
     if let Some((_, rest)) = at_end_if(tokens) {

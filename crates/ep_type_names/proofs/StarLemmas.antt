@@ -1,5 +1,6 @@
 -- Reading stars, and the name of a type in parentheses.
-use Rattle.std.proofs.Common.{◌≡◌, ℕ, suc, ◌+◌, Bool, true, false, List, [], ◌∷◌, ◌++◌, Some, refl, sym, ap, subst, ◌∙◌}
+use Rattle.std.proofs.Common.{◌≡◌, ℕ, suc, ◌+◌, Bool, true, false, List, [], ◌∷◌, ◌++◌, Some, refl, sym, ap, ◌∙◌}
+use Rattle.ep_reading.proofs.FirstLemmas.{lacks_is, tail_is}
 use Rattle.std.proofs.Common.{arith, append_assoc}
 use Rattle.std.specs.Prelude.{◌==◌, not}
 use Rattle.std.proofs.lemmas.List.{append-nil}
@@ -117,13 +118,6 @@ stars_done xs front ys s h =
     record { holds = record { stars = d; over = ends_here ys h s.lacks }; only = λ ns zs t. stars_only front s h t }
 
 -- ---- the name of a type
-
-lacks_is : (m d e : ℕ) (ys zs : List Tok) → Lacks e ys → ys ≡ mark m d ∷ zs → d ≡ e → ⊥
-lacks_is m d e ys zs k same is = let L : List Tok → Type 0 = λ ts. Lacks e ts in let h : Lacks e (mark m d ∷ zs) =
-    subst L same k in h is
-
-tail_is : {t u : Tok} {ts us : List Tok} → t ∷ ts ≡ u ∷ us → ts ≡ us
-tail_is e = cc
 
 module _ (N : List ℕ → Bool) where
   const_is : (c : ℕ) → begins_type N (word 0 c ∷ []) ≡ false → c ≡ const_word → ⊥

@@ -1,5 +1,6 @@
 -- Reading the words of a type, one after the other.
 use Rattle.std.proofs.Common.{◌≡◌, ℕ, ◌+◌, Bool, true, false, cond, List, [], ◌∷◌, ◌++◌, refl, sym, ap, ◌∙◌, arith}
+use Rattle.std.proofs.lemmas.Bool.{and_from, and_parts}
 use Rattle.std.proofs.Common.{append_assoc}
 use Rattle.std.specs.Prelude.{◌==◌, nat_le, ◌&&◌, ◌||◌, not}
 use Rattle.std.proofs.lemmas.List.{append-nil}
@@ -22,18 +23,10 @@ apart c h k = grind (arith, nat_tests)
 
 -- ---- bags
 
-both_true : (a b : Bool) → (a && b) ≡ true → (a ≡ true) × (b ≡ true)
-both_true true true e = (refl, refl)
-both_true true false e = absurd cc
-both_true false b e = absurd cc
-
-both : (a b : Bool) → a ≡ true → b ≡ true → (a && b) ≡ true
-both a b h k = rw (h, k) refl
-
 lift : (t u p q i j b d : Bool) → (p ≡ true → q ≡ true) → (i ≡ true → j ≡ true) → (b ≡ true → d ≡ true)
     → cond t (p && i) (u && b) ≡ true → cond t (q && j) (u && d) ≡ true
-lift true u p q i j b d f g h e = let k = both_true p i e in both q j (f k.0) (g k.1)
-lift false u p q i j b d f g h e = let k = both_true u b e in both u d k.0 (h k.1)
+lift true u p q i j b d f g h e = let k = and_parts p i e in and_from q j (f k.0) (g k.1)
+lift false u p q i j b d f g h e = let k = and_parts u b e in and_from u d k.0 (h k.1)
 
 integer_chars : (c s i l g w : ℕ) → is_integer (record {
   chars = c + 1;
@@ -216,10 +209,10 @@ basic_fits : (c s i l g : ℕ) → is_basic (record { chars = c; shorts = s; int
     true → (nat_le g 1 && is_integer (record { chars = c; shorts = s; ints = i; longs = l; signs = g; wholes = 0 })) ≡
     true
 basic_fits c s i l g h =
-    let p = both_true (c == 0 && s == 0 && i == 0 && l == 0) (g == 0) h in
-    let q = both_true (c == 0 && s == 0 && i == 0) (l == 0) p.0 in
-    let r = both_true (c == 0 && s == 0) (i == 0) q.0 in
-    let t = both_true (c == 0) (s == 0) r.0 in
+    let p = and_parts (c == 0 && s == 0 && i == 0 && l == 0) (g == 0) h in
+    let q = and_parts (c == 0 && s == 0 && i == 0) (l == 0) p.0 in
+    let r = and_parts (c == 0 && s == 0) (i == 0) q.0 in
+    let t = and_parts (c == 0) (s == 0) r.0 in
     rw (eqb-true c 0 t.0, eqb-true s 0 t.1, eqb-true i 0 r.1, eqb-true l 0 q.1, eqb-true g 0 p.1) refl
 
 not_zero : (w : ℕ) → (w + 1 == 0) ≡ false
@@ -232,7 +225,7 @@ whole_at : (t : Bool) (c s i l g w : ℕ) → (w + 1 == 0) ≡ t
     → fits (record { chars = c; shorts = s; ints = i; longs = l; signs = g; wholes = w + 1 }) ≡ true
     → fits (record { chars = c; shorts = s; ints = i; longs = l; signs = g; wholes = w }) ≡ true
 whole_at t c s i l g w e h =
-    let k = both_true (w + 1 == 1) (is_basic (record {
+    let k = and_parts (w + 1 == 1) (is_basic (record {
       chars = c;
       shorts = s;
       ints = i;
@@ -283,13 +276,13 @@ is_not true h k = cc
 is_not false h k = cc
 
 type_fits : (ws : List TypeWord) → names_type ws ≡ true → fits (all_joined no_bag ws) ≡ true
-type_fits ws h = (both_true (fits (all_joined no_bag ws)) (not (is_no_bag (all_joined no_bag ws))) h).0
+type_fits ws h = (and_parts (fits (all_joined no_bag ws)) (not (is_no_bag (all_joined no_bag ws))) h).0
 
 type_some : (ws : List TypeWord) → names_type ws ≡ true → is_no_bag (all_joined no_bag ws) ≡ true → ⊥
 type_some ws h k = is_not (is_no_bag (all_joined no_bag ws))
-    (both_true (fits (all_joined no_bag ws)) (not (is_no_bag (all_joined no_bag ws))) h).1 k
+    (and_parts (fits (all_joined no_bag ws)) (not (is_no_bag (all_joined no_bag ws))) h).1 k
 
-are_type : (b : Bag) → fits b ≡ true → is_no_bag b ≡ false → (fits b && not (is_no_bag b)) ≡ true
+pub are_type : (b : Bag) → fits b ≡ true → is_no_bag b ≡ false → (fits b && not (is_no_bag b)) ≡ true
 are_type b h k = rw (h, k) refl
 
 -- ---- one word

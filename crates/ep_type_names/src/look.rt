@@ -1,33 +1,37 @@
 //! What begins a type.
 
 ghost use Rattle.std.specs.Prelude.{◌≡◌, map};
+ghost use Rattle.ep_ast.specs.Mark.{word_number};
 ghost use Rattle.ep_ast.specs.TypeWords as words;
 ghost use Rattle.ep_lexer.specs.Tokens.{view};
 ghost use Rattle.ep_reading.specs.Names.{is_type};
 
-use ep_ast::words::{CHAR, CONST, INT, LONG, SHORT, SIGNED, STRUCT, UNION, UNSIGNED, VOID};
+use ep_ast::Word;
 use ep_lexer::Token;
 use ep_reading::{Head, TypeNames, first_of};
 
 /// Whether a keyword is a word of a basic type, or `const`.
-pub fn is_type_word(code: u8) -> bool
-    ensures { result ≡ words.is_type_word code }
+pub fn is_type_word(word: Word) -> bool
+    ensures { result ≡ words.is_type_word (word_number word) }
 {
-    code == CHAR
-        || code == CONST
-        || code == INT
-        || code == LONG
-        || code == SHORT
-        || code == SIGNED
-        || code == UNSIGNED
-        || code == VOID
+    matches!(
+        word,
+        Word::Char
+            | Word::Const
+            | Word::Int
+            | Word::Long
+            | Word::Short
+            | Word::Signed
+            | Word::Unsigned
+            | Word::Void
+    )
 }
 
 /// Whether a keyword stands before a tag.
-pub fn is_tag_word(code: u8) -> bool
-    ensures { result ≡ words.is_tag_word code }
+pub fn is_tag_word(word: Word) -> bool
+    ensures { result ≡ words.is_tag_word (word_number word) }
 {
-    code == STRUCT || code == UNION
+    word == Word::Struct || word == Word::Union
 }
 
 /// Whether a word of a type stands first.
@@ -35,7 +39,7 @@ pub fn begins_type(names: &TypeNames, tokens: &[Token]) -> bool
     ensures { result ≡ words.begins_type (is_type names.now) (map view tokens.now) }
 {
     match first_of(tokens) {
-        Head::Word(_, code, _) => is_type_word(code) || is_tag_word(code),
+        Head::Word(_, word, _) => is_type_word(word) || is_tag_word(word),
         Head::Name(_, text, _) => names.has(text),
         _ => false,
     }

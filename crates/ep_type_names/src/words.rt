@@ -6,17 +6,15 @@ ghost use Rattle.ep_ast.specs.Expression.{type_word};
 ghost use Rattle.ep_ast.specs.TypeWords as spec;
 ghost use Rattle.ep_ast.specs.TypeWords.{AreType, TypeNamed, words_line};
 ghost use Rattle.ep_ast.specs.Reading.{LacksWord};
-ghost use Rattle.ep_ast.specs.Mark.{const_word};
+ghost use Rattle.ep_ast.specs.Mark.{const_word, word_number};
 ghost use Rattle.ep_lexer.specs.Tokens.{view};
 ghost use Rattle.ep_reading.specs.Names.{is_type};
-ghost use Rattle.ep_reading.specs.Answer.{GivesAs, IsPast, IsWithin, after};
+ghost use Rattle.ep_reading.specs.Answer.{ParsesAs, IsPast, IsWithin, after};
 ghost use Rattle.ep_type_names.specs.Words.{bag, Joins, OneRead, IsPastWord, CountsConsts, ReadsStars, words_of};
 ghost use Rattle.ep_type_names.specs.Words.{name_of};
 
 use crate::look::{is_tag_word, is_type_word};
-use ep_ast::marks::{RIGHT_PAREN, STAR};
-use ep_ast::words::{CHAR, CONST, INT, LONG, SHORT, SIGNED, UNSIGNED, VOID};
-use ep_ast::{Halt, TypeNameTree, TypeWordTree};
+use ep_ast::{Halt, Mark, TypeNameTree, TypeWordTree, Word};
 use ep_lexer::Token;
 use ep_reading::{Head, Part, Reader, at_mark, at_name, at_word, first_of, pushed};
 use std::alloc::{AllocError, Global};
@@ -102,18 +100,18 @@ impl TypeBag {
     }
 
     /// With an accepted word, or None where it doesn't fit.
-    pub fn with_word(&self, code: u8) -> Option<TypeBag>
+    pub fn with_word(&self, word: Word) -> Option<TypeBag>
         requires { spec.fits (bag self.now) ≡ true }
-        ensures { Joins (spec.with_word (bag self.now) code) (option_map bag result) }
+        ensures { Joins (spec.with_word (bag self.now) (word_number word)) (option_map bag result) }
     {
         let mut next = *self;
-        match code {
-            CHAR => next.chars += 1,
-            SHORT => next.shorts += 1,
-            INT => next.ints += 1,
-            LONG => next.longs += 1,
-            SIGNED | UNSIGNED => next.signs += 1,
-            VOID => next.wholes += 1,
+        match word {
+            Word::Char => next.chars += 1,
+            Word::Short => next.shorts += 1,
+            Word::Int => next.ints += 1,
+            Word::Long => next.longs += 1,
+            Word::Signed | Word::Unsigned => next.signs += 1,
+            Word::Void => next.wholes += 1,
             _ => {}
         }
         next.fitting()
@@ -125,7 +123,7 @@ impl TypeBag {
         ensures { Joins (spec.joined (bag self.now) (type_word word.now)) (option_map bag result) }
     {
         match word {
-            TypeWordTree::Word(_, code) => self.with_word(*code),
+            TypeWordTree::Word(_, word) => self.with_word(*word),
             TypeWordTree::Name(_, _) | TypeWordTree::Tag(_, _, _) => self.with_whole(),
         }
     }
@@ -140,17 +138,17 @@ fn one_word<'a>(
     ensures shorter { IfOk result (IsPastWord (length tokens.now)) }
 {
     match first_of(tokens) {
-        Head::Word(line, code, rest) => if is_type_word(code) {
+        Head::Word(line, word, rest) => if is_type_word(word) {
             Ok(Some(Part {
-                value: TypeWordTree::Word(line, code),
+                value: TypeWordTree::Word(line, word),
                 rest,
             }))
-        } else if is_tag_word(code) {
+        } else if is_tag_word(word) {
             match at_name(rest) {
                 Some((_, tag, more)) => {
                     let tag = Vec::from_slice(reader.alloc, tag)?;
                     Ok(Some(Part {
-                        value: TypeWordTree::Tag(line, code, tag),
+                        value: TypeWordTree::Tag(line, word, tag),
                         rest: more,
                     }))
                 }
@@ -209,7 +207,7 @@ pub fn type_words<'a>(
     reader: &Reader<'_>,
     tokens: &'a [Token],
 ) -> Result<Part<'a, Vec<TypeWordTree>>, Halt>
-    ensures reads { GivesAs words_of (AreType (is_type reader.now.names.now)) (map view tokens.now) result }
+    ensures reads { ParsesAs words_of (AreType (is_type reader.now.names.now)) (map view tokens.now) result }
     ensures shorter { IfOk result (IsWithin (length tokens.now)) }
 {
     let mut words = Vec::new(reader.alloc);
@@ -239,7 +237,7 @@ fn consts(tokens: &[Token]) -> Part<'_, u32>
 {
     let mut count = 0;
     let mut rest = tokens;
-    while let Some((_, more)) = at_word(rest, CONST) {
+    while let Some((_, more)) = at_word(rest, Word::Const) {
         count += 1;
         rest = more;
     }
@@ -256,7 +254,7 @@ pub fn stars(alloc: Global, tokens: &[Token]) -> Result<Part<'_, Vec<u32>>, Allo
     let mut found = Vec::new(alloc);
     let mut rest = tokens;
     'stars: loop {
-        let Some((_, more)) = at_mark(rest, STAR) else {
+        let Some((_, more)) = at_mark(rest, Mark::Star) else {
             return Ok(Part { value: found, rest });
         };
         let count = consts(more);
@@ -285,12 +283,12 @@ pub fn type_name<'a>(
     tokens: &'a [Token],
 ) -> Result<Part<'a, Box<TypeNameTree>>, Halt>
     requires { length tokens.now < 2 ^ 24 }
-    ensures reads { GivesAs name_of (TypeNamed (is_type reader.now.names.now)) (map view tokens.now) result }
+    ensures reads { ParsesAs name_of (TypeNamed (is_type reader.now.names.now)) (map view tokens.now) result }
     ensures shorter { IfOk result (IsPast (length tokens.now)) }
 {
     let specs = type_words(reader, tokens)?;
     let stars = stars(reader.alloc, specs.rest)?;
-    let Some((_, more)) = at_mark(stars.rest, RIGHT_PAREN) else {
+    let Some((_, more)) = at_mark(stars.rest, Mark::RightParen) else {
         return Err(Halt::Refused(reader.stopped(stars.rest)));
     };
     let line = line_of(&specs.value);

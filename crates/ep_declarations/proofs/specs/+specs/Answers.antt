@@ -1,6 +1,7 @@
 use Rattle.std.proofs.Common.{◌≡◌, ◌<◌, ◌++◌, ◌∷◌, [], Some, map, length, refl, sym, ◌∙◌, arith, true, inl}
 use Rattle.std.proofs.lemmas.Result.{err_from_is_err_and}
 use Rattle.ep_ast.specs.Declaration.{Spec, body, aggregate, member, member_of, to_members, to_specs}
+use Rattle.ep_ast.specs.Mark.{word_number}
 use Rattle.ep_ast.specs.TypeWords.{no_bag, fits, with_whole}
 use Rattle.ep_ast.specs.DeclarationGrammar.{has_bodies, specs_line, Specified, Members, OneMember, Declarators}
 use Rattle.ep_ast.specs.BitField.{InSpecs, InMembers, InDeclarators}
@@ -9,7 +10,7 @@ use Rattle.ep_lexer.specs.Tokens.{view}
 use Rattle.ep_reading.proofs.MeasuredLemmas.{longer_shows}
 use Rattle.ep_reading.specs.Names.{is_type}
 use Rattle.ep_type_names.specs.Words.{bag}
-use Rattle.ep_declarations.specs.Answer.{place}
+use Rattle.ep_declarations.specs.Answer.{context}
 use Rattle.ep_declarations.specs.SpecAhead.{Ahead, InBody, InMember, tag_text}
 use Rattle.ep_declarations.proofs.SpecLemmas.{passes, fits_is, specs_taken, specs_none, specs_stuck, specs_in}
 use Rattle.ep_declarations.proofs.SpecRead.{none_read, some_read, word_step, not_first, more_than_none}
@@ -69,7 +70,8 @@ members-members-preserved t c =
 pub next_word-returns-then-not-has_bodies-clause-reads : goal.next_word-returns-then-not-has_bodies-clause-reads
 next_word-returns-then-not-has_bodies-clause-reads t c =
     let o = c.in-Some.opening in
-    let k = no_bodies (is_type c.args.reader.now.names.now) (place c.args.place) (bag c.args.words.now) o.line o.word
+    let k = no_bodies (is_type c.args.reader.now.names.now) (context c.args.context) (bag c.args.words.now) o.line
+    (word_number o.word)
     (tag_text o.tag) (map view o.inside.now) (map view c.args.tokens.now) c.in-Some.ensures.value
     (sym c.has_bodies.ensures ∙ c.if-not-has_bodies.true) in
     inl (k.0, k.1, c.stopped-then-not-has_bodies.ensures)
@@ -77,7 +79,8 @@ next_word-returns-then-not-has_bodies-clause-reads t c =
 pub next_word-returns-in_default-with_whole-clause-reads : goal.next_word-returns-in_default-with_whole-clause-reads
 next_word-returns-in_default-with_whole-clause-reads t c =
     let o = c.in-Some.opening in
-    let k = unfit_body (is_type c.args.reader.now.names.now) (place c.args.place) (bag c.args.words.now) o.line o.word
+    let k = unfit_body (is_type c.args.reader.now.names.now) (context c.args.context) (bag c.args.words.now) o.line
+    (word_number o.word)
     (tag_text o.tag) (map view o.inside.now) (map view c.args.tokens.now) c.in-Some.ensures.value
     c.in_default-with_whole.ensures in
     inl (k.0, k.1, c.stopped.ensures)
@@ -87,30 +90,32 @@ next_word-returns-in_err-members-clause-reads t c =
     let p = err_from_is_err_and c.from_residual.result c.from_residual.ensures.1 in
     let N = is_type c.args.reader.now.names.now in
     let o = c.in-Some.opening in
-    let h : has_bodies (place c.args.place) ≡ true = sym c.has_bodies.ensures ∙ c.if-not-has_bodies.false in
+    let h : has_bodies (context c.args.context) ≡ true = sym c.has_bodies.ensures ∙ c.if-not-has_bodies.false in
     let f : fits (with_whole (bag c.args.words.now)) ≡ true = fits_is _ _ c.in-Some-with_whole.ensures.0
     c.in-Some-with_whole.ensures.1 in
     rw (p.1, p.2)
-    (passes (Members N) (InMembers N) (Ahead N (place c.args.place) (bag c.args.words.now))
-    (InBody N (place c.args.place) (bag c.args.words.now)) (map view o.inside.now) (map view c.args.tokens.now)
+    (passes (Members N) (InMembers N) (Ahead N (context c.args.context) (bag c.args.words.now))
+    (InBody N (context c.args.context) (bag c.args.words.now)) (map view o.inside.now) (map view c.args.tokens.now)
     c.in_err-members.field-0.0
-    (body_none N (place c.args.place) (bag c.args.words.now) o.line o.word (tag_text o.tag) (map view o.inside.now)
+    (body_none N (context c.args.context) (bag c.args.words.now) o.line (word_number o.word) (tag_text o.tag)
+    (map view o.inside.now)
     (map view c.args.tokens.now) c.in-Some.ensures.value)
-    (body_in N (place c.args.place) (bag c.args.words.now) o.line o.word (tag_text o.tag) (map view o.inside.now)
+    (body_in N (context c.args.context) (bag c.args.words.now) o.line (word_number o.word) (tag_text o.tag)
+    (map view o.inside.now)
     (map view c.args.tokens.now) c.in-Some.ensures.value h f) c.in_err-members.ensures.reads)
 
 pub next_word-returns-clause-reads : goal.next_word-returns-clause-reads
 next_word-returns-clause-reads t c =
     let N = is_type c.args.reader.now.names.now in
     let o = c.in-Some.opening in
-    let h : has_bodies (place c.args.place) ≡ true = sym c.has_bodies.ensures ∙ c.if-not-has_bodies.false in
+    let h : has_bodies (context c.args.context) ≡ true = sym c.has_bodies.ensures ∙ c.if-not-has_bodies.false in
     let f : fits (with_whole (bag c.args.words.now)) ≡ true = fits_is _ _ c.in-Some-with_whole.ensures.0
     c.in-Some-with_whole.ensures.1 in
     let q = c.in_ok-members.ensures.reads in
-    let k = body_taken N (place c.args.place) (bag c.args.words.now) o.line o.word (tag_text o.tag)
+    let k = body_taken N (context c.args.context) (bag c.args.words.now) o.line (word_number o.word) (tag_text o.tag)
     (map view o.inside.now) (map view c.args.tokens.now) (map view c.in_ok-members.members.rest.now) q.0.value
     c.in-Some.ensures.value h f q.0.takes q.1 in
-    let s : Spec = body (aggregate o.line o.word (tag_text o.tag) (to_members q.0.value)) in (
+    let s : Spec = body (aggregate o.line (word_number o.word) (tag_text o.tag) (to_members q.0.value)) in (
       record {
         value = Some s;
         shows = (
@@ -162,7 +167,7 @@ pub spec_list-returns-in_err-next-clause-reads : goal.spec_list-returns-in_err-n
 spec_list-returns-in_err-next-clause-reads t c =
     let p = err_from_is_err_and c.from_residual-in_err-next.result c.from_residual-in_err-next.ensures.1 in
     let N = is_type c.args.reader.now.names.now in
-    let k = place c.args.place in
+    let k = context c.args.context in
     let i = c.words.invariant.0 in
     rw (p.1, p.2)
     (passes (Ahead N k (bag c.words.bag)) (InBody N k (bag c.words.bag)) (Specified N k) (InSpecs N k no_bag)
@@ -176,7 +181,7 @@ spec_list-returns-then-is_empty-clause-reads t c =
     let N = is_type c.args.reader.now.names.now in
     let i = c.words.invariant.0 in
     let q = rw c.in_default.is at c.in_ok-next.ensures.reads in
-    let k = specs_none N (place c.args.place) (map view c.args.tokens.now) i.0 (bag c.words.bag)
+    let k = specs_none N (context c.args.context) (map view c.args.tokens.now) i.0 (bag c.words.bag)
     (map view c.words.rest.now) (map view c.in_ok-next.next.rest.now) i.3 (none_read N q.0)
     (sym c.is_empty.ensures ∙ c.if-is_empty.true) in
     inl (k.0, k.1, c.stopped.ensures)
@@ -186,7 +191,7 @@ spec_list-returns-in_default-clause-reads t c =
     let N = is_type c.args.reader.now.names.now in
     let i = c.words.invariant.0 in
     let q = rw c.in_default.is at c.in_ok-next.ensures.reads in
-    let k = specs_taken N (place c.args.place) (map view c.args.tokens.now) i.0 (bag c.words.bag)
+    let k = specs_taken N (context c.args.context) (map view c.args.tokens.now) i.0 (bag c.words.bag)
     (map view c.words.rest.now) (map view c.in_ok-next.next.rest.now) i.3 (none_read N q.0) c.words.invariant.1
     (sym c.is_empty.ensures ∙ c.if-is_empty.false) in
     (record { value = i.0; shows = i.1; takes = k.0 }, k.1)
@@ -203,7 +208,7 @@ spec_list-words-preserved t c =
     let i = c.words.invariant.0 in
     let q = rw c.in-Some.is at c.in_ok-next.ensures.reads in
     let w = some_read N q.0 in
-    let k = word_step N (place c.args.place) (map view c.args.tokens.now) i.0 (bag c.words.bag)
+    let k = word_step N (context c.args.context) (map view c.args.tokens.now) i.0 (bag c.words.bag)
     (map view c.words.rest.now) (map view c.in_ok-next.next.rest.now) c.in-Some.one i.3 w q.1 in
     let s : length c.in_ok-next.next.rest.now < length c.words.rest.now =
     rw c.in-Some.is at c.in_ok-next.ensures.shorter in (

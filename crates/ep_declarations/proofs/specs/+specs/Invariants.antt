@@ -4,7 +4,7 @@ use Rattle.ep_ast.specs.TypeWords.{fits}
 use Rattle.ep_lexer.specs.Tokens.{view}
 use Rattle.ep_reading.specs.Names.{is_type}
 use Rattle.ep_type_names.specs.Words.{bag}
-use Rattle.ep_declarations.specs.Answer.{place, ShowsSpecs, ShowsMembers}
+use Rattle.ep_declarations.specs.Answer.{context, ShowsSpecs, ShowsMembers}
 use Rattle.ep_declarations.specs.SpecAhead.{are_none}
 use Rattle.ep_declarations.proofs.SpecLemmas.{SpecsSo}
 use Rattle.ep_declarations.proofs.MemberLemmas.{MembersSo}
@@ -33,7 +33,7 @@ decreases-members-members l = length l.rest
 abbrev pub invariant-spec_list-words : goal.invariant-spec_list-words
 invariant-spec_list-words l =
     ((ss : List Spec) × ShowsSpecs l.found ss × (l.is_first ≡ are_none ss) × SpecsSo (is_type l.reader.names.now)
-    (place l.place) (map view l.tokens) ss (bag l.bag) (map view l.rest)) × (fits (bag l.bag) ≡ true)
+    (context l.context) (map view l.tokens) ss (bag l.bag) (map view l.rest)) × (fits (bag l.bag) ≡ true)
     × (length l.rest ≤ length l.tokens) × (l.is_first ≡ false → length l.rest < length l.tokens)
 
 abbrev pub decreases-spec_list-words : goal.decreases-spec_list-words

@@ -5,7 +5,7 @@ use Rattle.ep_ast.specs.DeclarationGrammar as grammar
 use Rattle.ep_ast.specs.DeclarationGrammar.{Specified}
 use Rattle.ep_lexer.specs.Tokens.{view}
 use Rattle.ep_reading.specs.Names.{is_type}
-use Rattle.ep_declarators.specs.Answer.{NamesTypes}
+use Rattle.ep_declarations.specs.DeclaratorAnswer.{NamesTypes}
 use Rattle.ep_decls.specs.Answer.{NewTypes, InTypedefWords}
 use Rattle.ep_reading.proofs.PassLemmas.{stops_fail, fails_fail}
 use Rattle.ep_decls.proofs.ItemLemmas as items

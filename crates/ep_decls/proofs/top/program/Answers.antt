@@ -4,7 +4,7 @@ use Rattle.ep_ast.specs.BitField.{HasBitField}
 use Rattle.ep_ast.specs.Depth.{brackets_past, too_deep}
 use Rattle.ep_ast.specs.Reading.{Takes}
 use Rattle.ep_lexer.specs.declared.tokens.Token.{Token}
-use Rattle.ep_lexer.specs.Tokens.{view, view_all}
+use Rattle.ep_lexer.specs.Tokens.{view, all_view}
 use Rattle.ep_reading.specs.Answer.{Clear, Fails}
 use Rattle.ep_decls.specs.Answer.{Whole}
 use Rattle.ep_decls.proofs.ProgramLemmas as programs
@@ -12,44 +12,44 @@ use Rattle.ep_decls.proofs.top.program.Goals as goal
 
 pub returns-in-Some-clause-refused : goal.returns-in-Some-clause-refused
 returns-in-Some-clause-refused c =
-    let n : Some c.in-Some.line ≡ brackets_past 0 (view_all c.args.tokens.now) =
+    let n : Some c.in-Some.line ≡ brackets_past 0 (all_view c.args.tokens.now) =
     sym c.in-Some.is ∙ c.brackets_past.ensures ∙ ap (λ (ts : List Token). brackets_past 0 (map view ts))
     c.as_slice-all.ensures.value in
-    programs.brackets_offend (view_all c.args.tokens.now) c.too_deep.result c.in-Some.line c.too_deep.ensures n
+    programs.brackets_offend (all_view c.args.tokens.now) c.too_deep.result c.in-Some.line c.too_deep.ensures n
 
 pub returns-in_err-found-clause-refused : goal.returns-in_err-found-clause-refused
 returns-in_err-found-clause-refused c =
-    let n : None ≡ brackets_past 0 (view_all c.args.tokens.now) =
+    let n : None ≡ brackets_past 0 (all_view c.args.tokens.now) =
     sym c.in_default.is ∙ c.brackets_past.ensures ∙ ap (λ (ts : List Token). brackets_past 0 (map view ts))
     c.as_slice-all.ensures.value in
     let p = err_from_is_err_and c.from_residual.result c.from_residual.ensures.1 in
-    let f : Fails Whole HasBitField (view_all c.args.tokens.now) c.in_err-found.field-0.0 =
+    let f : Fails Whole HasBitField (all_view c.args.tokens.now) c.in_err-found.field-0.0 =
     rw c.as_slice-all.ensures.value at c.in_err-found.ensures.reads in
-    rw (p.1, p.2) (programs.items_offend (view_all c.args.tokens.now) c.in_err-found.field-0.0 n f)
+    rw (p.1, p.2) (programs.items_offend (all_view c.args.tokens.now) c.in_err-found.field-0.0 n f)
 
 pub returns-in-Ok-clause-only : goal.returns-in-Ok-clause-only
 returns-in-Ok-clause-only c = λ is d. (
     let q = c.in_ok-found.ensures.reads in
-    let t : Takes Whole (view_all c.args.tokens.now) q.0 [] = rw c.as_slice-all.ensures.value at q.2 in
-    programs.whole_alone (view_all c.args.tokens.now) q.0 is t d ∙ sym (c.in-Ok.ensures q.0 q.1).0)
+    let t : Takes Whole (all_view c.args.tokens.now) q.0 [] = rw c.as_slice-all.ensures.value at q.2 in
+    programs.whole_alone (all_view c.args.tokens.now) q.0 is t d ∙ sym (c.in-Ok.ensures q.0 q.1).0)
 
 pub returns-in-Err-clause-refused : goal.returns-in-Err-clause-refused
 returns-in-Err-clause-refused c =
-    let n : None ≡ brackets_past 0 (view_all c.args.tokens.now) =
+    let n : None ≡ brackets_past 0 (all_view c.args.tokens.now) =
     sym c.in_default.is ∙ c.brackets_past.ensures ∙ ap (λ (ts : List Token). brackets_past 0 (map view ts))
     c.as_slice-all.ensures.value in
     let q = c.in_ok-found.ensures.reads in
-    let t : Takes Whole (view_all c.args.tokens.now) q.0 [] = rw c.as_slice-all.ensures.value at q.2 in
-    programs.depth_offends (view_all c.args.tokens.now) c.in-Err.refusal q.0 n t (c.in-Err.ensures q.0 q.1)
+    let t : Takes Whole (all_view c.args.tokens.now) q.0 [] = rw c.as_slice-all.ensures.value at q.2 in
+    programs.depth_offends (all_view c.args.tokens.now) c.in-Err.refusal q.0 n t (c.in-Err.ensures q.0 q.1)
 
 pub returns-in-Ok-clause-faultless : goal.returns-in-Ok-clause-faultless
 returns-in-Ok-clause-faultless c =
-    let n : None ≡ brackets_past 0 (view_all c.args.tokens.now) =
+    let n : None ≡ brackets_past 0 (all_view c.args.tokens.now) =
     sym c.in_default.is ∙ c.brackets_past.ensures ∙ ap (λ (ts : List Token). brackets_past 0 (map view ts))
     c.as_slice-all.ensures.value in
     let q = c.in_ok-found.ensures.reads in
-    let t : Takes Whole (view_all c.args.tokens.now) q.0 [] = rw c.as_slice-all.ensures.value at q.2 in
-    let d : Clear HasBitField (view_all c.args.tokens.now) = rw c.as_slice-all.ensures.value at q.3 in
+    let t : Takes Whole (all_view c.args.tokens.now) q.0 [] = rw c.as_slice-all.ensures.value at q.2 in
+    let d : Clear HasBitField (all_view c.args.tokens.now) = rw c.as_slice-all.ensures.value at q.3 in
     let w = c.in-Ok.ensures q.0 q.1 in
     let f : too_deep q.0 ≡ None = w.1 in
-    programs.faultless (view_all c.args.tokens.now) q.0 n t d f
+    programs.faultless (all_view c.args.tokens.now) q.0 n t d f

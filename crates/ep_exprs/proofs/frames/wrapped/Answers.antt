@@ -1,6 +1,6 @@
 use Rattle.std.proofs.Common.{List, ap, sym, ◌∙◌}
 use Rattle.ep_expression_trees.specs.declared.kept.Prefix.{Prefix}
-use Rattle.ep_expression_trees.specs.Kept.{wrap_all, wrap}
+use Rattle.ep_expression_trees.specs.BoundedTrees.{wrap_all, wrap}
 use Rattle.ep_exprs.proofs.PrefixLemmas.{wrap-last}
 use Rattle.ep_exprs.proofs.frames.wrapped.Goals as goal
 

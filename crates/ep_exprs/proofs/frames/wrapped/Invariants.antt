@@ -1,6 +1,6 @@
 use Rattle.std.proofs.Common.{◌≡◌, vec_len}
 use Rattle.ep_ast.specs.Expression.{Expr}
-use Rattle.ep_expression_trees.specs.Kept.{Shows, wrap_all}
+use Rattle.ep_expression_trees.specs.BoundedTrees.{Shows, wrap_all}
 use Rattle.ep_exprs.proofs.frames.wrapped.Given as goal
 
 abbrev pub invariant-loop-prefix : goal.invariant-loop-prefix

@@ -1,15 +1,21 @@
 use Rattle.std.proofs.Common.{◌≡◌, ◌+◌, ◌-◌, map, arith, sym, ap, ◌∙◌, refl, ◌∷◌, ◌++◌, []}
+use Rattle.std.proofs.Common.{rules}
 use Rattle.std.specs.Prelude.{reverse}
+use denote.Enum.Bare.{differs_false, differs_true}
 use Rattle.std.proofs.lemmas.Result.{err_from_is_err_and}
 use Rattle.ep_ast.specs.Expression as tree
 use Rattle.ep_ast.specs.Expression.{Expr, line_of, type_name}
 use Rattle.ep_ast.specs.TypeWords.{TypeNamed}
-use Rattle.ep_ast.specs.Grammar.{expr, bin, cast, postfix, primary, Arguments, Behind, at, with, increment, decrement}
+use Rattle.ep_ast.specs.Grammar.{expr, bin, cast, postfix, primary, Arguments, IsSuffix, at, with, increment, decrement}
 use Rattle.ep_ast.specs.Grammar.{apply}
+use Rattle.ep_ast.specs.contracts.marks.Mark.{the_type}
+use Rattle.ep_ast.specs.declared.marks.Mark.TheVariants as marks
+use Rattle.ep_ast.specs.Mark.{mark_number, word_number}
+use Rattle.ep_ast.proofs.Numbers.{same_mark}
 use Rattle.ep_lexer.specs.Tokens.{view}
 use Rattle.ep_exprs.specs.declared.frames.Frame.TheVariants as frames
 use Rattle.ep_reading.specs.Names.{is_type}
-use Rattle.ep_expression_trees.specs.Kept.{wrap_all}
+use Rattle.ep_expression_trees.specs.BoundedTrees.{wrap_all}
 use Rattle.ep_exprs.specs.Pending.{assigning, asking, begins, Value, Plain, Asked}
 use Rattle.ep_exprs.specs.Parsed.{IsRead}
 use Rattle.ep_expression_trees.proofs.KeptLemmas.{reverse-last}
@@ -214,8 +220,9 @@ operators-returns-in_err-right-clause-reads t c = λ xs h. (
     let s = c.loop-mark.invariant.0 xs h in
     rw (p.1, p.2) (passes (is_type c.args.reader.now.names.now) (bin (c.args.level + 1)) (bin c.args.level)
     (map view c.in-Some.more.now) xs c.in_err-right.field-0.0
-    (levels.operator_refused (is_type c.args.reader.now.names.now) c.args.level c.in-Some.field-0-0 c.in-Some.mark
-    xs (map view c.loop-mark.rest.now) (map view c.in-Some.more.now) s.0 (omega arith) s.2 c.in-Some.ensures.value)
+    (levels.operator_refused (is_type c.args.reader.now.names.now) c.args.level c.in-Some.field-0-0
+    (mark_number c.in-Some.mark) xs (map view c.loop-mark.rest.now) (map view c.in-Some.more.now) s.0
+    (omega arith) s.2 c.in-Some.ensures.value)
     c.in_err-right.ensures.reads))
 
 pub operators-loop-mark-preserved : goal.operators-loop-mark-preserved
@@ -223,9 +230,10 @@ operators-loop-mark-preserved t c = (
   λ xs h. (
       let s = c.loop-mark.invariant.0 xs h in
       let q = c.in_ok-right.ensures.reads in (
-        tree.binary (line_of s.0) c.in-Some.mark s.0 q.tree,
+        tree.binary (line_of s.0) (mark_number c.in-Some.mark) s.0 q.tree,
         c.in_ok-left.ensures s.0 q.tree s.1 q.shows,
-        levels.operator_read (is_type c.args.reader.now.names.now) c.args.level c.in-Some.field-0-0 c.in-Some.mark xs
+        levels.operator_read (is_type c.args.reader.now.names.now) c.args.level c.in-Some.field-0-0
+            (mark_number c.in-Some.mark) xs
             (map view c.loop-mark.rest.now) (map view c.in-Some.more.now) (map view c.in_ok-right.right.rest.now) s.0
             q.tree (omega arith) s.2 c.in-Some.ensures.value q.reads,
       )),
@@ -275,7 +283,7 @@ postfix-returns-then-not-begins_suffix-clause-reads t c =
 pub postfix-returns-in_err-behind-clause-reads : goal.postfix-returns-in_err-behind-clause-reads
 postfix-returns-in_err-behind-clause-reads t c =
     let p = err_from_is_err_and c.from_residual-in_err-behind.result c.from_residual-in_err-behind.ensures.1 in
-    rw (p.1, p.2) (stops_halt (Behind (is_type c.args.reader.now.names.now)) (is_type c.args.reader.now.names.now)
+    rw (p.1, p.2) (stops_halt (IsSuffix (is_type c.args.reader.now.names.now)) (is_type c.args.reader.now.names.now)
     postfix (map view c.marks.rest.now) (map view c.args.tokens.now) c.in_err-behind.field-0.0
     (suffixes.longer_refused (is_type c.args.reader.now.names.now) (map view c.args.tokens.now)
     (map view c.marks.rest.now) c.marks.invariant.0.0 c.marks.invariant.0.2
@@ -303,20 +311,28 @@ primary-returns-then-has-clause-reads t c = (
   c.stopped.ensures,
 )
 
+pub primary-returns-then-ne-clause-reads : goal.primary-returns-then-ne-clause-reads
+primary-returns-then-ne-clause-reads t c = (
+  primaries.other_refused (is_type c.args.reader.now.names.now) c.in-Mark.field-0 (mark_number c.in-Mark.mark)
+      (map view c.args.tokens.now) (map view c.in-Mark.rest.now) c.in-Mark.ensures
+      (λ e. differs_true the_type _ marks.LeftParen (sym c.if-ne.ensures) (same_mark c.in-Mark.mark marks.LeftParen e)),
+  c.stopped-then-ne.ensures,
+)
+
 pub primary-returns-in_err-inner-in-Mark-clause-reads : goal.primary-returns-in_err-inner-in-Mark-clause-reads
 primary-returns-in_err-inner-in-Mark-clause-reads t c =
     let p = err_from_is_err_and c.from_residual-in_err-inner-in-Mark.result
     c.from_residual-in_err-inner-in-Mark.ensures.1 in
     rw (p.1, p.2) (passes (is_type c.args.reader.now.names.now) expr primary (map view c.in-Mark.rest.now)
     (map view c.args.tokens.now) c.in_err-inner-in-Mark.field-0.0
-    (primaries.closed_refused (is_type c.args.reader.now.names.now) c.in-Mark.field-0 c.in-Mark.code
+    (primaries.closed_refused (is_type c.args.reader.now.names.now) c.in-Mark.field-0 (mark_number c.in-Mark.mark)
     (map view c.args.tokens.now) (map view c.in-Mark.rest.now) c.in-Mark.ensures)
     c.in_err-inner-in-Mark.ensures.reads)
 
 pub primary-returns-in_default-clause-reads : goal.primary-returns-in_default-clause-reads
 primary-returns-in_default-clause-reads t c =
     let q = c.in_ok-inner-in-Mark.ensures.reads in (
-      primaries.unclosed_refused (is_type c.args.reader.now.names.now) c.in-Mark.field-0 c.in-Mark.code
+      primaries.unclosed_refused (is_type c.args.reader.now.names.now) c.in-Mark.field-0 (mark_number c.in-Mark.mark)
           (map view c.args.tokens.now) (map view c.in-Mark.rest.now) (map view c.in_ok-inner-in-Mark.inner.rest.now)
           q.tree c.in-Mark.ensures q.reads c.in_default.ensures.value,
       c.stopped-in_default.ensures,
@@ -346,16 +362,18 @@ primary-returns-in-Some-clause-reads t c =
       tree = q.tree;
       shows = q.shows;
       reads = primaries.closed_read (is_type c.args.reader.now.names.now)
-          c.in-Mark.field-0 c.in-Mark.code c.in-Some.field-0-0 (map view c.args.tokens.now)
+          c.in-Mark.field-0 (mark_number c.in-Mark.mark) c.in-Some.field-0-0 (map view c.args.tokens.now)
           (map view c.in-Mark.rest.now)
           (map view c.in_ok-inner-in-Mark.inner.rest.now) (map view c.in-Some.more.now) q.tree
-          c.in-Mark.ensures c.if-code-ne-LEFT_PAREN.false q.reads c.in-Some.ensures.value;
+          c.in-Mark.ensures (ap mark_number
+          (differs_false the_type (search rules) _ marks.LeftParen
+          (sym c.if-ne.ensures))) q.reads c.in-Some.ensures.value;
     }
 
 pub primary-returns-in-Word-clause-reads : goal.primary-returns-in-Word-clause-reads
 primary-returns-in-Word-clause-reads t c = (
   primaries.word_refused (is_type c.args.reader.now.names.now)
-      c.in-Word.field-0 c.in-Word.field-1 (map view c.args.tokens.now) (map view c.in-Word.field-2.now)
+      c.in-Word.field-0 (word_number c.in-Word.field-1) (map view c.args.tokens.now) (map view c.in-Word.field-2.now)
       c.in-Word.ensures,
   c.stopped-in-Word.ensures,
 )
@@ -536,71 +554,90 @@ read_expression-frames-preserved t c =
 
 pub suffix-returns-in_default-at_mark-clause-reads : goal.suffix-returns-in_default-at_mark-clause-reads
 suffix-returns-in_default-at_mark-clause-reads t c =
-    let q = c.in_ok-at-in-24.ensures.reads in (
-      suffixes.index_unclosed (is_type c.args.reader.now.names.now) c.in-Mark.field-0 c.in-Mark.code
-          (map view c.args.tokens.now) (map view c.in-Mark.rest.now) (map view c.in_ok-at-in-24.at.rest.now) q.tree
-          c.in-Mark.ensures c.in-24.is q.reads c.in_default-at_mark.ensures.value,
+    let q = c.in_ok-at-in-LeftBracket.ensures.reads in (
+      suffixes.index_unclosed (is_type c.args.reader.now.names.now) c.in-Mark.field-0 (mark_number c.in-Mark.mark)
+          (map view c.args.tokens.now) (map view c.in-Mark.rest.now)
+          (map view c.in_ok-at-in-LeftBracket.at.rest.now) q.tree
+          c.in-Mark.ensures (ap mark_number c.in-LeftBracket.is) q.reads c.in_default-at_mark.ensures.value,
       c.stopped-in_default-at_mark.ensures,
     )
 
-pub suffix-returns-in_err-all-in-22-clause-reads : goal.suffix-returns-in_err-all-in-22-clause-reads
-suffix-returns-in_err-all-in-22-clause-reads t c =
-    let p = err_from_is_err_and c.from_residual-in_err-all-in-22.result c.from_residual-in_err-all-in-22.ensures.1 in
+pub suffix-returns-in_err-all-in-LeftParen-clause-reads : goal.suffix-returns-in_err-all-in-LeftParen-clause-reads
+suffix-returns-in_err-all-in-LeftParen-clause-reads t c =
+    let p = err_from_is_err_and c.from_residual-in_err-all-in-LeftParen.result
+    c.from_residual-in_err-all-in-LeftParen.ensures.1 in
     rw (p.1, p.2) (stops_stop (Arguments (is_type c.args.reader.now.names.now))
-    (Behind (is_type c.args.reader.now.names.now)) (map view c.in-Mark.rest.now) (map view c.args.tokens.now)
-    c.in_err-all-in-22.field-0.0 (suffixes.call_refused (is_type c.args.reader.now.names.now) c.in-Mark.field-0
-    c.in-Mark.code (map view c.args.tokens.now) (map view c.in-Mark.rest.now) c.in-Mark.ensures c.in-22.is)
-    c.in_err-all-in-22.ensures.reads)
+    (IsSuffix (is_type c.args.reader.now.names.now)) (map view c.in-Mark.rest.now) (map view c.args.tokens.now)
+    c.in_err-all-in-LeftParen.field-0.0 (suffixes.call_refused (is_type c.args.reader.now.names.now) c.in-Mark.field-0
+    (mark_number c.in-Mark.mark) (map view c.args.tokens.now) (map view c.in-Mark.rest.now) c.in-Mark.ensures
+    (ap mark_number c.in-LeftParen.is))
+    c.in_err-all-in-LeftParen.ensures.reads)
 
 pub suffix-returns-in-Some-clause-reads : goal.suffix-returns-in-Some-clause-reads
 suffix-returns-in-Some-clause-reads t c =
-    let q = c.in_ok-at-in-24.ensures.reads in
+    let q = c.in_ok-at-in-LeftBracket.ensures.reads in
     record {
       value = at q.tree;
       shows = (q.tree, refl, q.shows);
       takes =
-          suffixes.index_read (is_type c.args.reader.now.names.now) c.in-Mark.field-0 c.in-Mark.code c.in-Some.field-0-0
-          (map view c.args.tokens.now) (map view c.in-Mark.rest.now) (map view c.in_ok-at-in-24.at.rest.now)
-          (map view c.in-Some.more.now) q.tree c.in-Mark.ensures c.in-24.is q.reads c.in-Some.ensures.value;
+          suffixes.index_read (is_type c.args.reader.now.names.now) c.in-Mark.field-0
+          (mark_number c.in-Mark.mark) c.in-Some.field-0-0
+          (map view c.args.tokens.now) (map view c.in-Mark.rest.now) (map view c.in_ok-at-in-LeftBracket.at.rest.now)
+          (map view c.in-Some.more.now) q.tree c.in-Mark.ensures
+          (ap mark_number c.in-LeftBracket.is) q.reads c.in-Some.ensures.value;
     }
 
-pub suffix-returns-in_ok-all-in-22-clause-reads : goal.suffix-returns-in_ok-all-in-22-clause-reads
-suffix-returns-in_ok-all-in-22-clause-reads t c =
-    let q = c.in_ok-all-in-22.ensures.reads in
+pub suffix-returns-in_ok-all-in-LeftParen-clause-reads : goal.suffix-returns-in_ok-all-in-LeftParen-clause-reads
+suffix-returns-in_ok-all-in-LeftParen-clause-reads t c =
+    let q = c.in_ok-all-in-LeftParen.ensures.reads in
     record {
       value = with q.value;
       shows = (q.value, refl, q.shows);
       takes =
-          suffixes.call_read (is_type c.args.reader.now.names.now) c.in-Mark.field-0 c.in-Mark.code
-          (map view c.args.tokens.now) (map view c.in-Mark.rest.now) (map view c.in_ok-all-in-22.all.rest.now) q.value
-          c.in-Mark.ensures c.in-22.is q.takes;
+          suffixes.call_read (is_type c.args.reader.now.names.now) c.in-Mark.field-0 (mark_number c.in-Mark.mark)
+          (map view c.args.tokens.now) (map view c.in-Mark.rest.now)
+          (map view c.in_ok-all-in-LeftParen.all.rest.now) q.value
+          c.in-Mark.ensures (ap mark_number c.in-LeftParen.is) q.takes;
     }
 
-pub suffix-returns-in-28-clause-reads : goal.suffix-returns-in-28-clause-reads
-suffix-returns-in-28-clause-reads t c = rw c.in-Mark.ensures (c.behind_dot.ensures.reads c.in-Mark.field-0
-    c.in-Mark.code c.in-28.is)
+pub suffix-returns-in-Dot-clause-reads : goal.suffix-returns-in-Dot-clause-reads
+suffix-returns-in-Dot-clause-reads t c = rw c.in-Mark.ensures (c.behind_dot.ensures.reads c.in-Mark.field-0
+    (mark_number c.in-Mark.mark) (ap mark_number c.in-Dot.is))
 
-pub suffix-returns-in-3-clause-reads : goal.suffix-returns-in-3-clause-reads
-suffix-returns-in-3-clause-reads t c = rw c.in-Mark.ensures (c.behind_arrow.ensures.reads c.in-Mark.field-0
-    c.in-Mark.code c.in-3.is)
+pub suffix-returns-in-Arrow-clause-reads : goal.suffix-returns-in-Arrow-clause-reads
+suffix-returns-in-Arrow-clause-reads t c = rw c.in-Mark.ensures (c.behind_arrow.ensures.reads c.in-Mark.field-0
+    (mark_number c.in-Mark.mark) (ap mark_number c.in-Arrow.is))
 
-pub suffix-returns-in-4-clause-reads : goal.suffix-returns-in-4-clause-reads
-suffix-returns-in-4-clause-reads t c = record {
+pub suffix-returns-in-PlusPlus-clause-reads : goal.suffix-returns-in-PlusPlus-clause-reads
+suffix-returns-in-PlusPlus-clause-reads t c = record {
   value = increment;
   shows = refl;
   takes =
-      suffixes.increment_read (is_type c.args.reader.now.names.now) c.in-Mark.field-0 c.in-Mark.code
-      (map view c.args.tokens.now) (map view c.in-Mark.rest.now) c.in-Mark.ensures c.in-4.is;
+      suffixes.increment_read (is_type c.args.reader.now.names.now) c.in-Mark.field-0 (mark_number c.in-Mark.mark)
+      (map view c.args.tokens.now) (map view c.in-Mark.rest.now) c.in-Mark.ensures (ap mark_number c.in-PlusPlus.is);
 }
 
-pub suffix-returns-in-5-clause-reads : goal.suffix-returns-in-5-clause-reads
-suffix-returns-in-5-clause-reads t c = record {
+pub suffix-returns-in-MinusMinus-clause-reads : goal.suffix-returns-in-MinusMinus-clause-reads
+suffix-returns-in-MinusMinus-clause-reads t c = record {
   value = decrement;
   shows = refl;
   takes =
-      suffixes.decrement_read (is_type c.args.reader.now.names.now) c.in-Mark.field-0 c.in-Mark.code
-      (map view c.args.tokens.now) (map view c.in-Mark.rest.now) c.in-Mark.ensures c.in-5.is;
+      suffixes.decrement_read (is_type c.args.reader.now.names.now) c.in-Mark.field-0 (mark_number c.in-Mark.mark)
+      (map view c.args.tokens.now) (map view c.in-Mark.rest.now) c.in-Mark.ensures (ap mark_number c.in-MinusMinus.is);
 }
+
+pub suffix-returns-in_default-mark-clause-reads : goal.suffix-returns-in_default-mark-clause-reads
+suffix-returns-in_default-mark-clause-reads t c = (
+  suffixes.other_refused (is_type c.args.reader.now.names.now) c.in-Mark.field-0 (mark_number c.in-Mark.mark)
+      (map view c.args.tokens.now) (map view c.in-Mark.rest.now) c.in-Mark.ensures
+      (λ e. c.in_default-mark.not-LeftBracket (same_mark c.in-Mark.mark marks.LeftBracket e))
+      (λ e. c.in_default-mark.not-LeftParen (same_mark c.in-Mark.mark marks.LeftParen e))
+      (λ e. c.in_default-mark.not-Dot (same_mark c.in-Mark.mark marks.Dot e))
+      (λ e. c.in_default-mark.not-Arrow (same_mark c.in-Mark.mark marks.Arrow e))
+      (λ e. c.in_default-mark.not-PlusPlus (same_mark c.in-Mark.mark marks.PlusPlus e))
+      (λ e. c.in_default-mark.not-MinusMinus (same_mark c.in-Mark.mark marks.MinusMinus e)),
+  c.stopped-in_default-mark.ensures,
+)
 
 pub tighter-returns-in_err-first-clause-reads : goal.tighter-returns-in_err-first-clause-reads
 tighter-returns-in_err-first-clause-reads t c =

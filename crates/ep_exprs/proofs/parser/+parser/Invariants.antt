@@ -7,7 +7,7 @@ use Rattle.ep_ast.specs.Grammar.{bin}
 use Rattle.ep_ast.specs.Reading.{Lacks}
 use Rattle.ep_lexer.specs.Tokens.{view}
 use Rattle.ep_reading.specs.Names.{is_type}
-use Rattle.ep_expression_trees.specs.Kept.{Shows, ShowsAll}
+use Rattle.ep_expression_trees.specs.BoundedTrees.{Shows, ShowsAll}
 use Rattle.ep_exprs.specs.Pending.{Waits, wanted}
 use Rattle.ep_exprs.specs.Parsed.{IsRead}
 use Rattle.ep_exprs.proofs.ArgumentLemmas.{ListSo}

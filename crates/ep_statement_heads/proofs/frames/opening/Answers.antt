@@ -1,5 +1,8 @@
-use Rattle.std.proofs.Common.{map, refl, ◌∷◌}
+use Rattle.std.proofs.Common.{map, refl, ap, ◌∷◌}
 use Rattle.std.proofs.lemmas.Result.{err_from_is_err_and}
+use Rattle.ep_ast.specs.declared.words.Word.TheVariants as words
+use Rattle.ep_ast.specs.Mark.{word_number}
+use Rattle.ep_ast.proofs.Numbers.{same_word}
 use Rattle.ep_ast.specs.Token.{word}
 use Rattle.ep_ast.specs.StatementGrammar.{InParens, States}
 use Rattle.ep_lexer.specs.Tokens.{view}
@@ -11,87 +14,95 @@ use Rattle.ep_statement_heads.proofs.HeadLemmas.{opens, opens_none, if_rule, whi
 use Rattle.ep_statement_heads.proofs.HeadLemmas.{word_no_head, no_token_no_head}
 use Rattle.ep_statement_heads.proofs.frames.opening.Goals as goal
 
-pub returns-in_err-test-in-Word-clause-reads : goal.returns-in_err-test-in-Word-clause-reads
-returns-in_err-test-in-Word-clause-reads c =
+pub returns-in_err-test-in-If-clause-reads : goal.returns-in_err-test-in-If-clause-reads
+returns-in_err-test-in-If-clause-reads c =
     let p = err_from_is_err_and c.from_residual.result c.from_residual.ensures.1 in
     let N = is_type c.args.reader.now.names.now in
     rw (p.1, p.2, c.in-Word.ensures)
     (stops_stop (InParens N) (States N) (map view c.in-Word.rest.now)
-    (word c.in-Word.line c.in-Word.code ∷ map view c.in-Word.rest.now) c.in_err-test-in-Word.field-0.0
-    (λ n. opens_none N (if_rule N c.in-Word.line c.in-Word.code (map view c.in-Word.rest.now) c.if-code-eq-IF.true)
-    n) c.in_err-test-in-Word.ensures.reads)
+    (word c.in-Word.line (word_number c.in-Word.word) ∷ map view c.in-Word.rest.now) c.in_err-test-in-If.field-0.0
+    (λ n. opens_none N (if_rule N c.in-Word.line (word_number c.in-Word.word) (map view c.in-Word.rest.now)
+    (ap word_number c.in-If.is))
+    n) c.in_err-test-in-If.ensures.reads)
 
-pub returns-then-code-eq-IF-clause-reads : goal.returns-then-code-eq-IF-clause-reads
-returns-then-code-eq-IF-clause-reads c =
-    let q = c.in_ok-test-in-Word.ensures.reads in
+pub returns-in_ok-test-in-If-clause-reads : goal.returns-in_ok-test-in-If-clause-reads
+returns-in_ok-test-in-If-clause-reads c =
+    let q = c.in_ok-test-in-If.ensures.reads in
     rw c.in-Word.ensures (record {
       head = if_head c.in-Word.line q.value;
       shows = (q.value, refl, q.shows);
       opens = opens
           (is_type c.args.reader.now.names.now)
-          (if_rule (is_type c.args.reader.now.names.now) c.in-Word.line c.in-Word.code (map view c.in-Word.rest.now)
-          c.if-code-eq-IF.true) q.takes;
+          (if_rule (is_type c.args.reader.now.names.now) c.in-Word.line (word_number c.in-Word.word)
+          (map view c.in-Word.rest.now)
+          (ap word_number c.in-If.is)) q.takes;
     })
 
-pub returns-in_err-test-in-Word-2-clause-reads : goal.returns-in_err-test-in-Word-2-clause-reads
-returns-in_err-test-in-Word-2-clause-reads c =
-    let p = err_from_is_err_and c.from_residual-in_err-test-in-Word-2.result
-    c.from_residual-in_err-test-in-Word-2.ensures.1 in
+pub returns-in_err-test-in-While-clause-reads : goal.returns-in_err-test-in-While-clause-reads
+returns-in_err-test-in-While-clause-reads c =
+    let p = err_from_is_err_and c.from_residual-in_err-test-in-While.result
+    c.from_residual-in_err-test-in-While.ensures.1 in
     let N = is_type c.args.reader.now.names.now in
     rw (p.1, p.2, c.in-Word.ensures)
     (stops_stop (InParens N) (States N) (map view c.in-Word.rest.now)
-    (word c.in-Word.line c.in-Word.code ∷ map view c.in-Word.rest.now) c.in_err-test-in-Word-2.field-0.0
-    (λ n. opens_none N (while_rule N c.in-Word.line c.in-Word.code (map view c.in-Word.rest.now)
-    c.if-code-eq-WHILE.true) n) c.in_err-test-in-Word-2.ensures.reads)
+    (word c.in-Word.line (word_number c.in-Word.word) ∷ map view c.in-Word.rest.now) c.in_err-test-in-While.field-0.0
+    (λ n. opens_none N (while_rule N c.in-Word.line (word_number c.in-Word.word) (map view c.in-Word.rest.now)
+    (ap word_number c.in-While.is)) n) c.in_err-test-in-While.ensures.reads)
 
-pub returns-then-code-eq-WHILE-clause-reads : goal.returns-then-code-eq-WHILE-clause-reads
-returns-then-code-eq-WHILE-clause-reads c =
-    let q = c.in_ok-test-in-Word-2.ensures.reads in
+pub returns-in_ok-test-in-While-clause-reads : goal.returns-in_ok-test-in-While-clause-reads
+returns-in_ok-test-in-While-clause-reads c =
+    let q = c.in_ok-test-in-While.ensures.reads in
     rw c.in-Word.ensures (record {
       head = while_head c.in-Word.line q.value;
       shows = (q.value, refl, q.shows);
       opens = opens
           (is_type c.args.reader.now.names.now)
-          (while_rule (is_type c.args.reader.now.names.now) c.in-Word.line c.in-Word.code (map view c.in-Word.rest.now)
-          c.if-code-eq-WHILE.true) q.takes;
+          (while_rule (is_type c.args.reader.now.names.now) c.in-Word.line (word_number c.in-Word.word)
+          (map view c.in-Word.rest.now)
+          (ap word_number c.in-While.is)) q.takes;
     })
 
-pub returns-in_err-heading-in-Word-clause-reads : goal.returns-in_err-heading-in-Word-clause-reads
-returns-in_err-heading-in-Word-clause-reads c =
-    let p = err_from_is_err_and c.from_residual-in_err-heading-in-Word.result
-    c.from_residual-in_err-heading-in-Word.ensures.1 in
+pub returns-in_err-heading-in-For-clause-reads : goal.returns-in_err-heading-in-For-clause-reads
+returns-in_err-heading-in-For-clause-reads c =
+    let p = err_from_is_err_and c.from_residual-in_err-heading-in-For.result
+    c.from_residual-in_err-heading-in-For.ensures.1 in
     let N = is_type c.args.reader.now.names.now in
     rw (p.1, p.2, c.in-Word.ensures)
     (stops_stop (Headings N) (States N) (map view c.in-Word.rest.now)
-    (word c.in-Word.line c.in-Word.code ∷ map view c.in-Word.rest.now) c.in_err-heading-in-Word.field-0.0
-    (λ n. opens_none N (for_rule N c.in-Word.line c.in-Word.code (map view c.in-Word.rest.now)
-    c.if-code-eq-FOR.true) n) c.in_err-heading-in-Word.ensures.reads)
+    (word c.in-Word.line (word_number c.in-Word.word) ∷ map view c.in-Word.rest.now) c.in_err-heading-in-For.field-0.0
+    (λ n. opens_none N (for_rule N c.in-Word.line (word_number c.in-Word.word) (map view c.in-Word.rest.now)
+    (ap word_number c.in-For.is)) n) c.in_err-heading-in-For.ensures.reads)
 
-pub returns-then-code-eq-FOR-clause-reads : goal.returns-then-code-eq-FOR-clause-reads
-returns-then-code-eq-FOR-clause-reads c =
-    let q = c.in_ok-heading-in-Word.ensures.reads in
+pub returns-in_ok-boxed-in-For-clause-reads : goal.returns-in_ok-boxed-in-For-clause-reads
+returns-in_ok-boxed-in-For-clause-reads c =
+    let q = c.in_ok-heading-in-For.ensures.reads in
     rw c.in-Word.ensures (record {
       head = for_head c.in-Word.line q.value;
-      shows = (q.value, refl, rw c.in_ok-boxed-in-Word.ensures.ok q.shows);
+      shows = (q.value, refl, rw c.in_ok-boxed-in-For.ensures.ok q.shows);
       opens = opens (is_type c.args.reader.now.names.now)
-          (for_rule (is_type c.args.reader.now.names.now) c.in-Word.line c.in-Word.code (map view c.in-Word.rest.now)
-          c.if-code-eq-FOR.true) q.takes;
+          (for_rule (is_type c.args.reader.now.names.now) c.in-Word.line (word_number c.in-Word.word)
+          (map view c.in-Word.rest.now)
+          (ap word_number c.in-For.is)) q.takes;
     })
 
-pub returns-then-code-eq-DO-clause-reads : goal.returns-then-code-eq-DO-clause-reads
-returns-then-code-eq-DO-clause-reads c =
+pub returns-in-Do-clause-reads : goal.returns-in-Do-clause-reads
+returns-in-Do-clause-reads c =
     rw c.in-Word.ensures (record {
       head = do_head c.in-Word.line;
       shows = refl;
       opens = opens (is_type c.args.reader.now.names.now)
-          (do_rule (is_type c.args.reader.now.names.now) c.in-Word.line c.in-Word.code (map view c.in-Word.rest.now)
-          c.if-code-eq-DO.true) (same_taken (is_type c.args.reader.now.names.now) (map view c.in-Word.rest.now));
+          (do_rule (is_type c.args.reader.now.names.now) c.in-Word.line (word_number c.in-Word.word)
+          (map view c.in-Word.rest.now)
+          (ap word_number c.in-Do.is)) (same_taken (is_type c.args.reader.now.names.now) (map view c.in-Word.rest.now));
     })
 
-pub returns-else-code-eq-DO-clause-reads : goal.returns-else-code-eq-DO-clause-reads
-returns-else-code-eq-DO-clause-reads c = word_no_head (is_type c.args.reader.now.names.now) c.in-Word.line
-    c.in-Word.code (map view c.args.tokens.now) (map view c.in-Word.rest.now) c.in-Word.ensures c.if-code-eq-IF.false
-    c.if-code-eq-WHILE.false c.if-code-eq-FOR.false c.if-code-eq-DO.false
+pub returns-in_default-clause-reads : goal.returns-in_default-clause-reads
+returns-in_default-clause-reads c = word_no_head (is_type c.args.reader.now.names.now) c.in-Word.line
+    (word_number c.in-Word.word) (map view c.args.tokens.now) (map view c.in-Word.rest.now) c.in-Word.ensures
+    (λ e. c.in_default.not-If (same_word c.in-Word.word words.If e))
+    (λ e. c.in_default.not-While (same_word c.in-Word.word words.While e))
+    (λ e. c.in_default.not-For (same_word c.in-Word.word words.For e))
+    (λ e. c.in_default.not-Do (same_word c.in-Word.word words.Do e))
 
 pub returns-in-Name-clause-reads : goal.returns-in-Name-clause-reads
 returns-in-Name-clause-reads c = rw c.in-Name.ensures tt

@@ -1,5 +1,5 @@
 use Rattle.std.proofs.Common.{ap, ◌∙◌, sym}
-use Rattle.ep_statement_parts.specs.Shown.{body}
+use Rattle.ep_statement_parts.specs.View.{body}
 use Rattle.ep_statement_parts.proofs.DepthLemmas.{parts_first}
 use Rattle.ep_statement_parts.proofs.kept.body_of.Goals as goal
 

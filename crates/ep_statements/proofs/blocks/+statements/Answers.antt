@@ -11,7 +11,7 @@ use Rattle.ep_reading.specs.Names.{is_type}
 use Rattle.ep_reading.specs.Answer.{IsTaken}
 use Rattle.ep_expression_trees.proofs.KeptLemmas.{reverse-last}
 use Rattle.ep_reading.proofs.PassLemmas.{stops_stop}
-use Rattle.ep_statement_parts.specs.Shown.{ShowsStmt}
+use Rattle.ep_statement_parts.specs.View.{ShowsStmt}
 use Rattle.ep_ast.specs.Cut.{order_token}
 use Rattle.ep_simple_statements.specs.Piece.{HasNoHead}
 use Rattle.ep_statement_heads.specs.Around.{Waits, Stands, Opened}

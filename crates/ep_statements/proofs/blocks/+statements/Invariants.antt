@@ -3,7 +3,7 @@ use Rattle.std.specs.Prelude.{reverse}
 use Rattle.ep_ast.specs.Statement.{Stmt, Part}
 use Rattle.ep_lexer.specs.Tokens.{view}
 use Rattle.ep_reading.specs.Names.{is_type}
-use Rattle.ep_statement_parts.specs.Shown.{ShowsStmts, ShowsParts}
+use Rattle.ep_statement_parts.specs.View.{ShowsStmts, ShowsParts}
 use Rattle.ep_statement_heads.specs.Around.{Waits}
 use Rattle.ep_statements.proofs.PartLemmas.{PartsSo, StatementsSo}
 use Rattle.ep_statements.proofs.blocks.+statements.Given as goal

@@ -5,7 +5,7 @@ use Rattle.ep_ast.specs.StatementGrammar.{Blocks, Parts}
 use Rattle.ep_lexer.specs.Tokens.{view}
 use Rattle.ep_reading.specs.Names.{is_type}
 use Rattle.ep_reading.proofs.PassLemmas.{stops_stop}
-use Rattle.ep_statement_parts.specs.Shown.{body}
+use Rattle.ep_statement_parts.specs.View.{body}
 use Rattle.ep_reading.proofs.SequenceLemmas.{made, made_none}
 use Rattle.ep_statements.proofs.PartLemmas.{braces_rule, braces_lacking}
 use Rattle.ep_statements.proofs.blocks.block.Goals as goal
