@@ -1,28 +1,23 @@
 -- Lists of marks, groups and numbers.
 use Rattle.std.proofs.Common.{◌≡◌, ℕ, zero, suc, ◌+◌, ◌<◌, ◌≤◌, nat_eq, Bool, true, false, cond, ◌⊎◌, inl, inr, List}
+use Rattle.ep_core.proofs.Sorts.{never}
+use Rattle.ep_int.proofs.Basics.{nat_eq-self, slice_get-here}
+use Rattle.std.proofs.lemmas.Bool.{cases_lt, eqb-true}
+use Rattle.std.proofs.lemmas.Bool.{or_cases, or_left, or_right}
 use Rattle.std.proofs.Common.{[], ◌∷◌, ◌++◌, length, get_or, set, Option, Some, None, refl, sym, ap, ◌∙◌, subst}
-use Rattle.std.proofs.Common.{arith, eq-zero-or-pos, ◌-◌, append-nil, eq-eqb, ne_eqb, nat_lt, ltb-true, ltb-false}
+use Rattle.std.proofs.Common.{arith, ◌-◌, append-nil, eq-eqb, ne_eqb, nat_lt, ltb-true, ltb-false}
 use Rattle.std.proofs.Common.{◌==◌, map, drop, take, drop-cons, append_assoc, Result, Ok, Err, OnOk}
 use Rattle.std.specs.Prelude.{slice_get, vec_len}
 use Rattle.std.specs.List.{filter}
-use Rattle.std.proofs.lemmas.Option.{slice_get-get_or, slice_get_past}
+use Rattle.std.proofs.lemmas.Option.{slice_get_past}
 use Rattle.std.proofs.lemmas.List.{take_more, map-append}
 use Rattle.ep_elaboration.specs.Calls as rule
-use Rattle.ep_call_graph.specs.declared.places.Place.{Place}
+use Rattle.ep_call_graph.specs.declared.places.CallSite.{CallSite}
 use Rattle.std.specs.Global.{Vec}
 use Rattle.ep_int.specs.Memory.{contains}
-use Rattle.ep_call_laws.proofs.Paths.{never, either_is, left_is, right_is, same, equal}
-use Rattle.ep_call_graph.specs.Seen.{AreWithin, listed, place, places}
-
-pub lt_or_le : (i n : ℕ) → (i < n) ⊎ (n ≤ i)
-lt_or_le i n = elim (eq-zero-or-pos (suc i - n)) [ inl e ↦ inl (omega arith) | inr e ↦ inr (omega arith) ]
+use Rattle.ep_call_graph.specs.View.{AreWithin, listed, call_site, call_sites}
 
 -- ---- elements of lists
-
-pub in_front : {A : Type 0} (xs ys : List A) (k : ℕ) (x : A) → slice_get xs k ≡ Some x → slice_get (xs ++ ys) k ≡ Some x
-in_front [] ys k x h = absurd cc
-in_front (y ∷ xs) ys zero x h = h
-in_front (y ∷ xs) ys (suc k) x h = in_front xs ys k x h
 
 pub behind : {A : Type 0} (xs ys : List A) (j k : ℕ) (x : A) → k ≡ length xs + j → slice_get ys j ≡ Some x
     → slice_get (xs ++ ys) k ≡ Some x
@@ -50,8 +45,8 @@ only y (suc k) x h = absurd cc
 
 pub place_of : (g : ℕ) (xs : List ℕ) → contains g xs ≡ true → (k : ℕ) × (slice_get xs k ≡ Some g)
 place_of g [] h = never h
-place_of g (x ∷ xs) h = elim (either_is (nat_eq g x) (contains g xs) h) [
-  | inl e ↦ (0, ap (λ (y : ℕ). Some y) (sym (equal g x e)))
+place_of g (x ∷ xs) h = elim (or_cases (nat_eq g x) (contains g xs) h) [
+  | inl e ↦ (0, ap (λ (y : ℕ). Some y) (sym (eqb-true g x e)))
   | inr e ↦ let r = place_of g xs e in (suc r.0, r.1)
 ]
 
@@ -59,8 +54,8 @@ pub placed_in : (g : ℕ) (xs : List ℕ) (k : ℕ) → slice_get xs k ≡ Some 
 placed_in g [] k h = absurd cc
 placed_in g (x ∷ xs) zero h =
     let e : x ≡ g = cc in
-    subst (λ (y : ℕ). contains g (y ∷ xs) ≡ true) (sym e) (left_is (nat_eq g g) (contains g xs) (same g))
-placed_in g (x ∷ xs) (suc k) h = right_is (nat_eq g x) (contains g xs) (placed_in g xs k h)
+    subst (λ (y : ℕ). contains g (y ∷ xs) ≡ true) (sym e) (or_left (nat_eq g g) (contains g xs) (nat_eq-self g))
+placed_in g (x ∷ xs) (suc k) h = or_right (nat_eq g x) (contains g xs) (placed_in g xs k h)
 
 -- ---- lists of lists
 
@@ -68,7 +63,7 @@ eqb-suc : (i f : ℕ) → nat_eq (suc i) (suc f) ≡ nat_eq i f
 eqb-suc i f = at_b (nat_eq i f) refl
   where
     at_b : (b : Bool) → nat_eq i f ≡ b → nat_eq (suc i) (suc f) ≡ b
-    at_b true e = eq-eqb (suc i) (suc f) (ap suc (equal i f e))
+    at_b true e = eq-eqb (suc i) (suc f) (ap suc (eqb-true i f e))
     at_b false e = ne_eqb (suc i) (suc f) (λ q. never (sym e ∙ eq-eqb i f (let z : i ≡ f = omega arith in z)))
 
 pub listed_set : {A : Type 0} (vs : List (Vec A)) (i f : ℕ) (v : Vec A) → i < length vs
@@ -97,13 +92,10 @@ listed_more [] v (suc f) e h = refl
 listed_more (w ∷ vs) v zero e h = h 0
 listed_more (w ∷ vs) v (suc f) e h = listed_more vs v f e (λ g. h (suc g))
 
-pub read_at : {A : Type 0} (xs : List A) (i : ℕ) (x : A) → i < length xs → x ≡ get_or xs i x → slice_get xs i ≡ Some x
-read_at {A = A} xs i x l e = slice_get-get_or xs i x l ∙ ap (λ (y : A). Some y) (sym e)
-
 -- what `get` found
 pub found_at : {A : Type 0} (vs : List (Vec A)) (f : ℕ) (v : Vec A) → true ≡ nat_lt f (length vs) → v ≡ get_or vs f v
     → listed vs f ≡ v.items
-found_at vs f v l e = listed_at vs f v (read_at vs f v (ltb-true f (length vs) (sym l)) e)
+found_at vs f v l e = listed_at vs f v (slice_get-here vs f v (ltb-true f (length vs) (sym l)) e)
 
 pub none_found : {A : Type 0} (vs : List (Vec A)) (f : ℕ) → false ≡ nat_lt f (length vs) → listed vs f ≡ []
 none_found vs f l = listed_past vs f (slice_get_past vs f (ltb-false f (length vs) (sym l)))
@@ -119,7 +111,7 @@ added_to {A = A} vs at f item v w l h e = at_f (nat_eq at f) refl
     at_f : (b : Bool) → nat_eq at f ≡ b → listed (set vs at w) f ≡ listed vs f ++ cond b (item ∷ []) []
     at_f true q =
         listed_set vs at f w l ∙ ap (λ (b : Bool). cond b w.items (listed vs f)) q ∙ e
-        ∙ ap (λ (xs : List A). xs ++ item ∷ []) (sym (ap (listed vs) (sym (equal at f q)) ∙ listed_at vs at v (read_at vs at v l h)))
+        ∙ ap (λ (xs : List A). xs ++ item ∷ []) (sym (ap (listed vs) (sym (eqb-true at f q)) ∙ listed_at vs at v (slice_get-here vs at v l h)))
     at_f false q =
         listed_set vs at f w l ∙ ap (λ (b : Bool). cond b w.items (listed vs f)) q ∙ sym (append-nil (listed vs f))
 
@@ -131,7 +123,7 @@ front {A = A} i j xs x q lt e =
     drop-cons xs i x lt ∙ ap (λ (y : A). y ∷ drop (suc i) xs) (sym e) ∙ ap (λ (n : ℕ). x ∷ drop n xs) more
 
 -- one call and the others
-callees_more : (p : rule.Place) (o : Option ℕ) (cs : List rule.Call) (f : ℕ)
+callees_more : (p : rule.CallSite) (o : Option ℕ) (cs : List rule.Call) (f : ℕ)
     → rule.callees (rule.call_at p o ++ cs) f ≡ rule.callees (rule.call_at p o) f ++ rule.callees cs f
 callees_more p None cs f = refl
 callees_more p (Some g) cs f = at_f (nat_eq p.caller f)
@@ -150,45 +142,45 @@ one_call caller line callee depth f = at_f (nat_eq caller f)
     at_f true = refl
     at_f false = refl
 
-pub step_calls : (ps rest : List rule.Place) (p : rule.Place) (f : ℕ) (old new all : List ℕ) → ps ≡ p ∷ rest
+pub step_calls : (ps rest : List rule.CallSite) (p : rule.CallSite) (f : ℕ) (old new all : List ℕ) → ps ≡ p ∷ rest
     → new ≡ old ++ rule.callees (rule.call_at p p.callee) f → old ++ rule.callees (rule.calls_of ps) f ≡ all
     → new ++ rule.callees (rule.calls_of rest) f ≡ all
 step_calls ps rest p f old new all e n h =
     ap (λ (xs : List ℕ). xs ++ rule.callees (rule.calls_of rest) f) n
     ∙ append_assoc old (rule.callees (rule.call_at p p.callee) f) (rule.callees (rule.calls_of rest) f)
     ∙ ap (λ (xs : List ℕ). old ++ xs) (sym (callees_more p p.callee (rule.calls_of rest) f))
-    ∙ ap (λ (xs : List rule.Place). old ++ rule.callees (rule.calls_of xs) f) (sym e) ∙ h
+    ∙ ap (λ (xs : List rule.CallSite). old ++ rule.callees (rule.calls_of xs) f) (sym e) ∙ h
 
-pub step_places : (ps rest : List rule.Place) (p : rule.Place) (f : ℕ) (old new all : List rule.Place) → ps ≡ p ∷ rest
-    → new ≡ old ++ cond (nat_eq p.caller f) (p ∷ []) [] → old ++ rule.places_in ps f ≡ all
-    → new ++ rule.places_in rest f ≡ all
+pub step_places : (ps rest : List rule.CallSite) (p : rule.CallSite) (f : ℕ) (old new all : List rule.CallSite) → ps ≡ p ∷ rest
+    → new ≡ old ++ cond (nat_eq p.caller f) (p ∷ []) [] → old ++ rule.call_sites_in ps f ≡ all
+    → new ++ rule.call_sites_in rest f ≡ all
 step_places ps rest p f old new all e n h = at_f (nat_eq p.caller f) refl
   where
-    at_f : (b : Bool) → nat_eq p.caller f ≡ b → new ++ rule.places_in rest f ≡ all
+    at_f : (b : Bool) → nat_eq p.caller f ≡ b → new ++ rule.call_sites_in rest f ≡ all
     at_f true q =
-        ap (λ (xs : List rule.Place). xs ++ rule.places_in rest f) (n ∙ ap (λ (b : Bool). old ++ cond b (p ∷ []) []) q)
-        ∙ append_assoc old (p ∷ []) (rule.places_in rest f)
-        ∙ sym (ap (λ (xs : List rule.Place). old ++ rule.places_in xs f) e ∙ ap (λ (b : Bool). old ++ cond b (p ∷ rule.places_in rest f) (rule.places_in rest f)) q) ∙ h
+        ap (λ (xs : List rule.CallSite). xs ++ rule.call_sites_in rest f) (n ∙ ap (λ (b : Bool). old ++ cond b (p ∷ []) []) q)
+        ∙ append_assoc old (p ∷ []) (rule.call_sites_in rest f)
+        ∙ sym (ap (λ (xs : List rule.CallSite). old ++ rule.call_sites_in xs f) e ∙ ap (λ (b : Bool). old ++ cond b (p ∷ rule.call_sites_in rest f) (rule.call_sites_in rest f)) q) ∙ h
     at_f false q =
-        ap (λ (xs : List rule.Place). xs ++ rule.places_in rest f) (n ∙ ap (λ (b : Bool). old ++ cond b (p ∷ []) []) q ∙ append-nil old)
-        ∙ sym (ap (λ (xs : List rule.Place). old ++ rule.places_in xs f) e ∙ ap (λ (b : Bool). old ++ cond b (p ∷ rule.places_in rest f) (rule.places_in rest f)) q) ∙ h
+        ap (λ (xs : List rule.CallSite). xs ++ rule.call_sites_in rest f) (n ∙ ap (λ (b : Bool). old ++ cond b (p ∷ []) []) q ∙ append-nil old)
+        ∙ sym (ap (λ (xs : List rule.CallSite). old ++ rule.call_sites_in xs f) e ∙ ap (λ (b : Bool). old ++ cond b (p ∷ rule.call_sites_in rest f) (rule.call_sites_in rest f)) q) ∙ h
 
 pub front_at : {A : Type 0} (i : ℕ) (xs : List A) (d : A) → i < length xs → drop i xs ≡ get_or xs i d ∷ drop (i + 1) xs
 front_at {A = A} i xs d l =
     let more : suc i ≡ i + 1 = omega arith in
     drop-cons xs i d l ∙ ap (λ (n : ℕ). get_or xs i d ∷ drop n xs) more
 
-pub places_front : (i : ℕ) (ps : List Place) (d : Place) → i < length ps
-    → places (drop i ps) ≡ place (get_or ps i d) ∷ places (drop (i + 1) ps)
-places_front i ps d l = ap places (front_at i ps d l)
+pub places_front : (i : ℕ) (ps : List CallSite) (d : CallSite) → i < length ps
+    → call_sites (drop i ps) ≡ call_site (get_or ps i d) ∷ call_sites (drop (i + 1) ps)
+places_front i ps d l = ap call_sites (front_at i ps d l)
 
-pub no_call : (p : Place) (xs : List ℕ) (f : ℕ) → p.callee ≡ None → xs ≡ xs ++ rule.callees (rule.call_at (place p) p.callee) f
+pub no_call : (p : CallSite) (xs : List ℕ) (f : ℕ) → p.callee ≡ None → xs ≡ xs ++ rule.callees (rule.call_at (call_site p) p.callee) f
 no_call p xs f e =
-    sym (append-nil xs) ∙ sym (ap (λ (o : Option ℕ). xs ++ rule.callees (rule.call_at (place p) o) f) e)
+    sym (append-nil xs) ∙ sym (ap (λ (o : Option ℕ). xs ++ rule.callees (rule.call_at (call_site p) o) f) e)
 
-pub a_call : {E : Type 0} (r : Result (Unit {0}) E) (p : Place) (g : ℕ) (old new : ℕ → List ℕ) → p.callee ≡ Some g
+pub a_call : {E : Type 0} (r : Result (Unit {0}) E) (p : CallSite) (g : ℕ) (old new : ℕ → List ℕ) → p.callee ≡ Some g
     → OnOk r ((f : ℕ) → new f ≡ old f ++ cond (nat_eq p.caller f) (g ∷ []) [])
-    → OnOk r ((f : ℕ) → new f ≡ old f ++ rule.callees (rule.call_at (place p) p.callee) f)
+    → OnOk r ((f : ℕ) → new f ≡ old f ++ rule.callees (rule.call_at (call_site p) p.callee) f)
 a_call (Err x) p g old new e h = tt
 a_call (Ok x) p g old new e h = λ f.
     h f ∙ ap (λ (xs : List ℕ). old f ++ xs) (sym (one_call p.caller p.line g p.depth f)
@@ -196,27 +188,21 @@ a_call (Ok x) p g old new e h = λ f.
     ∙ refl))
 
 -- a place more of its function
-pub placed_more : (p : Place) (f : ℕ) (old new : List Place) → new ≡ old ++ cond (nat_eq p.caller f) (p ∷ []) []
-    → places new ≡ places old ++ cond (nat_eq p.caller f) (place p ∷ []) []
+pub placed_more : (p : CallSite) (f : ℕ) (old new : List CallSite) → new ≡ old ++ cond (nat_eq p.caller f) (p ∷ []) []
+    → call_sites new ≡ call_sites old ++ cond (nat_eq p.caller f) (call_site p ∷ []) []
 placed_more p f old new e = at_f (nat_eq p.caller f) refl
   where
-    at_f : (b : Bool) → nat_eq p.caller f ≡ b → places new ≡ places old ++ cond b (place p ∷ []) []
-    at_f true q = ap places (e ∙ ap (λ (b : Bool). old ++ cond b (p ∷ []) []) q) ∙ map-append place old (p ∷ [])
-    at_f false q = ap places (e ∙ ap (λ (b : Bool). old ++ cond b (p ∷ []) []) q ∙ append-nil old) ∙ sym (append-nil (places old))
+    at_f : (b : Bool) → nat_eq p.caller f ≡ b → call_sites new ≡ call_sites old ++ cond b (call_site p ∷ []) []
+    at_f true q = ap call_sites (e ∙ ap (λ (b : Bool). old ++ cond b (p ∷ []) []) q) ∙ map-append call_site old (p ∷ [])
+    at_f false q = ap call_sites (e ∙ ap (λ (b : Bool). old ++ cond b (p ∷ []) []) q ∙ append-nil old) ∙ sym (append-nil (call_sites old))
 
-pub within_front : (n i : ℕ) (ps : List Place) (d : Place) → i < length ps → AreWithin n (places (drop i ps))
-    → ((get_or ps i d).caller < n) × AreWithin n (places (drop (i + 1) ps))
+pub within_front : (n i : ℕ) (ps : List CallSite) (d : CallSite) → i < length ps → AreWithin n (call_sites (drop i ps))
+    → ((get_or ps i d).caller < n) × AreWithin n (call_sites (drop (i + 1) ps))
 within_front n i ps d l a =
-    let b = subst (λ (xs : List Place). AreWithin n (places xs)) (front_at i ps d l) a in (b.0, b.1.1)
+    let b = subst (λ (xs : List CallSite). AreWithin n (call_sites xs)) (front_at i ps d l) a in (b.0, b.1.1)
 
 pub map_step : {A B : Type 0} (f : A → B) (done new : List B) (i : ℕ) (xs : List A) (d : A) → i < length xs → done ≡ map f (take i xs)
     → new ≡ done ++ f (get_or xs i d) ∷ [] → new ≡ map f (take (i + 1) xs)
 map_step f done new i xs d l h e =
     e ∙ ap (λ ys. ys ++ f (get_or xs i d) ∷ []) h
     ∙ sym (ap (map f) (take_more xs i d l) ∙ map-append f (take i xs) (get_or xs i d ∷ []))
-
-pub take_whole : {A : Type 0} (i : ℕ) (xs : List A) → length xs ≤ i → take i xs ≡ xs
-take_whole zero [] l = refl
-take_whole zero (x ∷ xs) l = absurd (omega arith)
-take_whole (suc i) [] l = refl
-take_whole {A = A} (suc i) (x ∷ xs) l = ap (λ (ys : List A). x ∷ ys) (take_whole i xs (omega arith))

@@ -1,16 +1,16 @@
 -- Lists of marks and of groups.
 use Rattle.std.proofs.Common.{◌≡◌, ℕ, zero, suc, ◌+◌, ◌-◌, ◌<◌, ◌≤◌, ◌≢◌, nat_eq, nat_lt, Bool, true, false, cond}
+use Rattle.ep_core.proofs.Sorts.{never}
+use Rattle.std.proofs.lemmas.Bool.{cases_lt, eqb-true}
 use Rattle.std.proofs.Common.{inl, inr, List, [], ◌∷◌, ◌++◌, length, set, take, drop, Option, Some, None, refl, sym}
 use Rattle.std.proofs.Common.{ap, ◌∙◌, subst, arith, eq-eqb, lt-ltb, le-ltb, get_or-set_same, get_or-set_other}
 use Rattle.std.specs.Prelude.{slice_get, vec_len, MatchOption, option_to_list}
 use Rattle.std.specs.Global.{Vec}
 use Rattle.std.proofs.lemmas.List.{nil_from_length}
-use Rattle.ep_call_laws.proofs.Paths.{never, equal}
 use Rattle.ep_call_graph.specs.declared.cycles.Mark.{Mark}
 use Rattle.ep_call_graph.specs.declared.cycles.Mark.TheVariants.{New, Open, Done}
 use Rattle.ep_call_graph.specs.declared.cycles.Group.{Group}
 use Rattle.ep_call_graph.specs.Search.{mark_of, from_last, tops, top_of, ArePlaced, IsLast, closed_from}
-use Rattle.ep_call_graph.proofs.Lists.{lt_or_le}
 
 pub new_more : (ms : List Mark) (f : ℕ) → ((g : ℕ) → mark_of ms g ≡ New) → mark_of (ms ++ New ∷ []) f ≡ New
 new_more [] zero h = refl
@@ -19,7 +19,7 @@ new_more (m ∷ ms) zero h = h 0
 new_more (m ∷ ms) (suc f) h = new_more ms f (λ g. h (suc g))
 
 pub within : (ms : List Mark) (f : ℕ) → (mark_of ms f ≡ New → ⊥) → f < length ms
-within ms f h = elim (lt_or_le f (length ms)) [ inl l ↦ l | inr l ↦ absurd (h (past ms f l)) ]
+within ms f h = elim (cases_lt f (length ms)) [ inl l ↦ l | inr l ↦ absurd (h (past ms f l)) ]
   where
     past : (xs : List Mark) (g : ℕ) → length xs ≤ g → mark_of xs g ≡ New
     past [] g l = refl
@@ -75,7 +75,7 @@ closed_between n m d (Done l) = Done l
 pub none_between : (n m d : ℕ) (x : Mark) → m ≤ n → closed_between n m d x ≡ x
 none_between n m d New l = refl
 none_between n m d (Done k) l = refl
-none_between n m d (Open i) l = elim (lt_or_le i n) [
+none_between n m d (Open i) l = elim (cases_lt i n) [
   | inl a ↦ rw (lt-ltb i n a) refl
   | inr a ↦ let b : nat_lt i m ≡ false = le-ltb i m (omega arith) in rw (le-ltb i n a, b) refl
 ]
@@ -83,7 +83,7 @@ none_between n m d (Open i) l = elim (lt_or_le i n) [
 pub one_more_closed : (n m d : ℕ) (x : Mark) → (x ≡ Open m → ⊥) → closed_between n (m + 1) d x ≡ closed_between n m d x
 one_more_closed n m d New h = refl
 one_more_closed n m d (Done k) h = refl
-one_more_closed n m d (Open i) h = elim (lt_or_le i m) [
+one_more_closed n m d (Open i) h = elim (cases_lt i m) [
   | inl a ↦ let b : nat_lt i (m + 1) ≡ true = lt-ltb i (m + 1) (omega arith) in rw (lt-ltb i m a, b) refl
   | inr a ↦
       let apart : i ≢ m = λ e. h (ap (λ (k : ℕ). Open k) e) in
@@ -106,7 +106,7 @@ mark_more old now new path n m d f p l h c inv e x = at_x (nat_eq x f) refl
 
     at_x : (b : Bool) → nat_eq x f ≡ b → mark_of new x ≡ closed_between n (m + 1) d (mark_of old x)
     at_x true q =
-        let s : x ≡ f = equal x f q in
+        let s : x ≡ f = eqb-true x f q in
         let a : nat_lt m n ≡ false = le-ltb m n l in
         let b : nat_lt m (m + 1) ≡ true = lt-ltb m (m + 1) (omega arith) in
         rw (s, e, is, a, b) (get_or-set_same now f (Done d) New inside)

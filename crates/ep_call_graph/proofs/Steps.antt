@@ -1,22 +1,23 @@
 -- Steps of the search of cycles.
 use Rattle.std.proofs.Common.{◌≡◌, ℕ, zero, suc, ◌+◌, ◌<◌, ◌≤◌, ◌≢◌, nat_eq, Bool, true, false, inl, inr, List, []}
+use Rattle.ep_int.proofs.Basics.{slice_get-append}
+use Rattle.ep_core.proofs.Sorts.{never}
+use Rattle.std.proofs.lemmas.Bool.{cases_lt, eqb-true}
 use Rattle.std.proofs.Common.{◌∷◌, ◌++◌, length, set, Some, None, refl, sym, ap, ◌∙◌, subst, arith, eq-eqb}
 use Rattle.std.proofs.Common.{get_or-set_same, get_or-set_other, length-append, lt-ltb, le-ltb, map, take, drop}
 use Rattle.ep_call_graph.specs.declared.cycles.Search.{Search}
-use Rattle.ep_call_graph.proofs.Lists.{lt_or_le}
 use Rattle.ep_call_graph.proofs.Marks.{parts, short, pushed}
 use Rattle.std.specs.Prelude.{slice_get, slice_index}
 use Rattle.std.proofs.lemmas.Option.{slice_get_within}
 use Rattle.ep_int.specs.Memory.{contains}
-use Rattle.ep_call_laws.specs.Leads.{Leads, is_there, calls, IsLabelled}
-use Rattle.ep_call_laws.proofs.Paths.{never, equal}
+use Rattle.ep_elaboration.specs.Leads.{Leads, is_there, calls, IsLabelled}
 use Rattle.ep_call_graph.specs.declared.cycles.Mark.{Mark}
 use Rattle.ep_call_graph.specs.declared.cycles.Mark.TheVariants.{New, Open, Done}
 use Rattle.ep_call_graph.specs.declared.cycles.Group.{Group}
 use Rattle.ep_call_graph.specs.Search.{mark_of, Fit, IsOver, IsUnder, IsLast, Asks, Settled, waits, is_done, is_open}
-use Rattle.ep_call_graph.specs.Search.{Closed, StandsBut, Stands, IsCalled, IsWaiting, closed_from, tops, AreAll}
+use Rattle.ep_call_graph.specs.Search.{Closed, SearchInvariantBut, SearchInvariant, IsCalled, IsWaiting, closed_from, tops, AreAll}
 use Rattle.ep_call_graph.specs.Search.{GoesOn, label_of}
-use Rattle.ep_call_graph.proofs.Lists.{in_front, behind, first, second, part_of, only, place_of, placed_in}
+use Rattle.ep_call_graph.proofs.Lists.{behind, first, second, part_of, only, place_of, placed_in}
 
 -- ---- ways
 
@@ -69,7 +70,7 @@ last_is_all (g ∷ gs) n k i f l = let a : g.first ≤ n = f.0 in let b : g.firs
 -- ---- a function comes onto the path
 
 module _ (next : ℕ → List ℕ) (marks : List Mark) (path : List ℕ) (groups : List Group) (pending : List ℕ) (done f : ℕ)
-    (s : StandsBut (Some f) next marks path groups pending done) (is_new : mark_of marks f ≡ New) (inside : f < length marks)
+    (s : SearchInvariantBut (Some f) next marks path groups pending done) (is_new : mark_of marks f ≡ New) (inside : f < length marks)
     (led : (i g : ℕ) → slice_get path i ≡ Some g → Leads next f g)
     (marks' : List Mark) (path' : List ℕ) (groups' : List Group) (pending' : List ℕ)
     (m_is : marks' ≡ set marks f (Open (length path))) (p_is : path' ≡ path ++ f ∷ [])
@@ -94,12 +95,12 @@ module _ (next : ℕ → List ℕ) (marks : List Mark) (path : List ℕ) (groups
   which x m h = at_x (nat_eq x f) refl
     where
       at_x : (b : Bool) → nat_eq x f ≡ b → IsMark x m
-      at_x true e = let q : x ≡ f = equal x f e in its q (sym h ∙ ap (mark_of marks') q ∙ here)
+      at_x true e = let q : x ≡ f = eqb-true x f e in its q (sym h ∙ ap (mark_of marks') q ∙ here)
       at_x false e =
           let q : x ≢ f = λ c. never (sym e ∙ eq-eqb x f c) in old q (sym (there x q) ∙ h)
 
   at_path : (i g : ℕ) → slice_get path i ≡ Some g → slice_get path' i ≡ Some g
-  at_path i g h = rw p_is (in_front path (f ∷ []) i g h)
+  at_path i g h = rw p_is (slice_get-append path (f ∷ []) i g h)
 
   at_end : slice_get path' (length path) ≡ Some f
   at_end = rw p_is (behind path (f ∷ []) 0 (length path) f (omega arith) refl)
@@ -117,7 +118,7 @@ module _ (next : ℕ → List ℕ) (marks : List Mark) (path : List ℕ) (groups
 
   settled_on : (i g : ℕ) → i < length path → Settled marks path groups pending i g
       → Settled marks' path' groups' pending' i g
-  settled_on i g l (waits k h u) = waits k (rw w_is (in_front pending (next f) k g h))
+  settled_on i g l (waits k h u) = waits k (rw w_is (slice_get-append pending (next f) k g h))
       (rw g_is (((λ q. absurd (let z : k < length pending = slice_get_within pending k g h in omega arith)), (λ q. absurd (omega arith))), u))
   settled_on i g l (is_done d h) = is_done d (other g (Done d) h (λ q. absurd cc))
   settled_on i g l (is_open j h o) = is_open j (at_path j g h) (rw g_is ((λ q. absurd (omega arith)), o))
@@ -140,7 +141,7 @@ module _ (next : ℕ → List ℕ) (marks : List Mark) (path : List ℕ) (groups
   ]
     where
       at_g : (b : Bool) → nat_eq f g ≡ b → i < length path → slice_get path i ≡ Some x → Settled marks' path' groups' pending' i g
-      at_g true e l k = subst (λ (y : ℕ). Settled marks' path' groups' pending' i y) (equal f g e) (open_here i)
+      at_g true e l k = subst (λ (y : ℕ). Settled marks' path' groups' pending' i y) (eqb-true f g e) (open_here i)
       at_g false e l k = settled_on i g l (s.followed i x g k c (λ q. let z : f ≡ g = cc in never (sym e ∙ eq-eqb f g z)))
 
   joined_on : (i j x g : ℕ) → slice_get path' i ≡ Some x → slice_get path' j ≡ Some g → IsOver groups' i j
@@ -175,7 +176,7 @@ module _ (next : ℕ → List ℕ) (marks : List Mark) (path : List ℕ) (groups
     }
   ]
 
-  pub comes : Stands next marks' path' groups' pending' done
+  pub comes : SearchInvariant next marks' path' groups' pending' done
   comes = record {
     opened = λ x i h. elim (which x (Open i) h) [
       | its e q ↦ let z : length path ≡ i = cc in subst (λ (k : ℕ). slice_get path' k ≡ Some x) z (at_end ∙ ap (λ (y : ℕ). Some y) (sym e))
@@ -213,10 +214,10 @@ module _ (next : ℕ → List ℕ) (marks : List Mark) (path : List ℕ) (groups
 -- ---- groups become one
 
 module _ (next : ℕ → List ℕ) (marks : List Mark) (path : List ℕ) (g : Group) (gs : List Group) (pending : List ℕ) (done v p : ℕ)
-    (s : StandsBut (Some v) next marks path (g ∷ gs) pending done) (at : slice_get path p ≡ Some v)
+    (s : SearchInvariantBut (Some v) next marks path (g ∷ gs) pending done) (at : slice_get path p ≡ Some v)
     (called : IsCalled next path (g ∷ gs) v) (before : p < g.first) where
   joined_less : (i j x y : ℕ) → slice_get path i ≡ Some x → slice_get path j ≡ Some y → IsOver gs i j → Leads next y x
-  joined_less i j x y h k o = elim (lt_or_le i g.first) [
+  joined_less i j x y h k o = elim (cases_lt i g.first) [
     | inl l ↦ s.joined i j x y h k ((λ q. absurd (omega arith)), o)
     | inr l ↦
         let c : g.first ≤ called.place = called.last in
@@ -245,7 +246,7 @@ module _ (next : ℕ → List ℕ) (marks : List Mark) (path : List ℕ) (g : Gr
   last_less : IsLast gs called.place
   last_less = last_is_all gs g.first g.pending called.place s.fit.1.1 called.last
 
-  pub one_group_less : StandsBut (Some v) next marks path gs pending done × IsCalled next path gs v
+  pub one_group_less : SearchInvariantBut (Some v) next marks path gs pending done × IsCalled next path gs v
   one_group_less = (
     record {
       opened = s.opened;
@@ -268,8 +269,8 @@ module _ (next : ℕ → List ℕ) (marks : List Mark) (path : List ℕ) (g : Gr
 
 -- where the callee is behind the last group, its calls are settled
 pub settled_open : (next : ℕ → List ℕ) (marks : List Mark) (path : List ℕ) (gs : List Group) (pending : List ℕ) (done v p : ℕ)
-    → StandsBut (Some v) next marks path gs pending done → slice_get path p ≡ Some v → IsLast gs p
-    → Stands next marks path gs pending done
+    → SearchInvariantBut (Some v) next marks path gs pending done → slice_get path p ≡ Some v → IsLast gs p
+    → SearchInvariant next marks path gs pending done
 settled_open next marks path gs pending done v p s at l = record {
   opened = s.opened;
   placed = s.placed;
@@ -284,13 +285,13 @@ settled_open next marks path gs pending done v p s at l = record {
     at_y : (i x y : ℕ) → slice_get path i ≡ Some x → contains y (next x) ≡ true → (b : Bool) → nat_eq v y ≡ b
         → Settled marks path gs pending i y
     at_y i x y h c true e =
-        subst (λ (z : ℕ). Settled marks path gs pending i z) (equal v y e)
+        subst (λ (z : ℕ). Settled marks path gs pending i z) (eqb-true v y e)
         (is_open p at (over_last gs (length path) (length pending) i p s.fit l))
     at_y i x y h c false e = s.followed i x y h c (λ q. let z : v ≡ y = cc in never (sym e ∙ eq-eqb v y z))
 
 pub settled_done : (next : ℕ → List ℕ) (marks : List Mark) (path : List ℕ) (gs : List Group) (pending : List ℕ) (done v d : ℕ)
-    → StandsBut (Some v) next marks path gs pending done → mark_of marks v ≡ Done d
-    → Stands next marks path gs pending done
+    → SearchInvariantBut (Some v) next marks path gs pending done → mark_of marks v ≡ Done d
+    → SearchInvariant next marks path gs pending done
 settled_done next marks path gs pending done v d s m = record {
   opened = s.opened;
   placed = s.placed;
@@ -305,15 +306,15 @@ settled_done next marks path gs pending done v d s m = record {
     at_y : (i x y : ℕ) → slice_get path i ≡ Some x → contains y (next x) ≡ true → (b : Bool) → nat_eq v y ≡ b
         → Settled marks path gs pending i y
     at_y i x y h c true e =
-        subst (λ (z : ℕ). Settled marks path gs pending i z) (equal v y e) (is_done d m)
+        subst (λ (z : ℕ). Settled marks path gs pending i z) (eqb-true v y e) (is_done d m)
     at_y i x y h c false e = s.followed i x y h c (λ q. let z : v ≡ y = cc in never (sym e ∙ eq-eqb v y z))
 
 -- ---- a call is followed
 
 -- the last call that waits is taken from the others
 pub taken : (next : ℕ → List ℕ) (marks : List Mark) (path : List ℕ) (gs : List Group) (pending rest : List ℕ) (done v : ℕ)
-    → pending ≡ rest ++ v ∷ [] → IsWaiting gs (length pending) → Stands next marks path gs pending done
-    → StandsBut (Some v) next marks path gs rest done × IsCalled next path gs v
+    → pending ≡ rest ++ v ∷ [] → IsWaiting gs (length pending) → SearchInvariant next marks path gs pending done
+    → SearchInvariantBut (Some v) next marks path gs rest done × IsCalled next path gs v
 taken next marks path [] pending rest done v e w s = absurd w
 taken next marks path (g ∷ gs) pending rest done v e w s = (
   record {
@@ -321,7 +322,7 @@ taken next marks path (g ∷ gs) pending rest done v e w s = (
     placed = s.placed;
     fit = (s.fit.0, (shorter, s.fit.1.1));
     joined = s.joined;
-    asked = λ k x h. s.asked k x (subst (λ (xs : List ℕ). slice_get xs k ≡ Some x) (sym e) (in_front rest (v ∷ []) k x h));
+    asked = λ k x h. s.asked k x (subst (λ (xs : List ℕ). slice_get xs k ≡ Some x) (sym e) (slice_get-append rest (v ∷ []) k x h));
     followed = λ i x y h c n. settled i y n (s.followed i x y h c (λ q. absurd cc));
     closed = s.closed;
     counted = s.counted;
@@ -350,7 +351,7 @@ taken next marks path (g ∷ gs) pending rest done v e w s = (
 -- ---- the last group is done
 
 module _ (next : ℕ → List ℕ) (marks marks' : List Mark) (path rest : List ℕ) (g : Group) (gs : List Group) (pending : List ℕ) (done : ℕ)
-    (s : Stands next marks (path ++ rest) (g ∷ gs) pending done) (none : length pending ≤ g.pending) (cut : length path ≡ g.first)
+    (s : SearchInvariant next marks (path ++ rest) (g ∷ gs) pending done) (none : length pending ≤ g.pending) (cut : length path ≡ g.first)
     (m_is : (f : ℕ) → mark_of marks' f ≡ closed_from (length path) done (mark_of marks f)) where
   still : (i : ℕ) → i < length path → closed_from (length path) done (Open i) ≡ Open i
   still i l = rw (lt-ltb i (length path) l) refl
@@ -362,7 +363,7 @@ module _ (next : ℕ → List ℕ) (marks marks' : List Mark) (path rest : List 
   keeps_done f l h = m_is f ∙ ap (closed_from (length path) done) h
 
   on_path : (i f : ℕ) → slice_get path i ≡ Some f → slice_get (path ++ rest) i ≡ Some f
-  on_path i f h = in_front path rest i f h
+  on_path i f h = slice_get-append path rest i f h
 
   -- a mark, by what it was
   data Was (f : ℕ) (m : Mark) : Type 0 where
@@ -377,7 +378,7 @@ module _ (next : ℕ → List ℕ) (marks marks' : List Mark) (path rest : List 
       at_old : (o : Mark) → mark_of marks f ≡ o → Was f m
       at_old New e = was_new e (sym h ∙ m_is f ∙ ap (closed_from (length path) done) e)
       at_old (Done l) e = was_done l e (sym h ∙ m_is f ∙ ap (closed_from (length path) done) e)
-      at_old (Open i) e = elim (lt_or_le i (length path)) [
+      at_old (Open i) e = elim (cases_lt i (length path)) [
         | inl l ↦ was_open i e l (sym h ∙ m_is f ∙ ap (closed_from (length path) done) e ∙ still i l)
         | inr l ↦ was_behind i e l (sym h ∙ m_is f ∙ ap (closed_from (length path) done) e ∙ gone i l)
       ]
@@ -429,7 +430,7 @@ module _ (next : ℕ → List ℕ) (marks marks' : List Mark) (path rest : List 
         (record { of = r.of; is = keeps_done x r.of r.is; no_later = r.no_later; back = r.back })
   ]
 
-  pub group_done : Stands next marks' path gs pending (done + 1)
+  pub group_done : SearchInvariant next marks' path gs pending (done + 1)
   group_done = record {
     opened = λ f i h. elim (what_was f (Open i) h) [
       | was_new e q ↦ absurd cc
@@ -445,7 +446,7 @@ module _ (next : ℕ → List ℕ) (marks marks' : List Mark) (path rest : List 
         subst (λ (k : ℕ). Fit gs g.first k) b s.fit.1.1);
     joined = λ i j x y h k o. s.joined i j x y (on_path i x h) (on_path j y k)
         ((λ q. absurd (let z : i < length path = slice_get_within path i x h in omega arith)), o);
-    asked = λ k x h. let r = s.asked k x h in elim (lt_or_le r.place (length path)) [
+    asked = λ k x h. let r = s.asked k x h in elim (cases_lt r.place (length path)) [
       | inl l ↦ record {
         caller = r.caller;
         place = r.place;
@@ -475,30 +476,30 @@ module _ (next : ℕ → List ℕ) (marks marks' : List Mark) (path rest : List 
 
 -- the last group of the search in memory
 pub close_is : (next : ℕ → List ℕ) (marks marks' : List Mark) (path path' : List ℕ) (groups left : List Group) (g : Group)
-    (pending : List ℕ) (done : ℕ) → groups ≡ left ++ g ∷ [] → Stands next marks path (tops groups) pending done
+    (pending : List ℕ) (done : ℕ) → groups ≡ left ++ g ∷ [] → SearchInvariant next marks path (tops groups) pending done
     → (IsWaiting (tops groups) (length pending) → ⊥) → path' ≡ take g.first path
     → ((f : ℕ) → mark_of marks' f ≡ closed_from g.first done (mark_of marks f))
-    → Stands next marks' path' (tops left) pending (done + 1)
+    → SearchInvariant next marks' path' (tops left) pending (done + 1)
 close_is next marks marks' path path' groups left g pending done e s none p m =
     let q : tops groups ≡ g ∷ tops left = pushed left groups g e in
-    let t : Stands next marks path (g ∷ tops left) pending done =
-    subst (λ (gs : List Group). Stands next marks path gs pending done) q s in
+    let t : SearchInvariant next marks path (g ∷ tops left) pending done =
+    subst (λ (gs : List Group). SearchInvariant next marks path gs pending done) q s in
     let l : g.first ≤ length path = t.fit.0 in
     let cut : length (take g.first path) ≡ g.first = short g.first path l in
     let whole : path ≡ take g.first path ++ drop g.first path = sym (parts g.first path) in
-    let u : Stands next marks (take g.first path ++ drop g.first path) (g ∷ tops left) pending done =
-    subst (λ (xs : List ℕ). Stands next marks xs (g ∷ tops left) pending done) whole t in
-    let n : length pending ≤ g.pending = elim (lt_or_le g.pending (length pending)) [
+    let u : SearchInvariant next marks (take g.first path ++ drop g.first path) (g ∷ tops left) pending done =
+    subst (λ (xs : List ℕ). SearchInvariant next marks xs (g ∷ tops left) pending done) whole t in
+    let n : length pending ≤ g.pending = elim (cases_lt g.pending (length pending)) [
       | inl a ↦ absurd (none (subst (λ (gs : List Group). IsWaiting gs (length pending)) (sym q) a))
       | inr a ↦ a
     ] in
-    subst (λ (xs : List ℕ). Stands next marks' xs (tops left) pending (done + 1)) (sym p)
+    subst (λ (xs : List ℕ). SearchInvariant next marks' xs (tops left) pending (done + 1)) (sym p)
     (group_done next marks marks' (take g.first path) (drop g.first path) g (tops left) pending done u n cut
     (λ f. m f ∙ ap (λ (k : ℕ). closed_from k done (mark_of marks f)) (sym cut)))
 
 -- the way from the path to what is called
 pub leads_to : (next : ℕ → List ℕ) (marks : List Mark) (path : List ℕ) (gs : List Group) (pending : List ℕ) (done v : ℕ)
-    → StandsBut (Some v) next marks path gs pending done → IsCalled next path gs v
+    → SearchInvariantBut (Some v) next marks path gs pending done → IsCalled next path gs v
     → (i g : ℕ) → slice_get path i ≡ Some g → Leads next v g
 leads_to next marks path gs pending done v s c i g h =
     one_on next v c.caller g (s.joined i c.place g c.caller h c.at
@@ -511,7 +512,7 @@ label_at [] f = refl
 label_at (m ∷ ms) zero = refl
 label_at (m ∷ ms) (suc f) = label_at ms f
 
-module _ (next : ℕ → List ℕ) (marks : List Mark) (path pending : List ℕ) (done : ℕ) (s : Stands next marks path [] pending done)
+module _ (next : ℕ → List ℕ) (marks : List Mark) (path pending : List ℕ) (done : ℕ) (s : SearchInvariant next marks path [] pending done)
     (all : AreAll (length marks) next) (come : (x : ℕ) → x < length marks → mark_of marks x ≡ New → ⊥) where
   is_closed : (f : ℕ) → f < length marks → (l : ℕ) × (mark_of marks f ≡ Done l)
   is_closed f l = at_mark (mark_of marks f) refl
@@ -539,6 +540,6 @@ pub all_come : (s t : Search) (f : ℕ) → ((x : ℕ) → x < f → mark_of s.m
 all_come s t f a g n x l h = at_x (nat_eq x f) refl
   where
     at_x : (b : Bool) → nat_eq x f ≡ b → ⊥
-    at_x true e = n (subst (λ (y : ℕ). mark_of t.marks.items y ≡ New) (equal x f e) h)
+    at_x true e = n (subst (λ (y : ℕ). mark_of t.marks.items y ≡ New) (eqb-true x f e) h)
     at_x false e =
         let apart : x ≢ f = λ q. never (sym e ∙ eq-eqb x f q) in a x (omega (arith, apart)) (g.1 x h)

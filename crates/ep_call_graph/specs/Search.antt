@@ -3,7 +3,7 @@
 use Rattle.std.specs.Prelude.{◌≡◌, ℕ, ◌<◌, ◌≤◌, nat_lt, if◌then◌else◌, true, List, [], ◌∷◌, Option, Some, None}
 use Rattle.std.specs.Prelude.{slice_get, slice_index_or, length}
 use Rattle.ep_int.specs.Memory.{contains}
-use Rattle.ep_call_laws.specs.Leads.{Leads}
+use Rattle.ep_elaboration.specs.Leads.{Leads}
 use Rattle.ep_call_graph.specs.declared.cycles.Mark.{Mark}
 use Rattle.ep_call_graph.specs.declared.cycles.Mark.TheVariants.{New, Open, Done}
 use Rattle.ep_call_graph.specs.declared.cycles.Group.{Group}
@@ -70,7 +70,8 @@ pub record Closed (next : ℕ → List ℕ) (marks : List Mark) (caller callee l
   pub back : of ≡ label → Leads next caller callee
 
 -- where the search stands, but for calls of this function
-pub record StandsBut (but : Option ℕ) (next : ℕ → List ℕ) (marks : List Mark) (path : List ℕ) (groups : List Group)
+pub record SearchInvariantBut (but : Option ℕ) (next : ℕ → List ℕ) (marks : List Mark) (path : List ℕ)
+    (groups : List Group)
     (pending : List ℕ) (done : ℕ) : Type 0 where
   pub opened : (f i : ℕ) → mark_of marks f ≡ Open i → slice_get path i ≡ Some f
   pub placed : (i f : ℕ) → slice_get path i ≡ Some f → mark_of marks f ≡ Open i
@@ -83,8 +84,8 @@ pub record StandsBut (but : Option ℕ) (next : ℕ → List ℕ) (marks : List 
   pub closed : (f g l : ℕ) → mark_of marks f ≡ Done l → contains g (next f) ≡ true → Closed next marks f g l
   pub counted : (f l : ℕ) → mark_of marks f ≡ Done l → l < done
 
-abbrev pub Stands : (next : ℕ → List ℕ) → List Mark → List ℕ → List Group → List ℕ → (done : ℕ) → Type 0
-Stands next marks path groups pending done = StandsBut None next marks path groups pending done
+abbrev pub SearchInvariant : (next : ℕ → List ℕ) → List Mark → List ℕ → List Group → List ℕ → (done : ℕ) → Type 0
+SearchInvariant next marks path groups pending done = SearchInvariantBut None next marks path groups pending done
 
 -- a call of the last group
 pub record IsCalled (next : ℕ → List ℕ) (path : List ℕ) (groups : List Group) (callee : ℕ) : Type 0 where
@@ -97,7 +98,7 @@ pub record IsCalled (next : ℕ → List ℕ) (path : List ℕ) (groups : List G
 -- the search in memory
 abbrev pub IsSearchBut : (but : Option ℕ) → (next : ℕ → List ℕ) → Search → Type 0
 IsSearchBut but next s =
-    StandsBut but next s.marks.items s.path.items (tops s.groups.items) s.pending.items s.done
+    SearchInvariantBut but next s.marks.items s.path.items (tops s.groups.items) s.pending.items s.done
 
 abbrev pub IsSearch : (next : ℕ → List ℕ) → Search → Type 0
 IsSearch next s = IsSearchBut None next s

@@ -2,8 +2,8 @@
 
 ghost use Rattle.std.specs.Prelude.{◌≡◌, ℕ, ◌+◌, ◌<◌, ◌≤◌, ◌++◌, [], ◌∷◌, Some, None, true, false, OnOk, IfOk};
 ghost use Rattle.std.specs.Prelude.{vec_len, slice_get, slice_index, length, map, take};
-ghost use Rattle.ep_call_laws.specs.Leads as rule;
-ghost use Rattle.ep_call_graph.specs.Seen as seen;
+ghost use Rattle.ep_elaboration.specs.Leads as rule;
+ghost use Rattle.ep_call_graph.specs.View as view;
 ghost use Rattle.ep_call_graph.specs.Search as search_in;
 ghost use Rattle.ep_call_graph.specs.declared.cycles.Mark.TheVariants.{New, Open, Done};
 
@@ -49,7 +49,7 @@ fn marks(alloc: Global, count: usize) -> Result<Vec<Mark>, AllocError>
 
 // The calls of a function wait.
 fn wait(pending: &mut Vec<u32>, callees: &[Vec<u32>], f: u32) -> Result<(), AllocError>
-    ensures { OnOk result (pending.new.items ≡ pending.old.items ++ seen.listed callees.now f) }
+    ensures { OnOk result (pending.new.items ≡ pending.old.items ++ view.listed callees.now f) }
 {
     match callees.get(f as usize) {
         Some(list) => {
@@ -93,11 +93,11 @@ impl Search {
 
     // A function comes onto the path, in a group of its own, and its calls wait.
     fn open(&mut self, callees: &[Vec<u32>], f: u32) -> Result<(), AllocError>
-        requires stands { search_in.IsSearchBut (Some f) (seen.listed callees.now) self.old }
+        requires stands { search_in.IsSearchBut (Some f) (view.listed callees.now) self.old }
         requires is_new { search_in.mark_of self.old.marks.items f ≡ New }
         requires inside { f < length self.old.marks.items }
-        requires led { (i g : ℕ) → slice_get self.old.path.items i ≡ Some g → rule.Leads (seen.listed callees.now) f g }
-        ensures stands { OnOk result (search_in.IsSearch (seen.listed callees.now) self.new) }
+        requires led { (i g : ℕ) → slice_get self.old.path.items i ≡ Some g → rule.Leads (view.listed callees.now) f g }
+        ensures stands { OnOk result (search_in.IsSearch (view.listed callees.now) self.new) }
         ensures goes_on { OnOk result (search_in.GoesOn self.old self.new) }
         ensures no_more_new { OnOk result (search_in.mark_of self.new.marks.items f ≡ New → ⊥) }
     {
@@ -114,11 +114,11 @@ impl Search {
 
     // The groups behind this place of the path become one with the group that has it.
     fn join(&mut self, callees: &[Vec<u32>], callee: u32, place: usize)
-        requires stands { search_in.IsSearchBut (Some callee) (seen.listed callees.now) self.old }
+        requires stands { search_in.IsSearchBut (Some callee) (view.listed callees.now) self.old }
         requires at { slice_get self.old.path.items place ≡ Some callee }
-        requires called { search_in.IsCalled (seen.listed callees.now) self.old.path.items
+        requires called { search_in.IsCalled (view.listed callees.now) self.old.path.items
             (search_in.tops self.old.groups.items) callee }
-        ensures stands { search_in.IsSearch (seen.listed callees.now) self.new }
+        ensures stands { search_in.IsSearch (view.listed callees.now) self.new }
         ensures goes_on { self.new.marks ≡ self.old.marks }
     {
         while let Some(group) = self.top() {
@@ -131,10 +131,10 @@ impl Search {
 
     // The last call that waits is followed.
     fn follow(&mut self, callees: &[Vec<u32>]) -> Result<(), AllocError>
-        requires stands { search_in.IsSearch (seen.listed callees.now) self.old }
-        requires all { search_in.AreAll (length self.old.marks.items) (seen.listed callees.now) }
+        requires stands { search_in.IsSearch (view.listed callees.now) self.old }
+        requires all { search_in.AreAll (length self.old.marks.items) (view.listed callees.now) }
         requires waits { search_in.IsWaiting (search_in.tops self.old.groups.items) (length self.old.pending.items) }
-        ensures stands { OnOk result (search_in.IsSearch (seen.listed callees.now) self.new) }
+        ensures stands { OnOk result (search_in.IsSearch (view.listed callees.now) self.new) }
         ensures goes_on { OnOk result (search_in.GoesOn self.old self.new) }
     {
         match self.pending.pop() {
@@ -170,10 +170,10 @@ impl Search {
 
     // The functions of the last group are done.
     fn close(&mut self, callees: &[Vec<u32>]) -> Result<(), AllocError>
-        requires stands { search_in.IsSearch (seen.listed callees.now) self.old }
+        requires stands { search_in.IsSearch (view.listed callees.now) self.old }
         requires none_waits { search_in.IsWaiting (search_in.tops self.old.groups.items)
             (length self.old.pending.items) → ⊥ }
-        ensures stands { OnOk result (search_in.IsSearch (seen.listed callees.now) self.new) }
+        ensures stands { OnOk result (search_in.IsSearch (view.listed callees.now) self.new) }
         ensures goes_on { OnOk result (search_in.GoesOn self.old self.new) }
     {
         let Some(group) = self.groups.pop() else {
@@ -200,9 +200,9 @@ impl Search {
     }
 
     fn turn(&mut self, callees: &[Vec<u32>]) -> Result<(), AllocError>
-        requires stands { search_in.IsSearch (seen.listed callees.now) self.old }
-        requires all { search_in.AreAll (length self.old.marks.items) (seen.listed callees.now) }
-        ensures stands { OnOk result (search_in.IsSearch (seen.listed callees.now) self.new) }
+        requires stands { search_in.IsSearch (view.listed callees.now) self.old }
+        requires all { search_in.AreAll (length self.old.marks.items) (view.listed callees.now) }
+        ensures stands { OnOk result (search_in.IsSearch (view.listed callees.now) self.new) }
         ensures goes_on { OnOk result (search_in.GoesOn self.old self.new) }
     {
         if self.is_waiting() {
@@ -213,12 +213,12 @@ impl Search {
 
     // Each function that this one leads to is done with it.
     fn search(&mut self, callees: &[Vec<u32>], f: u32) -> Result<(), AllocError>
-        requires stands { search_in.IsSearch (seen.listed callees.now) self.old }
-        requires all { search_in.AreAll (length self.old.marks.items) (seen.listed callees.now) }
+        requires stands { search_in.IsSearch (view.listed callees.now) self.old }
+        requires all { search_in.AreAll (length self.old.marks.items) (view.listed callees.now) }
         requires is_new { search_in.mark_of self.old.marks.items f ≡ New }
         requires inside { f < length self.old.marks.items }
         requires none { self.old.groups.items ≡ [] }
-        ensures stands { OnOk result (search_in.IsSearch (seen.listed callees.now) self.new) }
+        ensures stands { OnOk result (search_in.IsSearch (view.listed callees.now) self.new) }
         ensures goes_on { OnOk result (search_in.GoesOn self.old self.new) }
         ensures no_more_new { OnOk result (search_in.mark_of self.new.marks.items f ≡ New → ⊥) }
         ensures none { OnOk result (self.new.groups.items ≡ []) }
@@ -236,11 +236,11 @@ impl Search {
 
 impl Search {
     fn visit(&mut self, callees: &[Vec<u32>], f: u32) -> Result<(), AllocError>
-        requires stands { search_in.IsSearch (seen.listed callees.now) self.old }
-        requires all { search_in.AreAll (length self.old.marks.items) (seen.listed callees.now) }
+        requires stands { search_in.IsSearch (view.listed callees.now) self.old }
+        requires all { search_in.AreAll (length self.old.marks.items) (view.listed callees.now) }
         requires inside { f < length self.old.marks.items }
         requires none { self.old.groups.items ≡ [] }
-        ensures stands { OnOk result (search_in.IsSearch (seen.listed callees.now) self.new) }
+        ensures stands { OnOk result (search_in.IsSearch (view.listed callees.now) self.new) }
         ensures goes_on { OnOk result (search_in.GoesOn self.old self.new) }
         ensures no_more_new { OnOk result (search_in.mark_of self.new.marks.items f ≡ New → ⊥) }
         ensures none { OnOk result (self.new.groups.items ≡ []) }
@@ -276,9 +276,9 @@ fn labels_of(alloc: Global, marks: &[Mark]) -> Result<Vec<u32>, AllocError>
 /// A label for each function, no smaller than those of the functions that it calls, and the same only where these lead
 /// back.
 pub fn labels(alloc: Global, callees: &[Vec<u32>]) -> Result<Vec<u32>, AllocError>
-    requires { search_in.AreAll (length callees.now) (seen.listed callees.now) }
+    requires { search_in.AreAll (length callees.now) (view.listed callees.now) }
     ensures count { IfOk result (λ v. vec_len v ≡ length callees.now) }
-    ensures labels { IfOk result (λ v. rule.IsLabelled (seen.listed callees.now) (λ f. slice_index v.items f)) }
+    ensures labels { IfOk result (λ v. rule.IsLabelled (view.listed callees.now) (λ f. slice_index v.items f)) }
 {
     let mut search = Search::new(alloc, callees.len())?;
     for f in 0..callees.len() {

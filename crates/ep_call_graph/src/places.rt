@@ -2,14 +2,14 @@
 
 ghost use Rattle.std.specs.Prelude.{◌≡◌, ℕ, ◌<◌, ◌++◌, [], ◌∷◌, ◌==◌, if◌then◌else◌, OnOk, IfOk, vec_len};
 ghost use Rattle.ep_elaboration.specs.Calls as rule;
-ghost use Rattle.ep_call_graph.specs.Seen as seen;
+ghost use Rattle.ep_call_graph.specs.View as view;
 
 use std::alloc::{AllocError, Global};
 
 /// A statement: its function, how many stand round it there, with itself, its line, and the function that it calls.
 /// Functions go by their numbers.
 #[derive(Clone, Copy, Debug)]
-pub struct Place {
+pub struct CallSite {
     pub caller: u32,
     pub depth: u32,
     pub line: u32,
@@ -19,7 +19,7 @@ pub struct Place {
 /// So many empty lists.
 pub(crate) fn empty_lists(alloc: Global, count: usize) -> Result<Vec<Vec<u32>>, AllocError>
     ensures count { IfOk result (λ v. vec_len v ≡ count) }
-    ensures empty { IfOk result (λ v. (f : ℕ) → seen.listed v.items f ≡ []) }
+    ensures empty { IfOk result (λ v. (f : ℕ) → view.listed v.items f ≡ []) }
 {
     let mut lists = Vec::new(alloc);
     for i in 0..count {
@@ -31,19 +31,19 @@ pub(crate) fn empty_lists(alloc: Global, count: usize) -> Result<Vec<Vec<u32>>, 
 fn add(lists: &mut Vec<Vec<u32>>, at: u32, item: u32) -> Result<(), AllocError>
     requires { at < vec_len lists.old }
     ensures count { OnOk result (vec_len lists.new ≡ vec_len lists.old) }
-    ensures added { OnOk result ((f : ℕ) → seen.listed lists.new.items f
-        ≡ seen.listed lists.old.items f ++ (if at == f then item ∷ [] else [])) }
+    ensures added { OnOk result ((f : ℕ) → view.listed lists.new.items f
+        ≡ view.listed lists.old.items f ++ (if at == f then item ∷ [] else [])) }
 {
     let list = &mut lists[at as usize];
     list.push(item)?;
     Ok(())
 }
 
-fn add_call(lists: &mut Vec<Vec<u32>>, place: Place) -> Result<(), AllocError>
+fn add_call(lists: &mut Vec<Vec<u32>>, place: CallSite) -> Result<(), AllocError>
     requires { place.caller < vec_len lists.old }
     ensures count { OnOk result (vec_len lists.new ≡ vec_len lists.old) }
-    ensures added { OnOk result ((f : ℕ) → seen.listed lists.new.items f
-        ≡ seen.listed lists.old.items f ++ rule.callees (rule.call_at (seen.place place) place.callee) f) }
+    ensures added { OnOk result ((f : ℕ) → view.listed lists.new.items f
+        ≡ view.listed lists.old.items f ++ rule.callees (rule.call_at (view.call_site place) place.callee) f) }
 {
     match place.callee {
         None => Ok(()),
@@ -52,11 +52,15 @@ fn add_call(lists: &mut Vec<Vec<u32>>, place: Place) -> Result<(), AllocError>
 }
 
 /// What each function calls, in the order of its calls.
-pub fn callees(alloc: Global, count: usize, places: &[Place]) -> Result<Vec<Vec<u32>>, AllocError>
-    requires { seen.AreWithin count (seen.places places.now) }
+pub fn callees(
+    alloc: Global,
+    count: usize,
+    places: &[CallSite],
+) -> Result<Vec<Vec<u32>>, AllocError>
+    requires { view.AreWithin count (view.call_sites places.now) }
     ensures count { IfOk result (λ v. vec_len v ≡ count) }
-    ensures lists { IfOk result (λ v. (f : ℕ) → seen.listed v.items f
-        ≡ rule.callees (rule.calls_of (seen.places places.now)) f) }
+    ensures lists { IfOk result (λ v. (f : ℕ) → view.listed v.items f
+        ≡ rule.callees (rule.calls_of (view.call_sites places.now)) f) }
 {
     let mut lists = empty_lists(alloc, count)?;
     for place in places {

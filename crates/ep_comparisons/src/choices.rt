@@ -1,13 +1,13 @@
 //! One of two values.
 
 ghost use Rattle.std.specs.Prelude.{◌≡◌, IfOk, true};
-ghost use Rattle.ep_core.specs.View.{shown_expr};
+ghost use Rattle.ep_core.specs.View.{expr_view};
 ghost use Rattle.ep_typing.specs.Types.{is_pointer};
 ghost use Rattle.ep_typing.specs.Operators as rule;
 ghost use Rattle.ep_typing.specs.Results.{at};
 ghost use Rattle.ep_operands.specs.Numbers.{IsSomeNumber};
-ghost use Rattle.ep_operands.specs.Gives.{Gives};
-ghost use Rattle.ep_operands.specs.Seen as seen;
+ghost use Rattle.ep_operands.specs.Refinement.{Refines};
+ghost use Rattle.ep_operands.specs.View as view;
 
 use ep_ast::{Halt, RefusalKind};
 use ep_core::tree::Expr;
@@ -19,9 +19,9 @@ use ep_typing::CType;
 use std::alloc::{AllocError, Global};
 
 fn numbers_chosen(alloc: Global, test: Expr, a: Value, b: Value) -> Result<Value, AllocError>
-    requires test { IsSomeNumber (shown_expr test) }
-    requires numbers { rule.are_integers (seen.value a) (seen.value b) ≡ true }
-    ensures { IfOk result (λ v. seen.value v ≡ rule.numbers_chosen (shown_expr test) (seen.value a) (seen.value b)) }
+    requires test { IsSomeNumber (expr_view test) }
+    requires numbers { rule.are_integers (view.value a) (view.value b) ≡ true }
+    ensures { IfOk result (λ v. view.value v ≡ rule.numbers_chosen (expr_view test) (view.value a) (view.value b)) }
 {
     let t = common_type(&a, &b);
     let test = Box::new(alloc, test)?;
@@ -34,7 +34,7 @@ fn numbers_chosen(alloc: Global, test: Expr, a: Value, b: Value) -> Result<Value
 
 // The type of a pointer that is one of two.
 fn chosen_type(a: &Value, b: &Value) -> CType
-    ensures { result ≡ rule.chosen_type (seen.value a.now) (seen.value b.now) }
+    ensures { result ≡ rule.chosen_type (view.value a.now) (view.value b.now) }
 {
     if a.is_null & b.is_null {
         return void_pointer();
@@ -52,9 +52,9 @@ fn chosen_type(a: &Value, b: &Value) -> CType
 }
 
 fn pointers_chosen(alloc: Global, test: Expr, a: Value, b: Value) -> Result<Value, AllocError>
-    requires test { IsSomeNumber (shown_expr test) }
-    requires pointer { is_pointer (rule.chosen_type (seen.value a) (seen.value b)) ≡ true }
-    ensures { IfOk result (λ v. seen.value v ≡ rule.pointers_chosen (shown_expr test) (seen.value a) (seen.value b)) }
+    requires test { IsSomeNumber (expr_view test) }
+    requires pointer { is_pointer (rule.chosen_type (view.value a) (view.value b)) ≡ true }
+    ensures { IfOk result (λ v. view.value v ≡ rule.pointers_chosen (expr_view test) (view.value a) (view.value b)) }
 {
     let c = chosen_type(&a, &b);
     let test = Box::new(alloc, test)?;
@@ -68,7 +68,7 @@ fn pointers_chosen(alloc: Global, test: Expr, a: Value, b: Value) -> Result<Valu
 /// `? :`: two integers, or two pointers by the rule of `==`.
 #[tactic(auto, unfolding(ep_typing::specs::Operators::chosen))]
 pub fn chosen(alloc: Global, line: u32, test: Value, a: Value, b: Value) -> Result<Value, Halt>
-    ensures { Gives seen.value (at line (rule.chosen (seen.value test) (seen.value a) (seen.value b))) result }
+    ensures { Refines view.value (at line (rule.chosen (view.value test) (view.value a) (view.value b))) result }
 {
     if !(is_scalar(test.ty) & are_scalars(&a, &b)) {
         return Err(refused(RefusalKind::TypeMismatch, line));

@@ -3,8 +3,8 @@
 ghost use Rattle.std.specs.Prelude.{◌≡◌, IfOk, true};
 ghost use Rattle.ep_typing.specs.Operators as rule;
 ghost use Rattle.ep_typing.specs.Results.{at};
-ghost use Rattle.ep_operands.specs.Gives.{Gives};
-ghost use Rattle.ep_operands.specs.Seen as seen;
+ghost use Rattle.ep_operands.specs.Refinement.{Refines};
+ghost use Rattle.ep_operands.specs.View as view;
 
 use ep_ast::{Halt, RefusalKind};
 use ep_core::tree::Expr;
@@ -16,8 +16,8 @@ use ep_operands::{Value, bare, converted, refused};
 use std::alloc::{AllocError, Global};
 
 fn compared(alloc: Global, how: Cmp, a: Value, b: Value) -> Result<Value, AllocError>
-    requires { rule.are_integers (seen.value a) (seen.value b) ≡ true }
-    ensures { IfOk result (λ v. seen.value v ≡ rule.compared how (seen.value a) (seen.value b)) }
+    requires { rule.are_integers (view.value a) (view.value b) ≡ true }
+    ensures { IfOk result (λ v. view.value v ≡ rule.compared how (view.value a) (view.value b)) }
 {
     let t = common_type(&a, &b);
     let left = converted(alloc, t, a)?;
@@ -28,7 +28,7 @@ fn compared(alloc: Global, how: Cmp, a: Value, b: Value) -> Result<Value, AllocE
 }
 
 fn pointers_compared(alloc: Global, how: Cmp, a: Value, b: Value) -> Result<Value, AllocError>
-    ensures { IfOk result (λ v. seen.value v ≡ rule.pointers_compared how (seen.value a) (seen.value b)) }
+    ensures { IfOk result (λ v. view.value v ≡ rule.pointers_compared how (view.value a) (view.value b)) }
 {
     let left = Box::new(alloc, bare(a))?;
     let right = Box::new(alloc, bare(b))?;
@@ -38,7 +38,7 @@ fn pointers_compared(alloc: Global, how: Cmp, a: Value, b: Value) -> Result<Valu
 // `<`, `>`, `<=` and `>=`: two integers, or two pointers of one type, of which null is none.
 #[tactic(auto, unfolding(ep_typing::specs::Operators::ordered))]
 pub fn ordered(alloc: Global, line: u32, how: Cmp, a: Value, b: Value) -> Result<Value, Halt>
-    ensures { Gives seen.value (at line (rule.ordered how (seen.value a) (seen.value b))) result }
+    ensures { Refines view.value (at line (rule.ordered how (view.value a) (view.value b))) result }
 {
     if are_integers(&a, &b) {
         let value = compared(alloc, how, a, b)?;
@@ -63,7 +63,7 @@ pub fn ordered(alloc: Global, line: u32, how: Cmp, a: Value, b: Value) -> Result
 // `==` and `!=`: two integers, or two pointers of one type, or one of them null or to void.
 #[tactic(auto, unfolding(ep_typing::specs::Operators::equated))]
 pub fn equated(alloc: Global, line: u32, how: Cmp, a: Value, b: Value) -> Result<Value, Halt>
-    ensures { Gives seen.value (at line (rule.equated how (seen.value a) (seen.value b))) result }
+    ensures { Refines view.value (at line (rule.equated how (view.value a) (view.value b))) result }
 {
     if are_integers(&a, &b) {
         let value = compared(alloc, how, a, b)?;

@@ -3,8 +3,8 @@
 ghost use Rattle.std.specs.Prelude.{◌≡◌};
 ghost use Rattle.ep_typing.specs.Operators as rule;
 ghost use Rattle.ep_typing.specs.Results.{at};
-ghost use Rattle.ep_operands.specs.Gives.{Gives};
-ghost use Rattle.ep_operands.specs.Seen as seen;
+ghost use Rattle.ep_operands.specs.Refinement.{Refines};
+ghost use Rattle.ep_operands.specs.View as view;
 
 use ep_ast::{Halt, RefusalKind};
 use ep_core::tree::Expr;
@@ -15,7 +15,7 @@ use std::alloc::Global;
 
 #[tactic(auto, unfolding(ep_typing::specs::Operators::both))]
 pub fn both(alloc: Global, line: u32, a: Value, b: Value) -> Result<Value, Halt>
-    ensures { Gives seen.value (at line (rule.both (seen.value a) (seen.value b))) result }
+    ensures { Refines view.value (at line (rule.both (view.value a) (view.value b))) result }
 {
     if are_scalars(&a, &b) {
         let left = Box::new(alloc, a.expr)?;
@@ -27,7 +27,7 @@ pub fn both(alloc: Global, line: u32, a: Value, b: Value) -> Result<Value, Halt>
 
 #[tactic(auto, unfolding(ep_typing::specs::Operators::either))]
 pub fn either(alloc: Global, line: u32, a: Value, b: Value) -> Result<Value, Halt>
-    ensures { Gives seen.value (at line (rule.either (seen.value a) (seen.value b))) result }
+    ensures { Refines view.value (at line (rule.either (view.value a) (view.value b))) result }
 {
     if are_scalars(&a, &b) {
         let left = Box::new(alloc, a.expr)?;

@@ -1,5 +1,6 @@
 -- Types of arrays come into a table.
 use Rattle.std.proofs.Common.{◌≡◌, ℕ, zero, suc, ◌<◌, ◌≤◌, true, List, [], ◌∷◌, length, drop}
+use Rattle.ep_typing.proofs.Order.{at_ok}
 use Rattle.std.proofs.Common.{drop-cons, get_or, unwrap_or, Option, Some, None, Result, Ok, Err, inl, inr, refl, sym}
 use Rattle.std.proofs.Common.{ap, ◌∙◌, subst, arith}
 use Rattle.std.proofs.lemmas.Bool.Decides.{nat_tests}
@@ -23,7 +24,7 @@ use Rattle.ep_typing.specs.Results.{◌>>=◌, at}
 use Rattle.ep_typing.specs.Types.{base_number, c_type_number, known_number, pointer_number, whole, with_base}
 use Rattle.ep_typing.specs.Types.{with_c_type, with_pointers}
 use Rattle.ep_elaboration.specs.Declarators.{array_of, arrays_of, made}
-use Rattle.ep_operands.specs.Gives.{Stops}
+use Rattle.ep_operands.specs.Refinement.{Stops}
 use Rattle.ep_scopes.specs.Known.{IsKnown, IsKnownBase}
 use Rattle.ep_declared.specs.Stopped.{halted}
 use Rattle.ep_declared.proofs.Growth.{IsMore, more_added, more_on, more_types, pointers_more, type_known, type_more}
@@ -140,10 +141,6 @@ pub at_err : {A : Type 0} (l : ℕ) (r : Result A ℕ) (e : Refusal) → at l r 
     ≡ record { kind = k; line = l; word = 0 })
 at_err l (Ok x) e h = absurd cc
 at_err l (Err k) e h = (k, refl, cc)
-
-pub at_ok : {A : Type 0} (l : ℕ) (r : Result A ℕ) (x : A) → at l r ≡ Ok x → r ≡ Ok x
-at_ok l (Ok y) x h = let same : y ≡ x = cc in ap (λ z. Ok z) same
-at_ok l (Err k) x h = absurd cc
 
 abbrev pub typed_in : CType → Table → Result (CType × Table) ℕ
 typed_in c t = Ok (c, t)

@@ -1,13 +1,13 @@
 -- Words before bodies, and the members of bodies, one after another.
 use Rattle.std.proofs.Common.{◌≡◌, ℕ, suc, ◌+◌, ◌<◌, ◌≤◌, nat_eq, Bool, true, false, ◌||◌, List, [], ◌∷◌, ◌++◌, length}
-use Rattle.std.proofs.Common.{map, drop, drop-cons, get_or, slice_get, true≢false, Option, Some, None, Result, Ok, Err}
+use Rattle.ep_layout.proofs.Basics.{grows-trans, is_union-stays}
+use Rattle.std.proofs.Common.{map, drop, drop-cons, get_or, true≢false, Option, Result, Ok, Err}
 use Rattle.std.proofs.Common.{refl, sym, ap, ◌∙◌, subst, arith}
 use Rattle.std.specs.Prelude.{OnOk}
 use Rattle.std.specs.Global.{Vec}
 use Rattle.std.specs.Option.{option_map}
 use Rattle.std.proofs.lemmas.Bool.Decides.{nat_tests}
 use Rattle.std.proofs.lemmas.List.{drop_all}
-use Rattle.std.proofs.lemmas.Option.{slice_get-get_or}
 use Rattle.ep_int.specs.Memory.{contains}
 use Rattle.ep_ast.specs.declared.declarations.SpecTree.{SpecTree, Plain, Body}
 use Rattle.ep_ast.specs.declared.declarations.DeclaratorTree.{DeclaratorTree}
@@ -19,25 +19,27 @@ use Rattle.ep_ast.specs.declared.refusals.Halt.TheVariants as halts
 use Rattle.ep_ast.specs.Expression.{TypeWord, type_word}
 use Rattle.ep_ast.specs.Declaration.{Spec, Members, aggregate, body, declarator, member_of, more_members, more_specs}
 use Rattle.ep_ast.specs.Declaration.{spec_of, text_of, to_members, to_specs}
-use Rattle.ep_ast.specs.Mark.{union_word}
+use Rattle.ep_ast.specs.declared.words.Word.{Word}
+use Rattle.ep_ast.specs.Mark.{union_word, word_number}
 use Rattle.ep_ast.proofs.Rows.{members-vec}
-use Rattle.ep_layout.specs.Table.{AggregateRow, Grows, Table, is_completed, is_union, members_stop}
+use Rattle.ep_layout.specs.Table.{Grows, is_completed, is_union, members_stop}
 use Rattle.ep_layout.proofs.Recursion.{kept_by_itself}
 use Rattle.ep_typing.specs.declared.types.CType.{CType}
 use Rattle.ep_typing.specs.Env.{Env}
 use Rattle.ep_typing.specs.Results.{◌>>=◌, at}
 use Rattle.ep_elaboration.specs.Aggregates.{Named, all_members, body_declared, closed, members_declared, opened}
 use Rattle.ep_elaboration.specs.Aggregates.{specs_declared, words_declared}
-use Rattle.ep_operands.specs.Gives.{Stops}
+use Rattle.ep_operands.specs.Refinement.{Stops}
 use Rattle.ep_scopes.specs.Known.{IsKnownEnv}
 use Rattle.ep_declared.specs.Open.{Follows, IsAfter, IsOpened, OthersStayOpen, StaysOpen}
-use Rattle.ep_declared.proofs.Growth.{grows_on, more_aggregates}
+use Rattle.ep_declared.proofs.Growth.{more_aggregates}
 
 -- ---- the words before a body
 
-body_tree : (l n : ℕ) (t : Option (Vec ℕ)) (v : Vec MemberTree)
-    → spec_of (Body l n t v) ≡ body (aggregate l n (option_map text_of t) (to_members (map member_of v.items)))
-body_tree l n t v = ap (λ (ms : Members). body (aggregate l n (option_map text_of t) ms)) (members-vec v)
+body_tree : (l : ℕ) (n : Word) (t : Option (Vec ℕ)) (v : Vec MemberTree)
+    → spec_of (Body l n t v)
+    ≡ body (aggregate l (word_number n) (option_map text_of t) (to_members (map member_of v.items)))
+body_tree l n t v = ap (λ (ms : Members). body (aggregate l (word_number n) (option_map text_of t) ms)) (members-vec v)
 
 front : (i : ℕ) (ss : List SpecTree) (s : SpecTree) → i < length ss → s ≡ get_or ss i s → drop i ss
     ≡ s ∷ drop (i + 1) ss
@@ -60,12 +62,13 @@ module _ (i : ℕ) (ss : List SpecTree) (s : SpecTree) (lt : i < length ss) (is 
       ∙ sym (ap (λ (r : SpecTree). specs_declared G us ws (more_specs (spec_of r) (to_specs (map spec_of (drop (i + 1)
       ss))))) e) ∙ first_spec
 
-  pub body_is : (l n : ℕ) (t : Option (Vec ℕ)) (v : Vec MemberTree) (ms : List MemberTree) → s ≡ Body l n t v → ms
-      ≡ v.items
-      → body_declared G us (aggregate l n (option_map text_of t) (to_members (map member_of ms))) ≡ all
+  pub body_is : (l : ℕ) (n : Word) (t : Option (Vec ℕ)) (v : Vec MemberTree) (ms : List MemberTree) → s ≡ Body l n t v
+      → ms ≡ v.items
+      → body_declared G us (aggregate l (word_number n) (option_map text_of t) (to_members (map member_of ms))) ≡ all
   unfolding specs_declared
   body_is l n t v ms e f =
-      ap (λ (xs : List MemberTree). body_declared G us (aggregate l n (option_map text_of t) (to_members (map
+      ap (λ (xs : List MemberTree). body_declared G us
+      (aggregate l (word_number n) (option_map text_of t) (to_members (map
       member_of xs)))) f
       ∙ sym (ap (λ (b : Spec). specs_declared G us ws (more_specs b (to_specs (map spec_of (drop (i + 1) ss))))) (ap
       spec_of e ∙ body_tree l n t v))
@@ -188,14 +191,14 @@ after_ok (Err e) us G H k g s = tt
 pub follows_on : (us : List ℕ) (G H I : Env) → IsAfter us G H → Follows H I → IsAfter us G I
 follows_on us G H I a f = record {
   known = f.known;
-  grown = grows_on G.types H.types I.types a.grown f.grown;
+  grown = grows-trans G.types H.types I.types a.grown f.grown;
   stay = λ k lt c o. f.stay k (a.stay k lt c o);
 }
 
 pub after_on : (us : List ℕ) (G H I : Env) → IsAfter us G H → IsAfter us H I → IsAfter us G I
 after_on us G H I a b = record {
   known = b.known;
-  grown = grows_on G.types H.types I.types a.grown b.grown;
+  grown = grows-trans G.types H.types I.types a.grown b.grown;
   stay = λ k lt c o. b.stay k (omega (arith, lt, more_aggregates G.types H.types a.grown)) c (a.stay k lt c o);
 }
 
@@ -208,13 +211,6 @@ inside_too a b us h = of (nat_eq b a)
 
 itself_inside : (a : ℕ) (us : List ℕ) → contains a (a ∷ us) ≡ true
 itself_inside a us = let e : nat_eq a a ≡ true = grind (arith, nat_tests) in ap (λ (p : Bool). p || contains a us) e
-
-union_stays : (t u : Table) → Grows t u → (a : ℕ) → a < length t.aggregates → is_union u a ≡ is_union t a
-union_stays t u g a lt =
-    let d : AggregateRow = record { tag = []; is_union = false; members = None } in
-    let e : slice_get t.aggregates a ≡ Some (get_or t.aggregates a d) = slice_get-get_or t.aggregates a d lt in
-    let p = g.aggregates a (get_or t.aggregates a d) e in
-    rw (e, p.1) p.2
 
 -- between the brackets of a body
 module _ (us : List ℕ) (u : Bool) (a : ℕ) (G H I : Env) (f : Follows G H) (o : IsOpened us u a G.types H.types)
@@ -229,12 +225,12 @@ module _ (us : List ℕ) (u : Bool) (a : ℕ) (G H I : Env) (f : Follows G H) (o
   still_open = b.stay a o.inside (itself_inside a us) o.empty
 
   pub same_word : is_union I.types a ≡ u
-  same_word = union_stays H.types I.types b.grown a o.inside ∙ o.word
+  same_word = is_union-stays H.types I.types b.grown a o.inside ∙ o.word
 
   pub body_after : (J : Env) → OthersStayOpen a I.types J.types → Grows I.types J.types → IsKnownEnv J → IsAfter us G J
   body_after J q g known = record {
     known = known;
-    grown = grows_on G.types I.types J.types (grows_on G.types H.types I.types f.grown b.grown) g;
+    grown = grows-trans G.types I.types J.types (grows-trans G.types H.types I.types f.grown b.grown) g;
     stay = λ k lt c p. q k (λ e. bad k lt c e) (b.stay k (omega (arith, lt, more_aggregates G.types H.types f.grown))
         (inside_too a k us c) (f.stay k p));
   }

@@ -14,9 +14,9 @@ use Rattle.ep_typing.specs.Constant.{count_in}
 use Rattle.ep_typing.specs.Env.{Env}
 use Rattle.ep_typing.specs.Results.{◌>>=◌, at, needed}
 use Rattle.ep_elaboration.specs.Declarators.{bound, bounds, object_bounds}
-use Rattle.ep_operands.specs.Gives.{Stops}
+use Rattle.ep_operands.specs.Refinement.{Stops}
 use Rattle.ep_declared.specs.Counts.{behind, lacks_first}
-use Rattle.ep_declared.specs.Gives.{GivesIn}
+use Rattle.ep_declared.specs.Refinement.{RefinesIn}
 
 abbrev pub trees : List (Option ExprTree) → List (Option Expr)
 trees bs = map (option_map expr) bs
@@ -119,14 +119,14 @@ trees_behind (b ∷ bs) = refl
 -- ---- what calls give
 
 abbrev GivesCounts : Env → Result (Vec ℕ) Halt → Result (List ℕ × Env) Refusal → Type 0
-GivesCounts H r s = GivesIn (λ (v : Vec ℕ). v.items) s H r
+GivesCounts H r s = RefinesIn (λ (v : Vec ℕ). v.items) s H r
 
 pub none_before : (done : List ℕ) (s : Result (List ℕ × Env) Refusal) (H : Env) (r : Result (Vec ℕ) Halt) → done ≡ []
-    → GivesIn (λ (v : Vec ℕ). v.items) (behind done s) H r → GivesIn (λ (v : Vec ℕ). v.items) s H r
+    → RefinesIn (λ (v : Vec ℕ). v.items) (behind done s) H r → RefinesIn (λ (v : Vec ℕ). v.items) s H r
 none_before done s H r e h = subst (GivesCounts H r) (ap (λ (ns : List ℕ). behind ns s) e ∙ behind_none s) h
 
 pub unlisted : (G : Env) (l : ℕ) (o : Option ℕ) (bs : List (Option Expr)) (H : Env) (r : Result (Vec ℕ) Halt) → o ≡ None
-    → GivesIn (λ (v : Vec ℕ). v.items) (bounds G l bs) H r → GivesIn (λ (v : Vec ℕ). v.items) (object_bounds G l o bs)
+    → RefinesIn (λ (v : Vec ℕ). v.items) (bounds G l bs) H r → RefinesIn (λ (v : Vec ℕ). v.items) (object_bounds G l o bs)
     H r
 unlisted G l o bs H r e h =
     subst (GivesCounts H r) (sym (ap (λ (p : Option ℕ). object_bounds G l p bs) e ∙ not_listed G l bs)) h
@@ -134,7 +134,7 @@ unlisted G l o bs H r e h =
 pub listed_not_lacking : (G : Env) (l n : ℕ) (o : Option ℕ) (bs : List (Option Expr)) (H : Env) (r : Result (Vec ℕ)
     Halt) → o ≡ Some n
     → lacks_first bs ≡ false
-    → GivesIn (λ (v : Vec ℕ). v.items) (bounds G l bs) H r → GivesIn (λ (v : Vec ℕ). v.items) (object_bounds G l o bs)
+    → RefinesIn (λ (v : Vec ℕ). v.items) (bounds G l bs) H r → RefinesIn (λ (v : Vec ℕ). v.items) (object_bounds G l o bs)
     H r
 listed_not_lacking G l n o bs H r e f h =
     subst (GivesCounts H r) (sym (ap (λ (p : Option ℕ). object_bounds G l p bs) e ∙ not_lacking G l n bs f)) h
@@ -142,8 +142,8 @@ listed_not_lacking G l n o bs H r e f h =
 pub listed_gives : (G : Env) (l n k : ℕ) (bs cs : List (Option ExprTree)) (done : List ℕ) (H : Env) (r : Result (Vec
     ℕ) Halt)
     → lacks_first (trees bs) ≡ true → at l (needed 17 (count_in (pos n))) ≡ Ok k → done ≡ k ∷ [] → cs ≡ drop 1 bs
-    → GivesIn (λ (v : Vec ℕ). v.items) (behind done (bounds G l (trees cs))) H r
-    → GivesIn (λ (v : Vec ℕ). v.items) (object_bounds G l (Some n) (trees bs)) H r
+    → RefinesIn (λ (v : Vec ℕ). v.items) (behind done (bounds G l (trees cs))) H r
+    → RefinesIn (λ (v : Vec ℕ). v.items) (object_bounds G l (Some n) (trees bs)) H r
 listed_gives G l n k bs cs done H r f g e d h =
     subst (GivesCounts H r)
     (ap (λ (ns : List ℕ). behind ns (bounds G l (trees cs))) e

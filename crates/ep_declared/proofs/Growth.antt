@@ -1,5 +1,8 @@
 -- Tables grow, and what was known stays known.
 use Rattle.std.proofs.Common.{◌≡◌, ℕ, zero, suc, ◌≤◌, nat_eq, Bool, false, List, [], ◌∷◌, ◌++◌, length}
+use Rattle.ep_int.proofs.Basics.{length-by_rows}
+use Rattle.ep_layout.proofs.Basics.{grows-trans}
+use Rattle.std.proofs.lemmas.Result.{on_ok_weaker}
 use Rattle.std.proofs.Common.{slice_get, is_some, option_and_then, Option, Some, None, Result, Ok, Err, refl}
 use Rattle.std.proofs.Common.{ap, ◌∙◌, subst, arith}
 use Rattle.std.specs.Prelude.{OnOk}
@@ -25,29 +28,11 @@ use Rattle.ep_declared.specs.Open.{Follows, StaysOpen}
 
 -- ---- growing, one step after another
 
-pub grows_on : (t u v : Table) → Grows t u → Grows u v → Grows t v
-grows_on t u v g h = record {
-  model = h.model ∙ g.model;
-  types = λ n ty e. h.types n ty (g.types n ty e);
-  aggregates = λ a r e.
-      let p = g.aggregates a r e in
-      let q = h.aggregates a p.0 p.1 in
-      (q.0, q.1, q.2 ∙ p.2, λ ms m. q.3 ms (p.3 ms m));
-  deeper = omega (arith, g.deeper, h.deeper);
-}
-
-more_rows : {X : Type 0} (xs ys : List X) → ((a : ℕ) (x : X) → slice_get xs a ≡ Some x → (y : X) × (slice_get ys a
-    ≡ Some y))
-    → length xs ≤ length ys
-more_rows [] ys f = omega arith
-more_rows (x ∷ xs) [] f = let p = f 0 x refl in absurd (let bad = p.1 in cc)
-more_rows (x ∷ xs) (y ∷ ys) f = omega (arith, more_rows xs ys (λ a z e. f (suc a) z e))
-
 pub more_types : (t u : Table) → Grows t u → length t.types ≤ length u.types
-more_types t u g = more_rows t.types u.types (λ n ty e. (ty, g.types n ty e))
+more_types t u g = length-by_rows t.types u.types (λ n ty e. (ty, g.types n ty e))
 
 pub more_aggregates : (t u : Table) → Grows t u → length t.aggregates ≤ length u.aggregates
-more_aggregates t u g = more_rows t.aggregates u.aggregates (λ a x e. let p = g.aggregates a x e in (p.0, p.1))
+more_aggregates t u g = length-by_rows t.aggregates u.aggregates (λ a x e. let p = g.aggregates a x e in (p.0, p.1))
 
 pub greater : (t u : Table) → Grows t u → IsGreater t u
 greater t u g = record { types = more_types t u g; aggregates = more_aggregates t u g }
@@ -74,7 +59,7 @@ pub more_itself : (t : Table) → IsMore t t
 more_itself t = record { grows = kept_by_itself t; stay = λ a h. h }
 
 pub more_on : (t u v : Table) → IsMore t u → IsMore u v → IsMore t v
-more_on t u v g h = record { grows = grows_on t u v g.grows h.grows; stay = λ a e. h.stay a (g.stay a e) }
+more_on t u v g h = record { grows = grows-trans t u v g.grows h.grows; stay = λ a e. h.stay a (g.stay a e) }
 
 added_by : (t u : Table) (ty : Ty) (o : Option ℕ) → number_of t ty ≡ o → type_added t ty ≡ u → IsMore t u
 added_by t u ty None e h =
@@ -198,7 +183,7 @@ follows_itself G k = record { known = k; grown = kept_by_itself G.types; stay = 
 pub follows_more : (G H I : Env) → Follows G H → Follows H I → Follows G I
 follows_more G H I f g = record {
   known = g.known;
-  grown = grows_on G.types H.types I.types f.grown g.grown;
+  grown = grows-trans G.types H.types I.types f.grown g.grown;
   stay = λ a h. g.stay a (f.stay a h);
 }
 
@@ -206,10 +191,6 @@ follows_more G H I f g = record {
 pub follows_table : (G : Env) (u : Table) → IsKnownEnv G → Grows G.types u → StaysOpen G.types u
     → Follows G (record G { types = u })
 follows_table G u k g s = record { known = table_known G u g k; grown = g; stay = s }
-
-pub on_ok : {T E P Q : Type 0} (r : Result T E) → (P → Q) → OnOk r P → OnOk r Q
-on_ok (Ok x) f h = f h
-on_ok (Err e) f h = tt
 
 pub follows_ok : {T E : Type 0} (r : Result T E) (G H : Env) → OnOk r (IsKnownEnv H) → OnOk r (Grows G.types H.types)
     → OnOk r (StaysOpen G.types H.types) → OnOk r (Follows G H)

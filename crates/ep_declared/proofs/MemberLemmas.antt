@@ -1,5 +1,7 @@
 -- Members one after another.
 use Rattle.std.proofs.Common.{◌≡◌, ℕ, suc, ◌+◌, ◌<◌, ◌≤◌, nat_lt, Bool, true, false, ◌&&◌, List, [], ◌∷◌, ◌++◌}
+use Rattle.ep_typing.proofs.Order.{at_ok}
+use Rattle.std.proofs.lemmas.Bool.{and_from}
 use Rattle.std.proofs.Common.{length, map, drop, drop-cons, get_or, is_some, Option, Some, None, Result, Ok, refl}
 use Rattle.std.proofs.Common.{sym, ap, ◌∙◌, arith}
 use Rattle.std.specs.List.{list_all}
@@ -17,14 +19,10 @@ use Rattle.ep_typing.specs.Env.{Env, entry}
 use Rattle.ep_typing.specs.Results.{◌>>=◌, at}
 use Rattle.ep_elaboration.specs.Aggregates.{Named, member_declared, members_declared, sized_member, with_member}
 use Rattle.ep_elaboration.specs.Declarators.{arrays_of, type_declared, types_declared}
-use Rattle.ep_operands.specs.Gives.{Stops}
+use Rattle.ep_operands.specs.Refinement.{Stops}
 use Rattle.ep_declared.specs.Open.{AreTypes}
-use Rattle.ep_declared.proofs.ArrayLemmas.{at_ok}
 
 -- ---- types of members
-
-both : (a b : Bool) → a ≡ true → b ≡ true → (a && b) ≡ true
-both a b h k = rw (h, k) refl
 
 later : (m n k : ℕ) → m ≤ n → nat_lt k m ≡ true → nat_lt k n ≡ true
 later m n k le h = grind (arith, nat_tests)
@@ -34,15 +32,15 @@ pub types_stay : (t u : Table) → length t.types ≤ length u.types → (ms : L
 types_stay t u le [] h = refl
 types_stay t u le (m ∷ ms) h =
     let p = and_parts _ _ h in
-    both (is_type u m.1) (list_all (λ (n : List ℕ × ℕ). is_type u n.1) ms) (later (length t.types) (length u.types)
+    and_from (is_type u m.1) (list_all (λ (n : List ℕ × ℕ). is_type u n.1) ms) (later (length t.types) (length u.types)
     m.1 le p.0) (types_stay t u le ms p.1)
 
 pub type_put : (u : Table) (ms : List (List ℕ × ℕ)) (m : List ℕ × ℕ) → AreTypes u ms → m.1 < length u.types
     → AreTypes u (ms ++ m ∷ [])
-type_put u [] m h lt = both (is_type u m.1) true (grind (arith, nat_tests)) refl
+type_put u [] m h lt = and_from (is_type u m.1) true (grind (arith, nat_tests)) refl
 type_put u (n ∷ ms) m h lt =
     let p = and_parts _ _ h in
-    both (is_type u n.1) (list_all (λ (k : List ℕ × ℕ). is_type u k.1) (ms ++ m ∷ [])) p.0 (type_put u ms m p.1 lt)
+    and_from (is_type u n.1) (list_all (λ (k : List ℕ × ℕ). is_type u k.1) (ms ++ m ∷ [])) p.0 (type_put u ms m p.1 lt)
 
 -- ---- one member
 

@@ -7,10 +7,10 @@ use Rattle.ep_typing.specs.Env.{Meaning, Scope, entry}
 use Rattle.ep_typing.specs.Parts.{built_in}
 use Rattle.ep_elaboration.specs.Declarators as rule
 use Rattle.ep_scopes.specs.Known.{AreKnownNames, AreKnownScopes, IsKnownMeaning}
-use Rattle.ep_scopes.specs.Seen as seen
+use Rattle.ep_scopes.specs.View as view
 
 pub taken_is : (t : List ℕ) (ss : List Scope)
-    → (is_some (entry t (seen.innermost ss).names) || is_some (entry t built_in)) ≡ rule.is_taken t ss
+    → (is_some (entry t (view.innermost ss).names) || is_some (entry t built_in)) ≡ rule.is_taken t ss
 taken_is t [] = refl
 taken_is t (s ∷ ss) = refl
 
@@ -18,12 +18,12 @@ none_of : (o : Option Meaning) (b : Bool) → (is_some o || b) ≡ false → o �
 none_of None b h = refl
 none_of (Some m) b h = absurd cc
 
-pub free_here : (t : List ℕ) (ss : List Scope) → rule.is_taken t ss ≡ false → entry t (seen.innermost ss).names ≡ None
+pub free_here : (t : List ℕ) (ss : List Scope) → rule.is_taken t ss ≡ false → entry t (view.innermost ss).names ≡ None
 free_here t [] h = refl
 free_here t (s ∷ ss) h = none_of (entry t s.names) (is_some (entry t built_in)) h
 
 pub name_known : (u : Table) (ss : List Scope) (t : List ℕ) (m : Meaning) → IsKnownMeaning u m → AreKnownScopes u ss
-    → AreKnownScopes u (seen.name_in ss t m)
+    → AreKnownScopes u (view.name_in ss t m)
 name_known u [] t m k h = tt
 name_known u (s ∷ ss) t m k h = (pushed s.names h.0, h.1)
   where

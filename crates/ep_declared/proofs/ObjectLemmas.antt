@@ -1,5 +1,6 @@
 -- Objects and names of types come into an environment.
 use Rattle.std.proofs.Common.{◌≡◌, ℕ, Bool, false, List, [], length, Result, Ok, refl, sym, ap}
+use Rattle.ep_typing.proofs.Order.{at_ok}
 use Rattle.std.proofs.Common.{◌∙◌, subst}
 use Rattle.ep_layout.specs.Table.{Grows, Table}
 use Rattle.ep_layout.proofs.Recursion.{kept_by_itself}
@@ -13,13 +14,12 @@ use Rattle.ep_ast.specs.Expression.{TypeWord}
 use Rattle.ep_ast.specs.declared.refusals.Refusal.{Refusal}
 use Rattle.ep_ast.specs.declared.refusals.Halt.{Halt}
 use Rattle.ep_ast.specs.declared.refusals.Halt.TheVariants as halts
-use Rattle.ep_operands.specs.Gives.{Stops}
+use Rattle.ep_operands.specs.Refinement.{Stops}
 use Rattle.ep_elaboration.specs.Declarators.{Object, arrays_of, declared_object, declared_type, is_taken, named_type_of}
 use Rattle.ep_elaboration.specs.Declarators.{object_of, sized_object, with_block, with_name}
 use Rattle.ep_scopes.specs.Known.{IsKnown, IsKnownEnv}
 use Rattle.ep_scopes.proofs.KnownLemmas.{named_known, words_known}
 use Rattle.ep_declared.specs.Open.{Follows, StaysOpen}
-use Rattle.ep_declared.proofs.ArrayLemmas.{at_ok}
 use Rattle.ep_declared.proofs.Growth.{IsMore, follows_table, type_more, words_more}
 
 -- ---- words

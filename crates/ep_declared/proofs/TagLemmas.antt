@@ -1,5 +1,7 @@
 -- Bodies are opened and closed.
 use Rattle.std.proofs.Common.{◌≡◌, ℕ, zero, suc, ◌<◌, Bool, true, false, ◌||◌, not, List, []}
+use Rattle.ep_layout.proofs.Basics.{grows-trans}
+use Rattle.std.proofs.lemmas.Bool.{or_parts}
 use Rattle.std.proofs.Common.{◌∷◌, ◌++◌, length, get_or, slice_get, slice_set, is_some, option_and_then, option_map}
 use Rattle.std.proofs.Common.{unwrap_or, Option, Some, None, refl, sym, ap, ◌∙◌, subst}
 use Rattle.std.proofs.Common.{arith}
@@ -13,7 +15,7 @@ use Rattle.ep_int.specs.Memory.{contains}
 use Rattle.ep_layout.specs.SameTypes.{is_same_sign}
 use Rattle.ep_layout.specs.Table.{AggregateRow, Grows, Table, completed_with, declared, is_completed, is_type, is_union}
 use Rattle.ep_layout.specs.Table.{laid_out}
-use Rattle.ep_layout.specs.Views.{view_named}
+use Rattle.ep_layout.specs.Views.{named_view}
 use Rattle.ep_layout.proofs.Laid.{completed_is, grows_with_members, with_members}
 use Rattle.ep_typing.specs.declared.types.Base.TheVariants as bases
 use Rattle.ep_typing.specs.declared.types.CType.{CType}
@@ -21,13 +23,13 @@ use Rattle.ep_typing.specs.Env.{Env, Scope, entry, with_tag}
 use Rattle.ep_typing.specs.Types.{whole, with_c_type}
 use Rattle.ep_elaboration.specs.Aggregates.{Named, has_body, tags_here}
 use Rattle.ep_scopes.specs.Known.{AreKnownScopes, IsKnown, IsKnownEnv}
-use Rattle.ep_scopes.specs.Seen as seen
+use Rattle.ep_scopes.specs.View as view
 use Rattle.ep_scopes.proofs.KnownLemmas.{tag_entry_known, tag_stays}
 use Rattle.ep_declared.specs.Open.{AreTypes, Follows, IsOpened, OthersStayOpen}
-use Rattle.ep_declared.proofs.Growth.{IsMore, declared_more, follows_table, grows_on, has_members, table_known}
+use Rattle.ep_declared.proofs.Growth.{IsMore, declared_more, follows_table, has_members, table_known}
 use Rattle.ep_declared.proofs.Growth.{type_known, type_more}
 
-pub here_is : (ss : List Scope) → (seen.innermost ss).tags ≡ tags_here ss
+pub here_is : (ss : List Scope) → (view.innermost ss).tags ≡ tags_here ss
 here_is [] = refl
 here_is (s ∷ ss) = refl
 
@@ -81,10 +83,6 @@ tag_follows G H t u e k =
     let m : IsMore G.types (declared G.types t u) = declared_more G.types t u in
     subst (Follows G) (sym e) (record { known = tag_stays G t u k; grown = m.grows; stay = m.stay })
 
-or_false : (a b : Bool) → (a || b) ≡ false → (a ≡ false) × (b ≡ false)
-or_false false b h = (refl, h)
-or_false true b h = absurd cc
-
 same_words : (a b : Bool) → not (is_same_sign a b) ≡ false → a ≡ b
 same_words true true h = refl
 same_words false false h = refl
@@ -95,8 +93,8 @@ pub opened_there : (G : Env) (t : List ℕ) (u : Bool) (us : List ℕ) (a : ℕ)
     → entry t (tags_here G.scopes) ≡ Some a
     → has_body G us u a ≡ false → IsOpened us u a G.types G.types
 opened_there G t u us a k e h =
-    let p = or_false (contains a us || is_completed G.types a) (not (is_same_sign (is_union G.types a) u)) h in
-    let q = or_false (contains a us) (is_completed G.types a) p.0 in
+    let p = or_parts (contains a us || is_completed G.types a) (not (is_same_sign (is_union G.types a) u)) h in
+    let q = or_parts (contains a us) (is_completed G.types a) p.0 in
     record {
       inside = here_known G t a k e;
       empty = q.1;
@@ -145,7 +143,7 @@ others_open t a ms b f h = of (slice_get t.aggregates a) (completed_with t a ms)
         subst (λ (v : Table). is_completed v b ≡ false) same
         (open_set t.aggregates a b (record g { members = Some (laid_out t g.is_union ms) }) f h)
 
-pub listed_types : (t : Table) (ms : List (Vec ℕ × ℕ)) (ns : List (List ℕ × ℕ)) → view_named ms ≡ ns → AreTypes t ns
+pub listed_types : (t : Table) (ms : List (Vec ℕ × ℕ)) (ns : List (List ℕ × ℕ)) → named_view ms ≡ ns → AreTypes t ns
     → list_all (λ (m : Vec ℕ × ℕ). is_type t m.1) ms ≡ true
 listed_types t ms ns e h =
     sym (list_all-map (λ (m : List ℕ × ℕ). is_type t m.1) (λ (m : Vec ℕ × ℕ). (m.0.items, m.1)) ms)
@@ -172,7 +170,7 @@ pub is_closed : (G : Env) (a : ℕ) (ms : Named) (c : CType) (u v : Table) → I
 is_closed G a ms c u v k lt o e f q =
     let g : Grows G.types u = subst (Grows G.types) (sym e) (completed_grows G.types a ms lt o) in
     let m : IsMore u v = subst (IsMore u) (sym q) (type_more u c) in
-    let all : Grows G.types v = grows_on G.types u v g m.grows in
+    let all : Grows G.types v = grows-trans G.types u v g m.grows in
     let there : IsKnown u c = completed_first G a ms c u lt o e f in
     record {
       first = there;

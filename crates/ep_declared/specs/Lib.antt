@@ -1,5 +1,5 @@
-pub mod Gives
-pub mod Seen
+pub mod Refinement
+pub mod View
 pub mod Open
 pub mod Counts
 pub mod Stopped

@@ -6,7 +6,7 @@ ghost use Rattle.ep_layout.specs.Table.{Grows};
 ghost use Rattle.ep_typing.specs.Results.{at};
 ghost use Rattle.ep_typing.specs.Types as types_of;
 ghost use Rattle.ep_elaboration.specs.Declarators as rule;
-ghost use Rattle.ep_declared.specs.Gives.{GivesIn};
+ghost use Rattle.ep_declared.specs.Refinement.{RefinesIn};
 ghost use Rattle.ep_declared.specs.Open.{StaysOpen};
 ghost use Rattle.ep_declared.specs.Stopped.{halted};
 ghost use Rattle.ep_scopes.specs.Known.{IsKnown};
@@ -31,7 +31,7 @@ pub(crate) fn stopped(line: u32, stop: LayoutStop) -> Halt
 // An array whose elements are in the table.
 fn add_array(types: &mut Types, line: u32, row: Ty) -> Result<CType, Halt>
     requires { IsTrue (table.names_known types.old row) }
-    ensures means { GivesIn (λ d. d) (at line (rule.made types.old row (table.type_stop types.old row)))
+    ensures means { RefinesIn (λ d. d) (at line (rule.made types.old row (table.type_stop types.old row)))
         types.new result }
     ensures there { IfOk result (λ d. types_of.c_type_number types.new d < length types.new.types) }
     ensures inside { IfOk result (λ d. IsKnown types.new d) }
@@ -47,7 +47,7 @@ fn add_array(types: &mut Types, line: u32, row: Ty) -> Result<CType, Halt>
 #[tactic(auto, unfolding(ep_elaboration::specs::Declarators::array_of))]
 fn array_of(types: &mut Types, line: u32, c: CType, count: u32) -> Result<CType, Halt>
     requires { IsKnown types.old c }
-    ensures means { GivesIn (λ d. d) (at line (rule.array_of types.old c count)) types.new result }
+    ensures means { RefinesIn (λ d. d) (at line (rule.array_of types.old c count)) types.new result }
     ensures there { IfOk result (λ d. types_of.c_type_number types.new d < length types.new.types) }
     ensures inside { IfOk result (λ d. IsKnown types.new d) }
     ensures grown { OnOk result (Grows types.old types.new) }
@@ -62,7 +62,7 @@ fn array_of(types: &mut Types, line: u32, c: CType, count: u32) -> Result<CType,
 #[tactic(auto, unfolding(ep_elaboration::specs::Declarators::arrays_of))]
 pub fn arrays_of(types: &mut Types, c: CType, line: u32, counts: &[u32]) -> Result<CType, Halt>
     requires { IsKnown types.old c }
-    ensures means { GivesIn (λ d. d) (at line (rule.arrays_of types.old c counts.now)) types.new result }
+    ensures means { RefinesIn (λ d. d) (at line (rule.arrays_of types.old c counts.now)) types.new result }
     ensures there { IfOk result (λ d. types_of.c_type_number types.new d < length types.new.types) }
     ensures inside { IfOk result (λ d. IsKnown types.new d) }
     ensures grown { OnOk result (Grows types.old types.new) }

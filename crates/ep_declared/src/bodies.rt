@@ -3,18 +3,19 @@
 ghost use Rattle.std.specs.Prelude.{[], map, IfOk, OnOk};
 ghost use Rattle.std.specs.Option.{option_map};
 ghost use Rattle.ep_ast.specs.Declaration.{aggregate, aggregate_of, member_of, spec_of, text_of, to_members, to_specs};
+ghost use Rattle.ep_ast.specs.Mark.{word_number};
 ghost use Rattle.ep_layout.specs.Table.{Grows};
 ghost use Rattle.ep_elaboration.specs.Aggregates as rule;
-ghost use Rattle.ep_declared.specs.Gives.{GivesIn};
+ghost use Rattle.ep_declared.specs.Refinement.{RefinesIn};
 ghost use Rattle.ep_declared.specs.Open.{AreTypes, IsAfter};
-ghost use Rattle.ep_declared.specs.Seen as seen;
+ghost use Rattle.ep_declared.specs.View as view;
 ghost use Rattle.ep_scopes.specs.Known.{IsKnown, IsKnownEnv};
-ghost use Rattle.ep_scopes.specs.Seen.{env as around};
+ghost use Rattle.ep_scopes.specs.View.{env as env_view};
 
 use crate::members::{Named, members_declared};
 use crate::tags::{closed, inside, opened};
 use crate::words::{copy_word, words_declared};
-use ep_ast::{AggregateTree, Halt, MemberTree, SpecTree, words};
+use ep_ast::{AggregateTree, Halt, MemberTree, SpecTree, Word};
 use ep_scopes::Env;
 use ep_typing::CType;
 
@@ -22,11 +23,11 @@ use ep_typing::CType;
 #[cycle(bodies)]
 #[tactic(auto, unfolding(ep_elaboration::specs::Aggregates::specs_declared))]
 fn specs_inside(env: &mut Env, unclosed: &[u32], specs: &[SpecTree]) -> Result<CType, Halt>
-    requires { IsKnownEnv (around env.old) }
-    ensures means { GivesIn (λ c. c) (rule.specs_declared (around env.old) unclosed.now []
-        (to_specs (map spec_of specs.now))) (around env.new) result }
-    ensures after { OnOk result (IsAfter unclosed.now (around env.old) (around env.new)) }
-    ensures inside { IfOk result (λ c. IsKnown (around env.new).types c) }
+    requires { IsKnownEnv (env_view env.old) }
+    ensures means { RefinesIn (λ c. c) (rule.specs_declared (env_view env.old) unclosed.now []
+        (to_specs (map spec_of specs.now))) (env_view env.new) result }
+    ensures after { OnOk result (IsAfter unclosed.now (env_view env.old) (env_view env.new)) }
+    ensures inside { IfOk result (λ c. IsKnown (env_view env.new).types c) }
 {
     let mut before = Vec::new(env.alloc);
     for spec in specs {
@@ -50,18 +51,18 @@ fn body_inside(
     env: &mut Env,
     unclosed: &[u32],
     line: u32,
-    word: u8,
+    word: Word,
     tag: &Option<Vec<u8>>,
     members: &[MemberTree],
 ) -> Result<CType, Halt>
-    requires { IsKnownEnv (around env.old) }
-    ensures means { GivesIn (λ c. c) (rule.body_declared (around env.old) unclosed.now
-        (aggregate line word (option_map text_of tag.now) (to_members (map member_of members.now))))
-        (around env.new) result }
-    ensures after { OnOk result (IsAfter unclosed.now (around env.old) (around env.new)) }
-    ensures inside { IfOk result (λ c. IsKnown (around env.new).types c) }
+    requires { IsKnownEnv (env_view env.old) }
+    ensures means { RefinesIn (λ c. c) (rule.body_declared (env_view env.old) unclosed.now
+        (aggregate line (word_number word) (option_map text_of tag.now) (to_members (map member_of members.now))))
+        (env_view env.new) result }
+    ensures after { OnOk result (IsAfter unclosed.now (env_view env.old) (env_view env.new)) }
+    ensures inside { IfOk result (λ c. IsKnown (env_view env.new).types c) }
 {
-    let number = opened(env, line, unclosed, word == words::UNION, tag)?;
+    let number = opened(env, line, unclosed, word.is_union(), tag)?;
     let inner = inside(env.alloc, number, unclosed)?;
     let named = all_members(env, &inner, members)?;
     let c = closed(env, line, number, named)?;
@@ -71,11 +72,11 @@ fn body_inside(
 #[cycle(bodies)]
 #[tactic(auto, unfolding(ep_elaboration::specs::Aggregates::all_members))]
 fn all_members(env: &mut Env, unclosed: &[u32], members: &[MemberTree]) -> Result<Named, Halt>
-    requires { IsKnownEnv (around env.old) }
-    ensures means { GivesIn seen.named (rule.all_members (around env.old) unclosed.now []
-        (to_members (map member_of members.now))) (around env.new) result }
-    ensures after { OnOk result (IsAfter unclosed.now (around env.old) (around env.new)) }
-    ensures members { IfOk result (λ n. AreTypes (around env.new).types (seen.named n)) }
+    requires { IsKnownEnv (env_view env.old) }
+    ensures means { RefinesIn view.named (rule.all_members (env_view env.old) unclosed.now []
+        (to_members (map member_of members.now))) (env_view env.new) result }
+    ensures after { OnOk result (IsAfter unclosed.now (env_view env.old) (env_view env.new)) }
+    ensures members { IfOk result (λ n. AreTypes (env_view env.new).types (view.named n)) }
 {
     let mut named = Named::new(env.alloc);
     for member in members {
@@ -87,12 +88,12 @@ fn all_members(env: &mut Env, unclosed: &[u32], members: &[MemberTree]) -> Resul
 
 /// The type of the words that begin a declaration, and what they declare.
 pub fn specs_declared(env: &mut Env, specs: &[SpecTree]) -> Result<CType, Halt>
-    requires { IsKnownEnv (around env.old) }
-    ensures means { GivesIn (λ c. c) (rule.specs_declared (around env.old) [] [] (to_specs (map spec_of specs.now)))
-        (around env.new) result }
-    ensures known { OnOk result (IsKnownEnv (around env.new)) }
-    ensures inside { IfOk result (λ c. IsKnown (around env.new).types c) }
-    ensures grown { OnOk result (Grows (around env.old).types (around env.new).types) }
+    requires { IsKnownEnv (env_view env.old) }
+    ensures means { RefinesIn (λ c. c) (rule.specs_declared (env_view env.old) [] [] (to_specs (map spec_of specs.now)))
+        (env_view env.new) result }
+    ensures known { OnOk result (IsKnownEnv (env_view env.new)) }
+    ensures inside { IfOk result (λ c. IsKnown (env_view env.new).types c) }
+    ensures grown { OnOk result (Grows (env_view env.old).types (env_view env.new).types) }
 {
     let c = specs_inside(env, &[], specs)?;
     Ok(c)
@@ -100,12 +101,12 @@ pub fn specs_declared(env: &mut Env, specs: &[SpecTree]) -> Result<CType, Halt>
 
 /// A struct or union with its body, as an item of its own.
 pub fn body_declared(env: &mut Env, aggregate: &AggregateTree) -> Result<CType, Halt>
-    requires { IsKnownEnv (around env.old) }
-    ensures means { GivesIn (λ c. c) (rule.body_declared (around env.old) [] (aggregate_of aggregate.now))
-        (around env.new) result }
-    ensures known { OnOk result (IsKnownEnv (around env.new)) }
-    ensures inside { IfOk result (λ c. IsKnown (around env.new).types c) }
-    ensures grown { OnOk result (Grows (around env.old).types (around env.new).types) }
+    requires { IsKnownEnv (env_view env.old) }
+    ensures means { RefinesIn (λ c. c) (rule.body_declared (env_view env.old) [] (aggregate_of aggregate.now))
+        (env_view env.new) result }
+    ensures known { OnOk result (IsKnownEnv (env_view env.new)) }
+    ensures inside { IfOk result (λ c. IsKnown (env_view env.new).types c) }
+    ensures grown { OnOk result (Grows (env_view env.old).types (env_view env.new).types) }
 {
     let c = body_inside(
         env,

@@ -9,13 +9,13 @@ ghost use Rattle.ep_typing.specs.Constant.{count_in};
 ghost use Rattle.ep_typing.specs.Operand as operand;
 ghost use Rattle.ep_typing.specs.Results.{at, needed};
 ghost use Rattle.ep_elaboration.specs.Declarators as rule;
-ghost use Rattle.ep_operands.specs.Gives.{Gives};
-ghost use Rattle.ep_operands.specs.Seen as operands;
+ghost use Rattle.ep_operands.specs.Refinement.{Refines};
+ghost use Rattle.ep_operands.specs.View as operands;
 ghost use Rattle.ep_declared.specs.Counts.{behind, lacks_first};
-ghost use Rattle.ep_declared.specs.Gives.{GivesIn};
+ghost use Rattle.ep_declared.specs.Refinement.{RefinesIn};
 ghost use Rattle.ep_declared.specs.Open.{Follows, StaysOpen};
 ghost use Rattle.ep_scopes.specs.Known.{IsKnownEnv};
-ghost use Rattle.ep_scopes.specs.Seen.{env as around};
+ghost use Rattle.ep_scopes.specs.View.{env as env_view};
 
 use ep_ast::{ExprTree, Halt, RefusalKind};
 use ep_operands::{Operand, count_of, refused, value_of};
@@ -23,8 +23,8 @@ use ep_scopes::Env;
 use ep_typer_exprs::{mention, typed};
 
 fn counted(env: &Env, line: u32, x: Operand) -> Result<u32, Halt>
-    ensures { Gives (λ n. n)
-        (at line (rule.counted (operand.value_of (around env.now).types (operands.operand x)))) result }
+    ensures { Refines (λ n. n)
+        (at line (rule.counted (operand.value_of (env_view env.now).types (operands.operand x)))) result }
 {
     match value_of(env.alloc, &env.types, line, x) {
         Ok(v) => match count_of(&v) {
@@ -39,12 +39,12 @@ fn counted(env: &Env, line: u32, x: Operand) -> Result<u32, Halt>
 /// A bound that is there: a constant from 1 to 65,536.
 #[tactic(auto, unfolding(ep_elaboration::specs::Declarators::bound))]
 pub fn bound(env: &mut Env, line: u32, tree: &ExprTree) -> Result<u32, Halt>
-    requires { IsKnownEnv (around env.old) }
-    ensures means { GivesIn (λ n. n) (rule.bound (around env.old) line (Some (source.expr tree.now)))
-        (around env.new) result }
-    ensures known { OnOk result (IsKnownEnv (around env.new)) }
-    ensures grown { OnOk result (Grows (around env.old).types (around env.new).types) }
-    ensures stay { OnOk result (StaysOpen (around env.old).types (around env.new).types) }
+    requires { IsKnownEnv (env_view env.old) }
+    ensures means { RefinesIn (λ n. n) (rule.bound (env_view env.old) line (Some (source.expr tree.now)))
+        (env_view env.new) result }
+    ensures known { OnOk result (IsKnownEnv (env_view env.new)) }
+    ensures grown { OnOk result (Grows (env_view env.old).types (env_view env.new).types) }
+    ensures stay { OnOk result (StaysOpen (env_view env.old).types (env_view env.new).types) }
 {
     mention(env, tree)?;
     let x = typed(env, tree)?;
@@ -54,10 +54,10 @@ pub fn bound(env: &mut Env, line: u32, tree: &ExprTree) -> Result<u32, Halt>
 
 #[tactic(auto, unfolding(ep_elaboration::specs::Declarators::bound))]
 fn bound_if(env: &mut Env, line: u32, tree: &Option<ExprTree>) -> Result<u32, Halt>
-    requires { IsKnownEnv (around env.old) }
-    ensures means { GivesIn (λ n. n) (rule.bound (around env.old) line (option_map source.expr tree.now))
-        (around env.new) result }
-    ensures after { OnOk result (Follows (around env.old) (around env.new)) }
+    requires { IsKnownEnv (env_view env.old) }
+    ensures means { RefinesIn (λ n. n) (rule.bound (env_view env.old) line (option_map source.expr tree.now))
+        (env_view env.new) result }
+    ensures after { OnOk result (Follows (env_view env.old) (env_view env.new)) }
 {
     match tree {
         Some(tree) => bound(env, line, tree),
@@ -72,11 +72,11 @@ fn bounds_behind(
     done: Vec<u32>,
     list: &[Option<ExprTree>],
 ) -> Result<Vec<u32>, Halt>
-    requires { IsKnownEnv (around env.old) }
-    ensures means { GivesIn (λ v. v.items)
-        (behind done.items (rule.bounds (around env.old) line (map (option_map source.expr) list.now)))
-        (around env.new) result }
-    ensures after { OnOk result (Follows (around env.old) (around env.new)) }
+    requires { IsKnownEnv (env_view env.old) }
+    ensures means { RefinesIn (λ v. v.items)
+        (behind done.items (rule.bounds (env_view env.old) line (map (option_map source.expr) list.now)))
+        (env_view env.new) result }
+    ensures after { OnOk result (Follows (env_view env.old) (env_view env.new)) }
 {
     let mut counts = done;
     for tree in list {
@@ -88,19 +88,20 @@ fn bounds_behind(
 
 /// Bounds from left to right, on the line of the declared name.
 pub fn bounds(env: &mut Env, line: u32, list: &[Option<ExprTree>]) -> Result<Vec<u32>, Halt>
-    requires { IsKnownEnv (around env.old) }
-    ensures means { GivesIn (λ v. v.items) (rule.bounds (around env.old) line (map (option_map source.expr) list.now))
-        (around env.new) result }
-    ensures known { OnOk result (IsKnownEnv (around env.new)) }
-    ensures grown { OnOk result (Grows (around env.old).types (around env.new).types) }
-    ensures stay { OnOk result (StaysOpen (around env.old).types (around env.new).types) }
+    requires { IsKnownEnv (env_view env.old) }
+    ensures means { RefinesIn (λ v. v.items)
+        (rule.bounds (env_view env.old) line (map (option_map source.expr) list.now))
+        (env_view env.new) result }
+    ensures known { OnOk result (IsKnownEnv (env_view env.new)) }
+    ensures grown { OnOk result (Grows (env_view env.old).types (env_view env.new).types) }
+    ensures stay { OnOk result (StaysOpen (env_view env.old).types (env_view env.new).types) }
 {
     bounds_behind(env, line, Vec::new(env.alloc), list)
 }
 
 // How many values a list gives, as a bound.
 fn listed_count(line: u32, n: usize) -> Result<u32, Halt>
-    ensures { Gives (λ k. k) (at line (needed array_bound (count_in (pos n)))) result }
+    ensures { Refines (λ k. k) (at line (needed array_bound (count_in (pos n)))) result }
 {
     if (1 <= n) & (n <= 65_536) {
         return Ok(n as u32);
@@ -133,12 +134,12 @@ fn listed_bounds(
     n: usize,
     list: &[Option<ExprTree>],
 ) -> Result<Vec<u32>, Halt>
-    requires known { IsKnownEnv (around env.old) }
+    requires known { IsKnownEnv (env_view env.old) }
     requires lacking { IsTrue (lacks_first (map (option_map source.expr) list.now)) }
-    ensures means { GivesIn (λ v. v.items)
-        (rule.object_bounds (around env.old) line (Some n) (map (option_map source.expr) list.now))
-        (around env.new) result }
-    ensures after { OnOk result (Follows (around env.old) (around env.new)) }
+    ensures means { RefinesIn (λ v. v.items)
+        (rule.object_bounds (env_view env.old) line (Some n) (map (option_map source.expr) list.now))
+        (env_view env.new) result }
+    ensures after { OnOk result (Follows (env_view env.old) (env_view env.new)) }
 {
     let first = listed_count(line, n)?;
     let mut counts = Vec::new(env.alloc);
@@ -154,11 +155,11 @@ pub(crate) fn object_bounds(
     listed: Option<usize>,
     list: &[Option<ExprTree>],
 ) -> Result<Vec<u32>, Halt>
-    requires { IsKnownEnv (around env.old) }
-    ensures means { GivesIn (λ v. v.items)
-        (rule.object_bounds (around env.old) line listed (map (option_map source.expr) list.now))
-        (around env.new) result }
-    ensures after { OnOk result (Follows (around env.old) (around env.new)) }
+    requires { IsKnownEnv (env_view env.old) }
+    ensures means { RefinesIn (λ v. v.items)
+        (rule.object_bounds (env_view env.old) line listed (map (option_map source.expr) list.now))
+        (env_view env.new) result }
+    ensures after { OnOk result (Follows (env_view env.old) (env_view env.new)) }
 {
     match listed {
         None => bounds_behind(env, line, Vec::new(env.alloc), list),

@@ -2,16 +2,16 @@
 
 ghost use Rattle.std.specs.Prelude.{◌≡◌, ◌++◌, ◌↔◌, [], ◌∷◌, map, IfOk, OnOk, IsTrue, None, is_some};
 ghost use Rattle.ep_ast.specs.Declaration.{declarator};
-ghost use Rattle.ep_layout.specs.Views.{view_named};
+ghost use Rattle.ep_layout.specs.Views.{named_view};
 ghost use Rattle.ep_typing.specs.Env.{entry};
 ghost use Rattle.ep_typing.specs.Results.{at};
 ghost use Rattle.ep_typing.specs.Types as types_of;
 ghost use Rattle.ep_elaboration.specs.Aggregates as rule;
-ghost use Rattle.ep_declared.specs.Gives.{Adds};
+ghost use Rattle.ep_declared.specs.Refinement.{Adds};
 ghost use Rattle.ep_declared.specs.Open.{AreTypes, Follows};
-ghost use Rattle.ep_declared.specs.Seen as seen;
+ghost use Rattle.ep_declared.specs.View as view;
 ghost use Rattle.ep_scopes.specs.Known.{IsKnown, IsKnownEnv};
-ghost use Rattle.ep_scopes.specs.Seen.{env as around};
+ghost use Rattle.ep_scopes.specs.View.{env as env_view};
 
 use crate::arrays::arrays_of;
 use crate::counts::bounds;
@@ -30,7 +30,7 @@ pub(crate) struct Named {
 
 impl Named {
     pub fn new(alloc: Global) -> Named
-        ensures { seen.named result ≡ [] }
+        ensures { view.named result ≡ [] }
     {
         Named {
             types: IndexMap::new(alloc),
@@ -38,14 +38,14 @@ impl Named {
     }
 
     fn has(&self, name: &[u8]) -> bool
-        ensures { result ≡ is_some (entry name.now (seen.named self.now)) }
+        ensures { result ≡ is_some (entry name.now (view.named self.now)) }
     {
         self.types.get(name).copied().is_some()
     }
 
     fn add(&mut self, alloc: Global, name: &[u8], ty: u32) -> Result<(), AllocError>
-        requires { entry name.now (seen.named self.old) ≡ None }
-        ensures { OnOk result (seen.named self.new ≡ seen.named self.old ++ (name.now, ty) ∷ []) }
+        requires { entry name.now (view.named self.old) ≡ None }
+        ensures { OnOk result (view.named self.new ≡ view.named self.old ++ (name.now, ty) ∷ []) }
     {
         let text = Vec::from_slice(alloc, name)?;
         self.types.insert(text, ty)?;
@@ -53,13 +53,13 @@ impl Named {
     }
 
     pub fn is_empty(&self) -> bool
-        ensures { IsTrue result ↔ (seen.named self.now ≡ []) }
+        ensures { IsTrue result ↔ (view.named self.now ≡ []) }
     {
         self.types.is_empty()
     }
 
     pub fn into_list(self, alloc: Global) -> Result<Vec<(Vec<u8>, u32)>, AllocError>
-        ensures { IfOk result (λ v. view_named v.items ≡ seen.named self) }
+        ensures { IfOk result (λ v. named_view v.items ≡ view.named self) }
     {
         self.types.into_iter().collect(alloc)
     }
@@ -67,12 +67,12 @@ impl Named {
 
 // A member of a type that is there.
 fn sized_member(env: &Env, line: u32, named: &mut Named, name: &[u8], c: CType) -> Result<(), Halt>
-    requires { entry name.now (seen.named named.old) ≡ None }
+    requires { entry name.now (view.named named.old) ≡ None }
     ensures means { Adds
-        (at line (rule.sized_member (around env.now) (seen.named named.old) name.now (c, (around env.now).types)))
-        (seen.named named.new, around env.now) result }
-    ensures named { OnOk result (seen.named named.new
-        ≡ seen.named named.old ++ (name.now, types_of.c_type_number (around env.now).types c) ∷ []) }
+        (at line (rule.sized_member (env_view env.now) (view.named named.old) name.now (c, (env_view env.now).types)))
+        (view.named named.new, env_view env.now) result }
+    ensures named { OnOk result (view.named named.new
+        ≡ view.named named.old ++ (name.now, types_of.c_type_number (env_view env.now).types c) ∷ []) }
 {
     match size_of_type(&env.types, c) {
         None => Err(refused(RefusalKind::IncompleteType, line)),
@@ -92,13 +92,13 @@ fn with_member(
     c: CType,
     counts: &[u32],
 ) -> Result<(), Halt>
-    requires known { IsKnownEnv (around env.old) }
-    requires inside { IsKnown (around env.old).types c }
-    requires members { AreTypes (around env.old).types (seen.named named.old) }
-    ensures means { Adds (at line (rule.with_member (around env.old) (seen.named named.old) name.now c counts.now))
-        (seen.named named.new, around env.new) result }
-    ensures after { OnOk result (Follows (around env.old) (around env.new)) }
-    ensures members { OnOk result (AreTypes (around env.new).types (seen.named named.new)) }
+    requires known { IsKnownEnv (env_view env.old) }
+    requires inside { IsKnown (env_view env.old).types c }
+    requires members { AreTypes (env_view env.old).types (view.named named.old) }
+    ensures means { Adds (at line (rule.with_member (env_view env.old) (view.named named.old) name.now c counts.now))
+        (view.named named.new, env_view env.new) result }
+    ensures after { OnOk result (Follows (env_view env.old) (env_view env.new)) }
+    ensures members { OnOk result (AreTypes (env_view env.new).types (view.named named.new)) }
 {
     if named.has(name) {
         return Err(refused(RefusalKind::Redeclared, line));
@@ -115,13 +115,13 @@ fn member_declared(
     c: CType,
     d: &DeclaratorTree,
 ) -> Result<(), Halt>
-    requires known { IsKnownEnv (around env.old) }
-    requires inside { IsKnown (around env.old).types c }
-    requires members { AreTypes (around env.old).types (seen.named named.old) }
-    ensures means { Adds (rule.member_declared (around env.old) (seen.named named.old) c (declarator d.now))
-        (seen.named named.new, around env.new) result }
-    ensures after { OnOk result (Follows (around env.old) (around env.new)) }
-    ensures members { OnOk result (AreTypes (around env.new).types (seen.named named.new)) }
+    requires known { IsKnownEnv (env_view env.old) }
+    requires inside { IsKnown (env_view env.old).types c }
+    requires members { AreTypes (env_view env.old).types (view.named named.old) }
+    ensures means { Adds (rule.member_declared (env_view env.old) (view.named named.old) c (declarator d.now))
+        (view.named named.new, env_view env.new) result }
+    ensures after { OnOk result (Follows (env_view env.old) (env_view env.new)) }
+    ensures members { OnOk result (AreTypes (env_view env.new).types (view.named named.new)) }
 {
     let counts = bounds(env, d.line, &d.bounds)?;
     let pointer = with_stars(c, d.stars.len())?;
@@ -136,13 +136,13 @@ pub(crate) fn members_declared(
     c: CType,
     list: &[DeclaratorTree],
 ) -> Result<(), Halt>
-    requires known { IsKnownEnv (around env.old) }
-    requires inside { IsKnown (around env.old).types c }
-    requires members { AreTypes (around env.old).types (seen.named named.old) }
-    ensures means { Adds (rule.members_declared (around env.old) (seen.named named.old) c (map declarator list.now))
-        (seen.named named.new, around env.new) result }
-    ensures after { OnOk result (Follows (around env.old) (around env.new)) }
-    ensures members { OnOk result (AreTypes (around env.new).types (seen.named named.new)) }
+    requires known { IsKnownEnv (env_view env.old) }
+    requires inside { IsKnown (env_view env.old).types c }
+    requires members { AreTypes (env_view env.old).types (view.named named.old) }
+    ensures means { Adds (rule.members_declared (env_view env.old) (view.named named.old) c (map declarator list.now))
+        (view.named named.new, env_view env.new) result }
+    ensures after { OnOk result (Follows (env_view env.old) (env_view env.new)) }
+    ensures members { OnOk result (AreTypes (env_view env.new).types (view.named named.new)) }
 {
     for d in list {
         member_declared(env, named, c, d)?;

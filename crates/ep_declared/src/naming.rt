@@ -5,8 +5,8 @@ ghost use Rattle.ep_typing.specs.Env.{entry};
 ghost use Rattle.ep_typing.specs.Parts as parts;
 ghost use Rattle.ep_elaboration.specs.Declarators as rule;
 ghost use Rattle.ep_scopes.specs.Known.{IsKnownEnv, IsKnownMeaning};
-ghost use Rattle.ep_scopes.specs.Seen as seen;
-ghost use Rattle.ep_scopes.specs.Seen.{env as around};
+ghost use Rattle.ep_scopes.specs.View as view;
+ghost use Rattle.ep_scopes.specs.View.{env as env_view};
 
 use ep_int::Memory;
 use ep_operands::built_in;
@@ -20,17 +20,17 @@ fn is_built_in(name: &[u8]) -> bool
 
 /// Whether the innermost scope has the name, or it is a built-in one.
 pub fn is_taken(env: &Env, name: &[u8]) -> bool
-    ensures { result ≡ rule.is_taken name.now (around env.now).scopes }
+    ensures { result ≡ rule.is_taken name.now (env_view env.now).scopes }
 {
     env.scopes.has(name) | is_built_in(name)
 }
 
 /// A name comes into the innermost scope.
 pub fn declare_name(env: &mut Env, name: &[u8], meaning: Meaning) -> Result<(), Memory>
-    requires free { IsFalse (rule.is_taken name.now (around env.old).scopes) }
-    ensures means { OnOk result (around env.new ≡ rule.with_name (around env.old) name.now (seen.meaning meaning)) }
-    ensures known { OnOk result (IsKnownMeaning (around env.old).types (seen.meaning meaning)
-        → IsKnownEnv (around env.old) → IsKnownEnv (around env.new)) }
+    requires free { IsFalse (rule.is_taken name.now (env_view env.old).scopes) }
+    ensures means { OnOk result (env_view env.new ≡ rule.with_name (env_view env.old) name.now (view.meaning meaning)) }
+    ensures known { OnOk result (IsKnownMeaning (env_view env.old).types (view.meaning meaning)
+        → IsKnownEnv (env_view env.old) → IsKnownEnv (env_view env.new)) }
 {
     match env.scopes.declare(name, meaning) {
         Ok(()) => Ok(()),

@@ -5,11 +5,11 @@ ghost use Rattle.ep_ast.specs.Declaration.{declarator};
 ghost use Rattle.ep_layout.specs.Table.{Grows};
 ghost use Rattle.ep_typing.specs.Results.{at};
 ghost use Rattle.ep_elaboration.specs.Declarators as rule;
-ghost use Rattle.ep_declared.specs.Gives.{GivesIn};
+ghost use Rattle.ep_declared.specs.Refinement.{RefinesIn};
 ghost use Rattle.ep_declared.specs.Open.{Follows, StaysOpen};
-ghost use Rattle.ep_declared.specs.Seen as seen;
+ghost use Rattle.ep_declared.specs.View as view;
 ghost use Rattle.ep_scopes.specs.Known.{IsKnown, IsKnownEnv};
-ghost use Rattle.ep_scopes.specs.Seen.{env as around};
+ghost use Rattle.ep_scopes.specs.View.{env as env_view};
 
 use crate::arrays::arrays_of;
 use crate::counts::object_bounds;
@@ -44,9 +44,9 @@ fn next_block(blocks: &[BlockInfo]) -> Result<u32, Memory>
 
 // The next block.
 fn add_block(env: &mut Env, size: u32, ty: u32, global: bool) -> Result<u32, Memory>
-    ensures number { IfOk result (λ b. b ≡ length (around env.old).blocks) }
-    ensures means { OnOk result (around env.new
-        ≡ rule.with_block (around env.old) (record { size = size; ty = ty; global = global })) }
+    ensures number { IfOk result (λ b. b ≡ length (env_view env.old).blocks) }
+    ensures means { OnOk result (env_view env.new
+        ≡ rule.with_block (env_view env.old) (record { size = size; ty = ty; global = global })) }
 {
     let block = next_block(&env.blocks)?;
     match env.blocks.push(BlockInfo { size, ty, global }) {
@@ -63,13 +63,13 @@ fn object_of(
     c: CType,
     size: u32,
 ) -> Result<Object, Memory>
-    requires free { IsFalse (rule.is_taken name.now (around env.old).scopes) }
-    requires known { IsKnownEnv (around env.old) }
-    requires inside { IsKnown (around env.old).types c }
-    ensures means { IfOk result (λ o. rule.object_of (around env.old) global name.now c size
-        ≡ (seen.object o, around env.new)) }
-    ensures after { OnOk result (Follows (around env.old) (around env.new)) }
-    ensures inside { IfOk result (λ o. IsKnown (around env.new).types o.ty) }
+    requires free { IsFalse (rule.is_taken name.now (env_view env.old).scopes) }
+    requires known { IsKnownEnv (env_view env.old) }
+    requires inside { IsKnown (env_view env.old).types c }
+    ensures means { IfOk result (λ o. rule.object_of (env_view env.old) global name.now c size
+        ≡ (view.object o, env_view env.new)) }
+    ensures after { OnOk result (Follows (env_view env.old) (env_view env.new)) }
+    ensures inside { IfOk result (λ o. IsKnown (env_view env.new).types o.ty) }
 {
     let ty = type_number(&env.types, c);
     let block = add_block(env, size, ty, global)?;
@@ -91,14 +91,14 @@ fn sized_object(
     name: &[u8],
     c: CType,
 ) -> Result<Object, Halt>
-    requires free { IsFalse (rule.is_taken name.now (around env.old).scopes) }
-    requires known { IsKnownEnv (around env.old) }
-    requires inside { IsKnown (around env.old).types c }
-    ensures means { GivesIn seen.object
-        (at line (rule.sized_object (around env.old) global name.now (c, (around env.old).types)))
-        (around env.new) result }
-    ensures after { OnOk result (Follows (around env.old) (around env.new)) }
-    ensures inside { IfOk result (λ o. IsKnown (around env.new).types o.ty) }
+    requires free { IsFalse (rule.is_taken name.now (env_view env.old).scopes) }
+    requires known { IsKnownEnv (env_view env.old) }
+    requires inside { IsKnown (env_view env.old).types c }
+    ensures means { RefinesIn view.object
+        (at line (rule.sized_object (env_view env.old) global name.now (c, (env_view env.old).types)))
+        (env_view env.new) result }
+    ensures after { OnOk result (Follows (env_view env.old) (env_view env.new)) }
+    ensures inside { IfOk result (λ o. IsKnown (env_view env.new).types o.ty) }
 {
     match size_of_type(&env.types, c) {
         None => Err(refused(RefusalKind::IncompleteType, line)),
@@ -118,12 +118,13 @@ fn declared_object(
     c: CType,
     counts: &[u32],
 ) -> Result<Object, Halt>
-    requires known { IsKnownEnv (around env.old) }
-    requires inside { IsKnown (around env.old).types c }
-    ensures means { GivesIn seen.object (at line (rule.declared_object (around env.old) global name.now c counts.now))
-        (around env.new) result }
-    ensures after { OnOk result (Follows (around env.old) (around env.new)) }
-    ensures inside { IfOk result (λ o. IsKnown (around env.new).types o.ty) }
+    requires known { IsKnownEnv (env_view env.old) }
+    requires inside { IsKnown (env_view env.old).types c }
+    ensures means { RefinesIn view.object
+        (at line (rule.declared_object (env_view env.old) global name.now c counts.now))
+        (env_view env.new) result }
+    ensures after { OnOk result (Follows (env_view env.old) (env_view env.new)) }
+    ensures inside { IfOk result (λ o. IsKnown (env_view env.new).types o.ty) }
 {
     if is_taken(env, name) {
         return Err(refused(RefusalKind::Redeclared, line));
@@ -142,14 +143,14 @@ pub fn object_declared(
     c: CType,
     d: &DeclaratorTree,
 ) -> Result<Object, Halt>
-    requires known { IsKnownEnv (around env.old) }
-    requires inside { IsKnown (around env.old).types c }
-    ensures means { GivesIn seen.object (rule.object_declared (around env.old) global listed c (declarator d.now))
-        (around env.new) result }
-    ensures known { OnOk result (IsKnownEnv (around env.new)) }
-    ensures inside { IfOk result (λ o. IsKnown (around env.new).types o.ty) }
-    ensures grown { OnOk result (Grows (around env.old).types (around env.new).types) }
-    ensures stay { OnOk result (StaysOpen (around env.old).types (around env.new).types) }
+    requires known { IsKnownEnv (env_view env.old) }
+    requires inside { IsKnown (env_view env.old).types c }
+    ensures means { RefinesIn view.object (rule.object_declared (env_view env.old) global listed c (declarator d.now))
+        (env_view env.new) result }
+    ensures known { OnOk result (IsKnownEnv (env_view env.new)) }
+    ensures inside { IfOk result (λ o. IsKnown (env_view env.new).types o.ty) }
+    ensures grown { OnOk result (Grows (env_view env.old).types (env_view env.new).types) }
+    ensures stay { OnOk result (StaysOpen (env_view env.old).types (env_view env.new).types) }
 {
     let counts = object_bounds(env, d.line, listed, &d.bounds)?;
     let pointer = with_stars(c, d.stars.len())?;

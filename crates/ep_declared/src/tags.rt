@@ -8,11 +8,11 @@ ghost use Rattle.ep_layout.specs.Table.{Grows};
 ghost use Rattle.ep_typing.specs.Env.{entry, with_tag};
 ghost use Rattle.ep_typing.specs.Results.{at};
 ghost use Rattle.ep_elaboration.specs.Aggregates as rule;
-ghost use Rattle.ep_declared.specs.Gives.{GivesIn};
+ghost use Rattle.ep_declared.specs.Refinement.{RefinesIn};
 ghost use Rattle.ep_declared.specs.Open.{AreTypes, Follows, IsOpened, OthersStayOpen};
-ghost use Rattle.ep_declared.specs.Seen as seen;
+ghost use Rattle.ep_declared.specs.View as view;
 ghost use Rattle.ep_scopes.specs.Known.{IsKnown, IsKnownEnv};
-ghost use Rattle.ep_scopes.specs.Seen.{env as around};
+ghost use Rattle.ep_scopes.specs.View.{env as env_view};
 
 use crate::arrays::stopped;
 use crate::members::Named;
@@ -45,7 +45,7 @@ fn is_union(types: &Types, aggregate: u32) -> bool
 }
 
 fn has_body(env: &Env, unclosed: &[u32], with_union: bool, aggregate: u32) -> bool
-    ensures { result ≡ rule.has_body (around env.now) unclosed.now with_union aggregate }
+    ensures { result ≡ rule.has_body (env_view env.now) unclosed.now with_union aggregate }
 {
     unclosed.contains(&aggregate)
         | is_completed(&env.types, aggregate)
@@ -72,16 +72,16 @@ fn add_aggregate(
 // The aggregate of a tag of the innermost scope.
 #[tactic(auto, using(crate::proofs::TagLemmas::here_is))]
 fn tag_here(env: &Env, tag: &[u8]) -> Option<u32>
-    ensures { result ≡ entry tag.now (rule.tags_here (around env.now).scopes) }
+    ensures { result ≡ entry tag.now (rule.tags_here (env_view env.now).scopes) }
 {
     env.scopes.tag_here(tag)
 }
 
 // A tag that the innermost scope doesn't have.
 fn declare_tag(env: &mut Env, tag: &[u8], with_union: bool) -> Result<u32, Memory>
-    requires { entry tag.now (rule.tags_here (around env.old).scopes) ≡ None }
-    ensures number { IfOk result (λ n. n ≡ length (around env.old).types.aggregates) }
-    ensures means { OnOk result (around env.new ≡ with_tag (around env.old) tag.now with_union) }
+    requires { entry tag.now (rule.tags_here (env_view env.old).scopes) ≡ None }
+    ensures number { IfOk result (λ n. n ≡ length (env_view env.old).types.aggregates) }
+    ensures means { OnOk result (env_view env.new ≡ with_tag (env_view env.old) tag.now with_union) }
 {
     let number = add_aggregate(&mut env.types, env.alloc, tag, with_union)?;
     match env.scopes.declare_tag(tag, number) {
@@ -99,13 +99,13 @@ pub(crate) fn opened(
     with_union: bool,
     tag: &Option<Vec<u8>>,
 ) -> Result<u32, Halt>
-    requires { IsKnownEnv (around env.old) }
-    ensures means { GivesIn (λ a. a)
-        (at line (rule.opened (around env.old) unclosed.now with_union (option_map text_of tag.now)))
-        (around env.new) result }
-    ensures after { OnOk result (Follows (around env.old) (around env.new)) }
+    requires { IsKnownEnv (env_view env.old) }
+    ensures means { RefinesIn (λ a. a)
+        (at line (rule.opened (env_view env.old) unclosed.now with_union (option_map text_of tag.now)))
+        (env_view env.new) result }
+    ensures after { OnOk result (Follows (env_view env.old) (env_view env.new)) }
     ensures opened { IfOk result (λ a.
-        IsOpened unclosed.now with_union a (around env.old).types (around env.new).types) }
+        IsOpened unclosed.now with_union a (env_view env.old).types (env_view env.new).types) }
 {
     match tag {
         None => {
@@ -143,17 +143,17 @@ pub(crate) fn inside(
 
 /// A body ends.
 pub(crate) fn closed(env: &mut Env, line: u32, aggregate: u32, named: Named) -> Result<CType, Halt>
-    requires known { IsKnownEnv (around env.old) }
-    requires exists { aggregate < length (around env.old).types.aggregates }
-    requires empty { IsFalse (table.is_completed (around env.old).types aggregate) }
-    requires members { AreTypes (around env.old).types (seen.named named) }
-    ensures means { GivesIn (λ c. c) (at line (rule.closed (around env.old) aggregate (seen.named named)
-        (table.members_stop (around env.old).types (table.is_union (around env.old).types aggregate)
-        (seen.named named)))) (around env.new) result }
-    ensures known { OnOk result (IsKnownEnv (around env.new)) }
-    ensures inside { IfOk result (λ c. IsKnown (around env.new).types c) }
-    ensures grown { OnOk result (Grows (around env.old).types (around env.new).types) }
-    ensures stay { OnOk result (OthersStayOpen aggregate (around env.old).types (around env.new).types) }
+    requires known { IsKnownEnv (env_view env.old) }
+    requires exists { aggregate < length (env_view env.old).types.aggregates }
+    requires empty { IsFalse (table.is_completed (env_view env.old).types aggregate) }
+    requires members { AreTypes (env_view env.old).types (view.named named) }
+    ensures means { RefinesIn (λ c. c) (at line (rule.closed (env_view env.old) aggregate (view.named named)
+        (table.members_stop (env_view env.old).types (table.is_union (env_view env.old).types aggregate)
+        (view.named named)))) (env_view env.new) result }
+    ensures known { OnOk result (IsKnownEnv (env_view env.new)) }
+    ensures inside { IfOk result (λ c. IsKnown (env_view env.new).types c) }
+    ensures grown { OnOk result (Grows (env_view env.old).types (env_view env.new).types) }
+    ensures stay { OnOk result (OthersStayOpen aggregate (env_view env.old).types (env_view env.new).types) }
 {
     if named.is_empty() {
         return Err(refused(RefusalKind::IncompleteType, line));

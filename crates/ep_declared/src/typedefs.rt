@@ -5,10 +5,10 @@ ghost use Rattle.ep_ast.specs.Declaration.{declarator};
 ghost use Rattle.ep_layout.specs.Table.{Grows};
 ghost use Rattle.ep_typing.specs.Results.{at};
 ghost use Rattle.ep_elaboration.specs.Declarators as rule;
-ghost use Rattle.ep_declared.specs.Gives.{Adds};
+ghost use Rattle.ep_declared.specs.Refinement.{Adds};
 ghost use Rattle.ep_declared.specs.Open.{Follows};
 ghost use Rattle.ep_scopes.specs.Known.{IsKnown, IsKnownEnv};
-ghost use Rattle.ep_scopes.specs.Seen.{env as around};
+ghost use Rattle.ep_scopes.specs.View.{env as env_view};
 
 use crate::arrays::arrays_of;
 use crate::counts::bounds;
@@ -26,10 +26,11 @@ fn declared_type(
     c: CType,
     counts: &[u32],
 ) -> Result<(), Halt>
-    requires known { IsKnownEnv (around env.old) }
-    requires inside { IsKnown (around env.old).types c }
-    ensures means { Adds (at line (rule.declared_type (around env.old) name.now c counts.now)) (around env.new) result }
-    ensures after { OnOk result (Follows (around env.old) (around env.new)) }
+    requires known { IsKnownEnv (env_view env.old) }
+    requires inside { IsKnown (env_view env.old).types c }
+    ensures means { Adds (at line (rule.declared_type (env_view env.old) name.now c counts.now))
+        (env_view env.new) result }
+    ensures after { OnOk result (Follows (env_view env.old) (env_view env.new)) }
 {
     if is_taken(env, name) {
         return Err(refused(RefusalKind::Redeclared, line));
@@ -41,10 +42,10 @@ fn declared_type(
 
 #[tactic(auto, unfolding(ep_elaboration::specs::Declarators::type_declared))]
 fn type_declared(env: &mut Env, c: CType, d: &DeclaratorTree) -> Result<(), Halt>
-    requires known { IsKnownEnv (around env.old) }
-    requires inside { IsKnown (around env.old).types c }
-    ensures means { Adds (rule.type_declared (around env.old) c (declarator d.now)) (around env.new) result }
-    ensures after { OnOk result (Follows (around env.old) (around env.new)) }
+    requires known { IsKnownEnv (env_view env.old) }
+    requires inside { IsKnown (env_view env.old).types c }
+    ensures means { Adds (rule.type_declared (env_view env.old) c (declarator d.now)) (env_view env.new) result }
+    ensures after { OnOk result (Follows (env_view env.old) (env_view env.new)) }
 {
     let counts = bounds(env, d.line, &d.bounds)?;
     let pointer = with_stars(c, d.stars.len())?;
@@ -54,11 +55,12 @@ fn type_declared(env: &mut Env, c: CType, d: &DeclaratorTree) -> Result<(), Halt
 
 /// Typedefs one after another, by their declarators and the type of the words before them.
 pub fn types_declared(env: &mut Env, c: CType, list: &[DeclaratorTree]) -> Result<(), Halt>
-    requires known { IsKnownEnv (around env.old) }
-    requires inside { IsKnown (around env.old).types c }
-    ensures means { Adds (rule.types_declared (around env.old) c (map declarator list.now)) (around env.new) result }
-    ensures known { OnOk result (IsKnownEnv (around env.new)) }
-    ensures grown { OnOk result (Grows (around env.old).types (around env.new).types) }
+    requires known { IsKnownEnv (env_view env.old) }
+    requires inside { IsKnown (env_view env.old).types c }
+    ensures means { Adds (rule.types_declared (env_view env.old) c (map declarator list.now))
+        (env_view env.new) result }
+    ensures known { OnOk result (IsKnownEnv (env_view env.new)) }
+    ensures grown { OnOk result (Grows (env_view env.old).types (env_view env.new).types) }
 {
     for d in list {
         type_declared(env, c, d)?;

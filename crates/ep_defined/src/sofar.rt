@@ -2,7 +2,7 @@
 
 ghost use Rattle.std.specs.Prelude.{◌≡◌, IfOk};
 ghost use Rattle.ep_elaboration.specs.Programs as rule;
-ghost use Rattle.ep_defined.specs.Seen as seen;
+ghost use Rattle.ep_defined.specs.View as view;
 
 use ep_core::program::{Function, InitByte};
 use ep_int::Model;
@@ -28,7 +28,7 @@ pub struct Sofar {
 impl Sofar {
     /// Before the first item of a text.
     pub fn new(alloc: Global, model: Model) -> Result<Sofar, AllocError>
-        ensures { IfOk result (λ s. seen.sofar s ≡ rule.begun model) }
+        ensures { IfOk result (λ s. view.sofar s ≡ rule.begun model) }
     {
         let env = Env::new(alloc, model)?;
         Ok(Sofar {

@@ -9,7 +9,6 @@ use Rattle.ep_ast.specs.Mark as mark
 use Rattle.ep_ast.specs.Statement.{block, break_loop, completes, continue_loop, do_loop, evaluate, evaluates}
 use Rattle.ep_ast.specs.Statement.{for_loop, functions_by_order, if_else, prototype, states, to_parts, typedefs}
 use Rattle.ep_ast.specs.Statement.{while_loop}
-use Rattle.ep_ast.specs.declared.marks.TheConstants as marks
 use Rattle.ep_ast.specs.declared.orders.NamedOrder.TheVariants.{Big, Little}
 use Rattle.ep_elaboration.proofs.Opened.{all_sound}
 use Rattle.ep_elaboration.proofs.Shared.{behind_deep_functions, in_main}
@@ -207,10 +206,10 @@ sound_3 : all_sound Ilp32 (
     states (for_loop 2 (evaluates None) None None (break_loop 2)) ∷
     does 2 (step 2 mark.plus_plus (unary 2 mark.star (id 2 (codes "p")))) ∷
     does 2 (post_increment 2 (unary 2 mark.star (id 2 (codes "p")))) ∷
-    does 2 (assign 2 marks.PLUS_EQUAL (index 2 (id 2 (codes "a")) (zero_at 2)) (number 2 1)) ∷
+    does 2 (assign 2 mark.plus_equal (index 2 (id 2 (codes "a")) (zero_at 2)) (number 2 1)) ∷
     does 2 (post_decrement 2 (arrow 2 (id 2 (codes "sp")) (codes "a"))) ∷
-    does 2 (assign 2 marks.LEFT_SHIFT_EQUAL (id 2 (codes "c")) (number 2 2)) ∷
-    does 2 (assign 2 marks.MINUS_EQUAL (id 2 (codes "cp")) (number 2 1)) ∷ []) ∷
+    does 2 (assign 2 mark.left_shift_equal (id 2 (codes "c")) (number 2 2)) ∷
+    does 2 (assign 2 mark.minus_equal (id 2 (codes "cp")) (number 2 1)) ∷ []) ∷
     [])
     ≡ true
 unfolding all_sound

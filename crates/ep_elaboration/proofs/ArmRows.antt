@@ -8,7 +8,8 @@ use Rattle.ep_ast.specs.declared.orders.NamedOrder.TheVariants.{Little}
 use Rattle.ep_elaboration.proofs.Opened.{answers}
 use Rattle.ep_elaboration.proofs.Trees.{call_of, char_word_at, char_words, defined, defines_function, does_call}
 use Rattle.ep_elaboration.proofs.Trees.{global, head, int_word_at, int_words, local, main_at, no_params, number}
-use Rattle.ep_elaboration.proofs.Trees.{param, params, plain_main, returns, sets, takes, variable, variable_of}
+use Rattle.ep_elaboration.proofs.Trees.{param, params, plain_main, pointer, returns, sets, struct_at, struct_words}
+use Rattle.ep_elaboration.proofs.Trees.{takes, takes_pointer, variable, variable_of}
 use Rattle.ep_elaboration.proofs.Trees.{void_word_at, void_words, zero_at}
 
 -- in this order of kinds and lines
@@ -137,8 +138,36 @@ arm_1 : answers Ilp32 (
     (functions_by_order 1 Little
     (defined 2 (int_words 2) (codes "main") (no_params 2) (returns 2 (zero_at 2) ∷ []) ∷ [])
     (Some (defined 4 (int_words 4) (codes "main") None (returns 4 (number 4 1) ∷ []) ∷ [])) ∷ []) ∷
+    -- #if __BYTE_ORDER__ == __ORDER_LITTLE_ENDIAN__
+    -- int f(struct t *p) { return 0; }
+    -- #else
+    -- int f(struct t *p) { return 0; }
+    -- #endif
+    -- int main(void) { return 0; }
+    (functions_by_order 1 Little
+    (defined 2 (int_words 2) (codes "f") (params 2 (takes_pointer 2 (struct_at 2 (codes "t")) (codes "p") ∷ []))
+    (returns 2 (zero_at 2) ∷ []) ∷ [])
+    (Some
+    (defined 4 (int_words 4) (codes "f") (params 4 (takes_pointer 4 (struct_at 4 (codes "t")) (codes "p") ∷ []))
+    (returns 4 (zero_at 4) ∷ []) ∷ [])) ∷
+    plain_main 6 ∷ []) ∷
+    -- struct t *q;
+    -- #if __BYTE_ORDER__ == __ORDER_LITTLE_ENDIAN__
+    -- int f(struct t *p) { return 0; }
+    -- #else
+    -- int f(struct t *p) { return 0; }
+    -- #endif
+    -- int main(void) { return 0; }
+    (global 1 (struct_words 1 (codes "t")) (pointer 1 (codes "q")) ∷
+    functions_by_order 2 Little
+    (defined 3 (int_words 3) (codes "f") (params 3 (takes_pointer 3 (struct_at 3 (codes "t")) (codes "p") ∷ []))
+    (returns 3 (zero_at 3) ∷ []) ∷ [])
+    (Some
+    (defined 5 (int_words 5) (codes "f") (params 5 (takes_pointer 5 (struct_at 5 (codes "t")) (codes "p") ∷ []))
+    (returns 5 (zero_at 5) ∷ []) ∷ [])) ∷
+    plain_main 7 ∷ []) ∷
     [])
-    ≡ (33, 2) ∷ (38, 1) ∷ (38, 1) ∷ (0, 0) ∷ (31, 3) ∷ (30, 5) ∷ (35, 4) ∷ (0, 0) ∷ []
+    ≡ (33, 2) ∷ (38, 1) ∷ (38, 1) ∷ (0, 0) ∷ (31, 3) ∷ (30, 5) ∷ (35, 4) ∷ (0, 0) ∷ (38, 1) ∷ (0, 0) ∷ []
 unfolding answers
 arm_1 = refl
 

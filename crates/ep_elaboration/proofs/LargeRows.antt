@@ -9,7 +9,6 @@ use Rattle.ep_ast.specs.Mark as mark
 use Rattle.ep_ast.specs.Statement.{Item, arm, block, break_loop, completes, continue_loop, declares, defines, do_loop}
 use Rattle.ep_ast.specs.Statement.{evaluate, evaluates, for_loop, functions_by_order, if_else, if_then, prototype}
 use Rattle.ep_ast.specs.Statement.{return_value, states, to_parts, to_stmts, two_arms, while_loop}
-use Rattle.ep_ast.specs.declared.marks.TheConstants as marks
 use Rattle.ep_ast.specs.declared.orders.NamedOrder.TheVariants.{Big, Little}
 use Rattle.ep_elaboration.proofs.Opened.{is_sound}
 use Rattle.ep_elaboration.proofs.Trees.{address_of, array, array_field, block_at, call_of, char_word_at, char_words}
@@ -133,7 +132,7 @@ loops =
     states
     (for_loop 6 (evaluates (Some (assign 6 mark.equal (id 6 (codes "i")) (zero_at 6))))
     (Some (binary 6 mark.less (id 6 (codes "i")) (id 6 (codes "a")))) (Some (post_increment 6 (id 6 (codes "i"))))
-    (evaluate 6 (Some (assign 6 marks.PLUS_EQUAL (id 6 (codes "s")) (id 6 (codes "i")))))) ∷
+    (evaluate 6 (Some (assign 6 mark.plus_equal (id 6 (codes "s")) (id 6 (codes "i")))))) ∷
     states
     (for_loop 7
     (declares
@@ -149,7 +148,7 @@ loops =
     (block 8
     (to_parts
     (local 8 (int_words 8) (variable_of 8 (codes "q") (number 8 2)) ∷
-    does 8 (assign 8 marks.MINUS_EQUAL (id 8 (codes "s")) (id 8 (codes "q"))) ∷ [])))
+    does 8 (assign 8 mark.minus_equal (id 8 (codes "s")) (id 8 (codes "q"))) ∷ [])))
     (binary 8 mark.greater (id 8 (codes "s")) (zero_at 8))) ∷
     states
     (while_loop 9 (number 9 1)
@@ -216,7 +215,7 @@ arms =
     block 13
     (to_parts
     (local 13 (int_words 13) (variable_of 13 (codes "k") (number 13 2)) ∷
-    does 13 (assign 13 marks.PLUS_EQUAL (id 13 (codes "x")) (id 13 (codes "k"))) ∷ [])) ∷ [])) ∷
+    does 13 (assign 13 mark.plus_equal (id 13 (codes "x")) (id 13 (codes "k"))) ∷ [])) ∷ [])) ∷
     sets 15 (id 15 (codes "x")) (call_of 15 (codes "swap") (id 15 (codes "x") ∷ [])) ∷
     two_arms 16 Little (to_stmts (return_value 17 (Some (number 17 1)) ∷ []))
     (to_stmts (evaluate 19 (Some (call_of 19 (codes "other") [])) ∷ [])) ∷ []))) ∷ []

@@ -18,3 +18,15 @@ mod ArmRows
 mod LoopRows
 mod OrderRows
 mod RunRows
+pub mod WholeOrder
+pub mod DeclaratorOrder
+pub mod GivenOrder
+pub mod StatementOrder
+pub mod FunctionOrder
+pub mod ProgramOrder
+pub mod Meanings
+pub mod Growing
+pub mod Paths
+pub mod Turns
+pub mod Behind
+pub mod Labels

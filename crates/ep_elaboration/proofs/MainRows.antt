@@ -7,7 +7,6 @@ use Rattle.ep_ast.specs.Expression.{assign, binary, cast, conditional, id, index
 use Rattle.ep_ast.specs.Expression.{sizeof_expr, step, unary}
 use Rattle.ep_ast.specs.Mark as mark
 use Rattle.ep_ast.specs.Statement.{continue_loop, declares, evaluate, evaluates, for_loop, if_then, states, while_loop}
-use Rattle.ep_ast.specs.declared.marks.TheConstants as marks
 use Rattle.ep_elaboration.proofs.Opened.{answers}
 use Rattle.ep_elaboration.proofs.Shared.{behind_shared, in_main}
 use Rattle.ep_elaboration.proofs.Trees.{array, array_object, call_of, declaration, declarator, does, does_call}
@@ -179,7 +178,7 @@ no_objects_in_main : answers Ilp32 (
     in_main (does 2 (post_increment 2 (number 2 1)) ∷ []) ∷
     -- int main(void) {(x + 1) += 1;}
     in_main
-    (does 2 (assign 2 marks.PLUS_EQUAL (binary 2 mark.plus (id 2 (codes "x")) (number 2 1)) (number 2 1)) ∷ []) ∷
+    (does 2 (assign 2 mark.plus_equal (binary 2 mark.plus (id 2 (codes "x")) (number 2 1)) (number 2 1)) ∷ []) ∷
     -- int main(void) {&-x;}
     in_main (does 2 (unary 2 mark.ampersand (unary 2 mark.minus (id 2 (codes "x")))) ∷ []) ∷
     -- int main(void) {1 = ep_in_u8();}

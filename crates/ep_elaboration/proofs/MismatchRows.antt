@@ -68,6 +68,21 @@ incomplete : answers Ilp32 (
     -- int f(void x);int main(void) { return 0; }
     (prototype (head 1 (int_words 1) [] (codes "f") (params 1 (takes 1 (void_word_at 1) (codes "x") ∷ []))) ∷
     plain_main 1 ∷ []) ∷
+    -- void f(void a[]);int main(void) { return 0; }
+    (prototype
+    (head 1 (void_words 1) [] (codes "f") (params 1 (param 1 (void_word_at 1) [] (Some (codes "a")) (None ∷ []) ∷ []))) ∷
+    plain_main 1 ∷ []) ∷
+    -- struct o *p; void f(struct o a[2]);int main(void) { return 0; }
+    (global 1 (struct_words 1 (codes "o")) (pointer 1 (codes "p")) ∷
+    prototype
+    (head 1 (void_words 1) [] (codes "f")
+    (params 1 (param 1 (struct_at 1 (codes "o")) [] (Some (codes "a")) (Some (number 1 2) ∷ []) ∷ []))) ∷
+    plain_main 1 ∷ []) ∷
+    -- void f(void *a[]);int main(void) { return 0; }
+    (prototype
+    (head 1 (void_words 1) [] (codes "f")
+    (params 1 (param 1 (void_word_at 1) (0 ∷ []) (Some (codes "a")) (None ∷ []) ∷ []))) ∷
+    plain_main 1 ∷ []) ∷
     -- struct o x;
     -- int y = z;
     -- int main(void) { return 0; }
@@ -103,7 +118,7 @@ incomplete : answers Ilp32 (
     sets 5 (id 5 (codes "x")) (number 5 1) ∷
     returns 6 (zero_at 6) ∷ []) ∷ []) ∷
     [])
-    ≡ (33, 1) ∷ (33, 1) ∷ (33, 1) ∷ (33, 1) ∷ (33, 2) ∷ (33, 1) ∷ (33, 4) ∷ []
+    ≡ (33, 1) ∷ (33, 1) ∷ (33, 1) ∷ (33, 1) ∷ (33, 1) ∷ (0, 0) ∷ (33, 1) ∷ (33, 2) ∷ (33, 1) ∷ (33, 4) ∷ []
 unfolding answers
 incomplete = refl
 

@@ -19,7 +19,8 @@ use Rattle.ep_typing.specs.Constant.{number_of, count_of}
 use Rattle.ep_typing.specs.Operators.{arithmetic, shifted, moved, added, subtracted, ordered, equated, both, either}
 use Rattle.ep_typing.specs.Operators.{chosen, kept, negated, complemented, denied, operated_on_numbers, decided}
 use Rattle.ep_typing.specs.Operators.{operated, unary_operated}
-use Rattle.ep_typing.specs.Parts.{named, addressed, pointed, unary_typed, indexable, element_of_array, element_behind}
+use Rattle.ep_typing.specs.Parts.{named, named_uncalled, addressed, pointed, unary_typed, indexable}
+use Rattle.ep_typing.specs.Parts.{element_of_array, element_behind}
 use Rattle.ep_typing.specs.Parts.{indexed, member_of, selected, selected_through, casted, type_sized, sized}
 use Rattle.ep_typing.specs.Calls.{passed, all_passed, called}
 use Rattle.ep_typing.specs.Typing.{read_first, joined, chosen_from, cast_to, indexed_by, selected_behind, typed}
@@ -50,7 +51,7 @@ unfoldable pub program : Model → List Item → Result core.Program Refusal
 unfolding at_depth type_within with_pointers pointer_number words_type named_type mentioned_name mentioned
     mentioned_all value_of fitted tested number_of count_of arithmetic shifted moved added subtracted ordered
     equated both either chosen kept negated complemented denied operated_on_numbers decided operated
-    unary_operated named addressed pointed unary_typed indexable element_of_array element_behind indexed
+    unary_operated named named_uncalled addressed pointed unary_typed indexable element_of_array element_behind indexed
     member_of selected selected_through casted type_sized sized passed all_passed called read_first joined
     chosen_from cast_to indexed_by selected_behind typed typed_all test assignable not_stored stored copied put
     assigned updated taken call_typed right_side assignment stepped whole_statement bound bounds object_bounds

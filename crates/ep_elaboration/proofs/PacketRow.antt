@@ -7,7 +7,6 @@ use Rattle.ep_ast.specs.Expression.{arrow, assign, binary, cast, id, index, post
 use Rattle.ep_ast.specs.Mark as mark
 use Rattle.ep_ast.specs.Statement.{Item, block, completes, defines, evaluate, evaluates, for_loop, functions_by_order}
 use Rattle.ep_ast.specs.Statement.{if_then, states, to_parts}
-use Rattle.ep_ast.specs.declared.marks.TheConstants as marks
 use Rattle.ep_ast.specs.declared.orders.NamedOrder.TheVariants.{Little}
 use Rattle.ep_elaboration.proofs.Opened.{is_sound}
 use Rattle.ep_elaboration.proofs.Trees.{address_of, array, array_field, block_at, call_of, does_call, field, function}
@@ -191,7 +190,7 @@ packet =
     (Some (binary 43 mark.less (id 43 (codes "i")) (binary 43 mark.minus (number 43 16) (number 43 2))))
     (Some (post_increment 43 (id 43 (codes "i"))))
     (evaluate 44
-    (Some (assign 44 marks.PLUS_EQUAL (id 44 (codes "total")) (index 44 (id 44 (codes "p")) (id 44 (codes "i"))))))) ∷
+    (Some (assign 44 mark.plus_equal (id 44 (codes "total")) (index 44 (id 44 (codes "p")) (id 44 (codes "i"))))))) ∷
     returns 45 (cast 45 (type_name 45 (typedef_at 45 (codes "uint16_t")) []) (id 45 (codes "total"))) ∷ []))) ∷
     defines
     (function

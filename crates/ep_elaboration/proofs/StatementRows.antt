@@ -6,7 +6,6 @@ use Rattle.ep_ast.specs.Declaration.{listed, single, to_values}
 use Rattle.ep_ast.specs.Expression.{assign, binary, cast, conditional, id, index, post_increment, sizeof_type, unary}
 use Rattle.ep_ast.specs.Mark as mark
 use Rattle.ep_ast.specs.Statement.{evaluate, return_value, states, while_loop}
-use Rattle.ep_ast.specs.declared.marks.TheConstants as marks
 use Rattle.ep_elaboration.proofs.Opened.{answers}
 use Rattle.ep_elaboration.proofs.Shared.{in_main}
 use Rattle.ep_elaboration.proofs.Trees.{address_of, call_of, declarator, does, does_call, init, int_word_at}
@@ -72,9 +71,9 @@ mismatches_in_main_2 = refl
 -- types that don't fit: 32
 mismatches_in_main_3 : answers Ilp32 (
     -- int main(void) {p %= 2;}
-    in_main (does 2 (assign 2 marks.PERCENT_EQUAL (id 2 (codes "p")) (number 2 2)) ∷ []) ∷
+    in_main (does 2 (assign 2 mark.percent_equal (id 2 (codes "p")) (number 2 2)) ∷ []) ∷
     -- int main(void) {s += 1;}
-    in_main (does 2 (assign 2 marks.PLUS_EQUAL (id 2 (codes "s")) (number 2 1)) ∷ []) ∷
+    in_main (does 2 (assign 2 mark.plus_equal (id 2 (codes "s")) (number 2 1)) ∷ []) ∷
     -- int main(void) {a++;}
     in_main (does 2 (post_increment 2 (id 2 (codes "a"))) ∷ []) ∷
     -- int main(void) {int y = {1};}
@@ -142,7 +141,7 @@ incomplete_in_main : answers Ilp32 (
     -- int main(void) {struct o v;}
     in_main (local 2 (struct_words 2 (codes "o")) (variable 2 (codes "v")) ∷ []) ∷
     -- int main(void) {vp += 1;}
-    in_main (does 2 (assign 2 marks.PLUS_EQUAL (id 2 (codes "vp")) (number 2 1)) ∷ []) ∷
+    in_main (does 2 (assign 2 mark.plus_equal (id 2 (codes "vp")) (number 2 1)) ∷ []) ∷
     -- int main(void) {*vp;}
     in_main (does 2 (unary 2 mark.star (id 2 (codes "vp"))) ∷ []) ∷
     [])

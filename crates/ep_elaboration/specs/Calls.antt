@@ -125,7 +125,7 @@ in_items (i ∷ is) = in_item i ++ in_items is
 -- ---- functions by numbers
 
 -- a statement of a function, and what it calls
-pub record Place : Type 0 where
+pub record CallSite : Type 0 where
   pub caller : ℕ
   pub depth : ℕ
   pub line : ℕ
@@ -137,12 +137,12 @@ pub record Call : Type 0 where
   pub line : ℕ
   pub callee : ℕ
 
-abbrev pub call_at : Place → Option ℕ → List Call
+abbrev pub call_at : CallSite → Option ℕ → List Call
 call_at p None = []
 call_at p (Some g) = (record { caller = p.caller; line = p.line; callee = g }) ∷ []
 
 -- the calls in the order of the text
-abbrev pub calls_of : List Place → List Call
+abbrev pub calls_of : List CallSite → List Call
 calls_of [] = []
 calls_of (p ∷ ps) = call_at p p.callee ++ calls_of ps
 
@@ -182,14 +182,14 @@ abbrev pub callee_depth : (below : ℕ → ℕ) → Option ℕ → ℕ
 callee_depth below None = 0
 callee_depth below (Some g) = below g
 
-abbrev pub deepest : (below : ℕ → ℕ) → List Place → ℕ
+abbrev pub deepest : (below : ℕ → ℕ) → List CallSite → ℕ
 deepest below [] = 0
 deepest below (p ∷ ps) = max (p.depth + callee_depth below p.callee) (deepest below ps)
 
-abbrev pub places_in : List Place → ℕ → List Place
-places_in ps f = filter (λ (p : Place). p.caller == f) ps
+abbrev pub call_sites_in : List CallSite → ℕ → List CallSite
+call_sites_in ps f = filter (λ (p : CallSite). p.caller == f) ps
 
 -- how deep a function's deepest statement stands, where calls lead so far at most
-unfoldable pub function_depth : List Place → (calls : ℕ) → ℕ → ℕ
+unfoldable pub function_depth : List CallSite → (calls : ℕ) → ℕ → ℕ
 function_depth ps zero f = 0
-function_depth ps (suc k) f = deepest (function_depth ps k) (places_in ps f)
+function_depth ps (suc k) f = deepest (function_depth ps k) (call_sites_in ps f)

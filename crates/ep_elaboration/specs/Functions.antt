@@ -13,7 +13,7 @@ use Rattle.ep_ast.specs.Statement.{Function, to_parts}
 use Rattle.ep_layout.specs.Table.{Table}
 use Rattle.ep_core.specs.Program as core
 use Rattle.ep_typing.specs.declared.types.CType.{CType}
-use Rattle.ep_typing.specs.Results.{◌>>=◌, at}
+use Rattle.ep_typing.specs.Results.{◌>>=◌, at, needed}
 use Rattle.ep_typing.specs.Types.{c_type_number, element_of, int_type, is_aggregate, is_array, is_same, is_void}
 use Rattle.ep_typing.specs.Types.{pointer_to, scalar_of, size_of_type, with_c_type, with_stars}
 use Rattle.ep_typing.specs.Env as env
@@ -39,9 +39,11 @@ param_bounds G l (Some e ∷ bs) = do
   Ok (Some q.0, q.1)
 
 -- An array is a pointer to its elements (C11 6.7.6.3p7); its own type isn't made, only that of its elements.
+-- incomplete_type: elements without a size (C11 6.7.6.2p1).
 unfoldable pub param_type : Table → CType → Option (List ℕ) → Result (CType × Table) ℕ
 param_type t c (Some ns) = do
   r ← arrays_of t c ns
+  n ← needed kinds.incomplete_type (size_of_type r.1 r.0)
   Ok (pointer_to r.0, with_c_type r.1 (pointer_to r.0))
 param_type t c None =
     let d = if is_array c then pointer_to (element_of t c) else c in Ok (d, with_c_type t d)

@@ -6,3 +6,12 @@ pub mod Statements
 pub mod Functions
 pub mod Calls
 pub mod Programs
+pub mod WholeRules
+pub mod DeclaratorRules
+pub mod GivenRules
+pub mod StatementRules
+pub mod FunctionRules
+pub mod ProgramRules
+pub mod Laws
+pub mod Leads
+pub mod CallLaws

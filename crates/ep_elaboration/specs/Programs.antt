@@ -16,7 +16,7 @@ use Rattle.ep_elaboration.specs.Aggregates.{body_declared, specs_declared}
 use Rattle.ep_elaboration.specs.Declarations.{declaration}
 use Rattle.ep_elaboration.specs.Functions.{Defined, arms_defined, function_defined, is_main, number_of_function}
 use Rattle.ep_elaboration.specs.Functions.{numbers_of, prototype}
-use Rattle.ep_elaboration.specs.Calls.{Call, Place, Placed, calls_of, function_depth, in_items, is_recursive}
+use Rattle.ep_elaboration.specs.Calls.{Call, CallSite, Placed, calls_of, function_depth, in_items, is_recursive}
 use Rattle.ep_elaboration.specs.Calls.{one_after_another, with_function}
 
 -- ---- the text
@@ -73,16 +73,16 @@ items s (i ∷ is) = do
 abbrev pub function_number : List Signature → List ℕ → ℕ
 function_number fs t = unwrap_or (number_of_function fs t) 0
 
-abbrev pub place_of : List Signature → Placed → Place
-place_of fs p = record {
+abbrev pub call_site_of : List Signature → Placed → CallSite
+call_site_of fs p = record {
   caller = function_number fs p.0;
   depth = p.1.depth;
   line = p.1.line;
   callee = option_map (function_number fs) p.1.callee;
 }
 
-abbrev pub places_of : Sofar → List Item → List Place
-places_of s is = map (place_of s.env.functions) (in_items is)
+abbrev pub call_sites_of : Sofar → List Item → List CallSite
+call_sites_of s is = map (call_site_of s.env.functions) (in_items is)
 
 abbrev pub main_of : List Defined → Option Defined
 main_of ds = find (λ (d : Defined). is_main d.function.name) ds
@@ -110,7 +110,7 @@ abbrev pub all_fit : List core.Block → Result Bool ℕ
 all_fit bs = if nat_lt 65536 (sum_by (λ (b : core.Block). b.size) bs) then Err kinds.too_large else Ok true
 
 -- no_main: no body of main. The checks stand in this order: no_main, no_definition, recursion, call_depth, too_large.
-unfoldable pub checked : Sofar → List Place → Result Defined Refusal
+unfoldable pub checked : Sofar → List CallSite → Result Defined Refusal
 checked s ps = do
   m ← at 1 (needed kinds.no_main (main_of s.defined))
   bodies ← all_have_bodies s.defined (calls_of ps)
@@ -169,5 +169,5 @@ program_of s main order = record {
 unfoldable pub elaborated : Model → List Item → Result core.Program Refusal
 elaborated m is = do
   s ← items (begun m) is
-  d ← checked s (places_of s is)
-  Ok (program_of s d.number (order_of s (calls_of (places_of s is))))
+  d ← checked s (call_sites_of s is)
+  Ok (program_of s d.number (order_of s (calls_of (call_sites_of s is))))

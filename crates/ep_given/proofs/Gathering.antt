@@ -4,9 +4,9 @@ use Rattle.ep_ast.specs.declared.refusals.Refusal.{Refusal}
 use Rattle.ep_ast.specs.declared.refusals.Halt.{Halt}
 use Rattle.ep_ast.specs.declared.refusals.Halt.TheVariants as halts
 use Rattle.ep_typing.specs.Results.{◌>>=◌}
-use Rattle.ep_operands.specs.Gives.{Gives, Stops}
-use Rattle.ep_declared.specs.Gives.{GivesIn}
-use Rattle.ep_given.specs.Behind.{all_behind, behind}
+use Rattle.ep_operands.specs.Refinement.{Refines, Stops}
+use Rattle.ep_declared.specs.Refinement.{RefinesIn}
+use Rattle.ep_given.specs.Appended.{all_behind, behind}
 
 abbrev first : {M E : Type 0} → M → Result (M × E) Refusal → M
 first d (Ok p) = p.0
@@ -51,8 +51,8 @@ module _ {M E : Type 0} (both : M → M → M) where
   stopped_before done (Err j) more (halts.Refused k) h = ap (λ (f : Refusal). Err f) (refused_same h)
 
   -- one step in an environment that stays as it is
-  pub in_env : (done now : M) (G : E) (r : Result M Refusal) (o : Result Unit Halt) → Gives (λ _. now) (behind both done r) o
-      → GivesIn (λ _. now) (all_behind both done (r >>= (λ m. Ok (m, G)))) G o
+  pub in_env : (done now : M) (G : E) (r : Result M Refusal) (o : Result Unit Halt) → Refines (λ _. now) (behind both done r) o
+      → RefinesIn (λ _. now) (all_behind both done (r >>= (λ m. Ok (m, G)))) G o
   in_env done now G (Ok m) (Ok u) h = ap (λ (n : M). Ok (n, G)) (ap (alone now) h)
   in_env done now G (Err e) (Ok u) h = absurd cc
   in_env done now G r (Err halts.Memory) h = tt

@@ -16,7 +16,7 @@ use Rattle.ep_ast.specs.Declaration as source
 use Rattle.ep_layout.specs.Table.{Grows, Table}
 use Rattle.ep_elaboration.specs.Declarators.{Object}
 use Rattle.ep_ast.specs.Expression.{Expr}
-use Rattle.ep_declared.specs.Gives.{GivesIn}
+use Rattle.ep_declared.specs.Refinement.{RefinesIn}
 use Rattle.ep_elaboration.specs.Given.{Given, all_given, both_given, expression_given, line_of_value, nothing_given}
 use Rattle.ep_elaboration.specs.Given.{part_at, value_given, with_parts, cleared, count_listed, count_values}
 use Rattle.ep_elaboration.specs.Given.{object_operand}
@@ -25,8 +25,8 @@ use Rattle.ep_typing.specs.Typing.{Right, assigned_from, right_side}
 use Rattle.ep_declared.proofs.Growth.{mentioned_more}
 use Rattle.ep_typing.specs.Names.{mentioned}
 use Rattle.ep_typing.specs.Results.{◌>>=◌, at}
-use Rattle.ep_operands.specs.Gives.{Gives, Stops}
-use Rattle.ep_given.specs.Behind.{all_behind, behind}
+use Rattle.ep_operands.specs.Refinement.{Refines, Stops}
+use Rattle.ep_given.specs.Appended.{all_behind, behind}
 use Rattle.ep_given.proofs.Gathering as gathering
 
 pub both_assoc : (a b c : Given) → both_given (both_given a b) c ≡ both_given a (both_given b c)
@@ -90,8 +90,8 @@ none_left G global x i xs done all le h =
 -- ---- one value
 
 pub same_gives_in : {X Y E : Type 0} (v : X → Y) (r s : Result (Y × E) Refusal) (after : E) (o : Result X Halt) → r ≡ s
-    → GivesIn v s after o → GivesIn v r after o
-same_gives_in {Y = Y} {E = E} v r s after o e g = subst (λ (q : Result (Y × E) Refusal). GivesIn v q after o) (sym e) g
+    → RefinesIn v s after o → RefinesIn v r after o
+same_gives_in {Y = Y} {E = E} v r s after o e g = subst (λ (q : Result (Y × E) Refusal). RefinesIn v q after o) (sym e) g
 
 -- the expression is one that can't be assigned
 pub statement_stops : (G : Env) (global may_call : Bool) (l : ℕ) (x : Object) (e : Expr) (done : Given) (r : Right) (f : Halt)
@@ -112,12 +112,12 @@ mentions_grow G H e m = subst (λ (K : Env). Grows G.types K.types) (sym m) (men
 module _ (G : Env) (global may_call : Bool) (l : ℕ) (p : Option Object) (done : Given) where
   -- an expression, in the environment that has what it mentions
   pub single_means : (H : Env) (x : Option Object) (e : Expr) (now : Given) (o : Result Unit Halt) → H ≡ mentioned G e → p ≡ x
-      → Gives (λ _. now) (behind both_given done (expression_given H global may_call l x e)) o
-      → GivesIn (λ _. now) (all_behind both_given done (value_given G global may_call l p (source.single e))) H o
+      → Refines (λ _. now) (behind both_given done (expression_given H global may_call l x e)) o
+      → RefinesIn (λ _. now) (all_behind both_given done (value_given G global may_call l p (source.single e))) H o
   unfolding value_given
   single_means H x e now o m q h =
-      subst (λ (K : Env). GivesIn (λ _. now) (all_behind both_given done (expression_given K global may_call l p e >>= (λ g. Ok (g, K)))) H o) m
-      (subst (λ (y : Option Object). GivesIn (λ _. now) (all_behind both_given done (expression_given H global may_call l y e >>= (λ g. Ok (g, H)))) H o) (sym q)
+      subst (λ (K : Env). RefinesIn (λ _. now) (all_behind both_given done (expression_given K global may_call l p e >>= (λ g. Ok (g, K)))) H o) m
+      (subst (λ (y : Option Object). RefinesIn (λ _. now) (all_behind both_given done (expression_given H global may_call l y e >>= (λ g. Ok (g, H)))) H o) (sym q)
       (gathering.in_env both_given done now H (expression_given H global may_call l x e) o h))
 
   pub single_stops : (H : Env) (x : Option Object) (e : Expr) (f : Halt) → H ≡ mentioned G e → p ≡ x

@@ -5,15 +5,15 @@ use Rattle.std.specs.Option.{option_map}
 use Rattle.std.proofs.lemmas.Option.{slice_get-get_or, slice_get-map, slice_get_past}
 use Rattle.ep_layout.specs.declared.types.Member.{Member}
 use Rattle.ep_layout.specs.Table.{MemberRow, Table, is_union, members_of}
-use Rattle.ep_layout.specs.Views.{view_member}
+use Rattle.ep_layout.specs.Views.{member_view}
 use Rattle.ep_elaboration.specs.Given.{first_member, given_members}
 
-pub there : (ms : List Member) (n : ℕ) (m : Member) → n < length ms → m ≡ get_or ms n m → Some (view_member m) ≡ slice_get (map view_member ms) n
+pub there : (ms : List Member) (n : ℕ) (m : Member) → n < length ms → m ≡ get_or ms n m → Some (member_view m) ≡ slice_get (map member_view ms) n
 there ms n m lt is =
-    sym (slice_get-map view_member ms n ∙ ap (option_map view_member) (slice_get-get_or ms n m lt ∙ ap (λ (x : Member). Some x) (sym is)))
+    sym (slice_get-map member_view ms n ∙ ap (option_map member_view) (slice_get-get_or ms n m lt ∙ ap (λ (x : Member). Some x) (sym is)))
 
-pub past : (ms : List Member) (n : ℕ) → length ms ≤ n → None ≡ slice_get (map view_member ms) n
-past ms n le = sym (slice_get-map view_member ms n ∙ ap (option_map view_member) (slice_get_past ms n le))
+pub past : (ms : List Member) (n : ℕ) → length ms ≤ n → None ≡ slice_get (map member_view ms) n
+past ms n le = sym (slice_get-map member_view ms n ∙ ap (option_map member_view) (slice_get_past ms n le))
 
 pub only_first : (ms : List MemberRow) (n : ℕ) → 0 < n → None ≡ slice_get (first_member ms) n
 only_first [] n lt = refl

@@ -1,2 +1,2 @@
-pub mod Seen
-pub mod Behind
+pub mod View
+pub mod Appended

@@ -2,12 +2,12 @@
 
 ghost use Rattle.std.specs.Prelude.{◌≡◌, pos};
 ghost use Rattle.std.specs.Option.{option_map, option_to_list};
-ghost use Rattle.ep_core.specs.View.{shown_init};
-ghost use Rattle.ep_declared.specs.Seen as seen;
+ghost use Rattle.ep_core.specs.View.{init_view};
+ghost use Rattle.ep_declared.specs.View as view;
 ghost use Rattle.ep_elaboration.specs.Given as rule;
-ghost use Rattle.ep_operands.specs.Gives.{Gives};
-ghost use Rattle.ep_operands.specs.Seen as operands;
-ghost use Rattle.ep_typer_effects.specs.Seen as effects;
+ghost use Rattle.ep_operands.specs.Refinement.{Refines};
+ghost use Rattle.ep_operands.specs.View as operands;
+ghost use Rattle.ep_typer_effects.specs.View as effects;
 ghost use Rattle.ep_typing.specs.Results.{at};
 ghost use Rattle.ep_typing.specs.Typing.{an_object};
 
@@ -23,8 +23,8 @@ use ep_typer_effects::Right;
 use std::alloc::Global;
 
 fn constant_value(line: u32, x: &Object, v: &Value) -> Result<Option<InitByte>, Halt>
-    ensures { Gives (λ o. option_to_list (option_map shown_init o))
-        (at line (rule.constant_value (seen.object x.now) (operands.value v.now))) result }
+    ensures { Refines (λ o. option_to_list (option_map init_view o))
+        (at line (rule.constant_value (view.object x.now) (operands.value v.now))) result }
 {
     if is_pointer(x.ty) {
         if v.is_null {
@@ -53,8 +53,8 @@ fn operand_constant(
     x: &Object,
     y: &Operand,
 ) -> Result<Option<InitByte>, Halt>
-    ensures { Gives (λ o. option_to_list (option_map shown_init o))
-        (at line (rule.constant_given types.now (seen.object x.now) (an_object (operands.operand y.now)))) result }
+    ensures { Refines (λ o. option_to_list (option_map init_view o))
+        (at line (rule.constant_given types.now (view.object x.now) (an_object (operands.operand y.now)))) result }
 {
     let copy = copy_operand(alloc, y)?;
     let v = value_of(alloc, types, line, copy)?;
@@ -71,8 +71,8 @@ pub(crate) fn first_value(
     x: &Object,
     right: &Right,
 ) -> Result<Option<InitByte>, Halt>
-    ensures { Gives (λ o. option_to_list (option_map shown_init o))
-        (at line (rule.first_values global types.now (seen.object x.now) (effects.right right.now))) result }
+    ensures { Refines (λ o. option_to_list (option_map init_view o))
+        (at line (rule.first_values global types.now (view.object x.now) (effects.right right.now))) result }
 {
     if !global {
         return Ok(None);

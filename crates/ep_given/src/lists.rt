@@ -3,10 +3,10 @@
 ghost use Rattle.std.specs.Prelude.{◌≡◌, ℕ, ◌∷◌, [], OnOk, IfOk, Some};
 ghost use Rattle.std.specs.Option.{option_map, option_to_list};
 ghost use Rattle.ep_ast.specs.Declaration as tree;
-ghost use Rattle.ep_core.specs.View.{shown_init, shown_what};
-ghost use Rattle.ep_declared.specs.Seen as objects;
+ghost use Rattle.ep_core.specs.View.{init_view, what_view};
+ghost use Rattle.ep_declared.specs.View as objects;
 ghost use Rattle.ep_elaboration.specs.Given as rule;
-ghost use Rattle.ep_given.specs.Seen as seen;
+ghost use Rattle.ep_given.specs.View as view;
 
 use ep_ast::ValueTree;
 use ep_core::program::InitByte;
@@ -27,7 +27,7 @@ pub struct Given {
 impl Given {
     /// No first values.
     pub fn new(alloc: Global) -> Given
-        ensures { seen.given result ≡ rule.nothing_given }
+        ensures { view.given result ≡ rule.nothing_given }
     {
         Given {
             statements: Vec::new(alloc),
@@ -37,9 +37,9 @@ impl Given {
 
     /// One value more.
     pub(crate) fn add(&mut self, statement: What, value: Option<InitByte>) -> Result<(), AllocError>
-        ensures { OnOk result (seen.given self.new ≡ rule.both_given (seen.given self.old) (record {
-          statements = shown_what statement ∷ [];
-          values = option_to_list (option_map shown_init value);
+        ensures { OnOk result (view.given self.new ≡ rule.both_given (view.given self.old) (record {
+          statements = what_view statement ∷ [];
+          values = option_to_list (option_map init_view value);
         })) }
     {
         self.statements.push(statement)?;
@@ -73,8 +73,8 @@ pub fn count_listed(value: &Option<ValueTree>) -> Option<usize>
 }
 
 fn with_clear(alloc: Global, types: &Types, x: &Object, given: Given) -> Result<Given, AllocError>
-    ensures { IfOk result (λ g. (l : ℕ) (vs : tree.Values) → seen.given g
-        ≡ rule.cleared types.now (objects.object x.now) (tree.listed l vs) (seen.given given)) }
+    ensures { IfOk result (λ g. (l : ℕ) (vs : tree.Values) → view.given g
+        ≡ rule.cleared types.now (objects.object x.now) (tree.listed l vs) (view.given given)) }
 {
     let place = copy_place(alloc, &x.place)?;
     let clear = What::Clear(place, type_number(types, x.ty));
@@ -94,8 +94,8 @@ pub fn cleared(
     value: &ValueTree,
     given: Given,
 ) -> Result<Given, AllocError>
-    ensures { IfOk result (λ g. seen.given g
-        ≡ rule.cleared types.now (objects.object x.now) (tree.value_of value.now) (seen.given given)) }
+    ensures { IfOk result (λ g. view.given g
+        ≡ rule.cleared types.now (objects.object x.now) (tree.value_of value.now) (view.given given)) }
 {
     match value {
         ValueTree::Expr(_) => Ok(given),

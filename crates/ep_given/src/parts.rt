@@ -3,10 +3,10 @@
 ghost use Rattle.std.specs.Prelude.{◌≡◌, ◌+◌, ◌*◌, ◌^◌, ◌<◌, ◌≤◌, IfErr, IfOk, Some, pos, slice_get, unwrap_or};
 ghost use Rattle.std.specs.Option.{option_map};
 ghost use Rattle.ep_int.specs.declared.types.IntType.TheVariants.{I32};
-ghost use Rattle.ep_layout.specs.Views.{view_member, view_members};
+ghost use Rattle.ep_layout.specs.Views.{member_view, members_view};
 ghost use Rattle.ep_core.specs.Program as core;
-ghost use Rattle.ep_core.specs.View.{shown_place};
-ghost use Rattle.ep_declared.specs.Seen as seen;
+ghost use Rattle.ep_core.specs.View.{place_view};
+ghost use Rattle.ep_declared.specs.View as view;
 ghost use Rattle.ep_elaboration.specs.Given as rule;
 ghost use Rattle.ep_layout.specs.Table.{is_union, members_of};
 ghost use Rattle.ep_typing.specs.Types.{bound_of, size_of_type};
@@ -54,8 +54,8 @@ fn element_place(
     unit: u32,
     number: u32,
 ) -> Result<Place, AllocError>
-    ensures { IfOk result (λ p. shown_place p
-        ≡ core.element (shown_place array.now) bound unit (core.const I32 (pos number))) }
+    ensures { IfOk result (λ p. place_view p
+        ≡ core.element (place_view array.now) bound unit (core.const I32 (pos number))) }
 {
     let array = copy_place(alloc, array)?;
     let array = Box::new(alloc, array)?;
@@ -70,7 +70,7 @@ fn element_of_array(
     number: u32,
 ) -> Result<Object, AllocError>
     requires { number < bound_of types.now array.now.ty }
-    ensures { IfOk result (λ o. Some (seen.object o) ≡ rule.element_at types.now (seen.object array.now) number) }
+    ensures { IfOk result (λ o. Some (view.object o) ≡ rule.element_at types.now (view.object array.now) number) }
 {
     let ty = element_of(types, array.ty);
     let unit = size_or_none(types, ty);
@@ -92,7 +92,7 @@ fn element_at(
     array: &Object,
     number: usize,
 ) -> Result<Option<Object>, AllocError>
-    ensures { IfOk result (λ o. option_map seen.object o ≡ rule.element_at types.now (seen.object array.now) number) }
+    ensures { IfOk result (λ o. option_map view.object o ≡ rule.element_at types.now (view.object array.now) number) }
 {
     if number < bound_of(types, array.ty) as usize {
         let element = element_of_array(alloc, types, array, number as u32)?;
@@ -102,7 +102,7 @@ fn element_at(
 }
 
 fn members_of<'a>(types: &'a Types, aggregate: u32) -> &'a [Member]
-    ensures { view_members result.now ≡ members_of types.now aggregate }
+    ensures { members_view result.now ≡ members_of types.now aggregate }
 {
     if aggregate < types.aggregate_count() {
         types.members(aggregate)
@@ -122,7 +122,7 @@ fn is_union(types: &Types, aggregate: u32) -> bool
 }
 
 fn member_at(members: &[Member], number: usize) -> Option<&Member>
-    ensures { option_map (λ m. view_member m.now) result ≡ slice_get (view_members members.now) number }
+    ensures { option_map (λ m. member_view m.now) result ≡ slice_get (members_view members.now) number }
 {
     match members.get(number) {
         Some(member) => Some(member),
@@ -131,8 +131,8 @@ fn member_at(members: &[Member], number: usize) -> Option<&Member>
 }
 
 fn first_member(members: &[Member], number: usize) -> Option<&Member>
-    ensures { option_map (λ m. view_member m.now) result
-        ≡ slice_get (rule.first_member (view_members members.now)) number }
+    ensures { option_map (λ m. member_view m.now) result
+        ≡ slice_get (rule.first_member (members_view members.now)) number }
 {
     if 0 < number {
         return None;
@@ -142,7 +142,7 @@ fn first_member(members: &[Member], number: usize) -> Option<&Member>
 
 // The member that a list's value of this number is for.
 fn given_member(types: &Types, aggregate: u32, number: usize) -> Option<&Member>
-    ensures { option_map (λ m. view_member m.now) result ≡ slice_get (rule.given_members types.now aggregate) number }
+    ensures { option_map (λ m. member_view m.now) result ≡ slice_get (rule.given_members types.now aggregate) number }
 {
     let members = members_of(types, aggregate);
     if is_union(types, aggregate) {
@@ -157,8 +157,8 @@ fn member_object(
     whole: &Object,
     member: &Member,
 ) -> Result<Object, AllocError>
-    ensures { IfOk result (λ o. seen.object o
-        ≡ rule.member_object types.now (seen.object whole.now) (view_member member.now)) }
+    ensures { IfOk result (λ o. view.object o
+        ≡ rule.member_object types.now (view.object whole.now) (member_view member.now)) }
 {
     let offset = behind(whole.offset, member.offset)?;
     let place = copy_place(alloc, &whole.place)?;
@@ -178,7 +178,7 @@ pub(crate) fn part_at(
     whole: &Object,
     number: usize,
 ) -> Result<Option<Object>, AllocError>
-    ensures { IfOk result (λ o. option_map seen.object o ≡ rule.part_at types.now (seen.object whole.now) number) }
+    ensures { IfOk result (λ o. option_map view.object o ≡ rule.part_at types.now (view.object whole.now) number) }
 {
     if is_array(whole.ty) {
         return element_at(alloc, types, whole, number);
@@ -194,7 +194,7 @@ pub(crate) fn part_at(
 
 /// The same object again.
 pub(crate) fn copy_object(alloc: Global, x: &Object) -> Result<Object, AllocError>
-    ensures { IfOk result (λ o. seen.object o ≡ seen.object x.now) }
+    ensures { IfOk result (λ o. view.object o ≡ view.object x.now) }
 {
     let place = copy_place(alloc, &x.place)?;
     Ok(Object {

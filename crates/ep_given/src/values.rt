@@ -4,16 +4,16 @@ ghost use Rattle.std.specs.Prelude.{◌≡◌, Bool, false, map, None, Some, OnO
 ghost use Rattle.std.specs.Option.{option_map};
 ghost use Rattle.ep_ast.specs.Declaration as shape;
 ghost use Rattle.ep_ast.specs.Expression as source;
-ghost use Rattle.ep_declared.specs.Gives.{GivesIn};
-ghost use Rattle.ep_declared.specs.Seen as objects;
+ghost use Rattle.ep_declared.specs.Refinement.{RefinesIn};
+ghost use Rattle.ep_declared.specs.View as objects;
 ghost use Rattle.ep_elaboration.specs.Given as rule;
 ghost use Rattle.ep_elaboration.specs.Given.{both_given};
-ghost use Rattle.ep_given.specs.Behind.{all_behind, behind};
-ghost use Rattle.ep_given.specs.Seen as seen;
+ghost use Rattle.ep_given.specs.Appended.{all_behind, behind};
+ghost use Rattle.ep_given.specs.View as view;
 ghost use Rattle.ep_layout.specs.Table.{Grows};
-ghost use Rattle.ep_operands.specs.Gives.{Gives, Stops};
+ghost use Rattle.ep_operands.specs.Refinement.{Refines, Stops};
 ghost use Rattle.ep_scopes.specs.Known.{IsKnownEnv};
-ghost use Rattle.ep_scopes.specs.Seen.{env as around};
+ghost use Rattle.ep_scopes.specs.View.{env as env_view};
 ghost use Rattle.ep_typing.specs.Results.{at};
 
 use crate::constants::first_value;
@@ -37,8 +37,8 @@ fn expression_given(
     tree: &ExprTree,
     given: &mut Given,
 ) -> Result<(), Halt>
-    ensures { Gives (λ u. seen.given given.new) (behind both_given (seen.given given.old) (rule.expression_given
-        (around env.now) global may_call line (Some (objects.object x)) (source.expr tree.now))) result }
+    ensures { Refines (λ u. view.given given.new) (behind both_given (view.given given.old) (rule.expression_given
+        (env_view env.now) global may_call line (Some (objects.object x)) (source.expr tree.now))) result }
 {
     let right = right_side(env, may_call, tree)?;
     let value = first_value(env.alloc, &env.types, global, line, &x, &right);
@@ -53,7 +53,7 @@ fn expression_given(
 #[tactic(auto, unfolding(ep_elaboration::specs::Given::expression_given))]
 fn expression_refused(env: &Env, line: u32, tree: &ExprTree) -> Halt
     ensures { (global may_call : Bool) → Stops
-        (rule.expression_given (around env.now) global may_call line None (source.expr tree.now)) result }
+        (rule.expression_given (env_view env.now) global may_call line None (source.expr tree.now)) result }
 {
     if let Err(halt) = typed(env, tree) {
         return halt;
@@ -71,13 +71,13 @@ fn single_given(
     tree: &ExprTree,
     given: &mut Given,
 ) -> Result<(), Halt>
-    requires { IsKnownEnv (around env.old) }
-    ensures means { GivesIn (λ u. seen.given given.new) (all_behind both_given (seen.given given.old)
-        (rule.value_given (around env.old) global may_call line (option_map objects.object x)
+    requires { IsKnownEnv (env_view env.old) }
+    ensures means { RefinesIn (λ u. view.given given.new) (all_behind both_given (view.given given.old)
+        (rule.value_given (env_view env.old) global may_call line (option_map objects.object x)
         (shape.single (source.expr tree.now))))
-        (around env.new) result }
-    ensures known { OnOk result (IsKnownEnv (around env.new)) }
-    ensures grown { OnOk result (Grows (around env.old).types (around env.new).types) }
+        (env_view env.new) result }
+    ensures known { OnOk result (IsKnownEnv (env_view env.new)) }
+    ensures grown { OnOk result (Grows (env_view env.old).types (env_view env.new).types) }
 {
     mention(env, tree)?;
     match x {
@@ -88,7 +88,7 @@ fn single_given(
 
 // An object that a list may give values.
 fn with_parts(line: u32, x: Option<Object>) -> Result<Object, Halt>
-    ensures { Gives objects.object (at line (rule.with_parts (option_map objects.object x))) result }
+    ensures { Refines objects.object (at line (rule.with_parts (option_map objects.object x))) result }
 {
     match x {
         Some(object) => {
@@ -122,13 +122,13 @@ fn add_value(
     value: &ValueTree,
     given: &mut Given,
 ) -> Result<(), Halt>
-    requires { IsKnownEnv (around env.old) }
-    ensures means { GivesIn (λ u. seen.given given.new) (all_behind both_given (seen.given given.old)
-        (rule.value_given (around env.old) global may_call line (option_map objects.object x)
+    requires { IsKnownEnv (env_view env.old) }
+    ensures means { RefinesIn (λ u. view.given given.new) (all_behind both_given (view.given given.old)
+        (rule.value_given (env_view env.old) global may_call line (option_map objects.object x)
         (shape.value_of value.now)))
-        (around env.new) result }
-    ensures known { OnOk result (IsKnownEnv (around env.new)) }
-    ensures grown { OnOk result (Grows (around env.old).types (around env.new).types) }
+        (env_view env.new) result }
+    ensures known { OnOk result (IsKnownEnv (env_view env.new)) }
+    ensures grown { OnOk result (Grows (env_view env.old).types (env_view env.new).types) }
 {
     match value {
         ValueTree::Expr(tree) => single_given(env, global, may_call, line, x, tree, given),
@@ -149,13 +149,13 @@ fn add_values(
     values: &[ValueTree],
     given: &mut Given,
 ) -> Result<(), Halt>
-    requires { IsKnownEnv (around env.old) }
-    ensures means { GivesIn (λ u. seen.given given.new) (all_behind both_given (seen.given given.old)
-        (rule.all_given (around env.old) global (objects.object whole.now) 0
+    requires { IsKnownEnv (env_view env.old) }
+    ensures means { RefinesIn (λ u. view.given given.new) (all_behind both_given (view.given given.old)
+        (rule.all_given (env_view env.old) global (objects.object whole.now) 0
         (shape.to_values (map shape.value_of values.now))))
-        (around env.new) result }
-    ensures known { OnOk result (IsKnownEnv (around env.new)) }
-    ensures grown { OnOk result (Grows (around env.old).types (around env.new).types) }
+        (env_view env.new) result }
+    ensures known { OnOk result (IsKnownEnv (env_view env.new)) }
+    ensures grown { OnOk result (Grows (env_view env.old).types (env_view env.new).types) }
 {
     for (number, value) in values.iter().enumerate() {
         let part = part_at(env.alloc, &env.types, whole, number)?;
@@ -174,11 +174,11 @@ pub fn value_given(
     x: &Object,
     value: &ValueTree,
 ) -> Result<Given, Halt>
-    requires { IsKnownEnv (around env.old) }
-    ensures means { GivesIn seen.given (rule.value_given (around env.old) global may_call line
-        (Some (objects.object x.now)) (shape.value_of value.now)) (around env.new) result }
-    ensures known { OnOk result (IsKnownEnv (around env.new)) }
-    ensures grown { OnOk result (Grows (around env.old).types (around env.new).types) }
+    requires { IsKnownEnv (env_view env.old) }
+    ensures means { RefinesIn view.given (rule.value_given (env_view env.old) global may_call line
+        (Some (objects.object x.now)) (shape.value_of value.now)) (env_view env.new) result }
+    ensures known { OnOk result (IsKnownEnv (env_view env.new)) }
+    ensures grown { OnOk result (Grows (env_view env.old).types (env_view env.new).types) }
 {
     let mut given = Given::new(env.alloc);
     let copy = copy_object(env.alloc, x)?;

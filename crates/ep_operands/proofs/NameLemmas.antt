@@ -6,7 +6,7 @@ use Rattle.std.specs.Str.{bytes_eq}
 use Rattle.ep_typing.specs.Env.{entry}
 use Rattle.ep_typing.specs.Operand as rule
 use Rattle.ep_operands.specs.declared.operand.Callee.{Callee}
-use Rattle.ep_operands.specs.Seen.{callee, named}
+use Rattle.ep_operands.specs.View.{callee, named}
 
 abbrev pub Row : Type 0
 Row = Bor (List ℕ) × Callee

@@ -1,5 +1,7 @@
 -- Values whose numbers are of their types.
 use Rattle.std.proofs.Common.{◌≡◌, ℕ, ◌≤◌, Bool, true, false, true≢false, cond, ◌&&◌, ◌||◌, not, Option, Some, None}
+use Rattle.ep_int.proofs.Basics.{zero_in_range}
+use Rattle.std.proofs.lemmas.Bool.{and_from, and_parts, or_left, or_right}
 use Rattle.std.proofs.Common.{option_map, option_and_then, slice_get, refl, sym, ap, ◌∙◌, subst, arith, ℤ, pos}
 use Rattle.std.proofs.Common.{negsuc}
 use Rattle.std.specs.List.{list_any, list_all}
@@ -22,22 +24,6 @@ use Rattle.ep_typing.specs.Operators.{are_integers, are_mixed, chosen_type, oppo
 use Rattle.ep_operands.specs.Numbers.{all_types, some, is_right, is_number, IsNumber, IsSomeNumber, is_sound, IsSound}
 
 -- ---- tests
-
-pub both_true : (a b : Bool) → (a && b) ≡ true → (a ≡ true) × (b ≡ true)
-both_true true b h = (refl, h)
-both_true false b h = absurd (true≢false (sym h))
-
-pub join : (a b : Bool) → a ≡ true → b ≡ true → (a && b) ≡ true
-join true b h k = k
-join false b h k = h
-
-or_left : (a b : Bool) → a ≡ true → (a || b) ≡ true
-or_left true b h = refl
-or_left false b h = absurd (true≢false (sym h))
-
-or_right : (a b : Bool) → b ≡ true → (a || b) ≡ true
-or_right true b h = refl
-or_right false b h = h
 
 -- a test that some integer type passes
 pub some_is : (test : IntType → Bool) (t : IntType) → test t ≡ true → some test ≡ true
@@ -66,22 +52,22 @@ some_has test h =
 
 pub all_are : (test : IntType → Bool) → ((t : IntType) → test t ≡ true) → list_all test all_types ≡ true
 all_are test h =
-    join (test I8) _ (h I8) (join (test U8) _ (h U8) (join (test I16) _ (h I16) (join (test U16) _ (h U16) (join (test I32) _ (h I32)
-    (join (test U32) _ (h U32) (join (test I64) _ (h I64) (join (test U64) _ (h U64) refl)))))))
+    and_from (test I8) _ (h I8) (and_from (test U8) _ (h U8) (and_from (test I16) _ (h I16) (and_from (test U16) _ (h U16) (and_from (test I32) _ (h I32)
+    (and_from (test U32) _ (h U32) (and_from (test I64) _ (h I64) (and_from (test U64) _ (h U64) refl)))))))
 
 pub all_have : (test : IntType → Bool) → list_all test all_types ≡ true → (t : IntType) → test t ≡ true
-all_have test h I8 = (both_true (test I8) _ h).0
-all_have test h U8 = (both_true (test U8) _ (both_true (test I8) _ h).1).0
-all_have test h I16 = (both_true (test I16) _ (both_true (test U8) _ (both_true (test I8) _ h).1).1).0
-all_have test h U16 = (both_true (test U16) _ (both_true (test I16) _ (both_true (test U8) _ (both_true (test I8) _ h).1).1).1).0
+all_have test h I8 = (and_parts (test I8) _ h).0
+all_have test h U8 = (and_parts (test U8) _ (and_parts (test I8) _ h).1).0
+all_have test h I16 = (and_parts (test I16) _ (and_parts (test U8) _ (and_parts (test I8) _ h).1).1).0
+all_have test h U16 = (and_parts (test U16) _ (and_parts (test I16) _ (and_parts (test U8) _ (and_parts (test I8) _ h).1).1).1).0
 all_have test h I32 =
-    (both_true (test I32) _ (both_true (test U16) _ (both_true (test I16) _ (both_true (test U8) _ (both_true (test I8) _ h).1).1).1).1).0
+    (and_parts (test I32) _ (and_parts (test U16) _ (and_parts (test I16) _ (and_parts (test U8) _ (and_parts (test I8) _ h).1).1).1).1).0
 all_have test h U32 =
-    (both_true (test U32) _ (both_true (test I32) _ (both_true (test U16) _ (both_true (test I16) _ (both_true (test U8) _ (both_true (test I8) _ h).1).1).1).1).1).0
+    (and_parts (test U32) _ (and_parts (test I32) _ (and_parts (test U16) _ (and_parts (test I16) _ (and_parts (test U8) _ (and_parts (test I8) _ h).1).1).1).1).1).0
 all_have test h I64 =
-    (both_true (test I64) _ (both_true (test U32) _ (both_true (test I32) _ (both_true (test U16) _ (both_true (test I16) _ (both_true (test U8) _ (both_true (test I8) _ h).1).1).1).1).1).1).0
+    (and_parts (test I64) _ (and_parts (test U32) _ (and_parts (test I32) _ (and_parts (test U16) _ (and_parts (test I16) _ (and_parts (test U8) _ (and_parts (test I8) _ h).1).1).1).1).1).1).0
 all_have test h U64 =
-    (both_true (test U64) _ (both_true (test I64) _ (both_true (test U32) _ (both_true (test I32) _ (both_true (test U16) _ (both_true (test I16) _ (both_true (test U8) _ (both_true (test I8) _ h).1).1).1).1).1).1).1).0
+    (and_parts (test U64) _ (and_parts (test I64) _ (and_parts (test U32) _ (and_parts (test I32) _ (and_parts (test U16) _ (and_parts (test I16) _ (and_parts (test U8) _ (and_parts (test I8) _ h).1).1).1).1).1).1).1).0
 
 -- ---- values
 
@@ -117,7 +103,7 @@ unknown_sound v h = unknown_by (is_pointer v.ty) v refl h
 -- ---- numbers by their forms
 
 pub const_number : (t : IntType) (v : ℤ) → is_in_range t v ≡ true → IsNumber (core.const t v) t
-const_number t v h = join (is_same_type t t) (is_in_range t v) (int_itself t) h
+const_number t v h = and_from (is_same_type t t) (is_in_range t v) (int_itself t) h
 
 right_is : (op : BinOp) (t : IntType) (test : IntType → Bool) → test t ≡ true → is_right op t test ≡ true
 right_is Add t test h = h
@@ -133,19 +119,19 @@ right_is Shr t test h = some_is test t h
 
 pub binary_number : (op : BinOp) (t : IntType) (a b : Expr) → IsNumber a t → IsNumber b t → IsNumber (core.binary op t a b) t
 binary_number op t a b h k =
-    join (is_same_type t t) _ (int_itself t) (join (is_number a t) _ h (right_is op t (is_number b) k))
+    and_from (is_same_type t t) _ (int_itself t) (and_from (is_number a t) _ h (right_is op t (is_number b) k))
 
 pub compare_number : (c : Cmp) (t : IntType) (a b : Expr) → IsNumber a t → IsNumber b t → IsNumber (core.compare c t a b) I32
-compare_number c t a b h k = join (is_number a t) (is_number b t) h k
+compare_number c t a b h k = and_from (is_number a t) (is_number b t) h k
 
 pub and_number : (a b : Expr) → IsSomeNumber a → IsSomeNumber b → IsNumber (core.logical_and a b) I32
-and_number a b h k = join (some (is_number a)) (some (is_number b)) h k
+and_number a b h k = and_from (some (is_number a)) (some (is_number b)) h k
 
 pub or_number : (a b : Expr) → IsSomeNumber a → IsSomeNumber b → IsNumber (core.logical_or a b) I32
-or_number a b h k = join (some (is_number a)) (some (is_number b)) h k
+or_number a b h k = and_from (some (is_number a)) (some (is_number b)) h k
 
 pub cond_number : (e a b : Expr) (t : IntType) → IsSomeNumber e → IsNumber a t → IsNumber b t → IsNumber (core.conditional e a b) t
-cond_number e a b t g h k = join (some (is_number e)) _ g (join (is_number a t) (is_number b t) h k)
+cond_number e a b t g h k = and_from (some (is_number e)) _ g (and_from (is_number a t) (is_number b t) h k)
 
 not_pointer_by : (p i : Bool) → cond p false i ≡ true → p ≡ false
 not_pointer_by true i h = absurd (true≢false (sym h))
@@ -157,7 +143,7 @@ not_pointer c h = not_pointer_by (is_pointer c) (is_int_base c.base) h
 converted_by : (b : Bool) (t : IntType) (v : Value) → is_same_type t (int_of v.ty) ≡ b → IsNumber v.expr (int_of v.ty)
     → IsNumber (cond b v.expr (core.convert t v.expr)) t
 converted_by true t v e h = subst (IsNumber v.expr) (sym (same_int t (int_of v.ty) e)) h
-converted_by false t v e h = join (is_same_type t t) _ (int_itself t) (some_is (is_number v.expr) (int_of v.ty) h)
+converted_by false t v e h = and_from (is_same_type t t) _ (int_itself t) (some_is (is_number v.expr) (int_of v.ty) h)
 
 pub converted_number : (t : IntType) (v : Value) → IsSound v → is_pointer v.ty ≡ false → IsNumber (converted t v) t
 converted_number t v s e = converted_by (is_same_type t (int_of v.ty)) t v refl (as_number v e s)
@@ -202,10 +188,10 @@ chosen_is_pointer a b h k l =
 -- ---- pairs of integers
 
 pub left_number : (a b : Value) → are_integers a b ≡ true → is_pointer a.ty ≡ false
-left_number a b h = not_pointer a.ty (both_true (is_integer a.ty) (is_integer b.ty) h).0
+left_number a b h = not_pointer a.ty (and_parts (is_integer a.ty) (is_integer b.ty) h).0
 
 pub right_number : (a b : Value) → are_integers a b ≡ true → is_pointer b.ty ≡ false
-right_number a b h = not_pointer b.ty (both_true (is_integer a.ty) (is_integer b.ty) h).1
+right_number a b h = not_pointer b.ty (and_parts (is_integer a.ty) (is_integer b.ty) h).1
 
 pointer_as_by : (n b : Bool) (c : CType) (v : Value) → is_same c v.ty ≡ b → IsSound v → is_pointer c ≡ true → (t : IntType)
     → IsNumber (cond n core.null_value (cond b v.expr (core.cast v.expr))) t
@@ -243,17 +229,7 @@ is_pointer_as e c v t p s h = along e (as_pointer c v) t p (pointer_as c v s h t
 pub shift_number : (op : BinOp) (t u : IntType) (a b : Expr) → ((s : IntType) (test : IntType → Bool) → is_right op s test ≡ some test)
     → IsNumber a t → IsNumber b u → IsNumber (core.binary op t a b) t
 shift_number op t u a b f h k =
-    join (is_same_type t t) _ (int_itself t) (join (is_number a t) _ h (f t (is_number b) ∙ some_is (is_number b) u k))
-
-zero_in_range : (t : IntType) → is_in_range t (pos 0) ≡ true
-zero_in_range I8 = refl
-zero_in_range U8 = refl
-zero_in_range I16 = refl
-zero_in_range U16 = refl
-zero_in_range I32 = refl
-zero_in_range U32 = refl
-zero_in_range I64 = refl
-zero_in_range U64 = refl
+    and_from (is_same_type t t) _ (int_itself t) (and_from (is_number a t) _ h (f t (is_number b) ∙ some_is (is_number b) u k))
 
 pub opposite_number : (a : Value) → IsSound a → is_integer a.ty ≡ true → IsNumber (opposite a).expr (promoted_type a)
 opposite_number a s h =

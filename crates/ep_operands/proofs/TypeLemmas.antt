@@ -1,5 +1,6 @@
 -- Look-ups in a table of types.
-use Rattle.std.proofs.Common.{◌≡◌, ℕ, zero, suc, ◌+◌, ◌-◌, ◌≤◌, ◌<◌, Bool, true, false, cond, List, [], ◌∷◌, length}
+use Rattle.std.proofs.Common.{◌≡◌, ℕ, suc, ◌+◌, ◌-◌, ◌≤◌, ◌<◌, Bool, true, false, cond, List, [], ◌∷◌, length}
+use Rattle.ep_layout.proofs.Basics.{at_depth-none}
 use Rattle.std.proofs.Common.{drop, slice_get, Option, Some, None, option_map, option_and_then, refl, sym, ap, ◌∙◌}
 use Rattle.std.proofs.Common.{arith, ℤ, pos, get_or, drop-cons}
 use Rattle.std.proofs.lemmas.List.{drop_all}
@@ -10,22 +11,16 @@ use Rattle.ep_int.specs.Arith.{is_in_range}
 use Rattle.ep_layout.specs.declared.types.Ty.{Ty}
 use Rattle.ep_layout.specs.declared.types.Ty.TheVariants.{Void, Int, Ptr, Array, Aggregate}
 use Rattle.ep_layout.specs.Layout.{Layout}
-use Rattle.ep_layout.specs.Table.{Table, TypeRules, at_depth, by_type, size, layout_rules}
+use Rattle.ep_layout.specs.Table.{Table, by_type, size, layout_rules}
 use Rattle.ep_typing.specs.declared.types.Base.{Base}
 use Rattle.ep_typing.specs.declared.types.Base.TheVariants as bases
 use Rattle.ep_typing.specs.declared.types.CType.{CType}
 use Rattle.ep_typing.specs.Types.{first_holding, of_row, type_of, type_within, whole, with_stars}
 
--- a number that no type has is of no size
-none_at : {A : Type 0} (r : TypeRules A) (t : Table) (k n : ℕ) → slice_get t.types n ≡ None → at_depth r t k n ≡ None
-unfolding at_depth
-none_at r t zero n h = refl
-none_at r t (suc k) n h = rw h refl
-
 pub absent_size : (t : Table) (n : ℕ) → length t.types ≤ n → size t n ≡ None
 absent_size t n h =
     ap (option_map (λ (l : Layout). l.size))
-    (none_at (layout_rules t.model) t (length t.types + length t.completed) n (slice_get_past t.types n h))
+    (at_depth-none (layout_rules t.model) t (length t.types + length t.completed) n (slice_get_past t.types n h))
 
 -- ---- the first type that holds a number
 

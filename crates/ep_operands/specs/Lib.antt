@@ -1,3 +1,3 @@
-pub mod Gives
-pub mod Seen
+pub mod Refinement
+pub mod View
 pub mod Numbers

@@ -4,10 +4,10 @@ ghost use Rattle.std.specs.Prelude.{◌≡◌, IfSome, Option};
 ghost use Rattle.ep_int.specs.Arith as arithmetic;
 ghost use Rattle.ep_int.specs.Types.{InRange};
 ghost use Rattle.ep_int.specs.declared.types.IntType.{IntType as Kind};
-ghost use Rattle.ep_core.specs.View.{shown_expr};
+ghost use Rattle.ep_core.specs.View.{expr_view};
 ghost use Rattle.ep_typing.specs.Constant as rule;
 ghost use Rattle.ep_operands.specs.Numbers.{IsNumber, IsSomeNumber};
-ghost use Rattle.ep_operands.specs.Seen as seen;
+ghost use Rattle.ep_operands.specs.View as view;
 
 use crate::types::is_integer;
 use crate::value::Value;
@@ -16,7 +16,7 @@ use ep_int::{Cmp, Undef, arith, wrap};
 
 // No object and no pointer occurs, also in a part that isn't evaluated.
 fn has_only_numbers(e: &Expr) -> bool
-    ensures { result ≡ rule.has_only_numbers (shown_expr e.now) }
+    ensures { result ≡ rule.has_only_numbers (expr_view e.now) }
 {
     match e {
         Expr::Const(_, _) => true,
@@ -81,9 +81,9 @@ fn compares(how: Cmp, x: i128, y: i128) -> bool
 // The number of an expression of numbers, where nothing faults.
 #[tactic(auto, unfolding(ep_typing::specs::Constant::number_of))]
 fn number_of(e: &Expr) -> Option<i128>
-    requires { IsSomeNumber (shown_expr e.now) }
-    ensures number { result ≡ rule.number_of (shown_expr e.now) }
-    ensures of_type { IfSome result (λ v. (t : Kind) → IsNumber (shown_expr e.now) t → InRange t v) }
+    requires { IsSomeNumber (expr_view e.now) }
+    ensures number { result ≡ rule.number_of (expr_view e.now) }
+    ensures of_type { IfSome result (λ v. (t : Kind) → IsNumber (expr_view e.now) t → InRange t v) }
 {
     match e {
         Expr::Const(_, v) => Some(*v),
@@ -128,7 +128,7 @@ fn number_of(e: &Expr) -> Option<i128>
 
 /// The number that a value is, if it is a constant of integer type.
 pub fn constant_of(v: &Value) -> Option<i128>
-    ensures { result ≡ rule.constant_of (seen.value v.now) }
+    ensures { result ≡ rule.constant_of (view.value v.now) }
 {
     if is_integer(v.ty) & has_only_numbers(&v.expr) {
         number_of(&v.expr)
@@ -150,7 +150,7 @@ fn count_in(v: i128) -> Option<u32>
 /// The number that a value is, if it is a constant from 1 to 65,536.
 #[tactic(auto, unfolding(ep_typing::specs::Constant::count_of))]
 pub fn count_of(v: &Value) -> Option<u32>
-    ensures { result ≡ rule.count_of (seen.value v.now) }
+    ensures { result ≡ rule.count_of (view.value v.now) }
 {
     let number = constant_of(v)?;
     count_in(number)

@@ -1,12 +1,12 @@
 //! The value of an operand, and what a value becomes where another type is asked.
 
 ghost use Rattle.std.specs.Prelude.{◌≡◌, IfOk};
-ghost use Rattle.ep_core.specs.View.{shown_expr, shown_place};
+ghost use Rattle.ep_core.specs.View.{expr_view, place_view};
 ghost use Rattle.ep_typing.specs.Operand as rule;
 ghost use Rattle.ep_typing.specs.Operators.{bare};
 ghost use Rattle.ep_typing.specs.Results.{at};
-ghost use Rattle.ep_operands.specs.Gives.{Gives};
-ghost use Rattle.ep_operands.specs.Seen as seen;
+ghost use Rattle.ep_operands.specs.Refinement.{Refines};
+ghost use Rattle.ep_operands.specs.View as view;
 
 use crate::operand::Operand;
 use crate::refusals::refused;
@@ -23,7 +23,7 @@ use ep_typing::CType;
 use std::alloc::{AllocError, Global};
 
 fn loaded(alloc: Global, types: &Types, place: Place, c: CType) -> Result<Value, AllocError>
-    ensures { IfOk result (λ v. seen.value v ≡ rule.loaded types.now (shown_place place) c) }
+    ensures { IfOk result (λ v. view.value v ≡ rule.loaded types.now (place_view place) c) }
 {
     let place = Box::new(alloc, place)?;
     if is_array(c) {
@@ -39,7 +39,7 @@ fn loaded(alloc: Global, types: &Types, place: Place, c: CType) -> Result<Value,
 /// The value of an operand.
 #[tactic(auto, unfolding(ep_typing::specs::Operand::value_of))]
 pub fn value_of(alloc: Global, types: &Types, line: u32, x: Operand) -> Result<Value, Halt>
-    ensures { Gives seen.value (at line (rule.value_of types.now (seen.operand x))) result }
+    ensures { Refines view.value (at line (rule.value_of types.now (view.operand x))) result }
 {
     match x {
         Operand::Place(place, c) => {
@@ -56,7 +56,7 @@ pub fn value_of(alloc: Global, types: &Types, line: u32, x: Operand) -> Result<V
 
 /// A number as of a type.
 pub fn converted(alloc: Global, t: IntType, v: Value) -> Result<Expr, AllocError>
-    ensures { IfOk result (λ e. shown_expr e ≡ rule.converted t (seen.value v)) }
+    ensures { IfOk result (λ e. expr_view e ≡ rule.converted t (view.value v)) }
 {
     let own = int_of(v.ty);
     if t == own {
@@ -67,13 +67,13 @@ pub fn converted(alloc: Global, t: IntType, v: Value) -> Result<Expr, AllocError
 }
 
 pub fn promoted_type(v: &Value) -> IntType
-    ensures { result ≡ rule.promoted_type (seen.value v.now) }
+    ensures { result ≡ rule.promoted_type (view.value v.now) }
 {
     promote(int_of(v.ty))
 }
 
 pub fn promoted_value(alloc: Global, v: Value) -> Result<Expr, AllocError>
-    ensures { IfOk result (λ e. shown_expr e ≡ rule.promoted_value (seen.value v)) }
+    ensures { IfOk result (λ e. expr_view e ≡ rule.promoted_value (view.value v)) }
 {
     let t = promote(int_of(v.ty));
     converted(alloc, t, v)
@@ -81,7 +81,7 @@ pub fn promoted_value(alloc: Global, v: Value) -> Result<Expr, AllocError>
 
 /// A pointer, or null, as a pointer of a type.
 pub fn as_pointer(alloc: Global, c: CType, v: Value) -> Result<Expr, AllocError>
-    ensures { IfOk result (λ e. shown_expr e ≡ rule.as_pointer c (seen.value v)) }
+    ensures { IfOk result (λ e. expr_view e ≡ rule.as_pointer c (view.value v)) }
 {
     if v.is_null {
         return Ok(Expr::Null);
@@ -95,14 +95,14 @@ pub fn as_pointer(alloc: Global, c: CType, v: Value) -> Result<Expr, AllocError>
 
 /// A pointer as it is compared.
 pub fn bare(v: Value) -> Expr
-    ensures { shown_expr result ≡ bare (seen.value v) }
+    ensures { expr_view result ≡ bare (view.value v) }
 {
     if v.is_null { Expr::Null } else { v.expr }
 }
 
 /// A value as of a scalar type.
 pub fn as_type(alloc: Global, c: CType, v: Value) -> Result<Expr, AllocError>
-    ensures { IfOk result (λ e. shown_expr e ≡ rule.as_type c (seen.value v)) }
+    ensures { IfOk result (λ e. expr_view e ≡ rule.as_type c (view.value v)) }
 {
     if is_pointer(c) {
         return as_pointer(alloc, c, v);
@@ -112,7 +112,7 @@ pub fn as_type(alloc: Global, c: CType, v: Value) -> Result<Expr, AllocError>
 
 /// One is a pointer, and the other an integer that is no null constant.
 pub fn is_mixed(c: CType, v: &Value) -> bool
-    ensures { result ≡ rule.is_mixed c (seen.value v.now) }
+    ensures { result ≡ rule.is_mixed c (view.value v.now) }
 {
     if is_pointer(c) {
         is_integer(v.ty) & !v.is_null
@@ -135,7 +135,7 @@ pub fn are_compatible(c: CType, d: CType) -> bool
 }
 
 fn is_foreign(c: CType, v: &Value) -> bool
-    ensures { result ≡ rule.is_foreign c (seen.value v.now) }
+    ensures { result ≡ rule.is_foreign c (view.value v.now) }
 {
     is_pointer(c) & is_pointer(v.ty) & !v.is_null & !are_compatible(c, v.ty)
 }
@@ -143,7 +143,7 @@ fn is_foreign(c: CType, v: &Value) -> bool
 /// A value as what is asked: of a parameter, of a function's result, of an object.
 #[tactic(auto, unfolding(ep_typing::specs::Operand::fitted))]
 pub fn fitted(alloc: Global, line: u32, c: CType, v: Value) -> Result<Expr, Halt>
-    ensures { Gives shown_expr (at line (rule.fitted c (seen.value v))) result }
+    ensures { Refines expr_view (at line (rule.fitted c (view.value v))) result }
 {
     if !are_scalars(c, v.ty) {
         return Err(refused(RefusalKind::TypeMismatch, line));
@@ -161,7 +161,7 @@ pub fn fitted(alloc: Global, line: u32, c: CType, v: Value) -> Result<Expr, Halt
 /// A value as what is tested.
 #[tactic(auto, unfolding(ep_typing::specs::Operand::tested))]
 pub fn tested(line: u32, v: Value) -> Result<Expr, Halt>
-    ensures { Gives shown_expr (at line (rule.tested (seen.value v))) result }
+    ensures { Refines expr_view (at line (rule.tested (view.value v))) result }
 {
     if is_scalar(v.ty) {
         Ok(v.expr)

@@ -1,8 +1,8 @@
 //! Copies of expressions and places.
 
 ghost use Rattle.std.specs.Prelude.{◌≡◌, IfOk};
-ghost use Rattle.ep_core.specs.View.{shown_expr, shown_place};
-ghost use Rattle.ep_operands.specs.Seen as seen;
+ghost use Rattle.ep_core.specs.View.{expr_view, place_view};
+ghost use Rattle.ep_operands.specs.View as view;
 
 use crate::operand::Operand;
 use crate::value::Value;
@@ -12,7 +12,7 @@ use std::alloc::{AllocError, Global};
 /// The same expression again.
 #[cycle(copies)]
 pub fn copy_expr(alloc: Global, expr: &Expr) -> Result<Expr, AllocError>
-    ensures { IfOk result (λ e. shown_expr e ≡ shown_expr expr.now) }
+    ensures { IfOk result (λ e. expr_view e ≡ expr_view expr.now) }
 {
     match expr {
         Expr::Const(t, v) => Ok(Expr::Const(*t, *v)),
@@ -58,7 +58,7 @@ pub fn copy_expr(alloc: Global, expr: &Expr) -> Result<Expr, AllocError>
 /// The same place again.
 #[cycle(copies)]
 pub fn copy_place(alloc: Global, place: &Place) -> Result<Place, AllocError>
-    ensures { IfOk result (λ p. shown_place p ≡ shown_place place.now) }
+    ensures { IfOk result (λ p. place_view p ≡ place_view place.now) }
 {
     match place {
         Place::Block(b) => Ok(Place::Block(*b)),
@@ -75,7 +75,7 @@ pub fn copy_place(alloc: Global, place: &Place) -> Result<Place, AllocError>
 // The same expression again, in a box.
 #[cycle(copies)]
 fn boxed_expr(alloc: Global, expr: &Expr) -> Result<Box<Expr>, AllocError>
-    ensures { IfOk result (λ e. shown_expr e.value ≡ shown_expr expr.now) }
+    ensures { IfOk result (λ e. expr_view e.value ≡ expr_view expr.now) }
 {
     let expr = copy_expr(alloc, expr)?;
     let boxed = Box::new(alloc, expr)?;
@@ -85,7 +85,7 @@ fn boxed_expr(alloc: Global, expr: &Expr) -> Result<Box<Expr>, AllocError>
 // The same place again, in a box.
 #[cycle(copies)]
 fn boxed_place(alloc: Global, place: &Place) -> Result<Box<Place>, AllocError>
-    ensures { IfOk result (λ p. shown_place p.value ≡ shown_place place.now) }
+    ensures { IfOk result (λ p. place_view p.value ≡ place_view place.now) }
 {
     let place = copy_place(alloc, place)?;
     let boxed = Box::new(alloc, place)?;
@@ -94,7 +94,7 @@ fn boxed_place(alloc: Global, place: &Place) -> Result<Box<Place>, AllocError>
 
 /// The same operand again.
 pub fn copy_operand(alloc: Global, operand: &Operand) -> Result<Operand, AllocError>
-    ensures { IfOk result (λ x. seen.operand x ≡ seen.operand operand.now) }
+    ensures { IfOk result (λ x. view.operand x ≡ view.operand operand.now) }
 {
     match operand {
         Operand::Place(place, c) => {

@@ -4,7 +4,7 @@ ghost use Rattle.std.specs.Prelude.{◌≡◌, Option, map, pos};
 ghost use Rattle.std.specs.Option.{option_map};
 ghost use Rattle.ep_typing.specs.Env.{entry};
 ghost use Rattle.ep_typing.specs.Parts as rule;
-ghost use Rattle.ep_operands.specs.Seen as seen;
+ghost use Rattle.ep_operands.specs.View as view;
 
 use crate::operand::{Callee, Operand};
 use crate::types::{int_type, number_type, void_pointer};
@@ -15,7 +15,7 @@ use ep_int::{IntType, Model, wrap};
 
 /// A number as it is written. 0 is a null constant.
 pub fn numbered(model: Model, n: Literal) -> Operand
-    ensures { seen.operand result ≡ rule.numbered model n }
+    ensures { view.operand result ≡ rule.numbered model n }
 {
     let t = number_type(model, n);
     Operand::Value(Value {
@@ -50,7 +50,7 @@ const FUNCTIONS: [(&[u8], Callee); 20] = [
 ];
 
 fn listed(functions: &[(&[u8], Callee)], name: &[u8]) -> Option<Operand>
-    ensures { option_map seen.operand result ≡ entry name.now (map (λ f. seen.named f.0.now f.1) functions.now) }
+    ensures { option_map view.operand result ≡ entry name.now (map (λ f. view.named f.0.now f.1) functions.now) }
 {
     for (text, callee) in functions {
         if name == *text {
@@ -62,7 +62,7 @@ fn listed(functions: &[(&[u8], Callee)], name: &[u8]) -> Option<Operand>
 
 /// What a name stands for without a declaration.
 pub fn built_in(name: &[u8]) -> Option<Operand>
-    ensures { option_map seen.operand result ≡ entry name.now rule.built_in }
+    ensures { option_map view.operand result ≡ entry name.now rule.built_in }
 {
     if name == b"NULL".as_slice() {
         return Some(Operand::Value(Value {

@@ -1,6 +1,6 @@
 //! Values of expressions.
 
-ghost use Rattle.ep_core.specs.View.{shown_expr};
+ghost use Rattle.ep_core.specs.View.{expr_view};
 ghost use Rattle.std.specs.Prelude.{IsTrue};
 ghost use Rattle.ep_operands.specs.Numbers.{is_sound};
 
@@ -15,7 +15,7 @@ pub struct Value {
     pub expr: Expr,
     pub ty: CType,
     pub is_null: bool,
-    ghost sound: { IsTrue (is_sound (record { expr = shown_expr expr; ty = ty; is_null = is_null })) },
+    ghost sound: { IsTrue (is_sound (record { expr = expr_view expr; ty = ty; is_null = is_null })) },
 }
 
 impl Value {
@@ -23,12 +23,12 @@ impl Value {
     ghost use Rattle.ep_int.specs.declared.types.IntType.{IntType as Kind};
     ghost use Rattle.ep_typing.specs.Operand as rule;
     ghost use Rattle.ep_operands.specs.Numbers.{IsNumber, IsSound};
-    ghost use Rattle.ep_operands.specs.Seen as seen;
+    ghost use Rattle.ep_operands.specs.View as view;
 
     /// A number of a type.
     pub fn int(expr: Expr, t: IntType) -> Value
-        requires { IsNumber (shown_expr expr) t }
-        ensures { seen.value result ≡ rule.int_value (shown_expr expr) t }
+        requires { IsNumber (expr_view expr) t }
+        ensures { view.value result ≡ rule.int_value (expr_view expr) t }
     {
         Value {
             expr,
@@ -39,8 +39,8 @@ impl Value {
 
     /// An address, or what is read from an object.
     pub fn unknown(expr: Expr, ty: CType) -> Value
-        requires { (t : Kind) → IsNumber (shown_expr expr) t }
-        ensures { seen.value result ≡ rule.plain_value (shown_expr expr) ty }
+        requires { (t : Kind) → IsNumber (expr_view expr) t }
+        ensures { view.value result ≡ rule.plain_value (expr_view expr) ty }
     {
         Value {
             expr,
@@ -51,8 +51,8 @@ impl Value {
 
     /// Any value that is no null constant.
     pub fn plain(expr: Expr, ty: CType) -> Value
-        requires { IsSound (rule.plain_value (shown_expr expr) ty) }
-        ensures { seen.value result ≡ rule.plain_value (shown_expr expr) ty }
+        requires { IsSound (rule.plain_value (expr_view expr) ty) }
+        ensures { view.value result ≡ rule.plain_value (expr_view expr) ty }
     {
         Value {
             expr,

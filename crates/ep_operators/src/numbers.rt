@@ -7,8 +7,8 @@ ghost use Rattle.ep_typing.specs.Operand as values;
 ghost use Rattle.ep_typing.specs.Operators as rule;
 ghost use Rattle.ep_typing.specs.Results.{at};
 ghost use Rattle.ep_operands.specs.Numbers.{is_right, some};
-ghost use Rattle.ep_operands.specs.Gives.{Gives};
-ghost use Rattle.ep_operands.specs.Seen as seen;
+ghost use Rattle.ep_operands.specs.Refinement.{Refines};
+ghost use Rattle.ep_operands.specs.View as view;
 
 use ep_ast::{Halt, RefusalKind};
 use ep_core::tree::Expr;
@@ -18,8 +18,8 @@ use ep_operands::{Value, converted, promoted_type, promoted_value, refused};
 use std::alloc::{AllocError, Global};
 
 fn computed(alloc: Global, op: BinOp, a: Value, b: Value) -> Result<Value, AllocError>
-    requires { rule.are_integers (seen.value a) (seen.value b) ≡ true }
-    ensures { IfOk result (λ v. seen.value v ≡ rule.computed op (seen.value a) (seen.value b)) }
+    requires { rule.are_integers (view.value a) (view.value b) ≡ true }
+    ensures { IfOk result (λ v. view.value v ≡ rule.computed op (view.value a) (view.value b)) }
 {
     let t = common_type(&a, &b);
     let left = converted(alloc, t, a)?;
@@ -38,7 +38,7 @@ pub(crate) fn arithmetic(
     a: Value,
     b: Value,
 ) -> Result<Value, Halt>
-    ensures { Gives seen.value (at line (rule.arithmetic op (seen.value a) (seen.value b))) result }
+    ensures { Refines view.value (at line (rule.arithmetic op (view.value a) (view.value b))) result }
 {
     if are_integers(&a, &b) {
         let value = computed(alloc, op, a, b)?;
@@ -49,11 +49,11 @@ pub(crate) fn arithmetic(
 
 fn shift(alloc: Global, op: BinOp, a: Value, b: Value) -> Result<Value, AllocError>
     requires shifts { (t : Kind) (test : Kind → Bool) → is_right op t test ≡ some test }
-    requires integers { rule.are_integers (seen.value a) (seen.value b) ≡ true }
-    ensures { IfOk result (λ v. seen.value v
-        ≡ values.int_value (core.binary op (values.promoted_type (seen.value a))
-        (values.promoted_value (seen.value a)) (values.promoted_value (seen.value b)))
-        (values.promoted_type (seen.value a))) }
+    requires integers { rule.are_integers (view.value a) (view.value b) ≡ true }
+    ensures { IfOk result (λ v. view.value v
+        ≡ values.int_value (core.binary op (values.promoted_type (view.value a))
+        (values.promoted_value (view.value a)) (values.promoted_value (view.value b)))
+        (values.promoted_type (view.value a))) }
 {
     let t = promoted_type(&a);
     let left = promoted_value(alloc, a)?;
@@ -73,7 +73,7 @@ pub(crate) fn shifted(
     b: Value,
 ) -> Result<Value, Halt>
     requires { (t : Kind) (test : Kind → Bool) → is_right op t test ≡ some test }
-    ensures { Gives seen.value (at line (rule.shifted op (seen.value a) (seen.value b))) result }
+    ensures { Refines view.value (at line (rule.shifted op (view.value a) (view.value b))) result }
 {
     if are_integers(&a, &b) {
         let value = shift(alloc, op, a, b)?;

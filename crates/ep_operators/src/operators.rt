@@ -1,13 +1,14 @@
 //! Operators of two values, by their marks.
 
 ghost use Rattle.std.specs.Prelude.{◌≡◌};
+ghost use Rattle.ep_ast.specs.Mark.{mark_number};
 ghost use Rattle.ep_typing.specs.Operators as rule;
 ghost use Rattle.ep_typing.specs.Results.{at};
-ghost use Rattle.ep_operands.specs.Gives.{Gives};
-ghost use Rattle.ep_operands.specs.Seen as seen;
+ghost use Rattle.ep_operands.specs.Refinement.{Refines};
+ghost use Rattle.ep_operands.specs.View as view;
 
 use crate::numbers::{arithmetic, shifted};
-use ep_ast::{Halt, marks};
+use ep_ast::{Halt, Mark};
 use ep_comparisons::{both, either, equated, ordered};
 use ep_int::{BinOp, Cmp};
 use ep_layout::Types;
@@ -18,7 +19,7 @@ use std::alloc::Global;
 // `+`, with the pointer on either side.
 #[tactic(auto, unfolding(ep_typing::specs::Operators::added))]
 fn added(alloc: Global, types: &Types, line: u32, a: Value, b: Value) -> Result<Value, Halt>
-    ensures { Gives seen.value (at line (rule.added types.now (seen.value a) (seen.value b))) result }
+    ensures { Refines view.value (at line (rule.added types.now (view.value a) (view.value b))) result }
 {
     if is_pointer(a.ty) & is_integer(b.ty) {
         return moved(alloc, types, line, a, b, false);
@@ -32,7 +33,7 @@ fn added(alloc: Global, types: &Types, line: u32, a: Value, b: Value) -> Result<
 // `-`, with the pointer on the left.
 #[tactic(auto, unfolding(ep_typing::specs::Operators::subtracted))]
 fn subtracted(alloc: Global, types: &Types, line: u32, a: Value, b: Value) -> Result<Value, Halt>
-    ensures { Gives seen.value (at line (rule.subtracted types.now (seen.value a) (seen.value b))) result }
+    ensures { Refines view.value (at line (rule.subtracted types.now (view.value a) (view.value b))) result }
 {
     if is_pointer(a.ty) & is_integer(b.ty) {
         return moved(alloc, types, line, a, b, true);
@@ -40,49 +41,37 @@ fn subtracted(alloc: Global, types: &Types, line: u32, a: Value, b: Value) -> Re
     arithmetic(alloc, line, BinOp::Sub, a, b)
 }
 
-fn binary_of(mark: u8) -> BinOp
-    ensures { result ≡ rule.binary_of mark }
+fn binary_of(mark: Mark) -> BinOp
+    ensures { result ≡ rule.binary_of (mark_number mark) }
 {
-    if mark == marks::STAR {
-        return BinOp::Mul;
+    match mark {
+        Mark::Star => BinOp::Mul,
+        Mark::Slash => BinOp::Div,
+        Mark::Percent => BinOp::Rem,
+        Mark::Ampersand => BinOp::And,
+        Mark::Bar => BinOp::Or,
+        _ => BinOp::Xor,
     }
-    if mark == marks::SLASH {
-        return BinOp::Div;
-    }
-    if mark == marks::PERCENT {
-        return BinOp::Rem;
-    }
-    if mark == marks::AMPERSAND {
-        return BinOp::And;
-    }
-    if mark == marks::BAR {
-        return BinOp::Or;
-    }
-    BinOp::Xor
 }
 
-fn is_ordering(mark: u8) -> bool
-    ensures { result ≡ rule.is_ordering mark }
+fn is_ordering(mark: Mark) -> bool
+    ensures { result ≡ rule.is_ordering (mark_number mark) }
 {
-    (mark == marks::LESS)
-        | (mark == marks::GREATER)
-        | (mark == marks::LESS_EQUAL)
-        | (mark == marks::GREATER_EQUAL)
+    matches!(
+        mark,
+        Mark::Less | Mark::Greater | Mark::LessEqual | Mark::GreaterEqual
+    )
 }
 
-fn ordering_of(mark: u8) -> Cmp
-    ensures { result ≡ rule.ordering_of mark }
+fn ordering_of(mark: Mark) -> Cmp
+    ensures { result ≡ rule.ordering_of (mark_number mark) }
 {
-    if mark == marks::LESS {
-        return Cmp::Lt;
+    match mark {
+        Mark::Less => Cmp::Lt,
+        Mark::Greater => Cmp::Gt,
+        Mark::LessEqual => Cmp::Le,
+        _ => Cmp::Ge,
     }
-    if mark == marks::GREATER {
-        return Cmp::Gt;
-    }
-    if mark == marks::LESS_EQUAL {
-        return Cmp::Le;
-    }
-    Cmp::Ge
 }
 
 // An operator that takes numbers alone.
@@ -90,16 +79,17 @@ fn ordering_of(mark: u8) -> Cmp
 fn operated_on_numbers(
     alloc: Global,
     line: u32,
-    mark: u8,
+    mark: Mark,
     a: Value,
     b: Value,
 ) -> Result<Value, Halt>
-    ensures { Gives seen.value (at line (rule.operated_on_numbers mark (seen.value a) (seen.value b))) result }
+    ensures { Refines view.value (at line
+        (rule.operated_on_numbers (mark_number mark) (view.value a) (view.value b))) result }
 {
-    if mark == marks::LEFT_SHIFT {
+    if mark == Mark::LeftShift {
         return shifted(alloc, line, BinOp::Shl, a, b);
     }
-    if mark == marks::RIGHT_SHIFT {
+    if mark == Mark::RightShift {
         return shifted(alloc, line, BinOp::Shr, a, b);
     }
     arithmetic(alloc, line, binary_of(mark), a, b)
@@ -107,32 +97,31 @@ fn operated_on_numbers(
 
 // An operator that compares, or joins truths.
 #[tactic(auto, unfolding(ep_typing::specs::Operators::decided))]
-fn decided(alloc: Global, line: u32, mark: u8, a: Value, b: Value) -> Result<Value, Halt>
-    ensures { Gives seen.value (at line (rule.decided mark (seen.value a) (seen.value b))) result }
+fn decided(alloc: Global, line: u32, mark: Mark, a: Value, b: Value) -> Result<Value, Halt>
+    ensures { Refines view.value (at line (rule.decided (mark_number mark) (view.value a) (view.value b))) result }
 {
-    if mark == marks::EQUAL_EQUAL {
+    if mark == Mark::EqualEqual {
         return equated(alloc, line, Cmp::Eq, a, b);
     }
-    if mark == marks::NOT_EQUAL {
+    if mark == Mark::NotEqual {
         return equated(alloc, line, Cmp::Ne, a, b);
     }
-    if mark == marks::AND_AND {
+    if mark == Mark::AndAnd {
         return both(alloc, line, a, b);
     }
-    if mark == marks::BAR_BAR {
+    if mark == Mark::BarBar {
         return either(alloc, line, a, b);
     }
     ordered(alloc, line, ordering_of(mark), a, b)
 }
 
-fn decides(mark: u8) -> bool
-    ensures { result ≡ rule.decides mark }
+fn decides(mark: Mark) -> bool
+    ensures { result ≡ rule.decides (mark_number mark) }
 {
-    (mark == marks::EQUAL_EQUAL)
-        | (mark == marks::NOT_EQUAL)
-        | (mark == marks::AND_AND)
-        | (mark == marks::BAR_BAR)
-        | is_ordering(mark)
+    matches!(
+        mark,
+        Mark::EqualEqual | Mark::NotEqual | Mark::AndAnd | Mark::BarBar
+    ) | is_ordering(mark)
 }
 
 /// An operator of two values, by its mark.
@@ -141,16 +130,17 @@ pub fn operated(
     alloc: Global,
     types: &Types,
     line: u32,
-    mark: u8,
+    mark: Mark,
     a: Value,
     b: Value,
 ) -> Result<Value, Halt>
-    ensures { Gives seen.value (at line (rule.operated types.now mark (seen.value a) (seen.value b))) result }
+    ensures { Refines view.value (at line
+        (rule.operated types.now (mark_number mark) (view.value a) (view.value b))) result }
 {
-    if mark == marks::PLUS {
+    if mark == Mark::Plus {
         return added(alloc, types, line, a, b);
     }
-    if mark == marks::MINUS {
+    if mark == Mark::Minus {
         return subtracted(alloc, types, line, a, b);
     }
     if decides(mark) {

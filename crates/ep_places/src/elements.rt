@@ -1,11 +1,11 @@
 //! Elements.
 
 ghost use Rattle.std.specs.Prelude.{◌≡◌};
-ghost use Rattle.ep_core.specs.View.{shown_place};
+ghost use Rattle.ep_core.specs.View.{place_view};
 ghost use Rattle.ep_typing.specs.Parts as rule;
 ghost use Rattle.ep_typing.specs.Results.{at};
-ghost use Rattle.ep_operands.specs.Gives.{Gives};
-ghost use Rattle.ep_operands.specs.Seen as seen;
+ghost use Rattle.ep_operands.specs.Refinement.{Refines};
+ghost use Rattle.ep_operands.specs.View as view;
 
 use crate::pointers::{moved, pointed};
 use ep_ast::{Halt, RefusalKind};
@@ -19,7 +19,7 @@ use ep_typing::CType;
 use std::alloc::Global;
 
 fn is_array_object(x: &Operand) -> bool
-    ensures { result ≡ rule.is_array_object (seen.operand x.now) }
+    ensures { result ≡ rule.is_array_object (view.operand x.now) }
 {
     match x {
         Operand::Place(_, c) => is_array(*c),
@@ -31,7 +31,7 @@ fn is_array_object(x: &Operand) -> bool
 /// What stands before an index: an array in place, else a value.
 #[tactic(auto, unfolding(ep_typing::specs::Parts::indexable))]
 pub fn indexable(alloc: Global, types: &Types, line: u32, x: Operand) -> Result<Operand, Halt>
-    ensures { Gives seen.operand (at line (rule.indexable types.now (seen.operand x))) result }
+    ensures { Refines view.operand (at line (rule.indexable types.now (view.operand x))) result }
 {
     if is_array_object(&x) {
         return Ok(x);
@@ -50,8 +50,8 @@ fn element_of_array(
     c: CType,
     index: Value,
 ) -> Result<Operand, Halt>
-    ensures { Gives seen.operand (at line
-        (rule.element_of_array types.now (shown_place array) c (seen.value index))) result }
+    ensures { Refines view.operand (at line
+        (rule.element_of_array types.now (place_view array) c (view.value index))) result }
 {
     let element = element_of(types, c);
     match size_of_type(types, element) {
@@ -73,8 +73,8 @@ fn element_behind(
     pointer: Value,
     index: Value,
 ) -> Result<Operand, Halt>
-    ensures { Gives seen.operand (at line
-        (rule.element_behind types.now (seen.value pointer) (seen.value index))) result }
+    ensures { Refines view.operand (at line
+        (rule.element_behind types.now (view.value pointer) (view.value index))) result }
 {
     let there = moved(alloc, types, line, pointer, index, false)?;
     pointed(alloc, line, there)
@@ -89,7 +89,7 @@ pub fn indexed(
     x: Operand,
     index: Value,
 ) -> Result<Operand, Halt>
-    ensures { Gives seen.operand (at line (rule.indexed types.now (seen.operand x) (seen.value index))) result }
+    ensures { Refines view.operand (at line (rule.indexed types.now (view.operand x) (view.value index))) result }
 {
     match x {
         Operand::Place(place, c) => {

@@ -11,4 +11,4 @@ pub use elements::{indexable, indexed};
 pub use members::{selected, selected_through};
 pub use pointers::moved;
 pub use sizes::{casted, sized, type_sized};
-pub use unary::unary_typed;
+pub use unary::{is_mark, unary_typed};

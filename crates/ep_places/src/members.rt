@@ -2,13 +2,13 @@
 
 ghost use Rattle.std.specs.Prelude.{◌≡◌, Option};
 ghost use Rattle.std.specs.Option.{option_map};
-ghost use Rattle.ep_core.specs.View.{shown_place};
+ghost use Rattle.ep_core.specs.View.{place_view};
 ghost use Rattle.ep_layout.specs.Table.{member_named};
-ghost use Rattle.ep_layout.specs.Views.{view_member};
+ghost use Rattle.ep_layout.specs.Views.{member_view};
 ghost use Rattle.ep_typing.specs.Parts as rule;
 ghost use Rattle.ep_typing.specs.Results.{at};
-ghost use Rattle.ep_operands.specs.Gives.{Gives};
-ghost use Rattle.ep_operands.specs.Seen as seen;
+ghost use Rattle.ep_operands.specs.Refinement.{Refines};
+ghost use Rattle.ep_operands.specs.View as view;
 
 use crate::pointers::pointed;
 use ep_ast::{Halt, RefusalKind};
@@ -19,7 +19,7 @@ use ep_typing::CType;
 use std::alloc::Global;
 
 fn member_named<'a>(types: &'a Types, aggregate: u32, name: &[u8]) -> Option<&'a Member>
-    ensures { option_map (λ m. view_member m.now) result ≡ member_named types.now aggregate name.now }
+    ensures { option_map (λ m. member_view m.now) result ≡ member_named types.now aggregate name.now }
 {
     if aggregate < types.aggregate_count() {
         types.member(aggregate, name)
@@ -37,7 +37,7 @@ fn member_of(
     c: CType,
     name: &[u8],
 ) -> Result<Operand, Halt>
-    ensures { Gives seen.operand (at line (rule.member_of types.now (shown_place whole) c name.now)) result }
+    ensures { Refines view.operand (at line (rule.member_of types.now (place_view whole) c name.now)) result }
 {
     match member_named(types, number_of(c), name) {
         Some(member) => {
@@ -58,7 +58,7 @@ pub fn selected(
     x: Operand,
     name: &[u8],
 ) -> Result<Operand, Halt>
-    ensures { Gives seen.operand (at line (rule.selected types.now (seen.operand x) name.now)) result }
+    ensures { Refines view.operand (at line (rule.selected types.now (view.operand x) name.now)) result }
 {
     match x {
         Operand::Place(place, c) => {
@@ -81,7 +81,7 @@ pub fn selected_through(
     v: Value,
     name: &[u8],
 ) -> Result<Operand, Halt>
-    ensures { Gives seen.operand (at line (rule.selected_through types.now (seen.value v) name.now)) result }
+    ensures { Refines view.operand (at line (rule.selected_through types.now (view.value v) name.now)) result }
 {
     let whole = pointed(alloc, line, v)?;
     selected(alloc, types, line, whole, name)

@@ -1,14 +1,14 @@
 //! Pointers that move, and what they point to.
 
 ghost use Rattle.std.specs.Prelude.{◌≡◌, IfOk};
-ghost use Rattle.ep_core.specs.View.{shown_expr};
+ghost use Rattle.ep_core.specs.View.{expr_view};
 ghost use Rattle.ep_core.specs.Program as core;
 ghost use Rattle.ep_typing.specs.Operand as values;
 ghost use Rattle.ep_typing.specs.Operators as rule;
 ghost use Rattle.ep_typing.specs.Parts.{pointed};
 ghost use Rattle.ep_typing.specs.Results.{at};
-ghost use Rattle.ep_operands.specs.Gives.{Gives};
-ghost use Rattle.ep_operands.specs.Seen as seen;
+ghost use Rattle.ep_operands.specs.Refinement.{Refines};
+ghost use Rattle.ep_operands.specs.View as view;
 
 use ep_ast::{Halt, RefusalKind};
 use ep_core::tree::{Expr, Place};
@@ -23,9 +23,9 @@ fn steps(
     count: Value,
     backwards: bool,
 ) -> Result<Value, AllocError>
-    ensures { IfOk result (λ v. seen.value v
-        ≡ values.plain_value (core.ptr_add (shown_expr pointer.expr) unit
-        (shown_expr count.expr) backwards) pointer.ty) }
+    ensures { IfOk result (λ v. view.value v
+        ≡ values.plain_value (core.ptr_add (expr_view pointer.expr) unit
+        (expr_view count.expr) backwards) pointer.ty) }
 {
     let ty = pointer.ty;
     let expr = Box::new(alloc, pointer.expr)?;
@@ -43,8 +43,8 @@ pub fn moved(
     count: Value,
     backwards: bool,
 ) -> Result<Value, Halt>
-    ensures { Gives seen.value (at line
-        (rule.moved types.now (seen.value pointer) (seen.value count) backwards)) result }
+    ensures { Refines view.value (at line
+        (rule.moved types.now (view.value pointer) (view.value count) backwards)) result }
 {
     match size_of_type(types, target(pointer.ty)) {
         Some(unit) => {
@@ -58,7 +58,7 @@ pub fn moved(
 // `*`.
 #[tactic(auto, unfolding(ep_typing::specs::Parts::pointed))]
 pub(crate) fn pointed(alloc: Global, line: u32, v: Value) -> Result<Operand, Halt>
-    ensures { Gives seen.operand (at line (pointed (seen.value v))) result }
+    ensures { Refines view.operand (at line (pointed (view.value v))) result }
 {
     if is_pointer(v.ty) {
         let ty = target(v.ty);

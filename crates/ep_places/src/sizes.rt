@@ -3,8 +3,8 @@
 ghost use Rattle.std.specs.Prelude.{◌≡◌};
 ghost use Rattle.ep_typing.specs.Parts as rule;
 ghost use Rattle.ep_typing.specs.Results.{at};
-ghost use Rattle.ep_operands.specs.Gives.{Gives};
-ghost use Rattle.ep_operands.specs.Seen as seen;
+ghost use Rattle.ep_operands.specs.Refinement.{Refines};
+ghost use Rattle.ep_operands.specs.View as view;
 
 use ep_ast::{Halt, RefusalKind};
 use ep_core::tree::Expr;
@@ -18,7 +18,7 @@ use std::alloc::Global;
 /// A cast.
 #[tactic(auto, unfolding(ep_typing::specs::Parts::casted))]
 pub fn casted(alloc: Global, line: u32, c: CType, v: Value) -> Result<Value, Halt>
-    ensures { Gives seen.value (at line (rule.casted c (seen.value v))) result }
+    ensures { Refines view.value (at line (rule.casted c (view.value v))) result }
 {
     if !are_scalars(c, v.ty) {
         return Err(refused(RefusalKind::TypeMismatch, line));
@@ -33,7 +33,7 @@ pub fn casted(alloc: Global, line: u32, c: CType, v: Value) -> Result<Value, Hal
 /// `sizeof` of a type.
 #[tactic(auto, unfolding(ep_typing::specs::Parts::type_sized))]
 pub fn type_sized(types: &Types, line: u32, c: CType) -> Result<Value, Halt>
-    ensures { Gives seen.value (at line (rule.type_sized types.now c)) result }
+    ensures { Refines view.value (at line (rule.type_sized types.now c)) result }
 {
     match size_of_type(types, c) {
         Some(size) => {
@@ -47,7 +47,7 @@ pub fn type_sized(types: &Types, line: u32, c: CType) -> Result<Value, Halt>
 /// `sizeof` of an operand.
 #[tactic(auto, unfolding(ep_typing::specs::Parts::sized))]
 pub fn sized(types: &Types, line: u32, x: Operand) -> Result<Value, Halt>
-    ensures { Gives seen.value (at line (rule.sized types.now (seen.operand x))) result }
+    ensures { Refines view.value (at line (rule.sized types.now (view.operand x))) result }
 {
     match x {
         Operand::Place(_, c) => type_sized(types, line, c),

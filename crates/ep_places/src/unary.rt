@@ -1,17 +1,18 @@
 //! Operators of one operand.
 
-ghost use Rattle.std.specs.Prelude.{◌≡◌, IfOk, true};
-ghost use Rattle.ep_core.specs.View.{shown_expr};
-ghost use Rattle.ep_core.specs.View.{shown_place};
+ghost use Rattle.std.specs.Prelude.{◌≡◌, ◌==◌, IfOk, true};
+ghost use Rattle.ep_ast.specs.Mark.{mark_number};
+ghost use Rattle.ep_core.specs.View.{expr_view};
+ghost use Rattle.ep_core.specs.View.{place_view};
 ghost use Rattle.ep_typing.specs.Types.{is_integer};
 ghost use Rattle.ep_typing.specs.Operators as rule;
 ghost use Rattle.ep_typing.specs.Parts as parts;
 ghost use Rattle.ep_typing.specs.Results.{at};
-ghost use Rattle.ep_operands.specs.Gives.{Gives};
-ghost use Rattle.ep_operands.specs.Seen as seen;
+ghost use Rattle.ep_operands.specs.Refinement.{Refines};
+ghost use Rattle.ep_operands.specs.View as view;
 
 use crate::pointers::pointed;
-use ep_ast::{Halt, RefusalKind, marks};
+use ep_ast::{Halt, Mark, RefusalKind};
 use ep_core::tree::{Expr, Place};
 use ep_int::{BinOp, IntType, wrap};
 use ep_layout::Types;
@@ -21,10 +22,17 @@ use ep_operands::{
 };
 use std::alloc::{AllocError, Global};
 
+/// Whether two marks are the same.
+pub fn is_mark(mark: Mark, other: Mark) -> bool
+    ensures { result ≡ (mark_number mark == mark_number other) }
+{
+    mark == other
+}
+
 // `+`: a promoted integer.
 #[tactic(auto, unfolding(ep_typing::specs::Operators::kept))]
 fn kept(alloc: Global, line: u32, a: Value) -> Result<Value, Halt>
-    ensures { Gives seen.value (at line (rule.kept (seen.value a))) result }
+    ensures { Refines view.value (at line (rule.kept (view.value a))) result }
 {
     if is_integer(a.ty) {
         let t = promoted_type(&a);
@@ -35,7 +43,7 @@ fn kept(alloc: Global, line: u32, a: Value) -> Result<Value, Halt>
 }
 
 fn opposite_expr(alloc: Global, a: Value) -> Result<Expr, AllocError>
-    ensures { IfOk result (λ e. shown_expr e ≡ (rule.opposite (seen.value a)).expr) }
+    ensures { IfOk result (λ e. expr_view e ≡ (rule.opposite (view.value a)).expr) }
 {
     let t = promoted_type(&a);
     let zero = Box::new(alloc, Expr::Const(t, 0))?;
@@ -46,7 +54,7 @@ fn opposite_expr(alloc: Global, a: Value) -> Result<Expr, AllocError>
 
 fn opposite(alloc: Global, a: Value) -> Result<Value, AllocError>
     requires { is_integer a.ty ≡ true }
-    ensures { IfOk result (λ v. seen.value v ≡ rule.opposite (seen.value a)) }
+    ensures { IfOk result (λ v. view.value v ≡ rule.opposite (view.value a)) }
 {
     let t = promoted_type(&a);
     let expr = opposite_expr(alloc, a)?;
@@ -56,7 +64,7 @@ fn opposite(alloc: Global, a: Value) -> Result<Value, AllocError>
 // `-`: what is left of 0.
 #[tactic(auto, unfolding(ep_typing::specs::Operators::negated))]
 fn negated(alloc: Global, line: u32, a: Value) -> Result<Value, Halt>
-    ensures { Gives seen.value (at line (rule.negated (seen.value a))) result }
+    ensures { Refines view.value (at line (rule.negated (view.value a))) result }
 {
     if is_integer(a.ty) {
         let value = opposite(alloc, a)?;
@@ -66,7 +74,7 @@ fn negated(alloc: Global, line: u32, a: Value) -> Result<Value, Halt>
 }
 
 fn turned_expr(alloc: Global, a: Value) -> Result<Expr, AllocError>
-    ensures { IfOk result (λ e. shown_expr e ≡ (rule.turned (seen.value a)).expr) }
+    ensures { IfOk result (λ e. expr_view e ≡ (rule.turned (view.value a)).expr) }
 {
     let t = promoted_type(&a);
     let expr = promoted_value(alloc, a)?;
@@ -77,7 +85,7 @@ fn turned_expr(alloc: Global, a: Value) -> Result<Expr, AllocError>
 
 fn turned(alloc: Global, a: Value) -> Result<Value, AllocError>
     requires { is_integer a.ty ≡ true }
-    ensures { IfOk result (λ v. seen.value v ≡ rule.turned (seen.value a)) }
+    ensures { IfOk result (λ v. view.value v ≡ rule.turned (view.value a)) }
 {
     let t = promoted_type(&a);
     let expr = turned_expr(alloc, a)?;
@@ -87,7 +95,7 @@ fn turned(alloc: Global, a: Value) -> Result<Value, AllocError>
 // `~`: all bits turned.
 #[tactic(auto, unfolding(ep_typing::specs::Operators::complemented))]
 fn complemented(alloc: Global, line: u32, a: Value) -> Result<Value, Halt>
-    ensures { Gives seen.value (at line (rule.complemented (seen.value a))) result }
+    ensures { Refines view.value (at line (rule.complemented (view.value a))) result }
 {
     if is_integer(a.ty) {
         let value = turned(alloc, a)?;
@@ -99,7 +107,7 @@ fn complemented(alloc: Global, line: u32, a: Value) -> Result<Value, Halt>
 // `!`.
 #[tactic(auto, unfolding(ep_typing::specs::Operators::denied))]
 fn denied(alloc: Global, line: u32, a: Value) -> Result<Value, Halt>
-    ensures { Gives seen.value (at line (rule.denied (seen.value a))) result }
+    ensures { Refines view.value (at line (rule.denied (view.value a))) result }
 {
     if is_scalar(a.ty) {
         let expr = Box::new(alloc, a.expr)?;
@@ -110,23 +118,23 @@ fn denied(alloc: Global, line: u32, a: Value) -> Result<Value, Halt>
 
 /// `+`, `-`, `~` or `!` of one value, by its mark.
 #[tactic(auto, unfolding(ep_typing::specs::Operators::unary_operated))]
-fn unary_operated(alloc: Global, line: u32, mark: u8, a: Value) -> Result<Value, Halt>
-    ensures { Gives seen.value (at line (rule.unary_operated mark (seen.value a))) result }
+fn unary_operated(alloc: Global, line: u32, mark: Mark, a: Value) -> Result<Value, Halt>
+    ensures { Refines view.value (at line (rule.unary_operated (mark_number mark) (view.value a))) result }
 {
-    if mark == marks::PLUS {
+    if is_mark(mark, Mark::Plus) {
         return kept(alloc, line, a);
     }
-    if mark == marks::MINUS {
+    if is_mark(mark, Mark::Minus) {
         return negated(alloc, line, a);
     }
-    if mark == marks::TILDE {
+    if is_mark(mark, Mark::Tilde) {
         return complemented(alloc, line, a);
     }
     denied(alloc, line, a)
 }
 
 fn address_of(alloc: Global, place: Place) -> Result<Expr, AllocError>
-    ensures { IfOk result (λ e. shown_expr e ≡ parts.address_of (shown_place place)) }
+    ensures { IfOk result (λ e. expr_view e ≡ parts.address_of (place_view place)) }
 {
     match place {
         Place::Block(b) => {
@@ -151,7 +159,7 @@ fn address_of(alloc: Global, place: Place) -> Result<Expr, AllocError>
 // `&`.
 #[tactic(auto, unfolding(ep_typing::specs::Parts::addressed))]
 fn addressed(alloc: Global, line: u32, x: Operand) -> Result<Operand, Halt>
-    ensures { Gives seen.operand (at line (parts.addressed (seen.operand x))) result }
+    ensures { Refines view.operand (at line (parts.addressed (view.operand x))) result }
 {
     match x {
         Operand::Place(place, c) => {
@@ -164,10 +172,10 @@ fn addressed(alloc: Global, line: u32, x: Operand) -> Result<Operand, Halt>
     }
 }
 
-fn unary_of_value(alloc: Global, line: u32, mark: u8, v: Value) -> Result<Operand, Halt>
-    ensures { Gives seen.operand (at line (parts.unary_of_value mark (seen.value v))) result }
+fn unary_of_value(alloc: Global, line: u32, mark: Mark, v: Value) -> Result<Operand, Halt>
+    ensures { Refines view.operand (at line (parts.unary_of_value (mark_number mark) (view.value v))) result }
 {
-    if mark == marks::STAR {
+    if is_mark(mark, Mark::Star) {
         return pointed(alloc, line, v);
     }
     let value = unary_operated(alloc, line, mark, v)?;
@@ -180,12 +188,12 @@ pub fn unary_typed(
     alloc: Global,
     types: &Types,
     line: u32,
-    mark: u8,
+    mark: Mark,
     x: Operand,
 ) -> Result<Operand, Halt>
-    ensures { Gives seen.operand (at line (parts.unary_typed types.now mark (seen.operand x))) result }
+    ensures { Refines view.operand (at line (parts.unary_typed types.now (mark_number mark) (view.operand x))) result }
 {
-    if mark == marks::AMPERSAND {
+    if is_mark(mark, Mark::Ampersand) {
         return addressed(alloc, line, x);
     }
     let value = value_of(alloc, types, line, x)?;

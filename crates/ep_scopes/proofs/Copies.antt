@@ -5,7 +5,7 @@ use Rattle.std.specs.List.{AllZip}
 use Rattle.std.proofs.lemmas.List.Elements.{same_from_all_zip}
 use Rattle.ep_typing.specs.Env as rule
 use Rattle.ep_scopes.specs.declared.scopes.Scope.{Scope}
-use Rattle.ep_scopes.specs.Seen as seen
+use Rattle.ep_scopes.specs.View as view
 
 -- what copies come to, where each comes to the same
 pub mapped : {A B : Type 0} (R : A → A → Type 0) (f : A → B) → ((x y : A) → R x y → f y ≡ f x) → (xs ys : List A)
@@ -27,12 +27,12 @@ abbrev head_or : {B : Type 0} → B → List B → B
 head_or d [] = d
 head_or d (b ∷ bs) = b
 
-pub same_stacks : (G : List rule.Scope) (ss us : List Scope) → map seen.scope ss ≡ map seen.scope us
-    → seen.stacked G ss ≡ seen.stacked G us
+pub same_stacks : (G : List rule.Scope) (ss us : List Scope) → map view.scope ss ≡ map view.scope us
+    → view.stacked G ss ≡ view.stacked G us
 same_stacks G [] [] h = refl
 same_stacks G [] (u ∷ us) h = absurd cc
 same_stacks G (s ∷ ss) [] h = absurd cc
 same_stacks G (s ∷ ss) (u ∷ us) h =
-    let e : seen.scope s ≡ seen.scope u = ap (head_or (seen.scope s)) h in
-    let r : map seen.scope ss ≡ map seen.scope us = ap tail_of h in
-    ap (λ (x : rule.Scope). seen.stacked (x ∷ G) ss) e ∙ same_stacks (seen.scope u ∷ G) ss us r
+    let e : view.scope s ≡ view.scope u = ap (head_or (view.scope s)) h in
+    let r : map view.scope ss ≡ map view.scope us = ap tail_of h in
+    ap (λ (x : rule.Scope). view.stacked (x ∷ G) ss) e ∙ same_stacks (view.scope u ∷ G) ss us r

@@ -1,5 +1,6 @@
 -- Environments stay known as their tables grow.
 use Rattle.std.proofs.Common.{◌≡◌, ℕ, zero, suc, ◌+◌, ◌<◌, ◌≤◌, nat_eq, Bool, true, false, cond, List, [], ◌∷◌, ◌++◌}
+use Rattle.ep_typing.proofs.Order.{at_ok}
 use Rattle.std.proofs.Common.{length, find, Option, Some, None, Result, Ok, Err, refl, sym, ap, ◌∙◌, subst, arith}
 use Rattle.std.specs.Prelude.{OnOk}
 use Rattle.std.specs.Str.{bytes_eq}
@@ -137,10 +138,6 @@ tag_known t n (s ∷ ss) x h e =
     first_tag_known t (entry n s.tags) (look_up_tag n ss) x e (λ y. tag_entry_known t n s.tags y h.1.0) (tag_known t n ss x h.1.1)
 
 -- ---- types of words are known
-
-pub at_ok : {A : Type 0} (l : ℕ) (r : Result A ℕ) (x : A) → at l r ≡ Ok x → r ≡ Ok x
-at_ok l (Ok y) x h = let same : y ≡ x = cc in ap (λ z. Ok z) same
-at_ok l (Err k) x h = absurd cc
 
 meant_known : (t : Table) (m : Option Meaning) (o : Option IntType) (c : CType) → ((x : Meaning) → m ≡ Some x → IsKnownMeaning t x)
     → meant_type m o ≡ Ok c → IsKnown t c

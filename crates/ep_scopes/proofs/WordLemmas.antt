@@ -1,6 +1,8 @@
 -- Words of a type, one by one.
 use Rattle.std.proofs.Common.{◌≡◌, ℕ, suc, ◌+◌, ◌<◌, ◌≤◌, nat_eq, Bool, true, false, cond, ◌||◌, List, [], ◌∷◌, map}
-use Rattle.std.proofs.Common.{length, drop, get_or, find, Some, None, Bor, refl, sym, ap, ◌∙◌, arith, drop-cons}
+use Rattle.std.proofs.lemmas.Bool.{eq-eqb, eqb-true}
+use Rattle.std.proofs.Common.{length, drop, get_or, find, Some, None, Bor, refl, sym, ap, ◌∙◌, arith, rules, drop-cons}
+use denote.Enum.Bare.{sameb, same_true, same_false}
 use Rattle.std.specs.Prelude.{count_by}
 use Rattle.std.specs.List.{list_any}
 use Rattle.std.specs.Str.{bytes_eq}
@@ -9,10 +11,14 @@ use Rattle.std.proofs.lemmas.List.{drop_all}
 use Rattle.std.proofs.lemmas.List.Sums.{sum_by-cons}
 use Rattle.ep_int.specs.declared.types.IntType.{IntType}
 use Rattle.ep_int.specs.declared.types.Model.{Model}
+use Rattle.ep_ast.specs.contracts.words.Word.{the_type}
+use Rattle.ep_ast.specs.declared.words.Word.{Word}
 use Rattle.ep_ast.specs.declared.expressions.TypeWordTree.{TypeWordTree}
 use Rattle.ep_ast.specs.Expression as source
 use Rattle.ep_ast.specs.Expression.{TypeWord, type_word}
 use Rattle.ep_ast.specs.Mark.{char_word, int_word, long_word, short_word, signed_word, unsigned_word, void_word}
+use Rattle.ep_ast.specs.Mark.{word_number}
+use Rattle.ep_ast.proofs.Numbers.{same_word}
 use Rattle.ep_ast.specs.TypeWords.{Bag, all_joined, joined, no_bag}
 use Rattle.ep_typing.specs.Env.{Env, entry}
 use Rattle.ep_typing.specs.Names.{integer_of, is_unsigned, is_whole, mentioned_word, mentioned_words}
@@ -170,3 +176,20 @@ integer_is m ws u c s l e f g h =
     ∙ ap (λ (n : ℕ). picked m (list_any is_unsigned (map type_word ws)) n s l) chars
     ∙ ap (λ (n : ℕ). picked m (list_any is_unsigned (map type_word ws)) (all_joined no_bag (map type_word ws)).chars n l) shorts
     ∙ ap (λ (n : ℕ). picked m (list_any is_unsigned (map type_word ws)) (all_joined no_bag (map type_word ws)).chars (all_joined no_bag (map type_word ws)).shorts n) longs
+
+-- ---- two words are one where their numbers are
+
+abbrev same : Word → Word → Bool
+same a b = sameb the_type a b
+
+of_test : (a b : Word) (t u : Bool) → same a b ≡ t → nat_eq (word_number a) (word_number b) ≡ u → t ≡ u
+of_test a b true true e f = refl
+of_test a b false false e f = refl
+of_test a b true false e f =
+    let yes = eq-eqb (word_number a) (word_number b) (ap word_number (same_true the_type (search rules) a b e)) in
+    absurd cc
+of_test a b false true e f =
+    absurd (same_false the_type a b e (same_word a b (eqb-true (word_number a) (word_number b) f)))
+
+pub word_test : (a b : Word) → same a b ≡ nat_eq (word_number a) (word_number b)
+word_test a b = of_test a b (same a b) (nat_eq (word_number a) (word_number b)) refl refl

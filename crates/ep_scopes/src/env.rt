@@ -2,12 +2,12 @@
 
 ghost use Rattle.std.specs.Prelude.{◌≡◌, ◌<◌, IfOk, OnOk, IsTrue, None, bytes_eq, length, map, position, slice_get};
 ghost use Rattle.std.specs.Option.{option_map};
-ghost use Rattle.ep_core.specs.View.{shown_block};
+ghost use Rattle.ep_core.specs.View.{block_view};
 ghost use Rattle.ep_layout.specs.Table as table;
 ghost use Rattle.ep_typing.specs.Env as rule;
 ghost use Rattle.ep_typing.specs.Types as types_of;
 ghost use Rattle.ep_scopes.specs.Known.{IsKnown, IsKnownBase};
-ghost use Rattle.ep_scopes.specs.Seen as seen;
+ghost use Rattle.ep_scopes.specs.View as view;
 
 use crate::scopes::Scopes;
 use ep_core::program::BlockInfo;
@@ -36,7 +36,7 @@ pub struct Env {
 }
 
 fn opened(alloc: Global) -> Result<Scopes, AllocError>
-    ensures { IfOk result (λ s. seen.scopes s ≡ (rule.start Model.Ilp32).scopes) }
+    ensures { IfOk result (λ s. view.scopes s ≡ (rule.start Model.Ilp32).scopes) }
 {
     let mut scopes = Scopes::new(alloc);
     scopes.enter()?;
@@ -46,7 +46,7 @@ fn opened(alloc: Global) -> Result<Scopes, AllocError>
 impl Env {
     /// The file's scope, with nothing in it.
     pub fn new(alloc: Global, model: Model) -> Result<Env, AllocError>
-        ensures { IfOk result (λ e. seen.env e ≡ rule.start model) }
+        ensures { IfOk result (λ e. view.env e ≡ rule.start model) }
     {
         let scopes = opened(alloc)?;
         Ok(Env {
@@ -132,7 +132,7 @@ fn add_aggregate(types: &mut Types, tag: Vec<u8>, is_union: bool) -> Result<u32,
 
 impl Clone for FunctionType {
     ghost use Rattle.std.specs.Prelude.{◌≡◌};
-    ghost use Rattle.ep_scopes.specs.Seen.{function_type};
+    ghost use Rattle.ep_scopes.specs.View.{function_type};
 
     ghost is_clone = { λ s t. function_type t ≡ function_type s };
 
@@ -145,7 +145,7 @@ impl Clone for FunctionType {
 }
 
 fn copied_blocks(alloc: Global, blocks: &[BlockInfo]) -> Result<Vec<BlockInfo>, AllocError>
-    ensures { IfOk result (λ v. map shown_block v.items ≡ map shown_block blocks.now) }
+    ensures { IfOk result (λ v. map block_view v.items ≡ map block_view blocks.now) }
 {
     let mut copies = Vec::new(alloc);
     for block in blocks {
@@ -169,7 +169,7 @@ fn copied_types(types: &Types) -> Result<Types, AllocError>
 
 impl Env {
     fn copied(&self) -> Result<Env, AllocError>
-        ensures { IfOk result (λ e. seen.env e ≡ seen.env self.now) }
+        ensures { IfOk result (λ e. view.env e ≡ view.env self.now) }
     {
         Ok(Env {
             types: copied_types(&self.types)?,
@@ -182,7 +182,7 @@ impl Env {
 
     /// The same names, blocks, functions and types.
     pub fn copy(&self) -> Result<Env, Memory>
-        ensures { IfOk result (λ e. seen.env e ≡ seen.env self.now) }
+        ensures { IfOk result (λ e. view.env e ≡ view.env self.now) }
     {
         match self.copied() {
             Ok(env) => Ok(env),
@@ -201,8 +201,8 @@ impl Env {
 
     /// A tag that no scope has is declared in the innermost one.
     pub fn declare_tag(&mut self, tag: &[u8], is_union: bool) -> Result<(), Memory>
-        requires { rule.look_up_tag tag.now (seen.env self.old).scopes ≡ None }
-        ensures { OnOk result (seen.env self.new ≡ rule.with_tag (seen.env self.old) tag.now is_union) }
+        requires { rule.look_up_tag tag.now (view.env self.old).scopes ≡ None }
+        ensures { OnOk result (view.env self.new ≡ rule.with_tag (view.env self.old) tag.now is_union) }
     {
         let text = self.text(tag)?;
         let number = add_aggregate(&mut self.types, text, is_union)?;
@@ -214,15 +214,15 @@ impl Env {
 
     /// The number of the function of a name that was declared, whether a scope has it or not.
     pub fn function_number(&self, name: &[u8]) -> Option<usize>
-        ensures { result ≡ position (λ (s : rule.Signature). bytes_eq name.now s.name) (seen.env self.now).functions }
+        ensures { result ≡ position (λ (s : rule.Signature). bytes_eq name.now s.name) (view.env self.now).functions }
     {
         self.functions.get_index_of(name)
     }
 
     /// The types of the function of a number.
     pub fn function(&self, number: u32) -> Option<&FunctionType>
-        ensures { option_map (λ t. seen.function_type t.now) result
-            ≡ option_map seen.type_of (slice_get (seen.env self.now).functions number) }
+        ensures { option_map (λ t. view.function_type t.now) result
+            ≡ option_map view.type_of (slice_get (view.env self.now).functions number) }
     {
         match self.functions.get_index(number as usize) {
             Some((_, ty)) => Some(ty),
@@ -232,10 +232,10 @@ impl Env {
 
     /// A function whose name none has takes the next number, which no scope has a name for.
     pub fn add_function(&mut self, name: &[u8], ty: FunctionType) -> Result<u32, Memory>
-        requires { position (λ (s : rule.Signature). bytes_eq name.now s.name) (seen.env self.old).functions ≡ None }
-        ensures number { IfOk result (λ n. n ≡ length (seen.env self.old).functions) }
-        ensures grown { OnOk result (seen.env self.new
-            ≡ seen.with_function (seen.env self.old) name.now (seen.function_type ty)) }
+        requires { position (λ (s : rule.Signature). bytes_eq name.now s.name) (view.env self.old).functions ≡ None }
+        ensures number { IfOk result (λ n. n ≡ length (view.env self.old).functions) }
+        ensures grown { OnOk result (view.env self.new
+            ≡ view.with_function (view.env self.old) name.now (view.function_type ty)) }
     {
         let number = as_number(self.functions.len())?;
         let text = self.text(name)?;

@@ -8,15 +8,15 @@ ghost use Rattle.ep_typing.specs.Env.{entry, look_up, look_up_tag};
 ghost use Rattle.ep_typing.specs.Names as rule;
 ghost use Rattle.ep_typing.specs.Parts as parts;
 ghost use Rattle.ep_typing.specs.Results.{at};
-ghost use Rattle.ep_operands.specs.Gives.{Gives};
-ghost use Rattle.ep_operands.specs.Seen as operands;
+ghost use Rattle.ep_operands.specs.Refinement.{Refines};
+ghost use Rattle.ep_operands.specs.View as operands;
 ghost use Rattle.ep_scopes.specs.Known.{IsKnownEnv};
-ghost use Rattle.ep_scopes.specs.Seen as seen;
+ghost use Rattle.ep_scopes.specs.View as view;
 
 use crate::env::{Env, add_type};
 use crate::scopes::Meaning;
 use crate::words::{built_in_type, integer_of, whole_word};
-use ep_ast::{Halt, RefusalKind, TypeNameTree, TypeWordTree, words};
+use ep_ast::{Halt, RefusalKind, TypeNameTree, TypeWordTree};
 use ep_core::tree::Place;
 use ep_int::Memory;
 use ep_operands::{Callee, Operand, built_in, refused, with_stars};
@@ -25,7 +25,7 @@ use ep_typing::{Base, CType};
 /// What a name stands for.
 #[tactic(auto, unfolding(ep_typing::specs::Parts::named))]
 pub fn named(env: &Env, line: u32, name: &[u8]) -> Result<Operand, Halt>
-    ensures { Gives operands.operand (at line (parts.named (seen.env env.now) name.now)) result }
+    ensures { Refines operands.operand (at line (parts.named (view.env env.now) name.now)) result }
 {
     match env.scopes.get(name) {
         Some(Meaning::Variable(block, c)) => Ok(Operand::Place(Place::Block(block), c)),
@@ -40,9 +40,9 @@ pub fn named(env: &Env, line: u32, name: &[u8]) -> Result<Operand, Halt>
 
 // The type of a typedef name.
 fn meant_type(env: &Env, line: u32, name: &[u8]) -> Result<CType, Halt>
-    ensures { Gives (λ c. c) (at line
-        (rule.meant_type (look_up name.now (seen.env env.now).scopes)
-        (entry name.now (rule.built_in_types (seen.env env.now).types.model)))) result }
+    ensures { Refines (λ c. c) (at line
+        (rule.meant_type (look_up name.now (view.env env.now).scopes)
+        (entry name.now (rule.built_in_types (view.env env.now).types.model)))) result }
 {
     match env.scopes.get(name) {
         Some(Meaning::Variable(_, _)) => Err(refused(RefusalKind::UnknownName, line)),
@@ -59,7 +59,7 @@ fn meant_type(env: &Env, line: u32, name: &[u8]) -> Result<CType, Halt>
 }
 
 fn is_union(env: &Env, aggregate: u32) -> bool
-    ensures { result ≡ is_union (seen.env env.now).types aggregate }
+    ensures { result ≡ is_union (view.env env.now).types aggregate }
 {
     if aggregate < env.types.aggregate_count() {
         env.types.is_union(aggregate)
@@ -70,8 +70,8 @@ fn is_union(env: &Env, aggregate: u32) -> bool
 
 // The aggregate of a tag, which was declared with the same word.
 fn meant_tag(env: &Env, line: u32, with_union: bool, tag: &[u8]) -> Result<CType, Halt>
-    ensures { Gives (λ c. c) (at line
-        (rule.meant_tag (seen.env env.now) with_union (look_up_tag tag.now (seen.env env.now).scopes))) result }
+    ensures { Refines (λ c. c) (at line
+        (rule.meant_tag (view.env env.now) with_union (look_up_tag tag.now (view.env env.now).scopes))) result }
 {
     match env.scopes.tag(tag) {
         Some(aggregate) => {
@@ -90,7 +90,7 @@ fn meant_tag(env: &Env, line: u32, with_union: bool, tag: &[u8]) -> Result<CType
 /// The type of words.
 #[tactic(auto, unfolding(ep_typing::specs::Names::words_type))]
 pub fn words_type(env: &Env, all: &[TypeWordTree]) -> Result<CType, Halt>
-    ensures { Gives (λ c. c) (rule.words_type (seen.env env.now) (map type_word all.now)) result }
+    ensures { Refines (λ c. c) (rule.words_type (view.env env.now) (map type_word all.now)) result }
 {
     match whole_word(all) {
         None => Ok(CType {
@@ -103,9 +103,7 @@ pub fn words_type(env: &Env, all: &[TypeWordTree]) -> Result<CType, Halt>
                 stars: 0,
             }),
             TypeWordTree::Name(line, name) => meant_type(env, *line, name),
-            TypeWordTree::Tag(line, code, tag) => {
-                meant_tag(env, *line, *code == words::UNION, tag)
-            }
+            TypeWordTree::Tag(line, word, tag) => { meant_tag(env, *line, word.is_union(), tag) }
         },
     }
 }
@@ -113,7 +111,7 @@ pub fn words_type(env: &Env, all: &[TypeWordTree]) -> Result<CType, Halt>
 /// The type of a type name.
 #[tactic(auto, unfolding(ep_typing::specs::Names::named_type))]
 pub fn named_type(env: &Env, name: &TypeNameTree) -> Result<CType, Halt>
-    ensures { Gives (λ c. c) (rule.named_type (seen.env env.now) (type_name name.now)) result }
+    ensures { Refines (λ c. c) (rule.named_type (view.env env.now) (type_name name.now)) result }
 {
     let c = words_type(env, &name.specs)?;
     let c = with_stars(c, name.stars.len())?;
@@ -122,15 +120,15 @@ pub fn named_type(env: &Env, name: &TypeNameTree) -> Result<CType, Halt>
 
 // A tag that no scope has is declared where it is mentioned.
 fn mention_word(env: &mut Env, word: &TypeWordTree) -> Result<(), Memory>
-    ensures { OnOk result (seen.env env.new ≡ rule.mentioned_word (seen.env env.old) (type_word word.now)) }
+    ensures { OnOk result (view.env env.new ≡ rule.mentioned_word (view.env env.old) (type_word word.now)) }
 {
     match word {
         TypeWordTree::Word(_, _) => Ok(()),
         TypeWordTree::Name(_, _) => Ok(()),
-        TypeWordTree::Tag(_, code, tag) => {
+        TypeWordTree::Tag(_, own, tag) => {
             match env.scopes.tag(tag) {
                 Some(_) => Ok(()),
-                None => env.declare_tag(tag, *code == words::UNION),
+                None => env.declare_tag(tag, own.is_union()),
             }
         }
     }
@@ -138,7 +136,7 @@ fn mention_word(env: &mut Env, word: &TypeWordTree) -> Result<(), Memory>
 
 /// Words declare the tags that no scope has.
 pub fn mention_words(env: &mut Env, all: &[TypeWordTree]) -> Result<(), Memory>
-    ensures { OnOk result (seen.env env.new ≡ rule.mentioned_words (seen.env env.old) (map type_word all.now)) }
+    ensures { OnOk result (view.env env.new ≡ rule.mentioned_words (view.env env.old) (map type_word all.now)) }
 {
     for word in all {
         mention_word(env, word)?;
@@ -149,9 +147,9 @@ pub fn mention_words(env: &mut Env, all: &[TypeWordTree]) -> Result<(), Memory>
 /// A type name declares its tags, and its type comes into the table.
 #[tactic(auto, unfolding(ep_typing::specs::Names::mentioned_name))]
 pub fn mention_name(env: &mut Env, name: &TypeNameTree) -> Result<(), Memory>
-    requires { IsKnownEnv (seen.env env.old) }
-    ensures means { OnOk result (seen.env env.new ≡ rule.mentioned_name (seen.env env.old) (type_name name.now)) }
-    ensures known { OnOk result (IsKnownEnv (seen.env env.new)) }
+    requires { IsKnownEnv (view.env env.old) }
+    ensures means { OnOk result (view.env env.new ≡ rule.mentioned_name (view.env env.old) (type_name name.now)) }
+    ensures known { OnOk result (IsKnownEnv (view.env env.new)) }
 {
     mention_words(env, &name.specs)?;
     match named_type(env, name) {

@@ -3,7 +3,7 @@
 ghost use Rattle.std.specs.Prelude.{◌≡◌, [], ◌∷◌, ◌++◌, IfOk, OnOk, OnErr, None, drop, is_some, length, ◌+◌, map};
 ghost use Rattle.std.specs.Option.{option_map, option_to_list};
 ghost use Rattle.ep_typing.specs.Env as rule;
-ghost use Rattle.ep_scopes.specs.Seen as seen;
+ghost use Rattle.ep_scopes.specs.View as view;
 
 use ep_typing::CType;
 use indexmap::IndexMap;
@@ -40,7 +40,7 @@ pub struct Scopes {
 
 impl Scope {
     fn new(alloc: Global) -> Scope
-        ensures { seen.scope result ≡ rule.no_names }
+        ensures { view.scope result ≡ rule.no_names }
     {
         Scope {
             names: IndexMap::new(alloc),
@@ -49,7 +49,7 @@ impl Scope {
     }
 
     fn copy(&self) -> Result<Scope, AllocError>
-        ensures { IfOk result (λ s. seen.scope s ≡ seen.scope self.now) }
+        ensures { IfOk result (λ s. view.scope s ≡ view.scope self.now) }
     {
         Ok(Scope {
             names: self.names.clone()?,
@@ -58,22 +58,22 @@ impl Scope {
     }
 
     fn name(&self, name: &[u8]) -> Option<Meaning>
-        ensures { option_map seen.meaning result ≡ rule.entry name.now (seen.scope self.now).names }
+        ensures { option_map view.meaning result ≡ rule.entry name.now (view.scope self.now).names }
     {
         self.names.get(name).copied()
     }
 
     fn tag(&self, tag: &[u8]) -> Option<u32>
-        ensures { result ≡ rule.entry tag.now (seen.scope self.now).tags }
+        ensures { result ≡ rule.entry tag.now (view.scope self.now).tags }
     {
         self.tags.get(tag).copied()
     }
 
     fn add_name(&mut self, alloc: Global, name: &[u8], meaning: Meaning) -> Result<(), AllocError>
-        requires { rule.entry name.now (seen.scope self.old).names ≡ None }
-        ensures names { OnOk result ((seen.scope self.new).names
-            ≡ (seen.scope self.old).names ++ (name.now, seen.meaning meaning) ∷ []) }
-        ensures tags { OnOk result ((seen.scope self.new).tags ≡ (seen.scope self.old).tags) }
+        requires { rule.entry name.now (view.scope self.old).names ≡ None }
+        ensures names { OnOk result ((view.scope self.new).names
+            ≡ (view.scope self.old).names ++ (name.now, view.meaning meaning) ∷ []) }
+        ensures tags { OnOk result ((view.scope self.new).tags ≡ (view.scope self.old).tags) }
     {
         let text = Vec::from_slice(alloc, name)?;
         self.names.insert(text, meaning)?;
@@ -81,9 +81,9 @@ impl Scope {
     }
 
     fn add_tag(&mut self, alloc: Global, tag: &[u8], number: u32) -> Result<(), AllocError>
-        requires { rule.entry tag.now (seen.scope self.old).tags ≡ None }
-        ensures tags { OnOk result ((seen.scope self.new).tags ≡ (seen.scope self.old).tags ++ (tag.now, number) ∷ []) }
-        ensures names { OnOk result ((seen.scope self.new).names ≡ (seen.scope self.old).names) }
+        requires { rule.entry tag.now (view.scope self.old).tags ≡ None }
+        ensures tags { OnOk result ((view.scope self.new).tags ≡ (view.scope self.old).tags ++ (tag.now, number) ∷ []) }
+        ensures names { OnOk result ((view.scope self.new).names ≡ (view.scope self.old).names) }
     {
         let text = Vec::from_slice(alloc, tag)?;
         self.tags.insert(text, number)?;
@@ -91,8 +91,8 @@ impl Scope {
     }
 
     fn mark(&self) -> Mark
-        ensures names { result.names ≡ length (seen.scope self.now).names }
-        ensures tags { result.tags ≡ length (seen.scope self.now).tags }
+        ensures names { result.names ≡ length (view.scope self.now).names }
+        ensures tags { result.tags ≡ length (view.scope self.now).tags }
     {
         Mark {
             names: self.names.len(),
@@ -101,15 +101,15 @@ impl Scope {
     }
 
     fn cut(&mut self, mark: Mark)
-        ensures { seen.scope self.new ≡ seen.cut mark.names mark.tags (seen.scope self.old) }
+        ensures { view.scope self.new ≡ view.cut mark.names mark.tags (view.scope self.old) }
     {
         self.names.truncate(mark.names);
         self.tags.truncate(mark.tags);
     }
 
     fn block_at(&self, place: usize) -> Option<u32>
-        ensures { seen.blocks_of (drop place (seen.scope self.now).names)
-            ≡ option_to_list result ++ seen.blocks_of (drop (place + 1) (seen.scope self.now).names) }
+        ensures { view.blocks_of (drop place (view.scope self.now).names)
+            ≡ option_to_list result ++ view.blocks_of (drop (place + 1) (view.scope self.now).names) }
     {
         match self.names.get_index(place) {
             Some((_, meaning)) => block_of(*meaning),
@@ -118,7 +118,7 @@ impl Scope {
     }
 
     fn blocks_behind(&self, alloc: Global, names: usize) -> Result<Vec<u32>, AllocError>
-        ensures { IfOk result (λ v. v.items ≡ seen.blocks_of (drop names (seen.scope self.now).names)) }
+        ensures { IfOk result (λ v. v.items ≡ view.blocks_of (drop names (view.scope self.now).names)) }
     {
         let mut blocks = Vec::new(alloc);
         for place in names..self.names.len() {
@@ -131,7 +131,7 @@ impl Scope {
 }
 
 fn block_of(meaning: Meaning) -> Option<u32>
-    ensures { option_to_list result ≡ seen.block_of (seen.meaning meaning) }
+    ensures { option_to_list result ≡ view.block_of (view.meaning meaning) }
 {
     match meaning {
         Meaning::Variable(block, _) => Some(block),
@@ -141,7 +141,7 @@ fn block_of(meaning: Meaning) -> Option<u32>
 }
 
 fn look_up(scopes: &[Scope], name: &[u8]) -> Option<Meaning>
-    ensures { option_map seen.meaning result ≡ rule.look_up name.now (seen.stacked [] scopes.now) }
+    ensures { option_map view.meaning result ≡ rule.look_up name.now (view.stacked [] scopes.now) }
 {
     let mut found = None;
     for scope in scopes {
@@ -153,7 +153,7 @@ fn look_up(scopes: &[Scope], name: &[u8]) -> Option<Meaning>
 }
 
 fn look_up_tag(scopes: &[Scope], tag: &[u8]) -> Option<u32>
-    ensures { result ≡ rule.look_up_tag tag.now (seen.stacked [] scopes.now) }
+    ensures { result ≡ rule.look_up_tag tag.now (view.stacked [] scopes.now) }
 {
     let mut found = None;
     for scope in scopes {
@@ -165,7 +165,7 @@ fn look_up_tag(scopes: &[Scope], tag: &[u8]) -> Option<u32>
 }
 
 fn copied_scopes(alloc: Global, scopes: &[Scope]) -> Result<Vec<Scope>, AllocError>
-    ensures { IfOk result (λ v. map seen.scope v.items ≡ map seen.scope scopes.now) }
+    ensures { IfOk result (λ v. map view.scope v.items ≡ map view.scope scopes.now) }
 {
     let mut copies = Vec::new(alloc);
     for scope in scopes {
@@ -178,7 +178,7 @@ fn copied_scopes(alloc: Global, scopes: &[Scope]) -> Result<Vec<Scope>, AllocErr
 impl Scopes {
     /// No scope at all.
     pub fn new(alloc: Global) -> Scopes
-        ensures { seen.scopes result ≡ [] }
+        ensures { view.scopes result ≡ [] }
     {
         Scopes {
             all: Vec::new(alloc),
@@ -188,7 +188,7 @@ impl Scopes {
 
     /// The same names and tags.
     pub fn copy(&self) -> Result<Scopes, AllocError>
-        ensures { IfOk result (λ s. seen.scopes s ≡ seen.scopes self.now) }
+        ensures { IfOk result (λ s. view.scopes s ≡ view.scopes self.now) }
     {
         Ok(Scopes {
             all: copied_scopes(self.alloc, &self.all)?,
@@ -198,21 +198,21 @@ impl Scopes {
 
     /// What a name means; an inner scope hides an outer one.
     pub fn get(&self, name: &[u8]) -> Option<Meaning>
-        ensures { option_map seen.meaning result ≡ rule.look_up name.now (seen.scopes self.now) }
+        ensures { option_map view.meaning result ≡ rule.look_up name.now (view.scopes self.now) }
     {
         look_up(&self.all, name)
     }
 
     /// The aggregate of a tag.
     pub fn tag(&self, tag: &[u8]) -> Option<u32>
-        ensures { result ≡ rule.look_up_tag tag.now (seen.scopes self.now) }
+        ensures { result ≡ rule.look_up_tag tag.now (view.scopes self.now) }
     {
         look_up_tag(&self.all, tag)
     }
 
     /// Opens a scope inside the others.
     pub fn enter(&mut self) -> Result<(), AllocError>
-        ensures { OnOk result (seen.scopes self.new ≡ rule.no_names ∷ seen.scopes self.old) }
+        ensures { OnOk result (view.scopes self.new ≡ rule.no_names ∷ view.scopes self.old) }
     {
         self.all.push(Scope::new(self.alloc))?;
         Ok(())
@@ -220,15 +220,15 @@ impl Scopes {
 
     /// Leaves the innermost scope.
     pub fn leave(&mut self)
-        ensures { seen.scopes self.new ≡ seen.outer (seen.scopes self.old) }
+        ensures { view.scopes self.new ≡ view.outer (view.scopes self.old) }
     {
         self.all.pop();
     }
 
     /// Takes the innermost scope away, to be put back.
     pub fn take(&mut self) -> Scope
-        ensures taken { seen.scope result ≡ seen.innermost (seen.scopes self.old) }
-        ensures left { seen.scopes self.new ≡ seen.outer (seen.scopes self.old) }
+        ensures taken { view.scope result ≡ view.innermost (view.scopes self.old) }
+        ensures left { view.scopes self.new ≡ view.outer (view.scopes self.old) }
     {
         match self.all.pop() {
             Some(scope) => scope,
@@ -238,7 +238,7 @@ impl Scopes {
 
     /// Puts a scope inside the others.
     pub fn put(&mut self, scope: Scope) -> Result<(), AllocError>
-        ensures { OnOk result (seen.scopes self.new ≡ seen.scope scope ∷ seen.scopes self.old) }
+        ensures { OnOk result (view.scopes self.new ≡ view.scope scope ∷ view.scopes self.old) }
     {
         self.all.push(scope)?;
         Ok(())
@@ -246,7 +246,7 @@ impl Scopes {
 
     /// Whether the innermost scope has the name.
     pub fn has(&self, name: &[u8]) -> bool
-        ensures { result ≡ is_some (rule.entry name.now (seen.innermost (seen.scopes self.now)).names) }
+        ensures { result ≡ is_some (rule.entry name.now (view.innermost (view.scopes self.now)).names) }
     {
         match self.all.last() {
             Some(scope) => scope.name(name).is_some(),
@@ -256,7 +256,7 @@ impl Scopes {
 
     /// What a name of the innermost scope means.
     pub fn name_here(&self, name: &[u8]) -> Option<Meaning>
-        ensures { option_map seen.meaning result ≡ rule.entry name.now (seen.innermost (seen.scopes self.now)).names }
+        ensures { option_map view.meaning result ≡ rule.entry name.now (view.innermost (view.scopes self.now)).names }
     {
         match self.all.last() {
             Some(scope) => scope.name(name),
@@ -266,7 +266,7 @@ impl Scopes {
 
     /// The aggregate of a tag of the innermost scope.
     pub fn tag_here(&self, tag: &[u8]) -> Option<u32>
-        ensures { result ≡ rule.entry tag.now (seen.innermost (seen.scopes self.now)).tags }
+        ensures { result ≡ rule.entry tag.now (view.innermost (view.scopes self.now)).tags }
     {
         match self.all.last() {
             Some(scope) => scope.tag(tag),
@@ -276,9 +276,9 @@ impl Scopes {
 
     /// Adds a name to the innermost scope.
     pub fn declare(&mut self, name: &[u8], meaning: Meaning) -> Result<(), AllocError>
-        requires { rule.entry name.now (seen.innermost (seen.scopes self.old)).names ≡ None }
-        ensures { OnOk result (seen.scopes self.new
-            ≡ seen.name_in (seen.scopes self.old) name.now (seen.meaning meaning)) }
+        requires { rule.entry name.now (view.innermost (view.scopes self.old)).names ≡ None }
+        ensures { OnOk result (view.scopes self.new
+            ≡ view.name_in (view.scopes self.old) name.now (view.meaning meaning)) }
     {
         match self.all.pop() {
             Some(mut scope) => {
@@ -292,8 +292,8 @@ impl Scopes {
 
     /// Adds a tag to the innermost scope.
     pub fn declare_tag(&mut self, tag: &[u8], number: u32) -> Result<(), AllocError>
-        requires { rule.entry tag.now (seen.innermost (seen.scopes self.old)).tags ≡ None }
-        ensures { OnOk result (seen.scopes self.new ≡ rule.tag_in (seen.scopes self.old) tag.now number) }
+        requires { rule.entry tag.now (view.innermost (view.scopes self.old)).tags ≡ None }
+        ensures { OnOk result (view.scopes self.new ≡ rule.tag_in (view.scopes self.old) tag.now number) }
     {
         match self.all.pop() {
             Some(mut scope) => {
@@ -307,8 +307,8 @@ impl Scopes {
 
     /// How many names and tags the innermost scope has.
     pub fn mark(&self) -> Mark
-        ensures names { result.names ≡ length (seen.innermost (seen.scopes self.now)).names }
-        ensures tags { result.tags ≡ length (seen.innermost (seen.scopes self.now)).tags }
+        ensures names { result.names ≡ length (view.innermost (view.scopes self.now)).names }
+        ensures tags { result.tags ≡ length (view.innermost (view.scopes self.now)).tags }
     {
         match self.all.last() {
             Some(scope) => scope.mark(),
@@ -318,7 +318,7 @@ impl Scopes {
 
     /// The innermost scope goes back to its first names and tags, as many as it had at a mark.
     pub fn rewind(&mut self, mark: Mark) -> Result<(), AllocError>
-        ensures { OnOk result (seen.scopes self.new ≡ seen.rewound mark.names mark.tags (seen.scopes self.old)) }
+        ensures { OnOk result (view.scopes self.new ≡ view.rewound mark.names mark.tags (view.scopes self.old)) }
     {
         match self.all.pop() {
             Some(mut scope) => {
@@ -333,7 +333,7 @@ impl Scopes {
     /// The blocks of the innermost scope's names behind so many first ones.
     pub fn blocks_behind(&self, names: usize) -> Result<Vec<u32>, AllocError>
         ensures { IfOk result (λ v. v.items
-            ≡ seen.blocks_of (drop names (seen.innermost (seen.scopes self.now)).names)) }
+            ≡ view.blocks_of (drop names (view.innermost (view.scopes self.now)).names)) }
     {
         match self.all.last() {
             Some(scope) => scope.blocks_behind(self.alloc, names),

@@ -4,19 +4,20 @@ ghost use Rattle.std.specs.Prelude.{◌≡◌, map, find, count_by, if◌then◌
 ghost use Rattle.std.specs.List.{list_any};
 ghost use Rattle.std.specs.Option.{option_map};
 ghost use Rattle.ep_ast.specs.Expression.{type_word};
+ghost use Rattle.ep_ast.specs.Mark.{word_number};
 ghost use Rattle.ep_typing.specs.Env.{entry};
 ghost use Rattle.ep_typing.specs.Names as rule;
 ghost use Rattle.ep_typing.specs.Types as types_of;
 ghost use Rattle.ep_scopes.specs.Words as words_of;
 
-use ep_ast::{TypeWordTree, words};
+use ep_ast::{TypeWordTree, Word};
 use ep_int::{IntType, Model};
 
 fn is_unsigned(word: &TypeWordTree) -> bool
     ensures { result ≡ rule.is_unsigned (type_word word.now) }
 {
     match word {
-        TypeWordTree::Word(_, code) => *code == words::UNSIGNED,
+        TypeWordTree::Word(_, word) => *word == Word::Unsigned,
         TypeWordTree::Name(_, _) => false,
         TypeWordTree::Tag(_, _, _) => false,
     }
@@ -27,26 +28,27 @@ fn is_whole(word: &TypeWordTree) -> bool
     ensures { result ≡ rule.is_whole (type_word word.now) }
 {
     match word {
-        TypeWordTree::Word(_, code) => *code == words::VOID,
+        TypeWordTree::Word(_, word) => *word == Word::Void,
         TypeWordTree::Name(_, _) => true,
         TypeWordTree::Tag(_, _, _) => true,
     }
 }
 
-fn is_word(word: &TypeWordTree, code: u8) -> bool
-    ensures { result ≡ words_of.is_word code (type_word word.now) }
+#[tactic(auto, using(crate::proofs::WordLemmas::word_test))]
+fn is_word(word: &TypeWordTree, wanted: Word) -> bool
+    ensures { result ≡ words_of.is_word (word_number wanted) (type_word word.now) }
 {
     match word {
-        TypeWordTree::Word(_, own) => *own == code,
+        TypeWordTree::Word(_, own) => *own == wanted,
         TypeWordTree::Name(_, _) => false,
         TypeWordTree::Tag(_, _, _) => false,
     }
 }
 
-fn count_of(all: &[TypeWordTree], code: u8) -> usize
-    ensures { result ≡ count_by (λ w. words_of.is_word code (type_word w)) all.now }
+fn count_of(all: &[TypeWordTree], wanted: Word) -> usize
+    ensures { result ≡ count_by (λ w. words_of.is_word (word_number wanted) (type_word w)) all.now }
 {
-    all.iter().filter(|w| is_word(w, code)).count()
+    all.iter().filter(|w| is_word(w, wanted)).count()
 }
 
 fn is_any_unsigned(all: &[TypeWordTree]) -> bool
@@ -118,9 +120,9 @@ pub(crate) fn integer_of(model: Model, all: &[TypeWordTree]) -> IntType
     ensures { result ≡ rule.integer_of model (map type_word all.now) }
 {
     let unsigned = is_any_unsigned(all);
-    let chars = count_of(all, words::CHAR);
-    let shorts = count_of(all, words::SHORT);
-    let longs = count_of(all, words::LONG);
+    let chars = count_of(all, Word::Char);
+    let shorts = count_of(all, Word::Short);
+    let longs = count_of(all, Word::Long);
     picked(model, unsigned, chars, shorts, longs)
 }
 

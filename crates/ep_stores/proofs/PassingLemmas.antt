@@ -1,9 +1,10 @@
 -- Arguments one after another.
 use Rattle.std.proofs.Common.{◌≡◌, ℕ, suc, ◌+◌, ◌<◌, ◌≤◌, min, List, [], ◌∷◌, ◌++◌, map, length, drop, slice_get}
 use Rattle.std.proofs.Common.{Option, Some, None, Result, Ok, Err, refl, sym, ap, ◌∙◌, append_assoc, drop-cons, subst}
-use Rattle.std.proofs.Common.{arith}
+use Rattle.std.proofs.Common.{arith, inl, inr}
+use Rattle.std.proofs.lemmas.Bool.Decides.{leb_tells}
 use Rattle.std.proofs.lemmas.List.{drop_all}
-use Rattle.std.proofs.lemmas.Option.{get_or_from_slice_get, slice_get_within}
+use Rattle.std.proofs.lemmas.Option.{get_or_from_slice_get, slice_get_cases, slice_get_within}
 use Rattle.std.specs.Option.{option_map}
 use Rattle.std.specs.Prelude.{IfOk}
 use Rattle.ep_int.specs.declared.types.Memory.{Memory}
@@ -13,22 +14,18 @@ use Rattle.ep_ast.specs.declared.refusals.Refusal.{Refusal}
 use Rattle.ep_ast.specs.declared.refusals.Halt.{Halt}
 use Rattle.ep_ast.specs.declared.refusals.Halt.TheVariants as halts
 use Rattle.ep_core.specs.Program.{Expr}
-use Rattle.ep_typing.specs.Calls.{all_passed, passed}
+use Rattle.ep_typing.specs.Calls.{all_passed}
 use Rattle.ep_typing.specs.Results.{at, lowest}
 use Rattle.ep_stores.specs.declared.calls.Parameter.{Parameter}
 use Rattle.ep_operands.specs.declared.value.Value.{Value}
-use Rattle.ep_operands.specs.Gives.{Stops}
-use Rattle.ep_stores.specs.Passing.{after, lower}
-use Rattle.ep_operands.specs.Seen.{value}
-use Rattle.ep_stores.specs.Seen.{parameter}
+use Rattle.ep_operands.specs.Refinement.{Stops}
+use Rattle.ep_stores.specs.Passing.{after, lower, passed_to}
+use Rattle.ep_operands.specs.View.{value}
+use Rattle.ep_stores.specs.View.{parameter}
 
 pub at_err : {A : Type 0} (l : ℕ) (r : Result A ℕ) (f : Refusal) → at l r ≡ Err f → r ≡ Err f.kind
 at_err l (Ok x) f h = absurd cc
 at_err l (Err k) f h = let same : ◌≡◌ {A = Refusal} (record { kind = k; line = l; word = 0 }) f = cc in ap (λ (g : Refusal). Err g.kind) same
-
-pub at_ok : {A : Type 0} (l : ℕ) (r : Result A ℕ) (x : A) → at l r ≡ Ok x → r ≡ Ok x
-at_ok l (Ok y) x h = let same : y ≡ x = cc in ap (λ z. Ok z) same
-at_ok l (Err k) x h = absurd cc
 
 pub after_err : (kind : Option ℕ) (done : List Expr) (k : ℕ) → after kind done (Err k) ≡ Err (lower kind k)
 after_err None done k = refl
@@ -70,23 +67,43 @@ front i xs x h =
     let more : suc i ≡ i + 1 = omega arith in
     drop-cons xs i x lt ∙ ap (λ (y : Parameter). y ∷ drop (suc i) xs) (get_or_from_slice_get xs i x x h) ∙ ap (λ (n : ℕ). x ∷ drop n xs) more
 
+-- nothing stands behind the last place
+drop_within : (n : ℕ) (xs : List Parameter) → drop (min n (length xs)) xs ≡ drop n xs
+drop_within n xs = elim (leb_tells n (length xs)) [
+  | inl p ↦
+      let le : n ≤ length xs = p.1 in
+      let same : min n (length xs) ≡ n = omega (arith, le) in ap (λ (k : ℕ). drop k xs) same
+  | inr p ↦
+      let le : length xs ≤ n = omega (arith, p.1) in
+      let none : length xs ≤ min n (length xs) = omega (arith, le) in
+      drop_all (min n (length xs)) xs none ∙ sym (drop_all n xs le)
+]
+
+past_end : (i : ℕ) (xs : List Parameter) → slice_get xs i ≡ None → length xs ≤ i
+past_end i xs h = elim (slice_get_cases xs i).1 [
+  | inl c ↦ absurd (let never : ◌≡◌ {A = Option Parameter} (Some c.0) None = sym c.2 ∙ h in cc)
+  | inr c ↦ c.0
+]
+
 module _ (kind : Option ℕ) (done : List Expr) (i : ℕ) (xs : List Parameter) (v : Value) (items vs : List Value) (all : Result (List Expr) ℕ)
     (is : items ≡ v ∷ vs) (e : after kind done (all_passed (map parameter (drop i xs)) (map value items)) ≡ all) where
-  pub passed_on : (now : Option ℕ) (more : List Expr) (x : Parameter) → slice_get xs i ≡ Some x
-      → ((r : Result (List Expr) ℕ) → after kind done (lowest (passed (parameter x) (value v)) r) ≡ after now more r)
-      → after now more (all_passed (map parameter (drop (i + 1) xs)) (map value vs)) ≡ all
+  pub passed_on : (now : Option ℕ) (more : List Expr) (o : Option Parameter) → slice_get xs i ≡ o
+      → ((r : Result (List Expr) ℕ) → after kind done (lowest (passed_to (option_map parameter o) (value v)) r) ≡ after now more r)
+      → after now more (all_passed (map parameter (drop (min (i + 1) (length xs)) xs)) (map value vs)) ≡ all
   unfolding all_passed
-  passed_on now more x h f =
-      sym (f (all_passed (map parameter (drop (i + 1) xs)) (map value vs)))
+  passed_on now more (Some x) h f =
+      ap (λ (ys : List Parameter). after now more (all_passed (map parameter ys) (map value vs))) (drop_within (i + 1) xs)
+      ∙ sym (f (all_passed (map parameter (drop (i + 1) xs)) (map value vs)))
       ∙ sym (ap (λ (ys : List Parameter). after kind done (all_passed (map parameter ys) (map value (v ∷ vs)))) (front i xs x h))
       ∙ sym (ap (λ (ws : List Value). after kind done (all_passed (map parameter (drop i xs)) (map value ws))) is) ∙ e
-
-  pub too_many : length xs ≤ i → all ≡ Err (lower kind 39)
-  unfolding all_passed
-  too_many h =
-      let none : drop i xs ≡ [] = drop_all i xs h in
-      sym e ∙ ap (λ (ws : List Value). after kind done (all_passed (map parameter (drop i xs)) (map value ws))) is
-      ∙ ap (λ (ys : List Parameter). after kind done (all_passed (map parameter ys) (map value (v ∷ vs)))) none ∙ after_err kind done 39
+  passed_on now more None h f =
+      let past : length xs ≤ i = past_end i xs h in
+      let next : length xs ≤ i + 1 = omega (arith, past) in
+      ap (λ (ys : List Parameter). after now more (all_passed (map parameter ys) (map value vs)))
+      (drop_within (i + 1) xs ∙ drop_all (i + 1) xs next)
+      ∙ sym (f (all_passed [] (map value vs)))
+      ∙ sym (ap (λ (ys : List Parameter). after kind done (all_passed (map parameter ys) (map value (v ∷ vs)))) (drop_all i xs past))
+      ∙ sym (ap (λ (ws : List Value). after kind done (all_passed (map parameter (drop i xs)) (map value ws))) is) ∙ e
 
 module _ (kind : Option ℕ) (done : List Expr) (i : ℕ) (xs : List Parameter) (items : List Value) (all : Result (List Expr) ℕ)
     (is : items ≡ []) (e : after kind done (all_passed (map parameter (drop i xs)) (map value items)) ≡ all) where

@@ -1,12 +1,14 @@
 -- Stores of operands.
 use Rattle.std.proofs.Common.{◌≡◌, ℕ, Bool, true, false, true≢false, cond, ◌||◌, Result, Ok, Err, refl, sym, ap, ◌∙◌}
+use Rattle.ep_typing.proofs.Order.{at_ok}
+use Rattle.std.proofs.lemmas.Bool.{and_parts}
 use Rattle.std.proofs.Common.{subst}
 use Rattle.ep_ast.specs.declared.refusals.Refusal.{Refusal}
 use Rattle.ep_ast.specs.declared.refusals.Halt.{Halt}
 use Rattle.ep_ast.specs.declared.refusals.Halt.TheVariants as halts
 use Rattle.ep_core.specs.declared.tree.What.{What}
 use Rattle.ep_core.specs.Program as core
-use Rattle.ep_core.specs.View.{shown_what}
+use Rattle.ep_core.specs.View.{what_view}
 use Rattle.ep_layout.specs.Table.{Table}
 use Rattle.ep_typing.specs.declared.types.Base.{Base}
 use Rattle.ep_typing.specs.declared.types.Base.TheVariants as bases
@@ -17,12 +19,10 @@ use Rattle.ep_typing.specs.Results.{◌>>=◌, at}
 use Rattle.ep_typing.specs.SameTypes.{same_types}
 use Rattle.ep_typing.specs.Types.{is_aggregate, is_aggregate_base, is_array, is_pointer, is_same, is_void, is_void_base}
 use Rattle.ep_typing.specs.Typing.{assignable, assigned, copied, moves_aggregate, not_stored, put, stored}
-use Rattle.ep_operands.specs.Gives.{Gives, Stops}
+use Rattle.ep_operands.specs.Refinement.{Refines, Stops}
 use Rattle.ep_stores.specs.Stores.{put_to, simply, updated_with}
-use Rattle.ep_stores.proofs.PassingLemmas.{at_ok}
-use Rattle.ep_operands.proofs.Sound.{both_true}
 
-pub same_gives : {X Y : Type 0} (v : X → Y) (r s : Result Y Refusal) (o : Result X Halt) → r ≡ s → Gives v s o → Gives v r o
+pub same_gives : {X Y : Type 0} (v : X → Y) (r s : Result Y Refusal) (o : Result X Halt) → r ≡ s → Refines v s o → Refines v r o
 same_gives v r s (Ok x) e g = e ∙ g
 same_gives v r s (Err halts.Memory) e g = tt
 same_gives v r s (Err (halts.Refused k)) e g = e ∙ g
@@ -40,7 +40,7 @@ not_void_by false (bases.Aggregate a) h = refl
 
 moved_not_void : (c d : CType) → moves_aggregate c d ≡ true → is_void d ≡ false
 moved_not_void c d h =
-    let p = both_true (is_aggregate c) (is_same c d) h in
+    let p = and_parts (is_aggregate c) (is_same c d) h in
     not_void_by (is_pointer d) d.base (subst (λ (x : CType). is_aggregate x ≡ true) (same_types c d p.1) p.0)
 
 moved_is : (t : Table) (p q : core.Place) (c d : CType) → moves_aggregate c d ≡ true → put_to t p c (place q d) ≡ copied t c p q
@@ -50,8 +50,8 @@ moved_is t p q c d h =
     ∙ ap (λ (b : Bool). cond b (copied t c p q) (stored (place p c) (loaded t q d))) h
 
 pub moved_gives : (t : Table) (p q : core.Place) (c d : CType) (l : ℕ) (r : Result What Halt) → moves_aggregate c d ≡ true
-    → Gives shown_what (at l (simply (copied t c p q))) r → Gives shown_what (at l (simply (put_to t p c (place q d)))) r
-moved_gives t p q c d l r h g = same_gives shown_what _ _ r (ap (λ (x : Result core.Simple ℕ). at l (simply x)) (moved_is t p q c d h)) g
+    → Refines what_view (at l (simply (copied t c p q))) r → Refines what_view (at l (simply (put_to t p c (place q d)))) r
+moved_gives t p q c d l r h g = same_gives what_view _ _ r (ap (λ (x : Result core.Simple ℕ). at l (simply x)) (moved_is t p q c d h)) g
 
 stored_is : (t : Table) (p q : core.Place) (c d : CType) (v : Value) → moves_aggregate c d ≡ false → value_of t (place q d) ≡ Ok v
     → put_to t p c (place q d) ≡ stored (place p c) v
@@ -62,13 +62,13 @@ stored_is t p q c d v h k =
 
 pub stored_gives : (t : Table) (p q : core.Place) (c d : CType) (v : Value) (l : ℕ) (r : Result What Halt) → moves_aggregate c d ≡ false
     → at l (value_of t (place q d)) ≡ Ok v
-    → Gives shown_what (at l (simply (stored (place p c) v))) r → Gives shown_what (at l (simply (put_to t p c (place q d)))) r
+    → Refines what_view (at l (simply (stored (place p c) v))) r → Refines what_view (at l (simply (put_to t p c (place q d)))) r
 stored_gives t p q c d v l r h k g =
-    same_gives shown_what _ _ r
+    same_gives what_view _ _ r
     (ap (λ (x : Result core.Simple ℕ). at l (simply x)) (stored_is t p q c d v h (at_ok l (value_of t (place q d)) v k))) g
 
 pub value_gives : (t : Table) (p : core.Place) (c : CType) (v : Value) (l : ℕ) (r : Result What Halt)
-    → Gives shown_what (at l (simply (stored (place p c) v))) r → Gives shown_what (at l (simply (put_to t p c (value v)))) r
+    → Refines what_view (at l (simply (stored (place p c) v))) r → Refines what_view (at l (simply (put_to t p c (value v)))) r
 unfolding value_of put
 value_gives t p c v l r g = g
 
@@ -104,11 +104,25 @@ updated_is t m x y u v w h k =
     ap (λ (r : Result Value ℕ). r >>= (λ v. operated t m u v >>= (λ w. assigned t x (value w)))) h
     ∙ ap (λ (r : Result Value ℕ). r >>= (λ w. assigned t x (value w))) k
 
+halted_by : (t : Table) (x : Operand) (l : ℕ) (r : Result Value ℕ) (e : Halt) → Stops (at l r) e
+    → Stops (at l (simply (r >>= (λ w. assigned t x (value w))))) e
+halted_by t x l r halts.Memory h = tt
+halted_by t x l (Ok w) (halts.Refused k) h = absurd cc
+halted_by t x l (Err j) (halts.Refused k) h = cc
+
+pub updated_halts : (t : Table) (m : ℕ) (x y : Operand) (u v : Value) (l : ℕ) (e : Halt) → at l (value_of t y) ≡ Ok v
+    → Stops (at l (operated t m u v)) e → Stops (at l (simply (updated_with t m x u y))) e
+updated_halts t m x y u v l e h g =
+    same_stops _ _ e
+    (ap (λ (r : Result Value ℕ). at l (simply (r >>= (λ v. operated t m u v >>= (λ w. assigned t x (value w))))))
+    (at_ok l (value_of t y) v h))
+    (halted_by t x l (operated t m u v) e g)
+
 pub updated_gives : (t : Table) (m : ℕ) (x y : Operand) (u v w : Value) (l : ℕ) (r : Result What Halt)
     → at l (value_of t y) ≡ Ok v → at l (operated t m u v) ≡ Ok w
-    → Gives shown_what (at l (simply (assigned t x (value w)))) r
-    → Gives shown_what (at l (simply (updated_with t m x u y))) r
+    → Refines what_view (at l (simply (assigned t x (value w)))) r
+    → Refines what_view (at l (simply (updated_with t m x u y))) r
 updated_gives t m x y u v w l r h k g =
-    same_gives shown_what _ _ r
+    same_gives what_view _ _ r
     (ap (λ (s : Result core.Simple ℕ). at l (simply s))
     (updated_is t m x y u v w (at_ok l (value_of t y) v h) (at_ok l (operated t m u v) w k))) g

@@ -1,3 +1,3 @@
-pub mod Seen
+pub mod View
 pub mod Passing
 pub mod Stores

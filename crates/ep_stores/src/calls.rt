@@ -1,23 +1,24 @@
 //! What calls are passed, and what they do.
 
-ghost use Rattle.std.specs.Prelude.{◌≡◌, ℕ, map, IfOk, List, Option, Result, Some};
+ghost use Rattle.std.specs.Prelude.{◌≡◌, ℕ, ◌+◌, map, min, slice_get, IfOk, List, Option, Result, Some};
 ghost use Rattle.std.specs.Option.{option_map};
 ghost use Rattle.ep_ast.specs.Kind.{number_of};
 ghost use Rattle.ep_ast.specs.declared.refusals.Halt.TheVariants as halts;
 ghost use Rattle.ep_ast.specs.declared.refusals.Refusal.{Refusal};
 ghost use Rattle.ep_core.specs.Program as core;
-ghost use Rattle.ep_core.specs.View.{shown_expr, shown_what, shown_dest};
+ghost use Rattle.ep_core.specs.View.{expr_view, what_view, dest_view};
 ghost use Rattle.ep_typing.specs.Calls as rule;
 ghost use Rattle.ep_typing.specs.Results.{at, lowest};
-ghost use Rattle.ep_operands.specs.Gives.{Gives};
-ghost use Rattle.ep_stores.specs.Passing.{after, lower};
-ghost use Rattle.ep_stores.specs.Seen as seen;
+ghost use Rattle.ep_operands.specs.Refinement.{Refines};
+ghost use Rattle.ep_stores.specs.Passing.{after, lower, passed_to};
+ghost use Rattle.ep_stores.specs.View as view;
 
 use ep_ast::{Halt, RefusalKind};
 use ep_core::tree::{Dest, Expr, What};
 use ep_int::{IntType, Memory};
 use ep_operands::{
-    Value, bare, count_of, fitted, int_type, is_pointer, is_scalar, refused, void_type,
+    Value, bare, count_of, fitted, int_type, is_aggregate, is_pointer, is_scalar, refused,
+    void_type,
 };
 use ep_typing::CType;
 use std::alloc::Global;
@@ -49,7 +50,7 @@ pub enum Called {
 }
 
 fn as_any_pointer(line: u32, v: Value) -> Result<Expr, Halt>
-    ensures { Gives shown_expr (at line (rule.as_any_pointer (seen.value v))) result }
+    ensures { Refines expr_view (at line (rule.as_any_pointer (view.value v))) result }
 {
     if !is_scalar(v.ty) {
         return Err(refused(RefusalKind::TypeMismatch, line));
@@ -64,7 +65,7 @@ fn as_any_pointer(line: u32, v: Value) -> Result<Expr, Halt>
 }
 
 fn as_length(line: u32, v: Value) -> Result<Expr, Halt>
-    ensures { Gives shown_expr (at line (rule.as_length (seen.value v))) result }
+    ensures { Refines expr_view (at line (rule.as_length (view.value v))) result }
 {
     if !is_scalar(v.ty) {
         return Err(refused(RefusalKind::TypeMismatch, line));
@@ -81,12 +82,32 @@ fn as_length(line: u32, v: Value) -> Result<Expr, Halt>
 // A value as what a parameter asks.
 #[tactic(auto, unfolding(ep_typing::specs::Calls::passed))]
 fn passed(alloc: Global, line: u32, parameter: Parameter, v: Value) -> Result<Expr, Halt>
-    ensures { Gives shown_expr (at line (rule.passed (seen.parameter parameter) (seen.value v))) result }
+    ensures { Refines expr_view (at line (rule.passed (view.parameter parameter) (view.value v))) result }
 {
     match parameter {
         Parameter::OfType(c) => fitted(alloc, line, c, v),
         Parameter::AnyPointer => as_any_pointer(line, v),
         Parameter::Length => as_length(line, v),
+    }
+}
+
+// A value that has no parameter.
+fn surplus(line: u32, v: Value) -> Result<Expr, Halt>
+    ensures { Refines expr_view (at line (rule.surplus (view.value v))) result }
+{
+    if is_aggregate(v.ty) {
+        return Err(refused(RefusalKind::TypeMismatch, line));
+    }
+    Err(refused(RefusalKind::Arity, line))
+}
+
+// A value as its parameter asks, where it has one.
+fn passed_to(alloc: Global, line: u32, parameter: Option<Parameter>, v: Value) -> Result<Expr, Halt>
+    ensures { Refines expr_view (at line (passed_to (option_map view.parameter parameter) (view.value v))) result }
+{
+    match parameter {
+        Some(parameter) => passed(alloc, line, parameter, v),
+        None => surplus(line, v),
     }
 }
 
@@ -120,23 +141,39 @@ fn stopped(kind: Option<RefusalKind>, halt: Halt) -> Result<Option<RefusalKind>,
 fn pass(
     alloc: Global,
     line: u32,
-    parameter: Parameter,
+    parameter: Option<Parameter>,
     value: Value,
     arguments: &mut Vec<Expr>,
     kind: Option<RefusalKind>,
 ) -> Result<Option<RefusalKind>, Memory>
     ensures { IfOk result (λ k. (rest : Result (List core.Expr) ℕ)
-        → after (option_map number_of kind) (map shown_expr arguments.old.items)
-        (lowest (rule.passed (seen.parameter parameter) (seen.value value)) rest)
-        ≡ after (option_map number_of k) (map shown_expr arguments.new.items) rest) }
+        → after (option_map number_of kind) (map expr_view arguments.old.items)
+        (lowest (passed_to (option_map view.parameter parameter) (view.value value)) rest)
+        ≡ after (option_map number_of k) (map expr_view arguments.new.items) rest) }
 {
-    match passed(alloc, line, parameter, value) {
+    match passed_to(alloc, line, parameter, value) {
         Ok(argument) => match arguments.push(argument) {
             Ok(()) => Ok(kind),
             Err(_) => Err(Memory),
         },
         Err(halt) => stopped(kind, halt),
     }
+}
+
+fn parameter_at(parameters: &[Parameter], place: usize) -> Option<Parameter>
+    ensures { result ≡ slice_get parameters.now place }
+{
+    match parameters.get(place) {
+        Some(parameter) => Some(*parameter),
+        None => None,
+    }
+}
+
+// The place behind this one, and no place behind the last.
+fn place_after(place: usize, count: usize) -> usize
+    ensures { result ≡ min (place + 1) count }
+{
+    if place < count { place + 1 } else { count }
 }
 
 /// An argument for each parameter, or the lowest kind of all that is wrong.
@@ -146,20 +183,16 @@ pub fn all_passed(
     parameters: &[Parameter],
     values: Vec<Value>,
 ) -> Result<Vec<Expr>, Halt>
-    ensures { Gives (λ v. map shown_expr v.items)
-        (at line (rule.all_passed (map seen.parameter parameters.now) (map seen.value values.items))) result }
+    ensures { Refines (λ v. map expr_view v.items)
+        (at line (rule.all_passed (map view.parameter parameters.now) (map view.value values.items))) result }
 {
     let mut arguments = Vec::new(alloc);
     let mut kind = None;
     let mut place: usize = 0;
     for value in values {
-        match parameters.get(place) {
-            Some(parameter) => {
-                kind = pass(alloc, line, *parameter, value, &mut arguments, kind)?;
-            }
-            None => return Err(refused(lower(kind, RefusalKind::Arity), line)),
-        }
-        place += 1;
+        let parameter = parameter_at(parameters, place);
+        kind = pass(alloc, line, parameter, value, &mut arguments, kind)?;
+        place = place_after(place, parameters.len());
     }
     if place < parameters.len() {
         return Err(refused(lower(kind, RefusalKind::Arity), line));
@@ -172,7 +205,7 @@ pub fn all_passed(
 
 /// The length that a value among these is.
 pub fn length_at(values: &[Value], place: usize) -> u32
-    ensures { result ≡ rule.length_at (map seen.value values.now) place }
+    ensures { result ≡ rule.length_at (map view.value values.now) place }
 {
     match values.get(place) {
         None => 0,
@@ -186,7 +219,7 @@ pub fn length_at(values: &[Value], place: usize) -> u32
 impl Called {
     /// The type of what a call gives; void for an action.
     pub fn result(&self) -> CType
-        ensures { result ≡ rule.result_of (seen.called self.now) }
+        ensures { result ≡ rule.result_of (view.called self.now) }
     {
         match self {
             Called::Function(_, _, c) => *c,
@@ -197,7 +230,7 @@ impl Called {
 
     /// The statement of a call whose result, if it has one, goes there.
     pub fn into_statement(self, dest: Option<Dest>) -> What
-        ensures { shown_what result ≡ rule.called_into (seen.called self) (option_map shown_dest dest) }
+        ensures { what_view result ≡ rule.called_into (view.called self) (option_map dest_view dest) }
     {
         match self {
             Called::Function(n, arguments, _) => What::Call(n, arguments, dest),

@@ -1,16 +1,17 @@
 //! Assignments, and where results go.
 
 ghost use Rattle.std.specs.Prelude.{◌≡◌, ◌||◌};
+ghost use Rattle.ep_ast.specs.Mark.{mark_number};
 ghost use Rattle.ep_core.specs.Program as core;
-ghost use Rattle.ep_core.specs.View.{shown_dest, shown_place, shown_what};
+ghost use Rattle.ep_core.specs.View.{dest_view, place_view, what_view};
 ghost use Rattle.ep_typing.specs.Operand as operands;
 ghost use Rattle.ep_typing.specs.Results.{at};
 ghost use Rattle.ep_typing.specs.Typing as rule;
-ghost use Rattle.ep_operands.specs.Gives.{Gives, Stops};
-ghost use Rattle.ep_operands.specs.Seen as seen;
+ghost use Rattle.ep_operands.specs.Refinement.{Refines, Stops};
+ghost use Rattle.ep_operands.specs.View as view;
 ghost use Rattle.ep_stores.specs.Stores.{put_to, simply, updated_with};
 
-use ep_ast::{Halt, RefusalKind, marks};
+use ep_ast::{Halt, Mark, RefusalKind};
 use ep_core::tree::{Dest, Expr, Place, What};
 use ep_layout::{Ty, Types};
 use ep_operands::{
@@ -24,7 +25,7 @@ use std::alloc::Global;
 // What can be assigned to, but that a value isn't an object yet.
 #[tactic(auto, unfolding(ep_typing::specs::Typing::assignable))]
 fn assignable(line: u32, x: Operand) -> Result<Operand, Halt>
-    ensures { Gives seen.operand (at line (rule.assignable (seen.operand x))) result }
+    ensures { Refines view.operand (at line (rule.assignable (view.operand x))) result }
 {
     match x {
         Operand::Place(place, c) => {
@@ -41,8 +42,8 @@ fn assignable(line: u32, x: Operand) -> Result<Operand, Halt>
 // Why nothing is stored to a value.
 #[tactic(auto, unfolding(ep_typing::specs::Typing::not_stored))]
 fn not_stored(line: u32, u: &Value, v: &Value) -> Halt
-    ensures store { Stops (at line (simply (rule.not_stored (seen.value u.now) (seen.value v.now)))) result }
-    ensures take { Stops (at line (rule.not_stored {A = core.Dest} (seen.value u.now) (seen.value v.now))) result }
+    ensures store { Stops (at line (simply (rule.not_stored (view.value u.now) (view.value v.now)))) result }
+    ensures take { Stops (at line (rule.not_stored {A = core.Dest} (view.value u.now) (view.value v.now))) result }
 {
     if !are_scalars(u.ty, v.ty) {
         return refused(RefusalKind::TypeMismatch, line);
@@ -56,7 +57,7 @@ fn not_stored(line: u32, u: &Value, v: &Value) -> Halt
 // A scalar is stored as of its object's type.
 #[tactic(auto, unfolding(ep_typing::specs::Typing::stored))]
 fn stored(alloc: Global, line: u32, x: Operand, v: Value) -> Result<What, Halt>
-    ensures { Gives shown_what (at line (simply (rule.stored (seen.operand x) (seen.value v)))) result }
+    ensures { Refines what_view (at line (simply (rule.stored (view.operand x) (view.value v)))) result }
 {
     match x {
         Operand::Place(place, c) => {
@@ -71,7 +72,7 @@ fn stored(alloc: Global, line: u32, x: Operand, v: Value) -> Result<What, Halt>
 // A struct or union is copied.
 #[tactic(auto, unfolding(ep_typing::specs::Typing::copied))]
 fn copied(types: &Types, line: u32, c: CType, to: Place, from: Place) -> Result<What, Halt>
-    ensures { Gives shown_what (at line (simply (rule.copied types.now c (shown_place to) (shown_place from)))) result }
+    ensures { Refines what_view (at line (simply (rule.copied types.now c (place_view to) (place_view from)))) result }
 {
     match size_of_type(types, c) {
         Some(_) => {
@@ -97,7 +98,7 @@ fn put_there(
     c: CType,
     y: Operand,
 ) -> Result<What, Halt>
-    ensures { Gives shown_what (at line (simply (put_to types.now (shown_place to) c (seen.operand y)))) result }
+    ensures { Refines what_view (at line (simply (put_to types.now (place_view to) c (view.operand y)))) result }
 {
     match y {
         Operand::Place(from, d) => {
@@ -121,7 +122,7 @@ pub fn assigned(
     x: Operand,
     y: Operand,
 ) -> Result<What, Halt>
-    ensures { Gives shown_what (at line (simply (rule.assigned types.now (seen.operand x) (seen.operand y)))) result }
+    ensures { Refines what_view (at line (simply (rule.assigned types.now (view.operand x) (view.operand y)))) result }
 {
     match assignable(line, x)? {
         Operand::Place(to, c) => put_there(alloc, types, line, to, c, y),
@@ -138,13 +139,14 @@ pub fn updated(
     alloc: Global,
     types: &Types,
     line: u32,
-    mark: u8,
+    mark: Mark,
     x: Operand,
     old: Value,
     y: Operand,
 ) -> Result<What, Halt>
-    ensures { Gives shown_what (at line
-        (simply (updated_with types.now mark (seen.operand x) (seen.value old) (seen.operand y)))) result }
+    ensures { Refines what_view (at line
+        (simply (updated_with types.now (mark_number mark) (view.operand x) (view.value old)
+        (view.operand y)))) result }
 {
     let v = value_of(alloc, types, line, y)?;
     let w = operated(alloc, types, line, mark, old, v)?;
@@ -154,7 +156,7 @@ pub fn updated(
 /// What takes a result of a type.
 #[tactic(auto, unfolding(ep_typing::specs::Typing::taken))]
 pub fn taken(alloc: Global, line: u32, x: Operand, result_type: CType) -> Result<Dest, Halt>
-    ensures { Gives shown_dest (at line (rule.taken (seen.operand x) result_type)) result }
+    ensures { Refines dest_view (at line (rule.taken (view.operand x) result_type)) result }
 {
     match x {
         Operand::Place(place, c) => {
@@ -171,19 +173,19 @@ pub fn taken(alloc: Global, line: u32, x: Operand, result_type: CType) -> Result
 }
 
 /// What a compound assignment computes, by its mark.
-pub fn operator_of(mark: u8) -> u8
-    ensures { result ≡ rule.operator_of mark }
+pub fn operator_of(mark: Mark) -> Mark
+    ensures { mark_number result ≡ rule.operator_of (mark_number mark) }
 {
     match mark {
-        marks::PLUS_EQUAL => marks::PLUS,
-        marks::MINUS_EQUAL => marks::MINUS,
-        marks::STAR_EQUAL => marks::STAR,
-        marks::SLASH_EQUAL => marks::SLASH,
-        marks::PERCENT_EQUAL => marks::PERCENT,
-        marks::AMPERSAND_EQUAL => marks::AMPERSAND,
-        marks::BAR_EQUAL => marks::BAR,
-        marks::CARET_EQUAL => marks::CARET,
-        marks::LEFT_SHIFT_EQUAL => marks::LEFT_SHIFT,
-        _ => marks::RIGHT_SHIFT,
+        Mark::PlusEqual => Mark::Plus,
+        Mark::MinusEqual => Mark::Minus,
+        Mark::StarEqual => Mark::Star,
+        Mark::SlashEqual => Mark::Slash,
+        Mark::PercentEqual => Mark::Percent,
+        Mark::AmpersandEqual => Mark::Ampersand,
+        Mark::BarEqual => Mark::Bar,
+        Mark::CaretEqual => Mark::Caret,
+        Mark::LeftShiftEqual => Mark::LeftShift,
+        _ => Mark::RightShift,
     }
 }

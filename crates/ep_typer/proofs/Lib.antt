@@ -1,1 +1,5 @@
+pub mod Moving
+pub mod TextItems
+pub mod Small
+pub mod Elaborating
 mod Relations

@@ -9,11 +9,11 @@ use Rattle.ep_ast.specs.Statement.{Item}
 use Rattle.ep_core.specs.Program.{Program}
 use Rattle.ep_core.specs.WellFormed.{is_well_formed}
 use Rattle.ep_elaboration.specs.Programs.{elaborated}
-use Rattle.ep_elaboration_laws.specs.ProgramRules.{MeansProgram, ProgramOffends}
-use Rattle.ep_elaboration_laws.proofs.ProgramOrder.{means_elaborated, refused_elaborated}
-use Rattle.ep_elaboration_laws.proofs.Meanings.{one_meaning, not_both}
-use Rattle.ep_operands.specs.Gives.{Stops}
-use Rattle.ep_program_laws.proofs.Whole.{programs_fit}
+use Rattle.ep_elaboration.specs.ProgramRules.{MeansProgram, ProgramOffends}
+use Rattle.ep_elaboration.proofs.ProgramOrder.{means_elaborated, refused_elaborated}
+use Rattle.ep_elaboration.proofs.Meanings.{one_meaning, not_both}
+use Rattle.ep_operands.specs.Refinement.{Stops}
+use Rattle.ep_well_formed_laws.proofs.Whole.{programs_fit}
 
 pub meant : (m : Model) (is : List Item) (p : Program) → elaborated m is ≡ Ok p → MeansProgram m is p
 meant m is p e = means_elaborated m is p e

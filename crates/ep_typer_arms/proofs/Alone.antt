@@ -1,47 +1,23 @@
 -- Heads where they stand by themselves.
-use Rattle.std.proofs.Common.{◌≡◌, ℕ, Bool, true, false, cond, List, length, Option, Some, None, Result, Ok, Err}
+use Rattle.std.proofs.Common.{◌≡◌, ℕ, true, List, length, Result, Ok, Err}
+use Rattle.ep_typer_functions.proofs.Outside.{declared_types}
 use Rattle.std.proofs.Common.{refl, sym, ap, ◌∙◌, subst}
 use Rattle.ep_ast.specs.declared.refusals.Refusal.{Refusal}
 use Rattle.ep_ast.specs.declared.refusals.Halt.{Halt}
 use Rattle.ep_ast.specs.declared.refusals.Halt.TheVariants as halts
 use Rattle.ep_ast.specs.Declaration.{Head}
 use Rattle.ep_layout.specs.Table.{Table}
-use Rattle.ep_typing.specs.Env.{Env, Meaning, Signature, entry}
+use Rattle.ep_typing.specs.Env.{Env}
 use Rattle.ep_typing.specs.Results.{◌>>=◌, at}
-use Rattle.ep_operands.specs.Gives.{Stops}
+use Rattle.ep_operands.specs.Refinement.{Stops}
 use Rattle.ep_elaboration.specs.Declarators.{with_types}
-use Rattle.ep_elaboration.specs.Functions.{Headed, are_alike, are_typed_alike, file_names, fits_main}
-use Rattle.ep_elaboration.specs.Functions.{function_declared, headed, is_alike, named_function, number_of_function}
-use Rattle.ep_elaboration.specs.Functions.{numbered_function, signature_of, stands_against, stands_alone}
+use Rattle.ep_elaboration.specs.Functions.{Headed, are_alike, are_typed_alike}
+use Rattle.ep_elaboration.specs.Functions.{function_declared, headed, is_alike}
+use Rattle.ep_elaboration.specs.Functions.{signature_of, stands_alone}
 use Rattle.ep_elaboration.specs.Statements.{left}
-use Rattle.ep_typing_laws.proofs.Order.{at_ok}
+use Rattle.ep_typing.proofs.Order.{at_ok}
 
 -- ---- a function that is declared brings no types
-
-numbered_types : (G : Env) (s : Signature) (o : Option ℕ) → (numbered_function G s o).1.types ≡ G.types
-numbered_types G s (Some n) = refl
-numbered_types G s None = refl
-
-named_types : (s : Signature) (o : Option Meaning) (r : ℕ × Env) → (named_function s o r).1.types ≡ r.1.types
-named_types s (Some m) r = refl
-named_types s None r = refl
-
-declared_by : (a b : Bool) (x p : ℕ × Env)
-    → ◌≡◌ {A = Result (ℕ × Env) ℕ} (cond a (Err 31) (cond b (Ok x) (Err 32))) (Ok p) → x ≡ p
-declared_by true b x p e = absurd cc
-declared_by false true x p e = let same : x ≡ p = cc in same
-declared_by false false x p e = absurd cc
-
-declared_types : (G : Env) (ds : List ℕ) (b : Bool) (s : Signature) (p : ℕ × Env) → function_declared G ds b s ≡ Ok p
-    → p.1.types ≡ G.types
-unfolding function_declared
-declared_types G ds b s p e =
-    let m : Option Meaning = entry s.name (file_names G) in
-    let r : ℕ × Env = numbered_function G s (number_of_function G.functions s.name) in
-    let same : named_function s m r ≡ p =
-    declared_by (stands_against G ds b s m) (fits_main s) (named_function s m r) p e in
-    sym (ap (λ (q : ℕ × Env). q.1.types) same) ∙ named_types s m r
-    ∙ numbered_types G s (number_of_function G.functions s.name)
 
 -- ---- a head from its parts
 

@@ -1,5 +1,6 @@
 -- The functions of an arm one after another.
 use Rattle.std.proofs.Common.{◌≡◌, ℕ, zero, suc, ◌+◌, ◌<◌, ◌≤◌, nat_eq, Bool, false, ◌||◌, List, [], ◌∷◌, ◌++◌, map}
+use Rattle.ep_int.proofs.Basics.{drop-here}
 use Rattle.std.proofs.Common.{length, drop, get_or, slice_get, Some, None, Result, Ok, Err, refl, sym, ap, ◌∙◌}
 use Rattle.std.proofs.Common.{append_assoc, arith}
 use Rattle.std.proofs.lemmas.List.{append-nil, drop_all, map-append}
@@ -10,17 +11,16 @@ use Rattle.ep_ast.specs.declared.statements.FunctionTree.{FunctionTree}
 use Rattle.ep_ast.specs.Statement.{function_of}
 use Rattle.ep_typing.specs.Env.{Env}
 use Rattle.ep_typing.specs.Results.{◌>>=◌}
-use Rattle.ep_operands.specs.Gives.{Stops}
+use Rattle.ep_operands.specs.Refinement.{Stops}
 use Rattle.ep_elaboration.specs.Functions as rule
 use Rattle.ep_elaboration.specs.Functions.{first_block, function_defined, function_typed, functions_defined}
 use Rattle.ep_elaboration.specs.Functions.{others_typed, rest_of}
 use Rattle.ep_defined.specs.declared.sofar.Defined.{Defined}
-use Rattle.ep_defined.specs.Seen.{defined}
+use Rattle.ep_defined.specs.View.{defined}
 use Rattle.ep_typer_functions.specs.declared.done.Done.{Done}
-use Rattle.ep_typer_functions.specs.Seen.{AreDone, has_body}
-use Rattle.ep_typer_bodies.specs.declared.functions.Body.{Body}
-use Rattle.ep_typer_bodies.specs.Seen.{body}
-use Rattle.ep_typer_arms.proofs.Pairs.{front}
+use Rattle.ep_typer_functions.specs.View.{AreDone, has_body}
+use Rattle.ep_typer_functions.specs.declared.functions.Body.{Body}
+use Rattle.ep_typer_functions.specs.BodyView.{body}
 
 -- what comes first is put before the rest
 abbrev pub ahead : {Y : Type 0} → List Y → Result (List Y × Env) Refusal → Result (List Y × Env) Refusal
@@ -108,7 +108,7 @@ module _ (G : Env) (d : Done) (i : ℕ) (ts : List FunctionTree) (t : FunctionTr
   unrolled : ahead (map defined done) (function_defined G h.0 (function_of t)
       >>= (λ (r : rule.Defined × Env). more r >>= (λ (q : List rule.Defined × Env). Ok (r.0 ∷ q.0, q.1)))) ≡ all
   unrolled =
-      sym (ap (ahead (map defined done)) (ap (firsts G h.0) (front i ts t t lt is) ∙ more_firsts G h.0 t (drop (i + 1) ts)))
+      sym (ap (ahead (map defined done)) (ap (firsts G h.0) (drop-here i ts t t lt is) ∙ more_firsts G h.0 t (drop (i + 1) ts)))
       ∙ h.2
 
   pub firsts_stop : (e : Halt) → ((ds : List ℕ) → AreDone d ds → Stops (function_defined G ds (function_of t)) e)
@@ -205,7 +205,7 @@ module _ (G : Env) (d : Done) (i : ℕ) (xs : List Defined) (ts : List FunctionT
     unrolled_step =
         ap (λ (n : ℕ). step n (λ r. map defined (drop (i + 1) xs))) first
         ∙ sym (ap (λ (ys : List rule.Defined). step (first_block (map defined (drop i xs))) (λ r. ys)) (rest_is i xs))
-        ∙ sym (ap (ahead (map body done)) (ap (others G h.0 (drop i xs)) (front i ts t t lt is)
+        ∙ sym (ap (ahead (map body done)) (ap (others G h.0 (drop i xs)) (drop-here i ts t t lt is)
         ∙ more_others G h.0 (map defined (drop i xs)) t (drop (i + 1) ts)))
         ∙ h.2
 

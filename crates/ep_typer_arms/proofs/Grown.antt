@@ -1,29 +1,29 @@
 -- Names go on to have their types while a text's types grow.
 use Rattle.std.proofs.Common.{◌≡◌, ℕ, true, List, [], ◌∷◌, length, Ok, subst}
+use Rattle.ep_layout.proofs.Basics.{grows-trans}
 use Rattle.ep_ast.specs.Declaration.{Head}
 use Rattle.ep_ast.specs.Statement.{Function}
 use Rattle.ep_layout.specs.Table.{Grows, Table}
 use Rattle.ep_layout.proofs.Recursion.{kept_by_itself}
 use Rattle.ep_typing.specs.Env.{Env}
 use Rattle.ep_typing.specs.Results.{at}
-use Rattle.ep_typing_laws.proofs.Order.{bind_ok, ok_is}
+use Rattle.ep_typing.proofs.Order.{bind_ok, ok_is}
 use Rattle.ep_elaboration.specs.Declarators.{with_types}
 use Rattle.ep_elaboration.specs.Functions.{Defined, Headed, function_declared, functions_defined, headed}
 use Rattle.ep_elaboration.specs.Functions.{signature_of, stands_alone}
 use Rattle.ep_elaboration.specs.Statements.{left}
-use Rattle.ep_elaboration_laws.specs.FunctionRules.{MeansDefinitions, more_definitions, no_definitions}
-use Rattle.ep_elaboration_laws.proofs.FunctionOrder.{means_functions_defined, means_headed}
-use Rattle.ep_elaboration_laws.proofs.ProgramOrder.{means_items}
+use Rattle.ep_elaboration.specs.FunctionRules.{MeansDefinitions, more_definitions, no_definitions}
+use Rattle.ep_elaboration.proofs.FunctionOrder.{means_functions_defined, means_headed}
+use Rattle.ep_elaboration.proofs.ProgramOrder.{means_items}
 use Rattle.ep_elaboration.specs.Programs.{begun}
-use Rattle.ep_well_formed_laws.proofs.Additions.{grows_on}
 use Rattle.ep_well_formed_laws.proofs.Heads.{head_comes}
 use Rattle.ep_well_formed_laws.proofs.Mentions.{more_aggregates, more_types}
-use Rattle.ep_program_laws.proofs.Definitions.{definition_walks}
-use Rattle.ep_program_laws.proofs.FunctionParts.{AtFile}
-use Rattle.ep_program_laws.proofs.Items.{text_holds}
+use Rattle.ep_well_formed_laws.proofs.ProgramDefinitions.{definition_walks}
+use Rattle.ep_well_formed_laws.proofs.FunctionParts.{AtFile}
+use Rattle.ep_well_formed_laws.proofs.Items.{text_holds}
 use Rattle.ep_scopes.specs.Known.{IsKnownEnv}
 use Rattle.ep_scopes.proofs.KnownLemmas.{scopes_stay}
-use Rattle.ep_typer_arms.specs.Behind.{IsFileEnv}
+use Rattle.ep_typer_arms.specs.FileEnvironments.{IsFileEnv}
 
 at_file : (G : Env) → IsFileEnv G → AtFile G
 at_file G f =
@@ -52,7 +52,7 @@ definitions_grow : (G : Env) (ds : List ℕ) (fs : List Function) (x : List Defi
 definitions_grow G ds [] x h no_definitions = kept_by_itself G.types
 definitions_grow G ds (f ∷ fs) x h (more_definitions d y m k) =
     let w = definition_walks G ds 0 f d h m in
-    grows_on G.types d.1.types y.1.types w.grows (definitions_grow d.1 (d.0.number ∷ ds) fs y w.file k)
+    grows-trans G.types d.1.types y.1.types w.grows (definitions_grow d.1 (d.0.number ∷ ds) fs y w.file k)
 
 pub arm_known : (G H : Env) (ds : List ℕ) (fs : List Function) (xs : List Defined) → IsFileEnv G → IsKnownEnv G
     → functions_defined G ds fs ≡ Ok (xs, H) → IsKnownEnv (record H { scopes = G.scopes })

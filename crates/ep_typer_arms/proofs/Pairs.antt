@@ -1,16 +1,8 @@
 -- Two lists that are walked together, tested pair by pair.
 use Rattle.std.proofs.Common.{◌≡◌, ℕ, suc, ◌+◌, ◌<◌, ◌≤◌, Bool, true, false, ◌&&◌, List, [], ◌∷◌, length, drop}
-use Rattle.std.proofs.Common.{get_or, refl, sym, ap, ◌∙◌, drop-cons, arith}
+use Rattle.ep_int.proofs.Basics.{drop-here, and-false}
+use Rattle.std.proofs.Common.{get_or, refl, sym, ap, ◌∙◌}
 use Rattle.std.proofs.lemmas.List.{drop_all}
-
-pub front : {X : Type 0} (i : ℕ) (xs : List X) (x d : X) → i < length xs → x ≡ get_or xs i d → drop i xs ≡ x ∷ drop (i + 1) xs
-front {X = X} i xs x d lt e =
-    let more : suc i ≡ i + 1 = omega arith in
-    drop-cons xs i d lt ∙ ap (λ (y : X). y ∷ drop (suc i) xs) (sym e) ∙ ap (λ (n : ℕ). x ∷ drop n xs) more
-
-and_false : (b : Bool) → (b && false) ≡ false
-and_false true = refl
-and_false false = refl
 
 module _ {X : Type 0} (both : X → X → Bool) (all : List X → List X → Bool)
     (cons : (x y : X) (xs ys : List X) → all (x ∷ xs) (y ∷ ys) ≡ (both x y && all xs ys)) where
@@ -19,8 +11,8 @@ module _ {X : Type 0} (both : X → X → Bool) (all : List X → List X → Boo
       (is : x ≡ get_or xs i x) (other : y ≡ get_or ys i d) (h : all (drop i xs) (drop i ys) ≡ r) where
     unrolled : (both x y && all (drop (i + 1) xs) (drop (i + 1) ys)) ≡ r
     unrolled =
-        sym (ap (λ (us : List X). all us (drop i ys)) (front i xs x x in_first is)
-        ∙ ap (all (x ∷ drop (i + 1) xs)) (front i ys y d in_second other)
+        sym (ap (λ (us : List X). all us (drop i ys)) (drop-here i xs x x in_first is)
+        ∙ ap (all (x ∷ drop (i + 1) xs)) (drop-here i ys y d in_second other)
         ∙ cons x y (drop (i + 1) xs) (drop (i + 1) ys))
         ∙ h
 
@@ -42,4 +34,4 @@ module _ {X : Type 0} (both : X → X → Bool) (all : List X → List X → Boo
   of_other_length left right (x ∷ xs) [] n = sym (right x xs)
   of_other_length left right (x ∷ xs) (y ∷ ys) n =
       let rest : false ≡ all xs ys = of_other_length left right xs ys (λ e. n (ap suc e)) in
-      sym (cons x y xs ys ∙ ap (λ (b : Bool). both x y && b) (sym rest) ∙ and_false (both x y))
+      sym (cons x y xs ys ∙ ap (λ (b : Bool). both x y && b) (sym rest) ∙ and-false (both x y))

@@ -7,10 +7,10 @@ use Rattle.ep_ast.specs.declared.refusals.Halt.TheVariants as halts
 use Rattle.ep_ast.specs.Statement.{Function}
 use Rattle.ep_typing.specs.Env.{Env}
 use Rattle.ep_typing.specs.Results.{◌>>=◌, at}
-use Rattle.ep_operands.specs.Gives.{Stops}
+use Rattle.ep_operands.specs.Refinement.{Stops}
 use Rattle.ep_elaboration.specs.Functions.{Body, Defined, agreeing, all_joined, arms_agree, arms_defined}
 use Rattle.ep_elaboration.specs.Functions.{functions_defined, others_typed}
-use Rattle.ep_typer_arms.specs.Behind.{first_arm}
+use Rattle.ep_typer_arms.specs.FileEnvironments.{first_arm}
 
 module _ (G : Env) (ds : List ℕ) (l : ℕ) (o : NamedOrder) (fs gs : List Function) where
   abbrev Out : Type 0

@@ -4,28 +4,27 @@ ghost use Rattle.std.specs.Prelude.{◌≡◌, ◌&&◌, ℕ, List, map, IfOk};
 ghost use Rattle.ep_ast.specs.Declaration.{Head, head_of};
 ghost use Rattle.ep_ast.specs.Statement.{function_of};
 ghost use Rattle.ep_typing.specs.Env.{Env as Around};
-ghost use Rattle.ep_declared.specs.Gives.{GivesIn};
+ghost use Rattle.ep_declared.specs.Refinement.{RefinesIn};
 ghost use Rattle.ep_elaboration.specs.Declarators.{with_types};
 ghost use Rattle.ep_elaboration.specs.Functions as rule;
 ghost use Rattle.ep_scopes.specs.Known.{IsKnownEnv};
-ghost use Rattle.ep_scopes.specs.Seen.{env as around};
-ghost use Rattle.ep_typer_arms.specs.Behind.{IsFileEnv};
-ghost use Rattle.ep_typer_functions.specs.Seen.{AreDone, headed as seen_headed};
+ghost use Rattle.ep_scopes.specs.View.{env as env_view};
+ghost use Rattle.ep_typer_arms.specs.FileEnvironments.{IsFileEnv};
+ghost use Rattle.ep_typer_functions.specs.View.{AreDone, headed as headed_view};
 
 use crate::heads::are_named_alike;
 use ep_ast::{FunctionTree, Halt, HeadTree};
 use ep_int::Memory;
 use ep_layout::Types;
 use ep_scopes::{Env, FunctionType};
-use ep_typer_bodies::next_block;
-use ep_typer_functions::{Done, function_declared, headed, is_same_signature};
+use ep_typer_functions::{Done, function_declared, headed, is_same_signature, next_block};
 
 // The type of a function by its head alone. Of what this leaves in the environment only the types are of use.
 fn stands_alone(env: &mut Env, done: &Done, head: &HeadTree) -> Result<FunctionType, Halt>
-    requires { IsKnownEnv (around env.old) }
+    requires { IsKnownEnv (env_view env.old) }
     ensures { (ds : List ℕ) → AreDone done.now ds
-        → GivesIn seen_headed (rule.stands_alone (around env.old) ds (head_of head.now))
-        (with_types (around env.old) (around env.new).types) result }
+        → RefinesIn headed_view (rule.stands_alone (env_view env.old) ds (head_of head.now))
+        (with_types (env_view env.old) (env_view env.new).types) result }
 {
     let block = next_block(env)?;
     let ty = headed(env, block, head)?;
@@ -36,7 +35,7 @@ fn stands_alone(env: &mut Env, done: &Done, head: &HeadTree) -> Result<FunctionT
 
 // The same environment over other types.
 fn over_types(env: &Env, types: Types) -> Result<Env, Memory>
-    ensures { IfOk result (λ e. around e ≡ with_types (around env.now) types) }
+    ensures { IfOk result (λ e. env_view e ≡ with_types (env_view env.now) types) }
 {
     let mut copy = env.copy()?;
     copy.types = types;
@@ -50,10 +49,10 @@ fn is_alike(
     ty: &FunctionType,
     second: &HeadTree,
 ) -> Result<bool, Memory>
-    requires { IsKnownEnv (around env.old) }
+    requires { IsKnownEnv (env_view env.old) }
     ensures { (ds : List ℕ) → AreDone done.now ds → (h : Head) → (G : Around)
-        → IfOk result (λ b. b ≡ rule.is_alike h (seen_headed ty.now, G) (head_of second.now)
-        (rule.stands_alone (around env.old) ds (head_of second.now))) }
+        → IfOk result (λ b. b ≡ rule.is_alike h (headed_view ty.now, G) (head_of second.now)
+        (rule.stands_alone (env_view env.old) ds (head_of second.now))) }
 {
     match stands_alone(env, done, second) {
         Ok(other) => Ok(is_same_signature(ty, &other)),
@@ -66,10 +65,10 @@ fn is_alike(
 
 // Whether two heads are of one type, where neither is refused.
 fn are_alike(env: &Env, done: &Done, first: &HeadTree, second: &HeadTree) -> Result<bool, Memory>
-    requires known { IsKnownEnv (around env.now) }
-    requires file { IsFileEnv (around env.now) }
+    requires known { IsKnownEnv (env_view env.now) }
+    requires file { IsFileEnv (env_view env.now) }
     ensures { (ds : List ℕ) → AreDone done.now ds
-        → IfOk result (λ b. b ≡ rule.are_alike (around env.now) ds (head_of first.now) (head_of second.now)) }
+        → IfOk result (λ b. b ≡ rule.are_alike (env_view env.now) ds (head_of first.now) (head_of second.now)) }
 {
     let mut tried = env.copy()?;
     match stands_alone(&mut tried, done, first) {
@@ -85,11 +84,11 @@ fn are_alike(env: &Env, done: &Done, first: &HeadTree, second: &HeadTree) -> Res
 }
 
 fn heads_agree(env: &Env, done: &Done, first: &HeadTree, second: &HeadTree) -> Result<bool, Memory>
-    requires known { IsKnownEnv (around env.now) }
-    requires file { IsFileEnv (around env.now) }
+    requires known { IsKnownEnv (env_view env.now) }
+    requires file { IsFileEnv (env_view env.now) }
     ensures { (ds : List ℕ) → AreDone done.now ds
         → IfOk result (λ b. b ≡ (rule.are_named_alike (head_of first.now) (head_of second.now)
-        && rule.are_alike (around env.now) ds (head_of first.now) (head_of second.now))) }
+        && rule.are_alike (env_view env.now) ds (head_of first.now) (head_of second.now))) }
 {
     if !are_named_alike(first, second) {
         return Ok(false);
@@ -104,10 +103,10 @@ pub(crate) fn arms_agree(
     first: &[FunctionTree],
     second: &[FunctionTree],
 ) -> Result<bool, Memory>
-    requires known { IsKnownEnv (around env.now) }
-    requires file { IsFileEnv (around env.now) }
+    requires known { IsKnownEnv (env_view env.now) }
+    requires file { IsFileEnv (env_view env.now) }
     ensures { (ds : List ℕ) → AreDone done.now ds → IfOk result (λ b. b
-        ≡ rule.arms_agree (around env.now) ds (map function_of first.now) (map function_of second.now)) }
+        ≡ rule.arms_agree (env_view env.now) ds (map function_of first.now) (map function_of second.now)) }
 {
     if first.len() != second.len() {
         return Ok(false);

@@ -2,14 +2,14 @@
 
 ghost use Rattle.std.specs.Prelude.{◌≡◌, ℕ, List, drop, map, OnOk};
 ghost use Rattle.ep_ast.specs.Statement.{function_of};
-ghost use Rattle.ep_declared.specs.Gives.{GivesIn};
-ghost use Rattle.ep_defined.specs.Seen.{defined as seen_defined};
+ghost use Rattle.ep_declared.specs.Refinement.{RefinesIn};
+ghost use Rattle.ep_defined.specs.View.{defined as defined_view};
 ghost use Rattle.ep_elaboration.specs.Functions as rule;
 ghost use Rattle.ep_scopes.specs.Known.{IsKnownEnv};
-ghost use Rattle.ep_scopes.specs.Seen.{env as around};
-ghost use Rattle.ep_typer_arms.specs.Behind.{IsFileEnv, first_arm};
-ghost use Rattle.ep_typer_bodies.specs.Seen as bodies;
-ghost use Rattle.ep_typer_functions.specs.Seen.{AreDone};
+ghost use Rattle.ep_scopes.specs.View.{env as env_view};
+ghost use Rattle.ep_typer_arms.specs.FileEnvironments.{IsFileEnv, first_arm};
+ghost use Rattle.ep_typer_functions.specs.BodyView as bodies;
+ghost use Rattle.ep_typer_functions.specs.View.{AreDone};
 
 use crate::alike::arms_agree;
 use crate::joining::all_joined;
@@ -17,8 +17,7 @@ use ep_ast::{FunctionTree, Halt, NamedOrder, RefusalKind};
 use ep_defined::Defined;
 use ep_operands::refused;
 use ep_scopes::Env;
-use ep_typer_bodies::{Body, function_defined, function_typed};
-use ep_typer_functions::Done;
+use ep_typer_functions::{Body, Done, function_defined, function_typed};
 
 // The functions of the first arm.
 fn functions_defined(
@@ -26,10 +25,10 @@ fn functions_defined(
     done: &Done,
     list: &[FunctionTree],
 ) -> Result<Vec<Defined>, Halt>
-    requires { IsKnownEnv (around env.old) }
-    ensures means { (ds : List ℕ) → AreDone done.now ds → GivesIn (λ v. map seen_defined v.items)
-        (rule.functions_defined (around env.old) ds (map function_of list.now)) (around env.new) result }
-    ensures known { OnOk result (IsKnownEnv (around env.new)) }
+    requires { IsKnownEnv (env_view env.old) }
+    ensures means { (ds : List ℕ) → AreDone done.now ds → RefinesIn (λ v. map defined_view v.items)
+        (rule.functions_defined (env_view env.old) ds (map function_of list.now)) (env_view env.new) result }
+    ensures known { OnOk result (IsKnownEnv (env_view env.new)) }
 {
     let mut marked = done.copy(env.alloc)?;
     let mut all = Vec::new(env.alloc);
@@ -43,11 +42,11 @@ fn functions_defined(
 
 // The same with the scopes that were there before.
 fn first_defined(env: &mut Env, done: &Done, list: &[FunctionTree]) -> Result<Vec<Defined>, Halt>
-    requires known { IsKnownEnv (around env.old) }
-    requires file { IsFileEnv (around env.old) }
-    ensures means { (ds : List ℕ) → AreDone done.now ds → GivesIn (λ v. map seen_defined v.items)
-        (first_arm (around env.old) ds (map function_of list.now)) (around env.new) result }
-    ensures known { OnOk result (IsKnownEnv (around env.new)) }
+    requires known { IsKnownEnv (env_view env.old) }
+    requires file { IsFileEnv (env_view env.old) }
+    ensures means { (ds : List ℕ) → AreDone done.now ds → RefinesIn (λ v. map defined_view v.items)
+        (first_arm (env_view env.old) ds (map function_of list.now)) (env_view env.new) result }
+    ensures known { OnOk result (IsKnownEnv (env_view env.new)) }
 {
     let before = env.scopes.copy()?;
     let all = functions_defined(env, done, list)?;
@@ -57,7 +56,7 @@ fn first_defined(env: &mut Env, done: &Done, list: &[FunctionTree]) -> Result<Ve
 
 // The first block of a function of the first arm, or 0 where there is none.
 fn first_block(defined: &[Defined], place: usize) -> u32
-    ensures { result ≡ rule.first_block (map seen_defined (drop place defined.now)) }
+    ensures { result ≡ rule.first_block (map defined_view (drop place defined.now)) }
 {
     match defined.get(place) {
         Some(one) => one.first,
@@ -72,11 +71,11 @@ fn others_typed(
     defined: &[Defined],
     list: &[FunctionTree],
 ) -> Result<Vec<Body>, Halt>
-    requires { IsKnownEnv (around env.old) }
-    ensures means { (ds : List ℕ) → AreDone done.now ds → GivesIn (λ v. map bodies.body v.items)
-        (rule.others_typed (around env.old) ds (map seen_defined defined.now) (map function_of list.now))
-        (around env.new) result }
-    ensures known { OnOk result (IsKnownEnv (around env.new)) }
+    requires { IsKnownEnv (env_view env.old) }
+    ensures means { (ds : List ℕ) → AreDone done.now ds → RefinesIn (λ v. map bodies.body v.items)
+        (rule.others_typed (env_view env.old) ds (map defined_view defined.now) (map function_of list.now))
+        (env_view env.new) result }
+    ensures known { OnOk result (IsKnownEnv (env_view env.new)) }
 {
     let mut marked = done.copy(env.alloc)?;
     let mut all = Vec::new(env.alloc);
@@ -98,12 +97,12 @@ pub fn arms_defined(
     first: &[FunctionTree],
     second: &[FunctionTree],
 ) -> Result<Vec<Defined>, Halt>
-    requires known { IsKnownEnv (around env.old) }
-    requires file { IsFileEnv (around env.old) }
+    requires known { IsKnownEnv (env_view env.old) }
+    requires file { IsFileEnv (env_view env.old) }
     ensures means { (ds : List ℕ) → AreDone done.now ds
-        → GivesIn (λ v. map seen_defined v.items) (rule.arms_defined (around env.old) ds line order
-        (map function_of first.now) (map function_of second.now)) (around env.new) result }
-    ensures known { OnOk result (IsKnownEnv (around env.new)) }
+        → RefinesIn (λ v. map defined_view v.items) (rule.arms_defined (env_view env.old) ds line order
+        (map function_of first.now) (map function_of second.now)) (env_view env.new) result }
+    ensures known { OnOk result (IsKnownEnv (env_view env.new)) }
 {
     let agree = arms_agree(env, done, first, second)?;
     if !agree {

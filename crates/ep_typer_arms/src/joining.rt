@@ -3,35 +3,35 @@
 ghost use Rattle.std.specs.Prelude.{◌≡◌, map, IfOk};
 ghost use Rattle.ep_ast.specs.Statement.{function_of};
 ghost use Rattle.ep_core.specs.Program as core;
-ghost use Rattle.ep_core.specs.View.{shown_stmts, shown_what};
-ghost use Rattle.ep_defined.specs.Seen.{defined as seen_defined};
+ghost use Rattle.ep_core.specs.View.{stmts_view, what_view};
+ghost use Rattle.ep_defined.specs.View.{defined as defined_view};
 ghost use Rattle.ep_elaboration.specs.Functions as rule;
 ghost use Rattle.ep_elaboration.specs.Statements as statements;
-ghost use Rattle.ep_typer_bodies.specs.Seen as seen;
+ghost use Rattle.ep_typer_functions.specs.BodyView as view;
 
 use ep_ast::{FunctionTree, NamedOrder};
 use ep_core::program::Function;
 use ep_core::tree::{Stmt, What};
 use ep_defined::Defined;
-use ep_typer_bodies::Body;
+use ep_typer_functions::Body;
 use ep_typer_lines::order_of;
 use std::alloc::{AllocError, Global};
 
 fn by_order(order: NamedOrder, then: Vec<Stmt>, otherwise: Vec<Stmt>) -> What
-    ensures { shown_what result
-        ≡ core.by_order (statements.order_of order) (shown_stmts then.items) (shown_stmts otherwise.items) }
+    ensures { what_view result
+        ≡ core.by_order (statements.order_of order) (stmts_view then.items) (stmts_view otherwise.items) }
 {
     What::ByOrder(order_of(order), then, otherwise)
 }
 
 fn scope(blocks: Vec<u32>, body: Vec<Stmt>) -> What
-    ensures { shown_what result ≡ core.scope blocks.items (shown_stmts body.items) }
+    ensures { what_view result ≡ core.scope blocks.items (stmts_view body.items) }
 {
     What::Scope(blocks, body)
 }
 
 fn one_line(alloc: Global, line: u32, what: What) -> Result<Vec<Stmt>, AllocError>
-    ensures { IfOk result (λ v. shown_stmts v.items ≡ core.more line (shown_what what) core.stop) }
+    ensures { IfOk result (λ v. stmts_view v.items ≡ core.more line (what_view what) core.stop) }
 {
     let mut lines = Vec::with_capacity(alloc, 1)?;
     lines.push(Stmt { line, what })?;
@@ -45,7 +45,7 @@ fn scoped(
     locals: Vec<u32>,
     body: Vec<Stmt>,
 ) -> Result<Vec<Stmt>, AllocError>
-    ensures { IfOk result (λ v. shown_stmts v.items ≡ rule.scoped line locals.items (shown_stmts body.items)) }
+    ensures { IfOk result (λ v. stmts_view v.items ≡ rule.scoped line locals.items (stmts_view body.items)) }
 {
     one_line(alloc, line, scope(locals, body))
 }
@@ -59,8 +59,8 @@ fn joined(
     one: Defined,
     other: Body,
 ) -> Result<Defined, AllocError>
-    ensures { IfOk result (λ d. seen_defined d
-        ≡ rule.joined line order begins (seen_defined one) (seen.body other)) }
+    ensures { IfOk result (λ d. defined_view d
+        ≡ rule.joined line order begins (defined_view one) (view.body other)) }
 {
     let function = one.function;
     let then = scoped(alloc, begins, function.locals, function.body)?;
@@ -89,8 +89,8 @@ pub(crate) fn all_joined(
     defined: Vec<Defined>,
     bodies: Vec<Body>,
 ) -> Result<Vec<Defined>, AllocError>
-    ensures { IfOk result (λ v. map seen_defined v.items ≡ rule.all_joined line order (map function_of trees.now)
-        (map seen_defined defined.items) (map seen.body bodies.items)) }
+    ensures { IfOk result (λ v. map defined_view v.items ≡ rule.all_joined line order (map function_of trees.now)
+        (map defined_view defined.items) (map view.body bodies.items)) }
 {
     let mut all = Vec::new(alloc);
     let mut ones = defined.into_iter();

@@ -5,22 +5,22 @@ use Rattle.ep_int.specs.Memory.{contains}
 use Rattle.ep_ast.specs.declared.refusals.Refusal.{Refusal}
 use Rattle.ep_ast.specs.declared.refusals.Halt.{Halt}
 use Rattle.ep_typing.specs.Results.{at}
-use Rattle.ep_operands.specs.Gives.{Stops}
-use Rattle.ep_elaboration.specs.Calls.{Place, calls_of, function_depth, is_recursive}
+use Rattle.ep_operands.specs.Refinement.{Stops}
+use Rattle.ep_elaboration.specs.Calls.{CallSite, calls_of, function_depth, is_recursive}
 use Rattle.ep_elaboration.specs.Functions.{Defined, numbers_of}
 use Rattle.ep_elaboration.specs.Programs.{Sofar, all_fit, all_have_bodies, checked, main_of, none_breaks, none_recurs}
 use Rattle.ep_elaboration.specs.Programs.{not_too_deep}
 use Rattle.ep_core.specs.Program.{Block}
-use Rattle.ep_call_graph.specs.Seen.{AreBelow, AreWithin}
+use Rattle.ep_call_graph.specs.View.{AreBelow, AreWithin}
 use Rattle.ep_typer_checks.specs.Checks.{main_in, number_in}
 use Rattle.ep_typer_checks.proofs.Steps.{IsMain, all_pass, bodies_stop, cycles_stop, depths_stop, has_main}
 use Rattle.ep_typer_checks.proofs.Steps.{main_is_among, main_stops, sizes_stop, some_function}
 
-pub no_main : (s : Sofar) (ps : List Place) (ds : List Defined) → ds ≡ s.defined → (e : Halt) → Stops (main_in (main_of ds)) e
+pub no_main : (s : Sofar) (ps : List CallSite) (ds : List Defined) → ds ≡ s.defined → (e : Halt) → Stops (main_in (main_of ds)) e
     → Stops (number_in (checked s ps)) e
 no_main s ps ds same e h = main_stops s ps e (subst (λ (xs : List Defined). Stops (main_in (main_of xs)) e) same h)
 
-module _ (s : Sofar) (ps : List Place) (ds : List Defined) (same : ds ≡ s.defined) (number line : ℕ)
+module _ (s : Sofar) (ps : List CallSite) (ds : List Defined) (same : ds ≡ s.defined) (number line : ℕ)
     (m : main_in (main_of ds) ≡ Ok (number, line)) (numbers : List ℕ) (are : numbers ≡ numbers_of s.defined) where
   its_main : IsMain s.defined number line
   its_main = has_main s.defined number line (ap (λ (xs : List Defined). main_in (main_of xs)) (sym same) ∙ m)

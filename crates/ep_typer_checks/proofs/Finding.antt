@@ -1,34 +1,33 @@
 -- Calls that break a rule, among the calls of a text.
-use Rattle.std.proofs.Common.{◌≡◌, ℕ, suc, ◌+◌, ◌<◌, ◌≤◌, nat_eq, ◌==◌, Bool, true, false, ◌||◌, cond, inl, inr, List}
+use Rattle.std.proofs.Common.{◌≡◌, ℕ, ◌+◌, ◌<◌, ◌≤◌, nat_eq, ◌==◌, Bool, true, false, ◌||◌, cond, inl, inr, List}
+use Rattle.ep_core.proofs.Sorts.{never}
+use Rattle.ep_call_graph.proofs.Lists.{front_at}
+use Rattle.ep_int.proofs.Basics.{nat_eq-self, or_false-right}
+use Rattle.std.proofs.lemmas.Bool.{eqb-true}
+use Rattle.std.proofs.lemmas.Bool.{or_cases, or_left, or_right}
 use Rattle.std.proofs.Common.{[], ◌∷◌, ◌++◌, length, get_or, map, drop, Option, Some, None, refl, sym, ap, ◌∙◌, subst}
-use Rattle.std.proofs.Common.{drop-cons, arith}
 use Rattle.std.specs.List.{filter, find}
 use Rattle.std.specs.Prelude.{slice_index}
 use Rattle.std.proofs.lemmas.List.{drop_all}
 use Rattle.ep_int.specs.Memory.{contains}
 use Rattle.ep_elaboration.specs.Calls.{Call, call_at, callees, calls_of, is_recursive}
-use Rattle.ep_call_laws.specs.Leads.{DoesCall, IsLabelled, AreAmong}
-use Rattle.ep_call_laws.proofs.Paths.{never, left_is, right_is, same, equal, either_is}
-use Rattle.ep_call_laws.proofs.Labels.{recurs}
-use Rattle.ep_call_graph.specs.declared.places.Place.{Place}
-use Rattle.ep_call_graph.specs.Seen.{place, places}
+use Rattle.ep_elaboration.specs.Leads.{DoesCall, IsLabelled, AreAmong}
+use Rattle.ep_elaboration.proofs.Labels.{recurs}
+use Rattle.ep_call_graph.specs.declared.places.CallSite.{CallSite}
+use Rattle.ep_call_graph.specs.View.{call_site, call_sites}
 use Rattle.ep_typer_checks.specs.Checks.{closes}
-
-pub front : {A : Type 0} (i : ℕ) (xs : List A) (d : A) → i < length xs → drop i xs ≡ get_or xs i d ∷ drop (i + 1) xs
-front {A = A} i xs d lt =
-    let more : suc i ≡ i + 1 = omega arith in drop-cons xs i d lt ∙ ap (λ (n : ℕ). get_or xs i d ∷ drop n xs) more
 
 -- ---- one place after another
 
-abbrev pub found : (Call → Bool) → List Place → Option Call
-found test ps = find test (calls_of (places ps))
+abbrev pub found : (Call → Bool) → List CallSite → Option Call
+found test ps = find test (calls_of (call_sites ps))
 
-module _ (test : Call → Bool) (p : Place) (ps : List Place) where
-  skip_none : (o : Option ℕ) → o ≡ None → find test (call_at (place p) o ++ calls_of (places ps)) ≡ found test ps
+module _ (test : Call → Bool) (p : CallSite) (ps : List CallSite) where
+  skip_none : (o : Option ℕ) → o ≡ None → find test (call_at (call_site p) o ++ calls_of (call_sites ps)) ≡ found test ps
   skip_none None e = refl
   skip_none (Some g) e = absurd cc
 
-  at_some : (o : Option ℕ) (g : ℕ) → o ≡ Some g → find test (call_at (place p) o ++ calls_of (places ps))
+  at_some : (o : Option ℕ) (g : ℕ) → o ≡ Some g → find test (call_at (call_site p) o ++ calls_of (call_sites ps))
       ≡ cond (test (record { caller = p.caller; line = p.line; callee = g }))
       (Some (record { caller = p.caller; line = p.line; callee = g })) (found test ps)
   at_some None g e = absurd cc
@@ -37,9 +36,9 @@ module _ (test : Call → Bool) (p : Place) (ps : List Place) where
       ap (λ (k : ℕ). cond (test (record { caller = p.caller; line = p.line; callee = k }))
       (Some (record { caller = p.caller; line = p.line; callee = k })) (found test ps)) q
 
-module _ (test : Call → Bool) (i : ℕ) (ps : List Place) (d : Place) (lt : i < length ps) where
+module _ (test : Call → Bool) (i : ℕ) (ps : List CallSite) (d : CallSite) (lt : i < length ps) where
   at_front : found test (drop i ps) ≡ found test (get_or ps i d ∷ drop (i + 1) ps)
-  at_front = ap (found test) (front i ps d lt)
+  at_front = ap (found test) (front_at i ps d lt)
 
   pub goes_on : (all : Option Call) → (get_or ps i d).callee ≡ None → found test (drop i ps) ≡ all
       → found test (drop (i + 1) ps) ≡ all
@@ -64,7 +63,7 @@ module _ (test : Call → Bool) (i : ℕ) (ps : List Place) (d : Place) (lt : i 
       ∙ ap (λ (b : Bool). cond b (Some (record { caller = (get_or ps i d).caller; line = (get_or ps i d).line; callee = g }))
       (found test (drop (i + 1) ps))) t
 
-pub none_found : (test : Call → Bool) (i : ℕ) (ps : List Place) (all : Option Call) → length ps ≤ i
+pub none_found : (test : Call → Bool) (i : ℕ) (ps : List CallSite) (all : Option Call) → length ps ≤ i
     → found test (drop i ps) ≡ all → all ≡ None
 none_found test i ps all le h = sym h ∙ ap (found test) (drop_all i ps le)
 
@@ -82,11 +81,11 @@ in_front : (f : ℕ) (c : Call) (cs : List Call) (g : ℕ) → DoesCall cs f g �
 in_front f c cs g h = at_c (nat_eq c.caller f)
   where
     at_c : (b : Bool) → contains g (map (λ (x : Call). x.callee) (cond b (c ∷ filter (λ (x : Call). x.caller == f) cs) (filter (λ (x : Call). x.caller == f) cs))) ≡ true
-    at_c true = right_is (nat_eq g c.callee) (contains g (callees cs f)) h
+    at_c true = or_right (nat_eq g c.callee) (contains g (callees cs f)) h
     at_c false = h
 
 first_call : (c : Call) (cs : List Call) → DoesCall (c ∷ cs) c.caller c.callee
-first_call c cs = rw (same c.caller) (left_is (nat_eq c.callee c.callee) (contains c.callee (callees cs c.caller)) (same c.callee))
+first_call c cs = rw (nat_eq-self c.caller) (or_left (nat_eq c.callee c.callee) (contains c.callee (callees cs c.caller)) (nat_eq-self c.callee))
 
 -- each is a call
 pub each_calls : (cs : List Call) → Each (λ c. DoesCall cs c.caller c.callee) cs
@@ -127,16 +126,12 @@ of_call P (c ∷ cs) h f g d = at_c (nat_eq c.caller f) refl d (of_call P cs h.1
         → contains g (map (λ (x : Call). x.callee) (cond b (c ∷ filter (λ (x : Call). x.caller == f) cs) (filter (λ (x : Call). x.caller == f) cs))) ≡ true
         → (DoesCall cs f g → P f g) → P f g
     at_c false q k rest = rest k
-    at_c true q k rest = elim (either_is (nat_eq g c.callee) (contains g (callees cs f)) k) [
-      | inl e ↦ subst (λ (x : ℕ). P x g) (equal c.caller f q) (subst (λ (x : ℕ). P c.caller x) (sym (equal g c.callee e)) h.0)
+    at_c true q k rest = elim (or_cases (nat_eq g c.callee) (contains g (callees cs f)) k) [
+      | inl e ↦ subst (λ (x : ℕ). P x g) (eqb-true c.caller f q) (subst (λ (x : ℕ). P c.caller x) (sym (eqb-true g c.callee e)) h.0)
       | inr e ↦ rest e
     ]
 
 -- ---- recursion by labels
-
-neither : (a b : Bool) → (a || b) ≡ false → b ≡ false
-neither true b h = absurd cc
-neither false b h = h
 
 module _ (cs : List Call) (n : ℕ) (labels : List ℕ) (main : ℕ) (among : AreAmong n cs)
     (labelled : IsLabelled (callees cs) (λ f. slice_index labels f)) where
@@ -150,5 +145,5 @@ module _ (cs : List Call) (n : ℕ) (labels : List ℕ) (main : ℕ) (among : Ar
       → (f g : ℕ) → DoesCall cs f g → nat_eq (slice_index labels g) (slice_index labels f) ≡ false
   none_closed h = of_call (λ f g. nat_eq (slice_index labels g) (slice_index labels f) ≡ false) cs
       (each_so (λ c. closes labels main c ≡ false) (λ c. nat_eq (slice_index labels c.callee) (slice_index labels c.caller) ≡ false) cs
-      (λ c e. neither (c.callee == main) (nat_eq (slice_index labels c.callee) (slice_index labels c.caller)) e)
+      (λ c e. or_false-right (c.callee == main) (nat_eq (slice_index labels c.callee) (slice_index labels c.caller)) e)
       (none_passes (closes labels main) cs h))

@@ -4,14 +4,14 @@ use Rattle.std.specs.Global.{Vec}
 use Rattle.std.specs.List.{find}
 use Rattle.std.specs.Prelude.{slice_index, vec_len}
 use Rattle.ep_int.specs.Memory.{contains}
-use Rattle.ep_elaboration.specs.Calls.{Call, Place, callees, calls_of, is_recursive}
+use Rattle.ep_elaboration.specs.Calls.{Call, CallSite, callees, calls_of, is_recursive}
 use Rattle.ep_elaboration.specs.Programs.{none_breaks}
-use Rattle.ep_call_laws.specs.Leads.{Leads, is_there, calls, IsLabelled, Descends}
-use Rattle.ep_call_laws.proofs.Labels.{ranked}
-use Rattle.ep_call_graph.specs.Seen.{AreWithin, listed}
+use Rattle.ep_elaboration.specs.Leads.{Leads, is_there, calls, IsLabelled, Descends}
+use Rattle.ep_elaboration.proofs.Labels.{ranked}
+use Rattle.ep_call_graph.specs.View.{AreWithin, listed}
 use Rattle.ep_call_graph.specs.Search.{AreAll}
 use Rattle.ep_call_graph.proofs.Lists.{len_is}
-use Rattle.ep_call_order.proofs.Among.{among, all_among}
+use Rattle.ep_call_graph.proofs.Among.{among, all_among}
 use Rattle.ep_typer_checks.specs.Checks.{closes}
 use Rattle.ep_typer_checks.proofs.Finding.{none_closed, recursive_is}
 
@@ -30,7 +30,7 @@ pub none_broke : (kind : ℕ) (o : Option Call) → none_breaks kind o ≡ Ok tr
 none_broke kind None h = refl
 none_broke kind (Some c) h = absurd cc
 
-module _ (n : ℕ) (ps : List Place) (within : AreWithin n ps) (lists : Vec (Vec ℕ)) (now : List (Vec ℕ)) (is : now ≡ lists.items)
+module _ (n : ℕ) (ps : List CallSite) (within : AreWithin n ps) (lists : Vec (Vec ℕ)) (now : List (Vec ℕ)) (is : now ≡ lists.items)
     (right : (f : ℕ) → listed lists.items f ≡ callees (calls_of ps) f) where
   its_callees : (f : ℕ) → listed now f ≡ callees (calls_of ps) f
   its_callees f = ap (λ (ls : List (Vec ℕ)). listed ls f) is ∙ right f

@@ -1,3 +1,6 @@
+pub mod Adding
+pub mod Naming
+pub mod Standing
 pub mod Checking
 pub mod Finding
 pub mod Labelling

@@ -1,5 +1,8 @@
 -- Functions by their places in an order, and calls by them.
 use Rattle.std.proofs.Common.{◌≡◌, ℕ, zero, suc, ◌+◌, ◌<◌, ◌≤◌, ◌≢◌, nat_eq, nat_lt, Bool, true, false, ◌||◌, not}
+use Rattle.ep_call_graph.proofs.Lists.{front_at}
+use Rattle.ep_core.proofs.Sorts.{never}
+use Rattle.std.proofs.lemmas.Bool.{eqb-true}
 use Rattle.std.proofs.Common.{cond, List, [], ◌∷◌, ◌++◌, length, get_or, set, map, take, drop, Option, Some, None}
 use Rattle.std.proofs.Common.{refl, sym, ap, ◌∙◌, subst, eq-eqb, lt-ltb, ltb-true, get_or-set_same, get_or-set_other}
 use Rattle.std.proofs.Common.{arith}
@@ -10,15 +13,13 @@ use Rattle.std.proofs.lemmas.List.{append-nil, append_assoc, map-append, take_mo
 use Rattle.std.proofs.lemmas.List.Folds.{list_any-append}
 use Rattle.ep_core.specs.Program as core
 use Rattle.ep_core.specs.declared.program.Function as code
-use Rattle.ep_core.specs.View.{shown_function}
+use Rattle.ep_core.specs.View.{function_view}
 use Rattle.ep_elaboration.specs.Functions.{Defined}
 use Rattle.ep_elaboration.specs.Programs.{all_in_order, in_order, numbered, place_in, renumbered, renumbered_what}
-use Rattle.ep_call_laws.proofs.Paths.{never, equal}
 use Rattle.ep_int.specs.Memory.{contains}
 use Rattle.ep_typer_checks.specs.Placed as placed
 use Rattle.ep_typer_checks.specs.Placed.{AreOnce, function_in, or_defined, renumbered_function, renumbered_if, slot}
-use Rattle.ep_call_graph.specs.Seen.{AreBelow}
-use Rattle.ep_typer_checks.proofs.Finding.{front}
+use Rattle.ep_call_graph.specs.View.{AreBelow}
 
 -- ---- places, where what is left of an order begins at one
 
@@ -70,12 +71,12 @@ pub place_before : (order places new : List ℕ) (i j v d : ℕ) → j ≡ suc i
     → ((f : ℕ) → slice_index places f ≡ place_from j (drop j order) f)
     → (f : ℕ) → slice_index new f ≡ place_from i (drop i order) f
 place_before order places new i j v d e is l inside set_is h f =
-    at_f (nat_eq f (get_or order i d)) refl ∙ sym (ap (λ (xs : List ℕ). place_from i xs f) (front i order d l))
+    at_f (nat_eq f (get_or order i d)) refl ∙ sym (ap (λ (xs : List ℕ). place_from i xs f) (front_at i order d l))
   where
     at_f : (b : Bool) → nat_eq f (get_or order i d) ≡ b
         → slice_index new f ≡ cond (nat_eq f (get_or order i d)) i (place_from (suc i) (drop (i + 1) order) f)
     at_f true q = rw q (ap (λ (xs : List ℕ). slice_index xs f) set_is
-        ∙ subst (λ (y : ℕ). slice_index (set places (get_or order i d) v) y ≡ v) (sym (equal f (get_or order i d) q))
+        ∙ subst (λ (y : ℕ). slice_index (set places (get_or order i d) v) y ≡ v) (sym (eqb-true f (get_or order i d) q))
         (get_or-set_same places (get_or order i d) v 0 inside) ∙ is)
     at_f false q =
         let apart : f ≢ get_or order i d = λ k. never (sym q ∙ eq-eqb f (get_or order i d) k) in
@@ -156,7 +157,7 @@ no_slot [] (suc f) h = refl
 no_slot (s ∷ ss) zero h = h 0
 no_slot (s ∷ ss) (suc f) h = no_slot ss f (λ g. h (suc g))
 
-pub slot_same : (ss : Slots) (f : ℕ) (o : Option code.Function) → f < length ss → slot (set ss f o) f ≡ option_map shown_function o
+pub slot_same : (ss : Slots) (f : ℕ) (o : Option code.Function) → f < length ss → slot (set ss f o) f ≡ option_map function_view o
 slot_same [] f o l = absurd (omega arith)
 slot_same (s ∷ ss) zero o l = refl
 slot_same (s ∷ ss) (suc f) o l = slot_same ss f o (omega arith)
@@ -168,23 +169,23 @@ slot_other (s ∷ ss) zero (suc g) o h = refl
 slot_other (s ∷ ss) (suc f) zero o h = refl
 slot_other (s ∷ ss) (suc f) (suc g) o h = slot_other ss f g o (λ e. h (ap suc e))
 
-pub slot_at : (ss : Slots) (f : ℕ) (o : Option code.Function) → f < length ss → o ≡ get_or ss f o → slot ss f ≡ option_map shown_function o
+pub slot_at : (ss : Slots) (f : ℕ) (o : Option code.Function) → f < length ss → o ≡ get_or ss f o → slot ss f ≡ option_map function_view o
 slot_at [] f o l e = absurd (omega arith)
-slot_at (s ∷ ss) zero o l e = ap (option_map shown_function) (sym e)
+slot_at (s ∷ ss) zero o l e = ap (option_map function_view) (sym e)
 slot_at (s ∷ ss) (suc f) o l e = slot_at ss f o (omega arith) e
 
 -- what is left of an item that is taken
 module _ (ss : Slots) (f : ℕ) (here taken : Option code.Function) (l : f < length ss) (is : here ≡ get_or ss f here) (same : taken ≡ here)
     (to : ℕ → ℕ) (old : List code.Function) where
-  pub none_added : taken ≡ None → map shown_function old ≡ map shown_function old ++ renumbered_if to (slot ss f)
-  none_added e = rw (slot_at ss f here l is, ← same, e) (sym (append-nil (map shown_function old)))
+  pub none_added : taken ≡ None → map function_view old ≡ map function_view old ++ renumbered_if to (slot ss f)
+  none_added e = rw (slot_at ss f here l is, ← same, e) (sym (append-nil (map function_view old)))
 
-  pub one_added : (new : List code.Function) (g h : code.Function) → taken ≡ Some g → shown_function h ≡ renumbered_function to (shown_function g)
-      → new ≡ old ++ h ∷ [] → map shown_function new ≡ map shown_function old ++ renumbered_if to (slot ss f)
+  pub one_added : (new : List code.Function) (g h : code.Function) → taken ≡ Some g → function_view h ≡ renumbered_function to (function_view g)
+      → new ≡ old ++ h ∷ [] → map function_view new ≡ map function_view old ++ renumbered_if to (slot ss f)
   one_added new g h e k p =
       rw (slot_at ss f here l is, ← same, e)
-      (ap (map shown_function) p ∙ map-append shown_function old (h ∷ [])
-      ∙ ap (λ (x : core.Function). map shown_function old ++ x ∷ []) k)
+      (ap (map function_view) p ∙ map-append function_view old (h ∷ [])
+      ∙ ap (λ (x : core.Function). map function_view old ++ x ∷ []) k)
 
 -- ---- one function of the order after another
 
@@ -214,4 +215,4 @@ module _ (order places given : List ℕ) (same : given ≡ places) (right : (f :
       ∙ same_function (placed.place given) (place_in order) its_places (numbered ds (get_or order i d))
       ∙ one_in_order order (numbered ds (get_or order i d))))
       ∙ append_assoc old (in_order order (numbered ds (get_or order i d))) (all_in_order order ds (drop (i + 1) order))
-      ∙ sym (ap (λ (xs : List ℕ). old ++ all_in_order order ds xs) (front i order d l)) ∙ h
+      ∙ sym (ap (λ (xs : List ℕ). old ++ all_in_order order ds xs) (front_at i order d l)) ∙ h

@@ -1,5 +1,7 @@
 -- The checks one after another.
 use Rattle.std.proofs.Common.{◌≡◌, ℕ, ◌<◌, nat_eq, Bool, true, false, cond, List, [], ◌∷◌, length, Option, Some, None}
+use Rattle.ep_int.proofs.Basics.{nat_eq-self}
+use Rattle.std.proofs.lemmas.Bool.{or_left, or_right}
 use Rattle.std.proofs.Common.{Result, Ok, Err, refl, ap, ◌∙◌, subst, arith}
 use Rattle.std.specs.List.{find}
 use Rattle.ep_int.specs.Memory.{contains}
@@ -7,12 +9,11 @@ use Rattle.ep_ast.specs.declared.refusals.Refusal.{Refusal}
 use Rattle.ep_ast.specs.declared.refusals.Halt.{Halt}
 use Rattle.ep_ast.specs.declared.refusals.Halt.TheVariants as halts
 use Rattle.ep_typing.specs.Results.{◌>>=◌, at, needed}
-use Rattle.ep_operands.specs.Gives.{Stops}
-use Rattle.ep_elaboration.specs.Calls.{Place, calls_of, function_depth}
+use Rattle.ep_operands.specs.Refinement.{Stops}
+use Rattle.ep_elaboration.specs.Calls.{CallSite, calls_of, function_depth}
 use Rattle.ep_elaboration.specs.Functions.{Defined, is_main, numbers_of}
 use Rattle.ep_elaboration.specs.Programs.{Sofar, all_fit, all_have_bodies, checked, main_of, none_recurs, not_too_deep}
-use Rattle.ep_call_laws.proofs.Paths.{left_is, right_is, same}
-use Rattle.ep_call_graph.specs.Seen.{AreBelow}
+use Rattle.ep_call_graph.specs.View.{AreBelow}
 use Rattle.ep_typer_checks.specs.Checks.{main_in, number_in}
 
 -- ---- main
@@ -40,8 +41,8 @@ found_in test (x ∷ ds) d h = at_x (test x) h (found_in test ds d)
         → (find test ds ≡ Some d → contains d.number (numbers_of ds) ≡ true) → contains d.number (numbers_of (x ∷ ds)) ≡ true
     at_x true k rest =
         let e : x ≡ d = cc in
-        subst (λ (y : Defined). contains y.number (numbers_of (x ∷ ds)) ≡ true) e (left_is (nat_eq x.number x.number) (contains x.number (numbers_of ds)) (same x.number))
-    at_x false k rest = right_is (nat_eq d.number x.number) (contains d.number (numbers_of ds)) (rest k)
+        subst (λ (y : Defined). contains y.number (numbers_of (x ∷ ds)) ≡ true) e (or_left (nat_eq x.number x.number) (contains x.number (numbers_of ds)) (nat_eq-self x.number))
+    at_x false k rest = or_right (nat_eq d.number x.number) (contains d.number (numbers_of ds)) (rest k)
 
 pub main_is_among : (ds : List Defined) (number line : ℕ) → IsMain ds number line → contains number (numbers_of ds) ≡ true
 main_is_among ds number line m =
@@ -54,7 +55,7 @@ some_function n f (x ∷ fs) h b = let l : x < n = b.0 in omega arith
 
 -- ---- the checks
 
-module _ (s : Sofar) (ps : List Place) where
+module _ (s : Sofar) (ps : List CallSite) where
   pub main_stops : (e : Halt) → Stops (main_in (main_of s.defined)) e → Stops (number_in (checked s ps)) e
   unfolding checked
   main_stops halts.Memory h = tt

@@ -5,7 +5,7 @@ use Rattle.std.specs.Option.{option_map}
 use Rattle.ep_int.specs.Memory.{contains}
 use Rattle.ep_core.specs.declared.program.Function as code
 use Rattle.ep_core.specs.Program as core
-use Rattle.ep_core.specs.View.{shown_function}
+use Rattle.ep_core.specs.View.{function_view}
 use Rattle.ep_elaboration.specs.Functions.{Defined}
 use Rattle.ep_elaboration.specs.Programs.{renumbered}
 
@@ -24,7 +24,7 @@ renumbered_if to (Some f) = renumbered_function to f ∷ []
 
 abbrev pub held : Option (Option code.Function) → Option core.Function
 held None = None
-held (Some o) = option_map shown_function o
+held (Some o) = option_map function_view o
 
 -- what a table has at a number
 abbrev pub slot : List (Option code.Function) → ℕ → Option core.Function

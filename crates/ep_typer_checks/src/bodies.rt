@@ -2,18 +2,17 @@
 
 ghost use Rattle.std.specs.Prelude.{◌≡◌, true, map, find, not, slice_index_or, false, IfOk};
 ghost use Rattle.ep_int.specs.Memory.{contains};
-ghost use Rattle.ep_call_graph.specs.Seen as seen;
-ghost use Rattle.ep_call_order.specs.Visit.{AreFlags};
-ghost use Rattle.ep_defined.specs.Seen as shown;
+ghost use Rattle.ep_call_graph.specs.View as view;
+ghost use Rattle.ep_call_graph.specs.Visit.{AreFlags};
+ghost use Rattle.ep_defined.specs.View as defined_view;
 ghost use Rattle.ep_elaboration.specs.Calls as calls;
 ghost use Rattle.ep_elaboration.specs.Functions as functions;
 ghost use Rattle.ep_elaboration.specs.Programs as rule;
-ghost use Rattle.ep_operands.specs.Gives.{Gives};
+ghost use Rattle.ep_operands.specs.Refinement.{Refines};
 ghost use Rattle.ep_typer_checks.specs.Checks as checks;
 
 use ep_ast::{Halt, RefusalKind};
-use ep_call_graph::Place;
-use ep_call_order::flags;
+use ep_call_graph::{CallSite, flags};
 use ep_defined::Defined;
 use ep_operands::refused;
 use std::alloc::{AllocError, Global};
@@ -33,7 +32,7 @@ fn is_main(name: &[u8]) -> bool
 
 /// The first body of main.
 pub(crate) fn main_of(defined: &[Defined]) -> Result<Main, Halt>
-    ensures { Gives checks.main (checks.main_in (rule.main_of (map shown.defined defined.now))) result }
+    ensures { Refines checks.main (checks.main_in (rule.main_of (map defined_view.defined defined.now))) result }
 {
     for function in defined {
         if is_main(&function.function.name) {
@@ -48,7 +47,7 @@ pub(crate) fn main_of(defined: &[Defined]) -> Result<Main, Halt>
 
 /// The numbers of functions with a body, in their order.
 pub(crate) fn numbers_of(alloc: Global, defined: &[Defined]) -> Result<Vec<u32>, AllocError>
-    ensures { IfOk result (λ v. v.items ≡ functions.numbers_of (map shown.defined defined.now)) }
+    ensures { IfOk result (λ v. v.items ≡ functions.numbers_of (map defined_view.defined defined.now)) }
 {
     let mut all = Vec::new(alloc);
     for function in defined {
@@ -58,7 +57,7 @@ pub(crate) fn numbers_of(alloc: Global, defined: &[Defined]) -> Result<Vec<u32>,
 }
 
 fn flags_of(alloc: Global, count: usize, numbers: &[u32]) -> Result<Vec<bool>, AllocError>
-    requires { seen.AreBelow count numbers.now }
+    requires { view.AreBelow count numbers.now }
     ensures { IfOk result (λ v. AreFlags count v.items numbers.now) }
 {
     let mut all = flags(alloc, count)?;
@@ -77,9 +76,9 @@ fn has(flags: &[bool], f: u32) -> bool
     }
 }
 
-fn each_has(flags: &[bool], places: &[Place]) -> Result<(), Halt>
-    ensures { Gives checks.passed (rule.none_breaks 46 (find (checks.has_none flags.now)
-        (calls.calls_of (seen.places places.now)))) result }
+fn each_has(flags: &[bool], places: &[CallSite]) -> Result<(), Halt>
+    ensures { Refines checks.passed (rule.none_breaks 46 (find (checks.has_none flags.now)
+        (calls.calls_of (view.call_sites places.now)))) result }
 {
     for place in places {
         if let Some(callee) = place.callee {
@@ -96,11 +95,11 @@ pub(crate) fn all_have_bodies(
     alloc: Global,
     count: usize,
     numbers: &[u32],
-    places: &[Place],
+    places: &[CallSite],
 ) -> Result<(), Halt>
-    requires { seen.AreBelow count numbers.now }
-    ensures { Gives checks.passed (rule.none_breaks 46 (find (λ c. not (contains c.callee numbers.now))
-        (calls.calls_of (seen.places places.now)))) result }
+    requires { view.AreBelow count numbers.now }
+    ensures { Refines checks.passed (rule.none_breaks 46 (find (λ c. not (contains c.callee numbers.now))
+        (calls.calls_of (view.call_sites places.now)))) result }
 {
     let flags = flags_of(alloc, count, numbers)?;
     each_has(&flags, places)

@@ -1,14 +1,14 @@
 //! The checks of a whole program, in their order.
 
 ghost use Rattle.std.specs.Prelude.{◌≡◌, ◌<◌, [], map, length, IfOk};
-ghost use Rattle.ep_call_graph.specs.Seen as seen;
-ghost use Rattle.ep_core.specs.View.{shown_block};
-ghost use Rattle.ep_defined.specs.Seen as shown;
+ghost use Rattle.ep_call_graph.specs.View as view;
+ghost use Rattle.ep_core.specs.View.{block_view};
+ghost use Rattle.ep_defined.specs.View as defined_view;
 ghost use Rattle.ep_elaboration.specs.Calls as calls;
 ghost use Rattle.ep_elaboration.specs.Functions as functions;
 ghost use Rattle.ep_elaboration.specs.Programs as rule;
-ghost use Rattle.ep_operands.specs.Gives.{Gives};
-ghost use Rattle.ep_scopes.specs.Seen.{env as around};
+ghost use Rattle.ep_operands.specs.Refinement.{Refines};
+ghost use Rattle.ep_scopes.specs.View.{env as env_view};
 ghost use Rattle.ep_typing.specs.Results.{at};
 ghost use Rattle.ep_typer_checks.specs.Checks as checks;
 ghost use Rattle.ep_typer_checks.specs.Placed.{AreOnce};
@@ -17,7 +17,7 @@ use crate::bodies::{all_have_bodies, main_of, numbers_of};
 use crate::cycles::none_recurs;
 use crate::depths::in_order;
 use ep_ast::{Halt, RefusalKind};
-use ep_call_graph::Place;
+use ep_call_graph::CallSite;
 use ep_core::program::BlockInfo;
 use ep_defined::Sofar;
 use ep_operands::refused;
@@ -32,13 +32,13 @@ pub struct CallOrder {
 }
 
 fn function_count(env: &Env) -> usize
-    ensures { result ≡ length (around env.now).functions }
+    ensures { result ≡ length (env_view env.now).functions }
 {
     env.functions.len()
 }
 
 fn all_fit(blocks: &[BlockInfo]) -> Result<(), Halt>
-    ensures { Gives checks.passed (at 1 (rule.all_fit (map shown_block blocks.now))) result }
+    ensures { Refines checks.passed (at 1 (rule.all_fit (map block_view blocks.now))) result }
 {
     let mut left: u32 = 65_536;
     for block in blocks {
@@ -51,17 +51,19 @@ fn all_fit(blocks: &[BlockInfo]) -> Result<(), Halt>
 }
 
 /// What is wrong with the whole of a program, or its main and its functions in their order.
-pub fn checked(alloc: Global, sofar: &Sofar, places: &[Place]) -> Result<CallOrder, Halt>
-    requires within { 0 < length (shown.sofar sofar.now).env.functions
-        → seen.AreWithin (length (shown.sofar sofar.now).env.functions) (seen.places places.now) }
-    requires numbers { seen.AreBelow (length (shown.sofar sofar.now).env.functions)
-        (functions.numbers_of (shown.sofar sofar.now).defined) }
-    ensures means { Gives checks.main_number (checks.number_in (rule.checked (shown.sofar sofar.now) (seen.places
+pub fn checked(alloc: Global, sofar: &Sofar, places: &[CallSite]) -> Result<CallOrder, Halt>
+    requires within { 0 < length (defined_view.sofar sofar.now).env.functions
+        → view.AreWithin (length (defined_view.sofar sofar.now).env.functions) (view.call_sites places.now) }
+    requires numbers { view.AreBelow (length (defined_view.sofar sofar.now).env.functions)
+        (functions.numbers_of (defined_view.sofar sofar.now).defined) }
+    ensures means { Refines checks.main_number
+        (checks.number_in (rule.checked (defined_view.sofar sofar.now) (view.call_sites
         places.now))) result }
-    ensures order { IfOk result (λ c. c.order.items ≡ rule.order_of (shown.sofar sofar.now) (calls.calls_of
-        (seen.places places.now))) }
+    ensures order { IfOk result (λ c. c.order.items ≡ rule.order_of (defined_view.sofar sofar.now) (calls.calls_of
+        (view.call_sites places.now))) }
     ensures once { IfOk result (λ c. AreOnce [] c.order.items) }
-    ensures below { IfOk result (λ c. seen.AreBelow (length (shown.sofar sofar.now).env.functions) c.order.items) }
+    ensures below { IfOk result (λ c. view.AreBelow
+        (length (defined_view.sofar sofar.now).env.functions) c.order.items) }
 {
     let main = main_of(&sofar.defined)?;
     let count = function_count(&sofar.env);

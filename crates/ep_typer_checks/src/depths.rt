@@ -2,19 +2,18 @@
 
 ghost use Rattle.std.specs.Prelude.{◌≡◌, ℕ, ◌<◌, true, [], slice_index, IfOk};
 ghost use Rattle.ep_int.specs.Memory.{contains};
-ghost use Rattle.ep_call_graph.specs.Seen as seen;
-ghost use Rattle.ep_call_laws.specs.Leads.{Descends};
+ghost use Rattle.ep_call_graph.specs.View as view;
+ghost use Rattle.ep_elaboration.specs.Leads.{Descends};
 ghost use Rattle.ep_elaboration.specs.Calls as calls;
 ghost use Rattle.ep_elaboration.specs.Programs as rule;
-ghost use Rattle.ep_operands.specs.Gives.{Gives};
+ghost use Rattle.ep_operands.specs.Refinement.{Refines};
 ghost use Rattle.ep_typing.specs.Results.{at};
 ghost use Rattle.ep_typer_checks.specs.Checks as checks;
 ghost use Rattle.ep_typer_checks.specs.Placed.{AreOnce};
 
 use crate::bodies::Main;
 use ep_ast::{Halt, RefusalKind};
-use ep_call_graph::Place;
-use ep_call_order::{depths, functions_in_order};
+use ep_call_graph::{CallSite, depths, functions_in_order};
 use ep_operands::refused;
 use std::alloc::Global;
 
@@ -28,7 +27,7 @@ fn depth(depths: &[u64], f: u32) -> u64
 }
 
 fn not_too_deep(depth: u64, line: u32) -> Result<(), Halt>
-    ensures { Gives checks.passed (at line (rule.not_too_deep depth)) result }
+    ensures { Refines checks.passed (at line (rule.not_too_deep depth)) result }
 {
     if depth > 256 {
         return Err(refused(RefusalKind::CallDepth, line));
@@ -42,19 +41,19 @@ pub(crate) fn in_order(
     alloc: Global,
     count: usize,
     main: Main,
-    places: &[Place],
+    places: &[CallSite],
     numbers: &[u32],
 ) -> Result<Vec<u32>, Halt>
-    requires within { seen.AreWithin count (seen.places places.now) }
-    requires numbers { seen.AreBelow count numbers.now }
+    requires within { view.AreWithin count (view.call_sites places.now) }
+    requires numbers { view.AreBelow count numbers.now }
     requires has_main { contains main.number numbers.now ≡ true }
-    requires ranked { (rank : ℕ → ℕ) × Descends (calls.calls_of (seen.places places.now)) count rank }
-    ensures shallow { Gives (λ order. true) (at main.line (rule.not_too_deep (calls.function_depth (seen.places
+    requires ranked { (rank : ℕ → ℕ) × Descends (calls.calls_of (view.call_sites places.now)) count rank }
+    ensures shallow { Refines (λ order. true) (at main.line (rule.not_too_deep (calls.function_depth (view.call_sites
         places.now) count main.number))) result }
     ensures order { IfOk result (λ order. order.items ≡ calls.one_after_another (calls.with_function (calls.calls_of
-        (seen.places places.now)) count) [] numbers.now) }
+        (view.call_sites places.now)) count) [] numbers.now) }
     ensures once { IfOk result (λ order. AreOnce [] order.items) }
-    ensures below { IfOk result (λ order. seen.AreBelow count order.items) }
+    ensures below { IfOk result (λ order. view.AreBelow count order.items) }
 {
     let order = functions_in_order(alloc, count, places, numbers)?;
     let depths = depths(alloc, count, places, &order)?;

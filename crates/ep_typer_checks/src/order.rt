@@ -1,9 +1,9 @@
 //! The functions of a program in their order.
 
 ghost use Rattle.std.specs.Prelude.{◌≡◌, ℕ, ◌<◌, ◌++◌, [], None, map, slice_index, vec_len, IfOk, OnOk};
-ghost use Rattle.ep_call_graph.specs.Seen.{AreBelow};
-ghost use Rattle.ep_core.specs.View.{shown_function};
-ghost use Rattle.ep_defined.specs.Seen as shown;
+ghost use Rattle.ep_call_graph.specs.View.{AreBelow};
+ghost use Rattle.ep_core.specs.View.{function_view};
+ghost use Rattle.ep_defined.specs.View as view;
 ghost use Rattle.ep_elaboration.specs.Functions.{numbers_of};
 ghost use Rattle.ep_elaboration.specs.Programs as rule;
 ghost use Rattle.ep_typer_checks.specs.Placed as placed;
@@ -11,6 +11,7 @@ ghost use Rattle.ep_typer_checks.specs.Placed as placed;
 use crate::renumbered::{place, renumbered_function};
 use ep_core::program::Function;
 use ep_defined::Defined;
+use ep_operands::as_number;
 use std::alloc::{AllocError, Global};
 
 /// Functions in the order of a program, and the place of main.
@@ -40,7 +41,7 @@ fn places_in(alloc: Global, count: usize, order: &[u32]) -> Result<Vec<u32>, All
     let mut left = order.len();
     'places: while left > 0 {
         left -= 1;
-        let Ok(place) = u32::try_from(left) else {
+        let Ok(place) = as_number(left) else {
             return Err(AllocError);
         };
         all[order[left] as usize] = place;
@@ -63,7 +64,7 @@ fn keep(slots: &mut Vec<Option<Function>>, defined: Defined)
     requires { defined.number < vec_len slots.old }
     ensures count { vec_len slots.new ≡ vec_len slots.old }
     ensures kept { (f : ℕ) → placed.slot slots.new.items f
-        ≡ placed.or_defined (placed.slot slots.old.items f) f (shown.defined defined) }
+        ≡ placed.or_defined (placed.slot slots.old.items f) f (view.defined defined) }
 {
     let slot = &mut slots[defined.number as usize];
     if slot.is_none() {
@@ -77,10 +78,10 @@ fn slots_of(
     count: usize,
     defined: Vec<Defined>,
 ) -> Result<Vec<Option<Function>>, AllocError>
-    requires { AreBelow count (numbers_of (map shown.defined defined.items)) }
+    requires { AreBelow count (numbers_of (map view.defined defined.items)) }
     ensures count { IfOk result (λ v. vec_len v ≡ count) }
     ensures slots { IfOk result (λ v. (f : ℕ) → placed.slot v.items f
-        ≡ placed.function_in (rule.numbered (map shown.defined defined.items) f)) }
+        ≡ placed.function_in (rule.numbered (map view.defined defined.items) f)) }
 {
     let mut slots = empty_slots(alloc, count)?;
     for one in defined {
@@ -98,7 +99,7 @@ fn add(
 ) -> Result<(), AllocError>
     requires { f < vec_len slots.old }
     ensures count { vec_len slots.new ≡ vec_len slots.old }
-    ensures added { OnOk result (map shown_function all.new.items ≡ map shown_function all.old.items
+    ensures added { OnOk result (map function_view all.new.items ≡ map function_view all.old.items
         ++ placed.renumbered_if (placed.place places.now) (placed.slot slots.old.items f)) }
     ensures others { (g : ℕ) → (g ≡ f → ⊥) → placed.slot slots.new.items g ≡ placed.slot slots.old.items g }
 {
@@ -120,11 +121,11 @@ pub fn ordered(
     order: &[u32],
     main: u32,
 ) -> Result<OrderedFunctions, AllocError>
-    requires numbers { AreBelow count (numbers_of (map shown.defined defined.items)) }
+    requires numbers { AreBelow count (numbers_of (map view.defined defined.items)) }
     requires below { AreBelow count order.now }
     requires once { placed.AreOnce [] order.now }
-    ensures functions { IfOk result (λ o. map shown_function o.functions.items
-        ≡ rule.all_in_order order.now (map shown.defined defined.items) order.now) }
+    ensures functions { IfOk result (λ o. map function_view o.functions.items
+        ≡ rule.all_in_order order.now (map view.defined defined.items) order.now) }
     ensures main { IfOk result (λ o. o.main ≡ rule.place_in order.now main) }
 {
     let places = places_in(alloc, count, order)?;

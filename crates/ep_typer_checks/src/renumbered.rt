@@ -1,7 +1,7 @@
 //! Calls of functions by their places in the program.
 
 ghost use Rattle.std.specs.Prelude.{◌≡◌, map, slice_index, IfOk};
-ghost use Rattle.ep_core.specs.View.{shown_function, shown_stmts, shown_what};
+ghost use Rattle.ep_core.specs.View.{function_view, stmts_view, what_view};
 ghost use Rattle.ep_elaboration.specs.Programs as rule;
 ghost use Rattle.ep_typer_checks.specs.Placed as placed;
 
@@ -21,7 +21,7 @@ pub(crate) fn place(places: &[u32], f: u32) -> u32
 #[cycle(renumbering)]
 #[tactic(auto, unfolding(ep_elaboration::specs::Programs::renumbered_what))]
 fn renumbered_what(alloc: Global, places: &[u32], what: What) -> Result<What, AllocError>
-    ensures { IfOk result (λ w. shown_what w ≡ rule.renumbered_what (placed.place places.now) (shown_what what)) }
+    ensures { IfOk result (λ w. what_view w ≡ rule.renumbered_what (placed.place places.now) (what_view what)) }
 {
     match what {
         What::Nothing => Ok(What::Nothing),
@@ -64,8 +64,8 @@ fn renumbered_what(alloc: Global, places: &[u32], what: What) -> Result<What, Al
 #[cycle(renumbering)]
 #[tactic(auto, unfolding(ep_elaboration::specs::Programs::renumbered))]
 fn renumbered(alloc: Global, places: &[u32], list: Vec<Stmt>) -> Result<Vec<Stmt>, AllocError>
-    ensures { IfOk result (λ v. shown_stmts v.items
-        ≡ rule.renumbered (placed.place places.now) (shown_stmts list.items)) }
+    ensures { IfOk result (λ v. stmts_view v.items
+        ≡ rule.renumbered (placed.place places.now) (stmts_view list.items)) }
 {
     let mut all = Vec::new(alloc);
     for statement in list {
@@ -84,8 +84,8 @@ pub(crate) fn renumbered_function(
     places: &[u32],
     function: Function,
 ) -> Result<Function, AllocError>
-    ensures { IfOk result (λ f. shown_function f
-        ≡ placed.renumbered_function (placed.place places.now) (shown_function function)) }
+    ensures { IfOk result (λ f. function_view f
+        ≡ placed.renumbered_function (placed.place places.now) (function_view function)) }
 {
     let body = renumbered(alloc, places, function.body)?;
     Ok(Function {

@@ -10,13 +10,13 @@ use Rattle.ep_ast.specs.Declaration.{init_of}
 use Rattle.ep_core.specs.declared.program.InitByte.{InitByte}
 use Rattle.ep_core.specs.declared.tree.What.{What}
 use Rattle.ep_core.specs.Program.{Init}
-use Rattle.ep_core.specs.View.{shown_init, shown_what}
+use Rattle.ep_core.specs.View.{init_view, what_view}
 use Rattle.ep_elaboration.specs.Declarations.{Line, Made, both_made, lined, variable_declared, variables_declared}
 use Rattle.ep_typing.specs.declared.types.CType.{CType}
 use Rattle.ep_typing.specs.Env.{Env}
 use Rattle.ep_typing.specs.Results.{◌>>=◌}
-use Rattle.ep_operands.specs.Gives.{Stops}
-use Rattle.ep_given.specs.Behind.{all_behind}
+use Rattle.ep_operands.specs.Refinement.{Stops}
+use Rattle.ep_given.specs.Appended.{all_behind}
 use Rattle.ep_given.proofs.Gathering as gathering
 
 abbrev none : Made
@@ -73,19 +73,19 @@ none_left G global may_call c i xs done all le h =
 
 -- ---- one variable more
 
-mapped : (l : ℕ) (ws : List What) → map {B = Line} (λ w. (l, shown_what w)) ws ≡ map {B = Line} (λ w. (l, w)) (map shown_what ws)
+mapped : (l : ℕ) (ws : List What) → map {B = Line} (λ w. (l, what_view w)) ws ≡ map {B = Line} (λ w. (l, w)) (map what_view ws)
 mapped l [] = refl
-mapped l (w ∷ ws) = ap (λ (xs : List Line). (l, shown_what w) ∷ xs) (mapped l ws)
+mapped l (w ∷ ws) = ap (λ (xs : List Line). (l, what_view w) ∷ xs) (mapped l ws)
 
 made_same : (a b : List Line) (c d : List Init) → a ≡ b → c ≡ d → ◌≡◌ {A = Made} (record { lines = a; values = c }) (record { lines = b; values = d })
 made_same a b c d p q = rw (p, q) refl
 
 pub one_added : {T E : Type 0} (r : Result T E) (old : Made) (l : ℕ) (ws : List What) (is js ks : List InitByte) (lines : List Line)
-    → lines ≡ old.lines ++ map {B = Line} (λ w. (l, shown_what w)) ws → old.values ≡ map shown_init is → ks ≡ cond (is_ok r) (is ++ js) is
-    → OnOk r (◌≡◌ {A = Made} (record { lines = lines; values = map shown_init ks })
-    (both_made old (lined l (record { statements = map shown_what ws; values = map shown_init js }))))
+    → lines ≡ old.lines ++ map {B = Line} (λ w. (l, what_view w)) ws → old.values ≡ map init_view is → ks ≡ cond (is_ok r) (is ++ js) is
+    → OnOk r (◌≡◌ {A = Made} (record { lines = lines; values = map init_view ks })
+    (both_made old (lined l (record { statements = map what_view ws; values = map init_view js }))))
 one_added (Ok x) old l ws is js ks lines e v k =
-    made_same lines (old.lines ++ map {B = Line} (λ w. (l, w)) (map shown_what ws)) (map shown_init ks) (old.values ++ map shown_init js)
+    made_same lines (old.lines ++ map {B = Line} (λ w. (l, w)) (map what_view ws)) (map init_view ks) (old.values ++ map init_view js)
     (e ∙ ap (λ (xs : List Line). old.lines ++ xs) (mapped l ws))
-    (ap (map shown_init) k ∙ map-append shown_init is js ∙ ap (λ (xs : List Init). xs ++ map shown_init js) (sym v))
+    (ap (map init_view) k ∙ map-append init_view is js ∙ ap (λ (xs : List Init). xs ++ map init_view js) (sym v))
 one_added (Err x) old l ws is js ks lines e v k = tt

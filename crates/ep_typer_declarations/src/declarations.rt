@@ -3,14 +3,14 @@
 ghost use Rattle.std.specs.Prelude.{◌≡◌, map, OnOk};
 ghost use Rattle.std.specs.Option.{option_map};
 ghost use Rattle.ep_ast.specs.Declaration as source;
-ghost use Rattle.ep_declared.specs.Gives.{GivesIn};
-ghost use Rattle.ep_declared.specs.Seen as objects;
+ghost use Rattle.ep_declared.specs.Refinement.{RefinesIn};
+ghost use Rattle.ep_declared.specs.View as objects;
 ghost use Rattle.ep_elaboration.specs.Declarations as rule;
-ghost use Rattle.ep_given.specs.Seen.{given};
+ghost use Rattle.ep_given.specs.View.{given};
 ghost use Rattle.ep_layout.specs.Table.{Grows};
 ghost use Rattle.ep_scopes.specs.Known.{IsKnown, IsKnownEnv};
-ghost use Rattle.ep_scopes.specs.Seen.{env as around};
-ghost use Rattle.ep_typer_declarations.specs.Seen as seen;
+ghost use Rattle.ep_scopes.specs.View.{env as env_view};
+ghost use Rattle.ep_typer_declarations.specs.View as view;
 
 use crate::made::Made;
 use ep_ast::{DeclarationTree, Halt, InitTree, ValueTree};
@@ -29,11 +29,11 @@ fn initialised(
     x: &Object,
     value: &Option<ValueTree>,
 ) -> Result<Given, Halt>
-    requires { IsKnownEnv (around env.old) }
-    ensures means { GivesIn given (rule.initialised (around env.old) global may_call line (objects.object x.now)
-        (option_map source.value_of value.now)) (around env.new) result }
-    ensures known { OnOk result (IsKnownEnv (around env.new)) }
-    ensures grown { OnOk result (Grows (around env.old).types (around env.new).types) }
+    requires { IsKnownEnv (env_view env.old) }
+    ensures means { RefinesIn given (rule.initialised (env_view env.old) global may_call line (objects.object x.now)
+        (option_map source.value_of value.now)) (env_view env.new) result }
+    ensures known { OnOk result (IsKnownEnv (env_view env.new)) }
+    ensures grown { OnOk result (Grows (env_view env.old).types (env_view env.new).types) }
 {
     match value {
         None => Ok(Given::new(env.alloc)),
@@ -54,12 +54,12 @@ fn variable_declared(
     c: CType,
     init: &InitTree,
 ) -> Result<Given, Halt>
-    requires known { IsKnownEnv (around env.old) }
-    requires inside { IsKnown (around env.old).types c }
-    ensures means { GivesIn (λ g. rule.lined init.now.declarator.line (given g)) (rule.variable_declared
-        (around env.old) global may_call c (source.init_of init.now)) (around env.new) result }
-    ensures known { OnOk result (IsKnownEnv (around env.new)) }
-    ensures grown { OnOk result (Grows (around env.old).types (around env.new).types) }
+    requires known { IsKnownEnv (env_view env.old) }
+    requires inside { IsKnown (env_view env.old).types c }
+    ensures means { RefinesIn (λ g. rule.lined init.now.declarator.line (given g)) (rule.variable_declared
+        (env_view env.old) global may_call c (source.init_of init.now)) (env_view env.new) result }
+    ensures known { OnOk result (IsKnownEnv (env_view env.new)) }
+    ensures grown { OnOk result (Grows (env_view env.old).types (env_view env.new).types) }
 {
     let declarator = &init.declarator;
     let listed = count_listed(&init.value);
@@ -75,11 +75,11 @@ fn variables_declared(
     c: CType,
     inits: &[InitTree],
 ) -> Result<Made, Halt>
-    requires known { IsKnownEnv (around env.old) }
-    requires inside { IsKnown (around env.old).types c }
-    ensures means { GivesIn seen.made (rule.variables_declared (around env.old) global may_call c
-        (map source.init_of inits.now)) (around env.new) result }
-    ensures known { OnOk result (IsKnownEnv (around env.new)) }
+    requires known { IsKnownEnv (env_view env.old) }
+    requires inside { IsKnown (env_view env.old).types c }
+    ensures means { RefinesIn view.made (rule.variables_declared (env_view env.old) global may_call c
+        (map source.init_of inits.now)) (env_view env.new) result }
+    ensures known { OnOk result (IsKnownEnv (env_view env.new)) }
 {
     let mut made = Made::new(env.alloc);
     for init in inits {
@@ -98,10 +98,10 @@ pub fn declaration(
     may_call: bool,
     tree: &DeclarationTree,
 ) -> Result<Made, Halt>
-    requires { IsKnownEnv (around env.old) }
-    ensures means { GivesIn seen.made (rule.declaration (around env.old) global may_call
-        (source.declaration_of tree.now)) (around env.new) result }
-    ensures known { OnOk result (IsKnownEnv (around env.new)) }
+    requires { IsKnownEnv (env_view env.old) }
+    ensures means { RefinesIn view.made (rule.declaration (env_view env.old) global may_call
+        (source.declaration_of tree.now)) (env_view env.new) result }
+    ensures known { OnOk result (IsKnownEnv (env_view env.new)) }
 {
     let c = specs_declared(env, &tree.specs)?;
     variables_declared(env, global, may_call, c, &tree.inits)

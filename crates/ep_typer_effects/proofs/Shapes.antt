@@ -1,12 +1,14 @@
 -- What a statement or a right side is by the shape of its tree, and by its mark.
 use Rattle.std.proofs.Common.{◌≡◌, ℕ, Bool, true, false, cond, nat_eq, ◌&&◌, List, map, Result, Ok, Err, refl, sym}
+use Rattle.ep_int.proofs.Basics.{and-true, and-false}
 use Rattle.std.proofs.Common.{ap, ◌∙◌}
 use Rattle.std.specs.Global.{Box, Vec}
 use Rattle.ep_ast.specs.declared.expressions.ExprTree.{ExprTree, Call, PostDecrement, PostIncrement, Step}
 use Rattle.ep_ast.specs.declared.refusals.Refusal.{Refusal}
-use Rattle.ep_ast.specs.declared.marks.TheConstants as marks
+use Rattle.ep_ast.specs.Mark as marks
 use Rattle.ep_ast.specs.Expression as source
-use Rattle.ep_ast.specs.Mark.{equal}
+use Rattle.ep_ast.specs.declared.marks.Mark.{Mark}
+use Rattle.ep_ast.specs.Mark.{equal, mark_number}
 use Rattle.ep_core.specs.Program as core
 use Rattle.ep_layout.specs.Table.{Table}
 use Rattle.ep_stores.specs.Stores.{simply, updated_with}
@@ -45,10 +47,6 @@ compound_from t m x y u h =
     ap (λ (b : Bool). cond b (assigned t x y) (updated t (operator_of m) x (value u) y) >>= (λ w. Ok (core.simple w))) h
     ∙ simply_is (updated t (operator_of m) x (value u) y) ∙ ap simply (updated_is t (operator_of m) x y u)
 
-no_call : (b : Bool) → (b && false) ≡ false
-no_call true = refl
-no_call false = refl
-
 read_is : (t : Table) (l m : ℕ) (x : Operand) (more : Operand → Result core.What Refusal) → nat_eq m equal ≡ false
     → at l (read_first t m x) >>= more ≡ at l (value_of t x) >>= (λ u. more (value u))
 unfolding read_first
@@ -67,22 +65,18 @@ right_is : (G : Env) (may_call : Bool) (m : ℕ) (b : source.Expr) (more : Right
     → right_side G (may_call && nat_eq m equal) b >>= more ≡ typed G b >>= (λ y. more (an_object y))
 unfolding right_side
 right_is G may_call m b more h =
-    ap (λ (c : Bool). right_side G (may_call && c) b >>= more) h ∙ ap (λ (c : Bool). right_side G c b >>= more) (no_call may_call)
+    ap (λ (c : Bool). right_side G (may_call && c) b >>= more) h ∙ ap (λ (c : Bool). right_side G c b >>= more) (and-false may_call)
     ∙ parts (typed G b)
   where
     parts : (r : Result Operand Refusal) → (r >>= (λ y. Ok (an_object y))) >>= more ≡ r >>= (λ y. more (an_object y))
     parts (Ok y) = refl
     parts (Err e) = refl
 
-call_still : (b : Bool) → (b && true) ≡ b
-call_still true = refl
-call_still false = refl
-
 pub plain_is : (G : Env) (may_call : Bool) (l m : ℕ) (a b : source.Expr) → m ≡ equal → assignment G may_call l m a b ≡ whole.plain G may_call l a b
 unfolding assignment read_first
 plain_is G may_call l m a b h =
     ap (λ (n : ℕ). assignment G may_call l n a b) h
-    ∙ same_next (typed G a) _ _ (λ x. ap (λ (c : Bool). right_side G c b >>= (λ y. at l (assigned_from G.types equal x x y))) (call_still may_call))
+    ∙ same_next (typed G a) _ _ (λ x. ap (λ (c : Bool). right_side G c b >>= (λ y. at l (assigned_from G.types equal x x y))) (and-true may_call))
 
 pub compound_is : (G : Env) (may_call : Bool) (l m : ℕ) (a b : source.Expr) → nat_eq m equal ≡ false
     → assignment G may_call l m a b ≡ whole.compounded G l m a b
@@ -100,8 +94,10 @@ step_is G l m a h =
 
 -- ---- steps and marks
 
-pub step_tree : (l m : ℕ) (t f : ExprTree) (p : Box ExprTree) → t ≡ Step l m p → f ≡ p.value → source.expr t ≡ source.step l m (source.expr f)
-step_tree l m t f p i d = ap source.expr i ∙ ap (λ (g : ExprTree). source.step l m (source.expr g)) (sym d)
+pub step_tree : (l : ℕ) (m : Mark) (t f : ExprTree) (p : Box ExprTree) → t ≡ Step l m p → f ≡ p.value
+    → source.expr t ≡ source.step l (mark_number m) (source.expr f)
+step_tree l m t f p i d = ap source.expr i
+    ∙ ap (λ (g : ExprTree). source.step l (mark_number m) (source.expr g)) (sym d)
 
 pub increment_tree : (l : ℕ) (t f : ExprTree) (p : Box ExprTree) → t ≡ PostIncrement l p → f ≡ p.value
     → source.expr t ≡ source.post_increment l (source.expr f)
@@ -116,13 +112,13 @@ module _ (G : Env) (may_call : Bool) (e a : source.Expr) (l : ℕ) where
   unfolding whole_statement
   a_step m n i q h = ap (whole_statement G may_call) i ∙ ap (λ (k : ℕ). stepped G l k a) (sym q) ∙ step_is G l n a h
 
-  pub an_increment : e ≡ source.post_increment l a → whole_statement G may_call e ≡ whole.stepped G l marks.PLUS_EQUAL a
+  pub an_increment : e ≡ source.post_increment l a → whole_statement G may_call e ≡ whole.stepped G l marks.plus_equal a
   unfolding whole_statement
-  an_increment i = ap (whole_statement G may_call) i ∙ step_is G l marks.PLUS_EQUAL a refl
+  an_increment i = ap (whole_statement G may_call) i ∙ step_is G l marks.plus_equal a refl
 
-  pub a_decrement : e ≡ source.post_decrement l a → whole_statement G may_call e ≡ whole.stepped G l marks.MINUS_EQUAL a
+  pub a_decrement : e ≡ source.post_decrement l a → whole_statement G may_call e ≡ whole.stepped G l marks.minus_equal a
   unfolding whole_statement
-  a_decrement i = ap (whole_statement G may_call) i ∙ step_is G l marks.MINUS_EQUAL a refl
+  a_decrement i = ap (whole_statement G may_call) i ∙ step_is G l marks.minus_equal a refl
 
 pub plain_at : (G : Env) (may_call : Bool) (l : ℕ) (a b : source.Expr) (x : Operand) (y : Right) → typed G a ≡ Ok x → right_side G may_call b ≡ Ok y
     → whole.plain G may_call l a b ≡ at l (assigned_from G.types equal x x y)

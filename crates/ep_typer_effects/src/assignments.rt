@@ -2,17 +2,18 @@
 
 ghost use Rattle.std.specs.Prelude.{◌≡◌};
 ghost use Rattle.ep_ast.specs.Expression as source;
-ghost use Rattle.ep_core.specs.View.{shown_what};
+ghost use Rattle.ep_ast.specs.Mark.{mark_number};
+ghost use Rattle.ep_core.specs.View.{what_view};
 ghost use Rattle.ep_typing.specs.Operand.{value_of};
 ghost use Rattle.ep_typing.specs.Results.{at};
 ghost use Rattle.ep_typing.specs.Typing as rule;
-ghost use Rattle.ep_operands.specs.Gives.{Gives};
-ghost use Rattle.ep_operands.specs.Seen as operands;
-ghost use Rattle.ep_scopes.specs.Seen.{env as around};
+ghost use Rattle.ep_operands.specs.Refinement.{Refines};
+ghost use Rattle.ep_operands.specs.View as operands;
+ghost use Rattle.ep_scopes.specs.View.{env as env_view};
 ghost use Rattle.ep_typer_effects.specs.Whole as whole;
 
 use crate::right::{assigned_from, right_side};
-use ep_ast::{ExprTree, Halt, marks};
+use ep_ast::{ExprTree, Halt, Mark};
 use ep_core::tree::{Expr, What};
 use ep_int::IntType;
 use ep_operands::{Operand, Value, copy_operand, value_of};
@@ -28,7 +29,7 @@ fn plainly_assigned(
     a: &ExprTree,
     b: &ExprTree,
 ) -> Result<What, Halt>
-    ensures { Gives shown_what (whole.plain (around env.now) may_call line (source.expr a.now)
+    ensures { Refines what_view (whole.plain (env_view env.now) may_call line (source.expr a.now)
         (source.expr b.now)) result }
 {
     let x = typed(env, a)?;
@@ -38,7 +39,7 @@ fn plainly_assigned(
 
 // The value of a left side, which stays.
 fn read(env: &Env, line: u32, x: &Operand) -> Result<Value, Halt>
-    ensures { Gives operands.value (at line (value_of (around env.now).types (operands.operand x.now))) result }
+    ensures { Refines operands.value (at line (value_of (env_view env.now).types (operands.operand x.now))) result }
 {
     let copy = copy_operand(env.alloc, x)?;
     value_of(env.alloc, &env.types, line, copy)
@@ -48,11 +49,11 @@ fn read(env: &Env, line: u32, x: &Operand) -> Result<Value, Halt>
 fn compoundly_assigned(
     env: &Env,
     line: u32,
-    mark: u8,
+    mark: Mark,
     a: &ExprTree,
     b: &ExprTree,
 ) -> Result<What, Halt>
-    ensures { Gives shown_what (whole.compounded (around env.now) line mark (source.expr a.now)
+    ensures { Refines what_view (whole.compounded (env_view env.now) line (mark_number mark) (source.expr a.now)
         (source.expr b.now)) result }
 {
     let x = typed(env, a)?;
@@ -66,22 +67,22 @@ pub(crate) fn assignment(
     env: &Env,
     may_call: bool,
     line: u32,
-    mark: u8,
+    mark: Mark,
     a: &ExprTree,
     b: &ExprTree,
 ) -> Result<What, Halt>
-    ensures { Gives shown_what (rule.assignment (around env.now) may_call line mark (source.expr a.now)
+    ensures { Refines what_view (rule.assignment (env_view env.now) may_call line (mark_number mark) (source.expr a.now)
         (source.expr b.now)) result }
 {
-    if mark == marks::EQUAL {
-        return plainly_assigned(env, may_call, line, a, b);
+    match mark {
+        Mark::Equal => plainly_assigned(env, may_call, line, a, b),
+        _ => compoundly_assigned(env, line, mark, a, b),
     }
-    compoundly_assigned(env, line, mark, a, b)
 }
 
 /// `+= 1` or `-= 1`, by the mark of the assignment.
-pub(crate) fn stepped(env: &Env, line: u32, mark: u8, a: &ExprTree) -> Result<What, Halt>
-    ensures { Gives shown_what (whole.stepped (around env.now) line mark (source.expr a.now)) result }
+pub(crate) fn stepped(env: &Env, line: u32, mark: Mark, a: &ExprTree) -> Result<What, Halt>
+    ensures { Refines what_view (whole.stepped (env_view env.now) line (mark_number mark) (source.expr a.now)) result }
 {
     let x = typed(env, a)?;
     let old = read(env, line, &x)?;

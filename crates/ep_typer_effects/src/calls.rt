@@ -3,15 +3,15 @@
 ghost use Rattle.std.specs.Prelude.{◌≡◌, ◌∷◌, [], map, drop, IfOk};
 ghost use Rattle.std.specs.Vec.Iter.{into_iter_items};
 ghost use Rattle.ep_ast.specs.Expression as source;
-ghost use Rattle.ep_core.specs.View.{shown_expr};
+ghost use Rattle.ep_core.specs.View.{expr_view};
 ghost use Rattle.ep_int.specs.declared.types.IntType.TheVariants.{U8};
 ghost use Rattle.ep_typing.specs.Calls as rule;
 ghost use Rattle.ep_typing.specs.Operand as operands;
 ghost use Rattle.ep_typing.specs.Results.{at};
 ghost use Rattle.ep_typing.specs.Typing as typing;
-ghost use Rattle.ep_operands.specs.Gives.{Gives};
-ghost use Rattle.ep_stores.specs.Seen as seen;
-ghost use Rattle.ep_scopes.specs.Seen.{env as around};
+ghost use Rattle.ep_operands.specs.Refinement.{Refines};
+ghost use Rattle.ep_stores.specs.View as view;
+ghost use Rattle.ep_scopes.specs.View.{env as env_view};
 
 use ep_ast::{ExprTree, Halt, RefusalKind};
 use ep_core::tree::Expr;
@@ -19,14 +19,14 @@ use ep_int::{IntType, Memory};
 use ep_operands::{Callee, Operand, Value, int_type, refused, void_type};
 use ep_scopes::Env;
 use ep_stores::{Action, Called, Parameter, all_passed, length_at};
-use ep_typer_exprs::{typed, typed_all};
+use ep_typer_exprs::{callee, typed_all};
 use ep_typing::CType;
 use std::alloc::Global;
 use std::vec::IntoIter;
 
 // A parameter of each of these types.
 fn as_parameters(alloc: Global, types: &[CType]) -> Result<Vec<Parameter>, Memory>
-    ensures { IfOk result (λ v. map seen.parameter v.items ≡ map rule.of_type types.now) }
+    ensures { IfOk result (λ v. map view.parameter v.items ≡ map rule.of_type types.now) }
 {
     let mut parameters = Vec::new(alloc);
     for c in types {
@@ -40,7 +40,7 @@ fn as_parameters(alloc: Global, types: &[CType]) -> Result<Vec<Parameter>, Memor
 // The parameters of a function, by its number.
 fn declared_parameters(env: &Env, number: u32) -> Result<Vec<Parameter>, Memory>
     ensures { IfOk result
-        (λ v. map seen.parameter v.items ≡ map rule.of_type (rule.signature (around env.now) number).params) }
+        (λ v. map view.parameter v.items ≡ map rule.of_type (rule.signature (env_view env.now) number).params) }
 {
     match env.function(number) {
         Some(ty) => as_parameters(env.alloc, &ty.params),
@@ -49,7 +49,7 @@ fn declared_parameters(env: &Env, number: u32) -> Result<Vec<Parameter>, Memory>
 }
 
 fn declared_result(env: &Env, number: u32) -> CType
-    ensures { result ≡ (rule.signature (around env.now) number).result }
+    ensures { result ≡ (rule.signature (env_view env.now) number).result }
 {
     match env.function(number) {
         Some(ty) => ty.result,
@@ -59,7 +59,7 @@ fn declared_result(env: &Env, number: u32) -> CType
 
 // The next argument, or null.
 fn next_argument(arguments: &mut IntoIter<Expr>) -> Expr
-    ensures first { shown_expr result ≡ rule.argument (map shown_expr (into_iter_items arguments.old)) 0 }
+    ensures first { expr_view result ≡ rule.argument (map expr_view (into_iter_items arguments.old)) 0 }
     ensures rest { into_iter_items arguments.new ≡ drop 1 (into_iter_items arguments.old) }
 {
     match arguments.next() {
@@ -69,15 +69,15 @@ fn next_argument(arguments: &mut IntoIter<Expr>) -> Expr
 }
 
 fn first_of(arguments: Vec<Expr>) -> Expr
-    ensures { shown_expr result ≡ rule.argument (map shown_expr arguments.items) 0 }
+    ensures { expr_view result ≡ rule.argument (map expr_view arguments.items) 0 }
 {
     let mut rest = arguments.into_iter();
     next_argument(&mut rest)
 }
 
 fn first_two(arguments: Vec<Expr>) -> (Expr, Expr)
-    ensures first { shown_expr result.0 ≡ rule.argument (map shown_expr arguments.items) 0 }
-    ensures second { shown_expr result.1 ≡ rule.argument (map shown_expr arguments.items) 1 }
+    ensures first { expr_view result.0 ≡ rule.argument (map expr_view arguments.items) 0 }
+    ensures second { expr_view result.1 ≡ rule.argument (map expr_view arguments.items) 1 }
 {
     let mut rest = arguments.into_iter();
     let first = next_argument(&mut rest);
@@ -87,8 +87,9 @@ fn first_two(arguments: Vec<Expr>) -> (Expr, Expr)
 
 #[tactic(auto, unfolding(ep_typing::specs::Calls::called))]
 fn declared_called(env: &Env, line: u32, number: u32, values: Vec<Value>) -> Result<Called, Halt>
-    ensures { Gives seen.called (at line (rule.called (around env.now) (operands.function (operands.declared number))
-        (map seen.value values.items))) result }
+    ensures { Refines view.called
+        (at line (rule.called (env_view env.now) (operands.function (operands.declared number))
+        (map view.value values.items))) result }
 {
     let parameters = declared_parameters(env, number)?;
     let arguments = all_passed(env.alloc, line, &parameters, values)?;
@@ -97,8 +98,8 @@ fn declared_called(env: &Env, line: u32, number: u32, values: Vec<Value>) -> Res
 
 #[tactic(auto, unfolding(ep_typing::specs::Calls::called))]
 fn input_called(env: &Env, line: u32, t: IntType, values: Vec<Value>) -> Result<Called, Halt>
-    ensures { Gives seen.called (at line (rule.called (around env.now) (operands.function (operands.input t))
-        (map seen.value values.items))) result }
+    ensures { Refines view.called (at line (rule.called (env_view env.now) (operands.function (operands.input t))
+        (map view.value values.items))) result }
 {
     all_passed(env.alloc, line, &[], values)?;
     Ok(Called::Input(t))
@@ -106,8 +107,8 @@ fn input_called(env: &Env, line: u32, t: IntType, values: Vec<Value>) -> Result<
 
 #[tactic(auto, unfolding(ep_typing::specs::Calls::called))]
 fn output_called(env: &Env, line: u32, t: IntType, values: Vec<Value>) -> Result<Called, Halt>
-    ensures { Gives seen.called (at line (rule.called (around env.now) (operands.function (operands.output t))
-        (map seen.value values.items))) result }
+    ensures { Refines view.called (at line (rule.called (env_view env.now) (operands.function (operands.output t))
+        (map view.value values.items))) result }
 {
     let parameters = [Parameter::OfType(int_type(t))];
     let arguments = all_passed(env.alloc, line, &parameters, values)?;
@@ -116,8 +117,8 @@ fn output_called(env: &Env, line: u32, t: IntType, values: Vec<Value>) -> Result
 
 #[tactic(auto, unfolding(ep_typing::specs::Calls::called))]
 fn copy_called(env: &Env, line: u32, values: Vec<Value>) -> Result<Called, Halt>
-    ensures { Gives seen.called (at line (rule.called (around env.now) (operands.function operands.copy_bytes)
-        (map seen.value values.items))) result }
+    ensures { Refines view.called (at line (rule.called (env_view env.now) (operands.function operands.copy_bytes)
+        (map view.value values.items))) result }
 {
     let length = length_at(&values, 2);
     let parameters = [
@@ -132,8 +133,8 @@ fn copy_called(env: &Env, line: u32, values: Vec<Value>) -> Result<Called, Halt>
 
 #[tactic(auto, unfolding(ep_typing::specs::Calls::called))]
 fn fill_called(env: &Env, line: u32, values: Vec<Value>) -> Result<Called, Halt>
-    ensures { Gives seen.called (at line (rule.called (around env.now) (operands.function operands.fill_bytes)
-        (map seen.value values.items))) result }
+    ensures { Refines view.called (at line (rule.called (env_view env.now) (operands.function operands.fill_bytes)
+        (map view.value values.items))) result }
 {
     let length = length_at(&values, 2);
     let parameters = [
@@ -148,8 +149,8 @@ fn fill_called(env: &Env, line: u32, values: Vec<Value>) -> Result<Called, Halt>
 
 #[tactic(auto, unfolding(ep_typing::specs::Calls::called))]
 fn read_called(env: &Env, line: u32, values: Vec<Value>) -> Result<Called, Halt>
-    ensures { Gives seen.called (at line (rule.called (around env.now) (operands.function operands.read_bytes)
-        (map seen.value values.items))) result }
+    ensures { Refines view.called (at line (rule.called (env_view env.now) (operands.function operands.read_bytes)
+        (map view.value values.items))) result }
 {
     let length = length_at(&values, 1);
     let parameters = [Parameter::AnyPointer, Parameter::Length];
@@ -159,8 +160,8 @@ fn read_called(env: &Env, line: u32, values: Vec<Value>) -> Result<Called, Halt>
 
 #[tactic(auto, unfolding(ep_typing::specs::Calls::called))]
 fn write_called(env: &Env, line: u32, values: Vec<Value>) -> Result<Called, Halt>
-    ensures { Gives seen.called (at line (rule.called (around env.now) (operands.function operands.write_bytes)
-        (map seen.value values.items))) result }
+    ensures { Refines view.called (at line (rule.called (env_view env.now) (operands.function operands.write_bytes)
+        (map view.value values.items))) result }
 {
     let length = length_at(&values, 1);
     let parameters = [Parameter::AnyPointer, Parameter::Length];
@@ -169,8 +170,8 @@ fn write_called(env: &Env, line: u32, values: Vec<Value>) -> Result<Called, Halt
 }
 
 fn function_called(env: &Env, line: u32, callee: Callee, values: Vec<Value>) -> Result<Called, Halt>
-    ensures { Gives seen.called (at line (rule.called (around env.now) (operands.function (seen.callee callee))
-        (map seen.value values.items))) result }
+    ensures { Refines view.called (at line (rule.called (env_view env.now) (operands.function (view.callee callee))
+        (map view.value values.items))) result }
 {
     match callee {
         Callee::Declared(number) => declared_called(env, line, number, values),
@@ -185,8 +186,8 @@ fn function_called(env: &Env, line: u32, callee: Callee, values: Vec<Value>) -> 
 
 #[tactic(auto, unfolding(ep_typing::specs::Calls::called))]
 fn called(env: &Env, line: u32, x: Operand, values: Vec<Value>) -> Result<Called, Halt>
-    ensures { Gives seen.called
-        (at line (rule.called (around env.now) (seen.operand x) (map seen.value values.items))) result }
+    ensures { Refines view.called
+        (at line (rule.called (env_view env.now) (view.operand x) (map view.value values.items))) result }
 {
     match x {
         Operand::Place(_, _) => Err(refused(RefusalKind::TypeMismatch, line)),
@@ -198,10 +199,10 @@ fn called(env: &Env, line: u32, x: Operand, values: Vec<Value>) -> Result<Called
 /// A call with its function and arguments, where it may stand.
 #[tactic(auto, unfolding(ep_typing::specs::Typing::call_typed))]
 pub fn call_typed(env: &Env, line: u32, f: &ExprTree, list: &[ExprTree]) -> Result<Called, Halt>
-    ensures { Gives seen.called (typing.call_typed (around env.now) line (source.expr f.now)
+    ensures { Refines view.called (typing.call_typed (env_view env.now) line (source.expr f.now)
         (source.to_exprs (map source.expr list.now))) result }
 {
-    let x = typed(env, f)?;
+    let x = callee(env, f)?;
     let values = typed_all(env, line, list)?;
     called(env, line, x, values)
 }

@@ -3,15 +3,15 @@
 ghost use Rattle.std.specs.Prelude.{◌≡◌, true, false, map};
 ghost use Rattle.ep_ast.specs.Expression as source;
 ghost use Rattle.ep_ast.specs.Mark.{equal};
-ghost use Rattle.ep_core.specs.View.{shown_what};
+ghost use Rattle.ep_core.specs.View.{what_view};
 ghost use Rattle.ep_layout.specs.Table.{Table};
 ghost use Rattle.ep_typing.specs.Operand.{Operand as Operand'};
 ghost use Rattle.ep_typing.specs.Results.{at};
 ghost use Rattle.ep_typing.specs.Typing as rule;
-ghost use Rattle.ep_operands.specs.Gives.{Gives};
-ghost use Rattle.ep_stores.specs.Seen as operands;
-ghost use Rattle.ep_scopes.specs.Seen.{env as around};
-ghost use Rattle.ep_typer_effects.specs.Seen as seen;
+ghost use Rattle.ep_operands.specs.Refinement.{Refines};
+ghost use Rattle.ep_stores.specs.View as operands;
+ghost use Rattle.ep_scopes.specs.View.{env as env_view};
+ghost use Rattle.ep_typer_effects.specs.View as view;
 
 use crate::calls::call_typed;
 use ep_ast::{ExprTree, Halt};
@@ -32,7 +32,7 @@ pub enum Right {
 
 #[tactic(auto, unfolding(ep_typing::specs::Typing::right_side))]
 fn result_side(env: &Env, line: u32, f: &ExprTree, list: &[ExprTree]) -> Result<Right, Halt>
-    ensures { Gives seen.right (rule.right_side (around env.now) true (source.call line (source.expr f.now)
+    ensures { Refines view.right (rule.right_side (env_view env.now) true (source.call line (source.expr f.now)
         (source.to_exprs (map source.expr list.now)))) result }
 {
     let called = call_typed(env, line, f, list)?;
@@ -41,7 +41,7 @@ fn result_side(env: &Env, line: u32, f: &ExprTree, list: &[ExprTree]) -> Result<
 
 #[tactic(auto, unfolding(ep_typing::specs::Typing::right_side))]
 fn object_side(env: &Env, tree: &ExprTree) -> Result<Right, Halt>
-    ensures { Gives seen.right (rule.right_side (around env.now) false (source.expr tree.now)) result }
+    ensures { Refines view.right (rule.right_side (env_view env.now) false (source.expr tree.now)) result }
 {
     let x = typed(env, tree)?;
     Ok(Right::Object(x))
@@ -49,7 +49,7 @@ fn object_side(env: &Env, tree: &ExprTree) -> Result<Right, Halt>
 
 /// What stands right of an assignment, which is a call only where it may be one.
 pub fn right_side(env: &Env, may_call: bool, tree: &ExprTree) -> Result<Right, Halt>
-    ensures { Gives seen.right (rule.right_side (around env.now) may_call (source.expr tree.now)) result }
+    ensures { Refines view.right (rule.right_side (env_view env.now) may_call (source.expr tree.now)) result }
 {
     if !may_call {
         return object_side(env, tree);
@@ -62,7 +62,7 @@ pub fn right_side(env: &Env, may_call: bool, tree: &ExprTree) -> Result<Right, H
 
 // A result, of which the table of types isn't asked.
 fn result_taken(alloc: Global, line: u32, x: Operand, called: Called) -> Result<What, Halt>
-    ensures { (t : Table) (old : Operand') → Gives shown_what (at line
+    ensures { (t : Table) (old : Operand') → Refines what_view (at line
         (rule.assigned_from t equal (operands.operand x) old (rule.a_result (operands.called called)))) result }
 {
     let dest = taken(alloc, line, x, called.result())?;
@@ -77,8 +77,8 @@ pub fn assigned_from(
     x: Operand,
     right: Right,
 ) -> Result<What, Halt>
-    ensures { (old : Operand') → Gives shown_what
-        (at line (rule.assigned_from types.now equal (operands.operand x) old (seen.right right))) result }
+    ensures { (old : Operand') → Refines what_view
+        (at line (rule.assigned_from types.now equal (operands.operand x) old (view.right right))) result }
 {
     match right {
         Right::Object(y) => assigned(alloc, types, line, x, y),

@@ -6,4 +6,4 @@ mod nodes;
 mod walk;
 
 pub use mentions::{mention, mention_all};
-pub use walk::{meaning, typed, typed_all};
+pub use walk::{callee, meaning, typed, typed_all};

@@ -4,7 +4,7 @@ ghost use Rattle.std.specs.Prelude.{◌≡◌, map, OnOk};
 ghost use Rattle.ep_ast.specs.Expression as source;
 ghost use Rattle.ep_typing.specs.Names as rule;
 ghost use Rattle.ep_scopes.specs.Known.{IsKnownEnv};
-ghost use Rattle.ep_scopes.specs.Seen.{env as around};
+ghost use Rattle.ep_scopes.specs.View.{env as env_view};
 
 use ep_ast::ExprTree;
 use ep_int::Memory;
@@ -14,9 +14,9 @@ use ep_scopes::{Env, mention_name};
 #[cycle(mentions)]
 #[tactic(auto, unfolding(ep_typing::specs::Names::mentioned))]
 pub fn mention(env: &mut Env, tree: &ExprTree) -> Result<(), Memory>
-    requires { IsKnownEnv (around env.old) }
-    ensures means { OnOk result (around env.new ≡ rule.mentioned (around env.old) (source.expr tree.now)) }
-    ensures known { OnOk result (IsKnownEnv (around env.new)) }
+    requires { IsKnownEnv (env_view env.old) }
+    ensures means { OnOk result (env_view env.new ≡ rule.mentioned (env_view env.old) (source.expr tree.now)) }
+    ensures known { OnOk result (IsKnownEnv (env_view env.new)) }
 {
     match tree {
         ExprTree::Assign(_, _, a, b) => {
@@ -61,10 +61,10 @@ pub fn mention(env: &mut Env, tree: &ExprTree) -> Result<(), Memory>
 #[cycle(mentions)]
 #[tactic(auto, unfolding(ep_typing::specs::Names::mentioned_all))]
 pub fn mention_all(env: &mut Env, list: &[ExprTree]) -> Result<(), Memory>
-    requires { IsKnownEnv (around env.old) }
-    ensures means { OnOk result (around env.new
-        ≡ rule.mentioned_all (around env.old) (source.to_exprs (map source.expr list.now))) }
-    ensures known { OnOk result (IsKnownEnv (around env.new)) }
+    requires { IsKnownEnv (env_view env.old) }
+    ensures means { OnOk result (env_view env.new
+        ≡ rule.mentioned_all (env_view env.old) (source.to_exprs (map source.expr list.now))) }
+    ensures known { OnOk result (IsKnownEnv (env_view env.new)) }
 {
     for tree in list {
         mention(env, tree)?;

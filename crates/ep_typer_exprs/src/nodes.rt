@@ -1,36 +1,58 @@
 //! What a node does with its last operand.
 
 ghost use Rattle.std.specs.Prelude.{◌≡◌};
+ghost use Rattle.ep_ast.specs.Mark.{mark_number};
 ghost use Rattle.ep_typing.specs.Operand.{value_of};
 ghost use Rattle.ep_typing.specs.Parts.{an_operand};
 ghost use Rattle.ep_typing.specs.Parts as parts;
 ghost use Rattle.ep_typing.specs.Results.{at};
 ghost use Rattle.ep_typing.specs.Typing as rule;
-ghost use Rattle.ep_operands.specs.Gives.{Gives};
-ghost use Rattle.ep_operands.specs.Seen as seen;
-ghost use Rattle.ep_scopes.specs.Seen.{env as around};
+ghost use Rattle.ep_operands.specs.Refinement.{Refines};
+ghost use Rattle.ep_operands.specs.View as view;
+ghost use Rattle.ep_scopes.specs.View.{env as env_view};
 
-use ep_ast::{Halt, marks};
+use ep_ast::{Halt, Mark, RefusalKind};
 use ep_comparisons::chosen;
-use ep_operands::{Operand, Value, value_of};
+use ep_operands::{Operand, Value, refused, value_of};
 use ep_operators::operated;
-use ep_places::{casted, indexed, selected_through, sized, type_sized};
-use ep_scopes::Env;
+use ep_places::{casted, indexed, is_mark, selected_through, sized, type_sized};
+use ep_scopes::{Env, named};
 use ep_typing::CType;
 
 /// The value of an operand.
 pub(crate) fn valued(env: &Env, line: u32, x: Operand) -> Result<Value, Halt>
-    ensures { Gives seen.value (at line (value_of (around env.now).types (seen.operand x))) result }
+    ensures { Refines view.value (at line (value_of (env_view env.now).types (view.operand x))) result }
 {
     value_of(env.alloc, &env.types, line, x)
 }
 
+// What isn't called, which is no function.
+fn uncalled(line: u32, x: Operand) -> Result<Operand, Halt>
+    ensures { Refines view.operand (at line (parts.uncalled (view.operand x))) result }
+{
+    match x {
+        Operand::Place(place, c) => Ok(Operand::Place(place, c)),
+        Operand::Value(v) => Ok(Operand::Value(v)),
+        Operand::Function(_) => Err(refused(RefusalKind::TypeMismatch, line)),
+    }
+}
+
+/// What a name stands for that isn't called.
+#[tactic(auto, unfolding(ep_typing::specs::Parts::named_uncalled))]
+pub(crate) fn named_uncalled(env: &Env, line: u32, name: &[u8]) -> Result<Operand, Halt>
+    ensures { Refines view.operand (at line (parts.named_uncalled (env_view env.now) name.now)) result }
+{
+    let x = named(env, line, name)?;
+    uncalled(line, x)
+}
+
 /// What a left side is asked before the right one is looked at: a value, but of `=` nothing.
 #[tactic(auto, unfolding(ep_typing::specs::Typing::read_first))]
-pub(crate) fn read_first(env: &Env, line: u32, mark: u8, x: Operand) -> Result<Operand, Halt>
-    ensures { Gives seen.operand (at line (rule.read_first (around env.now).types mark (seen.operand x))) result }
+pub(crate) fn read_first(env: &Env, line: u32, mark: Mark, x: Operand) -> Result<Operand, Halt>
+    ensures { Refines view.operand (at line
+        (rule.read_first (env_view env.now).types (mark_number mark) (view.operand x))) result }
 {
-    if mark == marks::EQUAL {
+    if is_mark(mark, Mark::Equal) {
         return Ok(x);
     }
     let v = valued(env, line, x)?;
@@ -42,12 +64,13 @@ pub(crate) fn read_first(env: &Env, line: u32, mark: u8, x: Operand) -> Result<O
 pub(crate) fn joined(
     env: &Env,
     line: u32,
-    mark: u8,
+    mark: Mark,
     left: Value,
     right: Operand,
 ) -> Result<Operand, Halt>
-    ensures { Gives seen.operand
-        (at line (rule.joined (around env.now).types mark (seen.value left) (seen.operand right))) result }
+    ensures { Refines view.operand
+        (at line (rule.joined (env_view env.now).types (mark_number mark) (view.value left)
+        (view.operand right))) result }
 {
     let v = valued(env, line, right)?;
     let w = operated(env.alloc, &env.types, line, mark, left, v)?;
@@ -63,9 +86,9 @@ pub(crate) fn chosen_from(
     yes: Value,
     no: Operand,
 ) -> Result<Operand, Halt>
-    ensures { Gives seen.operand
-        (at line (rule.chosen_from (around env.now).types (seen.value test) (seen.value yes)
-        (seen.operand no))) result }
+    ensures { Refines view.operand
+        (at line (rule.chosen_from (env_view env.now).types (view.value test) (view.value yes)
+        (view.operand no))) result }
 {
     let v = valued(env, line, no)?;
     let w = chosen(env.alloc, line, test, yes, v)?;
@@ -75,7 +98,7 @@ pub(crate) fn chosen_from(
 /// A cast.
 #[tactic(auto, unfolding(ep_typing::specs::Typing::cast_to))]
 pub(crate) fn cast_to(env: &Env, line: u32, c: CType, x: Operand) -> Result<Operand, Halt>
-    ensures { Gives seen.operand (at line (rule.cast_to (around env.now).types c (seen.operand x))) result }
+    ensures { Refines view.operand (at line (rule.cast_to (env_view env.now).types c (view.operand x))) result }
 {
     let v = valued(env, line, x)?;
     let w = casted(env.alloc, line, c, v)?;
@@ -85,8 +108,8 @@ pub(crate) fn cast_to(env: &Env, line: u32, c: CType, x: Operand) -> Result<Oper
 /// An element.
 #[tactic(auto, unfolding(ep_typing::specs::Typing::indexed_by))]
 pub(crate) fn indexed_by(env: &Env, line: u32, x: Operand, index: Operand) -> Result<Operand, Halt>
-    ensures { Gives seen.operand
-        (at line (rule.indexed_by (around env.now).types (seen.operand x) (seen.operand index))) result }
+    ensures { Refines view.operand
+        (at line (rule.indexed_by (env_view env.now).types (view.operand x) (view.operand index))) result }
 {
     let v = valued(env, line, index)?;
     indexed(env.alloc, &env.types, line, x, v)
@@ -100,8 +123,8 @@ pub(crate) fn selected_behind(
     x: Operand,
     name: &[u8],
 ) -> Result<Operand, Halt>
-    ensures { Gives seen.operand
-        (at line (rule.selected_behind (around env.now).types (seen.operand x) name.now)) result }
+    ensures { Refines view.operand
+        (at line (rule.selected_behind (env_view env.now).types (view.operand x) name.now)) result }
 {
     let v = valued(env, line, x)?;
     selected_through(env.alloc, &env.types, line, v, name)
@@ -109,8 +132,8 @@ pub(crate) fn selected_behind(
 
 /// `sizeof` of an operand.
 pub(crate) fn size_of(env: &Env, line: u32, x: Operand) -> Result<Operand, Halt>
-    ensures { Gives seen.operand
-        (at line (an_operand (parts.sized (around env.now).types (seen.operand x)))) result }
+    ensures { Refines view.operand
+        (at line (an_operand (parts.sized (env_view env.now).types (view.operand x)))) result }
 {
     let v = sized(&env.types, line, x)?;
     Ok(Operand::Value(v))
@@ -118,7 +141,7 @@ pub(crate) fn size_of(env: &Env, line: u32, x: Operand) -> Result<Operand, Halt>
 
 /// `sizeof` of a type.
 pub(crate) fn size_of_type(env: &Env, line: u32, c: CType) -> Result<Operand, Halt>
-    ensures { Gives seen.operand (at line (an_operand (parts.type_sized (around env.now).types c))) result }
+    ensures { Refines view.operand (at line (an_operand (parts.type_sized (env_view env.now).types c))) result }
 {
     let v = type_sized(&env.types, line, c)?;
     Ok(Operand::Value(v))

@@ -4,15 +4,15 @@ ghost use Rattle.std.specs.Prelude.{◌≡◌, map, OnOk};
 ghost use Rattle.ep_ast.specs.Expression as source;
 ghost use Rattle.ep_typing.specs.Names.{mentioned};
 ghost use Rattle.ep_typing.specs.Typing as rule;
-ghost use Rattle.ep_operands.specs.Gives.{Gives};
-ghost use Rattle.ep_operands.specs.Seen as seen;
+ghost use Rattle.ep_operands.specs.Refinement.{Refines};
+ghost use Rattle.ep_operands.specs.View as view;
 ghost use Rattle.ep_scopes.specs.Known.{IsKnownEnv};
-ghost use Rattle.ep_scopes.specs.Seen.{env as around};
+ghost use Rattle.ep_scopes.specs.View.{env as env_view};
 
 use crate::mentions::mention;
 use crate::nodes::{
-    cast_to, chosen_from, indexed_by, joined, read_first, selected_behind, size_of, size_of_type,
-    valued,
+    cast_to, chosen_from, indexed_by, joined, named_uncalled, read_first, selected_behind, size_of,
+    size_of_type, valued,
 };
 use ep_ast::{ExprTree, Halt, RefusalKind};
 use ep_operands::{Operand, Value, numbered, refused};
@@ -23,7 +23,7 @@ use ep_scopes::{Env, named, named_type};
 #[cycle(walk)]
 #[tactic(auto, unfolding(ep_typing::specs::Typing::typed))]
 pub fn typed(env: &Env, tree: &ExprTree) -> Result<Operand, Halt>
-    ensures { Gives seen.operand (rule.typed (around env.now) (source.expr tree.now)) result }
+    ensures { Refines view.operand (rule.typed (env_view env.now) (source.expr tree.now)) result }
 {
     match tree {
         ExprTree::Assign(line, mark, a, b) => {
@@ -55,7 +55,7 @@ pub fn typed(env: &Env, tree: &ExprTree) -> Result<Operand, Halt>
             indexed_by(env, *line, x, typed(env, b)?)
         }
         ExprTree::Call(line, f, list) => {
-            typed(env, f)?;
+            callee(env, f)?;
             typed_all(env, *line, list)?;
             Err(refused(RefusalKind::CallInExpression, *line))
         }
@@ -65,8 +65,20 @@ pub fn typed(env: &Env, tree: &ExprTree) -> Result<Operand, Halt>
         ExprTree::Arrow(line, a, name) => selected_behind(env, *line, typed(env, a)?, name),
         ExprTree::PostIncrement(line, a) => stepped(env, *line, a),
         ExprTree::PostDecrement(line, a) => stepped(env, *line, a),
-        ExprTree::Id(line, name) => named(env, *line, name),
+        ExprTree::Id(line, name) => named_uncalled(env, *line, name),
         ExprTree::Number(_, n) => Ok(numbered(env.types.model(), *n)),
+    }
+}
+
+/// What is called: a function by its name, or what another expression stands for.
+#[cycle(walk)]
+pub fn callee(env: &Env, tree: &ExprTree) -> Result<Operand, Halt>
+    ensures { Refines view.operand (rule.callee (env_view env.now) (source.expr tree.now)
+        (rule.typed (env_view env.now) (source.expr tree.now))) result }
+{
+    match tree {
+        ExprTree::Id(line, name) => named(env, *line, name),
+        _ => typed(env, tree),
     }
 }
 
@@ -74,7 +86,8 @@ pub fn typed(env: &Env, tree: &ExprTree) -> Result<Operand, Halt>
 #[cycle(walk)]
 #[tactic(auto, unfolding(ep_typing::specs::Typing::typed))]
 fn stepped(env: &Env, line: u32, a: &ExprTree) -> Result<Operand, Halt>
-    ensures { Gives seen.operand (rule.typed (around env.now) (source.post_increment line (source.expr a.now))) result }
+    ensures { Refines view.operand (rule.typed (env_view env.now)
+        (source.post_increment line (source.expr a.now))) result }
 {
     typed(env, a)?;
     Err(refused(RefusalKind::AssignmentInExpression, line))
@@ -84,8 +97,8 @@ fn stepped(env: &Env, line: u32, a: &ExprTree) -> Result<Operand, Halt>
 #[cycle(walk)]
 #[tactic(auto, unfolding(ep_typing::specs::Typing::typed_all))]
 pub fn typed_all(env: &Env, line: u32, list: &[ExprTree]) -> Result<Vec<Value>, Halt>
-    ensures { Gives (λ v. map seen.value v.items)
-        (rule.typed_all (around env.now) line (source.to_exprs (map source.expr list.now))) result }
+    ensures { Refines (λ v. map view.value v.items)
+        (rule.typed_all (env_view env.now) line (source.to_exprs (map source.expr list.now))) result }
 {
     let mut all = Vec::new(env.alloc);
     for tree in list {
@@ -98,10 +111,10 @@ pub fn typed_all(env: &Env, line: u32, list: &[ExprTree]) -> Result<Vec<Value>, 
 
 /// What an expression stands for, after the tags and types that it mentions.
 pub fn meaning(env: &mut Env, tree: &ExprTree) -> Result<Operand, Halt>
-    requires { IsKnownEnv (around env.old) }
-    ensures means { Gives seen.operand (rule.meaning (around env.old) (source.expr tree.now)) result }
-    ensures declares { OnOk result (around env.new ≡ mentioned (around env.old) (source.expr tree.now)) }
-    ensures known { OnOk result (IsKnownEnv (around env.new)) }
+    requires { IsKnownEnv (env_view env.old) }
+    ensures means { Refines view.operand (rule.meaning (env_view env.old) (source.expr tree.now)) result }
+    ensures declares { OnOk result (env_view env.new ≡ mentioned (env_view env.old) (source.expr tree.now)) }
+    ensures known { OnOk result (IsKnownEnv (env_view env.new)) }
 {
     mention(env, tree)?;
     typed(env, tree)

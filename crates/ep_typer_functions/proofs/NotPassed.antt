@@ -1,5 +1,6 @@
 -- A parameter of a type that isn't passed.
 use Rattle.std.proofs.Common.{◌≡◌, ℕ, Bool, true, false, if◌then◌else◌, List, Option, Result, Ok, Err, sym, subst}
+use Rattle.ep_typing.proofs.Order.{at_ok}
 use Rattle.ep_ast.specs.Kind as kinds
 use Rattle.ep_ast.specs.declared.refusals.Halt.{Halt}
 use Rattle.ep_ast.specs.declared.refusals.Halt.TheVariants as halts
@@ -8,10 +9,9 @@ use Rattle.ep_typing.specs.declared.types.CType.{CType}
 use Rattle.ep_typing.specs.Env.{Env}
 use Rattle.ep_typing.specs.Results.{◌>>=◌, at}
 use Rattle.ep_typing.specs.Types.{is_aggregate, is_void}
-use Rattle.ep_operands.specs.Gives.{Stops}
+use Rattle.ep_operands.specs.Refinement.{Stops}
 use Rattle.ep_elaboration.specs.Functions.{is_name_taken, named_param, param_type, passable, passed_param, with_param}
-use Rattle.ep_typer_functions.specs.Seen.{passable_type}
-use Rattle.ep_declared.proofs.ArrayLemmas.{at_ok}
+use Rattle.ep_typer_functions.specs.View.{passable_type}
 
 abbrev chosen : {A : Type 0} → Bool → Bool → A → Result A ℕ
 chosen v a x = if v then Err kinds.incomplete_type else if a then Err kinds.struct_by_value else Ok x

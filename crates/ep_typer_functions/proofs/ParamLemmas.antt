@@ -21,7 +21,7 @@ use Rattle.ep_typing.specs.Env.{Env}
 use Rattle.ep_typing.specs.Results.{◌>>=◌}
 use Rattle.ep_typing.specs.Types.{element_of, is_same, number_in, of_row, pointer_to, type_within, with_c_type}
 use Rattle.ep_typing.specs.Types.{with_stars}
-use Rattle.ep_operands.specs.Gives.{Stops}
+use Rattle.ep_operands.specs.Refinement.{Stops}
 use Rattle.ep_elaboration.specs.Functions.{are_same, param_declared, params_declared}
 use Rattle.ep_scopes.specs.Known.{IsKnown}
 use Rattle.ep_declared.proofs.Growth.{type_known, type_more}

@@ -11,8 +11,8 @@ use Rattle.ep_typing.specs.Env.{Env, Meaning, Signature}
 use Rattle.ep_typing.specs.Calls as calls
 use Rattle.ep_elaboration.specs.Functions.{are_same, is_same_signature, is_unlike, stands_against}
 use Rattle.ep_scopes.specs.declared.env.FunctionType.{FunctionType}
-use Rattle.ep_scopes.specs.Seen as scopes
-use Rattle.ep_typer_functions.specs.Seen.{signature}
+use Rattle.ep_scopes.specs.View as scopes
+use Rattle.ep_typer_functions.specs.View.{signature}
 
 pub like_type : (o : Option Signature) (own ty : FunctionType) (d : Signature) (b : Bool)
     → Some (scopes.function_type own) ≡ option_map scopes.type_of o

@@ -1,7 +1,7 @@
 //! Which functions have a body.
 
 ghost use Rattle.std.specs.Prelude.{◌≡◌, ℕ, ◌==◌, ◌||◌, false, IfOk, OnOk};
-ghost use Rattle.ep_typer_functions.specs.Seen.{has_body};
+ghost use Rattle.ep_typer_functions.specs.View.{has_body};
 
 use ep_int::Memory;
 use std::alloc::Global;

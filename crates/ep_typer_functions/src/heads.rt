@@ -4,15 +4,15 @@ ghost use Rattle.std.specs.Prelude.{◌≡◌, ◌≤◌, ◌^◌, map, IfErr, I
 ghost use Rattle.std.specs.Option.{option_map};
 ghost use Rattle.ep_ast.specs.Declaration as shape;
 ghost use Rattle.ep_typing.specs.Results.{at};
-ghost use Rattle.ep_declared.specs.Gives.{GivesIn};
+ghost use Rattle.ep_declared.specs.Refinement.{RefinesIn};
 ghost use Rattle.ep_elaboration.specs.Functions as rule;
 ghost use Rattle.ep_elaboration.specs.Statements.{entered};
-ghost use Rattle.ep_operands.specs.Gives.{Gives};
+ghost use Rattle.ep_operands.specs.Refinement.{Refines};
 ghost use Rattle.ep_elaboration.specs.Declarators.{with_types};
 ghost use Rattle.ep_typing.specs.Types.{with_c_type};
 ghost use Rattle.ep_scopes.specs.Known.{IsKnown, IsKnownEnv};
-ghost use Rattle.ep_scopes.specs.Seen.{env as around};
-ghost use Rattle.ep_typer_functions.specs.Seen as seen;
+ghost use Rattle.ep_scopes.specs.View.{env as env_view};
+ghost use Rattle.ep_typer_functions.specs.View as view;
 
 use crate::params::{add, params_declared, starred};
 use ep_ast::{Halt, HeadTree, ParamTree, ParamsTree, RefusalKind};
@@ -23,7 +23,7 @@ use ep_scopes::{Env, FunctionType};
 use ep_typing::CType;
 
 fn given_back(line: u32, c: CType) -> Result<CType, Halt>
-    ensures { Gives (λ d. d) (at line (rule.given_back c)) result }
+    ensures { Refines (λ d. d) (at line (rule.given_back c)) result }
 {
     if is_aggregate(c) {
         return Err(refused(RefusalKind::StructByValue, line));
@@ -59,19 +59,20 @@ pub fn behind_result(block: u32, c: CType) -> Result<u32, Memory>
 }
 
 fn with_type(env: &mut Env, c: CType) -> Result<(), Memory>
-    requires known { IsKnownEnv (around env.old) }
-    requires inside { IsKnown (around env.old).types c }
-    ensures means { OnOk result (around env.new ≡ with_types (around env.old) (with_c_type (around env.old).types c)) }
-    ensures known { OnOk result (IsKnownEnv (around env.new)) }
+    requires known { IsKnownEnv (env_view env.old) }
+    requires inside { IsKnown (env_view env.old).types c }
+    ensures means { OnOk result (env_view env.new
+        ≡ with_types (env_view env.old) (with_c_type (env_view env.old).types c)) }
+    ensures known { OnOk result (IsKnownEnv (env_view env.new)) }
 {
     add(&mut env.types, c)?;
     Ok(())
 }
 
 fn enter(env: &mut Env) -> Result<(), Memory>
-    requires { IsKnownEnv (around env.old) }
-    ensures means { OnOk result (around env.new ≡ entered (around env.old)) }
-    ensures known { OnOk result (IsKnownEnv (around env.new)) }
+    requires { IsKnownEnv (env_view env.old) }
+    ensures means { OnOk result (env_view env.new ≡ entered (env_view env.old)) }
+    ensures known { OnOk result (IsKnownEnv (env_view env.new)) }
 {
     match env.scopes.enter() {
         Ok(()) => Ok(()),
@@ -82,10 +83,10 @@ fn enter(env: &mut Env) -> Result<(), Memory>
 /// What a head says. The scope of its parameters stays open.
 #[tactic(auto, unfolding(ep_elaboration::specs::Functions::headed))]
 pub fn headed(env: &mut Env, block: u32, head: &HeadTree) -> Result<FunctionType, Halt>
-    requires { IsKnownEnv (around env.old) }
-    ensures means { GivesIn seen.headed (rule.headed (around env.old) block (shape.head_of head.now))
-        (around env.new) result }
-    ensures known { OnOk result (IsKnownEnv (around env.new)) }
+    requires { IsKnownEnv (env_view env.old) }
+    ensures means { RefinesIn view.headed (rule.headed (env_view env.old) block (shape.head_of head.now))
+        (env_view env.new) result }
+    ensures known { OnOk result (IsKnownEnv (env_view env.new)) }
 {
     let c = specs_declared(env, &head.specs)?;
     let c = starred(c, &head.stars)?;

@@ -4,18 +4,18 @@ ghost use Rattle.std.specs.Prelude.{◌≡◌, ℕ, List, IfOk, OnOk};
 ghost use Rattle.ep_typing.specs.Calls as calls;
 ghost use Rattle.ep_typing.specs.Env.{entry};
 ghost use Rattle.ep_typing.specs.Results.{at};
-ghost use Rattle.ep_declared.specs.Gives.{GivesIn};
+ghost use Rattle.ep_declared.specs.Refinement.{RefinesIn};
 ghost use Rattle.ep_elaboration.specs.Functions as rule;
 ghost use Rattle.ep_scopes.specs.Known.{IsKnownEnv};
-ghost use Rattle.ep_scopes.specs.Seen.{env as around};
-ghost use Rattle.ep_typer_functions.specs.Seen as seen;
-ghost use Rattle.ep_typer_functions.specs.Seen.{AreDone};
+ghost use Rattle.ep_scopes.specs.View.{env as env_view};
+ghost use Rattle.ep_typer_functions.specs.View as view;
+ghost use Rattle.ep_typer_functions.specs.View.{AreDone};
 
 use crate::done::Done;
 use ep_ast::{Halt, RefusalKind};
 use ep_declared::{declare_name, is_taken};
 use ep_int::{IntType, Memory};
-use ep_operands::{int_type, refused, void_type};
+use ep_operands::{as_number, int_type, refused, void_type};
 use ep_scopes::{Env, FunctionType, Meaning};
 use ep_typing::CType;
 
@@ -27,7 +27,7 @@ fn are_same(a: &[CType], b: &[CType]) -> bool
 
 /// Whether two functions have the same type.
 pub fn is_same_signature(a: &FunctionType, b: &FunctionType) -> bool
-    ensures { (s t : List ℕ) → result ≡ rule.is_same_signature (seen.signature s a.now) (seen.signature t b.now) }
+    ensures { (s t : List ℕ) → result ≡ rule.is_same_signature (view.signature s a.now) (view.signature t b.now) }
 {
     (a.result == b.result) & are_same(&a.params, &b.params)
 }
@@ -35,7 +35,7 @@ pub fn is_same_signature(a: &FunctionType, b: &FunctionType) -> bool
 // Whether the function of a number has this type.
 fn has_type(env: &Env, number: u32, ty: &FunctionType) -> bool
     ensures { (t : List ℕ) → result
-        ≡ rule.is_same_signature (calls.signature (around env.now) number) (seen.signature t ty.now) }
+        ≡ rule.is_same_signature (calls.signature (env_view env.now) number) (view.signature t ty.now) }
 {
     match env.function(number) {
         Some(own) => is_same_signature(own, ty),
@@ -45,8 +45,8 @@ fn has_type(env: &Env, number: u32, ty: &FunctionType) -> bool
 
 // Whether the function that was declared by a name has another type.
 fn is_unlike(env: &Env, name: &[u8], ty: &FunctionType) -> bool
-    ensures { result ≡ rule.is_unlike (around env.now) (seen.signature name.now ty.now)
-        (rule.number_of_function (around env.now).functions name.now) }
+    ensures { result ≡ rule.is_unlike (env_view env.now) (view.signature name.now ty.now)
+        (rule.number_of_function (env_view env.now).functions name.now) }
 {
     match env.function_number(name) {
         None => false,
@@ -59,8 +59,8 @@ fn is_unlike(env: &Env, name: &[u8], ty: &FunctionType) -> bool
 
 fn stands_against(env: &Env, done: &Done, with_body: bool, name: &[u8], ty: &FunctionType) -> bool
     ensures { (ds : List ℕ) → AreDone done.now ds → result
-        ≡ rule.stands_against (around env.now) ds with_body (seen.signature name.now ty.now)
-        (entry name.now (rule.file_names (around env.now))) }
+        ≡ rule.stands_against (env_view env.now) ds with_body (view.signature name.now ty.now)
+        (entry name.now (rule.file_names (env_view env.now))) }
 {
     match env.scopes.name_here(name) {
         Some(Meaning::Variable(_, _)) => true,
@@ -71,7 +71,7 @@ fn stands_against(env: &Env, done: &Done, with_body: bool, name: &[u8], ty: &Fun
 }
 
 fn fits_main(name: &[u8], ty: &FunctionType) -> bool
-    ensures { result ≡ rule.fits_main (seen.signature name.now ty.now) }
+    ensures { result ≡ rule.fits_main (view.signature name.now ty.now) }
 {
     (b"main".as_slice() != name)
         | ((ty.result == int_type(IntType::I32)) & are_same(&ty.params, &[]))
@@ -79,18 +79,18 @@ fn fits_main(name: &[u8], ty: &FunctionType) -> bool
 
 // The number that a function has, or takes.
 fn numbered(env: &mut Env, name: &[u8], ty: &FunctionType) -> Result<u32, Memory>
-    requires { IsKnownEnv (around env.old) }
-    ensures means { IfOk result (λ n. (n, around env.new)
-        ≡ rule.numbered_function (around env.old) (seen.signature name.now ty.now)
-        (rule.number_of_function (around env.old).functions name.now)) }
-    ensures scopes { OnOk result ((around env.new).scopes ≡ (around env.old).scopes) }
-    ensures known { OnOk result (IsKnownEnv (around env.new)) }
+    requires { IsKnownEnv (env_view env.old) }
+    ensures means { IfOk result (λ n. (n, env_view env.new)
+        ≡ rule.numbered_function (env_view env.old) (view.signature name.now ty.now)
+        (rule.number_of_function (env_view env.old).functions name.now)) }
+    ensures scopes { OnOk result ((env_view env.new).scopes ≡ (env_view env.old).scopes) }
+    ensures known { OnOk result (IsKnownEnv (env_view env.new)) }
 {
     match env.function_number(name) {
-        Some(n) => match u32::try_from(n) {
-            Ok(n) => Ok(n),
-            Err(_) => Err(Memory),
-        },
+        Some(n) => {
+            let n = as_number(n)?;
+            Ok(n)
+        }
         None => {
             let params = match Vec::from_slice(env.alloc, &ty.params) {
                 Ok(params) => params,
@@ -115,11 +115,11 @@ pub fn function_declared(
     name: &[u8],
     ty: &FunctionType,
 ) -> Result<u32, Halt>
-    requires { IsKnownEnv (around env.old) }
-    ensures means { (ds : List ℕ) → AreDone done.now ds → GivesIn (λ n. n)
-        (at line (rule.function_declared (around env.old) ds with_body (seen.signature name.now ty.now)))
-        (around env.new) result }
-    ensures known { OnOk result (IsKnownEnv (around env.new)) }
+    requires { IsKnownEnv (env_view env.old) }
+    ensures means { (ds : List ℕ) → AreDone done.now ds → RefinesIn (λ n. n)
+        (at line (rule.function_declared (env_view env.old) ds with_body (view.signature name.now ty.now)))
+        (env_view env.new) result }
+    ensures known { OnOk result (IsKnownEnv (env_view env.new)) }
 {
     if stands_against(env, done, with_body, name, ty) {
         return Err(refused(RefusalKind::Redeclared, line));

@@ -7,20 +7,21 @@ ghost use Rattle.ep_ast.specs.Declaration.{param_of, text_of};
 ghost use Rattle.ep_ast.specs.Expression as source;
 ghost use Rattle.ep_layout.specs.Table.{Grows};
 ghost use Rattle.ep_typing.specs.Results.{at};
-ghost use Rattle.ep_declared.specs.Gives.{GivesIn};
+ghost use Rattle.ep_declared.specs.Refinement.{RefinesIn};
 ghost use Rattle.ep_elaboration.specs.Functions as rule;
-ghost use Rattle.ep_operands.specs.Gives.{Gives};
+ghost use Rattle.ep_operands.specs.Refinement.{Refines};
 ghost use Rattle.ep_scopes.specs.Known.{IsKnown, IsKnownEnv};
-ghost use Rattle.ep_scopes.specs.Seen.{env as around};
+ghost use Rattle.ep_scopes.specs.View.{env as env_view};
 ghost use Rattle.ep_typing.specs.Types as types_of;
-ghost use Rattle.ep_typer_functions.specs.Seen.{adjusted, counts_of, passable_type};
+ghost use Rattle.ep_typer_functions.specs.View.{adjusted, counts_of, passable_type};
 
 use ep_ast::{ExprTree, Halt, ParamTree, RefusalKind};
 use ep_declared::{arrays_of, bound, bounds, declare_name, is_taken, words_declared};
 use ep_int::Memory;
 use ep_layout::Types;
 use ep_operands::{
-    element_of, is_aggregate, is_array, is_void, one_behind, pointer_to, refused, with_stars,
+    element_of, is_aggregate, is_array, is_void, one_behind, pointer_to, refused, size_of_type,
+    with_stars,
 };
 use ep_scopes::{Env, Meaning, add_type};
 use ep_typing::CType;
@@ -32,11 +33,12 @@ fn param_bounds(
     line: u32,
     list: &[Option<ExprTree>],
 ) -> Result<Option<Vec<u32>>, Halt>
-    requires { IsKnownEnv (around env.old) }
-    ensures means { GivesIn counts_of (rule.param_bounds (around env.old) line (map (option_map source.expr) list.now))
-        (around env.new) result }
-    ensures known { OnOk result (IsKnownEnv (around env.new)) }
-    ensures grown { OnOk result (Grows (around env.old).types (around env.new).types) }
+    requires { IsKnownEnv (env_view env.old) }
+    ensures means { RefinesIn counts_of
+        (rule.param_bounds (env_view env.old) line (map (option_map source.expr) list.now))
+        (env_view env.new) result }
+    ensures known { OnOk result (IsKnownEnv (env_view env.new)) }
+    ensures grown { OnOk result (Grows (env_view env.old).types (env_view env.new).types) }
 {
     match list.split_first() {
         None => Ok(None),
@@ -89,16 +91,21 @@ fn param_type(
     counts: &Option<Vec<u32>>,
 ) -> Result<CType, Halt>
     requires { IsKnown types.old c }
-    ensures means { GivesIn (λ d. d) (at line (rule.param_type types.old c (counts_of counts.now))) types.new result }
+    ensures means { RefinesIn (λ d. d) (at line (rule.param_type types.old c (counts_of counts.now))) types.new result }
     ensures inside { IfOk result (λ d. IsKnown types.new d) }
     ensures grown { OnOk result (Grows types.old types.new) }
 {
     match counts {
         Some(counts) => {
             let elements = arrays_of(types, c, line, counts)?;
-            let d = pointer_to(elements)?;
-            add(types, d)?;
-            Ok(d)
+            match size_of_type(types, elements) {
+                None => Err(refused(RefusalKind::IncompleteType, line)),
+                Some(_) => {
+                    let d = pointer_to(elements)?;
+                    add(types, d)?;
+                    Ok(d)
+                }
+            }
         }
         None => {
             let d = adjusted(types, c)?;
@@ -110,7 +117,7 @@ fn param_type(
 
 // An incomplete type before a structure by value, where a type isn't passed.
 fn passable(line: u32, c: CType) -> Result<CType, Halt>
-    ensures { Gives (λ d. d) (at line (passable_type c)) result }
+    ensures { Refines (λ d. d) (at line (passable_type c)) result }
 {
     if is_void(c) {
         return Err(refused(RefusalKind::IncompleteType, line));
@@ -122,7 +129,7 @@ fn passable(line: u32, c: CType) -> Result<CType, Halt>
 }
 
 fn is_name_taken(env: &Env, name: &Option<Vec<u8>>) -> bool
-    ensures { result ≡ rule.is_name_taken (around env.now) (option_map text_of name.now) }
+    ensures { result ≡ rule.is_name_taken (env_view env.now) (option_map text_of name.now) }
 {
     match name {
         None => false,
@@ -131,12 +138,12 @@ fn is_name_taken(env: &Env, name: &Option<Vec<u8>>) -> bool
 }
 
 fn name_param(env: &mut Env, name: &Option<Vec<u8>>, block: u32, c: CType) -> Result<(), Memory>
-    requires free { IsFalse (rule.is_name_taken (around env.old) (option_map text_of name.now)) }
-    requires known { IsKnownEnv (around env.old) }
-    requires inside { IsKnown (around env.old).types c }
-    ensures means { OnOk result ((c, around env.new)
-        ≡ rule.named_param (option_map text_of name.now) block (c, around env.old)) }
-    ensures known { OnOk result (IsKnownEnv (around env.new)) }
+    requires free { IsFalse (rule.is_name_taken (env_view env.old) (option_map text_of name.now)) }
+    requires known { IsKnownEnv (env_view env.old) }
+    requires inside { IsKnown (env_view env.old).types c }
+    ensures means { OnOk result ((c, env_view env.new)
+        ≡ rule.named_param (option_map text_of name.now) block (c, env_view env.old)) }
+    ensures known { OnOk result (IsKnownEnv (env_view env.new)) }
 {
     match name {
         None => Ok(()),
@@ -152,13 +159,13 @@ fn with_param(
     c: CType,
     counts: &Option<Vec<u32>>,
 ) -> Result<CType, Halt>
-    requires known { IsKnownEnv (around env.old) }
-    requires inside { IsKnown (around env.old).types c }
-    ensures means { GivesIn (λ d. d)
-        (at tree.now.line (rule.with_param (around env.old) (option_map text_of tree.now.name) block c
+    requires known { IsKnownEnv (env_view env.old) }
+    requires inside { IsKnown (env_view env.old).types c }
+    ensures means { RefinesIn (λ d. d)
+        (at tree.now.line (rule.with_param (env_view env.old) (option_map text_of tree.now.name) block c
         (counts_of counts.now)))
-        (around env.new) result }
-    ensures known { OnOk result (IsKnownEnv (around env.new)) }
+        (env_view env.new) result }
+    ensures known { OnOk result (IsKnownEnv (env_view env.new)) }
 {
     if is_name_taken(env, &tree.name) {
         return Err(refused(RefusalKind::Redeclared, tree.line));
@@ -179,10 +186,10 @@ pub(crate) fn starred(c: CType, stars: &[u32]) -> Result<CType, Memory>
 
 #[tactic(auto, unfolding(ep_elaboration::specs::Functions::param_declared))]
 fn param_declared(env: &mut Env, block: u32, tree: &ParamTree) -> Result<CType, Halt>
-    requires { IsKnownEnv (around env.old) }
-    ensures means { GivesIn (λ d. d) (rule.param_declared (around env.old) block (param_of tree.now))
-        (around env.new) result }
-    ensures known { OnOk result (IsKnownEnv (around env.new)) }
+    requires { IsKnownEnv (env_view env.old) }
+    ensures means { RefinesIn (λ d. d) (rule.param_declared (env_view env.old) block (param_of tree.now))
+        (env_view env.new) result }
+    ensures known { OnOk result (IsKnownEnv (env_view env.new)) }
 {
     let c = words_declared(env, &tree.specs)?;
     let counts = param_bounds(env, tree.line, &tree.bounds)?;
@@ -198,10 +205,10 @@ pub(crate) fn params_declared(
     first: u32,
     list: &[ParamTree],
 ) -> Result<Vec<CType>, Halt>
-    requires { IsKnownEnv (around env.old) }
-    ensures means { GivesIn (λ v. v.items) (rule.params_declared (around env.old) first (map param_of list.now))
-        (around env.new) result }
-    ensures known { OnOk result (IsKnownEnv (around env.new)) }
+    requires { IsKnownEnv (env_view env.old) }
+    ensures means { RefinesIn (λ v. v.items) (rule.params_declared (env_view env.old) first (map param_of list.now))
+        (env_view env.new) result }
+    ensures known { OnOk result (IsKnownEnv (env_view env.new)) }
 {
     let mut all = Vec::new(env.alloc);
     let mut block = first;

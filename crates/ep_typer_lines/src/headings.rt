@@ -3,9 +3,9 @@
 ghost use Rattle.std.specs.Prelude.{◌≡◌, ◌++◌, IfErr, IfOk, OnOk};
 ghost use Rattle.ep_ast.specs.declared.refusals.Halt.TheVariants as halts;
 ghost use Rattle.ep_ast.specs.Statement.{first_of};
-ghost use Rattle.ep_core.specs.View.{shown_what};
+ghost use Rattle.ep_core.specs.View.{what_view};
 ghost use Rattle.ep_elaboration.specs.Statements as rule;
-ghost use Rattle.ep_typer_lines.specs.Seen.{lines as seen_lines};
+ghost use Rattle.ep_typer_lines.specs.View.{lines as lines_view};
 
 use crate::nodes::{one_line, scoped};
 use ep_ast::{ForInitTree, Halt};
@@ -13,7 +13,7 @@ use ep_core::tree::{Stmt, What};
 use std::alloc::Global;
 
 fn followed(lines: &mut Vec<Stmt>, line: u32, what: What) -> Result<(), Halt>
-    ensures more { OnOk result (seen_lines lines.new ≡ seen_lines lines.old ++ rule.one_line line (shown_what what)) }
+    ensures more { OnOk result (lines_view lines.new ≡ lines_view lines.old ++ rule.one_line line (what_view what)) }
     ensures wants { IfErr result (λ e. e ≡ halts.Memory) }
 {
     lines.push(Stmt { line, what })?;
@@ -29,8 +29,8 @@ pub fn for_lines(
     what: What,
     blocks: Vec<u32>,
 ) -> Result<Vec<Stmt>, Halt>
-    ensures means { IfOk result (λ v. seen_lines v
-        ≡ rule.for_lines (first_of first.now) line (seen_lines before) (shown_what what) blocks.items) }
+    ensures means { IfOk result (λ v. lines_view v
+        ≡ rule.for_lines (first_of first.now) line (lines_view before) (what_view what) blocks.items) }
     ensures wants { IfErr result (λ e. e ≡ halts.Memory) }
 {
     let mut lines = before;

@@ -2,9 +2,9 @@
 
 ghost use Rattle.std.specs.Prelude.{◌≡◌, IfOk};
 ghost use Rattle.ep_core.specs.Program as core;
-ghost use Rattle.ep_core.specs.View.{shown_expr, shown_what};
+ghost use Rattle.ep_core.specs.View.{expr_view, what_view};
 ghost use Rattle.ep_elaboration.specs.Statements as rule;
-ghost use Rattle.ep_typer_lines.specs.Seen.{lines as seen_lines};
+ghost use Rattle.ep_typer_lines.specs.View.{lines as lines_view};
 
 use ep_ast::NamedOrder;
 use ep_core::tree::{Expr, Stmt, What};
@@ -12,7 +12,7 @@ use ep_int::{Memory, Order};
 use std::alloc::Global;
 
 pub fn one_line(alloc: Global, line: u32, what: What) -> Result<Vec<Stmt>, Memory>
-    ensures { IfOk result (λ v. seen_lines v ≡ rule.one_line line (shown_what what)) }
+    ensures { IfOk result (λ v. lines_view v ≡ rule.one_line line (what_view what)) }
 {
     let Ok(mut lines) = Vec::with_capacity(alloc, 1) else {
         return Err(Memory);
@@ -24,21 +24,21 @@ pub fn one_line(alloc: Global, line: u32, what: What) -> Result<Vec<Stmt>, Memor
 }
 
 pub fn branched(test: Expr, then: Vec<Stmt>, otherwise: Vec<Stmt>) -> What
-    ensures { shown_what result
-        ≡ core.if_else (shown_expr test) (rule.to_core (seen_lines then)) (rule.to_core (seen_lines otherwise)) }
+    ensures { what_view result
+        ≡ core.if_else (expr_view test) (rule.to_core (lines_view then)) (rule.to_core (lines_view otherwise)) }
 {
     What::If(test, then, otherwise)
 }
 
 pub fn looped(tests_first: bool, test: Expr, turn: Vec<Stmt>, next: Vec<Stmt>) -> What
-    ensures { shown_what result
-        ≡ core.loop tests_first (shown_expr test) (rule.to_core (seen_lines turn)) (rule.to_core (seen_lines next)) }
+    ensures { what_view result
+        ≡ core.loop tests_first (expr_view test) (rule.to_core (lines_view turn)) (rule.to_core (lines_view next)) }
 {
     What::Loop(tests_first, test, turn, next)
 }
 
 pub fn scoped(blocks: Vec<u32>, body: Vec<Stmt>) -> What
-    ensures { shown_what result ≡ core.scope blocks.items (rule.to_core (seen_lines body)) }
+    ensures { what_view result ≡ core.scope blocks.items (rule.to_core (lines_view body)) }
 {
     What::Scope(blocks, body)
 }
@@ -54,8 +54,8 @@ pub fn order_of(order: NamedOrder) -> Order
 }
 
 pub fn by_order(order: NamedOrder, then: Vec<Stmt>, otherwise: Vec<Stmt>) -> What
-    ensures { shown_what result
-        ≡ core.by_order (rule.order_of order) (rule.to_core (seen_lines then)) (rule.to_core (seen_lines otherwise)) }
+    ensures { what_view result
+        ≡ core.by_order (rule.order_of order) (rule.to_core (lines_view then)) (rule.to_core (lines_view otherwise)) }
 {
     What::ByOrder(order_of(order), then, otherwise)
 }

@@ -3,15 +3,15 @@
 ghost use Rattle.std.specs.Prelude.{◌≡◌, IfOk, OnOk};
 ghost use Rattle.ep_elaboration.specs.Statements as rule;
 ghost use Rattle.ep_scopes.specs.Known.{IsKnownEnv};
-ghost use Rattle.ep_scopes.specs.Seen.{env as around};
+ghost use Rattle.ep_scopes.specs.View.{env as env_view};
 
 use ep_int::Memory;
 use ep_scopes::Env;
 
 pub fn enter(env: &mut Env) -> Result<(), Memory>
-    requires { IsKnownEnv (around env.old) }
-    ensures means { OnOk result (around env.new ≡ rule.entered (around env.old)) }
-    ensures known { OnOk result (IsKnownEnv (around env.new)) }
+    requires { IsKnownEnv (env_view env.old) }
+    ensures means { OnOk result (env_view env.new ≡ rule.entered (env_view env.old)) }
+    ensures known { OnOk result (IsKnownEnv (env_view env.new)) }
 {
     match env.scopes.enter() {
         Ok(()) => Ok(()),
@@ -20,16 +20,16 @@ pub fn enter(env: &mut Env) -> Result<(), Memory>
 }
 
 pub fn leave(env: &mut Env)
-    requires { IsKnownEnv (around env.old) }
-    ensures means { around env.new ≡ rule.left (around env.old) }
-    ensures known { IsKnownEnv (around env.new) }
+    requires { IsKnownEnv (env_view env.old) }
+    ensures means { env_view env.new ≡ rule.left (env_view env.old) }
+    ensures known { IsKnownEnv (env_view env.new) }
 {
     env.scopes.leave();
 }
 
 /// The blocks that the innermost scope declares.
 pub fn blocks_here(env: &Env) -> Result<Vec<u32>, Memory>
-    ensures { IfOk result (λ v. v.items ≡ rule.blocks_behind 0 (around env.now)) }
+    ensures { IfOk result (λ v. v.items ≡ rule.blocks_behind 0 (env_view env.now)) }
 {
     match env.scopes.blocks_behind(0) {
         Ok(blocks) => Ok(blocks),

@@ -4,15 +4,15 @@ ghost use Rattle.std.specs.Prelude.{◌≡◌, Bool, OnOk};
 ghost use Rattle.std.specs.Option.{option_map};
 ghost use Rattle.ep_ast.specs.Expression as source;
 ghost use Rattle.ep_ast.specs.Statement as shape;
-ghost use Rattle.ep_core.specs.View.{shown_expr, shown_what};
+ghost use Rattle.ep_core.specs.View.{expr_view, what_view};
 ghost use Rattle.ep_typing.specs.Results.{at};
-ghost use Rattle.ep_declared.specs.Gives.{GivesIn};
+ghost use Rattle.ep_declared.specs.Refinement.{RefinesIn};
 ghost use Rattle.ep_elaboration.specs.Statements as rule;
-ghost use Rattle.ep_operands.specs.Gives.{Gives};
-ghost use Rattle.ep_operands.specs.Seen as operands;
+ghost use Rattle.ep_operands.specs.Refinement.{Refines};
+ghost use Rattle.ep_operands.specs.View as operands;
 ghost use Rattle.ep_scopes.specs.Known.{IsKnownEnv};
-ghost use Rattle.ep_scopes.specs.Seen.{env as around};
-ghost use Rattle.ep_typer_lines.specs.Seen.{lines as seen_lines};
+ghost use Rattle.ep_scopes.specs.View.{env as env_view};
+ghost use Rattle.ep_typer_lines.specs.View.{lines as lines_view};
 
 use crate::nodes::one_line;
 use crate::scoping::enter;
@@ -30,10 +30,10 @@ use std::alloc::Global;
 /// The test of an `if` or a loop.
 #[tactic(auto, unfolding(ep_elaboration::specs::Statements::tested_in))]
 pub fn tested_in(env: &mut Env, tree: &ExprTree) -> Result<Expr, Halt>
-    requires { IsKnownEnv (around env.old) }
-    ensures means { GivesIn shown_expr (rule.tested_in (around env.old) (source.expr tree.now))
-        (around env.new) result }
-    ensures known { OnOk result (IsKnownEnv (around env.new)) }
+    requires { IsKnownEnv (env_view env.old) }
+    ensures means { RefinesIn expr_view (rule.tested_in (env_view env.old) (source.expr tree.now))
+        (env_view env.new) result }
+    ensures known { OnOk result (IsKnownEnv (env_view env.new)) }
 {
     mention(env, tree)?;
     let w = test(env, tree)?;
@@ -42,10 +42,10 @@ pub fn tested_in(env: &mut Env, tree: &ExprTree) -> Result<Expr, Halt>
 
 /// The same in a scope of its own, which stays open.
 pub fn tested_inside(env: &mut Env, tree: &ExprTree) -> Result<Expr, Halt>
-    requires { IsKnownEnv (around env.old) }
-    ensures means { GivesIn shown_expr (rule.tested_in (rule.entered (around env.old)) (source.expr tree.now))
-        (around env.new) result }
-    ensures known { OnOk result (IsKnownEnv (around env.new)) }
+    requires { IsKnownEnv (env_view env.old) }
+    ensures means { RefinesIn expr_view (rule.tested_in (rule.entered (env_view env.old)) (source.expr tree.now))
+        (env_view env.new) result }
+    ensures known { OnOk result (IsKnownEnv (env_view env.new)) }
 {
     enter(env)?;
     let w = tested_in(env, tree)?;
@@ -55,10 +55,10 @@ pub fn tested_inside(env: &mut Env, tree: &ExprTree) -> Result<Expr, Halt>
 /// The test of a `for`.
 #[tactic(auto, unfolding(ep_elaboration::specs::Statements::tested_if))]
 pub fn tested_if(env: &mut Env, tree: &Option<ExprTree>) -> Result<Expr, Halt>
-    requires { IsKnownEnv (around env.old) }
-    ensures means { GivesIn shown_expr (rule.tested_if (around env.old) (option_map source.expr tree.now))
-        (around env.new) result }
-    ensures known { OnOk result (IsKnownEnv (around env.new)) }
+    requires { IsKnownEnv (env_view env.old) }
+    ensures means { RefinesIn expr_view (rule.tested_if (env_view env.old) (option_map source.expr tree.now))
+        (env_view env.new) result }
+    ensures known { OnOk result (IsKnownEnv (env_view env.new)) }
 {
     match tree {
         None => Ok(Expr::Const(IntType::I32, 1)),
@@ -74,10 +74,10 @@ pub fn evaluated_in(
     line: u32,
     tree: &ExprTree,
 ) -> Result<Vec<Stmt>, Halt>
-    requires { IsKnownEnv (around env.old) }
-    ensures means { GivesIn seen_lines (rule.evaluated_in (around env.old) may_call line (source.expr tree.now))
-        (around env.new) result }
-    ensures known { OnOk result (IsKnownEnv (around env.new)) }
+    requires { IsKnownEnv (env_view env.old) }
+    ensures means { RefinesIn lines_view (rule.evaluated_in (env_view env.old) may_call line (source.expr tree.now))
+        (env_view env.new) result }
+    ensures known { OnOk result (IsKnownEnv (env_view env.new)) }
 {
     mention(env, tree)?;
     let what = whole_statement(env, may_call, tree)?;
@@ -88,10 +88,10 @@ pub fn evaluated_in(
 /// An outer part of a `for`.
 #[tactic(auto, unfolding(ep_elaboration::specs::Statements::evaluated_if))]
 pub fn evaluated_if(env: &mut Env, tree: &Option<ExprTree>) -> Result<Vec<Stmt>, Halt>
-    requires { IsKnownEnv (around env.old) }
-    ensures means { GivesIn seen_lines (rule.evaluated_if (around env.old) (option_map source.expr tree.now))
-        (around env.new) result }
-    ensures known { OnOk result (IsKnownEnv (around env.new)) }
+    requires { IsKnownEnv (env_view env.old) }
+    ensures means { RefinesIn lines_view (rule.evaluated_if (env_view env.old) (option_map source.expr tree.now))
+        (env_view env.new) result }
+    ensures known { OnOk result (IsKnownEnv (env_view env.new)) }
 {
     match tree {
         None => Ok(Vec::new(env.alloc)),
@@ -101,7 +101,7 @@ pub fn evaluated_if(env: &mut Env, tree: &Option<ExprTree>) -> Result<Vec<Stmt>,
 
 /// A jump of a loop.
 pub fn jump(alloc: Global, in_loop: bool, line: u32, what: What) -> Result<Vec<Stmt>, Halt>
-    ensures { Gives seen_lines (at line (rule.jump in_loop line (shown_what what))) result }
+    ensures { Refines lines_view (at line (rule.jump in_loop line (what_view what))) result }
 {
     if in_loop {
         let lines = one_line(alloc, line, what)?;
@@ -112,7 +112,7 @@ pub fn jump(alloc: Global, in_loop: bool, line: u32, what: What) -> Result<Vec<S
 
 #[tactic(auto, unfolding(ep_elaboration::specs::Statements::nothing_returned))]
 fn nothing_returned(line: u32, result_type: CType) -> Result<What, Halt>
-    ensures { Gives shown_what (at line (rule.nothing_returned result_type)) result }
+    ensures { Refines what_view (at line (rule.nothing_returned result_type)) result }
 {
     if is_void(result_type) {
         return Ok(What::Return(None));
@@ -127,7 +127,7 @@ fn value_returned(
     result_type: CType,
     x: Operand,
 ) -> Result<What, Halt>
-    ensures { Gives shown_what (at line (rule.value_returned types.now result_type (operands.operand x))) result }
+    ensures { Refines what_view (at line (rule.value_returned types.now result_type (operands.operand x))) result }
 {
     let v = value_of(alloc, types, line, x)?;
     let e = fitted(alloc, line, result_type, v)?;
@@ -142,7 +142,7 @@ fn operand_returned(
     result_type: CType,
     x: Operand,
 ) -> Result<What, Halt>
-    ensures { Gives shown_what (at line (rule.operand_returned types.now result_type (operands.operand x))) result }
+    ensures { Refines what_view (at line (rule.operand_returned types.now result_type (operands.operand x))) result }
 {
     if is_void(result_type) {
         return Err(refused(RefusalKind::TypeMismatch, line));
@@ -158,10 +158,10 @@ pub fn returned(
     result_type: CType,
     value: &Option<ExprTree>,
 ) -> Result<Vec<Stmt>, Halt>
-    requires { IsKnownEnv (around env.old) }
-    ensures means { (in_loop : Bool) → GivesIn seen_lines (rule.statement (around env.old) result_type in_loop
-        (shape.return_value line (option_map source.expr value.now))) (around env.new) result }
-    ensures known { OnOk result (IsKnownEnv (around env.new)) }
+    requires { IsKnownEnv (env_view env.old) }
+    ensures means { (in_loop : Bool) → RefinesIn lines_view (rule.statement (env_view env.old) result_type in_loop
+        (shape.return_value line (option_map source.expr value.now))) (env_view env.new) result }
+    ensures known { OnOk result (IsKnownEnv (env_view env.new)) }
 {
     match value {
         None => {

@@ -1,6 +1,7 @@
 -- Statements one after another.
-use Rattle.std.proofs.Common.{◌≡◌, ℕ, suc, ◌+◌, ◌<◌, ◌≤◌, length, List, [], ◌∷◌, ◌++◌, map, drop, get_or, Result, Ok}
-use Rattle.std.proofs.Common.{Err, refl, sym, ap, ◌∙◌, append_assoc, drop-cons, arith}
+use Rattle.std.proofs.Common.{◌≡◌, ℕ, ◌+◌, ◌<◌, ◌≤◌, length, List, [], ◌∷◌, ◌++◌, map, drop, get_or, Result, Ok}
+use Rattle.ep_int.proofs.Basics.{drop-at}
+use Rattle.std.proofs.Common.{Err, refl, sym, ap, ◌∙◌, append_assoc}
 use Rattle.std.proofs.lemmas.List.{append-nil, drop_all}
 use Rattle.ep_ast.specs.declared.refusals.Refusal.{Refusal}
 use Rattle.ep_ast.specs.declared.refusals.Halt.{Halt}
@@ -11,7 +12,7 @@ use Rattle.ep_ast.specs.Statement.{stmt_of, part_of, to_stmts, to_parts}
 use Rattle.ep_typing.specs.declared.types.CType.{CType}
 use Rattle.ep_typing.specs.Env.{Env}
 use Rattle.ep_typing.specs.Results.{◌>>=◌}
-use Rattle.ep_operands.specs.Gives.{Stops}
+use Rattle.ep_operands.specs.Refinement.{Stops}
 use Rattle.ep_elaboration.specs.Declarations.{Line}
 use Rattle.ep_elaboration.specs.Statements.{statement, statements, part, parts}
 use Rattle.std.specs.Prelude.{Bool}
@@ -29,11 +30,6 @@ ahead done (Err r) = Err r
 
 abbrev pub joined : Lines → Lines → Out
 joined a b = Ok (a.0 ++ b.0, b.1)
-
-front : {X : Type 0} (i : ℕ) (xs : List X) (x : X) → i < length xs → x ≡ get_or xs i x → drop i xs ≡ x ∷ drop (i + 1) xs
-front {X = X} i xs x lt e =
-    let more : suc i ≡ i + 1 = omega arith in
-    drop-cons xs i x lt ∙ ap (λ (y : X). y ∷ drop (suc i) xs) (sym e) ∙ ap (λ (n : ℕ). x ∷ drop n xs) more
 
 pub nothing_ahead : (r : Out) → ahead [] r ≡ r
 nothing_ahead (Ok p) = refl
@@ -59,7 +55,7 @@ module _ {X : Type 0} (one : Env → X → Out) (rest : Env → List X → Out) 
       (G : Env) (i : ℕ) (xs : List X) (x : X) (done : List Line) (all : Out) (lt : i < length xs) (is : x ≡ get_or xs i x)
       (h : ahead done (rest G (drop i xs)) ≡ all) where
     unrolled : ahead done (one G x >>= (λ (a : Lines). rest a.1 (drop (i + 1) xs) >>= joined a)) ≡ all
-    unrolled = sym (ap (ahead done) (ap (rest G) (front i xs x lt is) ∙ cons G x (drop (i + 1) xs))) ∙ h
+    unrolled = sym (ap (ahead done) (ap (rest G) (drop-at i xs x lt is) ∙ cons G x (drop (i + 1) xs))) ∙ h
 
     pub stopped : (e : Halt) → Stops (one G x) e → Stops all e
     stopped halts.Memory k = tt

@@ -17,7 +17,7 @@ use Rattle.ep_ast.proofs.Rows.{parts-vec, stmts-option, stmts-vec}
 use Rattle.ep_core.specs.Program as core
 use Rattle.ep_typing.specs.declared.types.CType.{CType}
 use Rattle.ep_typing.specs.Env.{Env}
-use Rattle.ep_operands.specs.Gives.{Stops}
+use Rattle.ep_operands.specs.Refinement.{Stops}
 use Rattle.ep_elaboration.specs.Declarations.{Line}
 use Rattle.ep_elaboration.specs.Statements.{entered, left, one_line, order_of, part, statements, to_core}
 

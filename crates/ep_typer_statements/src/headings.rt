@@ -2,11 +2,11 @@
 
 ghost use Rattle.std.specs.Prelude.{OnOk};
 ghost use Rattle.ep_ast.specs.Statement.{first_of};
-ghost use Rattle.ep_declared.specs.Gives.{GivesIn};
+ghost use Rattle.ep_declared.specs.Refinement.{RefinesIn};
 ghost use Rattle.ep_elaboration.specs.Statements as rule;
 ghost use Rattle.ep_scopes.specs.Known.{IsKnownEnv};
-ghost use Rattle.ep_scopes.specs.Seen.{env as around};
-ghost use Rattle.ep_typer_statements.specs.Seen.{lines as seen_lines};
+ghost use Rattle.ep_scopes.specs.View.{env as env_view};
+ghost use Rattle.ep_typer_statements.specs.View.{lines as lines_view};
 
 use ep_ast::{ForInitTree, Halt};
 use ep_core::tree::Stmt;
@@ -17,9 +17,10 @@ use ep_typer_lines::{enter, evaluated_if};
 /// The first part of a `for`.
 #[tactic(auto, unfolding(ep_elaboration::specs::Statements::first_part))]
 fn first_part(env: &mut Env, first: &ForInitTree) -> Result<Vec<Stmt>, Halt>
-    requires { IsKnownEnv (around env.old) }
-    ensures means { GivesIn seen_lines (rule.first_part (around env.old) (first_of first.now)) (around env.new) result }
-    ensures known { OnOk result (IsKnownEnv (around env.new)) }
+    requires { IsKnownEnv (env_view env.old) }
+    ensures means { RefinesIn lines_view (rule.first_part (env_view env.old) (first_of first.now))
+        (env_view env.new) result }
+    ensures known { OnOk result (IsKnownEnv (env_view env.new)) }
 {
     match first {
         ForInitTree::Declaration(tree) => {
@@ -32,10 +33,10 @@ fn first_part(env: &mut Env, first: &ForInitTree) -> Result<Vec<Stmt>, Halt>
 
 /// The same in a scope of its own, which stays open.
 pub(crate) fn first_inside(env: &mut Env, first: &ForInitTree) -> Result<Vec<Stmt>, Halt>
-    requires { IsKnownEnv (around env.old) }
-    ensures means { GivesIn seen_lines (rule.first_part (rule.entered (around env.old)) (first_of first.now))
-        (around env.new) result }
-    ensures known { OnOk result (IsKnownEnv (around env.new)) }
+    requires { IsKnownEnv (env_view env.old) }
+    ensures means { RefinesIn lines_view (rule.first_part (rule.entered (env_view env.old)) (first_of first.now))
+        (env_view env.new) result }
+    ensures known { OnOk result (IsKnownEnv (env_view env.new)) }
 {
     enter(env)?;
     let lines = first_part(env, first)?;

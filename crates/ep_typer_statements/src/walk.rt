@@ -4,13 +4,13 @@ ghost use Rattle.std.specs.Prelude.{◌≡◌, Bool, map, false, OnOk};
 ghost use Rattle.std.specs.Option.{option_map};
 ghost use Rattle.ep_ast.specs.Expression as source;
 ghost use Rattle.ep_ast.specs.Statement as shape;
-ghost use Rattle.ep_core.specs.View.{shown_what};
-ghost use Rattle.ep_declared.specs.Gives.{GivesIn};
+ghost use Rattle.ep_core.specs.View.{what_view};
+ghost use Rattle.ep_declared.specs.Refinement.{RefinesIn};
 ghost use Rattle.ep_elaboration.specs.Statements as rule;
 ghost use Rattle.ep_scopes.specs.Known.{IsKnownEnv};
-ghost use Rattle.ep_scopes.specs.Seen.{env as around};
-ghost use Rattle.ep_typer_statements.specs.Seen.{closed};
-ghost use Rattle.ep_typer_statements.specs.Seen.{lines as seen_lines};
+ghost use Rattle.ep_scopes.specs.View.{env as env_view};
+ghost use Rattle.ep_typer_statements.specs.View.{closed};
+ghost use Rattle.ep_typer_statements.specs.View.{lines as lines_view};
 
 use crate::headings::first_inside;
 use ep_ast::{BlockItemTree, ExprTree, Halt, HeadingTree, NamedOrder, StmtTree};
@@ -25,9 +25,9 @@ use ep_typing::CType;
 
 // A statement that had two scopes, one inside the other.
 fn closed(env: &mut Env, line: u32, what: What) -> Result<Vec<Stmt>, Halt>
-    requires { IsKnownEnv (around env.old) }
-    ensures means { GivesIn seen_lines (closed (around env.old) line (shown_what what)) (around env.new) result }
-    ensures known { OnOk result (IsKnownEnv (around env.new)) }
+    requires { IsKnownEnv (env_view env.old) }
+    ensures means { RefinesIn lines_view (closed (env_view env.old) line (what_view what)) (env_view env.new) result }
+    ensures known { OnOk result (IsKnownEnv (env_view env.new)) }
 {
     leave(env);
     leave(env);
@@ -43,11 +43,11 @@ fn inside(
     in_loop: bool,
     tree: &StmtTree,
 ) -> Result<Vec<Stmt>, Halt>
-    requires { IsKnownEnv (around env.old) }
-    ensures means { GivesIn seen_lines
-        (rule.statement (rule.entered (around env.old)) result_type in_loop (shape.stmt_of tree.now))
-        (around env.new) result }
-    ensures known { OnOk result (IsKnownEnv (around env.new)) }
+    requires { IsKnownEnv (env_view env.old) }
+    ensures means { RefinesIn lines_view
+        (rule.statement (rule.entered (env_view env.old)) result_type in_loop (shape.stmt_of tree.now))
+        (env_view env.new) result }
+    ensures known { OnOk result (IsKnownEnv (env_view env.new)) }
 {
     enter(env)?;
     let lines = statement(env, result_type, in_loop, tree)?;
@@ -62,10 +62,10 @@ fn statement(
     in_loop: bool,
     tree: &StmtTree,
 ) -> Result<Vec<Stmt>, Halt>
-    requires { IsKnownEnv (around env.old) }
-    ensures means { GivesIn seen_lines
-        (rule.statement (around env.old) result_type in_loop (shape.stmt_of tree.now)) (around env.new) result }
-    ensures known { OnOk result (IsKnownEnv (around env.new)) }
+    requires { IsKnownEnv (env_view env.old) }
+    ensures means { RefinesIn lines_view
+        (rule.statement (env_view env.old) result_type in_loop (shape.stmt_of tree.now)) (env_view env.new) result }
+    ensures known { OnOk result (IsKnownEnv (env_view env.new)) }
 {
     match tree {
         StmtTree::Block(line, list) => block(env, result_type, in_loop, *line, list),
@@ -106,10 +106,10 @@ fn block(
     line: u32,
     list: &[BlockItemTree],
 ) -> Result<Vec<Stmt>, Halt>
-    requires { IsKnownEnv (around env.old) }
-    ensures means { GivesIn seen_lines (rule.statement (around env.old) result_type in_loop
-        (shape.block line (shape.to_parts (map shape.part_of list.now)))) (around env.new) result }
-    ensures known { OnOk result (IsKnownEnv (around env.new)) }
+    requires { IsKnownEnv (env_view env.old) }
+    ensures means { RefinesIn lines_view (rule.statement (env_view env.old) result_type in_loop
+        (shape.block line (shape.to_parts (map shape.part_of list.now)))) (env_view env.new) result }
+    ensures known { OnOk result (IsKnownEnv (env_view env.new)) }
 {
     enter(env)?;
     let body = part_list(env, result_type, in_loop, list)?;
@@ -128,10 +128,10 @@ fn while_loop(
     turn: &StmtTree,
     test: &ExprTree,
 ) -> Result<Vec<Stmt>, Halt>
-    requires { IsKnownEnv (around env.old) }
-    ensures means { (in_loop : Bool) → GivesIn seen_lines (rule.statement (around env.old) result_type in_loop
-        (shape.while_loop line (source.expr test.now) (shape.stmt_of turn.now))) (around env.new) result }
-    ensures known { OnOk result (IsKnownEnv (around env.new)) }
+    requires { IsKnownEnv (env_view env.old) }
+    ensures means { (in_loop : Bool) → RefinesIn lines_view (rule.statement (env_view env.old) result_type in_loop
+        (shape.while_loop line (source.expr test.now) (shape.stmt_of turn.now))) (env_view env.new) result }
+    ensures known { OnOk result (IsKnownEnv (env_view env.new)) }
 {
     let test = tested_inside(env, test)?;
     let a = inside(env, result_type, true, turn)?;
@@ -147,10 +147,10 @@ fn do_loop(
     turn: &StmtTree,
     test: &ExprTree,
 ) -> Result<Vec<Stmt>, Halt>
-    requires { IsKnownEnv (around env.old) }
-    ensures means { (in_loop : Bool) → GivesIn seen_lines (rule.statement (around env.old) result_type in_loop
-        (shape.do_loop line (shape.stmt_of turn.now) (source.expr test.now))) (around env.new) result }
-    ensures known { OnOk result (IsKnownEnv (around env.new)) }
+    requires { IsKnownEnv (env_view env.old) }
+    ensures means { (in_loop : Bool) → RefinesIn lines_view (rule.statement (env_view env.old) result_type in_loop
+        (shape.do_loop line (shape.stmt_of turn.now) (source.expr test.now))) (env_view env.new) result }
+    ensures known { OnOk result (IsKnownEnv (env_view env.new)) }
 {
     enter(env)?;
     let a = inside(env, result_type, true, turn)?;
@@ -171,11 +171,11 @@ fn for_loop(
     heading: &HeadingTree,
     turn: &StmtTree,
 ) -> Result<Vec<Stmt>, Halt>
-    requires { IsKnownEnv (around env.old) }
-    ensures means { (in_loop : Bool) → GivesIn seen_lines (rule.statement (around env.old) result_type in_loop
+    requires { IsKnownEnv (env_view env.old) }
+    ensures means { (in_loop : Bool) → RefinesIn lines_view (rule.statement (env_view env.old) result_type in_loop
         (shape.for_loop line (shape.first_of heading.now.first) (option_map source.expr heading.now.test)
-        (option_map source.expr heading.now.next) (shape.stmt_of turn.now))) (around env.new) result }
-    ensures known { OnOk result (IsKnownEnv (around env.new)) }
+        (option_map source.expr heading.now.next) (shape.stmt_of turn.now))) (env_view env.new) result }
+    ensures known { OnOk result (IsKnownEnv (env_view env.new)) }
 {
     let before = first_inside(env, &heading.first)?;
     let test = tested_if(env, &heading.test)?;
@@ -197,11 +197,11 @@ fn statements(
     in_loop: bool,
     list: &[StmtTree],
 ) -> Result<Vec<Stmt>, Halt>
-    requires { IsKnownEnv (around env.old) }
-    ensures means { GivesIn seen_lines
-        (rule.statements (around env.old) result_type in_loop (shape.to_stmts (map shape.stmt_of list.now)))
-        (around env.new) result }
-    ensures known { OnOk result (IsKnownEnv (around env.new)) }
+    requires { IsKnownEnv (env_view env.old) }
+    ensures means { RefinesIn lines_view
+        (rule.statements (env_view env.old) result_type in_loop (shape.to_stmts (map shape.stmt_of list.now)))
+        (env_view env.new) result }
+    ensures known { OnOk result (IsKnownEnv (env_view env.new)) }
 {
     let mut lines = Vec::new(env.alloc);
     for tree in list {
@@ -219,12 +219,12 @@ fn arm(
     in_loop: bool,
     list: &[StmtTree],
 ) -> Result<Vec<Stmt>, Halt>
-    requires { IsKnownEnv (around env.old) }
-    ensures means { GivesIn seen_lines
-        (rule.statements (rule.entered (around env.old)) result_type in_loop
+    requires { IsKnownEnv (env_view env.old) }
+    ensures means { RefinesIn lines_view
+        (rule.statements (rule.entered (env_view env.old)) result_type in_loop
         (shape.to_stmts (map shape.stmt_of list.now)))
-        (around env.new) result }
-    ensures known { OnOk result (IsKnownEnv (around env.new)) }
+        (env_view env.new) result }
+    ensures known { OnOk result (IsKnownEnv (env_view env.new)) }
 {
     enter(env)?;
     let lines = statements(env, result_type, in_loop, list)?;
@@ -239,10 +239,10 @@ fn part(
     in_loop: bool,
     tree: &BlockItemTree,
 ) -> Result<Vec<Stmt>, Halt>
-    requires { IsKnownEnv (around env.old) }
-    ensures means { GivesIn seen_lines
-        (rule.part (around env.old) result_type in_loop (shape.part_of tree.now)) (around env.new) result }
-    ensures known { OnOk result (IsKnownEnv (around env.new)) }
+    requires { IsKnownEnv (env_view env.old) }
+    ensures means { RefinesIn lines_view
+        (rule.part (env_view env.old) result_type in_loop (shape.part_of tree.now)) (env_view env.new) result }
+    ensures known { OnOk result (IsKnownEnv (env_view env.new)) }
 {
     match tree {
         BlockItemTree::Declaration(d) => {
@@ -278,11 +278,11 @@ fn part_list(
     in_loop: bool,
     list: &[BlockItemTree],
 ) -> Result<Vec<Stmt>, Halt>
-    requires { IsKnownEnv (around env.old) }
-    ensures means { GivesIn seen_lines
-        (rule.parts (around env.old) result_type in_loop (shape.to_parts (map shape.part_of list.now)))
-        (around env.new) result }
-    ensures known { OnOk result (IsKnownEnv (around env.new)) }
+    requires { IsKnownEnv (env_view env.old) }
+    ensures means { RefinesIn lines_view
+        (rule.parts (env_view env.old) result_type in_loop (shape.to_parts (map shape.part_of list.now)))
+        (env_view env.new) result }
+    ensures known { OnOk result (IsKnownEnv (env_view env.new)) }
 {
     let mut lines = Vec::new(env.alloc);
     for tree in list {
@@ -294,11 +294,11 @@ fn part_list(
 
 /// The parts of a function's body, with the function's result.
 pub fn parts(env: &mut Env, result_type: CType, list: &[BlockItemTree]) -> Result<Vec<Stmt>, Halt>
-    requires { IsKnownEnv (around env.old) }
-    ensures means { GivesIn seen_lines
-        (rule.parts (around env.old) result_type false (shape.to_parts (map shape.part_of list.now)))
-        (around env.new) result }
-    ensures known { OnOk result (IsKnownEnv (around env.new)) }
+    requires { IsKnownEnv (env_view env.old) }
+    ensures means { RefinesIn lines_view
+        (rule.parts (env_view env.old) result_type false (shape.to_parts (map shape.part_of list.now)))
+        (env_view env.new) result }
+    ensures known { OnOk result (IsKnownEnv (env_view env.new)) }
 {
     part_list(env, result_type, false, list)
 }

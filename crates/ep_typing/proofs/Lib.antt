@@ -4,3 +4,5 @@ pub mod Opened
 mod Rows
 mod MeaningRows
 mod TypeRows
+pub mod Firsts
+pub mod Order

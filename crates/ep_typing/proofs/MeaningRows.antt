@@ -7,7 +7,6 @@ use Rattle.ep_int.specs.declared.types.IntType.TheVariants.{U8, U16, I32, U32, I
 use Rattle.ep_int.specs.declared.types.Model.TheVariants.{Ilp32, Lp64}
 use Rattle.ep_int.specs.declared.types.Scalar.{Scalar}
 use Rattle.ep_int.specs.declared.types.Scalar.TheVariants.{Int as Number, Pointer}
-use Rattle.ep_ast.specs.declared.marks.TheConstants as marks
 use Rattle.ep_ast.specs.Mark as mark
 use Rattle.ep_ast.specs.Expression as source
 use Rattle.ep_ast.specs.Expression.{Expr}
@@ -274,13 +273,13 @@ unfolding statement
 aggregate_copied = refl
 
 -- w += c;
-compound_sum : statement Ilp32 (assign marks.PLUS_EQUAL (id (codes "w")) (id (codes "c")))
+compound_sum : statement Ilp32 (assign mark.plus_equal (id (codes "w")) (id (codes "c")))
     ≡ Ok (stores (Number U32) 7 (core.binary Add U32 (load_int U32 7) (core.convert U32 (load_int U8 8))))
 unfolding statement
 compound_sum = refl
 
 -- c <<= 2;
-compound_shift : statement Ilp32 (assign marks.LEFT_SHIFT_EQUAL (id (codes "c")) (number 2))
+compound_shift : statement Ilp32 (assign mark.left_shift_equal (id (codes "c")) (number 2))
     ≡ Ok (stores (Number U8) 8 (core.convert U8 (core.binary Shl I32 (core.convert I32 (load_int U8 8))
     (core.const I32 (pos 2)))))
 unfolding statement

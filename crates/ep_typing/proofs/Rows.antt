@@ -1,12 +1,11 @@
 -- Whole statements of each kind, as C compilers and this project's rules have them. All stand in a program with the
 -- names of `around`.
-use Rattle.std.proofs.Common.{◌≡◌, [], ◌∷◌, refl, true, false}
+use Rattle.std.proofs.Common.{◌≡◌, [], ◌∷◌, refl, true, false, Err}
 use Rattle.std.specs.Prelude.{codes}
 use Rattle.ep_int.specs.declared.types.Model.TheVariants.{Ilp32}
-use Rattle.ep_ast.specs.declared.marks.TheConstants as marks
 use Rattle.ep_ast.specs.Mark as mark
 use Rattle.ep_ast.specs.Expression as source
-use Rattle.ep_typing.proofs.Opened.{kinds}
+use Rattle.ep_typing.proofs.Opened.{kinds, statement}
 use Rattle.ep_typing.proofs.Trees.{assign, conditional, binary, type_name, cast, step, unary, sizeof_expr}
 use Rattle.ep_typing.proofs.Trees.{sizeof_type, index, call, member, arrow, post_increment, post_decrement, id}
 use Rattle.ep_typing.proofs.Trees.{literal, number}
@@ -122,6 +121,12 @@ functions_named : kinds Ilp32 (
     (sizeof_expr (id (codes "f1"))) ∷
     -- !f1;
     (unary mark.exclamation (id (codes "f1"))) ∷
+    -- f1 = zz;
+    (assign mark.equal (id (codes "f1")) (id (codes "zz"))) ∷
+    -- f1 - zz;
+    (binary mark.minus (id (codes "f1")) (id (codes "zz"))) ∷
+    -- f1(f0, zz);
+    (call (id (codes "f1")) ((id (codes "f0")) ∷ (id (codes "zz")) ∷ [])) ∷
     -- p(1);
     (call (id (codes "p")) ((number 1) ∷ [])) ∷
     -- NULL(1);
@@ -129,9 +134,20 @@ functions_named : kinds Ilp32 (
     -- x(1);
     (call (id (codes "x")) ((number 1) ∷ [])) ∷
     [])
-    ≡ 32 ∷ 32 ∷ 32 ∷ 32 ∷ 32 ∷ 32 ∷ 32 ∷ 32 ∷ 32 ∷ 32 ∷ 32 ∷ []
+    ≡ 32 ∷ 32 ∷ 32 ∷ 32 ∷ 32 ∷ 32 ∷ 32 ∷ 32 ∷ 32 ∷ 32 ∷ 32 ∷ 32 ∷ 32 ∷ 32 ∷ []
 unfolding kinds
 functions_named = refl
+
+-- at the name itself, with its line
+-- x
+-- = -
+-- f1;
+function_line : statement Ilp32 (
+    source.assign 2 mark.equal (id (codes "x")) (source.unary 3 mark.minus (source.id 4 (codes "f1")))
+    )
+    ≡ Err (record { kind = 32; line = 4; word = 0 })
+unfolding statement
+function_line = refl
 
 -- the result of what has none: 32
 results_missing : kinds Ilp32 (
@@ -153,13 +169,13 @@ results_missing = refl
 -- compound assignments and steps that don't fit: 32
 compound_mismatches : kinds Ilp32 (
     -- p %= 2;
-    (assign marks.PERCENT_EQUAL (id (codes "p")) (number 2)) ∷
+    (assign mark.percent_equal (id (codes "p")) (number 2)) ∷
     -- s += 1;
-    (assign marks.PLUS_EQUAL (id (codes "s")) (number 1)) ∷
+    (assign mark.plus_equal (id (codes "s")) (number 1)) ∷
     -- a++;
     (post_increment (id (codes "a"))) ∷
     -- a += 1;
-    (assign marks.PLUS_EQUAL (id (codes "a")) (number 1)) ∷
+    (assign mark.plus_equal (id (codes "a")) (number 1)) ∷
     [])
     ≡ 32 ∷ 32 ∷ 32 ∷ 32 ∷ []
 unfolding kinds
@@ -188,7 +204,7 @@ sizes_missing : kinds Ilp32 (
     -- vp - 1;
     (binary mark.minus (id (codes "vp")) (number 1)) ∷
     -- vp += 1;
-    (assign marks.PLUS_EQUAL (id (codes "vp")) (number 1)) ∷
+    (assign mark.plus_equal (id (codes "vp")) (number 1)) ∷
     -- *vp;
     (unary mark.star (id (codes "vp"))) ∷
     -- x = *vp;
@@ -261,7 +277,7 @@ pointers_for_integers : kinds Ilp32 (
     -- (int *)5;
     (cast (type_name (source.word 2 mark.int_word ∷ []) (0 ∷ [])) (number 5)) ∷
     -- x += p;
-    (assign marks.PLUS_EQUAL (id (codes "x")) (id (codes "p"))) ∷
+    (assign mark.plus_equal (id (codes "x")) (id (codes "p"))) ∷
     -- x = fp();
     (assign mark.equal (id (codes "x")) (call (id (codes "fp")) ([]))) ∷
     -- memset(p, p, 4);
@@ -314,7 +330,7 @@ pointers_of_types : kinds Ilp32 (
 unfolding kinds
 pointers_of_types = refl
 
--- a wrong number of arguments: 39, or the lowest of all that is wrong
+-- a wrong number of arguments: 39, or the lowest of all that is wrong; an aggregate is 32 wherever it stands
 arguments_counted : kinds Ilp32 (
     -- f1(1, 2);
     (call (id (codes "f1")) ((number 1) ∷ (number 2) ∷ [])) ∷
@@ -338,8 +354,18 @@ arguments_counted : kinds Ilp32 (
     (call (id (codes "fa")) ((id (codes "cp")) ∷ (number 1) ∷ [])) ∷
     -- memcpy(p, p, x, 1);
     (call (id (codes "memcpy")) ((id (codes "p")) ∷ (id (codes "p")) ∷ (id (codes "x")) ∷ (number 1) ∷ [])) ∷
+    -- f1(1, s);
+    (call (id (codes "f1")) ((number 1) ∷ (id (codes "s")) ∷ [])) ∷
+    -- f1(1, p);
+    (call (id (codes "f1")) ((number 1) ∷ (id (codes "p")) ∷ [])) ∷
+    -- f1(p, 2, s);
+    (call (id (codes "f1")) ((id (codes "p")) ∷ (number 2) ∷ (id (codes "s")) ∷ [])) ∷
+    -- ep_write(p, 4, s);
+    (call (id (codes "ep_write")) ((id (codes "p")) ∷ (number 4) ∷ (id (codes "s")) ∷ [])) ∷
+    -- ep_in_u8(s);
+    (call (id (codes "ep_in_u8")) ((id (codes "s")) ∷ [])) ∷
     [])
-    ≡ 39 ∷ 39 ∷ 39 ∷ 39 ∷ 39 ∷ 34 ∷ 32 ∷ 39 ∷ 39 ∷ 34 ∷ 39 ∷ []
+    ≡ 39 ∷ 39 ∷ 39 ∷ 39 ∷ 39 ∷ 34 ∷ 32 ∷ 39 ∷ 39 ∷ 34 ∷ 39 ∷ 32 ∷ 39 ∷ 32 ∷ 32 ∷ 32 ∷ []
 unfolding kinds
 arguments_counted = refl
 
@@ -369,7 +395,7 @@ no_objects : kinds Ilp32 (
     -- 1++;
     (post_increment (number 1)) ∷
     -- (x + 1) += 1;
-    (assign marks.PLUS_EQUAL (binary mark.plus (id (codes "x")) (number 1)) (number 1)) ∷
+    (assign mark.plus_equal (binary mark.plus (id (codes "x")) (number 1)) (number 1)) ∷
     -- &-x;
     (unary mark.ampersand (unary mark.minus (id (codes "x")))) ∷
     -- 1 = ep_in_u8();
@@ -445,7 +471,7 @@ calls_elsewhere : kinds Ilp32 (
     -- *fp() = 1;
     (assign mark.equal (unary mark.star (call (id (codes "fp")) ([]))) (number 1)) ∷
     -- x += f1(1);
-    (assign marks.PLUS_EQUAL (id (codes "x")) (call (id (codes "f1")) ((number 1) ∷ []))) ∷
+    (assign mark.plus_equal (id (codes "x")) (call (id (codes "f1")) ((number 1) ∷ []))) ∷
     -- f1(y) + 1;
     (binary mark.plus (call (id (codes "f1")) ((id (codes "y")) ∷ [])) (number 1)) ∷
     -- a[0] = f1(s) + 1;
@@ -590,13 +616,13 @@ accepted : kinds Ilp32 (
     -- (*p)++;
     (post_increment (unary mark.star (id (codes "p")))) ∷
     -- a[0] += 1;
-    (assign marks.PLUS_EQUAL (index (id (codes "a")) (literal 0 false false 0)) (number 1)) ∷
+    (assign mark.plus_equal (index (id (codes "a")) (literal 0 false false 0)) (number 1)) ∷
     -- sp->a--;
     (post_decrement (arrow (id (codes "sp")) (codes "a"))) ∷
     -- c <<= 2;
-    (assign marks.LEFT_SHIFT_EQUAL (id (codes "c")) (number 2)) ∷
+    (assign mark.left_shift_equal (id (codes "c")) (number 2)) ∷
     -- cp -= 1;
-    (assign marks.MINUS_EQUAL (id (codes "cp")) (number 1)) ∷
+    (assign mark.minus_equal (id (codes "cp")) (number 1)) ∷
     -- s = s2;
     (assign mark.equal (id (codes "s")) (id (codes "s2"))) ∷
     -- a;

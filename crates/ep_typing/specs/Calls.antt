@@ -8,7 +8,7 @@ use Rattle.ep_int.specs.declared.types.IntType.TheVariants.{U8}
 use Rattle.ep_core.specs.Program as core
 use Rattle.ep_typing.specs.declared.types.CType.{CType}
 use Rattle.ep_typing.specs.Results.{◌>>=◌, lowest, needed}
-use Rattle.ep_typing.specs.Types.{int_type, is_pointer, is_scalar, void_type}
+use Rattle.ep_typing.specs.Types.{int_type, is_aggregate, is_pointer, is_scalar, void_type}
 use Rattle.ep_typing.specs.Env.{Env, Signature}
 use Rattle.ep_typing.specs.Constant.{count_of}
 use Rattle.ep_typing.specs.Operand.{Operand, place, value, function, Value, Callee, declared, input, output}
@@ -42,10 +42,15 @@ passed (of_type c) v = fitted c v
 passed any_pointer v = as_any_pointer v
 passed a_length v = as_length v
 
+-- an argument without a parameter: arity (C11 6.5.2.2p2); type_mismatch where it is an aggregate, which is none anywhere
+-- (this project's rule)
+abbrev pub surplus : Value → Result core.Expr ℕ
+surplus v = if is_aggregate v.ty then Err kinds.type_mismatch else Err kinds.arity
+
 -- An argument for each parameter, else arity (C11 6.5.2.2p2); of all that is wrong the lowest kind.
 unfoldable pub all_passed : List Parameter → List Value → Result (List core.Expr) ℕ
 all_passed [] [] = Ok []
-all_passed [] (v ∷ vs) = Err kinds.arity
+all_passed [] (v ∷ vs) = lowest (surplus v) (all_passed [] vs)
 all_passed (p ∷ ps) [] = Err kinds.arity
 all_passed (p ∷ ps) (v ∷ vs) = lowest (passed p v) (all_passed ps vs)
 

@@ -9,3 +9,4 @@ pub mod Operators
 pub mod Parts
 pub mod Calls
 pub mod Typing
+pub mod Rules

@@ -61,6 +61,16 @@ meant None o = needed kinds.unknown_name o
 unfoldable pub named : Env → List ℕ → Result Operand ℕ
 named G t = meant (look_up t G.scopes) (entry t built_in)
 
+-- type_mismatch: a function's name that isn't called (this project's rule)
+abbrev pub uncalled : Operand → Result Operand ℕ
+uncalled (place p c) = Ok (place p c)
+uncalled (value v) = Ok (value v)
+uncalled (function f) = Err kinds.type_mismatch
+
+-- a name in an expression, where it isn't called
+unfoldable pub named_uncalled : Env → List ℕ → Result Operand ℕ
+named_uncalled G t = named G t >>= uncalled
+
 -- ---- addresses
 
 -- `&a[i]` is `a + i` (C11 6.5.3.2p3)

@@ -4,7 +4,6 @@ use Rattle.std.specs.Prelude.{ℕ, ◌==◌, Bool, true, ◌&&◌, ◌||◌, not
 use Rattle.std.specs.Prelude.{Ok, Err, pos}
 use Rattle.ep_ast.specs.Kind as kinds
 use Rattle.ep_int.specs.declared.types.IntType.TheVariants.{I32}
-use Rattle.ep_ast.specs.declared.marks.TheConstants as marks
 use Rattle.ep_ast.specs.declared.refusals.Refusal.{Refusal}
 use Rattle.ep_ast.specs.Mark as mark
 use Rattle.ep_ast.specs.Expression as source
@@ -20,8 +19,8 @@ use Rattle.ep_typing.specs.Names.{mentioned, named_type}
 use Rattle.ep_typing.specs.Operand.{Operand, place, value, function, Value, are_scalars, fitted, int_value, is_mixed}
 use Rattle.ep_typing.specs.Operand.{plain_value, tested, value_of}
 use Rattle.ep_typing.specs.Operators.{chosen, operated}
-use Rattle.ep_typing.specs.Parts.{an_operand, casted, indexable, indexed, named, numbered, selected, selected_through}
-use Rattle.ep_typing.specs.Parts.{sized, type_sized, unary_typed}
+use Rattle.ep_typing.specs.Parts.{an_operand, casted, indexable, indexed, named, named_uncalled, numbered, selected}
+use Rattle.ep_typing.specs.Parts.{selected_through, sized, type_sized, unary_typed}
 use Rattle.ep_typing.specs.Calls.{Called, called, called_into, result_of}
 
 -- ---- expressions
@@ -56,6 +55,11 @@ unfoldable pub selected_behind : Table → Operand → (name : List ℕ) → Res
 selected_behind t x n = do
   v ← value_of t x
   selected_through t v n
+
+-- what is called: a function by its name, or what another expression stands for
+abbrev pub callee : Env → source.Expr → (uncalled : Result Operand Refusal) → Result Operand Refusal
+callee G (source.id l t) x = at l (named G t)
+callee G e x = x
 
 -- ---- the order of an expression
 
@@ -103,7 +107,7 @@ unfoldable mutual
     y ← typed G b
     at l (indexed_by G.types u y)
   typed G (source.call l f es) = do
-    x ← typed G f
+    x ← callee G f (typed G f)
     vs ← typed_all G l es
     at l (Err kinds.call_in_expression)
   typed G (source.member l a n) = do
@@ -118,7 +122,7 @@ unfoldable mutual
   typed G (source.post_decrement l a) = do
     x ← typed G a
     at l (Err kinds.assignment_in_expression)
-  typed G (source.id l t) = at l (named G t)
+  typed G (source.id l t) = at l (named_uncalled G t)
   typed G (source.number l n) = Ok (numbered G.types.model n)
 
   -- the values of a call's arguments, on the line of the call
@@ -142,15 +146,15 @@ test G e = do
 -- what a compound assignment computes, by its mark
 abbrev pub operator_of : ℕ → ℕ
 operator_of m =
-    if m == marks.PLUS_EQUAL then mark.plus
-    else if m == marks.MINUS_EQUAL then mark.minus
-    else if m == marks.STAR_EQUAL then mark.star
-    else if m == marks.SLASH_EQUAL then mark.slash
-    else if m == marks.PERCENT_EQUAL then mark.percent
-    else if m == marks.AMPERSAND_EQUAL then mark.ampersand
-    else if m == marks.BAR_EQUAL then mark.bar
-    else if m == marks.CARET_EQUAL then mark.caret
-    else if m == marks.LEFT_SHIFT_EQUAL then mark.left_shift
+    if m == mark.plus_equal then mark.plus
+    else if m == mark.minus_equal then mark.minus
+    else if m == mark.star_equal then mark.star
+    else if m == mark.slash_equal then mark.slash
+    else if m == mark.percent_equal then mark.percent
+    else if m == mark.ampersand_equal then mark.ampersand
+    else if m == mark.bar_equal then mark.bar
+    else if m == mark.caret_equal then mark.caret
+    else if m == mark.left_shift_equal then mark.left_shift
     else mark.right_shift
 
 -- type_mismatch: a function, an array or an object of type void is never assigned to (C11 6.5.16p2 and 6.3.2.1p1)
@@ -235,7 +239,7 @@ assigned_from t m x old (an_object y) = do
 -- a call with its function and arguments, where it may stand
 unfoldable pub call_typed : Env → ℕ → source.Expr → source.Exprs → Result Called Refusal
 call_typed G l f es = do
-  x ← typed G f
+  x ← callee G f (typed G f)
   vs ← typed_all G l es
   at l (called G x vs)
 
@@ -267,14 +271,14 @@ stepped G l m a = do
   at l (assigned_from G.types m x old (an_object (value one)))
 
 abbrev pub step_mark : ℕ → ℕ
-step_mark m = if m == mark.plus_plus then marks.PLUS_EQUAL else marks.MINUS_EQUAL
+step_mark m = if m == mark.plus_plus then mark.plus_equal else mark.minus_equal
 
 -- an expression as a whole statement, or, where no call may stand, as an outer part of a `for` (C11 6.8.3p2)
 unfoldable pub whole_statement : Env → (may_call : Bool) → source.Expr → Result core.What Refusal
 whole_statement G may_call (source.assign l m a b) = assignment G may_call l m a b
 whole_statement G may_call (source.step l m a) = stepped G l (step_mark m) a
-whole_statement G may_call (source.post_increment l a) = stepped G l marks.PLUS_EQUAL a
-whole_statement G may_call (source.post_decrement l a) = stepped G l marks.MINUS_EQUAL a
+whole_statement G may_call (source.post_increment l a) = stepped G l mark.plus_equal a
+whole_statement G may_call (source.post_decrement l a) = stepped G l mark.minus_equal a
 whole_statement G true (source.call l f es) = do
   c ← call_typed G l f es
   Ok (called_into c None)

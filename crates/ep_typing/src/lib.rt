@@ -1,6 +1,8 @@
-//! What expressions mean: definitions alone.
+//! What an expression means, in the order in which it is found, and that this is what the rules say.
 #![tactic(auto)]
 
+mod laws;
 mod types;
 
+pub use laws::expressions;
 pub use types::{Base, CType};

@@ -1,5 +1,7 @@
 -- What comes into a table: types, aggregates, members.
 use Rattle.std.proofs.Common.{◌≡◌, ℕ, zero, suc, ◌<◌, true, [], ◌∷◌, ◌++◌, length, slice_get, Option, Some, None}
+use Rattle.ep_layout.proofs.Basics.{grows-trans}
+use Rattle.std.proofs.lemmas.Option.{slice_get_within}
 use Rattle.std.proofs.Common.{option_and_then, unwrap_or, refl, sym, ap, ◌∙◌, subst, inl, inr, arith}
 use Rattle.std.proofs.lemmas.Bool.Decides.{nat_tests}
 use Rattle.ep_layout.specs.declared.types.Ty.{Ty}
@@ -19,20 +21,9 @@ use Rattle.ep_typing.specs.Types.{base_number, c_type_number, known_number, poin
 use Rattle.ep_typing.specs.Types.{with_pointers}
 use Rattle.ep_well_formed_laws.specs.Numbers.{HasNumber, IsTable, array_number, number_behind, number_of_base}
 use Rattle.ep_well_formed_laws.specs.Numbers.{type_number}
-use Rattle.ep_well_formed_laws.proofs.Tables.{behind_first, behind_none, number_at, row_at, there}
+use Rattle.ep_well_formed_laws.proofs.Tables.{behind_first, behind_none, number_at, row_at}
 
 -- ---- growing, one step after another
-
-pub grows_on : (t u v : Table) → Grows t u → Grows u v → Grows t v
-grows_on t u v g h = record {
-  model = h.model ∙ g.model;
-  types = λ n ty e. h.types n ty (g.types n ty e);
-  aggregates = λ a r e.
-      let p = g.aggregates a r e in
-      let q = h.aggregates a p.0 p.1 in
-      (q.0, q.1, q.2 ∙ p.2, λ ms m. q.3 ms (p.3 ms m));
-  deeper = omega (arith, g.deeper, h.deeper);
-}
 
 -- ---- numbers stay
 
@@ -150,20 +141,20 @@ pointers_come t n (suc k) h l =
     let a = added t (Ptr n) h (grind (arith, nat_tests)) refl (λ e m q. absurd cc) in
     let m : ℕ = known_number u (Ptr n) in
     let is : number_of u (Ptr n) ≡ Some m = (comes_added t (Ptr n) a).has in
-    let r = pointers_come u m k a.table (there u.types m (Ptr n) (row_at u (Ptr n) m is)) in
+    let r = pointers_come u m k a.table (slice_get_within u.types m (Ptr n) (row_at u (Ptr n) m is)) in
     let v = with_pointers u m k in
     let later : number_of v (Ptr n) ≡ Some m = number_stays u v r.grows r.table.built (Ptr n) m is in
     record {
       table = r.table;
-      grows = grows_on t u v a.grows r.grows;
+      grows = grows-trans t u v a.grows r.grows;
       has = behind_first v (Some n) k ∙ ap (λ (o : Option ℕ). number_behind v o k) later ∙ r.has
           ∙ ap (λ (j : ℕ). Some (pointer_number v j k)) (sym (known_of v (Ptr n) m later));
       rows = r.rows ∙ a.rows;
     }
 
 pub base_below : (t : Table) (b : Base) (n : ℕ) → number_of_base t b ≡ Some n → n < length t.types
-base_below t bases.Void n h = there t.types n Void (row_at t Void n h)
-base_below t (bases.Int i) n h = there t.types n (Int i) (row_at t (Int i) n h)
+base_below t bases.Void n h = slice_get_within t.types n Void (row_at t Void n h)
+base_below t (bases.Int i) n h = slice_get_within t.types n (Int i) (row_at t (Int i) n h)
 base_below t (bases.Array m) n h = by_row (slice_get t.types m) refl h
   where
     by_row : (o : Option Ty) → slice_get t.types m ≡ o → array_number m o ≡ Some n → n < length t.types
@@ -172,9 +163,9 @@ base_below t (bases.Array m) n h = by_row (slice_get t.types m) refl h
     by_row (Some (Int i)) q k = absurd cc
     by_row (Some (Ptr e)) q k = absurd cc
     by_row (Some (Array e c)) q k =
-        let same : m ≡ n = cc in subst (λ (j : ℕ). j < length t.types) same (there t.types m (Array e c) q)
+        let same : m ≡ n = cc in subst (λ (j : ℕ). j < length t.types) same (slice_get_within t.types m (Array e c) q)
     by_row (Some (Aggregate a)) q k = absurd cc
-base_below t (bases.Aggregate a) n h = there t.types n (Aggregate a) (row_at t (Aggregate a) n h)
+base_below t (bases.Aggregate a) n h = slice_get_within t.types n (Aggregate a) (row_at t (Aggregate a) n h)
 
 -- a number that a type has is the one that the definition finds
 pub base_number_is : (t : Table) (b : Base) (n : ℕ) → number_of_base t b ≡ Some n → base_number t b ≡ n
@@ -223,7 +214,7 @@ type_comes t c h k =
     ap (λ (o : Option ℕ). number_behind v o c.stars) (base_stays_here u v r.grows r.table.built c.base m b.has) ∙ r.has in
     record {
       table = r.table;
-      grows = grows_on t u v b.grows r.grows;
+      grows = grows-trans t u v b.grows r.grows;
       has = is ∙ ap (λ (n : ℕ). Some n) (sym (c_number_is v c _ is));
       rows = r.rows ∙ b.rows;
     }

@@ -1,5 +1,8 @@
 -- Functions that are defined fit, and leave an environment in which all that is named is there.
 use Rattle.std.proofs.Common.{◌≡◌, ℕ, zero, suc, ◌+◌, ◌<◌, nat_eq, Bool, true, false, true≢false, if◌then◌else◌, List}
+use Rattle.ep_int.proofs.Basics.{append-assoc, slice_get-append, append-nil}
+use Rattle.std.proofs.lemmas.Bool.{or_cases}
+use Rattle.std.proofs.lemmas.Bool.{and_from, or_left, or_right}
 use Rattle.std.proofs.Common.{[], ◌∷◌, ◌++◌, length, map, drop, slice_get, option_to_list, Option, Some, None}
 use Rattle.std.proofs.Common.{unwrap_or, bytes_eq, Ok, refl, sym, ap, ◌∙◌, subst, ◌⊎◌, inl, inr, arith}
 use Rattle.std.specs.List.{list_all}
@@ -15,7 +18,7 @@ use Rattle.ep_core.specs.Program.{Block}
 use Rattle.ep_core.specs.Exec.{first_of}
 use Rattle.ep_core.specs.Runs.{is_global}
 use Rattle.ep_core.specs.WellFormed.{block_fits, block_type, holds_scalar, result_type}
-use Rattle.ep_core.proofs.Sorts.{either_is, never}
+use Rattle.ep_core.proofs.Sorts.{never}
 use Rattle.ep_typing.specs.declared.types.Base.{Base}
 use Rattle.ep_typing.specs.declared.types.Base.TheVariants as bases
 use Rattle.ep_typing.specs.declared.types.CType.{CType}
@@ -28,7 +31,7 @@ use Rattle.ep_elaboration.specs.Functions.{function_declared, named_function, nu
 use Rattle.ep_elaboration.specs.Functions.{numbered_function, own_block, result_at, results, signature_of}
 use Rattle.ep_elaboration.specs.Functions.{stands_against, with_blocks}
 use Rattle.ep_elaboration.specs.Statements.{blocks_behind, blocks_of, innermost, left, outer, to_core}
-use Rattle.ep_elaboration_laws.specs.FunctionRules.{MeansDefinition, is_definition, is_function}
+use Rattle.ep_elaboration.specs.FunctionRules.{MeansDefinition, is_definition, is_function}
 use Rattle.ep_well_formed_laws.specs.Numbers.{IsTable, type_number}
 use Rattle.ep_well_formed_laws.specs.Environments.{ArePassed, CanName, Covers, EachMeaning, EachName, EachOf, EachTag}
 use Rattle.ep_well_formed_laws.specs.Environments.{IsEnv, IsPassed, IsPlaced, IsSignature, IsTyped}
@@ -39,9 +42,9 @@ use Rattle.ep_well_formed_laws.proofs.Lines.{parts_fit}
 use Rattle.ep_well_formed_laws.proofs.Mentions.{env_declares, more_types}
 use Rattle.ep_well_formed_laws.proofs.Objects.{block_of_type, env_named, name_comes, placed_front}
 use Rattle.ep_well_formed_laws.proofs.Scopes.{HaveNames, each_same, meaning_more, name_more}
-use Rattle.ep_well_formed_laws.proofs.Steps.{NamesGrow, regrouped, env_left, front, own_names}
+use Rattle.ep_well_formed_laws.proofs.Steps.{NamesGrow, env_left, own_names}
 use Rattle.ep_well_formed_laws.proofs.Stores.{scalar_row}
-use Rattle.ep_well_formed_laws.proofs.Tests.{and_is, given, if_not, if_so, left_is as or_left, right_is, unless}
+use Rattle.ep_well_formed_laws.proofs.Tests.{given, if_not, if_so, unless}
 use Rattle.ep_well_formed_laws.proofs.Values.{scalar_is}
 
 -- ---- the name of a function
@@ -56,7 +59,7 @@ pub record FunctionComes (G K : Env) : Type 0 where
 function_placed : (t : Table) (bs : List Block) (fs more : List Signature) (m : Meaning) → IsPlaced t bs fs m
     → IsPlaced t bs (fs ++ more) m
 function_placed t bs fs more (variable b c) h = h
-function_placed t bs fs more (function n) h = (h.0, front fs more n h.0 h.1)
+function_placed t bs fs more (function n) h = (h.0, slice_get-append fs more n h.0 h.1)
 function_placed t bs fs more (type_name c) h = tt
 
 env_with_function : (G : Env) (s : Signature) → IsEnv G → IsSignature G.types s
@@ -270,10 +273,10 @@ global_later bs more b h = by (slice_get bs b) refl h
   where
     by : (o : Option Block) → slice_get bs b ≡ o → is_global o ≡ true → is_global (slice_get (bs ++ more) b) ≡ true
     by None q e = never e
-    by (Some x) q e = rw (front bs more b x q) e
+    by (Some x) q e = rw (slice_get-append bs more b x q) e
 
 pub globals_later : (bs more : List Block) (seen : List ℕ) (m : Meaning) → CanName bs [] m → CanName (bs ++ more) seen m
-globals_later bs more seen (variable b c) h = elim (either_is (is_global (slice_get bs b)) false h) [
+globals_later bs more seen (variable b c) h = elim (or_cases (is_global (slice_get bs b)) false h) [
   | inl g ↦ or_left (is_global (slice_get (bs ++ more) b)) (contains b seen) (global_later bs more b g)
   | inr g ↦ never g
 ]
@@ -286,20 +289,20 @@ numbered_has b [] j c e = absurd cc
 numbered_has b (d ∷ cs) zero c e = or_left (nat_eq (b + 0) b) _ (grind (arith, nat_tests))
 numbered_has b (d ∷ cs) (suc j) c e =
     let same : b + 1 + j ≡ b + suc j = omega arith in
-    right_is (nat_eq (b + suc j) b) _
+    or_right (nat_eq (b + suc j) b) _
     (subst (λ (k : ℕ). contains k (first_of (numbered_from (b + 1) cs)) ≡ true) same (numbered_has (b + 1) cs j c e))
 
 param_named : (bs : List Block) (b : ℕ) (cs : List CType) (more : List ℕ) (m : Meaning) → IsParamName b cs m
     → CanName bs (first_of (numbered_from b cs) ++ more) m
 param_named bs b cs more (variable k c) h =
-    right_is (is_global (slice_get bs k)) _ (contains_more k (first_of (numbered_from b cs)) more
+    or_right (is_global (slice_get bs k)) _ (contains_more k (first_of (numbered_from b cs)) more
     (subst (λ (i : ℕ). contains i (first_of (numbered_from b cs)) ≡ true) (sym h.1) (numbered_has b cs h.0 c h.2)))
   where
     contains_more : (k : ℕ) (xs ys : List ℕ) → contains k xs ≡ true → contains k (xs ++ ys) ≡ true
     contains_more k [] ys e = never e
-    contains_more k (x ∷ xs) ys e = elim (either_is (nat_eq k x) (contains k xs) e) [
+    contains_more k (x ∷ xs) ys e = elim (or_cases (nat_eq k x) (contains k xs) e) [
       | inl p ↦ or_left (nat_eq k x) _ p
-      | inr p ↦ right_is (nat_eq k x) _ (contains_more k xs ys p)
+      | inr p ↦ or_right (nat_eq k x) _ (contains_more k xs ys p)
     ]
 param_named bs b cs more (function n) h = absurd h
 param_named bs b cs more (type_name c) h = absurd h
@@ -320,10 +323,6 @@ locals_are H n s ss xs names e p q =
     ap (λ (x : Scope). blocks_of (drop n x.names)) i ∙ ap (λ (ys : List (List ℕ × Meaning)). blocks_of (drop n ys)) (sym p)
     ∙ ap (λ (k : ℕ). blocks_of (drop k (names ++ xs))) q ∙ ap blocks_of (drop_front names xs)
 
-no_more : (xs : List ℕ) → xs ++ [] ≡ xs
-no_more [] = refl
-no_more (x ∷ xs) = ap (λ ys. x ∷ ys) (no_more xs)
-
 -- all that is in scope behind a body can be named by the frame of its function
 pub frame_covers : (bs kept more : List Block) (b : ℕ) (cs : List CType) (inner s : Scope) (ks ss : List Scope)
     (xs : List (List ℕ × Meaning)) → bs ≡ kept ++ more → inner.names ++ xs ≡ s.names → HaveNames ks ss
@@ -333,7 +332,7 @@ frame_covers bs kept more b cs inner s ks ss xs e p n named covers =
     let frame = first_of (numbered_from b cs) ++ blocks_of xs in (
       subst (EachName (CanName bs frame)) p (names_both (CanName bs frame) inner.names xs
           (name_more (IsParamName b cs) (CanName bs frame) (param_named bs b cs (blocks_of xs)) inner.names named)
-          (subst (λ (own : List ℕ). EachName (CanName bs own) xs) (no_more frame) (own_names bs xs (first_of (numbered_from b cs)) []))),
+          (subst (λ (own : List ℕ). EachName (CanName bs own) xs) (append-nil frame) (own_names bs xs (first_of (numbered_from b cs)) []))),
       each_same (CanName bs frame) ks ss n
           (subst (λ (cs : List Block). EachMeaning (CanName cs frame) ks) (sym e)
           (meaning_more (CanName kept []) (CanName (kept ++ more) frame) (globals_later kept more frame) ks covers)),
@@ -347,7 +346,7 @@ pub all_hold : (t : Table) (bs : List Block) (b : ℕ) (cs : List CType)
 all_hold t bs b [] f = refl
 all_hold t bs b (c ∷ cs) f =
     let zero_more : b + 0 ≡ b = omega arith in
-    and_is _ _ (subst (λ (k : ℕ). holds_scalar t bs (k, scalar_of c) ≡ true) zero_more (f 0 c refl))
+    and_from _ _ (subst (λ (k : ℕ). holds_scalar t bs (k, scalar_of c) ≡ true) zero_more (f 0 c refl))
     (all_hold t bs (b + 1) cs (λ j d e.
     let same : b + suc j ≡ b + 1 + j = omega arith in
     subst (λ (k : ℕ). holds_scalar t bs (k, scalar_of d) ≡ true) same (f (suc j) d e)))
@@ -396,7 +395,7 @@ result_part t u bs h b get table some result number = by (is_void h.result) refl
     by false q (inr p) =
         let w = get q in
         let held = holds_at u bs table some b h.result (own_block t h.result) w p.0 (number h.result p) in
-        rw q (and_is (holds_scalar u bs (b, scalar_of h.result)) true held refl, ap block_type w)
+        rw q (and_from (holds_scalar u bs (b, scalar_of h.result)) true held refl, ap block_type w)
 
 -- what stands before a body: the function's name is known, and its blocks are there
 pub record BodyComes (G K : Env) (b : ℕ) (h : Headed) (inner : Scope) : Type 0 where
@@ -463,10 +462,10 @@ definition_fits G ds f d h c (is_definition y (is_function x n a m e p)) =
     let A = a.1 in
     let g = grown_scopes inner K.scopes A.scopes q.names in
     let more : List Block = own ++ q.follows.more in
-    let blocks : A.blocks ≡ K.blocks ++ more = q.follows.blocks ∙ regrouped K.blocks own q.follows.more in
+    let blocks : A.blocks ≡ K.blocks ++ more = q.follows.blocks ∙ append-assoc K.blocks own q.follows.more in
     let size : length K.blocks ≡ length G.blocks = ap length k.blocks in
     let here : (j : ℕ) (z : Block) → slice_get B.blocks j ≡ Some z → slice_get A.blocks j ≡ Some z =
-    λ j z w. subst (λ (ys : List Block). slice_get ys j ≡ Some z) (sym q.follows.blocks) (front B.blocks q.follows.more j z w) in
+    λ j z w. subst (λ (ys : List Block). slice_get ys j ≡ Some z) (sym q.follows.blocks) (slice_get-append B.blocks q.follows.more j z w) in
     let first : ℕ = behind_result (length K.blocks) x.0.result in
     let some : 0 < length A.types.types = omega (arith, k.some, more_types K.types A.types q.follows.grows) in
     let table = q.follows.env.declared.table in

@@ -1,5 +1,7 @@
 -- First values of objects, and declarations of variables, come to statements that fit.
 use Rattle.std.proofs.Common.{◌≡◌, ℕ, zero, suc, ◌+◌, ◌*◌, ◌<◌, ◌≤◌, nat_lt, nat_le, Bool, true, false, true≢false}
+use Rattle.std.proofs.lemmas.Bool.{or_cases}
+use Rattle.std.proofs.lemmas.Bool.{and_from}
 use Rattle.std.proofs.Common.{◌||◌, if◌then◌else◌, List, [], ◌∷◌, ◌++◌, length, map, slice_get, Option, Some, None}
 use Rattle.std.proofs.Common.{option_map, unwrap_or, is_some, int_le, Ok, refl, sym, ap, ◌∙◌, subst, inl, inr, arith}
 use Rattle.std.proofs.Common.{pos, negsuc}
@@ -17,7 +19,6 @@ use Rattle.ep_layout.specs.Table.{MemberRow, Table, is_union, members_of, size}
 use Rattle.ep_layout.proofs.Sizes.{element_laid}
 use Rattle.ep_core.specs.Program as core
 use Rattle.ep_core.specs.WellFormed.{is_length, place_has}
-use Rattle.ep_core.proofs.Sorts.{either_is}
 use Rattle.ep_typing.specs.declared.types.CType.{CType}
 use Rattle.ep_typing.specs.Types.{bound_of, element_of, is_aggregate, is_array, number_in, size_of_type, type_of}
 use Rattle.ep_typing.specs.Env.{Env}
@@ -27,11 +28,11 @@ use Rattle.ep_elaboration.specs.Declarations.{Line, Made}
 use Rattle.ep_elaboration.specs.Given.{Given, cleared, count_listed, element_at, first_member, given_members}
 use Rattle.ep_elaboration.specs.Given.{line_of_value, member_object, object_operand, part_at, with_parts}
 use Rattle.ep_elaboration.specs.Statements.{to_core}
-use Rattle.ep_elaboration_laws.specs.GivenRules.{MeansAllGiven, MeansDeclaration, MeansFirstValue, MeansGiven}
-use Rattle.ep_elaboration_laws.specs.GivenRules.{MeansGivenExpression, MeansVariable, MeansVariables, is_declaration}
-use Rattle.ep_elaboration_laws.specs.GivenRules.{is_first_value, is_given_expression, is_listed, is_single}
-use Rattle.ep_elaboration_laws.specs.GivenRules.{is_variable, more_values_given, more_variables, no_first_value}
-use Rattle.ep_elaboration_laws.specs.GivenRules.{no_values_given, no_variables}
+use Rattle.ep_elaboration.specs.GivenRules.{MeansAllGiven, MeansDeclaration, MeansFirstValue, MeansGiven}
+use Rattle.ep_elaboration.specs.GivenRules.{MeansGivenExpression, MeansVariable, MeansVariables, is_declaration}
+use Rattle.ep_elaboration.specs.GivenRules.{is_first_value, is_given_expression, is_listed, is_single}
+use Rattle.ep_elaboration.specs.GivenRules.{is_variable, more_values_given, more_variables, no_first_value}
+use Rattle.ep_elaboration.specs.GivenRules.{no_values_given, no_variables}
 use Rattle.ep_well_formed_laws.specs.Numbers.{HasNumber, may_be, type_number}
 use Rattle.ep_well_formed_laws.specs.Environments.{Covers, HasScope, IsDeclared, IsEnv}
 use Rattle.ep_well_formed_laws.specs.Operands.{PlaceFits}
@@ -49,7 +50,7 @@ use Rattle.ep_well_formed_laws.proofs.StatementGrowth.{place_stays, sized_stays}
 use Rattle.ep_well_formed_laws.proofs.Steps.{Follows, NamesGrow, covers_before, follows_declares, follows_itself}
 use Rattle.ep_well_formed_laws.proofs.Steps.{follows_mentions, follows_on, names_grow_on, names_stay, stmts_later}
 use Rattle.ep_well_formed_laws.proofs.Steps.{what_later}
-use Rattle.ep_well_formed_laws.proofs.Tests.{and_is, either_way, given}
+use Rattle.ep_well_formed_laws.proofs.Tests.{either_way, given}
 use Rattle.ep_well_formed_laws.proofs.Values.{self_may_be}
 use Rattle.ep_well_formed_laws.proofs.WholeStatements.{from_fits, right_fits}
 
@@ -73,7 +74,7 @@ object_place G seen h some x o =
     place_of_number G.types G.blocks G.functions seen h.declared.table some x.place x.ty o.0 o.1 o.2
 
 small_index : (i : ℕ) → i ≤ 65536 → is_in_range I32 (pos i) ≡ true
-small_index i l = and_is (int_le (negsuc 2147483647) (pos i)) (int_le (pos i) (pos 2147483647)) (grind (arith, ints)) (grind (arith, ints))
+small_index i l = and_from (int_le (negsuc 2147483647) (pos i)) (int_le (pos i) (pos 2147483647)) (grind (arith, ints)) (grind (arith, ints))
 
 -- ---- parts
 
@@ -162,7 +163,7 @@ module _ (G : Env) (seen : List ℕ) (h : IsEnv G) (some : 0 < length G.types.ty
       → part_at t x i ≡ Some y → ObjectFits G seen y
   part_fits x y i o p e = elim (either_way (is_array x.ty) (element_at t x i) _ (Some y) e) [
     | inl q ↦ element_part x y i o q.0 q.1
-    | inr q ↦ elim (either_is (is_array x.ty) (is_aggregate x.ty) p) [
+    | inr q ↦ elim (or_cases (is_array x.ty) (is_aggregate x.ty) p) [
       | inl r ↦ absurd (true≢false (sym r ∙ q.0))
       | inr r ↦ member_part x y i o r q.1
     ]
@@ -266,7 +267,7 @@ module _ (seen : List ℕ) (result : Option ℕ) where
           let sized : size G.types k.0 ≡ Some z = sym (same_size G.types h.declared.table.built x.ty k.0 k.1) ∙ e in
           let there = sized_stays G.types d.1.types f.grows f.env.declared.table.built G.blocks f.more k.0 (rw sized refl) in
           let i = c_number_is d.1.types x.ty k.0 o.1 in (
-            (λ j. and_is _ _ (subst (λ (n : ℕ). place_has d.1.types d.1.blocks seen x.place n ≡ true) (sym i) o.2)
+            (λ j. and_from _ _ (subst (λ (n : ℕ). place_has d.1.types d.1.blocks seen x.place n ≡ true) (sym i) o.2)
                 (subst (λ (n : ℕ). is_some (size d.1.types n) ≡ true) (sym i) there)),
             p.fits,
           )

@@ -1,5 +1,7 @@
 -- Heads of functions: their results and parameters, and the scope of the parameters.
 use Rattle.std.proofs.Common.{◌≡◌, ℕ, ◌+◌, ◌<◌, Bool, true, false, true≢false, ◌||◌, if◌then◌else◌, List, [], ◌∷◌}
+use Rattle.ep_layout.proofs.Basics.{grows-trans}
+use Rattle.ep_int.proofs.Basics.{slice_get-append}
 use Rattle.std.proofs.Common.{◌++◌, length, length-append, slice_get, Option, Some, None, Ok, refl, sym, ap, ◌∙◌}
 use Rattle.std.proofs.Common.{subst, ◌⊎◌, inl, inr, arith}
 use Rattle.ep_ast.specs.Expression as source
@@ -11,17 +13,19 @@ use Rattle.ep_typing.specs.declared.types.Base.{Base}
 use Rattle.ep_typing.specs.declared.types.Base.TheVariants as bases
 use Rattle.ep_typing.specs.declared.types.CType.{CType}
 use Rattle.ep_typing.specs.Types.{element_of, is_aggregate, is_array, is_array_base, is_int_base, is_void_base}
-use Rattle.ep_typing.specs.Types.{is_pointer, is_scalar, is_void, pointer_to, void_type, with_c_type, with_stars}
+use Rattle.ep_typing.specs.Results.{needed}
+use Rattle.ep_typing.specs.Types.{is_pointer, is_scalar, is_void, pointer_to, size_of_type, void_type, with_c_type}
+use Rattle.ep_typing.specs.Types.{with_stars}
 use Rattle.ep_typing.specs.Env.{Env, Meaning, Scope, function, no_names, type_name, variable}
 use Rattle.ep_elaboration.specs.Declarators.{arrays_of, name_in, with_types}
 use Rattle.ep_elaboration.specs.Functions.{Headed, behind_result, given_back, is_name_taken, named_param, param_type}
 use Rattle.ep_elaboration.specs.Functions.{params_of, passable, with_param}
 use Rattle.ep_elaboration.specs.Statements.{entered}
-use Rattle.ep_elaboration_laws.specs.FunctionRules.{MeansHead, MeansParam, MeansParamBounds, MeansParams, bound_array}
-use Rattle.ep_elaboration_laws.specs.FunctionRules.{is_head, is_param, more_params, no_array, no_params, open_array}
+use Rattle.ep_elaboration.specs.FunctionRules.{MeansHead, MeansParam, MeansParamBounds, MeansParams, bound_array}
+use Rattle.ep_elaboration.specs.FunctionRules.{is_head, is_param, more_params, no_array, no_params, open_array}
 use Rattle.ep_well_formed_laws.specs.Numbers.{HasNumber, IsTable}
 use Rattle.ep_well_formed_laws.specs.Environments.{ArePassed, EachName, IsDeclared, IsPassed, IsTyped}
-use Rattle.ep_well_formed_laws.proofs.Additions.{IsKnownBase, grows_on, has_number_stays, type_comes}
+use Rattle.ep_well_formed_laws.proofs.Additions.{IsKnownBase, has_number_stays, type_comes}
 use Rattle.ep_well_formed_laws.proofs.Mentions.{Declares, Mentions, declares_mentions, declares_on, known_base}
 use Rattle.ep_well_formed_laws.proofs.Mentions.{mentions_none, type_mentioned, mentions_on, passed_stays}
 use Rattle.ep_well_formed_laws.proofs.Mentions.{same_rows_open, table_mentioned}
@@ -30,7 +34,7 @@ use Rattle.ep_well_formed_laws.proofs.Objects.{names_same_or_more, tags_named}
 use Rattle.ep_well_formed_laws.proofs.Parts.{array_is_of, integer_left, of_base}
 use Rattle.ep_well_formed_laws.proofs.Scopes.{HaveNames, name_more, name_push, names_on, same_names}
 use Rattle.ep_well_formed_laws.proofs.Specs.{fine_is, specified, words_specified}
-use Rattle.ep_well_formed_laws.proofs.Steps.{NamesGrow, front, names_grow_on, names_stay}
+use Rattle.ep_well_formed_laws.proofs.Steps.{NamesGrow, names_grow_on, names_stay}
 use Rattle.ep_well_formed_laws.proofs.Tables.{base_again}
 use Rattle.ep_well_formed_laws.proofs.Tests.{after, unless}
 use Rattle.ep_well_formed_laws.proofs.Values.{more_stars, number_below}
@@ -89,11 +93,12 @@ param_type_is t c (Some ns) r h k l e =
     let d : CType = pointer_to x.0.0 in
     let base = known_base x.0.1 x.0.0 p.number p.table in
     let q = type_comes x.0.1 d p.table base in
-    let same = fine_is {A = CType × Table} (d, with_c_type x.0.1 d) r x.2 in
+    let sized = after (needed 33 (size_of_type x.0.1 x.0.0)) _ r x.2 in
+    let same = fine_is {A = CType × Table} (d, with_c_type x.0.1 d) r sized.2 in
     subst (λ (y : CType × Table). IsParamType t y.1 y.0) same (record {
       comes = record {
         table = q.table;
-        grows = grows_on t x.0.1 (with_c_type x.0.1 d) p.grows q.grows;
+        grows = grows-trans t x.0.1 (with_c_type x.0.1 d) p.grows q.grows;
         number = (_, q.has);
         rows = q.rows ∙ p.rows;
       };
@@ -127,7 +132,7 @@ IsParamName b cs (function n) = ⊥
 IsParamName b cs (type_name c) = ⊥
 
 later_get : (cs more : List CType) (j : ℕ) (c : CType) → slice_get cs j ≡ Some c → slice_get (cs ++ more) j ≡ Some c
-later_get cs more j c h = front cs more j c h
+later_get cs more j c h = slice_get-append cs more j c h
 
 more_params_named : (b : ℕ) (cs more : List CType) (m : Meaning) → IsParamName b cs m → IsParamName b (cs ++ more) m
 more_params_named b cs more (variable k c) h = (h.0, h.1, later_get cs more h.0 c h.2)
@@ -207,7 +212,7 @@ named_comes G (Some t) b c d h p e = subst (λ (x : CType × Env). ParamComes G 
 after_declares : (G H I : Env) (b : ℕ) (cs : List CType) → Declares G H → ParamComes H I b cs → ParamComes G I b cs
 after_declares G H I b cs d p = record {
   declared = p.declared;
-  grows = grows_on G.types H.types I.types d.grows p.grows;
+  grows = grows-trans G.types H.types I.types d.grows p.grows;
   blocks = p.blocks ∙ d.blocks;
   functions = p.functions ∙ d.functions;
   names = names_grow_on G.scopes H.scopes I.scopes (names_stay G.scopes H.scopes d.names) p.names;
@@ -252,7 +257,7 @@ params_on : (G H I : Env) (b : ℕ) (c : CType) (cs : List CType) → ParamComes
     → ParamComes G I b (c ∷ cs)
 params_on G H I b c cs p q = record {
   declared = q.declared;
-  grows = grows_on G.types H.types I.types p.grows q.grows;
+  grows = grows-trans G.types H.types I.types p.grows q.grows;
   blocks = q.blocks ∙ p.blocks;
   functions = q.functions ∙ p.functions;
   names = names_grow_on G.scopes H.scopes I.scopes p.names q.names;
@@ -345,7 +350,7 @@ head_comes G b h x k (is_head c t ps m e n) =
     let d = declares_on G H I s.declares (declares_mentions H I y.0) in
     record {
       declared = p.declared;
-      grows = grows_on G.types I.types J.types d.grows p.grows;
+      grows = grows-trans G.types I.types J.types d.grows p.grows;
       blocks = p.blocks ∙ d.blocks;
       functions = p.functions ∙ d.functions;
       inner = u.0;

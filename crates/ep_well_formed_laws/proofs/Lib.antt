@@ -19,3 +19,25 @@ pub mod FirstValues
 pub mod Lines
 pub mod Heads
 pub mod DefinedFunctions
+pub mod Counts
+pub mod Keeps
+pub mod CallNames
+pub mod Walks
+pub mod WalkedValues
+pub mod WalkedLines
+pub mod Places
+pub mod FunctionNames
+pub mod FunctionParts
+pub mod DefinedFits
+pub mod ProgramDefinitions
+pub mod Others
+pub mod TextCalls
+pub mod Arms
+pub mod Leaves
+pub mod FirstInits
+pub mod FileSteps
+pub mod Items
+pub mod Ordered
+pub mod Numbered
+pub mod Whole
+mod ArmRows

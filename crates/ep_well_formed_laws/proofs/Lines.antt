@@ -1,5 +1,6 @@
 -- Statements of a function come to lines that fit.
 use Rattle.std.proofs.Common.{◌≡◌, ℕ, ◌<◌, Bool, true, false, true≢false, List, [], ◌∷◌, ◌++◌, length, Option, Some}
+use Rattle.std.proofs.lemmas.Bool.{and_from}
 use Rattle.std.proofs.Common.{None, Ok, refl, sym, ◌∙◌, subst, arith, pos}
 use Rattle.ep_int.specs.declared.types.IntType.TheVariants.{I32}
 use Rattle.ep_ast.specs.Expression as source
@@ -12,21 +13,21 @@ use Rattle.ep_typing.specs.Env.{Env, no_names}
 use Rattle.ep_typing.specs.Names.{mentioned}
 use Rattle.ep_typing.specs.Operand.{Operand, Value, fitted, value_of}
 use Rattle.ep_well_formed_laws.specs.Operands.{OperandFits, ValueFits}
-use Rattle.ep_typing_laws.proofs.Order.{meant}
+use Rattle.ep_typing.proofs.Order.{meant}
 use Rattle.ep_elaboration.specs.Declarations.{Line}
 use Rattle.ep_elaboration.specs.Statements.{blocks_behind, blocks_of, entered, for_lines, innermost, jump, left}
 use Rattle.ep_elaboration.specs.Statements.{nothing_returned, one_line, operand_returned, returned, to_core}
 use Rattle.ep_elaboration.specs.Statements.{value_returned}
-use Rattle.ep_elaboration_laws.specs.StatementRules.{MeansEvaluation, MeansEvaluationIf, MeansFirst, MeansPart}
-use Rattle.ep_elaboration_laws.specs.StatementRules.{MeansParts, MeansStatement, MeansStatements, MeansTestIf}
-use Rattle.ep_elaboration_laws.specs.StatementRules.{MeansTestIn, first_declares, first_evaluates, is_arm, is_block}
-use Rattle.ep_elaboration_laws.specs.StatementRules.{is_break, is_continue, is_do, is_evaluated, is_evaluation}
-use Rattle.ep_elaboration_laws.specs.StatementRules.{is_for, is_if, is_if_else, is_nothing, is_test_in, is_two_arms}
-use Rattle.ep_elaboration_laws.specs.StatementRules.{is_while, more_statements, no_evaluation, no_parts_left}
-use Rattle.ep_elaboration_laws.specs.StatementRules.{no_statements, no_test, one_part_more, part_declares}
-use Rattle.ep_elaboration_laws.specs.StatementRules.{part_states, returns_nothing, returns_value, some_evaluation}
-use Rattle.ep_elaboration_laws.specs.StatementRules.{some_test}
-use Rattle.ep_elaboration_laws.specs.WholeRules.{is_test}
+use Rattle.ep_elaboration.specs.StatementRules.{MeansEvaluation, MeansEvaluationIf, MeansFirst, MeansPart}
+use Rattle.ep_elaboration.specs.StatementRules.{MeansParts, MeansStatement, MeansStatements, MeansTestIf}
+use Rattle.ep_elaboration.specs.StatementRules.{MeansTestIn, first_declares, first_evaluates, is_arm, is_block}
+use Rattle.ep_elaboration.specs.StatementRules.{is_break, is_continue, is_do, is_evaluated, is_evaluation}
+use Rattle.ep_elaboration.specs.StatementRules.{is_for, is_if, is_if_else, is_nothing, is_test_in, is_two_arms}
+use Rattle.ep_elaboration.specs.StatementRules.{is_while, more_statements, no_evaluation, no_parts_left}
+use Rattle.ep_elaboration.specs.StatementRules.{no_statements, no_test, one_part_more, part_declares}
+use Rattle.ep_elaboration.specs.StatementRules.{part_states, returns_nothing, returns_value, some_evaluation}
+use Rattle.ep_elaboration.specs.StatementRules.{some_test}
+use Rattle.ep_elaboration.specs.WholeRules.{is_test}
 use Rattle.ep_well_formed_laws.specs.Environments.{Covers, HasScope, IsEnv}
 use Rattle.ep_well_formed_laws.specs.Statements.{IsResultOf, StmtsFit, WhatFits, a_result, no_result}
 use Rattle.ep_well_formed_laws.proofs.Additions.{type_number_stays}
@@ -41,7 +42,7 @@ use Rattle.ep_well_formed_laws.proofs.Steps.{covers_inside, env_entered, follows
 use Rattle.ep_well_formed_laws.proofs.Steps.{follows_left, follows_mentions, follows_on, names_grow_on, names_left}
 use Rattle.ep_well_formed_laws.proofs.Steps.{names_stay, same_left, stmts_later}
 use Rattle.ep_well_formed_laws.proofs.Stores.{has_type_is}
-use Rattle.ep_well_formed_laws.proofs.Tests.{after, and_is, given, unless}
+use Rattle.ep_well_formed_laws.proofs.Tests.{after, given, unless}
 use Rattle.ep_well_formed_laws.proofs.TypedExpressions.{typed_fits}
 use Rattle.ep_well_formed_laws.proofs.Values.{fitted_fits, target_made, tested_is}
 use Rattle.ep_well_formed_laws.proofs.WholeStatements.{whole_fits}
@@ -140,7 +141,7 @@ evaluation_fits G result c l e w h s (is_evaluation v m) =
       plain = λ q.
           let all = all_blocks H.scopes in
           let k = (whole_fits H all f.env (covers_all H.blocks H.scopes) some result c e v p.there m).plain q in
-          and_is (is_plain v) true k refl;
+          and_from (is_plain v) true k refl;
     }
 
 evaluation_if_fits : (G : Env) (result : Option ℕ) (e : Option source.Expr) (w : List Line × Env) → IsEnv G

@@ -1,5 +1,9 @@
 -- Environments stay what they are while expressions declare tags and types, and the types of type names are there.
 use Rattle.std.proofs.Common.{◌≡◌, ℕ, zero, suc, ◌<◌, ◌≤◌, ◌==◌, Bool, true, false, cond, if◌then◌else◌, List, []}
+use Rattle.ep_int.proofs.Basics.{length-by_rows}
+use Rattle.ep_layout.proofs.Basics.{grows-trans, is_union-stays}
+use Rattle.ep_typing.proofs.Order.{at_ok}
+use Rattle.std.proofs.lemmas.Bool.{and_from}
 use Rattle.std.proofs.Common.{◌∷◌, length, length-append, find, slice_get, Option, Some, None, Result, Ok, Err, refl}
 use Rattle.std.proofs.Common.{sym, ap, ◌∙◌, subst, ◌⊎◌, inl, inr, arith}
 use Rattle.std.proofs.lemmas.Bool.Decides.{nat_tests}
@@ -30,17 +34,17 @@ use Rattle.ep_typing.specs.Env.{function, type_name, with_tag}
 use Rattle.ep_typing.specs.Names.{built_in_types, integer_of, is_whole, meant_tag, meant_type, mentioned}
 use Rattle.ep_typing.specs.Names.{mentioned_all, mentioned_name, mentioned_tag, mentioned_word, mentioned_words}
 use Rattle.ep_typing.specs.Names.{named_type, of_whole, with_type_of, words_type}
-use Rattle.ep_elaboration_laws.proofs.Growing.{size_on}
+use Rattle.ep_elaboration.proofs.Growing.{size_on}
 use Rattle.ep_well_formed_laws.specs.Numbers.{HasNumber, IsTable, number_behind, number_of_base}
 use Rattle.ep_well_formed_laws.specs.Environments.{ArePassed, CanName, Covers, EachMeaning, IsDeclared, IsEnv}
 use Rattle.ep_well_formed_laws.specs.Environments.{IsPassed, IsPlaced, IsSignature, IsTyped}
 use Rattle.ep_well_formed_laws.proofs.Tables.{behind_none, row_at}
 use Rattle.ep_well_formed_laws.proofs.Extents.{array_is}
-use Rattle.ep_well_formed_laws.proofs.Additions.{IsKnownBase, grows_on, has_number_stays, type_comes, type_number_stays}
+use Rattle.ep_well_formed_laws.proofs.Additions.{IsKnownBase, has_number_stays, type_comes, type_number_stays}
 use Rattle.ep_well_formed_laws.proofs.Scopes.{HaveNames, each_same, looked_up, meaning_more, names_on, names_tagged}
 use Rattle.ep_well_formed_laws.proofs.Scopes.{same_meaning, same_names, tag_found, tag_looked_up, tag_more, tag_push}
 use Rattle.ep_well_formed_laws.proofs.Scopes.{tag_stays}
-use Rattle.ep_well_formed_laws.proofs.Tests.{after, and_is}
+use Rattle.ep_well_formed_laws.proofs.Tests.{after}
 
 -- ---- in a table that has grown
 
@@ -73,19 +77,13 @@ module _ (t u : Table) (g : Grows t u) (b : IsBuilt u) where
   placed_stays bs fs (type_name c) h = tt
 
   pub block_stays : (x : Block) → block_fits t x ≡ true → block_fits u x ≡ true
-  block_stays x h = let p = and_parts _ _ h in and_is _ _ (size_on t u g x.ty x.size p.0) p.1
-
-more_rows : {X : Type 0} (xs ys : List X) → ((a : ℕ) (x : X) → slice_get xs a ≡ Some x → (y : X) × (slice_get ys a ≡ Some y))
-    → length xs ≤ length ys
-more_rows [] ys f = omega arith
-more_rows (x ∷ xs) [] f = let p = f 0 x refl in absurd (let bad = p.1 in cc)
-more_rows (x ∷ xs) (y ∷ ys) f = omega (arith, more_rows xs ys (λ a z e. f (suc a) z e))
+  block_stays x h = let p = and_parts _ _ h in and_from _ _ (size_on t u g x.ty x.size p.0) p.1
 
 pub more_types : (t u : Table) → Grows t u → length t.types ≤ length u.types
-more_types t u g = more_rows t.types u.types (λ n ty e. (ty, g.types n ty e))
+more_types t u g = length-by_rows t.types u.types (λ n ty e. (ty, g.types n ty e))
 
 pub more_aggregates : (t u : Table) → Grows t u → length t.aggregates ≤ length u.aggregates
-more_aggregates t u g = more_rows t.aggregates u.aggregates (λ a x e. let p = g.aggregates a x e in (p.0, p.1))
+more_aggregates t u g = length-by_rows t.aggregates u.aggregates (λ a x e. let p = g.aggregates a x e in (p.0, p.1))
 
 -- an environment in a table that has grown
 pub with_table : (G : Env) (u : Table) → IsDeclared G → Grows G.types u → IsTable u → IsDeclared (record G { types = u })
@@ -131,7 +129,7 @@ mentions_none G h = record {
 pub mentions_on : (G H I : Env) → Mentions G H → Mentions H I → Mentions G I
 mentions_on G H I g h = record {
   declared = h.declared;
-  grows = grows_on G.types H.types I.types g.grows h.grows;
+  grows = grows-trans G.types H.types I.types g.grows h.grows;
   names = names_on G.scopes H.scopes I.scopes g.names h.names;
   tags = λ t a e. h.tags t a (g.tags t a e);
   blocks = h.blocks ∙ g.blocks;
@@ -291,10 +289,6 @@ tag_known G c u h (Some a) f e = by (is_same_sign (is_union G.types a) u) e
         subst (λ (x : CType). IsKnownBase G.types x.base) same (f a refl)
     by false q = absurd cc
 
-at_is : {A : Type 0} (l : ℕ) (r : Result A ℕ) (y : A) → at l r ≡ Ok y → r ≡ Ok y
-at_is l (Ok x) y e = cc
-at_is l (Err k) y e = absurd cc
-
 of_whole_known : (G : Env) (ws : List TypeWord) (o : Option TypeWord) (c : CType) → IsDeclared G → of_whole G ws o ≡ Ok c
     → IsKnownBase G.types c.base
 of_whole_known G ws None c h e =
@@ -304,10 +298,10 @@ of_whole_known G ws (Some (source.word l w)) c h e =
     let same : void_type ≡ c = cc in subst (λ (x : CType). IsKnownBase G.types x.base) same tt
 of_whole_known G ws (Some (source.typedef_name l t)) c h e =
     meant_known G c h (look_up t G.scopes) (entry t (built_in_types G.types.model))
-    (λ m q. looked_up (IsTyped G.types) t G.scopes m h.names q) (at_is l _ c e)
+    (λ m q. looked_up (IsTyped G.types) t G.scopes m h.names q) (at_ok l _ c e)
 of_whole_known G ws (Some (source.tagged l w t)) c h e =
     tag_known G c (w == union_word) h (look_up_tag t G.scopes)
-    (λ a q. tag_looked_up (λ k. k < length G.types.aggregates) t G.scopes a h.tags q) (at_is l _ c e)
+    (λ a q. tag_looked_up (λ k. k < length G.types.aggregates) t G.scopes a h.tags q) (at_ok l _ c e)
 
 pub words_known : (G : Env) (ws : List TypeWord) (c : CType) → IsDeclared G → words_type G ws ≡ Ok c
     → IsKnownBase G.types c.base
@@ -321,19 +315,13 @@ below_aggregate [] n l = absurd (omega (arith, l))
 below_aggregate (x ∷ xs) zero l = (x, refl)
 below_aggregate (x ∷ xs) (suc n) l = below_aggregate xs n (omega (arith, l))
 
-pub union_stays : (t u : Table) → Grows t u → (a : ℕ) → a < length t.aggregates → is_union u a ≡ is_union t a
-union_stays t u g a l =
-    let r = below_aggregate t.aggregates a l in
-    let s = g.aggregates a r.0 r.1 in
-    rw (r.1, s.1) s.2
-
 same_tag : (G H : Env) → IsDeclared G → Mentions G H → (u : Bool) (t : List ℕ) → HasTag G t
     → meant_tag H u (look_up_tag t H.scopes) ≡ meant_tag G u (look_up_tag t G.scopes)
 same_tag G H h m u t (inl p) =
     let l = tag_looked_up (λ k. k < length G.types.aggregates) t G.scopes p.0 h.tags p.1 in
     ap (meant_tag H u) (m.tags t p.0 p.1)
     ∙ ap (λ (x : Bool). tag_answer p.0 (is_same_sign x u))
-    (union_stays G.types H.types m.grows p.0 l)
+    (is_union-stays G.types H.types m.grows p.0 l)
     ∙ ap (meant_tag G u) (sym p.1)
 same_tag G H h m u t (inr e) =
     ap (λ (ss : List Scope). meant_tag H u (look_up_tag t ss)) (no_scopes G.scopes H.scopes m.names e)
@@ -570,7 +558,7 @@ declares_mentions G H m =
 pub declares_on : (G H I : Env) → Declares G H → Declares H I → Declares G I
 declares_on G H I g h = record {
   declared = h.declared;
-  grows = grows_on G.types H.types I.types g.grows h.grows;
+  grows = grows-trans G.types H.types I.types g.grows h.grows;
   names = names_on G.scopes H.scopes I.scopes g.names h.names;
   blocks = h.blocks ∙ g.blocks;
   functions = h.functions ∙ g.functions;

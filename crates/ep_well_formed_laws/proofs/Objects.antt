@@ -1,5 +1,8 @@
 -- Bounds, arrays and objects that are declared.
 use Rattle.std.proofs.Common.{◌≡◌, ℕ, ◌<◌, nat_le, nat_eq, Bool, true, false, ◌&&◌, ◌||◌, cond, List, [], ◌∷◌, ◌++◌}
+use Rattle.ep_layout.proofs.Basics.{grows-trans}
+use Rattle.ep_int.proofs.Basics.{slice_get-append}
+use Rattle.std.proofs.lemmas.Bool.{and_from, or_left}
 use Rattle.std.proofs.Common.{length, slice_get, Option, Some, None, option_and_then, unwrap_or, Result, Ok, Err}
 use Rattle.std.proofs.Common.{refl, sym, ap, ◌∙◌, subst, ◌⊎◌, inl, inr, arith, ℤ, pos, negsuc}
 use Rattle.std.proofs.lemmas.Bool.Decides.{nat_tests}
@@ -24,23 +27,23 @@ use Rattle.ep_typing.specs.Constant.{constant_of, count_in, count_of}
 use Rattle.ep_typing.specs.Operand.{Value}
 use Rattle.ep_elaboration.specs.Declarators.{Object, array_of, arrays_of, counted, declared_object, is_taken, made}
 use Rattle.ep_elaboration.specs.Declarators.{name_in, object_of, sized_object, with_block, with_name, with_types}
-use Rattle.ep_elaboration_laws.specs.DeclaratorRules.{MeansBound, MeansBounds, MeansObject, MeansObjectBounds}
-use Rattle.ep_elaboration_laws.specs.DeclaratorRules.{from_list, is_bound, is_object, listed_with_bound}
-use Rattle.ep_elaboration_laws.specs.DeclaratorRules.{listed_without_bounds, more_bounds, no_bounds, without_list}
+use Rattle.ep_elaboration.specs.DeclaratorRules.{MeansBound, MeansBounds, MeansObject, MeansObjectBounds}
+use Rattle.ep_elaboration.specs.DeclaratorRules.{from_list, is_bound, is_object, listed_with_bound}
+use Rattle.ep_elaboration.specs.DeclaratorRules.{listed_without_bounds, more_bounds, no_bounds, without_list}
 use Rattle.ep_well_formed_laws.specs.Numbers.{HasNumber, IsTable, array_number, may_be, type_number}
 use Rattle.ep_well_formed_laws.specs.Environments.{CanName, Covers, EachMeaning, EachName, EachTag, HasScope}
 use Rattle.ep_well_formed_laws.specs.Environments.{IsDeclared, IsEnv, IsPlaced, IsTyped}
 use Rattle.ep_well_formed_laws.specs.Operands.{PlaceFits}
 use Rattle.ep_well_formed_laws.proofs.Tables.{row_at}
 use Rattle.ep_well_formed_laws.proofs.Extents.{same_size, size_is_length}
-use Rattle.ep_well_formed_laws.proofs.Additions.{IsKnownBase, added, c_number_is, grows_on, type_comes}
+use Rattle.ep_well_formed_laws.proofs.Additions.{IsKnownBase, added, c_number_is, type_comes}
 use Rattle.ep_well_formed_laws.proofs.Additions.{type_number_stays}
 use Rattle.ep_well_formed_laws.proofs.Scopes.{meaning_more, name_push, same_names}
 use Rattle.ep_well_formed_laws.proofs.Mentions.{Mentions, expression_mentioned, known_base, mentions_none}
 use Rattle.ep_well_formed_laws.proofs.Mentions.{mentions_on, same_rows_open, table_mentioned, env_mentioned}
-use Rattle.ep_well_formed_laws.proofs.Steps.{Follows, NamesGrow, follows_mentions, follows_on, front, names_grow_on}
+use Rattle.ep_well_formed_laws.proofs.Steps.{Follows, NamesGrow, follows_mentions, follows_on, names_grow_on}
 use Rattle.ep_well_formed_laws.proofs.Steps.{names_stay}
-use Rattle.ep_well_formed_laws.proofs.Tests.{after, and_is, left_is, needed_is, unless}
+use Rattle.ep_well_formed_laws.proofs.Tests.{after, needed_is, unless}
 use Rattle.ep_well_formed_laws.proofs.Values.{number_below, same_number, self_may_be}
 
 -- ---- bounds
@@ -154,7 +157,7 @@ arrays_come t c (n ∷ ns) r h k l e =
     (number_below u p.0.0 _ s.has) l.0 refl p.2 in
     record {
       table = m.table;
-      grows = grows_on t p.0.1 r.1 q.grows (grows_on p.0.1 u r.1 s.grows m.grows);
+      grows = grows-trans t p.0.1 r.1 q.grows (grows-trans p.0.1 u r.1 s.grows m.grows);
       number = m.number;
       rows = m.rows ∙ s.rows ∙ q.rows;
     }
@@ -190,7 +193,7 @@ env_named G n m h k p = record {
 
 pub placed_front : (t : Table) (bs more : List Block) (fs : List Signature) (m : Meaning) → IsPlaced t bs fs m
     → IsPlaced t (bs ++ more) fs m
-placed_front t bs more fs (variable b c) h = (h.0, front bs more b h.0 h.1, h.2)
+placed_front t bs more fs (variable b c) h = (h.0, slice_get-append bs more b h.0 h.1, h.2)
 placed_front t bs more fs (function n) h = h
 placed_front t bs more fs (type_name c) h = tt
 
@@ -217,7 +220,7 @@ block_of_type t c n global h k e =
     let z : size t k.0 ≡ Some n = sym (same_size t h.built c k.0 k.1) ∙ e in
     let i = c_number_is t c k.0 k.1 in
     let l = size_is_length t h k.0 n z in
-    and_is _ _ (subst (λ (j : ℕ). is_number (size t j) n ≡ true) (sym i) (rw z (self_may_be n))) (and_parts _ _ l).0
+    and_from _ _ (subst (λ (j : ℕ). is_number (size t j) n ≡ true) (sym i) (rw z (self_may_be n))) (and_parts _ _ l).0
 
 -- an object that was declared, and the environment behind it
 pub record IsObject (G H : Env) (global : Bool) (x : Object) : Type 0 where
@@ -267,7 +270,7 @@ object_is G global n c z h k e =
             has = λ ty q.
                 let same : x.ty ≡ ty = same_number x.ty ty (subst (λ (o : Option ℕ). may_be o ty ≡ true) number q) in
                 let test : nat_eq x.ty ty ≡ true = subst (λ (j : ℕ). nat_eq x.ty j ≡ true) same (self_may_be x.ty) in
-                and_is (is_global (slice_get I.blocks b) || contains b seen)
+                and_from (is_global (slice_get I.blocks b) || contains b seen)
                 (block_has I.types I.blocks seen (slice_get I.blocks b) ty) can (rw here test);
           };
     }
@@ -277,7 +280,7 @@ object_is G global n c z h k e =
         → (is_global (slice_get (G.blocks ++ x ∷ []) b) || contains b seen) ≡ true
     can_name seen x b I here covers (inl s) = name_there (CanName (G.blocks ++ x ∷ []) seen) G.scopes n (variable b c) s covers
     can_name seen x b I here covers (inr g) =
-        left_is (is_global (slice_get (G.blocks ++ x ∷ []) b)) (contains b seen) (rw here g)
+        or_left (is_global (slice_get (G.blocks ++ x ∷ []) b)) (contains b seen) (rw here g)
 
 -- the object of a declarator
 pub declared_is : (G : Env) (global : Bool) (n : List ℕ) (c : CType) (ns : List ℕ) (o : Object × Env) → IsEnv G

@@ -1,10 +1,13 @@
 -- What operators on two values come to computes what its type says.
 use Rattle.std.proofs.Common.{◌≡◌, ℕ, ◌<◌, ◌==◌, Bool, true, false, ◌&&◌, not, if◌then◌else◌, List, length, Option}
-use Rattle.std.proofs.Common.{Some, Ok, refl, sym, ap, ◌∙◌, subst, inl, inr, arith, ℤ, pos, negsuc, ◌≤ℤ◌, int_le}
+use Rattle.ep_int.proofs.Arithmetic.{le_test}
+use Rattle.ep_int.proofs.Basics.{zero_in_range}
+use Rattle.std.proofs.lemmas.Bool.{not-false}
+use Rattle.std.proofs.lemmas.Bool.{and_from}
+use Rattle.std.proofs.Common.{Some, Ok, refl, sym, ap, ◌∙◌, subst, inl, inr, ℤ, pos, negsuc, ◌≤ℤ◌}
 use Rattle.std.proofs.lemmas.Bool.{and_parts}
-use Rattle.std.proofs.lemmas.Int.{ints}
 use Rattle.ep_int.specs.declared.types.IntType.{IntType}
-use Rattle.ep_int.specs.declared.types.IntType.TheVariants.{I8, U8, I16, U16, I32, U32, I64, U64}
+use Rattle.ep_int.specs.declared.types.IntType.TheVariants.{I32}
 use Rattle.ep_int.specs.declared.types.BinOp.{BinOp}
 use Rattle.ep_int.specs.declared.types.BinOp.TheVariants.{Add, Sub, Xor, Shl, Shr}
 use Rattle.ep_int.specs.declared.types.Cmp.{Cmp}
@@ -32,28 +35,15 @@ use Rattle.ep_typing.specs.Operators.{shifted, subtracted, turned, unary_operate
 use Rattle.ep_well_formed_laws.specs.Numbers.{IsMade, IsTable, may_be, type_number}
 use Rattle.ep_well_formed_laws.specs.Operands.{ValueFits}
 use Rattle.ep_well_formed_laws.proofs.Extents.{same_size, size_is_length}
-use Rattle.ep_well_formed_laws.proofs.Tests.{after, and_is, both_not, either_way, given, if_not, if_so, int_is, is_so}
+use Rattle.ep_well_formed_laws.proofs.Tests.{after, both_not, either_way, given, if_not, if_so, int_is}
 use Rattle.ep_well_formed_laws.proofs.Tests.{needed_is, right_operand_is, same_self, unless}
 use Rattle.ep_well_formed_laws.proofs.Values.{IsAddress, as_pointer_is, bare_is, converted_is, int_fits, pointer_fits}
 use Rattle.ep_well_formed_laws.proofs.Values.{same_number, scalar_is, scalar_tested, self_may_be, unmixed_address}
 
 -- ---- numbers of types
 
-zero_fits : (i : IntType) → is_in_range i (pos 0) ≡ true
-zero_fits I8 = refl
-zero_fits U8 = refl
-zero_fits I16 = refl
-zero_fits U16 = refl
-zero_fits I32 = refl
-zero_fits U32 = refl
-zero_fits I64 = refl
-zero_fits U64 = refl
-
-int_le_is : (a b : ℤ) → a ≤ℤ b → int_le a b ≡ true
-int_le_is a b h = grind (arith, ints)
-
 pub wrapped_fits : (i : IntType) (v : ℤ) → is_in_range i (wrapped i v) ≡ true
-wrapped_fits i v = let r = wrapped_in_range i v in and_is _ _ (int_le_is _ _ r.low) (int_le_is _ _ r.high)
+wrapped_fits i v = let r = wrapped_in_range i v in and_from _ _ (le_test _ _ r.low) (le_test _ _ r.high)
 
 module _ (t : Table) (bs : List Block) (seen : List ℕ) (table : IsTable t) (some : 0 < length t.types) where
   abbrev S : Expr → formed.Sort → Bool
@@ -66,7 +56,7 @@ module _ (t : Table) (bs : List Block) (seen : List ℕ) (table : IsTable t) (so
 
   pub binary_is : (op : BinOp) (i : IntType) (a b : Expr) → S a (integer i) ≡ true → S b (integer i) ≡ true
       → S (core.binary op i a b) (integer i) ≡ true
-  binary_is op i a b h k = and_is _ _ (and_is _ _ (same_self i) h) (right_operand_is t bs seen op b i k)
+  binary_is op i a b h k = and_from _ _ (and_from _ _ (same_self i) h) (right_operand_is t bs seen op b i k)
 
   computed_fits : (op : BinOp) (a b : Value) → F a → F b → is_integer a.ty ≡ true → is_integer b.ty ≡ true
       → F (computed op a b)
@@ -87,11 +77,11 @@ module _ (t : Table) (bs : List Block) (seen : List ℕ) (table : IsTable t) (so
 
   shifted_left_is : (i j : IntType) (a b : Expr) → S a (integer i) ≡ true → S b (integer j) ≡ true
       → S (core.binary Shl i a b) (integer i) ≡ true
-  shifted_left_is i j a b h k = and_is _ _ (and_is _ _ (same_self i) h) (int_is t bs seen b j k)
+  shifted_left_is i j a b h k = and_from _ _ (and_from _ _ (same_self i) h) (int_is t bs seen b j k)
 
   shifted_right_is : (i j : IntType) (a b : Expr) → S a (integer i) ≡ true → S b (integer j) ≡ true
       → S (core.binary Shr i a b) (integer i) ≡ true
-  shifted_right_is i j a b h k = and_is _ _ (and_is _ _ (same_self i) h) (int_is t bs seen b j k)
+  shifted_right_is i j a b h k = and_from _ _ (and_from _ _ (same_self i) h) (int_is t bs seen b j k)
 
   shifted_fits : (op : BinOp)
       → ((i j : IntType) (a b : Expr) → S a (integer i) ≡ true → S b (integer j) ≡ true
@@ -109,7 +99,7 @@ module _ (t : Table) (bs : List Block) (seen : List ℕ) (table : IsTable t) (so
   pub sum_is : (p n : Expr) (unit : ℕ) (back : Bool) (ty : ℕ) (i : IntType) → is_length unit ≡ true
       → is_number (size t ty) unit ≡ true → S p (pointing ty) ≡ true → S n (integer i) ≡ true
       → S (core.ptr_add p unit n back) (pointing ty) ≡ true
-  sum_is p n unit back ty i l s h k = and_is _ _ (and_is _ _ (and_is _ _ l s) h) (int_is t bs seen n i k)
+  sum_is p n unit back ty i l s h k = and_from _ _ (and_from _ _ (and_from _ _ l s) h) (int_is t bs seen n i k)
 
   pub number_is : (o : Option ℕ) (n : ℕ) → o ≡ Some n → is_number o n ≡ true
   number_is o n e = rw e (self_may_be n)
@@ -158,12 +148,12 @@ module _ (t : Table) (bs : List Block) (seen : List ℕ) (table : IsTable t) (so
       let s = and_parts (is_integer a.ty) (is_integer b.ty) p in
       let i = common_type a b in
       int_fits t bs seen some _ I32
-      (and_is _ _ (and_is _ _ refl (converted_is t bs seen some i a h s.0)) (converted_is t bs seen some i b k s.1))
+      (and_from _ _ (and_from _ _ refl (converted_is t bs seen some i a h s.0)) (converted_is t bs seen some i b k s.1))
 
   pointers_compared_fits : (c : Cmp) (a b : Value) → F a → F b → IsAddress t bs seen some a → IsAddress t bs seen some b
       → F (pointers_compared c a b)
   pointers_compared_fits c a b h k p q =
-      int_fits t bs seen some _ I32 (and_is _ _ (and_is _ _ refl (bare_is t bs seen some a h p)) (bare_is t bs seen some b k q))
+      int_fits t bs seen some _ I32 (and_from _ _ (and_from _ _ refl (bare_is t bs seen some a h p)) (bare_is t bs seen some b k q))
 
   -- two scalars that aren't two integers, nor an integer and a pointer, are addresses
   addresses : (a b : Value) → are_integers a b ≡ false → is_scalar a.ty ≡ true → is_scalar b.ty ≡ true
@@ -172,7 +162,7 @@ module _ (t : Table) (bs : List Block) (seen : List ℕ) (table : IsTable t) (so
     | inl r ↦ (inl r, unmixed_address t bs seen some a.ty b r q (sym (if_so _ _ _ r) ∙ m))
     | inr r ↦ elim (scalar_is b.ty q) [
       | inl s ↦ (unmixed_address t bs seen some b.ty a s p (sym (if_so _ _ _ s) ∙ (sym (if_not _ _ _ r.0) ∙ m)), inl s)
-      | inr s ↦ both_not (are_integers a b) (and_is _ _ r.1 s.1) n
+      | inr s ↦ both_not (are_integers a b) (and_from _ _ r.1 s.1) n
     ]
   ]
 
@@ -182,7 +172,7 @@ module _ (t : Table) (bs : List Block) (seen : List ℕ) (table : IsTable t) (so
     | inl p ↦ let same : compared c a b ≡ v = (let q = p.1 in cc) in subst F same (compared_fits c a b h k p.0)
     | inr p ↦
         let x = unless (not (is_scalar a.ty && is_scalar b.ty)) 32 _ v p.1 in
-        let s = and_parts (is_scalar a.ty) (is_scalar b.ty) (is_so _ x.0) in
+        let s = and_parts (is_scalar a.ty) (is_scalar b.ty) (not-false _ x.0) in
         let y = unless (is_null_either a b) 32 _ v x.1 in
         let z = unless (are_mixed a b) 34 _ v y.1 in
         let g = given (is_same a.ty b.ty) (pointers_compared c a b) v 44 z.1 in
@@ -196,7 +186,7 @@ module _ (t : Table) (bs : List Block) (seen : List ℕ) (table : IsTable t) (so
     | inl p ↦ let same : compared c a b ≡ v = (let q = p.1 in cc) in subst F same (compared_fits c a b h k p.0)
     | inr p ↦
         let x = unless (not (is_scalar a.ty && is_scalar b.ty)) 32 _ v p.1 in
-        let s = and_parts (is_scalar a.ty) (is_scalar b.ty) (is_so _ x.0) in
+        let s = and_parts (is_scalar a.ty) (is_scalar b.ty) (not-false _ x.0) in
         let y = unless (are_mixed a b) 34 _ v x.1 in
         let z = unless (are_foreign a b) 44 _ v y.1 in
         let same : pointers_compared c a b ≡ v = (let q = z.1 in cc) in
@@ -212,7 +202,7 @@ module _ (t : Table) (bs : List Block) (seen : List ℕ) (table : IsTable t) (so
       let g = given (is_scalar a.ty && is_scalar b.ty) _ v 32 e in
       let s = and_parts (is_scalar a.ty) (is_scalar b.ty) g.0 in
       subst F g.1 (int_fits t bs seen some _ I32
-      (and_is _ _ (and_is _ _ refl (scalar_tested t bs seen some a h s.0)) (scalar_tested t bs seen some b k s.1)))
+      (and_from _ _ (and_from _ _ refl (scalar_tested t bs seen some a h s.0)) (scalar_tested t bs seen some b k s.1)))
 
   either_fits : (a b v : Value) → F a → F b → either a b ≡ Ok v → F v
   unfolding either
@@ -220,13 +210,13 @@ module _ (t : Table) (bs : List Block) (seen : List ℕ) (table : IsTable t) (so
       let g = given (is_scalar a.ty && is_scalar b.ty) _ v 32 e in
       let s = and_parts (is_scalar a.ty) (is_scalar b.ty) g.0 in
       subst F g.1 (int_fits t bs seen some _ I32
-      (and_is _ _ (and_is _ _ refl (scalar_tested t bs seen some a h s.0)) (scalar_tested t bs seen some b k s.1)))
+      (and_from _ _ (and_from _ _ refl (scalar_tested t bs seen some a h s.0)) (scalar_tested t bs seen some b k s.1)))
 
   -- ---- `? :`
 
   chosen_sort : (e a b : Expr) (x : formed.Sort) → formed.is_test t bs seen (int_type_of e) (S e) ≡ true → S a x ≡ true
       → S b x ≡ true → S (core.conditional e a b) x ≡ true
-  chosen_sort e a b x h p q = and_is _ _ (and_is _ _ h p) q
+  chosen_sort e a b x h p q = and_from _ _ (and_from _ _ h p) q
 
   numbers_chosen_fits : (e : Expr) (a b : Value) → formed.is_test t bs seen (int_type_of e) (S e) ≡ true → F a → F b
       → are_integers a b ≡ true → F (numbers_chosen e a b)
@@ -263,7 +253,7 @@ module _ (t : Table) (bs : List Block) (seen : List ℕ) (table : IsTable t) (so
   unfolding chosen
   chosen_fits e a b v f h k r =
       let x = unless (not (is_scalar e.ty && (is_scalar a.ty && is_scalar b.ty))) 32 _ v r in
-      let s = and_parts (is_scalar e.ty) (is_scalar a.ty && is_scalar b.ty) (is_so _ x.0) in
+      let s = and_parts (is_scalar e.ty) (is_scalar a.ty && is_scalar b.ty) (not-false _ x.0) in
       let u = and_parts (is_scalar a.ty) (is_scalar b.ty) s.1 in
       let w = scalar_tested t bs seen some e f s.0 in
       elim (either_way (are_integers a b) _ _ (Ok v) x.1) [
@@ -295,7 +285,7 @@ module _ (t : Table) (bs : List Block) (seen : List ℕ) (table : IsTable t) (so
       let g = given (is_integer a.ty) (opposite a) v 32 e in
       let i = promoted_type a in
       subst F g.1 (int_fits t bs seen some _ i (binary_is Sub i (core.const i (pos 0)) (promoted_value a)
-      (and_is _ _ (same_self i) (zero_fits i)) (promoted_is a h g.0)))
+      (and_from _ _ (same_self i) (zero_in_range i)) (promoted_is a h g.0)))
 
   complemented_fits : (a v : Value) → F a → complemented a ≡ Ok v → F v
   unfolding complemented
@@ -304,13 +294,13 @@ module _ (t : Table) (bs : List Block) (seen : List ℕ) (table : IsTable t) (so
       let i = promoted_type a in
       subst F g.1 (int_fits t bs seen some _ i
       (binary_is Xor i (promoted_value a) (core.const i (wrapped i (negsuc 0))) (promoted_is a h g.0)
-      (and_is _ _ (same_self i) (wrapped_fits i (negsuc 0)))))
+      (and_from _ _ (same_self i) (wrapped_fits i (negsuc 0)))))
 
   denied_fits : (a v : Value) → F a → denied a ≡ Ok v → F v
   unfolding denied
   denied_fits a v h e =
       let g = given (is_scalar a.ty) _ v 32 e in
-      subst F g.1 (int_fits t bs seen some _ I32 (and_is _ _ refl (scalar_tested t bs seen some a h g.0)))
+      subst F g.1 (int_fits t bs seen some _ I32 (and_from _ _ refl (scalar_tested t bs seen some a h g.0)))
 
   pub unary_fits : (m : ℕ) (a v : Value) → F a → unary_operated m a ≡ Ok v → F v
   unfolding unary_operated

@@ -1,5 +1,9 @@
 -- Names, numbers, parts of objects, addresses, casts and sizes are what their types say.
 use Rattle.std.proofs.Common.{◌≡◌, ℕ, zero, suc, ◌<◌, ◌≤◌, ◌==◌, nat_eq, Bool, true, false, true≢false, cond, ◌&&◌}
+use Rattle.ep_int.proofs.Basics.{nat_eq-self}
+use Rattle.std.proofs.lemmas.Bool.{not-false}
+use Rattle.std.proofs.lemmas.Bool.{and_from, or_left, or_right}
+use Rattle.std.proofs.lemmas.Option.{slice_get_within}
 use Rattle.std.proofs.Common.{◌||◌, not, if◌then◌else◌, List, [], ◌∷◌, ◌++◌, length, map, find, slice_get, Option}
 use Rattle.std.proofs.Common.{Some, None, option_map, option_and_then, unwrap_or, bytes_eq, codes, int_le, Result, Ok}
 use Rattle.std.proofs.Common.{Err, refl, sym, ap, ◌∙◌, subst, ◌⊎◌, inl, inr, arith, pos}
@@ -52,10 +56,10 @@ use Rattle.ep_typing.specs.Parts.{sized, type_sized, unary_of_value, unary_typed
 use Rattle.ep_well_formed_laws.specs.Numbers.{HasNumber, IsMade, IsTable, may_be, type_number, number_of_base}
 use Rattle.ep_well_formed_laws.specs.Environments.{CanName, IsPlaced}
 use Rattle.ep_well_formed_laws.specs.Operands.{IsCallee, OperandFits, PlaceFits, ValueFits}
-use Rattle.ep_well_formed_laws.proofs.Tables.{base_again, row_at, target_number, there, type_of_number}
+use Rattle.ep_well_formed_laws.proofs.Tables.{base_again, row_at, target_number, type_of_number}
 use Rattle.ep_well_formed_laws.proofs.Extents.{array_is, same_size, size_is_length}
-use Rattle.ep_well_formed_laws.proofs.Tests.{after, and_is, both_not, either_way, given, if_not, if_so, int_is, is_so}
-use Rattle.ep_well_formed_laws.proofs.Tests.{left_is, needed_is, right_is, same_self, some_type_is, type_below}
+use Rattle.ep_well_formed_laws.proofs.Tests.{after, both_not, either_way, given, if_not, if_so, int_is}
+use Rattle.ep_well_formed_laws.proofs.Tests.{needed_is, same_self, some_type_is, type_below}
 use Rattle.ep_well_formed_laws.proofs.Tests.{unless}
 use Rattle.ep_well_formed_laws.proofs.Values.{as_type_fits, int_fits, null_fits, number_fits, pointer_fits}
 use Rattle.ep_well_formed_laws.proofs.Values.{same_number, scalar_is, self_may_be, target_made, to_type_fits}
@@ -191,8 +195,8 @@ got_among (x ∷ xs) (suc i) m h = inr (got_among xs i m h)
 any_among : (q : MemberRow → Bool) (xs : List MemberRow) (m : MemberRow) → IsAmong m xs → q m ≡ true
     → list_any q xs ≡ true
 any_among q [] m h e = absurd h
-any_among q (x ∷ xs) m (inl p) e = left_is (q x) (list_any q xs) (subst (λ (y : MemberRow). q y ≡ true) (sym p) e)
-any_among q (x ∷ xs) m (inr h) e = right_is (q x) (list_any q xs) (any_among q xs m h e)
+any_among q (x ∷ xs) m (inl p) e = or_left (q x) (list_any q xs) (subst (λ (y : MemberRow). q y ≡ true) (sym p) e)
+any_among q (x ∷ xs) m (inr h) e = or_right (q x) (list_any q xs) (any_among q xs m h e)
 
 laid_among : (t : Table) (xs : List MemberRow) (ls : List Layout) (m : MemberRow) → at_each (layout_of t) (types_of xs) ≡ Some ls
     → IsAmong m xs → (l : Layout) × (layout_of t m.ty ≡ Some l)
@@ -260,18 +264,15 @@ array_is_of t h c n a q =
       },
     )
 
-eq_self : (n : ℕ) → nat_eq n n ≡ true
-eq_self n = grind (arith, nat_tests)
-
 member_test : (m : MemberRow) → (m.offset == m.offset && m.ty == m.ty) ≡ true
-member_test m = and_is _ _ (eqb_self m.offset) (eqb_self m.ty)
+member_test m = and_from _ _ (eqb_self m.offset) (eqb_self m.ty)
   where
     eqb_self : (n : ℕ) → (n == n) ≡ true
     eqb_self n = grind (arith, nat_tests)
 
 small_in_range : (m : Model) (n : ℕ) → n ≤ 65536 → is_in_range (size_type m) (pos n) ≡ true
-small_in_range Ilp32 n l = and_is (int_le (pos 0) (pos n)) (int_le (pos n) (pos 4294967295)) (grind (arith, ints)) (grind (arith, ints))
-small_in_range Lp64 n l = and_is (int_le (pos 0) (pos n)) (int_le (pos n) (pos 18446744073709551615)) (grind (arith, ints)) (grind (arith, ints))
+small_in_range Ilp32 n l = and_from (int_le (pos 0) (pos n)) (int_le (pos n) (pos 4294967295)) (grind (arith, ints)) (grind (arith, ints))
+small_in_range Lp64 n l = and_from (int_le (pos 0) (pos n)) (int_le (pos n) (pos 18446744073709551615)) (grind (arith, ints)) (grind (arith, ints))
 
 -- no type has more than 65,536 bytes
 pub size_at_most : (t : Table) → IsTable t → (c : CType) (n : ℕ) → size_of_type t c ≡ Some n → n ≤ 65536
@@ -335,10 +336,10 @@ module _ (t : Table) (bs : List Block) (fs : List Signature) (seen : List ℕ) (
   element_has : (p : Place) (n e k unit : ℕ) (i : Expr) (j : IntType) → slice_get t.types n ≡ Some (rows.Array e k)
       → P p n ≡ true → size t e ≡ Some unit → S i (integer j) ≡ true → P (core.element p k unit i) e ≡ true
   element_has p n e k unit i j r h z q =
-      and_is _ _ (and_is _ _ (and_is _ _ (and_is _ _ (table.arrays n e k r) (size_is_length t table e unit z))
+      and_from _ _ (and_from _ _ (and_from _ _ (and_from _ _ (table.arrays n e k r) (size_is_length t table e unit z))
       (number_is t bs seen table some (size t e) unit z))
-      (some_type_is t bs seen (λ u. is_array_of u e && has_bound u k) (P p) n (there t.types n _ r)
-      (rw r (and_is _ _ (eq_self e) (eq_self k))) h)) (int_is t bs seen i j q)
+      (some_type_is t bs seen (λ u. is_array_of u e && has_bound u k) (P p) n (slice_get_within t.types n _ r)
+      (rw r (and_from _ _ (nat_eq-self e) (nat_eq-self k))) h)) (int_is t bs seen i j q)
 
   pub element_fits : (p : Place) (c : CType) (unit : ℕ) (i : Expr) (j : IntType) → PlaceFits t bs seen p c
       → is_array c ≡ true → size_of_type t (element_of t c) ≡ Some unit → S i (integer j) ≡ true
@@ -362,7 +363,7 @@ module _ (t : Table) (bs : List Block) (fs : List Signature) (seen : List ℕ) (
       let n = numbered_if t c h.made (aggregate_not_void c a) in
       let r = aggregate_row t c n.0 a n.1 in
       place_of_number (core.member p m.offset) (type_of t m.ty) m.ty (member_number t table (number_in c.base) m e)
-      (some_type_is t bs seen (λ u. has_member t u m.offset m.ty) (P p) n.0 (there t.types n.0 _ r)
+      (some_type_is t bs seen (λ u. has_member t u m.offset m.ty) (P p) n.0 (slice_get_within t.types n.0 _ r)
       (rw r (any_among _ (members_of t (number_in c.base)) m e (member_test m))) (has_number p c n.0 h n.1))
 
   -- ---- values of objects
@@ -376,8 +377,8 @@ module _ (t : Table) (bs : List Block) (fs : List Signature) (seen : List ℕ) (
       (subst (IsMade t) (sym r.2.element) (inr (r.0, r.2.has)))
       (subst (λ (d : CType). (ty : ℕ) → may_be (type_number t d) ty ≡ true → S (core.addr_of p) (pointing ty) ≡ true)
       (sym r.2.element)
-      (λ ty k. right_is (P p ty) _ (some_type_is t bs seen (λ u. is_array_of u ty) (P p) m.0 (there t.types m.0 _ r.2.row)
-      (rw r.2.row (subst (λ (j : ℕ). nat_eq r.0 j ≡ true) (same_number r.0 ty (rw r.2.has at k)) (eq_self r.0)))
+      (λ ty k. or_right (P p ty) _ (some_type_is t bs seen (λ u. is_array_of u ty) (P p) m.0 (slice_get_within t.types m.0 _ r.2.row)
+      (rw r.2.row (subst (λ (j : ℕ). nat_eq r.0 j ≡ true) (same_number r.0 ty (rw r.2.has at k)) (nat_eq-self r.0)))
       (has_number p c m.0 h m.1))))
 
   aggregate_fits : (p : Place) (c : CType) → is_aggregate c ≡ true → F (plain_value (core.addr_of p) c)
@@ -392,14 +393,14 @@ module _ (t : Table) (bs : List Block) (fs : List Signature) (seen : List ℕ) (
       → (has_scalar (Some (rows.Ptr m)) (scalar_of c) && is_sort (sort_of (Some (rows.Ptr m))) (pointing ty)) ≡ true
   pointer_row_is c m ty q e =
       let what : scalar_of c ≡ scalars.Pointer = if_so (is_pointer c) scalars.Pointer (scalars.Int (int_of c)) q in
-      and_is _ _ (ap (is_same_scalar scalars.Pointer) what) (subst (λ (j : ℕ). nat_eq m j ≡ true) e (eq_self m))
+      and_from _ _ (ap (is_same_scalar scalars.Pointer) what) (subst (λ (j : ℕ). nat_eq m j ≡ true) e (nat_eq-self m))
 
   integer_row_is : (c : CType) → is_pointer c ≡ false
       → (has_scalar (Some (rows.Int (int_of c))) (scalar_of c) && is_sort (sort_of (Some (rows.Int (int_of c)))) (integer (int_of c)))
       ≡ true
   integer_row_is c q =
       let what : scalar_of c ≡ scalars.Int (int_of c) = if_not (is_pointer c) scalars.Pointer (scalars.Int (int_of c)) q in
-      and_is _ _ (ap (is_same_scalar (scalars.Int (int_of c))) what ∙ same_self (int_of c)) (same_self (int_of c))
+      and_from _ _ (ap (is_same_scalar (scalars.Int (int_of c))) what ∙ same_self (int_of c)) (same_self (int_of c))
 
   pointer_loaded : (p : Place) (c : CType) → PlaceFits t bs seen p c → is_pointer c ≡ true
       → F (plain_value (core.load (scalar_of c) p) c)
@@ -408,7 +409,7 @@ module _ (t : Table) (bs : List Block) (fs : List Signature) (seen : List ℕ) (
       let s = target_number t c n.0 q n.1 in
       pointer_fits t bs seen some (core.load (scalar_of c) p) c q (inr (s.0, s.1))
       (λ ty m. some_type_is t bs seen (λ u. has_scalar u (scalar_of c) && is_sort (sort_of u) (pointing ty)) (P p) n.0
-      (there t.types n.0 _ s.2)
+      (slice_get_within t.types n.0 _ s.2)
       (rw s.2 (pointer_row_is c s.0 ty q (same_number s.0 ty (rw s.1 at m))))
       (has_number p c n.0 h n.1))
 
@@ -419,7 +420,7 @@ module _ (t : Table) (bs : List Block) (fs : List Signature) (seen : List ℕ) (
       let s = integer_row t c n.0 q n.1 in
       number_fits t bs seen some (core.load (scalar_of c) p) c q
       (some_type_is t bs seen (λ u. has_scalar u (scalar_of c) && is_sort (sort_of u) (integer (int_of c))) (P p) n.0
-      (there t.types n.0 _ s) (rw s (integer_row_is c r))
+      (slice_get_within t.types n.0 _ s) (rw s (integer_row_is c r))
       (has_number p c n.0 h n.1))
 
   loaded_fits : (p : Place) (c : CType) → PlaceFits t bs seen p c → is_void c ≡ false → F (loaded t p c)
@@ -454,9 +455,9 @@ module _ (t : Table) (bs : List Block) (fs : List Signature) (seen : List ℕ) (
   -- ---- addresses
 
   address_has : (p : Place) (ty : ℕ) → P p ty ≡ true → S (address_of p) (pointing ty) ≡ true
-  address_has (core.block b) ty h = left_is _ _ h
-  address_has (core.deref e) ty h = left_is (P (core.deref e) ty) _ h
-  address_has (core.member p offset) ty h = left_is (P (core.member p offset) ty) _ h
+  address_has (core.block b) ty h = or_left _ _ h
+  address_has (core.deref e) ty h = or_left (P (core.deref e) ty) _ h
+  address_has (core.member p offset) ty h = or_left (P (core.member p offset) ty) _ h
   address_has (core.element p bound unit i) ty h =
       let k : Bool = some_type t bs seen (λ u. is_array_of u ty && has_bound u bound) (P p) in
       let n : Bool = is_number (size t ty) unit in
@@ -465,8 +466,8 @@ module _ (t : Table) (bs : List Block) (fs : List Signature) (seen : List ℕ) (
       let b = and_parts ((is_length bound && is_length unit) && n) k a.0 in
       let c = and_parts (is_length bound && is_length unit) n b.0 in
       let d = and_parts (is_length bound) (is_length unit) c.0 in
-      and_is ((is_length unit && n) && (P p ty || some_type t bs seen (λ u. is_array_of u ty) (P p))) j
-      (and_is (is_length unit && n) _ (and_is (is_length unit) n d.1 c.1) (right_is (P p ty) _ (any_kind p bound ty b.1))) a.1
+      and_from ((is_length unit && n) && (P p ty || some_type t bs seen (λ u. is_array_of u ty) (P p))) j
+      (and_from (is_length unit && n) _ (and_from (is_length unit) n d.1 c.1) (or_right (P p ty) _ (any_kind p bound ty b.1))) a.1
     where
       any_kind : (p : Place) (bound ty : ℕ) → some_type t bs seen (λ u. is_array_of u ty && has_bound u bound) (P p) ≡ true
           → some_type t bs seen (λ u. is_array_of u ty) (P p) ≡ true
@@ -575,7 +576,7 @@ module _ (t : Table) (bs : List Block) (fs : List Signature) (seen : List ℕ) (
   casted_fits c v w h k e =
       let a = unless (not (is_scalar c && is_scalar v.ty)) 32 _ w e in
       let b = unless (is_mixed c v) 34 _ w a.1 in
-      let s = and_parts (is_scalar c) (is_scalar v.ty) (is_so _ a.0) in
+      let s = and_parts (is_scalar c) (is_scalar v.ty) (not-false _ a.0) in
       let same : plain_value (as_type c v) c ≡ w = (let q = b.1 in cc) in
       subst F same (as_type_fits t bs seen some c v h s.0 s.1 b.0 (target_made t c k))
 
@@ -586,7 +587,7 @@ module _ (t : Table) (bs : List Block) (fs : List Signature) (seen : List ℕ) (
       let i = size_type t.model in
       let same : int_value (core.const i (pos n.0)) i ≡ w = (let q = n.2 in cc) in
       subst F same (int_fits t bs seen some (core.const i (pos n.0)) i
-      (and_is _ _ (same_self i) (small_in_range t.model n.0 (size_at_most t table c n.0 (needed_is 33 _ n.0 n.1)))))
+      (and_from _ _ (same_self i) (small_in_range t.model n.0 (size_at_most t table c n.0 (needed_is 33 _ n.0 n.1)))))
 
   pub sized_fits : (x : Operand) (w : Value) → sized t x ≡ Ok w → F w
   unfolding sized
@@ -600,7 +601,7 @@ module _ (t : Table) (bs : List Block) (fs : List Signature) (seen : List ℕ) (
   numbered_fits m n =
       let i = number_type m n in
       int_fits t bs seen some (core.const i (wrapped i (pos n.value))) i
-      (and_is _ _ (same_self i) (wrapped_fits i (pos n.value)))
+      (and_from _ _ (same_self i) (wrapped_fits i (pos n.value)))
 
   abbrev Each : List (List ℕ × Operand) → Type 0
   Each [] = Unit {0}
@@ -646,7 +647,7 @@ module _ (t : Table) (bs : List Block) (fs : List Signature) (seen : List ℕ) (
   variable_fits : (b : ℕ) (c : CType) → IsPlaced t bs fs (env.variable b c) → CanName bs seen (env.variable b c)
       → PlaceFits t bs seen (core.block b) c
   variable_fits b c h k =
-      place_of_number (core.block b) c h.0.ty h.2 (and_is _ _ k (rw h.1 (eq_self h.0.ty)))
+      place_of_number (core.block b) c h.0.ty h.2 (and_from _ _ k (rw h.1 (nat_eq-self h.0.ty)))
 
   pub meant_fits : (o : Option Meaning) (q : Option Operand) (x : Operand)
       → ((m : Meaning) → o ≡ Some m → IsPlaced t bs fs m × CanName bs seen m) → ((y : Operand) → q ≡ Some y → O y)

@@ -1,14 +1,12 @@
 -- Names and tags in scopes: what is found, and what stays when a tag comes.
 use Rattle.std.proofs.Common.{◌≡◌, ℕ, Bool, true, false, cond, List, [], ◌∷◌, ◌++◌, Option, Some, None, bytes_eq}
+use Rattle.ep_int.proofs.Basics.{bytes_eq-equal}
 use Rattle.std.proofs.Common.{refl, sym, ap, ◌∙◌, subst, ◌⊎◌, inl, inr}
 use Rattle.std.proofs.lemmas.Slice.Eq.{bytes_eq-Decides}
 use Rattle.ep_typing.specs.Env.{Meaning, Scope, entry, first_of, look_up, look_up_tag, tag_in}
 use Rattle.ep_well_formed_laws.specs.Environments.{EachMeaning, EachName, EachOf, EachTag}
 
 -- ---- texts
-
-pub same_text : (x y : List ℕ) → bytes_eq x y ≡ true → x ≡ y
-same_text x y h = (bytes_eq-Decides x y).0 h
 
 pub text_itself : (x : List ℕ) → bytes_eq x x ≡ true
 text_itself x = (bytes_eq-Decides x x).1 refl
@@ -60,7 +58,7 @@ tag_stays t u a b (s ∷ ss) h k = by (entry u s.tags) refl k
     other : (x : Bool) → bytes_eq u t ≡ x → look_up_tag u ss ≡ Some b → entry u s.tags ≡ None
         → entry u ((t, a) ∷ []) ≡ None
     other true q e n =
-        let same : u ≡ t = same_text u t q in
+        let same : u ≡ t = bytes_eq-equal u t q in
         let bad : first_of (entry t s.tags) (look_up_tag t ss) ≡ Some b =
         subst (λ (v : List ℕ). first_of (entry v s.tags) (look_up_tag v ss) ≡ Some b) same
         (ap (λ (o : Option ℕ). first_of o (look_up_tag u ss)) n ∙ e) in

@@ -1,5 +1,9 @@
 -- Type words and the bodies of structs and unions leave an environment in which all that is named is there.
 use Rattle.std.proofs.Common.{◌≡◌, ℕ, zero, suc, ◌<◌, ◌≤◌, ◌==◌, nat_eq, Bool, true, false, true≢false, ◌||◌, not}
+use Rattle.ep_int.proofs.Basics.{nat_eq-self}
+use Rattle.std.proofs.lemmas.Bool.{not-false}
+use Rattle.std.proofs.lemmas.Option.{slice_get_within}
+use Rattle.std.proofs.lemmas.Bool.{and_from, or_left, or_parts, or_right}
 use Rattle.std.proofs.Common.{List, [], ◌∷◌, ◌++◌, length, length-append, slice_get, Option, Some, None, option_map}
 use Rattle.std.proofs.Common.{is_some, unwrap_or, Result, Ok, refl, sym, ap, ◌∙◌, subst, inl, inr, arith}
 use Rattle.std.specs.List.{list_all}
@@ -28,11 +32,11 @@ use Rattle.ep_typing.specs.Env.{Env, Scope, entry, tag_in, with_tag}
 use Rattle.ep_typing.specs.Names.{mentioned_words}
 use Rattle.ep_elaboration.specs.Declarators.{arrays_of, with_types}
 use Rattle.ep_elaboration.specs.Aggregates.{Named, body_of, closed, has_body, opened, tags_here, with_member}
-use Rattle.ep_elaboration_laws.specs.DeclaratorRules.{MeansBody, MeansMemberName, MeansMemberNames, MeansMembers}
-use Rattle.ep_elaboration_laws.specs.DeclaratorRules.{MeansSpecs, MeansWords, has_body as is_bodied, is_body}
-use Rattle.ep_elaboration_laws.specs.DeclaratorRules.{is_member_name, is_plain, is_words, more_member_names}
-use Rattle.ep_elaboration_laws.specs.DeclaratorRules.{no_member_names, no_more_members, one_member_more}
-use Rattle.ep_elaboration_laws.specs.DeclaratorRules.{one_word_more}
+use Rattle.ep_elaboration.specs.DeclaratorRules.{MeansBody, MeansMemberName, MeansMemberNames, MeansMembers}
+use Rattle.ep_elaboration.specs.DeclaratorRules.{MeansSpecs, MeansWords, has_body as is_bodied, is_body}
+use Rattle.ep_elaboration.specs.DeclaratorRules.{is_member_name, is_plain, is_words, more_member_names}
+use Rattle.ep_elaboration.specs.DeclaratorRules.{no_member_names, no_more_members, one_member_more}
+use Rattle.ep_elaboration.specs.DeclaratorRules.{one_word_more}
 use Rattle.ep_well_formed_laws.specs.Numbers.{HasNumber, IsTable}
 use Rattle.ep_well_formed_laws.specs.Environments.{EachTag, IsDeclared, IsTyped}
 use Rattle.ep_well_formed_laws.proofs.Additions.{IsKnownBase, c_number_is, type_number_stays}
@@ -42,7 +46,7 @@ use Rattle.ep_well_formed_laws.proofs.Mentions.{Declares, IsOpen, declares_menti
 use Rattle.ep_well_formed_laws.proofs.Mentions.{mentions_on, more_aggregates, more_types, same_rows_open}
 use Rattle.ep_well_formed_laws.proofs.Mentions.{table_declared, table_mentioned, type_mentioned, with_table}
 use Rattle.ep_well_formed_laws.proofs.Mentions.{words_known, words_mentioned, below_aggregate}
-use Rattle.ep_well_formed_laws.proofs.Tests.{after, and_is, is_so, left_is, right_is, unless}
+use Rattle.ep_well_formed_laws.proofs.Tests.{after, unless}
 use Rattle.ep_well_formed_laws.proofs.Values.{number_below}
 
 abbrev pub fine : {A : Type 0} → A → Result A ℕ
@@ -50,9 +54,6 @@ fine x = Ok x
 
 pub fine_is : {A : Type 0} (x y : A) → fine x ≡ fine y → x ≡ y
 fine_is x y e = cc
-
-eq_self : (n : ℕ) → nat_eq n n ≡ true
-eq_self n = grind (arith, nat_tests)
 
 same_row : (g h : AggregateRow) → Some g ≡ Some h → g ≡ h
 same_row g h e = cc
@@ -108,11 +109,6 @@ record IsOpened (G H : Env) (round : List ℕ) (u : Bool) (a : ℕ) : Type 0 whe
   round_stays : StayRound round G H
   other : (b : ℕ) → contains b round ≡ true → IsOpen G.types b → b ≡ a → ⊥
 
-below_of : {X : Type 0} (xs : List X) (n : ℕ) (x : X) → slice_get xs n ≡ Some x → n < length xs
-below_of [] n x h = absurd cc
-below_of (y ∷ ys) zero x h = omega arith
-below_of (y ∷ ys) (suc n) x h = omega (arith, below_of ys n x h)
-
 opened_new : (G H : Env) (t : List ℕ) (u : Bool) (round : List ℕ) → Declares G H → H.types ≡ declared G.types t u
     → IsOpened G H round u (length G.types.aggregates)
 opened_new G H t u round d e = record {
@@ -123,7 +119,7 @@ opened_new G H t u round d e = record {
   unset = refl;
   union = refl;
   round_stays = λ a k o. later a o;
-  other = λ b k o same. absurd (omega (arith, same, below_of G.types.aggregates b o.0 o.1));
+  other = λ b k o same. absurd (omega (arith, same, slice_get_within G.types.aggregates b o.0 o.1));
 }
   where
     later : (a : ℕ) → IsOpen G.types a → IsOpen H.types a
@@ -136,17 +132,13 @@ same_sign true false h = never h
 same_sign false true h = never h
 same_sign false false h = refl
 
-not_either : (a b : Bool) → (a || b) ≡ false → (a ≡ false) × (b ≡ false)
-not_either true b h = absurd (true≢false h)
-not_either false b h = (refl, h)
-
 opened_before : (G : Env) (round : List ℕ) (u : Bool) (a : ℕ) → IsDeclared G → a < length G.types.aggregates
     → has_body G round u a ≡ false → IsOpened G G round u a
 opened_before G round u a h l e =
-    let p = not_either (contains a round || is_completed G.types a) (not (is_same_sign (is_union G.types a) u)) e in
-    let q = not_either (contains a round) (is_completed G.types a) p.0 in
+    let p = or_parts (contains a round || is_completed G.types a) (not (is_same_sign (is_union G.types a) u)) e in
+    let q = or_parts (contains a round) (is_completed G.types a) p.0 in
     let r = below_aggregate G.types.aggregates a l in
-    let s = same_sign (is_union G.types a) u (is_so _ p.1) in
+    let s = same_sign (is_union G.types a) u (not-false _ p.1) in
     record {
       declares = record { declared = h; grows = kept_by_itself G.types; names = same_names G.scopes; blocks = refl; functions = refl };
       row = r.0;
@@ -201,19 +193,19 @@ known_more : (t u : Table) → length t.types ≤ length u.types → (ms : Named
 known_more t u l [] h = refl
 known_more t u l (m ∷ ms) h =
     let p = and_parts (is_type t m.1) (list_all (λ (m : List ℕ × ℕ). is_type t m.1) ms) h in
-    and_is _ _ (below_more m.1 p.0) (known_more t u l ms p.1)
+    and_from _ _ (below_more m.1 p.0) (known_more t u l ms p.1)
   where
     below_more : (n : ℕ) → is_type t n ≡ true → is_type u n ≡ true
     below_more n q = grind (arith, nat_tests)
 
 known_push : (t : Table) (ms : Named) (n : List ℕ) (k : ℕ) → AreKnown t ms → k < length t.types → AreKnown t (ms ++ (n, k) ∷ [])
-known_push t [] n k h l = and_is _ _ (below k l) refl
+known_push t [] n k h l = and_from _ _ (below k l) refl
   where
     below : (k : ℕ) → k < length t.types → is_type t k ≡ true
     below k l = grind (arith, nat_tests)
 known_push t (m ∷ ms) n k h l =
     let p = and_parts (is_type t m.1) (list_all (λ (m : List ℕ × ℕ). is_type t m.1) ms) h in
-    and_is _ _ p.0 (known_push t ms n k p.1 l)
+    and_from _ _ p.0 (known_push t ms n k p.1 l)
 
 record AreMembers (G H : Env) (round : List ℕ) (ms : Named) : Type 0 where
   declares : Declares G H
@@ -337,7 +329,7 @@ closed_is G a u (m ∷ ms) None c h g here none union known fits e =
     let grows = closed_grows G.types a g (m ∷ ms) here none in
     let stop = subst (λ (b : Bool). members_stop G.types b (m ∷ ms) ≡ None) (sym union) fits in
     let d = with_table G t h grows (closed_table G.types a g m ms h.table here none known stop) in
-    let l : a < length t.aggregates = omega (arith, below_of G.types.aggregates a g here, more_aggregates G.types t grows) in
+    let l : a < length t.aggregates = omega (arith, slice_get_within G.types.aggregates a g here, more_aggregates G.types t grows) in
     let k = type_mentioned H (whole (bases.Aggregate a)) d l in
     let same = fine_is {A = CType × Env} (whole (bases.Aggregate a), record H { types = with_c_type t (whole (bases.Aggregate a)) }) c e in
     subst (λ (x : CType × Env). IsClosed G x.1 a x.0) same (record {
@@ -361,7 +353,7 @@ mutual
       let u = w == union_word in
       let k = opened_is G round u tag o h p in
       let n = members_specified o.1 (o.0 ∷ round) [] ms x k.declares.declared refl m in
-      let open_now = n.round_stays o.0 (left_is (nat_eq o.0 o.0) _ (eq_self o.0)) (k.row, k.here, k.unset) in
+      let open_now = n.round_stays o.0 (or_left (nat_eq o.0 o.0) _ (nat_eq-self o.0)) (k.row, k.here, k.unset) in
       let grown = n.declares.grows.aggregates o.0 k.row k.here in
       let union : open_now.0.is_union ≡ u =
       ap (λ (g : AggregateRow). g.is_union) (same_row open_now.0 grown.0 (sym open_now.1 ∙ grown.1)) ∙ grown.2 ∙ k.union in
@@ -371,7 +363,7 @@ mutual
         declares = declares_on G o.1 c.1 k.declares (declares_on o.1 x.1 c.1 n.declares z.declares);
         number = z.number;
         round_stays = λ b e i.
-            z.others b (k.other b e i) (n.round_stays b (right_is (nat_eq b o.0) _ e) (k.round_stays b e i));
+            z.others b (k.other b e i) (n.round_stays b (or_right (nat_eq b o.0) _ e) (k.round_stays b e i));
       }
 
   members_specified : (G : Env) (round : List ℕ) (ns : Named) (ms : Members) (x : Named × Env) → IsDeclared G

@@ -1,5 +1,7 @@
 -- Statements fit where the table grows, and blocks and functions come.
 use Rattle.std.proofs.Common.{◌≡◌, ℕ, ◌<◌, Bool, true, false, ◌&&◌, not, List, [], ◌∷◌, ◌++◌, length, slice_get}
+use Rattle.std.proofs.lemmas.Bool.{or_cases}
+use Rattle.std.proofs.lemmas.Bool.{and_from, or_left, or_right}
 use Rattle.std.proofs.Common.{Option, Some, None, is_some, nat_eq, refl, sym, ◌∙◌, inl, inr, arith}
 use Rattle.std.proofs.lemmas.Bool.{and_parts}
 use Rattle.ep_int.specs.declared.types.IntType.{IntType}
@@ -14,14 +16,14 @@ use Rattle.ep_core.specs.WellFormed as formed
 use Rattle.ep_core.specs.WellFormed.{Sort, can_take, has_scalar, has_sort, has_type, int_type_of, integer, is_address}
 use Rattle.ep_core.specs.WellFormed.{is_int, is_test, is_tested, numbers_below, place_has, pointer_to as pointing}
 use Rattle.ep_core.specs.WellFormed.{result_fits, simple_fits, some_type, sort_of, takes_input, takes_result}
-use Rattle.ep_core.proofs.Sorts.{either_is, never}
+use Rattle.ep_core.proofs.Sorts.{never}
 use Rattle.ep_typing.specs.declared.types.CType.{CType}
 use Rattle.ep_typing.specs.Env.{Signature}
-use Rattle.ep_elaboration_laws.proofs.Growing.{place_on, size_is, sort_on}
+use Rattle.ep_elaboration.proofs.Growing.{place_on, size_is, sort_on}
 use Rattle.ep_well_formed_laws.specs.Statements.{ArgumentsFit, CallFits, SimpleFits, StmtsFit, TakesResult, WhatFits}
 use Rattle.ep_well_formed_laws.proofs.Additions.{type_number_stays}
 use Rattle.ep_well_formed_laws.proofs.Mentions.{more_types}
-use Rattle.ep_well_formed_laws.proofs.Tests.{and_is, left_is, pointer_below, pointer_is, right_is, some_type_is}
+use Rattle.ep_well_formed_laws.proofs.Tests.{pointer_below, pointer_is, some_type_is}
 use Rattle.ep_well_formed_laws.proofs.Tests.{type_below}
 
 module _ (t u : Table) (g : Grows t u) (built : IsBuilt u) (bs more : List Block) where
@@ -58,9 +60,9 @@ module _ (t u : Table) (g : Grows t u) (built : IsBuilt u) (bs more : List Block
   int_stays seen e (Some i) h = sort_stays seen e (integer i) h
 
   pub tested_stays : (seen : List ℕ) (e : Expr) → is_tested t bs seen e ≡ true → is_tested u (bs ++ more) seen e ≡ true
-  tested_stays seen e h = elim (either_is (is_int (int_type_of e) (has_sort t bs seen e)) (is_address t bs seen e) h) [
-    | inl a ↦ left_is _ _ (int_stays seen e (int_type_of e) a)
-    | inr a ↦ right_is _ _ (address_stays seen e a)
+  tested_stays seen e h = elim (or_cases (is_int (int_type_of e) (has_sort t bs seen e)) (is_address t bs seen e) h) [
+    | inl a ↦ or_left _ _ (int_stays seen e (int_type_of e) a)
+    | inr a ↦ or_right _ _ (address_stays seen e a)
   ]
 
   type_stays : (seen : List ℕ) (e : Expr) (n : ℕ) → has_type t bs seen e n ≡ true → has_type u (bs ++ more) seen e n ≡ true
@@ -106,7 +108,7 @@ module _ (t u : Table) (g : Grows t u) (built : IsBuilt u) (bs more : List Block
       (λ n. can_take u (bs ++ more) seen d.cast (slice_get u.types m) (slice_get u.types n) (nat_eq m n)
       && place_has u (bs ++ more) seen d.place n)
       (λ n r q k. let p = and_parts _ _ k in
-      and_is _ _ (take_stays seen d.cast m n (nat_eq m n) r q p.0) (place_stays seen d.place n p.1)) h
+      and_from _ _ (take_stays seen d.cast m n (nat_eq m n) r q p.0) (place_stays seen d.place n p.1)) h
 
   returned_stays : (seen : List ℕ) (result : Option ℕ) (e : Option Expr) → result_fits t bs seen result e ≡ true
       → result_fits u (bs ++ more) seen result e ≡ true
@@ -124,27 +126,27 @@ module _ (t u : Table) (g : Grows t u) (built : IsBuilt u) (bs more : List Block
     simple_stays (core.assign what a e) seen h =
         some_stays seen (λ r. has_scalar r what) refl (λ ty. place_has t bs seen a ty && has_type t bs seen e ty)
         (λ ty. place_has u (bs ++ more) seen a ty && has_type u (bs ++ more) seen e ty)
-        (λ n r q k. let p = and_parts _ _ k in and_is _ _ (place_stays seen a n p.0) (type_stays seen e n p.1)) h
+        (λ n r q k. let p = and_parts _ _ k in and_from _ _ (place_stays seen a n p.0) (type_stays seen e n p.1)) h
     simple_stays (core.clear a ty) seen h =
-        let p = and_parts _ _ h in and_is _ _ (place_stays seen a ty p.0) (sized_stays ty p.1)
+        let p = and_parts _ _ h in and_from _ _ (place_stays seen a ty p.0) (sized_stays ty p.1)
     simple_stays (core.copy_aggregate a b ty) seen h =
         let p = and_parts (place_has t bs seen a ty && place_has t bs seen b ty) (is_some (size t ty)) h in
         let q = and_parts (place_has t bs seen a ty) (place_has t bs seen b ty) p.0 in
-        and_is _ _ (and_is _ _ (place_stays seen a ty q.0) (place_stays seen b ty q.1)) (sized_stays ty p.1)
+        and_from _ _ (and_from _ _ (place_stays seen a ty q.0) (place_stays seen b ty q.1)) (sized_stays ty p.1)
     simple_stays (core.copy_bytes a b n) seen h =
         let p = and_parts (formed.is_length n && is_address t bs seen a) (is_address t bs seen b) h in
         let q = and_parts (formed.is_length n) (is_address t bs seen a) p.0 in
-        and_is _ _ (and_is _ _ q.0 (address_stays seen a q.1)) (address_stays seen b p.1)
+        and_from _ _ (and_from _ _ q.0 (address_stays seen a q.1)) (address_stays seen b p.1)
     simple_stays (core.fill a e n) seen h =
         let p = and_parts (formed.is_length n && is_address t bs seen a) (has_sort t bs seen e (integer U8)) h in
         let q = and_parts (formed.is_length n) (is_address t bs seen a) p.0 in
-        and_is _ _ (and_is _ _ q.0 (address_stays seen a q.1)) (sort_stays seen e (integer U8) p.1)
+        and_from _ _ (and_from _ _ q.0 (address_stays seen a q.1)) (sort_stays seen e (integer U8) p.1)
     simple_stays (core.input i d) seen h = input_stays seen d h
     simple_stays (core.output i e) seen h = sort_stays seen e (integer i) h
     simple_stays (core.read_bytes e n) seen h =
-        let p = and_parts (formed.is_length n) (is_address t bs seen e) h in and_is _ _ p.0 (address_stays seen e p.1)
+        let p = and_parts (formed.is_length n) (is_address t bs seen e) h in and_from _ _ p.0 (address_stays seen e p.1)
     simple_stays (core.write_bytes e n) seen h =
-        let p = and_parts (formed.is_length n) (is_address t bs seen e) h in and_is _ _ p.0 (address_stays seen e p.1)
+        let p = and_parts (formed.is_length n) (is_address t bs seen e) h in and_from _ _ p.0 (address_stays seen e p.1)
     simple_stays (core.returns e) seen h = returned_stays seen result e h
 
     arguments_stay : (cs : List CType) (es : List Expr) (seen : List ℕ) → ArgumentsFit t bs fs result cs es seen

@@ -1,5 +1,9 @@
 -- How environments follow one another inside of a function: the table grows, blocks come, names come to the scopes.
-use Rattle.std.proofs.Common.{◌≡◌, ℕ, zero, suc, ◌<◌, Bool, true, List, [], ◌∷◌, ◌++◌, length, slice_get, Option}
+use Rattle.std.proofs.Common.{◌≡◌, ℕ, ◌<◌, Bool, true, List, [], ◌∷◌, ◌++◌, length, slice_get, Option}
+use Rattle.ep_layout.proofs.Basics.{grows-trans}
+use Rattle.ep_int.proofs.Basics.{append-assoc, slice_get-append, contains-left, contains-right}
+use Rattle.std.proofs.lemmas.Bool.{or_cases}
+use Rattle.std.proofs.lemmas.Bool.{or_left, or_right}
 use Rattle.std.proofs.Common.{Some, refl, sym, ap, ◌∙◌, subst, inl, inr, arith, nat_eq}
 use Rattle.std.proofs.lemmas.Bool.Decides.{nat_tests}
 use Rattle.ep_int.specs.Memory.{contains}
@@ -8,32 +12,20 @@ use Rattle.ep_layout.proofs.Recursion.{kept_by_itself}
 use Rattle.ep_core.specs.Program as core
 use Rattle.ep_core.specs.Program.{Block}
 use Rattle.ep_core.specs.Runs.{is_global}
-use Rattle.ep_core.proofs.Sorts.{either_is, never}
 use Rattle.ep_typing.specs.Env.{Env, Meaning, Scope, Signature, function, no_names, type_name, variable}
 use Rattle.ep_elaboration.specs.Statements.{block_of, blocks_of, entered, innermost, left, outer}
 use Rattle.ep_well_formed_laws.specs.Environments.{CanName, Covers, EachMeaning, EachName, EachTag, IsEnv, IsPlaced}
 use Rattle.ep_well_formed_laws.specs.Environments.{IsTyped}
 use Rattle.ep_well_formed_laws.specs.Statements.{StmtsFit, WhatFits}
-use Rattle.ep_well_formed_laws.proofs.Additions.{grows_on}
 use Rattle.ep_well_formed_laws.proofs.Scopes.{HaveNames, name_more, names_on}
 use Rattle.ep_well_formed_laws.proofs.Mentions.{Declares, Mentions, env_declares, env_mentioned}
 use Rattle.ep_well_formed_laws.proofs.StatementGrowth.{stmts_stay, what_stays}
-use Rattle.ep_well_formed_laws.proofs.Tests.{left_is, right_is}
 
 -- ---- blocks that come
-
-pub front : {X : Type 0} (xs ys : List X) (n : ℕ) (x : X) → slice_get xs n ≡ Some x → slice_get (xs ++ ys) n ≡ Some x
-front [] ys n x h = absurd cc
-front (y ∷ xs) ys zero x h = h
-front (y ∷ xs) ys (suc n) x h = front xs ys n x h
 
 pub nothing_more : {X : Type 0} (xs : List X) → xs ≡ xs ++ []
 nothing_more [] = refl
 nothing_more (x ∷ xs) = ap (λ ys. x ∷ ys) (nothing_more xs)
-
-pub regrouped : {X : Type 0} (xs ys zs : List X) → (xs ++ ys) ++ zs ≡ xs ++ (ys ++ zs)
-regrouped [] ys zs = refl
-regrouped (x ∷ xs) ys zs = ap (λ ws. x ∷ ws) (regrouped xs ys zs)
 
 pub record Follows (G H : Env) : Type 0 where
   pub env : IsEnv H
@@ -54,9 +46,9 @@ follows_itself G h = record {
 pub follows_on : (G H I : Env) → Follows G H → Follows H I → Follows G I
 follows_on G H I f g = record {
   env = g.env;
-  grows = grows_on G.types H.types I.types f.grows g.grows;
+  grows = grows-trans G.types H.types I.types f.grows g.grows;
   more = f.more ++ g.more;
-  blocks = g.blocks ∙ ap (λ (bs : List Block). bs ++ g.more) f.blocks ∙ regrouped G.blocks f.more g.more;
+  blocks = g.blocks ∙ ap (λ (bs : List Block). bs ++ g.more) f.blocks ∙ append-assoc G.blocks f.more g.more;
   functions = g.functions ∙ f.functions;
 }
 
@@ -99,7 +91,7 @@ names_grow_on [] (u ∷ us) vs h k = absurd h
 names_grow_on (s ∷ ss) [] vs h k = absurd h
 names_grow_on (s ∷ ss) (u ∷ us) [] h k = absurd k
 names_grow_on (s ∷ ss) (u ∷ us) (v ∷ vs) h k = (
-  (h.0.0 ++ k.0.0, sym (regrouped s.names h.0.0 k.0.0) ∙ ap (λ xs. xs ++ k.0.0) h.0.1 ∙ k.0.1),
+  (h.0.0 ++ k.0.0, sym (append-assoc s.names h.0.0 k.0.0) ∙ ap (λ xs. xs ++ k.0.0) h.0.1 ∙ k.0.1),
   names_on ss us vs h.1 k.1,
 )
 
@@ -112,15 +104,15 @@ name_front P (x ∷ xs) ys h = (h.0, name_front P xs ys h.1)
 module _ (t : Table) (bs more : List Block) (fs : List Signature) (seen : List ℕ) where
   nameable_before : (m : Meaning) → IsPlaced t bs fs m → CanName (bs ++ more) seen m → CanName bs seen m
   nameable_before (variable b c) p h =
-      elim (either_is (is_global (slice_get (bs ++ more) b)) (contains b seen) h) [
-        | inl g ↦ left_is _ _ (global_before b p.0 p.1 g)
-        | inr g ↦ right_is _ _ g
+      elim (or_cases (is_global (slice_get (bs ++ more) b)) (contains b seen) h) [
+        | inl g ↦ or_left _ _ (global_before b p.0 p.1 g)
+        | inr g ↦ or_right _ _ g
       ]
     where
       global_before : (b : ℕ) (x : Block) → slice_get bs b ≡ Some x → is_global (slice_get (bs ++ more) b) ≡ true
           → is_global (slice_get bs b) ≡ true
       global_before b x q g =
-          let later : is_global (Some x) ≡ true = rw (front bs more b x q) at g in rw q later
+          let later : is_global (Some x) ≡ true = rw (slice_get-append bs more b x q) at g in rw q later
   nameable_before (function n) p h = tt
   nameable_before (type_name c) p h = tt
 
@@ -174,22 +166,10 @@ module _ (G H : Env) (f : Follows G H) (result : Option ℕ) where
 
 -- ---- scopes
 
--- the blocks of a scope can be named inside of it
-contains_front : (b : ℕ) (xs ys : List ℕ) → contains b xs ≡ true → contains b (xs ++ ys) ≡ true
-contains_front b [] ys h = never h
-contains_front b (x ∷ xs) ys h = elim (either_is (nat_eq b x) (contains b xs) h) [
-  | inl e ↦ left_is _ _ e
-  | inr e ↦ right_is (nat_eq b x) _ (contains_front b xs ys e)
-]
-
-contains_back : (b : ℕ) (xs ys : List ℕ) → contains b ys ≡ true → contains b (xs ++ ys) ≡ true
-contains_back b [] ys h = h
-contains_back b (x ∷ xs) ys h = right_is (nat_eq b x) _ (contains_back b xs ys h)
-
 pub more_seen : (bs : List Block) (own seen : List ℕ) (m : Meaning) → CanName bs seen m → CanName bs (own ++ seen) m
-more_seen bs own seen (variable b c) h = elim (either_is (is_global (slice_get bs b)) (contains b seen) h) [
-  | inl g ↦ left_is _ _ g
-  | inr g ↦ right_is _ _ (contains_back b own seen g)
+more_seen bs own seen (variable b c) h = elim (or_cases (is_global (slice_get bs b)) (contains b seen) h) [
+  | inl g ↦ or_left _ _ g
+  | inr g ↦ or_right _ _ (contains-right b own seen g)
 ]
 more_seen bs own seen (function n) h = tt
 more_seen bs own seen (type_name c) h = tt
@@ -199,7 +179,7 @@ pub own_names : (bs : List Block) (xs : List (List ℕ × Meaning)) (before seen
 own_names bs [] before seen = tt
 own_names bs (x ∷ xs) before seen = (
   here x.1,
-  subst (λ (own : List ℕ). EachName (CanName bs (own ++ seen)) xs) (regrouped before (block_of x.1) (blocks_of xs))
+  subst (λ (own : List ℕ). EachName (CanName bs (own ++ seen)) xs) (append-assoc before (block_of x.1) (blocks_of xs))
       (own_names bs xs (before ++ block_of x.1) seen),
 )
   where
@@ -207,8 +187,8 @@ own_names bs (x ∷ xs) before seen = (
     own = before ++ (block_of x.1 ++ blocks_of xs)
 
     here : (m : Meaning) → CanName bs ((before ++ (block_of m ++ blocks_of xs)) ++ seen) m
-    here (variable b c) = right_is _ _ (contains_front b (before ++ (b ∷ blocks_of xs)) seen
-        (contains_back b before (b ∷ blocks_of xs) (left_is (nat_eq b b) _ (grind (arith, nat_tests)))))
+    here (variable b c) = or_right _ _ (contains-left b (before ++ (b ∷ blocks_of xs)) seen
+        (contains-right b before (b ∷ blocks_of xs) (or_left (nat_eq b b) _ (grind (arith, nat_tests)))))
     here (function n) = tt
     here (type_name c) = tt
 

@@ -1,8 +1,11 @@
 -- Stores, copies and calls are as their types say.
 use Rattle.std.proofs.Common.{◌≡◌, ℕ, ◌<◌, nat_le, nat_eq, Bool, true, false, cond, ◌&&◌, ◌||◌, not, List, [], ◌∷◌}
+use Rattle.ep_well_formed_laws.proofs.FunctionNames.{same_c}
+use Rattle.std.proofs.lemmas.Bool.{not-false}
+use Rattle.std.proofs.lemmas.Bool.{and_from, or_left, or_right}
 use Rattle.std.proofs.Common.{length, map, slice_get, Option, Some, None, option_map, option_and_then, unwrap_or}
 use Rattle.std.proofs.Common.{is_some, Result, Ok, Err, refl, sym, ap, ◌∙◌, subst, ◌⊎◌, inl, inr, arith, ℤ, pos}
-use Rattle.std.proofs.Common.{negsuc}
+use Rattle.std.proofs.Common.{negsuc, if◌then◌else◌}
 use Rattle.std.proofs.lemmas.Bool.Decides.{nat_tests}
 use Rattle.std.proofs.lemmas.Bool.{and_parts}
 use Rattle.ep_int.specs.declared.types.IntType.{IntType}
@@ -26,7 +29,7 @@ use Rattle.ep_typing.specs.Constant.{constant_of, count_in, count_of}
 use Rattle.ep_typing.specs.Operand.{Operand, Value, are_scalars, fitted, function, is_mixed, place, plain_value}
 use Rattle.ep_typing.specs.Operand.{value, value_of}
 use Rattle.ep_typing.specs.Operators.{bare, operated}
-use Rattle.ep_typing.specs.Calls.{all_passed, as_any_pointer, as_length, of_type, passed}
+use Rattle.ep_typing.specs.Calls.{all_passed, as_any_pointer, as_length, of_type, passed, surplus}
 use Rattle.ep_typing.specs.Typing.{assignable, assigned, copied, dest, moves_aggregate, not_stored, put, stored}
 use Rattle.ep_typing.specs.Typing.{taken, updated}
 use Rattle.ep_well_formed_laws.specs.Numbers.{HasNumber, IsMade, IsTable, type_number}
@@ -35,13 +38,27 @@ use Rattle.ep_well_formed_laws.specs.Operands.{Computes, OperandFits, PlaceFits,
 use Rattle.ep_well_formed_laws.specs.Statements.{ArgumentsFit, SimpleFits, TakesResult}
 use Rattle.ep_well_formed_laws.proofs.Tables.{number_at, target_number}
 use Rattle.ep_well_formed_laws.proofs.Extents.{same_size}
-use Rattle.ep_well_formed_laws.proofs.Tests.{after, and_is, both_not, either_way, given, if_not, if_so, is_so}
-use Rattle.ep_well_formed_laws.proofs.Tests.{left_is, needed_is, right_is, same_self, some_type_is, unless}
-use Rattle.ep_well_formed_laws.proofs.Values.{bare_is, fitted_fits, null_is, number_below, same_is, scalar_is}
+use Rattle.ep_well_formed_laws.proofs.Tests.{after, both_not, either_way, given, if_not, if_so}
+use Rattle.ep_well_formed_laws.proofs.Tests.{needed_is, same_self, some_type_is, unless}
+use Rattle.ep_well_formed_laws.proofs.Values.{bare_is, fitted_fits, null_is, number_below, scalar_is}
 use Rattle.ep_well_formed_laws.proofs.Values.{self_may_be, target_made}
 use Rattle.ep_well_formed_laws.proofs.Operators.{operated_fits}
 use Rattle.ep_well_formed_laws.proofs.Parts.{aggregate_not_void, aggregate_row, integer_row, numbered_if}
 use Rattle.ep_well_formed_laws.proofs.Parts.{scalar_not_void, value_fits}
+
+-- ---- arguments without a parameter
+
+abbrev wrong : Bool → Result Expr ℕ
+wrong b = if b then Err 32 else Err 39
+
+not_wrong : (b : Bool) (r : Result (List Expr) ℕ) (es : List Expr) → lowest (wrong b) r ≡ Ok es → ⊥
+not_wrong true (Ok xs) es e = cc
+not_wrong true (Err k) es e = cc
+not_wrong false (Ok xs) es e = cc
+not_wrong false (Err k) es e = cc
+
+pub no_surplus : (v : Value) (r : Result (List Expr) ℕ) (es : List Expr) → lowest (surplus v) r ≡ Ok es → ⊥
+no_surplus v r es e = not_wrong (is_aggregate v.ty) r es e
 
 -- ---- scalars of the table
 
@@ -106,7 +123,7 @@ module _ (t : Table) (bs : List Block) (seen : List ℕ) (table : IsTable t) (so
         subst IsDone same (
           some_type_is t bs seen (λ u. has_scalar u (scalar_of c))
               (λ ty. P p ty && has_type t bs seen x.0 ty) n.0 (number_below t c n.0 n.1) (scalar_row c n.0 g.0 n.1)
-              (and_is _ _ n.2 (has_type_is c n.0 x.0 g.0 n.1 g.1)),
+              (and_from _ _ n.2 (has_type_is c n.0 x.0 g.0 n.1 g.1)),
           refl,
         )
 
@@ -137,7 +154,7 @@ module _ (t : Table) (bs : List Block) (seen : List ℕ) (table : IsTable t) (so
         let sized : size t n.0 ≡ Some x.0 = sym (same_size t table.built c n.0 n.1) ∙ z in
         subst IsDone same (
           subst (λ (j : ℕ). (P p j && P q j && is_some (size t j)) ≡ true) (sym ty)
-              (and_is _ _ (and_is _ _ n.2 (subst (λ (j : ℕ). P q j ≡ true) both m.2)) (rw sized refl)),
+              (and_from _ _ (and_from _ _ n.2 (subst (λ (j : ℕ). P q j ≡ true) both m.2)) (rw sized refl)),
           refl,
         )
 
@@ -149,7 +166,7 @@ module _ (t : Table) (bs : List Block) (seen : List ℕ) (table : IsTable t) (so
         by : (b : Bool) → moves_aggregate c d ≡ b → cond b (copied t c p q) (stored (place p c) v) ≡ Ok w → IsDone w
         by true m r =
             let s = and_parts (is_aggregate c) (is_same c d) m in
-            let same = sym (same_is c d s.1) in
+            let same = sym (same_c c d s.1) in
             copied_fits c p q w h (subst (PlaceFits t bs seen q) same k) s.0 r
         by false m r = stored_place p c v w h f r
     put_fits (place p c) (value u) v w h k f e = stored_place p c v w h f e
@@ -204,7 +221,7 @@ module _ (t : Table) (bs : List Block) (seen : List ℕ) (table : IsTable t) (so
         let v = plain_value core.null_value r in
         let a = unless (not (are_scalars c r)) 32 _ e q in
         let b = unless (is_mixed c v) 34 _ e a.1 in
-        let s = and_parts (is_scalar c) (is_scalar r) (is_so (are_scalars c r) a.0) in
+        let s = and_parts (is_scalar c) (is_scalar r) (not-false (are_scalars c r) a.0) in
         record {
           taker = s.0;
           given = s.1;
@@ -214,7 +231,7 @@ module _ (t : Table) (bs : List Block) (seen : List ℕ) (table : IsTable t) (so
           ];
           pointers = λ n. elim (scalar_is r s.1) [
             | inl k ↦ k
-            | inr k ↦ both_not (is_integer r && true) (and_is _ _ k.1 refl) (sym (if_so _ _ _ n) ∙ b.0)
+            | inr k ↦ both_not (is_integer r && true) (and_from _ _ k.1 refl) (sym (if_so _ _ _ n) ∙ b.0)
           ];
         }
 
@@ -234,9 +251,9 @@ module _ (t : Table) (bs : List Block) (seen : List ℕ) (table : IsTable t) (so
       where
         by : (b : Bool) → is_same c r ≡ b → is_pointer c ≡ true → ((is_pointer c && not b) || nat_eq m n) ≡ true
         by true q p =
-            let same : type_number t c ≡ Some m = subst (λ (d : CType). type_number t d ≡ Some m) (sym (same_is c r q)) k in
-            let both : m ≡ n = (let z = sym h ∙ same in cc) in right_is (is_pointer c && not true) (nat_eq m n) (same_eq m n both)
-        by false q p = left_is _ _ (and_is _ _ p refl)
+            let same : type_number t c ≡ Some m = subst (λ (d : CType). type_number t d ≡ Some m) (sym (same_c c r q)) k in
+            let both : m ≡ n = (let z = sym h ∙ same in cc) in or_right (is_pointer c && not true) (nat_eq m n) (same_eq m n both)
+        by false q p = or_left _ _ (and_from _ _ p refl)
 
     pub taken_fits : (x : Operand) (r : CType) (d : core.Dest) → O x → IsResult r → taken x r ≡ Ok d
         → TakesResult t bs fs result r (Some d) seen
@@ -253,7 +270,7 @@ module _ (t : Table) (bs : List Block) (seen : List ℕ) (table : IsTable t) (so
           some_type_is t bs seen (λ u. has_scalar u (scalar_of c))
               (λ u. can_take t bs seen (is_pointer c && not (is_same c r)) (slice_get t.types m.0) (slice_get t.types u) (nat_eq m.0 u) && P p u)
               n.0 (number_below t c n.0 n.1) (scalar_row c n.0 k.taker n.1)
-              (and_is _ _ (can_take_is c r n.0 m.0 k.taker k.numbers k.pointers n.1 m.1) n.2),
+              (and_from _ _ (can_take_is c r n.0 m.0 k.taker k.numbers k.pointers n.1 m.1) n.2),
         )
     taken_fits (value v) r d h u e = absurd (not_stored_is v (plain_value core.null_value r) d e)
     taken_fits (function f) r d h u e = absurd cc
@@ -271,7 +288,7 @@ module _ (t : Table) (bs : List Block) (seen : List ℕ) (table : IsTable t) (so
           | inl q ↦ never (k.pointers q)
           | inr q ↦ some_type_is t bs seen (λ u. has_scalar u (scalar_of c) && not (has_scalar u scalars.Pointer)) (P p) n.0
               (number_below t c n.0 n.1)
-              (and_is _ _ (scalar_row c n.0 k.taker n.1) (rw (integer_row t c n.0 q.1 n.1) refl)) n.2
+              (and_from _ _ (scalar_row c n.0 k.taker n.1) (rw (integer_row t c n.0 q.1 n.1) refl)) n.2
         ])
     input_taken (value v) i d h e = absurd (not_stored_is v (plain_value core.null_value (int_type i)) d e)
     input_taken (function f) i d h e = absurd cc
@@ -297,7 +314,7 @@ module _ (t : Table) (bs : List Block) (seen : List ℕ) (table : IsTable t) (so
         → all_passed (map of_type cs) vs ≡ Ok es → ArgumentsFit t bs fs result cs es seen
     unfolding all_passed passed
     arguments_fit [] [] es h f e = let same : [] ≡ es = cc in subst (λ xs. ArgumentsFit t bs fs result [] xs seen) same tt
-    arguments_fit [] (v ∷ vs) es h f e = absurd cc
+    arguments_fit [] (v ∷ vs) es h f e = absurd (no_surplus v (all_passed [] vs) es e)
     arguments_fit (c ∷ cs) [] es h f e = absurd cc
     arguments_fit (c ∷ cs) (v ∷ vs) es h f e =
         let x = lowest_is (fitted c v) (all_passed (map of_type cs) vs) es e in

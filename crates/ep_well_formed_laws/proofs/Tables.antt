@@ -1,5 +1,6 @@
 -- Tables that were built: types and their numbers, sizes, and what comes into a table.
 use Rattle.std.proofs.Common.{◌≡◌, ℕ, zero, suc, ◌+◌, ◌-◌, ◌<◌, nat_lt, true, false, List, [], ◌∷◌, length, slice_get}
+use Rattle.std.proofs.lemmas.Option.{slice_get_within}
 use Rattle.std.proofs.Common.{Option, Some, None, option_and_then, refl, sym, ap, ◌∙◌, subst, inl, inr, arith}
 use Rattle.std.proofs.lemmas.Bool.Decides.{nat_tests}
 use Rattle.ep_layout.specs.declared.types.Ty.{Ty}
@@ -32,7 +33,7 @@ number_at t (type_more s new b here fresh fits) n ty h = elim (get_push s.types 
       (position_push (is_same_type new) s.types new fresh (same_itself new)))
 ]
 number_at t (aggregate_more s tag u b) n ty h = number_at s b n ty h
-number_at t (members_more s a g members b here none_yet there fits) n ty h =
+number_at t (members_more s a g members b here none_yet slice_get_within fits) n ty h =
     let v = with_members s a g (laid_out s g.is_union members) in
     let e = completed_is s a g members here in
     let p : slice_get v.types n ≡ Some ty = subst (λ (w : Table). slice_get w.types n ≡ Some ty) e h in
@@ -47,16 +48,11 @@ target_before t (type_more s new b here fresh fits) n e h = elim (get_push s.typ
       subst (λ (j : ℕ). e < j) (sym p.0) (grind (arith, nat_tests))
 ]
 target_before t (aggregate_more s tag u b) n e h = target_before s b n e h
-target_before t (members_more s a g members b here none_yet there fits) n e h =
+target_before t (members_more s a g members b here none_yet slice_get_within fits) n e h =
     let v = with_members s a g (laid_out s g.is_union members) in
     let p : slice_get v.types n ≡ Some (Ptr e) =
     subst (λ (w : Table). slice_get w.types n ≡ Some (Ptr e)) (completed_is s a g members here) h in
     target_before s b n e p
-
-pub there : {X : Type 0} (xs : List X) (n : ℕ) (x : X) → slice_get xs n ≡ Some x → n < length xs
-there [] n x h = absurd cc
-there (y ∷ ys) zero x h = omega arith
-there (y ∷ ys) (suc n) x h = omega (arith, there ys n x h)
 
 -- ---- pointers
 
@@ -126,8 +122,8 @@ module _ (t : Table) (b : IsBuilt t) where
       smaller f e p =
           let q : slice_get t.types n ≡ Some (Ptr e) = h ∙ ap (λ (x : Ty). Some x) p in
           let less = target_before t b n e q in
-          let row = some_below t.types e (omega (arith, less, there t.types n _ q)) in
+          let row = some_below t.types e (omega (arith, less, slice_get_within t.types n _ q)) in
           f e row.0 (omega (arith, less, l)) row.1
 
   pub type_of_number : (n : ℕ) (ty : Ty) → slice_get t.types n ≡ Some ty → type_number t (type_of t n) ≡ Some n
-  type_of_number n ty h = within_number (length t.types) n ty (there t.types n ty h) h
+  type_of_number n ty h = within_number (length t.types) n ty (slice_get_within t.types n ty h) h

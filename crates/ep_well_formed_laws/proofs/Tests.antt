@@ -1,9 +1,11 @@
 -- How the tests of well-formed programs are passed.
 use Rattle.std.proofs.Common.{◌≡◌, ℕ, zero, suc, ◌-◌, ◌<◌, nat_eq, Bool, true, false, true≢false, cond, ◌&&◌, ◌||◌}
-use Rattle.std.proofs.Common.{not, if◌then◌else◌, List, [], ◌∷◌, ◌++◌, length, slice_get, Option, Some, None, Result}
+use Rattle.ep_int.proofs.Basics.{nat_eq-self}
+use Rattle.std.proofs.lemmas.Bool.{not-false, or_cases}
+use Rattle.std.proofs.lemmas.Bool.{and_from, or_left, or_right}
+use Rattle.std.proofs.Common.{if◌then◌else◌, List, [], ◌∷◌, ◌++◌, length, slice_get, Option, Some, None, Result}
 use Rattle.std.proofs.Common.{Ok, Err, refl, sym, ap, ◌∙◌, subst, ◌⊎◌, inl, inr, arith, eq-zero-or-pos}
 use Rattle.std.specs.List.{list_any, filter}
-use Rattle.std.proofs.lemmas.Bool.Decides.{nat_tests}
 use Rattle.std.proofs.lemmas.Bool.{and_parts, eqb-true}
 use Rattle.ep_int.specs.declared.types.IntType.{IntType}
 use Rattle.ep_int.specs.declared.types.IntType.TheVariants.{I8, U8, I16, U16, I32, U32, I64, U64}
@@ -19,26 +21,12 @@ use Rattle.ep_core.specs.WellFormed.{Sort, integer, pointer_to, has_scalar, has_
 use Rattle.ep_core.specs.WellFormed.{is_same_type, is_sort, is_test, numbers_below, place_has, right_type, some_type}
 use Rattle.ep_core.specs.WellFormed.{sort_of}
 use Rattle.ep_typing.specs.Results.{◌>>=◌, needed}
-use Rattle.ep_core.proofs.Sorts.{either_is, loaded_scalar, never, same_type, type_where}
+use Rattle.ep_core.proofs.Sorts.{loaded_scalar, never, same_type, type_where}
 
 -- ---- tests
 
-pub and_is : (a b : Bool) → a ≡ true → b ≡ true → (a && b) ≡ true
-and_is a b h k = rw (h, k) refl
-
-pub left_is : (a b : Bool) → a ≡ true → (a || b) ≡ true
-left_is a b h = rw h refl
-
-pub right_is : (a b : Bool) → b ≡ true → (a || b) ≡ true
-right_is true b h = refl
-right_is false b h = h
-
 pub both_not : {A : Type 0} (b : Bool) → b ≡ true → b ≡ false → A
 both_not b p q = absurd (true≢false (sym p ∙ q))
-
-pub is_so : (b : Bool) → not b ≡ false → b ≡ true
-is_so true h = refl
-is_so false h = absurd (true≢false h)
 
 pub same_self : (i : IntType) → is_same_type i i ≡ true
 same_self I8 = refl
@@ -85,28 +73,28 @@ either_way false x y z h = inr (refl, h)
 
 any_front : (test : ℕ → Bool) (xs ys : List ℕ) → list_any test xs ≡ true → list_any test (xs ++ ys) ≡ true
 any_front test [] ys h = never h
-any_front test (x ∷ xs) ys h = elim (either_is (test x) (list_any test xs) h) [
-  | inl a ↦ left_is (test x) (list_any test (xs ++ ys)) a
-  | inr b ↦ right_is (test x) (list_any test (xs ++ ys)) (any_front test xs ys b)
+any_front test (x ∷ xs) ys h = elim (or_cases (test x) (list_any test xs) h) [
+  | inl a ↦ or_left (test x) (list_any test (xs ++ ys)) a
+  | inr b ↦ or_right (test x) (list_any test (xs ++ ys)) (any_front test xs ys b)
 ]
 
 any_back : (test : ℕ → Bool) (xs ys : List ℕ) → list_any test ys ≡ true → list_any test (xs ++ ys) ≡ true
 any_back test [] ys h = h
-any_back test (x ∷ xs) ys h = right_is (test x) (list_any test (xs ++ ys)) (any_back test xs ys h)
+any_back test (x ∷ xs) ys h = or_right (test x) (list_any test (xs ++ ys)) (any_back test xs ys h)
 
 any_either : (test : ℕ → Bool) (xs ys : List ℕ) → list_any test (xs ++ ys) ≡ true
     → (list_any test xs ≡ true) ⊎ (list_any test ys ≡ true)
 any_either test [] ys h = inr h
-any_either test (x ∷ xs) ys h = elim (either_is (test x) (list_any test (xs ++ ys)) h) [
-  | inl a ↦ inl (left_is (test x) (list_any test xs) a)
-  | inr a ↦ elim (any_either test xs ys a) [ inl b ↦ inl (right_is (test x) (list_any test xs) b) | inr b ↦ inr b ]
+any_either test (x ∷ xs) ys h = elim (or_cases (test x) (list_any test (xs ++ ys)) h) [
+  | inl a ↦ inl (or_left (test x) (list_any test xs) a)
+  | inr a ↦ elim (any_either test xs ys a) [ inl b ↦ inl (or_right (test x) (list_any test xs) b) | inr b ↦ inr b ]
 ]
 
 any_below : (test : ℕ → Bool) (n k : ℕ) → k < n → test k ≡ true → list_any test (numbers_below n) ≡ true
 any_below test zero k l h = absurd (omega (arith, l))
 any_below test (suc n) k l h = elim (eq-zero-or-pos (n - k)) [
   | inl e ↦ let same : k ≡ n = omega (arith, l, e) in
-      any_back test (numbers_below n) (n ∷ []) (left_is (test n) false (subst (λ (j : ℕ). test j ≡ true) same h))
+      any_back test (numbers_below n) (n ∷ []) (or_left (test n) false (subst (λ (j : ℕ). test j ≡ true) same h))
   | inr p ↦ any_front test (numbers_below n) (n ∷ []) (any_below test n k (omega (arith, p)) h)
 ]
 
@@ -114,29 +102,26 @@ kept_one : (keep test : ℕ → Bool) (xs : List ℕ) (k : ℕ) → list_any (λ
     → list_any test (filter keep xs) ≡ true
 kept_one keep test [] k h p q = never h
 kept_one keep test (x ∷ xs) k h p q =
-    elim (either_is (nat_eq x k) (list_any (λ j. nat_eq j k) xs) h) [
+    elim (or_cases (nat_eq x k) (list_any (λ j. nat_eq j k) xs) h) [
       | inl a ↦ let same : k ≡ x = sym (eqb-true x k a) in
           kept (keep x) (subst (λ (j : ℕ). keep j ≡ true) same p) (subst (λ (j : ℕ). test j ≡ true) same q)
       | inr b ↦ later (keep x) (kept_one keep test xs k b p q)
     ]
   where
     kept : (a : Bool) → a ≡ true → test x ≡ true → list_any test (cond a (x ∷ filter keep xs) (filter keep xs)) ≡ true
-    kept true e t = left_is (test x) (list_any test (filter keep xs)) t
+    kept true e t = or_left (test x) (list_any test (filter keep xs)) t
     kept false e t = never e
 
     later : (a : Bool) → list_any test (filter keep xs) ≡ true
         → list_any test (cond a (x ∷ filter keep xs) (filter keep xs)) ≡ true
-    later true t = right_is (test x) (list_any test (filter keep xs)) t
+    later true t = or_right (test x) (list_any test (filter keep xs)) t
     later false t = t
-
-self_eq : (k : ℕ) → nat_eq k k ≡ true
-self_eq k = grind (arith, nat_tests)
 
 below_any : (test : ℕ → Bool) (n : ℕ) → list_any test (numbers_below n) ≡ true → (k : ℕ) × (test k ≡ true) × (k < n)
 below_any test zero h = never h
 below_any test (suc n) h = elim (any_either test (numbers_below n) (n ∷ []) h) [
   | inl a ↦ let s = below_any test n a in (s.0, s.1, omega (arith, s.2))
-  | inr a ↦ elim (either_is (test n) false a) [ inl e ↦ (n, e, omega arith) | inr e ↦ never e ]
+  | inr a ↦ elim (or_cases (test n) false a) [ inl e ↦ (n, e, omega arith) | inr e ↦ never e ]
 ]
 
 -- ---- the type of a number
@@ -146,7 +131,7 @@ module _ (t : Table) (bs : List Block) (seen : List ℕ) where
       → kind (slice_get t.types u) ≡ true → test u ≡ true → some_type t bs seen kind test ≡ true
   some_type_is kind test u l p q =
       kept_one (λ ty. kind (slice_get t.types ty)) test (numbers_below (length t.types)) u
-      (any_below (λ j. nat_eq j u) (length t.types) u l (self_eq u)) p q
+      (any_below (λ j. nat_eq j u) (length t.types) u l (nat_eq-self u)) p q
 
   -- a number below that is kept and passes
   below_where : (keep test : ℕ → Bool) (n : ℕ) → list_any test (filter keep (numbers_below n)) ≡ true
@@ -157,7 +142,7 @@ module _ (t : Table) (bs : List Block) (seen : List ℕ) where
       numbers_are zero k p = never p
       numbers_are (suc n) k p = elim (any_either (λ j. nat_eq j k) (numbers_below n) (n ∷ []) p) [
         | inl a ↦ omega (arith, numbers_are n k a)
-        | inr a ↦ elim (either_is (nat_eq n k) false a) [
+        | inr a ↦ elim (or_cases (nat_eq n k) false a) [
           | inl e ↦ let same : n ≡ k = eqb-true n k e in omega (arith, same)
           | inr e ↦ never e
         ]
@@ -166,13 +151,13 @@ module _ (t : Table) (bs : List Block) (seen : List ℕ) where
       each_below : (xs : List ℕ) → ((k : ℕ) → list_any (λ j. nat_eq j k) xs ≡ true → k < n)
           → list_any test (filter keep xs) ≡ true → (k : ℕ) × (keep k ≡ true) × (test k ≡ true) × (k < n)
       each_below [] f h = never h
-      each_below (x ∷ xs) f h = by (keep x) refl h (λ q. each_below xs (λ k p. f k (right_is (nat_eq x k) _ p)) q)
+      each_below (x ∷ xs) f h = by (keep x) refl h (λ q. each_below xs (λ k p. f k (or_right (nat_eq x k) _ p)) q)
         where
           by : (b : Bool) → keep x ≡ b → list_any test (cond b (x ∷ filter keep xs) (filter keep xs)) ≡ true
               → (list_any test (filter keep xs) ≡ true → (k : ℕ) × (keep k ≡ true) × (test k ≡ true) × (k < n))
               → (k : ℕ) × (keep k ≡ true) × (test k ≡ true) × (k < n)
-          by true e q r = elim (either_is (test x) (list_any test (filter keep xs)) q) [
-            | inl a ↦ (x, e, a, f x (left_is _ _ (self_eq x)))
+          by true e q r = elim (or_cases (test x) (list_any test (filter keep xs)) q) [
+            | inl a ↦ (x, e, a, f x (or_left _ _ (nat_eq-self x)))
             | inr a ↦ r a
           ]
           by false e q r = r q
@@ -233,8 +218,8 @@ module _ (t : Table) (bs : List Block) (seen : List ℕ) where
 
   pub number_tested : (e : Expr) (i : IntType) → has_sort t bs seen e (integer i) ≡ true
       → is_test t bs seen (int_type_of e) (has_sort t bs seen e) ≡ true
-  number_tested e i h = left_is _ _ (int_is e i h)
+  number_tested e i h = or_left _ _ (int_is e i h)
 
   pub pointer_tested : (e : Expr) → is_pointer t bs seen (has_sort t bs seen e) ≡ true
       → is_test t bs seen (int_type_of e) (has_sort t bs seen e) ≡ true
-  pointer_tested e h = right_is _ _ h
+  pointer_tested e h = or_right _ _ h

@@ -8,11 +8,12 @@ use Rattle.ep_typing.specs.Env.{Env}
 use Rattle.ep_typing.specs.Names.{named_type}
 use Rattle.ep_typing.specs.Operand.{Operand, Value, value_of}
 use Rattle.ep_typing.specs.Operators.{chosen, operated}
-use Rattle.ep_typing.specs.Parts.{an_operand, casted, indexable, indexed, named, numbered, selected, selected_through}
-use Rattle.ep_typing.specs.Parts.{sized, type_sized, unary_typed}
-use Rattle.ep_typing.specs.Typing.{cast_to, chosen_from, indexed_by, joined, read_first, selected_behind, typed}
-use Rattle.ep_typing.specs.Typing.{typed_all}
-use Rattle.ep_typing_laws.proofs.Order.{at_ok, bind_ok}
+use Rattle.ep_typing.specs.Parts.{an_operand, casted, indexable, indexed, named, named_uncalled, numbered, selected}
+use Rattle.ep_typing.specs.Parts.{selected_through, sized, type_sized, unary_typed}
+use Rattle.ep_typing.specs.Typing.{callee, cast_to, chosen_from, indexed_by, joined, read_first, selected_behind}
+use Rattle.ep_typing.specs.Typing.{typed, typed_all}
+use Rattle.ep_typing.specs.Rules.{MeansCallee, is_called_name, is_called_value}
+use Rattle.ep_typing.proofs.Order.{at_ok, bind_ok, meant, named_alone}
 use Rattle.ep_well_formed_laws.specs.Numbers.{HasNumber}
 use Rattle.ep_well_formed_laws.specs.Environments.{CanName, Covers, IsEnv, IsPlaced}
 use Rattle.ep_well_formed_laws.specs.Operands.{OperandFits, ValueFits, ValuesFit}
@@ -85,6 +86,12 @@ module _ (G : Env) (seen : List ℕ) (h : IsEnv G) (covers : Covers seen G) (som
   no_answer : {A : Type 0} (l k : ℕ) (z : Operand) → at l (Err k) ≡ Ok z → A
   no_answer l k z e = absurd cc
 
+  name_fits : (n : List ℕ) (z : Operand) → named G n ≡ Ok z → O z
+  name_fits n z e =
+      named_fits G.types G.blocks G.functions seen h.declared.table some G n z
+      (λ m q. (looked_up (IsPlaced G.types G.blocks G.functions) n G.scopes m h.places q, looked_up (CanName G.blocks seen) n G.scopes m covers q))
+      e
+
   pub typed_fits : (e : source.Expr) (z : Operand) → AreThere G e → typed G e ≡ Ok z → O z
   unfolding typed
   typed_fits (source.assign l m a b) z t e =
@@ -137,7 +144,7 @@ module _ (G : Env) (seen : List ℕ) (h : IsEnv G) (covers : Covers seen G) (som
       (indexable_is G.types G.blocks G.functions seen h.declared.table some x.0 u.0 k) (typed_fits b y.0 t.1 y.1)
       (at_ok l (indexed_by G.types u.0 y.0) z y.2)
   typed_fits (source.call l f es) z t e =
-      let x = bind_ok (typed G f) _ z e in
+      let x = bind_ok (callee G f (typed G f)) _ z e in
       let vs = bind_ok (typed_all G l es) _ z x.2 in no_answer l 18 z vs.2
   typed_fits (source.member l a n) z t e =
       let x = bind_ok (typed G a) _ z e in
@@ -150,13 +157,14 @@ module _ (G : Env) (seen : List ℕ) (h : IsEnv G) (covers : Covers seen G) (som
       let x = bind_ok (typed G a) _ z e in no_answer l 19 z x.2
   typed_fits (source.post_decrement l a) z t e =
       let x = bind_ok (typed G a) _ z e in no_answer l 19 z x.2
-  typed_fits (source.id l n) z t e =
-      named_fits G.types G.blocks G.functions seen h.declared.table some G n z
-      (λ m q. (looked_up (IsPlaced G.types G.blocks G.functions) n G.scopes m h.places q, looked_up (CanName G.blocks seen) n G.scopes m covers q))
-      (at_ok l (named G n) z e)
+  typed_fits (source.id l n) z t e = name_fits n z (named_alone G n z (at_ok l (named_uncalled G n) z e))
   typed_fits (source.number l n) z t e =
       let same : numbered G.types.model n ≡ z = cc in
       subst O same (numbered_fits G.types G.blocks G.functions seen h.declared.table some G.types.model n)
+
+  pub callee_fits : (e : source.Expr) (z : Operand) → AreThere G e → MeansCallee G e z → O z
+  callee_fits e z t (is_called_name {t = n} q) = name_fits n z q
+  callee_fits e z t (is_called_value m) = typed_fits e z t (meant G e z m)
 
   pub all_typed_fit : (l : ℕ) (es : source.Exprs) (vs : List Value) → AllThere G es → typed_all G l es ≡ Ok vs
       → ValuesFit G.types G.blocks seen vs

@@ -1,5 +1,9 @@
 -- Values as operands of operators: numbers, addresses, conversions.
 use Rattle.std.proofs.Common.{◌≡◌, ℕ, zero, suc, ◌+◌, ◌-◌, ◌<◌, nat_lt, ◌==◌, Bool, true, false, ◌&&◌, not}
+use Rattle.ep_well_formed_laws.proofs.FunctionNames.{same_base, same_c}
+use Rattle.std.proofs.lemmas.Bool.{not-false}
+use Rattle.std.proofs.lemmas.Bool.{and_from}
+use Rattle.std.proofs.lemmas.Option.{slice_get_within}
 use Rattle.std.proofs.Common.{if◌then◌else◌, List, length, option_and_then, Option, Some, None, Ok, refl, sym, ap}
 use Rattle.std.proofs.Common.{◌∙◌, subst, ◌⊎◌, inl, inr, arith}
 use Rattle.std.proofs.lemmas.Bool.Decides.{nat_tests}
@@ -13,19 +17,18 @@ use Rattle.ep_core.specs.WellFormed as formed
 use Rattle.ep_core.specs.WellFormed.{has_sort, integer, is_same_type, pointer_to as pointing, int_type_of, is_test}
 use Rattle.ep_core.specs.WellFormed.{place_has, is_int}
 use Rattle.ep_core.proofs.Sorts.{never, same_type}
-use Rattle.ep_typing.specs.declared.types.Base.{Base}
 use Rattle.ep_typing.specs.declared.types.Base.TheVariants as bases
 use Rattle.ep_typing.specs.declared.types.CType.{CType}
-use Rattle.ep_typing.specs.Types.{int_of, int_type, is_int_base, is_integer, is_pointer, is_same, is_same_base}
+use Rattle.ep_typing.specs.Types.{int_of, int_type, is_int_base, is_integer, is_pointer, is_same}
 use Rattle.ep_typing.specs.Types.{is_scalar, pointer_to, target, void_pointer}
 use Rattle.ep_typing.specs.Operand.{Value, as_pointer, as_type, are_scalars, converted, fitted, is_foreign, is_mixed}
 use Rattle.ep_typing.specs.Operand.{tested}
 use Rattle.ep_typing.specs.Operators.{bare}
 use Rattle.ep_well_formed_laws.specs.Numbers.{HasNumber, IsMade, may_be, number_behind, number_of_base, type_number}
 use Rattle.ep_well_formed_laws.specs.Operands.{Computes, ValueFits}
-use Rattle.ep_well_formed_laws.proofs.Tables.{row_at, target_number, there}
+use Rattle.ep_well_formed_laws.proofs.Tables.{row_at, target_number}
 use Rattle.ep_well_formed_laws.proofs.Additions.{base_below}
-use Rattle.ep_well_formed_laws.proofs.Tests.{and_is, both_not, either_way, given, int_is, is_so, number_tested}
+use Rattle.ep_well_formed_laws.proofs.Tests.{both_not, given, int_is, number_tested}
 use Rattle.ep_well_formed_laws.proofs.Tests.{pointer_is, pointer_tested, same_self, unless}
 
 -- ---- types
@@ -50,25 +53,6 @@ more_stars k = grind (arith, nat_tests)
 pub target_is : (c : CType) → target (pointer_to c) ≡ c
 target_is c = let e : c.stars + 1 - 1 ≡ c.stars = omega arith in ap (λ (k : ℕ). record { base = c.base; stars = k }) e
 
-base_same : (b c : Base) → is_same_base b c ≡ true → b ≡ c
-base_same bases.Void bases.Void h = refl
-base_same (bases.Int i) (bases.Int j) h = ap bases.Int (same_type i j h)
-base_same (bases.Array m) (bases.Array n) h = ap bases.Array (eqb-true m n h)
-base_same (bases.Aggregate a) (bases.Aggregate b) h = ap bases.Aggregate (eqb-true a b h)
-base_same b c h = never h
-
-pub same_is : (c d : CType) → is_same c d ≡ true → c ≡ d
-same_is c d h = elim (either_way (c.stars == d.stars) (is_same_base c.base d.base) false true h) [
-  | inl p ↦ whole c.base d.base c.stars d.stars (base_same c.base d.base p.1) (eqb-true c.stars d.stars p.0)
-  | inr p ↦ never p.1
-]
-  where
-    made : Base → ℕ → CType
-    made b k = record { base = b; stars = k }
-
-    whole : (a b : Base) (j k : ℕ) → a ≡ b → j ≡ k → made a j ≡ made b k
-    whole a b j k p q = ap (λ (x : Base). made x j) p ∙ ap (made b) q
-
 -- ---- numbers of types
 
 pub number_below : (t : Table) (c : CType) (n : ℕ) → type_number t c ≡ Some n → n < length t.types
@@ -80,7 +64,7 @@ number_below t c n h = by c.stars h
       where
         by_target : (o : Option ℕ) → option_and_then (λ m. number_of t (rows.Ptr m)) o ≡ Some n → n < length t.types
         by_target None q = absurd cc
-        by_target (Some m) q = there t.types n (rows.Ptr m) (row_at t (rows.Ptr m) n q)
+        by_target (Some m) q = slice_get_within t.types n (rows.Ptr m) (row_at t (rows.Ptr m) n q)
 
 pub same_number : (n ty : ℕ) → may_be (Some n) ty ≡ true → n ≡ ty
 same_number n ty h = eqb-true n ty h
@@ -166,7 +150,7 @@ module _ (t : Table) (bs : List Block) (seen : List ℕ) (some : 0 < length t.ty
     where
       by_type : (b : Bool) → is_same c v.ty ≡ b → is_pointer v.ty ≡ true
           → S (if b then v.expr else core.cast v.expr) (pointing ty) ≡ true
-      by_type true q r = h.points r ty (subst (λ (d : CType). may_be (type_number t (target d)) ty ≡ true) (same_is c v.ty q) m)
+      by_type true q r = h.points r ty (subst (λ (d : CType). may_be (type_number t (target d)) ty ≡ true) (same_c c v.ty q) m)
       by_type false q r = address_is v.expr v.ty h r
 
       by : (b : Bool) → v.is_null ≡ b → S (as_pointer c v) (pointing ty) ≡ true
@@ -185,7 +169,7 @@ module _ (t : Table) (bs : List Block) (seen : List ℕ) (some : 0 < length t.ty
       by : (b : Bool) → is_same_type i (int_of v.ty) ≡ b
           → S (if b then v.expr else core.convert i v.expr) (integer i) ≡ true
       by true q = subst (λ (j : IntType). S v.expr (integer j) ≡ true) (sym (same_type i (int_of v.ty) q)) (h.number p)
-      by false q = and_is _ _ (same_self i) (int_is t bs seen v.expr (int_of v.ty) (h.number p))
+      by false q = and_from _ _ (same_self i) (int_is t bs seen v.expr (int_of v.ty) (h.number p))
 
   pub scalar_tested : (v : Value) → ValueFits t bs seen v → is_scalar v.ty ≡ true
       → is_test t bs seen (int_type_of v.expr) (S v.expr) ≡ true
@@ -208,7 +192,7 @@ module _ (t : Table) (bs : List Block) (seen : List ℕ) (some : 0 < length t.ty
       → IsAddress v
   unmixed_address c v p s m = elim (scalar_is v.ty s) [
     | inl q ↦ inl q
-    | inr q ↦ inr (is_so v.is_null (let k : (is_integer v.ty && not v.is_null) ≡ false = (rw p at m) in rw q.1 at k))
+    | inr q ↦ inr (not-false v.is_null (let k : (is_integer v.ty && not v.is_null) ≡ false = (rw p at m) in rw q.1 at k))
   ]
 
   pub as_type_fits : (c : CType) (v : Value) → ValueFits t bs seen v → is_scalar c ≡ true → is_scalar v.ty ≡ true
@@ -232,6 +216,6 @@ module _ (t : Table) (bs : List Block) (seen : List ℕ) (some : 0 < length t.ty
       let a = unless (not (are_scalars c v.ty)) 32 _ e q in
       let b = unless (is_mixed c v) 34 _ e a.1 in
       let d = unless (is_foreign c v) 44 _ e b.1 in
-      let s = and_parts (is_scalar c) (is_scalar v.ty) (is_so (are_scalars c v.ty) a.0) in
+      let s = and_parts (is_scalar c) (is_scalar v.ty) (not-false (are_scalars c v.ty) a.0) in
       let same : as_type c v ≡ e = cc in
       (s.0, subst (λ (x : Expr). Computes t bs seen x c) same (as_type_fits c v h s.0 s.1 b.0 made))

@@ -1,5 +1,6 @@
 -- What whole statements mean is as the types say.
 use Rattle.std.proofs.Common.{◌≡◌, ℕ, ◌<◌, ◌==◌, Bool, true, false, true≢false, ◌&&◌, not, if◌then◌else◌, List, []}
+use Rattle.std.proofs.lemmas.Bool.{and_from}
 use Rattle.std.proofs.Common.{◌∷◌, length, map, slice_get, Option, Some, None, unwrap_or, Ok, refl, sym, ap, ◌∙◌}
 use Rattle.std.proofs.Common.{subst, ◌⊎◌, inl, inr}
 use Rattle.ep_int.specs.declared.types.IntType.{IntType}
@@ -20,12 +21,12 @@ use Rattle.ep_typing.specs.Calls.{Called, Parameter, a_call, a_length, all_passe
 use Rattle.ep_typing.specs.Calls.{called, called_into, done_by, of_type, parameters, passed, result_of, signature}
 use Rattle.ep_typing.specs.Typing.{Right, a_result, an_object, assigned, assigned_from, one, operator_of, taken}
 use Rattle.ep_typing.specs.Typing.{updated}
-use Rattle.ep_typing_laws.specs.Rules.{HaveValues, no_values, more_values}
-use Rattle.ep_typing_laws.proofs.Order.{meant}
-use Rattle.ep_elaboration_laws.specs.WholeRules.{MeansAssignment, MeansCall, MeansRight, MeansStep, MeansWhole}
-use Rattle.ep_elaboration_laws.specs.WholeRules.{is_assignment, is_call, is_decrement, is_increment, is_operand}
-use Rattle.ep_elaboration_laws.specs.WholeRules.{is_result, is_step, is_test as is_tested_value, is_value}
-use Rattle.ep_elaboration_laws.specs.WholeRules.{is_whole_assignment, is_whole_call, is_whole_step}
+use Rattle.ep_typing.specs.Rules.{HaveValues, no_values, more_values}
+use Rattle.ep_typing.proofs.Order.{meant}
+use Rattle.ep_elaboration.specs.WholeRules.{MeansAssignment, MeansCall, MeansRight, MeansStep, MeansWhole}
+use Rattle.ep_elaboration.specs.WholeRules.{is_assignment, is_call, is_decrement, is_increment, is_operand}
+use Rattle.ep_elaboration.specs.WholeRules.{is_result, is_step, is_test as is_tested_value, is_value}
+use Rattle.ep_elaboration.specs.WholeRules.{is_whole_assignment, is_whole_call, is_whole_step}
 use Rattle.ep_well_formed_laws.specs.Environments.{Covers, IsEnv, IsPassed}
 use Rattle.ep_well_formed_laws.specs.Numbers.{IsTable}
 use Rattle.ep_well_formed_laws.specs.Operands.{IsCallee, OperandFits, ValueFits, ValuesFit}
@@ -33,9 +34,10 @@ use Rattle.ep_well_formed_laws.specs.Statements.{ArgumentsFit, TakesResult, What
 use Rattle.ep_well_formed_laws.proofs.Mentions.{AllThere, AreThere}
 use Rattle.ep_well_formed_laws.proofs.Parts.{value_fits}
 use Rattle.ep_well_formed_laws.proofs.Stores.{IsDone, any_pointer_is, arguments_fit, assigned_fits, counted}
-use Rattle.ep_well_formed_laws.proofs.Stores.{input_taken, lowest_is, no_void_taken, taken_fits, updated_fits}
-use Rattle.ep_well_formed_laws.proofs.Tests.{after, and_is, either_way}
-use Rattle.ep_well_formed_laws.proofs.TypedExpressions.{read_first_fits, typed_fits}
+use Rattle.ep_well_formed_laws.proofs.Stores.{input_taken, lowest_is, no_surplus, no_void_taken, taken_fits}
+use Rattle.ep_well_formed_laws.proofs.Stores.{updated_fits}
+use Rattle.ep_well_formed_laws.proofs.Tests.{after, either_way}
+use Rattle.ep_well_formed_laws.proofs.TypedExpressions.{callee_fits, read_first_fits, typed_fits}
 use Rattle.ep_well_formed_laws.proofs.Values.{fitted_fits, int_fits, tested_is}
 
 -- ---- lists of arguments
@@ -62,7 +64,7 @@ first_passed t bs seen table some fs result p ps (v ∷ vs) es e =
 none_passed : (vs : List Value) (es : List Expr) → all_passed [] vs ≡ Ok es → (vs ≡ []) × (es ≡ [])
 unfolding all_passed
 none_passed [] es e = (refl, cc)
-none_passed (v ∷ vs) es e = absurd cc
+none_passed (v ∷ vs) es e = absurd (no_surplus v (all_passed [] vs) es e)
 
 module _ (G : Env) (seen : List ℕ) (h : IsEnv G) (covers : Covers seen G) (some : 0 < length G.types.types)
     (result : Option ℕ) where
@@ -173,7 +175,7 @@ module _ (G : Env) (seen : List ℕ) (h : IsEnv G) (covers : Covers seen G) (som
       let k = three_passed any_pointer any_pointer a_length vs es e in
       let v = subst (ValuesFit G.types G.blocks seen) k.values f in
       done_at copy_bytes vs (k.x ∷ k.y ∷ k.z ∷ []) es (k.a ∷ k.b ∷ k.c ∷ []) k.values k.exprs (
-        and_is _ _ (and_is _ _ (counted G.types G.blocks seen h.declared.table some G.functions result k.z k.c k.third)
+        and_from _ _ (and_from _ _ (counted G.types G.blocks seen h.declared.table some G.functions result k.z k.c k.third)
             (any_pointer_is G.types G.blocks seen h.declared.table some G.functions result k.x k.a v.0 k.first))
             (any_pointer_is G.types G.blocks seen h.declared.table some G.functions result k.y k.b v.1.0 k.second),
         refl,
@@ -187,7 +189,7 @@ module _ (G : Env) (seen : List ℕ) (h : IsEnv G) (covers : Covers seen G) (som
       let v = subst (ValuesFit G.types G.blocks seen) k.values f in
       let g = fitted_fits G.types G.blocks seen some (int_type U8) k.y k.b v.1.0 (λ q. never q) k.second in
       done_at fill_bytes vs (k.x ∷ k.y ∷ k.z ∷ []) es (k.a ∷ k.b ∷ k.c ∷ []) k.values k.exprs (
-        and_is _ _ (and_is _ _ (counted G.types G.blocks seen h.declared.table some G.functions result k.z k.c k.third)
+        and_from _ _ (and_from _ _ (counted G.types G.blocks seen h.declared.table some G.functions result k.z k.c k.third)
             (any_pointer_is G.types G.blocks seen h.declared.table some G.functions result k.x k.a v.0 k.first))
             (g.1.number refl),
         refl,
@@ -200,7 +202,7 @@ module _ (G : Env) (seen : List ℕ) (h : IsEnv G) (covers : Covers seen G) (som
       let k = two_passed any_pointer a_length vs es e in
       let v = subst (ValuesFit G.types G.blocks seen) k.values f in
       done_at read_bytes vs (k.x ∷ k.y ∷ []) es (k.a ∷ k.b ∷ []) k.values k.exprs (
-        and_is _ _ (counted G.types G.blocks seen h.declared.table some G.functions result k.y k.b k.second)
+        and_from _ _ (counted G.types G.blocks seen h.declared.table some G.functions result k.y k.b k.second)
             (any_pointer_is G.types G.blocks seen h.declared.table some G.functions result k.x k.a v.0 k.first),
         refl,
       )
@@ -212,7 +214,7 @@ module _ (G : Env) (seen : List ℕ) (h : IsEnv G) (covers : Covers seen G) (som
       let k = two_passed any_pointer a_length vs es e in
       let v = subst (ValuesFit G.types G.blocks seen) k.values f in
       done_at write_bytes vs (k.x ∷ k.y ∷ []) es (k.a ∷ k.b ∷ []) k.values k.exprs (
-        and_is _ _ (counted G.types G.blocks seen h.declared.table some G.functions result k.y k.b k.second)
+        and_from _ _ (counted G.types G.blocks seen h.declared.table some G.functions result k.y k.b k.second)
             (any_pointer_is G.types G.blocks seen h.declared.table some G.functions result k.x k.a v.0 k.first),
         refl,
       )
@@ -260,7 +262,7 @@ module _ (G : Env) (seen : List ℕ) (h : IsEnv G) (covers : Covers seen G) (som
   call_fits : (l : ℕ) (f : source.Expr) (es : source.Exprs) (c : Called) → AreThere G f → AllThere G es
       → MeansCall G l f es c → CalledFits c
   call_fits l f es c t u (is_call x vs d m v q) =
-      called_fits x vs d (typed_fits G seen h covers some f x t (meant G f x m)) (values_fit es vs u v) q
+      called_fits x vs d (callee_fits G seen h covers some f x t m) (values_fit es vs u v) q
 
   -- ---- what stands right of an assignment
 

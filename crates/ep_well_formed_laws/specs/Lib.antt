@@ -3,3 +3,4 @@ pub mod Environments
 pub mod Operands
 pub mod Statements
 pub mod Laws
+pub mod ProgramLaws

@@ -1,8 +1,9 @@
-//! That what has a meaning is well formed, apart from any order of work.
+//! Every program that is elaborated is well formed: laws alone.
 #![tactic(auto)]
 
 ghost use Rattle.ep_well_formed_laws.specs.Laws.{BlocksFit, DeclarationsFit, DefinitionsFit, ExpressionsFit};
 ghost use Rattle.ep_well_formed_laws.specs.Laws.{MentionsKeep, WholeStatementsFit};
+ghost use Rattle.ep_well_formed_laws.specs.ProgramLaws.{AllAreSeen, ArmsMayDiffer, ProgramsFit};
 
 /// Expressions compute what their types say.
 pub fn expressions()
@@ -24,4 +25,19 @@ pub fn blocks()
 /// Functions that are defined fit.
 pub fn definitions()
     ensures { DefinitionsFit }
+{}
+
+/// Every program that is elaborated is well formed.
+pub fn programs()
+    ensures { ProgramsFit }
+{}
+
+/// Each function that was declared is seen at file scope, but those of a first arm in the second.
+pub fn functions()
+    ensures { AllAreSeen }
+{}
+
+/// Arms may agree where they are compared and yet differ in the type of a function, which is refused in the second one.
+pub fn second_arms()
+    ensures { ArmsMayDiffer }
 {}

@@ -1,9 +1,9 @@
 use Rattle.std.proofs.Common.{ℕ, [], List, length, arith, ap, sym, ◌∙◌, subst, map, rules}
 use Rattle.std.specs.Prelude.{slice_index}
-use Rattle.ep_call_laws.specs.Leads.{IsLabelled}
+use Rattle.ep_elaboration.specs.Leads.{IsLabelled}
 use Rattle.ep_call_graph.specs.declared.cycles.Group.{Group}
-use Rattle.ep_call_graph.specs.Search.{AreAll, Stands, label_of, tops}
-use Rattle.ep_call_graph.specs.Seen.{listed}
+use Rattle.ep_call_graph.specs.Search.{AreAll, SearchInvariant, label_of, tops}
+use Rattle.ep_call_graph.specs.View.{listed}
 use Rattle.ep_call_graph.proofs.Lists.{len_is}
 use Rattle.ep_call_graph.proofs.Steps.{labelled}
 use Rattle.ep_call_graph.proofs.cycles.labels.Goals as goal
@@ -20,8 +20,8 @@ pub returns-clause-labels : goal.returns-clause-labels
 returns-clause-labels c =
     let s = c.loop-f.search in
     let next : ℕ → List ℕ = listed c.args.callees.now in
-    let stands : Stands next s.marks.items s.path.items [] s.pending.items s.done =
-    subst (λ (gs : List Group). Stands next s.marks.items s.path.items (tops gs) s.pending.items s.done) c.loop-f.invariant.none c.loop-f.invariant.stands in
+    let stands : SearchInvariant next s.marks.items s.path.items [] s.pending.items s.done =
+    subst (λ (gs : List Group). SearchInvariant next s.marks.items s.path.items (tops gs) s.pending.items s.done) c.loop-f.invariant.none c.loop-f.invariant.stands in
     let all : AreAll (length s.marks.items) next =
     subst (λ (n : ℕ). AreAll n next) (sym c.loop-f.invariant.count) c.requires in
     subst (λ (xs : List ℕ). IsLabelled next (λ f. slice_index xs f)) (sym (c.in_ok-all.ensures ∙ ap (map label_of) c.deref.ensures.value))

@@ -1,6 +1,6 @@
 use Rattle.std.proofs.Common.{◌≡◌, ℕ, ◌<◌, [], length}
 use Rattle.ep_call_graph.specs.declared.cycles.Mark.TheVariants.{New}
-use Rattle.ep_call_graph.specs.Seen.{listed}
+use Rattle.ep_call_graph.specs.View.{listed}
 use Rattle.ep_call_graph.specs.Search.{IsSearch, mark_of}
 use Rattle.ep_call_graph.proofs.cycles.labels.Given as goal
 

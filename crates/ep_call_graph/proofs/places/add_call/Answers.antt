@@ -1,4 +1,4 @@
-use Rattle.ep_call_graph.specs.Seen.{listed}
+use Rattle.ep_call_graph.specs.View.{listed}
 use Rattle.ep_call_graph.proofs.Lists.{a_call, no_call}
 use Rattle.ep_call_graph.proofs.places.add_call.Goals as goal
 

@@ -1,6 +1,6 @@
 use Rattle.std.proofs.Common.{◌≡◌, ◌∙◌, ◌&&◌, sym, true, rules, arith}
 use Rattle.ep_typing.specs.Types.{is_scalar}
-use Rattle.ep_operands.specs.Seen.{value}
+use Rattle.ep_operands.specs.View.{value}
 use Rattle.ep_operands.proofs.Sound.{chosen_is_pointer, some_number}
 use Rattle.ep_comparisons.proofs.choices.chosen.Goals as goal
 

@@ -1,9 +1,10 @@
 use Rattle.std.proofs.Common.{◌<◌, ◌-◌, length, subst, sym, arith}
+use Rattle.ep_layout.proofs.Basics.{grows-trans}
 use Rattle.std.proofs.lemmas.Result.{err_from_is_err_and}
 use Rattle.ep_layout.specs.Table.{Table}
 use Rattle.ep_typing.specs.Types.{c_type_number}
 use Rattle.ep_declared.proofs.ArrayLemmas.{added_inside, array_more, array_stops, no_arrays}
-use Rattle.ep_declared.proofs.Growth.{IsMore, grows_on, type_known, type_more}
+use Rattle.ep_declared.proofs.Growth.{IsMore, type_known, type_more}
 use Rattle.ep_declared.proofs.arrays.arrays_of.Goals as goal
 
 pub loop-i-init : goal.loop-i-init
@@ -37,7 +38,7 @@ loop-i-preserved c = record {
       c.array_of.new.types c.in_ok-array.ensures.means;
   there = c.in_ok-array.ensures.there;
   inside = c.in_ok-array.ensures.inside;
-  grown = grows_on c.args.types.now c.loop-i.types c.array_of.new.types c.loop-i.invariant.grown
+  grown = grows-trans c.args.types.now c.loop-i.types c.array_of.new.types c.loop-i.invariant.grown
       c.in_ok-array.ensures.grown;
   stay = λ a h. c.in_ok-array.ensures.stay a (c.loop-i.invariant.stay a h);
 }

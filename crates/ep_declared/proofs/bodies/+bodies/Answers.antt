@@ -3,6 +3,7 @@ use Rattle.std.specs.Prelude.{OnOk}
 use Rattle.std.proofs.lemmas.List.{map_push}
 use Rattle.std.proofs.lemmas.Result.{err_from_is_err_and}
 use Rattle.std.specs.Option.{option_map}
+use Rattle.ep_ast.specs.Mark.{word_number}
 use Rattle.ep_ast.specs.declared.expressions.TypeWordTree.{TypeWordTree}
 use Rattle.ep_ast.specs.declared.refusals.Refusal.{Refusal}
 use Rattle.ep_ast.specs.Declaration.{member_of, spec_of, text_of, to_members, to_specs}
@@ -10,10 +11,10 @@ use Rattle.ep_ast.specs.Expression.{TypeWord, type_word}
 use Rattle.ep_typing.specs.declared.types.CType.{CType}
 use Rattle.ep_typing.specs.Env.{Env}
 use Rattle.ep_elaboration.specs.Aggregates as rule
-use Rattle.ep_scopes.specs.Seen.{env}
-use Rattle.ep_declared.specs.Gives.{GivesIn}
+use Rattle.ep_scopes.specs.View.{env}
+use Rattle.ep_declared.specs.Refinement.{RefinesIn}
 use Rattle.ep_declared.specs.Open.{AreTypes, IsAfter}
-use Rattle.ep_declared.specs.Seen as seen
+use Rattle.ep_declared.specs.View as view
 use Rattle.ep_declared.proofs.BodyLemmas.{after_itself, after_ok, after_on, body_after, body_is, closed_stopped}
 use Rattle.ep_declared.proofs.BodyLemmas.{follows_on, members_stop_all, members_stopped, members_went, no_more_members}
 use Rattle.ep_declared.proofs.BodyLemmas.{only_words, same_word, specs_stop, still_open, still_there, then_closed}
@@ -51,7 +52,7 @@ specs_inside-loop-spec-preserved t c = record {
 
 pub specs_inside-returns-in-Body-clause-means : goal.specs_inside-returns-in-Body-clause-means
 specs_inside-returns-in-Body-clause-means t c =
-    subst (λ (s : Result (CType × Env) Refusal). GivesIn (λ (d : CType). d) s (env c.body_inside.new.env)
+    subst (λ (s : Result (CType × Env) Refusal). RefinesIn (λ (d : CType). d) s (env c.body_inside.new.env)
     c.body_inside.result)
     (body_is c.loop-spec.spec-index c.args.specs.now c.spec-item.result c.loop-spec-test.true c.spec-item.is (env
     c.loop-spec.env)
@@ -68,7 +69,7 @@ specs_inside-returns-in-Body-clause-after t c =
 
 pub specs_inside-returns-clause-means : goal.specs_inside-returns-clause-means
 specs_inside-returns-clause-means t c =
-    subst (λ (s : Result (CType × Env) Refusal). GivesIn (λ (d : CType). d) s (env c.words_declared.new.env)
+    subst (λ (s : Result (CType × Env) Refusal). RefinesIn (λ (d : CType). d) s (env c.words_declared.new.env)
     c.words_declared.result)
     (ap (λ (ws : List TypeWordTree). rule.words_declared (env c.loop-spec.env) (map type_word ws))
     c.deref-2.ensures.value
@@ -100,7 +101,7 @@ all_members-members_declared-requires t c = record {
   known = c.in_ok-c.ensures.after.known;
   inside = c.in_ok-c.ensures.inside;
   members = types_stay c.loop-member.env.types c.specs_inside.new.env.types
-      (more_types c.loop-member.env.types c.specs_inside.new.env.types c.in_ok-c.ensures.after.grown) (seen.named
+      (more_types c.loop-member.env.types c.specs_inside.new.env.types c.in_ok-c.ensures.after.grown) (view.named
       c.loop-member.named)
       c.loop-member.invariant.members;
 }
@@ -110,7 +111,7 @@ all_members-returns-in_err-c-clause-means t c =
     let p = err_from_is_err_and c.from_residual.result c.from_residual.ensures.1 in
     rw (p.1, p.2) (specs_stop c.loop-member.member-index c.args.members.now c.member-item.result
     c.loop-member-test.true c.member-item.is
-    (env c.loop-member.env) c.args.unclosed.now (seen.named c.loop-member.named) _ c.loop-member.invariant.means
+    (env c.loop-member.env) c.args.unclosed.now (view.named c.loop-member.named) _ c.loop-member.invariant.means
     c.deref.result.now
     c.deref.ensures.value _ c.in_err-c.ensures.means)
 
@@ -121,7 +122,7 @@ all_members-returns-in_err-members_declared-clause-means t c =
     c.from_residual-in_err-members_declared.ensures.1 in
     rw (p.1, p.2) (members_stop_all c.loop-member.member-index c.args.members.now c.member-item.result
     c.loop-member-test.true c.member-item.is
-    (env c.loop-member.env) c.args.unclosed.now (seen.named c.loop-member.named) _ c.loop-member.invariant.means
+    (env c.loop-member.env) c.args.unclosed.now (view.named c.loop-member.named) _ c.loop-member.invariant.means
     c.deref.result.now
     c.deref.ensures.value c.in_ok-c.c (env c.specs_inside.new.env) c.in_ok-c.ensures.means
     c.deref-in-loop-member.result.now
@@ -131,11 +132,11 @@ pub all_members-loop-member-preserved : goal.all_members-loop-member-preserved
 all_members-loop-member-preserved t c = record {
   means = members_went c.loop-member.member-index c.args.members.now c.member-item.result c.loop-member-test.true
       c.member-item.is
-      (env c.loop-member.env) c.args.unclosed.now (seen.named c.loop-member.named) _ c.loop-member.invariant.means
+      (env c.loop-member.env) c.args.unclosed.now (view.named c.loop-member.named) _ c.loop-member.invariant.means
       c.deref.result.now
       c.deref.ensures.value c.in_ok-c.c (env c.specs_inside.new.env) c.in_ok-c.ensures.means
       c.deref-in-loop-member.result.now
-      c.deref-in-loop-member.ensures.value (seen.named c.members_declared.new.named) (env c.members_declared.new.env)
+      c.deref-in-loop-member.ensures.value (view.named c.members_declared.new.named) (env c.members_declared.new.env)
       c.in_ok-members_declared.ensures.means;
   after = follows_on c.args.unclosed.now (env c.args.env.now) (env c.specs_inside.new.env) (env
       c.members_declared.new.env)
@@ -149,7 +150,7 @@ all_members-loop-member-preserved t c = record {
 pub all_members-returns-clause-means : goal.all_members-returns-clause-means
 all_members-returns-clause-means t c =
     no_more_members c.loop-member.member-index c.args.members.now (env c.loop-member.env) c.args.unclosed.now
-    (seen.named c.loop-member.named) _
+    (view.named c.loop-member.named) _
     c.loop-member-test.false c.loop-member.invariant.means
 
 -- ---- bodies
@@ -172,9 +173,11 @@ body_inside-closed-requires t c =
 pub body_inside-returns-in_err-named-clause-means : goal.body_inside-returns-in_err-named-clause-means
 body_inside-returns-in_err-named-clause-means t c =
     let p = err_from_is_err_and c.from_residual-in_err-named.result c.from_residual-in_err-named.ensures.1 in
-    rw (p.1, p.2) (members_stopped c.args.line c.args.word (option_map text_of c.args.tag.now) c.args.members.now
+    rw (p.1, p.2) (members_stopped c.args.line (word_number c.args.word)
+    (option_map text_of c.args.tag.now) c.args.members.now
     c.args.unclosed.now
-    c.deref.result.now (env c.args.env.now) (env c.opened.new.env) c.in_ok-number.number c.in_ok-number.ensures.means
+    c.deref.result.now (env c.args.env.now) (env c.opened.new.env) c.in_ok-number.number
+    (rw c.is_union.ensures at c.in_ok-number.ensures.means)
     (c.deref.ensures.value ∙ c.in_ok-inner.ensures) _ c.in_err-named.ensures.means)
 
 pub body_inside-returns-in_err-c-clause-means : goal.body_inside-returns-in_err-c-clause-means
@@ -182,25 +185,31 @@ body_inside-returns-in_err-c-clause-means t c =
     let p = err_from_is_err_and c.from_residual-in_err-c.result c.from_residual-in_err-c.ensures.1 in
     let vs : c.deref.result.now ≡ c.in_ok-number.number ∷ c.args.unclosed.now = c.deref.ensures.value
     ∙ c.in_ok-inner.ensures in
-    rw (p.1, p.2) (closed_stopped c.args.line c.args.word (option_map text_of c.args.tag.now) c.args.members.now
+    rw (p.1, p.2) (closed_stopped c.args.line (word_number c.args.word)
+    (option_map text_of c.args.tag.now) c.args.members.now
     c.args.unclosed.now
-    c.deref.result.now (env c.args.env.now) (env c.opened.new.env) c.in_ok-number.number c.in_ok-number.ensures.means vs
-    (seen.named c.in_ok-named.named) (env c.all_members.new.env) c.in_ok-named.ensures.means
+    c.deref.result.now (env c.args.env.now) (env c.opened.new.env) c.in_ok-number.number
+    (rw c.is_union.ensures at c.in_ok-number.ensures.means) vs
+    (view.named c.in_ok-named.named) (env c.all_members.new.env) c.in_ok-named.ensures.means
     (same_word c.args.unclosed.now _ c.in_ok-number.number (env c.args.env.now) (env c.opened.new.env) (env
     c.all_members.new.env)
-    c.in_ok-number.ensures.after c.in_ok-number.ensures.opened c.deref.result.now vs c.in_ok-named.ensures.after)
+    c.in_ok-number.ensures.after c.in_ok-number.ensures.opened c.deref.result.now vs c.in_ok-named.ensures.after
+    ∙ c.is_union.ensures)
     _ c.in_err-c.ensures.means)
 
 pub body_inside-returns-clause-means : goal.body_inside-returns-clause-means
 body_inside-returns-clause-means t c =
     let vs : c.deref.result.now ≡ c.in_ok-number.number ∷ c.args.unclosed.now = c.deref.ensures.value
     ∙ c.in_ok-inner.ensures in
-    then_closed c.args.line c.args.word (option_map text_of c.args.tag.now) c.args.members.now c.args.unclosed.now
-    c.deref.result.now (env c.args.env.now) (env c.opened.new.env) c.in_ok-number.number c.in_ok-number.ensures.means vs
-    (seen.named c.in_ok-named.named) (env c.all_members.new.env) c.in_ok-named.ensures.means
+    then_closed c.args.line (word_number c.args.word)
+    (option_map text_of c.args.tag.now) c.args.members.now c.args.unclosed.now
+    c.deref.result.now (env c.args.env.now) (env c.opened.new.env) c.in_ok-number.number
+    (rw c.is_union.ensures at c.in_ok-number.ensures.means) vs
+    (view.named c.in_ok-named.named) (env c.all_members.new.env) c.in_ok-named.ensures.means
     (same_word c.args.unclosed.now _ c.in_ok-number.number (env c.args.env.now) (env c.opened.new.env) (env
     c.all_members.new.env)
-    c.in_ok-number.ensures.after c.in_ok-number.ensures.opened c.deref.result.now vs c.in_ok-named.ensures.after)
+    c.in_ok-number.ensures.after c.in_ok-number.ensures.opened c.deref.result.now vs c.in_ok-named.ensures.after
+    ∙ c.is_union.ensures)
     ∙ c.in_ok-c.ensures.means
 
 pub body_inside-returns-clause-after : goal.body_inside-returns-clause-after

@@ -1,7 +1,7 @@
 use Rattle.std.proofs.Common.{subst, sym}
 use Rattle.ep_ast.specs.Expression.{expr}
 use Rattle.ep_typing.specs.Env.{Env}
-use Rattle.ep_scopes.specs.Seen.{env}
+use Rattle.ep_scopes.specs.View.{env}
 use Rattle.ep_declared.proofs.Growth.{IsMore, mentioned_more}
 use Rattle.ep_declared.proofs.counts.bound.Goals as goal
 

@@ -1,4 +1,4 @@
-use Rattle.ep_scopes.specs.Seen.{env}
+use Rattle.ep_scopes.specs.View.{env}
 use Rattle.ep_declared.proofs.Growth.{follows_ok}
 use Rattle.ep_declared.proofs.counts.bound_if.Goals as goal
 

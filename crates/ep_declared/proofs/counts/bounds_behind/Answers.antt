@@ -1,6 +1,6 @@
 use Rattle.std.proofs.Common.{refl}
 use Rattle.std.proofs.lemmas.Result.{err_from_is_err_and}
-use Rattle.ep_scopes.specs.Seen.{env}
+use Rattle.ep_scopes.specs.View.{env}
 use Rattle.ep_declared.proofs.CountLemmas.{all_bounds, stopped, went}
 use Rattle.ep_declared.proofs.Growth.{follows_itself, follows_more}
 use Rattle.ep_declared.proofs.counts.bounds_behind.Goals as goal

@@ -2,7 +2,7 @@ use Rattle.std.proofs.Common.{◌≡◌, drop, map}
 use Rattle.std.specs.Option.{option_map}
 use Rattle.ep_ast.specs.Expression.{expr}
 use Rattle.ep_elaboration.specs.Declarators.{bounds}
-use Rattle.ep_scopes.specs.Seen.{env}
+use Rattle.ep_scopes.specs.View.{env}
 use Rattle.ep_declared.specs.Counts.{behind}
 use Rattle.ep_declared.specs.Open.{Follows}
 use Rattle.ep_declared.proofs.counts.bounds_behind.Given as goal

@@ -2,7 +2,7 @@ use Rattle.std.proofs.Common.{◌∙◌, ◌++◌, ◌∷◌, [], List, ℕ, ap,
 use Rattle.std.proofs.lemmas.Result.{err_from_is_err_and}
 use Rattle.std.specs.Option.{option_map}
 use Rattle.ep_ast.specs.Expression.{expr}
-use Rattle.ep_scopes.specs.Seen.{env}
+use Rattle.ep_scopes.specs.View.{env}
 use Rattle.ep_declared.proofs.CountLemmas.{listed_gives, listed_stops, some_listed}
 use Rattle.ep_declared.proofs.counts.listed_bounds.Goals as goal
 

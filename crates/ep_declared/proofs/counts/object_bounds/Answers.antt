@@ -1,7 +1,7 @@
 use Rattle.std.proofs.Common.{◌∙◌, map, sym}
 use Rattle.std.specs.Option.{option_map}
 use Rattle.ep_ast.specs.Expression.{expr}
-use Rattle.ep_scopes.specs.Seen.{env}
+use Rattle.ep_scopes.specs.View.{env}
 use Rattle.ep_declared.proofs.CountLemmas.{listed_not_lacking, none_before, unlisted}
 use Rattle.ep_declared.proofs.counts.object_bounds.Goals as goal
 

@@ -1,7 +1,7 @@
 use Rattle.std.proofs.Common.{refl}
 use Rattle.std.proofs.lemmas.Result.{err_from_is_err_and}
-use Rattle.ep_scopes.specs.Seen.{env}
-use Rattle.ep_declared.specs.Seen as seen
+use Rattle.ep_scopes.specs.View.{env}
+use Rattle.ep_declared.specs.View as view
 use Rattle.ep_declared.proofs.Growth.{follows_itself, follows_more, type_known}
 use Rattle.ep_declared.proofs.MemberLemmas.{all_members, member_stops, member_went}
 use Rattle.ep_declared.proofs.members.members_declared.Goals as goal
@@ -26,13 +26,13 @@ returns-in_err-member_declared-clause-means c =
     let p = err_from_is_err_and c.from_residual.result c.from_residual.ensures.1 in
     rw (p.1, p.2) (member_stops c.args.c c.loop-d.d-index c.args.list.now c.d-item.result c.loop-d-test.true
     c.d-item.is (env c.loop-d.env)
-    (seen.named c.loop-d.named) _ c.loop-d.invariant.means _ c.in_err-member_declared.ensures.means)
+    (view.named c.loop-d.named) _ c.loop-d.invariant.means _ c.in_err-member_declared.ensures.means)
 
 pub loop-d-preserved : goal.loop-d-preserved
 loop-d-preserved c = record {
   means = member_went c.args.c c.loop-d.d-index c.args.list.now c.d-item.result c.loop-d-test.true c.d-item.is (env
       c.loop-d.env)
-      (seen.named c.loop-d.named) _ c.loop-d.invariant.means (seen.named c.member_declared.new.named) (env
+      (view.named c.loop-d.named) _ c.loop-d.invariant.means (view.named c.member_declared.new.named) (env
       c.member_declared.new.env)
       c.in_ok-member_declared.ensures.means;
   after = follows_more (env c.args.env.now) (env c.loop-d.env) (env c.member_declared.new.env)
@@ -42,5 +42,5 @@ loop-d-preserved c = record {
 
 pub returns-clause-means : goal.returns-clause-means
 returns-clause-means c =
-    all_members c.args.c c.loop-d.d-index c.args.list.now (env c.loop-d.env) (seen.named c.loop-d.named) _
+    all_members c.args.c c.loop-d.d-index c.args.list.now (env c.loop-d.env) (view.named c.loop-d.named) _
     c.loop-d-test.false c.loop-d.invariant.means

@@ -1,5 +1,5 @@
 use Rattle.std.proofs.Common.{◌∙◌}
-use Rattle.ep_operands.specs.Seen as operands
+use Rattle.ep_operands.specs.View as operands
 use Rattle.ep_declared.proofs.NameLemmas.{seen_some}
 use Rattle.ep_declared.proofs.naming.is_built_in.Goals as goal
 

@@ -1,6 +1,6 @@
 use Rattle.std.proofs.Common.{◌∙◌, sym}
 use Rattle.std.proofs.lemmas.Result.{err_from_is_err_and}
-use Rattle.ep_scopes.specs.Seen.{env}
+use Rattle.ep_scopes.specs.View.{env}
 use Rattle.ep_declared.proofs.Growth.{follows_more, follows_table, table_known}
 use Rattle.ep_declared.proofs.ObjectLemmas.{object_stops, then_object}
 use Rattle.ep_declared.proofs.objects.declared_object.Goals as goal

@@ -1,6 +1,6 @@
 use Rattle.std.proofs.Common.{subst, sym}
 use Rattle.ep_scopes.specs.Known.{IsKnown}
-use Rattle.ep_scopes.specs.Seen.{env}
+use Rattle.ep_scopes.specs.View.{env}
 use Rattle.ep_declared.proofs.Growth.{follows_more, type_known}
 use Rattle.ep_declared.proofs.objects.object_declared.Goals as goal
 

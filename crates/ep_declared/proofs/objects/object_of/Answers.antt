@@ -3,7 +3,7 @@ use Rattle.ep_layout.specs.Table.{Table}
 use Rattle.ep_typing.specs.Env.{Env}
 use Rattle.ep_elaboration.specs.Declarators.{is_taken}
 use Rattle.ep_scopes.specs.Known.{IsKnown, IsKnownEnv}
-use Rattle.ep_scopes.specs.Seen.{env}
+use Rattle.ep_scopes.specs.View.{env}
 use Rattle.ep_declared.proofs.ObjectLemmas.{object_is, same_table}
 use Rattle.ep_declared.proofs.objects.object_of.Goals as goal
 

@@ -1,6 +1,6 @@
-use Rattle.ep_layout.specs.Views.{view_named}
-use Rattle.ep_scopes.specs.Seen.{env}
-use Rattle.ep_declared.specs.Seen as seen
+use Rattle.ep_layout.specs.Views.{named_view}
+use Rattle.ep_scopes.specs.View.{env}
+use Rattle.ep_declared.specs.View as view
 use Rattle.ep_declared.proofs.TagLemmas.{IsClosed, completed_first, is_closed, listed_types}
 use Rattle.ep_declared.proofs.tags.closed.Goals as goal
 
@@ -8,20 +8,20 @@ pub complete-requires : goal.complete-requires
 complete-requires c = record {
   exists = c.requires.exists;
   «open» = c.requires.empty;
-  parts = listed_types c.args.env.now.types c.in_ok-members.members.items (seen.named c.args.named)
+  parts = listed_types c.args.env.now.types c.in_ok-members.members.items (view.named c.args.named)
       c.in_ok-members.ensures c.requires.members;
 }
 
 pub add_type-requires : goal.add_type-requires
 add_type-requires c =
-    completed_first (env c.args.env.now) c.args.aggregate (view_named c.in_ok-members.members.items) c.whole-c.result
+    completed_first (env c.args.env.now) c.args.aggregate (named_view c.in_ok-members.members.items) c.whole-c.result
     c.complete.new.self
     c.requires.exists c.requires.empty c.in-Ok.ensures.grown c.whole-c.ensures
 
 closes : (c : goal.In_ok-add_type-in-Ok) → IsClosed (env c.args.env.now) c.args.aggregate c.whole-c.result
     c.complete.new.self c.add_type.new.types
 closes c =
-    is_closed (env c.args.env.now) c.args.aggregate (view_named c.in_ok-members.members.items) c.whole-c.result
+    is_closed (env c.args.env.now) c.args.aggregate (named_view c.in_ok-members.members.items) c.whole-c.result
     c.complete.new.self c.add_type.new.types
     c.requires.known c.requires.exists c.requires.empty c.in-Ok.ensures.grown c.whole-c.ensures
     c.in_ok-add_type-in-Ok.ensures

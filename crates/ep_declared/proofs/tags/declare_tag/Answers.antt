@@ -1,6 +1,6 @@
 use Rattle.std.proofs.Common.{◌∙◌, ap, List, ℕ}
 use Rattle.ep_typing.specs.Env.{entry}
-use Rattle.ep_scopes.specs.Seen.{scopes}
+use Rattle.ep_scopes.specs.View.{scopes}
 use Rattle.ep_declared.proofs.TagLemmas.{here_is}
 use Rattle.ep_declared.proofs.tags.declare_tag.Goals as goal
 

@@ -1,7 +1,7 @@
 use Rattle.std.proofs.Common.{[], List, ℕ, ap, sym, ◌∙◌}
 use Rattle.ep_typing.specs.Env.{Env, entry}
 use Rattle.ep_elaboration.specs.Aggregates.{tags_here}
-use Rattle.ep_scopes.specs.Seen.{env, scopes}
+use Rattle.ep_scopes.specs.View.{env, scopes}
 use Rattle.ep_declared.proofs.TagLemmas.{declared_follows, opened_by, opened_there, tag_follows}
 use Rattle.ep_declared.proofs.tags.opened.Goals as goal
 

@@ -1,6 +1,6 @@
 use Rattle.std.proofs.Common.{◌∙◌, ap, sym}
 use Rattle.ep_typing.specs.Env.{Env}
-use Rattle.ep_scopes.specs.Seen.{env}
+use Rattle.ep_scopes.specs.View.{env}
 use Rattle.ep_declared.proofs.Growth.{follows_more, follows_table, table_known}
 use Rattle.ep_declared.proofs.MemberLemmas.{env_in}
 use Rattle.ep_declared.proofs.ObjectLemmas.{same_table, then_type}

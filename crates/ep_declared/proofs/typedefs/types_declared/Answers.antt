@@ -1,6 +1,6 @@
 use Rattle.std.proofs.Common.{refl}
 use Rattle.std.proofs.lemmas.Result.{err_from_is_err_and}
-use Rattle.ep_scopes.specs.Seen.{env}
+use Rattle.ep_scopes.specs.View.{env}
 use Rattle.ep_declared.proofs.Growth.{follows_itself, follows_more, type_known}
 use Rattle.ep_declared.proofs.MemberLemmas.{all_types, type_stops, type_went}
 use Rattle.ep_declared.proofs.typedefs.types_declared.Goals as goal

@@ -1,6 +1,6 @@
 use Rattle.std.proofs.Common.{map}
 use Rattle.ep_ast.specs.Expression.{type_word}
-use Rattle.ep_scopes.specs.Seen.{env}
+use Rattle.ep_scopes.specs.View.{env}
 use Rattle.ep_declared.proofs.Growth.{follows_more, type_known}
 use Rattle.ep_declared.proofs.ObjectLemmas.{type_follows, word_known, words_follow}
 use Rattle.ep_declared.proofs.words.words_declared.Goals as goal

@@ -1,17 +1,17 @@
 use Rattle.std.proofs.Common.{ap, None, Some}
 use Rattle.std.specs.Option.{option_map}
 use Rattle.ep_ast.specs.Expression as source
-use Rattle.ep_declared.specs.Seen as objects
-use Rattle.ep_scopes.specs.Seen.{env}
-use Rattle.ep_given.specs.Seen as seen
+use Rattle.ep_declared.specs.View as objects
+use Rattle.ep_scopes.specs.View.{env}
+use Rattle.ep_given.specs.View as view
 use Rattle.ep_given.proofs.ListLemmas.{mentions_grow, on_always, single_means, single_stops}
 use Rattle.ep_given.proofs.values.single_given.Goals as goal
 
 pub returns-in-Some-clause-means : goal.returns-in-Some-clause-means
 returns-in-Some-clause-means c =
     single_means (env c.args.env.now) c.args.global c.args.may_call c.args.line (option_map objects.object c.args.x)
-    (seen.given c.args.given.now) (env c.mention.new.env) (Some (objects.object c.in-Some.object)) (source.expr c.args.tree.now)
-    (seen.given c.expression_given.new.given) c.expression_given.result c.in_ok-mention.ensures.means
+    (view.given c.args.given.now) (env c.mention.new.env) (Some (objects.object c.in-Some.object)) (source.expr c.args.tree.now)
+    (view.given c.expression_given.new.given) c.expression_given.result c.in_ok-mention.ensures.means
     (ap (option_map objects.object) c.in-Some.is) c.expression_given.ensures
 
 pub returns-in-Some-clause-grown : goal.returns-in-Some-clause-grown
@@ -22,6 +22,6 @@ returns-in-Some-clause-grown c =
 pub returns-in-None-clause-means : goal.returns-in-None-clause-means
 returns-in-None-clause-means c =
     single_stops (env c.args.env.now) c.args.global c.args.may_call c.args.line (option_map objects.object c.args.x)
-    (seen.given c.args.given.now) (env c.mention.new.env) None (source.expr c.args.tree.now) c.expression_refused.result
+    (view.given c.args.given.now) (env c.mention.new.env) None (source.expr c.args.tree.now) c.expression_refused.result
     c.in_ok-mention.ensures.means (ap (option_map objects.object) c.in-None.is)
     (c.expression_refused.ensures c.args.global c.args.may_call)

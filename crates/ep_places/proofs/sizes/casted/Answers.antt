@@ -3,7 +3,7 @@ use Rattle.ep_core.specs.Program.{Expr}
 use Rattle.ep_typing.specs.Operand.{plain_value}
 use Rattle.ep_typing.specs.Types.{is_scalar}
 use Rattle.ep_operands.specs.Numbers.{IsSound}
-use Rattle.ep_operands.specs.Seen.{value}
+use Rattle.ep_operands.specs.View.{value}
 use Rattle.ep_operands.proofs.Sound.{cast_sound}
 use Rattle.ep_places.proofs.sizes.casted.Goals as goal
 

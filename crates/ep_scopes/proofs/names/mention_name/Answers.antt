@@ -2,7 +2,7 @@ use Rattle.std.proofs.Common.{map, sym, subst}
 use Rattle.ep_ast.specs.Expression.{type_name, type_word}
 use Rattle.ep_typing.specs.Types.{with_c_type}
 use Rattle.ep_scopes.specs.Known.{IsKnownEnv}
-use Rattle.ep_scopes.specs.Seen.{env, scopes}
+use Rattle.ep_scopes.specs.View.{env, scopes}
 use Rattle.ep_scopes.proofs.KnownLemmas.{named_known, on_known, type_greater, words_known}
 use Rattle.ep_scopes.proofs.names.mention_name.Goals as goal
 

@@ -1,4 +1,4 @@
-use Rattle.ep_scopes.specs.Seen.{env}
+use Rattle.ep_scopes.specs.View.{env}
 use Rattle.ep_scopes.proofs.WordLemmas.{all_mentioned, mentions}
 use Rattle.ep_scopes.proofs.names.mention_words.Goals as goal
 

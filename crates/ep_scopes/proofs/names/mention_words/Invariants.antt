@@ -1,7 +1,7 @@
 use Rattle.std.proofs.Common.{◌≡◌, drop, map}
 use Rattle.ep_ast.specs.Expression.{type_word}
 use Rattle.ep_typing.specs.Names.{mentioned_words}
-use Rattle.ep_scopes.specs.Seen.{env}
+use Rattle.ep_scopes.specs.View.{env}
 use Rattle.ep_scopes.proofs.names.mention_words.Given as goal
 
 abbrev pub invariant-loop-word : goal.invariant-loop-word

@@ -1,5 +1,5 @@
 use Rattle.std.proofs.Common.{◌≡◌, ◌++◌, drop, map}
-use Rattle.ep_scopes.specs.Seen.{scope}
+use Rattle.ep_scopes.specs.View.{scope}
 use Rattle.ep_scopes.proofs.scopes.copied_scopes.Given as goal
 
 abbrev pub invariant-loop-scope : goal.invariant-loop-scope

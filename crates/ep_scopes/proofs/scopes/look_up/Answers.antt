@@ -1,5 +1,5 @@
 use Rattle.std.specs.Option.{option_map}
-use Rattle.ep_scopes.specs.Seen.{meaning}
+use Rattle.ep_scopes.specs.View.{meaning}
 use Rattle.ep_scopes.proofs.ScopeLemmas.{ends}
 use Rattle.ep_scopes.proofs.scopes.look_up.Goals as goal
 

@@ -1,6 +1,6 @@
 use Rattle.std.proofs.Common.{◌≡◌, drop, None}
 use Rattle.std.specs.Option.{option_map}
-use Rattle.ep_scopes.specs.Seen.{meaning}
+use Rattle.ep_scopes.specs.View.{meaning}
 use Rattle.ep_scopes.proofs.ScopeLemmas.{through}
 use Rattle.ep_scopes.proofs.scopes.look_up.Given as goal
 

@@ -1,59 +1,46 @@
-use Rattle.std.proofs.Common.{◌≡◌, ℕ, ◌≤◌, ◌<◌, ◌∙◌, [], length, map, slice_get, List, Option, Some, Ok, Result, ap}
-use Rattle.std.proofs.Common.{sym, arith}
+use Rattle.std.proofs.Common.{◌≡◌, ℕ, ◌+◌, ◌∙◌, [], length, map, List, Option, Ok, Result, ap, sym}
 use Rattle.std.proofs.lemmas.List.{append-nil, nil_from_length}
 use Rattle.std.specs.Option.{option_map}
 use Rattle.std.specs.Vec.Iter.{into_iter_items}
 use Rattle.ep_ast.specs.Kind.{number_of}
 use Rattle.ep_ast.specs.declared.kinds.RefusalKind.{RefusalKind}
-use Rattle.std.proofs.lemmas.Bool.Decides.{nat_tests}
-use Rattle.std.proofs.lemmas.Option.{slice_get-get_or}
+use Rattle.std.proofs.Math.Nat.{min-le_right}
 use Rattle.ep_ast.specs.declared.refusals.Halt.TheVariants as halts
 use Rattle.ep_core.specs.Program.{Expr}
-use Rattle.ep_core.specs.View.{shown_expr}
+use Rattle.ep_core.specs.View.{expr_view}
 use Rattle.ep_typing.specs.Calls as rule
 use Rattle.ep_typing.specs.Results.{at}
 use Rattle.ep_stores.specs.declared.calls.Parameter.TheVariants.{AnyPointer}
 use Rattle.ep_stores.specs.Passing.{after, lower}
-use Rattle.ep_stores.specs.Seen as seen
-use Rattle.ep_stores.proofs.PassingLemmas.{enough, passed_on, stops_at, too_few, too_many}
+use Rattle.ep_stores.specs.View as view
+use Rattle.ep_stores.proofs.PassingLemmas.{enough, passed_on, stops_at, too_few}
 use Rattle.ep_stores.proofs.calls.all_passed.Goals as goal
-
-pub returns-in-None-get : goal.returns-in-None-get
-returns-in-None-get c =
-    let all = rule.all_passed (map seen.parameter c.args.parameters.now) (map seen.value c.args.values.items) in
-    let h : length c.args.parameters.now ≤ c.loop-value.place = grind (arith, nat_tests, c.in-None-get.ensures.lookup) in
-    stops_at all c.args.line (lower (option_map number_of c.loop-value.kind) 39) c.refused.result
-    (too_many (option_map number_of c.loop-value.kind) (map shown_expr c.loop-value.arguments.items) c.loop-value.place c.args.parameters.now c.in-Some.value
-    (into_iter_items c.loop-value.value-iterator) (into_iter_items c.next.new.self) all c.in-Some.ensures.steps.0 c.loop-value.invariant.means h)
-    (c.refused.ensures ∙ ap (λ (k : ℕ). halts.Refused (record { kind = k; line = c.args.line; word = 0 })) c.lower.ensures)
 
 pub loop-value-preserved : goal.loop-value-preserved
 loop-value-preserved c =
-    let all = rule.all_passed (map seen.parameter c.args.parameters.now) (map seen.value c.args.values.items) in
-    let below : c.loop-value.place < length c.args.parameters.now = grind (arith, nat_tests, c.in-Some-get.ensures.lookup.0) in
-    let row : slice_get c.args.parameters.now c.loop-value.place ≡ Some c.in-Some-get.parameter.now =
-    slice_get-get_or c.args.parameters.now c.loop-value.place _ below ∙ ap Some (sym c.in-Some-get.ensures.lookup.1) in
+    let all = rule.all_passed (map view.parameter c.args.parameters.now) (map view.value c.args.values.items) in
+    let next = passed_on (option_map number_of c.loop-value.kind) (map expr_view c.loop-value.arguments.items) c.loop-value.place c.args.parameters.now c.in-Some.value
+    (into_iter_items c.loop-value.value-iterator) (into_iter_items c.next.new.self) all c.in-Some.ensures.steps.0 c.loop-value.invariant.means
+    (option_map number_of c.in_ok-kind.kind) (map expr_view c.pass.new.arguments.items) c.parameter_at-parameter.result (sym c.parameter_at-parameter.ensures) c.in_ok-kind.ensures in
     record {
-      within = omega (arith, below);
-      means = passed_on (option_map number_of c.loop-value.kind) (map shown_expr c.loop-value.arguments.items) c.loop-value.place c.args.parameters.now c.in-Some.value
-          (into_iter_items c.loop-value.value-iterator) (into_iter_items c.next.new.self) all c.in-Some.ensures.steps.0 c.loop-value.invariant.means
-          (option_map number_of c.in_ok-kind-in-Some-get.kind) (map shown_expr c.pass.new.arguments.items) c.in-Some-get.parameter.now row c.in_ok-kind-in-Some-get.ensures;
+      within = rw c.place_after-place.ensures (min-le_right (c.loop-value.place + 1) (length c.args.parameters.now));
+      means = rw c.place_after-place.ensures next;
     }
 
 pub returns-then-place-parameters : goal.returns-then-place-parameters
 returns-then-place-parameters c =
-    let all = rule.all_passed (map seen.parameter c.args.parameters.now) (map seen.value c.args.values.items) in
+    let all = rule.all_passed (map view.parameter c.args.parameters.now) (map view.value c.args.values.items) in
     let none : into_iter_items c.loop-value.value-iterator ≡ [] = nil_from_length (into_iter_items c.loop-value.value-iterator) (sym c.loop-value.value-iterator.rest.ok.0 ∙ c.in-None.ensures.steps.0) in
-    stops_at all c.args.line (lower (option_map number_of c.loop-value.kind) 39) c.refused-then-place-parameters.result
-    (too_few (option_map number_of c.loop-value.kind) (map shown_expr c.loop-value.arguments.items) c.loop-value.place c.args.parameters.now
+    stops_at all c.args.line (lower (option_map number_of c.loop-value.kind) 39) c.refused.result
+    (too_few (option_map number_of c.loop-value.kind) (map expr_view c.loop-value.arguments.items) c.loop-value.place c.args.parameters.now
     (into_iter_items c.loop-value.value-iterator) all none c.loop-value.invariant.means AnyPointer c.if-place-parameters.true)
-    (c.refused-then-place-parameters.ensures
-    ∙ ap (λ (k : ℕ). halts.Refused (record { kind = k; line = c.args.line; word = 0 })) c.lower-then-place-parameters.ensures)
+    (c.refused.ensures
+    ∙ ap (λ (k : ℕ). halts.Refused (record { kind = k; line = c.args.line; word = 0 })) c.lower.ensures)
 
 pub returns-in-Some-kind : goal.returns-in-Some-kind
 returns-in-Some-kind c =
-    let all = rule.all_passed (map seen.parameter c.args.parameters.now) (map seen.value c.args.values.items) in
-    let done = map shown_expr c.loop-value.arguments.items in
+    let all = rule.all_passed (map view.parameter c.args.parameters.now) (map view.value c.args.values.items) in
+    let done = map expr_view c.loop-value.arguments.items in
     let none : into_iter_items c.loop-value.value-iterator ≡ [] = nil_from_length (into_iter_items c.loop-value.value-iterator) (sym c.loop-value.value-iterator.rest.ok.0 ∙ c.in-None.ensures.steps.0) in
     stops_at all c.args.line (number_of c.in-Some-kind.k) c.refused-in-Some-kind.result
     (sym (enough (option_map number_of c.loop-value.kind) done c.loop-value.place c.args.parameters.now (into_iter_items c.loop-value.value-iterator) all none
@@ -62,8 +49,8 @@ returns-in-Some-kind c =
 
 pub returns-in-None-kind : goal.returns-in-None-kind
 returns-in-None-kind c =
-    let all = rule.all_passed (map seen.parameter c.args.parameters.now) (map seen.value c.args.values.items) in
-    let done = map shown_expr c.loop-value.arguments.items in
+    let all = rule.all_passed (map view.parameter c.args.parameters.now) (map view.value c.args.values.items) in
+    let done = map expr_view c.loop-value.arguments.items in
     let none : into_iter_items c.loop-value.value-iterator ≡ [] = nil_from_length (into_iter_items c.loop-value.value-iterator) (sym c.loop-value.value-iterator.rest.ok.0 ∙ c.in-None.ensures.steps.0) in
     ap (λ (r : Result (List Expr) ℕ). at c.args.line r)
     (sym (enough (option_map number_of c.loop-value.kind) done c.loop-value.place c.args.parameters.now (into_iter_items c.loop-value.value-iterator) all none

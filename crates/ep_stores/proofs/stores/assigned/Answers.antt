@@ -1,6 +1,6 @@
 use Rattle.std.proofs.Common.{◌∙◌, ap, Ok}
 use Rattle.ep_operands.specs.declared.operand.Operand.{Operand}
-use Rattle.ep_operands.specs.Seen.{callee, operand, value}
+use Rattle.ep_operands.specs.View.{callee, operand, value}
 use Rattle.ep_stores.proofs.StoreLemmas.{no_function, value_stops}
 use Rattle.ep_stores.proofs.stores.assigned.Goals as goal
 

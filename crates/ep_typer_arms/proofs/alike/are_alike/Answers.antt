@@ -2,9 +2,9 @@ use Rattle.std.proofs.Common.{◌∙◌, sym, subst}
 use Rattle.std.proofs.lemmas.Result.{IfOk-weaker}
 use Rattle.ep_ast.specs.Declaration.{head_of}
 use Rattle.ep_scopes.specs.Known.{IsKnownEnv}
-use Rattle.ep_scopes.specs.Seen.{env}
-use Rattle.ep_typer_bodies.proofs.Outside.{all_done}
-use Rattle.ep_typer_functions.specs.Seen.{headed}
+use Rattle.ep_scopes.specs.View.{env}
+use Rattle.ep_typer_functions.proofs.Outside.{all_done}
+use Rattle.ep_typer_functions.specs.View.{headed}
 use Rattle.ep_typer_arms.proofs.Alone.{compared, first_refused, in_copy}
 use Rattle.ep_typer_arms.proofs.Grown.{alone_known}
 use Rattle.ep_typer_arms.proofs.alike.are_alike.Goals as goal

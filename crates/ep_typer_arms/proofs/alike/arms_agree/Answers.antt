@@ -1,5 +1,5 @@
 use Rattle.std.proofs.Common.{◌∙◌, get_or, refl, sym, arith}
-use Rattle.ep_scopes.specs.Seen.{env}
+use Rattle.ep_scopes.specs.View.{env}
 use Rattle.ep_typer_arms.proofs.PairedHeads.{agree, all_agree, more_agree, more_first, more_second, none_agree}
 use Rattle.ep_typer_arms.proofs.Pairs.{alike, all_alike, of_other_length, unlike}
 use Rattle.ep_typer_arms.proofs.alike.arms_agree.Goals as goal

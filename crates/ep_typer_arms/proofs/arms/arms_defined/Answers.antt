@@ -2,11 +2,11 @@ use Rattle.std.proofs.Common.{◌≡◌, ◌∙◌, List, map, sym, subst, Ok}
 use Rattle.std.proofs.lemmas.Result.{err_from_is_err_and}
 use Rattle.ep_ast.specs.Statement.{function_of}
 use Rattle.ep_defined.specs.declared.sofar.Defined.{Defined}
-use Rattle.ep_defined.specs.Seen.{defined}
+use Rattle.ep_defined.specs.View.{defined}
 use Rattle.ep_elaboration.specs.Functions.{others_typed}
-use Rattle.ep_operands.specs.Gives.{Stops}
-use Rattle.ep_scopes.specs.Seen.{env}
-use Rattle.ep_typer_bodies.specs.Seen.{body}
+use Rattle.ep_operands.specs.Refinement.{Stops}
+use Rattle.ep_scopes.specs.View.{env}
+use Rattle.ep_typer_functions.specs.BodyView.{body}
 use Rattle.ep_typer_arms.proofs.WholeArms.{arms_are, arms_differ, first_stops, second_stops}
 use Rattle.ep_typer_arms.proofs.arms.arms_defined.Goals as goal
 

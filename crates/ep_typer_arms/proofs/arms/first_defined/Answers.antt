@@ -1,10 +1,10 @@
 use Rattle.std.proofs.Common.{List, map, sym, subst}
 use Rattle.ep_ast.specs.Statement.{function_of}
-use Rattle.ep_defined.specs.Seen.{defined}
+use Rattle.ep_defined.specs.View.{defined}
 use Rattle.ep_typing.specs.Env as rule
 use Rattle.ep_scopes.specs.Known.{AreKnownScopes}
-use Rattle.ep_scopes.specs.Seen.{env}
-use Rattle.ep_typer_bodies.proofs.Outside.{all_done}
+use Rattle.ep_scopes.specs.View.{env}
+use Rattle.ep_typer_functions.proofs.Outside.{all_done}
 use Rattle.ep_typer_arms.proofs.Grown.{arm_known}
 use Rattle.ep_typer_arms.proofs.arms.first_defined.Goals as goal
 

@@ -1,6 +1,6 @@
 use Rattle.std.proofs.Common.{arith}
 use Rattle.std.proofs.lemmas.Result.{err_from_is_err_and}
-use Rattle.ep_scopes.specs.Seen.{env}
+use Rattle.ep_scopes.specs.View.{env}
 use Rattle.ep_typer_arms.proofs.Gathering.{firsts, firsts_begin, firsts_end, firsts_go, firsts_stop}
 use Rattle.ep_typer_arms.proofs.arms.functions_defined.Goals as goal
 

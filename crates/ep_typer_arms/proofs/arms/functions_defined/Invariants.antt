@@ -1,7 +1,7 @@
 use Rattle.std.proofs.Common.{ℕ, List, drop}
 use Rattle.ep_scopes.specs.Known.{IsKnownEnv}
-use Rattle.ep_scopes.specs.Seen.{env}
-use Rattle.ep_typer_functions.specs.Seen.{AreDone}
+use Rattle.ep_scopes.specs.View.{env}
+use Rattle.ep_typer_functions.specs.View.{AreDone}
 use Rattle.ep_typer_arms.proofs.Gathering.{FirstsLeft, firsts}
 use Rattle.ep_typer_arms.proofs.arms.functions_defined.Given as goal
 

@@ -1,7 +1,7 @@
 use Rattle.std.proofs.Common.{drop, refl, arith}
 use Rattle.std.proofs.lemmas.Result.{err_from_is_err_and}
-use Rattle.ep_scopes.specs.Seen.{env}
-use Rattle.ep_typer_bodies.specs.Seen.{typed}
+use Rattle.ep_scopes.specs.View.{env}
+use Rattle.ep_typer_functions.specs.BodyView.{typed}
 use Rattle.ep_typer_arms.proofs.Gathering.{others, others_begin, others_end, others_go, others_stop}
 use Rattle.ep_typer_arms.proofs.arms.others_typed.Goals as goal
 

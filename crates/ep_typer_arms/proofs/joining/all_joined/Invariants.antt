@@ -1,9 +1,9 @@
 use Rattle.std.proofs.Common.{◌≡◌, ◌++◌, drop, map}
 use Rattle.std.specs.Vec.Iter.{into_iter_items}
 use Rattle.ep_ast.specs.Statement.{function_of}
-use Rattle.ep_defined.specs.Seen.{defined}
+use Rattle.ep_defined.specs.View.{defined}
 use Rattle.ep_elaboration.specs.Functions.{all_joined}
-use Rattle.ep_typer_bodies.specs.Seen.{body}
+use Rattle.ep_typer_functions.specs.BodyView.{body}
 use Rattle.ep_typer_arms.proofs.joining.all_joined.Given as goal
 
 abbrev pub invariant-loop-tree : goal.invariant-loop-tree

@@ -1,6 +1,6 @@
 use Rattle.std.proofs.Common.{drop, take}
-use Rattle.ep_call_graph.specs.Seen.{AreBelow}
-use Rattle.ep_call_order.specs.Visit.{AreFlags}
+use Rattle.ep_call_graph.specs.View.{AreBelow}
+use Rattle.ep_call_graph.specs.Visit.{AreFlags}
 use Rattle.ep_typer_checks.proofs.bodies.flags_of.Given as goal
 
 abbrev pub invariant-loop-number : goal.invariant-loop-number

@@ -1,5 +1,5 @@
 use Rattle.std.proofs.Common.{◌≡◌, ◌++◌, drop, map}
-use Rattle.ep_defined.specs.Seen.{defined}
+use Rattle.ep_defined.specs.View.{defined}
 use Rattle.ep_elaboration.specs.Functions.{numbers_of}
 use Rattle.ep_typer_checks.proofs.bodies.numbers_of.Given as goal
 

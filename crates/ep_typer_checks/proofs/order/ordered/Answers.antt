@@ -1,7 +1,7 @@
 use Rattle.std.proofs.Common.{◌∙◌, get_or, map}
-use Rattle.ep_core.specs.View.{shown_function}
-use Rattle.ep_defined.specs.Seen.{defined}
-use Rattle.ep_call_order.proofs.DepthLemmas.{below_on}
+use Rattle.ep_core.specs.View.{function_view}
+use Rattle.ep_defined.specs.View.{defined}
+use Rattle.ep_call_graph.proofs.DepthLemmas.{below_on}
 use Rattle.ep_typer_checks.specs.Placed.{slot}
 use Rattle.ep_typer_checks.proofs.Ordering.{once_at}
 use Rattle.ep_typer_checks.proofs.Placing.{added_on, not_among}
@@ -21,6 +21,6 @@ loop-f-preserved c =
           let p = not_among fs c.in_ok-places.places.items c.deref.result.now c.deref.ensures.value c.in_ok-places.ensures ds i 0 c.loop-f-test.true g h in
           c.in_ok-add.ensures.others g p.1 ∙ c.loop-f.invariant.left g p.0;
       done = added_on fs c.in_ok-places.places.items c.deref.result.now c.deref.ensures.value c.in_ok-places.ensures ds i 0 c.loop-f-test.true
-          (map shown_function c.loop-f.functions.items) (map shown_function c.add.new.all.items) _ (slot c.loop-f.slots.items (get_or fs i 0))
+          (map function_view c.loop-f.functions.items) (map function_view c.add.new.all.items) _ (slot c.loop-f.slots.items (get_or fs i 0))
           (c.loop-f.invariant.left (get_or fs i 0) here.0) c.in_ok-add.ensures.added c.loop-f.invariant.done;
     }

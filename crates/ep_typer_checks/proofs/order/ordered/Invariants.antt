@@ -1,8 +1,8 @@
 use Rattle.std.proofs.Common.{◌≡◌, ◌++◌, ℕ, false, take, drop, map, vec_len}
 use Rattle.ep_int.specs.Memory.{contains}
-use Rattle.ep_core.specs.View.{shown_function}
-use Rattle.ep_call_graph.specs.Seen.{AreBelow}
-use Rattle.ep_defined.specs.Seen.{defined}
+use Rattle.ep_core.specs.View.{function_view}
+use Rattle.ep_call_graph.specs.View.{AreBelow}
+use Rattle.ep_defined.specs.View.{defined}
 use Rattle.ep_elaboration.specs.Programs.{all_in_order, numbered}
 use Rattle.ep_typer_checks.specs.Placed.{AreOnce, function_in, slot}
 use Rattle.ep_typer_checks.proofs.order.ordered.Given as goal
@@ -14,7 +14,7 @@ invariant-loop-f l = record {
   below : AreBelow l.count (drop l.f-index l.order);
   left : (g : ℕ) → contains g (take l.f-index l.order) ≡ false
       → slot l.slots.items g ≡ function_in (numbered (map defined l.fn.defined.items) g);
-  done : map shown_function l.functions.items
+  done : map function_view l.functions.items
       ++ all_in_order l.order (map defined l.fn.defined.items) (drop l.f-index l.order)
       ≡ all_in_order l.order (map defined l.fn.defined.items) l.order;
 }

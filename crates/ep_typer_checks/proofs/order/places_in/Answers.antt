@@ -13,7 +13,7 @@ pub places-preserved : goal.places-preserved
 places-preserved c =
     let within : c.places.left - 1 < length c.args.order.now = omega (arith, c.places.invariant.within) in
     let next : c.places.left ≡ suc (c.places.left - 1) = omega arith in
-    let is : c.in-Ok.place ≡ c.places.left - 1 = omega (arith, c.in-Ok.ensures) in
+    let is : c.in-Ok.place ≡ c.places.left - 1 = omega (arith, c.in-Ok.ensures.number) in
     let below : get_or c.args.order.now (c.places.left - 1) 0 < c.args.count = below_at c.args.count c.args.order.now (c.places.left - 1) 0 within c.requires in
     let inside : get_or c.args.order.now (c.places.left - 1) 0 < length c.places.all.items =
     omega (arith, c.places.invariant.count, len_is c.places.all) in

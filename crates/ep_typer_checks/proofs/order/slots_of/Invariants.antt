@@ -1,7 +1,7 @@
 use Rattle.std.proofs.Common.{◌≡◌, ℕ, map, vec_len}
 use Rattle.std.specs.Vec.Iter.{into_iter_items}
-use Rattle.ep_call_graph.specs.Seen.{AreBelow}
-use Rattle.ep_defined.specs.Seen.{defined}
+use Rattle.ep_call_graph.specs.View.{AreBelow}
+use Rattle.ep_defined.specs.View.{defined}
 use Rattle.ep_elaboration.specs.Functions.{numbers_of}
 use Rattle.ep_elaboration.specs.Programs.{numbered}
 use Rattle.ep_typer_checks.specs.Placed.{function_in, slot}

@@ -1,7 +1,7 @@
 use Rattle.std.proofs.Common.{◌≡◌, [], refl, sym, ◌∙◌}
 use Rattle.std.specs.Vec.Iter.{into_iter_items}
 use Rattle.std.proofs.lemmas.List.{nil_from_length}
-use Rattle.ep_core.specs.View.{shown_stmts}
+use Rattle.ep_core.specs.View.{stmts_view}
 use Rattle.ep_elaboration.specs.Programs.{renumbered}
 use Rattle.ep_typer_checks.specs.Placed.{place}
 use Rattle.ep_typer_checks.proofs.Rewriting.{all_done, by_order_done, if_done, loop_done, one_more, scope_done}
@@ -33,11 +33,11 @@ renumbered-loop-statement-preserved t c =
     one_more (place c.args.places.now) c.loop-statement.all.items c.push.new.self.items
     (into_iter_items c.loop-statement.statement-iterator) (into_iter_items c.next.new.self) c.in-Some.statement
     (record { line = c.in-Some.statement.line; what = c.in_ok-what.what })
-    (renumbered (place c.args.places.now) (shown_stmts c.args.list.items)) c.in-Some.ensures.steps.0 c.in_ok-push.ensures.items
+    (renumbered (place c.args.places.now) (stmts_view c.args.list.items)) c.in-Some.ensures.steps.0 c.in_ok-push.ensures.items
     refl c.in_ok-what.ensures c.loop-statement.invariant
 
 pub renumbered-returns : goal.renumbered-returns
 renumbered-returns t c =
     let none : into_iter_items c.loop-statement.statement-iterator ≡ [] = nil_from_length (into_iter_items c.loop-statement.statement-iterator) (sym c.loop-statement.statement-iterator.rest.ok.0 ∙ c.in-None.ensures.steps.0) in
     all_done (place c.args.places.now) c.loop-statement.all.items (into_iter_items c.loop-statement.statement-iterator)
-    (renumbered (place c.args.places.now) (shown_stmts c.args.list.items)) none c.loop-statement.invariant
+    (renumbered (place c.args.places.now) (stmts_view c.args.list.items)) none c.loop-statement.invariant

@@ -1,4 +1,4 @@
-use Rattle.ep_scopes.specs.Seen.{env}
+use Rattle.ep_scopes.specs.View.{env}
 use Rattle.ep_typer_exprs.proofs.MentionLemmas.{call_mentioned, none_left, one_more}
 use Rattle.ep_typer_exprs.proofs.mentions.+mentions.Goals as goal
 

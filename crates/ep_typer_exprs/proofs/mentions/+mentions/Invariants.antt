@@ -2,7 +2,7 @@ use Rattle.std.proofs.Common.{◌≡◌, drop, map}
 use Rattle.ep_ast.specs.Expression as source
 use Rattle.ep_typing.specs.Names.{mentioned_all}
 use Rattle.ep_scopes.specs.Known.{IsKnownEnv}
-use Rattle.ep_scopes.specs.Seen.{env}
+use Rattle.ep_scopes.specs.View.{env}
 use Rattle.ep_typer_exprs.proofs.mentions.+mentions.Given as goal
 
 abbrev pub invariant-mention_all-loop-tree : goal.invariant-mention_all-loop-tree

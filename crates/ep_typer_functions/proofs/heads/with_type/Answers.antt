@@ -1,4 +1,4 @@
-use Rattle.ep_scopes.specs.Seen.{env}
+use Rattle.ep_scopes.specs.View.{env}
 use Rattle.ep_declared.proofs.Growth.{table_known}
 use Rattle.ep_typer_functions.proofs.heads.with_type.Goals as goal
 

@@ -1,12 +1,12 @@
 use Rattle.std.proofs.Common.{◌≡◌, false, true, sym, ◌∙◌}
-use Rattle.ep_scopes.specs.Seen.{env as around}
-use Rattle.ep_typer_functions.specs.Seen.{signature}
+use Rattle.ep_scopes.specs.View.{env as env_view}
+use Rattle.ep_typer_functions.specs.View.{signature}
 use Rattle.ep_typer_functions.proofs.Taken.{stands}
 use Rattle.ep_typer_functions.proofs.names.function_declared.Goals as goal
 
 pub returns-then-is_taken-clause-means : goal.returns-then-is_taken-clause-means
 returns-then-is_taken-clause-means c = λ ds h. (
     let r : false ≡ true = sym c.if-stands_against.false ∙ c.stands_against.ensures ds h
-    ∙ stands (around c.args.env.now) ds c.args.with_body (signature c.args.name.now c.args.ty.now)
+    ∙ stands (env_view c.args.env.now) ds c.args.with_body (signature c.args.name.now c.args.ty.now)
     (sym c.in-None.ensures) (sym c.is_taken.ensures ∙ c.if-is_taken.true) in
     absurd cc)

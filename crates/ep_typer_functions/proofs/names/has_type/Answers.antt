@@ -1,5 +1,5 @@
 use Rattle.std.specs.Prelude.{slice_get}
-use Rattle.ep_scopes.specs.Seen.{env}
+use Rattle.ep_scopes.specs.View.{env}
 use Rattle.ep_typer_functions.proofs.SignatureLemmas.{like_type}
 use Rattle.ep_typer_functions.proofs.names.has_type.Goals as goal
 

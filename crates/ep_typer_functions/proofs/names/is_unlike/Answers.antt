@@ -1,5 +1,5 @@
 use Rattle.std.proofs.Common.{refl}
-use Rattle.ep_scopes.specs.Seen.{env}
+use Rattle.ep_scopes.specs.View.{env}
 use Rattle.ep_typer_functions.proofs.SignatureLemmas.{unlike_type}
 use Rattle.ep_typer_functions.proofs.names.is_unlike.Goals as goal
 

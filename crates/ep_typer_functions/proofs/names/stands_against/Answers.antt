@@ -1,7 +1,7 @@
 use Rattle.std.proofs.Common.{◌∙◌, Some, ap, sym}
 use Rattle.ep_scopes.specs.declared.scopes.Meaning.{Meaning}
-use Rattle.ep_scopes.specs.Seen.{env, meaning}
-use Rattle.ep_typer_functions.specs.Seen.{signature}
+use Rattle.ep_scopes.specs.View.{env, meaning}
+use Rattle.ep_typer_functions.specs.View.{signature}
 use Rattle.ep_typer_functions.proofs.SignatureLemmas.{against_function}
 use Rattle.ep_typer_functions.proofs.names.stands_against.Goals as goal
 

@@ -1,6 +1,6 @@
 use Rattle.std.proofs.Common.{◌≡◌, drop}
 use Rattle.ep_scopes.specs.Known.{IsKnownEnv}
-use Rattle.ep_scopes.specs.Seen.{env}
+use Rattle.ep_scopes.specs.View.{env}
 use Rattle.ep_typer_functions.proofs.ParamLemmas.{ahead, declared}
 use Rattle.ep_typer_functions.proofs.params.params_declared.Given as goal
 

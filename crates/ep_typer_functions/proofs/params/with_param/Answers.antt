@@ -2,9 +2,9 @@ use Rattle.std.proofs.Common.{sym, ◌∙◌}
 use Rattle.std.proofs.lemmas.Result.{err_from_is_err_and}
 use Rattle.std.specs.Option.{option_map}
 use Rattle.ep_ast.specs.Declaration.{text_of}
-use Rattle.ep_scopes.specs.Seen.{env}
+use Rattle.ep_scopes.specs.View.{env}
 use Rattle.ep_declared.proofs.Growth.{table_known}
-use Rattle.ep_typer_functions.specs.Seen.{counts_of}
+use Rattle.ep_typer_functions.specs.View.{counts_of}
 use Rattle.ep_typer_functions.proofs.NotPassed.{not_passed}
 use Rattle.ep_typer_functions.proofs.params.with_param.Goals as goal
 

@@ -1,7 +1,7 @@
 use Rattle.std.proofs.Common.{◌≡◌, drop}
 use Rattle.ep_scopes.specs.Known.{IsKnownEnv}
-use Rattle.ep_scopes.specs.Seen.{env}
-use Rattle.ep_typer_statements.specs.Seen.{lines}
+use Rattle.ep_scopes.specs.View.{env}
+use Rattle.ep_typer_statements.specs.View.{lines}
 use Rattle.ep_typer_statements.proofs.Lists.{ahead, all_parts, all_statements}
 use Rattle.ep_typer_statements.proofs.walk.+walk.Given as goal
 

@@ -1,11 +1,12 @@
 use Rattle.std.proofs.Common.{◌≡◌, ℕ, ◌<◌, ap, sym, ◌∙◌, subst, arith, length, get_or, set, Some, length-set}
+use Rattle.ep_int.proofs.Basics.{slice_get-here}
 use Rattle.std.specs.Prelude.{slice_get, vec_len}
 use Rattle.std.specs.Global.{Vec}
 use Rattle.std.proofs.lemmas.Option.{slice_get_within}
 use Rattle.ep_call_graph.specs.declared.cycles.Mark.{Mark}
 use Rattle.ep_call_graph.specs.declared.cycles.Mark.TheVariants.{New, Open, Done}
 use Rattle.ep_call_graph.specs.Search.{mark_of, ArePlaced}
-use Rattle.ep_call_graph.proofs.Lists.{len_is, read_at}
+use Rattle.ep_call_graph.proofs.Lists.{len_is}
 use Rattle.ep_call_graph.proofs.Marks.{mark_more, within, all_closed}
 use Rattle.ep_call_graph.proofs.cycles.Search.finish.Goals as goal
 
@@ -13,7 +14,7 @@ place_is : (path now : Vec ℕ) (i n f : ℕ) → now ≡ path → n ≡ vec_len
     → slice_get path.items i ≡ Some f
 place_is path now i n f e q l h =
     let m : length path.items ≡ vec_len path = len_is path in
-    read_at path.items i f (omega arith) (subst (λ (v : Vec ℕ). f ≡ get_or v.items i f) e h)
+    slice_get-here path.items i f (omega arith) (subst (λ (v : Vec ℕ). f ≡ get_or v.items i f) e h)
 
 inside_is : (old now : Vec Mark) (path : Vec ℕ) (i f : ℕ) → ArePlaced old.items path.items → length now.items ≡ length old.items
     → slice_get path.items i ≡ Some f → f < vec_len now

@@ -1,6 +1,6 @@
 use Rattle.std.proofs.Common.{sym}
 use Rattle.ep_call_graph.specs.Search.{tops}
-use Rattle.ep_call_graph.specs.Seen.{listed}
+use Rattle.ep_call_graph.specs.View.{listed}
 use Rattle.ep_call_graph.proofs.Steps.{taken, leads_to, settled_done}
 use Rattle.ep_call_graph.proofs.cycles.Search.follow.Goals as goal
 

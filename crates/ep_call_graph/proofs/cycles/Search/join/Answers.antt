@@ -2,8 +2,8 @@ use Rattle.std.proofs.Common.{◌≡◌, sym, subst, Some, List, ◌∷◌, ℕ}
 use Rattle.std.specs.Prelude.{slice_get}
 use Rattle.std.specs.Global.{Vec}
 use Rattle.ep_call_graph.specs.declared.cycles.Group.{Group}
-use Rattle.ep_call_graph.specs.Search.{StandsBut, IsCalled, tops}
-use Rattle.ep_call_graph.specs.Seen.{listed}
+use Rattle.ep_call_graph.specs.Search.{SearchInvariantBut, IsCalled, tops}
+use Rattle.ep_call_graph.specs.View.{listed}
 use Rattle.ep_call_graph.proofs.Marks.{popped, last_top}
 use Rattle.ep_call_graph.proofs.Steps.{one_group_less, settled_open}
 use Rattle.ep_call_graph.proofs.cycles.Search.join.Goals as goal
@@ -18,7 +18,7 @@ loop-group-preserved c =
     subst (λ (v : Vec ℕ). slice_get v.items c.args.place ≡ Some c.args.callee) (sym c.loop-group.invariant.path) c.requires.at in
     let less = one_group_less next s.marks.items s.path.items c.in-Some.group (tops c.pop.new.self.items) s.pending.items s.done
     c.args.callee c.args.place
-    (subst (λ (gs : List Group). StandsBut (Some c.args.callee) next s.marks.items s.path.items gs s.pending.items s.done) e c.loop-group.invariant.stands)
+    (subst (λ (gs : List Group). SearchInvariantBut (Some c.args.callee) next s.marks.items s.path.items gs s.pending.items s.done) e c.loop-group.invariant.stands)
     at (subst (λ (gs : List Group). IsCalled next s.path.items gs c.args.callee) e c.loop-group.invariant.called)
     c.if-group-place.false in
     record {

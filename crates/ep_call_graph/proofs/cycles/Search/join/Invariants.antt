@@ -1,5 +1,5 @@
 use Rattle.std.proofs.Common.{◌≡◌, Some}
-use Rattle.ep_call_graph.specs.Seen.{listed}
+use Rattle.ep_call_graph.specs.View.{listed}
 use Rattle.ep_call_graph.specs.Search.{IsSearchBut, IsCalled, tops}
 use Rattle.ep_call_graph.proofs.cycles.Search.join.Given as goal
 

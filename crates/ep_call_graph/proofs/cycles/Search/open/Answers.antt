@@ -2,7 +2,7 @@ use Rattle.std.proofs.Common.{◌≡◌, ap, sym, ◌∙◌, ℕ, ◌∷◌, len
 use Rattle.ep_call_graph.specs.declared.cycles.Mark.TheVariants.{Open}
 use Rattle.ep_call_graph.specs.declared.cycles.Group.{Group}
 use Rattle.ep_call_graph.specs.Search.{tops}
-use Rattle.ep_call_graph.specs.Seen.{listed}
+use Rattle.ep_call_graph.specs.View.{listed}
 use Rattle.ep_call_graph.proofs.Lists.{len_is}
 use Rattle.ep_call_graph.proofs.Marks.{pushed}
 use Rattle.ep_call_graph.proofs.Steps.{comes}

@@ -1,6 +1,6 @@
 use Rattle.std.proofs.Common.{◌≡◌}
 use Rattle.ep_call_graph.specs.declared.cycles.Mark.TheVariants.{New}
-use Rattle.ep_call_graph.specs.Seen.{listed}
+use Rattle.ep_call_graph.specs.View.{listed}
 use Rattle.ep_call_graph.specs.Search.{IsSearch, GoesOn, mark_of}
 use Rattle.ep_call_graph.proofs.cycles.Search.search.Given as goal
 

@@ -1,6 +1,6 @@
 use Rattle.std.proofs.Common.{◌≡◌, ◌∙◌, ◌++◌, ◌∷◌, [], ℕ, List, ap, map, None}
 use Rattle.ep_typing.specs.Env as rule
-use Rattle.ep_scopes.specs.Seen.{entry, meaning}
+use Rattle.ep_scopes.specs.View.{entry, meaning}
 use Rattle.ep_scopes.proofs.ScopeLemmas.{name_added}
 use Rattle.ep_scopes.proofs.scopes.Scope.add_name.Goals as goal
 

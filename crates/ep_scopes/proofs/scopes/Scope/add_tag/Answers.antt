@@ -1,6 +1,6 @@
 use Rattle.std.proofs.Common.{◌≡◌, ◌∙◌, ◌++◌, ◌∷◌, [], ℕ, List, ap, map, None}
 use Rattle.ep_typing.specs.Env as rule
-use Rattle.ep_scopes.specs.Seen.{tag}
+use Rattle.ep_scopes.specs.View.{tag}
 use Rattle.ep_scopes.proofs.ScopeLemmas.{tag_added}
 use Rattle.ep_scopes.proofs.scopes.Scope.add_tag.Goals as goal
 

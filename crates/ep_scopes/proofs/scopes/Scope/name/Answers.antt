@@ -1,7 +1,7 @@
 use Rattle.std.proofs.Common.{◌∙◌, ap, Option}
 use Rattle.std.specs.Option.{option_map}
 use Rattle.ep_scopes.specs.declared.scopes.Meaning.{Meaning}
-use Rattle.ep_scopes.specs.Seen.{meaning}
+use Rattle.ep_scopes.specs.View.{meaning}
 use Rattle.ep_scopes.proofs.ScopeLemmas.{name_looks}
 use Rattle.ep_scopes.proofs.scopes.Scope.name.Goals as goal
 

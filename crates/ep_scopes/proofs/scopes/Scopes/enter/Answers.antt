@@ -1,6 +1,6 @@
 use Rattle.std.proofs.Common.{◌∷◌, ap, ◌∙◌}
 use Rattle.ep_typing.specs.Env.{Scope}
-use Rattle.ep_scopes.specs.Seen.{scopes}
+use Rattle.ep_scopes.specs.View.{scopes}
 use Rattle.ep_scopes.proofs.ScopeLemmas.{pushed}
 use Rattle.ep_scopes.proofs.scopes.Scopes.enter.Goals as goal
 

@@ -1,5 +1,5 @@
 use Rattle.std.proofs.Common.{◌≡◌, ℕ, ◌+◌, ◌-◌, length}
-use Rattle.ep_typer_functions.specs.Seen.{has_body}
+use Rattle.ep_typer_functions.specs.View.{has_body}
 use Rattle.ep_typer_functions.proofs.done.Done.add.Given as goal
 
 abbrev pub decreases-loop-self : goal.decreases-loop-self

@@ -1,4 +1,0 @@
-pub mod Paths
-pub mod Turns
-pub mod Behind
-pub mod Labels

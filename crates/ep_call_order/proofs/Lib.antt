@@ -1,3 +1,0 @@
-pub mod Visits
-pub mod DepthLemmas
-pub mod Among

@@ -1,7 +1,0 @@
-pub mod WholeRules
-pub mod DeclaratorRules
-pub mod GivenRules
-pub mod StatementRules
-pub mod FunctionRules
-pub mod ProgramRules
-pub mod Laws

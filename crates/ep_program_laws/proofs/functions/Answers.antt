@@ -1,5 +1,0 @@
-use Rattle.ep_program_laws.proofs.Whole.{all_are_seen}
-use Rattle.ep_program_laws.proofs.functions.Goals as goal
-
-pub returns : goal.returns
-returns c = all_are_seen

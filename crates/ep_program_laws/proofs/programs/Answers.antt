@@ -1,6 +1,0 @@
-use Rattle.ep_elaboration_laws.proofs.ProgramOrder.{means_elaborated}
-use Rattle.ep_program_laws.proofs.Whole.{programs_fit}
-use Rattle.ep_program_laws.proofs.programs.Goals as goal
-
-pub returns : goal.returns
-returns c m is p e = programs_fit m is p (means_elaborated m is p e)

@@ -1,0 +1,12 @@
+use Rattle.std.proofs.Common.{drop, map}
+use Rattle.ep_ast.specs.Statement.{function_of}
+use Rattle.ep_elaboration.specs.Calls.{in_functions}
+use Rattle.ep_scopes.specs.View.{env}
+use Rattle.ep_typer_checks.specs.View.{number, call_site_of}
+use Rattle.ep_typer_checks.proofs.Adding.{Goes}
+use Rattle.ep_typer_checks.proofs.text.in_functions.Given as goal
+
+abbrev pub invariant-loop-function : goal.invariant-loop-function
+invariant-loop-function l =
+    Goes (call_site_of (number (env l.env))) l.fn.all.items l.all.items (in_functions l.round (map function_of (drop l.function-index l.list)))
+    (in_functions l.round (map function_of l.list))

@@ -1,5 +1,0 @@
-use Rattle.ep_typing_laws.proofs.Order.{means, meant, refused, first}
-use Rattle.ep_typing_laws.proofs.expressions.Goals as goal
-
-pub returns : goal.returns
-returns c = record { means = means; meant = meant; refused = refused; first = first }
