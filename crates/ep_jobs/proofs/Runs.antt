@@ -3,7 +3,7 @@ use Rattle.std.proofs.Common.{◌≡◌, ℕ, List, refl, sym, ◌∙◌, ap, su
 use Rattle.ep_int.specs.declared.types.Model.{Model}
 use Rattle.ep_ast.specs.declared.refusals.Refusal.{Refusal}
 use Rattle.ep_core.specs.declared.program.CoreProgram.{CoreProgram}
-use Rattle.ep_core.specs.Shown.{shown}
+use Rattle.ep_core.specs.ProgramView.{program_view}
 use Rattle.ep_core.specs.Program.{Program}
 use Rattle.ep_core.specs.Runs as runs
 use Rattle.ep_core.specs.Runs.{run}
@@ -36,11 +36,11 @@ ran a source p (Err e) m s t = tt
 
 -- a source that is read means its program and no other
 pub only_of : {E : Type 0} (m : Model) (source : List ℕ) (r : Result CoreProgram E) (p : CoreProgram) → r ≡ Ok p
-    → IfOk r (λ q. Means m source (shown q))
-    → IfOk r (λ q. (s : Program) → Means m source s → s ≡ shown q)
-    → IfOk r (λ _. (f : Refusal) → Offends m source f → ⊥) → MeansOnly m source (shown p)
+    → IfOk r (λ q. Means m source (program_view q))
+    → IfOk r (λ q. (s : Program) → Means m source s → s ≡ program_view q)
+    → IfOk r (λ _. (f : Refusal) → Offends m source f → ⊥) → MeansOnly m source (program_view p)
 only_of {E = E} m source r p e a b c = record {
-  means = subst (λ (t : Result CoreProgram E). IfOk t (λ q. Means m source (shown q))) e a;
-  only = subst (λ (t : Result CoreProgram E). IfOk t (λ q. (s : Program) → Means m source s → s ≡ shown q)) e b;
+  means = subst (λ (t : Result CoreProgram E). IfOk t (λ q. Means m source (program_view q))) e a;
+  only = subst (λ (t : Result CoreProgram E). IfOk t (λ q. (s : Program) → Means m source s → s ≡ program_view q)) e b;
   faultless = subst (λ (t : Result CoreProgram E). IfOk t (λ _. (f : Refusal) → Offends m source f → ⊥)) e c;
 }

@@ -5,11 +5,11 @@ ghost use Rattle.ep_ast.specs.Refusal.{refusal_line};
 ghost use Rattle.ep_layout.specs.Text.{layout_text_of};
 ghost use Rattle.ep_core.specs.Runs as runs;
 ghost use Rattle.ep_core.specs.Runs.{run};
-ghost use Rattle.ep_core.specs.Shown.{shown};
+ghost use Rattle.ep_core.specs.ProgramView.{program_view};
 ghost use Rattle.ep_concrete.specs.Results.{ending_of};
 ghost use Rattle.ep_concrete.specs.Text.{run_text_of};
 ghost use Rattle.ep_jobs.specs.Jobs.{IsLayout, IsRun, status_of};
-ghost use Rattle.ep_jobs.specs.Shown.{asked_for};
+ghost use Rattle.ep_jobs.specs.View.{asked_for};
 
 use crate::status::Status;
 use ep_ast::{Halt, Refusal, refusal_text};
@@ -88,9 +88,9 @@ fn run_of(
     inputs: &[u64],
 ) -> Result<Job, Memory>
     ensures status { IfOk result (λ j.
-        j.status ≡ status_of (run (shown program.now) asked.order inputs.now asked.steps).ending) }
+        j.status ≡ status_of (run (program_view program.now) asked.order inputs.now asked.steps).ending) }
     ensures text { IfOk result (λ j.
-        j.text.items ≡ run_text_of (run (shown program.now) asked.order inputs.now asked.steps)) }
+        j.text.items ≡ run_text_of (run (program_view program.now) asked.order inputs.now asked.steps)) }
 {
     let result = run(alloc, asked.order, program, inputs, asked.steps)?;
     let text = run_text(alloc, &result)?;

@@ -1,14 +1,18 @@
 -- A source has no more tokens than bytes: each takes a byte at least.
 use Rattle.std.proofs.Common.{◌≡◌, refl, ◌∙◌, ap, ℕ, suc, zero, ◌+◌, ◌-◌, ◌≤◌, ◌<◌, ◌⊎◌, inl, inr, Bool, true, false}
+use Rattle.ep_lexer.proofs.Classes.{digit_word, letter_word}
+use Rattle.ep_lexer.proofs.Gaps.{past_shorter}
+use Rattle.ep_int.proofs.Basics.{or-true}
+use Rattle.std.proofs.lemmas.Bool.{cond-true}
 use Rattle.std.proofs.Common.{◌||◌, not, if◌then◌else◌, nat_eq, List, [], ◌∷◌, ◌++◌, length, drop, Option, Some}
 use Rattle.std.proofs.Common.{slice_index_or, arith, cond}
 use Rattle.std.proofs.lemmas.Bool.{and_parts}
 use Rattle.std.specs.List.{prefix_len, position_from, starts_with, list_all}
 use Rattle.ep_ast.specs.Token.{Tok, marks}
 use Rattle.ep_ast.specs.Lexeme.{Thing, Gap, here, blank, remark, comment, Begins, at_end, at_newline, a_hash, a_quote}
-use Rattle.ep_ast.specs.Lexeme.{a_name, a_number, a_character, a_mark, Next, is_letter, is_word, is_digit, number_len}
-use Rattle.ep_ast.specs.Lexeme.{mark_at, mark_len, to_line_end, past_comment, line_after}
-use Rattle.ep_ast.specs.Cut.{Place, Stand, none, more, Piece, line_end, word, own_name, defined, literal, sign}
+use Rattle.ep_ast.specs.Lexeme.{a_name, a_number, a_character, a_mark, Next, is_word, number_len}
+use Rattle.ep_ast.specs.Lexeme.{mark_at, mark_len, to_line_end}
+use Rattle.ep_ast.specs.Cut.{Position, Stand, none, more, Piece, line_end, word, own_name, defined, literal, sign}
 use Rattle.ep_ast.specs.Cut.{include, define, condition, otherwise, end_if, Cuts, ends, piece, after, headers}
 use Rattle.ep_ast.specs.Cut.{is_over}
 
@@ -37,38 +41,18 @@ either_of : {A : Type 0} (t : Bool) (x : A) (o : Option A) (r : A) → (if t the
 either_of true x o r e = inl cc
 either_of false x o r e = inr e
 
-past_le : (l : ℕ) (bs : List ℕ) (r : ℕ × List ℕ) → past_comment l bs ≡ Some r → length r.1 ≤ length bs
-past_le l [] r e = absurd cc
-past_le l (b ∷ bs) r e = elim (either_of _ (l, drop 1 bs) (past_comment (line_after l b) bs) r e) [
-  | inl h ↦ let k = drop_le 1 bs in let q : length (drop 1 bs) ≡ length r.1 = ap (λ x. length x.1) h in omega arith
-  | inr h ↦ let k = past_le (line_after l b) bs r h in omega arith
-]
-
 gap_le : {l m : ℕ} {bs cs : List ℕ} → Gap l bs m cs → length cs ≤ length bs
 gap_le here = omega arith
 gap_le (blank t g) = let h = gap_le g in omega arith
 gap_le (remark {bs = bs} t g) = let h = gap_le g in let k = line_end_le bs in omega arith
 gap_le (comment {bs = bs} l r t e g) =
-    let h = gap_le g in let k = past_le _ (drop 1 bs) (l, r) e in let q = drop_le 1 bs in omega arith
+    let h = gap_le g in let k = past_shorter _ (drop 1 bs) (l, r) e in let q = drop_le 1 bs in omega arith
 
 -- ---- what stands next
 
-cond_true : {X : Type 0} (t : Bool) (x y : X) → t ≡ true → cond t x y ≡ x
-cond_true t x y e = rw e refl
-
-word_of_letter : (b : ℕ) → is_letter b ≡ true → is_word b ≡ true
-word_of_letter b e = rw e refl
-
-or_true : (t : Bool) → (t || true) ≡ true
-or_true true = refl
-or_true false = refl
-
-word_of_digit : (b : ℕ) → is_digit b ≡ true → is_word b ≡ true
-word_of_digit b e = rw e (or_true (is_letter b))
-
 some_word : (b : ℕ) (bs : List ℕ) → is_word b ≡ true → 0 < prefix_len is_word (b ∷ bs)
 some_word b bs e =
-    let h : prefix_len is_word (b ∷ bs) ≡ 1 + prefix_len is_word bs = cond_true (is_word b) _ 0 e in omega arith
+    let h : prefix_len is_word (b ∷ bs) ≡ 1 + prefix_len is_word bs = cond-true (is_word b) _ 0 e in omega arith
 
 some_number : (b : ℕ) (bs : List ℕ) → is_word b ≡ true → 0 < number_len 0 (b ∷ bs)
 some_number b bs e = let h : number_len 0 (b ∷ bs) ≡ suc (number_len b bs) = rw e refl in omega arith
@@ -106,8 +90,8 @@ begins_lt at_end e = absurd cc
 begins_lt (at_newline h) e = absurd cc
 begins_lt (a_hash h) e = omega arith
 begins_lt (a_quote h) e = omega arith
-begins_lt (a_name {b = b} {bs = bs} h) e = drop_lt _ b bs (some_word b bs (word_of_letter b h))
-begins_lt (a_number {b = b} {bs = bs} n h l) e = drop_lt _ b bs (some_number b bs (word_of_digit b h))
+begins_lt (a_name {b = b} {bs = bs} h) e = drop_lt _ b bs (some_word b bs (letter_word b h))
+begins_lt (a_number {b = b} {bs = bs} n h l) e = drop_lt _ b bs (some_number b bs (digit_word b h))
 begins_lt (a_character {bs = bs} v k h l) e = let d = drop_le k bs in omega arith
 begins_lt (a_mark {b = b} {bs = bs} n r c m) e = drop_lt (mark_len n) b bs (mark_takes (b ∷ bs) n m)
 
@@ -141,7 +125,7 @@ after_le (t ∷ ts) bs es e = elim (either_of _ (drop (length t) bs) (after ts b
 
 -- ---- pieces
 
-piece_le : {p q : Place} {bs rest : List ℕ} {ts : List Tok} → Piece p bs ts q rest
+piece_le : {p q : Position} {bs rest : List ℕ} {ts : List Tok} → Piece p bs ts q rest
     → length ts + length rest ≤ length bs
 piece_le (line_end m b n) = let h = next_le n in omega arith
 piece_le (word m n t x s) = let h = next_lt x refl in omega arith
@@ -160,7 +144,7 @@ length_both : {A : Type 0} (xs ys : List A) → length (xs ++ ys) ≡ length xs 
 length_both [] ys = omega arith
 length_both (x ∷ xs) ys = let h = length_both xs ys in omega arith
 
-pub few : (p : Place) (bs : List ℕ) (ts : List Tok) → Cuts p bs ts → length ts ≤ length bs
+pub few : (p : Position) (bs : List ℕ) (ts : List Tok) → Cuts p bs ts → length ts ≤ length bs
 few p bs ts (ends m n o) = omega arith
 few p bs all (piece {q = q} {rest = rest} {ts = ts} {us = us} x c e) =
     let h = piece_le x in let k = few q rest us c in

@@ -1,5 +1,5 @@
 -- What offends in one of the three stages offends in the source, and what offends in none doesn't.
-use Rattle.std.proofs.Common.{◌≡◌, ℕ, subst, List}
+use Rattle.std.proofs.Common.{◌≡◌, ℕ, refl, subst, List}
 use Rattle.ep_int.specs.declared.types.Model.{Model}
 use Rattle.ep_ast.specs.declared.refusals.Refusal.{Refusal}
 use Rattle.ep_ast.specs.declared.refusals.Halt.{Halt}
@@ -11,8 +11,10 @@ use Rattle.ep_ast.specs.Cut.{Spells, start}
 use Rattle.ep_ast.specs.Cut as bytes
 use Rattle.ep_ast.specs.Offence as tokens
 use Rattle.ep_ast.specs.ProgramGrammar.{Programs}
-use Rattle.ep_elaboration_laws.specs.ProgramRules.{ProgramOffends}
-use Rattle.ep_source.specs.Source.{Offends, in_bytes, in_tokens, in_program}
+use Rattle.ep_core.specs.Program.{Program}
+use Rattle.ep_elaboration.specs.ProgramRules.{MeansProgram, ProgramOffends}
+use Rattle.ep_source.specs.Source.{MeansNothing, Offends, in_bytes, in_tokens, in_program}
+use Rattle.ep_source.proofs.Questions.{no_bit_field}
 
 pub cut_offends : (m : Model) (bs : List ℕ) (e : Halt) → IfRefused e (bytes.Offends start bs) → IfRefused e (Offends m bs)
 cut_offends m bs halts.Memory h = tt
@@ -38,3 +40,30 @@ faultless m bs ts is b one t other p r (in_tokens us s h) = t r (subst (λ x. to
 faultless m bs ts is b one t other p r (in_program us js s f d h) =
     let e : Programs ts js = subst (λ x. Programs x js) (one us s) d in
     p r (subst (λ x. ProgramOffends m x r) (other js e) h)
+
+-- ---- what is refused means nothing
+
+pub cut_nothing : (m : Model) (bs : List ℕ) (e : Halt) → IfRefused e (λ r. (ts : List Tok) → Spells bs ts → ⊥)
+    → IfRefused e (MeansNothing m bs)
+cut_nothing m bs halts.Memory h = tt
+cut_nothing m bs (halts.Refused r) h = λ k q p. h p.spells.tokens p.spells.cut
+
+no_tree : (ts : List Tok) (r : Refusal) → tokens.Offends ts r → (r.kind ≡ 22 → ⊥) → (is : List Item) → Programs ts is → ⊥
+no_tree ts r (tokens.too_many_brackets b) k is p = k refl
+no_tree ts r (tokens.bit_field n b) k is p = no_bit_field p b
+no_tree ts r (tokens.no_program n b never) k is p = never is p
+no_tree ts r (tokens.too_deep_inside n d e) k is p = k refl
+
+pub tokens_nothing : (m : Model) (bs : List ℕ) (ts : List Tok) (e : Halt) → ((us : List Tok) → Spells bs us → us ≡ ts)
+    → IfRefused e (tokens.Offends ts) → IfRefused e (MeansNothing m bs)
+tokens_nothing m bs ts halts.Memory one h = tt
+tokens_nothing m bs ts (halts.Refused r) one h = λ k q p.
+    no_tree ts r h k p.tree (subst (λ x. Programs x p.tree) (one p.spells.tokens p.spells.cut) p.spells.derived)
+
+pub program_nothing : (m : Model) (bs : List ℕ) (ts : List Tok) (is : List Item) (e : Halt)
+    → ((us : List Tok) → Spells bs us → us ≡ ts) → ((js : List Item) → Programs ts js → js ≡ is)
+    → IfRefused e (λ r. (q : Program) → MeansProgram m is q → ⊥) → IfRefused e (MeansNothing m bs)
+program_nothing m bs ts is halts.Memory one alone h = tt
+program_nothing m bs ts is (halts.Refused r) one alone h = λ k q p.
+    let d : Programs ts p.tree = subst (λ x. Programs x p.tree) (one p.spells.tokens p.spells.cut) p.spells.derived in
+    h q (subst (λ x. MeansProgram m x q) (alone p.tree d) p.means)

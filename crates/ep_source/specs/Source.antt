@@ -1,6 +1,7 @@
 -- What a source means in a data model, from its bytes on, and for what it is refused: C11 5.1.1.2 and 6.9.
-use Rattle.std.specs.Prelude.{ℕ, List}
+use Rattle.std.specs.Prelude.{◌≡◌, ℕ, List}
 use Rattle.ep_int.specs.declared.types.Model.{Model}
+use Rattle.ep_ast.specs.Kind as kinds
 use Rattle.ep_ast.specs.declared.refusals.Refusal.{Refusal}
 use Rattle.ep_ast.specs.Token.{Tok}
 use Rattle.ep_ast.specs.Statement.{Item}
@@ -9,7 +10,7 @@ use Rattle.ep_ast.specs.Cut as bytes
 use Rattle.ep_ast.specs.Offence as tokens
 use Rattle.ep_ast.specs.ProgramGrammar.{Programs}
 use Rattle.ep_core.specs.Program.{Program}
-use Rattle.ep_elaboration_laws.specs.ProgramRules.{MeansProgram, ProgramOffends}
+use Rattle.ep_elaboration.specs.ProgramRules.{MeansProgram, ProgramOffends}
 
 -- The bytes spell a tree: they cut into tokens, and these are a program.
 pub record SpellsTree (source : List ℕ) (tree : List Item) : Type 0 where
@@ -22,6 +23,10 @@ pub record Means (m : Model) (source : List ℕ) (program : Program) : Type 0 wh
   pub tree : List Item
   pub spells : SpellsTree source tree
   pub means : MeansProgram m tree program
+
+-- They mean nothing, unless it is for what is too deep inside that they are refused: that is this project's limit.
+abbrev pub MeansNothing : Model → List ℕ → Refusal → Type 0
+MeansNothing m source r = (r.kind ≡ kinds.nesting → ⊥) → (q : Program) → Means m source q → ⊥
 
 -- The first offence of three stages: how the bytes cut, what the tokens are, and what their tree means. A later stage
 -- is come to where nothing offends in those before.
