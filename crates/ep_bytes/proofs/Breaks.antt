@@ -8,8 +8,8 @@ use Rattle.ep_int.specs.Types.{pointer_bytes}
 use Rattle.ep_int.specs.Memory.{lies_partly}
 use Rattle.ep_bytes.specs.declared.types.Byte.{Byte}
 use Rattle.ep_bytes.specs.declared.types.Byte.TheVariants.{Undefined, Number, Fragment}
-use Rattle.ep_bytes.specs.declared.cells.Place.{Place}
-use Rattle.ep_bytes.specs.Shown.{byte_in}
+use Rattle.ep_bytes.specs.declared.cells.ByteRange.{ByteRange}
+use Rattle.ep_bytes.specs.View.{byte_in}
 use Rattle.ep_bytes.specs.Cells.{cell_at, part_of, unbroken, cut_by, IsWritten, IsBroken}
 
 pointer_small : (d : Model) → pointer_bytes d ≤ 8
@@ -42,7 +42,7 @@ stays : (d : Model) (here n : ℕ) (c : Byte) (p : ℕ) → lies_partly d here n
 stays d here n c p h = rw h refl
 
 -- each byte at offsets from low on is cut
-cut_at : (d : Model) (old new : List Byte) (s : Place) (low n p : ℕ)
+cut_at : (d : Model) (old new : List Byte) (s : ByteRange) (low n p : ℕ)
     → IsWritten old new (s.start + low) n (cut_by d old s low) → low ≤ p → p < low + n
     → cell_at new (s.start + p) ≡ unbroken d s.here s.count (cell_at old (s.start + p)) p
 cut_at d old new s low n p w h l =
@@ -53,7 +53,7 @@ cut_at d old new s low n p w h l =
     subst (λ q. cell_at new q ≡ unbroken d s.here s.count (cell_at old q) (low + k)) i (w.inside k (omega arith)) in
     subst (λ q. cell_at new (s.start + p) ≡ unbroken d s.here s.count (cell_at old (s.start + p)) q) e there
 
-pub broken_beside : (d : Model) (old mid new : List Byte) (s : Place) (size low high : ℕ)
+pub broken_beside : (d : Model) (old mid new : List Byte) (s : ByteRange) (size low high : ℕ)
     → ((i : ℕ) → part_of (cell_at old i) < 8) → s.here + s.count ≤ size
     → low ≡ s.here - 7 → high ≡ min (s.here + s.count + 7) size
     → IsWritten old mid (s.start + low) (s.here - low) (cut_by d old s low)

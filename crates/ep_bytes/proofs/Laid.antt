@@ -4,7 +4,7 @@ use Rattle.std.proofs.lemmas.Bool.{cases_lt}
 use Rattle.std.proofs.lemmas.List.{get_or_append_left, get_or_past}
 use Rattle.std.proofs.Math.Seq.{get_or-append_seam}
 use Rattle.ep_bytes.specs.declared.store.Block.{Block}
-use Rattle.ep_bytes.specs.Held.{AreLaid, block_of, no_block}
+use Rattle.ep_bytes.specs.StoreView.{AreLaid, block_of, no_block}
 
 -- what holds of each block, of a new one and of none, holds of each block then
 each_block : (P : Block → Type 0) (blocks : List Block) (x : Block) (b : ℕ) → P (block_of blocks b) → P x → P no_block

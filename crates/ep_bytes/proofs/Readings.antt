@@ -10,7 +10,7 @@ use Rattle.ep_int.specs.Memory.{number_of, bytes_from}
 use Rattle.ep_int.proofs.Encodings.{decoded_same}
 use Rattle.ep_bytes.specs.declared.types.Byte.{Byte as Cell}
 use Rattle.ep_bytes.specs.declared.types.Byte.TheVariants as cell
-use Rattle.ep_bytes.specs.Shown.{byte_in}
+use Rattle.ep_bytes.specs.View.{byte_in}
 use Rattle.ep_bytes.specs.Cells.{cell_at}
 
 byte_in_map : (cs : List Cell) (p : ℕ) → slice_index_or (map byte_in cs) p undefined ≡ byte_in (cell_at cs p)

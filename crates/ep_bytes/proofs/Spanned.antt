@@ -7,7 +7,7 @@ use Rattle.ep_bytes.specs.declared.types.Byte.TheVariants.{Undefined}
 use Rattle.ep_bytes.specs.declared.spans.Span.{Span}
 use Rattle.ep_bytes.specs.Cells.{cell_at, part_of, points_to, span_of, IsIn, AreSpanned}
 
-same_or_not : (i j : ℕ) → (i ≡ j) ⊎ (i ≢ j)
+pub same_or_not : (i j : ℕ) → (i ≡ j) ⊎ (i ≢ j)
 same_or_not i j =
     ⊎_elim (λ b. inr (omega arith)) (λ b. ⊎_elim (λ d. inr (omega arith)) (λ d. inl (omega arith)) (cases_lt j i))
     (cases_lt i j)

@@ -1,5 +1,7 @@
 -- The memory of a store after a change of its bytes.
 use Rattle.std.proofs.Common.{◌≡◌, ℕ, ◌+◌, ◌-◌, ◌<◌, ◌≤◌, ◌≢◌, ◌⊎◌, ⊎_elim, inl, inr, Bool, true, false, ◌&&◌, ◌||◌}
+use Rattle.ep_bytes.proofs.Spanned.{same_or_not}
+use Rattle.ep_int.proofs.Basics.{or-false}
 use Rattle.std.proofs.Common.{nat_eq, nat_lt, nat_le, if◌then◌else◌, List, [], ◌∷◌, length, slice_set, take, drop}
 use Rattle.std.proofs.Common.{map, refl, sym, ◌∙◌, ap, subst, arith, get_or-set_same, get_or-set_other}
 use Rattle.std.proofs.lemmas.Bool.{cases_lt, le-ltb, lt-ltb, le-leb, lt-leb, eq-eqb, ne_eqb, and_left, and_right}
@@ -10,17 +12,12 @@ use Rattle.ep_int.specs.Memory.{Byte, undefined, number, fragment, lies_partly, 
 use Rattle.ep_int.specs.Memory.{forgotten, bytes_from}
 use Rattle.ep_bytes.specs.declared.types.Byte.{Byte as Cell}
 use Rattle.ep_bytes.specs.declared.types.Byte.TheVariants as cell
-use Rattle.ep_bytes.specs.declared.cells.Place.{Place}
+use Rattle.ep_bytes.specs.declared.cells.ByteRange.{ByteRange}
 use Rattle.ep_bytes.specs.declared.store.Block.{Block}
-use Rattle.ep_bytes.specs.Shown.{byte_in}
+use Rattle.ep_bytes.specs.View.{byte_in}
 use Rattle.ep_bytes.specs.Cells.{cell_at, taken_from, unbroken, without, IsWritten, IsReplaced}
 use Rattle.ep_bytes.proofs.Readings.{bytes_from_cells}
-use Rattle.ep_bytes.specs.Held.{AreLaid, block_of, memory_of, no_block, past_end}
-
-same_or_not : (i j : ℕ) → (i ≡ j) ⊎ (i ≢ j)
-same_or_not i j =
-    ⊎_elim (λ b. inr (omega arith)) (λ b. ⊎_elim (λ d. inr (omega arith)) (λ d. inl (omega arith)) (cases_lt j i))
-    (cases_lt i j)
+use Rattle.ep_bytes.specs.StoreView.{AreLaid, block_of, memory_of, no_block, past_end}
 
 byte_in_unbroken : (d : Model) (here n : ℕ) (c : Cell) (p : ℕ)
     → byte_in (unbroken d here n c p) ≡ (if lies_partly d here n (byte_in c) p then undefined else byte_in c)
@@ -58,7 +55,7 @@ other_block blocks old new b c p laid there apart outside =
     (λ past. (let t : nat_lt p q.size ≡ false = le-ltb p q.size past in rw t refl))
     (cases_lt p q.size)
 
-replaced_at : (d : Model) (blocks : List Block) (old new : List Cell) (b : ℕ) (s : Place) (f : ℕ → Cell) (g : ℕ → Byte)
+replaced_at : (d : Model) (blocks : List Block) (old new : List Cell) (b : ℕ) (s : ByteRange) (f : ℕ → Cell) (g : ℕ → Byte)
     → AreLaid blocks (length old) → b < length blocks → s.start ≡ (block_of blocks b).start
     → s.here + s.count ≤ (block_of blocks b).size → IsReplaced d old new s (block_of blocks b).size f
     → ((k : ℕ) → k < s.count → byte_in (f k) ≡ g k)
@@ -103,7 +100,7 @@ replaced_at d blocks old new b s f g laid there start fits w h c p =
     (λ i o. w.outside i (subst (λ x. (i < x) ⊎ (x + k.size ≤ i)) (sym start) o)))))
     (same_or_not b c)
 
-pub replaced_in : (d : Model) (blocks : List Block) (old new : List Cell) (b : ℕ) (s : Place)
+pub replaced_in : (d : Model) (blocks : List Block) (old new : List Cell) (b : ℕ) (s : ByteRange)
     → (f : ℕ → Cell) (g : ℕ → Byte)
     → AreLaid blocks (length old) → b < length blocks → s.start ≡ (block_of blocks b).start
     → s.here + s.count ≤ (block_of blocks b).size → IsReplaced d old new s (block_of blocks b).size f
@@ -142,15 +139,11 @@ zeroed_in blocks old new b laid there w =
     rw (q, e) (other_block blocks old new b c p laid there apart w.outside)))
     (same_or_not b c)))
 
-or_false : (x : Bool) → (x || false) ≡ x
-or_false true = refl
-or_false false = refl
-
 byte_in_without : (b : ℕ) (c : Cell) → byte_in (without b c) ≡ forgotten (b ∷ []) (byte_in c)
 byte_in_without b cell.Undefined = refl
 byte_in_without b (cell.Number v) = refl
 byte_in_without b (cell.Fragment a o k) =
-    rw (or_false (nat_eq a b))
+    rw (or-false (nat_eq a b))
     (elim (nat_eq a b) as (λ t. byte_in (if t then cell.Undefined else cell.Fragment a o k)
     ≡ (if t then undefined else fragment a o k))
     [ true ↦ refl | false ↦ refl ])
@@ -216,7 +209,7 @@ byte_inside blocks cells b p h =
     rw t refl
 
 -- what a copy takes is what the definition has
-pub taken_is : (d : Model) (blocks : List Block) (cells : List Cell) (c : ℕ) (s : Place) (k : ℕ)
+pub taken_is : (d : Model) (blocks : List Block) (cells : List Cell) (c : ℕ) (s : ByteRange) (k : ℕ)
     → s.start ≡ (block_of blocks c).start → s.here + s.count ≤ (block_of blocks c).size → k < s.count
     → byte_in (taken_from d cells s k) ≡ broken d (memory_of blocks cells) c s.here s.count c (s.here + k)
 taken_is d blocks cells c s k start fits h =

@@ -8,9 +8,9 @@ use Rattle.ep_bytes.specs.declared.types.Byte.{Byte}
 use Rattle.ep_bytes.specs.declared.types.Byte.TheVariants.{Undefined, Number, Fragment}
 use Rattle.ep_bytes.specs.declared.cells.Content.{Content}
 use Rattle.ep_bytes.specs.declared.cells.Content.TheVariants as content
-use Rattle.ep_bytes.specs.declared.cells.Place.{Place}
+use Rattle.ep_bytes.specs.declared.cells.ByteRange.{ByteRange}
 use Rattle.ep_bytes.specs.declared.spans.Span.{Span}
-use Rattle.ep_bytes.specs.Shown.{byte_in}
+use Rattle.ep_bytes.specs.View.{byte_in}
 
 abbrev pub cell_at : List Byte → ℕ → Byte
 cell_at cells i = slice_index_or cells i Undefined
@@ -48,15 +48,15 @@ content_at (content.Numbers all) k = Number (if nat_lt k 8 then slice_index all 
 content_at (content.Pointer b o) k = if nat_lt k 8 then Fragment b o k else Undefined
 
 -- byte k of what is copied from a place
-abbrev pub taken_from : Model → List Byte → Place → ℕ → Byte
+abbrev pub taken_from : Model → List Byte → ByteRange → ℕ → Byte
 taken_from d cells s k = unbroken d s.here s.count (cell_at cells (s.start + s.here + k)) (s.here + k)
 
 -- the byte at offset low + k of the block, where the pointers that lie partly in the place are undefined
-abbrev pub cut_by : Model → List Byte → Place → (low k : ℕ) → Byte
+abbrev pub cut_by : Model → List Byte → ByteRange → (low k : ℕ) → Byte
 cut_by d cells s low k = unbroken d s.here s.count (cell_at cells (s.start + low + k)) (low + k)
 
 -- In a block of so many bytes, each pointer that lies partly in the place is undefined beside it.
-pub record IsBroken (d : Model) (old new : List Byte) (s : Place) (size : ℕ) : Type 0 where
+pub record IsBroken (d : Model) (old new : List Byte) (s : ByteRange) (size : ℕ) : Type 0 where
   pub same_length : length new ≡ length old
   pub inside : (p : ℕ) → s.here ≤ p → p < s.here + s.count → cell_at new (s.start + p) ≡ cell_at old (s.start + p)
   pub beside : (p : ℕ) → p < size → (p < s.here) ⊎ (s.here + s.count ≤ p)
@@ -64,7 +64,7 @@ pub record IsBroken (d : Model) (old new : List Byte) (s : Place) (size : ℕ) :
   pub outside : (i : ℕ) → (i < s.start) ⊎ (s.start + size ≤ i) → cell_at new i ≡ cell_at old i
 
 -- The place has these bytes too.
-pub record IsReplaced (d : Model) (old new : List Byte) (s : Place) (size : ℕ) (bytes : ℕ → Byte) : Type 0 where
+pub record IsReplaced (d : Model) (old new : List Byte) (s : ByteRange) (size : ℕ) (bytes : ℕ → Byte) : Type 0 where
   pub same_length : length new ≡ length old
   pub inside : (p : ℕ) → s.here ≤ p → p < s.here + s.count → cell_at new (s.start + p) ≡ bytes (p - s.here)
   pub beside : (p : ℕ) → p < size → (p < s.here) ⊎ (s.here + s.count ≤ p)

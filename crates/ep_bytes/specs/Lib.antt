@@ -1,3 +1,3 @@
-pub mod Shown
+pub mod View
 pub mod Cells
-pub mod Held
+pub mod StoreView

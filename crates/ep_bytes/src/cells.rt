@@ -4,7 +4,7 @@ ghost use Rattle.std.specs.Prelude.{◌≡◌, ℕ, ◌+◌, ◌-◌, ◌<◌, �
 ghost use Rattle.std.specs.Prelude.{slice_set, OnOk, IfOk, ◌&&◌, nat_lt};
 ghost use Rattle.ep_int.specs.Memory.{lies_partly};
 ghost use Rattle.ep_bytes.specs.declared.types.Byte.TheVariants.{Undefined};
-ghost use Rattle.ep_bytes.specs.Shown.{byte_in};
+ghost use Rattle.ep_bytes.specs.View.{byte_in};
 ghost use Rattle.ep_bytes.specs.Cells.{cell_at, part_of, without, unbroken, content_at, taken_from, cut_by};
 ghost use Rattle.ep_bytes.specs.Cells.{IsWritten, IsBroken, IsReplaced};
 
@@ -68,7 +68,7 @@ impl Content {
 
 /// Some bytes of a block.
 #[derive(Clone, Copy, Debug)]
-pub(crate) struct Place {
+pub(crate) struct ByteRange {
     /// where the block starts
     pub(crate) start: usize,
     /// the offset of the first of the bytes
@@ -76,9 +76,9 @@ pub(crate) struct Place {
     pub(crate) count: usize,
 }
 
-impl Place {
+impl ByteRange {
     /// Whether two places of one size in one block have a byte in common.
-    pub(crate) fn overlaps(&self, other: &Place) -> bool
+    pub(crate) fn overlaps(&self, other: &ByteRange) -> bool
         requires own { self.now.here + self.now.count < 2 ^ 33 }
         requires other { other.now.here + self.now.count < 2 ^ 33 }
         ensures { result ≡ (nat_lt self.now.here (other.now.here + self.now.count)
@@ -170,7 +170,7 @@ impl Cells {
     }
 
     /// The bytes of a place.
-    pub(crate) fn range(&self, place: &Place) -> &[Byte]
+    pub(crate) fn range(&self, place: &ByteRange) -> &[Byte]
         requires { place.now.start + place.now.here + place.now.count ≤ length self.now }
         ensures { result.now ≡ take place.now.count (drop (place.now.start + place.now.here) self.now) }
     {
@@ -193,7 +193,7 @@ impl Cells {
 
     // Copies the bytes of a place to another that has no byte in common with it. Of a pointer that lies partly in the
     // place from which they come, nothing is copied.
-    fn move_in(&mut self, model: DataModel, at: usize, from: &Place)
+    fn move_in(&mut self, model: DataModel, at: usize, from: &ByteRange)
         requires to { at + from.now.count ≤ length self.old }
         requires inside { from.now.start + from.now.here + from.now.count ≤ length self.old }
         requires small { from.now.here + from.now.count < 2 ^ 33 }
@@ -211,7 +211,7 @@ impl Cells {
 
     // At offsets from `low` on and before `high`, makes undefined what is a part of a pointer that lies partly in the
     // place.
-    fn cut(&mut self, model: DataModel, place: &Place, low: usize, high: usize)
+    fn cut(&mut self, model: DataModel, place: &ByteRange, low: usize, high: usize)
         requires ordered { low ≤ high }
         requires inside { place.now.start + high ≤ length self.old }
         requires small { place.now.here + place.now.count < 2 ^ 33 }
@@ -230,7 +230,7 @@ impl Cells {
 
     // Makes undefined each pointer that lies partly in the place, beside it. A pointer has at most 8 bytes, so no other
     // byte of the block is a part of one.
-    fn break_beside(&mut self, model: DataModel, place: &Place, size: usize)
+    fn break_beside(&mut self, model: DataModel, place: &ByteRange, size: usize)
         requires fits { place.now.here + place.now.count ≤ size }
         requires inside { place.now.start + size ≤ length self.old }
         requires small { size < 2 ^ 32 }
@@ -248,7 +248,7 @@ impl Cells {
     pub(crate) fn replace(
         &mut self,
         model: DataModel,
-        place: &Place,
+        place: &ByteRange,
         size: usize,
         content: &Content,
     )
@@ -264,7 +264,13 @@ impl Cells {
 
     /// Copies to a place, in a block of `size` bytes, the bytes of another that has no byte in common with it. Of a
     /// pointer that lies partly in the place from which they come, nothing is copied.
-    pub(crate) fn copy(&mut self, model: DataModel, place: &Place, size: usize, from: &Place)
+    pub(crate) fn copy(
+        &mut self,
+        model: DataModel,
+        place: &ByteRange,
+        size: usize,
+        from: &ByteRange,
+    )
         requires fits { place.now.here + place.now.count ≤ size }
         requires inside { place.now.start + size ≤ length self.old }
         requires small { size < 2 ^ 32 }

@@ -5,7 +5,7 @@ ghost use Rattle.std.specs.List.{list_any, list_all};
 ghost use Rattle.ep_int.specs.Types.{size_of};
 ghost use Rattle.ep_int.specs.Memory.{are_parts, is_number, is_undefined, is_zero, number_in, pointer_in};
 ghost use Rattle.ep_int.specs.Memory.{value_of_bytes};
-ghost use Rattle.ep_bytes.specs.Shown.{byte_in, read_as, Fits};
+ghost use Rattle.ep_bytes.specs.View.{byte_in, read_as, Fits};
 ghost use Rattle.ep_bytes.specs.Cells.{cell_at};
 
 use crate::numbers::decode;

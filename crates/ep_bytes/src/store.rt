@@ -6,12 +6,12 @@ ghost use Rattle.ep_int.specs.Memory.{bytes_of_value, copied, filled, killed, lo
 ghost use Rattle.ep_int.specs.Memory.{undefined, zeroed};
 ghost use Rattle.ep_int.specs.declared.types.Model.{Model as Sizes};
 ghost use Rattle.ep_int.specs.Types.{size_of};
-ghost use Rattle.ep_bytes.specs.Shown.{byte_in, fault_at, found_at, read_as, value_in, written_as, Fits};
+ghost use Rattle.ep_bytes.specs.View.{byte_in, fault_at, found_at, read_as, value_in, written_as, Fits};
 ghost use Rattle.ep_bytes.specs.Cells.{content_at};
-ghost use Rattle.ep_bytes.specs.Held.{blank, block_of, copy_fault, count_of, is_same, memory_in, place_fault};
-ghost use Rattle.ep_bytes.specs.Held.{size_in, IsExtended, IsLike, IsOutside, IsPlace};
+ghost use Rattle.ep_bytes.specs.StoreView.{blank, block_of, copy_fault, count_of, is_same, memory_in, place_fault};
+ghost use Rattle.ep_bytes.specs.StoreView.{size_in, IsExtended, IsLike, IsOutside, IsPlace};
 
-use crate::cells::{Cells, Content, Place};
+use crate::cells::{ByteRange, Cells, Content};
 use crate::numbers::encode;
 use crate::reads::{is_any_undefined, value};
 use crate::types::Datum;
@@ -39,9 +39,9 @@ pub struct Store {
 
 impl Model for Store {
     ghost use Rattle.std.specs.Prelude.{length};
-    ghost use Rattle.ep_bytes.specs.Held.{Held, AreLaid};
+    ghost use Rattle.ep_bytes.specs.StoreView.{StoreView, AreLaid};
 
-    ghost Value = { Held };
+    ghost Value = { StoreView };
 
     ghost view = { λ s. record {
       model = s.model;
@@ -230,7 +230,7 @@ impl Store {
     }
 
     // Where a scalar at an offset of a block lies, or what is wrong with that place.
-    fn scalar_place(&self, what: Scalar, block: u32, offset: i64) -> Result<Place, AlarmKind>
+    fn scalar_place(&self, what: Scalar, block: u32, offset: i64) -> Result<ByteRange, AlarmKind>
         requires { block < count_of self.now }
         ensures ok { IfOk result (IsPlace self.now block offset (size_of self.now.model what)) }
         ensures aligned { IfOk result (λ s. s.here % size_of self.now.model what ≡ 0) }
@@ -246,7 +246,7 @@ impl Store {
     }
 
     // Where `n` bytes of a block lie, or `U5`.
-    fn place(&self, block: u32, offset: i64, n: u32) -> Result<Place, AlarmKind>
+    fn place(&self, block: u32, offset: i64, n: u32) -> Result<ByteRange, AlarmKind>
         requires { block < count_of self.now }
         ensures ok { IfOk result (IsPlace self.now block offset n) }
         ensures small { IfOk result (λ s. s.here + s.count < 2 ^ 32) }
@@ -256,7 +256,7 @@ impl Store {
         if offset < 0 || offset > i64::from(whole.size) - i64::from(n) {
             return Err(AlarmKind::U5);
         }
-        Ok(Place {
+        Ok(ByteRange {
             start: whole.start,
             here: offset as usize,
             count: n as usize,

@@ -1,9 +1,15 @@
 -- The memory before main.
 use Rattle.std.proofs.Common.{◌≡◌, ℕ, zero, suc, ◌+◌, ◌%◌, ◌<◌, ◌≤◌, ◌==◌, ℤ, pos, Bool, true, false, ◌&&◌, ◌||◌, not}
+use Rattle.ep_int.proofs.Basics.{slice_get-here}
+use Rattle.ep_core.proofs.Basics.{is_number-size}
+use Rattle.std.proofs.lemmas.Option.{slice_get-map, slice_get_past}
+use Rattle.std.proofs.lemmas.Bool.{or_cases}
+use Rattle.std.proofs.lemmas.List.{drop_all, get_or_default}
+use Rattle.std.proofs.lemmas.Option.{slice_get_within}
 use Rattle.std.proofs.Common.{nat_eq, nat_lt, nat_le, List, [], ◌∷◌, length, map, drop, fold, get_or, slice_get}
 use Rattle.std.proofs.Common.{Option, Some, None}
 use Rattle.std.proofs.Common.{Result, Ok, Err, OnOk, ◌⊎◌, inl, inr, refl, sym, ap, ◌∙◌, subst, if◌then◌else◌, arith}
-use Rattle.std.specs.Prelude.{⊤, option_to_list, slice_index, unwrap_or, unsigned_abs}
+use Rattle.std.specs.Prelude.{⊤, option_to_list, slice_index, unsigned_abs}
 use Rattle.std.specs.List.{list_all, list_any}
 use Rattle.std.proofs.Math.Seq.{drop-cons}
 use Rattle.std.proofs.lemmas.Bool.{and_parts}
@@ -20,8 +26,8 @@ use Rattle.ep_layout.specs.Table.{Table, leaves, size}
 use Rattle.ep_layout.proofs.Ordered.{leaves_ordered}
 use Rattle.ep_int.specs.declared.types.Order.{Order}
 use Rattle.ep_alarms.specs.declared.types.AlarmKind.{AlarmKind}
-use Rattle.ep_bytes.specs.Held.{Held, count_of, memory_in, size_in}
-use Rattle.ep_bytes.specs.Shown.{fault_at, written_as}
+use Rattle.ep_bytes.specs.StoreView.{StoreView, count_of, memory_in, size_in}
+use Rattle.ep_bytes.specs.View.{fault_at, written_as}
 use Rattle.ep_core.specs.Program.{Block, Function, Init, Program}
 use Rattle.ep_core.specs.Exec.{block_size, model, result_in, size_at}
 use Rattle.ep_core.specs.Runs.{blank, is_global, is_result, main_function}
@@ -36,14 +42,12 @@ use Rattle.std.specs.Int.{w128}
 use Rattle.std.proofs.Math.ListN.{length-map}
 use Rattle.std.specs.Option.{option_map}
 use Rattle.ep_core.specs.declared.program.InitByte.{InitByte}
-use Rattle.ep_core.specs.declared.program.BlockInfo.{BlockInfo}
-use Rattle.ep_core.specs.View.{shown_block, shown_init}
+use Rattle.ep_core.specs.View.{init_view}
 use Rattle.ep_core.proofs.Operands.{first_values_fit, fits_at, sizes}
-use Rattle.ep_core.proofs.Sorts.{all_at, either_is, never, same_scalar}
-use Rattle.ep_bytes.specs.Held.{blank as undefined_all}
-use Rattle.ep_values.specs.declared.setting.Setting.{Setting}
-use Rattle.ep_values.specs.Settings.{program_in, IsLaid}
-use Rattle.ep_values.proofs.Blocks.{get_map, missing, there}
+use Rattle.ep_core.proofs.Sorts.{all_at, never, same_scalar}
+use Rattle.ep_bytes.specs.StoreView.{blank as undefined_all}
+use Rattle.ep_machine.specs.declared.setting.Setting.{Setting}
+use Rattle.ep_machine.specs.Settings.{program_in, IsLaid}
 use Rattle.ep_simple_steps.proofs.Clears.{from_below}
 
 -- ---- a leaf lies in its type, at a multiple of its size
@@ -55,7 +59,7 @@ record LiesIn (d : Model) (n offset : ℕ) (what : Scalar) : Type 0 where
 leaf_lies : (d : Model) (e n : ℕ) (fs : List Leaf) (offset : ℕ) (what : Scalar) → AreLeavesFrom d e n fs
     → list_any (is_leaf_at offset what) fs ≡ true → LiesIn d n offset what
 leaf_lies d e n [] offset what a h = absurd cc
-leaf_lies d e n (f ∷ fs) offset what a h = elim (either_is (is_leaf_at offset what f) (list_any (is_leaf_at offset what) fs) h) [
+leaf_lies d e n (f ∷ fs) offset what a h = elim (or_cases (is_leaf_at offset what f) (list_any (is_leaf_at offset what) fs) h) [
   | inl q ↦ here (and_parts (nat_eq f.offset offset) (is_same_scalar f.what what) q)
   | inr q ↦ leaf_lies d (f.offset + size_of d f.what) n fs offset what a.2 q
 ]
@@ -74,21 +78,12 @@ no_fault d n offset what h =
     let in_block : nat_lt n (offset + size_of d what) ≡ false = grind (arith, nat_tests, h.inside) in
     rw (in_block, h.aligned) refl
 
--- ---- a first value goes to a block that is there, to a place that is in it
+-- ---- a first value goes to a block that is slice_get-here, to a place that is in it
 
 pub record GoesIn (p : Program) (i : Init) : Type 0 where
   pub b : Block
   pub is : slice_get p.blocks i.block ≡ Some b
   pub fault : store_fault p.types.model b.size (Int i.t) i.offset ≡ None
-
-some_below : {X : Type 0} (xs : List X) (k : ℕ) (x : X) → slice_get xs k ≡ Some x → k < length xs
-some_below [] k x e = absurd cc
-some_below (y ∷ xs) zero x e = omega arith
-some_below (y ∷ xs) (suc k) x e = let h = some_below xs k x e in omega (arith, h)
-
-size_is : (o : Option ℕ) (n : ℕ) → is_number o n ≡ true → unwrap_or o 0 ≡ n
-size_is None n h = absurd cc
-size_is (Some m) n h = grind (arith, nat_tests, h)
 
 goes_in : (p : Program) (i : Init) → blocks_fit p.types p.blocks ≡ true → init_fits p.types p.blocks i ≡ true
     → GoesIn p i
@@ -102,7 +97,7 @@ goes_in p i fit h = split (slice_get p.blocks i.block) refl
         let parts = and_parts _ (is_in_range i.t i.value) g in
         let leaf = (and_parts b.global (list_any (is_leaf_at i.offset (Int i.t)) (leaves p.types b.ty)) parts.0).1 in
         let block = all_at (block_fits p.types) p.blocks i.block b (and_parts (list_all (block_fits p.types) p.blocks) _ fit).0 q in
-        let size = size_is (size p.types b.ty) b.size (and_parts (is_number (size p.types b.ty) b.size) (nat_le 1 b.size) block).0 in
+        let size = is_number-size (size p.types b.ty) b.size (and_parts (is_number (size p.types b.ty) b.size) (nat_le 1 b.size) block).0 in
         record {
           b = b;
           is = q;
@@ -165,16 +160,16 @@ zeros_more bs r n old new w ew eo en = en ∙ fun_ext (λ c. fun_ext (λ p. at c
 -- past the last block nothing is marked
 pub zeros_all : (bs : List Block) (r : Option (ℕ × Scalar)) → ((c : ℕ) → is_result r c ≡ true → c < length bs)
     → (n : ℕ) → n ≡ length bs → (x : Memory) → x ≡ zeros_to bs r n → x ≡ blank bs r
-zeros_all bs r there n en x e = e ∙ fun_ext (λ c. fun_ext (λ p. at c (nat_lt c n) refl (is_result r c) refl))
+zeros_all bs r slice_get-here n en x e = e ∙ fun_ext (λ c. fun_ext (λ p. at c (nat_lt c n) refl (is_result r c) refl))
   where
     at : (c : ℕ) (t : Bool) → nat_lt c n ≡ t → (u : Bool) → is_result r c ≡ u
         → (if t && (is_global (slice_get bs c) || u) then number 0 else undefined)
         ≡ (if is_global (slice_get bs c) || u then number 0 else undefined)
     at c true et u eu = refl
-    at c false et true eu = let h = there c eu in absurd (grind (arith, nat_tests, et, en, h))
+    at c false et true eu = let h = slice_get-here c eu in absurd (grind (arith, nat_tests, et, en, h))
     at c false et false eu =
         let past : n ≤ c = grind (arith, nat_tests, et) in
-        rw (missing bs c (omega (arith, past, en))) refl
+        rw (slice_get_past bs c (omega (arith, past, en))) refl
 
 -- ---- the first values, one after another
 
@@ -198,15 +193,9 @@ firsts_next g f i xs x m n y h e en k =
     ∙ ap (λ z. fold f (f m z) (drop (suc i) (map g xs))) (map_at g xs i x h e)
     ∙ ap (fold f m) (sym (drop-cons (map g xs) i (g x) (map_long g xs i h))) ∙ k
 
-firsts_past : {Y : Type 0} (i : ℕ) (ys : List Y) → length ys ≤ i → drop i ys ≡ []
-firsts_past zero [] h = refl
-firsts_past zero (y ∷ ys) h = absurd (omega arith)
-firsts_past (suc i) [] h = refl
-firsts_past (suc i) (y ∷ ys) h = firsts_past i ys (omega arith)
-
 pub firsts_end : {Y : Type 0} (f : Memory → Y → Memory) (i : ℕ) (ys : List Y) (m y : Memory) → length ys ≤ i
     → fold f m (drop i ys) ≡ y → m ≡ y
-firsts_end f i ys m y h k = ap (fold f m) (sym (firsts_past i ys h)) ∙ k
+firsts_end f i ys m y h k = ap (fold f m) (sym (drop_all i ys h)) ∙ k
 
 -- the sizes of blocks, as a store has them
 pub sizes_are : (o : Order) (p : Program) (bs : List Block) (b : ℕ)
@@ -222,7 +211,7 @@ block_there p r h = split (slice_get p.blocks r.0) refl
   where
     split : (o : Option Block) → slice_get p.blocks r.0 ≡ o → r.0 < length p.blocks
     split None q = never (rw q at h)
-    split (Some b) q = some_below p.blocks r.0 b q
+    split (Some b) q = slice_get_within p.blocks r.0 b q
 
 result_there : (p : Program) (r : Option (ℕ × Scalar)) → list_all (holds_scalar p.types p.blocks) (option_to_list r) ≡ true
     → (c : ℕ) → is_result r c ≡ true → c < length p.blocks
@@ -243,7 +232,7 @@ main_there o p w c h = split (slice_get p.functions p.main) refl h
 
 -- ---- a first value is stored
 
-pub first_stored : (m : Setting) (h new : Held) (i : Init) (a : Result ⊤ AlarmKind) (z : ℤ) → z ≡ pos i.offset
+pub first_stored : (m : Setting) (h new : StoreView) (i : Init) (a : Result ⊤ AlarmKind) (z : ℤ) → z ≡ pos i.offset
     → IsLaid m h → is_well_formed (program_in m) ≡ true
     → init_fits (program_in m).types (program_in m).blocks i ≡ true
     → a ≡ written_as (fault_at z (store_fault h.model (size_in h i.block) (Int i.t)))
@@ -266,20 +255,20 @@ first_stored m h new i a z ez laid w fits answer ok =
 
 pub first_there : (p : Program) (i : Init) → is_well_formed p ≡ true → init_fits p.types p.blocks i ≡ true
     → i.block < length p.blocks
-first_there p i w h = let g = goes_in p i (sizes p w) h in some_below p.blocks i.block g.b g.is
+first_there p i w h = let g = goes_in p i (sizes p w) h in slice_get_within p.blocks i.block g.b g.is
 
 -- a first value of the program goes to a leaf
-pub first_fits : (p : Program) → is_well_formed p ≡ true → (is : List InitByte) → p.init ≡ map shown_init is → (i : ℕ)
-    → (x : InitByte) → i < length is → x ≡ get_or is i x → init_fits p.types p.blocks (shown_init x) ≡ true
+pub first_fits : (p : Program) → is_well_formed p ≡ true → (is : List InitByte) → p.init ≡ map init_view is → (i : ℕ)
+    → (x : InitByte) → i < length is → x ≡ get_or is i x → init_fits p.types p.blocks (init_view x) ≡ true
 first_fits p w is e i x h k =
-    all_at (init_fits p.types p.blocks) p.init i (shown_init x) (first_values_fit p w)
-    (ap (λ ys. slice_get ys i) e ∙ get_map shown_init is i ∙ ap (option_map shown_init) (there is i x h k))
+    all_at (init_fits p.types p.blocks) p.init i (init_view x) (first_values_fit p w)
+    (ap (λ ys. slice_get ys i) e ∙ slice_get-map init_view is i ∙ ap (option_map init_view) (slice_get-here is i x h k))
 
 pub number_fits : (p : Program) (i : Init) → init_fits p.types p.blocks i ≡ true → InRange i.t i.value
 number_fits p i h = in_range_from_true i.t i.value (and_parts _ (is_in_range i.t i.value) h).1
 
 -- a new store has the blocks of the program
-pub new_laid : (m : Setting) (h : Held) (sizes : List ℕ)
+pub new_laid : (m : Setting) (h : StoreView) (sizes : List ℕ)
     → sizes ≡ map (λ (b : Block). b.size) (program_in m).blocks → h.model ≡ model m.order (program_in m)
     → count_of h ≡ length sizes → ((b : ℕ) → size_in h b ≡ slice_index sizes b) → IsLaid m h
 new_laid m h sizes e em ec es = record {
@@ -287,17 +276,6 @@ new_laid m h sizes e em ec es = record {
   count = ec ∙ ap length e ∙ length-map (program_in m).blocks (λ (b : Block). b.size);
   sizes = λ b. es b ∙ ap (λ xs. slice_index xs b) e ∙ sizes_are m.order (program_in m) (program_in m).blocks b;
 }
-
-pub sizes_shown : (bs : List BlockInfo)
-    → map (λ (b : BlockInfo). b.size) bs ≡ map (λ (b : Block). b.size) (map shown_block bs)
-sizes_shown [] = refl
-sizes_shown (b ∷ bs) = ap (λ xs. b.size ∷ xs) (sizes_shown bs)
-
--- what stands at a place that is there doesn't depend on what stands for all others
-pub at_any : {X : Type 0} (xs : List X) (i : ℕ) (d x : X) → i < length xs → get_or xs i d ≡ get_or xs i x
-at_any [] i d x h = absurd (omega arith)
-at_any (y ∷ ys) zero d x h = refl
-at_any (y ∷ ys) (suc i) d x h = at_any ys i d x (omega arith)
 
 -- the number of a first value fits 128 bits
 pub number_short : (p : Program) (i : Init) → init_fits p.types p.blocks i ≡ true → FitsSigned w128 i.value

@@ -3,7 +3,7 @@ use Rattle.std.proofs.Common.{◌≡◌, ℕ, true, false, Bool, List, [], ◌�
 use Rattle.std.proofs.Common.{◌∙◌, subst}
 use Rattle.ep_int.specs.declared.types.Scalar.TheVariants.{Int}
 use Rattle.ep_int.specs.Memory.{Byte, undefined, number, Memory, int, stored}
-use Rattle.ep_bytes.specs.Held.{memory_in}
+use Rattle.ep_bytes.specs.StoreView.{memory_in}
 use Rattle.ep_core.specs.Program.{Init}
 use Rattle.ep_core.specs.Exec.{State, model, result_in}
 use Rattle.ep_core.specs.Runs.{blank, finished, initial, is_global, is_result, main_function, run}
@@ -11,9 +11,9 @@ use Rattle.ep_core.specs.Typed.{MemoryFits}
 use Rattle.ep_core.specs.WellFormed.{is_well_formed}
 use Rattle.ep_core.proofs.Bytes.{initial_bytes}
 use Rattle.ep_core.proofs.Operands.{first_values_fit}
-use Rattle.ep_values.specs.declared.setting.Setting.{Setting}
-use Rattle.ep_values.specs.Settings.{program_in, IsLaid}
-use Rattle.ep_machine.specs.Machines.{begun, ArePartsOf, IsPart, Kept, Runs}
+use Rattle.ep_machine.specs.declared.setting.Setting.{Setting}
+use Rattle.ep_machine.specs.Settings.{program_in, IsLaid}
+use Rattle.ep_machine.specs.Machines.{begun, ArePartsOf, IsPart, MachineView, Runs}
 use Rattle.ep_machine.proofs.Parts.{stored_parts}
 use Rattle.ep_concrete.specs.Results.{main_steps}
 
@@ -40,7 +40,7 @@ module _ (m : Setting) where
       || is_result (result_in (main_function m.order (program_in m))) b))
 
   -- a machine with the memory before main runs the program
-  pub first_runs : is_well_formed (program_in m) ≡ true → (k : Kept) → IsLaid m k.store
+  pub first_runs : is_well_formed (program_in m) ≡ true → (k : MachineView) → IsLaid m k.store
       → memory_in k.store ≡ initial m.order (program_in m) → Runs m k
   first_runs w k laid e = record {
     laid = laid;

@@ -2,11 +2,11 @@
 
 ghost use Rattle.std.specs.Prelude.{◌≡◌, IfOk, Some};
 ghost use Rattle.ep_int.specs.Memory.{has};
-ghost use Rattle.ep_bytes.specs.Shown.{value_in};
+ghost use Rattle.ep_bytes.specs.View.{value_in};
 ghost use Rattle.ep_core.specs.Runs.{finished, main_function, result_out, run};
-ghost use Rattle.ep_core.specs.Shown.{shown};
-ghost use Rattle.ep_core.specs.View.{shown_function};
-ghost use Rattle.ep_values.specs.Settings.{program_in};
+ghost use Rattle.ep_core.specs.ProgramView.{program_view};
+ghost use Rattle.ep_core.specs.View.{function_view};
+ghost use Rattle.ep_machine.specs.Settings.{program_in};
 ghost use Rattle.ep_machine.specs.Machines.{state_in, Runs};
 ghost use Rattle.ep_steps.specs.declared.steps.Stop.TheVariants.{AtEnd};
 ghost use Rattle.ep_steps.specs.Results.{stopped};
@@ -17,9 +17,8 @@ use crate::types::{Ending, RunResult};
 use ep_bytes::Datum;
 use ep_core::program::{CoreProgram, Function};
 use ep_int::{IntType, Memory, Order};
-use ep_machine::Machine;
+use ep_machine::{Fault, Machine, Setting};
 use ep_steps::{Stop, execute};
-use ep_values::{Fault, Setting};
 use std::alloc::Global;
 
 // The result of main is put out as an int.
@@ -40,7 +39,7 @@ fn put_result(machine: &mut Machine, v: Datum, line: u32) -> Result<Ending, Memo
 // How a run ends at the end of main.
 fn end_main(on: &Setting, machine: &mut Machine, main: &Function) -> Result<Ending, Memory>
     requires runs { Runs on.now machine.old }
-    requires main { main_function on.now.order (program_in on.now) ≡ Some (shown_function main.now) }
+    requires main { main_function on.now.order (program_in on.now) ≡ Some (function_view main.now) }
     ensures { IfOk result (λ e. IsTold e machine.new (stopped on.now AtEnd (state_in machine.old))) }
 {
     match main.result {
@@ -62,7 +61,7 @@ fn ending_of(
     stop: Stop,
 ) -> Result<Ending, Memory>
     requires runs { Runs on.now machine.old }
-    requires main { main_function on.now.order (program_in on.now) ≡ Some (shown_function main.now) }
+    requires main { main_function on.now.order (program_in on.now) ≡ Some (function_view main.now) }
     ensures { IfOk result (λ e. IsTold e machine.new (stopped on.now stop (state_in machine.old))) }
 {
     match stop {
@@ -85,7 +84,7 @@ fn run_main<'p>(
     steps: u64,
 ) -> Result<Ending, Memory>
     requires runs { Runs on.now machine.old }
-    requires main { main_function on.now.order (program_in on.now) ≡ Some (shown_function main.now) }
+    requires main { main_function on.now.order (program_in on.now) ≡ Some (function_view main.now) }
     ensures { IfOk result (λ e. IsTold e machine.new
         (finished on.now.order (program_in on.now) (main_steps on.now steps (state_in machine.old)))) }
 {
@@ -122,7 +121,7 @@ pub fn run(
     inputs: &[u64],
     steps: u64,
 ) -> Result<RunResult, Memory>
-    ensures { IfOk result (λ r. IsRun r (run (shown p.now) order inputs.now steps)) }
+    ensures { IfOk result (λ r. IsRun r (run (program_view p.now) order inputs.now steps)) }
 {
     let on = Setting { order, program: p };
     let memory = first_memory(alloc, &on)?;

@@ -4,25 +4,25 @@ ghost use Rattle.std.specs.Prelude.{◌≡◌, ◌<◌, ◌≤◌, ◌^◌, ◌|
 ghost use Rattle.std.specs.Prelude.{nat_eq, slice_get};
 ghost use Rattle.ep_int.specs.declared.types.Scalar.TheVariants.{Int};
 ghost use Rattle.ep_int.specs.Memory.{int, stored, zeroed};
-ghost use Rattle.ep_bytes.specs.Held.{blank as undefined_all, count_of, memory_in, IsLike};
+ghost use Rattle.ep_bytes.specs.StoreView.{blank as undefined_all, count_of, memory_in, IsLike};
 ghost use Rattle.ep_core.specs.Exec.{model, result_in};
 ghost use Rattle.ep_core.specs.Program.{Block};
 ghost use Rattle.ep_core.specs.declared.program.BlockInfo.{BlockInfo as Info};
 ghost use Rattle.ep_core.specs.Runs.{blank, initial, is_global, is_result, main_function};
-ghost use Rattle.ep_core.specs.Shown.{shown};
-ghost use Rattle.ep_core.specs.View.{shown_block, shown_init};
+ghost use Rattle.ep_core.specs.ProgramView.{program_view};
+ghost use Rattle.ep_core.specs.View.{block_view, init_view};
 ghost use Rattle.ep_core.specs.WellFormed.{init_fits};
-ghost use Rattle.ep_values.specs.Settings.{program_in, IsLaid};
+ghost use Rattle.ep_machine.specs.Settings.{program_in, IsLaid};
 
 use ep_bytes::{Datum, Store};
 use ep_core::program::{BlockInfo, CoreProgram, InitByte};
 use ep_int::{Memory, Scalar};
-use ep_values::Setting;
+use ep_machine::Setting;
 use std::alloc::{AllocError, Global};
 
 // The result of main.
 fn main_result(p: &CoreProgram) -> Option<(u32, Scalar)>
-    ensures { result ≡ result_in (slice_get (shown p.now).functions p.now.main) }
+    ensures { result ≡ result_in (slice_get (program_view p.now).functions p.now.main) }
 {
     match p.functions.get(p.main as usize) {
         None => None,
@@ -46,7 +46,7 @@ fn size_list(alloc: Global, blocks: &[BlockInfo]) -> Result<Vec<u32>, AllocError
 }
 
 fn sizes_of(alloc: Global, blocks: &[BlockInfo]) -> Result<Vec<u32>, Memory>
-    ensures { IfOk result (λ v. v.items ≡ map (λ (b : Block). b.size) (map shown_block blocks.now)) }
+    ensures { IfOk result (λ v. v.items ≡ map (λ (b : Block). b.size) (map block_view blocks.now)) }
 {
     match size_list(alloc, blocks) {
         Ok(sizes) => Ok(sizes),
@@ -67,7 +67,7 @@ fn undefined_store(alloc: Global, on: &Setting, sizes: &[u32]) -> Result<Store, 
 // Whether a block is of zero bytes at the start: a global one, or main's result.
 fn is_zero(blocks: &[BlockInfo], given: Option<(u32, Scalar)>, b: usize) -> bool
     requires { b < length blocks.now }
-    ensures { result ≡ (is_global (slice_get (map shown_block blocks.now) b) || is_result given b) }
+    ensures { result ≡ (is_global (slice_get (map block_view blocks.now) b) || is_result given b) }
 {
     blocks[b].global | is_block(given, b)
 }
@@ -114,7 +114,7 @@ fn zero_blocks(on: &Setting, store: &mut Store) -> Result<(), Memory>
 // The first value of a scalar goes to its place.
 fn set_first(on: &Setting, store: &mut Store, first: &InitByte)
     requires laid { IsLaid on.now store.old }
-    requires fits { init_fits (program_in on.now).types (program_in on.now).blocks (shown_init first.now) ≡ true }
+    requires fits { init_fits (program_in on.now).types (program_in on.now).blocks (init_view first.now) ≡ true }
     ensures laid { IsLaid on.now store.new }
     ensures memory { memory_in store.new ≡ stored on.now.order (model on.now.order (program_in on.now))
         (memory_in store.old) (Int first.now.t) first.now.block first.now.offset (int first.now.value) }

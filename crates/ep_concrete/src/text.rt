@@ -2,7 +2,7 @@
 
 ghost use Rattle.std.specs.Prelude.{◌≡◌, ◌++◌, IfOk, OnOk, flat_map};
 ghost use Rattle.ep_core.specs.Runs.{Run};
-ghost use Rattle.ep_machine.specs.Machines.{shown_output};
+ghost use Rattle.ep_machine.specs.Machines.{output_view};
 ghost use Rattle.ep_concrete.specs.Results.{IsRun};
 ghost use Rattle.ep_concrete.specs.Text.{last_line, output_line, run_text_of, type_name};
 
@@ -25,7 +25,7 @@ pub fn run_text(alloc: Global, r: &RunResult) -> Result<Vec<u8>, Memory>
 
 fn text_of(alloc: Global, outputs: &[Output], ending: Ending) -> Result<Vec<u8>, AllocError>
     ensures { IfOk result (λ v. v.items
-        ≡ flat_map (λ x. output_line (shown_output x)) outputs.now ++ last_line ending) }
+        ≡ flat_map (λ x. output_line (output_view x)) outputs.now ++ last_line ending) }
 {
     let mut text = Vec::new(alloc);
     for output in outputs {
@@ -51,7 +51,7 @@ fn name(t: IntType) -> &'static str
 }
 
 fn push_output(text: &mut Vec<u8>, output: &Output) -> Result<(), AllocError>
-    ensures { OnOk result (text.new.items ≡ text.old.items ++ output_line (shown_output output.now)) }
+    ensures { OnOk result (text.new.items ≡ text.old.items ++ output_line (output_view output.now)) }
 {
     let mut number = Buffer::new();
     text.extend_from_slice(name(output.t).as_bytes())?;

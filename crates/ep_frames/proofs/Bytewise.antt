@@ -6,9 +6,9 @@ use Rattle.std.proofs.lemmas.Bool.Decides.{nat_tests}
 use Rattle.ep_int.specs.Memory.{Memory, filled}
 use Rattle.ep_core.specs.Exec.{State, Outcome, leaves, on, counted, bytewise, bytewise_rest, into, model, remembers}
 use Rattle.ep_core.specs.Exec.{taken}
-use Rattle.ep_values.specs.declared.fault.Fault.{Fault}
-use Rattle.ep_values.specs.declared.setting.Setting.{Setting}
-use Rattle.ep_values.specs.Settings.{program_in, size_on}
+use Rattle.ep_machine.specs.declared.fault.Fault.{Fault}
+use Rattle.ep_machine.specs.declared.setting.Setting.{Setting}
+use Rattle.ep_machine.specs.Settings.{program_in, size_on}
 use Rattle.ep_machine.specs.Machines.{done, Changes}
 
 left_at : (left : ℕ) (s r : State) → leaves on left s ≡ leaves on left r → r ≡ s

@@ -1,5 +1,7 @@
 -- Calls.
 use Rattle.std.proofs.Common.{◌≡◌, ℕ, suc, ◌<◌, List, [], ◌∷◌, ◌++◌, map, slice_get, Option, Some, None, option_to_list}
+use Rattle.ep_int.proofs.Basics.{slice_get-here}
+use Rattle.std.proofs.lemmas.Option.{slice_get-map, slice_get_past}
 use Rattle.std.proofs.Common.{Bool, true, false, nat_lt, if◌then◌else◌, length, get_or, ◌≤◌, arith, refl, sym, ap}
 use Rattle.std.proofs.Common.{◌∙◌, subst}
 use Rattle.std.specs.Option.{option_map}
@@ -7,7 +9,7 @@ use Rattle.ep_int.specs.declared.types.Scalar.{Scalar}
 use Rattle.std.specs.List.{AllByRecursion}
 use Rattle.ep_int.specs.Memory.{Memory, Value, Kind, Found, has, faults}
 use Rattle.ep_bytes.specs.declared.types.Datum.{Datum}
-use Rattle.ep_bytes.specs.Shown.{value_in}
+use Rattle.ep_bytes.specs.View.{value_in}
 use Rattle.ep_core.specs.declared.tree.Expr as tree
 use Rattle.ep_core.specs.declared.program.Function as function
 use Rattle.ep_core.specs.Program.{Expr, Dest, Function, call}
@@ -16,26 +18,25 @@ use Rattle.ep_core.specs.Exec.{callee_of, values, bound, called, call_of, withou
 use Rattle.ep_core.specs.Exec.{entered, first_and, given_all, result_in, value}
 use Rattle.ep_core.specs.Typed.{AllOperandsFit, ArgumentsFit, CallOperandsFit, IfHas, ValueFits}
 use Rattle.ep_core.specs.WellFormed.{is_well_formed}
-use Rattle.ep_core.specs.View.{shown_expr, shown_function, shown_stmts}
+use Rattle.ep_core.specs.View.{expr_view, function_view, stmts_view}
 use Rattle.ep_core.proofs.Bodies.{bodies_at, callee_is}
 use Rattle.ep_core.proofs.Operands.{statements_fit}
-use Rattle.ep_values.specs.declared.setting.Setting.{Setting}
-use Rattle.ep_values.specs.Settings.{program_in, ExprFits}
+use Rattle.ep_machine.specs.declared.setting.Setting.{Setting}
+use Rattle.ep_machine.specs.Settings.{program_in, ExprFits}
 use Rattle.ep_machine.proofs.Kills.{killed_append}
 use Rattle.ep_frames.specs.Arguments.{AreBound}
 use Rattle.ep_frames.specs.Stack.{list_of, one_of, InEach, ListFits, OneFits}
-use Rattle.ep_values.proofs.Blocks.{there, missing, get_map}
 use Rattle.std.proofs.lemmas.Bool.Decides.{nat_tests}
 
 module _ (m : Setting) where
   -- a call of a function that stands before
   pub call_is : (here k : ℕ) (f : function.Function) → k < here
-      → slice_get (program_in m).functions k ≡ Some (shown_function f)
+      → slice_get (program_in m).functions k ≡ Some (function_view f)
       → (es : List Expr) (d : Option Dest) (l left : ℕ) (s : State)
       → one_of m here (call k es d) l (suc left) s
-      ≡ call_of m.order (program_in m) (Some (shown_function f)) (list_of m k f.body.items) es d l left s
+      ≡ call_of m.order (program_in m) (Some (function_view f)) (list_of m k f.body.items) es d l left s
   call_is here k f lt e es d l left s =
-      rw (callee_is m.order (program_in m) counted here k (shown_function f) lt e, bodies_at m.order (program_in m) counted here k lt, e) refl
+      rw (callee_is m.order (program_in m) counted here k (function_view f) lt e, bodies_at m.order (program_in m) counted here k lt, e) refl
 
   pub enter_done : (f : Function) (body : Going) (es : List Expr) (d : Option Dest) (l left : ℕ) (s r q : State)
       (vs : List Value) (y : (State → Outcome) → Outcome) → r ≡ without (first_of (option_to_list f.result)) s
@@ -79,8 +80,8 @@ module _ (m : Setting) where
   -- ---- arguments fit their parameters
 
   pub arguments_typed : (x : Memory) (bs : List (ℕ × Scalar)) (es : List tree.Expr)
-      → ArgumentsFit m.order (program_in m) x bs (map shown_expr es)
-      → AllByRecursion (λ e. ExprFits m x (shown_expr e)) es
+      → ArgumentsFit m.order (program_in m) x bs (map expr_view es)
+      → AllByRecursion (λ e. ExprFits m x (expr_view e)) es
   arguments_typed x [] [] h = tt
   arguments_typed x [] (e ∷ es) h = absurd h
   arguments_typed x (b ∷ bs) [] h = absurd h
@@ -107,25 +108,25 @@ module _ (m : Setting) where
 
   -- a function that stands at its number
   pub function_at : (fs : List function.Function) (k : ℕ) (f : function.Function) → k < length fs → f ≡ get_or fs k f
-      → slice_get (map shown_function fs) k ≡ Some (shown_function f)
-  function_at fs k f h e = get_map shown_function fs k ∙ ap (option_map shown_function) (there fs k f h e)
+      → slice_get (map function_view fs) k ≡ Some (function_view f)
+  function_at fs k f h e = slice_get-map function_view fs k ∙ ap (option_map function_view) (slice_get-here fs k f h e)
 
   -- what is called fits, and the body does
   pub call_fits : (here k : ℕ) (f : function.Function) → k < here
-      → slice_get (program_in m).functions k ≡ Some (shown_function f) → (es : List Expr) (d : Option Dest)
+      → slice_get (program_in m).functions k ≡ Some (function_view f) → (es : List Expr) (d : Option Dest)
       → OneFits m here (call k es d)
-      → InEach m (λ x. CallOperandsFit m.order (program_in m) x (Some (shown_function f)) es d)
+      → InEach m (λ x. CallOperandsFit m.order (program_in m) x (Some (function_view f)) es d)
   call_fits here k f lt e es d h x g =
       subst (λ o. CallOperandsFit m.order (program_in m) x o es d)
-      (callee_is m.order (program_in m) counted here k (shown_function f) lt e) (h x g)
+      (callee_is m.order (program_in m) counted here k (function_view f) lt e) (h x g)
 
   pub body_fits : is_well_formed (program_in m) ≡ true → (k : ℕ) (f : function.Function)
-      → slice_get (program_in m).functions k ≡ Some (shown_function f) → ListFits m k f.body.items
+      → slice_get (program_in m).functions k ≡ Some (function_view f) → ListFits m k f.body.items
   body_fits w k f e x g =
-      subst (λ o. AllOperandsFit m.order (program_in m) x k (result_in o) (shown_stmts f.body.items)) (sym e)
-      (statements_fit (program_in m) w m.order x g k (shown_function f) e)
+      subst (λ o. AllOperandsFit m.order (program_in m) x k (result_in o) (stmts_view f.body.items)) (sym e)
+      (statements_fit (program_in m) w m.order x g k (function_view f) e)
 
-  -- a function that isn't there
+  -- a function that isn't slice_get-here
   pub call_none : (here k : ℕ) → slice_get (program_in m).functions k ≡ None → callee_of (program_in m) here k ≡ None
   call_none here k e = by_test (nat_lt k here)
     where
@@ -137,5 +138,5 @@ not_below : (k n : ℕ) → false ≡ nat_lt k n → n ≤ k
 not_below k n h = grind (arith, nat_tests)
 
 pub function_missing : (fs : List function.Function) (k : ℕ) → false ≡ nat_lt k (length fs)
-    → slice_get (map shown_function fs) k ≡ None
-function_missing fs k h = get_map shown_function fs k ∙ ap (option_map shown_function) (missing fs k (not_below k (length fs) h))
+    → slice_get (map function_view fs) k ≡ None
+function_missing fs k h = slice_get-map function_view fs k ∙ ap (option_map function_view) (slice_get_past fs k (not_below k (length fs) h))

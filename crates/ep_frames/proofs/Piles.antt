@@ -3,7 +3,7 @@ use Rattle.std.proofs.Common.{◌≡◌, ℕ, ◌+◌, List, [], ◌∷◌, ◌+
 use Rattle.std.proofs.Common.{arith}
 use Rattle.ep_int.specs.Memory.{Kind}
 use Rattle.ep_core.specs.Exec.{State, Outcome, running, no_input, undefined_at}
-use Rattle.ep_values.specs.declared.setting.Setting.{Setting}
+use Rattle.ep_machine.specs.declared.setting.Setting.{Setting}
 use Rattle.ep_frames.specs.declared.frames.Frame.{Frame}
 use Rattle.ep_frames.specs.declared.frames.Frame.TheVariants.{Rest, Turn, Again, Scope, Arm, Call}
 use Rattle.ep_frames.specs.Stack.{framed, piled, FrameFits, PileFits}
@@ -103,6 +103,3 @@ pile_undefined m (f ∷ fs) l k s =
     let r = pile_undefined m fs l k s in
     let q = frame_undefined m f l k (with_joint r.0 s) in
     (q.0, ap (framed m f) r.1 ∙ q.1)
-
-pub popped_heft : (old new : List Frame) (f : Frame) → old ≡ new ++ f ∷ [] → heft_all old ≡ heft_all new + heft_in f
-popped_heft old new f e = ap heft_all e ∙ heft_more new f

@@ -4,12 +4,12 @@ use Rattle.std.specs.declared.alloc.Global.{Global}
 use Rattle.std.specs.declared.vec.Vec.{Vec}
 use Rattle.ep_int.specs.declared.types.Scalar.{Scalar}
 use Rattle.ep_bytes.specs.declared.types.Datum.{Datum}
-use Rattle.ep_bytes.specs.Shown.{value_in}
+use Rattle.ep_bytes.specs.View.{value_in}
 use Rattle.ep_core.specs.Program.{Program}
 use Rattle.ep_core.specs.Exec.{Values, have, stops}
 use Rattle.ep_core.specs.Typed.{ValueFits}
-use Rattle.ep_values.specs.declared.fault.Fault.{Fault}
-use Rattle.ep_values.specs.Faults.{kind_of}
+use Rattle.ep_machine.specs.declared.fault.Fault.{Fault}
+use Rattle.ep_machine.specs.Faults.{kind_of}
 
 -- the values of arguments
 abbrev pub values_by : Result (Vec Datum Global) Fault → Values

@@ -2,7 +2,7 @@
 use Rattle.std.specs.Prelude.{ℕ, ◌+◌, List, [], ◌∷◌}
 use Rattle.ep_core.specs.Program.{What, simple, call, if_else, loop, break_loop, continue_loop, by_order, scope}
 use Rattle.ep_core.specs.Program.{Stmts, stop, more}
-use Rattle.ep_core.specs.View.{shown_stmts}
+use Rattle.ep_core.specs.View.{stmts_view}
 use Rattle.ep_frames.specs.declared.frames.Frame.{Frame}
 use Rattle.ep_frames.specs.declared.frames.Frame.TheVariants.{Rest, Turn, Again, Scope, Arm, Call}
 use Rattle.ep_frames.specs.declared.frames.Now.{Now}
@@ -24,8 +24,8 @@ abbrev mutual
   heft (more l w rest) = 4 + (heft_one w + heft rest)
 
 abbrev pub heft_in : Frame → ℕ
-heft_in (Rest here ss) = 1 + heft (shown_stmts ss.now)
-heft_in (Turn r) = 3 + heft (shown_stmts r.next.now)
+heft_in (Rest here ss) = 1 + heft (stmts_view ss.now)
+heft_in (Turn r) = 3 + heft (stmts_view r.next.now)
 heft_in (Again r) = 1
 heft_in (Scope bs) = 1
 heft_in (Arm n) = 1
@@ -36,7 +36,7 @@ heft_all [] = 0
 heft_all (f ∷ fs) = heft_in f + heft_all fs
 
 abbrev pub heft_now : Now → ℕ
-heft_now (now.List here ss) = heft (shown_stmts ss.now)
+heft_now (now.List here ss) = heft (stmts_view ss.now)
 heft_now (now.Statement here s) = 0
 heft_now (now.Turn r) = 0
 heft_now (now.Reads x) = 0

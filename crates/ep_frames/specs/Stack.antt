@@ -11,10 +11,10 @@ use Rattle.ep_core.specs.Exec.{undefined_at, Going, counted, and_then, bytewise,
 use Rattle.ep_core.specs.Exec.{code_of_way, result_in, out_of, into, does, called, exec, exec_all, bodies}
 use Rattle.ep_core.specs.Typed.{MemoryFits, OperandsFit, ReceivedFits, SimpleOperandsFit, WhatOperandsFit}
 use Rattle.ep_core.specs.Typed.{AllOperandsFit}
-use Rattle.ep_core.specs.View.{shown_expr, shown_what, shown_stmts, shown_function, shown_dest}
-use Rattle.ep_values.specs.declared.setting.Setting.{Setting}
-use Rattle.ep_values.specs.Faults.{kind_of}
-use Rattle.ep_values.specs.Settings.{program_in, size_on, value_on}
+use Rattle.ep_core.specs.View.{expr_view, what_view, stmts_view, function_view, dest_view}
+use Rattle.ep_machine.specs.declared.setting.Setting.{Setting}
+use Rattle.ep_machine.specs.Faults.{kind_of}
+use Rattle.ep_machine.specs.Settings.{program_in, size_on, value_on}
 use Rattle.ep_frames.specs.declared.frames.Way as way
 use Rattle.ep_frames.specs.declared.frames.Way.TheVariants.{On, Broken, Continued, Returned}
 use Rattle.ep_frames.specs.declared.frames.Bytes.{Bytes}
@@ -71,11 +71,11 @@ module _ (m : Setting) where
 
   abbrev pub list_of : (here : ℕ) → List Stmt → Going
   list_of here ss =
-      exec_all m.order (program_in m) counted here (bodies m.order (program_in m) counted here) (shown_stmts ss)
+      exec_all m.order (program_in m) counted here (bodies m.order (program_in m) counted here) (stmts_view ss)
 
   abbrev pub again_of : Round → Going
   again_of r =
-      around (value_on m (shown_expr r.test.now)) r.line (list_of r.here r.body.now) (list_of r.here r.next.now)
+      around (value_on m (expr_view r.test.now)) r.line (list_of r.here r.body.now) (list_of r.here r.next.now)
 
   abbrev pub turn_of : Round → Going
   turn_of r = turn counted (list_of r.here r.body.now) (list_of r.here r.next.now) (again_of r)
@@ -92,7 +92,7 @@ module _ (m : Setting) where
   framed (Again r) x = and_then x (again_of r)
   framed (Scope bs) x = scope_left bs.now x
   framed (Arm n) x = arm_ends n x
-  framed (Call f d l) x = called m.order (program_in m) (shown_function f.now) (option_map shown_dest d.now) l x
+  framed (Call f d l) x = called m.order (program_in m) (function_view f.now) (option_map dest_view d.now) l x
 
   -- the outermost frame stands first
   abbrev pub piled : List Frame → Outcome → Outcome
@@ -101,7 +101,7 @@ module _ (m : Setting) where
 
   abbrev pub now_of : Now → Going
   now_of (now.List here ss) = list_of here ss.now
-  now_of (now.Statement here s) = one_of here (shown_what s.now.what) s.now.line
+  now_of (now.Statement here s) = one_of here (what_view s.now.what) s.now.line
   now_of (now.Turn r) = turn_of r
   now_of (now.Reads x) = reads_of x
   now_of (now.Writes x l) = writes_of x l
@@ -122,10 +122,10 @@ module _ (m : Setting) where
   OneFits here w = InEach (λ x. WhatOperandsFit m.order (program_in m) x here (result_at here) w)
 
   abbrev pub ListFits : (here : ℕ) → List Stmt → Type 0
-  ListFits here ss = InEach (λ x. AllOperandsFit m.order (program_in m) x here (result_at here) (shown_stmts ss))
+  ListFits here ss = InEach (λ x. AllOperandsFit m.order (program_in m) x here (result_at here) (stmts_view ss))
 
   pub record RoundFits (r : Round) : Type 0 where
-    pub test : InEach (λ x. OperandsFit m.order (program_in m) x (shown_expr r.test.now))
+    pub test : InEach (λ x. OperandsFit m.order (program_in m) x (expr_view r.test.now))
     pub body : ListFits r.here r.body.now
     pub next : ListFits r.here r.next.now
 
@@ -136,7 +136,7 @@ module _ (m : Setting) where
   FrameFits (Scope bs) = Unit {0}
   FrameFits (Arm n) = Unit {0}
   FrameFits (Call f d l) =
-      InEach (λ x. ReceivedFits m.order (program_in m) x f.now.result (option_map shown_dest d.now))
+      InEach (λ x. ReceivedFits m.order (program_in m) x f.now.result (option_map dest_view d.now))
 
   abbrev pub PileFits : List Frame → Type 0
   PileFits [] = Unit {0}
@@ -152,7 +152,7 @@ module _ (m : Setting) where
   abbrev pub NowFits : Now → Type 0
   NowFits (now.List here ss) = ListFits here ss.now
   NowFits (now.Statement here s) =
-      OneFits here (shown_what s.now.what) × (takes_step (shown_what s.now.what) ≡ true)
+      OneFits here (what_view s.now.what) × (takes_step (what_view s.now.what) ≡ true)
   NowFits (now.Turn r) = RoundFits r
   NowFits (now.Reads x) = BytesFit x
   NowFits (now.Writes x l) = BytesFit x

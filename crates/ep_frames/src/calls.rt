@@ -3,14 +3,14 @@
 ghost use Rattle.std.specs.Prelude.{◌≡◌, ℕ, suc, IfOk, IfSome, Some, map, option_to_list};
 ghost use Rattle.std.specs.List.{AllByRecursion};
 ghost use Rattle.std.specs.Option.{option_map};
-ghost use Rattle.ep_bytes.specs.Held.{memory_in};
-ghost use Rattle.ep_bytes.specs.Shown.{value_in};
+ghost use Rattle.ep_bytes.specs.StoreView.{memory_in};
+ghost use Rattle.ep_bytes.specs.View.{value_in};
 ghost use Rattle.ep_core.specs.Exec.{State, Outcome, bound, call_of, converted, first_of, put_dest, put_to, received};
 ghost use Rattle.ep_core.specs.Exec.{values, without};
 ghost use Rattle.ep_core.specs.Program.{call};
 ghost use Rattle.ep_core.specs.Typed.{CallOperandsFit, Lies, ReceivedFits, ValueFits};
-ghost use Rattle.ep_core.specs.View.{shown_dest, shown_expr, shown_function, shown_place};
-ghost use Rattle.ep_values.specs.Settings.{program_in, ExprFits};
+ghost use Rattle.ep_core.specs.View.{dest_view, expr_view, function_view, place_view};
+ghost use Rattle.ep_machine.specs.Settings.{program_in, ExprFits};
 ghost use Rattle.ep_frames.specs.Heft.{heft_now};
 ghost use Rattle.ep_frames.specs.Arguments.{values_by, AreBound};
 ghost use Rattle.ep_machine.specs.Machines.{done, state_in, Runs};
@@ -23,8 +23,7 @@ use ep_bytes::Datum;
 use ep_core::program::Function;
 use ep_core::tree::{Dest, Expr};
 use ep_int::{Memory, Scalar, wrap};
-use ep_machine::Machine;
-use ep_values::{Fault, Setting};
+use ep_machine::{Fault, Machine, Setting};
 use std::alloc::Global;
 
 // A value as the scalar that it goes to: a number is converted.
@@ -65,10 +64,10 @@ pub fn put_to(
 // What comes goes to its place.
 fn deliver<'p>(on: &Setting<'p>, machine: &mut Machine, dest: &Dest, v: Datum, line: u32) -> Now<'p>
     requires runs { Runs on.now machine.old }
-    requires typed { Lies on.now.order (program_in on.now) (memory_in machine.old.store) (shown_place dest.now.place) }
+    requires typed { Lies on.now.order (program_in on.now) (memory_in machine.old.store) (place_view dest.now.place) }
     requires fits { ValueFits (program_in on.now) dest.now.what (converted dest.now.what (value_in v)) }
     ensures comes { (left : ℕ) → now_of on.now result left (state_in machine.new) ≡ put_dest on.now.order
-        (program_in on.now) (Some (shown_dest dest.now)) (value_in v) line left (state_in machine.old) }
+        (program_in on.now) (Some (dest_view dest.now)) (value_in v) line left (state_in machine.old) }
     ensures heft { heft_now result ≡ 0 }
     ensures runs { Runs on.now machine.new }
     ensures fits { NowFits on.now result }
@@ -92,10 +91,10 @@ pub fn put_dest<'p>(
 ) -> Now<'p>
     requires runs { Runs on.now machine.old }
     requires typed { IfSome dest.now (λ d.
-        Lies on.now.order (program_in on.now) (memory_in machine.old.store) (shown_place d.place)) }
+        Lies on.now.order (program_in on.now) (memory_in machine.old.store) (place_view d.place)) }
     requires fits { IfSome dest.now (λ d. ValueFits (program_in on.now) d.what (converted d.what (value_in v))) }
     ensures comes { (left : ℕ) → now_of on.now result left (state_in machine.new) ≡ put_dest on.now.order
-        (program_in on.now) (option_map shown_dest dest.now) (value_in v) line left (state_in machine.old) }
+        (program_in on.now) (option_map dest_view dest.now) (value_in v) line left (state_in machine.old) }
     ensures runs { Runs on.now machine.new }
     ensures fits { NowFits on.now result }
 {
@@ -115,9 +114,9 @@ pub(crate) fn receive<'p>(
 ) -> Now<'p>
     requires runs { Runs on.now machine.old }
     requires typed { ReceivedFits on.now.order (program_in on.now) (memory_in machine.old.store) given
-        (option_map shown_dest dest.now) }
+        (option_map dest_view dest.now) }
     ensures comes { (left : ℕ) → now_of on.now result left (state_in machine.new) ≡ received on.now.order
-        (program_in on.now) given (option_map shown_dest dest.now) line left (state_in machine.old) }
+        (program_in on.now) given (option_map dest_view dest.now) line left (state_in machine.old) }
     ensures heft { heft_now result ≡ 0 }
     ensures runs { Runs on.now machine.new }
     ensures fits { NowFits on.now result }
@@ -142,9 +141,9 @@ fn values(
     arguments: &[Expr],
 ) -> Result<Result<Vec<Datum>, Fault>, Memory>
     requires runs { Runs on.now machine.now }
-    requires typed { AllByRecursion (λ e. ExprFits on.now (memory_in machine.now.store) (shown_expr e)) arguments.now }
+    requires typed { AllByRecursion (λ e. ExprFits on.now (memory_in machine.now.store) (expr_view e)) arguments.now }
     ensures { IfOk result (λ r. values_by r
-        ≡ values on.now.order (program_in on.now) (map shown_expr arguments.now) (memory_in machine.now.store)) }
+        ≡ values on.now.order (program_in on.now) (map expr_view arguments.now) (memory_in machine.now.store)) }
 {
     let mut all = Vec::with_capacity(alloc, arguments.len()).map_err(|_| Memory)?;
     for e in arguments {
@@ -209,12 +208,12 @@ pub(crate) fn enter<'p>(
 ) -> Result<Now<'p>, Memory>
     requires runs { Runs on.now machine.old }
     requires typed { InEach on.now (λ m. CallOperandsFit on.now.order (program_in on.now) m
-        (Some (shown_function f.now)) (map shown_expr arguments.now) (option_map shown_dest dest.now)) }
+        (Some (function_view f.now)) (map expr_view arguments.now) (option_map dest_view dest.now)) }
     requires body { ListFits on.now number f.now.body.items }
     ensures comes { IfOk result (λ n. ComesTo on.now stack.new.items n (state_in machine.new)
-        (λ left. piled on.now stack.old.items (call_of on.now.order (program_in on.now) (Some (shown_function f.now))
-        (list_of on.now number f.now.body.items) (map shown_expr arguments.now)
-        (option_map shown_dest dest.now) line left (state_in machine.old)))) }
+        (λ left. piled on.now stack.old.items (call_of on.now.order (program_in on.now) (Some (function_view f.now))
+        (list_of on.now number f.now.body.items) (map expr_view arguments.now)
+        (option_map dest_view dest.now) line left (state_in machine.old)))) }
     ensures runs { IfOk result (λ n. Runs on.now machine.new) }
     ensures fits { IfOk result (λ n. NowFits on.now n) }
     ensures pile { IfOk result (λ n. PileFits on.now stack.old.items → PileFits on.now stack.new.items) }
@@ -249,10 +248,10 @@ pub fn call<'p>(
     line: u32,
 ) -> Result<Now<'p>, Memory>
     requires runs { Runs on.now machine.old }
-    requires typed { OneFits on.now here (call number (map shown_expr arguments.now) (option_map shown_dest dest.now)) }
+    requires typed { OneFits on.now here (call number (map expr_view arguments.now) (option_map dest_view dest.now)) }
     ensures comes { IfOk result (λ n. ComesTo on.now stack.new.items n (state_in machine.new)
-        (λ left. piled on.now stack.old.items (one_of on.now here (call number (map shown_expr arguments.now)
-        (option_map shown_dest dest.now)) line (suc left) (state_in machine.old)))) }
+        (λ left. piled on.now stack.old.items (one_of on.now here (call number (map expr_view arguments.now)
+        (option_map dest_view dest.now)) line (suc left) (state_in machine.old)))) }
     ensures runs { IfOk result (λ n. Runs on.now machine.new) }
     ensures fits { IfOk result (λ n. NowFits on.now n) }
     ensures pile { IfOk result (λ n. PileFits on.now stack.old.items → PileFits on.now stack.new.items) }

@@ -2,14 +2,14 @@
 
 ghost use Rattle.std.specs.Prelude.{◌≡◌, ◌+◌, OnOk};
 ghost use Rattle.ep_core.specs.Exec.{Outcome};
-ghost use Rattle.ep_values.specs.declared.setting.Setting.{Setting};
+ghost use Rattle.ep_machine.specs.declared.setting.Setting.{Setting};
 ghost use Rattle.ep_frames.specs.Stack.{framed, piled, FrameFits, PileFits};
 ghost use Rattle.ep_frames.specs.Heft.{heft_all, heft_in};
 
 use ep_core::program::Function;
 use ep_core::tree::{Dest, Expr, Stmt};
 use ep_int::Memory;
-use ep_values::Fault;
+use ep_machine::Fault;
 
 /// How a statement is left.
 #[derive(Debug, Clone, Copy, Drop)]

@@ -2,14 +2,14 @@
 
 ghost use Rattle.std.specs.Prelude.{◌≡◌, ◌+◌, ◌<◌, ℕ, IfOk};
 ghost use Rattle.std.specs.Option.{option_map};
-ghost use Rattle.ep_bytes.specs.Held.{memory_in};
+ghost use Rattle.ep_bytes.specs.StoreView.{memory_in};
 ghost use Rattle.ep_core.specs.Exec.{State, Way as PlainWay, and_then, bytewise_rest, called, code_of_way, counted};
 ghost use Rattle.ep_core.specs.Exec.{either, given, into};
 ghost use Rattle.ep_core.specs.Exec.{is_true as truth, leaves, on as at_end, out_of, turned};
 ghost use Rattle.ep_core.specs.Typed.{ReceivedFits};
-ghost use Rattle.ep_core.specs.View.{shown_dest, shown_expr, shown_function, shown_stmts};
-ghost use Rattle.ep_values.specs.declared.setting.Setting.{Setting as Plain};
-ghost use Rattle.ep_values.specs.Settings.{program_in, value_on};
+ghost use Rattle.ep_core.specs.View.{dest_view, expr_view, function_view, stmts_view};
+ghost use Rattle.ep_machine.specs.declared.setting.Setting.{Setting as Plain};
+ghost use Rattle.ep_machine.specs.Settings.{program_in, value_on};
 ghost use Rattle.ep_frames.specs.Heft.{heft, heft_all, heft_in, heft_now};
 ghost use Rattle.ep_machine.specs.Machines.{done, state_in, Runs};
 ghost use Rattle.ep_frames.specs.Stack.{again_of, framed, list_of, now_of, piled, turn_of, way_of};
@@ -20,8 +20,7 @@ use crate::frames::{Bytes, Frame, Now, Round, Way, push};
 use ep_core::program::Function;
 use ep_core::tree::{Dest, Stmt};
 use ep_int::Memory;
-use ep_machine::Machine;
-use ep_values::{Fault, Setting, is_true};
+use ep_machine::{Fault, Machine, Setting, is_true};
 
 /// What comes after something that was done, or was a fault.
 pub fn left_by<'p>(outcome: Result<(), Fault>, way: Way, line: u32) -> Now<'p>
@@ -41,7 +40,7 @@ fn tested<'p>(on: &Setting<'p>, machine: &mut Machine, round: &Round<'p>) -> Res
     requires runs { Runs on.now machine.old }
     requires typed { RoundFits on.now round.now }
     ensures comes { IfOk result (λ n. (left : ℕ) → now_of on.now n left (state_in machine.new) ≡ given
-        (value_on on.now (shown_expr round.now.test.now) (memory_in machine.old.store)) round.now.line
+        (value_on on.now (expr_view round.now.test.now) (memory_in machine.old.store)) round.now.line
         (state_in machine.old) (λ v.
         either (truth v) (turn_of on.now round.now) (leaves at_end) left (state_in machine.old))) }
     ensures heft { IfOk result (λ n. heft_now n ≡ 0) }
@@ -65,7 +64,7 @@ fn tested<'p>(on: &Setting<'p>, machine: &mut Machine, round: &Round<'p>) -> Res
 fn leave_rest<'p>(here: u32, rest: &'p [Stmt], way: Way) -> Now<'p>
     ensures comes { (m : Plain) (left : ℕ) (s : State) → now_of m result left s
         ≡ and_then (leaves (way_of way) left s) (list_of m here rest.now) }
-    ensures heft { heft_now result < 1 + heft (shown_stmts rest.now) }
+    ensures heft { heft_now result < 1 + heft (stmts_view rest.now) }
     ensures fits { (m : Plain) → ListFits m here rest.now → NowFits m result }
 {
     match way {
@@ -82,7 +81,7 @@ fn next_part<'p>(stack: &mut Vec<Frame<'p>>, round: &Round<'p>) -> Result<Now<'p
         ≡ piled m stack.old.items (and_then (list_of m round.now.here round.now.next.now left s)
         (again_of m round.now))) }
     ensures heft { IfOk result (λ n. heft_now n + heft_all stack.new.items < 3 + heft
-        (shown_stmts round.now.next.now) + heft_all stack.old.items) }
+        (stmts_view round.now.next.now) + heft_all stack.old.items) }
     ensures fits { IfOk result (λ n. (m : Plain) → RoundFits m round.now → NowFits m n ×
         (PileFits m stack.old.items → PileFits m stack.new.items)) }
 {
@@ -100,7 +99,7 @@ fn leave_turn<'p>(
         ≡ piled m stack.old.items (turned (leaves (way_of way) left s) (list_of m round.now.here round.now.next.now)
         (again_of m round.now))) }
     ensures heft { IfOk result (λ n. heft_now n + heft_all stack.new.items < 3 + heft
-        (shown_stmts round.now.next.now) + heft_all stack.old.items) }
+        (stmts_view round.now.next.now) + heft_all stack.old.items) }
     ensures fits { IfOk result (λ n. (m : Plain) → RoundFits m round.now → NowFits m n ×
         (PileFits m stack.old.items → PileFits m stack.new.items)) }
 {
@@ -159,9 +158,9 @@ fn leave_call<'p>(
 ) -> Now<'p>
     requires runs { Runs on.now machine.old }
     requires typed { InEach on.now (λ m.
-        ReceivedFits on.now.order (program_in on.now) m f.now.result (option_map shown_dest dest.now)) }
+        ReceivedFits on.now.order (program_in on.now) m f.now.result (option_map dest_view dest.now)) }
     ensures comes { (w : PlainWay) (left : ℕ) → now_of on.now result left (state_in machine.new) ≡ called on.now.order
-        (program_in on.now) (shown_function f.now) (option_map shown_dest dest.now) line
+        (program_in on.now) (function_view f.now) (option_map dest_view dest.now) line
         (leaves w left (state_in machine.old)) }
     ensures heft { heft_now result ≡ 0 }
     ensures runs { Runs on.now machine.new }

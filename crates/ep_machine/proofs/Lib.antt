@@ -1,3 +1,4 @@
+pub mod Answers
 pub mod Kills
 pub mod Parts
 pub mod Writes

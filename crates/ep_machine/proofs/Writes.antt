@@ -8,21 +8,21 @@ use Rattle.ep_int.specs.Memory.{Memory, Value, Kind, bounds, overlap, copied, fi
 use Rattle.ep_int.specs.Memory.{range_fault}
 use Rattle.ep_int.specs.Memory.{replaced, store_fault, stored, undefined}
 use Rattle.ep_alarms.specs.declared.types.AlarmKind.{AlarmKind}
-use Rattle.ep_bytes.specs.Shown.{fault_at, written_as}
-use Rattle.ep_bytes.specs.Held.{Held, copy_fault, first_fault, is_same, memory_in, place_fault, size_in, IsLike}
+use Rattle.ep_bytes.specs.View.{fault_at, written_as}
+use Rattle.ep_bytes.specs.StoreView.{StoreView, copy_fault, first_fault, is_same, memory_in, place_fault, size_in, IsLike}
 use Rattle.ep_core.specs.Exec.{State, Outcome, leaves, on, change, copy_at, model, put_at, remembers, unless}
 use Rattle.ep_core.specs.Exec.{undefined_at}
 use Rattle.ep_core.specs.Exec.{copy_fault as plain_fault}
 use Rattle.ep_core.specs.Typed.{MemoryFits, ValueFits}
 use Rattle.ep_core.proofs.Bytes.{replaced_bytes, stored_bytes, filled_bytes, copied_bytes, killed_bytes}
-use Rattle.ep_values.specs.declared.fault.Fault.{Fault}
-use Rattle.ep_values.specs.declared.setting.Setting.{Setting}
-use Rattle.ep_values.specs.Settings.{program_in, size_on, IsLaid}
-use Rattle.ep_machine.specs.Machines.{done, fault_by, state_in, ArePartsOf, Kept, Runs}
+use Rattle.ep_machine.specs.declared.fault.Fault.{Fault}
+use Rattle.ep_machine.specs.declared.setting.Setting.{Setting}
+use Rattle.ep_machine.specs.Settings.{program_in, size_on, IsLaid}
+use Rattle.ep_machine.specs.Machines.{done, fault_by, state_in, ArePartsOf, MachineView, Runs}
 use Rattle.ep_machine.proofs.Parts.{replaced_parts, stored_parts, filled_parts, copied_parts, killed_parts}
 
 -- a store that keeps its blocks
-pub like_laid : (m : Setting) (old new : Held) → IsLaid m old → IsLike old new → IsLaid m new
+pub like_laid : (m : Setting) (old new : StoreView) → IsLaid m old → IsLike old new → IsLaid m new
 like_laid m old new h k = record {
   model = k.model ∙ h.model;
   count = k.count ∙ h.count;
@@ -30,10 +30,10 @@ like_laid m old new h k = record {
 }
 
 -- what holds of memory after a write, whether it was done or not
-pub fits_after : (P : Memory → Type 0) (old new : Held) (a : Result ⊤ AlarmKind) (x : Memory)
+pub fits_after : (P : Memory → Type 0) (old new : StoreView) (a : Result ⊤ AlarmKind) (x : Memory)
     → OnOk a (memory_in new ≡ x) → OnErr a (new ≡ old) → P (memory_in old) → P x → P (memory_in new)
 fits_after P old new (Ok u) x e k h i = subst P (sym e) i
-fits_after P old new (Err y) x e k h i = subst (λ (o : Held). P (memory_in o)) (sym k) h
+fits_after P old new (Err y) x e k h i = subst (λ (o : StoreView). P (memory_in o)) (sym k) h
 
 -- ---- a write and what comes after it
 
@@ -44,7 +44,7 @@ answered (Err k) l s x f e = rw (sym e) refl
 
 -- Where it was done the memory is x, and else nothing changed.
 pub write_done : (f : Option Kind) (a : Result ⊤ AlarmKind) (r : Result ⊤ Fault) → a ≡ written_as f → fault_by r ≡ f
-    → (k : Kept) (old new : Held) (x : Memory) → old ≡ k.store → OnOk a (memory_in new ≡ x) → OnErr a (new ≡ old)
+    → (k : MachineView) (old new : StoreView) (x : Memory) → old ≡ k.store → OnOk a (memory_in new ≡ x) → OnErr a (new ≡ old)
     → (l : ℕ) (go : State → Outcome)
     → unless f l (state_in k) (go (remembers x (state_in k)))
     ≡ done r l (remembers (memory_in new) (state_in k)) (go (remembers (memory_in new) (state_in k)))
@@ -55,16 +55,16 @@ write_done None a r ea er k old new x eo ok err l go =
 write_done (Some y) a r ea er k old new x eo ok err l go =
     let o : OnErr (written_as (Some y)) (new ≡ old)
     = subst (λ (z : Result ⊤ AlarmKind). OnErr z (new ≡ old)) ea err in
-    ap (λ (h : Held). undefined_at l y (remembers (memory_in h) (state_in k))) (sym (o ∙ eo))
+    ap (λ (h : StoreView). undefined_at l y (remembers (memory_in h) (state_in k))) (sym (o ∙ eo))
     ∙ sym (answered r l _ _ (Some y) er)
 
 -- ---- faults, as a store and as the definition find them
 
-pub range_same : (m : Setting) (h : Held) → IsLaid m h → (b here n : ℕ) (z : ℤ) → z ≡ pos here
+pub range_same : (m : Setting) (h : StoreView) → IsLaid m h → (b here n : ℕ) (z : ℤ) → z ≡ pos here
     → place_fault h (b, z) n ≡ range_fault (size_on m b) here n
 range_same m h laid b here n z e = rw (e, laid.sizes b) refl
 
-pub store_same : (m : Setting) (h : Held) → IsLaid m h → (what : Scalar) (b here : ℕ) (z : ℤ) → z ≡ pos here
+pub store_same : (m : Setting) (h : StoreView) → IsLaid m h → (what : Scalar) (b here : ℕ) (z : ℤ) → z ≡ pos here
     → fault_at z (store_fault h.model (size_in h b) what)
     ≡ store_fault (model m.order (program_in m)) (size_on m b) what here
 store_same m h laid what b here z e = rw (e, laid.sizes b, laid.model) refl
@@ -80,7 +80,7 @@ copy_tests false false true true = refl
 copy_tests false false true false = refl
 copy_tests false false false w = refl
 
-pub copy_same : (m : Setting) (h : Held) → IsLaid m h → (b q c r n : ℕ) (is_assignment : Bool) (y z : ℤ) → y ≡ pos q
+pub copy_same : (m : Setting) (h : StoreView) → IsLaid m h → (b q c r n : ℕ) (is_assignment : Bool) (y z : ℤ) → y ≡ pos q
     → z ≡ pos r
     → copy_fault h (b, y) (c, z) n (is_same (b, y) (c, z) is_assignment)
     ≡ plain_fault m.order (program_in m) b q c r n (is_assignment && (nat_eq b c && nat_eq q r))
@@ -91,17 +91,17 @@ copy_same m h laid b q c r n t y z ey ez =
 
 -- ---- the calls of a machine, which has a store; what it shows is seen from outside as `now`
 
-module _ (m : Setting) {v now : Kept} (view : v ≡ now) (runs : Runs m now) (new : Held) (like : IsLike v.store new)
+module _ (m : Setting) {v now : MachineView} (view : v ≡ now) (runs : Runs m now) (new : StoreView) (like : IsLike v.store new)
     (a : Result ⊤ AlarmKind) (err : OnErr a (new ≡ v.store)) where
   kept_laid : IsLaid m v.store
-  kept_laid = subst (λ (k : Kept). IsLaid m k.store) (sym view) runs.laid
+  kept_laid = subst (λ (k : MachineView). IsLaid m k.store) (sym view) runs.laid
 
   kept_fits : MemoryFits (program_in m) (memory_in v.store)
-  kept_fits = subst (λ (k : Kept). MemoryFits (program_in m) (memory_in k.store)) (sym view) runs.fits
+  kept_fits = subst (λ (k : MachineView). MemoryFits (program_in m) (memory_in k.store)) (sym view) runs.fits
 
   kept_parts : ArePartsOf (model m.order (program_in m)) (memory_in v.store)
   kept_parts =
-      subst (λ (k : Kept). ArePartsOf (model m.order (program_in m)) (memory_in k.store)) (sym view) runs.parts
+      subst (λ (k : MachineView). ArePartsOf (model m.order (program_in m)) (memory_in k.store)) (sym view) runs.parts
 
   -- in the model of the store, which is that of the program
   store_parts : ArePartsOf v.store.model (memory_in v.store)
@@ -146,7 +146,7 @@ module _ (m : Setting) {v now : Kept} (view : v ≡ now) (runs : Runs m now) (ne
       (copied_parts v.store.model (memory_in v.store) b q c r n store_parts)
 
   module _ (r : Result ⊤ Fault) (written : (f : Option Kind) → a ≡ written_as f → fault_by r ≡ f) where
-    abbrev Then : (k : Kept) → Option Kind → Memory → Type 0
+    abbrev Then : (k : MachineView) → Option Kind → Memory → Type 0
     Then k f x =
         (l : ℕ) (go : State → Outcome) → unless f l (state_in k) (go (remembers x (state_in k)))
         ≡ done r l (remembers (memory_in new) (state_in v)) (go (remembers (memory_in new) (state_in v)))
@@ -163,7 +163,7 @@ module _ (m : Setting) {v now : Kept} (view : v ≡ now) (runs : Runs m now) (ne
         let d = model m.order (program_in m) in
         let x : stored m.order v.store.model (memory_in v.store) what b (unsigned_abs z) w
         ≡ stored m.order d (memory_in v.store) what b here w = rw (ez, kept_laid.model) refl in
-        subst (λ (k : Kept). Then k (store_fault d (size_on m b) what here)
+        subst (λ (k : MachineView). Then k (store_fault d (size_on m b) what here)
         (stored m.order d (memory_in k.store) what b here w)) view
         (then_so _ _ (e ∙ ap written_as (store_same m v.store kept_laid what b here z ez))
         (subst (λ y. OnOk a (memory_in new ≡ y)) x ok))
@@ -177,7 +177,7 @@ module _ (m : Setting) {v now : Kept} (view : v ≡ now) (runs : Runs m now) (ne
     fill_comes b here n byte z ez e ok l left =
         let x : filled v.store.model (memory_in v.store) b (unsigned_abs z) n byte
         ≡ filled v.store.model (memory_in v.store) b here n byte = rw ez refl in
-        subst (λ (k : Kept). Then k (range_fault (size_on m b) here n)
+        subst (λ (k : MachineView). Then k (range_fault (size_on m b) here n)
         (filled k.store.model (memory_in k.store) b here n byte)) view
         (then_so _ _ (e ∙ ap written_as (range_same m v.store kept_laid b here n z ez))
         (subst (λ y. OnOk a (memory_in new ≡ y)) x ok)) l (leaves on left)
@@ -191,7 +191,7 @@ module _ (m : Setting) {v now : Kept} (view : v ≡ now) (runs : Runs m now) (ne
     clear_comes b here n z ez e ok l left =
         let x : replaced v.store.model (memory_in v.store) b (unsigned_abs z) n (λ k. undefined)
         ≡ replaced v.store.model (memory_in v.store) b here n (λ k. undefined) = rw ez refl in
-        subst (λ (k : Kept). Then k (range_fault (size_on m b) here n)
+        subst (λ (k : MachineView). Then k (range_fault (size_on m b) here n)
         (replaced k.store.model (memory_in k.store) b here n (λ k. undefined))) view
         (then_so _ _ (e ∙ ap written_as (range_same m v.store kept_laid b here n z ez))
         (subst (λ y. OnOk a (memory_in new ≡ y)) x ok)) l (leaves on left)
@@ -209,19 +209,19 @@ module _ (m : Setting) {v now : Kept} (view : v ≡ now) (runs : Runs m now) (ne
         else copied v.store.model (memory_in v.store) b (unsigned_abs y) c (unsigned_abs z) n)
         ≡ (if t && (nat_eq b c && nat_eq q s) then memory_in v.store else copied d (memory_in v.store) b q c s n)
         = rw (ey, ez, kept_laid.model) refl in
-        subst (λ (k : Kept). Then k (plain_fault m.order (program_in m) b q c s n (t && (nat_eq b c && nat_eq q s)))
+        subst (λ (k : MachineView). Then k (plain_fault m.order (program_in m) b q c s n (t && (nat_eq b c && nat_eq q s)))
         (if t && (nat_eq b c && nat_eq q s) then memory_in k.store else copied d (memory_in k.store) b q c s n)) view
         (then_so _ _ (e ∙ ap written_as (copy_same m v.store kept_laid b q c s n t y z ey ez))
         (subst (λ w. OnOk a (memory_in new ≡ w)) x ok)) l (leaves on left)
 
 -- ---- a block that becomes undefined
 
-pub kill_runs : (m : Setting) {v now : Kept} (view : v ≡ now) (b : ℕ) (new : Held) → Runs m now → IsLike v.store new
+pub kill_runs : (m : Setting) {v now : MachineView} (view : v ≡ now) (b : ℕ) (new : StoreView) → Runs m now → IsLike v.store new
     → memory_in new ≡ killed (b ∷ []) (memory_in v.store) → Runs m (record v { store = new })
 kill_runs m {v} {now} view b new runs like e =
-    let laid = subst (λ (k : Kept). IsLaid m k.store) (sym view) runs.laid in
-    let fits = subst (λ (k : Kept). MemoryFits (program_in m) (memory_in k.store)) (sym view) runs.fits in
-    let parts = subst (λ (k : Kept). ArePartsOf (model m.order (program_in m)) (memory_in k.store)) (sym view) runs.parts in
+    let laid = subst (λ (k : MachineView). IsLaid m k.store) (sym view) runs.laid in
+    let fits = subst (λ (k : MachineView). MemoryFits (program_in m) (memory_in k.store)) (sym view) runs.fits in
+    let parts = subst (λ (k : MachineView). ArePartsOf (model m.order (program_in m)) (memory_in k.store)) (sym view) runs.parts in
     record {
       laid = like_laid m v.store new laid like;
       fits = subst (MemoryFits (program_in m)) (sym e) (killed_bytes (program_in m) (b ∷ []) (memory_in v.store) fits);

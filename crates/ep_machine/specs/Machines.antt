@@ -4,34 +4,34 @@ use Rattle.ep_int.specs.Memory.{Byte, undefined, number, fragment, Kind, Memory,
 use Rattle.ep_int.specs.declared.types.Model.{Model}
 use Rattle.ep_int.specs.Types.{pointer_bytes}
 use Rattle.ep_int.specs.declared.types.Scalar.{Scalar}
-use Rattle.ep_bytes.specs.Held.{Held, memory_in}
+use Rattle.ep_bytes.specs.StoreView.{StoreView, memory_in}
 use Rattle.ep_core.specs.Exec.{Output, State, Outcome, leaves, on, model, no_input, undefined_at, change, copy_at}
 use Rattle.ep_core.specs.Exec.{put_at}
 use Rattle.ep_core.specs.Typed.{MemoryFits}
-use Rattle.ep_values.specs.declared.fault.Fault.{Fault}
-use Rattle.ep_values.specs.declared.setting.Setting.{Setting}
-use Rattle.ep_values.specs.Faults.{kind_of}
-use Rattle.ep_values.specs.Settings.{IsLaid, program_in}
+use Rattle.ep_machine.specs.declared.fault.Fault.{Fault}
+use Rattle.ep_machine.specs.declared.setting.Setting.{Setting}
+use Rattle.ep_machine.specs.Faults.{kind_of}
+use Rattle.ep_machine.specs.Settings.{IsLaid, program_in}
 use Rattle.ep_machine.specs.declared.output.Output as code
 
 -- its memory, the inputs left and how many were taken, the outputs, the tests and the joint tests
-pub record Kept : Type 0 where
-  pub store : Held
+pub record MachineView : Type 0 where
+  pub store : StoreView
   pub inputs : List ℕ
   pub used : ℕ
   pub outputs : List code.Output
   pub tests : List ℕ
   pub joint_tests : List ℕ
 
-abbrev pub shown_output : code.Output → Output
-shown_output x = record { t = x.t; value = x.value }
+abbrev pub output_view : code.Output → Output
+output_view x = record { t = x.t; value = x.value }
 
-abbrev pub state_in : Kept → State
+abbrev pub state_in : MachineView → State
 state_in k = record {
   memory = memory_in k.store;
   inputs = k.inputs;
   used = k.used;
-  outputs = map shown_output k.outputs;
+  outputs = map output_view k.outputs;
   tests = k.tests;
   joint_tests = k.joint_tests;
 }
@@ -57,7 +57,7 @@ abbrev pub ArePartsOf : Model → Memory → Type 0
 ArePartsOf d m = (b q : ℕ) → IsPart d (m b q)
 
 -- a machine that runs this program
-pub record Runs (on : Setting) (k : Kept) : Type 0 where
+pub record Runs (on : Setting) (k : MachineView) : Type 0 where
   pub laid : IsLaid on k.store
   pub fits : MemoryFits (program_in on) (memory_in k.store)
   pub parts : ArePartsOf (model on.order (program_in on)) (memory_in k.store)

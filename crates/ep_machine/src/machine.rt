@@ -4,26 +4,29 @@ ghost use Rattle.std.specs.Prelude.{◌≡◌, ◌+◌, ◌<◌, ◌≤◌, ◌^
 ghost use Rattle.std.specs.Prelude.{length, map};
 ghost use Rattle.std.specs.Prelude.{nat_eq, take as front, unwrap_or, vec_len, slice_get};
 ghost use Rattle.ep_int.specs.Memory.{filled, replaced, undefined};
-ghost use Rattle.ep_bytes.specs.Held.{memory_in};
-ghost use Rattle.ep_bytes.specs.Shown.{value_in, written_as};
+ghost use Rattle.ep_bytes.specs.StoreView.{memory_in};
+ghost use Rattle.ep_bytes.specs.View.{value_in, written_as};
 ghost use Rattle.ep_core.specs.Exec.{State, Outcome, Output as PlainOutput, leaves, on as at_end, byte_out};
 ghost use Rattle.ep_core.specs.Exec.{bytes_in as bytes_of_type};
 ghost use Rattle.ep_core.specs.Exec.{change, cleared, copy_at, first_of, listed, put_at, put_out, taken, unless};
 ghost use Rattle.ep_core.specs.Exec.{without};
 ghost use Rattle.ep_core.specs.Typed.{ValueFits};
-ghost use Rattle.ep_core.specs.View.{shown_expr, shown_place};
+ghost use Rattle.ep_core.specs.View.{expr_view, place_view};
 ghost use Rattle.ep_int.specs.Memory.{range_fault, Kind};
-ghost use Rattle.ep_values.specs.Faults.{found_by};
-ghost use Rattle.ep_values.specs.Settings.{address_on, loaded_on, program_in, size_on, value_on, ExprFits, PlaceFits};
+ghost use Rattle.ep_machine.specs.Faults.{found_by};
+ghost use Rattle.ep_machine.specs.Settings.{address_on, loaded_on, program_in, size_on, value_on, ExprFits, PlaceFits};
 ghost use Rattle.ep_machine.specs.Machines.{after_input, begun, done, fault_by, state_in};
-ghost use Rattle.ep_machine.specs.Machines.{Changes, Copies, Kept, Puts, Runs};
+ghost use Rattle.ep_machine.specs.Machines.{Changes, Copies, MachineView, Puts, Runs};
 
+use crate::evaluate::{address, value};
+use crate::fault::{Fault, fault_of};
 use crate::output::Output;
+use crate::reads::{load, size_of_block};
+use crate::setting::Setting;
 use ep_alarms::AlarmKind;
 use ep_bytes::{Datum, Store};
 use ep_core::tree::{Expr, Place};
 use ep_int::{IntType, Memory, Scalar};
-use ep_values::{Fault, Setting, address, fault_of, load, size_of_block, value};
 use std::alloc::Global;
 use std::marker::Model;
 
@@ -41,9 +44,9 @@ pub struct Machine {
 
 impl Model for Machine {
     ghost use Rattle.std.specs.Prelude.{◌≤◌, drop, vec_len};
-    ghost use Rattle.ep_machine.specs.Machines.{Kept};
+    ghost use Rattle.ep_machine.specs.Machines.{MachineView};
 
-    ghost Value = { Kept };
+    ghost Value = { MachineView };
 
     ghost view = { λ m. record {
       store = m.store;
@@ -77,8 +80,8 @@ impl Machine {
     /// The value of an expression.
     pub fn value(&self, on: &Setting, e: &Expr) -> Result<Datum, Fault>
         requires runs { Runs on.now self.now }
-        requires typed { ExprFits on.now (memory_in self.now.store) (shown_expr e.now) }
-        ensures { found_by result ≡ value_on on.now (shown_expr e.now) (memory_in self.now.store) }
+        requires typed { ExprFits on.now (memory_in self.now.store) (expr_view e.now) }
+        ensures { found_by result ≡ value_on on.now (expr_view e.now) (memory_in self.now.store) }
     {
         value(on, &self.store, e)
     }
@@ -86,8 +89,8 @@ impl Machine {
     /// The address of a place.
     pub fn address(&self, on: &Setting, a: &Place) -> Result<Datum, Fault>
         requires runs { Runs on.now self.now }
-        requires typed { PlaceFits on.now (memory_in self.now.store) (shown_place a.now) }
-        ensures { found_by result ≡ address_on on.now (shown_place a.now) (memory_in self.now.store) }
+        requires typed { PlaceFits on.now (memory_in self.now.store) (place_view a.now) }
+        ensures { found_by result ≡ address_on on.now (place_view a.now) (memory_in self.now.store) }
     {
         address(on, &self.store, a)
     }

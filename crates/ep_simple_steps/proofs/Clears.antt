@@ -1,5 +1,6 @@
 -- Places that are cleared, leaf by leaf.
 use Rattle.std.proofs.Common.{◌≡◌, ℕ, zero, suc, ◌+◌, ◌-◌, ◌<◌, ◌≤◌, Bool, true, false, ◌&&◌, ◌||◌, not, nat_eq}
+use Rattle.ep_int.proofs.Basics.{take-all}
 use Rattle.std.proofs.Common.{nat_lt, nat_le}
 use Rattle.std.proofs.Common.{if◌then◌else◌, List, [], ◌∷◌, get_or, length, take, refl, sym, ap, ◌∙◌, subst, arith}
 use Rattle.std.specs.Prelude.{⊤, Option, unwrap_or, Result}
@@ -15,9 +16,9 @@ use Rattle.ep_layout.specs.declared.types.Leaf.{Leaf}
 use Rattle.ep_layout.specs.Layout.{AreLeavesFrom, Layout}
 use Rattle.ep_layout.specs.Table.{Table, leaves}
 use Rattle.ep_core.specs.Exec.{State, bytes_in, cleared, is_in_leaf, model, remembers}
-use Rattle.ep_values.specs.declared.fault.Fault.{Fault}
-use Rattle.ep_values.specs.declared.setting.Setting.{Setting}
-use Rattle.ep_values.specs.Settings.{program_in, size_on}
+use Rattle.ep_machine.specs.declared.fault.Fault.{Fault}
+use Rattle.ep_machine.specs.declared.setting.Setting.{Setting}
+use Rattle.ep_machine.specs.Settings.{program_in, size_on}
 use Rattle.ep_machine.specs.Machines.{IsPart, ArePartsOf, Changes}
 use Rattle.ep_machine.proofs.Tables.{no_layout}
 use Rattle.ep_simple_steps.specs.Zeros.{zeros_in}
@@ -124,12 +125,6 @@ plain_choice : (t : Bool) → IsPlain (if t then number 0 else undefined)
 plain_choice true = tt
 plain_choice false = tt
 
-all_taken : {X : Type 0} (i : ℕ) (xs : List X) → length xs ≤ i → take i xs ≡ xs
-all_taken zero [] h = refl
-all_taken zero (x ∷ xs) h = absurd (omega arith)
-all_taken (suc i) [] h = refl
-all_taken (suc i) (x ∷ xs) h = ap (λ ys. x ∷ ys) (all_taken i xs (omega arith))
-
 module _ (m : Setting) where
   zeros_plain : (fs : List Leaf) (k : ℕ) → IsPlain (zeros_in m fs k)
   zeros_plain fs k = plain_choice (list_any (is_in_leaf m.order (program_in m) k) fs)
@@ -172,7 +167,7 @@ module _ (m : Setting) where
       → r ≡ remembers (replaced (model m.order (program_in m)) x b q n (zeros_in m (take i fs))) s
       → r ≡ remembers (replaced (model m.order (program_in m)) x b q n (zeros_in m fs)) s
   zeros_done x b q n fs i r s h e =
-      e ∙ ap (λ gs. remembers (replaced (model m.order (program_in m)) x b q n (zeros_in m gs)) s) (all_taken i fs h)
+      e ∙ ap (λ gs. remembers (replaced (model m.order (program_in m)) x b q n (zeros_in m gs)) s) (take-all i fs h)
 
   -- a place with all its leaves is cleared
   pub cleared_is : (x : Memory) (ty b q n : ℕ) (fs : List Leaf) (s : State) → fs ≡ leaves (program_in m).types ty

@@ -1,8 +1,8 @@
 -- A place that is found on the way.
 use Rattle.std.specs.Prelude.{ℕ, Result, Ok, Err}
 use Rattle.ep_core.specs.Exec.{State, Outcome, undefined_at}
-use Rattle.ep_values.specs.declared.fault.Fault.{Fault}
-use Rattle.ep_values.specs.Faults.{kind_of}
+use Rattle.ep_machine.specs.declared.fault.Fault.{Fault}
+use Rattle.ep_machine.specs.Faults.{kind_of}
 
 -- what comes where a place was found, or was a fault
 abbrev pub at_found : Result (ℕ × ℕ) Fault → (line : ℕ) → State → (ℕ → ℕ → Outcome) → Outcome

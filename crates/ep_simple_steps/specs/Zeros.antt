@@ -4,8 +4,8 @@ use Rattle.std.specs.List.{list_any}
 use Rattle.ep_int.specs.Memory.{Byte, undefined, number}
 use Rattle.ep_layout.specs.declared.types.Leaf.{Leaf}
 use Rattle.ep_core.specs.Exec.{is_in_leaf}
-use Rattle.ep_values.specs.declared.setting.Setting.{Setting}
-use Rattle.ep_values.specs.Settings.{program_in}
+use Rattle.ep_machine.specs.declared.setting.Setting.{Setting}
+use Rattle.ep_machine.specs.Settings.{program_in}
 
 -- the bytes of a place in which these leaves are 0 or null, and all other bytes are undefined
 abbrev pub zeros_in : Setting → List Leaf → (k : ℕ) → Byte

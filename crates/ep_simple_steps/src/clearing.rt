@@ -2,17 +2,16 @@
 
 ghost use Rattle.std.specs.Prelude.{◌≡◌, ◌+◌, ◌<◌, ◌≤◌, ◌^◌, ℕ, IfOk, OnOk, length};
 ghost use Rattle.ep_int.specs.Memory.{replaced, undefined, Memory as Bytes};
-ghost use Rattle.ep_bytes.specs.Held.{memory_in};
+ghost use Rattle.ep_bytes.specs.StoreView.{memory_in};
 ghost use Rattle.ep_core.specs.Exec.{bytes_in as bytes_of_type, cleared, model, remembers};
 ghost use Rattle.ep_layout.specs.Layout.{AreLeavesFrom};
-ghost use Rattle.ep_values.specs.Settings.{program_in, size_on};
+ghost use Rattle.ep_machine.specs.Settings.{program_in, size_on};
 ghost use Rattle.ep_machine.specs.Machines.{state_in, ArePartsOf, Changes, Runs};
 ghost use Rattle.ep_simple_steps.specs.Zeros.{zeros_in};
 
 use ep_int::{Memory, size};
 use ep_layout::Leaf;
-use ep_machine::{Machine, bytes_in, check};
-use ep_values::{Fault, Setting};
+use ep_machine::{Fault, Machine, Setting, bytes_in, check};
 
 // The scalars of a place that was made undefined become 0 or null.
 fn zero_leaves(on: &Setting, machine: &mut Machine, block: u32, here: u32, n: u32, leaves: &[Leaf])

@@ -5,16 +5,16 @@ ghost use Rattle.std.specs.Option.{option_map};
 ghost use Rattle.ep_int.specs.declared.types.IntType.TheVariants.{U8};
 ghost use Rattle.ep_int.specs.Memory.{filled, int, range_fault};
 ghost use Rattle.ep_int.specs.Types.{representation, wrapped};
-ghost use Rattle.ep_bytes.specs.Held.{memory_in};
-ghost use Rattle.ep_bytes.specs.Shown.{value_in};
+ghost use Rattle.ep_bytes.specs.StoreView.{memory_in};
+ghost use Rattle.ep_bytes.specs.View.{value_in};
 ghost use Rattle.ep_core.specs.Exec.{State, Outcome, at_place, change, copy_at, given, put_result, returned_with};
 ghost use Rattle.ep_core.specs.Exec.{unless};
 ghost use Rattle.ep_core.specs.Program.{eval, assign, clear, copy_aggregate, copy_bytes, fill, input, output};
 ghost use Rattle.ep_core.specs.Program.{read_bytes};
 ghost use Rattle.ep_core.specs.Program.{write_bytes, Program};
-ghost use Rattle.ep_core.specs.Typed.{Gives, IsAddress, ReturnFits, ValueFits};
-ghost use Rattle.ep_core.specs.View.{shown_dest, shown_expr, shown_place};
-ghost use Rattle.ep_values.specs.Settings.{program_in, size_on, value_on, ExprFits};
+ghost use Rattle.ep_core.specs.Typed.{ValueSatisfies, IsAddress, ReturnFits, ValueFits};
+ghost use Rattle.ep_core.specs.View.{dest_view, expr_view, place_view};
+ghost use Rattle.ep_machine.specs.Settings.{program_in, size_on, value_on, ExprFits};
 ghost use Rattle.ep_simple_steps.specs.Found.{at_found};
 ghost use Rattle.ep_machine.specs.Machines.{state_in, Runs};
 ghost use Rattle.ep_frames.specs.Stack.{now_of, plainly, NowFits, PlainFits};
@@ -24,8 +24,7 @@ use ep_bytes::Datum;
 use ep_core::tree::{Dest, Expr, Place};
 use ep_frames::{Bytes, Now, Way, left_by, put_dest, put_to, read_byte, write_byte};
 use ep_int::{IntType, Memory, Scalar, wrap};
-use ep_machine::{Machine, bytes_in, check};
-use ep_values::{Fault, Setting};
+use ep_machine::{Fault, Machine, Setting, bytes_in, check};
 
 // The place that a value points to.
 fn pointed(v: Datum) -> Result<(u32, u32), Fault>
@@ -42,9 +41,9 @@ fn pointed(v: Datum) -> Result<(u32, u32), Fault>
 /// An expression whose value goes nowhere.
 pub fn eval<'p>(on: &Setting<'p>, machine: &Machine, e: &Expr, line: u32) -> Now<'p>
     requires runs { Runs on.now machine.now }
-    requires typed { PlainFits on.now (memory_in machine.now.store) (eval (shown_expr e.now)) }
+    requires typed { PlainFits on.now (memory_in machine.now.store) (eval (expr_view e.now)) }
     ensures comes { (left : ℕ) → now_of on.now result left (state_in machine.now)
-        ≡ plainly on.now (eval (shown_expr e.now)) line left (state_in machine.now) }
+        ≡ plainly on.now (eval (expr_view e.now)) line left (state_in machine.now) }
     ensures fits { NowFits on.now result }
 {
     match machine.value(on, e) {
@@ -64,9 +63,9 @@ pub fn assign<'p>(
 ) -> Now<'p>
     requires runs { Runs on.now machine.old }
     requires typed { PlainFits on.now (memory_in machine.old.store)
-        (assign what (shown_place a.now) (shown_expr e.now)) }
+        (assign what (place_view a.now) (expr_view e.now)) }
     ensures comes { (left : ℕ) → now_of on.now result left (state_in machine.new)
-        ≡ plainly on.now (assign what (shown_place a.now) (shown_expr e.now)) line left (state_in machine.old) }
+        ≡ plainly on.now (assign what (place_view a.now) (expr_view e.now)) line left (state_in machine.old) }
     ensures runs { Runs on.now machine.new }
     ensures fits { NowFits on.now result }
 {
@@ -88,9 +87,9 @@ pub fn clear<'p>(
     line: u32,
 ) -> Result<Now<'p>, Memory>
     requires runs { Runs on.now machine.old }
-    requires typed { PlainFits on.now (memory_in machine.old.store) (clear (shown_place a.now) ty) }
+    requires typed { PlainFits on.now (memory_in machine.old.store) (clear (place_view a.now) ty) }
     ensures comes { IfOk result (λ n. (left : ℕ) → now_of on.now n left (state_in machine.new)
-        ≡ plainly on.now (clear (shown_place a.now) ty) line left (state_in machine.old)) }
+        ≡ plainly on.now (clear (place_view a.now) ty) line left (state_in machine.old)) }
     ensures runs { IfOk result (λ n. Runs on.now machine.new) }
     ensures fits { IfOk result (λ n. NowFits on.now n) }
 {
@@ -150,9 +149,9 @@ pub fn copy_aggregate<'p>(
 ) -> Now<'p>
     requires runs { Runs on.now machine.old }
     requires typed { PlainFits on.now (memory_in machine.old.store)
-        (copy_aggregate (shown_place to.now) (shown_place from.now) ty) }
+        (copy_aggregate (place_view to.now) (place_view from.now) ty) }
     ensures comes { (left : ℕ) → now_of on.now result left (state_in machine.new) ≡ plainly on.now
-        (copy_aggregate (shown_place to.now) (shown_place from.now) ty) line left (state_in machine.old) }
+        (copy_aggregate (place_view to.now) (place_view from.now) ty) line left (state_in machine.old) }
     ensures runs { Runs on.now machine.new }
     ensures fits { NowFits on.now result }
 {
@@ -176,9 +175,9 @@ pub fn copy_bytes<'p>(
 ) -> Now<'p>
     requires runs { Runs on.now machine.old }
     requires typed { PlainFits on.now (memory_in machine.old.store)
-        (copy_bytes (shown_expr to.now) (shown_expr from.now) n) }
+        (copy_bytes (expr_view to.now) (expr_view from.now) n) }
     ensures comes { (left : ℕ) → now_of on.now result left (state_in machine.new)
-        ≡ plainly on.now (copy_bytes (shown_expr to.now) (shown_expr from.now) n) line left (state_in machine.old) }
+        ≡ plainly on.now (copy_bytes (expr_view to.now) (expr_view from.now) n) line left (state_in machine.old) }
     ensures runs { Runs on.now machine.new }
     ensures fits { NowFits on.now result }
 {
@@ -229,9 +228,9 @@ pub fn fill<'p>(
     line: u32,
 ) -> Now<'p>
     requires runs { Runs on.now machine.old }
-    requires typed { PlainFits on.now (memory_in machine.old.store) (fill (shown_expr to.now) (shown_expr byte.now) n) }
+    requires typed { PlainFits on.now (memory_in machine.old.store) (fill (expr_view to.now) (expr_view byte.now) n) }
     ensures comes { (left : ℕ) → now_of on.now result left (state_in machine.new)
-        ≡ plainly on.now (fill (shown_expr to.now) (shown_expr byte.now) n) line left (state_in machine.old) }
+        ≡ plainly on.now (fill (expr_view to.now) (expr_view byte.now) n) line left (state_in machine.old) }
     ensures runs { Runs on.now machine.new }
     ensures fits { NowFits on.now result }
 {
@@ -262,9 +261,9 @@ pub fn input<'p>(
     line: u32,
 ) -> Now<'p>
     requires runs { Runs on.now machine.old }
-    requires typed { PlainFits on.now (memory_in machine.old.store) (input t (option_map shown_dest dest.now)) }
+    requires typed { PlainFits on.now (memory_in machine.old.store) (input t (option_map dest_view dest.now)) }
     ensures comes { (left : ℕ) → now_of on.now result left (state_in machine.new)
-        ≡ plainly on.now (input t (option_map shown_dest dest.now)) line left (state_in machine.old) }
+        ≡ plainly on.now (input t (option_map dest_view dest.now)) line left (state_in machine.old) }
     ensures runs { Runs on.now machine.new }
     ensures fits { NowFits on.now result }
 {
@@ -286,9 +285,9 @@ pub fn output<'p>(
     line: u32,
 ) -> Result<Now<'p>, Memory>
     requires runs { Runs on.now machine.old }
-    requires typed { PlainFits on.now (memory_in machine.old.store) (output t (shown_expr e.now)) }
+    requires typed { PlainFits on.now (memory_in machine.old.store) (output t (expr_view e.now)) }
     ensures comes { IfOk result (λ n. (left : ℕ) → now_of on.now n left (state_in machine.new)
-        ≡ plainly on.now (output t (shown_expr e.now)) line left (state_in machine.old)) }
+        ≡ plainly on.now (output t (expr_view e.now)) line left (state_in machine.old)) }
     ensures runs { IfOk result (λ n. Runs on.now machine.new) }
     ensures fits { IfOk result (λ n. NowFits on.now n) }
 {
@@ -306,9 +305,9 @@ pub fn output<'p>(
 // So many bytes at an address, which lie in their block.
 fn range(on: &Setting, machine: &Machine, e: &Expr, n: u32) -> Result<(u32, u32), Fault>
     requires runs { Runs on.now machine.now }
-    requires typed { Gives on.now.order (program_in on.now) (memory_in machine.now.store) (shown_expr e.now)
+    requires typed { ValueSatisfies on.now.order (program_in on.now) (memory_in machine.now.store) (expr_view e.now)
         (IsAddress (program_in on.now)) }
-    ensures comes { (l : ℕ) (go : ℕ → ℕ → Outcome) → given (value_on on.now (shown_expr e.now)
+    ensures comes { (l : ℕ) (go : ℕ → ℕ → Outcome) → given (value_on on.now (expr_view e.now)
         (memory_in machine.now.store)) l (state_in machine.now) (λ w. at_place w l (state_in machine.now)
         (λ b q. unless (range_fault (size_on on.now b) q n) l (state_in machine.now) (go b q)))
         ≡ at_found result l (state_in machine.now) go }
@@ -337,9 +336,9 @@ pub fn read_bytes<'p>(
     line: u32,
 ) -> Now<'p>
     requires runs { Runs on.now machine.old }
-    requires typed { PlainFits on.now (memory_in machine.old.store) (read_bytes (shown_expr to.now) n) }
+    requires typed { PlainFits on.now (memory_in machine.old.store) (read_bytes (expr_view to.now) n) }
     ensures comes { (left : ℕ) → now_of on.now result left (state_in machine.new)
-        ≡ plainly on.now (read_bytes (shown_expr to.now) n) line left (state_in machine.old) }
+        ≡ plainly on.now (read_bytes (expr_view to.now) n) line left (state_in machine.old) }
     ensures runs { Runs on.now machine.new }
     ensures fits { NowFits on.now result }
 {
@@ -368,9 +367,9 @@ pub fn write_bytes<'p>(
     line: u32,
 ) -> Result<Now<'p>, Memory>
     requires runs { Runs on.now machine.old }
-    requires typed { PlainFits on.now (memory_in machine.old.store) (write_bytes (shown_expr from.now) n) }
+    requires typed { PlainFits on.now (memory_in machine.old.store) (write_bytes (expr_view from.now) n) }
     ensures comes { IfOk result (λ x. (left : ℕ) → now_of on.now x left (state_in machine.new)
-        ≡ plainly on.now (write_bytes (shown_expr from.now) n) line left (state_in machine.old)) }
+        ≡ plainly on.now (write_bytes (expr_view from.now) n) line left (state_in machine.old)) }
     ensures runs { IfOk result (λ n. Runs on.now machine.new) }
     ensures fits { IfOk result (λ n. NowFits on.now n) }
 {
@@ -422,9 +421,9 @@ pub fn give_back<'p>(
 ) -> Now<'p>
     requires runs { Runs on.now machine.old }
     requires typed { ReturnFits on.now.order (program_in on.now) (memory_in machine.old.store) given
-        (option_map shown_expr e.now) }
+        (option_map expr_view e.now) }
     ensures comes { (left : ℕ) → now_of on.now result left (state_in machine.new) ≡ returned_with on.now.order
-        (program_in on.now) given (option_map shown_expr e.now) line left (state_in machine.old) }
+        (program_in on.now) given (option_map expr_view e.now) line left (state_in machine.old) }
     ensures runs { Runs on.now machine.new }
     ensures fits { NowFits on.now result }
 {

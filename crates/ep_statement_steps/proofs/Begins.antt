@@ -12,11 +12,11 @@ use Rattle.ep_core.specs.Exec.{does}
 use Rattle.ep_core.specs.Program.{Simple, What, simple, if_else, loop, by_order, scope, Stmts}
 use Rattle.ep_core.specs.Typed.{MemoryFits, OperandsFit, SimpleOperandsFit, WhatOperandsFit}
 use Rattle.ep_int.specs.Memory.{Memory}
-use Rattle.ep_core.specs.View.{shown_expr, shown_stmts, shown_what}
+use Rattle.ep_core.specs.View.{expr_view, stmts_view, what_view}
 use Rattle.ep_core.proofs.Around.{first_is}
 use Rattle.ep_core.proofs.Views.{if_is, loop_is, by_order_is}
-use Rattle.ep_values.specs.declared.setting.Setting.{Setting}
-use Rattle.ep_values.specs.Settings.{program_in, value_on}
+use Rattle.ep_machine.specs.declared.setting.Setting.{Setting}
+use Rattle.ep_machine.specs.Settings.{program_in, value_on}
 use Rattle.ep_frames.specs.declared.frames.Frame.{Frame}
 use Rattle.ep_frames.specs.Stack.{one_of, list_of, piled, result_at, takes_step, InEach, OneFits, ListFits}
 use Rattle.ep_frames.proofs.Rounds.{list_grows}
@@ -25,11 +25,11 @@ module _ (m : Setting) (here : ℕ) where
   -- what a statement does, with a step
   pub if_does : (e : tree.Expr) (a b : Vec Stmt Global) (xs ys : List Stmt) → xs ≡ a.items → ys ≡ b.items
       → (l left : ℕ) (s : State)
-      → given (value_on m (shown_expr e) s.memory) l s
+      → given (value_on m (expr_view e) s.memory) l s
       (λ v. either (is_true v) (list_of m here xs) (list_of m here ys) left s)
-      ≡ one_of m here (shown_what (If e a b)) l (suc left) s
+      ≡ one_of m here (what_view (If e a b)) l (suc left) s
   if_does e a b xs ys ea eb l left s =
-      let v = value_on m (shown_expr e) s.memory in
+      let v = value_on m (expr_view e) s.memory in
       ap (λ zs. given v l s (λ v. either (is_true v) (list_of m here zs) (list_of m here ys) left s)) ea
       ∙ ap (λ zs. given v l s (λ v. either (is_true v) (list_of m here a.items) (list_of m here zs) left s)) eb
       ∙ sym (ap (λ w. one_of m here w l (suc left) s) (if_is e a b))
@@ -37,10 +37,10 @@ module _ (m : Setting) (here : ℕ) where
   pub loop_does : (first : Bool) (e : tree.Expr) (a b : Vec Stmt Global) (xs ys : List Stmt) → xs ≡ a.items
       → ys ≡ b.items → (l left : ℕ) (s : State)
       → first_turn counted first (list_of m here xs) (list_of m here ys)
-      (around (value_on m (shown_expr e)) l (list_of m here xs) (list_of m here ys)) left s
-      ≡ one_of m here (shown_what (Loop first e a b)) l (suc left) s
+      (around (value_on m (expr_view e)) l (list_of m here xs) (list_of m here ys)) left s
+      ≡ one_of m here (what_view (Loop first e a b)) l (suc left) s
   loop_does first e a b xs ys ea eb l left s =
-      let test = value_on m (shown_expr e) in
+      let test = value_on m (expr_view e) in
       sym (first_is test l (list_of m here xs) (list_of m here ys) (list_grows m here xs) (list_grows m here ys) first left s)
       ∙ ap (λ zs. first_turn counted first (list_of m here zs) (list_of m here ys)
       (looped counted (suc left) test l (list_of m here zs) (list_of m here ys)) left s) ea
@@ -51,23 +51,23 @@ module _ (m : Setting) (here : ℕ) where
   pub arm_does : (o : Order) (a b : Vec Stmt Global) (xs ys : List Stmt) → xs ≡ a.items → ys ≡ b.items
       → (l left : ℕ) (s : State)
       → arm_left s.joint_tests (chosen (is_order m.order o) (list_of m here xs) (list_of m here ys) left s)
-      ≡ one_of m here (shown_what (ByOrder o a b)) l (suc left) s
+      ≡ one_of m here (what_view (ByOrder o a b)) l (suc left) s
   arm_does o a b xs ys ea eb l left s =
       ap (λ zs. arm_left s.joint_tests (chosen (is_order m.order o) (list_of m here zs) (list_of m here ys) left s)) ea
       ∙ ap (λ zs. arm_left s.joint_tests (chosen (is_order m.order o) (list_of m here a.items) (list_of m here zs) left s)) eb
       ∙ sym (ap (λ w. one_of m here w l (suc left) s) (by_order_is o a b))
 
-  pub loop_test : (first : Bool) (e : tree.Expr) (a b : Vec Stmt Global) → OneFits m here (shown_what (Loop first e a b))
-      → InEach m (λ x. OperandsFit m.order (program_in m) x (shown_expr e))
+  pub loop_test : (first : Bool) (e : tree.Expr) (a b : Vec Stmt Global) → OneFits m here (what_view (Loop first e a b))
+      → InEach m (λ x. OperandsFit m.order (program_in m) x (expr_view e))
   loop_test first e a b h =
-      let k : OneFits m here (loop first (shown_expr e) (shown_stmts a.items) (shown_stmts b.items))
+      let k : OneFits m here (loop first (expr_view e) (stmts_view a.items) (stmts_view b.items))
       = subst (OneFits m here) (loop_is first e a b) h in
       λ x f. (k x f).0
 
-  pub if_test : (e : tree.Expr) (a b : Vec Stmt Global) → OneFits m here (shown_what (If e a b))
-      → InEach m (λ x. OperandsFit m.order (program_in m) x (shown_expr e))
+  pub if_test : (e : tree.Expr) (a b : Vec Stmt Global) → OneFits m here (what_view (If e a b))
+      → InEach m (λ x. OperandsFit m.order (program_in m) x (expr_view e))
   if_test e a b h =
-      let k : OneFits m here (if_else (shown_expr e) (shown_stmts a.items) (shown_stmts b.items))
+      let k : OneFits m here (if_else (expr_view e) (stmts_view a.items) (stmts_view b.items))
       = subst (OneFits m here) (if_is e a b) h in
       λ x f. (k x f).0
 
@@ -83,23 +83,23 @@ module _ (m : Setting) (here : ℕ) where
 
   -- the statements in a statement fit where it does
   pub if_fits : (e : tree.Expr) (a b : Vec Stmt Global) (xs ys : List Stmt) → xs ≡ a.items → ys ≡ b.items
-      → OneFits m here (shown_what (If e a b)) → ListFits m here xs × ListFits m here ys
+      → OneFits m here (what_view (If e a b)) → ListFits m here xs × ListFits m here ys
   if_fits e a b xs ys ea eb h =
-      let k : OneFits m here (if_else (shown_expr e) (shown_stmts a.items) (shown_stmts b.items))
+      let k : OneFits m here (if_else (expr_view e) (stmts_view a.items) (stmts_view b.items))
       = subst (OneFits m here) (if_is e a b) h in
       rw (ea, eb) ((λ x f. (k x f).1), (λ x f. (k x f).2))
 
   pub loop_fits : (first : Bool) (e : tree.Expr) (a b : Vec Stmt Global) (xs ys : List Stmt) → xs ≡ a.items
-      → ys ≡ b.items → OneFits m here (shown_what (Loop first e a b)) → ListFits m here xs × ListFits m here ys
+      → ys ≡ b.items → OneFits m here (what_view (Loop first e a b)) → ListFits m here xs × ListFits m here ys
   loop_fits first e a b xs ys ea eb h =
-      let k : OneFits m here (loop first (shown_expr e) (shown_stmts a.items) (shown_stmts b.items))
+      let k : OneFits m here (loop first (expr_view e) (stmts_view a.items) (stmts_view b.items))
       = subst (OneFits m here) (loop_is first e a b) h in
       rw (ea, eb) ((λ x f. (k x f).1), (λ x f. (k x f).2))
 
   pub arm_fits : (o : Order) (a b : Vec Stmt Global) (xs ys : List Stmt) → xs ≡ a.items → ys ≡ b.items
-      → OneFits m here (shown_what (ByOrder o a b)) → ListFits m here xs × ListFits m here ys
+      → OneFits m here (what_view (ByOrder o a b)) → ListFits m here xs × ListFits m here ys
   arm_fits o a b xs ys ea eb h =
-      let k : OneFits m here (by_order o (shown_stmts a.items) (shown_stmts b.items))
+      let k : OneFits m here (by_order o (stmts_view a.items) (stmts_view b.items))
       = subst (OneFits m here) (by_order_is o a b) h in
       rw (ea, eb) ((λ x f. (k x f).0), (λ x f. (k x f).1))
 

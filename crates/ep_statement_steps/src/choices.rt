@@ -1,20 +1,19 @@
 //! Which of its lists a statement takes: by a test, in turns, or by the machine's byte order.
 
 ghost use Rattle.std.specs.Prelude.{◌≡◌, ℕ, IfOk};
-ghost use Rattle.ep_bytes.specs.Held.{memory_in};
+ghost use Rattle.ep_bytes.specs.StoreView.{memory_in};
 ghost use Rattle.ep_core.specs.Exec.{State, arm_left, chosen, counted, either, first_turn, given, is_order};
 ghost use Rattle.ep_core.specs.Exec.{is_true as truth};
-ghost use Rattle.ep_core.specs.View.{shown_expr};
-ghost use Rattle.ep_values.specs.declared.setting.Setting.{Setting as Plain};
-ghost use Rattle.ep_values.specs.Settings.{value_on, ExprFits};
+ghost use Rattle.ep_core.specs.View.{expr_view};
+ghost use Rattle.ep_machine.specs.declared.setting.Setting.{Setting as Plain};
+ghost use Rattle.ep_machine.specs.Settings.{value_on, ExprFits};
 ghost use Rattle.ep_machine.specs.Machines.{state_in, Runs};
 ghost use Rattle.ep_frames.specs.Stack.{again_of, list_of, now_of, piled, ListFits, NowFits, PileFits, RoundFits};
 
 use ep_core::tree::{Expr, Stmt};
 use ep_frames::{Frame, Now, Round, Way, push};
 use ep_int::{Memory, Order};
-use ep_machine::Machine;
-use ep_values::{Setting, is_true};
+use ep_machine::{Machine, Setting, is_true};
 
 /// One of two lists, by a test, which is listed.
 pub(crate) fn choose<'p>(
@@ -27,11 +26,11 @@ pub(crate) fn choose<'p>(
     line: u32,
 ) -> Result<Now<'p>, Memory>
     requires runs { Runs on.now machine.old }
-    requires typed { ExprFits on.now (memory_in machine.old.store) (shown_expr e.now) }
+    requires typed { ExprFits on.now (memory_in machine.old.store) (expr_view e.now) }
     requires yes { ListFits on.now here a.now }
     requires no { ListFits on.now here b.now }
     ensures comes { IfOk result (λ n. (left : ℕ) → now_of on.now n left (state_in machine.new) ≡ given
-        (value_on on.now (shown_expr e.now) (memory_in machine.old.store)) line (state_in machine.old) (λ v.
+        (value_on on.now (expr_view e.now) (memory_in machine.old.store)) line (state_in machine.old) (λ v.
         either (truth v) (list_of on.now here a.now) (list_of on.now here b.now) left (state_in machine.old))) }
     ensures runs { IfOk result (λ n. Runs on.now machine.new) }
     ensures fits { IfOk result (λ n. NowFits on.now n) }

@@ -1,7 +1,7 @@
 //! Each kind of statement that takes a step.
 
 ghost use Rattle.std.specs.Prelude.{◌≡◌, suc, true, IfOk};
-ghost use Rattle.ep_core.specs.View.{shown_what};
+ghost use Rattle.ep_core.specs.View.{what_view};
 ghost use Rattle.ep_machine.specs.Machines.{state_in, Runs};
 ghost use Rattle.ep_frames.specs.Stack.{one_of, piled, result_at, takes_step, ComesTo, NowFits, OneFits, PileFits};
 
@@ -9,12 +9,11 @@ use crate::choices::{begin_loop, choose, choose_arm};
 use ep_core::tree::{Stmt, What};
 use ep_frames::{Frame, Now, Round, Way, call};
 use ep_int::{Memory, Scalar};
-use ep_machine::Machine;
+use ep_machine::{Machine, Setting};
 use ep_simple_steps::{
     assign, clear, copy_aggregate, copy_bytes, eval, fill, give_back, input, output, read_bytes,
     write_bytes,
 };
-use ep_values::Setting;
 use std::alloc::Global;
 
 // The block of the result of a function, with what it holds.
@@ -37,10 +36,10 @@ pub fn begin<'p>(
     s: &'p Stmt,
 ) -> Result<Now<'p>, Memory>
     requires runs { Runs on.now machine.old }
-    requires typed { OneFits on.now here (shown_what s.now.what) }
-    ensures comes { IfOk result (λ n. takes_step (shown_what s.now.what) ≡ true → ComesTo on.now stack.new.items n
+    requires typed { OneFits on.now here (what_view s.now.what) }
+    ensures comes { IfOk result (λ n. takes_step (what_view s.now.what) ≡ true → ComesTo on.now stack.new.items n
         (state_in machine.new) (λ left. piled on.now stack.old.items (one_of on.now here
-        (shown_what s.now.what) s.now.line (suc left) (state_in machine.old)))) }
+        (what_view s.now.what) s.now.line (suc left) (state_in machine.old)))) }
     ensures runs { IfOk result (λ n. Runs on.now machine.new) }
     ensures fits { IfOk result (λ n. NowFits on.now n) }
     ensures pile { IfOk result (λ n. PileFits on.now stack.old.items → PileFits on.now stack.new.items) }

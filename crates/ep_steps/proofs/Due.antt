@@ -5,11 +5,11 @@ use Rattle.ep_core.specs.Program.{What, simple, call, if_else, loop, break_loop,
 use Rattle.ep_core.specs.Exec.{State, Outcome, running, no_input, undefined_at, counted, ByteStep}
 use Rattle.ep_core.specs.Exec.{bytewise, bytewise_rest, into, out_of}
 use Rattle.ep_core.specs.Runs.{finished}
-use Rattle.ep_core.specs.View.{shown_what}
-use Rattle.ep_values.specs.declared.fault.Fault.{Fault}
-use Rattle.ep_values.specs.declared.setting.Setting.{Setting}
-use Rattle.ep_values.specs.Faults.{kind_of}
-use Rattle.ep_values.specs.Settings.{program_in}
+use Rattle.ep_core.specs.View.{what_view}
+use Rattle.ep_machine.specs.declared.fault.Fault.{Fault}
+use Rattle.ep_machine.specs.declared.setting.Setting.{Setting}
+use Rattle.ep_machine.specs.Faults.{kind_of}
+use Rattle.ep_machine.specs.Settings.{program_in}
 use Rattle.ep_frames.specs.declared.frames.Frame.{Frame}
 use Rattle.ep_frames.specs.declared.frames.Now.{Now}
 use Rattle.ep_frames.specs.declared.frames.Now.TheVariants as now
@@ -43,7 +43,7 @@ byte_next one (suc n) here left s h = refl
 
 due_waits : (n : Now) → IsDue n → (m : Setting) → NowFits m n → (s : State) → now_of m n 0 s ≡ running s
 due_waits (now.List here ss) d m f s = absurd d
-due_waits (now.Statement here x) d m f s = no_step m here (shown_what x.now.what) x.now.line s f.1
+due_waits (now.Statement here x) d m f s = no_step m here (what_view x.now.what) x.now.line s f.1
 due_waits (now.Turn x) d m f s = refl
 due_waits (now.Reads x) d m f s = no_byte (into m.order (program_in m) x.block) x.count x.here s f.some
 due_waits (now.Writes x l) d m f s = no_byte (out_of m.order (program_in m) x.block l) x.count x.here s f.some

@@ -1,7 +1,7 @@
 -- What is left of a list.
 use Rattle.std.proofs.Common.{◌≡◌, ℕ, suc, ◌-◌, List, [], ◌∷◌, drop, take, length, arith, sym, refl, ap, ◌∙◌, subst}
 use Rattle.ep_core.specs.declared.tree.Stmt.{Stmt}
-use Rattle.ep_values.specs.declared.setting.Setting.{Setting}
+use Rattle.ep_machine.specs.declared.setting.Setting.{Setting}
 use Rattle.ep_frames.specs.Stack.{ListFits}
 
 whole : (xs : List Stmt) → take (length xs) xs ≡ xs

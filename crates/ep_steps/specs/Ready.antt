@@ -3,7 +3,7 @@ use Rattle.std.specs.Prelude.{◌≡◌, ℕ, true, List, [], Option, Some, None
 use Rattle.std.specs.Borrow.{Bor}
 use Rattle.ep_core.specs.declared.tree.Stmt.{Stmt}
 use Rattle.ep_core.specs.Program.{scope}
-use Rattle.ep_core.specs.View.{shown_what, shown_stmts}
+use Rattle.ep_core.specs.View.{what_view, stmts_view}
 use Rattle.ep_frames.specs.declared.frames.Frame.{Frame}
 use Rattle.ep_frames.specs.declared.frames.Now.{Now}
 use Rattle.ep_frames.specs.declared.frames.Now.TheVariants as now
@@ -32,5 +32,5 @@ IsDue (now.Faulty l k) = ⊥
 
 -- the parts of a scope, or of nothing where the statement takes a step
 abbrev pub IsOpened : Stmt → Option (Bor (List ℕ) × Bor (List Stmt)) → Type 0
-IsOpened s None = takes_step (shown_what s.what) ≡ true
-IsOpened s (Some x) = shown_what s.what ≡ scope x.0.now (shown_stmts x.1.now)
+IsOpened s None = takes_step (what_view s.what) ≡ true
+IsOpened s (Some x) = what_view s.what ≡ scope x.0.now (stmts_view x.1.now)

@@ -3,9 +3,9 @@ use Rattle.std.specs.Prelude.{◌≡◌, ℕ, List, Option, Some, None}
 use Rattle.ep_core.specs.Exec.{State, result_in}
 use Rattle.ep_core.specs.Runs as runs
 use Rattle.ep_core.specs.Runs.{Run, run_of, main_function, main_ends, line_of, finished}
-use Rattle.ep_values.specs.declared.setting.Setting.{Setting}
-use Rattle.ep_values.specs.Faults.{kind_of}
-use Rattle.ep_values.specs.Settings.{program_in}
+use Rattle.ep_machine.specs.declared.setting.Setting.{Setting}
+use Rattle.ep_machine.specs.Faults.{kind_of}
+use Rattle.ep_machine.specs.Settings.{program_in}
 use Rattle.ep_frames.specs.declared.frames.Frame.{Frame}
 use Rattle.ep_frames.specs.declared.frames.Now.{Now}
 use Rattle.ep_steps.specs.declared.steps.Stop.{Stop}

@@ -1,7 +1,7 @@
 //! Moves that take no step.
 
 ghost use Rattle.std.specs.Prelude.{◌≡◌, ◌+◌, ◌<◌, IfNone, IfOk, IfSome};
-ghost use Rattle.ep_core.specs.View.{shown_stmts};
+ghost use Rattle.ep_core.specs.View.{stmts_view};
 ghost use Rattle.ep_frames.specs.Heft.{heft, heft_all, heft_now};
 ghost use Rattle.ep_machine.specs.Machines.{state_in, Runs};
 ghost use Rattle.ep_steps.specs.Ready.{IsOpened, IsReady};
@@ -10,8 +10,7 @@ ghost use Rattle.ep_frames.specs.Stack.{list_of, now_of, piled, ComesTo, ListFit
 use ep_core::tree::{Stmt, What};
 use ep_frames::{Frame, Now, Way, leave, push};
 use ep_int::Memory;
-use ep_machine::Machine;
-use ep_values::Setting;
+use ep_machine::{Machine, Setting};
 
 // The blocks and statements of a scope; any other statement takes a step.
 fn scope_of<'p>(s: &'p Stmt) -> Option<(&'p [u32], &'p [Stmt])>
@@ -53,7 +52,7 @@ fn open_list<'p>(
     ensures comes { IfOk result (λ n. ComesTo on.now stack.new.items n (state_in machine.new) (λ left.
         piled on.now stack.old.items (list_of on.now here list.now left (state_in machine.old)))) }
     ensures heft { IfOk result (λ n.
-        heft_now n + heft_all stack.new.items < heft (shown_stmts list.now) + heft_all stack.old.items) }
+        heft_now n + heft_all stack.new.items < heft (stmts_view list.now) + heft_all stack.old.items) }
     ensures runs { IfOk result (λ n. Runs on.now machine.new) }
     ensures fits { IfOk result (λ n. NowFits on.now n) }
     ensures pile { IfOk result (λ n. PileFits on.now stack.old.items → PileFits on.now stack.new.items) }

@@ -2,8 +2,8 @@
 
 ghost use Rattle.std.specs.Prelude.{◌≡◌, ℕ, suc, IfNone, IfOk, List};
 ghost use Rattle.ep_core.specs.Runs.{finished};
-ghost use Rattle.ep_values.specs.declared.setting.Setting.{Setting as Plain};
-ghost use Rattle.ep_values.specs.Settings.{program_in};
+ghost use Rattle.ep_machine.specs.declared.setting.Setting.{Setting as Plain};
+ghost use Rattle.ep_machine.specs.Settings.{program_in};
 ghost use Rattle.ep_machine.specs.Machines.{state_in, Runs};
 ghost use Rattle.ep_frames.specs.declared.frames.Frame.{Frame};
 ghost use Rattle.ep_steps.specs.Ready.{IsDue, IsReady};
@@ -14,9 +14,8 @@ use crate::moves::advance;
 use ep_core::tree::Stmt;
 use ep_frames::{Frame, Now, push, read_byte, write_byte};
 use ep_int::Memory;
-use ep_machine::Machine;
+use ep_machine::{Fault, Machine, Setting};
 use ep_statement_steps::begin;
-use ep_values::{Fault, Setting};
 use std::alloc::Global;
 
 /// Where statements stop after so many steps.

@@ -1,6 +1,6 @@
 use Rattle.std.proofs.Common.{◌≡◌, drop, map}
 use Rattle.ep_int.specs.Memory.{are_parts}
-use Rattle.ep_bytes.specs.Shown.{byte_in}
+use Rattle.ep_bytes.specs.View.{byte_in}
 use Rattle.ep_bytes.proofs.reads.are_parts.Given as goal
 
 abbrev pub invariant-loop-k : goal.invariant-loop-k

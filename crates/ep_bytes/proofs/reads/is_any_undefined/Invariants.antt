@@ -1,7 +1,7 @@
 use Rattle.std.proofs.Common.{◌≡◌, drop, map}
 use Rattle.std.specs.List.{list_any}
 use Rattle.ep_int.specs.Memory.{is_undefined}
-use Rattle.ep_bytes.specs.Shown.{byte_in}
+use Rattle.ep_bytes.specs.View.{byte_in}
 use Rattle.ep_bytes.proofs.reads.is_any_undefined.Given as goal
 
 abbrev pub invariant-loop-byte : goal.invariant-loop-byte

@@ -1,7 +1,7 @@
 use Rattle.std.proofs.Common.{◌≡◌, drop, map}
 use Rattle.std.specs.List.{list_all}
 use Rattle.ep_int.specs.Memory.{is_zero}
-use Rattle.ep_bytes.specs.Shown.{byte_in}
+use Rattle.ep_bytes.specs.View.{byte_in}
 use Rattle.ep_bytes.proofs.reads.is_zero.Given as goal
 
 abbrev pub invariant-loop-byte : goal.invariant-loop-byte

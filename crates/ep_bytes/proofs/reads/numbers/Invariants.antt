@@ -1,7 +1,7 @@
 use Rattle.std.proofs.Common.{◌≡◌, ℕ, ◌<◌, drop, map, length, get_or}
 use Rattle.std.specs.List.{list_all}
 use Rattle.ep_int.specs.Memory.{is_number, number_in}
-use Rattle.ep_bytes.specs.Shown.{byte_in}
+use Rattle.ep_bytes.specs.View.{byte_in}
 use Rattle.ep_bytes.specs.Cells.{cell_at}
 use Rattle.ep_bytes.proofs.reads.numbers.Given as goal
 

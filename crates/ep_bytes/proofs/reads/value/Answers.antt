@@ -6,7 +6,7 @@ use Rattle.std.proofs.lemmas.Int.{to_z-of_z}
 use Rattle.std.proofs.lemmas.List.{get_or-take}
 use Rattle.ep_int.specs.Types.{bytes_of, size_of}
 use Rattle.ep_int.specs.Memory.{is_number, number_of, number_in}
-use Rattle.ep_bytes.specs.Shown.{byte_in}
+use Rattle.ep_bytes.specs.View.{byte_in}
 use Rattle.ep_bytes.specs.Cells.{cell_at}
 use Rattle.ep_bytes.proofs.Readings.{number_of_cells}
 use Rattle.ep_bytes.proofs.reads.value.Goals as goal

@@ -1,4 +1,4 @@
-use Rattle.ep_bytes.specs.Held.{IsExtended}
+use Rattle.ep_bytes.specs.StoreView.{IsExtended}
 use Rattle.ep_bytes.proofs.store.extend.Given as goal
 
 abbrev pub invariant-loop-byte : goal.invariant-loop-byte

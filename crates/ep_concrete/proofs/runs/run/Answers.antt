@@ -1,7 +1,7 @@
 use Rattle.std.proofs.Common.{sym, ap, ◌∙◌, subst}
-use Rattle.ep_bytes.specs.Held.{memory_in}
-use Rattle.ep_values.specs.declared.setting.Setting.{Setting}
-use Rattle.ep_values.specs.Settings.{IsLaid}
+use Rattle.ep_bytes.specs.StoreView.{memory_in}
+use Rattle.ep_machine.specs.declared.setting.Setting.{Setting}
+use Rattle.ep_machine.specs.Settings.{IsLaid}
 use Rattle.ep_machine.specs.Machines.{state_in}
 use Rattle.ep_concrete.proofs.Starts.{first_runs, run_from}
 use Rattle.ep_concrete.proofs.Ends.{is_run}

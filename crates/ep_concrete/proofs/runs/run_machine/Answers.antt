@@ -1,6 +1,6 @@
 use Rattle.std.proofs.Common.{◌≡◌, ◌<◌, length, get_or, false, nat_lt, slice_get, Some, None, sym, ap, ◌∙◌, subst}
-use Rattle.ep_core.specs.View.{shown_function}
-use Rattle.ep_values.specs.Settings.{program_in}
+use Rattle.ep_core.specs.View.{function_view}
+use Rattle.ep_machine.specs.Settings.{program_in}
 use Rattle.ep_frames.proofs.Entering.{function_at, function_missing}
 use Rattle.ep_concrete.proofs.Ends.{ends_at_once}
 use Rattle.ep_concrete.proofs.runs.run_machine.Goals as goal

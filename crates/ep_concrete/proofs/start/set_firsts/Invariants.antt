@@ -1,11 +1,11 @@
 use Rattle.std.proofs.Common.{◌≡◌, drop, fold}
 use Rattle.ep_int.specs.declared.types.Scalar.TheVariants.{Int}
 use Rattle.ep_int.specs.Memory.{Memory, int, stored}
-use Rattle.ep_bytes.specs.Held.{memory_in}
+use Rattle.ep_bytes.specs.StoreView.{memory_in}
 use Rattle.ep_core.specs.Exec.{model}
 use Rattle.ep_core.specs.Program.{Init}
 use Rattle.ep_core.specs.Runs.{initial}
-use Rattle.ep_values.specs.Settings.{program_in, IsLaid}
+use Rattle.ep_machine.specs.Settings.{program_in, IsLaid}
 use Rattle.ep_concrete.proofs.start.set_firsts.Given as goal
 
 abbrev pub invariant-loop-first : goal.invariant-loop-first

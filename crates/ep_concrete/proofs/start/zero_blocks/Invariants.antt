@@ -1,8 +1,8 @@
 use Rattle.std.proofs.Common.{◌≡◌}
-use Rattle.ep_bytes.specs.Held.{memory_in}
+use Rattle.ep_bytes.specs.StoreView.{memory_in}
 use Rattle.ep_core.specs.Exec.{result_in}
 use Rattle.ep_core.specs.Runs.{main_function}
-use Rattle.ep_values.specs.Settings.{program_in, IsLaid}
+use Rattle.ep_machine.specs.Settings.{program_in, IsLaid}
 use Rattle.ep_concrete.proofs.Firsts.{zeros_to}
 use Rattle.ep_concrete.proofs.start.zero_blocks.Given as goal
 

@@ -1,9 +1,9 @@
 use Rattle.std.proofs.Common.{◌+◌, drop, get_or, map, refl, ◌∙◌}
 use Rattle.ep_int.specs.declared.types.Scalar.TheVariants.{Pointer}
 use Rattle.ep_bytes.specs.declared.types.Datum.TheVariants.{Null}
-use Rattle.ep_bytes.specs.Shown.{value_in}
+use Rattle.ep_bytes.specs.View.{value_in}
 use Rattle.ep_core.specs.Exec.{bound}
-use Rattle.ep_values.specs.Settings.{program_in}
+use Rattle.ep_machine.specs.Settings.{program_in}
 use Rattle.ep_machine.specs.Machines.{state_in}
 use Rattle.ep_frames.proofs.Binds.{bind_ends, bind_next, bound_here}
 use Rattle.ep_frames.proofs.calls.bind.Goals as goal

@@ -1,7 +1,7 @@
 use Rattle.std.proofs.Common.{◌≡◌, ℕ, drop, map}
-use Rattle.ep_bytes.specs.Shown.{value_in}
+use Rattle.ep_bytes.specs.View.{value_in}
 use Rattle.ep_core.specs.Exec.{State, Outcome, bound}
-use Rattle.ep_values.specs.Settings.{program_in}
+use Rattle.ep_machine.specs.Settings.{program_in}
 use Rattle.ep_machine.specs.Machines.{state_in, Runs}
 use Rattle.ep_frames.specs.Arguments.{AreBound}
 use Rattle.ep_frames.proofs.calls.bind.Given as goal

@@ -1,8 +1,8 @@
 use Rattle.std.proofs.Common.{◌≡◌, suc, ◌-◌, ◌+◌, ◌%◌, ◌≤◌, ap, ◌∙◌, arith}
 use Rattle.ep_int.specs.Memory.{filled}
-use Rattle.ep_bytes.specs.Held.{Held, memory_in}
+use Rattle.ep_bytes.specs.StoreView.{StoreView, memory_in}
 use Rattle.ep_core.specs.Exec.{model, remembers}
-use Rattle.ep_values.specs.Settings.{program_in, size_on}
+use Rattle.ep_machine.specs.Settings.{program_in, size_on}
 use Rattle.ep_machine.specs.Machines.{state_in}
 use Rattle.ep_frames.proofs.Bytewise.{range_changed, byte_read}
 use Rattle.ep_frames.proofs.leaving.read_byte.Goals as goal
@@ -24,7 +24,7 @@ returns-then-at-le1-clause-comes c left =
     let last = c.requires.fits.inside in
     let inside : at.here + 1 ≤ size_on m at.block = omega (arith, some, last) in
     let d : c.take.new.self.store.model ≡ model m.order (program_in m)
-    = ap (λ (h : Held). h.model) c.take.ensures.store ∙ c.requires.runs.laid.model in
+    = ap (λ (h : StoreView). h.model) c.take.ensures.store ∙ c.requires.runs.laid.model in
     let e : r ≡ remembers (filled (model m.order (program_in m)) (memory_in c.take.new.self.store) at.block at.here 1 (v % 256)) q
     = range_changed m at.block at.here 1 _ q r c.fill-filled.result inside c.fill-filled.ensures.fills
     ∙ ap (λ d. remembers (filled d (memory_in c.take.new.self.store) at.block at.here 1 (v % 256)) q) d in
@@ -43,7 +43,7 @@ returns-else-at-le1-clause-comes c left =
     let last = c.requires.fits.inside in
     let inside : at.here + 1 ≤ size_on m at.block = omega (arith, some, last) in
     let d : c.take.new.self.store.model ≡ model m.order (program_in m)
-    = ap (λ (h : Held). h.model) c.take.ensures.store ∙ c.requires.runs.laid.model in
+    = ap (λ (h : StoreView). h.model) c.take.ensures.store ∙ c.requires.runs.laid.model in
     let e : r ≡ remembers (filled (model m.order (program_in m)) (memory_in c.take.new.self.store) at.block at.here 1 (v % 256)) q
     = range_changed m at.block at.here 1 _ q r c.fill-filled.result inside c.fill-filled.ensures.fills
     ∙ ap (λ d. remembers (filled d (memory_in c.take.new.self.store) at.block at.here 1 (v % 256)) q) d in

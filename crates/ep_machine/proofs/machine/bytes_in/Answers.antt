@@ -1,6 +1,6 @@
 use Rattle.std.proofs.Common.{sym, rules}
 use Rattle.ep_machine.proofs.Tables.{no_size}
-use Rattle.ep_values.specs.Settings.{program_in}
+use Rattle.ep_machine.specs.Settings.{program_in}
 use Rattle.ep_machine.proofs.machine.bytes_in.Goals as goal
 
 pub returns-then-ty-type_count : goal.returns-then-ty-type_count

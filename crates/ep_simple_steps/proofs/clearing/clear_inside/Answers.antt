@@ -1,8 +1,8 @@
 use Rattle.std.proofs.Common.{◌≡◌, ◌+◌, ◌≤◌, [], sym, ap, ◌∙◌, subst}
 use Rattle.ep_int.specs.Memory.{replaced, undefined}
-use Rattle.ep_bytes.specs.Held.{memory_in}
+use Rattle.ep_bytes.specs.StoreView.{memory_in}
 use Rattle.ep_core.specs.Exec.{State, model, remembers}
-use Rattle.ep_values.specs.Settings.{program_in, size_on}
+use Rattle.ep_machine.specs.Settings.{program_in, size_on}
 use Rattle.ep_machine.specs.Machines.{state_in}
 use Rattle.ep_simple_steps.specs.Zeros.{zeros_in}
 use Rattle.ep_simple_steps.proofs.Clears.{cleared_is, no_leaves, undefined_is}

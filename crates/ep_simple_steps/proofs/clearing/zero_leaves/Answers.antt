@@ -4,7 +4,7 @@ use Rattle.ep_int.specs.declared.types.Scalar.TheVariants.{Int}
 use Rattle.ep_int.specs.Types.{size_of}
 use Rattle.ep_layout.specs.declared.types.Leaf.{Leaf}
 use Rattle.ep_core.specs.Exec.{model, remembers}
-use Rattle.ep_values.specs.Settings.{program_in}
+use Rattle.ep_machine.specs.Settings.{program_in}
 use Rattle.ep_machine.specs.Machines.{state_in}
 use Rattle.ep_simple_steps.proofs.Clears.{leaf_inside, zeros_next, zeros_done}
 use Rattle.ep_simple_steps.proofs.clearing.zero_leaves.Goals as goal

@@ -1,8 +1,8 @@
 use Rattle.std.proofs.Common.{◌≡◌, take}
 use Rattle.ep_int.specs.Memory.{Memory, replaced, undefined}
-use Rattle.ep_bytes.specs.Held.{memory_in}
+use Rattle.ep_bytes.specs.StoreView.{memory_in}
 use Rattle.ep_core.specs.Exec.{model, remembers}
-use Rattle.ep_values.specs.Settings.{program_in}
+use Rattle.ep_machine.specs.Settings.{program_in}
 use Rattle.ep_machine.specs.Machines.{state_in, ArePartsOf, Runs}
 use Rattle.ep_simple_steps.specs.Zeros.{zeros_in}
 use Rattle.ep_simple_steps.proofs.clearing.zero_leaves.Given as goal

@@ -1,6 +1,6 @@
 use Rattle.std.proofs.Common.{sym, subst}
 use Rattle.ep_core.specs.Typed.{IfHas, IsAddress}
-use Rattle.ep_values.specs.Settings.{program_in}
+use Rattle.ep_machine.specs.Settings.{program_in}
 use Rattle.ep_simple_steps.proofs.statements.clear.Goals as goal
 
 pub clear_place-requires-clause-there : goal.clear_place-requires-clause-there

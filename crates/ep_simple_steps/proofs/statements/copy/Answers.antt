@@ -1,4 +1,4 @@
-use Rattle.ep_values.specs.Settings.{program_in}
+use Rattle.ep_machine.specs.Settings.{program_in}
 use Rattle.ep_simple_steps.proofs.statements.copy.Goals as goal
 
 pub returns-in-Ok-pointed-clause-fits : goal.returns-in-Ok-pointed-clause-fits

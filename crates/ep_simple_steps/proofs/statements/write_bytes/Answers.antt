@@ -1,6 +1,6 @@
 use Rattle.std.proofs.Common.{ℕ, sym, ap, ◌∙◌}
 use Rattle.ep_core.specs.Exec.{Outcome, bytewise_rest, counted, out_of}
-use Rattle.ep_values.specs.Settings.{program_in}
+use Rattle.ep_machine.specs.Settings.{program_in}
 use Rattle.ep_machine.specs.Machines.{state_in}
 use Rattle.ep_simple_steps.proofs.statements.write_bytes.Goals as goal
 

@@ -1,8 +1,9 @@
 use Rattle.std.proofs.Common.{◌∙◌, arith}
+use Rattle.ep_frames.proofs.Piles.{pushed_heft}
 use Rattle.ep_core.specs.Exec.{leaves}
 use Rattle.ep_machine.specs.Machines.{state_in}
 use Rattle.ep_frames.specs.Stack.{way_of}
-use Rattle.ep_frames.proofs.Piles.{popped, popped_heft, popped_fits}
+use Rattle.ep_frames.proofs.Piles.{popped, popped_fits}
 use Rattle.ep_steps.proofs.moves.advance.Goals as goal
 
 pub leave-requires-clause-typed : goal.leave-requires-clause-typed
@@ -17,7 +18,7 @@ returns-in_ok-n-in-Some-clause-comes c left =
 pub returns-in_ok-n-in-Some-clause-heft : goal.returns-in_ok-n-in-Some-clause-heft
 returns-in_ok-n-in-Some-clause-heft c =
     let h = c.in_ok-n-in-Some.ensures.heft in
-    let g = popped_heft c.args.stack.now.items c.pop.new.self.items c.in-Some.frame c.in-Some.ensures.items in
+    let g = pushed_heft c.args.stack.now.items c.pop.new.self.items c.in-Some.frame c.in-Some.ensures.items in
     rw (c.in-Leave.is) (omega (arith, h, g))
 
 pub returns-in_ok-n-in-Some-clause-pile : goal.returns-in_ok-n-in-Some-clause-pile

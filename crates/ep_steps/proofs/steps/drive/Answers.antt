@@ -1,6 +1,6 @@
 use Rattle.std.proofs.Common.{◌≡◌, suc, ◌-◌, sym, ap, ◌∙◌, subst, arith}
 use Rattle.ep_core.specs.Runs.{finished}
-use Rattle.ep_values.specs.Settings.{program_in}
+use Rattle.ep_machine.specs.Settings.{program_in}
 use Rattle.ep_machine.specs.Machines.{state_in}
 use Rattle.ep_steps.specs.declared.steps.Stop.TheVariants.{Running}
 use Rattle.ep_steps.specs.Results.{stopped, IsAlike}

@@ -1,6 +1,6 @@
 use Rattle.std.proofs.Common.{sym, ap, subst, ◌∙◌}
 use Rattle.ep_core.specs.Exec.{into, out_of}
-use Rattle.ep_values.specs.Settings.{program_in}
+use Rattle.ep_machine.specs.Settings.{program_in}
 use Rattle.ep_machine.specs.Machines.{state_in}
 use Rattle.ep_frames.specs.Stack.{piled, NowFits}
 use Rattle.ep_steps.proofs.Due.{byte_next}

@@ -5,7 +5,7 @@ use Rattle.std.proofs.lemmas.Int.{to_z-of_z}
 use Rattle.std.proofs.lemmas.Bool.{ne_eqb, and_left, and_right}
 use Rattle.ep_int.specs.Memory.{broken, copied}
 use Rattle.ep_bytes.specs.Cells.{taken_from}
-use Rattle.ep_bytes.specs.Held.{IsPlace, block_of, is_same, memory_in}
+use Rattle.ep_bytes.specs.StoreView.{IsPlace, block_of, is_same, memory_in}
 use Rattle.ep_bytes.proofs.Places.{replaced_place, taken_place, apart_within, apart_between}
 use Rattle.ep_bytes.proofs.store.Store.copy.Goals as goal
 use Rattle.ep_bytes.proofs.store.Store.copy.Goals.{else-same_place-via-then-same_place+then-to-from+else-target-source}

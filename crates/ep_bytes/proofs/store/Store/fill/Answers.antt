@@ -3,7 +3,7 @@ use Rattle.std.specs.Int.{w64}
 use Rattle.std.proofs.lemmas.Int.{to_z-of_z}
 use Rattle.ep_int.specs.Memory.{number}
 use Rattle.ep_bytes.specs.declared.types.Byte.TheVariants.{Number}
-use Rattle.ep_bytes.specs.Held.{IsPlace, block_of}
+use Rattle.ep_bytes.specs.StoreView.{IsPlace, block_of}
 use Rattle.ep_bytes.proofs.Places.{replaced_place}
 use Rattle.ep_bytes.proofs.store.Store.fill.Goals as goal
 

@@ -3,7 +3,7 @@ use Rattle.ep_int.specs.Memory.{killed}
 use Rattle.ep_bytes.specs.declared.types.Byte.TheVariants.{Undefined}
 use Rattle.ep_bytes.specs.declared.store.Block.{Block}
 use Rattle.ep_bytes.specs.Cells.{IsWritten}
-use Rattle.ep_bytes.specs.Held.{block_of, count_of, memory_in, memory_of}
+use Rattle.ep_bytes.specs.StoreView.{block_of, count_of, memory_in, memory_of}
 use Rattle.ep_bytes.proofs.Stores.{marked, killed_in}
 use Rattle.ep_bytes.proofs.store.Store.kill.Goals as goal
 

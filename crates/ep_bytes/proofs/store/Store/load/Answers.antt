@@ -4,8 +4,8 @@ use Rattle.std.proofs.lemmas.Int.{to_z-of_z}
 use Rattle.std.specs.List.{list_any}
 use Rattle.ep_int.specs.Types.{size_of}
 use Rattle.ep_int.specs.Memory.{is_undefined}
-use Rattle.ep_bytes.specs.Shown.{byte_in, read_as}
-use Rattle.ep_bytes.specs.Held.{IsPlace}
+use Rattle.ep_bytes.specs.View.{byte_in, read_as}
+use Rattle.ep_bytes.specs.StoreView.{IsPlace}
 use Rattle.ep_bytes.proofs.Places.{either, found_place}
 use Rattle.ep_bytes.proofs.store.Store.load.Goals as goal
 

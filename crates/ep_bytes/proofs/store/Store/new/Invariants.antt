@@ -1,7 +1,7 @@
 use Rattle.std.proofs.Common.{◌≡◌, ℕ, ◌<◌, false, length, get_or}
 use Rattle.ep_bytes.specs.declared.types.Byte.TheVariants.{Undefined}
 use Rattle.ep_bytes.specs.Cells.{cell_at}
-use Rattle.ep_bytes.specs.Held.{AreLaid, block_of}
+use Rattle.ep_bytes.specs.StoreView.{AreLaid, block_of}
 use Rattle.ep_bytes.proofs.store.Store.new.Given as goal
 
 abbrev pub invariant-loop-size : goal.invariant-loop-size

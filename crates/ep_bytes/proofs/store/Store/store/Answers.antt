@@ -3,9 +3,9 @@ use Rattle.std.specs.Int.{w64}
 use Rattle.std.proofs.lemmas.Int.{to_z-of_z}
 use Rattle.ep_int.specs.Types.{size_of}
 use Rattle.ep_int.specs.Memory.{bytes_of_value}
-use Rattle.ep_bytes.specs.Shown.{value_in}
+use Rattle.ep_bytes.specs.View.{value_in}
 use Rattle.ep_bytes.specs.Cells.{content_at}
-use Rattle.ep_bytes.specs.Held.{IsPlace, block_of}
+use Rattle.ep_bytes.specs.StoreView.{IsPlace, block_of}
 use Rattle.ep_bytes.proofs.Places.{replaced_place}
 use Rattle.ep_bytes.proofs.store.Store.store.Goals as goal
 

@@ -1,5 +1,5 @@
 use Rattle.std.proofs.Common.{◌≡◌, pos, to_z, of_z, w64, rules}
-use Rattle.ep_bytes.specs.Held.{is_same}
+use Rattle.ep_bytes.specs.StoreView.{is_same}
 use Rattle.ep_machine.proofs.Writes.{copy_runs, copy_comes}
 use Rattle.ep_machine.proofs.machine.Machine.copy.Goals as goal
 

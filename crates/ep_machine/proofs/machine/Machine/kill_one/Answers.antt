@@ -1,8 +1,8 @@
 use Rattle.std.proofs.Common.{ap, arith}
 use Rattle.std.proofs.Math.ListN.{length-map}
-use Rattle.ep_core.specs.View.{shown_block}
+use Rattle.ep_core.specs.View.{block_view}
 use Rattle.ep_core.specs.Exec.{remembers}
-use Rattle.ep_values.specs.Settings.{program_in}
+use Rattle.ep_machine.specs.Settings.{program_in}
 use Rattle.ep_machine.specs.Machines.{state_in}
 use Rattle.ep_machine.proofs.Kills.{killed_nothing}
 use Rattle.ep_machine.proofs.Writes.{kill_runs}
@@ -15,7 +15,7 @@ returns-then-block-len-clause-runs c =
 
 pub returns-else-block-len-clause-killed : goal.returns-else-block-len-clause-killed
 returns-else-block-len-clause-killed c =
-    let n = length-map c.args.on.now.program.now.blocks.items shown_block in
+    let n = length-map c.args.on.now.program.now.blocks.items block_view in
     let len = c.len.ensures in
     let past = c.if-block-len.false in
     ap (λ m. remembers m (state_in c.args.self.now))

@@ -1,5 +1,5 @@
 use Rattle.std.proofs.Common.{◌≡◌, pos, to_z, of_z, w64, rules}
-use Rattle.ep_bytes.specs.Shown.{value_in}
+use Rattle.ep_bytes.specs.View.{value_in}
 use Rattle.ep_machine.proofs.Writes.{put_runs, put_comes}
 use Rattle.ep_machine.proofs.machine.Machine.put.Goals as goal
 

@@ -2,15 +2,15 @@
 use Rattle.std.specs.Prelude.{◌≡◌, ℕ, ℤ, length}
 use Rattle.ep_int.specs.declared.types.Scalar.{Scalar}
 use Rattle.ep_int.specs.Memory.{Memory, Value, Found, has, loaded}
-use Rattle.ep_bytes.specs.Held.{Held, count_of, size_in}
+use Rattle.ep_bytes.specs.StoreView.{StoreView, count_of, size_in}
 use Rattle.ep_core.specs.Program.{Expr, Place, Program}
 use Rattle.ep_core.specs.Exec.{model, size_at, value, address, moved}
 use Rattle.ep_core.specs.Typed.{OperandsFit, PlaceOperandsFit}
-use Rattle.ep_core.specs.Shown.{shown}
-use Rattle.ep_values.specs.declared.setting.Setting.{Setting}
+use Rattle.ep_core.specs.ProgramView.{program_view}
+use Rattle.ep_machine.specs.declared.setting.Setting.{Setting}
 
 abbrev pub program_in : Setting → Program
-program_in on = shown on.program.now
+program_in on = program_view on.program.now
 
 module _ (on : Setting) where
   abbrev pub size_on : (block : ℕ) → ℕ
@@ -37,7 +37,7 @@ module _ (on : Setting) where
   PlaceFits m a = PlaceOperandsFit on.order (program_in on) m a
 
   -- A store has the blocks of the program, in its data model.
-  pub record IsLaid (h : Held) : Type 0 where
+  pub record IsLaid (h : StoreView) : Type 0 where
     pub model : h.model ≡ model on.order (program_in on)
     pub count : count_of h ≡ length (program_in on).blocks
     pub sizes : (b : ℕ) → size_in h b ≡ size_on b

@@ -3,7 +3,7 @@
 ghost use Rattle.std.specs.Prelude.{◌≡◌, ◌+ℤ◌, pos};
 ghost use Rattle.ep_int.specs.Arith.{arith_of, compares, IsOfSomeType, IsRightOperand};
 ghost use Rattle.ep_int.specs.Types.{InRange};
-ghost use Rattle.ep_bytes.specs.Shown.{value_in};
+ghost use Rattle.ep_bytes.specs.View.{value_in};
 ghost use Rattle.ep_core.specs.Exec.{
   distance,
   element_at,
@@ -15,8 +15,8 @@ ghost use Rattle.ep_core.specs.Exec.{
   result_of,
   truth,
 };
-ghost use Rattle.ep_values.specs.Faults.{found_by, IsWithinReach};
-ghost use Rattle.ep_values.specs.Settings.{size_on};
+ghost use Rattle.ep_machine.specs.Faults.{found_by, IsWithinReach};
+ghost use Rattle.ep_machine.specs.Settings.{size_on};
 
 use crate::fault::Fault;
 use crate::reads::size_of_block;

@@ -1,7 +1,7 @@
 use Rattle.std.proofs.Common.{◌≡◌, pos, to_z, of_z, w64, rules}
-use Rattle.ep_bytes.specs.Held.{memory_in, size_in}
-use Rattle.ep_values.proofs.Answers.{loaded_has, loaded_faults}
-use Rattle.ep_values.proofs.reads.load.Goals as goal
+use Rattle.ep_bytes.specs.StoreView.{memory_in, size_in}
+use Rattle.ep_machine.proofs.Answers.{loaded_has, loaded_faults}
+use Rattle.ep_machine.proofs.reads.load.Goals as goal
 
 pub returns-in-Ok : goal.returns-in-Ok
 returns-in-Ok c =

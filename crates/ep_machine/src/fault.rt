@@ -1,8 +1,8 @@
 //! Kinds of undefined behaviour.
 
 ghost use Rattle.std.specs.Prelude.{◌≡◌};
-ghost use Rattle.ep_bytes.specs.Shown.{alarm_of};
-ghost use Rattle.ep_values.specs.Faults.{kind_named, kind_of};
+ghost use Rattle.ep_bytes.specs.View.{alarm_of};
+ghost use Rattle.ep_machine.specs.Faults.{kind_named, kind_of};
 
 use ep_alarms::AlarmKind;
 

@@ -1,9 +1,9 @@
 //! What memory holds.
 
 ghost use Rattle.std.specs.Prelude.{◌≡◌};
-ghost use Rattle.ep_bytes.specs.Held.{memory_in};
-ghost use Rattle.ep_values.specs.Faults.{found_by};
-ghost use Rattle.ep_values.specs.Settings.{IsLaid, loaded_on, size_on};
+ghost use Rattle.ep_bytes.specs.StoreView.{memory_in};
+ghost use Rattle.ep_machine.specs.Faults.{found_by};
+ghost use Rattle.ep_machine.specs.Settings.{IsLaid, loaded_on, size_on};
 
 use crate::fault::{Fault, fault_of};
 use crate::setting::Setting;

@@ -1,22 +1,20 @@
 -- What a store answers, as what the definition finds.
 use Rattle.std.proofs.Common.{◌≡◌, ℕ, ◌+◌, ◌<◌, ℤ, pos, Bool, true, false, nat_lt, refl, sym, ap, ◌∙◌, subst, Result}
+use Rattle.ep_int.proofs.Basics.{size_positive}
 use Rattle.std.proofs.Common.{Ok, Err, arith}
 use Rattle.std.proofs.lemmas.Bool.Decides.{nat_tests}
-use Rattle.ep_int.specs.declared.types.IntType.TheVariants.{I8, U8, I16, U16, I32, U32, I64, U64}
 use Rattle.ep_int.specs.declared.types.Model.{Model}
-use Rattle.ep_int.specs.declared.types.Model.TheVariants.{Ilp32, Lp64}
 use Rattle.ep_int.specs.declared.types.Order.{Order}
 use Rattle.ep_int.specs.declared.types.Scalar.{Scalar}
-use Rattle.ep_int.specs.declared.types.Scalar.TheVariants.{Int, Pointer}
 use Rattle.ep_int.specs.Types.{size_of}
 use Rattle.ep_int.specs.Memory.{Memory, Value, int, null, pointer, Kind, overflow, division, shift, uninitialised}
 use Rattle.ep_int.specs.Memory.{bounds, null_pointer, alignment, pointer_mix, overlap, pointer_part}
 use Rattle.ep_int.specs.Memory.{Found, has, faults, is_outside, loaded}
 use Rattle.ep_alarms.specs.declared.types.AlarmKind.{AlarmKind}
 use Rattle.ep_bytes.specs.declared.types.Datum.{Datum}
-use Rattle.ep_bytes.specs.Shown.{alarm_of, datum_of, found_at, read_as, value_in}
-use Rattle.ep_values.specs.declared.fault.Fault.{Fault}
-use Rattle.ep_values.specs.Faults.{kind_named, kind_of}
+use Rattle.ep_bytes.specs.View.{alarm_of, datum_of, found_at, read_as, value_in}
+use Rattle.ep_machine.specs.declared.fault.Fault.{Fault}
+use Rattle.ep_machine.specs.Faults.{kind_named, kind_of}
 
 pub named : (k : Kind) → kind_named (alarm_of k) ≡ k
 named overflow = refl
@@ -48,24 +46,12 @@ read_faults (faults k) a x e h =
 
 -- ---- where there is no block
 
-pub some_bytes : (d : Model) (what : Scalar) → 0 < size_of d what
-some_bytes d (Int I8) = omega arith
-some_bytes d (Int U8) = omega arith
-some_bytes d (Int I16) = omega arith
-some_bytes d (Int U16) = omega arith
-some_bytes d (Int I32) = omega arith
-some_bytes d (Int U32) = omega arith
-some_bytes d (Int I64) = omega arith
-some_bytes d (Int U64) = omega arith
-some_bytes Ilp32 Pointer = omega arith
-some_bytes Lp64 Pointer = omega arith
-
 pub outside : (n here : ℕ) → 0 < n → is_outside 0 here n ≡ true
 outside n here h = grind (arith, nat_tests)
 
 pub loaded_nowhere : (o : Order) (d : Model) (m : Memory) (what : Scalar) (b here : ℕ)
     → loaded o d 0 m what b here ≡ faults bounds
-loaded_nowhere o d m what b here = rw (outside (size_of d what) here (some_bytes d what)) refl
+loaded_nowhere o d m what b here = rw (outside (size_of d what) here (size_positive d what)) refl
 
 -- ---- a read in a block of the program
 

@@ -6,9 +6,9 @@ use Rattle.ep_alarms.specs.declared.types.AlarmKind.{AlarmKind}
 use Rattle.ep_alarms.specs.declared.types.AlarmKind.TheVariants.{U1, U2, U3, U4, U5, U6, U7, U8, U9, U10, E1, E2, E3}
 use Rattle.ep_alarms.specs.declared.types.AlarmKind.TheVariants.{E4}
 use Rattle.ep_bytes.specs.declared.types.Datum.{Datum}
-use Rattle.ep_bytes.specs.Shown.{value_in}
-use Rattle.ep_values.specs.declared.fault.Fault.{Fault}
-use Rattle.ep_values.specs.declared.fault.Fault.TheVariants as fault
+use Rattle.ep_bytes.specs.View.{value_in}
+use Rattle.ep_machine.specs.declared.fault.Fault.{Fault}
+use Rattle.ep_machine.specs.declared.fault.Fault.TheVariants as fault
 
 abbrev pub kind_of : Fault → Kind
 kind_of fault.Overflow = overflow

@@ -2,12 +2,12 @@
 
 ghost use Rattle.std.specs.Prelude.{◌≡◌, ℕ, ℤ, IfOk, false, true};
 ghost use Rattle.ep_int.specs.Memory.{Found, has, int, with_place};
-ghost use Rattle.ep_bytes.specs.Held.{memory_in};
-ghost use Rattle.ep_bytes.specs.Shown.{value_in};
+ghost use Rattle.ep_bytes.specs.StoreView.{memory_in};
+ghost use Rattle.ep_bytes.specs.View.{value_in};
 ghost use Rattle.ep_core.specs.Exec.{element_at, is_true as truth_of, truth, where_true, with, with_number};
-ghost use Rattle.ep_core.specs.View.{shown_expr, shown_place};
-ghost use Rattle.ep_values.specs.Faults.{IsWithinReach, found_by, with_number_by, with_place_by};
-ghost use Rattle.ep_values.specs.Settings.{
+ghost use Rattle.ep_core.specs.View.{expr_view, place_view};
+ghost use Rattle.ep_machine.specs.Faults.{IsWithinReach, found_by, with_number_by, with_place_by};
+ghost use Rattle.ep_machine.specs.Settings.{
   ExprFits,
   IsLaid,
   PlaceFits,
@@ -30,8 +30,8 @@ use ep_int::wrap;
 #[cycle(evaluate)]
 pub fn value(on: &Setting, store: &Store, e: &Expr) -> Result<Datum, Fault>
     requires laid { IsLaid on.now store.now }
-    requires typed { ExprFits on.now (memory_in store.now) (shown_expr e.now) }
-    ensures { found_by result ≡ value_on on.now (shown_expr e.now) (memory_in store.now) }
+    requires typed { ExprFits on.now (memory_in store.now) (expr_view e.now) }
+    ensures { found_by result ≡ value_on on.now (expr_view e.now) (memory_in store.now) }
 {
     match e {
         Expr::Const(_, v) => Ok(Datum::Int(*v)),
@@ -79,8 +79,8 @@ pub fn value(on: &Setting, store: &Store, e: &Expr) -> Result<Datum, Fault>
 #[cycle(evaluate)]
 pub fn address(on: &Setting, store: &Store, a: &Place) -> Result<Datum, Fault>
     requires laid { IsLaid on.now store.now }
-    requires typed { PlaceFits on.now (memory_in store.now) (shown_place a.now) }
-    ensures { found_by result ≡ address_on on.now (shown_place a.now) (memory_in store.now) }
+    requires typed { PlaceFits on.now (memory_in store.now) (place_view a.now) }
+    ensures { found_by result ≡ address_on on.now (place_view a.now) (memory_in store.now) }
 {
     match a {
         Place::Block(b) => Ok(Datum::Pointer(*b, 0)),
@@ -101,10 +101,10 @@ pub fn address(on: &Setting, store: &Store, a: &Place) -> Result<Datum, Fault>
 #[cycle(evaluate)]
 fn number(on: &Setting, store: &Store, e: &Expr) -> Result<i128, Fault>
     requires laid { IsLaid on.now store.now }
-    requires typed { ExprFits on.now (memory_in store.now) (shown_expr e.now) }
-    ensures with { (go : ℤ → Found) → with_number (value_on on.now (shown_expr e.now) (memory_in store.now)) go
+    requires typed { ExprFits on.now (memory_in store.now) (expr_view e.now) }
+    ensures with { (go : ℤ → Found) → with_number (value_on on.now (expr_view e.now) (memory_in store.now)) go
         ≡ with_number_by result go }
-    ensures is { IfOk result (λ v. value_on on.now (shown_expr e.now) (memory_in store.now) ≡ has (int v)) }
+    ensures is { IfOk result (λ v. value_on on.now (expr_view e.now) (memory_in store.now) ≡ has (int v)) }
 {
     match value(on, store, e) {
         Ok(Datum::Int(v)) => Ok(v),
@@ -118,9 +118,9 @@ fn number(on: &Setting, store: &Store, e: &Expr) -> Result<i128, Fault>
 #[cycle(evaluate)]
 fn conjunction(on: &Setting, store: &Store, first: Datum, second: &Expr) -> Result<Datum, Fault>
     requires laid { IsLaid on.now store.now }
-    requires typed { ExprFits on.now (memory_in store.now) (shown_expr second.now) }
+    requires typed { ExprFits on.now (memory_in store.now) (expr_view second.now) }
     ensures { found_by result ≡ where_true (truth_of (value_in first)) (truth false)
-        (with (value_on on.now (shown_expr second.now) (memory_in store.now)) (λ v. truth (truth_of v))) }
+        (with (value_on on.now (expr_view second.now) (memory_in store.now)) (λ v. truth (truth_of v))) }
 {
     if !is_true(first) {
         return Ok(truth(false));
@@ -133,9 +133,9 @@ fn conjunction(on: &Setting, store: &Store, first: Datum, second: &Expr) -> Resu
 #[cycle(evaluate)]
 fn disjunction(on: &Setting, store: &Store, first: Datum, second: &Expr) -> Result<Datum, Fault>
     requires laid { IsLaid on.now store.now }
-    requires typed { ExprFits on.now (memory_in store.now) (shown_expr second.now) }
+    requires typed { ExprFits on.now (memory_in store.now) (expr_view second.now) }
     ensures { found_by result ≡ where_true (truth_of (value_in first))
-        (with (value_on on.now (shown_expr second.now) (memory_in store.now)) (λ v. truth (truth_of v))) (truth true) }
+        (with (value_on on.now (expr_view second.now) (memory_in store.now)) (λ v. truth (truth_of v))) (truth true) }
 {
     if is_true(first) {
         return Ok(truth(true));
@@ -148,8 +148,8 @@ fn disjunction(on: &Setting, store: &Store, first: Datum, second: &Expr) -> Resu
 #[cycle(evaluate)]
 fn target(on: &Setting, store: &Store, a: &Place) -> Result<(u32, u32), Fault>
     requires laid { IsLaid on.now store.now }
-    requires typed { PlaceFits on.now (memory_in store.now) (shown_place a.now) }
-    ensures { (go : ℕ → ℕ → Found) → with_place (address_on on.now (shown_place a.now) (memory_in store.now)) go
+    requires typed { PlaceFits on.now (memory_in store.now) (place_view a.now) }
+    ensures { (go : ℕ → ℕ → Found) → with_place (address_on on.now (place_view a.now) (memory_in store.now)) go
         ≡ with_place_by result go }
 {
     match address(on, store, a) {
