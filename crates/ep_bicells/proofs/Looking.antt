@@ -1,5 +1,6 @@
 -- Looks into the parts that a place may touch.
 use Rattle.std.proofs.Common.{◌≡◌, ℕ, suc, ◌+◌, ◌-◌, ◌<◌, ◌≤◌, ◌^◌, Bool, true, false, cond, ◌&&◌, ◌||◌, not, nat_eq}
+use Rattle.ep_int.proofs.Basics.{or-false}
 use Rattle.std.proofs.Common.{nat_lt, nat_le, List, [], ◌∷◌, ◌++◌, map, Some, None, refl, sym, ◌∙◌, ap, subst, arith}
 use Rattle.std.specs.List.{list_any}
 use Rattle.std.proofs.lemmas.Bool.{and_parts}
@@ -11,12 +12,12 @@ use Rattle.ep_layout.proofs.Sizes.{size_of_scalar}
 use Rattle.ep_bitslice.specs.declared.cell.Side.{Side}
 use Rattle.ep_bitslice.specs.declared.cell.Side.TheVariants.{Shared}
 use Rattle.ep_cells.specs.declared.cell.Cell.{Cell}
-use Rattle.ep_cells.specs.declared.place.Place.{Place}
+use Rattle.ep_cells.specs.declared.place.ByteRange.{ByteRange}
 use Rattle.ep_cells.specs.Cells.{place_of, touches, share_memory, encloses, meets, is_partly_in, is_same_side, IsIn}
 use Rattle.ep_cells.specs.Cells.{first, later}
 use Rattle.ep_cells.specs.Look.{covers, cell_at, is_some_partly_in}
 use Rattle.ep_cells.specs.States.{IsCell, AreCells}
-use Rattle.ep_cells_laws.proofs.Lists.{in_left, in_right}
+use Rattle.ep_cells.proofs.Lists.{in_left, in_right}
 use Rattle.ep_shared_parts.specs.declared.parts.Part.{Part}
 use Rattle.ep_shared_parts.specs.Spread.{all_items, AreFrom, AreBelow, IsWindow}
 use Rattle.ep_shared_parts.specs.Mentions.{number_at, number_of}
@@ -101,11 +102,11 @@ cell_in_window d s b p from last ps window f l w =
 -- ---- what touches a place
 
 -- the numbers from which and up to which cells may touch a place
-pub record Reaches (p : Place) (from last : ℕ) : Type 0 where
+pub record Reaches (p : ByteRange) (from last : ℕ) : Type 0 where
   pub first : from ≡ number_at p.block (p.offset - 7)
   pub end : (q : ℕ) → q < p.offset + p.bytes → q < 4294967296 → number_at p.block q ≤ last
 
-pub touched_at : (p q : Place) (from last : ℕ) → Reaches p from last → q.bytes ≤ 8 → q.offset < 4294967296
+pub touched_at : (p q : ByteRange) (from last : ℕ) → Reaches p from last → q.bytes ≤ 8 → q.offset < 4294967296
     → touches p q ≡ true → (from ≤ number_at q.block q.offset) × (number_at q.block q.offset ≤ last)
 touched_at p q from last r small low h =
     let both = and_parts (nat_eq p.block q.block) (nat_lt p.offset (q.offset + q.bytes) && nat_lt q.offset (p.offset +
@@ -118,20 +119,20 @@ touched_at p q from last r small low h =
     let first : from ≡ number_at p.block (p.offset - 7) = r.first in
     (omega (arith, block, before, small, first), omega (arith, block, end))
 
-pub touched_number : {N : Type 0} (d : Model) (p : Place) (c : Cell N) (from last : ℕ) → Reaches p from last
+pub touched_number : {N : Type 0} (d : Model) (p : ByteRange) (c : Cell N) (from last : ℕ) → Reaches p from last
     → IsCell d c → touches p (place_of d c) ≡ true → (from ≤ number_of c) × (number_of c ≤ last)
 touched_number d p c from last r i h =
     let size = size_of_scalar d c.what in
     let end : c.offset + size_of d c.what ≤ 2 ^ 32 = i.fits.last in
     touched_at p (place_of d c) from last r size.1 (omega (arith, size.0, end)) h
 
-partly_number : {N : Type 0} (d : Model) (p : Place) (c : Cell N) (from last : ℕ) → Reaches p from last
+partly_number : {N : Type 0} (d : Model) (p : ByteRange) (c : Cell N) (from last : ℕ) → Reaches p from last
     → IsCell d c → is_partly_in p (place_of d c) ≡ true → (from ≤ number_of c) × (number_of c ≤ last)
 partly_number d p c from last r i h =
     touched_number d p c from last r i (and_parts (share_memory p.side c.side) (touches p (place_of d c)) (and_parts
     (meets p (place_of d c)) (not (encloses p (place_of d c))) h).0).1
 
-none_partly_below : {N : Type 0} (d : Model) (p : Place) (from last : ℕ) (cs : List (Cell N)) → Reaches p from last
+none_partly_below : {N : Type 0} (d : Model) (p : ByteRange) (from last : ℕ) (cs : List (Cell N)) → Reaches p from last
     → ((c : Cell N) → IsIn c cs → IsCell d c) → AreBelow from (map number_of cs) → is_some_partly_in d p cs ≡ false
 none_partly_below d p from last [] r i h = refl
 none_partly_below d p from last (c ∷ cs) r i h = by (is_partly_in p (place_of d c)) refl (none_partly_below d p from
@@ -142,7 +143,7 @@ none_partly_below d p from last (c ∷ cs) r i h = by (is_partly_in p (place_of 
     by true e k = let n = partly_number d p c from last r (i c (first cs)) e in absurd (omega (arith, n.0, h.0))
     by false e k = k
 
-none_partly_above : {N : Type 0} (d : Model) (p : Place) (from last : ℕ) (cs : List (Cell N)) → Reaches p from last
+none_partly_above : {N : Type 0} (d : Model) (p : ByteRange) (from last : ℕ) (cs : List (Cell N)) → Reaches p from last
     → ((c : Cell N) → IsIn c cs → IsCell d c) → AreFrom (suc last) (map number_of cs) → is_some_partly_in d p cs ≡
     false
 none_partly_above d p from last [] r i h = refl
@@ -154,11 +155,7 @@ none_partly_above d p from last (c ∷ cs) r i h = by (is_partly_in p (place_of 
     by true e k = let n = partly_number d p c from last r (i c (first cs)) e in absurd (omega (arith, n.1, h.0))
     by false e k = k
 
-or_none : (b : Bool) → (b || false) ≡ b
-or_none true = refl
-or_none false = refl
-
-pub partly_in_window : {N : Type 0} (d : Model) (p : Place) (from last : ℕ) (ps window : List (Part (Cell N)))
+pub partly_in_window : {N : Type 0} (d : Model) (p : ByteRange) (from last : ℕ) (ps window : List (Part (Cell N)))
     → Reaches p from last → AreCells d (all_items ps) → IsWindow number_of from last ps window
     → is_some_partly_in d p (all_items window) ≡ is_some_partly_in d p (all_items ps)
 partly_in_window {N = N} d p from last ps window r a w =
@@ -175,4 +172,4 @@ partly_in_window {N = N} d p from last ps window r a w =
     ∙ ap (λ t. t || list_any test (all_items window ++ all_items w.behind)) below
     ∙ list_any-append test (all_items window) (all_items w.behind)
     ∙ ap (λ t. list_any test (all_items window) || t) above
-    ∙ or_none (list_any test (all_items window)))
+    ∙ or-false (list_any test (all_items window)))

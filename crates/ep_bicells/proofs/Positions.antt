@@ -7,8 +7,8 @@ use Rattle.ep_cells.specs.declared.cell.Cell.{Cell}
 use Rattle.ep_cells.specs.Cells.{is_same_cell, IsIn, first, later}
 use Rattle.ep_cells.specs.Both.{is_cell_within, cell_like}
 use Rattle.ep_cells.specs.States.{AreAlike}
-use Rattle.ep_cells_laws.proofs.Both.{alike_same}
-use Rattle.ep_cells_laws.proofs.Lists.{in_right}
+use Rattle.ep_cells.proofs.Both.{alike_same}
+use Rattle.ep_cells.proofs.Lists.{in_right}
 use Rattle.ep_shared_parts.specs.declared.parts.Part.{Part}
 use Rattle.ep_shared_parts.specs.Spread.{all_items}
 use Rattle.ep_bicells.specs.Distinct.{AreDistinct}

@@ -11,7 +11,7 @@ use ep_bitslice::Side;
 use ep_cell_rows::change::Change;
 use ep_cell_rows::places::{place_of, share_memory, touches};
 use ep_cell_rows::rows::{push, push_side};
-use ep_cells::{Cell, Place, Value};
+use ep_cells::{ByteRange, Cell, Value};
 use ep_domain::Num;
 use ep_int::{IntType, Memory, Model, Scalar};
 use std::alloc::Global;
@@ -56,7 +56,7 @@ fn push_blurred<N: Num>(
 
 fn push_part<N: Num>(
     out: &mut Vec<Cell<N>>,
-    place: Place,
+    place: ByteRange,
     x: &Cell<N>,
     side: Side,
 ) -> Result<(), Memory>
@@ -71,7 +71,7 @@ fn push_part<N: Num>(
     }
 }
 
-fn push_both<N: Num>(out: &mut Vec<Cell<N>>, place: Place, x: &Cell<N>) -> Result<(), Memory>
+fn push_both<N: Num>(out: &mut Vec<Cell<N>>, place: ByteRange, x: &Cell<N>) -> Result<(), Memory>
     ensures { IfOk result (λ _. out.new.items ≡ (out.old.items
         ++ map (reformed (fate_of (Change.WeakWrite place)))
         (blurred_part N.ops place.side (record x.now { side = Side.Left })))
@@ -83,7 +83,7 @@ fn push_both<N: Num>(out: &mut Vec<Cell<N>>, place: Place, x: &Cell<N>) -> Resul
     Ok(())
 }
 
-fn push_parts<N: Num>(out: &mut Vec<Cell<N>>, place: Place, x: &Cell<N>) -> Result<(), Memory>
+fn push_parts<N: Num>(out: &mut Vec<Cell<N>>, place: ByteRange, x: &Cell<N>) -> Result<(), Memory>
     ensures { IfOk result (λ _. out.new.items ≡ out.old.items
         ++ map (reformed (fate_of (Change.WeakWrite place)))
         (each_becomes (blurred_part N.ops place.side) (parts_of x.now))) }
@@ -107,7 +107,7 @@ fn push_parts<N: Num>(out: &mut Vec<Cell<N>>, place: Place, x: &Cell<N>) -> Resu
 fn push_left<N: Num>(
     out: &mut Vec<Cell<N>>,
     model: Model,
-    place: Place,
+    place: ByteRange,
     x: &Cell<N>,
 ) -> Result<(), Memory>
     ensures { IfOk result (λ _. out.new.items ≡ out.old.items
@@ -124,7 +124,7 @@ fn push_left<N: Num>(
 pub fn left_by_blur<N: Num>(
     alloc: Global,
     model: Model,
-    place: Place,
+    place: ByteRange,
     cells: &[Cell<N>],
 ) -> Result<Vec<Cell<N>>, Memory>
     ensures { IfOk result (λ v. v.items ≡ map (reformed (fate_of (Change.WeakWrite place)))

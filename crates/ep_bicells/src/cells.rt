@@ -14,7 +14,7 @@ use ep_bitslice::Side;
 use ep_cell_rows::cell::copy_cell;
 use ep_cell_rows::places::is_same_cell;
 use ep_cell_rows::rows;
-use ep_cells::{Cell, Place};
+use ep_cells::{ByteRange, Cell};
 use ep_domain::Num;
 use ep_int::{Memory, Model};
 use ep_shared_parts::numbers::number_at;
@@ -23,7 +23,7 @@ use ep_shared_parts::walks::{At, next};
 use std::alloc::Global;
 
 /// From which number and up to which one cells may touch a place.
-pub fn reach(p: &Place) -> (u64, u64)
+pub fn reach(p: &ByteRange) -> (u64, u64)
     ensures rising { result.0 ≤ result.1 }
     ensures from { result.0 ≡ number_at p.now.block (p.now.offset - 7) }
     ensures last { (q : ℕ) → q < p.now.offset + p.now.bytes → q < 4294967296 → number_at p.now.block q ≤ result.1 }
@@ -72,7 +72,7 @@ pub fn cell_at<N: Num>(
     )
 }
 
-fn is_some_partly<N: Num>(model: Model, p: &Place, parts: &[Part<Cell<N>>]) -> bool
+fn is_some_partly<N: Num>(model: Model, p: &ByteRange, parts: &[Part<Cell<N>>]) -> bool
     ensures { result ≡ is_some_partly_in model p.now (all_items parts.now) }
 {
     for part in parts {
@@ -84,7 +84,7 @@ fn is_some_partly<N: Num>(model: Model, p: &Place, parts: &[Part<Cell<N>>]) -> b
 }
 
 /// Whether some cell has bytes in the place, and others.
-pub fn is_some_partly_in<N: Num>(model: Model, p: &Place, parts: &[Part<Cell<N>>]) -> bool
+pub fn is_some_partly_in<N: Num>(model: Model, p: &ByteRange, parts: &[Part<Cell<N>>]) -> bool
     requires spread { AreSpread (outlines number_of parts.now) }
     requires cells { AreCells model (all_items parts.now) }
     ensures { result ≡ is_some_partly_in model p.now (all_items parts.now) }

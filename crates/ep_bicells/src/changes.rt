@@ -18,7 +18,7 @@ use ep_cell_changes::weak::left_by_weak_write;
 use ep_cell_rows::change::Change;
 use ep_cell_rows::places::{first_part, place_of, side_without};
 use ep_cell_rows::rows;
-use ep_cells::{Cell, Place};
+use ep_cells::{ByteRange, Cell};
 use ep_domain::Num;
 use ep_int::{Memory, Model};
 use ep_shared_parts::parts::{Edit, Part, push, span};
@@ -30,13 +30,13 @@ use std::rc::Rc;
 #[derive(Drop)]
 pub enum Step<N> {
     /// A place is written.
-    Write(Place),
+    Write(ByteRange),
     /// A cell may be written. Set where Shared cells stay.
     WeakWrite(Cell<N>, bool),
     /// A block is killed on a side.
     Kill(Side, u32),
     /// A place may have been written in whatever way.
-    Blur(Place),
+    Blur(ByteRange),
     /// A cell is split on a side: it is gone there, and so are forms that mention it, but those of a Shared cell
     /// mention what stays of it.
     Split(Side, Cell<N>),

@@ -11,7 +11,7 @@ use crate::changes::{Step, is_edited};
 use ep_cell_rows::places::{is_same_cell, place_of, touches};
 use ep_cell_rows::rows::push;
 use ep_cell_rows::values::has_target;
-use ep_cells::{Cell, Place};
+use ep_cells::{ByteRange, Cell};
 use ep_domain::Num;
 use ep_int::{Memory, Model};
 use ep_shared_parts::parts::{Edit, Part};
@@ -19,7 +19,7 @@ use std::alloc::Global;
 use std::mem;
 use std::rc::Rc;
 
-fn is_apart<N: Num>(model: Model, p: &Place, x: &Cell<N>) -> bool
+fn is_apart<N: Num>(model: Model, p: &ByteRange, x: &Cell<N>) -> bool
     ensures { result ≡ not (touches p.now (the_place model x.now)) }
 {
     !touches(p, &place_of(model, x))

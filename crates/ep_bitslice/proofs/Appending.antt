@@ -1,5 +1,6 @@
 -- A form with one segment more.
 use Rattle.std.proofs.Common.{◌≡◌, ℕ, zero, suc, ◌+◌, ◌-◌, ◌<◌, ◌≤◌, Bool, true, false, nat_le, cond, List, [], ◌∷◌}
+use Rattle.ep_bitslice.proofs.NormalForm.{append_nothing}
 use Rattle.std.proofs.Common.{◌++◌, length, Option, Some, None, sym, refl, ap, ◌∙◌, arith, append_assoc}
 use Rattle.std.proofs.Common.{length-append}
 use Rattle.std.specs.Option.{option_map_or}
@@ -29,10 +30,6 @@ last_bits t s p q = by (joined t s) refl
     by : (o : Option Segment) → joined t s ≡ o → bits (last_by o t s) ≡ segment_bits t ++ (segment_bits s ++ [])
     by (Some m) h = ap (λ bs. bs ++ []) (bits-joined t s m (shape t p) (shape s q) h) ∙ append_assoc (segment_bits t) (segment_bits s) []
     by None h = refl
-
-append_nothing : (bs : List Bit) → bs ++ [] ≡ bs
-append_nothing [] = refl
-append_nothing (b ∷ bs) = ap (λ xs. b ∷ xs) (append_nothing bs)
 
 pub bits-put_after : (ss : List Segment) (s : Segment) → AreSegments ss → IsSegment s → bits (put_after ss s) ≡ bits ss ++ segment_bits s
 bits-put_after [] s p q = append_nothing (segment_bits s)

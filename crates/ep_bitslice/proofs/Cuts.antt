@@ -1,11 +1,12 @@
 -- What the functions on segments answer.
 use Rattle.std.proofs.Common.{◌≡◌, ℕ, ◌+◌, ◌-◌, ◌*◌, ◌/◌, ◌%◌, ◌^◌, ◌<◌, ◌≤◌, Bool, true, false, ◌&&◌, nat_eq, cond}
+use Rattle.ep_int.proofs.Basics.{power-le}
 use Rattle.std.proofs.Common.{List, ◌++◌, length, take, drop, append_assoc, bit_and, bit_or, Option, Some, None}
 use Rattle.std.proofs.Common.{IfSome, IfNone, sym, refl, ap, ◌∙◌, subst, arith, eqb-true}
 use Rattle.std.specs.Int.{w64, trailing_zeros, trailing_ones}
 use Rattle.std.proofs.lemmas.List.{take-append-drop}
 use Rattle.std.proofs.lemmas.Nat.{pow_pos, mod_below, shr_below, or_lt}
-use Rattle.std.proofs.Math.Nat.{pow-le-pow_right, mod-eq_of_lt}
+use Rattle.std.proofs.Math.Nat.{mod-eq_of_lt}
 use Rattle.ep_bitslice.specs.declared.cell.CellName.{CellName}
 use Rattle.ep_bitslice.specs.declared.segment.Segment.{Segment}
 use Rattle.ep_bitslice.specs.declared.segment.Segment.TheVariants.{Bits, Fixed}
@@ -185,13 +186,10 @@ fixed_mentioned s v w d e = rw e (sym (mentions-fixed d w v))
 
 -- ---- two segments as one
 
-pow_le : (i j : ℕ) → i ≤ j → 2 ^ i ≤ 2 ^ j
-pow_le i j h = pow-le-pow_right (omega arith) h
-
 pub shifted_up : (v w x y : ℕ) → v < 2 ^ w → x < 2 ^ y → w + y ≤ 64 → (x * 2 ^ w % 18446744073709551616 ≡ x * 2 ^ w) × (v + x * 2 ^ w < 18446744073709551616)
 shifted_up v w x y p q h =
     let a : v + x * 2 ^ w < 2 ^ (w + y) = shape-joined (Fixed v w) (Fixed x y) _ p q refl in
-    let b : 2 ^ (w + y) ≤ 2 ^ 64 = pow_le (w + y) 64 h in
+    let b : 2 ^ (w + y) ≤ 2 ^ 64 = power-le (w + y) 64 h in
     let c : x * 2 ^ w < 18446744073709551616 = omega (arith, a, b) in
     (mod-eq_of_lt c, omega (arith, a, b))
 

@@ -1,5 +1,7 @@
 -- Segments joined: their bits, and when they can be.
 use Rattle.std.proofs.Common.{◌≡◌, ℕ, zero, suc, ◌+◌, ◌-◌, ◌*◌, ◌/◌, ◌%◌, ◌^◌, ◌<◌, ◌≤◌, Bool, true, false, ◌&&◌}
+use Rattle.ep_int.proofs.Basics.{nat_eq-self}
+use Rattle.std.proofs.lemmas.Bool.{and_parts}
 use Rattle.std.proofs.Common.{nat_eq, cond, ◌∷◌, ◌++◌, length, Some, None, sym, refl, ap, ◌∙◌, subst, arith}
 use Rattle.std.proofs.Common.{length-append, eqb-true, zero-add, add-zero}
 use Rattle.std.proofs.lemmas.Nat.{pow-add, mul-add-lt}
@@ -16,14 +18,7 @@ use Rattle.ep_bitslice.specs.Segments.{fixed_bits, run_bits, segment_bits, segme
 
 -- ---- names of cells
 
-pub and_true : (a b : Bool) → (a && b) ≡ true → (a ≡ true) × (b ≡ true)
-and_true true b h = (refl, h)
-and_true false b h = absurd (cc)
-
-eq_back : (m n : ℕ) → nat_eq m n ≡ true → m ≡ n
-eq_back m n h = eqb-true m n h
-
-side_back : (a b : Side) → side_number a ≡ side_number b → a ≡ b
+pub side_back : (a b : Side) → side_number a ≡ side_number b → a ≡ b
 side_back Left Left h = refl
 side_back Left Right h = absurd (omega arith)
 side_back Left Shared h = absurd (omega arith)
@@ -62,23 +57,20 @@ cell_at s b o t = record { side = s; block = b; offset = o; t = t }
 
 pub same_cell : (c d : CellName) → is_same_cell c d ≡ true → c ≡ d
 same_cell c d h =
-    let p = and_true _ _ h in
-    let q = and_true _ _ p.0 in
-    let r = and_true _ _ q.1 in
-    let s : c.side ≡ d.side = side_back c.side d.side (eq_back _ _ q.0) in
-    let b : c.block ≡ d.block = eq_back _ _ r.0 in
-    let o : c.offset ≡ d.offset = eq_back _ _ r.1 in
-    let t : c.t ≡ d.t = type_back c.t d.t (eq_back _ _ p.1) in
+    let p = and_parts _ _ h in
+    let q = and_parts _ _ p.0 in
+    let r = and_parts _ _ q.1 in
+    let s : c.side ≡ d.side = side_back c.side d.side (eqb-true _ _ q.0) in
+    let b : c.block ≡ d.block = eqb-true _ _ r.0 in
+    let o : c.offset ≡ d.offset = eqb-true _ _ r.1 in
+    let t : c.t ≡ d.t = type_back c.t d.t (eqb-true _ _ p.1) in
     ap (λ (x : Side). cell_at x c.block c.offset c.t) s
     ∙ ap (λ (n : ℕ). cell_at d.side n c.offset c.t) b
     ∙ ap (λ (n : ℕ). cell_at d.side d.block n c.t) o
     ∙ ap (λ (x : IntType). cell_at d.side d.block d.offset x) t
 
-pub eq_self : (n : ℕ) → nat_eq n n ≡ true
-eq_self n = search arith
-
 pub cell_itself : (c : CellName) → is_same_cell c c ≡ true
-cell_itself c = rw (eq_self (side_number c.side), eq_self c.block, eq_self c.offset, eq_self (type_number c.t)) refl
+cell_itself c = rw (nat_eq-self (side_number c.side), nat_eq-self c.block, nat_eq-self c.offset, nat_eq-self (type_number c.t)) refl
 
 -- ---- which segments join
 
@@ -92,8 +84,8 @@ test c t d g = is_same_cell c d && nat_eq t g
 
 goes_on : (c : CellName) (t : ℕ) (d : CellName) (g : ℕ) → test c t d g ≡ true → GoesOn c t d g
 goes_on c t d g h =
-    let p = and_true _ _ h in
-    record { cell = same_cell c d p.0; place = eq_back t g p.1 }
+    let p = and_parts _ _ h in
+    record { cell = same_cell c d p.0; place = eqb-true t g p.1 }
 
 choice : (b : Bool) (s m : Segment) → cond b (Some s) None ≡ Some m → (b ≡ true) × (s ≡ m)
 choice true s m h = (refl, cc)
@@ -135,7 +127,7 @@ joined_both (Bits c f t) (Bits d g u) (Bits e i v) st tu h k =
     rw (← p.1, ← q.1) (record { whole = Bits c f v; low = joins c f t d g v p.0; high = joins c f u e i v (record { cell = p.0.cell ∙ q.0.cell; place = q.0.place }) })
   where
     yes : (c : CellName) (t : ℕ) → test c t c t ≡ true
-    yes c t = rw (cell_itself c, eq_self t) refl
+    yes c t = rw (cell_itself c, nat_eq-self t) refl
 
     yes_if : (c : CellName) (t : ℕ) (d : CellName) (g : ℕ) → GoesOn c t d g → test c t d g ≡ true
     yes_if c t d g h = subst (λ (x : CellName). test c t x g ≡ true) h.cell (subst (λ (n : ℕ). test c t c n ≡ true) h.place (yes c t))

@@ -1,5 +1,7 @@
 -- The normal form of bits: made from either end, of no more segments than a longer one, and the only one.
-use Rattle.std.proofs.Common.{◌≡◌, ℕ, zero, suc, ◌+◌, ◌-◌, ◌*◌, ◌/◌, ◌%◌, ◌^◌, ◌<◌, ◌≤◌, nat_eq, cond, List, [], ◌∷◌}
+use Rattle.std.proofs.Common.{◌≡◌, ℕ, zero, suc, ◌+◌, ◌-◌, ◌*◌, ◌/◌, ◌%◌, ◌^◌, ◌<◌, ◌≤◌, cond, List, [], ◌∷◌}
+use Rattle.ep_int.proofs.Basics.{nat_eq-self}
+use Rattle.ep_bitslice.proofs.Numbers.{digit_is}
 use Rattle.std.proofs.Common.{◌++◌, length, take, drop, Option, Some, None, sym, refl, ap, ◌∙◌, arith, append_assoc}
 use Rattle.std.proofs.lemmas.List.{take-append-drop}
 use Rattle.std.proofs.Math.Nat.{pow-suc}
@@ -10,7 +12,7 @@ use Rattle.ep_bitslice.specs.declared.segment.Segment.TheVariants.{Bits, Fixed}
 use Rattle.ep_bitslice.specs.Bits.{Bit, is_odd, part_of}
 use Rattle.ep_bitslice.specs.Segments.{fixed_bits, run_bits, segment_bits, bits, joined, put_before, bit_segment}
 use Rattle.ep_bitslice.specs.Segments.{normal, IsSegment, AreSegments, IsApart, AreApart, IsForm}
-use Rattle.ep_bitslice.proofs.Joining.{joined_both, joined_below, joined_above, cell_itself, eq_self}
+use Rattle.ep_bitslice.proofs.Joining.{joined_both, joined_below, joined_above, cell_itself}
 
 -- one segment more, above
 abbrev pub put_after : List Segment → Segment → List Segment
@@ -42,14 +44,6 @@ put_before-joined s t st (u ∷ ss) h = by (joined t u) refl
 
 -- ---- the normal form of a segment's bits, with others above them
 
-digit_is : (v : ℕ) → cond (is_odd v) 1 0 ≡ v % 2
-digit_is v = by (v % 2) (omega arith)
-  where
-    by : (r : ℕ) → r < 2 → cond (nat_eq r 1) 1 0 ≡ r
-    by zero h = refl
-    by (suc zero) h = refl
-    by (suc (suc r)) h = absurd (omega arith)
-
 fixed_first : (w v : ℕ) (bs : List Bit) → v < 2 ^ suc w → normal (fixed_bits (suc w) v ++ bs) ≡ put_before (Fixed v (suc w)) (normal bs)
 fixed_first zero v bs h =
     let e : cond (is_odd v) 1 0 ≡ v = digit_is v ∙ omega (arith, h) in
@@ -68,7 +62,7 @@ run_first c k zero bs = refl
 run_first c k (suc n) bs =
     let e : k + 1 + suc n ≡ k + suc (suc n) = omega arith in
     ap (put_before (Bits c k (k + 1))) (run_first c (k + 1) n bs)
-    ∙ put_before-joined (Bits c k (k + 1)) (Bits c (k + 1) (k + 1 + suc n)) (Bits c k (k + 1 + suc n)) (normal bs) (rw (cell_itself c, eq_self (k + 1)) refl)
+    ∙ put_before-joined (Bits c k (k + 1)) (Bits c (k + 1) (k + 1 + suc n)) (Bits c k (k + 1 + suc n)) (normal bs) (rw (cell_itself c, nat_eq-self (k + 1)) refl)
     ∙ ap (λ m. put_before (Bits c k m) (normal bs)) e
 
 fixed_any : (w v : ℕ) (bs : List Bit) → 0 < w → v < 2 ^ w → normal (fixed_bits w v ++ bs) ≡ put_before (Fixed v w) (normal bs)
@@ -135,7 +129,7 @@ put_before-after b s (t ∷ u ∷ ss) = by (joined b t) refl
     by (Some bt) h = before_some b t bt (put_after (u ∷ ss) s) h ∙ sym (ap (λ xs. put_after xs s) (before_some b t bt (u ∷ ss) h))
     by None h = before_none b t (put_after (u ∷ ss) s) h ∙ sym (ap (λ xs. put_after xs s) (before_none b t (u ∷ ss) h))
 
-append_nothing : (bs : List Bit) → bs ++ [] ≡ bs
+pub append_nothing : (bs : List Bit) → bs ++ [] ≡ bs
 append_nothing [] = refl
 append_nothing (b ∷ bs) = ap (λ xs. b ∷ xs) (append_nothing bs)
 

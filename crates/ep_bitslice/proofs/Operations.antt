@@ -1,5 +1,6 @@
 -- What each operation on bits does to their number.
 use Rattle.std.proofs.Common.{◌≡◌, ℕ, zero, suc, ◌+◌, ◌-◌, ◌*◌, ◌/◌, ◌%◌, ◌^◌, ◌<◌, ◌≤◌, Bool, true, false, ◌&&◌}
+use Rattle.std.proofs.lemmas.Bool.{and_parts, or_left, or_right}
 use Rattle.std.proofs.Common.{◌||◌, nat_eq, cond, List, [], ◌∷◌, ◌++◌, length, take, drop, bit_and, bit_or, sym, refl}
 use Rattle.std.proofs.Common.{ap, ◌∙◌, subst, arith, length-drop}
 use Rattle.std.proofs.lemmas.List.{take-append-drop}
@@ -121,10 +122,6 @@ zero_digit n (fixed true) h = absurd (cc)
 zero_digit n (fixed false) h = refl
 zero_digit n (cell_bit c k) h = absurd (cc)
 
-and_true : (a b : Bool) → (a && b) ≡ true → (a ≡ true) × (b ≡ true)
-and_true true b h = (refl, h)
-and_true false b h = absurd (cc)
-
 either_digit : (n : Numbers) (a b : Bit) → (is_zero a || is_zero b) ≡ true → digit n (cond (is_zero a) b a) ≡ digit n a + digit n b
 either_digit n a b h = by (is_zero a) refl h
   where
@@ -144,7 +141,7 @@ number-either_of n [] [] h = refl
 number-either_of n [] (y ∷ ys) h = absurd (cc)
 number-either_of n (x ∷ xs) [] h = absurd (cc)
 number-either_of n (x ∷ xs) (y ∷ ys) h =
-    let p = and_true (is_zero x || is_zero y) (are_disjoint xs ys) h in
+    let p = and_parts (is_zero x || is_zero y) (are_disjoint xs ys) h in
     omega (arith, either_digit n x y p.0, number-either_of n xs ys p.1)
 
 common : (n : Numbers) (xs ys : List Bit) → are_disjoint xs ys ≡ true → bit_and (number_of_bits n xs) (number_of_bits n ys) ≡ 0
@@ -152,7 +149,7 @@ common n [] [] h = refl
 common n [] (y ∷ ys) h = absurd (cc)
 common n (x ∷ xs) [] h = absurd (cc)
 common n (x ∷ xs) (y ∷ ys) h =
-    let p = and_true (is_zero x || is_zero y) (are_disjoint xs ys) h in
+    let p = and_parts (is_zero x || is_zero y) (are_disjoint xs ys) h in
     let d = and_step (digit n x) (number_of_bits n xs) (digit n y) (number_of_bits n ys) (digit_below n x) (digit_below n y) in
     omega (arith, d, common_digit n x y p.0, common n xs ys p.1)
 
@@ -172,14 +169,6 @@ renamed_digit n from to (cell_bit c k) h = ap (λ v. bit_of v k) (by (is_same_ce
 pub number-renamed : (n : Numbers) (from to : CellName) (bs : List Bit) → n from ≡ n to → number_of_bits n (renamed from to bs) ≡ number_of_bits n bs
 number-renamed n from to [] h = refl
 number-renamed n from to (b ∷ bs) h = omega (arith, renamed_digit n from to b h, number-renamed n from to bs h)
-
-or_right : (a b : Bool) → b ≡ true → (a || b) ≡ true
-or_right true b h = refl
-or_right false b h = h
-
-or_left : (a b : Bool) → a ≡ true → (a || b) ≡ true
-or_left true b h = refl
-or_left false b h = absurd (cc)
 
 same_digit : (n m : Numbers) (b : Bit) (bs : List Bit) → AgreeOn (b ∷ bs) n m → digit n b ≡ digit m b
 same_digit n m (fixed b) bs h = refl

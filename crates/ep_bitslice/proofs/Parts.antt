@@ -1,5 +1,7 @@
 -- Parts of a form's bits, and what is left to do on a walk along them.
 use Rattle.std.proofs.Common.{◌≡◌, ℕ, zero, suc, ◌+◌, ◌-◌, ◌/◌, ◌^◌, ◌<◌, ◌≤◌, Bool, true, false, ◌&&◌, cond, List}
+use Rattle.ep_bitslice.proofs.NormalForm.{append_nothing}
+use Rattle.std.proofs.lemmas.Bool.{false_from_ne_true}
 use Rattle.std.proofs.Common.{[], ◌∷◌, ◌++◌, length, get_or, take, drop, length-drop, Option, Some, None, sym, refl}
 use Rattle.std.proofs.Common.{ap, ◌∙◌, subst, arith, append_assoc, length-append}
 use Rattle.std.proofs.lemmas.List.{take-append-drop}
@@ -17,10 +19,6 @@ use Rattle.ep_bitslice.proofs.Numbers.{number-bits}
 use Rattle.ep_bitslice.proofs.Operations.{length_take, length-zeros}
 use Rattle.ep_bitslice.proofs.Pieces.{masked-append, disjoint-append, either-append, renamed-append}
 use Rattle.ep_bitslice.proofs.Walks.{drop-drop, bits_at}
-
-pub append_nothing : (bs : List Bit) → bs ++ [] ≡ bs
-append_nothing [] = refl
-append_nothing (b ∷ bs) = ap (λ xs. b ∷ xs) (append_nothing bs)
 
 take-front : (xs ys : List Bit) (k : ℕ) → k ≤ length xs → take k (xs ++ ys) ≡ take k xs
 take-front xs ys zero h = refl
@@ -237,12 +235,8 @@ drop_all [] (suc i) h = refl
 drop_all (s ∷ ss) zero h = absurd (omega arith)
 drop_all (s ∷ ss) (suc i) h = drop_all ss i (omega arith)
 
-not_true : (t : Bool) → (t ≡ true → ⊥) → t ≡ false
-not_true true h = absurd (h refl)
-not_true false h = refl
-
 pub not_as_wide : (xs ys : List Bit) → (length xs ≡ length ys → ⊥) → are_disjoint xs ys ≡ false
-not_as_wide xs ys h = not_true (are_disjoint xs ys) (λ e. h (disjoint-length xs ys e))
+not_as_wide xs ys h = false_from_ne_true (are_disjoint xs ys) (λ e. h (disjoint-length xs ys e))
 
 -- ---- shifts and slices
 

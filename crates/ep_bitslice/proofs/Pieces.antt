@@ -1,5 +1,6 @@
 -- Parts of segments, and segments one over the other.
 use Rattle.std.proofs.Common.{◌≡◌, ℕ, zero, suc, ◌+◌, ◌-◌, ◌*◌, ◌/◌, ◌%◌, ◌^◌, ◌<◌, ◌≤◌, Bool, true, false, not, ◌&&◌}
+use Rattle.ep_int.proofs.Basics.{or-assoc, or-true}
 use Rattle.std.proofs.Common.{◌||◌, nat_eq, cond, List, [], ◌∷◌, ◌++◌, length, take, drop, bit_and, bit_or, sym, refl}
 use Rattle.std.proofs.Common.{ap, ◌∙◌, subst, arith, add-zero, ◌⊎◌, inl, inr, ⊎_elim}
 use Rattle.std.specs.Int.{bit_at, w64, trailing_zeros, trailing_ones}
@@ -200,13 +201,9 @@ pub either-zeros : (bs : List Bit) → either_of (zeros (length bs)) bs ≡ bs
 either-zeros [] = refl
 either-zeros (b ∷ bs) = ap (λ xs. b ∷ xs) (either-zeros bs)
 
-or_right : (a : Bool) → (a || true) ≡ true
-or_right true = refl
-or_right false = refl
-
 pub zeros-disjoint : (bs : List Bit) → are_disjoint bs (zeros (length bs)) ≡ true
 zeros-disjoint [] = refl
-zeros-disjoint (b ∷ bs) = rw (or_right (is_zero b)) (zeros-disjoint bs)
+zeros-disjoint (b ∷ bs) = rw (or-true (is_zero b)) (zeros-disjoint bs)
 
 -- A run of a cell is disjoint from zeros alone.
 pub run-zeros : (c : CellName) (f n : ℕ) → either_of (run_bits c f n) (zeros n) ≡ run_bits c f n
@@ -296,10 +293,6 @@ pub mentions-run : (c d : CellName) (f n : ℕ) → 0 < n → mentions c (run_bi
 mentions-run c d f zero h = absurd (omega arith)
 mentions-run c d f (suc n) h = run_mentions c d f n
 
-or_assoc : (a b c : Bool) → ((a || b) || c) ≡ (a || (b || c))
-or_assoc true b c = refl
-or_assoc false b c = refl
-
 pub mentions-append : (c : CellName) (xs ys : List Bit) → mentions c (xs ++ ys) ≡ (mentions c xs || mentions c ys)
 mentions-append c [] ys = refl
-mentions-append c (x ∷ xs) ys = ap (λ t. is_bit_of c x || t) (mentions-append c xs ys) ∙ sym (or_assoc (is_bit_of c x) (mentions c xs) (mentions c ys))
+mentions-append c (x ∷ xs) ys = ap (λ t. is_bit_of c x || t) (mentions-append c xs ys) ∙ sym (or-assoc (is_bit_of c x) (mentions c xs) (mentions c ys))

@@ -1,5 +1,6 @@
 -- Cells of a list in order, and a window of it.
 use Rattle.std.proofs.Common.{◌≡◌, ℕ, zero, suc, ◌+◌, ◌-◌, ◌<◌, ◌≤◌, Bool, true, false, ◌&&◌, ◌||◌, nat_eq, nat_lt}
+use Rattle.ep_cells.proofs.Places.{side_below}
 use Rattle.std.proofs.Common.{cond, ◌⊎◌, ⊎_elim, List, [], ◌∷◌, ◌++◌, length, get_or, take, drop, Option, Some, None}
 use Rattle.std.proofs.Common.{refl, sym, ◌∙◌, ap, subst, arith}
 use Rattle.std.specs.List.{list_any}
@@ -12,16 +13,16 @@ use Rattle.ep_int.specs.Types.{size_of}
 use Rattle.ep_layout.proofs.Sizes.{size_of_scalar}
 use Rattle.ep_bitslice.specs.declared.cell.Side.{Side}
 use Rattle.ep_cells.specs.declared.cell.Cell.{Cell}
-use Rattle.ep_cells.specs.declared.place.Place.{Place}
+use Rattle.ep_cells.specs.declared.place.ByteRange.{ByteRange}
 use Rattle.ep_cells.specs.Cells.{place_of, key_of, meets, touches, share_memory, is_same_cell, is_same_place}
 use Rattle.ep_cells.specs.Cells.{is_same_side, is_same_scalar}
 use Rattle.ep_cells.specs.Both.{cell_like}
 use Rattle.ep_cells.specs.Reshare.{cell_from}
 use Rattle.ep_cells.specs.States.{Each}
-use Rattle.ep_cells_laws.proofs.Places.{Before, by_block, in_block, before_true}
+use Rattle.ep_cells.proofs.Places.{Before, by_block, in_block, before_true}
 use Rattle.ep_cell_changes.specs.Tests.{IsBefore, AreInOrder}
 use Rattle.ep_cell_changes.specs.Begins.{begins_before, BeginsIn, IsOutside, IsWindow}
-use Rattle.ep_cell_changes.proofs.Checked.{side_below, nth_before}
+use Rattle.ep_cell_changes.proofs.Checked.{nth_before}
 
 -- ---- the order parts a list
 
@@ -211,7 +212,7 @@ from_there {N = N} s b q cs ws w =
         let r = and_parts (nat_eq y.block b) (nat_eq y.offset q) p in
         at_place b q y (eqb-true y.block b r.0) (eqb-true y.offset q r.1)
 
-pub meets_there : {N : Type 0} (d : Model) (p : Place) (y : Cell N) → meets p (place_of d y) ≡ true
+pub meets_there : {N : Type 0} (d : Model) (p : ByteRange) (y : Cell N) → meets p (place_of d y) ≡ true
     → BeginsIn p.block (p.offset - 7) (p.offset + p.bytes) y
 meets_there d p y h =
     let s : size_of d y.what ≤ 8 = (size_of_scalar d y.what).1 in

@@ -1,5 +1,8 @@
 -- What is found by looking at the cells of a list in turn.
 use Rattle.std.proofs.Common.{◌≡◌, ℕ, zero, suc, ◌+◌, ◌-◌, ◌*◌, ◌<◌, ◌≤◌, Bool, true, false, ◌&&◌, ◌||◌, not, nat_eq}
+use Rattle.ep_bitslice.proofs.Joining.{side_back}
+use Rattle.ep_cells.proofs.Places.{side_below}
+use Rattle.std.proofs.lemmas.Bool.{not-true, not_from_false}
 use Rattle.std.proofs.Common.{nat_lt, nat_le, cond, ◌↔◌, ◌⊎◌, inl, inr, ⊎_elim, List, [], ◌∷◌, length, get_or, drop}
 use Rattle.std.proofs.Common.{IsTrue, refl, sym, ◌∙◌, ap, subst, arith}
 use Rattle.std.specs.List.Sorted.{IsPartitionedBy, IsPartitionPoint}
@@ -9,8 +12,6 @@ use Rattle.std.proofs.lemmas.Bool.{or_cases, both_ways, eqb-true, eq-eqb, ne_eqb
 use Rattle.ep_int.specs.declared.types.Model.{Model}
 use Rattle.ep_int.specs.declared.types.Scalar.TheVariants.{Int}
 use Rattle.ep_int.specs.Types.{size_of}
-use Rattle.ep_bitslice.specs.declared.cell.Side.{Side}
-use Rattle.ep_bitslice.specs.declared.cell.Side.TheVariants.{Left, Right, Shared}
 use Rattle.ep_bitslice.specs.declared.cell.CellName.{CellName}
 use Rattle.ep_bitslice.specs.declared.segment.Segment.{Segment}
 use Rattle.ep_bitslice.specs.declared.segment.Segment.TheVariants.{Bits, Fixed}
@@ -21,12 +22,12 @@ use Rattle.ep_bitslice.proofs.Pieces.{mentions-fixed, mentions-run, mentions-app
 use Rattle.ep_cells.specs.declared.cell.Cell.{Cell}
 use Rattle.ep_cells.specs.Cells.{place_of, touches, share_memory, key_of, is_same_side, is_same_scalar, scalar_number}
 use Rattle.ep_cells.specs.Cells.{IsNamed, IsIn, first, later, put, put_all}
-use Rattle.ep_cells.specs.declared.place.Place.{Place}
+use Rattle.ep_cells.specs.declared.place.ByteRange.{ByteRange}
 use Rattle.ep_cells.specs.States.{IsCell, HasWidth, IsFormOf, HasForm, IsThere, Each, EachPair, AreApart, AreCells}
-use Rattle.ep_cells_laws.proofs.Lists.{each_at, each_from}
-use Rattle.ep_cells_laws.proofs.Places.{side_back, before_at, Before, in_block, by_block, before_true, before_from}
-use Rattle.ep_cells_laws.proofs.Places.{before_trans}
-use Rattle.ep_cells_laws.proofs.Both.{scalar_same}
+use Rattle.ep_cells.proofs.Lists.{each_at, each_from}
+use Rattle.ep_cells.proofs.Places.{before_at, Before, in_block, by_block, before_true, before_from}
+use Rattle.ep_cells.proofs.Places.{before_trans}
+use Rattle.ep_cells.proofs.Both.{scalar_same}
 use Rattle.ep_cell_changes.proofs.Turns.{next_cell}
 use Rattle.ep_cell_changes.specs.Tests.{IsBefore, AreInOrder, is_before_name, is_sure_cell, AreThere}
 
@@ -63,11 +64,6 @@ nth_before (c ∷ cs) zero (suc j) d a h l = each_nth (IsBefore c) cs j d a.0 (o
 nth_before (c ∷ cs) (suc i) (suc j) d a h l = nth_before cs i j d a.1 (omega arith) (omega arith)
 
 -- ---- overlaps
-
-pub side_below : (s : Side) → side_number s ≤ 2
-side_below Left = omega arith
-side_below Right = omega arith
-side_below Shared = omega arith
 
 -- y begins where x ends, or later
 abbrev pub IsPast : {N : Type 0} → Model → Cell N → Cell N → Type 0
@@ -138,10 +134,6 @@ sure_from n c k m =
     (eq-eqb (scalar_number c.what) (scalar_number (Int n.t)) (ap scalar_number k.what)))
     (ap not m))
 
-not_false : (b : Bool) → not b ≡ true → b ≡ false
-not_false true h = absurd (cc)
-not_false false h = refl
-
 pub named_from : {N : Type 0} (n : CellName) (c : Cell N) (cs : List (Cell N)) → IsIn c cs → is_sure_cell n c ≡ true
     → IsThere n cs
 named_from n c cs i h =
@@ -159,7 +151,7 @@ named_from n c cs i h =
         offset = eqb-true c.offset n.offset t.0;
         what = scalar_same c.what (Int n.t) t.1;
       };
-      sure = not_false c.maybe r.1;
+      sure = not-true c.maybe r.1;
     }
 
 nth_in : {N : Type 0} (cs : List (Cell N)) (j : ℕ) (d : Cell N) → j < length cs → IsIn (get_or cs j d) cs
@@ -336,14 +328,11 @@ not_there n cs i a w point l = (
   λ t. absurd (omega (arith, (there_found n cs i t.cell a w point t).0)),
 )
 
-pub past_at : {N : Type 0} (d : Model) (x y : Cell N) (p : Place) (r : Bool) → p ≡ place_of d x
+pub past_at : {N : Type 0} (d : Model) (x y : Cell N) (p : ByteRange) (r : Bool) → p ≡ place_of d x
     → r ≡ (not (nat_eq p.block y.block) || nat_le (p.offset + p.bytes) y.offset) → r ≡ true → IsPast d x y
 past_at d x y p r e f h =
-    past_from d x y (subst (λ (z : Place). (not (nat_eq z.block y.block) || nat_le (z.offset + z.bytes) y.offset) ≡ true) e
+    past_from d x y (subst (λ (z : ByteRange). (not (nat_eq z.block y.block) || nat_le (z.offset + z.bytes) y.offset) ≡ true) e
     (sym f ∙ h))
-
-not_maybe : (b : Bool) → b ≡ false → not b ≡ true
-not_maybe b h = ap not h
 
 pub form_is : {N : Type 0} (cs : List (Cell N)) (c : Cell N) (ss sg : List Segment) (k : ℕ) (w t : Bool) → IsForm ss
     → k ≡ width ss → sg ≡ ss → (IsTrue w ↔ HasWidth c.what k) → (IsTrue t ↔ AreThere cs sg)
@@ -353,14 +342,14 @@ form_is cs c ss sg k w t f e s hw ht = (
       let p = and_parts (not c.maybe && w) t h in
       let q = and_parts (not c.maybe) w p.0 in
       record {
-        sure = not_false c.maybe q.0;
+        sure = not-true c.maybe q.0;
         wide = subst (HasWidth c.what) e (hw.0 q.1);
         form = f;
         mentioned = there_all cs ss f.segments (subst (AreThere cs) s (ht.0 p.1));
       },
   λ a.
       and_from (not c.maybe && w) t
-      (and_from (not c.maybe) w (not_maybe c.maybe a.sure) (hw.1 (subst (HasWidth c.what) (sym e) a.wide)))
+      (and_from (not c.maybe) w (not_from_false c.maybe a.sure) (hw.1 (subst (HasWidth c.what) (sym e) a.wide)))
       (ht.1 (subst (AreThere cs) (sym s) (all_there cs ss f.segments a.mentioned))),
 )
 

@@ -1,5 +1,7 @@
 -- The cells of a block that is entered, leaf by leaf.
 use Rattle.std.proofs.Common.{◌≡◌, ℕ, zero, suc, ◌+◌, ◌-◌, ◌<◌, ◌≤◌, Bool, true, false, ◌&&◌, ◌||◌, nat_eq, nat_le}
+use Rattle.ep_int.proofs.Basics.{size_positive}
+use Rattle.ep_cells.proofs.Entry.{leaves_end}
 use Rattle.std.proofs.Common.{nat_lt, cond, List, [], ◌∷◌, ◌++◌, Option, Some, None, refl, sym, ◌∙◌, ap, subst, arith}
 use Rattle.std.proofs.Common.{append_assoc, length, get_or, drop, drop-cons, add-one}
 use Rattle.std.proofs.lemmas.Bool.{and_from, or_left, ne_eqb, eq-eqb, le-leb, lt-ltb, le-ltb, lt-leb}
@@ -14,7 +16,6 @@ use Rattle.ep_cells.specs.declared.cell.Cell.{Cell}
 use Rattle.ep_cells.specs.Kill.{undefined_cell, leaf_at, is_in_leaf, cell_here, cells_from, AreLeavesIn}
 use Rattle.ep_cells.specs.Forms.{Fate, reformed}
 use Rattle.ep_cells.specs.States.{Each}
-use Rattle.ep_cells_laws.proofs.Places.{size_positive}
 use Rattle.ep_cell_changes.specs.Entry.{byte_cells}
 
 -- ---- numbers
@@ -131,12 +132,6 @@ leaf_cell {N = N} d s b size n l leaves k a =
     ∙ past d s b n (l.offset + size_of d l.what) l leaves (omega arith))
 
 -- ---- the block
-
-leaves_end : (d : Model) (e size : ℕ) (leaves : List Leaf) → AreLeavesIn d e size leaves → e ≤ size
-leaves_end d e size [] a = a
-leaves_end d e size (l ∷ leaves) a =
-    let size_l = size_positive d l.what in
-    let rest = leaves_end d (l.offset + size_of d l.what) size leaves a.1 in omega (arith, a.0)
 
 -- bytes up to a leaf, and the leaf
 leaf_step : {N : Type 0} (d : Model) (s : Side) (b q size : ℕ) (l : Leaf) (leaves : List Leaf)

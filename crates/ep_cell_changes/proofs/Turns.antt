@@ -1,14 +1,11 @@
 -- Lists of cells, one cell after the other.
 use Rattle.std.proofs.Common.{◌≡◌, ℕ, suc, ◌+◌, ◌<◌, Bool, true, false, cond, List, [], ◌∷◌, ◌++◌, map, length}
+use Rattle.ep_cells.proofs.Basics.{map-append}
 use Rattle.std.proofs.Common.{get_or, drop, drop-cons, add-one, refl, sym, ◌∙◌, ap, append_assoc}
 use Rattle.ep_cells.specs.declared.cell.Cell.{Cell}
 use Rattle.ep_bitslice.specs.declared.cell.Side.TheVariants.{Left}
 use Rattle.ep_cells.specs.Cells.{each_becomes, is_same_side}
 use Rattle.ep_cells.specs.Reshare.{places}
-
-pub map_append : {N : Type 0} (f : Cell N → Cell N) (xs ys : List (Cell N)) → map f (xs ++ ys) ≡ map f xs ++ map f ys
-map_append f [] ys = refl
-map_append f (x ∷ xs) ys = ap (λ zs. f x ∷ zs) (map_append f xs ys)
 
 -- the next cell, and those after it
 pub next_cell : {N : Type 0} (cs : List (Cell N)) (i : ℕ) (x : Cell N) → i < length cs → x ≡ get_or cs i x
@@ -24,7 +21,7 @@ turn f g out more all cs i x h e m a =
     let rest = each_becomes g (drop (i + 1) cs) in
     ap (λ z. z ++ map f rest) m
     ∙ append_assoc out (map f (g x)) (map f rest)
-    ∙ ap (λ z. out ++ z) (sym (map_append f (g x) rest))
+    ∙ ap (λ z. out ++ z) (sym (map-append f (g x) rest))
     ∙ ap (λ z. out ++ map f (each_becomes g z)) (sym (next_cell cs i x h e))
     ∙ a
 

@@ -15,7 +15,7 @@ use ep_cell_rows::places::{
 };
 use ep_cell_rows::rows::put_all;
 use ep_cell_rows::values::rises;
-use ep_cells::{Cell, Place, Value};
+use ep_cells::{ByteRange, Cell, Value};
 use ep_domain::Num;
 use ep_int::{Memory, Model, Scalar};
 use std::alloc::Global;
@@ -86,7 +86,7 @@ pub fn in_order<N: Num>(alloc: Global, cells: Vec<Cell<N>>) -> Result<Vec<Cell<N
 }
 
 // Whether a cell begins where a place ends, or later.
-fn is_past<N: Num>(p: &Place, y: &Cell<N>) -> bool
+fn is_past<N: Num>(p: &ByteRange, y: &Cell<N>) -> bool
     ensures { result ≡ (not (nat_eq p.now.block y.now.block) || nat_le (p.now.offset + p.now.bytes) y.now.offset) }
 {
     p.block != y.block || end(p) <= u64::from(y.offset)

@@ -6,7 +6,7 @@ ghost use Rattle.ep_cell_changes.specs.Tests.{AreInOrder};
 ghost use Rattle.ep_cell_changes.specs.Begins.{begins_before, IsWindow};
 
 use ep_cell_rows::places::end;
-use ep_cells::{Cell, Place};
+use ep_cells::{ByteRange, Cell};
 use ep_domain::Num;
 
 fn begins_before<N: Num>(c: &Cell<N>, block: u32, offset: u64) -> bool
@@ -49,7 +49,7 @@ pub fn window<N: Num>(cells: &[Cell<N>], block: u32, low: u64, high: u64) -> &[C
 }
 
 /// The cells that may touch a place: they begin in it, or less than a scalar's greatest size before it.
-pub fn about<'a, N: Num>(cells: &'a [Cell<N>], p: &Place) -> &'a [Cell<N>]
+pub fn about<'a, N: Num>(cells: &'a [Cell<N>], p: &ByteRange) -> &'a [Cell<N>]
     requires { AreInOrder cells.now }
     ensures { IsWindow p.now.block (p.now.offset - 7) (p.now.offset + p.now.bytes) cells.now result.now }
 {

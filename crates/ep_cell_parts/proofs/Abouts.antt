@@ -2,10 +2,10 @@
 use Rattle.std.proofs.Common.{◌≡◌, ℕ, suc, List, ◌++◌, sym, ◌∙◌, ap, subst, arith}
 use Rattle.ep_int.specs.declared.types.Model.{Model}
 use Rattle.ep_cells.specs.declared.cell.Cell.{Cell}
-use Rattle.ep_cells.specs.declared.place.Place.{Place}
+use Rattle.ep_cells.specs.declared.place.ByteRange.{ByteRange}
 use Rattle.ep_cells.specs.Cells.{IsIn}
 use Rattle.ep_cells.specs.States.{IsCell, AreCells}
-use Rattle.ep_cells_laws.proofs.Lists.{in_left, in_right}
+use Rattle.ep_cells.proofs.Lists.{in_left, in_right}
 use Rattle.ep_shared_parts.specs.declared.parts.Part.{Part}
 use Rattle.ep_shared_parts.specs.Spread.{all_items, IsWindow}
 use Rattle.ep_shared_parts.specs.Mentions.{number_of}
@@ -14,7 +14,7 @@ use Rattle.ep_cell_parts.specs.About.{IsAbout}
 use Rattle.ep_cell_steps.proofs.Local.{from_at, below_at}
 use Rattle.ep_cell_steps.proofs.Writing.{apart_in}
 
-pub about_of : {N : Type 0} (d : Model) (p : Place) (from last : ℕ) (ps window : List (Part (Cell N)))
+pub about_of : {N : Type 0} (d : Model) (p : ByteRange) (from last : ℕ) (ps window : List (Part (Cell N)))
     (cs : List (Cell N)) → Reaches p from last → AreCells d (all_items ps) → IsWindow number_of from last ps window
     → cs ≡ all_items window → IsAbout d p (all_items ps) cs
 about_of {N = N} d p from last ps window cs r a w e =

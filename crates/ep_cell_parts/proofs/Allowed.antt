@@ -1,13 +1,15 @@
 -- Tests of what operations ask for.
-use Rattle.std.proofs.Common.{◌≡◌, Bool, true, false, ◌&&◌, ◌||◌, not, ◌↔◌, IsTrue, List, [], ◌∷◌, refl, sym, ◌∙◌, ap}
+use Rattle.std.proofs.Common.{◌≡◌, Bool, false, ◌&&◌, ◌||◌, not, ◌↔◌, IsTrue, List, [], ◌∷◌, refl, sym, ◌∙◌, ap}
+use Rattle.ep_cell_changes.proofs.Checked.{order_of}
+use Rattle.std.proofs.lemmas.Bool.{not-true}
 use Rattle.std.proofs.lemmas.Bool.{and_from, and_parts, both_ways, or_left, or_right, false_from_ne_true}
 use Rattle.ep_int.specs.declared.types.Model.{Model}
 use Rattle.ep_cells.specs.declared.cell.Cell.{Cell}
-use Rattle.ep_cells.specs.declared.place.Place.{Place}
+use Rattle.ep_cells.specs.declared.place.ByteRange.{ByteRange}
 use Rattle.ep_cells.specs.Cells.{place_of, is_partly_in, IsIn, first, later}
 use Rattle.ep_cells.specs.Look.{is_some_partly_in}
-use Rattle.ep_cells.specs.States.{HasForm, HasRisingBlocks, Each, EachPair, AreApart, IsCell, CanWrite}
-use Rattle.ep_cell_changes.specs.Tests.{IsBefore, AreInOrder}
+use Rattle.ep_cells.specs.States.{HasForm, HasRisingBlocks, Each, AreApart, IsCell, CanWrite}
+use Rattle.ep_cell_changes.specs.Tests.{IsBefore}
 
 -- ---- writes
 
@@ -15,11 +17,7 @@ each_before : {N : Type 0} (d : Model) (x : Cell N) (cs : List (Cell N)) → Eac
 each_before d x [] h = tt
 each_before d x (c ∷ cs) h = (h.0.ordered, each_before d x cs h.1)
 
-pub ordered : {N : Type 0} (d : Model) (cs : List (Cell N)) → EachPair (AreApart d) cs → AreInOrder cs
-ordered d [] h = tt
-ordered d (c ∷ cs) h = (each_before d c cs h.0, ordered d cs h.1)
-
-none_cut : {N : Type 0} (d : Model) (p : Place) (cs : List (Cell N)) → is_some_partly_in d p cs ≡ false → (x : Cell N)
+none_cut : {N : Type 0} (d : Model) (p : ByteRange) (cs : List (Cell N)) → is_some_partly_in d p cs ≡ false → (x : Cell N)
     → IsIn x cs → is_partly_in p (place_of d x) ≡ false
 none_cut d p [] h x k = elim k [ ]
 none_cut d p (c ∷ cs) h _ (first _) = false_from_ne_true (is_partly_in p (place_of d c)) (λ e. both_ways
@@ -27,17 +25,13 @@ none_cut d p (c ∷ cs) h _ (first _) = false_from_ne_true (is_partly_in p (plac
 none_cut d p (c ∷ cs) h x (later _ _ k) = none_cut d p cs (false_from_ne_true (is_some_partly_in d p cs) (λ e. both_ways
     (is_some_partly_in d p (c ∷ cs)) h (or_right (is_partly_in p (place_of d c)) (is_some_partly_in d p cs) e))) x k
 
-cut_none : {N : Type 0} (d : Model) (p : Place) (cs : List (Cell N)) → ((x : Cell N) → IsIn x cs
+cut_none : {N : Type 0} (d : Model) (p : ByteRange) (cs : List (Cell N)) → ((x : Cell N) → IsIn x cs
     → is_partly_in p (place_of d x) ≡ false) → is_some_partly_in d p cs ≡ false
 cut_none d p [] h = refl
 cut_none d p (c ∷ cs) h =
     ap (λ b. b || is_some_partly_in d p cs) (h c (first cs)) ∙ cut_none d p cs (λ x k. h x (later c cs k))
 
-not_is : (b : Bool) → not b ≡ true → b ≡ false
-not_is true h = absurd (cc)
-not_is false h = refl
-
-pub can_write_is : {N : Type 0} (d : Model) (c : Cell N) (cs : List (Cell N)) (q : Place) (a f p : Bool)
+pub can_write_is : {N : Type 0} (d : Model) (c : Cell N) (cs : List (Cell N)) (q : ByteRange) (a f p : Bool)
     → HasRisingBlocks c.value → (IsTrue a ↔ IsCell d c) → (IsTrue f ↔ HasForm cs c) → q ≡ place_of d c
     → p ≡ is_some_partly_in d q cs → IsTrue ((a && f) && not p) ↔ CanWrite d c cs
 can_write_is d c cs q a f p r ha hf e hp = (
@@ -47,7 +41,7 @@ can_write_is d c cs q a f p r ha hf e hp = (
       record {
         fits = (ha.0 y.0).fits;
         form = hf.0 y.1;
-        none_cut = none_cut d (place_of d c) cs (sym (hp ∙ ap (λ z. is_some_partly_in d z cs) e) ∙ not_is p x.1);
+        none_cut = none_cut d (place_of d c) cs (sym (hp ∙ ap (λ z. is_some_partly_in d z cs) e) ∙ not-true p x.1);
       },
   λ w. and_from (a && f) (not p) (and_from a f (ha.1 (record { fits = w.fits; rising = r })) (hf.1 w.form))
       (ap not (hp ∙ ap (λ z. is_some_partly_in d z cs) e ∙ cut_none d (place_of d c) cs w.none_cut)),

@@ -3,7 +3,7 @@ use Rattle.std.proofs.Common.{◌≡◌, ◌↔◌, true, List, ◌∷◌, sym, 
 use Rattle.ep_cells.specs.declared.cell.Cell.{Cell}
 use Rattle.ep_cells.specs.Cells.{is_same_cell}
 use Rattle.ep_cells.specs.States.{HaveCellsAlike}
-use Rattle.ep_cells_laws.proofs.Both.{alike_same}
+use Rattle.ep_cells.proofs.Both.{alike_same}
 
 pub alike_step : {N : Type 0} (x y : Cell N) (xs ys us vs zs ws : List (Cell N)) → xs ≡ x ∷ us → ys ≡ y ∷ vs
     → is_same_cell x y ≡ true → HaveCellsAlike xs ys ↔ HaveCellsAlike zs ws

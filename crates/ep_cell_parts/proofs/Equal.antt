@@ -1,10 +1,9 @@
 -- States that are one.
 use Rattle.std.proofs.Common.{◌≡◌, ◌↔◌, IsTrue, Bool, true, ◌&&◌, refl, sym, ◌∙◌, ap}
+use Rattle.ep_cell_ranges.proofs.Basics.{is_model-equal, is_model-self}
 use Rattle.std.proofs.lemmas.Bool.{and_from, and_parts}
 use Rattle.ep_int.specs.declared.types.Order.{Order}
 use Rattle.ep_int.specs.declared.types.Order.TheVariants.{Little, Big, SwappedWords}
-use Rattle.ep_int.specs.declared.types.Model.{Model}
-use Rattle.ep_int.specs.declared.types.Model.TheVariants.{Ilp32, Lp64}
 use Rattle.ep_cells.specs.States.{Known}
 use Rattle.ep_cell_ranges.specs.Tests.{is_model}
 use Rattle.ep_cell_parts.specs.Orders.{is_order}
@@ -25,16 +24,6 @@ order_itself Little = refl
 order_itself Big = refl
 order_itself SwappedWords = refl
 
-model_is : (a b : Model) → is_model a b ≡ true → a ≡ b
-model_is Ilp32 Ilp32 e = refl
-model_is Ilp32 Lp64 e = absurd cc
-model_is Lp64 Ilp32 e = absurd cc
-model_is Lp64 Lp64 e = refl
-
-model_itself : (a : Model) → is_model a a ≡ true
-model_itself Ilp32 = refl
-model_itself Lp64 = refl
-
 -- states whose parts are one
 pub same_known : {N : Type 0} (k l : Known N) (a b m c : Bool) → a ≡ is_order k.orders.0 l.orders.0
     → b ≡ is_order k.orders.1 l.orders.1 → m ≡ is_model k.model l.model → (IsTrue c ↔ (k.cells ≡ l.cells))
@@ -46,7 +35,7 @@ same_known {N = N} k l a b m c ea eb em ec = (
       let z = and_parts a b y.0 in
       let left : k.orders.0 ≡ l.orders.0 = order_is k.orders.0 l.orders.0 (sym ea ∙ z.0) in
       let right : k.orders.1 ≡ l.orders.1 = order_is k.orders.1 l.orders.1 (sym eb ∙ z.1) in
-      let model : k.model ≡ l.model = model_is k.model l.model (sym em ∙ y.1) in
+      let model : k.model ≡ l.model = is_model-equal k.model l.model (sym em ∙ y.1) in
       let cells : k.cells ≡ l.cells = ec.0 x.1 in
       ap (λ o. let r : Known N = record { orders = (o, k.orders.1); model = k.model; cells = k.cells } in r) left
       ∙ ap (λ o. let r : Known N = record { orders = (l.orders.0, o); model = k.model; cells = k.cells } in r) right
@@ -58,6 +47,6 @@ same_known {N = N} k l a b m c ea eb em ec = (
       (and_from a b
       (ea ∙ ap (λ z. is_order k.orders.0 z.orders.0) (sym e) ∙ order_itself k.orders.0)
       (eb ∙ ap (λ z. is_order k.orders.1 z.orders.1) (sym e) ∙ order_itself k.orders.1))
-      (em ∙ ap (λ z. is_model k.model z.model) (sym e) ∙ model_itself k.model))
+      (em ∙ ap (λ z. is_model k.model z.model) (sym e) ∙ is_model-self k.model))
       (ec.1 (ap (λ z. z.cells) e)),
 )

@@ -1,5 +1,6 @@
 -- Left and Right cells that stay, and the cell that begins at a place, part by part.
 use Rattle.std.proofs.Common.{◌≡◌, ℕ, suc, ◌+◌, ◌<◌, ◌≤◌, Bool, true, false, cond, ◌&&◌, not, nat_eq, List, [], ◌∷◌}
+use Rattle.std.proofs.lemmas.Bool.{not-true}
 use Rattle.std.proofs.Common.{◌++◌, map, length, drop, get_or, Option, Some, None, refl, sym, ◌∙◌, ap, subst, arith}
 use Rattle.std.proofs.Common.{append_assoc}
 use Rattle.std.proofs.Math.ListN.{drop_of_length-le}
@@ -121,10 +122,6 @@ place_more out new whole x xs ys n e h =
 
 -- ---- what stays
 
-not_is : (b : Bool) → not b ≡ true → b ≡ false
-not_is true h = absurd (cc)
-not_is false h = refl
-
 pair_stays : {N : Type 0} (D : Ops N) (x y : Option (Cell N)) (cs : List (Cell N)) → is_same_pair D x y ≡ false
     → reshared_pair D x y cs ≡ cs
 pair_stays D None y cs h = refl
@@ -138,7 +135,7 @@ each_stays : {N : Type 0} (D : Ops N) (ps : List (ℕ × ℕ)) (cs : List (Cell 
 each_stays D [] cs h = refl
 each_stays D (p ∷ ps) cs h =
     let a = and_parts (not (is_same_at D p.0 p.1 cs)) (are_different D cs ps) h in
-    ap (reshared_each D ps) (pair_stays D (cell_from Left p.0 p.1 cs) (cell_from Right p.0 p.1 cs) cs (not_is
+    ap (reshared_each D ps) (pair_stays D (cell_from Left p.0 p.1 cs) (cell_from Right p.0 p.1 cs) cs (not-true
     (is_same_at D p.0 p.1 cs) a.0)) ∙ each_stays D ps cs a.1
 
 pub all_stay : {N : Type 0} (D : Ops N) (ps : List (ℕ × ℕ)) (cs : List (Cell N)) (b : Bool) → ps ≡ places cs

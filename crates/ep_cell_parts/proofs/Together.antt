@@ -9,14 +9,14 @@ use Rattle.ep_cells.specs.Cells.{first, later}
 use Rattle.ep_cells.specs.Forms.{have_same_form, common_form}
 use Rattle.ep_cells.specs.States.{AreCells, HaveCellsAlike}
 use Rattle.ep_cells.specs.Both.{cell_of_both, cells_of_both}
-use Rattle.ep_cells_laws.specs.Laws.{JoinLaws}
+use Rattle.ep_cells.specs.Laws.{JoinLaws}
 use Rattle.ep_cell_rows.specs.declared.values.Union.{Union}
 use Rattle.ep_cell_rows.specs.Parts.{united}
 use Rattle.ep_shared_parts.specs.declared.parts.Part.{Part}
 use Rattle.ep_shared_parts.specs.declared.uses.Use.{Use}
 use Rattle.ep_shared_parts.specs.Spread.{outlines, all_items, AreSpread}
 use Rattle.ep_shared_parts.specs.Mentions.{number_of, AreIndexed}
-use Rattle.ep_cell_steps.specs.Kept.{AreKept}
+use Rattle.ep_cell_steps.specs.PartsInvariant.{AreKept}
 use Rattle.ep_cell_steps.proofs.Making.{united_cells, indexed_none}
 use Rattle.ep_cell_steps.proofs.Local.{indexed_same}
 

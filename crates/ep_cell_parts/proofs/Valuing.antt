@@ -1,5 +1,7 @@
 -- A cell that takes another value, in the part that has it.
 use Rattle.std.proofs.Common.{◌≡◌, ℕ, zero, suc, ◌-◌, ◌<◌, Bool, true, false, cond, IsTrue, is_some, List, [], ◌∷◌}
+use Rattle.ep_cell_steps.proofs.Local.{map_append}
+use Rattle.ep_cell_ranges.proofs.Narrowing.{either_cell}
 use Rattle.std.proofs.Common.{◌++◌, map, length, take, drop, set, get_or, Option, Some, None, IfSome, refl, sym, ◌∙◌}
 use Rattle.std.proofs.Common.{ap, subst, arith, append_assoc}
 use Rattle.std.proofs.lemmas.Bool.{false_from_ne_true}
@@ -10,25 +12,19 @@ use Rattle.ep_cells.specs.declared.cell.Cell.{Cell}
 use Rattle.ep_cells.specs.declared.cell.Value.{Value}
 use Rattle.ep_cells.specs.Cells.{is_same_cell, IsIn, IsNamed, first, later}
 use Rattle.ep_cells.specs.States.{IsOfSort, HasRisingBlocks, IsCell, IsThere, IsFormOf, HasForm, AreApart, AreCells}
-use Rattle.ep_cells_laws.proofs.Lists.{in_map, map_in, pairs_map}
-use Rattle.ep_cells_laws.proofs.Both.{alike_same}
+use Rattle.ep_cells.proofs.Lists.{in_map, map_in, pairs_map}
+use Rattle.ep_cells.proofs.Both.{alike_same}
 use Rattle.ep_shared_parts.specs.declared.parts.Part.{Part}
 use Rattle.ep_shared_parts.specs.declared.uses.Use.{Use}
 use Rattle.ep_shared_parts.specs.Spread.{outline, outlines, all_items, AreFrom, AreBelow, AreSpread, parts_to}
 use Rattle.ep_shared_parts.specs.Mentions.{number_at, number_of, AreIndexed}
 use Rattle.ep_shared_parts.proofs.Spreading.{below_to, above_to, parts_to_le, outlines_as_many}
-use Rattle.ep_cell_steps.specs.Kept.{IsIndexed, AreKept}
+use Rattle.ep_cell_steps.specs.PartsInvariant.{IsIndexed, AreKept}
 use Rattle.ep_cell_parts.specs.Valued.{valued}
 use Rattle.ep_cell_steps.proofs.Local.{from_at, below_at, indexed_same}
 
 abbrev with : {N : Type 0} → Cell N → Option (Value N) → Cell N
 with x v = record x { value = v }
-
--- what holds of both ways holds of a choice
-either_cell : {N : Type 0} (P : Cell N → Type 0) (x y : Cell N) (b : Bool) → (b ≡ true → P x) → (b ≡ false → P y)
-    → P (cond b x y)
-either_cell P x y true h i = h refl
-either_cell P x y false h i = i refl
 
 -- ---- the cells
 
@@ -131,10 +127,6 @@ pub all_above : {N : Type 0} (c : Cell N) (v : Option (Value N)) (xs : List (Cel
     → AreFrom (suc (number_of c)) (map number_of xs) → map (valued c v) xs ≡ xs
 all_above c v xs h =
     all_elsewhere c v xs (λ x k e. let l = from_at (suc (number_of c)) x xs h k in absurd (omega (arith, l, e)))
-
-map_append : {A B : Type 0} (f : A → B) (xs ys : List A) → map f (xs ++ ys) ≡ map f xs ++ map f ys
-map_append f [] ys = refl
-map_append f (x ∷ xs) ys = ap (λ zs. f x ∷ zs) (map_append f xs ys)
 
 -- all items, around those of one part
 pub set_around : {X : Type 0} (ps : List (Part X)) (i : ℕ) (q : Part X) → i < length ps

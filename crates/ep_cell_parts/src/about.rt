@@ -8,7 +8,7 @@ ghost use Rattle.ep_shared_parts.specs.Mentions.{number_of};
 ghost use Rattle.ep_cell_parts.specs.About.{IsAbout};
 
 use ep_bicells::cells::{all, reach};
-use ep_cells::{Cell, Place};
+use ep_cells::{ByteRange, Cell};
 use ep_domain::Num;
 use ep_int::Memory;
 use ep_shared_parts::parts::{Part, window};
@@ -18,7 +18,7 @@ use std::alloc::Global;
 pub fn about<'a, N: Num>(
     alloc: Global,
     parts: &'a [Part<Cell<N>>],
-    place: &Place,
+    place: &ByteRange,
 ) -> Result<Vec<&'a Cell<N>>, Memory>
     requires { AreSpread (outlines number_of parts.now) }
     ensures { IfOk result (λ v. (d : Model) → AreCells d (all_items parts.now)

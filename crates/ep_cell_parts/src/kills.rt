@@ -6,7 +6,7 @@ ghost use Rattle.ep_cells.specs.Forms.{reformed};
 ghost use Rattle.ep_cells.specs.Kill.{AreLeavesIn, left_by_kill, fate_by_kill, killed_cells};
 ghost use Rattle.ep_shared_parts.specs.Spread.{outlines, all_items, AreSpread};
 ghost use Rattle.ep_shared_parts.specs.Mentions.{number_of, number_of_use};
-ghost use Rattle.ep_cell_steps.specs.Kept.{AreKept};
+ghost use Rattle.ep_cell_steps.specs.PartsInvariant.{AreKept};
 ghost use Rattle.ep_cell_steps.specs.Killed.{AreKilled, AreShort};
 
 use ep_bicells::changes::{Step, plan};
@@ -14,8 +14,7 @@ use ep_bitslice::Side;
 use ep_cell_changes::entry::entry_cells;
 use ep_cell_steps::pointers::{numbers_of_block, push_pointers};
 use ep_cell_steps::putting::put_all;
-use ep_cells::Cell;
-use ep_cells_laws::kill_laws;
+use ep_cells::{Cell, kill_laws};
 use ep_domain::Num;
 use ep_int::{Memory, Model};
 use ep_layout::Leaf;

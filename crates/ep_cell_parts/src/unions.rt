@@ -5,12 +5,11 @@ ghost use Rattle.ep_cells.specs.States.{AreCells, HaveCellsAlike};
 ghost use Rattle.ep_cells.specs.Both.{cells_of_both};
 ghost use Rattle.ep_cell_rows.specs.Parts.{united as of_union};
 ghost use Rattle.ep_shared_parts.specs.Spread.{all_items};
-ghost use Rattle.ep_cell_steps.specs.Kept.{AreKept};
+ghost use Rattle.ep_cell_steps.specs.PartsInvariant.{AreKept};
 
 use ep_cell_rows::values::Union;
 use ep_cell_unions::unions::parts_of_both;
-use ep_cells::Cell;
-use ep_cells_laws::join_laws;
+use ep_cells::{Cell, join_laws};
 use ep_domain::Num;
 use ep_int::{Memory, Model};
 use ep_shared_parts::parts::Part;

@@ -6,7 +6,7 @@ ghost use Rattle.ep_shared_parts.specs.Spread.{outlines, all_items, AreSpread};
 ghost use Rattle.ep_shared_parts.specs.Mentions.{number_of};
 ghost use Rattle.ep_shared_parts.specs.declared.parts.Part.{Part};
 ghost use Rattle.ep_shared_parts.specs.declared.uses.Use.{Use};
-ghost use Rattle.ep_cell_steps.specs.Kept.{AreKept};
+ghost use Rattle.ep_cell_steps.specs.PartsInvariant.{AreKept};
 ghost use Rattle.ep_cell_parts.specs.Valued.{valued};
 
 use ep_cell_rows::cell::copy_cell;

@@ -5,3 +5,6 @@ pub mod Ranges
 pub mod Moves
 pub mod First
 pub mod Shared
+pub mod Follow
+pub mod Sound
+pub mod Laws

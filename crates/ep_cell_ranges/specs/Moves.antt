@@ -7,7 +7,7 @@ use Rattle.ep_bitslice.specs.declared.cell.Side.{Side as CellSide}
 use Rattle.ep_bitslice.specs.declared.cell.Side.TheVariants.{Left, Right, Shared}
 use Rattle.ep_domain.specs.Domain.{Ops}
 use Rattle.ep_cells.specs.declared.cell.Cell.{Cell}
-use Rattle.ep_cells.specs.declared.place.Place.{Place}
+use Rattle.ep_cells.specs.declared.place.ByteRange.{ByteRange}
 use Rattle.ep_cells.specs.Cells.{place_of, share_memory, touches, encloses, is_same_side, each_becomes}
 use Rattle.ep_cells.specs.Forms.{form_after}
 use Rattle.ep_cells.specs.Weaken.{weakened, fate_by_weak_write}
@@ -18,7 +18,7 @@ use Rattle.ep_cell_ranges.specs.Ranges.{Reform, with_cells, blurred_at}
 use Rattle.ep_cell_ranges.specs.Spots.{Spot}
 
 -- so many bytes from a place on, of a side
-abbrev pub place_at : CellSide → Spot → (bytes : ℕ) → Place
+abbrev pub place_at : CellSide → Spot → (bytes : ℕ) → ByteRange
 place_at s q n = record { side = s; block = q.0; offset = q.1; bytes = n }
 
 -- ---- cells that move, with their forms: a cell that lies partly in the place is taken by its bytes
@@ -29,30 +29,30 @@ moved_to p q x = record x { block = q.0; offset = (x.offset - p.1) + q.1 }
 
 module _ {N : Type 0} (D : Ops N) where
   -- all in the place, with the form that a read gives
-  abbrev pub taken_cell : Known N → Place → CellSide → Cell N → List (Cell N)
+  abbrev pub taken_cell : Known N → ByteRange → CellSide → Cell N → List (Cell N)
   taken_cell k p s x =
       if encloses p (place_of k.model x) then record x { side = s; form = form_of_cell x } ∷ []
       else filter (λ y. encloses p (place_of k.model y))
       (byte_cells D k.model (order_on p.side k.orders) p.side (form_of_cell x) x)
 
   -- of a cell that has bytes in the place
-  abbrev pub taken_if : Known N → Place → CellSide → Cell N → List (Cell N)
+  abbrev pub taken_if : Known N → ByteRange → CellSide → Cell N → List (Cell N)
   taken_if k p s x =
       if share_memory p.side x.side && touches p (place_of k.model x) then taken_cell k p s x else []
 
   -- what a side takes; its cells are all of that side
-  abbrev pub taken : Known N → Place → List (Cell N)
+  abbrev pub taken : Known N → ByteRange → List (Cell N)
   taken k p = each_becomes (taken_if k p p.side) k.cells
 
   -- where both sides take the same place, a Shared cell that is all in it stays one, and comes with the left
-  abbrev pub is_whole_shared : Known N → Place → Cell N → Bool
+  abbrev pub is_whole_shared : Known N → ByteRange → Cell N → Bool
   is_whole_shared k p x = is_same_side x.side Shared && encloses p (place_of k.model x)
 
   -- what both sides take: the left, with whole Shared cells, and the right, without them
-  abbrev pub taken_left : Known N → Place → Cell N → List (Cell N)
+  abbrev pub taken_left : Known N → ByteRange → Cell N → List (Cell N)
   taken_left k p x = taken_if k p (if is_whole_shared k p x then Shared else p.side) x
 
-  abbrev pub taken_right : Known N → Place → Cell N → List (Cell N)
+  abbrev pub taken_right : Known N → ByteRange → Cell N → List (Cell N)
   taken_right k p x = if is_whole_shared k p x then [] else taken_if k p p.side x
 
   abbrev pub taken_by_both : Known N → Spot → (bytes : ℕ) → List (Cell N)

@@ -2,7 +2,7 @@
 use Rattle.std.proofs.Common.{◌≡◌, Bool, true, false, cond, List, [], ◌∷◌, ◌++◌, map, refl, sym, ◌∙◌, ap}
 use Rattle.ep_int.specs.declared.types.Model.{Model}
 use Rattle.ep_cells.specs.declared.cell.Cell.{Cell}
-use Rattle.ep_cells.specs.declared.place.Place.{Place}
+use Rattle.ep_cells.specs.declared.place.ByteRange.{ByteRange}
 use Rattle.ep_cells.specs.Cells.{place_of, comes_before, put, put_all, each_becomes}
 use Rattle.ep_cells.specs.Forms.{Fate, reformed}
 use Rattle.ep_cells.specs.Write.{left_by_write, fate_by_write, written}
@@ -32,10 +32,10 @@ put_all_turn xs more cs after all c ex ea h =
     ap (put_all more) ea ∙ sym (put_all_last more cs c) ∙ ap (λ z. put_all z cs) (sym ex) ∙ h
 
 -- what a write puts together
-pub written_is : {N : Type 0} (d : Model) (c x : Cell N) (p : Place) (cs rows items : List (Cell N)) → p ≡ place_of d c
+pub written_is : {N : Type 0} (d : Model) (c x : Cell N) (p : ByteRange) (cs rows items : List (Cell N)) → p ≡ place_of d c
     → x ≡ reformed (fate_by_write p) c → rows ≡ map (reformed (fate_by_write p)) (each_becomes (left_by_write d p) cs)
     → items ≡ put x rows → items ≡ written d c cs
 written_is d c x p cs rows items ep ex er ei =
     ei ∙ ap (λ z. put z rows) ex ∙ ap (put (reformed (fate_by_write p) c)) er
     ∙ sym (put_reformed (fate_by_write p) c (each_becomes (left_by_write d p) cs))
-    ∙ ap (λ (q : Place). map (reformed (fate_by_write q)) (put c (each_becomes (left_by_write d q) cs))) ep
+    ∙ ap (λ (q : ByteRange). map (reformed (fate_by_write q)) (put c (each_becomes (left_by_write d q) cs))) ep

@@ -5,7 +5,7 @@ use Rattle.std.specs.Option.{option_map}
 use Rattle.ep_bitslice.specs.declared.cell.Side.{Side}
 use Rattle.ep_bitslice.specs.declared.cell.Side.TheVariants.{Left, Right, Shared}
 use Rattle.ep_bitslice.specs.declared.cell.CellName.{CellName}
-use Rattle.ep_cells.specs.declared.place.Place.{Place}
+use Rattle.ep_cells.specs.declared.place.ByteRange.{ByteRange}
 use Rattle.ep_cells.specs.Cells.{side_without, share_memory, touches, place_of_name}
 use Rattle.ep_cells.specs.Weaken.{first_part}
 use Rattle.ep_cells.specs.Reshare.{fate_by_side}
@@ -55,7 +55,7 @@ first_stays Shared = refl
 abbrev weak : Side → CellName → Bool → Option CellName
 weak p c t = cond t None (Some (record c { side = first_part c.side }))
 
-weak_touched : (p : Place) (c e : CellName) (t : Bool) → share_memory p.side (first_part c.side) ≡ t
+weak_touched : (p : ByteRange) (c e : CellName) (t : Bool) → share_memory p.side (first_part c.side) ≡ t
     → touches p (place_of_name c) ≡ true → weak p.side c t ≡ Some e
     → cond (touches p (place_of_name e)) (weak p.side e (share_memory p.side (first_part e.side))) (Some e) ≡ Some e
 weak_touched p c e true f g h = absurd (cc)
@@ -69,7 +69,7 @@ weak_touched p c e false f g h =
     ∙ ap (weak p.side d) f
     ∙ ap (λ (s : Side). Some (record c { side = s })) (first_stays c.side))
 
-weak_settled : (p : Place) (c e : CellName) (b : Bool) → touches p (place_of_name c) ≡ b
+weak_settled : (p : ByteRange) (c e : CellName) (b : Bool) → touches p (place_of_name c) ≡ b
     → cond b (weak p.side c (share_memory p.side (first_part c.side))) (Some c) ≡ Some e
     → cond (touches p (place_of_name e)) (weak p.side e (share_memory p.side (first_part e.side))) (Some e) ≡ Some e
 weak_settled p c e true f h = weak_touched p c e (share_memory p.side (first_part c.side)) refl f h

@@ -16,14 +16,14 @@ ghost use Rattle.ep_cell_rows.specs.Parts.{fate_of, goes_on, name_after, bits_wi
 use crate::places::{first_part, place_of_name, share_memory, side_without, touches};
 use crate::values::boxed_like;
 use ep_bitslice::{BoxedForm, CellName, Form, Segment, Side};
-use ep_cells::Place;
+use ep_cells::ByteRange;
 use ep_int::Memory;
 
 /// A change of cells.
 #[derive(Clone, Copy)]
 pub enum Change {
-    Write(Place),
-    WeakWrite(Place),
+    Write(ByteRange),
+    WeakWrite(ByteRange),
     /// A side, and a block.
     Kill(Side, u32),
     /// A block and an offset, and whether the Shared cell there may be undefined.
@@ -45,7 +45,7 @@ fn on_side(n: &CellName, side: Option<Side>) -> Option<CellName>
     }
 }
 
-fn fate_by_write(p: &Place, n: &CellName) -> Option<CellName>
+fn fate_by_write(p: &ByteRange, n: &CellName) -> Option<CellName>
     ensures { result ≡ fate_by_write p.now n.now }
 {
     if touches(p, &place_of_name(n)) {
@@ -55,7 +55,7 @@ fn fate_by_write(p: &Place, n: &CellName) -> Option<CellName>
     }
 }
 
-fn touched_weakly(p: &Place, n: &CellName) -> Option<CellName>
+fn touched_weakly(p: &ByteRange, n: &CellName) -> Option<CellName>
     ensures { result
         ≡ (if share p.now.side (first_of n.now.side) then None
         else Some (record n.now { side = first_of n.now.side })) }
@@ -67,7 +67,7 @@ fn touched_weakly(p: &Place, n: &CellName) -> Option<CellName>
     }
 }
 
-fn fate_by_weak_write(p: &Place, n: &CellName) -> Option<CellName>
+fn fate_by_weak_write(p: &ByteRange, n: &CellName) -> Option<CellName>
     ensures { result ≡ fate_by_weak_write p.now n.now }
 {
     if touches(p, &place_of_name(n)) {

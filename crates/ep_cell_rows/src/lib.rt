@@ -7,4 +7,4 @@ pub mod places;
 pub mod rows;
 pub mod values;
 
-pub use ep_cells::{Cell, Place, Value};
+pub use ep_cells::{ByteRange, Cell, Value};

@@ -9,7 +9,7 @@ ghost use Rattle.ep_cells.specs.Look.{covers};
 ghost use Rattle.ep_cells.specs.Weaken.{first_part};
 
 use ep_bitslice::{CellName, Side};
-use ep_cells::{Cell, Place};
+use ep_cells::{ByteRange, Cell};
 use ep_int::{IntType, Model, Scalar};
 
 fn on_left(s: Side) -> bool
@@ -82,10 +82,10 @@ pub fn first_part(s: Side) -> Side
 }
 
 /// Where a cell lies.
-pub fn place_of<N>(model: Model, c: &Cell<N>) -> Place
+pub fn place_of<N>(model: Model, c: &Cell<N>) -> ByteRange
     ensures { result ≡ place_of model c.now }
 {
-    Place {
+    ByteRange {
         side: c.side,
         block: c.block,
         offset: c.offset,
@@ -94,10 +94,10 @@ pub fn place_of<N>(model: Model, c: &Cell<N>) -> Place
 }
 
 /// Where the integer cell of a name lies.
-pub fn place_of_name(n: &CellName) -> Place
+pub fn place_of_name(n: &CellName) -> ByteRange
     ensures { result ≡ place_of_name n.now }
 {
-    Place {
+    ByteRange {
         side: n.side,
         block: n.block,
         offset: n.offset,
@@ -106,34 +106,34 @@ pub fn place_of_name(n: &CellName) -> Place
 }
 
 /// Where a place ends.
-pub fn end(p: &Place) -> u64
+pub fn end(p: &ByteRange) -> u64
     ensures { result ≡ p.now.offset + p.now.bytes }
 {
     u64::from(p.offset) + u64::from(p.bytes)
 }
 
 /// Whether two places have an offset in common.
-pub fn touches(p: &Place, q: &Place) -> bool
+pub fn touches(p: &ByteRange, q: &ByteRange) -> bool
     ensures { result ≡ touches p.now q.now }
 {
     p.block == q.block && u64::from(p.offset) < end(q) && u64::from(q.offset) < end(p)
 }
 
 /// Whether two places have a byte in common.
-pub fn meets(p: &Place, q: &Place) -> bool
+pub fn meets(p: &ByteRange, q: &ByteRange) -> bool
     ensures { result ≡ meets p.now q.now }
 {
     share_memory(p.side, q.side) && touches(p, q)
 }
 
 /// Whether the second has bytes in the first, and others.
-pub fn is_partly_in(p: &Place, q: &Place) -> bool
+pub fn is_partly_in(p: &ByteRange, q: &ByteRange) -> bool
     ensures { result ≡ is_partly_in p.now q.now }
 {
     share_memory(p.side, q.side) && touches(p, q) && !encloses(p, q)
 }
 
-fn encloses(p: &Place, q: &Place) -> bool
+fn encloses(p: &ByteRange, q: &ByteRange) -> bool
     ensures { result ≡ encloses p.now q.now }
 {
     p.offset <= q.offset && end(q) <= end(p)

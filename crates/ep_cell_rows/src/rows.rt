@@ -16,7 +16,7 @@ use crate::places::{
 };
 use crate::values::{Union, common_form, is_form_kept, is_value_within};
 use ep_bitslice::Side;
-use ep_cells::{Cell, Place};
+use ep_cells::{ByteRange, Cell};
 use ep_domain::Num;
 use ep_int::{Memory, Model};
 use std::alloc::Global;
@@ -88,7 +88,7 @@ pub fn cell_at<N: Num>(
 }
 
 /// Whether some cell has bytes in the place, and others.
-pub fn is_some_partly_in<N: Num>(model: Model, p: &Place, cells: &[Cell<N>]) -> bool
+pub fn is_some_partly_in<N: Num>(model: Model, p: &ByteRange, cells: &[Cell<N>]) -> bool
     ensures { result ≡ is_some_partly_in model p.now cells.now }
 {
     cells.iter().any(|c| is_partly_in(p, &place_of(model, c)))
@@ -201,7 +201,7 @@ pub fn push_side<N: Num>(
 fn push_left_by_write<N: Num>(
     out: &mut Vec<Cell<N>>,
     model: Model,
-    p: Place,
+    p: ByteRange,
     x: &Cell<N>,
 ) -> Result<(), Memory>
     ensures { IfOk result (λ _. out.new.items
@@ -218,7 +218,7 @@ fn push_left_by_write<N: Num>(
 pub fn left_by_write<N: Num>(
     alloc: Global,
     model: Model,
-    p: Place,
+    p: ByteRange,
     cells: &[Cell<N>],
 ) -> Result<Vec<Cell<N>>, Memory>
     ensures { IfOk result (λ v. v.items

@@ -9,14 +9,14 @@ use Rattle.ep_bitslice.specs.declared.cell.Side.{Side}
 use Rattle.ep_bitslice.specs.declared.cell.Side.TheVariants.{Left, Right, Shared}
 use Rattle.ep_domain.specs.Domain.{Ops}
 use Rattle.ep_cells.specs.declared.cell.Cell.{Cell}
-use Rattle.ep_cells.specs.declared.place.Place.{Place}
+use Rattle.ep_cells.specs.declared.place.ByteRange.{ByteRange}
 use Rattle.ep_cells.specs.Cells.{IsIn, first, later, place_of, place_of_name, touches, share_memory, parts_of}
 use Rattle.ep_cells.specs.Cells.{parts_on, each_becomes}
 use Rattle.ep_cells.specs.States.{Known, AreCells}
 use Rattle.ep_cells.specs.Weaken.{blurred, first_part, fate_by_weak_write}
-use Rattle.ep_cells_laws.proofs.Lists.{in_each}
+use Rattle.ep_cells.proofs.Lists.{in_each}
 use Rattle.ep_cell_ranges.specs.Ranges.{blurred_part, left_by_blur}
-use Rattle.ep_cell_ranges_laws.specs.Laws.{BlurLaws}
+use Rattle.ep_cell_ranges.specs.Laws.{BlurLaws}
 use Rattle.ep_shared_parts.specs.declared.parts.Part.{Part}
 use Rattle.ep_shared_parts.specs.declared.parts.Edit.{Edit}
 use Rattle.ep_shared_parts.specs.declared.uses.Use.{Use}
@@ -25,7 +25,7 @@ use Rattle.ep_shared_parts.specs.Mentions.{number_of, AreIndexed}
 use Rattle.ep_bicells.specs.Steps.{IsPlan}
 use Rattle.ep_bicells.proofs.Looking.{Reaches}
 use Rattle.ep_shared_parts.proofs.Planning.{Becomes, becomes_items, becomes_spread}
-use Rattle.ep_cell_steps.specs.Kept.{AreKept}
+use Rattle.ep_cell_steps.specs.PartsInvariant.{AreKept}
 use Rattle.ep_cell_steps.specs.Left.{cells_blurred}
 use Rattle.ep_cell_steps.proofs.Local.{changed, IsLocal, keeps_numbers, goes_apart, indexed_reformed, indexed_each}
 use Rattle.ep_cell_steps.proofs.Writing.{IsConfined, planned, apart_in, apart_name}
@@ -77,7 +77,7 @@ left_made D s x y true h =
     }
 left_made D s x y false h = made_self x y h
 
-pub blur_local : {N : Type 0} (D : Ops N) (d : Model) (p : Place)
+pub blur_local : {N : Type 0} (D : Ops N) (d : Model) (p : ByteRange)
     → IsLocal (left_by_blur D d p) (fate_by_weak_write p)
 blur_local D d p = record {
   stays = λ x y k.
@@ -87,7 +87,7 @@ blur_local D d p = record {
   names = λ n m h. weak_name n m (touches p (place_of_name n)) (share_memory p.side (first_part n.side)) h;
 }
 
-pub blur_confined : {N : Type 0} (D : Ops N) (d : Model) (p : Place) (from last : ℕ) (cs : List (Cell N))
+pub blur_confined : {N : Type 0} (D : Ops N) (d : Model) (p : ByteRange) (from last : ℕ) (cs : List (Cell N))
     → Reaches p from last → AreCells d cs → IsConfined d from last (left_by_blur D d p) (fate_by_weak_write p) cs
 blur_confined D d p from last cs r a = record {
   cells = λ x i h. ap (λ b. cond b (each_becomes (blurred_part D p.side) (parts_of x)) (x ∷ [])) (apart_in d p x from
@@ -97,7 +97,7 @@ blur_confined D d p from last cs r a = record {
   }))) (Some n)) (apart_name d p n cs from last r a t h);
 }
 
-blur_becomes : {N : Type 0} (D : Ops N) (d : Model) (p : Place) (from last : ℕ) (us : List (Part Use)) (ps : List (Part
+blur_becomes : {N : Type 0} (D : Ops N) (d : Model) (p : ByteRange) (from last : ℕ) (us : List (Part Use)) (ps : List (Part
     (Cell N))) (es : List (Edit (Cell N))) → AreKept d ps us → Reaches p from last
     → IsPlan (changed (left_by_blur D d p) (fate_by_weak_write p)) from last (all_items us) ps es
     → Becomes (changed (left_by_blur D d p) (fate_by_weak_write p)) ps (installed es ps)
@@ -105,7 +105,7 @@ blur_becomes D d p from last us ps es k r w =
     planned d (left_by_blur D d p) (fate_by_weak_write p) from last (all_items us) ps es k.cells k.indexed
     (blur_confined D d p from last (all_items ps) r k.cells) w
 
-pub blur_items : {N : Type 0} (D : Ops N) (d : Model) (p : Place) (from last : ℕ) (us : List (Part Use)) (ps : List
+pub blur_items : {N : Type 0} (D : Ops N) (d : Model) (p : ByteRange) (from last : ℕ) (us : List (Part Use)) (ps : List
     (Part (Cell N))) (es : List (Edit (Cell N))) → AreKept d ps us → Reaches p from last
     → IsPlan (changed (left_by_blur D d p) (fate_by_weak_write p)) from last (all_items us) ps es
     → all_items (installed es ps) ≡ cells_blurred D d p (all_items ps)
@@ -113,7 +113,7 @@ blur_items D d p from last us ps es k r w =
     becomes_items (changed (left_by_blur D d p) (fate_by_weak_write p)) ps (installed es ps)
     (goes_apart (left_by_blur D d p) (fate_by_weak_write p)) (blur_becomes D d p from last us ps es k r w)
 
-pub blur_kept : {N : Type 0} (D : Ops N) (d : Model) (p : Place) (from last : ℕ) (us : List (Part Use)) (ps : List
+pub blur_kept : {N : Type 0} (D : Ops N) (d : Model) (p : ByteRange) (from last : ℕ) (us : List (Part Use)) (ps : List
     (Part (Cell N))) (es : List (Edit (Cell N))) → AreKept d ps us → BlurLaws D → Reaches p from last
     → IsPlan (changed (left_by_blur D d p) (fate_by_weak_write p)) from last (all_items us) ps es
     → AreKept d (installed es ps) us

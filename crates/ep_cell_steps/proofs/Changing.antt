@@ -20,7 +20,7 @@ use Rattle.ep_cells.specs.Write.{left_by_write, fate_by_write}
 use Rattle.ep_cells.specs.Weaken.{blurred, with_join, weak_cell, weak_part, left_by_weak_write, first_part}
 use Rattle.ep_cells.specs.Weaken.{fate_by_weak_write}
 use Rattle.ep_cells.specs.Reshare.{left_by_reshare, fate_by_side, fate_by_reshare}
-use Rattle.ep_cells_laws.proofs.Lists.{in_each, in_put_all}
+use Rattle.ep_cells.proofs.Lists.{in_each, in_put_all}
 use Rattle.ep_reads.specs.Split.{is_name_of, left_by_split, fate_by_split}
 use Rattle.ep_reads.specs.Unify.{is_of_one_side, is_byte, left_by_crossing, fate_by_crossing}
 use Rattle.ep_cell_ranges.specs.Ranges.{left_by_blur}
@@ -35,7 +35,7 @@ use Rattle.ep_shared_parts.specs.Spread.{outlines, all_items, AreSpread, install
 use Rattle.ep_shared_parts.specs.Mentions.{number_at, number_of, number_of_name, number_of_use, IsNoted, AreIndexed}
 use Rattle.ep_bicells.specs.Steps.{fate_to, left_by_parting, left_by_step, fate_of_step, after_step, changed_by, IsPlan}
 use Rattle.ep_shared_parts.proofs.Planning.{Becomes, edits_within}
-use Rattle.ep_cell_steps.specs.Kept.{AreKept}
+use Rattle.ep_cell_steps.specs.PartsInvariant.{AreKept}
 use Rattle.ep_cell_steps.specs.Planned.{IsAlone, AreReached, FindsTargets}
 use Rattle.ep_cell_steps.proofs.Making.{indexed_more}
 use Rattle.ep_cell_steps.proofs.Local.{changed, IsLocal, indexed_reformed, indexed_each}

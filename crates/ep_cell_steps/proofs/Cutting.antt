@@ -1,5 +1,6 @@
 -- Cells in order that are cut into parts.
 use Rattle.std.proofs.Common.{◌≡◌, ℕ, suc, ◌<◌, ◌≤◌, Bool, true, false, nat_lt, List, [], ◌∷◌, ◌++◌, map, refl, sym}
+use Rattle.ep_int.proofs.Basics.{true_and_false}
 use Rattle.std.proofs.Common.{◌∙◌, ap, subst, arith, append_assoc}
 use Rattle.std.proofs.lemmas.Bool.Decides.{nat_tests}
 use Rattle.ep_int.specs.declared.types.Model.{Model}
@@ -139,9 +140,6 @@ abbrev pub AreRising : ℕ → List ℕ → Type 0
 AreRising k [] = Unit {0}
 AreRising k (n ∷ ns) = (k ≤ n) × AreRising n ns
 
-no_both : (b : Bool) → b ≡ true → b ≡ false → ⊥
-no_both b e f = absurd (let q : true ≡ false = sym e ∙ f in cc)
-
 ordered : {N : Type 0} (d : Model) (c x : Cell N) → IsCell d c → IsCell d x → comes_before c x ≡ true
     → number_of c ≤ number_of x
 ordered d c x i j e = by (nat_lt (number_of x) (number_of c)) refl
@@ -150,7 +148,7 @@ ordered d c x i j e = by (nat_lt (number_of x) (number_of c)) refl
     by true q =
         let no : comes_before c x ≡ false = number_behind c x (short_cell d c i) (short_cell d x j) (grind
         (arith, nat_tests, q)) in
-        absurd (no_both (comes_before c x) e no)
+        absurd (true_and_false (comes_before c x) e no)
     by false q = grind (arith, nat_tests, q)
 
 pub rising : {N : Type 0} (d : Model) (k : ℕ) (cs : List (Cell N)) → ((c : Cell N) → IsIn c cs → IsCell d c)

@@ -16,9 +16,9 @@ use Rattle.ep_cells.specs.Cells.{IsIn, first, later, side_without, with_side, pu
 use Rattle.ep_cells.specs.Kill.{AreLeavesIn, entry_cells, cell_here, cells_from, leaf_at, is_in_leaf, has_target}
 use Rattle.ep_cells.specs.Kill.{killed_pointer, left_by_kill, fate_by_kill}
 use Rattle.ep_cells.specs.States.{AreCells}
-use Rattle.ep_cells_laws.specs.Laws.{KillLaws}
-use Rattle.ep_cells_laws.proofs.Lists.{in_append, in_put, in_put_all}
-use Rattle.ep_cells_laws.proofs.Kill.{AfterKill, away, alive, lost, after_kill}
+use Rattle.ep_cells.specs.Laws.{KillLaws}
+use Rattle.ep_cells.proofs.Lists.{in_append, in_put, in_put_all}
+use Rattle.ep_cells.proofs.Kill.{AfterKill, away, alive, lost, after_kill}
 use Rattle.ep_cell_changes.proofs.Together.{killed_is}
 use Rattle.ep_bicells.specs.declared.changes.Step.TheVariants.{Kill}
 use Rattle.ep_shared_parts.specs.declared.parts.Part.{Part}
@@ -31,7 +31,7 @@ use Rattle.ep_bicells.specs.Steps.{after_step, IsPlan}
 use Rattle.ep_shared_parts.proofs.Adding.{set_spread}
 use Rattle.ep_shared_parts.proofs.Planning.{Becomes, becomes_items, becomes_spread, edits_within, uncovered}
 use Rattle.ep_shared_parts.proofs.Planning.{still_covers}
-use Rattle.ep_cell_steps.specs.Kept.{AreKept}
+use Rattle.ep_cell_steps.specs.PartsInvariant.{AreKept}
 use Rattle.ep_cell_steps.specs.Killed.{ArePointless, FindsPointers, AreKilled, AreShort}
 use Rattle.ep_cell_steps.proofs.Making.{indexed_none, kept_copy}
 use Rattle.ep_cell_steps.proofs.Local.{changed, IsLocal, IsBeside, keeps_numbers, goes_apart, in_part, outside_at}

@@ -1,28 +1,29 @@
 -- Changes of cells that go part by part, and touch few of them.
 use Rattle.std.proofs.Common.{◌≡◌, ℕ, zero, suc, ◌+◌, ◌<◌, ◌≤◌, ◌^◌, ◌⊎◌, ⊎_elim, Bool, true, false, cond, nat_lt}
+use Rattle.ep_int.proofs.Basics.{size_positive}
+use Rattle.ep_reads.proofs.Rounds.{bits_kept}
+use Rattle.ep_reads.proofs.Composed.{each_append}
+use Rattle.ep_cells.proofs.Places.{side_below}
 use Rattle.std.proofs.Common.{nat_le, List, [], ◌∷◌, ◌++◌, map, length, drop, set, get_or, Option, Some, None, IfSome}
-use Rattle.std.proofs.Common.{refl, sym, ◌∙◌, ap, subst, arith, append_assoc}
+use Rattle.std.proofs.Common.{refl, sym, ◌∙◌, ap, subst, arith}
 use Rattle.std.specs.Option.{option_map}
-use Rattle.std.proofs.lemmas.Bool.{or_left, or_right, false_from_ne_true}
+use Rattle.std.proofs.lemmas.Bool.{false_from_ne_true}
 use Rattle.std.proofs.lemmas.Bool.Decides.{nat_tests}
 use Rattle.ep_int.specs.declared.types.Model.{Model}
 use Rattle.ep_int.specs.Types.{size_of}
 use Rattle.ep_bitslice.specs.declared.cell.CellName.{CellName}
-use Rattle.ep_bitslice.specs.declared.cell.Side.{Side}
-use Rattle.ep_bitslice.specs.declared.cell.Side.TheVariants.{Left, Right, Shared}
 use Rattle.ep_bitslice.specs.declared.segment.Segment.{Segment}
-use Rattle.ep_bitslice.specs.Bits.{Bit, fixed, cell_bit, mentions, is_same_cell, is_bit_of, side_number}
+use Rattle.ep_bitslice.specs.Bits.{Bit, mentions}
 use Rattle.ep_bitslice.specs.Segments.{bits, normal}
-use Rattle.ep_bitslice.proofs.Joining.{cell_itself}
 use Rattle.ep_bitslice.proofs.NormalForm.{form_is_normal}
 use Rattle.ep_bitslice.proofs.Appending.{bits-normal}
 use Rattle.ep_cells.specs.declared.cell.Cell.{Cell}
 use Rattle.ep_cells.specs.Cells.{IsIn, first, later, comes_before, key_of, put, each_becomes}
-use Rattle.ep_cells.specs.Forms.{Fate, put_bit, bits_after, form_after, reformed}
+use Rattle.ep_cells.specs.Forms.{Fate, bits_after, form_after, reformed}
 use Rattle.ep_cells.specs.States.{IsThere, IsFormOf, HasForm, IsCell, AreCells}
-use Rattle.ep_cells_laws.proofs.Lists.{in_left, in_right, in_each, in_map, in_put}
-use Rattle.ep_cells_laws.proofs.Forms.{mentioned_after}
-use Rattle.ep_cells_laws.proofs.Places.{size_positive, Before, in_block, by_block, before_true, before_from}
+use Rattle.ep_cells.proofs.Lists.{in_left, in_right, in_each, in_map, in_put}
+use Rattle.ep_cells.proofs.Forms.{mentioned_after}
+use Rattle.ep_cells.proofs.Places.{Before, in_block, by_block, before_true, before_from}
 use Rattle.ep_shared_parts.specs.declared.parts.Part.{Part}
 use Rattle.ep_shared_parts.specs.declared.parts.Edit.{Edit}
 use Rattle.ep_shared_parts.specs.declared.uses.Use.{Use}
@@ -32,7 +33,7 @@ use Rattle.ep_shared_parts.specs.Plans.{AreOutside, is_edited, Covers}
 use Rattle.ep_shared_parts.proofs.Adding.{Adds, rest_of}
 use Rattle.ep_shared_parts.proofs.Spreading.{some_to, above_to}
 use Rattle.ep_shared_parts.proofs.Planning.{GoesApart, KeepsNumbers, uncovered}
-use Rattle.ep_cell_steps.specs.Kept.{IsIndexed}
+use Rattle.ep_cell_steps.specs.PartsInvariant.{IsIndexed}
 use Rattle.ep_cell_steps.specs.Killed.{AreShort}
 use Rattle.ep_cell_steps.proofs.Making.{indexed_none}
 
@@ -118,13 +119,7 @@ keeps_numbers g f l = record {
 
 -- ---- part by part
 
-each_append : {N : Type 0} (g : Cell N → List (Cell N)) (xs ys : List (Cell N))
-    → each_becomes g (xs ++ ys) ≡ each_becomes g xs ++ each_becomes g ys
-each_append g [] ys = refl
-each_append g (x ∷ xs) ys =
-    ap (λ zs. g x ++ zs) (each_append g xs ys) ∙ sym (append_assoc (g x) (each_becomes g xs) (each_becomes g ys))
-
-map_append : {A B : Type 0} (f : A → B) (xs ys : List A) → map f (xs ++ ys) ≡ map f xs ++ map f ys
+pub map_append : {A B : Type 0} (f : A → B) (xs ys : List A) → map f (xs ++ ys) ≡ map f xs ++ map f ys
 map_append f [] ys = refl
 map_append f (x ∷ xs) ys = ap (λ zs. f x ∷ zs) (map_append f xs ys)
 
@@ -146,22 +141,11 @@ same_each g f (x ∷ xs) h =
     ∙ ap (λ z. z ∷ changed g f xs) a.1
     ∙ ap (λ zs. x ∷ zs) (same_each g f xs (λ y k. h y (later x xs k)))
 
-same_bits : (f : Fate) (bs : List Bit) → ((n : CellName) → mentions n bs ≡ true → f n ≡ Some n)
-    → bits_after f bs ≡ Some bs
-same_bits f [] h = refl
-same_bits f (fixed b ∷ bs) h =
-    ap (put_bit (Some (fixed b))) (same_bits f bs (λ n k. h n k))
-same_bits f (cell_bit c i ∷ bs) h =
-    ap (λ o. put_bit (option_map (λ e. cell_bit e i) o) (bits_after f bs))
-    (h c (or_left (is_same_cell c c) (mentions c bs) (cell_itself c)))
-    ∙ ap (put_bit (Some (cell_bit c i))) (same_bits f bs (λ n k. h n (or_right (is_bit_of n (cell_bit c i)) (mentions
-    n bs) k)))
-
 same_form : {N : Type 0} (f : Fate) (cs : List (Cell N)) (x : Cell N) (o : Option (List Segment))
     → IfSome o (IsFormOf cs x)
     → IfSome o (λ ss. (n : CellName) → mentions n (bits ss) ≡ true → f n ≡ Some n) → form_after f o ≡ o
 same_form f cs x None h k = refl
-same_form f cs x (Some ss) h k = ap (option_map normal) (same_bits f (bits ss) k) ∙ ap Some (form_is_normal ss h.form)
+same_form f cs x (Some ss) h k = ap (option_map normal) (bits_kept f (bits ss) k) ∙ ap Some (form_is_normal ss h.form)
 
 pub same_reformed : {N : Type 0} (f : Fate) (cs : List (Cell N)) (x : Cell N) → HasForm cs x
     → IfSome x.form (λ ss. (n : CellName) → mentions n (bits ss) ≡ true → f n ≡ Some n) → reformed f x ≡ x
@@ -302,11 +286,6 @@ indexed_put us c cs h k y j = ⊎_elim (λ e. subst (IsIndexed us) (sym e) h) (�
 
 -- ---- one cell more
 
-side_small : (s : Side) → side_number s ≤ 2
-side_small Left = omega arith
-side_small Right = omega arith
-side_small Shared = omega arith
-
 number_before : {N : Type 0} (c x : Cell N) → c.offset < 4294967296 → x.offset < 4294967296 → number_of c < number_of x
     → comes_before c x ≡ true
 number_before c x lc lx h = by (nat_lt c.block x.block) refl
@@ -317,7 +296,7 @@ number_before c x lc lx h = by (nat_lt c.block x.block) refl
         let le : x.block ≤ c.block = grind (arith, nat_tests, e) in
         let same : c.block ≡ x.block = omega (arith, le, h, lc, lx) in
         let less : c.offset < x.offset = omega (arith, same, h) in
-        let small = side_small c.side in
+        let small = side_below c.side in
         before_from c.block (key_of c) x.block (key_of x) (in_block same (omega (arith, less, small)))
 
 pub number_behind : {N : Type 0} (c x : Cell N) → c.offset < 4294967296 → x.offset < 4294967296 → number_of x < number_of c
@@ -327,8 +306,8 @@ number_behind c x lc lx h = false_from_ne_true (comes_before c x) (λ e. by (bef
   where
     by : Before c.block (key_of c) x.block (key_of x) → ⊥
     by (in_block e l) =
-        let small = side_small x.side in
-        let other = side_small c.side in
+        let small = side_below x.side in
+        let other = side_below c.side in
         let less : x.offset < c.offset = omega (arith, e, h) in
         omega (arith, l, less, small, other)
     by (by_block l) = omega (arith, l, h, lc, lx)

@@ -12,7 +12,7 @@ use Rattle.ep_cells.specs.declared.cell.Cell.{Cell}
 use Rattle.ep_cells.specs.Cells.{IsIn, first, later}
 use Rattle.ep_cells.specs.States.{AreCells, HaveCellsAlike}
 use Rattle.ep_cells.specs.Both.{cells_of_both}
-use Rattle.ep_cells_laws.specs.Laws.{JoinLaws}
+use Rattle.ep_cells.specs.Laws.{JoinLaws}
 use Rattle.ep_cell_rows.specs.declared.values.Union.{Union}
 use Rattle.ep_cell_rows.specs.declared.values.Union.TheVariants.{Join, Widen}
 use Rattle.ep_cell_rows.specs.Parts.{united}
@@ -22,7 +22,7 @@ use Rattle.ep_shared_parts.specs.Spread.{outlines, all_items, AreSpread}
 use Rattle.ep_shared_parts.specs.Mentions.{number_of, number_of_name, number_of_use, IsNoted, AllNoted, AreIndexed}
 use Rattle.ep_shared_parts.proofs.Steps.{rest_at}
 use Rattle.ep_shared_parts.proofs.Mentioning.{note_of}
-use Rattle.ep_cell_steps.specs.Kept.{IsIndexed, AreKept}
+use Rattle.ep_cell_steps.specs.PartsInvariant.{IsIndexed, AreKept}
 
 pub none_behind : {X : Type 0} (xs : List X) → xs ++ [] ≡ xs
 none_behind [] = refl

@@ -1,5 +1,8 @@
 -- Parts that change where they stand, and parts that take the places of others: what both come to.
 use Rattle.std.proofs.Common.{◌≡◌, ℕ, zero, suc, ◌<◌, ◌≤◌, inl, inr, ⊎_elim, Bool, true, false, cond, not, ◌&&◌, ◌||◌}
+use Rattle.ep_cell_steps.proofs.Writing.{becomes_at}
+use Rattle.std.proofs.lemmas.List.{get_or_default}
+use Rattle.std.proofs.lemmas.Bool.{or_parts}
 use Rattle.std.proofs.Common.{nat_eq, nat_le, nat_lt, List, [], ◌∷◌, map, length, take, drop, set, get_or, refl, sym}
 use Rattle.std.proofs.Common.{◌∙◌, ap, subst, arith}
 use Rattle.std.proofs.lemmas.Bool.{or_left, or_right, false_from_ne_true}
@@ -14,14 +17,14 @@ use Rattle.ep_shared_parts.specs.declared.uses.Use.{Use}
 use Rattle.ep_shared_parts.specs.Spread.{all_items, AreBelow, AreFrom, installed, AreWithin}
 use Rattle.ep_shared_parts.specs.Mentions.{number_of, IsNoted}
 use Rattle.ep_shared_parts.specs.Plans.{is_edited, IsEdit, AreEdits, Covers}
-use Rattle.ep_shared_parts.proofs.Planning.{IsDone, Becomes, same_default, as_many_installed, becomes_from}
+use Rattle.ep_shared_parts.proofs.Planning.{IsDone, Becomes, as_many_installed, becomes_from}
 use Rattle.ep_shared_parts.proofs.Planning.{becomes_items, becomes_spread, edits_within, span_covers}
 use Rattle.ep_bicells.specs.declared.changes.Step.{Step}
 use Rattle.ep_bicells.specs.declared.changes.Step.TheVariants.{Write, WeakWrite, Kill, Blur, Split, Cross, Unshare}
 use Rattle.ep_bicells.specs.declared.changes.Step.TheVariants.{Lack, Reshare}
 use Rattle.ep_bicells.specs.Steps.{left_by_step, fate_of_step, after_step, IsPlan}
 use Rattle.ep_bicells.specs.Standing.{is_spanned, AreSpanned}
-use Rattle.ep_cell_steps.specs.Kept.{AreKept}
+use Rattle.ep_cell_steps.specs.PartsInvariant.{AreKept}
 use Rattle.ep_cell_steps.specs.Left.{IsLeft}
 use Rattle.ep_cell_steps.specs.Planned.{AreReached, FindsTargets, AreElsewhere}
 use Rattle.ep_cell_steps.proofs.Local.{changed, keeps_numbers, goes_apart}
@@ -29,10 +32,6 @@ use Rattle.ep_cell_steps.proofs.Writing.{short_changed}
 use Rattle.ep_cell_steps.proofs.Changing.{step_local, step_becomes}
 
 -- ---- tests
-
-either : (a b : Bool) → (a || b) ≡ false → (a ≡ false) × (b ≡ false)
-either true b h = absurd (cc)
-either false b h = (refl, h)
 
 differ : (i j : ℕ) → nat_eq i j ≡ false → j ≡ i → ⊥
 differ i j q z = let w : nat_eq i j ≡ true = grind (arith, nat_tests, z) in absurd (let v : false ≡ true = sym q ∙ w in
@@ -44,7 +43,7 @@ installed_other : {X : Type 0} (es : List (Edit X)) (qs : List (Part X)) (i : �
     → get_or (installed es qs) i d ≡ get_or qs i d
 installed_other [] qs i d n = refl
 installed_other (e ∷ es) qs i d n =
-    let t = either (nat_eq e.at i) (is_edited i es) n in
+    let t = or_parts (nat_eq e.at i) (is_edited i es) n in
     installed_other es (set qs e.at e.part) i d t.1
     ∙ get_or-set_other qs e.at i e.part d (differ e.at i t.0)
 
@@ -56,7 +55,7 @@ edit_here h ps qs e d a l =
       a.within,
       l,
     )) in
-    let there : get_or ps e.at e.part ≡ get_or ps e.at d = same_default ps e.at e.part d a.within in
+    let there : get_or ps e.at e.part ≡ get_or ps e.at d = get_or_default ps e.at e.part d a.within in
     record {
       start = ap (λ z. z.start) here ∙ a.start ∙ ap (λ z. z.start) there;
       items = ap (λ z. z.items.value.items) here ∙ a.items ∙ ap (λ z. h z.items.value.items) there;
@@ -83,13 +82,6 @@ installed_edited {X = X} h (e ∷ es) ps qs i d a l t =
     by true q f = f q
     by false q f = here q (nat_eq e.at i) refl t
 
-becomes_at : {X : Type 0} (h : List X → List X) (ps qs : List (Part X)) (i : ℕ) (d : Part X) → Becomes h ps qs
-    → i < length ps → IsDone h (get_or ps i d) (get_or qs i d)
-becomes_at h [] qs i d b l = absurd (omega arith)
-becomes_at h (p ∷ ps) [] i d b l = absurd b
-becomes_at h (p ∷ ps) (q ∷ qs) zero d b l = b.0
-becomes_at h (p ∷ ps) (q ∷ qs) (suc i) d b l = becomes_at h ps qs i d b.1 (omega arith)
-
 -- ---- the parts below a number that pass a test, as edits
 
 abbrev picks : {X : Type 0} → (ℕ → Bool) → List (Part X) → ℕ → Part X → List (Edit X)
@@ -108,7 +100,7 @@ picks_edits {X = X} h t ps zs (suc n) d f l = by (t n) refl (picks_edits h t ps 
     by true q rest =
         let within : n < length ps = omega arith in
         let done : IsDone h (get_or ps n d) (get_or zs n d) = f n within q in
-        let same : get_or ps n d ≡ get_or ps n (get_or zs n d) = same_default ps n d (get_or zs n d) within in (
+        let same : get_or ps n d ≡ get_or ps n (get_or zs n d) = get_or_default ps n d (get_or zs n d) within in (
           record {
             within = within;
             start = done.start ∙ ap (λ z. z.start) same;
@@ -208,7 +200,7 @@ untouched_same : {X : Type 0} (h : List X → List X) (first end : ℕ) (es : Li
     (d : Part X) → AreSpanned h first end es ps qs → i < length ps → is_touched first end es i ≡ false
     → get_or (installed es qs) i d ≡ get_or ps i d
 untouched_same h first end es ps qs i d s l t =
-    let w = either (is_edited i es) (is_spanned first end es i) t in
+    let w = or_parts (is_edited i es) (is_spanned first end es i) t in
     installed_other es qs i d w.0 ∙ s.same i d l w.1
 
 -- what is said of a list of parts, where there are some

@@ -6,12 +6,12 @@ use Rattle.ep_bitslice.specs.declared.cell.CellName.{CellName}
 use Rattle.ep_bitslice.specs.declared.cell.Side.TheVariants.{Shared}
 use Rattle.ep_domain.specs.Domain.{Ops}
 use Rattle.ep_cells.specs.declared.cell.Cell.{Cell}
-use Rattle.ep_cells.specs.declared.place.Place.{Place}
+use Rattle.ep_cells.specs.declared.place.ByteRange.{ByteRange}
 use Rattle.ep_cells.specs.Cells.{place_of, place_of_name, touches, share_memory, parts_of, is_same_place, each_becomes}
 use Rattle.ep_cells.specs.States.{Fits, AreCells, HasRisingBlocks}
 use Rattle.ep_cells.specs.Weaken.{weak_cell, weak_part, left_by_weak_write, first_part, fate_by_weak_write, weakened}
-use Rattle.ep_cells_laws.specs.Laws.{WeakWriteLaws}
-use Rattle.ep_cells_laws.proofs.WeakCells.{AfterWeak, beside, other, joined, blurry, after_weak, after_made}
+use Rattle.ep_cells.specs.Laws.{WeakWriteLaws}
+use Rattle.ep_cells.proofs.WeakCells.{AfterWeak, beside, other, joined, blurry, after_weak, after_made}
 use Rattle.ep_shared_parts.specs.declared.parts.Part.{Part}
 use Rattle.ep_shared_parts.specs.declared.parts.Edit.{Edit}
 use Rattle.ep_shared_parts.specs.declared.uses.Use.{Use}
@@ -21,7 +21,7 @@ use Rattle.ep_shared_parts.specs.Mentions.{number_of, number_of_name, AreIndexed
 use Rattle.ep_bicells.specs.Steps.{after_step, IsPlan}
 use Rattle.ep_bicells.proofs.Looking.{Reaches}
 use Rattle.ep_shared_parts.proofs.Planning.{Becomes, becomes_items, becomes_spread, edits_within}
-use Rattle.ep_cell_steps.specs.Kept.{AreKept}
+use Rattle.ep_cell_steps.specs.PartsInvariant.{AreKept}
 use Rattle.ep_cell_steps.specs.Weakened.{AreWeakened}
 use Rattle.ep_cell_steps.proofs.Local.{changed, IsLocal, keeps_numbers, goes_apart, indexed_reformed, indexed_each}
 use Rattle.ep_cell_steps.proofs.Writing.{IsConfined, planned, apart_in, apart_name}
@@ -97,7 +97,7 @@ weak_kept D d c stays us ps es k law t r s w =
 
 -- ---- in the code's terms
 
-pub weakened_from : {N : Type 0} (D : Ops N) (d : Model) (c x : Cell N) (p : Place) (stays : Bool) (from last : ℕ) (us :
+pub weakened_from : {N : Type 0} (D : Ops N) (d : Model) (c x : Cell N) (p : ByteRange) (stays : Bool) (from last : ℕ) (us :
     List Use) (ps : List (Part (Cell N))) (es : List (Edit (Cell N))) → p ≡ place_of d c → x ≡ c
     → Reaches p from last → IsPlan (after_step D d (WeakWrite x stays)) from last us ps es
     → AreWeakened D d c stays us ps es

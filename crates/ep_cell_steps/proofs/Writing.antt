@@ -1,5 +1,7 @@
 -- What edits of touched parts come to.
 use Rattle.std.proofs.Common.{◌≡◌, ℕ, zero, suc, ◌+◌, ◌<◌, ◌≤◌, ◌^◌, inr, Bool, true, false, cond, nat_le, List, []}
+use Rattle.ep_int.proofs.Basics.{size_positive}
+use Rattle.std.proofs.lemmas.List.{get_or_default}
 use Rattle.std.proofs.Common.{◌∷◌, ◌++◌, length, set, get_or, Option, Some, None, refl, sym, ◌∙◌, ap, subst, arith}
 use Rattle.std.specs.Option.{option_map}
 use Rattle.std.proofs.lemmas.Bool.{false_from_ne_true}
@@ -9,13 +11,12 @@ use Rattle.ep_bitslice.specs.declared.cell.CellName.{CellName}
 use Rattle.ep_bitslice.specs.declared.cell.Side.{Side}
 use Rattle.ep_domain.specs.Domain.{Ops}
 use Rattle.ep_cells.specs.declared.cell.Cell.{Cell}
-use Rattle.ep_cells.specs.declared.place.Place.{Place}
+use Rattle.ep_cells.specs.declared.place.ByteRange.{ByteRange}
 use Rattle.ep_cells.specs.Cells.{IsIn, place_of, place_of_name, touches, side_without, with_side, put, each_becomes}
 use Rattle.ep_cells.specs.Forms.{Fate, reformed}
 use Rattle.ep_cells.specs.States.{Fits, IsThere, IsCell, AreCells, CanWrite, HasRisingBlocks}
 use Rattle.ep_cells.specs.Write.{left_by_write, fate_by_write, written}
-use Rattle.ep_cells_laws.proofs.Places.{size_positive}
-use Rattle.ep_cells_laws.proofs.Write.{left_is, place_named, write_cells}
+use Rattle.ep_cells.proofs.Write.{left_is, place_named, write_cells}
 use Rattle.ep_cell_rows.proofs.Order.{put_reformed}
 use Rattle.ep_shared_parts.specs.declared.parts.Part.{Part}
 use Rattle.ep_shared_parts.specs.declared.parts.Edit.{Edit}
@@ -27,9 +28,9 @@ use Rattle.ep_shared_parts.specs.Plans.{is_edited}
 use Rattle.ep_bicells.specs.Steps.{after_step, IsPlan}
 use Rattle.ep_shared_parts.proofs.Adding.{set_spread}
 use Rattle.ep_bicells.proofs.Looking.{Reaches, touched_number}
-use Rattle.ep_shared_parts.proofs.Planning.{IsDone, Becomes, same_default, as_many_installed, becomes_items}
+use Rattle.ep_shared_parts.proofs.Planning.{IsDone, Becomes, as_many_installed, becomes_items}
 use Rattle.ep_shared_parts.proofs.Planning.{becomes_spread, plan_becomes, edits_within, uncovered}
-use Rattle.ep_cell_steps.specs.Kept.{IsIndexed, AreKept}
+use Rattle.ep_cell_steps.specs.PartsInvariant.{IsIndexed, AreKept}
 use Rattle.ep_cell_steps.specs.Killed.{AreShort}
 use Rattle.ep_cell_steps.specs.Writes.{AreWritten}
 use Rattle.ep_cell_steps.proofs.Making.{indexed_more}
@@ -91,7 +92,7 @@ takes h c ps qs end p b l =
     let within : end.at < length qs = omega (arith, p.within, l) in
     record {
       part = get_or qs end.at end.part;
-      is = same_default qs end.at end.part (get_or qs end.at end.part) within;
+      is = get_or_default qs end.at end.part (get_or qs end.at end.part) within;
       within = within;
       there = p.there ∙ sym (becomes_starts number_of h (number_of c) ps qs b);
       start = p.start ∙ sym done.start;
@@ -149,7 +150,7 @@ short_changed d g f cs ys l a e y k =
 
 -- ---- writes
 
-pub apart_in : {N : Type 0} (d : Model) (p : Place) (x : Cell N) (from last : ℕ) → Reaches p from last → IsCell d x
+pub apart_in : {N : Type 0} (d : Model) (p : ByteRange) (x : Cell N) (from last : ℕ) → Reaches p from last → IsCell d x
     → (from ≤ number_of x → number_of x ≤ last → ⊥) → touches p (place_of d x) ≡ false
 apart_in d p x from last r i h = false_from_ne_true (touches p (place_of d x)) (λ e.
     let n = touched_number d p x from last r i e in h n.0 n.1)
@@ -158,7 +159,7 @@ named_number : {N : Type 0} (n : CellName) (cs : List (Cell N)) (t : IsThere n c
     → number_of t.cell ≡ number_of_name n
 named_number n cs t = ap (λ b. number_at b t.cell.offset) t.named.block ∙ ap (λ q. number_at n.block q) t.named.offset
 
-pub apart_name : {N : Type 0} (d : Model) (p : Place) (n : CellName) (cs : List (Cell N)) (from last : ℕ)
+pub apart_name : {N : Type 0} (d : Model) (p : ByteRange) (n : CellName) (cs : List (Cell N)) (from last : ℕ)
     → Reaches p from last → AreCells d cs → IsThere n cs
     → (from ≤ number_of_name n → number_of_name n ≤ last → ⊥) → touches p (place_of_name n) ≡ false
 apart_name d p n cs from last r a t h =
@@ -166,7 +167,7 @@ apart_name d p n cs from last r a t h =
     sym (ap (touches p) (place_named d n t.cell t.named))
     ∙ apart_in d p t.cell from last r (a.each t.cell t.is_in) (λ l m. h (omega (arith, l, e)) (omega (arith, m, e)))
 
-pub write_confined : {N : Type 0} (d : Model) (p : Place) (from last : ℕ) (cs : List (Cell N)) → Reaches p from last
+pub write_confined : {N : Type 0} (d : Model) (p : ByteRange) (from last : ℕ) (cs : List (Cell N)) → Reaches p from last
     → AreCells d cs → IsConfined d from last (left_by_write d p) (fate_by_write p) cs
 write_confined d p from last cs r a = record {
   cells = λ x i h. ap (λ b. cond b (with_side x (side_without p.side x.side)) (x ∷ [])) (apart_in d p x from last r i h);
@@ -180,7 +181,7 @@ write_name n m true None h = absurd (cc)
 write_name n m true (Some s) h = let e : m ≡ record n { side = s } = cc in ap number_of_name e
 write_name n m false o h = let e : m ≡ n = cc in ap number_of_name e
 
-pub write_local : {N : Type 0} (d : Model) (p : Place) → IsLocal {N = N} (left_by_write d p) (fate_by_write p)
+pub write_local : {N : Type 0} (d : Model) (p : ByteRange) → IsLocal {N = N} (left_by_write d p) (fate_by_write p)
 write_local d p = record {
   stays = λ x y k. let l = left_is d p x y k in record {
     block = ap (λ z. z.block) l.is;
@@ -273,14 +274,14 @@ kept_grown d ps qs us vs k e s t f = record {
 
 -- ---- in the code's terms
 
-pub written_from : {N : Type 0} (D : Ops N) (d : Model) (c : Cell N) (p : Place) (from last : ℕ) (us : List Use) (ps :
+pub written_from : {N : Type 0} (D : Ops N) (d : Model) (c : Cell N) (p : ByteRange) (from last : ℕ) (us : List Use) (ps :
     List (Part (Cell N))) (before es : List (Edit (Cell N))) (i : ℕ) (r q : Part (Cell N)) → p ≡ place_of d c
     → Reaches p from last → IsPlan (after_step D d (Write p)) from last us ps before
     → es ≡ before ++ record { at = i; part = q } ∷ [] → i < length ps
     → suc i ≡ parts_to (number_of c) (outlines number_of ps) → r ≡ get_or ps i r → q.start ≡ r.start
     → q.items.value.items ≡ written d c r.items.value.items → AreWritten D d c us ps es
 written_from D d c p from last us ps before es i r q e h l a b t g s w =
-    let same : r ≡ get_or ps i q = g ∙ same_default ps i r q b in
+    let same : r ≡ get_or ps i q = g ∙ get_or_default ps i r q b in
     record {
       before = before;
       end = record { at = i; part = q };

@@ -3,7 +3,7 @@ use Rattle.std.specs.Prelude.{◌≡◌, List, map}
 use Rattle.ep_int.specs.declared.types.Model.{Model}
 use Rattle.ep_domain.specs.Domain.{Ops}
 use Rattle.ep_cells.specs.declared.cell.Cell.{Cell}
-use Rattle.ep_cells.specs.declared.place.Place.{Place}
+use Rattle.ep_cells.specs.declared.place.ByteRange.{ByteRange}
 use Rattle.ep_cells.specs.Cells.{each_becomes}
 use Rattle.ep_cells.specs.Forms.{Fate, reformed}
 use Rattle.ep_cells.specs.Weaken.{fate_by_weak_write}
@@ -19,5 +19,5 @@ pub record IsLeft {N : Type 0} (g : Cell N → List (Cell N)) (f : Fate) (ps zs 
   pub short : AreShort (all_items zs)
 
 -- the cells where a place may have been written in whatever way
-abbrev pub cells_blurred : {N : Type 0} → Ops N → Model → Place → List (Cell N) → List (Cell N)
+abbrev pub cells_blurred : {N : Type 0} → Ops N → Model → ByteRange → List (Cell N) → List (Cell N)
 cells_blurred D d p cs = map (reformed (fate_by_weak_write p)) (each_becomes (left_by_blur D d p) cs)

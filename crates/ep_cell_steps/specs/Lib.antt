@@ -1,4 +1,4 @@
-pub mod Kept
+pub mod PartsInvariant
 pub mod Writes
 pub mod Weakened
 pub mod Killed

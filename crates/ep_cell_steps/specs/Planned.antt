@@ -3,7 +3,7 @@ use Rattle.std.specs.Prelude.{◌≡◌, ℕ, ◌≤◌, List}
 use Rattle.ep_int.specs.declared.types.Model.{Model}
 use Rattle.ep_domain.specs.Domain.{Ops}
 use Rattle.ep_cells.specs.declared.cell.Cell.{Cell}
-use Rattle.ep_cells.specs.declared.place.Place.{Place}
+use Rattle.ep_cells.specs.declared.place.ByteRange.{ByteRange}
 use Rattle.ep_cells.specs.Cells.{place_of}
 use Rattle.ep_shared_parts.specs.declared.parts.Part.{Part}
 use Rattle.ep_shared_parts.specs.declared.parts.Edit.{Edit}
@@ -22,7 +22,7 @@ abbrev pub IsAlone : {N : Type 0} → Cell N → (from last : ℕ) → Type 0
 IsAlone x from last = (from ≡ number_of x) × (last ≡ number_of x)
 
 -- from the number of the first cell that may touch a place up to that of the last
-abbrev pub IsReached : Place → (from last : ℕ) → Type 0
+abbrev pub IsReached : ByteRange → (from last : ℕ) → Type 0
 IsReached p from last = Reaches p from last
 
 -- from which number and up to which one a step may touch cells, but for pointers into a killed block

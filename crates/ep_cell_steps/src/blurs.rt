@@ -2,14 +2,14 @@
 
 ghost use Rattle.std.specs.Prelude.{◌≡◌, IfOk, OnOk, OnErr};
 ghost use Rattle.ep_shared_parts.specs.Spread.{all_items};
-ghost use Rattle.ep_cell_steps.specs.Kept.{AreKept};
+ghost use Rattle.ep_cell_steps.specs.PartsInvariant.{AreKept};
 ghost use Rattle.ep_cell_steps.specs.Left.{cells_blurred};
 
 use crate::changes::{Parts, after, no_cells};
 use ep_bicells::cells::reach;
 use ep_bicells::changes::{Step, plan};
-use ep_cell_ranges_laws::blur_laws;
-use ep_cells::{Cell, Place};
+use ep_cell_ranges::blur_laws;
+use ep_cells::{ByteRange, Cell};
 use ep_domain::Num;
 use ep_int::{Memory, Model};
 use ep_shared_parts::parts::{Part, install};
@@ -22,7 +22,7 @@ pub fn blur_at<N: Num>(
     model: Model,
     parts: &mut Vec<Part<Cell<N>>>,
     uses: &[Part<Use>],
-    place: Place,
+    place: ByteRange,
 ) -> Result<(), Memory>
     requires { AreKept model parts.old.items uses.now }
     ensures kept { AreKept model parts.new.items uses.now }
@@ -41,7 +41,7 @@ pub fn blurred<N: Num>(
     alloc: Global,
     model: Model,
     before: Parts<N>,
-    place: Place,
+    place: ByteRange,
 ) -> Result<Parts<N>, Memory>
     requires { AreKept model before.cells.items before.uses.items }
     ensures items { IfOk result (λ v. all_items v.cells.items

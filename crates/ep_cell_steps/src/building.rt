@@ -5,7 +5,7 @@ ghost use Rattle.ep_cells.specs.States.{AreCells};
 ghost use Rattle.ep_shared_parts.specs.Spread.{outlines, all_items, AreSpread};
 ghost use Rattle.ep_shared_parts.specs.Mentions.{number_of, number_of_use, IsNoted, AreIndexed};
 ghost use Rattle.ep_shared_parts.specs.declared.uses.Use.{Use};
-ghost use Rattle.ep_cell_steps.specs.Kept.{IsIndexed};
+ghost use Rattle.ep_cell_steps.specs.PartsInvariant.{IsIndexed};
 ghost use Rattle.ep_cell_steps.specs.Opened.{IsOpen};
 
 use ep_cells::Cell;

@@ -8,7 +8,7 @@ ghost use Rattle.ep_shared_parts.specs.Spread.{outlines, all_items, AreSpread};
 ghost use Rattle.ep_shared_parts.specs.Mentions.{number_of, number_of_use, IsNoted, AreIndexed};
 ghost use Rattle.ep_shared_parts.specs.Plans.{AreEdits, KeepsEdits};
 ghost use Rattle.ep_bicells.specs.Steps.{left_by_step, fate_of_step, after_step, changed_by};
-ghost use Rattle.ep_cell_steps.specs.Kept.{AreKept};
+ghost use Rattle.ep_cell_steps.specs.PartsInvariant.{AreKept};
 ghost use Rattle.ep_cell_steps.specs.Left.{IsLeft};
 ghost use Rattle.ep_cell_steps.specs.Planned.{IsAlone, IsReached, AreReached, FindsTargets, AreElsewhere};
 

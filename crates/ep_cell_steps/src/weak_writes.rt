@@ -5,7 +5,7 @@ ghost use Rattle.ep_cells.specs.States.{Fits};
 ghost use Rattle.ep_cells.specs.Weaken.{weakened};
 ghost use Rattle.ep_shared_parts.specs.Spread.{outlines, all_items, AreSpread};
 ghost use Rattle.ep_shared_parts.specs.Mentions.{number_of, number_of_use};
-ghost use Rattle.ep_cell_steps.specs.Kept.{AreKept};
+ghost use Rattle.ep_cell_steps.specs.PartsInvariant.{AreKept};
 ghost use Rattle.ep_cell_steps.specs.Weakened.{AreWeakened};
 
 use crate::changes::{Parts, after, no_cells};
@@ -15,8 +15,7 @@ use ep_bitslice::Side;
 use ep_cell_rows::cell::copy_cell;
 use ep_cell_rows::places::place_of;
 use ep_cell_rows::values::rises;
-use ep_cells::Cell;
-use ep_cells_laws::weak_write_laws;
+use ep_cells::{Cell, weak_write_laws};
 use ep_domain::Num;
 use ep_int::{Memory, Model};
 use ep_shared_parts::parts::{Edit, Part, install};

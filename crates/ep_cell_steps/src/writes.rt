@@ -5,7 +5,7 @@ ghost use Rattle.ep_cells.specs.States.{CanWrite};
 ghost use Rattle.ep_cells.specs.Write.{written};
 ghost use Rattle.ep_shared_parts.specs.Spread.{outlines, all_items, AreSpread, parts_to as the_parts_to};
 ghost use Rattle.ep_shared_parts.specs.Mentions.{number_of, number_of_use};
-ghost use Rattle.ep_cell_steps.specs.Kept.{AreKept};
+ghost use Rattle.ep_cell_steps.specs.PartsInvariant.{AreKept};
 ghost use Rattle.ep_cell_steps.specs.Writes.{AreWritten};
 
 use crate::building::note_cell;

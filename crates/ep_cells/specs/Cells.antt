@@ -10,7 +10,7 @@ use Rattle.ep_bitslice.specs.declared.cell.Side.TheVariants.{Left, Right, Shared
 use Rattle.ep_bitslice.specs.declared.cell.CellName.{CellName}
 use Rattle.ep_bitslice.specs.Bits.{side_number, type_number}
 use Rattle.ep_cells.specs.declared.cell.Cell.{Cell}
-use Rattle.ep_cells.specs.declared.place.Place.{Place}
+use Rattle.ep_cells.specs.declared.place.ByteRange.{ByteRange}
 
 -- ---- sides
 
@@ -42,27 +42,27 @@ side_without Shared q = None
 -- ---- places
 
 -- where a cell lies (d is the data model)
-abbrev pub place_of : {N : Type 0} → Model → Cell N → Place
+abbrev pub place_of : {N : Type 0} → Model → Cell N → ByteRange
 place_of d c = record { side = c.side; block = c.block; offset = c.offset; bytes = size_of d c.what }
 
 -- where an integer cell of a name lies
-abbrev pub place_of_name : CellName → Place
+abbrev pub place_of_name : CellName → ByteRange
 place_of_name n = record { side = n.side; block = n.block; offset = n.offset; bytes = bytes_of n.t }
 
 -- whether two places have an offset in common, on whatever side
-abbrev pub touches : Place → Place → Bool
+abbrev pub touches : ByteRange → ByteRange → Bool
 touches p q = nat_eq p.block q.block && (nat_lt p.offset (q.offset + q.bytes) && nat_lt q.offset (p.offset + p.bytes))
 
 -- whether they have a byte in common
-abbrev pub meets : Place → Place → Bool
+abbrev pub meets : ByteRange → ByteRange → Bool
 meets p q = share_memory p.side q.side && touches p q
 
 -- whether all offsets of the second are offsets of the first
-abbrev pub encloses : Place → Place → Bool
+abbrev pub encloses : ByteRange → ByteRange → Bool
 encloses p q = nat_le p.offset q.offset && nat_le (q.offset + q.bytes) (p.offset + p.bytes)
 
 -- whether the second has bytes in the first, and others
-abbrev pub is_partly_in : Place → Place → Bool
+abbrev pub is_partly_in : ByteRange → ByteRange → Bool
 is_partly_in p q = meets p q && not (encloses p q)
 
 -- ---- names

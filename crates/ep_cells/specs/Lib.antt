@@ -8,3 +8,6 @@ pub mod Both
 pub mod Weaken
 pub mod Kill
 pub mod Reshare
+pub mod Memories
+pub mod Sound
+pub mod Laws

@@ -7,7 +7,7 @@ use Rattle.ep_int.specs.Types.{size_of}
 use Rattle.ep_bitslice.specs.declared.cell.Side.{Side}
 use Rattle.ep_bitslice.specs.declared.cell.Side.TheVariants.{Shared}
 use Rattle.ep_cells.specs.declared.cell.Cell.{Cell}
-use Rattle.ep_cells.specs.declared.place.Place.{Place}
+use Rattle.ep_cells.specs.declared.place.ByteRange.{ByteRange}
 use Rattle.ep_cells.specs.Cells.{place_of, is_same_side, is_partly_in}
 
 -- whether a cell of that side, or a Shared one, has the byte
@@ -21,5 +21,5 @@ cell_at d s b p [] = None
 cell_at d s b p (c ∷ cs) = if covers d s b p c then Some c else cell_at d s b p cs
 
 -- whether some cell has bytes in the place, and others
-abbrev pub is_some_partly_in : {N : Type 0} → Model → Place → List (Cell N) → Bool
+abbrev pub is_some_partly_in : {N : Type 0} → Model → ByteRange → List (Cell N) → Bool
 is_some_partly_in d p cs = list_any (λ c. is_partly_in p (place_of d c)) cs

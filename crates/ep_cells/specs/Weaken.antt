@@ -8,7 +8,7 @@ use Rattle.ep_bitslice.specs.declared.cell.Side.TheVariants.{Left, Right, Shared
 use Rattle.ep_domain.specs.Domain.{Ops}
 use Rattle.ep_cells.specs.declared.cell.Cell.{Cell}
 use Rattle.ep_cells.specs.declared.cell.Value.TheVariants.{Num}
-use Rattle.ep_cells.specs.declared.place.Place.{Place}
+use Rattle.ep_cells.specs.declared.place.ByteRange.{ByteRange}
 use Rattle.ep_cells.specs.Cells.{place_of, place_of_name, touches, share_memory, parts_of, is_same_place, each_becomes}
 use Rattle.ep_cells.specs.Forms.{Fate, reformed}
 use Rattle.ep_cells.specs.Both.{value_of_both}
@@ -45,7 +45,7 @@ first_part Right = Right
 first_part Shared = Left
 
 -- and mentions of a cell that is met go
-abbrev pub fate_by_weak_write : Place → Fate
+abbrev pub fate_by_weak_write : ByteRange → Fate
 fate_by_weak_write p n =
     if touches p (place_of_name n)
     then (if share_memory p.side (first_part n.side) then None else Some (record n { side = first_part n.side }))

@@ -3,17 +3,17 @@ use Rattle.std.specs.Prelude.{if◌then◌else◌, List, [], ◌∷◌, map, Som
 use Rattle.std.specs.Option.{option_map}
 use Rattle.ep_int.specs.declared.types.Model.{Model}
 use Rattle.ep_cells.specs.declared.cell.Cell.{Cell}
-use Rattle.ep_cells.specs.declared.place.Place.{Place}
+use Rattle.ep_cells.specs.declared.place.ByteRange.{ByteRange}
 use Rattle.ep_cells.specs.Cells.{place_of, place_of_name, touches, side_without, with_side, put, each_becomes}
 use Rattle.ep_cells.specs.Forms.{Fate, reformed}
 
 -- A cell in the place is gone on the sides written. A Shared one that is overwritten on one side is one of the other
 -- side.
-abbrev pub left_by_write : {N : Type 0} → Model → Place → Cell N → List (Cell N)
+abbrev pub left_by_write : {N : Type 0} → Model → ByteRange → Cell N → List (Cell N)
 left_by_write d p x = if touches p (place_of d x) then with_side x (side_without p.side x.side) else x ∷ []
 
 -- mentions follow the cell, or go with it
-abbrev pub fate_by_write : Place → Fate
+abbrev pub fate_by_write : ByteRange → Fate
 fate_by_write p n =
     if touches p (place_of_name n) then option_map (λ s. record n { side = s }) (side_without p.side n.side) else
     Some n

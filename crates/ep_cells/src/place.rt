@@ -4,7 +4,7 @@ use ep_bitslice::Side;
 
 /// So many bytes of a block, on a side.
 #[derive(Clone, Copy, Debug)]
-pub struct Place {
+pub struct ByteRange {
     pub side: Side,
     pub block: u32,
     /// In bytes, from the start of the block.

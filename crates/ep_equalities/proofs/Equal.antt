@@ -1,5 +1,7 @@
 -- Values that are surely the same are equal.
 use Rattle.std.proofs.Common.{◌≡◌, ℕ, ◌^◌, ℤ, pos, Bool, true, false, ◌&&◌, ◌||◌, not, nat_eq, cond, List, [], ◌∷◌}
+use Rattle.ep_cells.proofs.Reshare.{same_residue}
+use Rattle.std.proofs.lemmas.Bool.{not-true}
 use Rattle.std.proofs.Common.{⊎_elim, Option, Some, None, IfSome, IsSomeAnd, refl, sym, ◌∙◌, ap, subst, arith}
 use Rattle.std.specs.List.{list_any}
 use Rattle.std.specs.Ordering.{int_eq}
@@ -9,9 +11,8 @@ use Rattle.std.proofs.lemmas.Int.{ints}
 use Rattle.ep_int.specs.declared.types.IntType.{IntType}
 use Rattle.ep_int.specs.declared.types.Scalar.{Scalar}
 use Rattle.ep_int.specs.declared.types.Scalar.TheVariants.{Int, Pointer}
-use Rattle.ep_int.specs.Types.{bits_of, residue, represented, InRange}
+use Rattle.ep_int.specs.Types.{InRange}
 use Rattle.ep_int.specs.Memory.{Value as Datum, int, null, pointer}
-use Rattle.ep_int.proofs.Wrapping.{represented_representation}
 use Rattle.ep_bitslice.specs.declared.segment.Segment.{Segment}
 use Rattle.ep_bitslice.specs.Bits.{Numbers}
 use Rattle.ep_domain.specs.Domain.{Ops, Lawful}
@@ -23,19 +24,15 @@ use Rattle.ep_cells.specs.declared.cell.Value.TheVariants.{Num, Ptr}
 use Rattle.ep_cells.specs.Forms.{have_same_form}
 use Rattle.ep_cells.specs.Meaning.{Allows}
 use Rattle.ep_cells.specs.Reshare.{are_one_number, is_single}
-use Rattle.ep_cells_laws.proofs.Both.{segments_same}
+use Rattle.ep_cells.proofs.Both.{segments_same}
 use Rattle.ep_reads.specs.Bytes.{has_targets, is_null_alone}
 use Rattle.ep_equalities.specs.declared.pair.PairValue.{PairValue}
 use Rattle.ep_equalities.specs.Pairs.{HasFormNumber, AreEqualIf}
 use Rattle.ep_equalities.specs.Same.{are_one_offset, are_one_target, are_one_place, are_one_pointer, is_same}
 
-not_true : (b : Bool) → not b ≡ true → b ≡ false
-not_true true h = absurd (cc)
-not_true false h = refl
-
 -- ---- numbers in ranges of one number
 
-in_single : (r : ℤ × ℤ) (z : ℤ) → is_single r ≡ true → LiesIn r z → z ≡ r.0
+pub in_single : (r : ℤ × ℤ) (z : ℤ) → is_single r ≡ true → LiesIn r z → z ≡ r.0
 in_single r z h l =
     let e : r.0 ≡ r.1 = (Decides-int_eq r.0 r.1).0 h in
     let low = l.low in
@@ -54,12 +51,6 @@ one_offset D law a b x y h i j =
 
 -- ---- one form
 
--- numbers of one type with one residue are one
-one_residue : (t : IntType) (x y : ℤ) → InRange t x → InRange t y
-    → residue (2 ^ bits_of t) x ≡ residue (2 ^ bits_of t) y → x ≡ y
-one_residue t x y h k e =
-    sym (represented_representation t x h) ∙ (ap (represented t) e ∙ represented_representation t y k)
-
 pub allowed_number : {N : Type 0} (D : Ops N) (t : IntType) (v : Option (Value N)) (x : ℤ)
     → Allows D (Int t) v false (Some (int x)) → InRange t x
 allowed_number D t None x h = absurd (cc)
@@ -70,7 +61,7 @@ of_one_form : {N : Type 0} (D : Ops N) (n : Numbers) (w : Scalar) (u v : Option 
     → (ss : List Segment) → Allows D w u false (Some x) → Allows D w v false (Some y) → HasFormNumber n w x ss
     → HasFormNumber n w y ss → x ≡ y
 of_one_form D n (Int t) u v (int x) (int y) ss h k i j =
-    ap int (one_residue t x y (allowed_number D t u x h) (allowed_number D t v y k) (i ∙ sym j))
+    ap int (same_residue t x y (allowed_number D t u x h) (allowed_number D t v y k) (i ∙ sym j))
 of_one_form D n (Int t) u v null y ss h k i j = absurd i
 of_one_form D n (Int t) u v (pointer b q) y ss h k i j = absurd i
 of_one_form D n (Int t) u v (int x) null ss h k i j = absurd j
@@ -119,7 +110,7 @@ only_null D p (int z) h k = absurd k
 only_null D p null h k = refl
 only_null D p (pointer c q) h k =
     let e = and_parts p.null (not (has_targets p)) h in
-    let f : p.targets ≡ [] = nothing p.targets (not_true (has_targets p) e.1) in
+    let f : p.targets ≡ [] = nothing p.targets (not-true (has_targets p) e.1) in
     absurd (subst (λ ts. IsSomeAnd (offset_at ts c) (λ n. HoldsNumber D n (pos q))) f k)
 
 -- the block and the offset of a pointer into one target
@@ -170,7 +161,7 @@ in_one_place D law p q x y e h k = ⊎_elim
     only_null D p x n.0 h ∙ sym (only_null D q y n.1 k))
     (λ one. let n = and_parts (not p.null) (not q.null && are_one_target D p.targets q.targets) one in
     let m = and_parts (not q.null) (are_one_target D p.targets q.targets) n.1 in
-    in_one_target D law p q p.targets q.targets x y refl refl (not_true p.null n.0) (not_true q.null m.0) m.1 h k)
+    in_one_target D law p q p.targets q.targets x y refl refl (not-true p.null n.0) (not-true q.null m.0) m.1 h k)
     (or_cases (is_null_alone p && is_null_alone q) (not p.null && (not q.null && are_one_target D p.targets q.targets))
     e)
 

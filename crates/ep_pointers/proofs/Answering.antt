@@ -1,5 +1,6 @@
 -- What a comparison may answer: each pair of pointers has its answer, and two values with one member have one.
 use Rattle.std.proofs.Common.{◌≡◌, ℕ, ℤ, pos, Bool, true, false, ◌&&◌, ◌||◌, not, eqb, List, [], ◌∷◌, refl, ap, ◌∙◌}
+use Rattle.std.proofs.lemmas.Bool.{and_from, or_left, or_right}
 use Rattle.std.proofs.Common.{Option, Some, None, is_some, IsSomeAnd, arith}
 use Rattle.std.specs.Prelude.{int_le, int_lt}
 use Rattle.std.specs.List.{list_any}
@@ -18,28 +19,18 @@ use Rattle.ep_pointers.proofs.Lists.{less, equals, more, order}
 use Rattle.ep_pointers.proofs.Moving.{found}
 use Rattle.ep_pointers.proofs.Leaving.{any_at}
 
-or_left : (a b : Bool) → a ≡ true → (a || b) ≡ true
-or_left a b e = rw e refl
-
-or_right : (a b : Bool) → b ≡ true → (a || b) ≡ true
-or_right true b e = refl
-or_right false b e = e
-
-both : (a b : Bool) → a ≡ true → b ≡ true → (a && b) ≡ true
-both a b e f = rw (e, f) refl
-
 gives_same : (r : Option Bool) → gives r r ≡ true
 gives_same None = refl
 gives_same (Some true) = refl
 gives_same (Some false) = refl
 
-not_le : (x y : ℤ) → int_le y x ≡ not (int_lt x y)
+pub not_le : (x y : ℤ) → int_le y x ≡ not (int_lt x y)
 not_le x y = grind (arith, ints)
 
-not_lt : (x y : ℤ) → int_lt y x ≡ not (int_le x y)
+pub not_lt : (x y : ℤ) → int_lt y x ≡ not (int_le x y)
 not_lt x y = grind (arith, ints)
 
-not_not : (b : Bool) → b ≡ not (not b)
+pub not_not : (b : Bool) → b ≡ not (not b)
 not_not true = refl
 not_not false = refl
 
@@ -53,10 +44,10 @@ opposite_is Ge x y = not_lt y x
 
 module _ {N : Type 0} where
   elsewhere_alike : (c : Cmp) (p q : Pointers N) → may_be_alike p q ≡ true → elsewhere c (when_alike c) p q ≡ true
-  elsewhere_alike c p q h = or_left _ _ (both _ _ h (gives_same (when_alike c)))
+  elsewhere_alike c p q h = or_left _ _ (and_from _ _ h (gives_same (when_alike c)))
 
   elsewhere_apart : (c : Cmp) (p q : Pointers N) → may_be_apart p q ≡ true → elsewhere c (when_apart c) p q ≡ true
-  elsewhere_apart c p q h = or_right _ _ (both _ _ h (gives_same (when_apart c)))
+  elsewhere_apart c p q h = or_right _ _ (and_from _ _ h (gives_same (when_apart c)))
 
   targets_there : (ts : List (Target N)) (b : ℕ) (n : N) → offset_at ts b ≡ Some n → has_targets ts ≡ true
   targets_there [] b n e = absurd cc
@@ -97,15 +88,15 @@ module _ {N : Type 0} (d : Ops N) (law : Lawful d) where
   pub pair_answers : (c : Cmp) (p q : Pointers N) (x y : Pointer) → HoldsPointer d p x → HoldsPointer d q y
       → Answers (pointers_compare c x y) (comparison_of d c p q)
   pair_answers c p q null_pointer null_pointer h k = answered c p q (when_alike c)
-      (elsewhere_alike c p q (both _ _ h k))
+      (elsewhere_alike c p q (and_from _ _ h k))
   pair_answers c p q null_pointer (into b o) h k =
       let m = found (offset_at q.targets b) (λ n. Holds d n (pos o)) k in
       answered c p q (when_apart c) (elsewhere_apart c p q (or_left _ _
-      (or_left _ _ (both _ _ h (targets_there q.targets b m.n m.is)))))
+      (or_left _ _ (and_from _ _ h (targets_there q.targets b m.n m.is)))))
   pair_answers c p q (into b o) null_pointer h k =
       let n = found (offset_at p.targets b) (λ n. Holds d n (pos o)) h in
       answered c p q (when_apart c) (elsewhere_apart c p q (or_left _ _
-      (or_right _ _ (both _ _ (targets_there p.targets b n.n n.is) k))))
+      (or_right _ _ (and_from _ _ (targets_there p.targets b n.n n.is) k))))
   pair_answers c p q (into b o) (into b' o') h k =
       let n = found (offset_at p.targets b) (λ n. Holds d n (pos o)) h in
       let m = found (offset_at q.targets b') (λ n. Holds d n (pos o')) k in

@@ -1,5 +1,6 @@
 -- Comparisons: pointers into two blocks, what the answers mean, and values with one member.
 use Rattle.std.proofs.Common.{◌≡◌, ℕ, suc, Bool, true, false, ◌||◌, not, eqb, ltb, List, [], ◌∷◌, length, slice_get}
+use Rattle.ep_int.proofs.Basics.{or-true}
 use Rattle.std.proofs.Common.{refl, sym, ap, subst, Some, None, arith}
 use Rattle.std.proofs.lemmas.Bool.{lt-ltb}
 use Rattle.ep_pointers.specs.Value.{Target, IsRising}
@@ -8,10 +9,6 @@ use Rattle.ep_pointers.proofs.Lists.{less, equals, more, order, below}
 
 two : (n : ℕ) → ltb 1 (suc (suc n)) ≡ true
 two n = lt-ltb 1 (suc (suc n)) (omega arith)
-
-or_true : (b : Bool) → (b || true) ≡ true
-or_true true = refl
-or_true false = refl
 
 module _ {N : Type 0} where
   pub none_in_two : (ts : List (Target N)) → in_two_blocks ts [] ≡ false
@@ -25,7 +22,7 @@ module _ {N : Type 0} where
   two_blocks : (s t : Target N) (ss ts : List (Target N)) → IsRising (s ∷ ss) → IsRising (t ∷ ts)
       → may_differ s t (s ∷ ss) (t ∷ ts) ≡ in_two_blocks (s ∷ ss) (t ∷ ts)
   two_blocks s t [] [] r q = refl
-  two_blocks s t ss (u ∷ ts) r q = rw (two (length ts), or_true) (sym found)
+  two_blocks s t ss (u ∷ ts) r q = rw (two (length ts), or-true) (sym found)
     where
       found : in_two_blocks (s ∷ ss) (t ∷ u ∷ ts) ≡ true
       found = elim (order s.0 t.0) [
@@ -33,7 +30,7 @@ module _ {N : Type 0} where
         | more o ↦ rw (o.differs') refl
         | equals o ↦ let p = below s.0 u.0 (omega (arith, o.eq, q.0.0)) in rw (o.equal, p.differs) refl
       ]
-  two_blocks s t (v ∷ ss) [] r q = rw (two (length ss), or_true) (sym found)
+  two_blocks s t (v ∷ ss) [] r q = rw (two (length ss), or-true) (sym found)
     where
       found : in_two_blocks (s ∷ v ∷ ss) (t ∷ []) ≡ true
       found = elim (order s.0 t.0) [

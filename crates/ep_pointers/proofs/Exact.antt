@@ -1,5 +1,6 @@
 -- The exact result of a number of units fits, and lies between those of the ends of ranges.
 use Rattle.std.proofs.Common.{◌≡◌, ℕ, ◌<◌, ℤ, pos, negsuc, ◌+ℤ◌, ◌-ℤ◌, ◌*ℤ◌, ◌≤ℤ◌, sym, subst, FitsSigned, arith}
+use Rattle.ep_range_laws.proofs.Comparisons.{le_trans}
 use Rattle.std.specs.Int.{w128}
 use Rattle.std.proofs.lemmas.Int.{ints}
 use Rattle.ep_int.specs.Arith.{IsOfSomeType}
@@ -21,9 +22,6 @@ fits_at : (o p : ℤ) → negsuc 9223372036854775807 ≤ℤ o → o ≤ℤ pos 1
     → negsuc 39614081257132168796771975167 ≤ℤ p → p ≤ℤ pos 79228162514264337593543950336
     → FitsSigned w128 p × FitsSigned w128 (o +ℤ p) × FitsSigned w128 (o -ℤ p)
 fits_at o p a b c e = (omega (arith, ints), omega (arith, ints), omega (arith, ints))
-
-le_trans : (a b c : ℤ) → a ≤ℤ b → b ≤ℤ c → a ≤ℤ c
-le_trans a b c h k = omega (arith, ints)
 
 pub fits : (o y : ℤ) (u : ℕ) → IsOfSomeType o → IsOfSomeType y → u < 4294967296 → Fits o y u
 fits o y u a b h =

@@ -1,9 +1,9 @@
 -- What ranges allow outside a block, and the least range of the results.
 use Rattle.std.proofs.Common.{◌≡◌, ℕ, ℤ, ◌+ℤ◌, ◌-ℤ◌, ◌≤ℤ◌, ◌<ℤ◌, Bool, true, false, ◌||◌, IsTrue, List, [], ◌∷◌}
+use Rattle.ep_range_laws.proofs.Comparisons.{from_lt_true, le_self, lt_true, max_is, min_is}
+use Rattle.std.proofs.lemmas.Bool.{or_cases, or_left, or_right}
 use Rattle.std.proofs.Common.{slice_get, fold, refl, sym, ◌∙◌, subst, Option, Some, None, ◌⊎◌, inl, inr, ◌↔◌, arith}
-use Rattle.std.specs.Prelude.{int_lt}
 use Rattle.std.specs.List.{list_any}
-use Rattle.std.specs.Int.{int_min, int_max}
 use Rattle.std.proofs.lemmas.Int.{ints, clamps}
 use Rattle.ep_domain.specs.Domain.{Ops, Lawful}
 use Rattle.ep_range_laws.specs.Ranges.{LiesIn}
@@ -21,26 +21,6 @@ sum_between l x h a p b i j k m = record { low = omega (arith, ints); high = ome
 difference_between : (l x h a p b : ℤ) → l ≤ℤ x → x ≤ℤ h → a ≤ℤ p → p ≤ℤ b → LiesIn (l -ℤ b, h -ℤ a) (x -ℤ p)
 difference_between l x h a p b i j k m = record { low = omega (arith, ints); high = omega (arith, ints) }
 
-le_self : (v : ℤ) → v ≤ℤ v
-le_self v = omega (arith, ints)
-
-or_cases : (a b : Bool) → (a || b) ≡ true → (a ≡ true) ⊎ (b ≡ true)
-or_cases true b e = inl refl
-or_cases false b e = inr e
-
-or_left : (a b : Bool) → a ≡ true → (a || b) ≡ true
-or_left a b e = rw e refl
-
-or_right : (a b : Bool) → b ≡ true → (a || b) ≡ true
-or_right true b e = refl
-or_right false b e = e
-
-lt_from : (a b : ℤ) → int_lt a b ≡ true → a <ℤ b
-lt_from a b e = grind (arith, ints)
-
-lt_to : (a b : ℤ) → a <ℤ b → int_lt a b ≡ true
-lt_to a b h = grind (arith, ints)
-
 le_lt : (a b c : ℤ) → a ≤ℤ b → b <ℤ c → a <ℤ c
 le_lt a b c h k = omega (arith, ints)
 
@@ -50,16 +30,16 @@ lt_le a b c h k = omega (arith, ints)
 -- a range in which some numbers lie outside
 leaves_from : (size : Option ℕ) (e : ℤ × ℤ) (v : ℤ) → LiesIn e v → IsOutside size v → leaves size e ≡ true
 leaves_from None e v l o = refl
-leaves_from (Some size) e v l (inl h) = or_left _ _ (lt_to _ _ (le_lt _ _ _ l.low h))
-leaves_from (Some size) e v l (inr h) = or_right _ _ (lt_to _ _ (lt_le _ _ _ h l.high))
+leaves_from (Some size) e v l (inl h) = or_left _ _ (lt_true _ _ (le_lt _ _ _ l.low h))
+leaves_from (Some size) e v l (inr h) = or_right _ _ (lt_true _ _ (lt_le _ _ _ h l.high))
 
 -- an end is outside
 leaves_at : (size : Option ℕ) (e : ℤ × ℤ) → leaves size e ≡ true → IsOutside size e.0 ⊎ IsOutside size e.1
 leaves_at None e h = inl tt
 leaves_at (Some size) e h = elim (or_cases _ _ h) [
-  | inl f ↦ inl (inl (lt_from _ _ f))
+  | inl f ↦ inl (inl (from_lt_true _ _ f))
   | inr f ↦ inr
-      (inr (lt_from _ _ f))
+      (inr (from_lt_true _ _ f))
 ]
 
 hull_left : (r s : ℤ × ℤ) (v : ℤ) → LiesIn r v → LiesIn (hull r s) v
@@ -75,20 +55,6 @@ hull_right r s v l = let a = l.low in let b = l.high in record {
   high = omega
       (arith, ints, clamps);
 }
-
-min_is : (a b : ℤ) → (int_min a b ≡ a) ⊎ (int_min a b ≡ b)
-min_is a b = by (int_lt b a) refl
-  where
-    by : (c : Bool) → int_lt b a ≡ c → (int_min a b ≡ a) ⊎ (int_min a b ≡ b)
-    by true e = let h = lt_from b a e in inr (omega (arith, ints, clamps))
-    by false e = let h : a ≤ℤ b = grind (arith, ints) in inl (omega (arith, ints, clamps))
-
-max_is : (a b : ℤ) → (int_max a b ≡ a) ⊎ (int_max a b ≡ b)
-max_is a b = by (int_lt a b) refl
-  where
-    by : (c : Bool) → int_lt a b ≡ c → (int_max a b ≡ a) ⊎ (int_max a b ≡ b)
-    by true e = let h = lt_from a b e in inr (omega (arith, ints, clamps))
-    by false e = let h : b ≤ℤ a = grind (arith, ints) in inl (omega (arith, ints, clamps))
 
 -- ---- targets of a list
 

@@ -1,5 +1,7 @@
 -- What a sum of a pointer and a number of units holds.
 use Rattle.std.proofs.Common.{◌≡◌, ℕ, suc, ◌*◌, ◌<◌, ◌≤◌, ℤ, pos, negsuc, neg_ℤ, ◌+ℤ◌, ◌-ℤ◌, ◌*ℤ◌, ◌≤ℤ◌, Bool, true}
+use Rattle.ep_int.proofs.Arithmetic.{le_fact, le_test}
+use Rattle.ep_range_laws.proofs.Corners.{from_le_pos}
 use Rattle.std.proofs.Common.{false, eqb, if◌then◌else◌, IsTrue, List, [], ◌∷◌, slice_get, get_or, refl, sym, ap, ◌∙◌}
 use Rattle.std.proofs.Common.{subst, Option, Some, None, IsSomeAnd, Ok, Err, MatchResult, arith}
 use Rattle.std.proofs.Math.Nat.{mul-le-mul_left}
@@ -12,7 +14,6 @@ use Rattle.ep_int.specs.declared.types.Undef.TheVariants.{Overflow}
 use Rattle.ep_int.specs.Types.{InRange}
 use Rattle.ep_int.specs.Arith.{is_in_range, IsOfSomeType}
 use Rattle.ep_domain.specs.Domain.{Ops, Holds, Lawful}
-use Rattle.ep_range_laws.proofs.Comparisons.{le_true, from_le_true}
 use Rattle.std.proofs.lemmas.Bool.{and_from, and_parts}
 use Rattle.ep_pointers.specs.declared.sum.Move.{Move}
 use Rattle.ep_pointers.specs.Value.{Target, Pointers, pointers, AreAbove, IsRising, offset_at, HoldsPointer, into}
@@ -23,10 +24,10 @@ use Rattle.ep_pointers.proofs.Lists.{less, equals, more, order, same, none_above
 -- ---- numbers
 
 pub in_range_true : (v : ℤ) → InRange I64 v → is_in_range I64 v ≡ true
-in_range_true v i = and_from _ _ (le_true _ _ i.low) (le_true _ _ i.high)
+in_range_true v i = and_from _ _ (le_test _ _ i.low) (le_test _ _ i.high)
 
 pub in_range_from : (v : ℤ) → is_in_range I64 v ≡ true → InRange I64 v
-in_range_from v e = let p = and_parts _ _ e in record { low = from_le_true _ _ p.0; high = from_le_true _ _ p.1 }
+in_range_from v e = let p = and_parts _ _ e in record { low = le_fact _ _ p.0; high = le_fact _ _ p.1 }
 
 -- from -2^32 to 2^32
 record Small (v : ℤ) : Type 0 where
@@ -36,19 +37,16 @@ record Small (v : ℤ) : Type 0 where
 small_in_range : (v : ℤ) → Small v → InRange I64 v
 small_in_range v s = let l = s.low in let h = s.high in record { low = omega (arith, ints); high = omega (arith, ints) }
 
-le_pos : (m n : ℕ) → pos m ≤ℤ pos n → m ≤ n
-le_pos m n h = omega (arith, ints)
-
 le_neg : (m n : ℕ) → negsuc n ≤ℤ neg_ℤ (pos m) → m ≤ suc n
 le_neg m n h = omega (arith, ints)
 
-at_least : (k u : ℕ) → 1 ≤ u → k ≤ k * u
+pub at_least : (k u : ℕ) → 1 ≤ u → k ≤ k * u
 at_least k u h = let g : k * 1 ≤ k * u = mul-le-mul_left k h in omega arith
 
 -- a factor of a small product is small
 small_factor : (y : ℤ) (u : ℕ) → 1 ≤ u → Small (y *ℤ pos u) → Small y
 small_factor (pos k) u h s =
-    let g : k * u ≤ 4294967296 = le_pos (k * u) 4294967296 s.high in
+    let g : k * u ≤ 4294967296 = from_le_pos (k * u) 4294967296 s.high in
     let f : k ≤ k * u = at_least k u h in
     record { low = omega (arith, ints); high = omega (arith, ints) }
 small_factor (negsuc k) u h s =
@@ -75,7 +73,7 @@ offset_of_some_type o h = record { low = omega (arith, ints); high = omega (arit
 
 -- ---- results of arithmetic
 
-settled_in : (v : ℤ) (A : ℤ → Type 0) (B : Type 0) → InRange I64 v
+pub settled_in : (v : ℤ) (A : ℤ → Type 0) (B : Type 0) → InRange I64 v
     → MatchResult (if is_in_range I64 v then Ok v else Err Overflow) A (λ (_ : Undef). B) → A v
 settled_in v A B i h = by (is_in_range I64 v) (in_range_true v i) h
   where

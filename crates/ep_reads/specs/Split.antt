@@ -18,7 +18,7 @@ use Rattle.ep_pointers.specs.Value.{Pointers}
 use Rattle.ep_cells.specs.declared.cell.Cell.{Cell}
 use Rattle.ep_cells.specs.declared.cell.Value.{Value}
 use Rattle.ep_cells.specs.declared.cell.Value.TheVariants.{Num, Ptr}
-use Rattle.ep_cells.specs.declared.place.Place.{Place}
+use Rattle.ep_cells.specs.declared.place.ByteRange.{ByteRange}
 use Rattle.ep_cells.specs.Cells.{each_becomes, is_partly_in, is_same_cell, is_same_scalar, is_same_side, place_of}
 use Rattle.ep_cells.specs.Cells.{put_all, side_without, with_side}
 use Rattle.ep_cells.specs.Forms.{Fate, reformed}
@@ -103,7 +103,7 @@ split_cell D k s x cs =
 -- ---- a place
 
 -- the cells that lie partly in the place, in order
-abbrev pub cut_cells : {N : Type 0} → Model → Place → List (Cell N) → List (Cell N)
+abbrev pub cut_cells : {N : Type 0} → Model → ByteRange → List (Cell N) → List (Cell N)
 cut_cells d p cs = filter (λ x. is_partly_in p (place_of d x)) cs
 
 -- the cell like this one, as it is now
@@ -116,5 +116,5 @@ split_all D k s [] cs = cs
 split_all D k s (x ∷ xs) cs = split_all D k s xs (split_like D k s x cs)
 
 -- the place is one of the left or of the right side
-abbrev pub split : {N : Type 0} → Ops N → Known N → Place → List (Cell N)
+abbrev pub split : {N : Type 0} → Ops N → Known N → ByteRange → List (Cell N)
 split D k p = split_all D k p.side (cut_cells k.model p k.cells) k.cells

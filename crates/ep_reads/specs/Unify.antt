@@ -10,7 +10,7 @@ use Rattle.ep_int.specs.declared.types.Scalar.TheVariants.{Int, Pointer}
 use Rattle.ep_bitslice.specs.declared.cell.Side.TheVariants.{Left, Shared}
 use Rattle.ep_domain.specs.Domain.{Ops}
 use Rattle.ep_cells.specs.declared.cell.Cell.{Cell}
-use Rattle.ep_cells.specs.declared.place.Place.{Place}
+use Rattle.ep_cells.specs.declared.place.ByteRange.{ByteRange}
 use Rattle.ep_cells.specs.Cells.{each_becomes, is_same_cell, is_same_side, meets, parts_of, place_of, place_of_name}
 use Rattle.ep_cells.specs.Cells.{put_all}
 use Rattle.ep_cells.specs.Forms.{Fate, reformed}
@@ -26,7 +26,7 @@ abbrev pub is_of_one_side : {N : Type 0} → Cell N → Bool
 is_of_one_side x = not (is_same_side x.side Shared)
 
 -- a Shared place where one of these cells of one side has a byte
-abbrev pub faces : {N : Type 0} → Model → List (Cell N) → Place → Bool
+abbrev pub faces : {N : Type 0} → Model → List (Cell N) → ByteRange → Bool
 faces {N = N} d ys p =
     is_same_side p.side Shared && list_any (λ (y : Cell N). is_of_one_side y && meets p (place_of d y)) ys
 

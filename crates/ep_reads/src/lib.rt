@@ -1,7 +1,8 @@
-//! What is read of the cells of two memories, how cells are split, and how two states are made alike: definitions
-//! alone.
+//! What is read of cells, how cells are split, and steps of single cells: definitions and laws.
 #![tactic(auto)]
 
+mod laws;
 mod read;
 
+pub use laws::{read_laws, split_laws, step_laws, unify_laws};
 pub use read::ReadValue;

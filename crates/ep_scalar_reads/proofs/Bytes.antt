@@ -21,7 +21,7 @@ use Rattle.ep_bitslice.proofs.Parts.{part_length}
 use Rattle.ep_reads.specs.declared.read.ReadValue.{ReadValue}
 use Rattle.ep_reads.specs.Bytes.{byte_form}
 use Rattle.ep_reads.specs.Read.{appended, bits_of_all}
-use Rattle.ep_reads_laws.proofs.Slices.{width-normal}
+use Rattle.ep_reads.proofs.Slices.{width-normal}
 use Rattle.ep_scalar_reads.specs.Parts.{HasByte, HaveByteForms, form_with}
 
 pub has_byte : (d : Model) (w : Scalar) (p : ℕ) → p < size_of d w → HasByte w p

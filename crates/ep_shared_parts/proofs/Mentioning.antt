@@ -1,5 +1,6 @@
 -- What is noted of forms, and who uses what.
 use Rattle.std.proofs.Common.{◌≡◌, ℕ, zero, suc, ◌+◌, ◌-◌, ◌*◌, ◌%◌, ◌<◌, ◌≤◌, Bool, true, false, cond, ◌&&◌, ◌||◌}
+use Rattle.ep_int.proofs.Basics.{append-nil}
 use Rattle.std.proofs.Common.{nat_eq, nat_le, List, [], ◌∷◌, ◌++◌, append_assoc, get_or, length, drop, map, ⊎_elim}
 use Rattle.std.proofs.Common.{refl, sym, ◌∙◌, ap, subst, arith}
 use Rattle.std.specs.List.{list_any, insert}
@@ -62,10 +63,6 @@ none_above from last k (u ∷ us) e h =
     let l : last < u.of = omega (arith, e, h.0, b) in
     grind (arith, nat_tests, l, none_above from last k us e h.1)
 
-nothing_behind : (xs : List ℕ) → xs ++ [] ≡ xs
-nothing_behind [] = refl
-nothing_behind (x ∷ xs) = ap (λ ys. x ∷ ys) (nothing_behind xs)
-
 pub users_window : (from last k m : ℕ) (ps w : List (Part Use)) → k ≡ 18446744073709551616 * from
     → m ≡ 18446744073709551616 * last + 18446744073709551615 → IsWindow number_of_use k m ps w
     → users_in from last (all_items w) ≡ users_in from last (all_items ps)
@@ -78,7 +75,7 @@ users_window from last k m ps w ek em i =
     ∙ users_append from last (all_items w) (all_items i.behind)
     ∙ ap (λ xs. users_in from last (all_items w) ++ xs) (none_above from last m (all_items i.behind) em
     i.above)
-    ∙ nothing_behind (users_in from last (all_items w)) in
+    ∙ append-nil (users_in from last (all_items w)) in
     sym (ap (users_in from last) whole ∙ parts)
 
 pub found_user : (from last : ℕ) (u : Use) (us : List Use) → IsNoted us u → from ≤ u.of → u.of ≤ last
@@ -161,4 +158,4 @@ users_step from last ps i p out new us whole n u b e h =
 pub users_end : (from last : ℕ) (ps : List (Part Use)) (i : ℕ) (out whole : List ℕ) → length ps ≤ i
     → out ++ users_in from last (all_items (drop i ps)) ≡ whole → out ≡ whole
 users_end from last ps i out whole le h =
-    sym (nothing_behind out) ∙ sym (ap (λ zs. out ++ users_in from last (all_items zs)) (drop_of_length-le ps le)) ∙ h
+    sym (append-nil out) ∙ sym (ap (λ zs. out ++ users_in from last (all_items zs)) (drop_of_length-le ps le)) ∙ h

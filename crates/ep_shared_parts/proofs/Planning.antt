@@ -1,5 +1,6 @@
 -- Parts that take the places of others: what all items come to.
 use Rattle.std.proofs.Common.{◌≡◌, ℕ, zero, suc, ◌<◌, ◌≤◌, ◌-◌, Bool, true, false, ◌||◌, ◌⊎◌, inl, inr, nat_eq, List}
+use Rattle.std.proofs.lemmas.List.{get_or_default}
 use Rattle.std.proofs.Common.{[], ◌∷◌, ◌++◌, map, length, take, drop, set, get_or, ⊎_elim, refl, sym, ◌∙◌, ap, subst}
 use Rattle.std.proofs.Common.{arith}
 use Rattle.std.proofs.lemmas.Bool.Decides.{nat_tests}
@@ -22,11 +23,6 @@ pub edits_append : {X : Type 0} (h : List X → List X) (ps : List (Part X)) (es
 edits_append h ps [] fs a b = b
 edits_append h ps (e ∷ es) fs a b = (a.0, edits_append h ps es fs a.1 b)
 
-pub same_default : {X : Type 0} (xs : List X) (i : ℕ) (d e : X) → i < length xs → get_or xs i d ≡ get_or xs i e
-same_default [] i d e h = absurd (omega arith)
-same_default (x ∷ xs) zero d e h = refl
-same_default (x ∷ xs) (suc i) d e h = same_default xs i d e (omega arith)
-
 pub record IsDone {X : Type 0} (h : List X → List X) (p q : Part X) : Type 0 where
   pub start : q.start ≡ p.start
   pub items : q.items.value.items ≡ h p.items.value.items
@@ -39,7 +35,7 @@ edit_done h ps qs e i d a l q =
       a.within,
       l,
     )) in
-    let there : get_or ps e.at e.part ≡ get_or ps e.at d = same_default ps e.at e.part d a.within in
+    let there : get_or ps e.at e.part ≡ get_or ps e.at d = get_or_default ps e.at e.part d a.within in
     let done : IsDone h (get_or ps e.at d) (get_or (set qs e.at e.part) e.at d) = record {
       start = ap (λ z. z.start) here ∙ a.start ∙ ap (λ z. z.start) there;
       items = ap (λ z. z.items.value.items) here ∙ a.items ∙ ap (λ z. h z.items.value.items) there;
@@ -220,7 +216,7 @@ pub edit_of : {X : Type 0} (h : List X → List X) (ps : List (Part X)) (i : ℕ
     → p ≡ get_or ps i p → q.start ≡ p.start → q.items.value.items ≡ h p.items.value.items
     → IsEdit h ps (record { at = i; part = q })
 edit_of h ps i p q b e s t =
-    let same : p ≡ get_or ps i q = e ∙ same_default ps i p q b in
+    let same : p ≡ get_or ps i q = e ∙ get_or_default ps i p q b in
     record {
       within = b;
       start = s ∙ ap (λ z. z.start) same;

@@ -1,5 +1,6 @@
 -- The cells that begin at an offset, and the places of Left cells.
 use Rattle.std.proofs.Common.{◌≡◌, ℕ, ◌+◌, nat_eq, nat_lt, Bool, true, false, ◌&&◌, cond, List, [], ◌∷◌, ◌++◌}
+use Rattle.ep_int.proofs.Basics.{size_positive}
 use Rattle.std.proofs.Common.{append_assoc, Some, refl, sym, ◌∙◌, ap, arith}
 use Rattle.std.proofs.lemmas.Bool.{and_parts, and_from, eqb-true, eq-eqb, lt-ltb, false_from_ne_true, both_ways}
 use Rattle.ep_int.specs.declared.types.Model.{Model}
@@ -9,7 +10,7 @@ use Rattle.ep_bitslice.specs.declared.cell.Side.TheVariants.{Left, Shared}
 use Rattle.ep_cells.specs.declared.cell.Cell.{Cell}
 use Rattle.ep_cells.specs.Cells.{place_of, touches, is_same_side, IsIn, first, later}
 use Rattle.ep_cells.specs.Reshare.{cell_from, places}
-use Rattle.ep_cells_laws.proofs.Places.{at, size_positive}
+use Rattle.ep_cells.proofs.Places.{at}
 use Rattle.ep_cell_parts.specs.About.{IsAbout}
 
 abbrev is_from : {N : Type 0} → Side → (b q : ℕ) → Cell N → Bool

@@ -8,13 +8,13 @@ use Rattle.ep_bitslice.specs.Bits.{side_number}
 use Rattle.ep_cells.specs.declared.cell.Cell.{Cell}
 use Rattle.ep_cells.specs.Cells.{comes_before, key_of, is_same_cell, IsIn, first, later}
 use Rattle.ep_cells.specs.Both.{cell_like}
-use Rattle.ep_cells_laws.proofs.Lists.{each_at}
-use Rattle.ep_cells_laws.proofs.Places.{before_true, before_from, before_trans, not_both}
-use Rattle.ep_cells_laws.proofs.Both.{alike_same}
+use Rattle.ep_cells.proofs.Lists.{each_at}
+use Rattle.ep_cells.proofs.Places.{before_true, before_from, before_trans, not_both}
+use Rattle.ep_cells.proofs.Both.{alike_same}
 use Rattle.ep_cell_changes.specs.Tests.{IsBefore, AreInOrder}
-use Rattle.ep_step_laws.specs.Single.{without_like}
-use Rattle.ep_step_laws.proofs.Members.{same_back}
-use Rattle.ep_step_laws.proofs.Liked.{has_like}
+use Rattle.ep_reads.specs.Single.{without_like}
+use Rattle.ep_reads.proofs.Members.{same_back}
+use Rattle.ep_reads.proofs.Liked.{has_like}
 use Rattle.ep_state_looks.specs.Looks.{from_cell, begins_like}
 
 -- ---- order

@@ -8,39 +8,39 @@ use Rattle.ep_int.specs.Types.{size_of}
 use Rattle.ep_bitslice.specs.declared.cell.Side.TheVariants.{Shared}
 use Rattle.ep_bitslice.specs.declared.cell.Side.{Side}
 use Rattle.ep_cells.specs.declared.cell.Cell.{Cell}
-use Rattle.ep_cells.specs.declared.place.Place.{Place}
+use Rattle.ep_cells.specs.declared.place.ByteRange.{ByteRange}
 use Rattle.ep_cells.specs.Cells.{place_of, share_memory, touches, meets, encloses, is_partly_in, is_same_side}
 use Rattle.ep_cells.specs.Cells.{is_same_cell, IsIn, first, later}
 use Rattle.ep_cells.specs.Both.{cell_like}
-use Rattle.ep_cells_laws.proofs.Places.{at}
-use Rattle.ep_cells_laws.proofs.Both.{alike_same}
+use Rattle.ep_cells.proofs.Places.{at}
+use Rattle.ep_cells.proofs.Both.{alike_same}
 use Rattle.ep_reads.specs.Split.{cut_cells}
 use Rattle.ep_reads.specs.Unify.{is_of_one_side, is_crossed}
-use Rattle.ep_split_laws.proofs.Splits.{none_any, meets_itself}
-use Rattle.ep_split_laws.proofs.Sides.{side_same}
+use Rattle.ep_reads.proofs.Splits.{none_any, meets_itself}
+use Rattle.ep_reads.proofs.Sides.{side_same}
 use Rattle.ep_cell_parts.specs.About.{IsAbout}
-use Rattle.ep_step_laws.specs.Single.{facing, shared_where, is_shared_where, shared_at}
-use Rattle.ep_step_laws.proofs.Members.{any_append, place_alike}
-use Rattle.ep_step_laws.proofs.Liked.{shared_place}
-use Rattle.ep_step_laws.proofs.Steps.{any_window}
+use Rattle.ep_reads.specs.Single.{facing, shared_where, is_shared_where, shared_at}
+use Rattle.ep_reads.proofs.Members.{any_append, place_alike}
+use Rattle.ep_reads.proofs.Liked.{shared_place}
+use Rattle.ep_reads.proofs.SingleSteps.{any_window}
 use Rattle.ep_state_looks.specs.Looks.{is_faced}
 
 -- the test holds of no cell that doesn't touch the place
-abbrev Finds : {N : Type 0} → Model → Place → (Cell N → Bool) → Type 0
+abbrev Finds : {N : Type 0} → Model → ByteRange → (Cell N → Bool) → Type 0
 Finds {N} d p P = (x : Cell N) → P x ≡ true → touches p (place_of d x) ≡ true
 
-outside : {N : Type 0} (d : Model) (p : Place) (P : Cell N → Bool) → Finds d p P → (x : Cell N)
+outside : {N : Type 0} (d : Model) (p : ByteRange) (P : Cell N → Bool) → Finds d p P → (x : Cell N)
     → touches p (place_of d x) ≡ false → P x ≡ false
 outside d p P f x e = false_from_ne_true (P x) (λ h. both_ways (touches p (place_of d x)) e (f x h))
 
-filter_about : {N : Type 0} (d : Model) (p : Place) (P : Cell N → Bool) (cs ws : List (Cell N)) → IsAbout d p cs ws
+filter_about : {N : Type 0} (d : Model) (p : ByteRange) (P : Cell N → Bool) (cs ws : List (Cell N)) → IsAbout d p cs ws
     → Finds d p P → filter P ws ≡ filter P cs
 filter_about d p P cs ws a f =
     sym (ap (filter P) a.whole
     ∙ any_window P a.before ws a.behind (λ x i. outside d p P f x (a.below x i)) (λ x i. outside d p P f x (a.above x
     i)))
 
-any_about : {N : Type 0} (d : Model) (p : Place) (P : Cell N → Bool) (cs ws : List (Cell N)) → IsAbout d p cs ws
+any_about : {N : Type 0} (d : Model) (p : ByteRange) (P : Cell N → Bool) (cs ws : List (Cell N)) → IsAbout d p cs ws
     → Finds d p P → list_any P ws ≡ list_any P cs
 any_about {N = N} d p P cs ws a f =
     sym (ap (list_any P) a.whole
@@ -83,7 +83,7 @@ same_touches {N = N} d x y h =
     by false e = absurd (meets_itself d x (and_right (share_memory x.side x.side)
         (touches (place_of d x) (place_of d x)) e))
 
-pub like_about : {N : Type 0} (d : Model) (p : Place) (x : Cell N) (cs ws : List (Cell N)) → p ≡ place_of d x
+pub like_about : {N : Type 0} (d : Model) (p : ByteRange) (x : Cell N) (cs ws : List (Cell N)) → p ≡ place_of d x
     → IsAbout d p cs ws → cell_like x ws ≡ cell_like x cs
 like_about d p x cs ws e a =
     let out = outside d (place_of d x) (λ y. is_same_cell y x) (λ y h. same_touches d x y h) in
@@ -130,7 +130,7 @@ filter_same P Q (c ∷ cs) h =
     ap (λ b. cond b (c ∷ filter P cs) (filter P cs)) (h c)
     ∙ ap (λ l. cond (Q c) (c ∷ l) l) (filter_same P Q cs h)
 
-pub faced_about : {N : Type 0} (d : Model) (p : Place) (y : Cell N) (cs ws out : List (Cell N)) → p ≡ place_of d y
+pub faced_about : {N : Type 0} (d : Model) (p : ByteRange) (y : Cell N) (cs ws out : List (Cell N)) → p ≡ place_of d y
     → IsAbout d p cs ws → out ≡ filter (is_faced d y) ws → out ≡ shared_where (facing d (y ∷ [])) cs
 faced_about d p y cs ws out e a h =
     h
@@ -139,7 +139,7 @@ faced_about d p y cs ws out e a h =
     d y x i))
     ∙ filter_same (is_faced d y) (is_shared_where (facing d (y ∷ []))) cs (λ x. faced_is d y x)
 
-pub crossed_about : {N : Type 0} (d : Model) (p : Place) (x : Cell N) (cs ws : List (Cell N)) → p ≡ place_of d x
+pub crossed_about : {N : Type 0} (d : Model) (p : ByteRange) (x : Cell N) (cs ws : List (Cell N)) → p ≡ place_of d x
     → IsAbout d p cs ws → is_crossed d ws x ≡ is_crossed d cs x
 crossed_about d p x cs ws e a =
     any_about d p (λ y. meets (place_of d x) (place_of d y) && not (is_same_cell x y)) cs ws a
@@ -147,7 +147,7 @@ crossed_about d p x cs ws e a =
     (and_parts (share_memory x.side y.side) (touches (place_of d x) (place_of d y))
     (and_parts (meets (place_of d x) (place_of d y)) (not (is_same_cell x y)) h).0).1)
 
-pub cut_about : {N : Type 0} (d : Model) (p : Place) (cs ws : List (Cell N)) → IsAbout d p cs ws
+pub cut_about : {N : Type 0} (d : Model) (p : ByteRange) (cs ws : List (Cell N)) → IsAbout d p cs ws
     → cut_cells d p ws ≡ cut_cells d p cs
 cut_about d p cs ws a =
     filter_about d p (λ x. is_partly_in p (place_of d x)) cs ws a

@@ -2,7 +2,7 @@
 
 ghost use Rattle.std.specs.Prelude.{◌≡◌, ◌≤◌, ◌+◌, ◌++◌, ◌∷◌, [], map, drop, not, length, IfOk, if◌then◌else◌};
 ghost use Rattle.ep_cell_changes.specs.Tests.{AreInOrder};
-ghost use Rattle.ep_step_laws.specs.Single.{without_like};
+ghost use Rattle.ep_reads.specs.Single.{without_like};
 ghost use Rattle.ep_state_looks.specs.Looks.{from_cell, begins_like};
 
 use ep_cell_rows::cell::copy_cell;

@@ -7,14 +7,14 @@ ghost use Rattle.ep_cells.specs.Cells.{is_same_cell as are_one, meets, place_of 
 ghost use Rattle.ep_cells.specs.Both.{cell_like};
 ghost use Rattle.ep_reads.specs.Split.{cut_cells};
 ghost use Rattle.ep_reads.specs.Unify.{is_crossed};
-ghost use Rattle.ep_step_laws.specs.Single.{facing, shared_where};
+ghost use Rattle.ep_reads.specs.Single.{facing, shared_where};
 ghost use Rattle.ep_state_looks.specs.Looks.{is_faced};
 
 use ep_bitslice::Side;
 use ep_cell_rows::cell::copy_cell;
 use ep_cell_rows::places::{is_partly_in, is_same_cell, is_same_side, meets, place_of};
 use ep_cell_rows::rows::push;
-use ep_cells::{Cell, Place};
+use ep_cells::{ByteRange, Cell};
 use ep_domain::Num;
 use ep_int::{Memory, Model};
 use ep_states::State;
@@ -157,7 +157,7 @@ pub fn crossed<N: Num>(state: &State<N>, xs: &[Cell<N>]) -> Result<Vec<Cell<N>>,
 fn push_cut<N: Num>(
     out: &mut Vec<Cell<N>>,
     model: Model,
-    p: &Place,
+    p: &ByteRange,
     c: &Cell<N>,
 ) -> Result<(), Memory>
     ensures { IfOk result (λ _. out.new.items ≡ out.old.items ++ cut_cells model p.now (c.now ∷ [])) }
@@ -172,7 +172,7 @@ fn push_cut<N: Num>(
 fn cut_among<N: Num>(
     alloc: Global,
     model: Model,
-    p: &Place,
+    p: &ByteRange,
     cells: &[&Cell<N>],
 ) -> Result<Vec<Cell<N>>, Memory>
     ensures { IfOk result (λ v. v.items ≡ cut_cells model p.now (map (λ r. r.now) cells.now)) }
@@ -185,7 +185,7 @@ fn cut_among<N: Num>(
 }
 
 /// The cells that lie partly in a place.
-pub fn cut<N: Num>(state: &State<N>, p: &Place) -> Result<Vec<Cell<N>>, Memory>
+pub fn cut<N: Num>(state: &State<N>, p: &ByteRange) -> Result<Vec<Cell<N>>, Memory>
     ensures { IfOk result (λ v. v.items ≡ cut_cells state.now.model p.now state.now.cells) }
 {
     let model = state.model();

@@ -9,7 +9,7 @@ use ep_bitslice::Side;
 use ep_cell_changes::reshare::are_same;
 use ep_cell_rows::cell::copy_cell;
 use ep_cell_rows::places::is_same_side;
-use ep_cells::{Cell, Place};
+use ep_cells::{ByteRange, Cell};
 use ep_domain::Num;
 use ep_int::Memory;
 use ep_states::State;
@@ -78,7 +78,7 @@ pub fn twins_at<N: Num>(
 ) -> Result<Option<Twins<N>>, Memory>
     ensures { IfOk result (λ o. o ≡ twins_at N.ops block offset state.now.cells) }
 {
-    let place = Place {
+    let place = ByteRange {
         side: Side::Shared,
         block,
         offset,

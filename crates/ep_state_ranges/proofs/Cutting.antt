@@ -8,7 +8,7 @@ use Rattle.ep_bitslice.specs.declared.cell.Side.{Side}
 use Rattle.ep_bitslice.specs.declared.cell.Side.TheVariants.{Left, Right, Shared}
 use Rattle.ep_domain.specs.Domain.{Ops}
 use Rattle.ep_cells.specs.declared.cell.Cell.{Cell}
-use Rattle.ep_cells.specs.declared.place.Place.{Place}
+use Rattle.ep_cells.specs.declared.place.ByteRange.{ByteRange}
 use Rattle.ep_cells.specs.Both.{cell_like}
 use Rattle.ep_cells.specs.Cells.{is_partly_in, place_of}
 use Rattle.ep_cells.specs.Forms.{form_after}
@@ -17,8 +17,8 @@ use Rattle.ep_cells.specs.States.{Known, AreCells}
 use Rattle.ep_reads.specs.Split.{cut_cells, fate_by_split, split_like, split_all}
 use Rattle.ep_cell_ranges.specs.Ranges.{Reform, form_by_like, form_by_splits, form_by_split, form_by_cut}
 use Rattle.ep_cell_ranges.specs.Ranges.{form_by_cut_on, split_at, cut, cut_on, replaced, overwritten, with_form}
-use Rattle.ep_cell_ranges_laws.specs.Sound.{AreNew}
-use Rattle.ep_cell_ranges_laws.specs.Laws.{ReplaceLaws}
+use Rattle.ep_cell_ranges.specs.Sound.{AreNew}
+use Rattle.ep_cell_ranges.specs.Laws.{ReplaceLaws}
 use Rattle.ep_state_ranges.proofs.Carrying.{Holds, stay, go_twice, go_on, go_ends}
 
 -- ---- one cell after the other
@@ -51,7 +51,7 @@ pub like_some : {N : Type 0} (D : Ops N) (s : Side) (x y : Cell N) (cs : List (C
 like_some D s x y cs e =
     ap (λ o. let h : Reform = λ f. option_map_or (λ y. form_after (fate_by_split s y) f) o f in h) e
 
-none_cut : {N : Type 0} (d : Model) (p : Place) (cs : List (Cell N)) → is_some_partly_in d p cs ≡ false
+none_cut : {N : Type 0} (d : Model) (p : ByteRange) (cs : List (Cell N)) → is_some_partly_in d p cs ≡ false
     → cut_cells d p cs ≡ []
 none_cut d p [] e = refl
 none_cut d p (c ∷ cs) e = by (is_partly_in p (place_of d c)) e (none_cut d p cs)
@@ -62,8 +62,8 @@ none_cut d p (c ∷ cs) e = by (is_partly_in p (place_of d c)) e (none_cut d p c
     by true e h = absurd (cc)
     by false e h = h e
 
-side_of : (p : Place) (s : Side) → p.side ≡ s → (let r : Place = record p { side = s } in r) ≡ p
-side_of p s e = sym (ap (λ z. let r : Place = record p { side = z } in r) e)
+side_of : (p : ByteRange) (s : Side) → p.side ≡ s → (let r : ByteRange = record p { side = s } in r) ≡ p
+side_of p s e = sym (ap (λ z. let r : ByteRange = record p { side = z } in r) e)
 
 module _ {A : Type 0} (W : Reform → A → A) (w : Holds W) where
   pub split_turn : {N : Type 0} (D : Ops N) (s : Side) (x : Cell N) (xs : List (Cell N)) (i : ℕ) (now after : Known N)
@@ -86,26 +86,26 @@ module _ {A : Type 0} (W : Reform → A → A) (w : Holds W) where
 
   -- ---- a place of one side
 
-  pub uncut_stay : {N : Type 0} (D : Ops N) (k : Known N) (p : Place) (us : List A)
+  pub uncut_stay : {N : Type 0} (D : Ops N) (k : Known N) (p : ByteRange) (us : List A)
       → is_some_partly_in k.model p k.cells ≡ false → us ≡ map (W (form_by_split D p k)) us
   uncut_stay D k p us e =
       stay W w (form_by_split D p k) us
       (ap (λ xs. form_by_splits D k p.side xs k.cells) (none_cut k.model p k.cells e))
 
-  pub cut_go : {N : Type 0} (D : Ops N) (k : Known N) (p : Place) (xs slice : List (Cell N)) (us vs : List A)
+  pub cut_go : {N : Type 0} (D : Ops N) (k : Known N) (p : ByteRange) (xs slice : List (Cell N)) (us vs : List A)
       → slice ≡ xs → xs ≡ cut_cells k.model p k.cells
       → vs ≡ map (W (form_by_splits D k p.side slice k.cells)) us → vs ≡ map (W (form_by_split D p k)) us
   cut_go D k p xs slice us vs f e h = h ∙ ap (λ l. map (W (form_by_splits D k p.side l k.cells)) us) (f ∙ e)
 
   -- ---- a place of one side or of both
 
-  pub both_go : {N : Type 0} (D : Ops N) (p l r : Place) (k left : Known N) (us vs ws : List A)
+  pub both_go : {N : Type 0} (D : Ops N) (p l r : ByteRange) (k left : Known N) (us vs ws : List A)
       → l ≡ record p { side = Left } → r ≡ record p { side = Right } → left ≡ split_at D l k
       → vs ≡ map (W (form_by_split D l k)) us → ws ≡ map (W (form_by_split D r left)) vs
       → ws ≡ map (W (form_by_cut D (record p { side = Shared }) k)) us
   both_go {N = N} D p l r k left us vs ws el er a h j =
-      let on_left : Place = record p { side = Left } in
-      let on_right : Place = record p { side = Right } in
+      let on_left : ByteRange = record p { side = Left } in
+      let on_right : ByteRange = record p { side = Right } in
       let same : left ≡ split_at D on_left k = a ∙ ap (λ z. split_at D z k) el in
       go_twice W w (form_by_split D on_right (split_at D on_left k)) (form_by_split D on_left k)
       (form_by_cut D (record p { side = Shared }) k) us vs ws refl
@@ -114,42 +114,42 @@ module _ {A : Type 0} (W : Reform → A → A) (w : Holds W) where
       ∙ ap (λ z. map (W (form_by_split D z left)) vs) er
       ∙ ap (λ (z : Known N). map (W (form_by_split D on_right z)) vs) same)
 
-  pub side_goes : {N : Type 0} (D : Ops N) (s : Side) (p : Place) (k : Known N) (us vs : List A) → p.side ≡ s
+  pub side_goes : {N : Type 0} (D : Ops N) (s : Side) (p : ByteRange) (k : Known N) (us vs : List A) → p.side ≡ s
       → vs ≡ map (W (form_by_cut_on D s p k)) us → vs ≡ map (W (form_by_cut D p k)) us
   side_goes D s p k us vs e h = h ∙ sym (ap (λ z. map (W (form_by_cut_on D z p k)) us) e)
 
-  pub shared_goes : {N : Type 0} (D : Ops N) (p : Place) (k : Known N) (us vs : List A) → p.side ≡ Shared
+  pub shared_goes : {N : Type 0} (D : Ops N) (p : ByteRange) (k : Known N) (us vs : List A) → p.side ≡ Shared
       → vs ≡ map (W (form_by_cut D (record p { side = Shared }) k)) us → vs ≡ map (W (form_by_cut D p k)) us
   shared_goes D p k us vs e h = h ∙ ap (λ z. map (W (form_by_cut D z k)) us) (side_of p Shared e)
 
 -- ---- what is known then
 
-pub uncut : {N : Type 0} (D : Ops N) (k : Known N) (p : Place) → is_some_partly_in k.model p k.cells ≡ false
+pub uncut : {N : Type 0} (D : Ops N) (k : Known N) (p : ByteRange) → is_some_partly_in k.model p k.cells ≡ false
     → k ≡ split_at D p k
 uncut D k p e =
     ap (λ cs. record k { cells = cs }) (sym (ap (λ xs. split_all D k p.side xs k.cells) (none_cut k.model p k.cells e)))
 
-pub both_cut : {N : Type 0} (D : Ops N) (p l r : Place) (k left both : Known N) → l ≡ record p { side = Left }
+pub both_cut : {N : Type 0} (D : Ops N) (p l r : ByteRange) (k left both : Known N) → l ≡ record p { side = Left }
     → r ≡ record p { side = Right } → left ≡ split_at D l k → both ≡ split_at D r left
     → both ≡ cut D (record p { side = Shared }) k
 both_cut {N = N} D p l r k left both el er a b =
-    let on_left : Place = record p { side = Left } in
-    let on_right : Place = record p { side = Right } in
+    let on_left : ByteRange = record p { side = Left } in
+    let on_right : ByteRange = record p { side = Right } in
     b
     ∙ ap (λ z. split_at D z left) er
     ∙ ap (λ (z : Known N). split_at D on_right z) (a ∙ ap (λ z. split_at D z k) el)
 
-pub side_cut : {N : Type 0} (D : Ops N) (s : Side) (p : Place) (k after : Known N) → p.side ≡ s → after ≡ cut_on D s p k
+pub side_cut : {N : Type 0} (D : Ops N) (s : Side) (p : ByteRange) (k after : Known N) → p.side ≡ s → after ≡ cut_on D s p k
     → after ≡ cut D p k
 side_cut D s p k after e h = h ∙ sym (ap (λ z. cut_on D z p k) e)
 
-pub shared_cut : {N : Type 0} (D : Ops N) (p : Place) (k after : Known N) → p.side ≡ Shared
+pub shared_cut : {N : Type 0} (D : Ops N) (p : ByteRange) (k after : Known N) → p.side ≡ Shared
     → after ≡ cut D (record p { side = Shared }) k → after ≡ cut D p k
 shared_cut D p k after e h = h ∙ ap (λ z. cut D z k) (side_of p Shared e)
 
 -- ---- new cells
 
-pub replace_is : {N : Type 0} (D : Ops N) (p : Place) (k left after : Known N) (new made : List (Cell N))
+pub replace_is : {N : Type 0} (D : Ops N) (p : ByteRange) (k left after : Known N) (new made : List (Cell N))
     → left ≡ cut D p k → made ≡ map (with_form (form_by_cut D p k)) new → after ≡ overwritten D p made left
     → after ≡ replaced D p new k
 replace_is {N = N} D p k left after new made el em ea =
@@ -157,7 +157,7 @@ replace_is {N = N} D p k left after new made el em ea =
     ∙ ap (λ (z : List (Cell N)). overwritten D p z left) em
     ∙ ap (λ (z : Known N). overwritten D p (map (with_form (form_by_cut D p k)) new) z) el
 
-pub replace_cells : {N : Type 0} (D : Ops N) (p : Place) (k left : Known N) (new made : List (Cell N)) → ReplaceLaws D
+pub replace_cells : {N : Type 0} (D : Ops N) (p : ByteRange) (k left : Known N) (new made : List (Cell N)) → ReplaceLaws D
     → AreCells k.model k.cells → AreNew k.model p k.cells new → left ≡ cut D p k
     → made ≡ map (with_form (form_by_cut D p k)) new → AreCells left.model (overwritten D p made left).cells
 replace_cells {N = N} D p k left new made law a n el em =

@@ -1,5 +1,7 @@
 -- Two rising lists of places, merged.
 use Rattle.std.proofs.Common.{◌≡◌, ℕ, ◌+◌, ◌<◌, ◌≤◌, nat_eq, nat_lt, Bool, true, false, ◌&&◌, ◌||◌, cond, List, []}
+use Rattle.ep_cell_ranges.proofs.Basics.{is_same_spot-equal}
+use Rattle.std.proofs.lemmas.Bool.{or_cases}
 use Rattle.std.proofs.Common.{◌∷◌, ◌++◌, append_assoc, append-nil, length, get_or, drop, drop-cons, add-one, ◌⊎◌, inl}
 use Rattle.std.proofs.Common.{inr, ⊎_elim, refl, sym, ◌∙◌, ap, subst, arith}
 use Rattle.std.proofs.lemmas.List.{drop_all}
@@ -10,10 +12,6 @@ use Rattle.ep_state_ranges.specs.Merged.{IsBelow, AreRising, Chosen, chosen}
 
 -- ---- the order of places
 
-either : (a b : Bool) → (a || b) ≡ true → (a ≡ true) ⊎ (b ≡ true)
-either true b h = inl refl
-either false b h = inr h
-
 or_from : (a b : Bool) → (a ≡ true) ⊎ (b ≡ true) → (a || b) ≡ true
 or_from true b h = refl
 or_from false b (inl e) = absurd (cc)
@@ -23,7 +21,7 @@ is_less : (q r : Spot) → spot_before q r ≡ true → (q.0 < r.0) ⊎ ((q.0 �
 is_less q r h =
     ⊎_elim (λ k. inl (ltb-true q.0 r.0 k))
     (λ k. let p = and_parts (nat_eq q.0 r.0) (nat_lt q.1 r.1) k in inr (eqb-true q.0 r.0 p.0, ltb-true q.1 r.1 p.1))
-    (either (nat_lt q.0 r.0) (nat_eq q.0 r.0 && nat_lt q.1 r.1) h)
+    (or_cases (nat_lt q.0 r.0) (nat_eq q.0 r.0 && nat_lt q.1 r.1) h)
 
 before : (q r : Spot) → (q.0 < r.0) ⊎ ((q.0 ≡ r.0) × (q.1 < r.1)) → spot_before q r ≡ true
 before q r h =
@@ -60,15 +58,6 @@ not_same q r h =
     false_from_ne_true (is_same_spot q r) (λ k.
     let p = and_parts (nat_eq q.0 r.0) (nat_eq q.1 r.1) k in
     apart_by r.0 r.1 q.0 q.1 (is_less r q h) (eqb-true q.0 r.0 p.0) (eqb-true q.1 r.1 p.1))
-
-same_is : (q r : Spot) → is_same_spot q r ≡ true → q ≡ r
-same_is q r h =
-    let p = and_parts (nat_eq q.0 r.0) (nat_eq q.1 r.1) h in
-    let one : ◌≡◌ {A = Spot} (q.0, q.1) (r.0, q.1) = ap (λ (z : ℕ). let s : Spot = (z, q.1) in s)
-    (eqb-true q.0 r.0 p.0) in
-    let two : ◌≡◌ {A = Spot} (r.0, q.1) (r.0, r.1) = ap (λ (z : ℕ). let s : Spot = (r.0, z) in s)
-    (eqb-true q.1 r.1 p.1) in
-    one ∙ two
 
 never_by : (a b : ℕ) → (a < a) ⊎ ((a ≡ a) × (b < b)) → ⊥
 never_by a b (inl h) = omega (arith, h)
@@ -156,8 +145,8 @@ take_first q r qs rs h k e =
 take_same : (q r : Spot) (qs rs : List Spot) → AreRising (q ∷ qs) → is_same_spot q r ≡ true
     → all_spots (q ∷ qs) (r ∷ rs) ≡ r ∷ all_spots qs rs
 take_same q r qs rs h e =
-    ap (put_spot q) (all_pass r qs rs (subst (λ s. IsBelow s qs) (same_is q r e) h.0))
-    ∙ put_same q r (all_spots qs rs) (not_itself q r (same_is q r e)) e
+    ap (put_spot q) (all_pass r qs rs (subst (λ s. IsBelow s qs) (is_same_spot-equal q r e) h.0))
+    ∙ put_same q r (all_spots qs rs) (not_itself q r (is_same_spot-equal q r e)) e
 
 take_second : (q r : Spot) (qs rs : List Spot) → AreRising (q ∷ qs) → spot_before r q ≡ true
     → all_spots (q ∷ qs) (r ∷ rs) ≡ r ∷ all_spots (q ∷ qs) rs

@@ -12,7 +12,7 @@ use Rattle.ep_cells.specs.Weaken.{weakened, fate_by_weak_write}
 use Rattle.ep_cell_ranges.specs.Moves.{place_at, weakened_each, form_by_weak_each, blurred_each}
 use Rattle.ep_cell_ranges.specs.Ranges.{Form, with_cells, blurred_at}
 use Rattle.ep_cell_ranges.specs.Spots.{Spot}
-use Rattle.ep_state_ranges.specs.Held.{at_spot, FitsAtEach, form_by_blur_each}
+use Rattle.ep_state_ranges.specs.HeldForms.{at_spot, FitsAtEach, form_by_blur_each}
 use Rattle.ep_state_ranges.proofs.Carrying.{alone, alone_holds, go_on, go_ends}
 
 -- ---- a cell

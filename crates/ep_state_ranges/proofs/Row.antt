@@ -1,6 +1,9 @@
 -- A cell that may be written at each place of a row: one write of the whole row, where Shared cells of just its places
 -- stand there.
 use Rattle.std.proofs.Common.{◌≡◌, ℕ, zero, suc, ◌+◌, ◌-◌, ◌*◌, ◌/◌, ◌%◌, ◌<◌, ◌≤◌, Bool, true, false, ◌&&◌, ◌||◌}
+use Rattle.ep_cells.proofs.Basics.{map-append}
+use Rattle.ep_int.proofs.Basics.{size_positive}
+use Rattle.ep_cells.proofs.Places.{touch_here}
 use Rattle.std.proofs.Common.{not, nat_eq, nat_lt, nat_le, cond, List, [], ◌∷◌, ◌++◌, map, Option, Some, None, refl}
 use Rattle.std.proofs.Common.{sym, ap, ◌∙◌, subst, append_assoc, append-nil, arith}
 use Rattle.std.specs.Option.{option_map}
@@ -15,7 +18,7 @@ use Rattle.ep_bitslice.specs.declared.cell.Side.TheVariants.{Left, Right, Shared
 use Rattle.ep_bitslice.specs.declared.cell.CellName.{CellName}
 use Rattle.ep_domain.specs.Domain.{Ops}
 use Rattle.ep_cells.specs.declared.cell.Cell.{Cell}
-use Rattle.ep_cells.specs.declared.place.Place.{Place}
+use Rattle.ep_cells.specs.declared.place.ByteRange.{ByteRange}
 use Rattle.ep_cells.specs.Cells.{place_of, place_of_name, touches, share_memory, side_without, with_side}
 use Rattle.ep_cells.specs.Cells.{is_same_place, is_same_scalar, scalar_number, each_becomes, parts_of}
 use Rattle.ep_cells.specs.Forms.{Fate, form_after, reformed}
@@ -23,27 +26,24 @@ use Rattle.ep_cells.specs.Write.{left_by_write, fate_by_write}
 use Rattle.ep_cells.specs.Weaken.{with_join, blurred, weak_cell, weak_part, left_by_weak_write, first_part}
 use Rattle.ep_cells.specs.Weaken.{fate_by_weak_write, weakened}
 use Rattle.ep_cells.specs.States.{Known}
-use Rattle.ep_cells_laws.proofs.Places.{at, size_positive}
+use Rattle.ep_cells.proofs.Places.{at}
 use Rattle.ep_cell_ranges.specs.Moves.{weakened_each, form_by_weak_each}
 use Rattle.ep_cell_ranges.specs.Ranges.{Form, with_cells}
 use Rattle.ep_cell_ranges.specs.Spots.{Spot}
-use Rattle.ep_step_laws.proofs.Composed.{gone_on, then_fate, reformed_twice, map_append}
-use Rattle.ep_state_ranges.specs.Held.{at_spot}
+use Rattle.ep_reads.proofs.Composed.{gone_on, then_fate, reformed_twice}
+use Rattle.ep_state_ranges.specs.HeldForms.{at_spot}
 use Rattle.ep_state_ranges.specs.InRow.{IsRow, row_bytes}
 
 -- ---- places
 
-touches_by : (b a w n t c r k : ℕ) → t ≡ w + n → 0 < k
+pub touches_by : (b a w n t c r k : ℕ) → t ≡ w + n → 0 < k
     → (nat_eq b c && (nat_lt a (r + k) && nat_lt r (a + t)))
     ≡ ((nat_eq b c && (nat_lt a (r + k) && nat_lt r (a + w)))
     || (nat_eq b c && (nat_lt (a + w) (r + k) && nat_lt r (a + w + n))))
 touches_by b a w n t c r k e h = grind (arith, nat_tests)
 
-off_by : (b a w n : ℕ) → (nat_eq b b && (nat_lt (a + w) (a + w) && nat_lt a (a + w + n))) ≡ false
+pub off_by : (b a w n : ℕ) → (nat_eq b b && (nat_lt (a + w) (a + w) && nat_lt a (a + w + n))) ≡ false
 off_by b a w n = grind (arith, nat_tests)
-
-touch_here : (b a n k : ℕ) → 0 < n → 0 < k → (nat_eq b b && (nat_lt a (a + k) && nat_lt a (a + n))) ≡ true
-touch_here b a n k h l = grind (arith, nat_tests)
 
 abbrev pub times : ℕ → ℕ → ℕ
 times zero w = 0
@@ -79,7 +79,7 @@ module _ {N : Type 0} (D : Ops N) (d : Model) (c : Cell N) (s : c.side ≡ Share
   abbrev w : ℕ
   w = size_of d c.what
 
-  abbrev P : (b a n : ℕ) → Place
+  abbrev P : (b a n : ℕ) → ByteRange
   P b a n = at c.side b a n
 
   abbrev F : (b a n : ℕ) → Fate

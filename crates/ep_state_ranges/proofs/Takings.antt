@@ -1,5 +1,7 @@
 -- What is taken of the cells about a place is what is taken of all.
 use Rattle.std.proofs.Common.{◌≡◌, ℕ, ◌+◌, ◌-◌, ◌^◌, ◌<◌, ◌≤◌, Bool, true, false, ◌&&◌, cond, IfSome, List, [], ◌∷◌}
+use Rattle.ep_int.proofs.Basics.{size_positive}
+use Rattle.ep_reads.proofs.Composed.{each_append}
 use Rattle.std.proofs.Common.{◌++◌, append_assoc, append-nil, nat_le, Option, Some, None, refl, sym, ◌∙◌, ap, subst}
 use Rattle.std.proofs.Common.{arith}
 use Rattle.std.specs.List.{filter}
@@ -14,14 +16,13 @@ use Rattle.ep_bitslice.specs.declared.segment.Segment.{Segment}
 use Rattle.ep_bitslice.specs.Segments.{width}
 use Rattle.ep_domain.specs.Domain.{Ops}
 use Rattle.ep_cells.specs.declared.cell.Cell.{Cell}
-use Rattle.ep_cells.specs.declared.place.Place.{Place}
+use Rattle.ep_cells.specs.declared.place.ByteRange.{ByteRange}
 use Rattle.ep_cells.specs.Cells.{place_of, share_memory, touches, encloses, each_becomes, IsIn, first, later}
 use Rattle.ep_cells.specs.States.{Known, Each, HasWidth, AreCells}
-use Rattle.ep_cells_laws.proofs.Lists.{in_left, in_right, each_from}
-use Rattle.ep_cells_laws.proofs.Places.{size_positive}
+use Rattle.ep_cells.proofs.Lists.{in_left, in_right, each_from}
 use Rattle.ep_cell_parts.specs.About.{IsAbout}
 use Rattle.ep_cell_ranges.specs.Moves.{taken_if, taken_cell, is_whole_shared}
-use Rattle.ep_cell_ranges_laws.specs.Sound.{AreNew}
+use Rattle.ep_cell_ranges.specs.Sound.{AreNew}
 use Rattle.ep_reads.specs.Bytes.{own_form, form_or, form_of_cell, order_on}
 use Rattle.ep_reads.specs.Split.{byte_cells}
 use Rattle.ep_scalar_reads.specs.Parts.{HasFittingForm}
@@ -33,7 +34,7 @@ use Rattle.ep_state_ranges.specs.Taken.{taken_share}
 
 -- ---- cells that are elsewhere
 
-if_elsewhere : {N : Type 0} (D : Ops N) (k : Known N) (p : Place) (s : Side) (x : Cell N)
+if_elsewhere : {N : Type 0} (D : Ops N) (k : Known N) (p : ByteRange) (s : Side) (x : Cell N)
     → touches p (place_of k.model x) ≡ false → taken_if D k p s x ≡ []
 if_elsewhere D k p s x e =
     ap (λ b. cond (share_memory p.side x.side && b) (taken_cell D k p s x) []) e ∙ by (share_memory p.side x.side)
@@ -42,7 +43,7 @@ if_elsewhere D k p s x e =
     by true = refl
     by false = refl
 
-elsewhere : {N : Type 0} (D : Ops N) (h : Share) (k : Known N) (p : Place) (x : Cell N)
+elsewhere : {N : Type 0} (D : Ops N) (h : Share) (k : Known N) (p : ByteRange) (x : Cell N)
     → touches p (place_of k.model x) ≡ false → taken_share D h k p x ≡ []
 elsewhere D Whole k p x e = if_elsewhere D k p p.side x e
 elsewhere D WithLeft k p x e = if_elsewhere D k p _ x e
@@ -60,13 +61,7 @@ none_of f [] h = refl
 none_of f (x ∷ xs) h =
     ap (λ l. l ++ each_becomes f xs) (h x (first xs)) ∙ none_of f xs (λ y i. h y (later x xs i))
 
-pub each_append : {N : Type 0} (f : Cell N → List (Cell N)) (xs ys : List (Cell N))
-    → each_becomes f (xs ++ ys) ≡ each_becomes f xs ++ each_becomes f ys
-each_append f [] ys = refl
-each_append f (x ∷ xs) ys =
-    ap (λ l. f x ++ l) (each_append f xs ys) ∙ sym (append_assoc (f x) (each_becomes f xs) (each_becomes f ys))
-
-pub by_window : {N : Type 0} (f : Cell N → List (Cell N)) (d : Model) (p : Place) (cs ws us : List (Cell N))
+pub by_window : {N : Type 0} (f : Cell N → List (Cell N)) (d : Model) (p : ByteRange) (cs ws us : List (Cell N))
     → ((x : Cell N) → touches p (place_of d x) ≡ false → f x ≡ []) → IsAbout d p cs ws → us ≡ ws
     → each_becomes f us ≡ each_becomes f cs
 by_window f d p cs ws us h a e =
@@ -78,13 +73,13 @@ by_window f d p cs ws us h a e =
     ∙ sym (each_append f a.before (ws ++ a.behind))
     ∙ sym (ap (each_becomes f) a.whole)
 
-pub all_by_window : {N : Type 0} (D : Ops N) (h : Share) (k : Known N) (p : Place) (ws us : List (Cell N))
+pub all_by_window : {N : Type 0} (D : Ops N) (h : Share) (k : Known N) (p : ByteRange) (ws us : List (Cell N))
     → IsAbout k.model p k.cells ws → us ≡ ws
     → each_becomes (taken_share D h k p) us ≡ each_becomes (taken_share D h k p) k.cells
 all_by_window D h k p ws us a e =
     by_window (taken_share D h k p) k.model p k.cells ws us (λ x i. elsewhere D h k p x i) a e
 
-pub window_sized : {N : Type 0} (d : Model) (p : Place) (cs ws us : List (Cell N)) → AreCells d cs → IsAbout d p cs ws
+pub window_sized : {N : Type 0} (d : Model) (p : ByteRange) (cs ws us : List (Cell N)) → AreCells d cs → IsAbout d p cs ws
     → us ≡ ws → Each (IsSized d) us
 window_sized d p cs ws us c a e =
     subst (Each (IsSized d)) (sym e)
@@ -117,7 +112,7 @@ taken_turn f x xs rest out outs all e h k =
 -- ---- moves
 
 -- new cells of a place may be moved where as many bytes end within the offsets
-pub new_move : {N : Type 0} (d : Model) (p : Place) (q : ℕ) (cs new : List (Cell N)) → AreNew d p cs new
+pub new_move : {N : Type 0} (d : Model) (p : ByteRange) (q : ℕ) (cs new : List (Cell N)) → AreNew d p cs new
     → q + p.bytes ≤ 2 ^ 32 → Each (λ x. (x.offset - p.offset) + q < 2 ^ 32) new
 new_move d p q cs new a l =
     each_from (λ x. (x.offset - p.offset) + q < 2 ^ 32) new
@@ -130,7 +125,7 @@ new_move d p q cs new a l =
 
 -- ---- the bytes of a cell in a place
 
-pub bytes_in_place : {N : Type 0} (D : Ops N) (k : Known N) (p : Place) (x : Cell N) (d : Model) (os : Order × Order)
+pub bytes_in_place : {N : Type 0} (D : Ops N) (k : Known N) (p : ByteRange) (x : Cell N) (d : Model) (os : Order × Order)
     (o : Order) (f : Option (List Segment)) (bytes slice out outs : List (Cell N)) → d ≡ k.model → os ≡ k.orders
     → o ≡ order_on p.side os → f ≡ form_of_cell x → bytes ≡ byte_cells D d o p.side f x → slice ≡ bytes
     → outs ≡ out ++ filter (λ z. encloses p (place_of d z)) slice

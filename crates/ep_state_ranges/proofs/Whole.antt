@@ -1,5 +1,7 @@
 -- A cell that may be written at each place of a row, as one write of the whole row.
 use Rattle.std.proofs.Common.{◌≡◌, ◌⊎◌, inl, inr, ⊎_elim, ℕ, suc, zero, ◌+◌, ◌-◌, ◌*◌, ◌/◌, ◌%◌, ◌<◌, ◌≤◌, Bool, true}
+use Rattle.ep_cells.proofs.Basics.{map-append}
+use Rattle.ep_reads.proofs.Composed.{each_append}
 use Rattle.std.proofs.Common.{false, ◌&&◌, not, nat_eq, nat_le, cond, List, [], ◌∷◌, ◌++◌, length, map, drop, Option}
 use Rattle.std.proofs.Common.{Some, None, refl, sym, ap, ◌∙◌, subst, arith}
 use Rattle.std.proofs.Math.Nat.{suc-mul, zero-mul}
@@ -12,28 +14,27 @@ use Rattle.ep_bitslice.specs.declared.cell.Side.{Side}
 use Rattle.ep_bitslice.specs.declared.cell.Side.TheVariants.{Shared}
 use Rattle.ep_domain.specs.Domain.{Ops}
 use Rattle.ep_cells.specs.declared.cell.Cell.{Cell}
-use Rattle.ep_cells.specs.declared.place.Place.{Place}
+use Rattle.ep_cells.specs.declared.place.ByteRange.{ByteRange}
 use Rattle.ep_cells.specs.Cells.{place_of, touches, side_without, with_side, is_same_side, is_same_scalar, put_all}
 use Rattle.ep_cells.specs.Cells.{each_becomes, IsIn, first, later}
 use Rattle.ep_cells.specs.Forms.{Fate, form_after, reformed}
 use Rattle.ep_cells.specs.Write.{left_by_write, fate_by_write}
 use Rattle.ep_cells.specs.Weaken.{with_join, left_by_weak_write, fate_by_weak_write, weakened}
 use Rattle.ep_cells.specs.States.{Known, HasRisingBlocks, IsCell, AreCells}
-use Rattle.ep_cells_laws.proofs.Both.{scalar_same}
-use Rattle.ep_cells_laws.proofs.Lists.{each_in}
-use Rattle.ep_cells_laws.proofs.Places.{at}
+use Rattle.ep_cells.proofs.Both.{scalar_same}
+use Rattle.ep_cells.proofs.Lists.{each_in}
+use Rattle.ep_cells.proofs.Places.{at}
 use Rattle.ep_cell_parts.specs.About.{IsAbout}
 use Rattle.ep_cell_ranges.specs.Moves.{weakened_each, form_by_weak_each}
 use Rattle.ep_cell_ranges.specs.Ranges.{with_cells}
 use Rattle.ep_cell_ranges.specs.Spots.{Spot}
-use Rattle.ep_cell_ranges_laws.specs.Sound.{IsAmong, at_first, behind}
-use Rattle.ep_cell_ranges_laws.specs.Laws.{WeakEachLaws}
-use Rattle.ep_step_laws.proofs.Composed.{map_append}
-use Rattle.ep_state_ranges.specs.Held.{at_spot, FitsAtEach}
+use Rattle.ep_cell_ranges.specs.Sound.{IsAmong, at_first, behind}
+use Rattle.ep_cell_ranges.specs.Laws.{WeakEachLaws}
+use Rattle.ep_state_ranges.specs.HeldForms.{at_spot, FitsAtEach}
 use Rattle.ep_state_ranges.specs.InRow.{IsRow, row_bytes, is_in_row, not_in_row, joined_in, Faces}
 use Rattle.ep_state_ranges.proofs.Row.{times, all_gone, write_fate, Stands, row_one, row_form, each_once}
 use Rattle.ep_state_ranges.proofs.Order.{each_same, each_map, left, chosen, in_order}
-use Rattle.ep_state_ranges.proofs.Takings.{each_append, by_window}
+use Rattle.ep_state_ranges.proofs.Takings.{by_window}
 
 times_is : (i w : ℕ) → times i w ≡ i * w
 times_is zero w = sym (zero-mul w)
@@ -52,7 +53,7 @@ module _ {N : Type 0} (D : Ops N) (d : Model) (c : Cell N) (s : c.side ≡ Share
   once_append q xs ys =
       let l = left_by_weak_write D d (at_spot c q) true in
       let r = reformed (fate_by_weak_write (place_of d (at_spot c q))) in
-      ap (map r) (each_append l xs ys) ∙ map_append r (each_becomes l xs) (each_becomes l ys)
+      ap (map r) (each_append l xs ys) ∙ map-append r (each_becomes l xs) (each_becomes l ys)
 
   all_append : (qs : List Spot) (xs ys : List (Cell N))
       → each_once D d c s qs (xs ++ ys) ≡ each_once D d c s qs xs ++ each_once D d c s qs ys
@@ -74,7 +75,7 @@ module _ {N : Type 0} (D : Ops N) (d : Model) (c : Cell N) (s : c.side ≡ Share
   -- ---- cells of the row
 
   module _ (b a n : ℕ) where
-    abbrev p : Place
+    abbrev p : ByteRange
     p = at c.side b a n
 
     not_none : (x : Cell N) (t : Bool) → is_in_row (size_of d c.what) c p x ≡ t → touches p (place_of d x) ≡ true
@@ -125,7 +126,7 @@ module _ {N : Type 0} (D : Ops N) (d : Model) (c : Cell N) (s : c.side ≡ Share
       ≡ each_once D d c s (q ∷ qs) cs
   row_is q qs b a cs new cells r none e =
       let n = row_bytes (size_of d c.what) (q ∷ qs) in
-      let p : Place = at c.side b a n in
+      let p : ByteRange = at c.side b a n in
       let t : Cell N → Bool = λ x. touches p (place_of d x) in
       let f = reformed (fate_by_write p) in
       ap (λ l. map f (put_all new l)) (each_same (left_by_write d p) (left D d c t) cs (λ x i. left_is b a n x))
@@ -145,8 +146,8 @@ each_is D c s (q ∷ qs) k = each_is D c s qs (with_cells k (weakened D k.model 
 
 -- ---- as one write
 
-module _ {N : Type 0} (D : Ops N) (k : Known N) (c : Cell N) (p : Place) (new : List (Cell N)) where
-  abbrev whole_place : List Spot → Place
+module _ {N : Type 0} (D : Ops N) (k : Known N) (c : Cell N) (p : ByteRange) (new : List (Cell N)) where
+  abbrev whole_place : List Spot → ByteRange
   whole_place qs = at c.side p.block p.offset (row_bytes (size_of k.model c.what) qs)
 
   pub row_cells : (qs : List Spot) → Faces D k c qs p new → AreCells k.model k.cells
@@ -220,7 +221,7 @@ pub end_ends : (w at all : ℕ) (xs : List Spot) (i : ℕ) → length xs ≤ i �
 end_ends w at all xs i l h =
     let e : row_bytes w (drop i xs) ≡ 0 = ap (row_bytes w) (drop_all i xs l) in omega (arith, e, h)
 
-module _ {N : Type 0} (D : Ops N) (d : Model) (c : Cell N) (p : Place) where
+module _ {N : Type 0} (D : Ops N) (d : Model) (c : Cell N) (p : ByteRange) where
   pub others_elsewhere : (x : Cell N) → touches p (place_of d x) ≡ false → not_in_row d c p x ≡ []
   others_elsewhere x e = ap (λ t. cond (t && not (is_in_row (size_of d c.what) c p x)) (x ∷ []) []) e
 

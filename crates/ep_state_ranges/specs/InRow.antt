@@ -6,7 +6,7 @@ use Rattle.ep_int.specs.Types.{size_of}
 use Rattle.ep_bitslice.specs.declared.cell.Side.TheVariants.{Shared}
 use Rattle.ep_domain.specs.Domain.{Ops}
 use Rattle.ep_cells.specs.declared.cell.Cell.{Cell}
-use Rattle.ep_cells.specs.declared.place.Place.{Place}
+use Rattle.ep_cells.specs.declared.place.ByteRange.{ByteRange}
 use Rattle.ep_cells.specs.Cells.{place_of, touches, is_same_side, is_same_scalar, each_becomes}
 use Rattle.ep_cells.specs.Weaken.{with_join}
 use Rattle.ep_cells.specs.States.{Known}
@@ -23,22 +23,23 @@ row_bytes w [] = 0
 row_bytes w (q ∷ qs) = w + row_bytes w qs
 
 -- a Shared cell of the type of c, whole cells of that type from the beginning of the place
-abbrev pub is_in_row : {N : Type 0} → (bytes : ℕ) → Cell N → Place → Cell N → Bool
+abbrev pub is_in_row : {N : Type 0} → (bytes : ℕ) → Cell N → ByteRange → Cell N → Bool
 is_in_row w c p x =
     is_same_side x.side Shared
     && (is_same_scalar c.what x.what && (nat_le p.offset x.offset && nat_eq ((x.offset - p.offset) % w) 0))
 
 -- cells with bytes in the place that are none of the row
-abbrev pub not_in_row : {N : Type 0} → Model → Cell N → Place → Cell N → List (Cell N)
+abbrev pub not_in_row : {N : Type 0} → Model → Cell N → ByteRange → Cell N → List (Cell N)
 not_in_row d c p x = if touches p (place_of d x) && not (is_in_row (size_of d c.what) c p x) then x ∷ [] else []
 
 -- those with bytes in the place, joined with the value of c
-abbrev pub joined_in : {N : Type 0} → Ops N → Model → Cell N → Place → Cell N → List (Cell N)
+abbrev pub joined_in : {N : Type 0} → Ops N → Model → Cell N → ByteRange → Cell N → List (Cell N)
 joined_in D d c p x = if touches p (place_of d x) then with_join D c x ∷ [] else []
 
 -- The places are a row that begins and ends with the place, and each Shared cell is of both memories there: new are
 -- those of the row, joined with the value of c, and no other cell has bytes in it.
-pub record Faces {N : Type 0} (D : Ops N) (k : Known N) (c : Cell N) (qs : List Spot) (p : Place) (new : List (Cell N))
+pub record Faces {N : Type 0} (D : Ops N) (k : Known N) (c : Cell N) (qs : List Spot) (p : ByteRange)
+    (new : List (Cell N))
     : Type 0 where
   pub side : c.side ≡ Shared
   pub place : p ≡ place_at c.side (p.block, p.offset) (row_bytes (size_of k.model c.what) qs)

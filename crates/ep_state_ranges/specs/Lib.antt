@@ -1,4 +1,4 @@
-pub mod Held
+pub mod HeldForms
 pub mod InRow
 pub mod Merged
 pub mod Taken

@@ -3,14 +3,14 @@
 use Rattle.std.specs.Prelude.{◌+◌, ◌-◌, ◌^◌, ◌<◌, List}
 use Rattle.ep_domain.specs.Domain.{Ops}
 use Rattle.ep_cells.specs.declared.cell.Cell.{Cell}
-use Rattle.ep_cells.specs.declared.place.Place.{Place}
+use Rattle.ep_cells.specs.declared.place.ByteRange.{ByteRange}
 use Rattle.ep_cells.specs.States.{Known}
 use Rattle.ep_cell_ranges.specs.Moves.{taken_if, taken_left, taken_right}
 use Rattle.ep_cell_ranges.specs.Spots.{Spot}
 use Rattle.ep_state_ranges.specs.declared.taking.Share.{Share}
 use Rattle.ep_state_ranges.specs.declared.taking.Share.TheVariants.{Whole, WithLeft, WithRight}
 
-abbrev pub taken_share : {N : Type 0} → Ops N → Share → Known N → Place → Cell N → List (Cell N)
+abbrev pub taken_share : {N : Type 0} → Ops N → Share → Known N → ByteRange → Cell N → List (Cell N)
 taken_share D Whole k p x = taken_if D k p p.side x
 taken_share D WithLeft k p x = taken_left D k p x
 taken_share D WithRight k p x = taken_right D k p x

@@ -6,16 +6,16 @@ ghost use Rattle.ep_cells.specs.Forms.{form_after};
 ghost use Rattle.ep_cells.specs.States.{Each};
 ghost use Rattle.ep_cell_ranges.specs.Ranges.{with_form, form_by_like, form_by_splits, form_by_split, form_by_cut};
 ghost use Rattle.ep_cell_ranges.specs.Ranges.{form_by_replace, split_at, cut, replaced};
-ghost use Rattle.ep_cell_ranges_laws.specs.Sound.{AreNew};
+ghost use Rattle.ep_cell_ranges.specs.Sound.{AreNew};
 ghost use Rattle.ep_reads.specs.Split.{fate_by_split, split_cell, split_like};
 ghost use Rattle.ep_state_steps.specs.Ones.{split_at as split_each, Has};
 
 use crate::forms::{Held, all_by_step, cells_by_step, changed};
 use ep_bicells::changes::Step;
 use ep_bitslice::Side;
-use ep_cell_ranges_laws::replace_laws;
+use ep_cell_ranges::replace_laws;
 use ep_cell_rows::change::Change;
-use ep_cells::{Cell, Place};
+use ep_cells::{ByteRange, Cell};
 use ep_domain::Num;
 use ep_int::Memory;
 use ep_state_looks::looking::{cut as cut_cells, like};
@@ -86,7 +86,7 @@ fn split_each<N: Num>(now: Cutting<N>, side: Side, xs: &[Cell<N>]) -> Result<Cut
     Ok(sofar)
 }
 
-fn split_on<N: Num>(now: Cutting<N>, p: &Place) -> Result<Cutting<N>, Memory>
+fn split_on<N: Num>(now: Cutting<N>, p: &ByteRange) -> Result<Cutting<N>, Memory>
     requires { is_same_side p.now.side Side.Shared ≡ false }
     ensures state { IfOk result (λ r. r.state ≡ split_at N.ops p.now now.state) }
     ensures new { IfOk result (λ r. r.new.items
@@ -101,10 +101,10 @@ fn split_on<N: Num>(now: Cutting<N>, p: &Place) -> Result<Cutting<N>, Memory>
     Ok(after)
 }
 
-fn on_side(p: &Place, side: Side) -> Place
+fn on_side(p: &ByteRange, side: Side) -> ByteRange
     ensures { result ≡ record p.now { side = side } }
 {
-    Place {
+    ByteRange {
         side,
         block: p.block,
         offset: p.offset,
@@ -113,7 +113,7 @@ fn on_side(p: &Place, side: Side) -> Place
 }
 
 // The left first.
-fn cut_both<N: Num>(now: Cutting<N>, p: &Place) -> Result<Cutting<N>, Memory>
+fn cut_both<N: Num>(now: Cutting<N>, p: &ByteRange) -> Result<Cutting<N>, Memory>
     ensures state { IfOk result (λ r. r.state ≡ cut N.ops (record p.now { side = Side.Shared }) now.state) }
     ensures new { IfOk result (λ r. r.new.items
         ≡ map (with_form (form_by_cut N.ops (record p.now { side = Side.Shared }) now.state)) now.new.items) }
@@ -125,7 +125,7 @@ fn cut_both<N: Num>(now: Cutting<N>, p: &Place) -> Result<Cutting<N>, Memory>
     Ok(both)
 }
 
-fn cut_all<N: Num>(now: Cutting<N>, p: &Place) -> Result<Cutting<N>, Memory>
+fn cut_all<N: Num>(now: Cutting<N>, p: &ByteRange) -> Result<Cutting<N>, Memory>
     ensures state { IfOk result (λ r. r.state ≡ cut N.ops p.now now.state) }
     ensures new { IfOk result (λ r. r.new.items ≡ map (with_form (form_by_cut N.ops p.now now.state)) now.new.items) }
     ensures forms { IfOk result (λ r. r.forms.items ≡ map (form_by_cut N.ops p.now now.state) now.forms.items) }
@@ -148,7 +148,11 @@ fn cut_all<N: Num>(now: Cutting<N>, p: &Place) -> Result<Cutting<N>, Memory>
 
 /// Cells that lie partly in a place are split on its sides, and forms that are held go along. Costs a look at the cells
 /// by the place, and for each cell that is split a step and a look at each form.
-pub fn cut<N: Num>(state: State<N>, place: Place, held: Held) -> Result<(State<N>, Held), Memory>
+pub fn cut<N: Num>(
+    state: State<N>,
+    place: ByteRange,
+    held: Held,
+) -> Result<(State<N>, Held), Memory>
     ensures state { IfOk result (λ r. r.0 ≡ cut N.ops place state) }
     ensures held { IfOk result (λ r. r.1.items ≡ map (form_by_cut N.ops place state) held.items) }
 {
@@ -167,7 +171,7 @@ pub fn cut<N: Num>(state: State<N>, place: Place, held: Held) -> Result<(State<N
 /// the place or mention such, and a search for each new cell.
 pub fn replace<N: Num>(
     state: State<N>,
-    place: Place,
+    place: ByteRange,
     new: Vec<Cell<N>>,
     held: Held,
 ) -> Result<(State<N>, Held), Memory>

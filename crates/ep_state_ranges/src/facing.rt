@@ -10,7 +10,7 @@ use ep_bitslice::Side;
 use ep_cell_rows::places::{is_same_scalar, is_same_side, place_of, touches};
 use ep_cell_rows::rows::push;
 use ep_cell_rows::values::Union;
-use ep_cells::{Cell, Place};
+use ep_cells::{ByteRange, Cell};
 use ep_domain::Num;
 use ep_int::{Memory, Model, size};
 use ep_states::State;
@@ -20,7 +20,7 @@ type Spot = (u32, u32);
 /// The place that a row takes, and its cells as they are after it.
 #[derive(Drop)]
 pub struct RowWrite<N> {
-    pub place: Place,
+    pub place: ByteRange,
     pub new: Vec<Cell<N>>,
 }
 
@@ -56,7 +56,7 @@ fn length_to(offset: u32, end: u64) -> Option<u32>
     u32::try_from(end - u64::from(offset)).ok()
 }
 
-fn row_place(side: Side, bytes: u32, spots: &[Spot]) -> Option<Place>
+fn row_place(side: Side, bytes: u32, spots: &[Spot]) -> Option<ByteRange>
     ensures side { IfSome result (λ p. p.side ≡ side) }
     ensures bytes { IfSome result (λ p. p.bytes ≡ row_bytes bytes spots.now) }
     ensures row { IfSome result (λ p. IsRow p.block p.offset bytes spots.now) }
@@ -70,7 +70,7 @@ fn row_place(side: Side, bytes: u32, spots: &[Spot]) -> Option<Place>
         None => None,
         Some(end) => match length_to(offset, end) {
             None => None,
-            Some(bytes) => Some(Place {
+            Some(bytes) => Some(ByteRange {
                 side,
                 block,
                 offset,
@@ -100,7 +100,7 @@ fn push_joined<N: Num>(
     out: &mut Vec<Cell<N>>,
     model: Model,
     c: &Cell<N>,
-    p: &Place,
+    p: &ByteRange,
     x: &Cell<N>,
 ) -> Result<(), Memory>
     ensures { IfOk result (λ _. out.new.items ≡ out.old.items ++ joined_in N.ops model c.now p.now x.now) }
@@ -116,7 +116,7 @@ fn push_all_joined<N: Num>(
     out: &mut Vec<Cell<N>>,
     model: Model,
     c: &Cell<N>,
-    p: &Place,
+    p: &ByteRange,
     cells: &[&Cell<N>],
 ) -> Result<(), Memory>
     ensures { IfOk result (λ _. out.new.items ≡ out.old.items
@@ -128,7 +128,7 @@ fn push_all_joined<N: Num>(
     Ok(())
 }
 
-fn is_in_row<N: Num>(bytes: u32, c: &Cell<N>, p: &Place, x: &Cell<N>) -> bool
+fn is_in_row<N: Num>(bytes: u32, c: &Cell<N>, p: &ByteRange, x: &Cell<N>) -> bool
     requires { 0 < bytes }
     ensures { result ≡ is_in_row bytes c.now p.now x.now }
 {
@@ -138,7 +138,7 @@ fn is_in_row<N: Num>(bytes: u32, c: &Cell<N>, p: &Place, x: &Cell<N>) -> bool
         && x.offset.saturating_sub(p.offset) % bytes == 0
 }
 
-fn is_elsewhere_or_in_row<N: Num>(model: Model, c: &Cell<N>, p: &Place, x: &Cell<N>) -> bool
+fn is_elsewhere_or_in_row<N: Num>(model: Model, c: &Cell<N>, p: &ByteRange, x: &Cell<N>) -> bool
     ensures { IsTrue result → not_in_row model c.now p.now x.now ≡ [] }
 {
     let bytes = size(model, c.what);
@@ -152,7 +152,7 @@ fn is_elsewhere_or_in_row<N: Num>(model: Model, c: &Cell<N>, p: &Place, x: &Cell
     }
 }
 
-fn are_in_row<N: Num>(model: Model, c: &Cell<N>, p: &Place, cells: &[&Cell<N>]) -> bool
+fn are_in_row<N: Num>(model: Model, c: &Cell<N>, p: &ByteRange, cells: &[&Cell<N>]) -> bool
     ensures { IsTrue result → each_becomes (not_in_row model c.now p.now) (map (λ r. r.now) cells.now) ≡ [] }
 {
     for x in cells {
@@ -168,7 +168,7 @@ fn row_at<N: Num>(
     c: &Cell<N>,
     spots: &[Spot],
     bytes: u32,
-    place: Place,
+    place: ByteRange,
 ) -> Result<Option<RowWrite<N>>, Memory>
     requires shared { c.now.side ≡ Side.Shared }
     requires side { place.side ≡ c.now.side }

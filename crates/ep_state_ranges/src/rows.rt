@@ -7,18 +7,18 @@ ghost use Rattle.ep_cells.specs.States.{Fits};
 ghost use Rattle.ep_cells.specs.Weaken.{weakened, fate_by_weak_write};
 ghost use Rattle.ep_cell_ranges.specs.Moves.{place_at, weakened_each, form_by_weak_each, blurred_each};
 ghost use Rattle.ep_cell_ranges.specs.Ranges.{with_cells, blurred_at};
-ghost use Rattle.ep_state_ranges.specs.Held.{at_spot, FitsAtEach, form_by_blur_each};
+ghost use Rattle.ep_state_ranges.specs.HeldForms.{at_spot, FitsAtEach, form_by_blur_each};
 ghost use Rattle.ep_state_ranges.specs.InRow.{Faces};
 
 use crate::facing::{RowWrite, found_row};
 use crate::forms::{Held, changed};
 use ep_bicells::changes::Step;
 use ep_bitslice::Side;
-use ep_cell_ranges_laws::weak_each_laws;
+use ep_cell_ranges::weak_each_laws;
 use ep_cell_rows::change::Change;
 use ep_cell_rows::places::place_of;
 use ep_cell_rows::values::{copy_boxed, copy_value, rises};
-use ep_cells::{Cell, Place};
+use ep_cells::{ByteRange, Cell};
 use ep_domain::Num;
 use ep_int::Memory;
 use ep_states::State;
@@ -172,7 +172,7 @@ fn blur_at<N: Num>(now: Underway<N>, side: Side, bytes: u32, q: Spot) -> Result<
     ensures forms { IfOk result (λ r. r.forms.items
         ≡ map (form_after (fate_by_weak_write (place_at side q bytes))) now.forms.items) }
 {
-    let place = Place {
+    let place = ByteRange {
         side,
         block: q.0,
         offset: q.1,

@@ -15,7 +15,7 @@ use ep_cell_rows::cell::copy_cell;
 use ep_cell_rows::places::{end, is_same_side, place_of, share_memory, touches};
 use ep_cell_rows::rows::push;
 use ep_cell_rows::values::{boxed, copy_value};
-use ep_cells::{Cell, Place};
+use ep_cells::{ByteRange, Cell};
 use ep_domain::Num;
 use ep_int::{Memory, Model};
 use ep_scalar_reads::byte::{form_of_cell, order_on};
@@ -33,7 +33,7 @@ pub enum Share {
     WithRight,
 }
 
-fn encloses(p: &Place, q: &Place) -> bool
+fn encloses(p: &ByteRange, q: &ByteRange) -> bool
     ensures { result ≡ encloses p.now q.now }
 {
     p.offset <= q.offset && end(q) <= end(p)
@@ -58,7 +58,7 @@ fn formed<N: Num>(state: &State<N>, side: Side, x: &Cell<N>) -> Result<Cell<N>, 
 fn push_within<N: Num>(
     out: &mut Vec<Cell<N>>,
     model: Model,
-    p: &Place,
+    p: &ByteRange,
     y: &Cell<N>,
 ) -> Result<(), Memory>
     ensures { IfOk result (λ _. out.new.items
@@ -74,7 +74,7 @@ fn push_within<N: Num>(
 fn push_all_within<N: Num>(
     out: &mut Vec<Cell<N>>,
     model: Model,
-    p: &Place,
+    p: &ByteRange,
     ys: &[Cell<N>],
 ) -> Result<(), Memory>
     ensures { IfOk result (λ _. out.new.items
@@ -89,7 +89,7 @@ fn push_all_within<N: Num>(
 fn push_bytes<N: Num>(
     out: &mut Vec<Cell<N>>,
     state: &State<N>,
-    p: &Place,
+    p: &ByteRange,
     x: &Cell<N>,
 ) -> Result<(), Memory>
     requires { IsSized state.now.model x.now }
@@ -107,7 +107,7 @@ fn push_bytes<N: Num>(
 fn push_cell<N: Num>(
     out: &mut Vec<Cell<N>>,
     state: &State<N>,
-    p: &Place,
+    p: &ByteRange,
     side: Side,
     x: &Cell<N>,
 ) -> Result<(), Memory>
@@ -124,7 +124,7 @@ fn push_cell<N: Num>(
 fn push_if<N: Num>(
     out: &mut Vec<Cell<N>>,
     state: &State<N>,
-    p: &Place,
+    p: &ByteRange,
     side: Side,
     x: &Cell<N>,
 ) -> Result<(), Memory>
@@ -138,7 +138,7 @@ fn push_if<N: Num>(
     }
 }
 
-fn is_whole_shared<N: Num>(state: &State<N>, p: &Place, x: &Cell<N>) -> bool
+fn is_whole_shared<N: Num>(state: &State<N>, p: &ByteRange, x: &Cell<N>) -> bool
     ensures { result ≡ is_whole_shared N.ops state.now p.now x.now }
 {
     is_same_side(x.side, Side::Shared) && encloses(p, &place_of(state.model(), x))
@@ -147,7 +147,7 @@ fn is_whole_shared<N: Num>(state: &State<N>, p: &Place, x: &Cell<N>) -> bool
 fn push_with_left<N: Num>(
     out: &mut Vec<Cell<N>>,
     state: &State<N>,
-    p: &Place,
+    p: &ByteRange,
     x: &Cell<N>,
 ) -> Result<(), Memory>
     requires { IsSized state.now.model x.now }
@@ -164,7 +164,7 @@ fn push_with_left<N: Num>(
 fn push_with_right<N: Num>(
     out: &mut Vec<Cell<N>>,
     state: &State<N>,
-    p: &Place,
+    p: &ByteRange,
     x: &Cell<N>,
 ) -> Result<(), Memory>
     requires { IsSized state.now.model x.now }
@@ -181,7 +181,7 @@ fn push_with_right<N: Num>(
 fn push_share<N: Num>(
     out: &mut Vec<Cell<N>>,
     state: &State<N>,
-    p: &Place,
+    p: &ByteRange,
     share: Share,
     x: &Cell<N>,
 ) -> Result<(), Memory>
@@ -200,7 +200,7 @@ fn push_share<N: Num>(
 fn push_shares<N: Num>(
     out: &mut Vec<Cell<N>>,
     state: &State<N>,
-    p: &Place,
+    p: &ByteRange,
     share: Share,
     cells: &[&Cell<N>],
 ) -> Result<(), Memory>
@@ -217,7 +217,7 @@ fn push_shares<N: Num>(
 fn push_taken<N: Num>(
     out: &mut Vec<Cell<N>>,
     state: &State<N>,
-    p: &Place,
+    p: &ByteRange,
     share: Share,
 ) -> Result<(), Memory>
     ensures { IfOk result (λ _. out.new.items
@@ -231,7 +231,7 @@ fn push_taken<N: Num>(
 
 /// What a side takes of a place: the cells in it, with the forms that reads give, and the bytes there of those that lie
 /// partly in it. Looks at the cells by the place alone.
-pub fn taken<N: Num>(state: &State<N>, place: &Place) -> Result<Vec<Cell<N>>, Memory>
+pub fn taken<N: Num>(state: &State<N>, place: &ByteRange) -> Result<Vec<Cell<N>>, Memory>
     ensures { IfOk result (λ v. v.items ≡ taken N.ops state.now place.now) }
 {
     let mut out = Vec::new(state.allocator());
@@ -249,13 +249,13 @@ pub fn taken_by_both<N: Num>(
 ) -> Result<Vec<Cell<N>>, Memory>
     ensures { IfOk result (λ v. v.items ≡ taken_by_both N.ops state.now (block, offset) bytes) }
 {
-    let left = Place {
+    let left = ByteRange {
         side: Side::Left,
         block,
         offset,
         bytes,
     };
-    let right = Place {
+    let right = ByteRange {
         side: Side::Right,
         block,
         offset,

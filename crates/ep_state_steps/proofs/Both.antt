@@ -5,8 +5,8 @@ use Rattle.ep_domain.specs.Domain.{Ops}
 use Rattle.ep_cells.specs.declared.cell.Cell.{Cell}
 use Rattle.ep_cells.specs.States.{Known, AreCells}
 use Rattle.ep_reads.specs.Unify.{is_crossed, uncrossed, had_by_both}
-use Rattle.ep_step_laws.specs.Single.{without_like, is_kind_among}
-use Rattle.ep_step_laws.proofs.Liked.{had_is, crossed_lacked}
+use Rattle.ep_reads.specs.Single.{without_like, is_kind_among}
+use Rattle.ep_reads.proofs.Liked.{had_is, crossed_lacked}
 use Rattle.ep_state_steps.specs.Ones.{left_at, crossed_at}
 
 pub lacking_is : {N : Type 0} (k after : Known N) (ys zs slice : List (Cell N)) → AreCells k.model k.cells → slice ≡ zs

@@ -5,10 +5,10 @@ use Rattle.ep_domain.specs.Domain.{Ops}
 use Rattle.ep_cells.specs.declared.cell.Cell.{Cell}
 use Rattle.ep_cells.specs.States.{Known, AreCells}
 use Rattle.ep_reads.specs.Unify.{parted, parted_times, parted_both}
-use Rattle.ep_step_laws.specs.Single.{facing, faced, parted_where, on_left_alone, without_like}
-use Rattle.ep_step_laws.proofs.Rounds.{IsSoFar, one_round, rounds_end, times_same}
-use Rattle.ep_step_laws.specs.Laws.{Turning, more_for}
-use Rattle.ep_step_laws.proofs.Turning.{left_turned, right_turned, turned, left_stays, right_stays, turning}
+use Rattle.ep_reads.specs.Single.{facing, faced, parted_where, on_left_alone, without_like}
+use Rattle.ep_reads.proofs.Rounds.{IsSoFar, one_round, rounds_end, times_same}
+use Rattle.ep_reads.specs.StepLaws.{Turning, more_for}
+use Rattle.ep_reads.proofs.Turning.{left_turned, right_turned, turned, left_stays, right_stays, turning}
 use Rattle.ep_state_steps.specs.Ones.{parted_at}
 
 -- ---- one turn

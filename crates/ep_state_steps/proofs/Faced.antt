@@ -6,11 +6,11 @@ use Rattle.ep_bitslice.specs.declared.cell.Side.TheVariants.{Shared}
 use Rattle.ep_cells.specs.declared.cell.Cell.{Cell}
 use Rattle.ep_cells.specs.Cells.{is_same_side}
 use Rattle.ep_cells.specs.States.{Known, Each, AreCells}
-use Rattle.ep_cells_laws.proofs.Lists.{each_from}
-use Rattle.ep_split_laws.proofs.Sides.{side_same}
-use Rattle.ep_split_laws.proofs.Splits.{filter_tests}
-use Rattle.ep_step_laws.specs.Single.{facing, begins_among, shared_where, is_shared_where}
-use Rattle.ep_step_laws.proofs.Steps.{parted_among}
+use Rattle.ep_cells.proofs.Lists.{each_from}
+use Rattle.ep_reads.proofs.Sides.{side_same}
+use Rattle.ep_reads.proofs.Splits.{filter_tests}
+use Rattle.ep_reads.specs.Single.{facing, begins_among, shared_where, is_shared_where}
+use Rattle.ep_reads.proofs.SingleSteps.{parted_among}
 use Rattle.ep_state_steps.specs.Ones.{parted_at, IsShared}
 
 pub all_shared : {N : Type 0} (d : Model) (y : Cell N) (cs zs slice : List (Cell N)) → slice ≡ zs

@@ -7,10 +7,10 @@ use Rattle.ep_cells.specs.declared.cell.Cell.{Cell}
 use Rattle.ep_cells.specs.Cells.{IsIn, share_memory}
 use Rattle.ep_cells.specs.Both.{cell_like}
 use Rattle.ep_cells.specs.States.{Known}
-use Rattle.ep_cells_laws.proofs.Both.{alike_same}
+use Rattle.ep_cells.proofs.Both.{alike_same}
 use Rattle.ep_reads.specs.Split.{split_cell, split_like}
 use Rattle.ep_reads.specs.Unify.{crossed_cell, crossed_like}
-use Rattle.ep_split_laws.proofs.Splits.{first_like}
+use Rattle.ep_reads.proofs.Splits.{first_like}
 use Rattle.ep_state_steps.specs.Ones.{Has}
 
 pub like_in : {N : Type 0} (x y : Cell N) (cs : List (Cell N)) → Some y ≡ cell_like x cs → IsIn y cs

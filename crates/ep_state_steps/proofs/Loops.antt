@@ -1,5 +1,6 @@
 -- Cells of a list change a state, one after another.
 use Rattle.std.proofs.Common.{◌≡◌, ℕ, ◌+◌, ◌≤◌, List, [], ◌∷◌, ◌++◌, map, length, drop, append_assoc, append-nil}
+use Rattle.ep_cells.proofs.Basics.{map-append}
 use Rattle.std.proofs.Common.{refl, sym, ◌∙◌, ap}
 use Rattle.std.proofs.lemmas.List.{drop_all}
 use Rattle.ep_bitslice.specs.declared.cell.Side.{Side}
@@ -8,13 +9,12 @@ use Rattle.ep_cells.specs.declared.cell.Cell.{Cell}
 use Rattle.ep_cells.specs.States.{Known, AreCells}
 use Rattle.ep_reads.specs.Split.{split_like, split_all}
 use Rattle.ep_reads.specs.Unify.{crossed_like, crossed_all}
-use Rattle.ep_step_laws.specs.Single.{facing, begins_as, begins_among, parted_where, shared_where, faced}
-use Rattle.ep_step_laws.specs.Single.{on_left_alone, is_kind_of, is_kind_among}
-use Rattle.ep_step_laws.proofs.Composed.{map_append}
-use Rattle.ep_step_laws.proofs.Parting.{parted_twice}
-use Rattle.ep_step_laws.proofs.Dropping.{without_twice}
-use Rattle.ep_step_laws.proofs.Turning.{parted_more}
-use Rattle.ep_step_laws.proofs.Steps.{parted_none, facing_none, without_none}
+use Rattle.ep_reads.specs.Single.{facing, begins_as, begins_among, parted_where, shared_where, faced}
+use Rattle.ep_reads.specs.Single.{on_left_alone, is_kind_of, is_kind_among}
+use Rattle.ep_reads.proofs.Parting.{parted_twice}
+use Rattle.ep_reads.proofs.Dropping.{without_twice}
+use Rattle.ep_reads.proofs.Turning.{parted_more}
+use Rattle.ep_reads.proofs.SingleSteps.{parted_none, facing_none, without_none}
 use Rattle.ep_state_steps.specs.Ones.{parted_at, left_at, crossed_at, split_at}
 
 -- ---- any changes
@@ -86,7 +86,7 @@ lefts_next y ys i now after out outs all e f g h =
     ap (λ k. outs ++ lefts_of (drop (i + 1) ys) k) f
     ∙ ap (λ l. l ++ map on_left_alone r) g
     ∙ append_assoc out (map on_left_alone s) (map on_left_alone r)
-    ∙ ap (λ l. out ++ l) (sym (map_append on_left_alone s r))
+    ∙ ap (λ l. out ++ l) (sym (map-append on_left_alone s r))
     ∙ sym (ap (λ l. out ++ lefts_of l now) e)
     ∙ h
 

@@ -13,7 +13,7 @@ use Rattle.ep_cells.specs.Reshare.{reshared_pair, reshared_at, places, reshared}
 use Rattle.ep_cells.specs.States.{Known, AreCells}
 use Rattle.ep_bicells.specs.Steps.{changed_by}
 use Rattle.ep_bicells.specs.declared.changes.Step.TheVariants.{Reshare}
-use Rattle.ep_step_laws.proofs.Resharing.{reshared_cells}
+use Rattle.ep_reads.proofs.Resharing.{reshared_cells}
 use Rattle.ep_state_looks.specs.declared.twins.Twins.{Twins}
 use Rattle.ep_state_looks.specs.Looks.{same_twins, twins_at}
 use Rattle.ep_state_steps.specs.Ones.{reshared_from}

@@ -15,16 +15,16 @@ use Rattle.ep_cells.specs.States.{Known, AreCells}
 use Rattle.ep_reads.specs.Bytes.{order_on}
 use Rattle.ep_reads.specs.Split.{is_name_of, form_beside, byte_cells, split_cell}
 use Rattle.ep_reads.specs.Unify.{crossed_parts, crossed_cell}
-use Rattle.ep_split_laws.proofs.OneSplit.{split_cell_cells}
-use Rattle.ep_split_laws.proofs.Crossed.{crossed_keeps}
+use Rattle.ep_reads.proofs.OneSplit.{split_cell_cells}
+use Rattle.ep_reads.proofs.Crossed.{crossed_keeps}
 use Rattle.ep_scalar_reads.specs.declared.machines.Machines.{Machines}
 use Rattle.ep_synthesis.specs.Parts.{known, IsSized}
 use Rattle.ep_synthesis.proofs.Sized.{one_sized}
-use Rattle.ep_step_laws.specs.Single.{begins_as, parted_where, is_kind_of}
-use Rattle.ep_step_laws.proofs.Composed.{same_changes}
-use Rattle.ep_step_laws.proofs.Parting.{where_cells}
-use Rattle.ep_step_laws.proofs.Dropping.{without_cells}
-use Rattle.ep_step_laws.proofs.Steps.{one_parted}
+use Rattle.ep_reads.specs.Single.{begins_as, parted_where, is_kind_of}
+use Rattle.ep_reads.proofs.Composed.{same_changes}
+use Rattle.ep_reads.proofs.Parting.{where_cells}
+use Rattle.ep_reads.proofs.Dropping.{without_cells}
+use Rattle.ep_reads.proofs.SingleSteps.{one_parted}
 use Rattle.ep_cells.specs.Weaken.{first_part}
 use Rattle.ep_bicells.specs.Steps.{changed_by, fate_to, left_by_parting}
 use Rattle.ep_bicells.specs.declared.changes.Step.TheVariants.{Split, Cross, Unshare, Lack}

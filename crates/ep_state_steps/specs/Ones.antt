@@ -10,7 +10,7 @@ use Rattle.ep_cells.specs.States.{Known}
 use Rattle.ep_reads.specs.Split.{split_all}
 use Rattle.ep_reads.specs.Unify.{crossed_all}
 use Rattle.ep_scalar_reads.specs.declared.machines.Machines.{Machines}
-use Rattle.ep_step_laws.specs.Single.{Spots, parted_where, Kinds, without}
+use Rattle.ep_reads.specs.Single.{Spots, parted_where, Kinds, without}
 
 -- the Shared cells of which the test holds are parted
 abbrev pub parted_at : {N : Type 0} → Spots → Known N → Known N

@@ -1,7 +1,7 @@
 //! Cells go.
 
 ghost use Rattle.std.specs.Prelude.{◌≡◌, IfOk};
-ghost use Rattle.ep_step_laws.specs.Single.{is_kind_of, is_kind_among};
+ghost use Rattle.ep_reads.specs.Single.{is_kind_of, is_kind_among};
 ghost use Rattle.ep_state_steps.specs.Ones.{left_at};
 
 use ep_bicells::changes::Step;

@@ -2,7 +2,7 @@
 
 ghost use Rattle.std.specs.Prelude.{◌≡◌, IfOk};
 ghost use Rattle.ep_reads.specs.Unify.{uncrossed, had_by_both};
-ghost use Rattle.ep_step_laws.specs.Single.{without_like};
+ghost use Rattle.ep_reads.specs.Single.{without_like};
 
 use crate::crossing::cross_all;
 use crate::lacking::drop_all;

@@ -2,7 +2,7 @@
 
 ghost use Rattle.std.specs.Prelude.{◌≡◌, ◌++◌, ◌∷◌, [], map, IfOk};
 ghost use Rattle.ep_cells.specs.States.{Each};
-ghost use Rattle.ep_step_laws.specs.Single.{facing, begins_as, begins_among, shared_where, faced, on_left_alone};
+ghost use Rattle.ep_reads.specs.Single.{facing, begins_as, begins_among, shared_where, faced, on_left_alone};
 ghost use Rattle.ep_state_steps.specs.Ones.{parted_at, IsShared};
 
 use ep_bicells::changes::Step;

@@ -10,7 +10,7 @@ ghost use Rattle.ep_state_steps.specs.Ones.{split_at, Has};
 use crate::machines::machines_of;
 use ep_bicells::changes::Step;
 use ep_bitslice::Side;
-use ep_cells::{Cell, Place};
+use ep_cells::{ByteRange, Cell};
 use ep_domain::Num;
 use ep_int::Memory;
 use ep_state_looks::looking::{cut, like};
@@ -58,7 +58,7 @@ fn split_each<N: Num>(state: State<N>, side: Side, xs: &[Cell<N>]) -> Result<Sta
 }
 
 /// Splits the cells that lie partly in a place of one side. Costs a step for each of them.
-pub fn split_all<N: Num>(state: State<N>, p: Place) -> Result<State<N>, Memory>
+pub fn split_all<N: Num>(state: State<N>, p: ByteRange) -> Result<State<N>, Memory>
     requires one { is_same_side p.side Side.Shared ≡ false }
     ensures { IfOk result (λ s. s ≡ record state { cells = split N.ops state p }) }
 {

@@ -2,8 +2,8 @@
 
 ghost use Rattle.std.specs.Prelude.{◌≡◌, ◌+◌, ◌++◌, [], length, map, IsTrue, IfOk};
 ghost use Rattle.ep_reads.specs.Unify.{parted_both};
-ghost use Rattle.ep_step_laws.specs.Single.{facing, faced, on_left_alone};
-ghost use Rattle.ep_step_laws.specs.Laws.{more_for, Turning};
+ghost use Rattle.ep_reads.specs.Single.{facing, faced, on_left_alone};
+ghost use Rattle.ep_reads.specs.StepLaws.{more_for, Turning};
 ghost use Rattle.ep_state_steps.specs.Ones.{parted_at};
 
 use crate::parting::part_facing;

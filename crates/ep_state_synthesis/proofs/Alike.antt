@@ -1,33 +1,32 @@
 -- Two states with cells alike of which none are to be reshared stay as they are where they are unified.
-use Rattle.std.proofs.Common.{◌≡◌, ℕ, ◌+◌, Bool, true, false, ◌&&◌, ◌||◌, not, is_some, cond, List, [], ◌∷◌, ◌++◌}
+use Rattle.std.proofs.Common.{◌≡◌, ◌+◌, Bool, true, false, ◌&&◌, ◌||◌, not, is_some, cond, List, [], ◌∷◌, ◌++◌}
+use Rattle.ep_reads.proofs.Liked.{some_like}
+use Rattle.ep_reads.proofs.Splits.{none_any}
+use Rattle.ep_cells.proofs.Basics.{filter-none}
+use Rattle.ep_reads.proofs.Members.{any_from, meet_one, place_alike, same_alike}
 use Rattle.std.proofs.Common.{length, map, IfSome, Option, Some, None, refl, sym, ◌∙◌, ap, subst}
-use Rattle.std.specs.List.{list_any, filter}
-use Rattle.std.proofs.lemmas.Bool.{and_right, or_left, or_right, both_ways}
+use Rattle.std.specs.List.{list_any}
+use Rattle.std.proofs.lemmas.Bool.{and_right}
 use Rattle.ep_int.specs.declared.types.Model.{Model}
-use Rattle.ep_int.specs.declared.types.Scalar.{Scalar}
-use Rattle.ep_int.specs.Types.{size_of}
 use Rattle.ep_bitslice.specs.declared.cell.CellName.{CellName}
-use Rattle.ep_bitslice.specs.declared.cell.Side.{Side}
 use Rattle.ep_bitslice.specs.declared.cell.Side.TheVariants.{Left, Shared}
 use Rattle.ep_bitslice.specs.declared.segment.Segment.{Segment}
 use Rattle.ep_bitslice.specs.Bits.{mentions}
 use Rattle.ep_bitslice.specs.Segments.{bits}
 use Rattle.ep_domain.specs.Domain.{Ops}
 use Rattle.ep_cells.specs.declared.cell.Cell.{Cell}
-use Rattle.ep_cells.specs.declared.place.Place.{Place}
 use Rattle.ep_cells.specs.Cells.{place_of, meets, is_same_side, is_same_cell, IsIn, first, later, each_becomes}
 use Rattle.ep_cells.specs.Forms.{reformed}
 use Rattle.ep_cells.specs.Both.{cell_like}
 use Rattle.ep_cells.specs.Reshare.{places, reshared}
-use Rattle.ep_cells.specs.States.{Known, IsFormOf, EachPair, AreApart, AreCells, AreAlike, HaveCellsAlike}
-use Rattle.ep_cells_laws.proofs.Places.{meets_sym}
-use Rattle.ep_cells_laws.proofs.Both.{one, left_first, right_first, one_order, alike_sym}
+use Rattle.ep_cells.specs.States.{Known, IsFormOf, AreCells, AreAlike, HaveCellsAlike}
+use Rattle.ep_cells.proofs.Both.{alike_sym}
 use Rattle.ep_reads.specs.Split.{is_name_of}
 use Rattle.ep_reads.specs.Unify.{is_of_one_side, faces, parted_both, is_crossed, crossed_all, uncrossed}
 use Rattle.ep_reads.specs.Unify.{uncrossed_both, left_by_lack, fate_by_lack, had_by_both, had_both, unified}
-use Rattle.ep_split_laws.proofs.Sides.{same_itself, named_same}
+use Rattle.ep_reads.proofs.Sides.{named_same}
 use Rattle.ep_cell_steps.proofs.Local.{same_reformed}
-use Rattle.ep_step_laws.proofs.Rounds.{none_parted, times_same}
+use Rattle.ep_reads.proofs.Rounds.{none_parted, times_same}
 
 pair_is : {N : Type 0} (a b c d : List (Cell N)) → a ≡ c → b ≡ d
     → (let p : List (Cell N) × List (Cell N) = (a, b) in p) ≡ (c, d)
@@ -69,52 +68,6 @@ partner y (x ∷ xs) (z ∷ ys) h (later _ _ i) =
     let r = partner y xs ys h.1 i in
     record { cell = r.cell; is_in = later x xs r.is_in; alike = r.alike }
 
-place_alike : {N : Type 0} (d : Model) (x y : Cell N) → AreAlike x y → place_of d x ≡ place_of d y
-place_alike d x y a =
-    ap (λ (s : Side). let p : Place = record {
-      side = s;
-      block = x.block;
-      offset = x.offset;
-      bytes = size_of d x.what;
-    } in
-    p) a.side
-    ∙ ap (λ (b : ℕ). let p : Place = record { side = y.side; block = b; offset = x.offset; bytes = size_of d x.what } in
-    p) a.block
-    ∙ ap (λ (q : ℕ). let p : Place = record { side = y.side; block = y.block; offset = q; bytes = size_of d x.what } in
-    p) a.offset
-    ∙ ap (λ (w : Scalar). let p : Place = record {
-      side = y.side;
-      block = y.block;
-      offset = y.offset;
-      bytes = size_of d
-          w;
-    } in p) a.what
-
-same_alike : {N : Type 0} (x y : Cell N) → AreAlike x y → is_same_cell x y ≡ true
-same_alike {N = N} x y a =
-    ap (λ (s : Side). is_same_cell (let z : Cell N = record x { side = s } in z) y) a.side
-    ∙ ap (λ (b : ℕ). is_same_cell (let z : Cell N = record x { side = y.side; block = b } in z) y) a.block
-    ∙ ap (λ (q : ℕ). is_same_cell (let z : Cell N = record x { side = y.side; block = y.block; offset = q } in z) y)
-    a.offset
-    ∙ ap (λ (w : Scalar). is_same_cell (let z : Cell N = record x {
-      side = y.side;
-      block = y.block;
-      offset = y.offset;
-      what = w;
-    } in z) y) a.what
-    ∙ same_itself y
-
--- cells of one state that have a byte in common are one
-meet_one : {N : Type 0} (d : Model) (x y : Cell N) (cs : List (Cell N)) → EachPair (AreApart d) cs → IsIn x cs
-    → IsIn y cs → meets (place_of d x) (place_of d y) ≡ true → x ≡ y
-meet_one d x y cs p i j h =
-    elim (one_order (AreApart d) x y cs p i j) [
-      | one e ↦ e
-      | left_first r ↦ absurd (both_ways (meets (place_of d x) (place_of d y)) r.apart h)
-      | right_first r ↦ absurd (both_ways (meets (place_of d x) (place_of d y)) (meets_sym y.side x.side y.block
-          y.offset (size_of d y.what) x.block x.offset (size_of d x.what) r.apart) h)
-    ]
-
 meet_alike : {N : Type 0} (d : Model) (x y : Cell N) (xs ys : List (Cell N)) → AreCells d xs → HaveCellsAlike xs ys
     → IsIn x xs → IsIn y ys → meets (place_of d x) (place_of d y) ≡ true → AreAlike x y
 meet_alike d x y xs ys a h i j m =
@@ -124,34 +77,6 @@ meet_alike d x y xs ys a h i j m =
     subst (λ z. AreAlike z y) (sym e) r.alike
 
 -- ---- tests of all cells
-
-any_none : {N : Type 0} (P : Cell N → Bool) (ys : List (Cell N)) → ((y : Cell N) → IsIn y ys → P y ≡ false)
-    → list_any P ys ≡ false
-any_none P [] h = refl
-any_none P (y ∷ ys) h = ap (λ b. b || list_any P ys) (h y (first ys)) ∙ any_none P ys (λ z i. h z (later y ys i))
-
-any_some : {N : Type 0} (P : Cell N → Bool) (y : Cell N) (ys : List (Cell N)) → IsIn y ys → P y ≡ true
-    → list_any P ys ≡ true
-any_some P y [] i h = elim i [ ]
-any_some P y (_ ∷ ys) (first _) h = or_left (P y) (list_any P ys) h
-any_some P y (z ∷ ys) (later _ _ i) h = or_right (P z) (list_any P ys) (any_some P y ys i h)
-
-filter_none : {N : Type 0} (P : Cell N → Bool) (ys : List (Cell N)) → ((y : Cell N) → IsIn y ys → P y ≡ false)
-    → filter P ys ≡ []
-filter_none P [] h = refl
-filter_none P (y ∷ ys) h =
-    ap (λ b. cond b (y ∷ filter P ys) (filter P ys)) (h y (first ys))
-    ∙ filter_none P ys (λ z i. h z (later y ys i))
-
-some_like : {N : Type 0} (x y : Cell N) (ys : List (Cell N)) → IsIn y ys → is_same_cell y x ≡ true
-    → is_some (cell_like x ys) ≡ true
-some_like x y [] i h = elim i [ ]
-some_like x y (_ ∷ ys) (first _) h = ap (λ b. is_some (cond b (Some y) (cell_like x ys))) h
-some_like {N = N} x y (z ∷ ys) (later _ _ i) h = by (is_same_cell z x) (some_like x y ys i h)
-  where
-    by : (t : Bool) → is_some (cell_like x ys) ≡ true → is_some (cond t (Some z) (cell_like x ys)) ≡ true
-    by true e = refl
-    by false e = e
 
 -- ---- nothing faces, crosses or lacks anything
 
@@ -172,13 +97,13 @@ none_faces {N = N} d x xs ys a h i = by (is_same_side x.side Shared) refl
         → (t && list_any (λ (y : Cell N). is_of_one_side y && meets (place_of d x) (place_of d y)) ys) ≡ false
     by false e = refl
     by true e =
-        any_none (λ (y : Cell N). is_of_one_side y && meets (place_of d x) (place_of d y)) ys
+        none_any (λ (y : Cell N). is_of_one_side y && meets (place_of d x) (place_of d y)) ys
         (λ y j. one_by y j e (meets (place_of d x) (place_of d y)) refl)
 
 none_crosses : {N : Type 0} (d : Model) (x : Cell N) (xs ys : List (Cell N)) → AreCells d xs → HaveCellsAlike xs ys
     → IsIn x xs → is_crossed d ys x ≡ false
 none_crosses {N = N} d x xs ys a h i =
-    any_none (λ (y : Cell N). meets (place_of d x) (place_of d y) && not (is_same_cell x y)) ys
+    none_any (λ (y : Cell N). meets (place_of d x) (place_of d y) && not (is_same_cell x y)) ys
     (λ y j. one_by y j (meets (place_of d x) (place_of d y)) refl)
   where
     one_by : (y : Cell N) → IsIn y ys → (m : Bool) → meets (place_of d x) (place_of d y) ≡ m
@@ -202,7 +127,7 @@ all_reformed ys (x ∷ xs) h =
 
 name_stays : {N : Type 0} (n : CellName) (ys : List (Cell N)) (y : Cell N) → IsIn y ys → is_name_of n y ≡ true
     → fate_by_lack ys n ≡ Some n
-name_stays n ys y i h = ap (λ b. cond b (Some n) None) (any_some (is_name_of n) y ys i h)
+name_stays n ys y i h = ap (λ b. cond b (Some n) None) (any_from (is_name_of n) y ys i h)
 
 names_stay : {N : Type 0} (x : Cell N) (xs ys : List (Cell N)) (o : Option (List Segment)) → HaveCellsAlike ys xs
     → IfSome o (IsFormOf xs x)
@@ -227,14 +152,14 @@ uncrossed_stays : {N : Type 0} (D : Ops N) (k : Known N) (xs ys : List (Cell N))
     → HaveCellsAlike xs ys → uncrossed D k ys xs ≡ xs
 uncrossed_stays D k xs ys a h =
     ap (λ zs. crossed_all D k zs xs)
-    (filter_none (is_crossed k.model ys) xs (λ x i. none_crosses k.model x xs ys a h i))
+    (filter-none (is_crossed k.model ys) xs (λ x i. none_crosses k.model x xs ys a h i))
 
 parted_stays : {N : Type 0} (d : Model) (xs ys : List (Cell N)) → AreCells d xs → AreCells d ys → HaveCellsAlike xs ys
     → parted_both d (xs, ys) ≡ (xs, ys)
 parted_stays d xs ys a b h =
     times_same d (length xs + length ys) xs ys
-    (none_parted d ys xs a (any_none (λ x. faces d ys (place_of d x)) xs (λ x i. none_faces d x xs ys a h i)))
-    (none_parted d xs ys b (any_none (λ y. faces d xs (place_of d y)) ys (λ y i. none_faces d y ys xs b (alike_lists xs
+    (none_parted d ys xs a (none_any (λ x. faces d ys (place_of d x)) xs (λ x i. none_faces d x xs ys a h i)))
+    (none_parted d xs ys b (none_any (λ y. faces d xs (place_of d y)) ys (λ y i. none_faces d y ys xs b (alike_lists xs
     ys h) i)))
 
 pub alike_stay : {N : Type 0} (D : Ops N) (k : Known N) (xs ys : List (Cell N)) → AreCells k.model xs

@@ -6,7 +6,7 @@ use Rattle.ep_cells.specs.declared.cell.Cell.{Cell}
 use Rattle.ep_cells.specs.States.{Known, AreCells, HaveCellsAlike}
 use Rattle.ep_cells.specs.Reshare.{reshared}
 use Rattle.ep_reads.specs.Unify.{crossed_like, crossed_all, is_crossed, parted_both, uncrossed, had_by_both, unified}
-use Rattle.ep_split_laws.specs.Laws.{UnifyLaws}
+use Rattle.ep_reads.specs.SplitLaws.{UnifyLaws}
 use Rattle.ep_state_synthesis.specs.Calls.{StaysIn}
 use Rattle.ep_state_synthesis.proofs.Alike.{alike_unified}
 

@@ -1,5 +1,6 @@
 -- Cells that have a byte, and bytes of places.
 use Rattle.std.proofs.Common.{◌≡◌, ℕ, ◌+◌, ◌-◌, ◌*◌, ◌^◌, ◌<◌, ◌≤◌, zero, suc, pos, Bool, true, false, cond, IfSome}
+use Rattle.ep_synthesis.proofs.Sized.{form_sized}
 use Rattle.std.proofs.Common.{List, [], ◌∷◌, ◌++◌, append_assoc, append-nil, length, Option, Some, None, refl, sym}
 use Rattle.std.proofs.Common.{◌∙◌, ap, subst, arith}
 use Rattle.ep_int.specs.declared.types.IntType.{IntType}
@@ -19,15 +20,15 @@ use Rattle.ep_pointers.specs.Value.{Pointers}
 use Rattle.ep_cells.specs.declared.cell.Cell.{Cell}
 use Rattle.ep_cells.specs.declared.cell.Value.{Value}
 use Rattle.ep_cells.specs.declared.cell.Value.TheVariants.{Num, Ptr}
-use Rattle.ep_cells.specs.declared.place.Place.{Place}
-use Rattle.ep_cells.specs.States.{Known, HasWidth, IsFormOf, AreCells}
+use Rattle.ep_cells.specs.declared.place.ByteRange.{ByteRange}
+use Rattle.ep_cells.specs.States.{Known, HasWidth, AreCells}
 use Rattle.ep_cells.specs.Look.{cell_at}
 use Rattle.ep_reads.specs.declared.read.ReadValue.{ReadValue}
 use Rattle.ep_reads.specs.Bytes.{order_on, byte_at, own_form, form_or, form_of_cell, is_null_alone, zero_form}
 use Rattle.ep_reads.specs.Bytes.{pointer_byte, byte_of_value, byte_of_cell}
 use Rattle.ep_reads.specs.Read.{is_exact, whole_read, byte_there, bytes_from, read_in_parts, read_with, read}
-use Rattle.ep_reads_laws.proofs.Numbers.{at_most_eight}
-use Rattle.ep_reads_laws.proofs.Found.{covering}
+use Rattle.ep_reads.proofs.Numbers.{at_most_eight}
+use Rattle.ep_reads.proofs.Found.{covering}
 use Rattle.ep_scalar_reads.specs.Parts.{HasByte, HasFittingForm, HaveByteForms}
 use Rattle.ep_scalar_reads.proofs.Bytes.{has_byte, eight_by}
 
@@ -42,7 +43,7 @@ size_small Ilp32 Pointer = omega arith
 size_small Lp64 Pointer = omega arith
 
 -- byte i of a place, as it is read
-abbrev pub byte_in : {N : Type 0} → Ops N → Known N → Place → ℕ → ReadValue N
+abbrev pub byte_in : {N : Type 0} → Ops N → Known N → ByteRange → ℕ → ReadValue N
 byte_in D k p i = byte_there D k p.side p.block (p.offset + place (order_on p.side k.orders) p.bytes i)
 
 -- a cell that has a byte
@@ -53,11 +54,6 @@ pub record HasIt {N : Type 0} (d : Model) (cs : List (Cell N)) (at : ℕ) (x : C
   pub byte : HasByte x.what (at - x.offset)
   pub form : HasFittingForm x
 
-fitting : {N : Type 0} (cs : List (Cell N)) (x : Cell N) (o : Option (List Segment)) → IfSome o (IsFormOf cs x)
-    → IfSome o (λ ss. HasWidth x.what (width ss))
-fitting cs x None h = tt
-fitting cs x (Some ss) h = h.wide
-
 pub has_it : {N : Type 0} (d : Model) (s : Side) (b byte : ℕ) (cs : List (Cell N)) (x : Cell N)
     → AreCells d cs → Some x ≡ cell_at d s b byte cs → HasIt d cs byte x
 has_it d s b byte cs x a e =
@@ -67,7 +63,7 @@ has_it d s b byte cs x a e =
       high = c.high;
       small = omega (arith, c.low, c.high, size_small d x.what);
       byte = has_byte d x.what (byte - x.offset) (omega (arith, c.low, c.high));
-      form = fitting cs x x.form (a.forms x c.is_in);
+      form = form_sized cs x x.form (a.forms x c.is_in);
     }
 
 -- no cell has a byte behind the last offset
@@ -178,7 +174,7 @@ pub read_some : {N : Type 0} (D : Ops N) (k : Known N) (s : Side) (b q : ℕ) (w
 read_some D k s b q w r x t e i h =
     h ∙ sym (ap (λ y. cond y (whole_read D w x) (read_in_parts D k s b q w)) i) ∙ ap (read_with D k s b q w) e
 
-pub byte_at_place : {N : Type 0} (D : Ops N) (k : Known N) (p : Place) (i a b c : ℕ) (o : Order) (r : ReadValue N)
+pub byte_at_place : {N : Type 0} (D : Ops N) (k : Known N) (p : ByteRange) (i a b c : ℕ) (o : Order) (r : ReadValue N)
     → o ≡ order_on p.side k.orders → a ≡ p.offset → c ≡ place o p.bytes i → b ≡ c
     → r ≡ byte_there D k p.side p.block (a + b) → r ≡ byte_in D k p i
 byte_at_place D k p i a b c o r e f g h is =

@@ -2,12 +2,12 @@
 use Rattle.std.specs.Prelude.{ℕ}
 use Rattle.ep_bitslice.specs.declared.cell.Side.{Side}
 use Rattle.ep_domain.specs.Domain.{Ops}
-use Rattle.ep_cells.specs.declared.place.Place.{Place}
+use Rattle.ep_cells.specs.declared.place.ByteRange.{ByteRange}
 use Rattle.ep_cells.specs.States.{Known}
 use Rattle.ep_cells.specs.Meaning.{Memories, In}
 
 -- so many bytes of a block, on a side
-abbrev pub place_at : Side → (block offset bytes : ℕ) → Place
+abbrev pub place_at : Side → (block offset bytes : ℕ) → ByteRange
 place_at s b q n = record { side = s; block = b; offset = q; bytes = n }
 
 -- memories of the first state are in the second

@@ -7,16 +7,15 @@ ghost use Rattle.ep_int.specs.Encoding.{is_width};
 ghost use Rattle.ep_cells.specs.Look.{cell_at};
 ghost use Rattle.ep_reads.specs.Read.{byte_there, bytes_there, read_in_parts, read};
 ghost use Rattle.ep_cell_ranges.specs.Shared.{is_shared_cell};
-ghost use Rattle.ep_reads_laws.specs.Laws.{ReadHolds, FitsRead};
+ghost use Rattle.ep_reads.specs.Laws.{ReadHolds, FitsRead};
 ghost use Rattle.ep_scalar_reads.specs.Parts.{HaveByteForms};
 
 use ep_bitslice::Side;
 use ep_cell_rows::places::is_same_side;
-use ep_cells::{Cell, Place};
+use ep_cells::{ByteRange, Cell};
 use ep_domain::Num;
 use ep_int::{Memory, Scalar};
-use ep_reads::ReadValue;
-use ep_reads_laws::read_laws;
+use ep_reads::{ReadValue, read_laws};
 use ep_scalar_reads::byte::{byte_of_cell, order_on, unknown_byte};
 use ep_scalar_reads::read::{is_exact, read_from_bytes, whole_read};
 use ep_states::State;
@@ -51,7 +50,7 @@ fn push<N: Num>(out: &mut Vec<ReadValue<N>>, r: ReadValue<N>) -> Result<(), Memo
 }
 
 // The bytes of a place, the lowest first.
-fn bytes_there<N: Num>(state: &State<N>, p: Place) -> Result<Vec<ReadValue<N>>, Memory>
+fn bytes_there<N: Num>(state: &State<N>, p: ByteRange) -> Result<Vec<ReadValue<N>>, Memory>
     requires { IsTrue (is_width p.bytes) }
     ensures value { IfOk result (λ v. v.items ≡ bytes_there N.ops state.now p.side p.block p.offset p.bytes) }
     ensures forms { IfOk result (λ v. HaveByteForms v.items) }
@@ -65,7 +64,11 @@ fn bytes_there<N: Num>(state: &State<N>, p: Place) -> Result<Vec<ReadValue<N>>, 
     Ok(out)
 }
 
-fn read_in_parts<N: Num>(state: &State<N>, p: Place, what: Scalar) -> Result<ReadValue<N>, Memory>
+fn read_in_parts<N: Num>(
+    state: &State<N>,
+    p: ByteRange,
+    what: Scalar,
+) -> Result<ReadValue<N>, Memory>
     requires { p.bytes ≡ size_of state.now.model what }
     ensures { IfOk result (λ r. r ≡ read_in_parts N.ops state.now p.side p.block p.offset what) }
 {
@@ -73,7 +76,7 @@ fn read_in_parts<N: Num>(state: &State<N>, p: Place, what: Scalar) -> Result<Rea
     Ok(read_from_bytes(state.allocator(), what, &bytes))
 }
 
-fn read_place<N: Num>(state: &State<N>, p: Place, what: Scalar) -> Result<ReadValue<N>, Memory>
+fn read_place<N: Num>(state: &State<N>, p: ByteRange, what: Scalar) -> Result<ReadValue<N>, Memory>
     requires { p.bytes ≡ size_of state.now.model what }
     ensures { IfOk result (λ r. r ≡ read N.ops state.now p.side p.block p.offset what) }
 {
@@ -104,7 +107,7 @@ pub fn read<N: Num>(
 {
     read_laws::<N>();
     let bytes = ep_int::size(state.model(), what);
-    let place = Place {
+    let place = ByteRange {
         side,
         block,
         offset,

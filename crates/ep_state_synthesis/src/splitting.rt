@@ -4,18 +4,18 @@ ghost use Rattle.std.specs.Prelude.{◌≡◌, false, IfOk, OnOk, OnErr};
 ghost use Rattle.ep_cells.specs.Cells.{is_same_side};
 ghost use Rattle.ep_cells.specs.Look.{is_some_partly_in};
 ghost use Rattle.ep_reads.specs.Split.{split};
-ghost use Rattle.ep_split_laws.specs.Laws.{SplitHolds};
+ghost use Rattle.ep_reads.specs.SplitLaws.{SplitHolds};
 ghost use Rattle.ep_state_synthesis.specs.Calls.{place_at};
 
 use ep_bitslice::Side;
-use ep_cells::Place;
+use ep_cells::ByteRange;
 use ep_domain::Num;
 use ep_int::Memory;
-use ep_split_laws::split_laws;
+use ep_reads::split_laws;
 use ep_state_steps::split_all;
 use ep_states::State;
 
-fn split_copy<N: Num>(state: &State<N>, p: Place) -> Result<State<N>, Memory>
+fn split_copy<N: Num>(state: &State<N>, p: ByteRange) -> Result<State<N>, Memory>
     requires { is_same_side p.side Side.Shared ≡ false }
     ensures { IfOk result (λ s. s ≡ record state.now { cells = split N.ops state.now p }) }
 {
@@ -43,7 +43,7 @@ pub fn split<N: Num>(
 {
     split_laws::<N>();
     state.model();
-    let place = Place {
+    let place = ByteRange {
         side,
         block,
         offset,

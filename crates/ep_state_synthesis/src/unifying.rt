@@ -7,7 +7,7 @@ ghost use Rattle.ep_state_synthesis.specs.Calls.{StaysIn};
 
 use ep_domain::Num;
 use ep_int::Memory;
-use ep_split_laws::unify_laws;
+use ep_reads::unify_laws;
 use ep_state_steps::{States, level_both, part_both, reshare_all};
 use ep_states::State;
 

@@ -15,7 +15,7 @@ ghost use Rattle.ep_cell_ranges.specs.Ranges.{overwritten, blurred_at};
 ghost use Rattle.ep_cell_rows.specs.Parts.{united as of_union};
 ghost use Rattle.ep_bicells.specs.Steps.{changed_by};
 ghost use Rattle.ep_cell_parts.specs.About.{IsAbout};
-ghost use Rattle.ep_cell_steps.specs.Kept.{AreKept};
+ghost use Rattle.ep_cell_steps.specs.PartsInvariant.{AreKept};
 ghost use Rattle.ep_shared_parts.specs.Spread.{all_items};
 ghost use Rattle.ep_cell_parts.specs.Alike.{are_different};
 
@@ -36,7 +36,7 @@ use ep_cell_steps::building::{index, spread};
 use ep_cell_steps::changes::{Parts, after, changed};
 use ep_cell_steps::weak_writes::{weaken_at, weakened};
 use ep_cell_steps::writes::{write_at, written};
-use ep_cells::{Cell, Place, Value};
+use ep_cells::{ByteRange, Cell, Value};
 use ep_domain::Num;
 use ep_int::{Memory, Model, Order, Scalar};
 use ep_layout::Leaf;
@@ -55,7 +55,7 @@ pub struct State<N> {
 impl<N> std::marker::Model for State<N> {
     ghost use Rattle.ep_cells.specs.States.{Known};
     ghost use Rattle.ep_shared_parts.specs.Spread.{all_items};
-    ghost use Rattle.ep_cell_steps.specs.Kept.{AreKept};
+    ghost use Rattle.ep_cell_steps.specs.PartsInvariant.{AreKept};
 
     ghost Value = { Known N };
 
@@ -178,7 +178,7 @@ impl<N: Num> State<N> {
     }
 
     /// The cells that may touch a place, in order, and some about them. Takes memory for them alone.
-    pub fn about(&self, place: &Place) -> Result<Vec<&Cell<N>>, Memory>
+    pub fn about(&self, place: &ByteRange) -> Result<Vec<&Cell<N>>, Memory>
         ensures { IfOk result (λ v. IsAbout self.now.model place.now self.now.cells (map (λ r. r.now) v.items)) }
     {
         let cells = about(*self.parts.cells.allocator(), &self.parts.cells, place)?;
@@ -186,7 +186,7 @@ impl<N: Num> State<N> {
     }
 
     /// Whether some cell has bytes in the place, and others. Takes no memory.
-    pub fn partly(&self, place: &Place) -> bool
+    pub fn partly(&self, place: &ByteRange) -> bool
         ensures { result ≡ is_some_partly_in self.now.model place.now self.now.cells }
     {
         cells::is_some_partly_in(self.model, place, &self.parts.cells)
@@ -355,7 +355,7 @@ impl<N: Num> State<N> {
     }
 
     /// The state where a place may have been written in whatever way, as by `blur`. Costs what `after` does.
-    pub fn blurred(self, place: Place) -> Result<State<N>, Memory>
+    pub fn blurred(self, place: ByteRange) -> Result<State<N>, Memory>
         ensures { IfOk result (λ s. s ≡ blurred_at N.ops place self) }
     {
         let alloc = *self.parts.cells.allocator();
@@ -367,7 +367,7 @@ impl<N: Num> State<N> {
     /// New cells in a place, in which no others lie partly: what was there on its sides is gone. What comes of it has
     /// to be the cells of a state. Costs the parts with cells that touch the place or mention such, and a search for
     /// each new cell.
-    pub fn overwrite(&mut self, place: Place, new: &[Cell<N>]) -> Result<(), Memory>
+    pub fn overwrite(&mut self, place: ByteRange, new: &[Cell<N>]) -> Result<(), Memory>
         requires { AreCells self.old.model (overwritten N.ops place new.now self.old).cells }
         ensures ok { OnOk result (self.new ≡ overwritten N.ops place new.now self.old) }
         ensures err { OnErr result (self.new ≡ self.old) }
@@ -379,7 +379,7 @@ impl<N: Num> State<N> {
 
     /// A place may have been written in whatever way: on its sides, integer cells with bytes in it may have any value
     /// or be undefined, and pointer cells are gone. Costs the parts with cells that touch the place or mention such.
-    pub fn blur(&mut self, place: Place) -> Result<(), Memory>
+    pub fn blur(&mut self, place: ByteRange) -> Result<(), Memory>
         ensures ok { OnOk result (self.new ≡ blurred_at N.ops place self.old) }
         ensures err { OnErr result (self.new ≡ self.old) }
     {

@@ -8,7 +8,7 @@ use Rattle.ep_cells.specs.Cells.{IsIn}
 use Rattle.ep_cells.specs.States.{HasWidth, IsFormOf, AreCells}
 use Rattle.ep_synthesis.specs.Parts.{IsSized}
 
-form_sized : {N : Type 0} (cs : List (Cell N)) (x : Cell N) (o : Option (List Segment)) → IfSome o (IsFormOf cs x)
+pub form_sized : {N : Type 0} (cs : List (Cell N)) (x : Cell N) (o : Option (List Segment)) → IfSome o (IsFormOf cs x)
     → IfSome o (λ ss. HasWidth x.what (width ss))
 form_sized cs x None h = tt
 form_sized cs x (Some ss) h = h.wide

@@ -1,8 +1,9 @@
-use Rattle.ep_cell_parts.proofs.Allowed.{ordered, can_write_is}
+use Rattle.ep_cell_parts.proofs.Allowed.{can_write_is}
+use Rattle.ep_cell_changes.proofs.Checked.{order_of}
 use Rattle.ep_cell_parts.proofs.conditions.can_write.Goals as goal
 
 pub has_form-requires : goal.has_form-requires
-has_form-requires g c = ordered c.args.model c.args.cells.now c.requires.pairs
+has_form-requires g c = order_of c.args.model c.args.cells.now c.requires.pairs
 
 pub returns : goal.returns
 returns g c =

@@ -2,7 +2,7 @@ use Rattle.std.proofs.Common.{◌∙◌, ap, sym, subst}
 use Rattle.ep_bicells.specs.declared.changes.Step.TheVariants.{Blur}
 use Rattle.ep_shared_parts.specs.Spread.{all_items}
 use Rattle.ep_bicells.specs.Steps.{after_step, IsPlan}
-use Rattle.ep_cell_steps.specs.Kept.{AreKept}
+use Rattle.ep_cell_steps.specs.PartsInvariant.{AreKept}
 use Rattle.ep_cell_steps.proofs.Changing.{plan_within}
 use Rattle.ep_cell_steps.proofs.Blurring.{blur_items, blur_kept}
 use Rattle.ep_cell_steps.proofs.blurs.blur_at.Goals as goal

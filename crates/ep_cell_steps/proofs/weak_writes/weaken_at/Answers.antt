@@ -1,6 +1,6 @@
 use Rattle.std.proofs.Common.{◌∙◌, ap, sym, subst}
 use Rattle.ep_shared_parts.specs.Spread.{all_items}
-use Rattle.ep_cell_steps.specs.Kept.{AreKept}
+use Rattle.ep_cell_steps.specs.PartsInvariant.{AreKept}
 use Rattle.ep_cell_steps.specs.Weakened.{AreWeakened}
 use Rattle.ep_cell_steps.proofs.Weakening.{weak_done, weak_within, weak_kept}
 use Rattle.ep_cell_steps.proofs.weak_writes.weaken_at.Goals as goal

@@ -2,7 +2,7 @@ use Rattle.std.proofs.Common.{◌∙◌, ap, sym, subst}
 use Rattle.ep_cells.specs.States.{CanWrite}
 use Rattle.ep_cells.specs.Write.{written}
 use Rattle.ep_shared_parts.specs.Spread.{all_items}
-use Rattle.ep_cell_steps.specs.Kept.{AreKept}
+use Rattle.ep_cell_steps.specs.PartsInvariant.{AreKept}
 use Rattle.ep_cell_steps.specs.Writes.{AreWritten}
 use Rattle.ep_cell_steps.proofs.Writing.{write_done, write_within, write_kept, written_of, kept_grown}
 use Rattle.ep_cell_steps.proofs.writes.write_at.Goals as goal

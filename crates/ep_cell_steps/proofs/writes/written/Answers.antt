@@ -1,7 +1,7 @@
 use Rattle.std.proofs.Common.{◌∙◌, [], ◌∷◌, ap, sym, subst}
 use Rattle.ep_cells.specs.Cells.{place_of}
 use Rattle.ep_cells.specs.States.{AreCells}
-use Rattle.ep_cells_laws.proofs.Write.{write_cells}
+use Rattle.ep_cells.proofs.Write.{write_cells}
 use Rattle.ep_shared_parts.specs.Spread.{all_items}
 use Rattle.ep_bicells.specs.declared.changes.Step.TheVariants.{Write}
 use Rattle.ep_cell_steps.proofs.Changing.{same_change}

@@ -1,6 +1,6 @@
 use Rattle.std.proofs.Common.{◌≡◌, ◌≤◌, ◌∙◌, length, true, ap, arith, rules, sym, subst}
+use Rattle.std.proofs.lemmas.List.{get_or_default}
 use Rattle.ep_shared_parts.specs.Walks.{rest}
-use Rattle.ep_shared_parts.proofs.Planning.{same_default}
 use Rattle.ep_cells.specs.Both.{value_of_both}
 use Rattle.ep_cell_rows.specs.Parts.{united}
 use Rattle.ep_cell_unions.proofs.Together.{rest_next, stays_next, none_to_go, rest_all}
@@ -9,7 +9,7 @@ use Rattle.ep_cell_unions.proofs.unions.behind_staying.Goals as goal
 pub behind_run-run-requires-clause-stays : goal.behind_run-run-requires-clause-stays
 behind_run-run-requires-clause-stays g c =
     let yes : c.in_ok-cell_stays.field-0 ≡ true = search rules in
-    let same : c.index-cells-i.result ≡ c.index-cells-i-in-loop-i.result = c.index-cells-i.is ∙ same_default c.args.cells.now c.loop-i.i c.index-cells-i.result c.index-cells-i-in-loop-i.result c.loop-i-test.true ∙ sym c.index-cells-i-in-loop-i.is in
+    let same : c.index-cells-i.result ≡ c.index-cells-i-in-loop-i.result = c.index-cells-i.is ∙ get_or_default c.args.cells.now c.loop-i.i c.index-cells-i.result c.index-cells-i-in-loop-i.result c.loop-i-test.true ∙ sym c.index-cells-i-in-loop-i.is in
     subst (λ x. value_of_both (united g.N.Num.ops c.args.union) x.value c.in-Some.y.0.now.value ≡ x.value) same (ap (λ z. z.value) (c.in_ok-cell_stays.ensures.0 yes))
 
 pub loop-i-preserved : goal.loop-i-preserved

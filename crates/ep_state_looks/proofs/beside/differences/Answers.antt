@@ -1,7 +1,7 @@
 use Rattle.std.proofs.Common.{sym, ◌∙◌, ap, subst, map}
 use Rattle.ep_cell_changes.specs.Tests.{AreInOrder}
 use Rattle.ep_cell_changes.proofs.Checked.{order_of}
-use Rattle.ep_step_laws.specs.Single.{without_like}
+use Rattle.ep_reads.specs.Single.{without_like}
 use Rattle.ep_state_looks.proofs.beside.differences.Goals as goal
 
 pub lacked_among-requires-clause-first : goal.lacked_among-requires-clause-first

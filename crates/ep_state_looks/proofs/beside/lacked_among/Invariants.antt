@@ -1,5 +1,5 @@
 use Rattle.std.proofs.Common.{◌≤◌, map, drop, length}
-use Rattle.ep_step_laws.specs.Single.{without_like}
+use Rattle.ep_reads.specs.Single.{without_like}
 use Rattle.ep_state_looks.proofs.Walking.{IsWalked}
 use Rattle.ep_state_looks.proofs.beside.lacked_among.Given as goal
 

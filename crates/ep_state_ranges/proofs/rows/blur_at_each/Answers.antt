@@ -1,6 +1,6 @@
 use Rattle.std.proofs.Common.{get_or, map, arith}
 use Rattle.ep_cell_ranges.specs.Moves.{blurred_each}
-use Rattle.ep_state_ranges.specs.Held.{form_by_blur_each}
+use Rattle.ep_state_ranges.specs.HeldForms.{form_by_blur_each}
 use Rattle.ep_state_ranges.proofs.Merging.{next}
 use Rattle.ep_state_ranges.proofs.Rounds.{blur_turn, blur_ends, blur_forms_turn, blur_forms_end}
 use Rattle.ep_state_ranges.proofs.rows.blur_at_each.Goals as goal

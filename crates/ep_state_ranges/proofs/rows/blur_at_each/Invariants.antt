@@ -1,6 +1,6 @@
 use Rattle.std.proofs.Common.{◌≡◌, map, drop}
 use Rattle.ep_cell_ranges.specs.Moves.{blurred_each}
-use Rattle.ep_state_ranges.specs.Held.{form_by_blur_each}
+use Rattle.ep_state_ranges.specs.HeldForms.{form_by_blur_each}
 use Rattle.ep_state_ranges.proofs.rows.blur_at_each.Given as goal
 
 abbrev pub invariant-loop-q : goal.invariant-loop-q

@@ -1,7 +1,7 @@
 use Rattle.std.proofs.Common.{get_or, map, subst, arith}
 use Rattle.ep_cells.specs.Weaken.{weakened}
 use Rattle.ep_cell_ranges.specs.Moves.{weakened_each, form_by_weak_each}
-use Rattle.ep_state_ranges.specs.Held.{at_spot, FitsAtEach}
+use Rattle.ep_state_ranges.specs.HeldForms.{at_spot, FitsAtEach}
 use Rattle.ep_state_ranges.proofs.Merging.{next}
 use Rattle.ep_state_ranges.proofs.Rounds.{model_stays, weaken_turn, weaken_ends, weak_forms_turn, weak_forms_end}
 use Rattle.ep_state_ranges.proofs.Rounds.{fits_first}

@@ -1,6 +1,6 @@
 use Rattle.std.proofs.Common.{◌≡◌, map, drop}
 use Rattle.ep_cell_ranges.specs.Moves.{weakened_each, form_by_weak_each}
-use Rattle.ep_state_ranges.specs.Held.{at_spot, FitsAtEach}
+use Rattle.ep_state_ranges.specs.HeldForms.{at_spot, FitsAtEach}
 use Rattle.ep_state_ranges.proofs.rows.weaken_at_each.Given as goal
 
 abbrev pub invariant-loop-q : goal.invariant-loop-q

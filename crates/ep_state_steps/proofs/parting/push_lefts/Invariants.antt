@@ -1,5 +1,5 @@
 use Rattle.std.proofs.Common.{◌≡◌, ◌++◌, map, drop}
-use Rattle.ep_step_laws.specs.Single.{on_left_alone}
+use Rattle.ep_reads.specs.Single.{on_left_alone}
 use Rattle.ep_state_steps.proofs.parting.push_lefts.Given as goal
 
 abbrev pub invariant-loop-z : goal.invariant-loop-z

@@ -1,6 +1,6 @@
 use Rattle.std.proofs.Common.{◌∙◌, ap, map}
-use Rattle.ep_step_laws.specs.Single.{facing, faced, on_left_alone}
-use Rattle.ep_step_laws.specs.Laws.{more_for}
+use Rattle.ep_reads.specs.Single.{facing, faced, on_left_alone}
+use Rattle.ep_reads.specs.StepLaws.{more_for}
 use Rattle.ep_state_steps.specs.Ones.{parted_at}
 use Rattle.ep_state_steps.proofs.ByTurns.{more_is, second_is, others_are}
 use Rattle.ep_state_steps.proofs.turns.turn.Goals as goal

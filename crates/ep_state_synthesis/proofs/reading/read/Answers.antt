@@ -1,5 +1,5 @@
 use Rattle.std.proofs.Common.{sym, subst}
-use Rattle.ep_reads_laws.specs.Laws.{ReadHolds, FitsRead}
+use Rattle.ep_reads.specs.Laws.{ReadHolds, FitsRead}
 use Rattle.ep_state_synthesis.proofs.reading.read.Goals as goal
 
 pub returns-clause-holds : goal.returns-clause-holds

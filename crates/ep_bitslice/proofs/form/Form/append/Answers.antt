@@ -1,9 +1,10 @@
 use Rattle.std.proofs.Common.{◌≡◌, ℕ, ◌+◌, ◌-◌, ◌≤◌, ◌++◌, List, length, length-append, sym, ap, ◌∙◌, arith}
+use Rattle.ep_bitslice.proofs.NormalForm.{append_nothing}
 use Rattle.ep_bitslice.specs.declared.segment.Segment.{Segment}
 use Rattle.ep_bitslice.specs.Bits.{Bit, part_of}
 use Rattle.ep_bitslice.specs.Segments.{bits, width, segment_bits}
 use Rattle.ep_bitslice.proofs.Appending.{length-bits}
-use Rattle.ep_bitslice.proofs.Parts.{append_nothing, part_none, part_length, piece_is, part_step, part_full}
+use Rattle.ep_bitslice.proofs.Parts.{part_none, part_length, piece_is, part_step, part_full}
 use Rattle.ep_bitslice.proofs.form.Form.append.Goals as goal
 
 pub loop-at-init : goal.loop-at-init

@@ -1,9 +1,9 @@
 use Rattle.std.proofs.Common.{◌≡◌, ℕ, ◌++◌, List, sym, ap, ◌∙◌, subst}
+use Rattle.ep_bitslice.proofs.NormalForm.{append_nothing}
 use Rattle.ep_bitslice.specs.declared.segment.Segment.{Segment}
 use Rattle.ep_bitslice.specs.Bits.{Bit, zeros}
 use Rattle.ep_bitslice.specs.Segments.{IsForm, IsAppended, TooMany, bits}
 use Rattle.ep_bitslice.proofs.Pieces.{fixed_zeros}
-use Rattle.ep_bitslice.proofs.Parts.{append_nothing}
 use Rattle.ep_bitslice.proofs.form.Form.append_zeros.Goals as goal
 
 none : (ss : List Segment) (k : ℕ) → k ≡ 0 → IsForm ss → IsAppended ss (zeros k) ss

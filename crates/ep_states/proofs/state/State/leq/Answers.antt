@@ -1,6 +1,6 @@
 use Rattle.std.proofs.Common.{ap, subst}
 use Rattle.ep_cells.specs.Cells.{IsIn}
-use Rattle.ep_cells_laws.proofs.Both.{only_one}
+use Rattle.ep_cells.proofs.Both.{only_one}
 use Rattle.ep_shared_parts.specs.Spread.{all_items}
 use Rattle.ep_states.proofs.state.State.leq.Goals as goal
 

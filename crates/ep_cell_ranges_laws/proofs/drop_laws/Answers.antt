@@ -1,5 +1,0 @@
-use Rattle.ep_cell_ranges_laws.proofs.KillHeld.{of_drops}
-use Rattle.ep_cell_ranges_laws.proofs.drop_laws.Goals as goal
-
-pub returns : goal.returns
-returns g c = of_drops g.N.Num.ops

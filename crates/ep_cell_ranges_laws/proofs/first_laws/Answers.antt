@@ -1,5 +1,0 @@
-use Rattle.ep_cell_ranges_laws.proofs.Firsts.{of_firsts}
-use Rattle.ep_cell_ranges_laws.proofs.first_laws.Goals as goal
-
-pub returns : goal.returns
-returns g c = of_firsts g.N.Num.ops

@@ -1,5 +1,0 @@
-use Rattle.ep_cell_ranges_laws.proofs.Waits.{of_splits}
-use Rattle.ep_cell_ranges_laws.proofs.more_split_laws.Goals as goal
-
-pub returns : goal.returns
-returns g c = of_splits g.N.Num.ops g.met.N.Num.laws

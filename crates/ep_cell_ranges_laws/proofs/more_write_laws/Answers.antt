@@ -1,5 +1,0 @@
-use Rattle.ep_cell_ranges_laws.proofs.Waits.{of_writes}
-use Rattle.ep_cell_ranges_laws.proofs.more_write_laws.Goals as goal
-
-pub returns : goal.returns
-returns g c = of_writes g.N.Num.ops

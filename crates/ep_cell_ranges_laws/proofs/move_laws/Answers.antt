@@ -1,5 +1,0 @@
-use Rattle.ep_cell_ranges_laws.proofs.Moved.{of_moves}
-use Rattle.ep_cell_ranges_laws.proofs.move_laws.Goals as goal
-
-pub returns : goal.returns
-returns g c = of_moves g.N.Num.ops

@@ -1,5 +1,0 @@
-use Rattle.ep_cell_ranges_laws.proofs.Overwrites.{of_overwrites}
-use Rattle.ep_cell_ranges_laws.proofs.overwrite_laws.Goals as goal
-
-pub returns : goal.returns
-returns g c = of_overwrites g.N.Num.ops

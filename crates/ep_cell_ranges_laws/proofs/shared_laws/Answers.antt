@@ -1,5 +1,0 @@
-use Rattle.ep_cell_ranges_laws.proofs.Shareds.{of_shared}
-use Rattle.ep_cell_ranges_laws.proofs.shared_laws.Goals as goal
-
-pub returns : goal.returns
-returns g c = of_shared g.N.Num.ops g.met.N.Num.laws

@@ -1,3 +1,0 @@
-pub mod Follow
-pub mod Sound
-pub mod Laws

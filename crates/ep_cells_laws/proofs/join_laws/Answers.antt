@@ -1,5 +1,0 @@
-use Rattle.ep_cells_laws.proofs.Gathered.{of_joins}
-use Rattle.ep_cells_laws.proofs.join_laws.Goals as goal
-
-pub returns : goal.returns
-returns g c = of_joins g.N.Num.ops g.met.N.Num.laws

@@ -1,5 +1,0 @@
-use Rattle.ep_cells_laws.proofs.Gathered.{of_kills}
-use Rattle.ep_cells_laws.proofs.kill_laws.Goals as goal
-
-pub returns : goal.returns
-returns g c = of_kills g.N.Num.ops g.met.N.Num.laws

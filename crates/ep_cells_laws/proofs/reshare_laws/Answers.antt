@@ -1,5 +1,0 @@
-use Rattle.ep_cells_laws.proofs.Gathered.{of_resharing}
-use Rattle.ep_cells_laws.proofs.reshare_laws.Goals as goal
-
-pub returns : goal.returns
-returns g c = of_resharing g.N.Num.ops g.met.N.Num.laws

@@ -1,5 +1,0 @@
-use Rattle.ep_reads_laws.proofs.Gathered.{of_reads}
-use Rattle.ep_reads_laws.proofs.read_laws.Goals as goal
-
-pub returns : goal.returns
-returns g c = of_reads g.N.Num.ops g.met.N.Num.laws
