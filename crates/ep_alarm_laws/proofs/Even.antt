@@ -1,6 +1,8 @@
 -- Where numbers keep strides, all offsets of a place that a declaration names, or of a part of one, also at an index,
 -- are multiples of its alignment.
 use Rattle.std.proofs.Common.{◌≡◌, ℕ, zero, suc, ◌*◌, ◌%◌, ◌/◌, ◌≤◌, ◌<◌, ℤ, pos, ◌+ℤ◌, Bool, true, false, ◌&&◌, not}
+use Rattle.ep_evaluation.proofs.Basics.{faults_on-none}
+use Rattle.std.proofs.lemmas.Bool.{or_from}
 use Rattle.std.proofs.Common.{nat_eq, nat_le, if◌then◌else◌, IsTrue, List, [], ◌∷◌, slice_get, Option, Some, None}
 use Rattle.std.proofs.Common.{option_map, option_and_then, IfSome, refl, sym, ap, ◌∙◌, subst, arith}
 use Rattle.std.proofs.lemmas.Bool.{and_parts, leb-true, le-leb}
@@ -35,7 +37,7 @@ use Rattle.ep_transfers.specs.Transfers.{sizes}
 use Rattle.ep_alarm_laws.specs.Laws.{ProductsKeepStrides}
 use Rattle.ep_alarm_laws.proofs.Named.{odd_faults}
 use Rattle.ep_alarm_laws.proofs.Tables.{by_power, whole, IsPart, member_part, elements, scalar_laid, zero_is_multiple}
-use Rattle.ep_alarm_laws.proofs.Places.{neither, on_running, silent, pointer_of, object, size_laid}
+use Rattle.ep_alarm_laws.proofs.Places.{on_running, pointer_of, object, size_laid}
 
 -- ---- multiples
 
@@ -145,13 +147,13 @@ module _ {N : Type 0} (D : Ops N) (law : Lawful D) (keeps : KeepsStrides D) (pro
     some_even : (a : N) → IsEven s a → (z : ℤ) (count : ℕ) → is_some_odd D s a z count ≡ false
     some_even a h z zero = refl
     some_even a h z (suc n) =
-        neither (D.holds a z && not (nat_eq (residue s z) 0)) (is_some_odd D s a (z +ℤ pos 1) n)
+        or_from (D.holds a z && not (nat_eq (residue s z) 0)) (is_some_odd D s a (z +ℤ pos 1) n)
         (one_even a h z (D.holds a z) refl) (some_even a h (z +ℤ pos 1) n)
 
     pub never_odd : (ts : List (ℕ × N)) → AreEven s ts → may_be_odd D s ts ≡ false
     never_odd [] h = refl
     never_odd (t ∷ ts) h =
-        neither (holds_odd D s t.1) (may_be_odd D s ts) (some_even t.1 h.0 _ _) (never_odd ts h.1)
+        or_from (holds_odd D s t.1) (may_be_odd D s ts) (some_even t.1 h.0 _ _) (never_odd ts h.1)
 
   -- ---- addresses
 
@@ -281,7 +283,7 @@ module _ {N : Type 0} (D : Ops N) (law : Lawful D) (keeps : KeepsStrides D) (pro
       → odd_faults D (sizes D p) m (size_of k.model w) (place D (sizes D p) a m k).pair ≡ []
   even_quiet a ty h th w i told =
       subst (λ d. odd_faults D (sizes D p) m (size_of d w) (place D (sizes D p) a m k).pair ≡ []) (sym told)
-      (silent m U7 (λ s. shown_if (may_be_odd D (size_of p.types.model w) (targets_of D (sizes D p) (at a s))))
+      (faults_on-none m U7 (λ s. shown_if (may_be_odd D (size_of p.types.model w) (targets_of D (sizes D p) (at a s))))
       (λ s r. let x = is_even a ty h th s r in
       let same : x.layout ≡ scalar_layout p.types.model w
       = same_some x.layout (scalar_layout p.types.model w) (layout_of p.types ty) x.laid

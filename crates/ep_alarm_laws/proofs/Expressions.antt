@@ -1,5 +1,6 @@
 -- The faults of a typed expression, and of a typed place, are of kinds that its text may have.
 use Rattle.std.proofs.Common.{◌≡◌, ℕ, Bool, true, false, ◌&&◌, ◌||◌, not, List, ◌++◌, ⊎_elim, Option, Some, None, refl}
+use Rattle.std.proofs.lemmas.Bool.{or_cases}
 use Rattle.std.proofs.lemmas.Bool.{and_parts, or_left, or_right}
 use Rattle.ep_int.specs.declared.types.IntType.TheVariants.{I32}
 use Rattle.ep_int.specs.declared.types.Scalar.{Scalar}
@@ -16,7 +17,7 @@ use Rattle.ep_core.specs.WellFormed.{has_scalar, is_array_of, has_bound, has_mem
 use Rattle.ep_core.specs.WellFormed.{int_type_of, right_type, is_int, some_type, is_pointer, is_test, place_has}
 use Rattle.ep_core.specs.WellFormed.{has_sort}
 use Rattle.ep_layout.specs.Table.{size}
-use Rattle.ep_core.proofs.Sorts.{three, either_is, int_where, type_where, pointer_where, tested_where}
+use Rattle.ep_core.proofs.Sorts.{three, int_where, type_where, pointer_where, tested_where}
 use Rattle.ep_pass.specs.Places.{is_one_of, operator_kinds, order_kinds, read_kinds, access_kinds, address_kinds}
 use Rattle.ep_pass.specs.Places.{expr_may, place_may, target_may}
 use Rattle.ep_equalities.specs.declared.pair.Mode.{Mode}
@@ -46,7 +47,7 @@ addressed p seen a (pointer_to ty) h =
     ⊎_elim (λ i. (ty, i))
     (λ i. (let s = type_where p.types p.blocks seen (λ u. is_array_of u ty) (place_has p.types p.blocks seen a) i in
     (s.0, s.2)))
-    (either_is (place_has p.types p.blocks seen a ty)
+    (or_cases (place_has p.types p.blocks seen a ty)
     (some_type p.types p.blocks seen (λ u. is_array_of u ty) (place_has p.types p.blocks seen a)) h)
 
 -- of a read with an access like this one

@@ -1,7 +1,6 @@
 -- Of the operations on cells, every fault is of a kind that the text may have, where accesses to typed places are so.
 use Rattle.std.proofs.Common.{◌≡◌, Bool, true, false, None, refl}
-use Rattle.ep_int.specs.declared.types.Model.{Model}
-use Rattle.ep_int.specs.declared.types.Model.TheVariants.{Ilp32, Lp64}
+use Rattle.ep_cell_ranges.proofs.Basics.{is_model-equal}
 use Rattle.ep_int.specs.declared.types.Order.{Order}
 use Rattle.ep_alarms.specs.declared.types.AlarmKind.{AlarmKind}
 use Rattle.ep_alarms.specs.declared.types.AlarmKind.TheVariants.{E1}
@@ -15,7 +14,6 @@ use Rattle.ep_pass.specs.States.{Tested}
 use Rattle.ep_pass.specs.Honest.{AreOf, is_alone, Honest}
 use Rattle.ep_pass.specs.Places.{is_kind, expr_may, exprs_may, simple_may, result_may}
 use Rattle.ep_evaluation.specs.Evaluation.{tested, expression}
-use Rattle.ep_cell_ranges.specs.Tests.{is_model}
 use Rattle.ep_transfers.specs.Calls.{arguments_step, result_step}
 use Rattle.ep_transfers.specs.Cells.{mode_of, told_of, when_known, test_when_known, is_told_so, cell_ops}
 use Rattle.ep_transfers.specs.Ends.{ended_faults}
@@ -26,12 +24,6 @@ use Rattle.ep_alarm_laws.proofs.FaultKinds.{told_kinds}
 use Rattle.ep_alarm_laws.proofs.OwnPlaces.{HaveOwnPlaces, own_quiet}
 use Rattle.ep_alarm_laws.proofs.Statements.{tested_kinds, simple_kinds}
 use Rattle.ep_alarm_laws.proofs.Calls.{arguments_kinds, result_kinds, ended_kinds}
-
-same_model : (d e : Model) → is_model d e ≡ true → d ≡ e
-same_model Ilp32 Ilp32 h = refl
-same_model Ilp32 Lp64 h = absurd (cc)
-same_model Lp64 Ilp32 h = absurd (cc)
-same_model Lp64 Lp64 h = refl
 
 module _ {N : Type 0} (D : Ops N) where
   -- where another data model is told, there is no fault
@@ -51,7 +43,7 @@ module _ {N : Type 0} (D : Ops N) (law : Lawful D) (p : Program) (ord : Side →
   own = own_quiet p formed D law
 
   told_so : (k : Known N) → is_told_so D p ord k ≡ true → k.model ≡ p.types.model
-  told_so k e = same_model k.model p.types.model e
+  told_so k e = is_model-equal k.model p.types.model e
 
   pub honest : Honest p strides (cell_ops D p ord)
   honest = record {

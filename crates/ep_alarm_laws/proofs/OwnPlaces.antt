@@ -1,5 +1,6 @@
 -- A value at the start of a block that holds its scalar is inside the block, and aligned.
-use Rattle.std.proofs.Common.{◌≡◌, ℕ, zero, suc, ◌+◌, pos, ◌+ℤ◌, Bool, true, false, ◌&&◌, ◌||◌, not, nat_eq, int_lt}
+use Rattle.std.proofs.Common.{◌≡◌, ℕ, zero, suc, ◌+◌, pos, ◌+ℤ◌, true, false, ◌&&◌, ◌||◌, not, nat_eq, int_lt}
+use Rattle.ep_int.proofs.Basics.{and-false}
 use Rattle.std.proofs.Common.{List, [], ◌∷◌, length, map, slice_get, Option, Some, None, option_map, option_and_then}
 use Rattle.std.proofs.Common.{refl, sym, ap, ◌∙◌, subst, arith}
 use Rattle.std.specs.List.{list_all}
@@ -35,14 +36,10 @@ HaveOwnPlaces {N = N} D p = (b : ℕ × Scalar) → holds_scalar p.types p.block
 zero_type : IsOfSomeType (pos 0)
 zero_type = record { low = omega (arith, ints); high = omega (arith, ints) }
 
-never : (b : Bool) → (b && false) ≡ false
-never true = refl
-never false = refl
-
 -- ---- sizes
 
 -- a type's number is below the depth that is looked at
-depth : (xs : List Ty) (n c : ℕ) (x : Ty) → slice_get xs n ≡ Some x → (k : ℕ) × (length xs + c ≡ suc k)
+pub depth : (xs : List Ty) (n c : ℕ) (x : Ty) → slice_get xs n ≡ Some x → (k : ℕ) × (length xs + c ≡ suc k)
 depth [] n c x h = absurd (let q : None ≡ Some x = h in cc)
 depth (y ∷ xs) n c x h = (length xs + c, (let e : length (y ∷ xs) + c ≡ suc (length xs + c) = omega arith in e))
 
@@ -70,7 +67,7 @@ scalar_size t n (Some (ty.Array e c)) w h s = absurd (cc)
 scalar_size t n (Some (ty.Aggregate a)) w h s = absurd (cc)
 scalar_size t n None w h s = absurd (cc)
 
-number_is : (o : Option ℕ) (m n : ℕ) → o ≡ Some m → is_number o n ≡ true → n ≡ m
+pub number_is : (o : Option ℕ) (m n : ℕ) → o ≡ Some m → is_number o n ≡ true → n ≡ m
 number_is None m n e h = absurd (cc)
 number_is (Some k) m n e h = let q : k ≡ m = cc in sym (eqb-true k n h) ∙ q
 
@@ -110,7 +107,7 @@ module _ (p : Program) (formed : is_well_formed p ≡ true) where
     even_start : (b n : ℕ) → may_be_odd D n ((b, D.single (pos 0)) ∷ []) ≡ false
     even_start b n =
         let e : (D.holds (D.single (pos 0)) (pos 0) && not (nat_eq (residue n (pos 0)) 0)) ≡ false
-        = rw (zero-mod n) (never (D.holds (D.single (pos 0)) (pos 0))) in
+        = rw (zero-mod n) (and-false (D.holds (D.single (pos 0)) (pos 0))) in
         rw (law.single_range (pos 0) zero_type, e) refl
 
     quiet : (blocks : List ℕ) (b n : ℕ) → slice_get blocks b ≡ Some n → (m : Mode)

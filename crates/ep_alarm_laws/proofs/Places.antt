@@ -1,8 +1,12 @@
 -- A place that a declaration names, or a part of one without an index, lies at one offset of its block, inside of it
 -- and at a multiple of its alignment.
 use Rattle.std.proofs.Common.{◌≡◌, ℕ, zero, suc, ◌+◌, ◌*◌, ◌%◌, ◌≤◌, ◌<◌, ℤ, pos, ◌-ℤ◌, Bool, true, false, ◌&&◌, ◌||◌}
+use Rattle.ep_pointers.proofs.Moving.{settled_in}
+use Rattle.ep_evaluation.proofs.Basics.{faults_on-none}
+use Rattle.ep_int.proofs.Basics.{true_and_false}
+use Rattle.std.proofs.lemmas.Bool.{or_from}
 use Rattle.std.proofs.Common.{not, nat_eq, nat_le, int_lt, if◌then◌else◌, List, [], ◌∷◌, ◌++◌, map, slice_get}
-use Rattle.std.proofs.Common.{unwrap_or, sum_by, Option, Some, None, option_map, Ok, Err, MatchResult, IsSomeAnd}
+use Rattle.std.proofs.Common.{unwrap_or, sum_by, Option, Some, None, option_map, IsSomeAnd}
 use Rattle.std.proofs.Common.{refl, sym, ap, ◌∙◌, subst, arith}
 use Rattle.std.specs.Prelude.{unsigned_abs}
 use Rattle.std.specs.List.{list_all}
@@ -12,10 +16,7 @@ use Rattle.std.proofs.lemmas.Bool.{and_parts, eqb-true, false_from_ne_true, ltb-
 use Rattle.ep_int.specs.declared.types.Scalar.{Scalar}
 use Rattle.ep_int.specs.declared.types.IntType.TheVariants.{I64}
 use Rattle.ep_int.specs.declared.types.BinOp.TheVariants.{Add, Mul}
-use Rattle.ep_int.specs.declared.types.Undef.{Undef}
-use Rattle.ep_int.specs.declared.types.Undef.TheVariants.{Overflow}
-use Rattle.ep_int.specs.Arith.{is_in_range}
-use Rattle.ep_int.specs.Types.{size_of, InRange}
+use Rattle.ep_int.specs.Types.{size_of}
 use Rattle.ep_layout.specs.Layout.{Layout, scalar_layout}
 use Rattle.ep_layout.specs.Table.{Table, IsBuilt, layout_of, size}
 use Rattle.ep_layout.proofs.Options.{same_some}
@@ -25,7 +26,7 @@ use Rattle.ep_domain.specs.Domain.{Ops, IsSingle, Lawful}
 use Rattle.ep_pointers.specs.Value.{Pointers, one_target}
 use Rattle.ep_pointers.specs.Sum.{move, moved_offset, bytes_of, offsets_and, cut_to, put, of_targets, exact_ends}
 use Rattle.ep_pointers.specs.Sum.{exact_range, leaves, shown_of}
-use Rattle.ep_pointers.proofs.Moving.{in_range_true, offset_in_range, offset_of_some_type}
+use Rattle.ep_pointers.proofs.Moving.{offset_in_range, offset_of_some_type}
 use Rattle.ep_cells.specs.States.{Known}
 use Rattle.ep_cells.specs.declared.cell.Value.TheVariants.{Ptr}
 use Rattle.ep_core.specs.Exec.{greatest_offset}
@@ -50,12 +51,6 @@ use Rattle.ep_alarm_laws.proofs.Named.{member_faults}
 use Rattle.ep_alarm_laws.proofs.OwnPlaces.{sized}
 use Rattle.ep_alarm_laws.proofs.Tables.{whole, IsPart, member_part, scalar_laid, zero_is_multiple, sum_is_multiple}
 
-pub neither : (a b : Bool) → a ≡ false → b ≡ false → (a || b) ≡ false
-neither a b e f = rw (e, f) refl
-
-not_both : (b : Bool) → b ≡ true → b ≡ false → ⊥
-not_both b e f = cc
-
 -- ---- sides that run
 
 pub on_running : {N : Type 0} (m : Mode) (f : Side → SideValue N) (e : Bool) (s : Side) → runs m s ≡ true
@@ -70,12 +65,6 @@ on_running Right f e right h = refl
 no_fault : (k : AlarmKind) (a b : Shown) → a ≡ None → b ≡ None → fault_of k a b ≡ []
 no_fault k a b e f = rw (e, f) refl
 
-pub silent : (m : Mode) (k : AlarmKind) (f : Side → Shown) → ((s : Side) → runs m s ≡ true → f s ≡ None)
-    → faults_on m k f ≡ []
-silent Both k f h = no_fault k (f left) (f right) (h left refl) (h right refl)
-silent Left k f h = no_fault k (f left) None (h left refl) refl
-silent Right k f h = no_fault k None (f right) refl (h right refl)
-
 nothing_more : (xs ys : List Fault) → xs ≡ [] → ys ≡ [] → (xs ++ ys) ≡ []
 nothing_more xs ys e f = rw (e, f) refl
 
@@ -88,11 +77,6 @@ pointer_of D (Some p) = refl
 some_is : {N : Type 0} (P : N → Type 0) (o : Option N) → IsSomeAnd o P → (c : N) × (o ≡ Some c) × P c
 some_is P None h = absurd h
 some_is P (Some c) h = (c, refl, h)
-
-in_range_value : (v : ℤ) (A : ℤ → Type 0) (B : Type 0) → InRange I64 v
-    → MatchResult (if is_in_range I64 v then Ok v else Err Overflow) A (λ (_ : Undef). B) → A v
-in_range_value v A B i h =
-    subst (λ (c : Bool). MatchResult (if c then Ok v else Err Overflow) A (λ (_ : Undef). B)) (in_range_true v i) h
 
 not_below : (n : ℕ) → int_lt (pos n) (pos 0) ≡ false
 not_below n = false_from_ne_true (int_lt (pos n) (pos 0)) (λ e. absurd (let l = ltb-true n 0 e in omega (arith, l)))
@@ -108,7 +92,7 @@ inside_ends r s z o q n e f g h =
     ap (λ w. leaves w (exact_ends false 1 r s)) g
     ∙ ap (λ w. leaves (Some n) (exact_ends false 1 w s)) e
     ∙ ap (λ w. leaves (Some n) (exact_ends false 1 (pos o, pos o) w)) f
-    ∙ neither (int_lt (pos (o + q * 1)) (pos 0)) (int_lt (pos n) (pos (o + q * 1))) (not_below (o + q * 1))
+    ∙ or_from (int_lt (pos (o + q * 1)) (pos 0)) (int_lt (pos n) (pos (o + q * 1))) (not_below (o + q * 1))
     (not_over n (o + q * 1) (omega (arith, h)))
 
 inside_block : (r : ℤ × ℤ) (z : Option ℕ) (o bytes n : ℕ) → r ≡ (pos o, pos o) → z ≡ Some n → o + bytes ≤ n
@@ -116,7 +100,7 @@ inside_block : (r : ℤ × ℤ) (z : Option ℕ) (o bytes n : ℕ) → r ≡ (po
 inside_block r z o bytes n e g h =
     ap (λ w. leaves_block w bytes r) g
     ∙ ap (λ w. leaves_block (Some n) bytes w) e
-    ∙ neither (int_lt (pos o) (pos 0)) (int_lt (pos n) (pos (o + bytes))) (not_below o) (not_over n (o + bytes) h)
+    ∙ or_from (int_lt (pos o) (pos 0)) (int_lt (pos n) (pos (o + bytes))) (not_below o) (not_over n (o + bytes) h)
 
 -- ---- one number moved by another
 
@@ -130,7 +114,7 @@ module _ {N : Type 0} (D : Ops N) (law : Lawful D) where
       let one : 1 < 4294967296 = omega arith in
       some_is (λ c. IsSingle D c (pos q)) (bytes_of D (D.single (pos q)) 1)
       (subst (λ (n : ℕ). IsSomeAnd (bytes_of D (D.single (pos q)) 1) (λ c. IsSingle D c (pos n))) same
-      (in_range_value (pos (q * 1)) (λ v. IsSomeAnd (bytes_of D (D.single (pos q)) 1) (λ c. IsSingle D c v))
+      (settled_in (pos (q * 1)) (λ v. IsSomeAnd (bytes_of D (D.single (pos q)) 1) (λ c. IsSingle D c v))
       (bytes_of D (D.single (pos q)) 1 ≡ None) (offset_in_range (q * 1) product)
       (law.op_single Mul I64 (D.single (pos q)) (D.single (pos 1)) (pos q) (pos 1)
       (record { left = offset_in_range q fits; right = offset_in_range 1 one })
@@ -144,7 +128,7 @@ module _ {N : Type 0} (D : Ops N) (law : Lawful D) where
       let second : q < 4294967296 = omega (arith, h) in
       let sum : o + q < 4294967296 = omega (arith, h) in
       some_is (λ c. IsSingle D c (pos (o + q))) (offsets_and D false n (Some bytes))
-      (in_range_value (pos (o + q)) (λ v. IsSomeAnd (offsets_and D false n (Some bytes)) (λ c. IsSingle D c v))
+      (settled_in (pos (o + q)) (λ v. IsSomeAnd (offsets_and D false n (Some bytes)) (λ c. IsSingle D c v))
       (offsets_and D false n (Some bytes) ≡ None) (offset_in_range (o + q) sum)
       (law.op_single Add I64 n bytes (pos o) (pos q)
       (record { left = offset_in_range o first; right = offset_in_range q second }) i j))
@@ -169,7 +153,7 @@ module _ {N : Type 0} (D : Ops N) (law : Lawful D) where
   one_odd n a o s h =
       ap (λ (r : ℤ × ℤ). is_some_odd D n a r.0 (unsigned_abs (r.1 -ℤ r.0) + 1)) s
       ∙ ap (is_some_odd D n a (pos o)) (ap (λ z. unsigned_abs z + 1) (itself_less o))
-      ∙ neither (D.holds a (pos o) && not (nat_eq (o % n) 0)) false
+      ∙ or_from (D.holds a (pos o) && not (nat_eq (o % n) 0)) false
       (ap (λ r. D.holds a (pos o) && not (nat_eq r 0)) h ∙ never_and (D.holds a (pos o))) refl
     where
       itself_less : (o : ℕ) → pos o -ℤ pos o ≡ pos 0
@@ -239,7 +223,7 @@ module _ {N : Type 0} (D : Ops N) (law : Lawful D) where
           ap (λ z. move_leaves D blocks 1 false z (offset_number D blocks q)) x.points
           ∙ ap (move_leaves D blocks 1 false (Some (one_target x.target x.number))) number_is
           ∙ ap (λ z. shows_if z (shown_of D (move (D.single (pos q)) 1 false) ((x.target, x.number) ∷ [])))
-          (neither (leaves (slice_get blocks x.target) (exact_range D (move (D.single (pos q)) 1 false) x.number)) false
+          (or_from (leaves (slice_get blocks x.target) (exact_range D (move (D.single (pos q)) 1 false) x.number)) false
           (inside_ends (D.range x.number) (D.range (D.single (pos q))) (slice_get blocks x.target) x.offset q x.bytes
           x.single (law.single_range (pos q) (offset_of_some_type q n)) x.of_block fits) refl)
 
@@ -256,19 +240,19 @@ module _ {N : Type 0} (D : Ops N) (law : Lawful D) where
       in_bounds =
           ap (λ z. bounds_of D blocks x.layout.size (targets_of D blocks z)) x.points
           ∙ ap (λ z. shows_if z (D.range x.number))
-          (neither (leaves_block (slice_get blocks x.target) x.layout.size (D.range x.number)) false
+          (or_from (leaves_block (slice_get blocks x.target) x.layout.size (D.range x.number)) false
           (inside_block (D.range x.number) (slice_get blocks x.target) x.offset x.layout.size x.bytes x.single
           x.of_block x.inside) refl)
 
       pub not_odd : shown_if (may_be_odd D x.layout.align (targets_of D blocks p)) ≡ None
       not_odd =
           ap (λ z. shown_if (may_be_odd D x.layout.align (targets_of D blocks z))) x.points
-          ∙ ap shown_if (neither (holds_odd D x.layout.align x.number) false
+          ∙ ap shown_if (or_from (holds_odd D x.layout.align x.number) false
           (one_odd x.layout.align x.number x.offset x.single x.multiple) refl)
 
 -- ---- blocks
 
-among : (bs : List Block) (i n : ℕ) (x : Block) → sum_by (λ (b : Block). b.size) bs ≤ n → slice_get bs i ≡ Some x
+pub among : (bs : List Block) (i n : ℕ) (x : Block) → sum_by (λ (b : Block). b.size) bs ≤ n → slice_get bs i ≡ Some x
     → x.size ≤ n
 among [] i n x h e = absurd (let q : None ≡ Some x = e in cc)
 among (b ∷ bs) zero n x h e =
@@ -373,9 +357,9 @@ module _ {N : Type 0} (D : Ops N) (law : Lawful D) (p : Program) (formed : is_we
     range_by n same =
         nothing_more (faults_on m U6 (λ s. shown_if (is_null D (sizes D p) (address a s))))
         (faults_on m U5 (λ s. bounds_of D (sizes D p) n (targets_of D (sizes D p) (address a s))))
-        (silent m U6 (λ s. shown_if (is_null D (sizes D p) (address a s)))
+        (faults_on-none m U6 (λ s. shown_if (is_null D (sizes D p) (address a s)))
         (λ s r. not_null D law p.types (sizes D p) ty (address a s) (lies a ty has th ix s r)))
-        (silent m U5 (λ s. bounds_of D (sizes D p) n (targets_of D (sizes D p) (address a s)))
+        (faults_on-none m U5 (λ s. bounds_of D (sizes D p) n (targets_of D (sizes D p) (address a s)))
         (λ s r. let x = lies a ty has th ix s r in
         subst (λ (z : ℕ). bounds_of D (sizes D p) z (targets_of D (sizes D p) (address a s)) ≡ None)
         (same x.layout x.laid) (in_bounds D law p.types (sizes D p) ty (address a s) x)))
@@ -394,7 +378,7 @@ module _ {N : Type 0} (D : Ops N) (law : Lawful D) (p : Program) (formed : is_we
         (faults_on m U7 (λ s. shown_if (may_be_odd D (size_of p.types.model w)
         (targets_of D (sizes D p) (address a s)))))
         (range_by (size_of p.types.model w) (λ l e. ap (λ (z : Layout). z.size) (is_scalar l e)))
-        (silent m U7 (λ s. shown_if (may_be_odd D (size_of p.types.model w) (targets_of D (sizes D p) (address a s))))
+        (faults_on-none m U7 (λ s. shown_if (may_be_odd D (size_of p.types.model w) (targets_of D (sizes D p) (address a s))))
         (λ s r. let x = lies a ty has th ix s r in
         subst (λ (z : ℕ). shown_if (may_be_odd D z (targets_of D (sizes D p) (address a s))) ≡ None)
         (ap (λ (z : Layout). z.align) (is_scalar x.layout x.laid))
@@ -412,11 +396,11 @@ module _ {N : Type 0} (D : Ops N) (law : Lawful D) (p : Program) (formed : is_we
       (place_has p.types p.blocks seen a) h in
       nothing_more (faults_on m U6 (λ s. shown_if (moves_null (address a s) (offset_number D (sizes D p) q))))
       (faults_on m U5 (λ s. move_leaves D (sizes D p) 1 false (address a s) (offset_number D (sizes D p) q)))
-      (silent m U6 (λ s. shown_if (moves_null (address a s) (offset_number D (sizes D p) q)))
+      (faults_on-none m U6 (λ s. shown_if (moves_null (address a s) (offset_number D (sizes D p) q)))
       (λ s r. let x = lies a u.0 u.2 th ix s r in
       no_null D law p.types (sizes D p) u.0 ty q (address a s) x
       (member_part p.types built u.0 x.layout q ty x.laid u.1)))
-      (silent m U5 (λ s. move_leaves D (sizes D p) 1 false (address a s) (offset_number D (sizes D p) q))
+      (faults_on-none m U5 (λ s. move_leaves D (sizes D p) 1 false (address a s) (offset_number D (sizes D p) q))
       (λ s r. let x = lies a u.0 u.2 th ix s r in
       no_leave D law p.types (sizes D p) u.0 ty q (address a s) x
       (member_part p.types built u.0 x.layout q ty x.laid u.1)))

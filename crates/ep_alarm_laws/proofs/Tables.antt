@@ -1,5 +1,6 @@
 -- Parts of the types of a table that was built lie inside the whole, at multiples of their alignment.
 use Rattle.std.proofs.Common.{◌≡◌, ℕ, zero, suc, ◌+◌, ◌*◌, ◌%◌, ◌≤◌, max, nat_eq, Bool, true, false, ◌&&◌}
+use Rattle.std.proofs.lemmas.Bool.{or_cases}
 use Rattle.std.proofs.Common.{if◌then◌else◌, List, [], ◌∷◌, slice_get, Option, Some, None, option_map}
 use Rattle.std.proofs.Common.{option_and_then, refl, sym, ap, ◌∙◌, subst, ◌⊎◌, inl, inr, arith}
 use Rattle.std.specs.List.{All, list_any}
@@ -26,7 +27,7 @@ use Rattle.ep_layout.proofs.Ordered.{IsPower, next_is_multiple}
 use Rattle.ep_layout.proofs.PlacingLemmas.{end_rises}
 use Rattle.ep_layout.proofs.Sizes.{IsKept, kept_by_type}
 use Rattle.ep_core.specs.WellFormed.{has_scalar, has_member, is_array_of, has_bound}
-use Rattle.ep_core.proofs.Sorts.{either_is, never, same_scalar}
+use Rattle.ep_core.proofs.Sorts.{never, same_scalar}
 
 -- ---- alignments are powers of two up to 8, and divide sizes
 
@@ -167,7 +168,7 @@ module _ (t : Table) (offset n : ℕ) where
       let more : s.1 ≡ ls = (let z = s.4 in cc) in
       let laid : layout_of t x.ty ≡ Some l = s.2 ∙ ap (λ (z : Layout). Some z) same in
       let f : ℕ = next_multiple_of e l.align + l.size in
-      elim (either_is (is_member offset n x) (list_any (is_member offset n) ms) q) [
+      elim (or_cases (is_member offset n x) (list_any (is_member offset n) ms) q) [
         | inl a ↦ this_member x l (end_of f ls) (greatest_align (l ∷ ls)) a laid
             (subst (λ (k : ℕ). k % l.align ≡ 0) (sym p.0) (next_is_multiple l.align (whole t x.ty l laid).align e))
             (omega arith) (let r = end_rises ls f in let o = p.0 in omega (arith, r, o))
@@ -193,7 +194,7 @@ module _ (t : Table) (offset n : ℕ) where
       let same : s.0 ≡ l = (let z = s.4 in cc) in
       let more : s.1 ≡ ls = (let z = s.4 in cc) in
       let laid : layout_of t x.ty ≡ Some l = s.2 ∙ ap (λ (z : Layout). Some z) same in
-      elim (either_is (is_member offset n x) (list_any (is_member offset n) ms) q) [
+      elim (or_cases (is_member offset n x) (list_any (is_member offset n) ms) q) [
         | inl a ↦ this_member x l (greatest_size (l ∷ ls)) (greatest_align (l ∷ ls)) a laid
             (subst (λ (k : ℕ). k % l.align ≡ 0) (sym p.0) (zero_is_multiple l.align (whole t x.ty l laid).align))
             (omega arith) (let o = p.0 in omega (arith, o))

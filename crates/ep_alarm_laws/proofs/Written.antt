@@ -6,7 +6,7 @@ use Rattle.ep_bitslice.specs.declared.cell.Side.{Side as CellSide}
 use Rattle.ep_bitslice.specs.declared.cell.Side.TheVariants as cell_side
 use Rattle.ep_domain.specs.Domain.{Ops}
 use Rattle.ep_cells.specs.declared.cell.Cell.{Cell}
-use Rattle.ep_cells.specs.declared.place.Place.{Place}
+use Rattle.ep_cells.specs.declared.place.ByteRange.{ByteRange}
 use Rattle.ep_cells.specs.Cells.{place_of}
 use Rattle.ep_cells.specs.Forms.{common_form}
 use Rattle.ep_cells.specs.States.{Known}
@@ -27,7 +27,7 @@ use Rattle.ep_transfers.specs.Writes.{write_same, write_both, write, write_now}
 use Rattle.ep_transfers.specs.Transfers.{if_goes_on, assigned, killed_block, killed_blocks, cells_of_mode, entered}
 
 module _ {N : Type 0} (D : Ops N) where
-  cut_model : (s : CellSide) (p : Place) (k : Known N) → (cut_on D s p k).model ≡ k.model
+  cut_model : (s : CellSide) (p : ByteRange) (k : Known N) → (cut_on D s p k).model ≡ k.model
   cut_model cell_side.Left p k = refl
   cut_model cell_side.Right p k = refl
   cut_model cell_side.Shared p k = refl

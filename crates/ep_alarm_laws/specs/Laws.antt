@@ -4,7 +4,7 @@ use Rattle.ep_int.specs.declared.types.IntType.TheVariants.{I64}
 use Rattle.ep_int.specs.declared.types.BinOp.TheVariants.{Mul}
 use Rattle.ep_domain.specs.Domain.{Ops, IsSingle, IsStride}
 use Rattle.ep_cells.specs.States.{Known}
-use Rattle.ep_pass_laws.specs.Laws.{AreHonest}
+use Rattle.ep_pass.specs.ReportLaws.{AreHonest}
 use Rattle.ep_transfers.specs.Cells.{cell_ops}
 
 -- In programs whose table of types was built by the rules, each is of a kind that the text may have, where numbers keep

@@ -9,16 +9,16 @@ use Rattle.ep_core.specs.Program.{input, output, read_bytes, write_bytes, return
 use Rattle.ep_core.specs.Runs.{Side}
 use Rattle.ep_core.specs.WellFormed.{is_well_formed}
 use Rattle.ep_pass.specs.Laws.{Lawful}
-use Rattle.ep_pass_laws.specs.Laws.{AreLawful, EmptyReportsAgree}
-use Rattle.ep_pass_laws.proofs.Sound.{sound}
+use Rattle.ep_pass.specs.ReportLaws.{AreLawful, EmptyReportsAgree}
+use Rattle.ep_pass.proofs.Sound.{sound}
 use Rattle.ep_transfers.specs.Cells.{cell_ops}
-use Rattle.ep_transfers_laws.specs.Laws.{StandsFor}
-use Rattle.ep_transfers_laws.specs.Statements.{SimpleHolds}
-use Rattle.ep_transfers_laws.proofs.Gathered.{each_statement, each_result, each_test, each_block, each_pair}
-use Rattle.ep_transfers_laws.proofs.GatheredRuns.{each_run}
-use Rattle.ep_transfers_laws.proofs.Copying.{each_copy}
-use Rattle.ep_transfers_laws.proofs.Called.{each_call}
-use Rattle.ep_transfers_laws.proofs.Entering.{each_entry}
+use Rattle.ep_transfers.specs.Laws.{StandsFor}
+use Rattle.ep_transfers.specs.Statements.{SimpleHolds}
+use Rattle.ep_transfers.proofs.Gathered.{each_statement, each_result, each_test, each_block, each_pair}
+use Rattle.ep_transfers.proofs.GatheredRuns.{each_run}
+use Rattle.ep_transfers.proofs.Copying.{each_copy}
+use Rattle.ep_transfers.proofs.Called.{each_call}
+use Rattle.ep_transfers.proofs.Entering.{each_entry}
 
 module _ {N : Type 0} (D : Ops N) (law : domain.Lawful D) (p : Program) (ord : Side → Order)
     (formed : is_well_formed p ≡ true) where

@@ -2,9 +2,9 @@
 #![tactic(auto)]
 
 ghost use Rattle.ep_cells.specs.States.{Known};
-ghost use Rattle.ep_pass_laws.specs.Laws.{AreLawful, EmptyReportsAgree};
+ghost use Rattle.ep_pass.specs.ReportLaws.{AreLawful, EmptyReportsAgree};
 ghost use Rattle.ep_transfers.specs.Cells.{cell_ops};
-ghost use Rattle.ep_transfers_laws.specs.Laws.{StandsFor};
+ghost use Rattle.ep_transfers.specs.Laws.{StandsFor};
 ghost use Rattle.ep_cell_states.specs.Reports.{CellAlarmsStand, EvenCellAlarmsStand};
 
 use ep_domain::Num;

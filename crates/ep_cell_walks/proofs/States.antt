@@ -1,5 +1,6 @@
 -- States of the program and of the machines.
 use Rattle.std.proofs.Common.{◌≡◌, Bool, true, false, ◌&&◌, ◌↔◌, IsTrue, List, refl, sym, ap, ◌∙◌}
+use Rattle.ep_int.proofs.Basics.{and-true}
 use Rattle.std.proofs.lemmas.Bool.{and_parts}
 use Rattle.ep_int.specs.declared.types.Model.{Model}
 use Rattle.ep_int.specs.declared.types.Order.{Order}
@@ -10,14 +11,10 @@ use Rattle.ep_core.specs.Program.{Program}
 use Rattle.ep_core.specs.Exec.{is_order}
 use Rattle.ep_core.specs.Runs.{Side, left, right}
 use Rattle.ep_cell_ranges.specs.Tests.{are_alike, are_cells, is_model}
-use Rattle.ep_cell_ranges_laws.proofs.Tests.{alike_by, alike_pass, cells_pass}
+use Rattle.ep_cell_ranges.proofs.Tests.{alike_by, alike_pass, cells_pass}
 use Rattle.ep_transfers.specs.Cells.{are_states, fit_to_join}
 use Rattle.ep_transfers.specs.Guards.{is_state}
-use Rattle.ep_transfers_laws.proofs.Tests.{state_by}
-
-and_true : (b : Bool) → (b && true) ≡ b
-and_true true = refl
-and_true false = refl
+use Rattle.ep_transfers.proofs.Tests.{state_by}
 
 module _ {N : Type 0} (D : Ops N) (p : Program) (ord : Side → Order) where
   -- the cells of a state are looked at no more
@@ -26,7 +23,7 @@ module _ {N : Type 0} (D : Ops N) (p : Program) (ord : Side → Order) where
       ≡ is_state p ord k
   state_is k c =
       ap (λ b. (is_order k.orders.0 (ord left) && is_order k.orders.1 (ord right)) && b)
-      (sym (and_true (is_model k.model p.types.model))
+      (sym (and-true (is_model k.model p.types.model))
       ∙ ap (λ b. is_model k.model p.types.model && b) (sym (cells_pass k.model k.cells c)))
 
   pub state_made : (k : Known N) (a b : Bool) (os : Order × Order) (d e : Model)

@@ -174,7 +174,7 @@ impl<N: Num> AbstractStates for KnownCells<N> {
 }
 
 impl<N: Num> LawfulStates for KnownCells<N> {
-    ghost use Rattle.ep_transfers_laws.specs.Laws.{StandsFor};
+    ghost use Rattle.ep_transfers.specs.Laws.{StandsFor};
     ghost use Rattle.ep_cell_states.proofs.Lawful.{cells_lawful};
 
     ghost In = { StandsFor N.ops };

@@ -2,7 +2,7 @@
 
 ghost use Rattle.std.specs.Prelude.{◌≡◌, true, IfOk};
 ghost use Rattle.ep_cells.specs.States.{HaveCellsAlike};
-ghost use Rattle.ep_flows.specs.Shown.{mode_of, ops_for, plan_of};
+ghost use Rattle.ep_flows.specs.View.{mode_of, ops_for, plan_of};
 ghost use Rattle.ep_transfers.specs.Cells as cells;
 ghost use Rattle.ep_transfers.specs.Cells.{cell_ops};
 

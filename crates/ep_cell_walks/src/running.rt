@@ -3,7 +3,7 @@
 ghost use Rattle.std.specs.Prelude.{◌≡◌, ◌&&◌, true};
 ghost use Rattle.ep_core.specs.Exec as exec;
 ghost use Rattle.ep_eval_loads.specs.Running as lone;
-ghost use Rattle.ep_flows.specs.Shown.{mode_of, plan_of, side_of};
+ghost use Rattle.ep_flows.specs.View.{mode_of, plan_of, side_of};
 ghost use Rattle.ep_transfers.specs.Cells as cells;
 ghost use Rattle.ep_transfers.specs.Guards as guards;
 

@@ -4,8 +4,8 @@
 ghost use Rattle.std.specs.Prelude.{◌≡◌, true, IfOk, OnOk, Some, fold, map, slice_get};
 ghost use Rattle.std.specs.Option.{option_map};
 ghost use Rattle.ep_alarms.specs.Report.{added};
-ghost use Rattle.ep_core.specs.View.{shown_dest, shown_expr, shown_function, shown_what};
-ghost use Rattle.ep_flows.specs.Shown.{is_simple, mode_of, ops_for, plan_of, simple_of};
+ghost use Rattle.ep_core.specs.View.{dest_view, expr_view, function_view, what_view};
+ghost use Rattle.ep_flows.specs.View.{is_simple, mode_of, ops_for, plan_of, simple_of};
 ghost use Rattle.ep_flows.specs.Typed.{AreArguments, IsTypedSimple, TakesResult};
 ghost use Rattle.ep_pass.specs.Pass.{alarms_at};
 ghost use Rattle.ep_transfers.specs.Cells.{cell_ops};
@@ -28,13 +28,13 @@ pub(crate) fn simple<N: Num>(
     state: State<N>,
     alarms: &mut Alarms,
 ) -> Result<Option<State<N>>, Memory>
-    requires simple { is_simple (shown_what s.now.what) ≡ true }
-    requires typed { IsTypedSimple (plan_of c.now).program returns (simple_of (shown_what s.now.what)) }
+    requires simple { is_simple (what_view s.now.what) ≡ true }
+    requires typed { IsTypedSimple (plan_of c.now).program returns (simple_of (what_view s.now.what)) }
     ensures faults { OnOk result (alarms.new ≡ fold added alarms.old (alarms_at s.now.line
-        ((ops_for (cell_ops N.ops) (plan_of c.now)).simple (mode_of mode) returns (simple_of (shown_what s.now.what))
+        ((ops_for (cell_ops N.ops) (plan_of c.now)).simple (mode_of mode) returns (simple_of (what_view s.now.what))
         state).faults)) }
     ensures next { IfOk result (λ r. r ≡ ((ops_for (cell_ops N.ops) (plan_of c.now)).simple (mode_of mode) returns
-        (simple_of (shown_what s.now.what)) state).next) }
+        (simple_of (what_view s.now.what)) state).next) }
 {
     if !is_told_so(c, &state) {
         return Ok(None);
@@ -63,12 +63,12 @@ pub(crate) fn arguments<N: Num>(
     state: State<N>,
     alarms: &mut Alarms,
 ) -> Result<Option<State<N>>, Memory>
-    requires { AreArguments (plan_of c.now).program (shown_function f.now) (map shown_expr es.now) }
+    requires { AreArguments (plan_of c.now).program (function_view f.now) (map expr_view es.now) }
     ensures faults { OnOk result (alarms.new ≡ fold added alarms.old (alarms_at line
-        ((ops_for (cell_ops N.ops) (plan_of c.now)).arguments (mode_of mode) (shown_function f.now)
-        (map shown_expr es.now) state).faults)) }
+        ((ops_for (cell_ops N.ops) (plan_of c.now)).arguments (mode_of mode) (function_view f.now)
+        (map expr_view es.now) state).faults)) }
     ensures next { IfOk result (λ r. r ≡ ((ops_for (cell_ops N.ops) (plan_of c.now)).arguments (mode_of mode)
-        (shown_function f.now) (map shown_expr es.now) state).next) }
+        (function_view f.now) (map expr_view es.now) state).next) }
 {
     if !is_told_so(c, &state) {
         return Ok(None);
@@ -89,12 +89,12 @@ pub(crate) fn result<N: Num>(
     state: State<N>,
     alarms: &mut Alarms,
 ) -> Result<Option<State<N>>, Memory>
-    requires { TakesResult (plan_of c.now).program (shown_function f.now) (option_map shown_dest d.now) }
+    requires { TakesResult (plan_of c.now).program (function_view f.now) (option_map dest_view d.now) }
     ensures faults { OnOk result (alarms.new ≡ fold added alarms.old (alarms_at line
-        ((ops_for (cell_ops N.ops) (plan_of c.now)).result (mode_of mode) (shown_function f.now)
-        (option_map shown_dest d.now) state).faults)) }
+        ((ops_for (cell_ops N.ops) (plan_of c.now)).result (mode_of mode) (function_view f.now)
+        (option_map dest_view d.now) state).faults)) }
     ensures next { IfOk result (λ r. r ≡ ((ops_for (cell_ops N.ops) (plan_of c.now)).result (mode_of mode)
-        (shown_function f.now) (option_map shown_dest d.now) state).next) }
+        (function_view f.now) (option_map dest_view d.now) state).next) }
 {
     if !is_told_so(c, &state) {
         return Ok(None);
@@ -114,7 +114,7 @@ pub(crate) fn ended<N: Num>(
     alarms: &mut Alarms,
 ) -> Result<(), Memory>
     ensures { OnOk result (alarms.new ≡ fold added alarms.old (alarms_at f.now.line ((ops_for (cell_ops N.ops)
-        (plan_of c.now)).ended (shown_function f.now) state.now))) }
+        (plan_of c.now)).ended (function_view f.now) state.now))) }
 {
     if !is_told_so(c, state) {
         return Ok(());

@@ -2,10 +2,10 @@
 
 ghost use Rattle.std.specs.Prelude.{◌≡◌, IfOk, OnOk, fold};
 ghost use Rattle.ep_alarms.specs.Report.{added};
-ghost use Rattle.ep_core.specs.View.{shown_expr};
+ghost use Rattle.ep_core.specs.View.{expr_view};
 ghost use Rattle.ep_eval_loads.specs.After.{left_of};
-ghost use Rattle.ep_eval_parts.specs.Verdicts.{shown_verdict};
-ghost use Rattle.ep_flows.specs.Shown.{mode_of, ops_for, plan_of, side_of, verdict_of};
+ghost use Rattle.ep_eval_parts.specs.Verdicts.{verdict_view};
+ghost use Rattle.ep_flows.specs.View.{mode_of, ops_for, plan_of, side_of, verdict_of};
 ghost use Rattle.ep_flows.specs.Typed.{IsTypedTest};
 ghost use Rattle.ep_pass.specs.Pass.{alarms_at};
 ghost use Rattle.ep_transfers.specs.Cells.{cell_ops};
@@ -23,7 +23,7 @@ use ep_int::Memory;
 use ep_states::State;
 
 fn truths(verdict: Verdict) -> Truths
-    ensures { verdict_of result ≡ shown_verdict verdict }
+    ensures { verdict_of result ≡ verdict_view verdict }
 {
     match verdict {
         Verdict::Stuck => Truths::Stuck,
@@ -40,11 +40,11 @@ pub(crate) fn test<N: Num>(
     state: &State<N>,
     alarms: &mut Alarms,
 ) -> Result<Truths, Memory>
-    requires { IsTypedTest (plan_of c.now).program (shown_expr e.now) }
+    requires { IsTypedTest (plan_of c.now).program (expr_view e.now) }
     ensures faults { OnOk result (alarms.new ≡ fold added alarms.old (alarms_at line
-        ((ops_for (cell_ops N.ops) (plan_of c.now)).test (mode_of mode) (shown_expr e.now) state.now).faults)) }
+        ((ops_for (cell_ops N.ops) (plan_of c.now)).test (mode_of mode) (expr_view e.now) state.now).faults)) }
     ensures truths { IfOk result (λ v. verdict_of v ≡ ((ops_for (cell_ops N.ops) (plan_of c.now)).test (mode_of mode)
-        (shown_expr e.now) state.now).verdict) }
+        (expr_view e.now) state.now).verdict) }
 {
     if !is_told_so(c, state) {
         return Ok(Truths::Stuck);
@@ -63,8 +63,8 @@ pub(crate) fn assumed<N: Num>(
     on_right: bool,
     state: &State<N>,
 ) -> Result<Option<State<N>>, Memory>
-    requires { IsTypedTest (plan_of c.now).program (shown_expr e.now) }
-    ensures { IfOk result (λ r. r ≡ (ops_for (cell_ops N.ops) (plan_of c.now)).assume (shown_expr e.now) on_left
+    requires { IsTypedTest (plan_of c.now).program (expr_view e.now) }
+    ensures { IfOk result (λ r. r ≡ (ops_for (cell_ops N.ops) (plan_of c.now)).assume (expr_view e.now) on_left
         on_right state.now) }
 {
     let left = ep_eval_taken::test_taken(e, c.sizes, state, on_left, on_right)?;
@@ -79,9 +79,9 @@ fn taken_by<N: Num>(
     truth: bool,
     state: &State<N>,
 ) -> Result<After<N>, Memory>
-    requires { IsTypedTest (plan_of c.now).program (shown_expr e.now) }
+    requires { IsTypedTest (plan_of c.now).program (expr_view e.now) }
     ensures { IfOk result (λ r. left_of state.now r ≡ (ops_for (cell_ops N.ops) (plan_of c.now)).assume_one
-        (side_of machine) (shown_expr e.now) truth state.now) }
+        (side_of machine) (expr_view e.now) truth state.now) }
 {
     let side = lone(machine);
     let mut unseen = Vec::new(c.alloc);
@@ -102,9 +102,9 @@ pub(crate) fn assumed_one<N: Num>(
     truth: bool,
     state: &State<N>,
 ) -> Result<Option<State<N>>, Memory>
-    requires { IsTypedTest (plan_of c.now).program (shown_expr e.now) }
+    requires { IsTypedTest (plan_of c.now).program (expr_view e.now) }
     ensures { IfOk result (λ r. r ≡ (ops_for (cell_ops N.ops) (plan_of c.now)).assume_one (side_of machine)
-        (shown_expr e.now) truth state.now) }
+        (expr_view e.now) truth state.now) }
 {
     let left = taken_by(c, machine, e, truth, state)?;
     let own = left.state(state)?;

@@ -9,14 +9,14 @@ use Rattle.ep_core.specs.declared.tree.Expr.{Null, AddrOf, Cast}
 use Rattle.ep_core.specs.declared.tree.Place.{Place}
 use Rattle.ep_core.specs.declared.tree.Expr.TheVariants as form
 use Rattle.ep_core.specs.Runs.{Side}
-use Rattle.ep_core.specs.View.{shown_expr}
+use Rattle.ep_core.specs.View.{expr_view}
 use Rattle.ep_domain.specs.Domain.{Ops}
 use Rattle.ep_cells.specs.States.{Known}
 use Rattle.ep_evaluation.specs.Evaluation.{expression, test_assumed}
 use Rattle.ep_eval.specs.Forms.{is_branching, is_joined, is_of_two}
 
 pub strictly : (e : Expr) → ((x y : Box Expr) → e ≡ And x y → ⊥) → ((x y : Box Expr) → e ≡ Or x y → ⊥)
-    → ((x y z : Box Expr) → e ≡ Cond x y z → ⊥) → is_branching (shown_expr e) ≡ false
+    → ((x y z : Box Expr) → e ≡ Cond x y z → ⊥) → is_branching (expr_view e) ≡ false
 strictly (form.Const t v) a o c = refl
 strictly form.Null a o c = refl
 strictly (form.Load' w p x) a o c = refl
@@ -32,10 +32,10 @@ strictly (form.Cond' p x q y r z) a o c = absurd (c _ _ _ refl)
 strictly (form.PtrAdd' p x unit q y back) a o c = refl
 strictly (form.Cast' p x) a o c = refl
 
-pub of_two : (e : Expr) → is_branching (shown_expr e) ≡ false → ((t : IntType) (v : ℤ) → e ≡ Const t v → ⊥)
+pub of_two : (e : Expr) → is_branching (expr_view e) ≡ false → ((t : IntType) (v : ℤ) → e ≡ Const t v → ⊥)
     → (e ≡ Null → ⊥) → ((w : Scalar) (x : Box Place) → e ≡ Load w x → ⊥) → ((x : Box Place) → e ≡ AddrOf x → ⊥)
     → ((t : IntType) (x : Box Expr) → e ≡ Convert t x → ⊥) → ((x : Box Expr) → e ≡ Not x → ⊥)
-    → ((x : Box Expr) → e ≡ Cast x → ⊥) → is_of_two (shown_expr e) ≡ true
+    → ((x : Box Expr) → e ≡ Cast x → ⊥) → is_of_two (expr_view e) ≡ true
 of_two (form.Const t v) j k n l a c o u = absurd (k _ _ refl)
 of_two form.Null j k n l a c o u = absurd (n refl)
 of_two (form.Load' w p x) j k n l a c o u = absurd (l _ _ refl)
@@ -52,7 +52,7 @@ of_two (form.PtrAdd' p x unit q y back) j k n l a c o u = refl
 of_two (form.Cast' p x) j k n l a c o u = absurd (u _ refl)
 
 pub single : (e : Expr) → ((x y : Box Expr) → e ≡ And x y → ⊥) → ((x y : Box Expr) → e ≡ Or x y → ⊥)
-    → ((x : Box Expr) → e ≡ Not x → ⊥) → is_joined (shown_expr e) ≡ false
+    → ((x : Box Expr) → e ≡ Not x → ⊥) → is_joined (expr_view e) ≡ false
 single (form.Const t v) a o n = refl
 single form.Null a o n = refl
 single (form.Load' w p x) a o n = refl
@@ -70,11 +70,11 @@ single (form.Cast' p x) a o n = refl
 
 module _ {N : Type 0} (D : Ops N) (sizes : List ℕ) (s : Side) (k : Known N) where
   -- a test without a rule of its own
-  pub plain_left : (t : Bool) (e : Expr) → is_joined (shown_expr e) ≡ false
+  pub plain_left : (t : Bool) (e : Expr) → is_joined (expr_view e) ≡ false
       → ((c : Cmp) (u : IntType) (x y : Box Expr) → e ≡ Compare c u x y → ⊥)
       → ((c : Cmp) (x y : Box Expr) → e ≡ PtrCompare c x y → ⊥)
-      → test_assumed D (expression D sizes (shown_expr e)).gives (expression D sizes (shown_expr e)).cell s t k
-      ≡ (expression D sizes (shown_expr e)).assumes s t k
+      → test_assumed D (expression D sizes (expr_view e)).gives (expression D sizes (expr_view e)).cell s t k
+      ≡ (expression D sizes (expr_view e)).assumes s t k
   plain_left t (form.Const u v) j n m = refl
   plain_left t form.Null j n m = refl
   plain_left t (form.Load' w p x) j n m = refl
@@ -92,7 +92,7 @@ module _ {N : Type 0} (D : Ops N) (sizes : List ℕ) (s : Side) (k : Known N) wh
 
   -- only loads and conversions are of a cell
   pub cell_nowhere : (e : Expr) → ((w : Scalar) (x : Box Place) → e ≡ Load w x → ⊥)
-      → ((u : IntType) (x : Box Expr) → e ≡ Convert u x → ⊥) → None ≡ (expression D sizes (shown_expr e)).cell s k
+      → ((u : IntType) (x : Box Expr) → e ≡ Convert u x → ⊥) → None ≡ (expression D sizes (expr_view e)).cell s k
   cell_nowhere (form.Const u v) l c = refl
   cell_nowhere form.Null l c = refl
   cell_nowhere (form.Load' w p x) l c = absurd (l _ _ refl)

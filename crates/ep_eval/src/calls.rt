@@ -1,7 +1,7 @@
 //! What expressions, places and tests give, told one by one.
 
 ghost use Rattle.std.specs.Prelude.{◌≡◌, ◌++◌, IfOk, OnOk, true, false};
-ghost use Rattle.ep_core.specs.View.{shown_expr, shown_place};
+ghost use Rattle.ep_core.specs.View.{expr_view, place_view};
 ghost use Rattle.ep_evaluation.specs.Evaluation as spec;
 ghost use Rattle.ep_evaluation.specs.Evaluation.{expression, place};
 ghost use Rattle.ep_evaluation.specs.Given.{alone};
@@ -28,11 +28,11 @@ pub fn eval<N: Num>(
     mode: Mode,
     faults: &mut Vec<Fault>,
 ) -> Result<PairValue<N>, Memory>
-    requires fit { ExprIsFit (shown_expr e.now) }
+    requires fit { ExprIsFit (expr_view e.now) }
     ensures value { IfOk result (λ r. r
-        ≡ ((expression N.ops sizes.now (shown_expr e.now)).gives mode state.now).pair) }
+        ≡ ((expression N.ops sizes.now (expr_view e.now)).gives mode state.now).pair) }
     ensures faults { OnOk result (faults.new.items
-        ≡ faults.old.items ++ ((expression N.ops sizes.now (shown_expr e.now)).gives mode state.now).faults) }
+        ≡ faults.old.items ++ ((expression N.ops sizes.now (expr_view e.now)).gives mode state.now).faults) }
 {
     evaluate::eval(e, sizes, state, mode, faults)
 }
@@ -45,10 +45,10 @@ pub fn address<N: Num>(
     mode: Mode,
     faults: &mut Vec<Fault>,
 ) -> Result<PairValue<N>, Memory>
-    requires fit { PlaceIsFit (shown_place a.now) }
-    ensures value { IfOk result (λ r. r ≡ (place N.ops sizes.now (shown_place a.now) mode state.now).pair) }
+    requires fit { PlaceIsFit (place_view a.now) }
+    ensures value { IfOk result (λ r. r ≡ (place N.ops sizes.now (place_view a.now) mode state.now).pair) }
     ensures faults { OnOk result (faults.new.items
-        ≡ faults.old.items ++ (place N.ops sizes.now (shown_place a.now) mode state.now).faults) }
+        ≡ faults.old.items ++ (place N.ops sizes.now (place_view a.now) mode state.now).faults) }
 {
     evaluate::address(a, sizes, state, mode, faults)
 }
@@ -63,15 +63,15 @@ pub fn test<N: Num>(
     wants: Wants,
     faults: &mut Vec<Fault>,
 ) -> Result<Assumed<N>, Memory>
-    requires fit { ExprIsFit (shown_expr e.now) }
+    requires fit { ExprIsFit (expr_view e.now) }
     ensures value { IfOk result (λ r. r.value
-        ≡ ((expression N.ops sizes.now (shown_expr e.now)).gives (alone (side_of side)) state.now).pair) }
+        ≡ ((expression N.ops sizes.now (expr_view e.now)).gives (alone (side_of side)) state.now).pair) }
     ensures faults { OnOk result (faults.new.items ≡ faults.old.items
-        ++ ((expression N.ops sizes.now (shown_expr e.now)).gives (alone (side_of side)) state.now).faults) }
+        ++ ((expression N.ops sizes.now (expr_view e.now)).gives (alone (side_of side)) state.now).faults) }
     ensures yes { IfOk result (λ r. wants.yes ≡ true → left_of state.now r.when_true
-        ≡ (expression N.ops sizes.now (shown_expr e.now)).assumes (side_of side) true state.now) }
+        ≡ (expression N.ops sizes.now (expr_view e.now)).assumes (side_of side) true state.now) }
     ensures no { IfOk result (λ r. wants.no ≡ true → left_of state.now r.when_false
-        ≡ (expression N.ops sizes.now (shown_expr e.now)).assumes (side_of side) false state.now) }
+        ≡ (expression N.ops sizes.now (expr_view e.now)).assumes (side_of side) false state.now) }
 {
     evaluate::test(e, sizes, state, side, wants, faults)
 }
@@ -87,17 +87,17 @@ pub fn second<N: Num>(
     wants: Wants,
     faults: &mut Vec<Fault>,
 ) -> Result<Second<N>, Memory>
-    requires fit { ExprIsFit (shown_expr e.now) }
+    requires fit { ExprIsFit (expr_view e.now) }
     ensures value { IfOk result (λ r. r.value ≡ pair_if (given_second N.ops
-        (expression N.ops sizes.now (shown_expr e.now)) (side_of side) runs (left_of state.now after))) }
+        (expression N.ops sizes.now (expr_view e.now)) (side_of side) runs (left_of state.now after))) }
     ensures faults { OnOk result (faults.new.items ≡ faults.old.items ++ spec.later_faults N.ops (given_second N.ops
-        (expression N.ops sizes.now (shown_expr e.now)) (side_of side) runs (left_of state.now after))) }
+        (expression N.ops sizes.now (expr_view e.now)) (side_of side) runs (left_of state.now after))) }
     ensures yes { IfOk result (λ r. wants.yes ≡ true → left_of state.now r.when_true
         ≡ then_with (left_of state.now after)
-        ((expression N.ops sizes.now (shown_expr e.now)).assumes (side_of side) true)) }
+        ((expression N.ops sizes.now (expr_view e.now)).assumes (side_of side) true)) }
     ensures no { IfOk result (λ r. wants.no ≡ true → left_of state.now r.when_false
         ≡ then_with (left_of state.now after)
-        ((expression N.ops sizes.now (shown_expr e.now)).assumes (side_of side) false)) }
+        ((expression N.ops sizes.now (expr_view e.now)).assumes (side_of side) false)) }
 {
     evaluate::second(e, sizes, state, side, after, runs, wants, faults)
 }

@@ -3,7 +3,7 @@
 
 ghost use Rattle.std.specs.Prelude.{◌≡◌, IfOk, IfSome, Some, true, false};
 ghost use Rattle.ep_core.specs.Runs.{left, right};
-ghost use Rattle.ep_core.specs.View.{shown_expr, shown_place};
+ghost use Rattle.ep_core.specs.View.{expr_view, place_view};
 ghost use Rattle.ep_cells.specs.States.{IsOfSort};
 ghost use Rattle.ep_evaluation.specs.Evaluation as spec;
 ghost use Rattle.ep_evaluation.specs.Evaluation.{expression, place};
@@ -52,8 +52,8 @@ pub(crate) fn eval<N: Num>(
     mode: Mode,
     faults: &mut Vec<Fault>,
 ) -> Result<PairValue<N>, Memory>
-    requires fit { ExprIsFit (shown_expr e.now) }
-    ensures { IfOk result (λ r. IsGiven (expression N.ops sizes.now (shown_expr e.now)).gives mode state.now
+    requires fit { ExprIsFit (expr_view e.now) }
+    ensures { IfOk result (λ r. IsGiven (expression N.ops sizes.now (expr_view e.now)).gives mode state.now
         faults.old.items faults.new.items r) }
 {
     match e {
@@ -87,9 +87,9 @@ fn eval_strict<N: Num>(
     mode: Mode,
     faults: &mut Vec<Fault>,
 ) -> Result<PairValue<N>, Memory>
-    requires fit { ExprIsFit (shown_expr e.now) }
-    requires strict { is_branching (shown_expr e.now) ≡ false }
-    ensures { IfOk result (λ r. IsGiven (expression N.ops sizes.now (shown_expr e.now)).gives mode state.now
+    requires fit { ExprIsFit (expr_view e.now) }
+    requires strict { is_branching (expr_view e.now) ≡ false }
+    ensures { IfOk result (λ r. IsGiven (expression N.ops sizes.now (expr_view e.now)).gives mode state.now
         faults.old.items faults.new.items r) }
 {
     match e {
@@ -128,9 +128,9 @@ fn eval_two<N: Num>(
     mode: Mode,
     faults: &mut Vec<Fault>,
 ) -> Result<PairValue<N>, Memory>
-    requires fit { ExprIsFit (shown_expr e.now) }
-    requires two { is_of_two (shown_expr e.now) ≡ true }
-    ensures { IfOk result (λ r. IsGiven (expression N.ops sizes.now (shown_expr e.now)).gives mode state.now
+    requires fit { ExprIsFit (expr_view e.now) }
+    requires two { is_of_two (expr_view e.now) ≡ true }
+    ensures { IfOk result (λ r. IsGiven (expression N.ops sizes.now (expr_view e.now)).gives mode state.now
         faults.old.items faults.new.items r) }
 {
     match e {
@@ -167,8 +167,8 @@ pub(crate) fn address<N: Num>(
     mode: Mode,
     faults: &mut Vec<Fault>,
 ) -> Result<PairValue<N>, Memory>
-    requires fit { PlaceIsFit (shown_place a.now) }
-    ensures { IfOk result (λ r. IsGiven (place N.ops sizes.now (shown_place a.now)) mode state.now faults.old.items
+    requires fit { PlaceIsFit (place_view a.now) }
+    ensures { IfOk result (λ r. IsGiven (place N.ops sizes.now (place_view a.now)) mode state.now faults.old.items
         faults.new.items r) }
 {
     match a {
@@ -200,8 +200,8 @@ fn first<N: Num>(
     wants: Wants,
     faults: &mut Vec<Fault>,
 ) -> Result<First<N>, Memory>
-    requires fit { ExprIsFit (shown_expr e.now) }
-    ensures { IfOk result (λ r. IsFirst N.ops (expression N.ops sizes.now (shown_expr e.now)) mode state.now
+    requires fit { ExprIsFit (expr_view e.now) }
+    ensures { IfOk result (λ r. IsFirst N.ops (expression N.ops sizes.now (expr_view e.now)) mode state.now
         wants faults.old.items faults.new.items r) }
 {
     match mode {
@@ -221,8 +221,8 @@ fn first_alone<N: Num>(
     wants: Wants,
     faults: &mut Vec<Fault>,
 ) -> Result<First<N>, Memory>
-    requires fit { ExprIsFit (shown_expr e.now) }
-    ensures { IfOk result (λ r. IsFirst N.ops (expression N.ops sizes.now (shown_expr e.now)) (alone (side_of side))
+    requires fit { ExprIsFit (expr_view e.now) }
+    ensures { IfOk result (λ r. IsFirst N.ops (expression N.ops sizes.now (expr_view e.now)) (alone (side_of side))
         state.now wants faults.old.items faults.new.items r) }
 {
     let x = test(e, sizes, state, side, wants, faults)?;
@@ -245,8 +245,8 @@ fn first_of_both<N: Num>(
     wants: Wants,
     faults: &mut Vec<Fault>,
 ) -> Result<First<N>, Memory>
-    requires fit { ExprIsFit (shown_expr e.now) }
-    ensures { IfOk result (λ r. IsFirst N.ops (expression N.ops sizes.now (shown_expr e.now)) Mode.Both state.now
+    requires fit { ExprIsFit (expr_view e.now) }
+    ensures { IfOk result (λ r. IsFirst N.ops (expression N.ops sizes.now (expr_view e.now)) Mode.Both state.now
         wants faults.old.items faults.new.items r) }
 {
     let value = eval(e, sizes, state, Mode::Both, faults)?;
@@ -275,9 +275,9 @@ fn next_state<N: Num>(
     mode: Option<Mode>,
     truth: bool,
 ) -> Result<After<N>, Memory>
-    requires fit { ExprIsFit (shown_expr e.now) }
+    requires fit { ExprIsFit (expr_view e.now) }
     ensures { IfOk result (λ r. wanted ≡ true → left_of state.now r
-        ≡ state_where N.ops (expression N.ops sizes.now (shown_expr e.now)) stable mode truth state.now) }
+        ≡ state_where N.ops (expression N.ops sizes.now (expr_view e.now)) stable mode truth state.now) }
 {
     if !wanted {
         return Ok(After::Nothing);
@@ -297,9 +297,9 @@ fn state_in<N: Num>(
     mode: Mode,
     truth: bool,
 ) -> Result<After<N>, Memory>
-    requires fit { ExprIsFit (shown_expr e.now) }
+    requires fit { ExprIsFit (expr_view e.now) }
     ensures { IfOk result (λ r. left_of state.now r
-        ≡ spec.state_for N.ops (expression N.ops sizes.now (shown_expr e.now)) stable mode truth state.now) }
+        ≡ spec.state_for N.ops (expression N.ops sizes.now (expr_view e.now)) stable mode truth state.now) }
 {
     if !stable {
         return Ok(After::Unchanged);
@@ -320,10 +320,10 @@ pub fn assumed_on_both<N: Num>(
     on_left: bool,
     on_right: bool,
 ) -> Result<After<N>, Memory>
-    requires fit { ExprIsFit (shown_expr e.now) }
+    requires fit { ExprIsFit (expr_view e.now) }
     ensures { IfOk result (λ r. left_of state.now r
-        ≡ then_with ((expression N.ops sizes.now (shown_expr e.now)).assumes left on_left state.now)
-        ((expression N.ops sizes.now (shown_expr e.now)).assumes right on_right)) }
+        ≡ then_with ((expression N.ops sizes.now (expr_view e.now)).assumes left on_left state.now)
+        ((expression N.ops sizes.now (expr_view e.now)).assumes right on_right)) }
 {
     let first = assumed_on(e, sizes, state, Running::Left, on_left)?;
     match first {
@@ -344,9 +344,9 @@ fn assumed_on<N: Num>(
     side: Running,
     truth: bool,
 ) -> Result<After<N>, Memory>
-    requires fit { ExprIsFit (shown_expr e.now) }
+    requires fit { ExprIsFit (expr_view e.now) }
     ensures { IfOk result (λ r. left_of state.now r
-        ≡ (expression N.ops sizes.now (shown_expr e.now)).assumes (side_of side) truth state.now) }
+        ≡ (expression N.ops sizes.now (expr_view e.now)).assumes (side_of side) truth state.now) }
 {
     let mut unseen = Vec::new(state.allocator());
     let wants = Wants {
@@ -367,8 +367,8 @@ fn later<N: Num>(
     after: After<N>,
     faults: &mut Vec<Fault>,
 ) -> Result<Option<PairValue<N>>, Memory>
-    requires fit { ExprIsFit (shown_expr e.now) }
-    ensures { IfOk result (λ r. IsLater N.ops (given_later N.ops (expression N.ops sizes.now (shown_expr e.now)) mode
+    requires fit { ExprIsFit (expr_view e.now) }
+    ensures { IfOk result (λ r. IsLater N.ops (given_later N.ops (expression N.ops sizes.now (expr_view e.now)) mode
         (left_of state.now after)) faults.old.items faults.new.items r) }
 {
     match mode {
@@ -386,8 +386,8 @@ fn later_in<N: Num>(
     after: After<N>,
     faults: &mut Vec<Fault>,
 ) -> Result<Option<PairValue<N>>, Memory>
-    requires fit { ExprIsFit (shown_expr e.now) }
-    ensures { IfOk result (λ r. IsLater N.ops (spec.given_in N.ops (expression N.ops sizes.now (shown_expr e.now)) mode
+    requires fit { ExprIsFit (expr_view e.now) }
+    ensures { IfOk result (λ r. IsLater N.ops (spec.given_in N.ops (expression N.ops sizes.now (expr_view e.now)) mode
         (left_of state.now after)) faults.old.items faults.new.items r) }
 {
     match after {
@@ -416,8 +416,8 @@ pub(crate) fn test<N: Num>(
     wants: Wants,
     faults: &mut Vec<Fault>,
 ) -> Result<Assumed<N>, Memory>
-    requires fit { ExprIsFit (shown_expr e.now) }
-    ensures { IfOk result (λ r. IsTested (expression N.ops sizes.now (shown_expr e.now)) (side_of side) state.now
+    requires fit { ExprIsFit (expr_view e.now) }
+    ensures { IfOk result (λ r. IsTested (expression N.ops sizes.now (expr_view e.now)) (side_of side) state.now
         wants faults.old.items faults.new.items r) }
 {
     match e {
@@ -453,9 +453,9 @@ fn test_single<N: Num>(
     wants: Wants,
     faults: &mut Vec<Fault>,
 ) -> Result<Assumed<N>, Memory>
-    requires fit { ExprIsFit (shown_expr e.now) }
-    requires single { is_joined (shown_expr e.now) ≡ false }
-    ensures { IfOk result (λ r. IsTested (expression N.ops sizes.now (shown_expr e.now)) (side_of side) state.now
+    requires fit { ExprIsFit (expr_view e.now) }
+    requires single { is_joined (expr_view e.now) ≡ false }
+    ensures { IfOk result (λ r. IsTested (expression N.ops sizes.now (expr_view e.now)) (side_of side) state.now
         wants faults.old.items faults.new.items r) }
 {
     match e {
@@ -520,9 +520,9 @@ fn test_value<N: Num>(
     wants: Wants,
     faults: &mut Vec<Fault>,
 ) -> Result<Assumed<N>, Memory>
-    requires fit { ExprIsFit (shown_expr e.now) }
-    ensures { IfOk result (λ r. IsTested (spec.with_cell N.ops (expression N.ops sizes.now (shown_expr e.now)).gives
-        (expression N.ops sizes.now (shown_expr e.now)).cell) (side_of side) state.now wants faults.old.items
+    requires fit { ExprIsFit (expr_view e.now) }
+    ensures { IfOk result (λ r. IsTested (spec.with_cell N.ops (expression N.ops sizes.now (expr_view e.now)).gives
+        (expression N.ops sizes.now (expr_view e.now)).cell) (side_of side) state.now wants faults.old.items
         faults.new.items r) }
 {
     let from = faults.len();
@@ -543,8 +543,8 @@ pub(crate) fn second<N: Num>(
     wants: Wants,
     faults: &mut Vec<Fault>,
 ) -> Result<Second<N>, Memory>
-    requires fit { ExprIsFit (shown_expr e.now) }
-    ensures { IfOk result (λ r. IsSecond N.ops (expression N.ops sizes.now (shown_expr e.now)) (side_of side) runs
+    requires fit { ExprIsFit (expr_view e.now) }
+    ensures { IfOk result (λ r. IsSecond N.ops (expression N.ops sizes.now (expr_view e.now)) (side_of side) runs
         (left_of state.now after) state.now wants faults.old.items faults.new.items r) }
 {
     match after {
@@ -571,8 +571,8 @@ fn second_in<N: Num>(
     wants: Wants,
     faults: &mut Vec<Fault>,
 ) -> Result<Second<N>, Memory>
-    requires fit { ExprIsFit (shown_expr e.now) }
-    ensures { IfOk result (λ r. IsSecond N.ops (expression N.ops sizes.now (shown_expr e.now)) (side_of side) runs
+    requires fit { ExprIsFit (expr_view e.now) }
+    ensures { IfOk result (λ r. IsSecond N.ops (expression N.ops sizes.now (expr_view e.now)) (side_of side) runs
         (Some state.now) state.now wants faults.old.items faults.new.items r) }
 {
     if runs {
@@ -602,8 +602,8 @@ fn operand<N: Num>(
     side: Running,
     faults: &mut Vec<Fault>,
 ) -> Result<Operand<N>, Memory>
-    requires fit { ExprIsFit (shown_expr e.now) }
-    ensures { IfOk result (λ r. IsOperand (expression N.ops sizes.now (shown_expr e.now)) (side_of side)
+    requires fit { ExprIsFit (expr_view e.now) }
+    ensures { IfOk result (λ r. IsOperand (expression N.ops sizes.now (expr_view e.now)) (side_of side)
         state.now faults.old.items faults.new.items r) }
 {
     match e {
@@ -629,8 +629,8 @@ fn without_cell<N: Num>(
     side: Running,
     faults: &mut Vec<Fault>,
 ) -> Result<Operand<N>, Memory>
-    requires fit { ExprIsFit (shown_expr e.now) }
-    ensures { IfOk result (λ r. IsOperand (spec.plain N.ops (expression N.ops sizes.now (shown_expr e.now)).gives)
+    requires fit { ExprIsFit (expr_view e.now) }
+    ensures { IfOk result (λ r. IsOperand (spec.plain N.ops (expression N.ops sizes.now (expr_view e.now)).gives)
         (side_of side) state.now faults.old.items faults.new.items r) }
 {
     let value = eval(e, sizes, state, side.mode(), faults)?;

@@ -1,5 +1,6 @@
 -- The types of a program give what the code takes for granted.
 use Rattle.std.proofs.Common.{◌≡◌, ℕ, ◌≤◌, Bool, true, false, ◌&&◌, ◌||◌, nat_le, List, Option, Some, None, slice_get}
+use Rattle.std.proofs.lemmas.Bool.{or_cases}
 use Rattle.std.proofs.Common.{⊎_elim, refl, sym, ap, ◌∙◌, subst, arith}
 use Rattle.std.proofs.lemmas.Bool.{and_parts}
 use Rattle.std.proofs.lemmas.Bool.Decides.{nat_tests}
@@ -20,7 +21,7 @@ use Rattle.ep_core.specs.WellFormed.{has_scalar, is_array_of, has_bound, has_mem
 use Rattle.ep_core.specs.WellFormed.{int_type_of, right_type, is_int, some_type, is_pointer, is_test, is_named}
 use Rattle.ep_core.specs.WellFormed.{block_has, place_has, has_sort, is_same_type}
 use Rattle.ep_core.specs.Typed.{scalar_of}
-use Rattle.ep_core.proofs.Sorts.{never, three, either_is, same_type, loaded_scalar, int_where, type_where}
+use Rattle.ep_core.proofs.Sorts.{never, three, same_type, loaded_scalar, int_where, type_where}
 use Rattle.ep_core.proofs.Sorts.{pointer_where, tested_where}
 use Rattle.ep_eval_fits.specs.Fitting.{ExprIsFit, PlaceIsFit}
 
@@ -69,7 +70,7 @@ module _ (t : Table) (bs : List Block) (seen : List ℕ) where
   addressed a (integer u) h = never h
   addressed a (pointer_to ty) h =
       ⊎_elim (λ p. (ty, p)) (λ q. (let s = type_where t bs seen (λ u. is_array_of u ty) (place_has t bs seen a) q in (s.0, s.2)))
-      (either_is (place_has t bs seen a ty) (some_type t bs seen (λ u. is_array_of u ty) (place_has t bs seen a)) h)
+      (or_cases (place_has t bs seen a ty) (some_type t bs seen (λ u. is_array_of u ty) (place_has t bs seen a)) h)
 
   mutual
     pub expr_is_fit : (e : Expr) (x : Sort) → has_sort t bs seen e x ≡ true → ExprIsFit e

@@ -1,5 +1,7 @@
 -- Forms have the widths of their types.
 use Rattle.std.proofs.Common.{◌≡◌, ℕ, ◌+◌, ◌-◌, ◌<◌, ◌≤◌, ℤ, pos, ◌<ℤ◌, ◌≤ℤ◌, Bool, true, false, ◌&&◌, ◌||◌, not}
+use Rattle.ep_int.proofs.Arithmetic.{le_fact}
+use Rattle.ep_int.proofs.Basics.{minus-zero}
 use Rattle.std.proofs.Common.{nat_eq, nat_lt, nat_le, int_le, int_lt, unsigned_abs, cond, List, [], ◌∷◌, length}
 use Rattle.std.proofs.Common.{Option, Some, None, refl, sym, ap, ◌∙◌, subst, arith}
 use Rattle.std.specs.Prelude.{IfSome}
@@ -14,7 +16,7 @@ use Rattle.ep_int.specs.declared.types.BinOp.TheVariants.{Add, Sub, Mul, Div, Re
 use Rattle.ep_int.specs.declared.types.Scalar.{Scalar}
 use Rattle.ep_int.specs.declared.types.Scalar.TheVariants.{Int, Pointer}
 use Rattle.ep_int.specs.Types.{bits_of, is_signed, representation}
-use Rattle.ep_range_laws.proofs.Comparisons.{from_le_true, from_lt_true}
+use Rattle.ep_range_laws.proofs.Comparisons.{from_lt_true}
 use Rattle.ep_bitslice.specs.declared.segment.Segment.{Segment}
 use Rattle.ep_bitslice.specs.Bits.{Bit, shifted_left, shifted_right, masked, extended, part_of, are_disjoint, either_of}
 use Rattle.ep_bitslice.specs.Segments.{bits, normal, width, form_of, or_of}
@@ -29,7 +31,7 @@ use Rattle.ep_cells.specs.States.{Known, AreCells, HasWidth}
 use Rattle.ep_cells.specs.Reshare.{is_single}
 use Rattle.ep_reads.specs.declared.read.ReadValue.{ReadValue}
 use Rattle.ep_reads.specs.Read.{read}
-use Rattle.ep_reads_laws.specs.Laws.{ReadLaws, IsFormRead}
+use Rattle.ep_reads.specs.Laws.{ReadLaws, IsFormRead}
 use Rattle.ep_core.specs.Program.{Place, block, deref, member, element, Expr, const, null_value, load, addr_of, binary}
 use Rattle.ep_core.specs.Program.{convert, compare, ptr_compare, logical_and, logical_or, logical_not, conditional}
 use Rattle.ep_core.specs.Program.{ptr_add, cast}
@@ -67,13 +69,10 @@ amount_below t r = split (is_single r && (int_le (pos 0) r.0 && int_lt r.0 (pos 
     split true e =
         let p = and_parts (is_single r) (int_le (pos 0) r.0 && int_lt r.0 (pos (bits_of t))) e in
         let q = and_parts (int_le (pos 0) r.0) (int_lt r.0 (pos (bits_of t))) p.1 in
-        below r.0 (bits_of t) (from_le_true (pos 0) r.0 q.0) (from_lt_true r.0 (pos (bits_of t)) q.1)
+        below r.0 (bits_of t) (le_fact (pos 0) r.0 q.0) (from_lt_true r.0 (pos (bits_of t)) q.1)
       where
         below : (z : ℤ) (n : ℕ) → pos 0 ≤ℤ z → z <ℤ pos n → unsigned_abs z < n
         below z n h i = omega (arith, ints, h, i)
-
-less_none : (n : ℕ) → n - 0 ≡ n
-less_none n = omega arith
 
 module _ (t : IntType) where
   left_wide : (f : Form) (k : Option ℕ) → IsWide t f → IfSome k (λ k. k < bits_of t) → IsWide t (left_shift f k)
@@ -155,7 +154,7 @@ module _ (t : IntType) where
           (cond (not (is_signed u) || int_le (pos 0) z) (form_of (extended (bits_of t) (bits f))) None))
       shorter true e =
           width-part_of (normal (part_of 0 (bits_of t) (bits f))) f 0 (bits_of t) (omega arith)
-          (grind (arith, nat_tests, e, h)) (bits-normal (part_of 0 (bits_of t) (bits f))) ∙ less_none (bits_of t)
+          (grind (arith, nat_tests, e, h)) (bits-normal (part_of 0 (bits_of t) (bits f))) ∙ minus-zero (bits_of t)
       shorter false e = longer (not (is_signed u) || int_le (pos 0) z) (grind (arith, nat_tests, e))
 
       same : (b : Bool) → nat_eq (bits_of t) (bits_of u) ≡ b

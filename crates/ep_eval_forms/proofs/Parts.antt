@@ -2,7 +2,7 @@
 use Rattle.std.proofs.Common.{◌≡◌, ℕ, Bool, List, Option, sym, subst}
 use Rattle.ep_core.specs.declared.tree.Expr as tree
 use Rattle.ep_core.specs.declared.tree.Place as part
-use Rattle.ep_core.specs.View.{shown_expr, shown_place}
+use Rattle.ep_core.specs.View.{expr_view, place_view}
 use Rattle.ep_core.specs.Runs.{Side}
 use Rattle.ep_domain.specs.Domain.{Ops}
 use Rattle.ep_cells.specs.States.{Known}
@@ -20,7 +20,7 @@ use Rattle.ep_eval_forms.specs.Results.{IsGiven, IsTested, IsOperand, IsFirst, I
 
 module _ {N : Type 0} (D : Ops N) (sizes : List ℕ) where
   abbrev pub meant : tree.Expr → Means N
-  meant e = expression D sizes (shown_expr e)
+  meant e = expression D sizes (expr_view e)
 
   -- the operand behind a box
   pub given_part : {m : Mode} {k : Known N} {old new : List Fault} {r : PairValue N} {u v : tree.Expr} → u ≡ v
@@ -28,9 +28,9 @@ module _ {N : Type 0} (D : Ops N) (sizes : List ℕ) where
   given_part {m = m} {k = k} {old = old} {new = new} {r = r} e i = subst (λ u. IsGiven (meant u).gives m k old new r) e i
 
   pub place_part : {m : Mode} {k : Known N} {old new : List Fault} {r : PairValue N} {u v : part.Place} → u ≡ v
-      → IsGiven (place D sizes (shown_place u)) m k old new r → IsGiven (place D sizes (shown_place v)) m k old new r
+      → IsGiven (place D sizes (place_view u)) m k old new r → IsGiven (place D sizes (place_view v)) m k old new r
   place_part {m = m} {k = k} {old = old} {new = new} {r = r} e i =
-      subst (λ u. IsGiven (place D sizes (shown_place u)) m k old new r) e i
+      subst (λ u. IsGiven (place D sizes (place_view u)) m k old new r) e i
 
   pub tested_part : {s : Side} {k : Known N} {w : Wants} {old new : List Fault} {r : Assumed N} {u v : tree.Expr} → u ≡ v
       → IsTested (meant u) s k w old new r → IsTested (meant v) s k w old new r
@@ -65,7 +65,7 @@ module _ {N : Type 0} (D : Ops N) (sizes : List ℕ) where
   given_whole i = given_part (sym i)
 
   pub place_whole : {m : Mode} {k : Known N} {old new : List Fault} {r : PairValue N} {e u : part.Place} → e ≡ u
-      → IsGiven (place D sizes (shown_place u)) m k old new r → IsGiven (place D sizes (shown_place e)) m k old new r
+      → IsGiven (place D sizes (place_view u)) m k old new r → IsGiven (place D sizes (place_view e)) m k old new r
   place_whole i = place_part (sym i)
 
   pub tested_whole : {s : Side} {k : Known N} {w : Wants} {old new : List Fault} {r : Assumed N} {e u : tree.Expr} → e ≡ u

@@ -2,7 +2,7 @@
 
 ghost use Rattle.std.specs.Prelude.{◌≡◌, ◌++◌, IfOk, IfSome, OnOk};
 ghost use Rattle.ep_cells.specs.States.{IsOfSort};
-ghost use Rattle.ep_core.specs.View.{shown_expr};
+ghost use Rattle.ep_core.specs.View.{expr_view};
 ghost use Rattle.ep_core.specs.WellFormed as well_formed;
 ghost use Rattle.ep_evaluation.specs.Evaluation as spec;
 ghost use Rattle.ep_evaluation.specs.Evaluation.{expression};
@@ -54,11 +54,11 @@ pub fn converted_operand<N: Num>(
     t: IntType,
     x: Operand<N>,
 ) -> Operand<N>
-    requires fit { ExprIsFit (shown_expr a.now) }
+    requires fit { ExprIsFit (expr_view a.now) }
     requires first { x.value
-        ≡ ((expression N.ops sizes.now (shown_expr a.now)).gives (alone (side_of side)) state.now).pair }
+        ≡ ((expression N.ops sizes.now (expr_view a.now)).gives (alone (side_of side)) state.now).pair }
     requires sort { IfSome x.cell (λ c. IsOfSort c.what c.value) }
-    ensures value { result.value ≡ (spec.convert_given N.ops (well_formed.int_type_of (shown_expr a.now)) t
+    ensures value { result.value ≡ (spec.convert_given N.ops (well_formed.int_type_of (expr_view a.now)) t
         (alone (side_of side)) (faultless x.value)).pair }
     ensures cell { result.cell ≡ narrowed.if_kept t x.cell }
     ensures sort { IfSome result.cell (λ c. IsOfSort c.what c.value) }

@@ -7,14 +7,14 @@ use Rattle.ep_int.specs.Types.{size_of}
 use Rattle.ep_bitslice.specs.declared.cell.Side.{Side}
 use Rattle.ep_bitslice.specs.declared.cell.Side.TheVariants.{Left, Right, Shared}
 use Rattle.ep_cells.specs.declared.cell.Cell.{Cell}
-use Rattle.ep_cells.specs.declared.place.Place.{Place}
+use Rattle.ep_cells.specs.declared.place.ByteRange.{ByteRange}
 use Rattle.ep_cells.specs.Cells.{IsIn, first, later, is_same_side, share_memory, place_of, touches, meets}
 use Rattle.ep_cells.specs.Look.{covers, cell_at}
 use Rattle.ep_cells.specs.States.{AreApart, AreCells}
-use Rattle.ep_cells_laws.proofs.Both.{one, left_first, right_first, one_order}
-use Rattle.ep_cells_laws.proofs.Lists.{in_left, in_right}
+use Rattle.ep_cells.proofs.Both.{one, left_first, right_first, one_order}
+use Rattle.ep_cells.proofs.Lists.{in_left, in_right}
 use Rattle.ep_cell_parts.specs.About.{IsAbout}
-use Rattle.ep_reads_laws.proofs.Found.{Covering, covering}
+use Rattle.ep_reads.proofs.Found.{Covering, covering}
 
 shares : (s a b : Side) → (is_same_side a s || is_same_side a Shared) ≡ true → (is_same_side b s || is_same_side b Shared) ≡ true
     → share_memory a b ≡ true
@@ -88,7 +88,7 @@ module _ {N : Type 0} (d : Model) (s : Side) (b p : ℕ) where
             | right_first r ↦ absurd (true≢false (sym (both_meet cs y x f g) ∙ r.apart))
           ]
 
-pub about_in : {N : Type 0} (d : Model) (p : Place) (cs window : List (Cell N)) → IsAbout d p cs window
+pub about_in : {N : Type 0} (d : Model) (p : ByteRange) (cs window : List (Cell N)) → IsAbout d p cs window
     → (x : Cell N) → IsIn x window → IsIn x cs
 about_in d p cs window a x i =
     subst (IsIn x) (sym a.whole) (in_right x a.before (window ++ a.behind) (in_left x window a.behind i))

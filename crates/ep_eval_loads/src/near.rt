@@ -5,7 +5,7 @@ ghost use Rattle.ep_eval_loads.specs.Near.{AreOf};
 
 use ep_bitslice::Side;
 use ep_cell_rows::places::is_same_side;
-use ep_cells::{Cell, Place};
+use ep_cells::{ByteRange, Cell};
 use ep_domain::Num;
 use ep_int::{Memory, Model};
 use ep_states::State;
@@ -13,7 +13,7 @@ use ep_states::State;
 /// The cells about a place, and the one to look at next.
 #[derive(Drop)]
 pub(crate) struct Near<'a, N> {
-    place: Place,
+    place: ByteRange,
     pub cells: Vec<&'a Cell<N>>,
     pub at: usize,
 }
@@ -23,7 +23,7 @@ pub(crate) fn nowhere<'a, N: Num>(state: &'a State<N>, side: Side) -> Near<'a, N
     ensures { AreOf (map (λ r. r.now) result.cells.items) state.now.cells }
 {
     Near {
-        place: Place {
+        place: ByteRange {
             side,
             block: 0,
             offset: 0,
@@ -34,7 +34,7 @@ pub(crate) fn nowhere<'a, N: Num>(state: &'a State<N>, side: Side) -> Near<'a, N
     }
 }
 
-fn is_within(place: &Place, spot: (u32, u32)) -> bool {
+fn is_within(place: &ByteRange, spot: (u32, u32)) -> bool {
     place.block == spot.0 && spot.1.saturating_sub(place.offset) < place.bytes
 }
 
@@ -86,7 +86,7 @@ fn about_run<'a, N: Num>(
     ensures { IfOk result (λ r. AreOf (map (λ c. c.now) r.cells.items) state.now.cells) }
 {
     let last = last_of_block(spots, from, spot);
-    let place = Place {
+    let place = ByteRange {
         side,
         block: spot.0,
         offset: spot.1,

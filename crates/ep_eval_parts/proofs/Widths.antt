@@ -5,7 +5,7 @@ use Rattle.ep_int.specs.declared.types.IntType.{IntType}
 use Rattle.ep_domain.specs.Domain.{Ops}
 use Rattle.ep_cells.specs.declared.cell.Cell.{Cell}
 use Rattle.ep_cells.specs.States.{Known, AreCells, IsOfSort}
-use Rattle.ep_reads_laws.specs.Laws.{ReadLaws}
+use Rattle.ep_reads.specs.Laws.{ReadLaws}
 use Rattle.ep_core.specs.Program.{Expr}
 use Rattle.ep_core.specs.Runs.{Side}
 use Rattle.ep_core.specs.WellFormed.{int_type_of}

@@ -2,7 +2,7 @@
 
 ghost use Rattle.std.specs.Prelude.{◌≡◌};
 ghost use Rattle.ep_core.specs.Program as plain;
-ghost use Rattle.ep_core.specs.View.{shown_expr};
+ghost use Rattle.ep_core.specs.View.{expr_view};
 ghost use Rattle.ep_core.specs.WellFormed as well_formed;
 
 use ep_core::tree::Expr;
@@ -20,7 +20,7 @@ fn type_of_scalar(what: Scalar) -> Option<IntType>
 /// The integer type that the expression has, if it has one.
 #[cycle(own_types)]
 pub fn int_type_of(e: &Expr) -> Option<IntType>
-    ensures { result ≡ well_formed.int_type_of (shown_expr e.now) }
+    ensures { result ≡ well_formed.int_type_of (expr_view e.now) }
 {
     match e {
         Expr::Const(t, _) => Some(*t),

@@ -1,7 +1,7 @@
 //! Operators on the values of expressions, whose forms are as wide as their types.
 
 ghost use Rattle.std.specs.Prelude.{◌≡◌, ◌++◌, IfOk, OnOk, Some};
-ghost use Rattle.ep_core.specs.View.{shown_expr};
+ghost use Rattle.ep_core.specs.View.{expr_view};
 ghost use Rattle.ep_core.specs.WellFormed as well_formed;
 ghost use Rattle.ep_evaluation.specs.Evaluation as spec;
 ghost use Rattle.ep_evaluation.specs.Evaluation.{expression};
@@ -14,7 +14,7 @@ use ep_domain::Num;
 use ep_equalities::{Fault, Mode, PairValue};
 use ep_eval_sides::operators::{binary, conversion};
 use ep_int::{BinOp, IntType, Memory};
-use ep_reads_laws::read_laws;
+use ep_reads::read_laws;
 use ep_states::State;
 
 /// An operator on two values, the first of which is that of an expression.
@@ -29,9 +29,9 @@ pub fn computed<N: Num>(
     y: &PairValue<N>,
     faults: &mut Vec<Fault>,
 ) -> Result<PairValue<N>, Memory>
-    requires fit { ExprIsFit (shown_expr a.now) }
-    requires typed { well_formed.int_type_of (shown_expr a.now) ≡ Some t }
-    requires first { x.now ≡ ((expression N.ops sizes.now (shown_expr a.now)).gives mode state.now).pair }
+    requires fit { ExprIsFit (expr_view a.now) }
+    requires typed { well_formed.int_type_of (expr_view a.now) ≡ Some t }
+    requires first { x.now ≡ ((expression N.ops sizes.now (expr_view a.now)).gives mode state.now).pair }
     ensures value { IfOk result (λ r. r
         ≡ (spec.binary_given N.ops op t mode (faultless x.now) (faultless y.now)).pair) }
     ensures faults { OnOk result (faults.new.items ≡ faults.old.items
@@ -51,10 +51,10 @@ pub fn converted<N: Num>(
     t: IntType,
     x: &PairValue<N>,
 ) -> PairValue<N>
-    requires fit { ExprIsFit (shown_expr a.now) }
-    requires first { x.now ≡ ((expression N.ops sizes.now (shown_expr a.now)).gives mode state.now).pair }
+    requires fit { ExprIsFit (expr_view a.now) }
+    requires first { x.now ≡ ((expression N.ops sizes.now (expr_view a.now)).gives mode state.now).pair }
     ensures { result
-        ≡ (spec.convert_given N.ops (well_formed.int_type_of (shown_expr a.now)) t mode (faultless x.now)).pair }
+        ≡ (spec.convert_given N.ops (well_formed.int_type_of (expr_view a.now)) t mode (faultless x.now)).pair }
 {
     read_laws::<N>();
     state.model();

@@ -9,7 +9,7 @@ ghost use Rattle.ep_evaluation.specs.Evaluation as spec;
 ghost use Rattle.ep_evaluation.specs.Operators as operators;
 ghost use Rattle.ep_reads.specs.Bytes as bytes;
 ghost use Rattle.ep_eval_sides.specs.Sides.{faultless};
-ghost use Rattle.ep_eval_parts.specs.Verdicts.{shown_verdict};
+ghost use Rattle.ep_eval_parts.specs.Verdicts.{verdict_view};
 
 use ep_cells::Value;
 use ep_domain::Num;
@@ -62,7 +62,7 @@ pub fn has_one_truth<N: Num>(mode: Mode, x: &PairValue<N>) -> bool
 
 /// What a test tells of its truths, by its value.
 pub fn verdict_of<N: Num>(mode: Mode, x: &PairValue<N>) -> Verdict
-    ensures { shown_verdict result ≡ (spec.tested N.ops mode (faultless x.now)).verdict }
+    ensures { verdict_view result ≡ (spec.tested N.ops mode (faultless x.now)).verdict }
 {
     if is_stuck(mode, x) {
         return Verdict::Stuck;

@@ -1,5 +1,6 @@
 -- Whether some number is held that is no multiple of another.
 use Rattle.std.proofs.Common.{◌≡◌, ℕ, zero, suc, ◌+◌, ◌-◌, ◌%◌, ◌<◌, ◌≤◌, ℤ, pos, negsuc, ◌+ℤ◌, ◌-ℤ◌, ◌<ℤ◌, ◌≤ℤ◌}
+use Rattle.ep_int.proofs.Arithmetic.{sum_fits}
 use Rattle.std.proofs.Common.{Bool, true, false, ◌&&◌, ◌||◌, not, nat_eq, ltb, ◌*◌, ◌/◌, unsigned_abs, None, Some}
 use Rattle.std.proofs.Common.{refl, sym, ap, ◌∙◌, subst, arith}
 use Rattle.std.proofs.lemmas.Bool.Decides.{nat_tests}
@@ -9,7 +10,6 @@ use Rattle.std.proofs.Math.Nat.{mod-lt}
 use Rattle.std.specs.Prelude.{IfSome, IsSomeAnd, Option}
 use Rattle.std.specs.Int.{w128}
 use Rattle.std.proofs.Common.{FitsSigned}
-use Rattle.ep_domain.proofs.FaultCode.{sum_fits}
 use Rattle.std.specs.Option.{option_map}
 use Rattle.ep_int.specs.Types.{residue}
 use Rattle.ep_range_laws.specs.Ranges.{IsRange, LiesIn, Encloses}

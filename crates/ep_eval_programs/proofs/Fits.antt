@@ -1,18 +1,11 @@
 -- What is typed is fit to be evaluated.
-use Rattle.std.proofs.Common.{◌≡◌, ℕ, List, [], ◌∷◌, map, ap, refl}
-use Rattle.ep_core.specs.declared.program.BlockInfo.{BlockInfo}
-use Rattle.ep_core.specs.Program.{Block, Expr, Place, Program}
-use Rattle.ep_core.specs.View.{shown_block}
+use Rattle.std.proofs.Common.{◌≡◌, ℕ, [], ◌∷◌}
+use Rattle.ep_core.specs.Program.{Expr, Place, Program}
 use Rattle.ep_core.specs.WellFormed.{has_sort, int_type_of}
 use Rattle.ep_core.proofs.Sorts.{tested_where}
 use Rattle.ep_eval_fits.specs.Fitting.{ExprIsFit, PlaceIsFit}
 use Rattle.ep_eval_fits.proofs.Fitting.{expr_is_fit, place_is_fit}
 use Rattle.ep_eval_programs.specs.Typed.{IsExpr, IsPlace, IsTest}
-
-pub sizes_shown : (bs : List BlockInfo)
-    → map (λ (b : BlockInfo). b.size) bs ≡ map (λ (b : Block). b.size) (map shown_block bs)
-sizes_shown [] = refl
-sizes_shown (b ∷ bs) = ap (λ xs. b.size ∷ xs) (sizes_shown bs)
 
 module _ (p : Program) where
   pub expr_fit : (e : Expr) → IsExpr p e → ExprIsFit e

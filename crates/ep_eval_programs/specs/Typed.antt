@@ -4,7 +4,7 @@ use Rattle.ep_domain.specs.Domain.{Ops}
 use Rattle.ep_core.specs.Program.{Expr, Place, Program}
 use Rattle.ep_core.specs.WellFormed.{Sort, has_sort, place_has, is_tested}
 use Rattle.ep_evaluation.specs.Evaluation.{Means, Reaches, expression, place}
-use Rattle.ep_evaluation_laws.specs.Laws.{sizes_of}
+use Rattle.ep_evaluation.specs.Laws.{sizes_of}
 
 -- where these blocks can be named, an expression is of this sort
 pub record IsExpr (p : Program) (e : Expr) : Type 0 where

@@ -5,12 +5,12 @@
 ghost use Rattle.std.specs.Prelude.{◌≡◌, ◌++◌, IfOk, OnOk, map, true, false};
 ghost use Rattle.ep_core.specs.Runs.{left, right};
 ghost use Rattle.ep_core.specs.declared.program.BlockInfo.{BlockInfo as Info};
-ghost use Rattle.ep_core.specs.Shown.{shown};
-ghost use Rattle.ep_core.specs.View.{shown_expr, shown_place};
+ghost use Rattle.ep_core.specs.ProgramView.{program_view};
+ghost use Rattle.ep_core.specs.View.{expr_view, place_view};
 ghost use Rattle.ep_equalities.specs.declared.pair.Mode.TheVariants.{Both};
 ghost use Rattle.ep_evaluation.specs.Evaluation as spec;
 ghost use Rattle.ep_evaluation.specs.Given.{alone};
-ghost use Rattle.ep_evaluation_laws.specs.Laws.{sizes_of};
+ghost use Rattle.ep_evaluation.specs.Laws.{sizes_of};
 ghost use Rattle.ep_eval_taken.specs.After.{left_of};
 ghost use Rattle.ep_eval_taken.specs.Running.{side_of};
 ghost use Rattle.ep_eval_programs.specs.Typed.{IsExpr, IsPlace, IsTest, meant, reached};
@@ -34,7 +34,7 @@ fn size_list(alloc: Global, blocks: &[BlockInfo]) -> Result<Vec<u32>, AllocError
 
 /// The sizes of the program's blocks, in bytes, by their numbers: the other calls are passed them.
 pub fn block_sizes(alloc: Global, program: &CoreProgram) -> Result<Vec<u32>, Memory>
-    ensures { IfOk result (λ v. v.items ≡ sizes_of (shown program.now).blocks) }
+    ensures { IfOk result (λ v. v.items ≡ sizes_of (program_view program.now).blocks) }
 {
     match size_list(alloc, &program.blocks) {
         Ok(sizes) => Ok(sizes),
@@ -51,12 +51,12 @@ pub fn value<N: Num>(
     mode: Mode,
     faults: &mut Vec<Fault>,
 ) -> Result<PairValue<N>, Memory>
-    requires sizes { sizes.now ≡ sizes_of (shown program.now).blocks }
-    requires typed { IsExpr (shown program.now) (shown_expr e.now) }
+    requires sizes { sizes.now ≡ sizes_of (program_view program.now).blocks }
+    requires typed { IsExpr (program_view program.now) (expr_view e.now) }
     ensures value { IfOk result (λ r. r
-        ≡ ((meant N.ops (shown program.now) (shown_expr e.now)).gives mode state.now).pair) }
+        ≡ ((meant N.ops (program_view program.now) (expr_view e.now)).gives mode state.now).pair) }
     ensures faults { OnOk result (faults.new.items ≡ faults.old.items
-        ++ ((meant N.ops (shown program.now) (shown_expr e.now)).gives mode state.now).faults) }
+        ++ ((meant N.ops (program_view program.now) (expr_view e.now)).gives mode state.now).faults) }
 {
     ep_eval_taken::expressions::eval(e, sizes, state, mode, faults)
 }
@@ -70,12 +70,12 @@ pub fn address<N: Num>(
     mode: Mode,
     faults: &mut Vec<Fault>,
 ) -> Result<PairValue<N>, Memory>
-    requires sizes { sizes.now ≡ sizes_of (shown program.now).blocks }
-    requires typed { IsPlace (shown program.now) (shown_place a.now) }
+    requires sizes { sizes.now ≡ sizes_of (program_view program.now).blocks }
+    requires typed { IsPlace (program_view program.now) (place_view a.now) }
     ensures value { IfOk result (λ r. r
-        ≡ (reached N.ops (shown program.now) (shown_place a.now) mode state.now).pair) }
+        ≡ (reached N.ops (program_view program.now) (place_view a.now) mode state.now).pair) }
     ensures faults { OnOk result (faults.new.items ≡ faults.old.items
-        ++ (reached N.ops (shown program.now) (shown_place a.now) mode state.now).faults) }
+        ++ (reached N.ops (program_view program.now) (place_view a.now) mode state.now).faults) }
 {
     ep_eval_taken::expressions::address(a, sizes, state, mode, faults)
 }
@@ -89,12 +89,12 @@ pub fn test_value<N: Num>(
     mode: Mode,
     faults: &mut Vec<Fault>,
 ) -> Result<PairValue<N>, Memory>
-    requires sizes { sizes.now ≡ sizes_of (shown program.now).blocks }
-    requires typed { IsTest (shown program.now) (shown_expr e.now) }
+    requires sizes { sizes.now ≡ sizes_of (program_view program.now).blocks }
+    requires typed { IsTest (program_view program.now) (expr_view e.now) }
     ensures value { IfOk result (λ r. r
-        ≡ ((meant N.ops (shown program.now) (shown_expr e.now)).gives mode state.now).pair) }
+        ≡ ((meant N.ops (program_view program.now) (expr_view e.now)).gives mode state.now).pair) }
     ensures faults { OnOk result (faults.new.items ≡ faults.old.items
-        ++ ((meant N.ops (shown program.now) (shown_expr e.now)).gives mode state.now).faults) }
+        ++ ((meant N.ops (program_view program.now) (expr_view e.now)).gives mode state.now).faults) }
 {
     ep_eval_taken::expressions::eval(e, sizes, state, mode, faults)
 }
@@ -108,17 +108,17 @@ pub fn test_taken<N: Num>(
     x: &PairValue<N>,
     asked: Combinations,
 ) -> Result<Taken<N>, Memory>
-    requires sizes { sizes.now ≡ sizes_of (shown program.now).blocks }
-    requires typed { IsTest (shown program.now) (shown_expr e.now) }
-    requires value { x.now ≡ ((meant N.ops (shown program.now) (shown_expr e.now)).gives Both state.now).pair }
+    requires sizes { sizes.now ≡ sizes_of (program_view program.now).blocks }
+    requires typed { IsTest (program_view program.now) (expr_view e.now) }
+    requires value { x.now ≡ ((meant N.ops (program_view program.now) (expr_view e.now)).gives Both state.now).pair }
     ensures true_true { IfOk result (λ r. asked.alike ≡ true → left_of state.now r.true_true
-        ≡ spec.test_taken N.ops (meant N.ops (shown program.now) (shown_expr e.now)) true true state.now) }
+        ≡ spec.test_taken N.ops (meant N.ops (program_view program.now) (expr_view e.now)) true true state.now) }
     ensures true_false { IfOk result (λ r. asked.apart ≡ true → left_of state.now r.true_false
-        ≡ spec.test_taken N.ops (meant N.ops (shown program.now) (shown_expr e.now)) true false state.now) }
+        ≡ spec.test_taken N.ops (meant N.ops (program_view program.now) (expr_view e.now)) true false state.now) }
     ensures false_true { IfOk result (λ r. asked.apart ≡ true → left_of state.now r.false_true
-        ≡ spec.test_taken N.ops (meant N.ops (shown program.now) (shown_expr e.now)) false true state.now) }
+        ≡ spec.test_taken N.ops (meant N.ops (program_view program.now) (expr_view e.now)) false true state.now) }
     ensures false_false { IfOk result (λ r. asked.alike ≡ true → left_of state.now r.false_false
-        ≡ spec.test_taken N.ops (meant N.ops (shown program.now) (shown_expr e.now)) false false state.now) }
+        ≡ spec.test_taken N.ops (meant N.ops (program_view program.now) (expr_view e.now)) false false state.now) }
 {
     ep_eval_taken::test_taken_where(e, sizes, state, x, asked)
 }
@@ -134,16 +134,16 @@ pub fn test_taken_by<N: Num>(
     wants: Wants,
     faults: &mut Vec<Fault>,
 ) -> Result<Assumed<N>, Memory>
-    requires sizes { sizes.now ≡ sizes_of (shown program.now).blocks }
-    requires typed { IsTest (shown program.now) (shown_expr e.now) }
+    requires sizes { sizes.now ≡ sizes_of (program_view program.now).blocks }
+    requires typed { IsTest (program_view program.now) (expr_view e.now) }
     ensures value { IfOk result (λ r. r.value
-        ≡ ((meant N.ops (shown program.now) (shown_expr e.now)).gives (alone (side_of side)) state.now).pair) }
+        ≡ ((meant N.ops (program_view program.now) (expr_view e.now)).gives (alone (side_of side)) state.now).pair) }
     ensures faults { OnOk result (faults.new.items ≡ faults.old.items
-        ++ ((meant N.ops (shown program.now) (shown_expr e.now)).gives (alone (side_of side)) state.now).faults) }
+        ++ ((meant N.ops (program_view program.now) (expr_view e.now)).gives (alone (side_of side)) state.now).faults) }
     ensures yes { IfOk result (λ r. wants.yes ≡ true → left_of state.now r.when_true ≡ spec.test_taken_by N.ops
-        (side_of side) (meant N.ops (shown program.now) (shown_expr e.now)) true state.now) }
+        (side_of side) (meant N.ops (program_view program.now) (expr_view e.now)) true state.now) }
     ensures no { IfOk result (λ r. wants.no ≡ true → left_of state.now r.when_false ≡ spec.test_taken_by N.ops
-        (side_of side) (meant N.ops (shown program.now) (shown_expr e.now)) false state.now) }
+        (side_of side) (meant N.ops (program_view program.now) (expr_view e.now)) false state.now) }
 {
     ep_eval_taken::test_taken_by(e, sizes, state, side, wants, faults)
 }

@@ -5,7 +5,7 @@
 ghost use Rattle.std.specs.Prelude.{◌≡◌, ◌++◌, ◌||◌, IfOk, OnOk, None, not, true, false};
 ghost use Rattle.ep_cells.specs.States.{Known};
 ghost use Rattle.ep_core.specs.Runs.{left, right};
-ghost use Rattle.ep_core.specs.View.{shown_expr};
+ghost use Rattle.ep_core.specs.View.{expr_view};
 ghost use Rattle.ep_equalities.specs.declared.pair.Mode.TheVariants.{Both};
 ghost use Rattle.ep_evaluation.specs.Evaluation as spec;
 ghost use Rattle.ep_evaluation.specs.Evaluation.{expression};
@@ -46,9 +46,9 @@ pub fn test_taken<N: Num>(
     on_left: bool,
     on_right: bool,
 ) -> Result<After<N>, Memory>
-    requires { ExprIsFit (shown_expr e.now) }
+    requires { ExprIsFit (expr_view e.now) }
     ensures { IfOk result (λ r. left_of state.now r ≡ spec.test_taken N.ops
-        (expression N.ops sizes.now (shown_expr e.now)) on_left on_right state.now) }
+        (expression N.ops sizes.now (expr_view e.now)) on_left on_right state.now) }
 {
     let mut unseen = Vec::new(state.allocator());
     let x = eval(e, sizes, state, Mode::Both, &mut unseen)?;
@@ -108,14 +108,14 @@ fn taken_with<N: Num>(
     after: After<N>,
     wants: Wants,
 ) -> Result<Second<N>, Memory>
-    requires fit { ExprIsFit (shown_expr e.now) }
-    requires value { x.now ≡ ((expression N.ops sizes.now (shown_expr e.now)).gives Both state.now).pair }
+    requires fit { ExprIsFit (expr_view e.now) }
+    requires value { x.now ≡ ((expression N.ops sizes.now (expr_view e.now)).gives Both state.now).pair }
     requires left { left_of state.now after
-        ≡ (expression N.ops sizes.now (shown_expr e.now)).assumes left on_left state.now }
+        ≡ (expression N.ops sizes.now (expr_view e.now)).assumes left on_left state.now }
     ensures yes { IfOk result (λ r. wants.yes ≡ true → left_of state.now r.when_true ≡ spec.test_taken N.ops
-        (expression N.ops sizes.now (shown_expr e.now)) on_left true state.now) }
+        (expression N.ops sizes.now (expr_view e.now)) on_left true state.now) }
     ensures no { IfOk result (λ r. wants.no ≡ true → left_of state.now r.when_false ≡ spec.test_taken N.ops
-        (expression N.ops sizes.now (shown_expr e.now)) on_left false state.now) }
+        (expression N.ops sizes.now (expr_view e.now)) on_left false state.now) }
 {
     if is_other(&x.left, on_left) {
         return Ok(never());
@@ -147,16 +147,16 @@ pub fn test_taken_where<N: Num>(
     x: &PairValue<N>,
     asked: Combinations,
 ) -> Result<Taken<N>, Memory>
-    requires fit { ExprIsFit (shown_expr e.now) }
-    requires value { x.now ≡ ((expression N.ops sizes.now (shown_expr e.now)).gives Both state.now).pair }
+    requires fit { ExprIsFit (expr_view e.now) }
+    requires value { x.now ≡ ((expression N.ops sizes.now (expr_view e.now)).gives Both state.now).pair }
     ensures true_true { IfOk result (λ r. asked.alike ≡ true → left_of state.now r.true_true ≡ spec.test_taken N.ops
-        (expression N.ops sizes.now (shown_expr e.now)) true true state.now) }
+        (expression N.ops sizes.now (expr_view e.now)) true true state.now) }
     ensures true_false { IfOk result (λ r. asked.apart ≡ true → left_of state.now r.true_false ≡ spec.test_taken N.ops
-        (expression N.ops sizes.now (shown_expr e.now)) true false state.now) }
+        (expression N.ops sizes.now (expr_view e.now)) true false state.now) }
     ensures false_true { IfOk result (λ r. asked.apart ≡ true → left_of state.now r.false_true ≡ spec.test_taken N.ops
-        (expression N.ops sizes.now (shown_expr e.now)) false true state.now) }
+        (expression N.ops sizes.now (expr_view e.now)) false true state.now) }
     ensures false_false { IfOk result (λ r. asked.alike ≡ true → left_of state.now r.false_false ≡ spec.test_taken N.ops
-        (expression N.ops sizes.now (shown_expr e.now)) false false state.now) }
+        (expression N.ops sizes.now (expr_view e.now)) false false state.now) }
 {
     let mut unseen = Vec::new(state.allocator());
     let first = test(e, sizes, state, Running::Left, Wants::both(), &mut unseen)?;
@@ -190,15 +190,15 @@ pub fn test_taken_by<N: Num>(
     wants: Wants,
     faults: &mut Vec<Fault>,
 ) -> Result<Assumed<N>, Memory>
-    requires { ExprIsFit (shown_expr e.now) }
+    requires { ExprIsFit (expr_view e.now) }
     ensures value { IfOk result (λ r. r.value
-        ≡ ((expression N.ops sizes.now (shown_expr e.now)).gives (alone (side_of side)) state.now).pair) }
+        ≡ ((expression N.ops sizes.now (expr_view e.now)).gives (alone (side_of side)) state.now).pair) }
     ensures faults { OnOk result (faults.new.items ≡ faults.old.items
-        ++ ((expression N.ops sizes.now (shown_expr e.now)).gives (alone (side_of side)) state.now).faults) }
+        ++ ((expression N.ops sizes.now (expr_view e.now)).gives (alone (side_of side)) state.now).faults) }
     ensures yes { IfOk result (λ r. wants.yes ≡ true → left_of state.now r.when_true
-        ≡ spec.test_taken_by N.ops (side_of side) (expression N.ops sizes.now (shown_expr e.now)) true state.now) }
+        ≡ spec.test_taken_by N.ops (side_of side) (expression N.ops sizes.now (expr_view e.now)) true state.now) }
     ensures no { IfOk result (λ r. wants.no ≡ true → left_of state.now r.when_false
-        ≡ spec.test_taken_by N.ops (side_of side) (expression N.ops sizes.now (shown_expr e.now)) false state.now) }
+        ≡ spec.test_taken_by N.ops (side_of side) (expression N.ops sizes.now (expr_view e.now)) false state.now) }
 {
     let x = test(e, sizes, state, side, wants, faults)?;
     let never_true = is_other(side.of(&x.value), true);

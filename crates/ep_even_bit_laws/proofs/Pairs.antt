@@ -1,6 +1,7 @@
 -- A product of pairs by 1 has the strides of the other factor, where that of the left parts has them and the right
 -- parts keep none.
 use Rattle.std.proofs.Common.{◌≡◌, ℕ, ℤ, pos, true, false, cond, Option, Some, None, IsTrue, IfSome, IsSomeAnd}
+use Rattle.ep_int.proofs.Basics.{if_some-map}
 use Rattle.std.proofs.Common.{sym, ap, subst}
 use Rattle.ep_int.specs.declared.types.IntType.TheVariants.{I64}
 use Rattle.ep_int.specs.declared.types.BinOp.TheVariants.{Mul}
@@ -14,10 +15,6 @@ use Rattle.ep_domain.specs.Laws.Narrowed.{BothSingle, cut_keeps, narrowed_keeps}
 use Rattle.ep_domain.specs.Laws.PairOperators.{edges_to_single}
 use Rattle.ep_range_laws.proofs.Options.{to_if, always}
 use Rattle.ep_alarm_laws.specs.Laws.{ProductsKeepStrides}
-
-map_if : {X : Type 0} (P Q : X → Type 0) (o : Option X) → ((x : X) → P x → Q x) → IfSome o P → IfSome o Q
-map_if P Q None go h = tt
-map_if P Q (Some x) go h = go x h
 
 module _ {A B : Type 0} (f : Ghosts A) (g : Ghosts B) (law : Lawful f.ops) (too : Lawful g.ops)
     (keeps : f.ops.keeps_strides ≡ true) (none : g.ops.keeps_strides ≡ false) (products : ProductsKeepStrides f.ops)
@@ -78,7 +75,7 @@ module _ {A B : Type 0} (f : Ghosts A) (g : Ghosts B) (law : Lawful f.ops) (too 
       → (pair_ops {f = f} {g = g}).range q ≡ (pos 1, pos 1)
       → IfSome (outcome_of Mul I64 p q).value (λ c. IsTrue (has_stride_of c r s))
   left_product p q h e =
-      map_if Has (λ c. IsTrue (has_stride_of c r s)) (outcome_of Mul I64 p q).value
+      if_some-map Has (λ c. IsTrue (has_stride_of c r s)) (outcome_of Mul I64 p q).value
       (λ c k. subst IsTrue (sym (left_stride c)) k.0)
       (at_has p q (common_edges f.ops g.ops p.left p.right) (common_edges f.ops g.ops q.left q.right)
       (always (λ x. IfSome (cut_to {f = f} {g = g} p.left p.right x) Has) (common_edges f.ops g.ops p.left p.right)

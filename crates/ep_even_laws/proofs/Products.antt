@@ -1,7 +1,10 @@
 -- A product of congruences by 1 has the strides of the other factor.
 use Prim.Native.Nat.{◌∣◌}
+use Rattle.ep_congruence_laws.proofs.Strides.{signed_ok}
+use Rattle.ep_congruence_domain.proofs.Strides.{cut_class_stride, positive, tested}
+use Rattle.std.proofs.lemmas.Bool.{le-leb}
 use Rattle.std.proofs.Common.{◌≡◌, ℕ, ◌*◌, ◌<◌, ◌≤◌, ℤ, pos, ◌-ℤ◌, ◌*ℤ◌, ◌≤ℤ◌, Bool, true, false, cond, ◌&&◌, Option}
-use Rattle.std.proofs.Common.{Some, None, option_and_then, Result, Ok, Err, IsTrue, IfSome, nat_le, refl, sym, ap}
+use Rattle.std.proofs.Common.{Some, None, option_and_then, IfSome, nat_le, refl, sym, ap}
 use Rattle.std.proofs.Common.{◌∙◌, subst, ◌⊎◌, inl, inr, arith}
 use Rattle.std.specs.Prelude.{unsigned_abs}
 use Rattle.std.proofs.lemmas.Int.{ints}
@@ -9,39 +12,30 @@ use Rattle.std.proofs.lemmas.Bool.{and_from}
 use Rattle.std.proofs.lemmas.Nat.Gcd.{dvd-zero}
 use Rattle.ep_int.specs.declared.types.IntType.TheVariants.{I64}
 use Rattle.ep_int.specs.declared.types.BinOp.TheVariants.{Mul}
-use Rattle.ep_int.specs.declared.types.Undef.{Undef}
 use Rattle.ep_int.specs.declared.types.Undef.TheVariants.{Overflow}
 use Rattle.ep_int.specs.Types.{least_of, greatest_of, residue}
 use Rattle.ep_int.specs.Arith.{arith_of, IsOfSomeType}
-use Rattle.ep_domain.specs.Domain.{IsStride}
 use Rattle.ep_congruence_laws.specs.Multiples.{IsMultiple, gcd}
 use Rattle.ep_congruence_laws.specs.Classes as classes
 use Rattle.ep_congruence_laws.specs.Classes.{Class, one, is_one, reduced, greatest_modulus}
 use Rattle.ep_congruence_laws.specs.Results.{greatest_product, products, are_small, product_modulus, product_of}
 use Rattle.ep_congruence_laws.specs.Results.{past_limits, results_between, single_result, left_operand, value_of}
-use Rattle.ep_congruence_laws.proofs.Classes.{le_test, class_small}
+use Rattle.ep_congruence_laws.proofs.Classes.{class_small}
 use Rattle.ep_congruence_laws.proofs.Operations.{In, Is, one_member, gcd_greatest, gcd_small}
 use Rattle.ep_congruence_laws.proofs.Cuts as cuts
-use Rattle.ep_congruence_laws.proofs.Cuts.{HasStride, stride_from, stride_test, stride_of, IsCut, cut_is, itself_in}
+use Rattle.ep_congruence_laws.proofs.Cuts.{HasStride, stride_from, stride_of, IsCut, cut_is, itself_in}
 use Rattle.ep_congruence_laws.proofs.Strides.{one_stride}
 use Rattle.ep_congruence_laws.proofs.Results.{signed_result}
-use Rattle.ep_congruence_domain.specs.Congruence.{Congruence, class_of, outcome_of}
+use Rattle.ep_congruence_domain.specs.Congruence.{class_of, outcome_of}
 use Rattle.ep_congruence_domain.specs.Domain.{congruence_ops}
 use Rattle.ep_congruence_domain.proofs.Formed.{then_kept}
 use Rattle.ep_congruence_domain.proofs.Simple.{single_of_range}
 use Rattle.ep_alarm_laws.specs.Laws.{ProductsKeepStrides}
 
-positive : (r s : ℕ) → IsStride r s → 0 < s
-positive r s i = let b = i.below in omega (arith, b)
-
 times_one : (z : ℤ) → z *ℤ pos 1 ≡ z
 times_one z = omega (arith, ints)
 
 -- ---- classes
-
-signed_ok : (r : Result ℤ Undef) (P : Class → Type 0) → ((v : ℤ) → r ≡ Ok v → P (one v)) → IfSome (single_result r) P
-signed_ok (Ok v) P f = f v refl
-signed_ok (Err u) P f = tt
 
 between : (o : Bool) (l : Option Class) (c : Class) (P : Class → Type 0) → IfSome l P → P c
     → IfSome (cond o l (Some c)) P
@@ -76,14 +70,14 @@ module _ (d : Class) (r s : ℕ) (p : 0 < s) (valid : Is d) (h : HasStride d r s
   small =
       and_from (nat_le (d.modulus * 0) greatest_product)
       (nat_le (d.modulus * 1) greatest_product && nat_le (unsigned_abs d.remainder * 0) greatest_product)
-      (le_test (d.modulus * 0) greatest_product (wider _ first_small))
+      (le-leb (d.modulus * 0) greatest_product (wider _ first_small))
       (and_from (nat_le (d.modulus * 1) greatest_product) (nat_le (unsigned_abs d.remainder * 0) greatest_product)
-      (le_test (d.modulus * 1) greatest_product (wider _ second_small))
-      (le_test (unsigned_abs d.remainder * 0) greatest_product (wider _ third_small)))
+      (le-leb (d.modulus * 1) greatest_product (wider _ second_small))
+      (le-leb (unsigned_abs d.remainder * 0) greatest_product (wider _ third_small)))
 
   near : nat_le (product_modulus I64 d unit) greatest_modulus ≡ true
   near =
-      le_test (product_modulus I64 d unit) greatest_modulus
+      le-leb (product_modulus I64 d unit) greatest_modulus
       (gcd_small (gcd (d.modulus * 0) (d.modulus * 1)) (unsigned_abs d.remainder * 0) greatest_modulus
       (gcd_small (d.modulus * 0) (d.modulus * 1) greatest_modulus first_small second_small) third_small)
 
@@ -118,13 +112,6 @@ record Kept (r s : ℕ) (d : Class) : Type 0 where
   valid : Is d
   stride : HasStride d r s
 
-cut_stride : (k d : Class) (lo hi : ℤ) (r s : ℕ) → 0 < s → HasStride k r s → IsCut k lo hi d → HasStride d r s
-cut_stride k d lo hi r s p h c = at c.inside
-  where
-    at : (d ≡ k) ⊎ ((v : ℤ) × (d ≡ one v) × IsOfSomeType v × In k v × (lo ≤ℤ v) × (v ≤ℤ hi)) → HasStride d r s
-    at (inl e) = subst (λ x. HasStride x r s) (sym e) h
-    at (inr w) = subst (λ x. HasStride x r s) (sym w.1) (one_stride w.0 r s (cuts.stride_holds k r s w.0 p h w.3))
-
 operand : (k : Class) (r s : ℕ) → 0 < s → Is k → HasStride k r s → IfSome (left_operand I64 k) (Kept r s)
 operand k r s p v h = at (left_operand I64 k) (cut_is k (least_of I64) (greatest_of I64))
   where
@@ -132,7 +119,7 @@ operand k r s p v h = at (left_operand I64 k) (cut_is k (least_of I64) (greatest
     at None c = tt
     at (Some d) c = record {
       valid = c.valid v;
-      stride = cut_stride k d (least_of I64) (greatest_of I64) r s p h c;
+      stride = cut_class_stride k d (least_of I64) (greatest_of I64) r s p h c;
     }
 
 -- a cut of one number is that number
@@ -156,11 +143,6 @@ both_cut : (X Y R : Class → Type 0) (l u : Option Class) → IfSome l X → If
 both_cut X Y R None u h k go = tt
 both_cut X Y R (Some d) None h k go = tt
 both_cut X Y R (Some d) (Some f) h k go = go d f h k
-
-tested : (o : Option Congruence) (r s : ℕ) → IfSome o (λ c. HasStride (class_of c) r s)
-    → IfSome o (λ c. IsTrue (classes.has_stride (class_of c) r s))
-tested None r s h = tt
-tested (Some c) r s h = stride_test (class_of c) r s h
 
 pub congruence_products : ProductsKeepStrides congruence_ops
 congruence_products a b r s i h e =

@@ -8,9 +8,9 @@ use Rattle.ep_alarms.specs.Report.{added}
 use Rattle.ep_core.specs.Program.{Expr}
 use Rattle.ep_pass.specs.States.{Mode, StateOps}
 use Rattle.ep_pass.specs.Pass.{Log, logged, both_logs, Pass, from_head, dropped, settled, is_stable, next_head}
-use Rattle.ep_pass_laws.specs.Heads.{more_turns, IsTriedAgain, next_of, head_after, turns_at, NoneKept}
-use Rattle.ep_pass_laws.specs.Laws.{HeadsGoRound}
-use Rattle.ep_flows.specs.Shown.{Told, Tells, HasPassed, capped, more_heads, kept_heads, wider_of}
+use Rattle.ep_pass.specs.Heads.{more_turns, IsTriedAgain, next_of, head_after, turns_at, NoneKept}
+use Rattle.ep_pass.specs.ReportLaws.{HeadsGoRound}
+use Rattle.ep_flows.specs.View.{Told, Tells, HasPassed, capped, more_heads, kept_heads, wider_of}
 use Rattle.ep_flows.specs.declared.flow.Flow.{Flow}
 use Rattle.ep_flows.specs.declared.heads.Rounds.{Rounds}
 use Rattle.ep_flows.specs.Rounds.{ComesRound}

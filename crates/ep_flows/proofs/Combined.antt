@@ -8,7 +8,7 @@ use Rattle.ep_core.specs.Exec.{Way, on, broken, continued, returned}
 use Rattle.ep_pass.specs.States.{StateOps}
 use Rattle.ep_pass.specs.Pass.{Ways, Log, logged, both_logs, Pass, passed, after, branch, left_by, leave_loop}
 use Rattle.ep_pass.specs.Pass.{join_on, join_ways, either_pass, go_on}
-use Rattle.ep_flows.specs.Shown.{Told, Tells, HasPassed, Passes, CountsUpTo, shown_ways, shown_flow, capped, more_heads}
+use Rattle.ep_flows.specs.View.{Told, Tells, HasPassed, Passes, CountsUpTo, ways_view, flow_view, capped, more_heads}
 use Rattle.ep_flows.specs.declared.flow.Flow.{Flow}
 use Rattle.ep_flows.proofs.Telling.{nil_right, tells_both, tells_nothing}
 
@@ -65,7 +65,7 @@ module _ {S : Type 0} where
   after_passed g p f old mid new t h = record { on = h.on; ways = h.ways; log = tells_both g p.log old mid new t h.log }
 
   pub leave_loop_passed : (p : Pass S) (f h : Flow S) (old new : Told S) → HasPassed p f old new
-      → h.on ≡ (leave_loop (shown_flow f)).on → shown_ways h.ways ≡ (leave_loop (shown_flow f)).ways
+      → h.on ≡ (leave_loop (flow_view f)).on → ways_view h.ways ≡ (leave_loop (flow_view f)).ways
       → HasPassed (leave_loop p) h old new
   leave_loop_passed p f h old new t a b = record {
     on = a ∙ ap (λ (w : Ways S). w.broken) t.ways;
@@ -98,22 +98,22 @@ module _ {S : Type 0} where
     left_log returned u g = refl
 
     pub keeps_passed : (p : Pass S) (f h : Flow S) (old mid new : Told S) → HasPassed p f old mid
-        → HasPassed (keeps (shown_flow f)) h mid new → HasPassed (keeps p) h old new
+        → HasPassed (keeps (flow_view f)) h mid new → HasPassed (keeps p) h old new
     keeps_passed p f h old mid new a b =
-        let us = left_log k (pick f.on (shown_ways f.ways)) (both_logs (logged [] 0 []) (logged (others f.on
-        (shown_ways f.ways)) 0 [])) in
-        let t : Tells (both_logs (logged [] 0 []) (logged (others f.on (shown_ways f.ways)) 0 [])) mid new = subst
+        let us = left_log k (pick f.on (ways_view f.ways)) (both_logs (logged [] 0 []) (logged (others f.on
+        (ways_view f.ways)) 0 [])) in
+        let t : Tells (both_logs (logged [] 0 []) (logged (others f.on (ways_view f.ways)) 0 [])) mid new = subst
         (λ g. Tells g mid new) us b.log in
         let t' : Tells (logged (others p.on p.ways) 0 []) mid new = rw (a.on, a.ways) at (drop_nothing (logged
-        (others f.on (shown_ways f.ways)) 0 []) mid new t) in
-        let same : pick f.on (shown_ways f.ways) ≡ pick p.on p.ways = ap (λ z. pick z (shown_ways f.ways)) a.on
+        (others f.on (ways_view f.ways)) 0 []) mid new t) in
+        let same : pick f.on (ways_view f.ways) ≡ pick p.on p.ways = ap (λ z. pick z (ways_view f.ways)) a.on
         ∙ ap (pick p.on) a.ways in
         let g = both_logs p.log (logged (others p.on p.ways) 0 []) in
         record {
           on = b.on ∙ ap (λ z. (left_by k z (both_logs (logged [] 0 []) (logged (others f.on
-              (shown_ways f.ways)) 0 []))).on) same ∙ left_on k (pick p.on p.ways) _ g;
+              (ways_view f.ways)) 0 []))).on) same ∙ left_on k (pick p.on p.ways) _ g;
           ways = b.ways ∙ ap (λ z. (left_by k z (both_logs (logged [] 0 []) (logged (others f.on
-              (shown_ways f.ways)) 0 []))).ways) same ∙ left_ways k (pick p.on p.ways) _ g;
+              (ways_view f.ways)) 0 []))).ways) same ∙ left_ways k (pick p.on p.ways) _ g;
           log = subst (λ z. Tells z old new) (sym (left_log k (pick p.on p.ways) g)) (tells_both p.log (logged
               (others p.on p.ways) 0 []) old mid new a.log t');
         }
@@ -123,16 +123,16 @@ module _ {S : Type 0} where
 
     -- what comes, joined to what came before
     pub either_passed : (p : Pass S) (before f h : Flow S) (old new : Told S) → HasPassed p f old new
-        → h.on ≡ join_on o before.on f.on → shown_ways h.ways ≡ join_ways o (shown_ways before.ways)
-        (shown_ways f.ways) → HasPassed (either_pass o (shown_flow before) p) h old new
+        → h.on ≡ join_on o before.on f.on → ways_view h.ways ≡ join_ways o (ways_view before.ways)
+        (ways_view f.ways) → HasPassed (either_pass o (flow_view before) p) h old new
     either_passed p before f h old new a u w = record {
       on = u ∙ ap (join_on o before.on) a.on;
-      ways = w ∙ ap (join_ways o (shown_ways before.ways)) a.ways;
+      ways = w ∙ ap (join_ways o (ways_view before.ways)) a.ways;
       log = put_nothing p.log old new a.log;
     }
 
     pub then_either : (a p : Pass S) (f h : Flow S) (old mid new : Told S) → HasPassed a f old mid
-        → HasPassed (either_pass o (shown_flow f) p) h mid new → HasPassed (either_pass o a p) h old new
+        → HasPassed (either_pass o (flow_view f) p) h mid new → HasPassed (either_pass o a p) h old new
     then_either a p f h old mid new x y = record {
       on = y.on ∙ ap (λ z. join_on o z p.on) x.on;
       ways = y.ways ∙ ap (λ z. join_ways o z p.ways) x.ways;
@@ -141,19 +141,19 @@ module _ {S : Type 0} where
 
     -- two flows that were gone through one after the other
     pub both_passed : (a p : Pass S) (f g h : Flow S) (old mid new : Told S) → HasPassed a f old mid
-        → HasPassed p g mid new → h.on ≡ join_on o f.on g.on → shown_ways h.ways ≡ join_ways o (shown_ways f.ways)
-        (shown_ways g.ways) → HasPassed (either_pass o a p) h old new
+        → HasPassed p g mid new → h.on ≡ join_on o f.on g.on → ways_view h.ways ≡ join_ways o (ways_view f.ways)
+        (ways_view g.ways) → HasPassed (either_pass o a p) h old new
     both_passed a p f g h old mid new x y u w = then_either a p f h old mid new x (either_passed p f g h mid new y u w)
 
     -- what follows a pair of truths, where a state is reached
     pub step_passed : (a : Pass S) (u v : Option S) (go : S → Pass S) (f h : Flow S) (old mid new : Told S) → u ≡ v
-        → HasPassed a f old mid → HasPassed (either_pass o (shown_flow f) (branch u go)) h mid new
+        → HasPassed a f old mid → HasPassed (either_pass o (flow_view f) (branch u go)) h mid new
         → HasPassed (either_pass o a (branch v go)) h old new
     step_passed a u v go f h old mid new e x y = then_either a (branch v go) f h old mid new x (subst (λ z. HasPassed
-        (either_pass o (shown_flow f) (branch z go)) h mid new) e y)
+        (either_pass o (flow_view f) (branch z go)) h mid new) e y)
 
     pub step_ok : (a : Pass S) (u v : Option S) (go : S → Pass S) (f : Flow S) (x : Result (Flow S) Memory)
-        (old mid new : Told S) → u ≡ v → HasPassed a f old mid → Passes (either_pass o (shown_flow f)
+        (old mid new : Told S) → u ≡ v → HasPassed a f old mid → Passes (either_pass o (flow_view f)
         (branch u go)) x mid new → Passes (either_pass o a (branch v go)) x old new
     step_ok a u v go f (Err y) old mid new e p q =
         subst (λ z. CountsUpTo (a.log.count + (branch z go).log.count) old.count new.count) e
@@ -169,8 +169,8 @@ module _ {S : Type 0} where
 
     pub either_ok : (p : Pass S) (before f : Flow S) (x : Result (Flow S) Memory) (old new : Told S)
         → HasPassed p f old new → IfOk x (λ h. h.on ≡ join_on o before.on f.on)
-        → IfOk x (λ h. shown_ways h.ways ≡ join_ways o (shown_ways before.ways) (shown_ways f.ways))
-        → Passes (either_pass o (shown_flow before) p) x old new
+        → IfOk x (λ h. ways_view h.ways ≡ join_ways o (ways_view before.ways) (ways_view f.ways))
+        → Passes (either_pass o (flow_view before) p) x old new
     either_ok p before f (Err y) old new a u w = counts p.log.count old.count new.count a.log.count
       where
         counts : (n a b : ℕ) → capped b ≡ capped (a + n) → CountsUpTo (0 + n) a b
@@ -188,7 +188,7 @@ module _ {S : Type 0} where
         (Some next) z g go) f old new) (sym d) k)
 
     pub stops_there : (u : Option S) (w : Ways S) (g : Log S) (go : S → Ways S
-        → Pass S) (f : Flow S) (old new : Told S) → u ≡ None → f.on ≡ None → shown_ways f.ways ≡ w → Tells g old new
+        → Pass S) (f : Flow S) (old new : Told S) → u ≡ None → f.on ≡ None → ways_view f.ways ≡ w → Tells g old new
         → HasPassed (go_on o u w g go) f old new
     stops_there u w g go f old new e a b t =
         let k : HasPassed (go_on o None w g go) f old new = record { on = a; ways = b; log = t } in

@@ -3,7 +3,7 @@ use Rattle.std.proofs.Common.{◌≡◌, ℕ, ◌+◌, ◌≤◌, refl, arith, R
 use Rattle.ep_int.specs.declared.types.Memory.{Memory}
 use Rattle.ep_alarms.specs.Report.{added}
 use Rattle.ep_pass.specs.Pass.{Log, Pass, after}
-use Rattle.ep_flows.specs.Shown.{Told, Tells, HasPassed, Passes, CountsUpTo, capped, more_heads}
+use Rattle.ep_flows.specs.View.{Told, Tells, HasPassed, Passes, CountsUpTo, capped, more_heads}
 use Rattle.ep_flows.specs.declared.flow.Flow.{Flow}
 use Rattle.ep_flows.proofs.Combined.{Leads, after_passed}
 

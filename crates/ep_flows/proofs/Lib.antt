@@ -4,3 +4,4 @@ pub mod Counting
 pub mod Gathering
 pub mod Circles
 pub mod Bounds
+pub mod Basics

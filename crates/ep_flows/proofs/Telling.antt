@@ -1,21 +1,18 @@
 -- What comes to a log, one after the other.
 use Rattle.std.proofs.Common.{◌≡◌, ℕ, ◌+◌, List, [], ◌∷◌, ◌++◌, fold, refl, sym, ap, ◌∙◌, arith, Option, Some, None}
+use Rattle.ep_int.proofs.Basics.{append-assoc}
 use Rattle.std.proofs.lemmas.List.Sums.{fold-append}
 use Rattle.ep_alarms.specs.Report.{added}
 use Rattle.ep_pass.specs.Pass.{Log, logged, both_logs}
-use Rattle.ep_flows.specs.Shown.{Told, Tells, capped, more_heads}
+use Rattle.ep_flows.specs.View.{Told, Tells, capped, more_heads}
 
 pub nil_right : {A : Type 0} (l : List A) → l ++ [] ≡ l
 nil_right [] = refl
 nil_right (x ∷ l) = ap (λ m. x ∷ m) (nil_right l)
 
-again : {A : Type 0} (a b c : List A) → (a ++ b) ++ c ≡ a ++ (b ++ c)
-again [] b c = refl
-again (x ∷ a) b c = ap (λ m. x ∷ m) (again a b c)
-
 heads_again : {S : Type 0} (h : Option (List S)) (a b : List S) → more_heads (more_heads h a) b ≡ more_heads h (a ++ b)
 heads_again None a b = refl
-heads_again (Some gs) a b = ap (λ l. Some l) (again gs a b)
+heads_again (Some gs) a b = ap (λ l. Some l) (append-assoc gs a b)
 
 heads_none : {S : Type 0} (h : Option (List S)) → h ≡ more_heads h []
 heads_none None = refl

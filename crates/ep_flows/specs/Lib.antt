@@ -1,3 +1,3 @@
-pub mod Shown
+pub mod View
 pub mod Typed
 pub mod Rounds

@@ -1,7 +1,7 @@
 -- What becomes of the marked one of a loop's heads where another comes. This project's words.
 use Rattle.std.specs.Prelude.{◌≡◌, ℕ, ◌+◌, ◌*◌, ◌⊎◌}
 use Rattle.ep_flows.specs.declared.heads.Rounds.{Rounds}
-use Rattle.ep_flows.specs.Shown.{capped}
+use Rattle.ep_flows.specs.View.{capped}
 
 module _ {S : Type 0} where
   -- this head is the marked one, and the first of those that come

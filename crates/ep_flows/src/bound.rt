@@ -2,14 +2,14 @@
 
 ghost use Rattle.std.specs.Prelude.{◌≡◌, ◌≤◌, ◌+◌, ◌*◌, ◌^◌, sum_by};
 ghost use Rattle.ep_core.specs.declared.program.BlockInfo.{BlockInfo};
-ghost use Rattle.ep_core.specs.Shown.{shown};
+ghost use Rattle.ep_core.specs.ProgramView.{program_view};
 ghost use Rattle.ep_pass.specs.Turns as rule;
 
 use ep_core::program::{BlockInfo, CoreProgram};
 
 /// The number of the last head of each loop, where numbers widen so often.
 pub fn last_head(p: &CoreProgram, height: u32) -> u128
-    ensures { result ≡ rule.last_head (shown p.now) height }
+    ensures { result ≡ rule.last_head (program_view p.now) height }
 {
     let blocks = p.blocks.len() as u64;
     let rank = cell_rank(blocks, height);

@@ -2,10 +2,10 @@
 
 ghost use Rattle.std.specs.Prelude.{◌≡◌, ◌++◌, IfOk, OnOk, None, Some, fold};
 ghost use Rattle.ep_core.specs.Exec.{frame_of};
-ghost use Rattle.ep_core.specs.View.{shown_function};
+ghost use Rattle.ep_core.specs.View.{function_view};
 ghost use Rattle.ep_pass.specs.Pass.{comes_after, join_on, join_ways, leave_call, leave_loop, leave_on, none};
 ghost use Rattle.ep_pass.specs.Pass.{only_broken, only_continued, only_on, only_returned, scope_pass};
-ghost use Rattle.ep_flows.specs.Shown.{Passes, mode_of, ops_for, plan_of, shown_flow, shown_ways};
+ghost use Rattle.ep_flows.specs.View.{Passes, mode_of, ops_for, plan_of, flow_view, ways_view};
 
 use crate::log::Log;
 use crate::setting::{Running, Setting};
@@ -29,7 +29,7 @@ pub struct Flow<K> {
 
 impl<K> Ways<K> {
     pub fn none() -> Ways<K>
-        ensures { shown_ways result ≡ none }
+        ensures { ways_view result ≡ none }
     {
         Ways {
             broken: None,
@@ -43,7 +43,7 @@ impl<K> Flow<K> {
     /// Left nowhere.
     pub fn none() -> Flow<K>
         ensures on { result.on ≡ None }
-        ensures ways { shown_ways result.ways ≡ none }
+        ensures ways { ways_view result.ways ≡ none }
     {
         Flow {
             on: None,
@@ -54,7 +54,7 @@ impl<K> Flow<K> {
     /// Left at the end, where that is reached.
     pub fn on(on: Option<K>) -> Flow<K>
         ensures on { result.on ≡ on }
-        ensures ways { shown_ways result.ways ≡ none }
+        ensures ways { ways_view result.ways ≡ none }
     {
         Flow {
             on,
@@ -64,7 +64,7 @@ impl<K> Flow<K> {
 
     pub fn broken(way: Option<K>) -> Flow<K>
         ensures on { result.on ≡ None }
-        ensures ways { shown_ways result.ways ≡ record { broken = way; continued = None; returned = None } }
+        ensures ways { ways_view result.ways ≡ record { broken = way; continued = None; returned = None } }
     {
         Flow {
             on: None,
@@ -78,7 +78,7 @@ impl<K> Flow<K> {
 
     pub fn continued(way: Option<K>) -> Flow<K>
         ensures on { result.on ≡ None }
-        ensures ways { shown_ways result.ways ≡ record { broken = None; continued = way; returned = None } }
+        ensures ways { ways_view result.ways ≡ record { broken = None; continued = way; returned = None } }
     {
         Flow {
             on: None,
@@ -92,7 +92,7 @@ impl<K> Flow<K> {
 
     pub fn returned(way: Option<K>) -> Flow<K>
         ensures on { result.on ≡ None }
-        ensures ways { shown_ways result.ways ≡ record { broken = None; continued = None; returned = way } }
+        ensures ways { ways_view result.ways ≡ record { broken = None; continued = None; returned = way } }
     {
         Flow {
             on: None,
@@ -128,8 +128,8 @@ pub fn join_all<K: AbstractStates>(
     a: Ways<K>,
     b: Ways<K>,
 ) -> Result<Ways<K>, Memory>
-    ensures { IfOk result (λ w. shown_ways w ≡ join_ways (ops_for K.ops (plan_of c.now)) (shown_ways a)
-        (shown_ways b)) }
+    ensures { IfOk result (λ w. ways_view w ≡ join_ways (ops_for K.ops (plan_of c.now)) (ways_view a)
+        (ways_view b)) }
 {
     let Ways {
         broken,
@@ -149,8 +149,8 @@ pub fn join_all<K: AbstractStates>(
 /// Either of two flows.
 pub fn either<K: AbstractStates>(c: &Setting<'_>, a: Flow<K>, b: Flow<K>) -> Result<Flow<K>, Memory>
     ensures on { IfOk result (λ f. f.on ≡ join_on (ops_for K.ops (plan_of c.now)) a.on b.on) }
-    ensures ways { IfOk result (λ f. shown_ways f.ways ≡ join_ways (ops_for K.ops (plan_of c.now)) (shown_ways a.ways)
-        (shown_ways b.ways)) }
+    ensures ways { IfOk result (λ f. ways_view f.ways ≡ join_ways (ops_for K.ops (plan_of c.now)) (ways_view a.ways)
+        (ways_view b.ways)) }
 {
     let Flow { on, ways } = a;
     let Flow {
@@ -184,9 +184,9 @@ pub fn leave_scope<K: AbstractStates>(
     flow: Flow<K>,
 ) -> Result<Flow<K>, Memory>
     ensures on { IfOk result (λ f. f.on ≡ (scope_pass (ops_for K.ops (plan_of c.now)) (mode_of mode) blocks.now
-        (shown_flow flow)).on) }
-    ensures ways { IfOk result (λ f. shown_ways f.ways ≡ (scope_pass (ops_for K.ops (plan_of c.now))
-        (mode_of mode) blocks.now (shown_flow flow)).ways) }
+        (flow_view flow)).on) }
+    ensures ways { IfOk result (λ f. ways_view f.ways ≡ (scope_pass (ops_for K.ops (plan_of c.now))
+        (mode_of mode) blocks.now (flow_view flow)).ways) }
 {
     let Flow { on, ways } = flow;
     let Ways {
@@ -210,7 +210,7 @@ pub fn leave_scope<K: AbstractStates>(
 
 /// The same ways out of three.
 pub fn copied_ways<K: AbstractStates>(ways: &Ways<K>) -> Result<Ways<K>, Memory>
-    ensures { IfOk result (λ w. shown_ways w ≡ shown_ways ways.now) }
+    ensures { IfOk result (λ w. ways_view w ≡ ways_view ways.now) }
 {
     let broken = copied(&ways.broken)?;
     let continued = copied(&ways.continued)?;
@@ -233,8 +233,8 @@ fn copied<K: AbstractStates>(known: &Option<K>) -> Result<Option<K>, Memory>
 
 /// A loop is left.
 pub fn end_loop<K: Drop>(flow: Flow<K>) -> Flow<K>
-    ensures on { result.on ≡ (leave_loop (shown_flow flow)).on }
-    ensures ways { shown_ways result.ways ≡ (leave_loop (shown_flow flow)).ways }
+    ensures on { result.on ≡ (leave_loop (flow_view flow)).on }
+    ensures ways { ways_view result.ways ≡ (leave_loop (flow_view flow)).ways }
 {
     let Flow { on: _, ways } = flow;
     let Ways {
@@ -254,7 +254,7 @@ pub fn end_loop<K: Drop>(flow: Flow<K>) -> Flow<K>
 
 /// One side has come out of a loop while the other had left it.
 pub fn come_after<K: Drop>(line: u32, flow: Flow<K>, log: &mut Log<K>) -> Result<Flow<K>, Memory>
-    ensures { Passes (comes_after line (shown_flow flow)) result log.old log.new }
+    ensures { Passes (comes_after line (flow_view flow)) result log.old log.new }
 {
     let Flow { on: _, ways } = flow;
     let Ways {
@@ -268,7 +268,7 @@ pub fn come_after<K: Drop>(line: u32, flow: Flow<K>, log: &mut Log<K>) -> Result
 
 /// The sides come on together; each other way out is an alarm.
 pub fn keep_on<K: Drop>(line: u32, flow: Flow<K>, log: &mut Log<K>) -> Result<Flow<K>, Memory>
-    ensures { Passes (only_on line (shown_flow flow)) result log.old log.new }
+    ensures { Passes (only_on line (flow_view flow)) result log.old log.new }
 {
     let Flow { on, ways } = flow;
     let Ways {
@@ -283,7 +283,7 @@ pub fn keep_on<K: Drop>(line: u32, flow: Flow<K>, log: &mut Log<K>) -> Result<Fl
 }
 
 pub fn keep_broken<K: Drop>(line: u32, flow: Flow<K>, log: &mut Log<K>) -> Result<Flow<K>, Memory>
-    ensures { Passes (only_broken line (shown_flow flow)) result log.old log.new }
+    ensures { Passes (only_broken line (flow_view flow)) result log.old log.new }
 {
     let Flow { on, ways } = flow;
     let Ways {
@@ -302,7 +302,7 @@ pub fn keep_continued<K: Drop>(
     flow: Flow<K>,
     log: &mut Log<K>,
 ) -> Result<Flow<K>, Memory>
-    ensures { Passes (only_continued line (shown_flow flow)) result log.old log.new }
+    ensures { Passes (only_continued line (flow_view flow)) result log.old log.new }
 {
     let Flow { on, ways } = flow;
     let Ways {
@@ -317,7 +317,7 @@ pub fn keep_continued<K: Drop>(
 }
 
 pub fn keep_returned<K: Drop>(line: u32, flow: Flow<K>, log: &mut Log<K>) -> Result<Flow<K>, Memory>
-    ensures { Passes (only_returned line (shown_flow flow)) result log.old log.new }
+    ensures { Passes (only_returned line (flow_view flow)) result log.old log.new }
 {
     let Flow { on, ways } = flow;
     let Ways {

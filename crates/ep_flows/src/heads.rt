@@ -2,14 +2,14 @@
 
 ghost use Rattle.std.specs.Prelude.{◌≡◌, ◌+◌, ◌-◌, ◌<◌, ◌≤◌, ◌^◌, IfOk, OnErr};
 ghost use Rattle.ep_flows.specs.Rounds.{ComesRound};
-ghost use Rattle.ep_flows.specs.Shown.{capped, ops_for, plan_of, wider_of};
-ghost use Rattle.ep_pass_laws.specs.Laws.{HeadsGoRound};
+ghost use Rattle.ep_flows.specs.View.{capped, ops_for, plan_of, wider_of};
+ghost use Rattle.ep_pass.specs.ReportLaws.{HeadsGoRound};
 
 use crate::log::Log;
 use crate::setting::Setting;
 use crate::states::AbstractStates;
 use ep_int::Memory;
-use ep_pass_laws::laws::reports;
+use ep_pass::laws::reports;
 
 /// Heads one after another. One of them is marked, to tell when they come round: the first, and then the one after 1,
 /// 2, 4, 8 and so on more (R. P. Brent 1980).

@@ -4,7 +4,7 @@ ghost use Rattle.ep_core.specs.Program.{Program};
 ghost use Rattle.ep_core.specs.Runs.{Side};
 ghost use Rattle.ep_int.specs.declared.types.Order.{Order};
 ghost use Rattle.ep_int.specs.Memory.{Memory};
-ghost use Rattle.ep_pass_laws.specs.Laws.{AreLawful, EmptyReportsAgree};
+ghost use Rattle.ep_pass.specs.ReportLaws.{AreLawful, EmptyReportsAgree};
 
 use crate::states::AbstractStates;
 

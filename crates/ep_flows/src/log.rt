@@ -4,7 +4,7 @@ ghost use Rattle.std.specs.Prelude.{◌≡◌, ◌+◌, ◌*◌, OnOk, [], ◌�
 ghost use Rattle.std.specs.Option.{option_map};
 ghost use Rattle.ep_alarms.specs.Report.{added};
 ghost use Rattle.ep_pass.specs.Pass.{differ, logged, plain_alarm};
-ghost use Rattle.ep_flows.specs.Shown.{Tells, Told, capped, kept_heads};
+ghost use Rattle.ep_flows.specs.View.{Tells, Told, capped, kept_heads};
 
 use ep_alarms::{Alarm, AlarmKind, Alarms};
 use ep_int::Memory;

@@ -2,7 +2,7 @@
 
 ghost use Rattle.std.specs.Prelude.{◌≡◌, map};
 ghost use Rattle.ep_core.specs.Program.{Block};
-ghost use Rattle.ep_core.specs.Shown.{shown};
+ghost use Rattle.ep_core.specs.ProgramView.{program_view};
 
 use ep_core::program::CoreProgram;
 use ep_int::Order;
@@ -41,5 +41,5 @@ pub struct Setting<'p> {
     pub right: Order,
     pub unroll: u32,
     pub limit: u128,
-    ghost sized: { sizes.now ≡ map (λ (b : Block). b.size) (shown program.now).blocks },
+    ghost sized: { sizes.now ≡ map (λ (b : Block). b.size) (program_view program.now).blocks },
 }

@@ -3,14 +3,14 @@
 ghost use Rattle.std.specs.Prelude.{◌≡◌, ◌↔◌, true, IfOk, IsTrue, OnOk, Some, fold, map, slice_get};
 ghost use Rattle.std.specs.Option.{option_map};
 ghost use Rattle.ep_alarms.specs.Report.{added};
-ghost use Rattle.ep_core.specs.View.{shown_dest, shown_expr, shown_function, shown_what};
+ghost use Rattle.ep_core.specs.View.{dest_view, expr_view, function_view, what_view};
 ghost use Rattle.ep_core.specs.Program.{Program};
 ghost use Rattle.ep_core.specs.Runs.{Side};
 ghost use Rattle.ep_int.specs.declared.types.Order.{Order};
 ghost use Rattle.ep_pass.specs.Pass.{alarms_at};
 ghost use Rattle.ep_pass.specs.States.{StateOps};
 ghost use Rattle.ep_flows.specs.Typed.{AreArguments, IsTypedSimple, IsTypedTest, TakesResult};
-ghost use Rattle.ep_flows.specs.Shown.{is_simple, mode_of, ops_for, plan_of, side_of, simple_of, verdict_of};
+ghost use Rattle.ep_flows.specs.View.{is_simple, mode_of, ops_for, plan_of, side_of, simple_of, verdict_of};
 
 use crate::setting::{Machine, Running, Setting, Truths};
 use ep_alarms::Alarms;
@@ -42,13 +42,13 @@ pub trait AbstractStates: Drop {
         s: &Stmt,
         alarms: &mut Alarms,
     ) -> Result<Option<Self>, Memory>
-        requires simple { is_simple (shown_what s.now.what) ≡ true }
-        requires typed { IsTypedSimple (plan_of c.now).program returns (simple_of (shown_what s.now.what)) }
+        requires simple { is_simple (what_view s.now.what) ≡ true }
+        requires typed { IsTypedSimple (plan_of c.now).program returns (simple_of (what_view s.now.what)) }
         ensures faults { OnOk result (alarms.new ≡ fold added alarms.old (alarms_at s.now.line
-            ((ops_for ops (plan_of c.now)).simple (mode_of mode) returns (simple_of (shown_what s.now.what))
+            ((ops_for ops (plan_of c.now)).simple (mode_of mode) returns (simple_of (what_view s.now.what))
             self).faults)) }
         ensures next { IfOk result (λ r. r ≡ ((ops_for ops (plan_of c.now)).simple (mode_of mode) returns (simple_of
-            (shown_what s.now.what)) self).next) };
+            (what_view s.now.what)) self).next) };
 
     /// What is known of a test's truths; its faults become alarms.
     fn test(
@@ -59,11 +59,11 @@ pub trait AbstractStates: Drop {
         line: u32,
         alarms: &mut Alarms,
     ) -> Result<Truths, Memory>
-        requires { IsTypedTest (plan_of c.now).program (shown_expr e.now) }
+        requires { IsTypedTest (plan_of c.now).program (expr_view e.now) }
         ensures faults { OnOk result (alarms.new ≡ fold added alarms.old (alarms_at line
-            ((ops_for ops (plan_of c.now)).test (mode_of mode) (shown_expr e.now) self.now).faults)) }
+            ((ops_for ops (plan_of c.now)).test (mode_of mode) (expr_view e.now) self.now).faults)) }
         ensures truths { IfOk result (λ v. verdict_of v ≡ ((ops_for ops (plan_of c.now)).test (mode_of mode)
-            (shown_expr e.now) self.now).verdict) };
+            (expr_view e.now) self.now).verdict) };
 
     /// Where both sides run and a test has these truths: a copy, made only where it is reached.
     fn assume(
@@ -73,8 +73,8 @@ pub trait AbstractStates: Drop {
         on_left: bool,
         on_right: bool,
     ) -> Result<Option<Self>, Memory>
-        requires { IsTypedTest (plan_of c.now).program (shown_expr e.now) }
-        ensures { IfOk result (λ r. r ≡ (ops_for ops (plan_of c.now)).assume (shown_expr e.now) on_left on_right
+        requires { IsTypedTest (plan_of c.now).program (expr_view e.now) }
+        ensures { IfOk result (λ r. r ≡ (ops_for ops (plan_of c.now)).assume (expr_view e.now) on_left on_right
             self.now) };
 
     /// Where one side runs and its test has this truth.
@@ -85,9 +85,9 @@ pub trait AbstractStates: Drop {
         e: &Expr,
         truth: bool,
     ) -> Result<Option<Self>, Memory>
-        requires { IsTypedTest (plan_of c.now).program (shown_expr e.now) }
+        requires { IsTypedTest (plan_of c.now).program (expr_view e.now) }
         ensures { IfOk result (λ r. r ≡ (ops_for ops (plan_of c.now)).assume_one (side_of machine)
-            (shown_expr e.now) truth self.now) };
+            (expr_view e.now) truth self.now) };
 
     /// Of a call: its arguments go to the parameters.
     fn arguments(
@@ -99,12 +99,12 @@ pub trait AbstractStates: Drop {
         line: u32,
         alarms: &mut Alarms,
     ) -> Result<Option<Self>, Memory>
-        requires { AreArguments (plan_of c.now).program (shown_function f.now) (map shown_expr es.now) }
+        requires { AreArguments (plan_of c.now).program (function_view f.now) (map expr_view es.now) }
         ensures faults { OnOk result (alarms.new ≡ fold added alarms.old (alarms_at line
-            ((ops_for ops (plan_of c.now)).arguments (mode_of mode) (shown_function f.now)
-            (map shown_expr es.now) self).faults)) }
+            ((ops_for ops (plan_of c.now)).arguments (mode_of mode) (function_view f.now)
+            (map expr_view es.now) self).faults)) }
         ensures next { IfOk result (λ r. r ≡ ((ops_for ops (plan_of c.now)).arguments (mode_of mode)
-            (shown_function f.now) (map shown_expr es.now) self).next) };
+            (function_view f.now) (map expr_view es.now) self).next) };
 
     /// Of a call whose body is left: its result goes to its place.
     fn result(
@@ -116,12 +116,12 @@ pub trait AbstractStates: Drop {
         line: u32,
         alarms: &mut Alarms,
     ) -> Result<Option<Self>, Memory>
-        requires { TakesResult (plan_of c.now).program (shown_function f.now) (option_map shown_dest d.now) }
+        requires { TakesResult (plan_of c.now).program (function_view f.now) (option_map dest_view d.now) }
         ensures faults { OnOk result (alarms.new ≡ fold added alarms.old (alarms_at line
-            ((ops_for ops (plan_of c.now)).result (mode_of mode) (shown_function f.now) (option_map shown_dest d.now)
+            ((ops_for ops (plan_of c.now)).result (mode_of mode) (function_view f.now) (option_map dest_view d.now)
             self).faults)) }
         ensures next { IfOk result (λ r. r ≡ ((ops_for ops (plan_of c.now)).result (mode_of mode)
-            (shown_function f.now) (option_map shown_dest d.now) self).next) };
+            (function_view f.now) (option_map dest_view d.now) self).next) };
 
     fn enter(self, c: &Setting<'_>, mode: Running, blocks: &[u32]) -> Result<Self, Memory>
         ensures { IfOk result (λ s. s ≡ (ops_for ops (plan_of c.now)).enter (mode_of mode) blocks.now self) };
@@ -152,9 +152,9 @@ pub trait AbstractStates: Drop {
     /// The faults at the end of main become alarms.
     fn ended(&self, c: &Setting<'_>, f: &Function, alarms: &mut Alarms) -> Result<(), Memory>
         requires { slice_get (plan_of c.now).program.functions (plan_of c.now).program.main ≡ Some
-            (shown_function f.now) }
+            (function_view f.now) }
         ensures { OnOk result (alarms.new ≡ fold added alarms.old (alarms_at f.now.line ((ops_for ops
-            (plan_of c.now)).ended (shown_function f.now) self.now))) };
+            (plan_of c.now)).ended (function_view f.now) self.now))) };
 
     /// Whether two states are the same.
     fn is_same(&self, other: &Self) -> bool

@@ -10,11 +10,11 @@ use Rattle.ep_core.specs.Exec.{is_order}
 use Rattle.ep_core.specs.Program.{Program}
 use Rattle.ep_core.specs.WellFormed.{is_well_formed}
 use Rattle.ep_domain.specs.Domain.{Ops}
-use Rattle.ep_flows.specs.Shown.{Plan, capped, orders}
+use Rattle.ep_flows.specs.View.{Plan, capped, orders}
 use Rattle.ep_layout.specs.Table.{IsBuilt}
 use Rattle.ep_pass.specs.Turns as bounds
-use Rattle.ep_pass_laws.specs.Agreement.{AgreeInTheEnd}
-use Rattle.ep_pass_laws.specs.Laws.{EmptyReportsAgree, TurnsAreBounded}
+use Rattle.ep_pass.specs.Agreement.{AgreeInTheEnd}
+use Rattle.ep_pass.specs.ReportLaws.{EmptyReportsAgree, TurnsAreBounded}
 use Rattle.ep_transfers.specs.Cells.{cell_ops}
 use Rattle.ep_walk.specs.Reported.{report_on, turns_in, heads_in}
 use Rattle.ep_iterator.specs.Reports.{AllMayStand, alarms_of, heads_of, most_turns, turns_of}

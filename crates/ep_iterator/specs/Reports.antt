@@ -6,7 +6,7 @@ use Rattle.ep_alarms.specs.declared.types.Alarm.{Alarm}
 use Rattle.ep_cells.specs.States.{Known}
 use Rattle.ep_core.specs.Program.{Program}
 use Rattle.ep_domain.specs.Domain.{Ops}
-use Rattle.ep_flows.specs.Shown.{Plan, orders}
+use Rattle.ep_flows.specs.View.{Plan, orders}
 use Rattle.ep_pass.specs.Places.{may_stand}
 use Rattle.ep_pass.specs.Turns as bounds
 use Rattle.ep_transfers.specs.Cells.{cell_ops}

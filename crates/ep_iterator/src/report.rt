@@ -4,10 +4,10 @@ ghost use Rattle.std.specs.Prelude.{◌≡◌, ◌+◌, ◌≤◌, true, false, 
 ghost use Rattle.std.specs.Option.{option_map};
 ghost use Rattle.ep_alarm_laws.specs.Laws.{ProductsKeepStrides};
 ghost use Rattle.ep_core.specs.Exec.{is_order};
-ghost use Rattle.ep_core.specs.Shown.{shown};
-ghost use Rattle.ep_flows.specs.Shown.{capped};
+ghost use Rattle.ep_core.specs.ProgramView.{program_view};
+ghost use Rattle.ep_flows.specs.View.{capped};
 ghost use Rattle.ep_iterator.specs.Reports.{AllMayStand, alarms_of, heads_of, most_turns, turns_of};
-ghost use Rattle.ep_pass_laws.specs.Agreement.{AgreeInTheEnd};
+ghost use Rattle.ep_pass.specs.Agreement.{AgreeInTheEnd};
 
 use ep_alarms::Alarms;
 use ep_cell_states::{cell_alarms, cell_states};
@@ -18,7 +18,7 @@ use ep_flows::bound::last_head;
 use ep_flows::log::Log;
 use ep_flows::setting::Setting;
 use ep_int::{Memory, Order};
-use ep_pass_laws::laws::reports;
+use ep_pass::laws::reports;
 use ep_walk::walk;
 use std::alloc::Global;
 
@@ -62,21 +62,21 @@ pub fn analyse<N: Num>(
     keeps_heads: bool,
     turns: &mut u64,
 ) -> Result<Report<N>, Memory>
-    ensures alarms { IfOk result (λ r. r.alarms ≡ alarms_of N.ops (shown program.now) orders.0 orders.1 unroll) }
+    ensures alarms { IfOk result (λ r. r.alarms ≡ alarms_of N.ops (program_view program.now) orders.0 orders.1 unroll) }
     ensures turns { IfOk result (λ r. turns.new
-        ≡ capped (turns.old + turns_of N.ops (shown program.now) orders.0 orders.1 unroll)) }
-    ensures bound { turns.new ≤ turns.old + most_turns N.ops (shown program.now) orders.0 orders.1 unroll }
+        ≡ capped (turns.old + turns_of N.ops (program_view program.now) orders.0 orders.1 unroll)) }
+    ensures bound { turns.new ≤ turns.old + most_turns N.ops (program_view program.now) orders.0 orders.1 unroll }
     ensures counted { turns.old ≤ turns.new }
     ensures heads { IfOk result (λ r. r.heads.items
-        ≡ (if keeps_heads then heads_of N.ops (shown program.now) orders.0 orders.1 unroll else [])) }
+        ≡ (if keeps_heads then heads_of N.ops (program_view program.now) orders.0 orders.1 unroll else [])) }
     // Where no alarm is raised, two machines of different byte orders agree.
     ensures agree { IfOk result (λ r. is_order orders.0 orders.1 ≡ false → r.alarms ≡ []
-        → AgreeInTheEnd (shown program.now) orders.0 orders.1) }
+        → AgreeInTheEnd (program_view program.now) orders.0 orders.1) }
     // Each alarm is of a kind that the text on its line may have.
-    ensures stand { IfOk result (λ r. AllMayStand false (shown program.now) r.alarms) }
+    ensures stand { IfOk result (λ r. AllMayStand false (program_view program.now) r.alarms) }
     // So it is where numbers keep strides, by the text that then may be at fault.
     ensures even { IfOk result (λ r. N.ops.keeps_strides ≡ true → ProductsKeepStrides N.ops
-        → AllMayStand true (shown program.now) r.alarms) }
+        → AllMayStand true (program_view program.now) r.alarms) }
 {
     cell_states::<N>();
     cell_alarms::<N>();

@@ -15,37 +15,37 @@ use Rattle.ep_pass.specs.Pass.{way_of}
 -- ---- what a kept state stands for
 
 -- where `In s m k` says that a kept state stands for the memory m of the left machine and k of the right one
-module _ (p : Program) {S : Type 0} (In : S → Memory → Memory → Type 0) where
+module _ (p : Program) {S : Type 0} (Concretises : S → Memory → Memory → Type 0) where
   -- two machines with such memories, the same inputs left and the same outputs
-  pub record Stands (s : S) (x y : State) : Type 0 where
-    pub memories : In s x.memory y.memory
+  pub record ConcretisesStates (s : S) (x y : State) : Type 0 where
+    pub memories : Concretises s x.memory y.memory
     pub inputs : x.inputs ≡ y.inputs
     pub outputs : x.outputs ≡ y.outputs
 
   -- and whose memories are as the types of the program say
-  pub record Kept (s : S) (x y : State) : Type 0 where
-    pub stands : Stands s x y
+  pub record ConcretisesTyped (s : S) (x y : State) : Type 0 where
+    pub stands : ConcretisesStates s x y
     pub left_fits : StateFits p x
     pub right_fits : StateFits p y
 
   -- a state is reached, and it stands for these
   abbrev pub Reaches : Option S → State → State → Type 0
   Reaches None x y = ⊥
-  Reaches (Some s) x y = Stands s x y
+  Reaches (Some s) x y = ConcretisesStates s x y
 
   -- the machine of this side, and then the other
-  abbrev pub KeptBeside : Side → S → State → State → Type 0
-  KeptBeside left s x y = Kept s x y
-  KeptBeside right s x y = Kept s y x
+  abbrev pub ConcretisesTypedBeside : Side → S → State → State → Type 0
+  ConcretisesTypedBeside left s x y = ConcretisesTyped s x y
+  ConcretisesTypedBeside right s x y = ConcretisesTyped s y x
 
   abbrev pub ReachesBeside : Side → Option S → State → State → Type 0
   ReachesBeside left u x y = Reaches u x y
   ReachesBeside right u x y = Reaches u y x
 
   -- The same for memories alone.
-  abbrev pub InBeside : Side → S → Memory → Memory → Type 0
-  InBeside left s m k = In s m k
-  InBeside right s m k = In s k m
+  abbrev pub ConcretisesBeside : Side → S → Memory → Memory → Type 0
+  ConcretisesBeside left s m k = Concretises s m k
+  ConcretisesBeside right s m k = Concretises s k m
 
   -- Both machines are left by this way, in states that a kept state stands for; or both want an input, with the same
   -- outputs.
@@ -115,76 +115,86 @@ pub record EndAlike (x y : Run) : Type 0 where
 abbrev pub AreOther : (Side → Order) → Type 0
 AreOther ord = is_order (ord left) (ord right) ≡ false
 
-pub record Lawful (p : Program) (ord : Side → Order) {S : Type 0} (o : StateOps S) (In : S → Memory → Memory → Type 0) :
+pub record Lawful (p : Program) (ord : Side → Order) {S : Type 0} (o : StateOps S)
+    (Concretises : S → Memory → Memory → Type 0) :
     Type 0 where
   -- the machines begin main as the entry says
-  pub entry_in : In o.entry (initial (ord left) p) (initial (ord right) p)
+  pub entry_in : Concretises o.entry (initial (ord left) p) (initial (ord right) p)
   -- without a fault, both machines go on as a typed statement's state says
   pub simple_sound : (here : ℕ) (f : Function) → slice_get p.functions here ≡ Some f → (w : Simple) (seen : List ℕ)
       → simple_fits p here (result_type p.blocks f.result) w seen ≡ true
-      → (l n m : ℕ) (s : S) (x y : State) → Kept p In s x y → (o.simple Both f.result w s).faults ≡ []
-      → Meets p In (way_of w) (o.simple Both f.result w s).next n m (does (ord left) p uncounted f.result w l n x)
+      → (l n m : ℕ) (s : S) (x y : State) → ConcretisesTyped p Concretises s x y → (o.simple Both f.result w s).faults
+      ≡ []
+      → Meets p Concretises (way_of w) (o.simple Both f.result w s).next n m
+      (does (ord left) p uncounted f.result w l n x)
       (does (ord right) p uncounted f.result w l m y)
   -- without a fault, one machine does
   pub simple_alone : (m : Side) (here : ℕ) (f : Function) → slice_get p.functions here ≡ Some f
       → (w : Simple) (seen : List ℕ) → simple_fits p here (result_type p.blocks f.result) w seen ≡ true
-      → (l n : ℕ) (s : S) (x y : State) → KeptBeside p In m s x y → (o.simple (One m) f.result w s).faults ≡ []
-      → MeetsAlone p In m (way_of w) (o.simple (One m) f.result w s).next n y
+      → (l n : ℕ) (s : S) (x y : State) → ConcretisesTypedBeside p Concretises m s x y →
+      (o.simple (One m) f.result w s).faults ≡ []
+      → MeetsAlone p Concretises m (way_of w) (o.simple (One m) f.result w s).next n y
       (does (ord m) p uncounted f.result w l n x)
   -- without a fault, a typed test has truths, and of them holds what was told
   pub test_sound : (e : Expr) (seen : List ℕ) → is_tested p.types p.blocks seen e ≡ true
-      → (s : S) (x y : State) → Kept p In s x y → (o.test Both e s).faults ≡ []
+      → (s : S) (x y : State) → ConcretisesTyped p Concretises s x y → (o.test Both e s).faults ≡ []
       → Truths p ord e (o.test Both e s).verdict x.memory y.memory
   pub test_alone : (m : Side) (e : Expr) (seen : List ℕ) → is_tested p.types p.blocks seen e ≡ true
-      → (s : S) (x y : State) → KeptBeside p In m s x y → (o.test (One m) e s).faults ≡ []
+      → (s : S) (x y : State) → ConcretisesTypedBeside p Concretises m s x y → (o.test (One m) e s).faults ≡ []
       → TruthAlone p (ord m) e (o.test (One m) e s).verdict x.memory
   -- where a test that lists no fault has these truths, they are assumed
   pub assume_in : (e : Expr) (seen : List ℕ) → is_tested p.types p.blocks seen e ≡ true
-      → (t u : Bool) (s : S) (x y : State) → Kept p In s x y → (o.test Both e s).faults ≡ []
+      → (t u : Bool) (s : S) (x y : State) → ConcretisesTyped p Concretises s x y → (o.test Both e s).faults ≡ []
       → IsTruth p (ord left) e x.memory t
-      → IsTruth p (ord right) e y.memory u → Reaches p In (o.assume e t u s) x y
+      → IsTruth p (ord right) e y.memory u → Reaches p Concretises (o.assume e t u s) x y
   pub assume_alone : (m : Side) (e : Expr) (seen : List ℕ) → is_tested p.types p.blocks seen e ≡ true
-      → (t : Bool) (s : S) (x y : State) → KeptBeside p In m s x y → (o.test (One m) e s).faults ≡ []
+      → (t : Bool) (s : S) (x y : State) → ConcretisesTypedBeside p Concretises m s x y → (o.test (One m) e s).faults
+      ≡ []
       → IsTruth p (ord m) e x.memory t
-      → ReachesBeside p In m (o.assume_one m e t s) x y
+      → ReachesBeside p Concretises m (o.assume_one m e t s) x y
   -- without a fault, the arguments of a typed call go to its parameters
   pub arguments_sound : (k : ℕ) (f : Function) → slice_get p.functions k ≡ Some f → (es : List Expr) (seen : List ℕ)
       → arguments_fit p.types p.blocks seen f.params es ≡ true
-      → (l n m : ℕ) (s : S) (x y : State) → Kept p In s x y → (o.arguments Both f es s).faults ≡ []
-      → Meets p In on (o.arguments Both f es s).next n m (passes (ord left) p f es l n x)
+      → (l n m : ℕ) (s : S) (x y : State) → ConcretisesTyped p Concretises s x y → (o.arguments Both f es s).faults ≡ []
+      → Meets p Concretises on (o.arguments Both f es s).next n m (passes (ord left) p f es l n x)
       (passes (ord right) p f es l m y)
   pub arguments_alone : (m : Side) (k : ℕ) (f : Function) → slice_get p.functions k ≡ Some f
       → (es : List Expr) (seen : List ℕ) → arguments_fit p.types p.blocks seen f.params es ≡ true
-      → (l n : ℕ) (s : S) (x y : State) → KeptBeside p In m s x y → (o.arguments (One m) f es s).faults ≡ []
-      → MeetsAlone p In m on (o.arguments (One m) f es s).next n y (passes (ord m) p f es l n x)
+      → (l n : ℕ) (s : S) (x y : State) → ConcretisesTypedBeside p Concretises m s x y →
+      (o.arguments (One m) f es s).faults ≡ []
+      → MeetsAlone p Concretises m on (o.arguments (One m) f es s).next n y (passes (ord m) p f es l n x)
   -- without a fault, what a function gives goes to its place
   pub result_sound : (k : ℕ) (f : Function) → slice_get p.functions k ≡ Some f → (d : Option Dest) (seen : List ℕ)
       → takes_result p.types p.blocks seen (result_type p.blocks f.result) d ≡ true
-      → (l n m : ℕ) (s : S) (x y : State) → Kept p In s x y → (o.result Both f d s).faults ≡ []
-      → Meets p In on (o.result Both f d s).next n m (received (ord left) p f.result d l n x)
+      → (l n m : ℕ) (s : S) (x y : State) → ConcretisesTyped p Concretises s x y → (o.result Both f d s).faults ≡ []
+      → Meets p Concretises on (o.result Both f d s).next n m (received (ord left) p f.result d l n x)
       (received (ord right) p f.result d l m y)
   pub result_alone : (m : Side) (k : ℕ) (f : Function) → slice_get p.functions k ≡ Some f
       → (d : Option Dest) (seen : List ℕ)
       → takes_result p.types p.blocks seen (result_type p.blocks f.result) d ≡ true
-      → (l n : ℕ) (s : S) (x y : State) → KeptBeside p In m s x y → (o.result (One m) f d s).faults ≡ []
-      → MeetsAlone p In m on (o.result (One m) f d s).next n y (received (ord m) p f.result d l n x)
+      → (l n : ℕ) (s : S) (x y : State) → ConcretisesTypedBeside p Concretises m s x y →
+      (o.result (One m) f d s).faults ≡ []
+      → MeetsAlone p Concretises m on (o.result (One m) f d s).next n y (received (ord m) p f.result d l n x)
   -- blocks that are entered or left become undefined, on the running sides
-  pub enter_in : (bs : List ℕ) (s : S) (m k : Memory) → In s m k → In (o.enter Both bs s) (killed bs m) (killed bs k)
-  pub leave_in : (bs : List ℕ) (s : S) (m k : Memory) → In s m k → In (o.leave Both bs s) (killed bs m) (killed bs k)
-  pub enter_alone : (i : Side) (bs : List ℕ) (s : S) (m k : Memory) → InBeside p In i s m k
-      → InBeside p In i (o.enter (One i) bs s) (killed bs m) k
-  pub leave_alone : (i : Side) (bs : List ℕ) (s : S) (m k : Memory) → InBeside p In i s m k
-      → InBeside p In i (o.leave (One i) bs s) (killed bs m) k
+  pub enter_in : (bs : List ℕ) (s : S) (m k : Memory) → Concretises s m k →
+      Concretises (o.enter Both bs s) (killed bs m) (killed bs k)
+  pub leave_in : (bs : List ℕ) (s : S) (m k : Memory) → Concretises s m k →
+      Concretises (o.leave Both bs s) (killed bs m) (killed bs k)
+  pub enter_alone : (i : Side) (bs : List ℕ) (s : S) (m k : Memory) → ConcretisesBeside p Concretises i s m k
+      → ConcretisesBeside p Concretises i (o.enter (One i) bs s) (killed bs m) k
+  pub leave_alone : (i : Side) (bs : List ℕ) (s : S) (m k : Memory) → ConcretisesBeside p Concretises i s m k
+      → ConcretisesBeside p Concretises i (o.leave (One i) bs s) (killed bs m) k
   -- nothing that a state stands for is lost
-  pub unified_left : (s t : S) (m k : Memory) → In s m k → In (o.unified s t).0 m k
-  pub unified_right : (s t : S) (m k : Memory) → In t m k → In (o.unified s t).1 m k
-  pub joined_left : (s t : S) (m k : Memory) → In s m k → In (o.joined s t) m k
-  pub joined_right : (s t : S) (m k : Memory) → In t m k → In (o.joined s t) m k
-  pub widened_left : (s t : S) (m k : Memory) → In s m k → In (o.widened s t) m k
-  pub leq_in : (s t : S) (m k : Memory) → o.leq s t ≡ true → In s m k → In t m k
-  pub reshared_in : (s : S) (m k : Memory) → In s m k → In (o.reshared s) m k
-  pub empty_in : (m k : Memory) → In o.empty m k
+  pub unified_left : (s t : S) (m k : Memory) → Concretises s m k → Concretises (o.unified s t).0 m k
+  pub unified_right : (s t : S) (m k : Memory) → Concretises t m k → Concretises (o.unified s t).1 m k
+  pub joined_left : (s t : S) (m k : Memory) → Concretises s m k → Concretises (o.joined s t) m k
+  pub joined_right : (s t : S) (m k : Memory) → Concretises t m k → Concretises (o.joined s t) m k
+  pub widened_left : (s t : S) (m k : Memory) → Concretises s m k → Concretises (o.widened s t) m k
+  pub leq_in : (s t : S) (m k : Memory) → o.leq s t ≡ true → Concretises s m k → Concretises t m k
+  pub reshared_in : (s : S) (m k : Memory) → Concretises s m k → Concretises (o.reshared s) m k
+  pub empty_in : (m k : Memory) → Concretises o.empty m k
   -- without a fault, both machines end main alike
-  pub ended_sound : (f : Function) → slice_get p.functions p.main ≡ Some f → (s : S) (x y : State) → Kept p In s x y
+  pub ended_sound : (f : Function) → slice_get p.functions p.main ≡ Some f → (s : S) (x y : State) →
+      ConcretisesTyped p Concretises s x y
       → o.ended f s ≡ [] → EndAlike (main_ends (ord left) p f.result f.line x)
       (main_ends (ord right) p f.result f.line y)

@@ -4,3 +4,6 @@ pub mod Turns
 pub mod Places
 pub mod Laws
 pub mod Honest
+pub mod Agreement
+pub mod Heads
+pub mod ReportLaws

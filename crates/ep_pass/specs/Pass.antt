@@ -12,7 +12,7 @@ use Rattle.ep_core.specs.Program.{by_order, scope, Stmts, stop, more, Function, 
 use Rattle.ep_core.specs.Exec.{Way, on, broken, continued, returned, is_order, frame_of, result_in, callee_of}
 use Rattle.ep_core.specs.Runs.{Side, left, right}
 use Rattle.ep_core.specs.WellFormed.{is_return}
-use Rattle.ep_pass.specs.States.{Mode, Both, One, Fault, Gives, Verdict, stuck, same, differs, StateOps}
+use Rattle.ep_pass.specs.States.{Mode, Both, One, Fault, Transfer, Verdict, stuck, same, differs, StateOps}
 
 -- The states in which statements are left otherwise than at their end, where they are.
 pub record Ways (S : Type 0) : Type 0 where
@@ -103,7 +103,7 @@ way_if false = on
 abbrev pub way_of : Simple → Way
 way_of w = way_if (is_return w)
 
-abbrev pub simple_pass : {S : Type 0} → Way → (line : ℕ) → Gives S → Pass S
+abbrev pub simple_pass : {S : Type 0} → Way → (line : ℕ) → Transfer S → Pass S
 simple_pass k l g = left_by k g.next (logged (alarms_at l g.faults) 0 [])
 
 -- ---- Where the sides go different ways, the right's arm is gone through from each way out of the left's. Equal ways

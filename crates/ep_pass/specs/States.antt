@@ -18,7 +18,7 @@ pub record Fault : Type 0 where
   pub right : ℤ × ℤ
 
 -- the faults of what is done, and the state after it, where each running side goes on
-pub record Gives (S : Type 0) : Type 0 where
+pub record Transfer (S : Type 0) : Type 0 where
   pub faults : List Fault
   pub next : Option S
 
@@ -37,7 +37,7 @@ pub record StateOps (S : Type 0) : Type 0 where
   -- at the beginning of main
   pub entry : S
   -- a statement without statements in it, in a function with this result
-  pub simple : Mode → (result : Option (ℕ × Scalar)) → Simple → S → Gives S
+  pub simple : Mode → (result : Option (ℕ × Scalar)) → Simple → S → Transfer S
   -- a test: its faults, and what is known of its truths
   pub test : Mode → Expr → S → Tested
   -- where both sides run and a test has this truth on the left, and this one on the right
@@ -46,8 +46,8 @@ pub record StateOps (S : Type 0) : Type 0 where
   pub assume_one : Side → Expr → Bool → S → Option S
   -- of a call of a function: its result is entered, the arguments are evaluated, and its parameters and locals are
   -- entered and set; and when its body is left, its result goes to its place
-  pub arguments : Mode → Function → List Expr → S → Gives S
-  pub result : Mode → Function → Option Dest → S → Gives S
+  pub arguments : Mode → Function → List Expr → S → Transfer S
+  pub result : Mode → Function → Option Dest → S → Transfer S
   -- blocks that are entered, and left
   pub enter : Mode → (blocks : List ℕ) → S → S
   pub leave : Mode → (blocks : List ℕ) → S → S

@@ -1,2 +1,4 @@
-//! What the analysis of a program reports, whatever it keeps of a state: definitions alone.
+//! What an analysis reports in its passes, and what its report promises: definitions and laws.
 #![tactic(auto)]
+
+pub mod laws;

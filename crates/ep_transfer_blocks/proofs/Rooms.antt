@@ -1,41 +1,32 @@
 -- Where the leaves of a program's blocks lie.
-use Rattle.std.proofs.Common.{◌≡◌, ℕ, zero, suc, ◌+◌, ◌≤◌, true, List, [], ◌∷◌, length, ltb, get_or, map, slice_get}
-use Rattle.std.proofs.Common.{Option, Some, None, unwrap_or, refl, sym, ap, ◌∙◌, subst, arith}
+use Rattle.std.proofs.Common.{◌≡◌, ℕ, ◌+◌, ◌≤◌, true, List, [], ◌∷◌, length, ltb, get_or, map, slice_get}
+use Rattle.ep_layout.proofs.Basics.{at_depth-none}
+use Rattle.std.proofs.Common.{Option, Some, None, unwrap_or, sym, ap, ◌∙◌, subst}
 use Rattle.std.specs.Option.{option_map}
 use Rattle.std.proofs.lemmas.Option.{slice_get-get_or, slice_get-map, slice_get_past}
 use Rattle.std.proofs.lemmas.Bool.{ltb-true}
 use Rattle.ep_int.specs.declared.types.Model.{Model}
 use Rattle.ep_layout.specs.declared.types.Leaf.{Leaf}
 use Rattle.ep_layout.specs.Layout.{Layout}
-use Rattle.ep_layout.specs.Table.{TypeRules, Table, at_depth, layout_of, layout_rules, leaves, size}
+use Rattle.ep_layout.specs.Table.{Table, layout_of, layout_rules, leaves, size}
 use Rattle.ep_cells.specs.Kill.{AreLeavesIn}
 use Rattle.ep_bitslice.specs.declared.cell.Side.{Side}
 use Rattle.ep_cells.specs.Kill.{killed_cells}
 use Rattle.ep_cells.specs.States.{Known}
 use Rattle.ep_core.specs.declared.program.BlockInfo.{BlockInfo}
 use Rattle.ep_core.specs.declared.program.CoreProgram.{CoreProgram}
-use Rattle.ep_core.specs.Shown.{shown}
-use Rattle.ep_core.specs.View.{shown_block}
+use Rattle.ep_core.specs.ProgramView.{program_view}
+use Rattle.ep_core.specs.View.{block_view}
 use Rattle.ep_transfers.specs.Transfers.{killed_block}
 use Rattle.ep_core.specs.Program.{Program, Block}
 use Rattle.ep_core.specs.WellFormed.{is_well_formed}
 use Rattle.ep_core.proofs.Operands.{sizes}
 use Rattle.ep_int.specs.declared.types.Order.TheVariants.{Little}
 use Rattle.ep_domain.specs.Domain.{Ops}
-use Rattle.ep_transfers_laws.proofs.Kills.{room}
-
-no_type : {A : Type 0} (r : TypeRules A) (t : Table) (k n : ℕ) → slice_get t.types n ≡ None → at_depth r t k n ≡ None
-unfolding at_depth
-no_type r t zero n e = refl
-no_type r t (suc k) n e = rw e refl
-
-missing : {X : Type 0} (xs : List X) (n : ℕ) → length xs ≤ n → slice_get xs n ≡ None
-missing [] n h = refl
-missing (x ∷ xs) zero h = absurd (omega arith)
-missing (x ∷ xs) (suc n) h = missing xs n (omega arith)
+use Rattle.ep_transfers.proofs.Kills.{room}
 
 no_layout : (t : Table) (n : ℕ) → length t.types ≤ n → layout_of t n ≡ None
-no_layout t n h = no_type (layout_rules t.model) t (length t.types + length t.completed) n (missing t.types n h)
+no_layout t n h = at_depth-none (layout_rules t.model) t (length t.types + length t.completed) n (slice_get_past t.types n h)
 
 -- what the table lacks has no leaves and no bytes
 pub no_leaves : (t : Table) (n : ℕ) → length t.types ≤ n → leaves t n ≡ []
@@ -52,42 +43,42 @@ block_room D p formed b x at m e =
 
 -- what a look at a block finds
 pub found : (items bs : List BlockInfo) (b : ℕ) (x : BlockInfo) → bs ≡ items → true ≡ ltb b (length bs)
-    → x ≡ get_or bs b x → slice_get (map shown_block items) b ≡ Some (shown_block x)
+    → x ≡ get_or bs b x → slice_get (map block_view items) b ≡ Some (block_view x)
 found items bs b x e h is =
-    ap (λ (l : List BlockInfo). slice_get (map shown_block l) b) (sym e)
-    ∙ slice_get-map shown_block bs b
-    ∙ ap (option_map shown_block) (slice_get-get_or bs b x (ltb-true b (length bs) (sym h)) ∙ ap (λ (y : BlockInfo). Some y) (sym is))
+    ap (λ (l : List BlockInfo). slice_get (map block_view l) b) (sym e)
+    ∙ slice_get-map block_view bs b
+    ∙ ap (option_map block_view) (slice_get-get_or bs b x (ltb-true b (length bs) (sym h)) ∙ ap (λ (y : BlockInfo). Some y) (sym is))
 
 pub none : (items bs : List BlockInfo) (b : ℕ) → bs ≡ items → length bs ≤ b
-    → slice_get (map shown_block items) b ≡ None
+    → slice_get (map block_view items) b ≡ None
 none items bs b e h =
-    ap (λ (l : List BlockInfo). slice_get (map shown_block l) b) (sym e)
-    ∙ slice_get-map shown_block bs b ∙ ap (option_map shown_block) (slice_get_past bs b h)
+    ap (λ (l : List BlockInfo). slice_get (map block_view l) b) (sym e)
+    ∙ slice_get-map block_view bs b ∙ ap (option_map block_view) (slice_get_past bs b h)
 
 module _ {N : Type 0} (D : Ops N) where
   -- a block of the program is killed
   pub there_killed : (p : CoreProgram) (s : Side) (b : ℕ) (x : BlockInfo) (k j : Known N) (ls : List Leaf)
-      → slice_get (shown p).blocks b ≡ Some (shown_block x) → ls ≡ leaves p.types x.ty
+      → slice_get (program_view p).blocks b ≡ Some (block_view x) → ls ≡ leaves p.types x.ty
       → j ≡ record k { cells = killed_cells k.model s b ls x.size k.cells }
-      → j ≡ killed_block D (shown p) s b (slice_get (shown p).blocks b) k
+      → j ≡ killed_block D (program_view p) s b (slice_get (program_view p).blocks b) k
   there_killed p s b x k j ls at e h =
       h ∙ ap (λ z. record k { cells = killed_cells k.model s b z x.size k.cells }) e
-      ∙ ap (λ o. killed_block D (shown p) s b o k) (sym at)
+      ∙ ap (λ o. killed_block D (program_view p) s b o k) (sym at)
 
   pub lacking_killed : (p : CoreProgram) (s : Side) (b : ℕ) (k j : Known N)
-      → slice_get (shown p).blocks b ≡ None
+      → slice_get (program_view p).blocks b ≡ None
       → j ≡ record k { cells = killed_cells k.model s b [] 0 k.cells }
-      → j ≡ killed_block D (shown p) s b (slice_get (shown p).blocks b) k
-  lacking_killed p s b k j at h = h ∙ ap (λ o. killed_block D (shown p) s b o k) (sym at)
+      → j ≡ killed_block D (program_view p) s b (slice_get (program_view p).blocks b) k
+  lacking_killed p s b k j at h = h ∙ ap (λ o. killed_block D (program_view p) s b o k) (sym at)
 
   pub kept_model : (p : CoreProgram) (s : Side) (b : ℕ) (k j : Known N)
-      → j ≡ killed_block D (shown p) s b (slice_get (shown p).blocks b) k → k.model ≡ p.types.model
+      → j ≡ killed_block D (program_view p) s b (slice_get (program_view p).blocks b) k → k.model ≡ p.types.model
       → j.model ≡ p.types.model
   kept_model p s b k j h e = ap (λ (i : Known N). i.model) h ∙ e
 
   pub there_room : (p : CoreProgram) (b : ℕ) (x : BlockInfo) (m : Model) (ls : List Leaf)
-      → slice_get (shown p).blocks b ≡ Some (shown_block x) → ls ≡ leaves p.types x.ty → m ≡ p.types.model
+      → slice_get (program_view p).blocks b ≡ Some (block_view x) → ls ≡ leaves p.types x.ty → m ≡ p.types.model
       → AreLeavesIn m 0 x.size ls
   there_room p b x m ls at e h =
       subst (AreLeavesIn m 0 x.size) (sym e)
-      (block_room D (shown p) p.well_formed b (shown_block x) at m h)
+      (block_room D (program_view p) p.well_formed b (block_view x) at m h)

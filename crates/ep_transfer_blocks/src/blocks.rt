@@ -2,15 +2,15 @@
 
 ghost use Rattle.std.specs.Prelude.{◌≡◌, IfOk, option_map, slice_get, drop};
 ghost use Rattle.ep_cells.specs.Kill.{AreLeavesIn, killed_cells};
-ghost use Rattle.ep_core.specs.Shown.{shown};
-ghost use Rattle.ep_core.specs.View.{shown_block};
+ghost use Rattle.ep_core.specs.ProgramView.{program_view};
+ghost use Rattle.ep_core.specs.View.{block_view};
 ghost use Rattle.ep_layout.specs.Table as table;
 ghost use Rattle.ep_transfers.specs.Transfers as spec;
 
 use ep_bicells::changes::Step;
 use ep_bitslice::Side;
 use ep_cell_changes::entry::entry_cells;
-use ep_cells_laws::kill_laws;
+use ep_cells::kill_laws;
 use ep_core::program::{BlockInfo, CoreProgram};
 use ep_domain::Num;
 use ep_equalities::Mode;
@@ -31,7 +31,7 @@ fn cells_of_mode(mode: Mode) -> Side
 
 /// The leaves of a block's type, in order.
 pub(crate) fn leaves_of(program: &CoreProgram, block: &BlockInfo) -> Result<Vec<Leaf>, Memory>
-    ensures { IfOk result (λ v. v.items ≡ table.leaves (shown program.now).types block.now.ty) }
+    ensures { IfOk result (λ v. v.items ≡ table.leaves (program_view program.now).types block.now.ty) }
 {
     if block.ty >= program.types.type_count() {
         return Ok(Vec::new(*program.blocks.allocator()));
@@ -66,9 +66,9 @@ fn killed_block<N: Num>(
     number: u32,
     state: State<N>,
 ) -> Result<State<N>, Memory>
-    requires model { state.model ≡ (shown program.now).types.model }
-    ensures { IfOk result (λ s. s ≡ spec.killed_block N.ops (shown program.now) side number
-        (slice_get (shown program.now).blocks number) state) }
+    requires model { state.model ≡ (program_view program.now).types.model }
+    ensures { IfOk result (λ s. s ≡ spec.killed_block N.ops (program_view program.now) side number
+        (slice_get (program_view program.now).blocks number) state) }
 {
     match program.blocks.get(number as usize) {
         None => killed(side, number, &[], 0, state),
@@ -87,8 +87,8 @@ pub fn entered<N: Num>(
     blocks: &[u32],
     state: State<N>,
 ) -> Result<State<N>, Memory>
-    requires model { state.model ≡ (shown program.now).types.model }
-    ensures { IfOk result (λ s. s ≡ spec.entered N.ops (shown program.now) mode blocks.now state) }
+    requires model { state.model ≡ (program_view program.now).types.model }
+    ensures { IfOk result (λ s. s ≡ spec.entered N.ops (program_view program.now) mode blocks.now state) }
 {
     let side = cells_of_mode(mode);
     let mut after = state;

@@ -15,14 +15,14 @@ use Rattle.ep_core.proofs.Operands.{sizes as blocks_of}
 use Rattle.ep_equalities.specs.declared.pair.Mode.{Mode}
 use Rattle.ep_equalities.specs.declared.pair.PairValue.{PairValue}
 use Rattle.ep_evaluation.specs.Given.{Given, on}
-use Rattle.ep_evaluation_laws.specs.Laws.{EvaluationLaws, IsState, SideFits}
+use Rattle.ep_evaluation.specs.Laws.{EvaluationLaws, IsState, SideFits}
 use Rattle.ep_transfers.specs.Calls.{given_all}
 use Rattle.ep_transfers.specs.Transfers.{gives, killed_block, killed_blocks, cells_of_mode, entered}
-use Rattle.ep_transfers_laws.specs.Statements.{Each}
+use Rattle.ep_transfers.specs.Statements.{Each}
 use Rattle.ep_transfer_calls.specs.Typed.{AreTyped}
 use Rattle.ep_transfer_calls.specs.Waiting.{AreFound, AllWait}
 use Rattle.ep_transfer_stores.specs.Typed.{IsExpr}
-use Rattle.ep_waiting_laws.specs.Laws.{OthersThere, WaitingHolds}
+use Rattle.ep_transfers.specs.WaitingLaws.{OthersThere, WaitingHolds}
 
 abbrev pub order_of : Order × Order → Side → Order
 order_of os left = os.0

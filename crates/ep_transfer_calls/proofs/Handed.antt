@@ -5,7 +5,7 @@ use Rattle.ep_int.specs.declared.types.Scalar.TheVariants.{Int, Pointer}
 use Rattle.ep_domain.specs.Domain.{Ops}
 use Rattle.ep_cells.specs.States.{Known, AreCells}
 use Rattle.ep_cell_ranges.specs.Ranges.{Form}
-use Rattle.ep_cell_ranges_laws.specs.Follow.{FormFits}
+use Rattle.ep_cell_ranges.specs.Follow.{FormFits}
 use Rattle.ep_core.specs.Program.{Dest, Function, Program}
 use Rattle.ep_core.specs.Runs.{Side}
 use Rattle.ep_core.specs.WellFormed.{is_well_formed}
@@ -15,15 +15,15 @@ use Rattle.ep_equalities.specs.declared.pair.PairValue.{PairValue}
 use Rattle.ep_eval_sides.specs.Sides.{faultless}
 use Rattle.ep_evaluation.specs.Evaluation.{place}
 use Rattle.ep_evaluation.specs.Given.{Given, on}
-use Rattle.ep_evaluation_laws.specs.Laws.{IsState}
+use Rattle.ep_evaluation.specs.Laws.{IsState}
 use Rattle.ep_transfers.specs.Calls.{loaded_result, received_as, result_step}
 use Rattle.ep_transfers.specs.Transfers.{Stepped, stepped, sizes, with_two, assigned}
-use Rattle.ep_transfers_laws.specs.Statements.{Each}
+use Rattle.ep_transfers.specs.Statements.{Each}
 use Rattle.ep_transfer_calls.specs.Waiting.{IsWideAs}
 use Rattle.ep_transfer_calls.proofs.Found.{order_of}
 use Rattle.ep_transfer_stores.specs.Waiting.{SideFits}
-use Rattle.ep_waiting_laws.specs.Laws.{WaitingHolds}
-use Rattle.ep_waiting_laws.specs.Taken.{AreTaken}
+use Rattle.ep_transfers.specs.WaitingLaws.{WaitingHolds}
+use Rattle.ep_transfers.specs.Taken.{AreTaken}
 
 -- a form that fits is as wide as its type
 pub wide_as : {N : Type 0} (k : Known N) (w : Scalar) (f : Form) → FormFits k.cells w f → IsWideAs w f

@@ -16,14 +16,14 @@ use Rattle.ep_equalities.specs.declared.pair.Fault.{Fault}
 use Rattle.ep_equalities.specs.declared.pair.Mode.{Mode}
 use Rattle.ep_equalities.specs.declared.pair.PairValue.{PairValue}
 use Rattle.ep_evaluation.specs.Given.{Given, on}
-use Rattle.ep_evaluation_laws.specs.Laws as laws
+use Rattle.ep_evaluation.specs.Laws as laws
 use Rattle.ep_transfers.specs.Calls.{given_all, faults_of_all, then_step, bound, waiting, passed, arguments_step}
 use Rattle.ep_transfers.specs.Transfers.{Stepped, stepped, fate_off_blocks, to_block, sizes, entered, assigned}
 use Rattle.ep_transfers.specs.Writes.{formed_pair}
-use Rattle.ep_transfers_laws.specs.Statements.{Each}
+use Rattle.ep_transfers.specs.Statements.{Each}
 use Rattle.ep_transfer_calls.specs.Waiting.{Waits, AllWait}
 use Rattle.ep_transfer_stores.specs.Waiting.{SideFits}
-use Rattle.ep_waiting_laws.specs.Laws.{OthersThere, WaitingHolds}
+use Rattle.ep_transfers.specs.WaitingLaws.{OthersThere, WaitingHolds}
 
 pub is_empty : {A : Type 0} (n : ℕ) (xs : List A) → n ≡ length xs → n ≡ 0 → xs ≡ []
 is_empty n [] e h = refl

@@ -15,7 +15,7 @@ use Rattle.ep_core.proofs.Operands.{holds_at}
 use Rattle.ep_core.proofs.Sorts.{never, type_where, typed_where, sort_scalar, same_scalar}
 use Rattle.ep_transfer_stores.specs.Typed.{IsExpr, IsPlace}
 use Rattle.ep_transfer_calls.specs.Typed.{AreArguments, TakesResult, AreTyped}
-use Rattle.ep_waiting_laws.specs.Taken.{AreTaken, numbers, pointers}
+use Rattle.ep_transfers.specs.Taken.{AreTaken, numbers, pointers}
 
 -- a place that takes a result
 pub record Receives (p : Program) (r : ℕ × Scalar) (d : Dest) : Type 0 where

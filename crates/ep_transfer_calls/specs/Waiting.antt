@@ -11,9 +11,9 @@ use Rattle.ep_core.specs.Program.{Program}
 use Rattle.ep_core.specs.Runs.{Side}
 use Rattle.ep_equalities.specs.declared.pair.PairValue.{PairValue}
 use Rattle.ep_evaluation.specs.Given.{on}
-use Rattle.ep_evaluation_laws.specs.Laws.{SideFits}
+use Rattle.ep_evaluation.specs.Laws.{SideFits}
 use Rattle.ep_eval_sides.specs.Forms.{IsWide}
-use Rattle.ep_waiting_laws.specs.Laws.{OthersThere}
+use Rattle.ep_transfers.specs.WaitingLaws.{OthersThere}
 
 -- a form of a number's type is as wide as it
 abbrev pub IsWideAs : Scalar → Option (List Segment) → Type 0

@@ -5,7 +5,7 @@ ghost use Rattle.std.specs.List.{list_all};
 ghost use Rattle.ep_cell_rows.specs.Parts.{goes_on};
 ghost use Rattle.ep_cells.specs.Forms.{form_after};
 ghost use Rattle.ep_core.specs.Exec.{first_of, frame_of};
-ghost use Rattle.ep_core.specs.View.{shown_function};
+ghost use Rattle.ep_core.specs.View.{function_view};
 ghost use Rattle.ep_int.specs.Memory.{contains};
 ghost use Rattle.ep_transfers.specs.Transfers.{fate_off_blocks};
 ghost use Rattle.ep_transfers.specs.Writes.{formed_side, formed_pair};
@@ -32,7 +32,7 @@ fn firsts(alloc: Global, params: &[(u32, Scalar)]) -> Result<Vec<u32>, Memory>
 
 /// The parameters and locals of a function.
 pub(crate) fn frame(alloc: Global, f: &Function) -> Result<Vec<u32>, Memory>
-    ensures { IfOk result (λ bs. bs.items ≡ frame_of (shown_function f.now)) }
+    ensures { IfOk result (λ bs. bs.items ≡ frame_of (function_view f.now)) }
 {
     let mut blocks = firsts(alloc, &f.params)?;
     blocks.extend_from_slice(&f.locals).map_err(|_| Memory)?;

@@ -3,15 +3,15 @@
 ghost use Rattle.std.specs.Prelude.{◌≡◌, ◌++◌, map, IfOk, IfSome, OnOk, option_to_list};
 ghost use Rattle.ep_cells.specs.Forms.{form_after};
 ghost use Rattle.ep_core.specs.Exec.{first_of};
-ghost use Rattle.ep_core.specs.Shown.{shown};
-ghost use Rattle.ep_core.specs.View.{shown_expr, shown_function};
+ghost use Rattle.ep_core.specs.ProgramView.{program_view};
+ghost use Rattle.ep_core.specs.View.{expr_view, function_view};
 ghost use Rattle.ep_evaluation.specs.Given.{Given};
 ghost use Rattle.ep_transfers.specs.Calls as spec;
 ghost use Rattle.ep_transfers.specs.Transfers as transfers;
 ghost use Rattle.ep_transfers.specs.Writes.{formed_pair};
 ghost use Rattle.ep_transfer_calls.specs.Typed.{AreArguments, AreTyped};
 ghost use Rattle.ep_transfer_calls.specs.Waiting.{AllWait, Waits};
-ghost use Rattle.ep_waiting_laws.specs.Laws.{OthersThere};
+ghost use Rattle.ep_transfers.specs.WaitingLaws.{OthersThere};
 
 use crate::frames::{frame, members, off_frame};
 use ep_core::program::{CoreProgram, Function};
@@ -19,12 +19,12 @@ use ep_core::tree::Expr;
 use ep_domain::Num;
 use ep_equalities::{Fault, Mode, PairValue};
 use ep_eval_sides::operators::block;
-use ep_evaluation_laws::evaluation_laws;
+use ep_evaluation::evaluation_laws;
 use ep_int::{Memory, Scalar};
 use ep_states::State;
 use ep_transfer_blocks::entered;
 use ep_transfer_stores::{assigned, typed_value};
-use ep_waiting_laws::waiting_laws;
+use ep_transfers::waiting_laws;
 use indexmap::IndexSet;
 
 // The result of the call before is forgotten.
@@ -34,9 +34,9 @@ fn without_result<N: Num>(
     home: Option<(u32, Scalar)>,
     state: State<N>,
 ) -> Result<State<N>, Memory>
-    requires model { state.model ≡ (shown program.now).types.model }
+    requires model { state.model ≡ (program_view program.now).types.model }
     ensures { IfOk result (λ s. s
-        ≡ transfers.entered N.ops (shown program.now) mode (first_of (option_to_list home)) state) }
+        ≡ transfers.entered N.ops (program_view program.now) mode (first_of (option_to_list home)) state) }
 {
     match home {
         None => Ok(state),
@@ -57,13 +57,14 @@ fn given_all<N: Num>(
     state: &State<N>,
     faults: &mut Vec<Fault>,
 ) -> Result<Vec<PairValue<N>>, Memory>
-    requires sizes { sizes.now ≡ transfers.sizes N.ops (shown program.now) }
-    requires model { state.now.model ≡ (shown program.now).types.model }
-    requires typed { AreTyped (shown program.now) params.now (map shown_expr es.now) }
+    requires sizes { sizes.now ≡ transfers.sizes N.ops (program_view program.now) }
+    requires model { state.now.model ≡ (program_view program.now).types.model }
+    requires typed { AreTyped (program_view program.now) params.now (map expr_view es.now) }
     ensures values { IfOk result (λ v. v.items ≡ map (λ (x : Given _). x.pair)
-        (spec.given_all N.ops (shown program.now) (map shown_expr es.now) mode state.now)) }
-    ensures faults { OnOk result (faults.new.items ≡ faults.old.items ++ spec.faults_of_all N.ops (shown program.now)
-        (spec.given_all N.ops (shown program.now) (map shown_expr es.now) mode state.now)) }
+        (spec.given_all N.ops (program_view program.now) (map expr_view es.now) mode state.now)) }
+    ensures faults { OnOk result (faults.new.items
+        ≡ faults.old.items ++ spec.faults_of_all N.ops (program_view program.now)
+        (spec.given_all N.ops (program_view program.now) (map expr_view es.now) mode state.now)) }
 {
     let mut values = Vec::new(state.allocator());
     for i in 0..es.len() {
@@ -84,14 +85,15 @@ fn set_one<N: Num>(
     state: State<N>,
     faults: &mut Vec<Fault>,
 ) -> Result<Option<State<N>>, Memory>
-    requires sizes { sizes.now ≡ transfers.sizes N.ops (shown program.now) }
-    requires waits { Waits N.ops (shown program.now) frame.now.keys b v state }
-    ensures next { IfOk result (λ r. r ≡ (transfers.assigned N.ops (transfers.sizes N.ops (shown program.now)) mode b.1
+    requires sizes { sizes.now ≡ transfers.sizes N.ops (program_view program.now) }
+    requires waits { Waits N.ops (program_view program.now) frame.now.keys b v state }
+    ensures next { IfOk result (λ r. r
+        ≡ (transfers.assigned N.ops (transfers.sizes N.ops (program_view program.now)) mode b.1
         (transfers.to_block N.ops mode b.0) (formed_pair (form_after (transfers.fate_off_blocks frame.now.keys)) v)
         state).next) }
     ensures stays { IfOk result (λ r. IfSome r (OthersThere frame.now.keys state)) }
     ensures faults { OnOk result (faults.new.items ≡ faults.old.items ++ (transfers.assigned N.ops
-        (transfers.sizes N.ops (shown program.now)) mode b.1 (transfers.to_block N.ops mode b.0)
+        (transfers.sizes N.ops (program_view program.now)) mode b.1 (transfers.to_block N.ops mode b.0)
         (formed_pair (form_after (transfers.fate_off_blocks frame.now.keys)) v) state).faults) }
 {
     waiting_laws::<N>();
@@ -113,11 +115,12 @@ fn set_all<N: Num>(
     state: State<N>,
     faults: &mut Vec<Fault>,
 ) -> Result<Option<State<N>>, Memory>
-    requires sizes { sizes.now ≡ transfers.sizes N.ops (shown program.now) }
-    requires waits { AllWait N.ops (shown program.now) frame.now.keys params.now values.items state }
-    ensures next { IfOk result (λ r. r ≡ (spec.bound N.ops (shown program.now) mode params.now
+    requires sizes { sizes.now ≡ transfers.sizes N.ops (program_view program.now) }
+    requires waits { AllWait N.ops (program_view program.now) frame.now.keys params.now values.items state }
+    ensures next { IfOk result (λ r. r ≡ (spec.bound N.ops (program_view program.now) mode params.now
         (map (formed_pair (form_after (transfers.fate_off_blocks frame.now.keys))) values.items) state).next) }
-    ensures faults { OnOk result (faults.new.items ≡ faults.old.items ++ (spec.bound N.ops (shown program.now) mode
+    ensures faults { OnOk result (faults.new.items
+        ≡ faults.old.items ++ (spec.bound N.ops (program_view program.now) mode
         params.now (map (formed_pair (form_after (transfers.fate_off_blocks frame.now.keys))) values.items)
         state).faults) }
 {
@@ -146,13 +149,14 @@ pub fn arguments<N: Num>(
     state: State<N>,
     faults: &mut Vec<Fault>,
 ) -> Result<Option<State<N>>, Memory>
-    requires sizes { sizes.now ≡ transfers.sizes N.ops (shown program.now) }
-    requires model { state.model ≡ (shown program.now).types.model }
-    requires typed { AreArguments (shown program.now) (shown_function f.now) (map shown_expr es.now) }
-    ensures next { IfOk result (λ r. r ≡ (spec.arguments_step N.ops (shown program.now) mode (shown_function f.now)
-        (map shown_expr es.now) state).next) }
+    requires sizes { sizes.now ≡ transfers.sizes N.ops (program_view program.now) }
+    requires model { state.model ≡ (program_view program.now).types.model }
+    requires typed { AreArguments (program_view program.now) (function_view f.now) (map expr_view es.now) }
+    ensures next { IfOk result (λ r. r
+        ≡ (spec.arguments_step N.ops (program_view program.now) mode (function_view f.now)
+        (map expr_view es.now) state).next) }
     ensures faults { OnOk result (faults.new.items ≡ faults.old.items ++ (spec.arguments_step N.ops
-        (shown program.now) mode (shown_function f.now) (map shown_expr es.now) state).faults) }
+        (program_view program.now) mode (function_view f.now) (map expr_view es.now) state).faults) }
 {
     evaluation_laws::<N>();
     waiting_laws::<N>();

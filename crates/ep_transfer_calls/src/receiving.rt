@@ -2,8 +2,8 @@
 
 ghost use Rattle.std.specs.Prelude.{◌≡◌, ◌++◌, IfOk, OnOk, Some};
 ghost use Rattle.std.specs.Option.{option_map};
-ghost use Rattle.ep_core.specs.Shown.{shown};
-ghost use Rattle.ep_core.specs.View.{shown_dest, shown_function, shown_place};
+ghost use Rattle.ep_core.specs.ProgramView.{program_view};
+ghost use Rattle.ep_core.specs.View.{dest_view, function_view, place_view};
 ghost use Rattle.ep_eval_sides.specs.Sides.{faultless};
 ghost use Rattle.ep_evaluation.specs.Evaluation.{place};
 ghost use Rattle.ep_transfers.specs.Calls as spec;
@@ -11,7 +11,7 @@ ghost use Rattle.ep_transfers.specs.Transfers as transfers;
 ghost use Rattle.ep_transfer_calls.specs.Typed.{TakesResult};
 ghost use Rattle.ep_transfer_calls.specs.Waiting.{IsWideAs};
 ghost use Rattle.ep_transfer_stores.specs.Typed.{IsPlace};
-ghost use Rattle.ep_waiting_laws.specs.Taken.{AreTaken};
+ghost use Rattle.ep_transfers.specs.Taken.{AreTaken};
 
 use ep_core::program::{CoreProgram, Function};
 use ep_core::tree::Dest;
@@ -22,7 +22,7 @@ use ep_int::{Memory, Scalar};
 use ep_states::State;
 use ep_transfer_results::loaded_result;
 use ep_transfer_stores::{assigned, place_at};
-use ep_waiting_laws::waiting_laws;
+use ep_transfers::waiting_laws;
 
 // A number is converted to the type of its place.
 fn received_as<N: Num>(
@@ -34,7 +34,7 @@ fn received_as<N: Num>(
 ) -> PairValue<N>
     requires left { IsWideAs old v.left.form }
     requires right { IsWideAs old v.right.form }
-    ensures { result ≡ (spec.received_as N.ops (shown program.now) old new mode (faultless v)).pair }
+    ensures { result ≡ (spec.received_as N.ops (program_view program.now) old new mode (faultless v)).pair }
 {
     match old {
         Scalar::Int(u) => match new {
@@ -58,21 +58,21 @@ fn received<N: Num>(
     state: State<N>,
     faults: &mut Vec<Fault>,
 ) -> Result<Option<State<N>>, Memory>
-    requires sizes { sizes.now ≡ transfers.sizes N.ops (shown program.now) }
-    requires model { state.model ≡ (shown program.now).types.model }
-    requires place { IsPlace (shown program.now) (shown_place d.now.place) }
+    requires sizes { sizes.now ≡ transfers.sizes N.ops (program_view program.now) }
+    requires model { state.model ≡ (program_view program.now).types.model }
+    requires place { IsPlace (program_view program.now) (place_view d.now.place) }
     requires taken { AreTaken home.1 d.now.what }
     ensures next { IfOk result (λ r. r ≡ (transfers.with_two
-        (spec.received_as N.ops (shown program.now) home.1 d.now.what mode
-        (spec.loaded_result N.ops (shown program.now) mode home state))
-        (place N.ops (transfers.sizes N.ops (shown program.now)) (shown_place d.now.place) mode state)
-        (λ v to. transfers.assigned N.ops (transfers.sizes N.ops (shown program.now)) mode d.now.what to v
+        (spec.received_as N.ops (program_view program.now) home.1 d.now.what mode
+        (spec.loaded_result N.ops (program_view program.now) mode home state))
+        (place N.ops (transfers.sizes N.ops (program_view program.now)) (place_view d.now.place) mode state)
+        (λ v to. transfers.assigned N.ops (transfers.sizes N.ops (program_view program.now)) mode d.now.what to v
         state)).next) }
     ensures faults { OnOk result (faults.new.items ≡ faults.old.items ++ (transfers.with_two
-        (spec.received_as N.ops (shown program.now) home.1 d.now.what mode
-        (spec.loaded_result N.ops (shown program.now) mode home state))
-        (place N.ops (transfers.sizes N.ops (shown program.now)) (shown_place d.now.place) mode state)
-        (λ v to. transfers.assigned N.ops (transfers.sizes N.ops (shown program.now)) mode d.now.what to v
+        (spec.received_as N.ops (program_view program.now) home.1 d.now.what mode
+        (spec.loaded_result N.ops (program_view program.now) mode home state))
+        (place N.ops (transfers.sizes N.ops (program_view program.now)) (place_view d.now.place) mode state)
+        (λ v to. transfers.assigned N.ops (transfers.sizes N.ops (program_view program.now)) mode d.now.what to v
         state)).faults) }
 {
     waiting_laws::<N>();
@@ -95,13 +95,13 @@ pub fn result<N: Num>(
     state: State<N>,
     faults: &mut Vec<Fault>,
 ) -> Result<Option<State<N>>, Memory>
-    requires sizes { sizes.now ≡ transfers.sizes N.ops (shown program.now) }
-    requires model { state.model ≡ (shown program.now).types.model }
-    requires typed { TakesResult (shown program.now) (shown_function f.now) (option_map shown_dest dest.now) }
-    ensures next { IfOk result (λ r. r ≡ (spec.result_step N.ops (shown program.now) mode (shown_function f.now)
-        (option_map shown_dest dest.now) state).next) }
+    requires sizes { sizes.now ≡ transfers.sizes N.ops (program_view program.now) }
+    requires model { state.model ≡ (program_view program.now).types.model }
+    requires typed { TakesResult (program_view program.now) (function_view f.now) (option_map dest_view dest.now) }
+    ensures next { IfOk result (λ r. r ≡ (spec.result_step N.ops (program_view program.now) mode (function_view f.now)
+        (option_map dest_view dest.now) state).next) }
     ensures faults { OnOk result (faults.new.items ≡ faults.old.items ++ (spec.result_step N.ops
-        (shown program.now) mode (shown_function f.now) (option_map shown_dest dest.now) state).faults) }
+        (program_view program.now) mode (function_view f.now) (option_map dest_view dest.now) state).faults) }
 {
     match dest {
         None => Ok(Some(state)),

@@ -1,5 +1,6 @@
 -- A clear at one place is one change of the cells there, where none lies partly in its bytes.
 use Rattle.std.proofs.Common.{◌≡◌, ℕ, zero, suc, ◌+◌, ◌-◌, ◌^◌, ◌<◌, ◌≤◌, Bool, true, false, ◌&&◌, ◌||◌, nat_eq}
+use Rattle.ep_int.proofs.Basics.{size_positive}
 use Rattle.std.proofs.Common.{nat_lt, if◌then◌else◌, List, [], ◌∷◌, ◌++◌, Option, Some, None, IfSome, refl, sym, ap}
 use Rattle.std.proofs.Common.{◌∙◌, subst, append_assoc, arith, drop}
 use Rattle.std.specs.Option.{option_map_or}
@@ -22,16 +23,15 @@ use Rattle.ep_cells.specs.Forms.{common_form}
 use Rattle.ep_cells.specs.Kill.{leaf_at, is_in_leaf, AreLeavesIn}
 use Rattle.ep_cells.specs.Look.{is_some_partly_in}
 use Rattle.ep_cells.specs.States.{Known, HasRisingBlocks, AreCells}
-use Rattle.ep_cells_laws.proofs.Places.{size_positive}
 use Rattle.ep_cell_ranges.specs.Moves.{place_at}
 use Rattle.ep_cell_ranges.specs.Ranges.{replaced}
 use Rattle.ep_cell_ranges.specs.Spots.{Spot, is_same_spot, all_spots}
-use Rattle.ep_cell_ranges_laws.specs.Laws.{MoreSplitLaws, ReplaceLaws}
-use Rattle.ep_cell_ranges_laws.specs.Sound.{AreNew}
+use Rattle.ep_cell_ranges.specs.Laws.{MoreSplitLaws, ReplaceLaws}
+use Rattle.ep_cell_ranges.specs.Sound.{AreNew}
 use Rattle.ep_core.specs.Runs.{left, right}
 use Rattle.ep_equalities.specs.declared.pair.Mode.{Mode}
 use Rattle.ep_equalities.specs.declared.pair.Mode.TheVariants.{Both, Left, Right}
-use Rattle.ep_split_laws.specs.Laws.{SplitLaws}
+use Rattle.ep_reads.specs.SplitLaws.{SplitLaws}
 use Rattle.ep_transfers.specs.Places.{Places, moved_spots, moved_places}
 use Rattle.ep_transfers.specs.Transfers.{zero_item, undefined_item, cleared_here, cleared_from}
 use Rattle.ep_transfers.specs.Writes.{Item, underway, value_of_same, write_side, write_both, write_same, write_shared}

@@ -1,5 +1,7 @@
 -- Leaves in step with the bytes of their type.
 use Rattle.std.proofs.Common.{◌≡◌, ℕ, zero, suc, ◌+◌, ◌-◌, ◌<◌, ◌≤◌, Bool, true, false, ◌&&◌, ◌||◌, nat_eq, nat_le}
+use Rattle.ep_int.proofs.Basics.{size_positive as size_positive}
+use Rattle.ep_cells.proofs.Entry.{leaves_end}
 use Rattle.std.proofs.Common.{nat_lt, cond, List, [], ◌∷◌, Option, Some, None, IfSome, refl, sym, ◌∙◌, ap, subst}
 use Rattle.std.proofs.Common.{arith, length, drop, add-one}
 use Rattle.std.proofs.lemmas.Bool.{and_from, or_left, ne_eqb, eq-eqb, eqb-true, le-leb, lt-ltb, le-ltb, lt-leb}
@@ -11,7 +13,6 @@ use Rattle.ep_domain.specs.Domain.{Ops}
 use Rattle.ep_equalities.specs.declared.pair.Mode.{Mode}
 use Rattle.ep_cells.specs.Kill.{leaf_at, is_in_leaf, AreLeavesIn}
 use Rattle.ep_cells.specs.States.{Known}
-use Rattle.ep_cells_laws.proofs.Places.{size_positive}
 use Rattle.ep_transfers.specs.Places.{Places}
 use Rattle.ep_transfers.specs.Transfers.{cleared_here, cleared_from, cleared_bytes}
 use Rattle.ep_transfer_places.specs.Room.{BothHaveRoom}
@@ -35,12 +36,6 @@ beside d e size q (l ∷ ls) a h =
       none = ap (λ t. cond t (Some l.what) (leaf_at ls q)) far ∙ rest.none;
       outside = ap (λ t. (t && nat_lt q (l.offset + size_of d l.what)) || is_in_leaf d ls q) above ∙ rest.outside;
     }
-
-leaves_end : (d : Model) (e size : ℕ) (ls : List Leaf) → AreLeavesIn d e size ls → e ≤ size
-leaves_end d e size [] a = a
-leaves_end d e size (l ∷ ls) a =
-    let low = a.0 in
-    let rest = leaves_end d (l.offset + size_of d l.what) size ls a.1 in omega (arith, low, rest)
 
 begins_from : (d : Model) (e size q : ℕ) (ls : List Leaf) → AreLeavesIn d e size ls → q ≤ e → BeginsFrom q ls
 begins_from d e size q [] a h = tt

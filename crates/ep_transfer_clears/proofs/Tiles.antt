@@ -1,5 +1,6 @@
 -- Cells that lie one behind the other and mention no cell: to write one after the other is to write all at once.
 use Rattle.std.proofs.Common.{◌≡◌, ℕ, ◌+◌, ◌-◌, ◌≤◌, Bool, true, false, ◌&&◌, nat_eq, nat_lt, nat_le, List, [], ◌∷◌}
+use Rattle.ep_transfers.proofs.Patches.{self_le}
 use Rattle.std.proofs.Common.{◌++◌, map, Option, Some, None, IfSome, refl, sym, ap, ◌∙◌, subst, arith}
 use Rattle.std.specs.Option.{option_map_or}
 use Rattle.std.proofs.lemmas.Bool.Decides.{nat_tests}
@@ -12,22 +13,22 @@ use Rattle.ep_bitslice.specs.Bits.{mentions}
 use Rattle.ep_bitslice.specs.Segments.{bits}
 use Rattle.ep_domain.specs.Domain.{Ops}
 use Rattle.ep_cells.specs.declared.cell.Cell.{Cell}
-use Rattle.ep_cells.specs.declared.place.Place.{Place}
+use Rattle.ep_cells.specs.declared.place.ByteRange.{ByteRange}
 use Rattle.ep_cells.specs.Both.{cell_like}
 use Rattle.ep_cells.specs.Cells.{place_of, share_memory, on_left, on_right, IsIn, first, later}
 use Rattle.ep_cells.specs.Forms.{Fate, form_after}
 use Rattle.ep_cells.specs.Look.{is_some_partly_in}
 use Rattle.ep_cells.specs.States.{Known, IsCell, HasForm, IsFormOf, EachPair, AreCells}
 use Rattle.ep_cells.specs.Write.{fate_by_write}
-use Rattle.ep_cells_laws.proofs.Lists.{each_from}
-use Rattle.ep_cells_laws.proofs.Places.{at}
+use Rattle.ep_cells.proofs.Lists.{each_from}
+use Rattle.ep_cells.proofs.Places.{at}
 use Rattle.ep_cell_steps.proofs.Local.{same_reformed}
 use Rattle.ep_reads.specs.Split.{cut_cells, fate_by_split, split_like}
 use Rattle.ep_cell_ranges.specs.Ranges.{Form, with_form, form_by_splits, form_by_split, split_at, form_by_cut}
 use Rattle.ep_cell_ranges.specs.Ranges.{replaced, form_by_replace}
-use Rattle.ep_cell_ranges_laws.specs.Laws.{MoreSplitLaws, ReplaceLaws}
-use Rattle.ep_cell_ranges_laws.specs.Sound.{AreNew, IsInside, Misses}
-use Rattle.ep_split_laws.specs.Laws.{SplitLaws}
+use Rattle.ep_cell_ranges.specs.Laws.{MoreSplitLaws, ReplaceLaws}
+use Rattle.ep_cell_ranges.specs.Sound.{AreNew, IsInside, Misses}
+use Rattle.ep_reads.specs.SplitLaws.{SplitLaws}
 use Rattle.ep_transfer_writes.proofs.Neighbours.{Fills, place_is, next_none, two_writes}
 
 -- ---- forms that mention no cell stay
@@ -54,7 +55,7 @@ module _ {N : Type 0} (D : Ops N) (f : Form) (stays : Stays f) where
       ap (form_by_splits D k s xs (split_like D k s x cs)) (stays_like s (cell_like x cs))
       ∙ stays_splits k s xs (split_like D k s x cs)
 
-  stays_split : (p : Place) (k : Known N) → form_by_split D p k f ≡ f
+  stays_split : (p : ByteRange) (k : Known N) → form_by_split D p k f ≡ f
   stays_split p k = stays_splits k p.side (cut_cells k.model p k.cells) k.cells
 
   stays_cut : (s : Side) (b a n : ℕ) (k : Known N) → form_by_cut D (at s b a n) k f ≡ f
@@ -82,9 +83,6 @@ no_more t m h i = omega (arith, h, i)
 
 itself : (m : ℕ) → m - m ≡ 0
 itself m = omega arith
-
-less : (m : ℕ) → m ≤ m
-less m = omega arith
 
 all_of : (t m : ℕ) → m ≤ t → t ≡ m + (t - m)
 all_of t m h = omega (arith, h)
@@ -114,7 +112,7 @@ module _ {N : Type 0} (d : Model) (s : Side) (b : ℕ) where
   among a t (c ∷ cs) _ (first _) h = record {
     place = a;
     tile = h.0;
-    low = less a;
+    low = self_le a;
     high = (let l = h.1 in omega (arith, l));
   }
   among a t (c ∷ cs) x (later _ _ i) h =
@@ -226,7 +224,7 @@ module _ {N : Type 0} (d : Model) (s : Side) (b : ℕ) where
           let total = all_of t w h.1 in
           let j = replaced D (at s b a w) (c ∷ []) k in
           let m : j.model ≡ k.model = law.model k (at s b a w) (c ∷ []) in
-          let one = new_in k.cells (c ∷ []) a w k.model e (h.0, less w, itself w) in
+          let one = new_in k.cells (c ∷ []) a w k.model e (h.0, self_le w, itself w) in
           let there : AreCells j.model j.cells =
           subst (λ z. AreCells z j.cells) (sym m) (law.cells k (at s b a w) (c ∷ []) cells one) in
           let rest = next_none D split more law s b a w n t total k c cells uncut (fills a c k e h.0) in

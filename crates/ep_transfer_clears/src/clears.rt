@@ -8,22 +8,22 @@ ghost use Rattle.ep_cell_ranges.specs.Ranges.{replaced};
 ghost use Rattle.ep_transfers.specs.Places.{moved_places};
 ghost use Rattle.ep_transfers.specs.Transfers as spec;
 ghost use Rattle.ep_transfers.specs.Writes as writes;
-ghost use Rattle.ep_transfer_places.specs.Room.{BothHaveRoom, shown as shown_places};
+ghost use Rattle.ep_transfer_places.specs.Room.{BothHaveRoom, view as shown_places};
 ghost use Rattle.ep_transfer_writes.specs.Running.{RunsAt};
-ghost use Rattle.ep_transfer_writes.specs.Waiting.{shown_item, ItemFits};
+ghost use Rattle.ep_transfer_writes.specs.Waiting.{item_view, ItemFits};
 ghost use Rattle.ep_transfer_clears.specs.OnePlace.{cells_from};
 
 use crate::cells::cleared_cells;
 use crate::items::{undefined_item, zero_item};
 use crate::walks::{Walk, first_at, moved_on};
 use ep_bitslice::{BoxedForm, Side};
-use ep_cell_ranges_laws::{more_split_laws, replace_laws};
-use ep_cells::Place;
+use ep_cell_ranges::{more_split_laws, replace_laws};
+use ep_cells::ByteRange;
 use ep_domain::Num;
 use ep_equalities::{Fault, Mode, PairValue, same};
 use ep_int::{IntType, Memory, Scalar};
 use ep_layout::Leaf;
-use ep_split_laws::split_laws;
+use ep_reads::split_laws;
 use ep_state_ranges::{blur_each, replace};
 use ep_states::State;
 use ep_transfer_places::Places;
@@ -41,10 +41,10 @@ fn put<N: Num>(
     item: Item<N>,
     state: State<N>,
 ) -> Result<State<N>, Memory>
-    requires item { ItemFits state what (shown_item item) }
+    requires item { ItemFits state what (item_view item) }
     requires room { BothHaveRoom (at + size_of state.model what) (shown_places places.now) }
     ensures value { IfOk result (λ r. r ≡ writes.write_now N.ops mode same_to what
-        (moved_places at (shown_places places.now)) (shown_item item) state) }
+        (moved_places at (shown_places places.now)) (item_view item) state) }
     ensures model { IfOk result (λ r. r.model ≡ state.model) }
 {
     let moved = moved_places(state.allocator(), at, places)?;
@@ -142,7 +142,7 @@ fn clear_range<N: Num>(
         (cells_from N.ops state.model at.0 at.1 leaves.now 0 bytes) state) }
 {
     let new = cleared_cells(&state, at, bytes, leaves)?;
-    let place = Place {
+    let place = ByteRange {
         side: at.0,
         block: at.1.0,
         offset: at.1.1,

@@ -2,7 +2,7 @@
 
 ghost use Rattle.std.specs.Prelude.{◌≡◌};
 ghost use Rattle.ep_transfers.specs.Transfers as spec;
-ghost use Rattle.ep_transfer_writes.specs.Waiting.{shown_item};
+ghost use Rattle.ep_transfer_writes.specs.Waiting.{item_view};
 
 use ep_domain::Num;
 use ep_equalities::{Mode, PairValue};
@@ -14,7 +14,7 @@ use std::alloc::Global;
 
 /// 0, or null.
 pub(crate) fn zero_item<N: Num>(alloc: Global, what: Scalar) -> Item<N>
-    ensures { shown_item result ≡ spec.zero_item N.ops what }
+    ensures { item_view result ≡ spec.zero_item N.ops what }
 {
     match what {
         Scalar::Int(t) => Item::of(constant(Mode::Both, t, 0)),
@@ -23,7 +23,7 @@ pub(crate) fn zero_item<N: Num>(alloc: Global, what: Scalar) -> Item<N>
 }
 
 pub(crate) fn undefined_item<N: Num>() -> Item<N>
-    ensures { shown_item result ≡ spec.undefined_item N.ops }
+    ensures { item_view result ≡ spec.undefined_item N.ops }
 {
     Item {
         pair: PairValue {

@@ -5,13 +5,13 @@ use Rattle.ep_bitslice.specs.declared.cell.Side.{Side as CellSide}
 use Rattle.ep_bitslice.specs.declared.cell.Side.TheVariants.{Shared}
 use Rattle.ep_domain.specs.Domain.{Ops}
 use Rattle.ep_cells.specs.declared.cell.Cell.{Cell}
-use Rattle.ep_cells.specs.declared.place.Place.{Place}
+use Rattle.ep_cells.specs.declared.place.ByteRange.{ByteRange}
 use Rattle.ep_cells.specs.Cells.{is_same_side}
 use Rattle.ep_cells.specs.States.{Known}
 use Rattle.ep_cell_ranges.specs.Moves.{moved_to, place_at}
 use Rattle.ep_cell_ranges.specs.Ranges.{replaced}
 use Rattle.ep_cell_ranges.specs.Spots.{Spot, is_same_spot}
-use Rattle.ep_cell_ranges_laws.specs.Sound.{AreNew}
+use Rattle.ep_cell_ranges.specs.Sound.{AreNew}
 use Rattle.ep_core.specs.Runs.{Side, left, right}
 use Rattle.ep_evaluation.specs.Given.{cells_of}
 use Rattle.ep_transfers.specs.Copies.{moved_on}
@@ -20,7 +20,7 @@ pub one_side : (s : Side) → is_same_side (cells_of s) Shared ≡ false
 one_side left = refl
 one_side right = refl
 
-pub new_there : {N : Type 0} (d : Model) (cs xs ys : List (Cell N)) (p q : Place) → p ≡ q → xs ≡ ys
+pub new_there : {N : Type 0} (d : Model) (cs xs ys : List (Cell N)) (p q : ByteRange) → p ≡ q → xs ≡ ys
     → AreNew d q cs ys → AreNew d p cs xs
 new_there d cs xs ys p q e f h = subst (λ z. AreNew d z cs xs) (sym e) (subst (AreNew d q cs) (sym f) h)
 

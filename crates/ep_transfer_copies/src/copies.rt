@@ -7,7 +7,7 @@ ghost use Rattle.ep_cell_ranges.specs.Moves.{blurred_each};
 ghost use Rattle.ep_evaluation.specs.Given.{cells_of};
 ghost use Rattle.ep_transfers.specs.Copies as spec;
 ghost use Rattle.ep_transfers.specs.Places.{at_side};
-ghost use Rattle.ep_transfer_places.specs.Room.{BothHaveRoom, HaveRoom, shown};
+ghost use Rattle.ep_transfer_places.specs.Room.{BothHaveRoom, HaveRoom, view};
 ghost use Rattle.ep_transfer_pieces.specs.Pieces.{side_of};
 
 use crate::moves::{moved_alone, moved_both};
@@ -41,10 +41,10 @@ fn by_pieces<N: Num>(
     state: State<N>,
 ) -> Result<State<N>, Memory>
     requires leaves { AreLeavesIn state.model 0 bytes leaves.now }
-    requires to { BothHaveRoom bytes (shown to.now) }
-    requires from { BothHaveRoom bytes (shown from.now) }
+    requires to { BothHaveRoom bytes (view to.now) }
+    requires from { BothHaveRoom bytes (view from.now) }
     ensures value { IfOk result (λ s. s ≡ spec.pieces_from N.ops joint state
-        (spec.loosened_places (shown to.now) (shown from.now)) (shown from.now) leaves.now mode 0 bytes state) }
+        (spec.loosened_places (view to.now) (view from.now)) (view from.now) leaves.now mode 0 bytes state) }
     ensures model { IfOk result (λ s. s.model ≡ state.model) }
 {
     let loosened = loosened_places(state.allocator(), to, from)?;
@@ -55,7 +55,7 @@ fn by_pieces<N: Num>(
 
 fn blurred<N: Num>(on: On, to: &Places, bytes: u32, state: State<N>) -> Result<State<N>, Memory>
     ensures value { IfOk result (λ s. s ≡ blurred_each N.ops (cells_of (side_of on)) bytes
-        (at_side (shown to.now) (side_of on)) state) }
+        (at_side (view to.now) (side_of on)) state) }
     ensures model { IfOk result (λ s. s.model ≡ state.model) }
 {
     let held = Vec::new(state.allocator());
@@ -73,10 +73,10 @@ fn copy_many<N: Num>(
     state: State<N>,
 ) -> Result<State<N>, Memory>
     requires leaves { IfSome leaves (λ ls. AreLeavesIn state.model 0 bytes ls.now) }
-    requires to { BothHaveRoom bytes (shown to.now) }
-    requires from { BothHaveRoom bytes (shown from.now) }
+    requires to { BothHaveRoom bytes (view to.now) }
+    requires from { BothHaveRoom bytes (view from.now) }
     ensures value { IfOk result (λ s. s ≡ spec.copy_many N.ops (side_of on) (option_map (λ ls. ls.now) leaves.entry)
-        (shown to.now) (shown from.now) bytes state) }
+        (view to.now) (view from.now) bytes state) }
     ensures model { IfOk result (λ s. s.model ≡ state.model) }
 {
     match leaves {
@@ -120,10 +120,10 @@ fn copy_alone<N: Num>(
     state: State<N>,
 ) -> Result<State<N>, Memory>
     requires leaves { IfSome leaves (λ ls. AreLeavesIn state.model 0 bytes ls.now) }
-    requires to { BothHaveRoom bytes (shown to.now) }
-    requires from { BothHaveRoom bytes (shown from.now) }
+    requires to { BothHaveRoom bytes (view to.now) }
+    requires from { BothHaveRoom bytes (view from.now) }
     ensures value { IfOk result (λ s. s ≡ spec.copy_alone N.ops (side_of on) (option_map (λ ls. ls.now) leaves.entry)
-        (shown to.now) (shown from.now) bytes state) }
+        (view to.now) (view from.now) bytes state) }
     ensures model { IfOk result (λ s. s.model ≡ state.model) }
 {
     let written = on.places(to);
@@ -143,10 +143,10 @@ fn copy_sides<N: Num>(
     state: State<N>,
 ) -> Result<State<N>, Memory>
     requires leaves { IfSome leaves (λ ls. AreLeavesIn state.model 0 bytes ls.now) }
-    requires to { BothHaveRoom bytes (shown to.now) }
-    requires from { BothHaveRoom bytes (shown from.now) }
-    ensures { IfOk result (λ s. s ≡ spec.copy_sides N.ops (option_map (λ ls. ls.now) leaves.entry) (shown to.now)
-        (shown from.now) bytes state) }
+    requires to { BothHaveRoom bytes (view to.now) }
+    requires from { BothHaveRoom bytes (view from.now) }
+    ensures { IfOk result (λ s. s ≡ spec.copy_sides N.ops (option_map (λ ls. ls.now) leaves.entry) (view to.now)
+        (view from.now) bytes state) }
 {
     let left = copy_alone(On::Left, leaves, to, from, bytes, state)?;
     copy_alone(On::Right, leaves, to, from, bytes, left)
@@ -163,10 +163,10 @@ fn copy_pieces<N: Num>(
     state: State<N>,
 ) -> Result<State<N>, Memory>
     requires leaves { IfSome leaves (λ ls. AreLeavesIn state.model 0 bytes ls.now) }
-    requires to { BothHaveRoom bytes (shown to.now) }
-    requires from { BothHaveRoom bytes (shown from.now) }
+    requires to { BothHaveRoom bytes (view to.now) }
+    requires from { BothHaveRoom bytes (view from.now) }
     ensures { IfOk result (λ s. s ≡ spec.copy_pieces N.ops (option_map (λ ls. ls.now) leaves.entry) together
-        (shown to.now) (shown from.now) bytes state) }
+        (view to.now) (view from.now) bytes state) }
 {
     match leaves {
         None => copy_sides(None, to, from, bytes, state),
@@ -188,10 +188,10 @@ fn copy_moved<N: Num>(
     state: State<N>,
 ) -> Result<State<N>, Memory>
     requires leaves { IfSome leaves (λ ls. AreLeavesIn state.model 0 bytes ls.now) }
-    requires to { BothHaveRoom bytes (shown to.now) }
-    requires from { BothHaveRoom bytes (shown from.now) }
-    ensures { IfOk result (λ s. s ≡ spec.copy_moved N.ops (option_map (λ ls. ls.now) leaves.entry) (shown to.now)
-        (shown from.now) bytes (shown to.now).left (shown to.now).right (shown from.now).left (shown from.now).right
+    requires to { BothHaveRoom bytes (view to.now) }
+    requires from { BothHaveRoom bytes (view from.now) }
+    ensures { IfOk result (λ s. s ≡ spec.copy_moved N.ops (option_map (λ ls. ls.now) leaves.entry) (view to.now)
+        (view from.now) bytes (view to.now).left (view to.now).right (view from.now).left (view from.now).right
         state) }
 {
     match one_move(to, from) {
@@ -213,10 +213,10 @@ pub(crate) fn copied<N: Num>(
     state: State<N>,
 ) -> Result<State<N>, Memory>
     requires leaves { IfSome leaves (λ ls. AreLeavesIn state.model 0 bytes ls.now) }
-    requires to { BothHaveRoom bytes (shown to.now) }
-    requires from { BothHaveRoom bytes (shown from.now) }
+    requires to { BothHaveRoom bytes (view to.now) }
+    requires from { BothHaveRoom bytes (view from.now) }
     ensures { IfOk result (λ s. s ≡ spec.copied N.ops mode joint (option_map (λ ls. ls.now) leaves.entry)
-        (shown to.now) (shown from.now) bytes state) }
+        (view to.now) (view from.now) bytes state) }
 {
     match mode {
         Mode::Both => {

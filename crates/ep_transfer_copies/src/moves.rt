@@ -5,24 +5,24 @@ ghost use Rattle.ep_cell_ranges.specs.Moves.{moved_to, place_at, taken};
 ghost use Rattle.ep_cell_ranges.specs.Ranges.{replaced};
 ghost use Rattle.ep_cell_ranges.specs.Spots.{is_same_spot};
 ghost use Rattle.ep_evaluation.specs.Given.{cells_of};
-ghost use Rattle.ep_cell_ranges_laws.specs.Sound.{AreNew};
+ghost use Rattle.ep_cell_ranges.specs.Sound.{AreNew};
 ghost use Rattle.ep_transfers.specs.Copies as spec;
 ghost use Rattle.ep_transfer_pieces.specs.Pieces.{side_of};
 
 use crate::spots::{Spot, is_same_spot};
 use ep_bitslice::Side;
-use ep_cell_ranges_laws::{move_laws, replace_laws, taken_laws};
-use ep_cells::{Cell, Place};
+use ep_cell_ranges::{move_laws, replace_laws, taken_laws};
+use ep_cells::{ByteRange, Cell};
 use ep_domain::Num;
 use ep_int::Memory;
 use ep_state_ranges::{moved_to, replace, taken, taken_by_both};
 use ep_states::State;
 use ep_transfer_pieces::On;
 
-fn place_at(side: Side, spot: Spot, bytes: u32) -> Place
+fn place_at(side: Side, spot: Spot, bytes: u32) -> ByteRange
     ensures { result ≡ place_at side spot bytes }
 {
-    Place {
+    ByteRange {
         side,
         block: spot.0,
         offset: spot.1,

@@ -6,7 +6,7 @@ ghost use Rattle.ep_cell_ranges.specs.Spots.{is_same_spot};
 ghost use Rattle.ep_core.specs.Runs.{left, right};
 ghost use Rattle.ep_transfers.specs.Copies as spec;
 ghost use Rattle.ep_transfers.specs.Places as places_spec;
-ghost use Rattle.ep_transfer_places.specs.Room.{shown};
+ghost use Rattle.ep_transfer_places.specs.Room.{view};
 ghost use Rattle.ep_transfer_writes.specs.Waiting.{one_spot};
 ghost use Rattle.ep_transfer_copies.specs.Chosen.{is_loose, both_of};
 
@@ -72,7 +72,7 @@ fn loosened(alloc: Global, to: &[Spot], from: &[Spot]) -> Result<Vec<Spot>, Memo
 
 /// The places that are written, where one of them that is also read counts as one of several.
 pub(crate) fn loosened_places(alloc: Global, to: &Places, from: &Places) -> Result<Places, Memory>
-    ensures { IfOk result (λ p. shown p ≡ spec.loosened_places (shown to.now) (shown from.now)) }
+    ensures { IfOk result (λ p. view p ≡ spec.loosened_places (view to.now) (view from.now)) }
 {
     let left = loosened(alloc, &to.left, &from.left)?;
     let right = loosened(alloc, &to.right, &from.right)?;
@@ -152,9 +152,9 @@ fn write_alike<N: Num>(left: &[Spot], right: &[Spot]) -> bool
 
 /// On neither side one place goes to one, and both write alike.
 pub(crate) fn go_together<N: Num>(to: &Places, from: &Places) -> bool
-    ensures { result ≡ (not (spec.is_one_to_one N.ops (shown to.now) (shown from.now) left
-        || spec.is_one_to_one N.ops (shown to.now) (shown from.now) right)
-        && spec.write_alike N.ops (shown to.now).left (shown to.now).right) }
+    ensures { result ≡ (not (spec.is_one_to_one N.ops (view to.now) (view from.now) left
+        || spec.is_one_to_one N.ops (view to.now) (view from.now) right)
+        && spec.write_alike N.ops (view to.now).left (view to.now).right) }
 {
     !(is_one_to_one(&to.left, &from.left) || is_one_to_one(&to.right, &from.right))
         && write_alike::<N>(&to.left, &to.right)

@@ -1,5 +1,7 @@
 -- The cells that globals and main's result begin with: undefined ones that get the numbers of their places.
 use Rattle.std.proofs.Common.{◌≡◌, ℕ, zero, suc, ◌+◌, ℤ, pos, Bool, true, false, ◌&&◌, ◌||◌, nat_eq, nat_lt, nat_le}
+use Rattle.ep_int.proofs.Basics.{size_positive}
+use Rattle.ep_int.proofs.Arithmetic.{zero_in_range}
 use Rattle.std.proofs.Common.{List, [], ◌∷◌, ◌++◌, map, slice_get, Option, Some, None, unwrap_or, refl, sym, ap, ◌∙◌}
 use Rattle.std.proofs.Common.{subst, arith}
 use Rattle.std.specs.List.{list_any}
@@ -18,15 +20,14 @@ use Rattle.ep_domain.specs.Domain.{Ops}
 use Rattle.ep_cells.specs.declared.cell.Cell.{Cell}
 use Rattle.ep_cells.specs.Kill.{AreLeavesIn, undefined_cell, leaf_at, is_in_leaf, cell_here, cells_from}
 use Rattle.ep_cells.specs.States.{Each}
-use Rattle.ep_cells_laws.proofs.Places.{size_positive}
 use Rattle.ep_core.specs.Program.{Block, Init, Program}
 use Rattle.ep_core.specs.Runs.{Side, is_result}
 use Rattle.ep_core.specs.WellFormed.{is_leaf_at, is_well_formed}
 use Rattle.ep_core.proofs.Operands.{sizes, first_values_fit}
 use Rattle.ep_transfers.specs.Ends.{value_in, first_cell, zero_byte, first_here, first_from, main_result}
-use Rattle.ep_transfers_laws.proofs.Kills.{room}
-use Rattle.ep_transfers_laws.proofs.FirstBytes.{outside_leaf, covers, AllOff}
-use Rattle.ep_transfers_laws.proofs.FirstCells.{zero_fits, InitAt, all_off, leaf_range}
+use Rattle.ep_transfers.proofs.Kills.{room}
+use Rattle.ep_transfers.proofs.FirstBytes.{outside_leaf, covers, AllOff}
+use Rattle.ep_transfers.proofs.FirstCells.{InitAt, all_off, leaf_range}
 use Rattle.ep_transfer_entry.specs.First.{IsOfType, cell_with}
 use Rattle.ep_transfer_entry.proofs.Lookups.{value_more}
 
@@ -104,7 +105,7 @@ module _ {N : Type 0} (D : Ops N) (p : Program) where
 
     has_byte : (q : ℕ) → is_in_leaf p.types.model leaves q ≡ false → IsOfType (Int U8) (number_at b q)
     has_byte q h =
-        subst (λ (u : Option ℤ). IsOfType (Int U8) (unwrap_or u (pos 0))) (sym (no_value q h)) (zero_fits U8)
+        subst (λ (u : Option ℤ). IsOfType (Int U8) (unwrap_or u (pos 0))) (sym (no_value q h)) (zero_in_range U8)
 
     have_here : (q : ℕ) (o : Option Scalar) (t : Bool) → leaf_at leaves q ≡ o → is_in_leaf p.types.model leaves q ≡ t
         → (cs : List (Cell N)) → Each HasNumber cs → Each HasNumber (cell_here Shared b q o t ++ cs)

@@ -1,35 +1,27 @@
 -- The blocks of a well-formed program have types of its table, and are few.
 use Rattle.std.proofs.Common.{◌≡◌, ℕ, zero, suc, ◌+◌, ◌<◌, ◌≤◌, Bool, true, false, ltb, nat_le, List, [], ◌∷◌, length}
+use Rattle.ep_core.proofs.Basics.{is_number-size}
+use Rattle.ep_layout.proofs.Basics.{at_depth-none}
 use Rattle.std.proofs.Common.{sum_by, slice_get, Option, Some, None, unwrap_or, refl, ap, subst, arith}
 use Rattle.std.specs.List.{list_all}
 use Rattle.std.specs.Option.{option_map}
-use Rattle.std.proofs.lemmas.Bool.{and_parts, eqb-true, leb-true, ltb-true, ltb-false}
+use Rattle.std.proofs.lemmas.Bool.{and_parts, leb-true, ltb-true, ltb-false}
 use Rattle.std.proofs.lemmas.Option.{slice_get_past}
 use Rattle.std.proofs.lemmas.List.Sums.{sum_by-cons}
 use Rattle.ep_layout.specs.Layout.{Layout}
 use Rattle.ep_layout.specs.Table as table
-use Rattle.ep_layout.specs.Table.{TypeRules, Table, at_depth, layout_of, layout_rules}
+use Rattle.ep_layout.specs.Table.{Table, layout_of, layout_rules}
 use Rattle.ep_core.specs.Program.{Block, Program}
 use Rattle.ep_core.specs.WellFormed.{is_number, block_fits, is_well_formed}
 use Rattle.ep_core.proofs.Operands.{sizes}
 
--- what the table lacks has no bytes
-no_type : {A : Type 0} (r : TypeRules A) (t : Table) (k n : ℕ) → slice_get t.types n ≡ None → at_depth r t k n ≡ None
-unfolding at_depth
-no_type r t zero n e = refl
-no_type r t (suc k) n e = rw e refl
-
 no_layout : (t : Table) (n : ℕ) → length t.types ≤ n → layout_of t n ≡ None
 no_layout t n h =
-    no_type (layout_rules t.model) t (length t.types + length t.completed) n (slice_get_past t.types n h)
+    at_depth-none (layout_rules t.model) t (length t.types + length t.completed) n (slice_get_past t.types n h)
 
 no_size : (t : Table) (n : ℕ) → length t.types ≤ n → unwrap_or (table.size t n) 0 ≡ 0
 no_size t n h =
     ap (λ (l : Option Layout). unwrap_or (option_map (λ (l : Layout). l.size) l) 0) (no_layout t n h)
-
-number_by : (o : Option ℕ) (n : ℕ) → is_number o n ≡ true → unwrap_or o 0 ≡ n
-number_by None n h = absurd (cc)
-number_by (Some m) n h = eqb-true m n h
 
 -- each has a byte at least
 all_by : (t : table.Table) (bs : List Block) (i : ℕ) (x : Block) → list_all (block_fits t) bs ≡ true
@@ -66,7 +58,7 @@ module _ (p : Program) (formed : is_well_formed p ≡ true) where
           let s = and_parts (is_number (table.size p.types x.ty) x.size) (nat_le 1 x.size)
           (all_by p.types p.blocks b x parts.0 at) in
           let none = no_size p.types x.ty (ltb-false x.ty (length p.types.types) e) in
-          let size = number_by (table.size p.types x.ty) x.size s.0 in
+          let size = is_number-size (table.size p.types x.ty) x.size s.0 in
           let l = leb-true 1 x.size s.1 in
           absurd (omega (arith, none, size, l))
 

@@ -7,7 +7,7 @@ use Rattle.std.specs.BTreeMap.{BTreeMap, get}
 use Rattle.ep_domain.specs.Domain.{Ops}
 use Rattle.ep_core.specs.declared.program.InitByte.{InitByte}
 use Rattle.ep_core.specs.Program.{Init, Program}
-use Rattle.ep_core.specs.View.{shown_init}
+use Rattle.ep_core.specs.View.{init_view}
 use Rattle.ep_transfers.specs.Ends.{value_in}
 use Rattle.ep_transfer_entry.specs.First.{place_cmp, placed, HasFirst}
 
@@ -32,7 +32,7 @@ module _ {N : Type 0} (D : Ops N) (p : Program) (b q : ℕ) where
   value_more i is (Some v) e = rw e refl
 
   at_place : (u w : Option ℤ) (i : InitByte) (t : Bool) → (nat_eq i.block b && nat_eq i.offset q) ≡ t
-      → or_else u (cond t (Some i.value) w) ≡ or_else (value_or u (shown_init i)) w
+      → or_else u (cond t (Some i.value) w) ≡ or_else (value_or u (init_view i)) w
   at_place (Some v) w i t e = refl
   at_place None w i true e = rw e refl
   at_place None w i false e = rw e refl
@@ -41,20 +41,20 @@ module _ {N : Type 0} (D : Ops N) (p : Program) (b q : ℕ) where
   have f is = update_all (eq_by_cmp place_cmp) f (map placed is) (b, q)
 
   all_values : (is : List InitByte) (f : ℕ × ℕ → Option ℤ)
-      → have f is ≡ or_else (value_in D p (map shown_init is) b q) (f (b, q))
+      → have f is ≡ or_else (value_in D p (map init_view is) b q) (f (b, q))
   all_values [] f = refl
   all_values (i ∷ is) f =
-      let u = value_in D p (map shown_init is) b q in
+      let u = value_in D p (map init_view is) b q in
       all_values is (update (eq_by_cmp place_cmp) f (i.block, i.offset) (Some i.value))
       ∙ ap (λ (t : Bool). or_else u (cond t (Some i.value) (f (b, q)))) (same_place i.block i.offset b q)
       ∙ at_place u (f (b, q)) i (nat_eq i.block b && nat_eq i.offset q) refl
-      ∙ ap (λ (z : Option ℤ). or_else z (f (b, q))) (sym (value_more (shown_init i) (map shown_init is) u refl))
+      ∙ ap (λ (z : Option ℤ). or_else z (f (b, q))) (sym (value_more (init_view i) (map init_view is) u refl))
 
   itself : (u : Option ℤ) → or_else u None ≡ u
   itself None = refl
   itself (Some v) = refl
 
   pub first_is : (is : List InitByte) (m : BTreeMap (ℕ × ℕ) ℤ) → HasFirst is m
-      → get place_cmp m (b, q) ≡ value_in D p (map shown_init is) b q
+      → get place_cmp m (b, q) ≡ value_in D p (map init_view is) b q
   first_is is m h =
-      h.0 (b, q) ∙ all_values is (λ _. None) ∙ itself (value_in D p (map shown_init is) b q)
+      h.0 (b, q) ∙ all_values is (λ _. None) ∙ itself (value_in D p (map init_view is) b q)

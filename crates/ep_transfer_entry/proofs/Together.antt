@@ -1,5 +1,6 @@
 -- The first cells of all blocks are cells of a state.
 use Rattle.std.proofs.Common.{◌≡◌, ℕ, zero, suc, ◌+◌, ◌<◌, ◌≤◌, ℤ, pos, Bool, true, false, ◌||◌, if◌then◌else◌, List}
+use Rattle.ep_evaluation.proofs.Conversions.{nothing_fixed}
 use Rattle.std.proofs.Common.{[], ◌∷◌, ◌++◌, ⊎_elim, slice_get, Option, Some, None, unwrap_or, refl, sym, ap, ◌∙◌}
 use Rattle.std.proofs.Common.{subst, arith}
 use Rattle.ep_int.specs.declared.types.IntType.{IntType}
@@ -11,34 +12,27 @@ use Rattle.ep_int.specs.Types.{bits_of, representation}
 use Rattle.ep_int.proofs.Wrapping.{bytes_of_positive, representation_below}
 use Rattle.ep_layout.specs.declared.types.Leaf.{Leaf}
 use Rattle.ep_layout.specs.Table as table
-use Rattle.ep_bitslice.specs.declared.cell.CellName.{CellName}
 use Rattle.ep_bitslice.specs.declared.cell.Side.TheVariants.{Shared}
 use Rattle.ep_bitslice.specs.declared.segment.Segment.TheVariants.{Fixed}
-use Rattle.ep_bitslice.specs.Bits.{mentions}
-use Rattle.ep_bitslice.specs.Segments.{fixed_bits, bits}
-use Rattle.ep_bitslice.proofs.Pieces.{mentions-fixed, mentions-append}
 use Rattle.ep_domain.specs.Domain.{Ops}
 use Rattle.ep_cells.specs.declared.cell.Cell.{Cell}
 use Rattle.ep_cells.specs.Cells.{IsIn}
 use Rattle.ep_cells.specs.Kill.{leaf_at, is_in_leaf}
 use Rattle.ep_cells.specs.States.{IsFormOf, AreCells}
-use Rattle.ep_cells_laws.proofs.Lists.{in_append}
-use Rattle.ep_reads_laws.proofs.Numbers.{at_most_eight}
+use Rattle.ep_cells.proofs.Lists.{in_append}
+use Rattle.ep_reads.proofs.Numbers.{at_most_eight}
 use Rattle.ep_core.specs.Program.{Block, Program}
 use Rattle.ep_core.specs.Runs.{Side, is_result}
 use Rattle.ep_core.specs.WellFormed.{is_well_formed}
 use Rattle.ep_core.proofs.Operands.{sizes}
 use Rattle.ep_cell_ranges.specs.First.{filled_here, filled_from}
-use Rattle.ep_cell_ranges_laws.specs.Sound.{IsMade, AreMade, IsFilled, of_leaf, of_byte}
-use Rattle.ep_cell_ranges_laws.proofs.Firsts.{of_firsts}
+use Rattle.ep_cell_ranges.specs.Sound.{IsMade, AreMade, IsFilled, of_leaf, of_byte}
+use Rattle.ep_cell_ranges.proofs.Firsts.{of_firsts}
 use Rattle.ep_transfers.specs.Ends.{value_in, first_cell, zero_byte, first_here, first_from, main_result}
 use Rattle.ep_transfers.specs.Ends.{first_of_block, first_of_blocks}
-use Rattle.ep_transfers_laws.proofs.Kills.{room}
+use Rattle.ep_transfers.proofs.Kills.{room}
 
 -- ---- forms of constants
-
-nothing_fixed : (c : CellName) (w v : ℕ) → mentions c (bits (Fixed v w ∷ [])) ≡ false
-nothing_fixed c w v = mentions-append c (fixed_bits w v) [] ∙ rw (mentions-fixed c w v) refl
 
 module _ {N : Type 0} (D : Ops N) (p : Program) where
   form_of : (t : IntType) (v : ℤ) (c : Cell N) → c.what ≡ Int t → c.maybe ≡ false

@@ -5,8 +5,8 @@ ghost use Rattle.ep_int.specs.Types.{InRange};
 ghost use Rattle.ep_layout.specs.Table as table;
 ghost use Rattle.ep_core.specs.Exec.{result_in};
 ghost use Rattle.ep_core.specs.Runs.{is_result};
-ghost use Rattle.ep_core.specs.Shown.{shown};
-ghost use Rattle.ep_core.specs.View.{shown_block};
+ghost use Rattle.ep_core.specs.ProgramView.{program_view};
+ghost use Rattle.ep_core.specs.View.{block_view};
 ghost use Rattle.ep_transfers.specs.Ends.{first_from, first_of_block, first_of_blocks};
 ghost use Rattle.ep_transfer_entry.specs.First as first;
 
@@ -77,11 +77,11 @@ fn push_block<N: Num>(
     block: &BlockInfo,
 ) -> Result<(), Memory>
     requires values { first.HasFirst program.now.init.items values.now }
-    requires block { slice_get (shown program.now).blocks number ≡ Some (shown_block block.now) }
+    requires block { slice_get (program_view program.now).blocks number ≡ Some (block_view block.now) }
     requires begins { (block.now.global || is_result (result_in
-        (slice_get (shown program.now).functions program.now.main)) number) ≡ true }
-    ensures { IfOk result (λ _. out.new.items ≡ out.old.items ++ first_from N.ops (shown program.now) number
-        (table.leaves (shown program.now).types block.now.ty) 0 block.now.size) }
+        (slice_get (program_view program.now).functions program.now.main)) number) ≡ true }
+    ensures { IfOk result (λ _. out.new.items ≡ out.old.items ++ first_from N.ops (program_view program.now) number
+        (table.leaves (program_view program.now).types block.now.ty) 0 block.now.size) }
 {
     let alloc = *out.allocator();
     let model = program.types.model();
@@ -102,7 +102,7 @@ fn push_block<N: Num>(
 }
 
 fn is_main_result(program: &CoreProgram, number: u32) -> bool
-    ensures { result ≡ is_result (result_in (slice_get (shown program.now).functions program.now.main)) number }
+    ensures { result ≡ is_result (result_in (slice_get (program_view program.now).functions program.now.main)) number }
 {
     match program.functions.get(program.main as usize) {
         None => false,
@@ -122,9 +122,9 @@ fn push_first<N: Num>(
     block: &BlockInfo,
 ) -> Result<(), Memory>
     requires values { first.HasFirst program.now.init.items values.now }
-    requires block { slice_get (shown program.now).blocks number ≡ Some (shown_block block.now) }
+    requires block { slice_get (program_view program.now).blocks number ≡ Some (block_view block.now) }
     ensures { IfOk result (λ _. out.new.items
-        ≡ out.old.items ++ first_of_block N.ops (shown program.now) number (shown_block block.now)) }
+        ≡ out.old.items ++ first_of_block N.ops (program_view program.now) number (block_view block.now)) }
 {
     if block.global || is_main_result(program, number) {
         return push_block(out, program, values, number, block);
@@ -138,7 +138,7 @@ pub(crate) fn first_cells<N: Num>(
     program: &CoreProgram,
 ) -> Result<Vec<Cell<N>>, Memory>
     ensures { IfOk result (λ v. v.items
-        ≡ first_of_blocks N.ops (shown program.now) 0 (shown program.now).blocks) }
+        ≡ first_of_blocks N.ops (program_view program.now) 0 (program_view program.now).blocks) }
 {
     let values = first_values(alloc, &program.init)?;
     let mut out = Vec::new(alloc);

@@ -2,7 +2,7 @@
 
 ghost use Rattle.std.specs.Prelude.{◌≡◌, IfOk, slice_get};
 ghost use Rattle.ep_core.specs.Runs as runs;
-ghost use Rattle.ep_core.specs.Shown.{shown};
+ghost use Rattle.ep_core.specs.ProgramView.{program_view};
 ghost use Rattle.ep_equalities.specs.declared.pair.Mode.TheVariants.{Both};
 ghost use Rattle.ep_transfers.specs.Ends as spec;
 ghost use Rattle.ep_transfers.specs.Transfers as transfers;
@@ -17,9 +17,10 @@ use ep_transfer_blocks::entered;
 use std::alloc::Global;
 
 fn with_locals<N: Num>(program: &CoreProgram, state: State<N>) -> Result<State<N>, Memory>
-    requires { state.model ≡ (shown program.now).types.model }
-    ensures { IfOk result (λ s. s ≡ transfers.entered N.ops (shown program.now) Both
-        (spec.locals_in N.ops (shown program.now) (slice_get (shown program.now).functions program.now.main)) state) }
+    requires { state.model ≡ (program_view program.now).types.model }
+    ensures { IfOk result (λ s. s ≡ transfers.entered N.ops (program_view program.now) Both
+        (spec.locals_in N.ops (program_view program.now)
+        (slice_get (program_view program.now).functions program.now.main)) state) }
 {
     match program.functions.get(program.main as usize) {
         None => Ok(state),
@@ -38,7 +39,7 @@ pub fn entry<N: Num>(
     right: Order,
 ) -> Result<State<N>, Memory>
     ensures { IfOk result (λ s. (ord : runs.Side → Order) → ord runs.left ≡ left → ord runs.right ≡ right
-        → s ≡ spec.entry_known N.ops (shown program.now) ord) }
+        → s ≡ spec.entry_known N.ops (program_view program.now) ord) }
 {
     let cells = first_cells(alloc, program)?;
     let first = State::with_cells(alloc, (left, right), program.types.model(), cells)?;

@@ -4,8 +4,8 @@ ghost use Rattle.std.specs.Prelude.{◌≡◌, ◌++◌, [], IfOk, OnOk};
 ghost use Rattle.ep_core.specs.Runs.{left, right};
 ghost use Rattle.ep_transfers.specs.Writes.{underway};
 ghost use Rattle.ep_transfers.specs.Transfers as spec;
-ghost use Rattle.ep_transfer_places.specs.Room.{BothHaveRoom, shown as shown_places};
-ghost use Rattle.ep_transfer_writes.specs.Waiting.{shown, shown_item, SideFits, ItemFits, Keeps};
+ghost use Rattle.ep_transfer_places.specs.Room.{BothHaveRoom, view as shown_places};
+ghost use Rattle.ep_transfer_writes.specs.Waiting.{view, item_view, SideFits, ItemFits, Keeps};
 
 use crate::stores::goes_on;
 use ep_bitslice::Side;
@@ -20,11 +20,11 @@ use ep_transfer_writes::{Item, Underway, blurred_side, write_run};
 
 // One place takes the bytes in turn. At several they may have been written in some way.
 fn fill_left<N: Num>(bytes: u32, places: &Places, u: Underway<N>) -> Result<Underway<N>, Memory>
-    requires item { ItemFits u.state (Scalar.Int IntType.U8) (shown_item u.item) }
+    requires item { ItemFits u.state (Scalar.Int IntType.U8) (item_view u.item) }
     requires room { BothHaveRoom bytes (shown_places places.now) }
-    ensures value { IfOk result (λ r. shown r
-        ≡ spec.fill_side N.ops [] Mode.Both bytes left (shown_places places.now) (shown u)) }
-    ensures keeps { IfOk result (λ r. Keeps (shown u) (shown r)) }
+    ensures value { IfOk result (λ r. view r
+        ≡ spec.fill_side N.ops [] Mode.Both bytes left (shown_places places.now) (view u)) }
+    ensures keeps { IfOk result (λ r. Keeps (view u) (view r)) }
 {
     if is_one(&places.left) {
         return write_run(Mode::Left, false, places, bytes, u);
@@ -33,11 +33,11 @@ fn fill_left<N: Num>(bytes: u32, places: &Places, u: Underway<N>) -> Result<Unde
 }
 
 fn fill_right<N: Num>(bytes: u32, places: &Places, u: Underway<N>) -> Result<Underway<N>, Memory>
-    requires item { ItemFits u.state (Scalar.Int IntType.U8) (shown_item u.item) }
+    requires item { ItemFits u.state (Scalar.Int IntType.U8) (item_view u.item) }
     requires room { BothHaveRoom bytes (shown_places places.now) }
-    ensures value { IfOk result (λ r. shown r
-        ≡ spec.fill_side N.ops [] Mode.Both bytes right (shown_places places.now) (shown u)) }
-    ensures keeps { IfOk result (λ r. Keeps (shown u) (shown r)) }
+    ensures value { IfOk result (λ r. view r
+        ≡ spec.fill_side N.ops [] Mode.Both bytes right (shown_places places.now) (view u)) }
+    ensures keeps { IfOk result (λ r. Keeps (view u) (view r)) }
 {
     if is_one(&places.right) {
         return write_run(Mode::Right, false, places, bytes, u);
@@ -46,10 +46,10 @@ fn fill_right<N: Num>(bytes: u32, places: &Places, u: Underway<N>) -> Result<Und
 }
 
 fn fill_both<N: Num>(bytes: u32, places: &Places, u: Underway<N>) -> Result<Underway<N>, Memory>
-    requires item { ItemFits u.state (Scalar.Int IntType.U8) (shown_item u.item) }
+    requires item { ItemFits u.state (Scalar.Int IntType.U8) (item_view u.item) }
     requires room { BothHaveRoom bytes (shown_places places.now) }
-    ensures { IfOk result (λ r. shown r
-        ≡ spec.fill_sides N.ops [] Mode.Both bytes Mode.Both (shown_places places.now) (shown u)) }
+    ensures { IfOk result (λ r. view r
+        ≡ spec.fill_sides N.ops [] Mode.Both bytes Mode.Both (shown_places places.now) (view u)) }
 {
     let left = fill_left(bytes, places, u)?;
     let right = fill_right(bytes, places, left)?;
@@ -62,10 +62,10 @@ fn fill_sides<N: Num>(
     places: &Places,
     u: Underway<N>,
 ) -> Result<Underway<N>, Memory>
-    requires item { ItemFits u.state (Scalar.Int IntType.U8) (shown_item u.item) }
+    requires item { ItemFits u.state (Scalar.Int IntType.U8) (item_view u.item) }
     requires room { BothHaveRoom bytes (shown_places places.now) }
-    ensures { IfOk result (λ r. shown r
-        ≡ spec.fill_sides N.ops [] mode bytes mode (shown_places places.now) (shown u)) }
+    ensures { IfOk result (λ r. view r
+        ≡ spec.fill_sides N.ops [] mode bytes mode (shown_places places.now) (view u)) }
 {
     match mode {
         Mode::Both => fill_both(bytes, places, u),
@@ -81,10 +81,10 @@ fn fill_places<N: Num>(
     places: &Places,
     u: Underway<N>,
 ) -> Result<Underway<N>, Memory>
-    requires item { ItemFits u.state (Scalar.Int IntType.U8) (shown_item u.item) }
+    requires item { ItemFits u.state (Scalar.Int IntType.U8) (item_view u.item) }
     requires room { BothHaveRoom bytes (shown_places places.now) }
-    ensures { IfOk result (λ r. shown r
-        ≡ spec.fill_places N.ops [] mode bytes same_to (shown_places places.now) (shown u)) }
+    ensures { IfOk result (λ r. view r
+        ≡ spec.fill_places N.ops [] mode bytes same_to (shown_places places.now) (view u)) }
 {
     if are_one(mode, places) {
         return write_run(mode, same_to, places, bytes, u);

@@ -3,7 +3,7 @@
 ghost use Rattle.std.specs.Prelude.{◌≡◌, ◌&&◌, ◌++◌, IfOk, OnOk};
 ghost use Rattle.ep_transfers.specs.Places as places_spec;
 ghost use Rattle.ep_transfers.specs.Transfers as spec;
-ghost use Rattle.ep_transfer_places.specs.Room.{shown as shown_places};
+ghost use Rattle.ep_transfer_places.specs.Room.{view as shown_places};
 ghost use Rattle.ep_transfer_writes.specs.Waiting.{SideFits};
 
 use ep_domain::Num;

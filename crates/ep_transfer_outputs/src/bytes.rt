@@ -7,7 +7,7 @@ ghost use Rattle.ep_evaluation.specs.Given as given;
 ghost use Rattle.ep_eval_sides.specs.Sides.{pick};
 ghost use Rattle.ep_transfers.specs.Places as places_spec;
 ghost use Rattle.ep_transfers.specs.Transfers as spec;
-ghost use Rattle.ep_transfer_places.specs.Room.{HaveRoom, BothHaveRoom, shown as shown_places};
+ghost use Rattle.ep_transfer_places.specs.Room.{HaveRoom, BothHaveRoom, view as shown_places};
 ghost use Rattle.ep_transfer_outputs.specs.Bytes.{AreReads, next_faults, goes_on};
 
 use crate::outputs::note_differing;

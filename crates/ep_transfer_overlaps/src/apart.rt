@@ -3,7 +3,7 @@
 ghost use Rattle.std.specs.Prelude.{◌≡◌};
 ghost use Rattle.std.specs.List.{list_any};
 ghost use Rattle.ep_transfers.specs.Copies as spec;
-ghost use Rattle.ep_transfer_places.specs.Room.{shown};
+ghost use Rattle.ep_transfer_places.specs.Room.{view};
 
 use ep_domain::Num;
 use ep_equalities::Mode;
@@ -35,7 +35,7 @@ fn some_apart<N: Num>(aggregate: bool, bytes: u32, to: &[(u32, u32)], from: &[(u
 /// Whether on each running side some place that is written and some place that is read are apart, or the same place of
 /// an aggregate. Costs a look at each pair of places, until there is one.
 pub fn can_copy<N: Num>(mode: Mode, aggregate: bool, bytes: u32, to: &Places, from: &Places) -> bool
-    ensures { result ≡ spec.can_copy N.ops mode aggregate bytes (shown to.now) (shown from.now) }
+    ensures { result ≡ spec.can_copy N.ops mode aggregate bytes (view to.now) (view from.now) }
 {
     match mode {
         Mode::Both => {

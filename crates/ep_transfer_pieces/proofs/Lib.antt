@@ -2,3 +2,5 @@ pub mod Walking
 pub mod Sorts
 pub mod Planning
 pub mod Turns
+pub mod Beside
+pub mod Holding

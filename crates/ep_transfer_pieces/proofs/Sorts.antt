@@ -1,5 +1,6 @@
 -- What is read for a piece is of its type, and a piece ends in the aggregate.
 use Rattle.std.proofs.Common.{◌≡◌, ℕ, ◌+◌, ◌<◌, ◌≤◌, Bool, true, false, ◌&&◌, nat_eq, cond, List, [], ◌∷◌, Option}
+use Rattle.ep_cells.proofs.Entry.{leaf_inside, leaves_end}
 use Rattle.std.proofs.Common.{Some, None, refl, subst, arith}
 use Rattle.std.proofs.lemmas.Bool.{and_parts, eqb-true}
 use Rattle.std.specs.Prelude.{is_some}
@@ -19,22 +20,18 @@ use Rattle.ep_cells.specs.Cells.{is_same_scalar}
 use Rattle.ep_cells.specs.Kill.{leaf_at, AreLeavesIn}
 use Rattle.ep_cells.specs.Look.{cell_at}
 use Rattle.ep_cells.specs.States.{Known, AreCells, IsOfSort}
-use Rattle.ep_cells_laws.proofs.Both.{scalar_same, sort_both}
+use Rattle.ep_cells.proofs.Both.{scalar_same, sort_both}
 use Rattle.ep_cell_ranges.specs.Spots.{Spot}
 use Rattle.ep_evaluation.specs.Accesses.{joined_from}
 use Rattle.ep_reads.specs.declared.read.ReadValue.{ReadValue}
 use Rattle.ep_reads.specs.Read.{read}
-use Rattle.ep_reads_laws.specs.Laws.{ReadLaws}
-use Rattle.ep_reads_laws.proofs.Found.{covering}
+use Rattle.ep_reads.specs.Laws.{ReadLaws}
+use Rattle.ep_reads.proofs.Found.{covering}
 use Rattle.ep_transfers.specs.Copies as spec
 use Rattle.ep_transfers.specs.Places.{moved_spots}
 use Rattle.ep_transfer_pieces.specs.Pieces.{CanPut}
 
 -- ---- a leaf ends there too
-
-ends_in : (d : Model) (e n : ℕ) (ls : List Leaf) → AreLeavesIn d e n ls → e ≤ n
-ends_in d e n [] h = h
-ends_in d e n (l ∷ ls) h = omega (arith, h.0, ends_in d (l.offset + size_of d l.what) n ls h.1)
 
 leaf_by : (d : Model) (n o : ℕ) (l : Leaf) (ls : List Leaf) (w : Scalar) (t : Bool) → nat_eq l.offset o ≡ t
     → l.offset + size_of d l.what ≤ n → (leaf_at ls o ≡ Some w → o + size_of d w ≤ n)
@@ -43,13 +40,6 @@ leaf_by d n o l ls w true g e more f =
     let v : l.what ≡ w = cc in
     subst (λ x. x + size_of d w ≤ n) (eqb-true l.offset o g) (subst (λ x. l.offset + size_of d x ≤ n) v e)
 leaf_by d n o l ls w false g e more f = more f
-
-leaf_room : (d : Model) (e n o : ℕ) (ls : List Leaf) (w : Scalar) → AreLeavesIn d e n ls → leaf_at ls o ≡ Some w
-    → o + size_of d w ≤ n
-leaf_room d e n o [] w h f = absurd (let z : None ≡ Some w = f in cc)
-leaf_room d e n o (l ∷ ls) w h f =
-    leaf_by d n o l ls w (nat_eq l.offset o) refl (ends_in d (l.offset + size_of d l.what) n ls h.1)
-    (leaf_room d (l.offset + size_of d l.what) n o ls w h.1) f
 
 -- ---- types of what is read
 
@@ -108,7 +98,7 @@ module _ {N : Type 0} (D : Ops N) where
         can_by None e true u f = absurd (let z : false ≡ true = f in cc)
         can_by (Some w) e true u f = record {
           sort = joined_sort w None (spec.leaf_sources D k s w (moved_spots o ps)) tt (leaf_all w o ps f);
-          room = leaf_room k.model 0 n o ls w leaves e;
+          room = leaf_inside k.model 0 n o ls w leaves e;
         }
         can_by x e false true f = record { sort = tt; room = omega (arith, inside) }
         can_by x e false false f = record {

@@ -1,5 +1,7 @@
 -- The pieces of an aggregate in turn, and the writes of a list in turn.
-use Rattle.std.proofs.Common.{◌≡◌, ℕ, suc, ◌+◌, ◌-◌, ◌<◌, ◌≤◌, Bool, false, List, [], ◌∷◌, refl, sym, ap, ◌∙◌, subst}
+use Rattle.std.proofs.Common.{◌≡◌, ℕ, ◌+◌, ◌-◌, ◌<◌, ◌≤◌, Bool, false, List, [], ◌∷◌, refl, sym, ap, ◌∙◌, subst}
+use Rattle.ep_transfer_writes.proofs.Copying.{next_less}
+use Rattle.ep_int.proofs.Basics.{minus-zero}
 use Rattle.std.proofs.Common.{arith}
 use Rattle.ep_int.specs.declared.types.Model.{Model}
 use Rattle.ep_layout.specs.declared.types.Leaf.{Leaf}
@@ -10,24 +12,18 @@ use Rattle.ep_core.specs.Runs.{Side, left, right}
 use Rattle.ep_equalities.specs.declared.pair.Mode.{Mode}
 use Rattle.ep_equalities.specs.declared.pair.Mode.TheVariants.{Both}
 use Rattle.ep_evaluation.specs.Given.{alone, cells_of}
-use Rattle.ep_reads_laws.specs.Laws.{ReadLaws}
+use Rattle.ep_reads.specs.Laws.{ReadLaws}
 use Rattle.ep_transfers.specs.Copies as spec
 use Rattle.ep_transfers.specs.Places.{Places, at_side}
 use Rattle.ep_transfer_pieces.specs.declared.puts.Put.{Put}
 use Rattle.ep_transfer_pieces.specs.declared.walk.Next.{Next}
 use Rattle.ep_transfer_pieces.specs.declared.walk.Walk.{Walk}
-use Rattle.ep_transfer_pieces.specs.Pieces.{shown_piece, CanPut}
+use Rattle.ep_transfer_pieces.specs.Pieces.{piece_view, CanPut}
 use Rattle.ep_transfer_pieces.specs.Puts.{after_put, after_puts, FitPuts}
 use Rattle.ep_transfer_pieces.specs.Walked.{next_piece}
 use Rattle.ep_transfer_pieces.proofs.Planning.{AddsAlone, AddsBoth}
 use Rattle.ep_transfer_pieces.proofs.Sorts.{can_put}
 use Rattle.ep_transfer_pieces.proofs.Walking.{IsAt, Goes, goes}
-
-one_less : (n i : ℕ) → i < n → n - i ≡ suc (n - (i + 1))
-one_less n i h = omega (arith, h)
-
-all_left : (n : ℕ) → n - 0 ≡ n
-all_left n = omega arith
 
 none_left : (n i : ℕ) → n ≤ i → n - i ≡ 0
 none_left n i h = omega (arith, h)
@@ -65,12 +61,12 @@ module _ {N : Type 0} (D : Ops N) (k : Known N) (from : Places) (ls : List Leaf)
       ≡ spec.pieces_at D joint k to from ls m o (after_puts D joint to ps j)) → IsPlan joint m n (o + 1) qs
   plan_next joint m n o ps qs h p e = λ to j.
       ap (spec.pieces_from D joint k to from ls m (o + 1) (n - (o + 1))) (e to j)
-      ∙ sym (ap (λ c. spec.pieces_from D joint k to from ls m o c (after_puts D joint to ps j)) (one_less n o h))
+      ∙ sym (ap (λ c. spec.pieces_from D joint k to from ls m o c (after_puts D joint to ps j)) (next_less n o h))
       ∙ p to j
 
   pub plan_first : (joint : Bool) (m : Mode) (n : ℕ) (ps : List (Put N)) → ps ≡ [] → IsPlan joint m n 0 ps
   plan_first joint m n ps e = λ to j.
-      ap (λ c. spec.pieces_from D joint k to from ls m 0 c (after_puts D joint to ps j)) (all_left n)
+      ap (λ c. spec.pieces_from D joint k to from ls m 0 c (after_puts D joint to ps j)) (minus-zero n)
       ∙ ap (λ qs. spec.pieces_from D joint k to from ls m 0 n (after_puts D joint to qs j)) e
 
   pub plan_last : (joint : Bool) (m : Mode) (n o : ℕ) (ps : List (Put N)) → n ≤ o → IsPlan joint m n o ps
@@ -123,7 +119,7 @@ module _ {N : Type 0} (D : Ops N) (k : Known N) (from : Places) (ls : List Leaf)
     pub alone_next : (s : Side) (r : Walk) (x : Next) (ps qs : List (Put N))
         → x ≡ next_piece D k (cells_of s) (at_side from s) ls r o → IsAt D k (cells_of s) (at_side from s) ls o r
         → ((joint : Bool) → IsPlan joint (alone s) n o ps) → FitPuts k.model n ps
-        → ((joint : Bool) → AddsAlone D joint k from ps qs s o (shown_piece D x.piece)) → AloneNext s x.walk qs
+        → ((joint : Bool) → AddsAlone D joint k from ps qs s o (piece_view D x.piece)) → AloneNext s x.walk qs
     alone_next s r x ps qs e at plan fits added =
         let g : Goes D k (cells_of s) (at_side from s) ls o x
         = subst (Goes D k (cells_of s) (at_side from s) ls o) (sym e) (goes D k (cells_of s) (at_side from s) ls o r at)
@@ -150,7 +146,7 @@ module _ {N : Type 0} (D : Ops N) (k : Known N) (from : Places) (ls : List Leaf)
         → x ≡ next_piece D k (cells_of left) from.left ls r o → y ≡ next_piece D k (cells_of right) from.right ls s o
         → IsAt D k (cells_of left) from.left ls o r → IsAt D k (cells_of right) from.right ls o s
         → IsPlan joint Both n o ps → FitPuts k.model n ps
-        → AddsBoth D joint k from ps qs o (shown_piece D x.piece) (shown_piece D y.piece)
+        → AddsBoth D joint k from ps qs o (piece_view D x.piece) (piece_view D y.piece)
         → BothNext joint x.walk y.walk qs
     both_next joint r s x y ps qs e f at_r at_s plan fits added =
         let g : Goes D k (cells_of left) from.left ls o x
@@ -160,7 +156,7 @@ module _ {N : Type 0} (D : Ops N) (k : Known N) (from : Places) (ls : List Leaf)
         (goes D k (cells_of right) from.right ls o s at_s) in
         let a : AddsBoth D joint k from ps qs o (here left) (here right)
         = subst (λ c. AddsBoth D joint k from ps qs o c (here right)) g.piece
-        (subst (AddsBoth D joint k from ps qs o (shown_piece D x.piece)) h.piece added) in
+        (subst (AddsBoth D joint k from ps qs o (piece_view D x.piece)) h.piece added) in
         record {
           plan = plan_next joint Both n o ps qs inside plan
               (λ to j. a.plans to j ∙ any_pieces joint to o (here left) (here right) (after_puts D joint to ps j));

@@ -1,10 +1,10 @@
 -- A walk over the offsets of an aggregate gives the pieces that a side has.
 use Rattle.std.proofs.Common.{◌≡◌, ℕ, zero, suc, ◌+◌, ◌<◌, ◌≤◌, Bool, true, false, ◌&&◌, ◌||◌, nat_eq, nat_lt, nat_le}
+use Rattle.ep_int.proofs.Basics.{size_positive as size_positive}
 use Rattle.std.proofs.Common.{cond, if◌then◌else◌, List, [], ◌∷◌, Option, Some, None, drop, refl, sym, ap, ◌∙◌, subst}
 use Rattle.std.proofs.Common.{arith}
 use Rattle.std.proofs.lemmas.Bool.{eqb-true}
 use Rattle.std.proofs.lemmas.Bool.Decides.{nat_tests}
-use Rattle.ep_cells_laws.proofs.Places.{size_positive}
 use Rattle.std.specs.List.{list_all}
 use Rattle.std.specs.Prelude.{is_some, map}
 use Rattle.std.specs.Option.{option_map_or}
@@ -22,7 +22,7 @@ use Rattle.ep_transfers.specs.Places.{moved_spots}
 use Rattle.ep_transfer_pieces.specs.declared.walk.Next.{Next}
 use Rattle.ep_transfer_pieces.specs.declared.walk.Piece.TheVariants.{Nothing, Byte}
 use Rattle.ep_transfer_pieces.specs.declared.walk.Walk.{Walk}
-use Rattle.ep_transfer_pieces.specs.Pieces.{shown_piece}
+use Rattle.ep_transfer_pieces.specs.Pieces.{piece_view}
 use Rattle.ep_transfer_pieces.specs.Walked.{first_leaf, all_exact, next_byte, next_leaf, next_by, next_piece}
 
 -- ---- leaves in rising order
@@ -105,11 +105,11 @@ module _ {N : Type 0} (D : Ops N) (k : Known N) (s : CellSide) (ps : List Spot) 
     piece_of o x t = spec.piece_by D (option_map_or (λ w. spec.are_exact D k s o w ps) x false) t x
 
     pub record Goes (o : ℕ) (r : Next) : Type 0 where
-      pub piece : shown_piece D r.piece ≡ spec.piece_at D k s ps ls o
+      pub piece : piece_view D r.piece ≡ spec.piece_at D k s ps ls o
       pub at : IsAt (o + 1) r.walk
 
     -- no leaf begins
-    byte_is : (o : ℕ) (t : Bool) → shown_piece D (if t then Nothing else Byte) ≡ piece_of o None (t || false)
+    byte_is : (o : ℕ) (t : Bool) → piece_view D (if t then Nothing else Byte) ≡ piece_of o None (t || false)
     byte_is o true = refl
     byte_is o false = refl
 

@@ -19,10 +19,10 @@ side_of Left = left
 side_of Right = right
 
 module _ {N : Type 0} (D : Ops N) where
-  abbrev pub shown_piece : Piece → spec.Piece D
-  shown_piece Nothing = spec.none
-  shown_piece (Whole w) = spec.leaf w
-  shown_piece Byte = spec.byte
+  abbrev pub piece_view : Piece → spec.Piece D
+  piece_view Nothing = spec.none
+  piece_view (Whole w) = spec.leaf w
+  piece_view Byte = spec.byte
 
   -- What is read for a piece is of its type, and it ends in the aggregate.
   pub record CanPut (k : Known N) (s : CellSide) (ps : List Spot) (bytes offset : ℕ) (c : spec.Piece D) : Type 0 where

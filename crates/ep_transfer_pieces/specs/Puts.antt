@@ -15,11 +15,11 @@ use Rattle.ep_transfers.specs.Writes.{Item, write_now}
 use Rattle.ep_transfer_pieces.specs.declared.puts.Put.{Put}
 use Rattle.ep_transfer_pieces.specs.declared.walk.Piece.{Piece}
 use Rattle.ep_transfer_pieces.specs.declared.walk.Piece.TheVariants.{Nothing, Whole, Byte}
-use Rattle.ep_transfer_writes.specs.Waiting.{shown_item}
+use Rattle.ep_transfer_writes.specs.Waiting.{item_view}
 
 module _ {N : Type 0} (D : Ops N) (joint : Bool) (to : Places) where
   abbrev pub after_put : Put N → Known N → Known N
-  after_put p j = write_now D p.mode joint p.what (moved_places p.offset to) (shown_item p.item) j
+  after_put p j = write_now D p.mode joint p.what (moved_places p.offset to) (item_view p.item) j
 
   abbrev pub after_puts : List (Put N) → Known N → Known N
   after_puts [] j = j
@@ -44,7 +44,7 @@ pub record IsPut {N : Type 0} (m : Mode) (o : ℕ) (w : Scalar) (i : Item N) (p 
   pub mode : p.mode ≡ m
   pub offset : p.offset ≡ o
   pub what : p.what ≡ w
-  pub item : shown_item p.item ≡ i
+  pub item : item_view p.item ≡ i
 
 -- one side's
 abbrev pub alone_item : {N : Type 0} → Ops N → Side → List (ReadValue N) → Item N

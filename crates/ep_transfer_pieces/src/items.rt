@@ -3,7 +3,7 @@
 ghost use Rattle.std.specs.Prelude.{◌≡◌, IfOk};
 ghost use Rattle.ep_evaluation.specs.Accesses.{joined_reads, form_of_reads};
 ghost use Rattle.ep_transfers.specs.Copies as spec;
-ghost use Rattle.ep_transfer_writes.specs.Waiting.{shown_item};
+ghost use Rattle.ep_transfer_writes.specs.Waiting.{item_view};
 
 use ep_bitslice::Form;
 use ep_cell_rows::values::{Union, copy_form};
@@ -73,7 +73,7 @@ pub(crate) fn piece_item<N: Num>(
     right: &[ReadValue<N>],
     shared: bool,
 ) -> Result<Item<N>, Memory>
-    ensures { IfOk result (λ i. shown_item i ≡ spec.piece_item N.ops joint left.now right.now shared) }
+    ensures { IfOk result (λ i. item_view i ≡ spec.piece_item N.ops joint left.now right.now shared) }
 {
     let pair = PairValue {
         left: joined_sources(left)?,

@@ -5,6 +5,7 @@ mod items;
 mod on;
 mod pieces;
 mod puts;
+mod rows;
 mod sources;
 mod walk;
 

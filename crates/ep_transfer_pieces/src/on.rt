@@ -3,7 +3,7 @@
 ghost use Rattle.std.specs.Prelude.{◌≡◌};
 ghost use Rattle.ep_evaluation.specs.Given.{alone, cells_of};
 ghost use Rattle.ep_transfers.specs.Places.{at_side};
-ghost use Rattle.ep_transfer_places.specs.Room.{shown};
+ghost use Rattle.ep_transfer_places.specs.Room.{view};
 ghost use Rattle.ep_transfer_pieces.specs.Pieces.{side_of};
 
 use ep_bitslice::Side;
@@ -40,7 +40,7 @@ impl On {
 
     /// Its places.
     pub fn places(self, places: &Places) -> &[(u32, u32)]
-        ensures { result.now ≡ at_side (shown places.now) (side_of self) }
+        ensures { result.now ≡ at_side (view places.now) (side_of self) }
     {
         match self {
             On::Left => &places.left,

@@ -7,23 +7,22 @@ ghost use Rattle.ep_cells.specs.States.{IsOfSort, Known};
 ghost use Rattle.ep_evaluation.specs.Given.{alone};
 ghost use Rattle.ep_transfers.specs.Copies as spec;
 ghost use Rattle.ep_transfers.specs.Places.{Places as SpecPlaces, at_side};
-ghost use Rattle.ep_transfer_places.specs.Room.{HaveRoom, BothHaveRoom, shown};
+ghost use Rattle.ep_transfer_places.specs.Room.{HaveRoom, BothHaveRoom, view};
 ghost use Rattle.ep_transfer_pieces.specs.Pieces.{side_of};
-ghost use Rattle.ep_transfer_pieces.specs.Puts.{after_put, after_puts, FitsPut, FitPuts};
+ghost use Rattle.ep_transfer_pieces.specs.Puts.{after_puts, FitPuts};
 
 use crate::on::On;
 use crate::puts::{Put, push_alone, push_both};
+use crate::rows::{put_next, settled, written};
 use crate::walk::{Walk, next_piece};
 use ep_bitslice::Side;
 use ep_domain::Num;
 use ep_equalities::Mode;
 use ep_int::Memory;
 use ep_layout::Leaf;
-use ep_reads_laws::read_laws;
+use ep_reads::read_laws;
 use ep_states::State;
 use ep_transfer_places::Places;
-use ep_transfer_places::places::moved_places;
-use ep_transfer_writes::{Underway, write};
 
 // What a side writes by itself.
 fn puts_alone<N: Num>(
@@ -34,9 +33,9 @@ fn puts_alone<N: Num>(
     bytes: u32,
 ) -> Result<Vec<Put<N>>, Memory>
     requires leaves { AreLeavesIn state.now.model 0 bytes leaves.now }
-    requires from { HaveRoom bytes (at_side (shown from.now) (side_of on)) }
+    requires from { HaveRoom bytes (at_side (view from.now) (side_of on)) }
     ensures value { IfOk result (λ v. (joint : Bool) (to : SpecPlaces) (j : Known N)
-        → after_puts N.ops joint to v.items j ≡ spec.pieces_from N.ops joint state.now to (shown from.now) leaves.now
+        → after_puts N.ops joint to v.items j ≡ spec.pieces_from N.ops joint state.now to (view from.now) leaves.now
         (alone (side_of on)) 0 bytes j) }
     ensures fits { IfOk result (λ v. FitPuts state.now.model bytes v.items) }
 {
@@ -63,9 +62,9 @@ fn puts_both<N: Num>(
     bytes: u32,
 ) -> Result<Vec<Put<N>>, Memory>
     requires leaves { AreLeavesIn state.now.model 0 bytes leaves.now }
-    requires from { BothHaveRoom bytes (shown from.now) }
+    requires from { BothHaveRoom bytes (view from.now) }
     ensures value { IfOk result (λ v. (to : SpecPlaces) (j : Known N)
-        → after_puts N.ops joint to v.items j ≡ spec.pieces_from N.ops joint state.now to (shown from.now) leaves.now
+        → after_puts N.ops joint to v.items j ≡ spec.pieces_from N.ops joint state.now to (view from.now) leaves.now
         Mode.Both 0 bytes j) }
     ensures fits { IfOk result (λ v. FitPuts state.now.model bytes v.items) }
 {
@@ -101,9 +100,9 @@ fn all_puts<N: Num>(
     bytes: u32,
 ) -> Result<Vec<Put<N>>, Memory>
     requires leaves { AreLeavesIn state.now.model 0 bytes leaves.now }
-    requires from { BothHaveRoom bytes (shown from.now) }
+    requires from { BothHaveRoom bytes (view from.now) }
     ensures value { IfOk result (λ v. (to : SpecPlaces) (j : Known N)
-        → after_puts N.ops joint to v.items j ≡ spec.pieces_from N.ops joint state.now to (shown from.now) leaves.now
+        → after_puts N.ops joint to v.items j ≡ spec.pieces_from N.ops joint state.now to (view from.now) leaves.now
         mode 0 bytes j) }
     ensures fits { IfOk result (λ v. FitPuts state.now.model bytes v.items) }
 {
@@ -114,19 +113,9 @@ fn all_puts<N: Num>(
     }
 }
 
-fn put<N: Num>(joint: bool, to: &Places, put: Put<N>, state: State<N>) -> Result<State<N>, Memory>
-    requires fits { (n : ℕ) × (FitsPut state.model n put × BothHaveRoom n (shown to.now)) }
-    ensures value { IfOk result (λ s. s ≡ after_put N.ops joint (shown to.now) put state) }
-    ensures model { IfOk result (λ s. s.model ≡ state.model) }
-{
-    let moved = moved_places(state.allocator(), put.offset, to)?;
-    let item = put.item;
-    let after = write(put.mode, joint, put.what, &moved, Underway { state, item })?;
-    Ok(after.state)
-}
-
 /// An aggregate goes from the places of an address to those of another by its leaves and bytes. Costs in proportion to
-/// the bytes and to the places, and what the writes cost.
+/// the bytes and to the places: what goes to one place, on one side or to one cell of both, is written at once where it
+/// lies next to each other and nothing lies partly there; what goes to several, a write for each of them.
 pub fn copied_by_pieces<N: Num>(
     mode: Mode,
     joint: bool,
@@ -137,17 +126,17 @@ pub fn copied_by_pieces<N: Num>(
     state: State<N>,
 ) -> Result<State<N>, Memory>
     requires leaves { AreLeavesIn state.model 0 bytes leaves.now }
-    requires to { BothHaveRoom bytes (shown to.now) }
-    requires from { BothHaveRoom bytes (shown from.now) }
-    ensures value { IfOk result (λ s. s ≡ spec.pieces_from N.ops joint state (shown to.now) (shown from.now) leaves.now
+    requires to { BothHaveRoom bytes (view to.now) }
+    requires from { BothHaveRoom bytes (view from.now) }
+    ensures value { IfOk result (λ s. s ≡ spec.pieces_from N.ops joint state (view to.now) (view from.now) leaves.now
         mode 0 bytes state) }
     ensures model { IfOk result (λ s. s.model ≡ state.model) }
 {
     let puts = all_puts(mode, joint, &state, leaves, from, bytes)?;
-    let mut after = state;
+    let mut now = settled(state);
     for p in puts {
-        let next = put(joint, to, p, after)?;
-        after = next;
+        let next = put_next(now, joint, to, p)?;
+        now = next;
     }
-    Ok(after)
+    written(now)
 }

@@ -5,9 +5,9 @@ ghost use Rattle.ep_equalities.specs.declared.pair.Mode.TheVariants.{Both};
 ghost use Rattle.ep_evaluation.specs.Given.{alone, cells_of};
 ghost use Rattle.ep_transfers.specs.Copies as spec;
 ghost use Rattle.ep_transfers.specs.Places.{at_side, moved_spots};
-ghost use Rattle.ep_transfer_places.specs.Room.{HaveRoom, BothHaveRoom, shown};
-ghost use Rattle.ep_transfer_writes.specs.Waiting.{shown_item};
-ghost use Rattle.ep_transfer_pieces.specs.Pieces.{shown_piece, side_of, CanPut};
+ghost use Rattle.ep_transfer_places.specs.Room.{HaveRoom, BothHaveRoom, view};
+ghost use Rattle.ep_transfer_writes.specs.Waiting.{item_view};
+ghost use Rattle.ep_transfer_pieces.specs.Pieces.{piece_view, side_of, CanPut};
 ghost use Rattle.ep_transfer_pieces.specs.Puts.{alone_item, together_item, is_nothing, are_alike, Adds, IsPut};
 
 use crate::items::piece_item;
@@ -42,7 +42,7 @@ fn push<N: Num>(puts: &mut Vec<Put<N>>, put: Put<N>) -> Result<(), Memory>
 }
 
 fn scalar_of<N: Num>(piece: Piece) -> Scalar
-    ensures { result ≡ spec.scalar_of_piece N.ops (shown_piece N.ops piece) }
+    ensures { result ≡ spec.scalar_of_piece N.ops (piece_view N.ops piece) }
 {
     match piece {
         Piece::Nothing => Scalar::Int(IntType::U8),
@@ -54,7 +54,7 @@ fn scalar_of<N: Num>(piece: Piece) -> Scalar
 // ---- a side alone
 
 fn alone_item<N: Num>(alloc: Global, on: On, reads: &[ReadValue<N>]) -> Result<Item<N>, Memory>
-    ensures { IfOk result (λ i. shown_item i ≡ alone_item N.ops (side_of on) reads.now) }
+    ensures { IfOk result (λ i. item_view i ≡ alone_item N.ops (side_of on) reads.now) }
 {
     let none = Vec::new(alloc);
     match on {
@@ -70,10 +70,10 @@ fn alone_put<N: Num>(
     offset: u32,
     piece: Piece,
 ) -> Result<Put<N>, Memory>
-    requires { HaveRoom (offset + 1) (at_side (shown from.now) (side_of on)) }
-    ensures { IfOk result (λ p. IsPut (alone (side_of on)) offset (spec.scalar_of_piece N.ops (shown_piece N.ops piece))
+    requires { HaveRoom (offset + 1) (at_side (view from.now) (side_of on)) }
+    ensures { IfOk result (λ p. IsPut (alone (side_of on)) offset (spec.scalar_of_piece N.ops (piece_view N.ops piece))
         (alone_item N.ops (side_of on) (spec.sources_of N.ops state.now (cells_of (side_of on))
-        (shown_piece N.ops piece) (moved_spots offset (at_side (shown from.now) (side_of on))))) p) }
+        (piece_view N.ops piece) (moved_spots offset (at_side (view from.now) (side_of on))))) p) }
 {
     let alloc = state.allocator();
     let moved = moved_spots(alloc, offset, on.places(from))?;
@@ -106,12 +106,12 @@ pub(crate) fn push_alone<N: Num>(
     offset: u32,
     piece: Piece,
 ) -> Result<(), Memory>
-    requires { HaveRoom (offset + 1) (at_side (shown from.now) (side_of on)) }
+    requires { HaveRoom (offset + 1) (at_side (view from.now) (side_of on)) }
     ensures { IfOk result (λ _. (joint : Bool) → Adds N.ops joint state.now.model puts.old.items puts.new.items
-        (λ to. spec.write_alone N.ops joint state.now to (shown from.now) [] (side_of on) offset
-        (shown_piece N.ops piece))
-        (λ n. CanPut N.ops state.now (cells_of (side_of on)) (at_side (shown from.now) (side_of on)) n offset
-        (shown_piece N.ops piece))) }
+        (λ to. spec.write_alone N.ops joint state.now to (view from.now) [] (side_of on) offset
+        (piece_view N.ops piece))
+        (λ n. CanPut N.ops state.now (cells_of (side_of on)) (at_side (view from.now) (side_of on)) n offset
+        (piece_view N.ops piece))) }
 {
     if is_nothing(piece) {
         return Ok(());
@@ -129,9 +129,9 @@ fn together_put<N: Num>(
     offset: u32,
     piece: Piece,
 ) -> Result<Put<N>, Memory>
-    requires { BothHaveRoom (offset + 1) (shown from.now) }
-    ensures { IfOk result (λ p. IsPut Both offset (spec.scalar_of_piece N.ops (shown_piece N.ops piece))
-        (together_item N.ops joint state.now (shown from.now) offset (shown_piece N.ops piece)) p) }
+    requires { BothHaveRoom (offset + 1) (view from.now) }
+    ensures { IfOk result (λ p. IsPut Both offset (spec.scalar_of_piece N.ops (piece_view N.ops piece))
+        (together_item N.ops joint state.now (view from.now) offset (piece_view N.ops piece)) p) }
 {
     let alloc = state.allocator();
     let what = scalar_of::<N>(piece);
@@ -158,11 +158,11 @@ fn push_together<N: Num>(
     offset: u32,
     piece: Piece,
 ) -> Result<(), Memory>
-    requires { BothHaveRoom (offset + 1) (shown from.now) }
+    requires { BothHaveRoom (offset + 1) (view from.now) }
     ensures { IfOk result (λ _. Adds N.ops joint state.now.model puts.old.items puts.new.items
-        (λ to. spec.write_together N.ops joint state.now to (shown from.now) [] offset (shown_piece N.ops piece))
-        (λ n. CanPut N.ops state.now Side.Left (shown from.now).left n offset (shown_piece N.ops piece)
-        × CanPut N.ops state.now Side.Right (shown from.now).right n offset (shown_piece N.ops piece))) }
+        (λ to. spec.write_together N.ops joint state.now to (view from.now) [] offset (piece_view N.ops piece))
+        (λ n. CanPut N.ops state.now Side.Left (view from.now).left n offset (piece_view N.ops piece)
+        × CanPut N.ops state.now Side.Right (view from.now).right n offset (piece_view N.ops piece))) }
 {
     let put = together_put(joint, state, from, offset, piece)?;
     push(puts, put)
@@ -196,12 +196,12 @@ pub(crate) fn push_both<N: Num>(
     left: Piece,
     right: Piece,
 ) -> Result<(), Memory>
-    requires { BothHaveRoom (offset + 1) (shown from.now) }
+    requires { BothHaveRoom (offset + 1) (view from.now) }
     ensures { IfOk result (λ _. Adds N.ops joint state.now.model puts.old.items puts.new.items
-        (λ to. spec.write_pieces N.ops joint state.now to (shown from.now) [] offset (shown_piece N.ops left)
-        (shown_piece N.ops right))
-        (λ n. CanPut N.ops state.now Side.Left (shown from.now).left n offset (shown_piece N.ops left)
-        × CanPut N.ops state.now Side.Right (shown from.now).right n offset (shown_piece N.ops right))) }
+        (λ to. spec.write_pieces N.ops joint state.now to (view from.now) [] offset (piece_view N.ops left)
+        (piece_view N.ops right))
+        (λ n. CanPut N.ops state.now Side.Left (view from.now).left n offset (piece_view N.ops left)
+        × CanPut N.ops state.now Side.Right (view from.now).right n offset (piece_view N.ops right))) }
 {
     if are_alike(left, right) {
         return push_together(puts, joint, state, from, offset, left);

@@ -5,7 +5,7 @@ ghost use Rattle.std.specs.Option.{option_map, option_map_or};
 ghost use Rattle.ep_cells.specs.Look.{cell_at};
 ghost use Rattle.ep_reads.specs.Bytes.{has_targets};
 ghost use Rattle.ep_transfers.specs.Copies as spec;
-ghost use Rattle.ep_transfer_pieces.specs.Pieces.{shown_piece};
+ghost use Rattle.ep_transfer_pieces.specs.Pieces.{piece_view};
 ghost use Rattle.ep_transfer_pieces.specs.Walked.{all_exact};
 
 use crate::walk::Piece;
@@ -207,7 +207,7 @@ pub(crate) fn sources<N: Num>(
     spots: &[(u32, u32)],
 ) -> Result<Vec<ReadValue<N>>, Memory>
     ensures { IfOk result (λ v. v.items
-        ≡ spec.sources_of N.ops state.now side (shown_piece N.ops piece) spots.now) }
+        ≡ spec.sources_of N.ops state.now side (piece_view N.ops piece) spots.now) }
 {
     match piece {
         Piece::Nothing => Ok(Vec::new(state.allocator())),

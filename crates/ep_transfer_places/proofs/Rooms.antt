@@ -1,10 +1,11 @@
 -- The places of an access end inside their blocks, whose sizes have 32 bits.
 use Rattle.std.proofs.Common.{◌≡◌, ℕ, zero, suc, ◌+◌, ◌-◌, ◌*◌, ◌/◌, ◌^◌, ◌<◌, ◌≤◌, pos, Bool, true, false, nat_le}
+use Rattle.ep_transfers.proofs.Rooms.{last_end, next_end, one_more}
 use Rattle.std.proofs.Common.{cond, List, [], ◌∷◌, ◌++◌, map, slice_get, get_or, Option, Some, None, refl, sym, subst}
 use Rattle.std.proofs.Common.{arith}
 use Rattle.std.specs.List.{filter}
 use Rattle.std.proofs.lemmas.Bool.{leb-true}
-use Rattle.std.proofs.Math.Nat.{div-mul-le_self, suc-mul}
+use Rattle.std.proofs.Math.Nat.{div-mul-le_self}
 use Rattle.ep_domain.specs.Domain.{Ops}
 use Rattle.ep_pointers.specs.Value.{Target}
 use Rattle.ep_evaluation.specs.Accesses.{multiples, offsets_in, held_spots, spots}
@@ -25,18 +26,9 @@ filter_ends : (l n : ℕ) (test : ℕ → Bool) (qs : List ℕ) → EndBy l n qs
 filter_ends l n test [] h = tt
 filter_ends l n test (q ∷ qs) h = filter_if l n q (test q) (filter test qs) h.0 (filter_ends l n test qs h.1)
 
-next_end : (l n a q c : ℕ) → q + suc c * a + n ≤ l → q + a + c * a + n ≤ l
-next_end l n a q c h = let e = suc-mul c a in omega (arith, e, h)
-
 multiples_end : (l n a q c : ℕ) → q + c * a + n ≤ l → EndBy l n (multiples a q (suc c))
 multiples_end l n a q zero h = (omega (arith, h), tt)
 multiples_end l n a q (suc c) h = (omega (arith, h), multiples_end l n a (q + a) c (next_end l n a q c h))
-
-one_more : (c : ℕ) → suc c ≡ c + 1
-one_more c = omega arith
-
-last_end : (size n x : ℕ) → x ≤ size - n → n ≤ size → 0 + x + n ≤ size
-last_end size n x h i = omega (arith, h, i)
 
 offsets_end : (size n a : ℕ) (t : Bool) → nat_le n size ≡ t
     → EndBy size n (cond t (multiples a 0 ((size - n) / a + 1)) [])

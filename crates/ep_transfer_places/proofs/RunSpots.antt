@@ -1,5 +1,6 @@
 -- The places of a run of bytes, among all offsets: those of one byte in a block that is as much shorter.
 use Rattle.std.proofs.Common.{◌≡◌, ℕ, suc, ◌+◌, ◌-◌, ◌*◌, ◌/◌, ◌≤◌, ℤ, pos, true, nat_le, cond, List, [], ◌∷◌, ◌++◌}
+use Rattle.std.proofs.lemmas.Bool.{le-leb}
 use Rattle.std.proofs.Common.{map, Some, min, sym, ap, ◌∙◌, subst, arith}
 use Rattle.std.specs.List.{filter}
 use Rattle.std.proofs.lemmas.Bool.Decides.{nat_tests}
@@ -15,9 +16,6 @@ by_one x = omega arith
 
 nearest_min : (last : ℕ) (z : ℤ) → nearest_offset last z ≡ min (nearest_offset (suc last) z) last
 nearest_min last z = grind (arith, ints, nat_tests)
-
-is_le : (x y : ℕ) → x ≤ y → nat_le x y ≡ true
-is_le x y l = grind (arith, nat_tests)
 
 module _ {N : Type 0} (D : Ops N) (law : Lawful D) (b : ℕ) (a : N) where
   abbrev pub upto : ℕ → List Spot
@@ -41,8 +39,8 @@ module _ {N : Type 0} (D : Ops N) (law : Lawful D) (b : ℕ) (a : N) where
   -- an access of one byte in the shorter block
   shorter : (n size : ℕ) → n ≤ size → held_spots D 1 1 (b, a) (Some (suc (size - n))) ≡ held_spots D n 1 (b, a) (Some size)
   shorter n size h =
-      let first : nat_le 1 (suc (size - n)) ≡ true = is_le 1 (suc (size - n)) (omega arith) in
-      let tested : nat_le n size ≡ true = is_le n size h in
+      let first : nat_le 1 (suc (size - n)) ≡ true = le-leb 1 (suc (size - n)) (omega arith) in
+      let tested : nat_le n size ≡ true = le-leb n size h in
       let same : suc (size - n) - 1 ≡ size - n = omega arith in
       ap (λ t. all (cond t (multiples 1 0 ((suc (size - n) - 1) / 1 + 1)) [])) first
       ∙ ap (λ l. all (multiples 1 0 (l / 1 + 1))) same

@@ -4,8 +4,8 @@ use Rattle.ep_cell_ranges.specs.Spots.{Spot}
 use Rattle.ep_transfers.specs.Places as spec
 use Rattle.ep_transfer_places.specs.declared.places.Places.{Places}
 
-abbrev pub shown : Places → spec.Places
-shown p = record { left = p.left.items; right = p.right.items }
+abbrev pub view : Places → spec.Places
+view p = record { left = p.left.items; right = p.right.items }
 
 -- so many bytes from each place on have offsets of 32 bits
 abbrev pub HaveRoom : (bytes : ℕ) → List Spot → Type 0

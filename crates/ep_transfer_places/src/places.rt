@@ -2,7 +2,7 @@
 
 ghost use Rattle.std.specs.Prelude.{◌≡◌, ◌<◌, ◌≤◌, ◌+◌, ◌^◌, ◌++◌, ◌∷◌, [], IfOk, is_some};
 ghost use Rattle.ep_transfers.specs.Places as spec;
-ghost use Rattle.ep_transfer_places.specs.Room.{HaveRoom, BothHaveRoom, shown};
+ghost use Rattle.ep_transfer_places.specs.Room.{HaveRoom, BothHaveRoom, view};
 
 use crate::runs;
 use ep_domain::Num;
@@ -26,8 +26,8 @@ pub fn aligned_places<N: Num>(
     a: &PairValue<N>,
 ) -> Result<Places, Memory>
     requires { 0 < n }
-    ensures value { IfOk result (λ p. shown p ≡ spec.places_of N.ops sizes.now n n a.now) }
-    ensures room { IfOk result (λ p. BothHaveRoom n (shown p)) }
+    ensures value { IfOk result (λ p. view p ≡ spec.places_of N.ops sizes.now n n a.now) }
+    ensures room { IfOk result (λ p. BothHaveRoom n (view p)) }
 {
     let left = spots(alloc, sizes, n, targets(&a.left))?;
     let right = spots(alloc, sizes, n, targets(&a.right))?;
@@ -41,8 +41,8 @@ pub fn run_places<N: Num>(
     n: u32,
     a: &PairValue<N>,
 ) -> Result<Places, Memory>
-    ensures value { IfOk result (λ p. shown p ≡ spec.places_of N.ops sizes.now n 1 a.now) }
-    ensures room { IfOk result (λ p. BothHaveRoom n (shown p)) }
+    ensures value { IfOk result (λ p. view p ≡ spec.places_of N.ops sizes.now n 1 a.now) }
+    ensures room { IfOk result (λ p. BothHaveRoom n (view p)) }
 {
     let left = runs::spots(alloc, sizes, n, targets(&a.left))?;
     let right = runs::spots(alloc, sizes, n, targets(&a.right))?;
@@ -62,7 +62,7 @@ fn is_some_place(spots: &[(u32, u32)]) -> bool
 
 /// Whether each running side has a place.
 pub fn has_places(mode: Mode, places: &Places) -> bool
-    ensures { result ≡ spec.has_places mode (shown places.now) }
+    ensures { result ≡ spec.has_places mode (view places.now) }
 {
     match mode {
         Mode::Both => is_some_place(&places.left) && is_some_place(&places.right),
@@ -101,7 +101,7 @@ pub fn is_one(spots: &[(u32, u32)]) -> bool
 
 /// Whether each running side has just one place.
 pub fn are_one(mode: Mode, places: &Places) -> bool
-    ensures { result ≡ spec.on_all mode (λ s. spec.is_one (spec.at_side (shown places.now) s)) }
+    ensures { result ≡ spec.on_all mode (λ s. spec.is_one (spec.at_side (view places.now) s)) }
 {
     match mode {
         Mode::Both => is_one(&places.left) && is_one(&places.right),
@@ -137,8 +137,8 @@ pub fn moved_spots(
 
 /// The same on both sides.
 pub fn moved_places(alloc: Global, bytes: u32, places: &Places) -> Result<Places, Memory>
-    requires { BothHaveRoom (bytes + 1) (shown places.now) }
-    ensures { IfOk result (λ p. shown p ≡ spec.moved_places bytes (shown places.now)) }
+    requires { BothHaveRoom (bytes + 1) (view places.now) }
+    ensures { IfOk result (λ p. view p ≡ spec.moved_places bytes (view places.now)) }
 {
     let left = moved_spots(alloc, bytes, &places.left)?;
     let right = moved_spots(alloc, bytes, &places.right)?;

@@ -7,7 +7,7 @@ use Rattle.ep_int.specs.declared.types.Scalar.{Scalar}
 use Rattle.ep_domain.specs.Domain.{Ops, Lawful}
 use Rattle.ep_pointers.specs.Value.{one_target}
 use Rattle.ep_cells.specs.States.{Known, AreCells}
-use Rattle.ep_reads_laws.specs.Laws.{ReadLaws}
+use Rattle.ep_reads.specs.Laws.{ReadLaws}
 use Rattle.ep_core.specs.Program.{Program}
 use Rattle.ep_core.specs.Runs.{Side, left, right}
 use Rattle.ep_equalities.specs.declared.pair.Mode.{Mode}
@@ -17,8 +17,8 @@ use Rattle.ep_equalities.specs.declared.pair.PairValue.{PairValue}
 use Rattle.ep_equalities.specs.Same.{is_same}
 use Rattle.ep_evaluation.specs.Given.{Given, on}
 use Rattle.ep_evaluation.specs.Evaluation.{load_given, pointer_given}
-use Rattle.ep_evaluation_laws.specs.Laws.{IsState}
-use Rattle.ep_evaluation_laws.proofs.LoadCell.{load_fits}
+use Rattle.ep_evaluation.specs.Laws.{IsState}
+use Rattle.ep_evaluation.proofs.LoadCell.{load_fits}
 use Rattle.ep_eval_sides.specs.Sides.{faultless}
 use Rattle.ep_transfers.specs.Places.{has_values}
 use Rattle.ep_transfers.specs.Transfers.{sizes, differ_faults}

@@ -2,8 +2,8 @@
 
 ghost use Rattle.std.specs.Prelude.{◌≡◌, ◌++◌, ◌&&◌, false, IfOk, OnOk};
 ghost use Rattle.std.specs.List.{list_all};
-ghost use Rattle.ep_core.specs.Shown.{shown};
-ghost use Rattle.ep_core.specs.View.{shown_function};
+ghost use Rattle.ep_core.specs.ProgramView.{program_view};
+ghost use Rattle.ep_core.specs.View.{function_view};
 ghost use Rattle.ep_equalities.specs.Same.{is_same};
 ghost use Rattle.ep_transfers.specs.Calls as spec;
 ghost use Rattle.ep_transfers.specs.Ends as ends;
@@ -17,7 +17,7 @@ use ep_equalities::{Fault, Mode, PairValue, same};
 use ep_eval_loads::loads::load;
 use ep_eval_sides::operators::block;
 use ep_int::{Memory, Scalar};
-use ep_reads_laws::read_laws;
+use ep_reads::read_laws;
 use ep_states::State;
 use ep_transfer_outputs::note_difference;
 use ep_transfer_places::places::has_values;
@@ -31,14 +31,14 @@ pub fn loaded_result<N: Num>(
     state: &State<N>,
     faults: &mut Vec<Fault>,
 ) -> Result<PairValue<N>, Memory>
-    requires sizes { sizes.now ≡ sizes_of N.ops (shown program.now) }
-    requires model { state.now.model ≡ (shown program.now).types.model }
+    requires sizes { sizes.now ≡ sizes_of N.ops (program_view program.now) }
+    requires model { state.now.model ≡ (program_view program.now).types.model }
     ensures value { IfOk result (λ r. r
-        ≡ (spec.loaded_result N.ops (shown program.now) mode home state.now).pair) }
+        ≡ (spec.loaded_result N.ops (program_view program.now) mode home state.now).pair) }
     ensures left { IfOk result (λ r. SideFits state.now home.1 r.left) }
     ensures right { IfOk result (λ r. SideFits state.now home.1 r.right) }
     ensures faults { OnOk result (faults.new.items ≡ faults.old.items
-        ++ (spec.loaded_result N.ops (shown program.now) mode home state.now).faults) }
+        ++ (spec.loaded_result N.ops (program_view program.now) mode home state.now).faults) }
 {
     read_laws::<N>();
     state.model();
@@ -73,12 +73,12 @@ fn ended_with<N: Num>(
     state: &State<N>,
     faults: &mut Vec<Fault>,
 ) -> Result<(), Memory>
-    requires sizes { sizes.now ≡ sizes_of N.ops (shown program.now) }
-    requires model { state.now.model ≡ (shown program.now).types.model }
+    requires sizes { sizes.now ≡ sizes_of N.ops (program_view program.now) }
+    requires model { state.now.model ≡ (program_view program.now).types.model }
     ensures { IfOk result (λ _. faults.new.items ≡ faults.old.items ++ differ_faults N.ops
-        (ends.is_sure_result N.ops (shown program.now)
-        (spec.loaded_result N.ops (shown program.now) Mode.Both home state.now))
-        (spec.loaded_result N.ops (shown program.now) Mode.Both home state.now).pair) }
+        (ends.is_sure_result N.ops (program_view program.now)
+        (spec.loaded_result N.ops (program_view program.now) Mode.Both home state.now))
+        (spec.loaded_result N.ops (program_view program.now) Mode.Both home state.now).pair) }
 {
     let mut own = Vec::new(state.allocator());
     let v = loaded_result(program, sizes, Mode::Both, home, state, &mut own)?;
@@ -95,10 +95,10 @@ pub fn ended<N: Num>(
     state: &State<N>,
     faults: &mut Vec<Fault>,
 ) -> Result<(), Memory>
-    requires sizes { sizes.now ≡ sizes_of N.ops (shown program.now) }
-    requires model { state.now.model ≡ (shown program.now).types.model }
+    requires sizes { sizes.now ≡ sizes_of N.ops (program_view program.now) }
+    requires model { state.now.model ≡ (program_view program.now).types.model }
     ensures { IfOk result (λ _. faults.new.items ≡ faults.old.items
-        ++ ends.ended_faults N.ops (shown program.now) (shown_function f.now) state.now) }
+        ++ ends.ended_faults N.ops (program_view program.now) (function_view f.now) state.now) }
 {
     match f.result {
         None => Ok(()),

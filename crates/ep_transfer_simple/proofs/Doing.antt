@@ -11,7 +11,7 @@ use Rattle.ep_equalities.specs.declared.pair.Mode.{Mode}
 use Rattle.ep_equalities.specs.declared.pair.Fault.{Fault}
 use Rattle.ep_equalities.specs.declared.pair.PairValue.{PairValue}
 use Rattle.ep_evaluation.specs.Evaluation.{place}
-use Rattle.ep_flows.specs.Shown.{simple_of}
+use Rattle.ep_flows.specs.View.{simple_of}
 use Rattle.ep_transfers.specs.Copies.{Leaves}
 use Rattle.ep_transfers.specs.Transfers.{Stepped, after_faults, sizes, gives, bytes_of_type, cleared, copy, simple_step}
 

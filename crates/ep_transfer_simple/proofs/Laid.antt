@@ -1,5 +1,6 @@
 -- A type that has a size is in the table, and its leaves lie in its bytes.
-use Rattle.std.proofs.Common.{◌≡◌, ℕ, zero, suc, ◌+◌, ◌<◌, true, List, length, slice_get, Option, Some, None, refl}
+use Rattle.std.proofs.Common.{◌≡◌, ℕ, ◌+◌, ◌<◌, true, List, length, slice_get, Option, Some, None, refl}
+use Rattle.ep_layout.proofs.Basics.{at_depth-none}
 use Rattle.std.proofs.Common.{sym, ap, subst}
 use Rattle.std.specs.Prelude.{is_some}
 use Rattle.std.specs.Option.{option_map}
@@ -8,20 +9,15 @@ use Rattle.ep_int.specs.declared.types.Model.{Model}
 use Rattle.ep_layout.specs.declared.types.Leaf.{Leaf}
 use Rattle.ep_layout.specs.declared.types.Ty.{Ty}
 use Rattle.ep_layout.specs.Layout.{Layout, AreLeavesFrom}
-use Rattle.ep_layout.specs.Table.{TypeRules, Table, at_depth, layout_rules, size}
+use Rattle.ep_layout.specs.Table.{Table, layout_rules, size}
 use Rattle.ep_cells.specs.Kill.{AreLeavesIn}
 use Rattle.ep_core.proofs.Sorts.{never}
-use Rattle.ep_transfers_laws.proofs.Kills.{leaves_rise}
-
-no_type : {A : Type 0} (r : TypeRules A) (t : Table) (k n : ℕ) → slice_get t.types n ≡ None → at_depth r t k n ≡ None
-unfolding at_depth
-no_type r t zero n e = refl
-no_type r t (suc k) n e = rw e refl
+use Rattle.ep_transfers.proofs.Kills.{leaves_rise}
 
 no_size : (t : Table) (n : ℕ) → slice_get t.types n ≡ None → size t n ≡ None
 no_size t n e =
     ap (λ (l : Option Layout). option_map (λ (l : Layout). l.size) l)
-    (no_type (layout_rules t.model) t (length t.types + length t.completed) n e)
+    (at_depth-none (layout_rules t.model) t (length t.types + length t.completed) n e)
 
 pub is_there : (t : Table) (n : ℕ) → is_some (size t n) ≡ true → n < length t.types
 is_there t n h = look (slice_get t.types n) refl

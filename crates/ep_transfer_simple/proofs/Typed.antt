@@ -1,5 +1,6 @@
 -- What the tests of a well-formed program tell of the expressions and places in its statements.
 use Rattle.std.proofs.Common.{◌≡◌, ℕ, ◌<◌, true, false, ◌&&◌, not, length, List, slice_get, Option, Some, None}
+use Rattle.std.proofs.lemmas.Bool.{or_cases}
 use Rattle.std.proofs.Common.{IfSome, ⊎_elim, refl, sym, ap, subst}
 use Rattle.std.specs.Prelude.{is_some, option_to_list}
 use Rattle.std.specs.List.{list_all}
@@ -19,15 +20,15 @@ use Rattle.ep_core.specs.Program.{logical_and, logical_or, logical_not, conditio
 use Rattle.ep_core.specs.Program.{Program, What, simple, Simple, eval, assign, clear, copy_aggregate, copy_bytes}
 use Rattle.ep_core.specs.Program.{fill, input, output, read_bytes, write_bytes, returns}
 use Rattle.ep_core.specs.Typed.{scalar_of}
-use Rattle.ep_core.specs.View.{shown_dest, shown_expr, shown_place}
+use Rattle.ep_core.specs.View.{dest_view, expr_view, place_view}
 use Rattle.ep_core.specs.WellFormed.{Sort, integer, pointer_to, int_type_of, is_int, is_pointer, is_tested}
 use Rattle.ep_core.specs.WellFormed.{is_address, is_length, has_scalar, has_sort, has_type, is_sort, sort_of}
 use Rattle.ep_core.specs.WellFormed.{place_has, ty_at, block_type, holds_scalar, result_type, result_fits}
 use Rattle.ep_core.specs.WellFormed.{is_well_formed}
 use Rattle.ep_core.proofs.Operands.{holds_at}
-use Rattle.ep_core.proofs.Sorts.{never, three, either_is, int_where, type_where, pointer_where, typed_where}
+use Rattle.ep_core.proofs.Sorts.{never, three, int_where, type_where, pointer_where, typed_where}
 use Rattle.ep_core.proofs.Sorts.{sort_scalar, number_scalar}
-use Rattle.ep_flows.specs.Shown.{simple_of}
+use Rattle.ep_flows.specs.View.{simple_of}
 use Rattle.ep_flows.specs.Typed.{IsTypedSimple}
 use Rattle.ep_transfer_stores.specs.Typed.{IsExpr, IsPlace, IsNumber}
 use Rattle.ep_transfer_simple.proofs.Laid.{is_there}
@@ -99,7 +100,7 @@ module _ (p : Program) (seen : List ℕ) where
       expr_of_sort (own_scalar (int_type_of e)) e (integer i.0) (ap own_scalar i.1) i.2))
       (λ b. (let x = pointer_where p.types p.blocks seen (has_sort p.types p.blocks seen e) b in
       expr_of_sort (own_scalar (int_type_of e)) e (pointer_to x.0) (ap own_scalar (pointer_untyped e x.0 x.1)) x.1))
-      (either_is (is_int (int_type_of e) (has_sort p.types p.blocks seen e))
+      (or_cases (is_int (int_type_of e) (has_sort p.types p.blocks seen e))
       (is_pointer p.types p.blocks seen (has_sort p.types p.blocks seen e)) h)
 
   -- a value of a block's type is of the scalar that the block holds
@@ -181,15 +182,15 @@ module _ (p : Program) (result : Option (ℕ × Scalar)) where
       let n = number_scalar (ty_at p.types p.blocks t.seen x.0) d.what x.1 in
       (place_of_type p t.seen d.place x.0 x.2, record { t = n.0; is = n.1 })
 
-  pub input_place : (u : IntType) (d : Option tree.Dest) → IsTypedSimple p result (input u (option_map shown_dest d))
-      → IfSome d (λ d. IsPlace p (shown_place d.place))
+  pub input_place : (u : IntType) (d : Option tree.Dest) → IsTypedSimple p result (input u (option_map dest_view d))
+      → IfSome d (λ d. IsPlace p (place_view d.place))
   input_place u None t = tt
-  input_place u (Some d) t = (dest_typed u (shown_dest d) t).0
+  input_place u (Some d) t = (dest_typed u (dest_view d) t).0
 
-  pub input_number : (u : IntType) (d : Option tree.Dest) → IsTypedSimple p result (input u (option_map shown_dest d))
+  pub input_number : (u : IntType) (d : Option tree.Dest) → IsTypedSimple p result (input u (option_map dest_view d))
       → IfSome d (λ d. IsNumber d.what)
   input_number u None t = tt
-  input_number u (Some d) t = (dest_typed u (shown_dest d) t).1
+  input_number u (Some d) t = (dest_typed u (dest_view d) t).1
 
 -- ---- results
 
@@ -206,8 +207,8 @@ module _ (p : Program) where
 
   pub result_typed : is_well_formed p ≡ true → (o : Option (ℕ × Scalar)) (r : ℕ × Scalar) → o ≡ Some r
       → (x : Option tree_expr.Expr) (e : tree_expr.Expr) → x ≡ Some e
-      → IsTypedSimple p o (returns (option_map shown_expr x)) → IsExpr p r.1 (shown_expr e)
+      → IsTypedSimple p o (returns (option_map expr_view x)) → IsExpr p r.1 (expr_view e)
   result_typed formed o r f x e g t =
-      value_typed formed r (shown_expr e)
-      (subst (λ y. IsTypedSimple p (Some r) (returns (option_map shown_expr y))) g
-      (subst (λ y. IsTypedSimple p y (returns (option_map shown_expr x))) f t))
+      value_typed formed r (expr_view e)
+      (subst (λ y. IsTypedSimple p (Some r) (returns (option_map expr_view y))) g
+      (subst (λ y. IsTypedSimple p y (returns (option_map expr_view x))) f t))

@@ -3,8 +3,8 @@
 ghost use Rattle.std.specs.Prelude.{◌≡◌, ◌<◌, ◌++◌, IfOk, OnOk, length, unwrap_or};
 ghost use Rattle.ep_cells.specs.Kill.{AreLeavesIn};
 ghost use Rattle.ep_core.specs.Program as core;
-ghost use Rattle.ep_core.specs.Shown.{shown};
-ghost use Rattle.ep_core.specs.View.{shown_place};
+ghost use Rattle.ep_core.specs.ProgramView.{program_view};
+ghost use Rattle.ep_core.specs.View.{place_view};
 ghost use Rattle.ep_layout.specs.Table as table;
 ghost use Rattle.ep_transfers.specs.Transfers as spec;
 ghost use Rattle.ep_transfer_stores.specs.Typed.{IsPlace};
@@ -22,18 +22,18 @@ use ep_transfer_stores::place_at;
 
 // How many bytes a type has.
 fn bytes_of(program: &CoreProgram, ty: u32) -> u32
-    requires { ty < length (shown program.now).types.types }
-    ensures { result ≡ unwrap_or (table.size (shown program.now).types ty) 0 }
+    requires { ty < length (program_view program.now).types.types }
+    ensures { result ≡ unwrap_or (table.size (program_view program.now).types ty) 0 }
 {
     program.types.size(ty).unwrap_or(0)
 }
 
 // Its leaves, which lie in these bytes.
 fn leaves_of(program: &CoreProgram, ty: u32) -> Result<Vec<Leaf>, Memory>
-    requires { ty < length (shown program.now).types.types }
-    ensures value { IfOk result (λ v. v.items ≡ table.leaves (shown program.now).types ty) }
-    ensures inside { IfOk result (λ v. AreLeavesIn (shown program.now).types.model 0
-        (unwrap_or (table.size (shown program.now).types ty) 0) v.items) }
+    requires { ty < length (program_view program.now).types.types }
+    ensures value { IfOk result (λ v. v.items ≡ table.leaves (program_view program.now).types ty) }
+    ensures inside { IfOk result (λ v. AreLeavesIn (program_view program.now).types.model 0
+        (unwrap_or (table.size (program_view program.now).types ty) 0) v.items) }
 {
     let leaves = program.types.leaves(ty)?;
     Ok(leaves)
@@ -49,14 +49,15 @@ pub(crate) fn clear<N: Num>(
     state: State<N>,
     faults: &mut Vec<Fault>,
 ) -> Result<Option<State<N>>, Memory>
-    requires sizes { sizes.now ≡ spec.sizes N.ops (shown program.now) }
-    requires model { state.model ≡ (shown program.now).types.model }
-    requires place { IsPlace (shown program.now) (shown_place a.now) }
-    requires there { ty < length (shown program.now).types.types }
+    requires sizes { sizes.now ≡ spec.sizes N.ops (program_view program.now) }
+    requires model { state.model ≡ (program_view program.now).types.model }
+    requires place { IsPlace (program_view program.now) (place_view a.now) }
+    requires there { ty < length (program_view program.now).types.types }
     ensures next { IfOk result (λ r. r
-        ≡ (spec.simple_step N.ops (shown program.now) mode None (core.clear (shown_place a.now) ty) state).next) }
+        ≡ (spec.simple_step N.ops (program_view program.now) mode None (core.clear (place_view a.now) ty) state).next) }
     ensures faults { OnOk result (faults.new.items ≡ faults.old.items
-        ++ (spec.simple_step N.ops (shown program.now) mode None (core.clear (shown_place a.now) ty) state).faults) }
+        ++ (spec.simple_step N.ops (program_view program.now) mode None
+        (core.clear (place_view a.now) ty) state).faults) }
 {
     let to = place_at(program, sizes, a, &state, mode, faults)?;
     let bytes = bytes_of(program, ty);
@@ -76,15 +77,16 @@ pub(crate) fn copy_aggregate<N: Num>(
     state: State<N>,
     faults: &mut Vec<Fault>,
 ) -> Result<Option<State<N>>, Memory>
-    requires sizes { sizes.now ≡ spec.sizes N.ops (shown program.now) }
-    requires model { state.model ≡ (shown program.now).types.model }
-    requires to { IsPlace (shown program.now) (shown_place to.now) }
-    requires from { IsPlace (shown program.now) (shown_place from.now) }
-    requires there { ty < length (shown program.now).types.types }
-    ensures next { IfOk result (λ r. r ≡ (spec.simple_step N.ops (shown program.now) mode None
-        (core.copy_aggregate (shown_place to.now) (shown_place from.now) ty) state).next) }
-    ensures faults { OnOk result (faults.new.items ≡ faults.old.items ++ (spec.simple_step N.ops (shown program.now)
-        mode None (core.copy_aggregate (shown_place to.now) (shown_place from.now) ty) state).faults) }
+    requires sizes { sizes.now ≡ spec.sizes N.ops (program_view program.now) }
+    requires model { state.model ≡ (program_view program.now).types.model }
+    requires to { IsPlace (program_view program.now) (place_view to.now) }
+    requires from { IsPlace (program_view program.now) (place_view from.now) }
+    requires there { ty < length (program_view program.now).types.types }
+    ensures next { IfOk result (λ r. r ≡ (spec.simple_step N.ops (program_view program.now) mode None
+        (core.copy_aggregate (place_view to.now) (place_view from.now) ty) state).next) }
+    ensures faults { OnOk result (faults.new.items
+        ≡ faults.old.items ++ (spec.simple_step N.ops (program_view program.now)
+        mode None (core.copy_aggregate (place_view to.now) (place_view from.now) ty) state).faults) }
 {
     let target = place_at(program, sizes, to, &state, mode, faults)?;
     let source = place_at(program, sizes, from, &state, mode, faults)?;

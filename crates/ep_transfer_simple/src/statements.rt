@@ -3,10 +3,10 @@
 ghost use Rattle.std.specs.Prelude.{◌≡◌, ◌++◌, true, IfOk, OnOk, None};
 ghost use Rattle.std.specs.Option.{option_map, option_map_or};
 ghost use Rattle.ep_core.specs.Program as core;
-ghost use Rattle.ep_core.specs.Shown.{shown};
-ghost use Rattle.ep_core.specs.View.{shown_expr, shown_what};
+ghost use Rattle.ep_core.specs.ProgramView.{program_view};
+ghost use Rattle.ep_core.specs.View.{expr_view, what_view};
 ghost use Rattle.ep_core.specs.WellFormed.{int_type_of};
-ghost use Rattle.ep_flows.specs.Shown.{is_simple, simple_of};
+ghost use Rattle.ep_flows.specs.View.{is_simple, simple_of};
 ghost use Rattle.ep_flows.specs.Typed.{IsTypedSimple};
 ghost use Rattle.ep_transfers.specs.Transfers as spec;
 ghost use Rattle.ep_transfer_stores.specs.Typed.{IsExpr};
@@ -26,7 +26,7 @@ use ep_transfer_stores::{
 
 // What values an expression has that is evaluated alone.
 fn own_scalar(e: &Expr) -> Scalar
-    ensures { result ≡ option_map_or Scalar.Int (int_type_of (shown_expr e.now)) Scalar.Pointer }
+    ensures { result ≡ option_map_or Scalar.Int (int_type_of (expr_view e.now)) Scalar.Pointer }
 {
     match own_types::int_type_of(e) {
         None => Scalar::Pointer,
@@ -45,14 +45,15 @@ fn copy_bytes<N: Num>(
     state: State<N>,
     faults: &mut Vec<Fault>,
 ) -> Result<Option<State<N>>, Memory>
-    requires sizes { sizes.now ≡ spec.sizes N.ops (shown program.now) }
-    requires model { state.model ≡ (shown program.now).types.model }
-    requires to { IsExpr (shown program.now) Scalar.Pointer (shown_expr to.now) }
-    requires from { IsExpr (shown program.now) Scalar.Pointer (shown_expr from.now) }
-    ensures next { IfOk result (λ r. r ≡ (spec.simple_step N.ops (shown program.now) mode None
-        (core.copy_bytes (shown_expr to.now) (shown_expr from.now) bytes) state).next) }
-    ensures faults { OnOk result (faults.new.items ≡ faults.old.items ++ (spec.simple_step N.ops (shown program.now)
-        mode None (core.copy_bytes (shown_expr to.now) (shown_expr from.now) bytes) state).faults) }
+    requires sizes { sizes.now ≡ spec.sizes N.ops (program_view program.now) }
+    requires model { state.model ≡ (program_view program.now).types.model }
+    requires to { IsExpr (program_view program.now) Scalar.Pointer (expr_view to.now) }
+    requires from { IsExpr (program_view program.now) Scalar.Pointer (expr_view from.now) }
+    ensures next { IfOk result (λ r. r ≡ (spec.simple_step N.ops (program_view program.now) mode None
+        (core.copy_bytes (expr_view to.now) (expr_view from.now) bytes) state).next) }
+    ensures faults { OnOk result (faults.new.items
+        ≡ faults.old.items ++ (spec.simple_step N.ops (program_view program.now)
+        mode None (core.copy_bytes (expr_view to.now) (expr_view from.now) bytes) state).faults) }
 {
     let what = Scalar::Pointer;
     let target = typed_value(program, sizes, what, to, &state, mode, faults)?;
@@ -71,13 +72,14 @@ fn leave<N: Num>(
     state: State<N>,
     faults: &mut Vec<Fault>,
 ) -> Result<Option<State<N>>, Memory>
-    requires sizes { sizes.now ≡ spec.sizes N.ops (shown program.now) }
-    requires model { state.model ≡ (shown program.now).types.model }
-    requires typed { IsTypedSimple (shown program.now) returns (core.returns (option_map shown_expr e.now)) }
-    ensures next { IfOk result (λ r. r ≡ (spec.simple_step N.ops (shown program.now) mode returns
-        (core.returns (option_map shown_expr e.now)) state).next) }
-    ensures faults { OnOk result (faults.new.items ≡ faults.old.items ++ (spec.simple_step N.ops (shown program.now)
-        mode returns (core.returns (option_map shown_expr e.now)) state).faults) }
+    requires sizes { sizes.now ≡ spec.sizes N.ops (program_view program.now) }
+    requires model { state.model ≡ (program_view program.now).types.model }
+    requires typed { IsTypedSimple (program_view program.now) returns (core.returns (option_map expr_view e.now)) }
+    ensures next { IfOk result (λ r. r ≡ (spec.simple_step N.ops (program_view program.now) mode returns
+        (core.returns (option_map expr_view e.now)) state).next) }
+    ensures faults { OnOk result (faults.new.items
+        ≡ faults.old.items ++ (spec.simple_step N.ops (program_view program.now)
+        mode returns (core.returns (option_map expr_view e.now)) state).faults) }
 {
     match e {
         None => Ok(Some(state)),
@@ -100,14 +102,15 @@ pub fn simple<N: Num>(
     state: State<N>,
     faults: &mut Vec<Fault>,
 ) -> Result<Option<State<N>>, Memory>
-    requires sizes { sizes.now ≡ spec.sizes N.ops (shown program.now) }
-    requires model { state.model ≡ (shown program.now).types.model }
-    requires simple { is_simple (shown_what s.now.what) ≡ true }
-    requires typed { IsTypedSimple (shown program.now) returns (simple_of (shown_what s.now.what)) }
-    ensures next { IfOk result (λ r. r ≡ (spec.simple_step N.ops (shown program.now) mode returns
-        (simple_of (shown_what s.now.what)) state).next) }
-    ensures faults { OnOk result (faults.new.items ≡ faults.old.items ++ (spec.simple_step N.ops (shown program.now)
-        mode returns (simple_of (shown_what s.now.what)) state).faults) }
+    requires sizes { sizes.now ≡ spec.sizes N.ops (program_view program.now) }
+    requires model { state.model ≡ (program_view program.now).types.model }
+    requires simple { is_simple (what_view s.now.what) ≡ true }
+    requires typed { IsTypedSimple (program_view program.now) returns (simple_of (what_view s.now.what)) }
+    ensures next { IfOk result (λ r. r ≡ (spec.simple_step N.ops (program_view program.now) mode returns
+        (simple_of (what_view s.now.what)) state).next) }
+    ensures faults { OnOk result (faults.new.items
+        ≡ faults.old.items ++ (spec.simple_step N.ops (program_view program.now)
+        mode returns (simple_of (what_view s.now.what)) state).faults) }
 {
     match &s.what {
         What::Nothing => Ok(Some(state)),

@@ -16,8 +16,8 @@ use Rattle.ep_equalities.specs.declared.pair.Mode.TheVariants.{Both, Left, Right
 use Rattle.ep_equalities.specs.declared.pair.PairValue.{PairValue}
 use Rattle.ep_equalities.specs.declared.pair.SideValue.{SideValue}
 use Rattle.ep_evaluation.specs.Given.{on}
-use Rattle.ep_evaluation_laws.specs.Laws as laws
-use Rattle.ep_evaluation_laws.specs.Laws.{EvaluationLaws, IsState}
+use Rattle.ep_evaluation.specs.Laws as laws
+use Rattle.ep_evaluation.specs.Laws.{EvaluationLaws, IsState}
 use Rattle.ep_eval_fits.specs.Fitting.{ExprIsFit, PlaceIsFit}
 use Rattle.ep_eval_fits.proofs.Fitting.{expr_is_fit, place_is_fit}
 use Rattle.ep_transfers.specs.Transfers.{gives, input_pair}

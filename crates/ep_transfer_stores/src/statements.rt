@@ -5,8 +5,8 @@ ghost use Rattle.std.specs.Prelude.{◌≡◌, ◌++◌, IfOk, OnOk, IfSome, Som
 ghost use Rattle.std.specs.Option.{option_map};
 ghost use Rattle.ep_int.specs.declared.types.IntType.TheVariants.{U8};
 ghost use Rattle.ep_core.specs.Program as core;
-ghost use Rattle.ep_core.specs.Shown.{shown};
-ghost use Rattle.ep_core.specs.View.{shown_dest, shown_expr, shown_place};
+ghost use Rattle.ep_core.specs.ProgramView.{program_view};
+ghost use Rattle.ep_core.specs.View.{dest_view, expr_view, place_view};
 ghost use Rattle.ep_transfers.specs.Transfers as spec;
 ghost use Rattle.ep_transfer_stores.specs.Typed.{IsExpr, IsPlace, IsNumber};
 
@@ -32,13 +32,13 @@ pub fn evaluate<N: Num>(
     state: State<N>,
     faults: &mut Vec<Fault>,
 ) -> Result<Option<State<N>>, Memory>
-    requires sizes { sizes.now ≡ spec.sizes N.ops (shown program.now) }
-    requires model { state.model ≡ (shown program.now).types.model }
-    requires typed { IsExpr (shown program.now) what (shown_expr e.now) }
+    requires sizes { sizes.now ≡ spec.sizes N.ops (program_view program.now) }
+    requires model { state.model ≡ (program_view program.now).types.model }
+    requires typed { IsExpr (program_view program.now) what (expr_view e.now) }
     ensures next { IfOk result (λ r. r
-        ≡ (spec.simple_step N.ops (shown program.now) mode None (core.eval (shown_expr e.now)) state).next) }
+        ≡ (spec.simple_step N.ops (program_view program.now) mode None (core.eval (expr_view e.now)) state).next) }
     ensures faults { OnOk result (faults.new.items ≡ faults.old.items
-        ++ (spec.simple_step N.ops (shown program.now) mode None (core.eval (shown_expr e.now)) state).faults) }
+        ++ (spec.simple_step N.ops (program_view program.now) mode None (core.eval (expr_view e.now)) state).faults) }
 {
     let v = typed_value(program, sizes, what, e, &state, mode, faults)?;
     if !has_values(mode, &v) {
@@ -58,14 +58,15 @@ pub fn assign<N: Num>(
     state: State<N>,
     faults: &mut Vec<Fault>,
 ) -> Result<Option<State<N>>, Memory>
-    requires sizes { sizes.now ≡ spec.sizes N.ops (shown program.now) }
-    requires model { state.model ≡ (shown program.now).types.model }
-    requires place { IsPlace (shown program.now) (shown_place a.now) }
-    requires typed { IsExpr (shown program.now) what (shown_expr e.now) }
-    ensures next { IfOk result (λ r. r ≡ (spec.simple_step N.ops (shown program.now) mode None
-        (core.assign what (shown_place a.now) (shown_expr e.now)) state).next) }
-    ensures faults { OnOk result (faults.new.items ≡ faults.old.items ++ (spec.simple_step N.ops (shown program.now)
-        mode None (core.assign what (shown_place a.now) (shown_expr e.now)) state).faults) }
+    requires sizes { sizes.now ≡ spec.sizes N.ops (program_view program.now) }
+    requires model { state.model ≡ (program_view program.now).types.model }
+    requires place { IsPlace (program_view program.now) (place_view a.now) }
+    requires typed { IsExpr (program_view program.now) what (expr_view e.now) }
+    ensures next { IfOk result (λ r. r ≡ (spec.simple_step N.ops (program_view program.now) mode None
+        (core.assign what (place_view a.now) (expr_view e.now)) state).next) }
+    ensures faults { OnOk result (faults.new.items
+        ≡ faults.old.items ++ (spec.simple_step N.ops (program_view program.now)
+        mode None (core.assign what (place_view a.now) (expr_view e.now)) state).faults) }
 {
     let to = place_at(program, sizes, a, &state, mode, faults)?;
     let v = typed_value(program, sizes, what, e, &state, mode, faults)?;
@@ -84,14 +85,15 @@ pub fn fill<N: Num>(
     state: State<N>,
     faults: &mut Vec<Fault>,
 ) -> Result<Option<State<N>>, Memory>
-    requires sizes { sizes.now ≡ spec.sizes N.ops (shown program.now) }
-    requires model { state.model ≡ (shown program.now).types.model }
-    requires to { IsExpr (shown program.now) Scalar.Pointer (shown_expr to.now) }
-    requires byte { IsExpr (shown program.now) (Scalar.Int U8) (shown_expr byte.now) }
-    ensures next { IfOk result (λ r. r ≡ (spec.simple_step N.ops (shown program.now) mode None
-        (core.fill (shown_expr to.now) (shown_expr byte.now) bytes) state).next) }
-    ensures faults { OnOk result (faults.new.items ≡ faults.old.items ++ (spec.simple_step N.ops (shown program.now)
-        mode None (core.fill (shown_expr to.now) (shown_expr byte.now) bytes) state).faults) }
+    requires sizes { sizes.now ≡ spec.sizes N.ops (program_view program.now) }
+    requires model { state.model ≡ (program_view program.now).types.model }
+    requires to { IsExpr (program_view program.now) Scalar.Pointer (expr_view to.now) }
+    requires byte { IsExpr (program_view program.now) (Scalar.Int U8) (expr_view byte.now) }
+    ensures next { IfOk result (λ r. r ≡ (spec.simple_step N.ops (program_view program.now) mode None
+        (core.fill (expr_view to.now) (expr_view byte.now) bytes) state).next) }
+    ensures faults { OnOk result (faults.new.items
+        ≡ faults.old.items ++ (spec.simple_step N.ops (program_view program.now)
+        mode None (core.fill (expr_view to.now) (expr_view byte.now) bytes) state).faults) }
 {
     let at = typed_value(program, sizes, Scalar::Pointer, to, &state, mode, faults)?;
     let what = Scalar::Int(IntType::U8);
@@ -110,13 +112,13 @@ fn input_to<N: Num>(
     state: State<N>,
     faults: &mut Vec<Fault>,
 ) -> Result<Option<State<N>>, Memory>
-    requires sizes { sizes.now ≡ spec.sizes N.ops (shown program.now) }
-    requires place { IsPlace (shown program.now) (shown_place d.now.place) }
+    requires sizes { sizes.now ≡ spec.sizes N.ops (program_view program.now) }
+    requires place { IsPlace (program_view program.now) (place_view d.now.place) }
     requires number { IsNumber d.now.what }
     ensures next { IfOk result (λ r. r
-        ≡ (spec.taken_in N.ops (shown program.now) mode t (Some (shown_dest d.now)) state).next) }
+        ≡ (spec.taken_in N.ops (program_view program.now) mode t (Some (dest_view d.now)) state).next) }
     ensures faults { OnOk result (faults.new.items ≡ faults.old.items
-        ++ (spec.taken_in N.ops (shown program.now) mode t (Some (shown_dest d.now)) state).faults) }
+        ++ (spec.taken_in N.ops (program_view program.now) mode t (Some (dest_view d.now)) state).faults) }
 {
     let to = place_at(program, sizes, &d.place, &state, mode, faults)?;
     note_alone(mode, faults)?;
@@ -135,13 +137,14 @@ pub fn input<N: Num>(
     state: State<N>,
     faults: &mut Vec<Fault>,
 ) -> Result<Option<State<N>>, Memory>
-    requires sizes { sizes.now ≡ spec.sizes N.ops (shown program.now) }
-    requires place { IfSome dest.now (λ d. IsPlace (shown program.now) (shown_place d.place)) }
+    requires sizes { sizes.now ≡ spec.sizes N.ops (program_view program.now) }
+    requires place { IfSome dest.now (λ d. IsPlace (program_view program.now) (place_view d.place)) }
     requires number { IfSome dest.now (λ d. IsNumber d.what) }
-    ensures next { IfOk result (λ r. r ≡ (spec.simple_step N.ops (shown program.now) mode None
-        (core.input t (option_map shown_dest dest.now)) state).next) }
-    ensures faults { OnOk result (faults.new.items ≡ faults.old.items ++ (spec.simple_step N.ops (shown program.now)
-        mode None (core.input t (option_map shown_dest dest.now)) state).faults) }
+    ensures next { IfOk result (λ r. r ≡ (spec.simple_step N.ops (program_view program.now) mode None
+        (core.input t (option_map dest_view dest.now)) state).next) }
+    ensures faults { OnOk result (faults.new.items
+        ≡ faults.old.items ++ (spec.simple_step N.ops (program_view program.now)
+        mode None (core.input t (option_map dest_view dest.now)) state).faults) }
 {
     match dest {
         None => {
@@ -165,13 +168,14 @@ pub fn output<N: Num>(
     state: State<N>,
     faults: &mut Vec<Fault>,
 ) -> Result<Option<State<N>>, Memory>
-    requires sizes { sizes.now ≡ spec.sizes N.ops (shown program.now) }
-    requires model { state.model ≡ (shown program.now).types.model }
-    requires typed { IsExpr (shown program.now) (Scalar.Int t) (shown_expr e.now) }
+    requires sizes { sizes.now ≡ spec.sizes N.ops (program_view program.now) }
+    requires model { state.model ≡ (program_view program.now).types.model }
+    requires typed { IsExpr (program_view program.now) (Scalar.Int t) (expr_view e.now) }
     ensures next { IfOk result (λ r. r
-        ≡ (spec.simple_step N.ops (shown program.now) mode None (core.output t (shown_expr e.now)) state).next) }
+        ≡ (spec.simple_step N.ops (program_view program.now) mode None (core.output t (expr_view e.now)) state).next) }
     ensures faults { OnOk result (faults.new.items ≡ faults.old.items
-        ++ (spec.simple_step N.ops (shown program.now) mode None (core.output t (shown_expr e.now)) state).faults) }
+        ++ (spec.simple_step N.ops (program_view program.now) mode None
+        (core.output t (expr_view e.now)) state).faults) }
 {
     let v = typed_value(program, sizes, Scalar::Int(t), e, &state, mode, faults)?;
     let next = put_out(mode, &v, state, faults)?;
@@ -188,13 +192,14 @@ pub fn read_bytes<N: Num>(
     state: State<N>,
     faults: &mut Vec<Fault>,
 ) -> Result<Option<State<N>>, Memory>
-    requires sizes { sizes.now ≡ spec.sizes N.ops (shown program.now) }
-    requires model { state.model ≡ (shown program.now).types.model }
-    requires typed { IsExpr (shown program.now) Scalar.Pointer (shown_expr to.now) }
-    ensures next { IfOk result (λ r. r ≡ (spec.simple_step N.ops (shown program.now) mode None
-        (core.read_bytes (shown_expr to.now) bytes) state).next) }
-    ensures faults { OnOk result (faults.new.items ≡ faults.old.items ++ (spec.simple_step N.ops (shown program.now)
-        mode None (core.read_bytes (shown_expr to.now) bytes) state).faults) }
+    requires sizes { sizes.now ≡ spec.sizes N.ops (program_view program.now) }
+    requires model { state.model ≡ (program_view program.now).types.model }
+    requires typed { IsExpr (program_view program.now) Scalar.Pointer (expr_view to.now) }
+    ensures next { IfOk result (λ r. r ≡ (spec.simple_step N.ops (program_view program.now) mode None
+        (core.read_bytes (expr_view to.now) bytes) state).next) }
+    ensures faults { OnOk result (faults.new.items
+        ≡ faults.old.items ++ (spec.simple_step N.ops (program_view program.now)
+        mode None (core.read_bytes (expr_view to.now) bytes) state).faults) }
 {
     let at = typed_value(program, sizes, Scalar::Pointer, to, &state, mode, faults)?;
     note_alone(mode, faults)?;
@@ -212,13 +217,14 @@ pub fn write_bytes<N: Num>(
     state: State<N>,
     faults: &mut Vec<Fault>,
 ) -> Result<Option<State<N>>, Memory>
-    requires sizes { sizes.now ≡ spec.sizes N.ops (shown program.now) }
-    requires model { state.model ≡ (shown program.now).types.model }
-    requires typed { IsExpr (shown program.now) Scalar.Pointer (shown_expr from.now) }
-    ensures next { IfOk result (λ r. r ≡ (spec.simple_step N.ops (shown program.now) mode None
-        (core.write_bytes (shown_expr from.now) bytes) state).next) }
-    ensures faults { OnOk result (faults.new.items ≡ faults.old.items ++ (spec.simple_step N.ops (shown program.now)
-        mode None (core.write_bytes (shown_expr from.now) bytes) state).faults) }
+    requires sizes { sizes.now ≡ spec.sizes N.ops (program_view program.now) }
+    requires model { state.model ≡ (program_view program.now).types.model }
+    requires typed { IsExpr (program_view program.now) Scalar.Pointer (expr_view from.now) }
+    ensures next { IfOk result (λ r. r ≡ (spec.simple_step N.ops (program_view program.now) mode None
+        (core.write_bytes (expr_view from.now) bytes) state).next) }
+    ensures faults { OnOk result (faults.new.items
+        ≡ faults.old.items ++ (spec.simple_step N.ops (program_view program.now)
+        mode None (core.write_bytes (expr_view from.now) bytes) state).faults) }
 {
     let at = typed_value(program, sizes, Scalar::Pointer, from, &state, mode, faults)?;
     note_alone(mode, faults)?;
@@ -236,13 +242,14 @@ pub fn give_back<N: Num>(
     state: State<N>,
     faults: &mut Vec<Fault>,
 ) -> Result<Option<State<N>>, Memory>
-    requires sizes { sizes.now ≡ spec.sizes N.ops (shown program.now) }
-    requires model { state.model ≡ (shown program.now).types.model }
-    requires typed { IsExpr (shown program.now) home.1 (shown_expr e.now) }
-    ensures next { IfOk result (λ r. r ≡ (spec.simple_step N.ops (shown program.now) mode (Some home)
-        (core.returns (Some (shown_expr e.now))) state).next) }
-    ensures faults { OnOk result (faults.new.items ≡ faults.old.items ++ (spec.simple_step N.ops (shown program.now)
-        mode (Some home) (core.returns (Some (shown_expr e.now))) state).faults) }
+    requires sizes { sizes.now ≡ spec.sizes N.ops (program_view program.now) }
+    requires model { state.model ≡ (program_view program.now).types.model }
+    requires typed { IsExpr (program_view program.now) home.1 (expr_view e.now) }
+    ensures next { IfOk result (λ r. r ≡ (spec.simple_step N.ops (program_view program.now) mode (Some home)
+        (core.returns (Some (expr_view e.now))) state).next) }
+    ensures faults { OnOk result (faults.new.items
+        ≡ faults.old.items ++ (spec.simple_step N.ops (program_view program.now)
+        mode (Some home) (core.returns (Some (expr_view e.now))) state).faults) }
 {
     let v = typed_value(program, sizes, home.1, e, &state, mode, faults)?;
     let to = block(state.allocator(), mode, home.0)?;

@@ -1,5 +1,6 @@
 -- What is split in a place that is then written is gone: a split before the write changes nothing.
 use Rattle.std.proofs.Common.{◌≡◌, ℕ, ◌+◌, ◌<◌, Bool, true, false, cond, List, [], ◌∷◌, ◌++◌, map, Option, Some, None}
+use Rattle.ep_cells.proofs.Basics.{map-append}
 use Rattle.std.proofs.Common.{refl, sym, ap, ◌∙◌, subst, append_assoc, arith}
 use Rattle.std.specs.Option.{option_map_or}
 use Rattle.ep_int.specs.declared.types.Model.{Model}
@@ -11,7 +12,7 @@ use Rattle.ep_bitslice.specs.declared.cell.Side.TheVariants.{Left}
 use Rattle.ep_bitslice.specs.declared.cell.CellName.{CellName}
 use Rattle.ep_domain.specs.Domain.{Ops}
 use Rattle.ep_cells.specs.declared.cell.Cell.{Cell}
-use Rattle.ep_cells.specs.declared.place.Place.{Place}
+use Rattle.ep_cells.specs.declared.place.ByteRange.{ByteRange}
 use Rattle.ep_cells.specs.Cells.{place_of, touches, side_without, with_side, comes_before, is_same_cell, put, put_all}
 use Rattle.ep_cells.specs.Cells.{each_becomes, IsIn, first, later}
 use Rattle.ep_cells.specs.declared.cell.Value.{Value}
@@ -23,13 +24,13 @@ use Rattle.ep_reads.specs.Split.{byte_of, byte_cells, form_beside, is_name_of, f
 use Rattle.ep_reads.specs.Split.{split_cell, split_like, split_all}
 use Rattle.ep_reads.specs.Bytes.{order_on}
 use Rattle.ep_cell_ranges.specs.Ranges.{Form, form_by_like, form_by_splits}
-use Rattle.ep_cells_laws.proofs.Both.{alike_same}
-use Rattle.ep_cells_laws.proofs.Places.{at}
-use Rattle.ep_reads_laws.proofs.Bytes.{cell_of}
-use Rattle.ep_split_laws.proofs.ByteCells.{byte_is, one_of}
-use Rattle.ep_split_laws.proofs.Splits.{first_like}
-use Rattle.ep_step_laws.proofs.Members.{place_alike}
-use Rattle.ep_step_laws.proofs.Composed.{gone_on, then_fate, reformed_twice, map_append}
+use Rattle.ep_cells.proofs.Both.{alike_same}
+use Rattle.ep_cells.proofs.Places.{at}
+use Rattle.ep_reads.proofs.Bytes.{cell_of}
+use Rattle.ep_reads.proofs.ByteCells.{byte_is, one_of}
+use Rattle.ep_reads.proofs.Splits.{first_like}
+use Rattle.ep_reads.proofs.Members.{place_alike}
+use Rattle.ep_reads.proofs.Composed.{gone_on, then_fate, reformed_twice}
 use Rattle.ep_transfer_writes.proofs.Joined.{name_on, name_taken_before, append_none, cell_taken_before}
 
 -- ---- lists
@@ -46,7 +47,7 @@ module _ {N : Type 0} where
   each_of_map m r [] h = refl
   each_of_map m r (c ∷ cs) h =
       ap (λ zs. zs ++ each_becomes m (map r cs)) (h c) ∙ ap (λ zs. map r (m c) ++ zs) (each_of_map m r cs h)
-      ∙ sym (map_append r (m c) (each_becomes m cs))
+      ∙ sym (map-append r (m c) (each_becomes m cs))
 
   pub each_of_each : (m l n : Cell N → List (Cell N)) (cs : List (Cell N))
       → ((c : Cell N) → each_becomes m (l c) ≡ n c) → each_becomes m (each_becomes l cs) ≡ each_becomes n cs
@@ -121,12 +122,12 @@ module _ (g f : Fate) (same : (n : CellName) → then_fate f g n ≡ g n) where
 -- ---- a cell that is split in the place
 
 -- The whole cell lies in the place, and the place takes the side on which it is split.
-pub record IsTaken {N : Type 0} (d : Model) (p : Place) (s : Side) (x : Cell N) : Type 0 where
+pub record IsTaken {N : Type 0} (d : Model) (p : ByteRange) (s : Side) (x : Cell N) : Type 0 where
   pub side : side_without p.side s ≡ None
   pub met : touches p (place_of d x) ≡ true
   pub bytes : (i : ℕ) → i < size_of d x.what → touches p (at s x.block (x.offset + i) 1) ≡ true
 
-module _ {N : Type 0} (D : Ops N) (k : Known N) (p : Place) (s : Side) where
+module _ {N : Type 0} (D : Ops N) (k : Known N) (p : ByteRange) (s : Side) where
   abbrev d : Model
   d = k.model
 

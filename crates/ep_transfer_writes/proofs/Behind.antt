@@ -10,10 +10,10 @@ use Rattle.ep_cells.specs.Forms.{Fate, form_after, reformed}
 use Rattle.ep_cells.specs.Write.{left_by_write, fate_by_write}
 use Rattle.ep_cells.specs.States.{EachPair, AreApart}
 use Rattle.ep_cell_ranges.specs.Ranges.{Form, with_form}
-use Rattle.ep_cells_laws.proofs.Lists.{in_each, each_in, in_map, map_in, in_put, put_there, put_keeps, in_put_all}
-use Rattle.ep_cells_laws.proofs.Lists.{put_all_keeps}
-use Rattle.ep_cells_laws.proofs.Places.{at}
-use Rattle.ep_step_laws.proofs.Composed.{then_fate, reformed_twice}
+use Rattle.ep_cells.proofs.Lists.{in_each, each_in, in_map, map_in, in_put, put_there, put_keeps, in_put_all}
+use Rattle.ep_cells.proofs.Lists.{put_all_keeps}
+use Rattle.ep_cells.proofs.Places.{at}
+use Rattle.ep_reads.proofs.Composed.{then_fate, reformed_twice}
 use Rattle.ep_transfer_writes.proofs.Ordered.{same_cells}
 use Rattle.ep_transfer_writes.proofs.Joined.{two_fates, two_lefts}
 

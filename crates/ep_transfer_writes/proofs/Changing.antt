@@ -8,7 +8,7 @@ use Rattle.ep_int.specs.declared.types.Scalar.{Scalar}
 use Rattle.ep_bitslice.specs.declared.cell.Side.{Side as CellSide}
 use Rattle.ep_domain.specs.Domain.{Ops}
 use Rattle.ep_cells.specs.declared.cell.Cell.{Cell}
-use Rattle.ep_cells.specs.declared.place.Place.{Place}
+use Rattle.ep_cells.specs.declared.place.ByteRange.{ByteRange}
 use Rattle.ep_cells.specs.Cells.{place_of, IsIn, first, later}
 use Rattle.ep_cells.specs.Forms.{form_after}
 use Rattle.ep_cells.specs.Weaken.{weakened, fate_by_weak_write}
@@ -16,10 +16,10 @@ use Rattle.ep_cells.specs.States.{Known, IsCell, HasForm, AreCells}
 use Rattle.ep_cell_ranges.specs.Ranges.{Form, Reform, with_cells, replaced, form_by_replace, blurred_at}
 use Rattle.ep_cell_ranges.specs.Moves.{place_at, weakened_each, form_by_weak_each, blurred_each}
 use Rattle.ep_cell_ranges.specs.Spots.{Spot}
-use Rattle.ep_cell_ranges_laws.specs.Follow.{FormFits}
-use Rattle.ep_cell_ranges_laws.specs.Laws.{ReplaceLaws, WeakEachLaws, BlurLaws}
-use Rattle.ep_cell_ranges_laws.specs.Sound.{AreNew, IsInside, FitEach}
-use Rattle.ep_state_ranges.specs.Held.{form_by_blur_each}
+use Rattle.ep_cell_ranges.specs.Follow.{FormFits}
+use Rattle.ep_cell_ranges.specs.Laws.{ReplaceLaws, WeakEachLaws, BlurLaws}
+use Rattle.ep_cell_ranges.specs.Sound.{AreNew, IsInside, FitEach}
+use Rattle.ep_state_ranges.specs.HeldForms.{form_by_blur_each}
 use Rattle.ep_transfers.specs.Writes.{Item, Underway, underway, formed, strongly, weakly, weakly_each, blurred_side}
 use Rattle.ep_transfer_writes.specs.Waiting.{ItemFits, Keeps, CanStand, with_forms}
 
@@ -66,7 +66,7 @@ module _ {N : Type 0} where
   one_of c x P h (later _ _ i) = elim i [ ]
 
   -- the place's new cell
-  pub stands_new : (k : Known N) (c : Cell N) (p : Place) (new : List (Cell N)) (d : Model) → d ≡ k.model
+  pub stands_new : (k : Known N) (c : Cell N) (p : ByteRange) (new : List (Cell N)) (d : Model) → d ≡ k.model
       → p ≡ place_of d c → new ≡ c ∷ [] → CanStand k c → AreNew k.model p k.cells new
   stands_new k c p new d e f q h =
       subst (λ x. AreNew k.model x k.cells new) (sym (f ∙ ap (λ z. place_of z c) e))
@@ -78,7 +78,7 @@ module _ {N : Type 0} where
       }))
 
   module _ (D : Ops N) where
-    pub strong_is : (k j : Known N) (i l : Item N) (c : Cell N) (p : Place) (new : List (Cell N)) (d : Model)
+    pub strong_is : (k j : Known N) (i l : Item N) (c : Cell N) (p : ByteRange) (new : List (Cell N)) (d : Model)
         (hs fs : List Form) → d ≡ k.model → p ≡ place_of d c → new ≡ c ∷ []
         → hs ≡ i.pair.left.form ∷ i.pair.right.form ∷ [] → j ≡ replaced D p new k
         → fs ≡ map (form_by_replace D p k) hs → l ≡ with_forms fs i → underway j l ≡ strongly D c (underway k i)

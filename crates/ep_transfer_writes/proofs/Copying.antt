@@ -10,14 +10,14 @@ use Rattle.ep_int.specs.declared.types.Scalar.TheVariants.{Int}
 use Rattle.ep_int.specs.Types.{size_of}
 use Rattle.ep_domain.specs.Domain.{Ops}
 use Rattle.ep_cells.specs.declared.cell.Cell.{Cell}
-use Rattle.ep_cells.specs.declared.place.Place.{Place}
+use Rattle.ep_cells.specs.declared.place.ByteRange.{ByteRange}
 use Rattle.ep_cells.specs.Cells.{share_memory, IsIn, first, later}
 use Rattle.ep_cells.specs.States.{Known, EachPair, IsCell, HasForm, IsFormOf, AreCells}
-use Rattle.ep_cells_laws.proofs.Lists.{each_from}
-use Rattle.ep_cells_laws.proofs.Places.{at}
+use Rattle.ep_cells.proofs.Lists.{each_from}
+use Rattle.ep_cells.proofs.Places.{at}
 use Rattle.ep_cell_ranges.specs.Ranges.{Form, replaced, form_by_replace}
-use Rattle.ep_cell_ranges_laws.specs.Laws.{ReplaceLaws}
-use Rattle.ep_cell_ranges_laws.specs.Sound.{AreNew, IsInside, Misses}
+use Rattle.ep_cell_ranges.specs.Laws.{ReplaceLaws}
+use Rattle.ep_cell_ranges.specs.Sound.{AreNew, IsInside, Misses}
 use Rattle.ep_transfers.specs.Writes.{Item, Underway, underway, formed}
 use Rattle.ep_transfer_writes.specs.Waiting.{CanStand, Keeps, with_forms}
 use Rattle.ep_transfer_writes.specs.Running.{copies, range_of, range_written}
@@ -25,10 +25,10 @@ use Rattle.ep_transfer_writes.proofs.Changing.{formed_is, fits_on}
 
 -- ---- places
 
-miss_by : (t : Bool) (b a q : ℕ) → a < q → (t && (nat_eq b b && (nat_lt a (q + 1) && nat_lt q (a + 1)))) ≡ false
+pub miss_by : (t : Bool) (b a q : ℕ) → a < q → (t && (nat_eq b b && (nat_lt a (q + 1) && nat_lt q (a + 1)))) ≡ false
 miss_by t b a q h = grind (arith, nat_tests)
 
-inside_by : (a n q : ℕ) → a ≤ q → q < a + n → (nat_le a q && nat_le (q + 1) (a + n)) ≡ true
+pub inside_by : (a n q : ℕ) → a ≤ q → q < a + n → (nat_le a q && nat_le (q + 1) (a + n)) ≡ true
 inside_by a n q h i = grind (arith, nat_tests)
 
 size_is : (d : Model) (w : Scalar) → w ≡ Int U8 → size_of d w ≡ 1
@@ -37,10 +37,10 @@ size_is d w e = ap (size_of d) e
 room_of : (a n q : ℕ) → q < a + n → a + n ≤ 2 ^ 32 → q + 1 ≤ 2 ^ 32
 room_of a n q h i = omega (arith, h, i)
 
-next_less : (n i : ℕ) → i < n → n - i ≡ suc (n - (i + 1))
+pub next_less : (n i : ℕ) → i < n → n - i ≡ suc (n - (i + 1))
 next_less n i h = omega (arith, h)
 
-further : (a i : ℕ) → a + i + 1 ≡ a + (i + 1)
+pub further : (a i : ℕ) → a + i + 1 ≡ a + (i + 1)
 further a i = omega arith
 
 module _ {N : Type 0} where
@@ -151,7 +151,7 @@ module _ {N : Type 0} where
 
   -- ---- what is known, and what waits
 
-  pub range_is : (D : Ops N) (k j : Known N) (i l : Item N) (c : Cell N) (n : ℕ) (p : Place) (new : List (Cell N))
+  pub range_is : (D : Ops N) (k j : Known N) (i l : Item N) (c : Cell N) (n : ℕ) (p : ByteRange) (new : List (Cell N))
       (hs fs : List Form) → p ≡ range_of c n → new ≡ copies c n
       → hs ≡ i.pair.left.form ∷ i.pair.right.form ∷ [] → j ≡ replaced D p new k
       → fs ≡ map (form_by_replace D p k) hs → l ≡ with_forms fs i
@@ -175,7 +175,7 @@ module _ {N : Type 0} where
       }
 
   -- where it is to be written
-  pub range_new : (k : Known N) (c : Cell N) (n : ℕ) (p : Place) (new : List (Cell N)) → p ≡ range_of c n
+  pub range_new : (k : Known N) (c : Cell N) (n : ℕ) (p : ByteRange) (new : List (Cell N)) → p ≡ range_of c n
       → new ≡ copies c n → CanStand k c → c.what ≡ Int U8 → c.offset + n ≤ 2 ^ 32 → AreNew k.model p k.cells new
   range_new k c n p new f q h e room =
       subst (λ x. AreNew k.model x k.cells new) (sym f)

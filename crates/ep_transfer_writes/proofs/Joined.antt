@@ -1,9 +1,10 @@
 -- Two places next to each other, w and then n bytes: what a write of one and then of the other does to names and
 -- cells.
-use Rattle.std.proofs.Common.{◌≡◌, ℕ, ◌+◌, ◌<◌, Bool, true, false, ◌&&◌, ◌||◌, nat_eq, nat_lt, cond, List, [], ◌∷◌}
-use Rattle.std.proofs.Common.{◌++◌, Option, Some, None, refl, sym, ap, ◌∙◌, arith}
+use Rattle.std.proofs.Common.{◌≡◌, ℕ, ◌+◌, ◌<◌, Bool, true, false, ◌&&◌, ◌||◌, cond, List, [], ◌∷◌}
+use Rattle.ep_int.proofs.Basics.{size_positive}
+use Rattle.ep_state_ranges.proofs.Row.{touches_by}
+use Rattle.std.proofs.Common.{◌++◌, Option, Some, None, refl, sym, ap, ◌∙◌}
 use Rattle.std.specs.Option.{option_map}
-use Rattle.std.proofs.lemmas.Bool.Decides.{nat_tests}
 use Rattle.ep_int.specs.declared.types.Model.{Model}
 use Rattle.ep_int.specs.declared.types.Model.TheVariants.{Ilp32}
 use Rattle.ep_int.specs.declared.types.Scalar.TheVariants.{Int}
@@ -11,21 +12,15 @@ use Rattle.ep_bitslice.specs.declared.cell.Side.{Side}
 use Rattle.ep_bitslice.specs.declared.cell.Side.TheVariants.{Left, Right, Shared}
 use Rattle.ep_bitslice.specs.declared.cell.CellName.{CellName}
 use Rattle.ep_cells.specs.declared.cell.Cell.{Cell}
-use Rattle.ep_cells.specs.declared.place.Place.{Place}
+use Rattle.ep_cells.specs.declared.place.ByteRange.{ByteRange}
 use Rattle.ep_cells.specs.Cells.{place_of, place_of_name, touches, side_without, with_side, each_becomes}
 use Rattle.ep_cells.specs.Write.{left_by_write, fate_by_write}
-use Rattle.ep_cells_laws.proofs.Places.{at, size_positive}
-use Rattle.ep_step_laws.proofs.Composed.{gone_on, then_fate}
+use Rattle.ep_cells.proofs.Places.{at}
+use Rattle.ep_reads.proofs.Composed.{gone_on, then_fate}
 
 -- ---- places
 
-touches_by : (b a w n t c r k : ℕ) → t ≡ w + n → 0 < k
-    → (nat_eq b c && (nat_lt a (r + k) && nat_lt r (a + t)))
-    ≡ ((nat_eq b c && (nat_lt a (r + k) && nat_lt r (a + w)))
-    || (nat_eq b c && (nat_lt (a + w) (r + k) && nat_lt r (a + w + n))))
-touches_by b a w n t c r k e h = grind (arith, nat_tests)
-
-pub joined_touches : (s : Side) (b a w n t : ℕ) (q : Place) → t ≡ w + n → 0 < q.bytes
+pub joined_touches : (s : Side) (b a w n t : ℕ) (q : ByteRange) → t ≡ w + n → 0 < q.bytes
     → touches (at s b a t) q ≡ (touches (at s b a w) q || touches (at s b (a + w) n) q)
 joined_touches s b a w n t q e h = touches_by b a w n t q.block q.offset q.bytes e h
 
@@ -68,7 +63,7 @@ abbrev pub name_on : CellName → Option Side → Option CellName
 name_on n o = option_map (λ r. record n { side = r }) o
 
 -- a name of a side that was taken before
-pub name_taken_before : (s : Side) (p : Place) (n : CellName) → touches p (place_of_name n) ≡ true
+pub name_taken_before : (s : Side) (p : ByteRange) (n : CellName) → touches p (place_of_name n) ≡ true
     → side_without p.side s ≡ None → gone_on (fate_by_write p) (name_on n (side_without s n.side)) ≡ fate_by_write p n
 name_taken_before s p n t e =
     by (side_without s n.side) ∙ ap (name_on n) (taken_before p.side s n.side e)
@@ -113,7 +108,7 @@ append_none (x ∷ xs) = ap (λ ys. x ∷ ys) (append_none xs)
 
 module _ {N : Type 0} (d : Model) where
   -- a cell of a side that was taken before
-  pub cell_taken_before : (s : Side) (p : Place) (x : Cell N) → touches p (place_of d x) ≡ true
+  pub cell_taken_before : (s : Side) (p : ByteRange) (x : Cell N) → touches p (place_of d x) ≡ true
       → side_without p.side s ≡ None
       → each_becomes (left_by_write d p) (with_side x (side_without s x.side)) ≡ left_by_write d p x
   cell_taken_before s p x t e =

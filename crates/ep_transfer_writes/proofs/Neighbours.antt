@@ -1,7 +1,8 @@
 -- A write of a cell and then of those behind it is one write of all of them, where no cell lies partly in their bytes.
 use Rattle.std.proofs.Common.{◌≡◌, ℕ, ◌+◌, ◌<◌, ◌≤◌, Bool, true, false, ◌&&◌, not, nat_eq, nat_lt, nat_le, cond, List}
+use Rattle.ep_int.proofs.Basics.{size_positive}
+use Rattle.ep_state_ranges.proofs.Row.{off_by}
 use Rattle.std.proofs.Common.{[], ◌∷◌, map, ⊎_elim, Option, Some, None, refl, sym, ap, ◌∙◌, subst, arith}
-use Rattle.std.proofs.lemmas.Bool.Decides.{nat_tests}
 use Rattle.ep_int.specs.declared.types.Model.{Model}
 use Rattle.ep_int.specs.declared.types.Scalar.TheVariants.{Pointer}
 use Rattle.ep_int.specs.Types.{size_of}
@@ -17,12 +18,12 @@ use Rattle.ep_cells.specs.Write.{left_by_write}
 use Rattle.ep_cells.specs.States.{Known, EachPair, AreApart, AreCells}
 use Rattle.ep_cell_ranges.specs.Ranges.{Form, Reform, with_cells, with_form, split_at, cut, form_by_cut, overwritten}
 use Rattle.ep_cell_ranges.specs.Ranges.{replaced, form_by_replace}
-use Rattle.ep_split_laws.specs.Laws.{SplitLaws}
-use Rattle.ep_cell_ranges_laws.specs.Sound.{AreNew}
-use Rattle.ep_cell_ranges_laws.specs.Laws.{MoreSplitLaws, ReplaceLaws}
-use Rattle.ep_cell_ranges_laws.proofs.Cut.{is_cut}
-use Rattle.ep_cells_laws.proofs.Lists.{in_each, in_map, in_put}
-use Rattle.ep_cells_laws.proofs.Places.{at, size_positive}
+use Rattle.ep_reads.specs.SplitLaws.{SplitLaws}
+use Rattle.ep_cell_ranges.specs.Sound.{AreNew}
+use Rattle.ep_cell_ranges.specs.Laws.{MoreSplitLaws, ReplaceLaws}
+use Rattle.ep_cell_ranges.proofs.Cut.{is_cut}
+use Rattle.ep_cells.proofs.Lists.{in_each, in_map, in_put}
+use Rattle.ep_cells.proofs.Places.{at}
 use Rattle.ep_transfer_writes.proofs.Uncut.{none_in, none_from, cut_gone, cut_form_gone, no_cut_replaced, cut_is}
 use Rattle.ep_transfer_writes.proofs.Behind.{F1, F2, F, both_reformed, written_once, written_twice, written_together}
 use Rattle.ep_transfer_writes.proofs.Behind.{one_write, behind_by}
@@ -41,9 +42,6 @@ not_shared Right Left r e = let i : Left ≡ r = (let j : Some Left ≡ Some r =
 not_shared Right Shared r e = let i : Left ≡ r = (let j : Some Left ≡ Some r = e in cc) in
     subst (λ z. share_memory Right z ≡ false) i refl
 not_shared Shared q r e = absurd (let i : None ≡ Some r = e in cc)
-
-off_by : (b a m n : ℕ) → (nat_eq b b && (nat_lt (a + m) (a + m) && nat_lt a (a + m + n))) ≡ false
-off_by b a m n = grind (arith, nat_tests)
 
 none_by : (t m e : Bool) → t ≡ false → ((t && m) && not e) ≡ false
 none_by true m e h = absurd (let q : true ≡ false = h in cc)

@@ -4,8 +4,8 @@ use Rattle.ep_int.specs.declared.types.Model.{Model}
 use Rattle.ep_cells.specs.declared.cell.Cell.{Cell}
 use Rattle.ep_cells.specs.Cells.{key_of, IsIn, first, later}
 use Rattle.ep_cells.specs.States.{EachPair, AreApart}
-use Rattle.ep_cells_laws.proofs.Lists.{each_at}
-use Rattle.ep_cells_laws.proofs.Places.{before_true, not_both}
+use Rattle.ep_cells.proofs.Lists.{each_at}
+use Rattle.ep_cells.proofs.Places.{before_true, not_both}
 
 module _ {N : Type 0} (d : Model) where
   never_both : (x y : Cell N) → AreApart d x y → AreApart d y x → ⊥

@@ -1,7 +1,7 @@
 -- Places of both sides.
-use Rattle.std.proofs.Common.{◌≡◌, ℕ, ◌+◌, ◌^◌, ◌≤◌, nat_eq, Bool, true, false, if◌then◌else◌, List, [], ◌∷◌, Option}
+use Rattle.std.proofs.Common.{◌≡◌, ℕ, ◌+◌, ◌^◌, ◌≤◌, Bool, true, false, if◌then◌else◌, List, [], ◌∷◌, Option}
+use Rattle.ep_cell_ranges.proofs.Basics.{is_same_spot-equal}
 use Rattle.std.proofs.Common.{Some, None, refl, sym, ap, ◌∙◌, subst}
-use Rattle.std.proofs.lemmas.Bool.{and_parts, eqb-true}
 use Rattle.ep_int.specs.declared.types.Scalar.{Scalar}
 use Rattle.ep_domain.specs.Domain.{Ops}
 use Rattle.ep_cell_ranges.specs.Spots.{Spot, spot_before, is_same_spot, put_spot, all_spots}
@@ -64,16 +64,11 @@ module _ {N : Type 0} (D : Ops N) (w : Scalar) where
 
 -- ---- of a run
 
-same_spots : (q r : Spot) → is_same_spot q r ≡ true → q ≡ r
-same_spots q r e =
-    let h = and_parts (nat_eq q.0 r.0) (nat_eq q.1 r.1) e in
-    ap (λ (x : ℕ). (x, q.1)) (eqb-true q.0 r.0 h.0) ∙ ap (λ (x : ℕ). (r.0, x)) (eqb-true q.1 r.1 h.1)
-
 both_by : (q r p : Spot) (t : Bool) → is_same_spot q r ≡ t → (if t then Some q else None) ≡ Some p
     → let qs : List Spot = q ∷ [] in let rs : List Spot = r ∷ [] in (qs ≡ p ∷ []) × (rs ≡ p ∷ [])
 both_by q r p true e h =
     let i : q ≡ p = (let j : Some q ≡ Some p = h in cc) in
-    (ap (λ x. x ∷ []) i, ap (λ x. x ∷ []) (sym (same_spots q r e) ∙ i))
+    (ap (λ x. x ∷ []) i, ap (λ x. x ∷ []) (sym (is_same_spot-equal q r e) ∙ i))
 both_by q r p false e h = none_one _ p h
 
 pub one_both : (qs rs : List Spot) (p : Spot) → one_spot qs rs ≡ Some p → (qs ≡ p ∷ []) × (rs ≡ p ∷ [])

@@ -1,7 +1,7 @@
 -- A run of writes of one byte each is one write of all bytes, where no cell lies partly in them.
-use Rattle.std.proofs.Common.{◌≡◌, ℕ, zero, suc, ◌+◌, ◌^◌, ◌<◌, ◌≤◌, Bool, true, false, ◌&&◌, nat_eq, nat_lt, nat_le}
+use Rattle.std.proofs.Common.{◌≡◌, ℕ, zero, suc, ◌+◌, ◌^◌, ◌<◌, ◌≤◌, Bool, true, false, ◌&&◌}
+use Rattle.ep_transfer_writes.proofs.Copying.{inside_by, miss_by}
 use Rattle.std.proofs.Common.{List, [], ◌∷◌, map, Option, None, refl, sym, ap, ◌∙◌, subst, arith}
-use Rattle.std.proofs.lemmas.Bool.Decides.{nat_tests}
 use Rattle.ep_int.specs.declared.types.Model.{Model}
 use Rattle.ep_int.specs.declared.types.IntType.TheVariants.{U8}
 use Rattle.ep_int.specs.declared.types.Scalar.TheVariants.{Int}
@@ -15,25 +15,19 @@ use Rattle.ep_cells.specs.Look.{is_some_partly_in}
 use Rattle.ep_cells.specs.Write.{fate_by_write}
 use Rattle.ep_cells.specs.States.{Known, IsOfSort, HasRisingBlocks, IsCell, HasForm, EachPair, AreCells}
 use Rattle.ep_cell_ranges.specs.Ranges.{Form, Reform, with_form, replaced, form_by_replace}
-use Rattle.ep_split_laws.specs.Laws.{SplitLaws}
-use Rattle.ep_cell_ranges_laws.specs.Follow.{FormFits}
-use Rattle.ep_cell_ranges_laws.specs.Sound.{AreNew, IsInside, Misses}
-use Rattle.ep_cell_ranges_laws.specs.Laws.{MoreSplitLaws, ReplaceLaws}
-use Rattle.ep_cell_ranges_laws.proofs.Cut.{none_by_cut}
-use Rattle.ep_cells_laws.proofs.Lists.{each_from}
-use Rattle.ep_cells_laws.proofs.Places.{at}
+use Rattle.ep_reads.specs.SplitLaws.{SplitLaws}
+use Rattle.ep_cell_ranges.specs.Follow.{FormFits}
+use Rattle.ep_cell_ranges.specs.Sound.{AreNew, IsInside, Misses}
+use Rattle.ep_cell_ranges.specs.Laws.{MoreSplitLaws, ReplaceLaws}
+use Rattle.ep_cell_ranges.proofs.Cut.{none_by_cut}
+use Rattle.ep_cells.proofs.Lists.{each_from}
+use Rattle.ep_cells.proofs.Places.{at}
 use Rattle.ep_transfers.specs.Writes.{lacks, form_unless, new_cell}
 use Rattle.ep_transfer_writes.proofs.Standing.{new_stands}
 use Rattle.ep_transfer_writes.proofs.Uncut.{no_cut_form}
 use Rattle.ep_transfer_writes.proofs.Neighbours.{Fills, through, next_none as none_behind, two_writes}
 
 -- ---- places
-
-miss_by : (t : Bool) (b a q : ℕ) → a < q → (t && (nat_eq b b && (nat_lt a (q + 1) && nat_lt q (a + 1)))) ≡ false
-miss_by t b a q h = grind (arith, nat_tests)
-
-inside_by : (a n q : ℕ) → a ≤ q → q < a + n → (nat_le a q && nat_le (q + 1) (a + n)) ≡ true
-inside_by a n q h i = grind (arith, nat_tests)
 
 one_more : (n : ℕ) → suc n ≡ 1 + n
 one_more n = omega arith

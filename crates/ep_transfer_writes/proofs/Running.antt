@@ -1,8 +1,7 @@
 -- A run of bytes at one place is one write of all of them, where no cell lies partly in them.
-use Rattle.std.proofs.Common.{◌≡◌, ℕ, zero, suc, ◌+◌, ◌^◌, ◌<◌, ◌≤◌, Bool, true, false, ◌&&◌, ◌||◌, nat_eq, cond}
+use Rattle.std.proofs.Common.{◌≡◌, ℕ, zero, suc, ◌+◌, ◌^◌, ◌<◌, ◌≤◌, Bool, true, false, ◌&&◌, ◌||◌, cond}
+use Rattle.ep_transfers.proofs.Loosened.{same_itself}
 use Rattle.std.proofs.Common.{if◌then◌else◌, [], ◌∷◌, Option, Some, None, refl, sym, ap, ◌∙◌, arith}
-use Rattle.std.proofs.lemmas.Bool.{eq-eqb}
-use Rattle.std.proofs.lemmas.Bool.{and_from}
 use Rattle.ep_int.specs.declared.types.IntType.TheVariants.{U8}
 use Rattle.ep_int.specs.declared.types.Scalar.TheVariants.{Int}
 use Rattle.ep_bitslice.specs.declared.cell.Side.{Side as CellSide}
@@ -14,13 +13,13 @@ use Rattle.ep_cells.specs.Write.{fate_by_write}
 use Rattle.ep_cells.specs.Look.{is_some_partly_in}
 use Rattle.ep_cells.specs.States.{Known, IsOfSort, HasRisingBlocks, AreCells}
 use Rattle.ep_cell_rows.proofs.Same.{segments_itself}
-use Rattle.ep_cells_laws.proofs.Places.{at}
+use Rattle.ep_cells.proofs.Places.{at}
 use Rattle.ep_cell_ranges.specs.Ranges.{Form, Reform, replaced, form_by_replace}
-use Rattle.ep_cell_ranges.specs.Spots.{Spot, is_same_spot}
-use Rattle.ep_split_laws.specs.Laws.{SplitLaws}
-use Rattle.ep_cell_ranges_laws.specs.Follow.{FormFits}
-use Rattle.ep_cell_ranges_laws.specs.Laws.{MoreSplitLaws, ReplaceLaws}
-use Rattle.ep_cell_ranges_laws.proofs.Cut.{none_by_cut}
+use Rattle.ep_cell_ranges.specs.Spots.{Spot}
+use Rattle.ep_reads.specs.SplitLaws.{SplitLaws}
+use Rattle.ep_cell_ranges.specs.Follow.{FormFits}
+use Rattle.ep_cell_ranges.specs.Laws.{MoreSplitLaws, ReplaceLaws}
+use Rattle.ep_cell_ranges.proofs.Cut.{none_by_cut}
 use Rattle.ep_core.specs.Runs.{left, right}
 use Rattle.ep_equalities.specs.declared.pair.Mode.{Mode}
 use Rattle.ep_equalities.specs.declared.pair.Mode.TheVariants.{Both, Left, Right}
@@ -65,9 +64,6 @@ agree_after g e f h (none_right i) = none_right (ap g i ∙ e)
 
 one_further : (q i : ℕ) → q + (i + 1) ≡ q + i + 1
 one_further q i = omega arith
-
-spot_itself : (q : Spot) → is_same_spot q q ≡ true
-spot_itself q = and_from (nat_eq q.0 q.0) (nat_eq q.1 q.1) (eq-eqb q.0 q.0 refl) (eq-eqb q.1 q.1 refl)
 
 module _ {N : Type 0} (D : Ops N) (split : SplitLaws D) (more : MoreSplitLaws D) (law : ReplaceLaws D) where
   no_form : (s : CellSide) (b a : ℕ) (k : Known N) → form_by_replace D (at s b a 1) k None ≡ None
@@ -138,7 +134,7 @@ module _ {N : Type 0} (D : Ops N) (split : SplitLaws D) (more : MoreSplitLaws D)
       ∙ ap (λ qs. write_same D (Int U8) (r ∷ []) (moved_spots i qs) u) er
       ∙ ap (λ t. if t then write_shared D (Int U8) r u else write_shared_each D (Int U8) (all_spots (r ∷ [])
       (r ∷ [])) u)
-      (spot_itself r)
+      (same_itself r)
 
   abbrev both_value : Item N → Option (Value N)
   both_value x = value_of_same D x.pair.left.value x.pair.right.value

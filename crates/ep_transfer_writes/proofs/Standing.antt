@@ -15,12 +15,12 @@ use Rattle.ep_cells.specs.declared.cell.Value.{Value}
 use Rattle.ep_cells.specs.declared.cell.Value.TheVariants.{Num, Ptr}
 use Rattle.ep_cells.specs.Forms.{have_same_form, common_form}
 use Rattle.ep_cells.specs.States.{Known, IsOfSort, HasRisingBlocks, IsFormOf, Fits}
-use Rattle.ep_reads_laws.specs.Laws.{IsFormRead}
+use Rattle.ep_reads.specs.Laws.{IsFormRead}
 use Rattle.ep_cell_ranges.specs.Ranges.{Form}
 use Rattle.ep_cell_ranges.specs.Spots.{Spot}
-use Rattle.ep_cell_ranges_laws.specs.Follow.{FormFits}
-use Rattle.ep_cell_ranges_laws.specs.Sound.{IsAmong, at_first, behind, FitEach}
-use Rattle.ep_state_ranges.specs.Held.{at_spot, FitsAtEach}
+use Rattle.ep_cell_ranges.specs.Follow.{FormFits}
+use Rattle.ep_cell_ranges.specs.Sound.{IsAmong, at_first, behind, FitEach}
+use Rattle.ep_state_ranges.specs.HeldForms.{at_spot, FitsAtEach}
 use Rattle.ep_transfers.specs.Writes.{lacks, form_unless, new_cell, value_of_same}
 use Rattle.ep_transfer_places.specs.Room.{HaveRoom}
 use Rattle.ep_transfer_writes.specs.Waiting.{CanStand}

@@ -1,5 +1,8 @@
 -- A run of writes, one after the other.
 use Rattle.std.proofs.Common.{◌≡◌, ℕ, zero, suc, ◌+◌, ◌-◌, ◌<◌, Bool, List, [], ◌∷◌, refl, sym, ap, ◌∙◌, arith}
+use Rattle.ep_transfers.proofs.PieceReads.{no_further}
+use Rattle.ep_transfer_writes.proofs.Copying.{further}
+use Rattle.ep_transfers.proofs.Located.{next_of, zero_by}
 use Rattle.ep_int.specs.declared.types.Scalar.{Scalar}
 use Rattle.ep_domain.specs.Domain.{Ops}
 use Rattle.ep_equalities.specs.declared.pair.Mode.{Mode}
@@ -39,20 +42,8 @@ both_moved i j p =
     ap (λ xs. record { left = xs; right = moved_spots j (moved_spots i p.right) }) (moved_twice i j p.left)
     ∙ ap (λ xs. record { left = moved_spots (i + j) p.left; right = xs }) (moved_twice i j p.right)
 
-one_more : (i j : ℕ) → i + j + 1 ≡ i + (j + 1)
-one_more i j = omega arith
-
-zero_more : (b : ℕ) → 0 + b ≡ b
-zero_more b = omega arith
-
-more_zero : (b : ℕ) → b + 0 ≡ b
-more_zero b = omega arith
-
 suc_more : (a b : ℕ) → suc a + b ≡ suc (a + b)
 suc_more a b = omega arith
-
-later_by : (i a : ℕ) → i + 1 + a ≡ i + suc a
-later_by i a = omega arith
 
 module _ {N : Type 0} (D : Ops N) (m : Mode) (to : Bool) (w : Scalar) (p : Places) where
   -- from places further on
@@ -60,19 +51,19 @@ module _ {N : Type 0} (D : Ops N) (m : Mode) (to : Bool) (w : Scalar) (p : Place
       → write_run D m to w p (i + j) n u ≡ write_run D m to w (moved_places i p) j n u
   from_moved i zero j u = refl
   from_moved i (suc n) j u =
-      ap (λ q. write_run D m to w p q n (write D m to w (moved_places (i + j) p) u)) (one_more i j)
+      ap (λ q. write_run D m to w p q n (write D m to w (moved_places (i + j) p) u)) (further i j)
       ∙ from_moved i n (j + 1) (write D m to w (moved_places (i + j) p) u)
       ∙ ap (λ ps. write_run D m to w (moved_places i p) (j + 1) n (write D m to w ps u)) (sym (both_moved i j p))
 
   one_after : (a b i : ℕ) (u : Underway N)
       → write_run D m to w p i (a + b) u ≡ write_run D m to w p (i + a) b (write_run D m to w p i a u)
   one_after zero b i u =
-      ap (λ c. write_run D m to w p i c u) (zero_more b) ∙ sym (ap (λ q. write_run D m to w p q b u) (more_zero i))
+      ap (λ c. write_run D m to w p i c u) (zero_by b) ∙ sym (ap (λ q. write_run D m to w p q b u) (no_further i))
   one_after (suc a) b i u =
       let v = write D m to w (moved_places i p) u in
       ap (λ c. write_run D m to w p i c u) (suc_more a b)
       ∙ one_after a b (i + 1) v
-      ∙ ap (λ q. write_run D m to w p q b (write_run D m to w p (i + 1) a v)) (later_by i a)
+      ∙ ap (λ q. write_run D m to w p q b (write_run D m to w p (i + 1) a v)) (next_of i a)
 
   -- so many, and then so many more
   pub in_two : (a b : ℕ) (u v x : Underway N) → v ≡ write_run D m to w p 0 a u
@@ -80,7 +71,7 @@ module _ {N : Type 0} (D : Ops N) (m : Mode) (to : Bool) (w : Scalar) (p : Place
   in_two a b u v x e h =
       h
       ∙ sym (from_moved a b 0 v)
-      ∙ ap (λ q. write_run D m to w p q b v) (more_zero a ∙ sym (zero_more a))
+      ∙ ap (λ q. write_run D m to w p q b v) (no_further a ∙ sym (zero_by a))
       ∙ ap (write_run D m to w p (0 + a) b) e
       ∙ sym (one_after a b 0 u)
 

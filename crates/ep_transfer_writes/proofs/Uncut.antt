@@ -1,6 +1,7 @@
 -- Where no cell lies partly in a place, a cut of its first bytes doesn't matter once the place is written, and the
 -- place itself cuts nothing.
 use Rattle.std.proofs.Common.{◌≡◌, ℕ, ◌+◌, ◌≤◌, ◌<◌, Bool, true, false, ◌&&◌, ◌||◌, not, nat_eq, nat_lt, nat_le, cond}
+use Rattle.std.proofs.lemmas.Bool.{and_from, or_from, or_parts}
 use Rattle.std.proofs.Common.{List, [], ◌∷◌, map, Some, None, refl, ap, ◌∙◌, arith}
 use Rattle.std.specs.List.{filter}
 use Rattle.std.proofs.lemmas.Bool.Decides.{nat_tests}
@@ -11,7 +12,7 @@ use Rattle.ep_bitslice.specs.declared.cell.Side.{Side}
 use Rattle.ep_bitslice.specs.declared.cell.Side.TheVariants.{Left, Right, Shared}
 use Rattle.ep_domain.specs.Domain.{Ops}
 use Rattle.ep_cells.specs.declared.cell.Cell.{Cell}
-use Rattle.ep_cells.specs.declared.place.Place.{Place}
+use Rattle.ep_cells.specs.declared.place.ByteRange.{ByteRange}
 use Rattle.ep_cells.specs.Cells.{place_of, share_memory, side_without, touches, meets, encloses, is_partly_in, IsIn}
 use Rattle.ep_cells.specs.Cells.{first, later}
 use Rattle.ep_cells.specs.Forms.{form_after}
@@ -21,34 +22,26 @@ use Rattle.ep_cells.specs.States.{Known, AreCells}
 use Rattle.ep_reads.specs.Split.{cut_cells, split_all, split}
 use Rattle.ep_cell_ranges.specs.Ranges.{Form, with_cells, with_form, form_by_splits, split_at, cut, form_by_split}
 use Rattle.ep_cell_ranges.specs.Ranges.{form_by_cut, replaced, overwritten}
-use Rattle.ep_split_laws.specs.Laws.{SplitLaws}
-use Rattle.ep_cell_ranges_laws.specs.Laws.{MoreSplitLaws}
-use Rattle.ep_cells_laws.proofs.Places.{at}
+use Rattle.ep_reads.specs.SplitLaws.{SplitLaws}
+use Rattle.ep_cell_ranges.specs.Laws.{MoreSplitLaws}
+use Rattle.ep_cells.proofs.Places.{at}
 use Rattle.ep_transfer_writes.proofs.Absorbed.{IsTaken, AllTaken, wrote, all_split, form_split}
 
 -- ---- tests of lists
 
-or_false : (x y : Bool) → (x || y) ≡ false → (x ≡ false) × (y ≡ false)
-or_false true y h = absurd (let q : true ≡ false = h in cc)
-or_false false y h = (refl, h)
-
-both_false : (x y : Bool) → x ≡ false → y ≡ false → (x || y) ≡ false
-both_false true y h i = absurd (let q : true ≡ false = h in cc)
-both_false false y h i = i
-
 module _ {N : Type 0} where
-  pub none_in : (d : Model) (p : Place) (cs : List (Cell N)) → is_some_partly_in d p cs ≡ false → (x : Cell N)
+  pub none_in : (d : Model) (p : ByteRange) (cs : List (Cell N)) → is_some_partly_in d p cs ≡ false → (x : Cell N)
       → IsIn x cs → is_partly_in p (place_of d x) ≡ false
   none_in d p [] h x i = elim i [ ]
-  none_in d p (c ∷ cs) h _ (first _) = (or_false (is_partly_in p (place_of d c)) (is_some_partly_in d p cs) h).0
+  none_in d p (c ∷ cs) h _ (first _) = (or_parts (is_partly_in p (place_of d c)) (is_some_partly_in d p cs) h).0
   none_in d p (c ∷ cs) h x (later _ _ i) =
-      none_in d p cs (or_false (is_partly_in p (place_of d c)) (is_some_partly_in d p cs) h).1 x i
+      none_in d p cs (or_parts (is_partly_in p (place_of d c)) (is_some_partly_in d p cs) h).1 x i
 
-  pub none_from : (d : Model) (p : Place) (cs : List (Cell N))
+  pub none_from : (d : Model) (p : ByteRange) (cs : List (Cell N))
       → ((x : Cell N) → IsIn x cs → is_partly_in p (place_of d x) ≡ false) → is_some_partly_in d p cs ≡ false
   none_from d p [] h = refl
   none_from d p (c ∷ cs) h =
-      both_false (is_partly_in p (place_of d c)) (is_some_partly_in d p cs) (h c (first cs))
+      or_from (is_partly_in p (place_of d c)) (is_some_partly_in d p cs) (h c (first cs))
       (none_from d p cs (λ x i. h x (later c cs i)))
 
   filter_none : (test : Cell N → Bool) (cs : List (Cell N)) → ((x : Cell N) → IsIn x cs → test x ≡ false)
@@ -76,7 +69,7 @@ module _ {N : Type 0} where
 
 -- ---- places
 
-pub on_side : Place → Side → Place
+pub on_side : ByteRange → Side → ByteRange
 on_side p s = record p { side = s }
 
 -- the sides of a place have what it has
@@ -108,10 +101,6 @@ enclosed_by m t true h i = refl
 enclosed_by true t false h i = absurd (let q : true ≡ false = i in cc)
 enclosed_by false t false h i = absurd (let q : false ≡ true = h in cc)
 
-and_true : (x y : Bool) → x ≡ true → y ≡ true → (x && y) ≡ true
-and_true true y e f = f
-and_true false y e f = absurd (let q : false ≡ true = e in cc)
-
 module _ {N : Type 0} (d : Model) (s : Side) (b a m all : ℕ) (within : m ≤ all) where
   -- what is cut in the first bytes lies in the place
   pub cut_taken : (q : Side) (x : Cell N) → side_without s q ≡ None
@@ -124,7 +113,7 @@ module _ {N : Type 0} (d : Model) (s : Side) (b a m all : ℕ) (within : m ≤ a
       let met = touch_more b a m all x.block x.offset (size_of d x.what) within h.1 in
       let inside = enclosed_by (meets (at s b a all) (place_of d x)) true
       (encloses (at s b a all) (place_of d x))
-      (and_true (share_memory s x.side) (touches (at s b a all) (place_of d x))
+      (and_from (share_memory s x.side) (touches (at s b a all) (place_of d x))
       (shares_more s q x.side e h.0) met)
       none in
       record {

@@ -8,7 +8,7 @@ use Rattle.ep_bitslice.specs.declared.cell.Side.TheVariants as cell_side
 use Rattle.ep_domain.specs.Domain.{Ops}
 use Rattle.ep_cells.specs.declared.cell.Cell.{Cell}
 use Rattle.ep_cells.specs.Forms.{common_form}
-use Rattle.ep_cells.specs.declared.place.Place.{Place}
+use Rattle.ep_cells.specs.declared.place.ByteRange.{ByteRange}
 use Rattle.ep_cell_ranges.specs.Ranges.{Form, replaced, form_by_replace}
 use Rattle.ep_cell_ranges.specs.Spots.{Spot}
 use Rattle.ep_core.specs.Runs.{left, right}
@@ -47,7 +47,7 @@ copies c zero = []
 copies c (suc n) = c ∷ copies (record c { offset = c.offset + 1 }) n
 
 -- where they lie
-abbrev pub range_of : {N : Type 0} → Cell N → (count : ℕ) → Place
+abbrev pub range_of : {N : Type 0} → Cell N → (count : ℕ) → ByteRange
 range_of c n = record { side = c.side; block = c.block; offset = c.offset; bytes = n }
 
 -- all of them are written at once

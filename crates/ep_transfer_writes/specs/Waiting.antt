@@ -6,7 +6,7 @@ use Rattle.ep_cells.specs.States.{Known, IsOfSort, IsCell, HasForm}
 use Rattle.ep_core.specs.Runs.{Side, left, right}
 use Rattle.ep_cell_ranges.specs.Ranges.{Form}
 use Rattle.ep_cell_ranges.specs.Spots.{Spot, is_same_spot}
-use Rattle.ep_cell_ranges_laws.specs.Follow.{FormFits}
+use Rattle.ep_cell_ranges.specs.Follow.{FormFits}
 use Rattle.ep_equalities.specs.declared.pair.SideValue.{SideValue}
 use Rattle.ep_evaluation.specs.Given.{pair}
 use Rattle.ep_transfers.specs.Writes as spec
@@ -15,11 +15,11 @@ use Rattle.ep_transfer_writes.specs.declared.item.Underway.{Underway}
 use Rattle.ep_transfer_writes.specs.declared.sides.On.{On}
 use Rattle.ep_transfer_writes.specs.declared.sides.On.TheVariants.{Left, Right}
 
-abbrev pub shown_item : {N : Type 0} → Item N → spec.Item N
-shown_item i = record { pair = i.pair; left_maybe = i.left_maybe; right_maybe = i.right_maybe; same = i.same }
+abbrev pub item_view : {N : Type 0} → Item N → spec.Item N
+item_view i = record { pair = i.pair; left_maybe = i.left_maybe; right_maybe = i.right_maybe; same = i.same }
 
-abbrev pub shown : {N : Type 0} → Underway N → spec.Underway N
-shown u = spec.underway u.state (shown_item u.item)
+abbrev pub view : {N : Type 0} → Underway N → spec.Underway N
+view u = spec.underway u.state (item_view u.item)
 
 abbrev pub side_of : On → Side
 side_of Left = left

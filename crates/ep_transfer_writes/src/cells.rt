@@ -4,25 +4,25 @@ ghost use Rattle.std.specs.Prelude.{◌≡◌, ◌≤◌, ◌+◌, ◌^◌, IfOk
 ghost use Rattle.ep_int.specs.Types.{size_of};
 ghost use Rattle.ep_cells.specs.Cells.{place_of};
 ghost use Rattle.ep_cells.specs.Forms.{common_form};
-ghost use Rattle.ep_cell_ranges_laws.specs.Follow.{FormFits};
+ghost use Rattle.ep_cell_ranges.specs.Follow.{FormFits};
 ghost use Rattle.ep_transfers.specs.Writes as spec;
-ghost use Rattle.ep_transfer_writes.specs.Waiting.{shown_item, ItemFits, CanStand, side_of};
+ghost use Rattle.ep_transfer_writes.specs.Waiting.{item_view, ItemFits, CanStand, side_of};
 
 use crate::item::Item;
 use crate::sides::On;
 use ep_bitslice::{Form, Side};
 use ep_cell_rows::values::{boxed, copy_form, copy_value, have_same_form, met_value, rises};
-use ep_cells::{Cell, Place, Value};
+use ep_cells::{ByteRange, Cell, Value};
 use ep_domain::Num;
 use ep_int::{Memory, Model, Scalar};
 use ep_states::State;
 use std::alloc::Global;
 
 /// Where a cell lies.
-pub(crate) fn place_of<N: Num>(model: Model, c: &Cell<N>) -> Place
+pub(crate) fn place_of<N: Num>(model: Model, c: &Cell<N>) -> ByteRange
     ensures { result ≡ place_of model c.now }
 {
-    Place {
+    ByteRange {
         side: c.side,
         block: c.block,
         offset: c.offset,
@@ -78,10 +78,10 @@ pub(crate) fn side_cell<N: Num>(
     form: Option<Form>,
     spot: (u32, u32),
 ) -> Result<Cell<N>, Memory>
-    requires item { ItemFits state.now what (shown_item item.now) }
+    requires item { ItemFits state.now what (item_view item.now) }
     requires form { FormFits state.now.cells what form }
     requires room { spot.1 + size_of state.now.model what ≤ 2 ^ 32 }
-    ensures value { IfOk result (λ c. c ≡ spec.side_cell N.ops (side_of side) what (shown_item item.now) form spot) }
+    ensures value { IfOk result (λ c. c ≡ spec.side_cell N.ops (side_of side) what (item_view item.now) form spot) }
     ensures stands { IfOk result (λ c. CanStand state.now c) }
 {
     let value = copy_value(&side.of(&item.pair).value)?;
@@ -129,10 +129,10 @@ pub(crate) fn shared_cell<N: Num>(
     form: Option<Form>,
     spot: (u32, u32),
 ) -> Result<Cell<N>, Memory>
-    requires item { ItemFits state.now what (shown_item item.now) }
+    requires item { ItemFits state.now what (item_view item.now) }
     requires form { FormFits state.now.cells what form }
     requires room { spot.1 + size_of state.now.model what ≤ 2 ^ 32 }
-    ensures value { IfOk result (λ c. c ≡ spec.shared_cell N.ops what (shown_item item.now) form spot) }
+    ensures value { IfOk result (λ c. c ≡ spec.shared_cell N.ops what (item_view item.now) form spot) }
     ensures stands { IfOk result (λ c. CanStand state.now c) }
 {
     let value = met_with(&item.pair.left.value, &item.pair.right.value)?;

@@ -1,15 +1,15 @@
 //! A cell is written at its place, or may be written at each of several.
 
 ghost use Rattle.std.specs.Prelude.{◌≡◌, ◌++◌, ◌∷◌, [], IfOk, None, true, slice_index_or};
-ghost use Rattle.ep_cell_ranges_laws.specs.Sound.{FitEach};
-ghost use Rattle.ep_state_ranges.specs.Held.{at_spot};
+ghost use Rattle.ep_cell_ranges.specs.Sound.{FitEach};
+ghost use Rattle.ep_state_ranges.specs.HeldForms.{at_spot};
 ghost use Rattle.ep_transfers.specs.Writes as spec;
-ghost use Rattle.ep_transfer_writes.specs.Waiting.{shown, shown_item, with_forms, CanStand, Keeps};
+ghost use Rattle.ep_transfer_writes.specs.Waiting.{view, item_view, with_forms, CanStand, Keeps};
 
 use crate::cells::place_of;
 use crate::item::{Item, Underway};
 use ep_bitslice::{BoxedForm, Form, Side};
-use ep_cell_ranges_laws::{replace_laws, weak_each_laws};
+use ep_cell_ranges::{replace_laws, weak_each_laws};
 use ep_cell_rows::values::{boxed, copy_form, form_of};
 use ep_cells::Cell;
 use ep_domain::Num;
@@ -55,7 +55,7 @@ fn form_at(held: &[Option<BoxedForm>], i: usize) -> Option<Form>
 
 /// The item with the first two of these forms.
 pub(crate) fn with_forms<N: Num>(item: Item<N>, held: &[Option<BoxedForm>]) -> Item<N>
-    ensures { shown_item result ≡ with_forms held.now (shown_item item) }
+    ensures { item_view result ≡ with_forms held.now (item_view item) }
 {
     let left = form_at(held, 0);
     let right = form_at(held, 1);
@@ -91,8 +91,8 @@ fn one<N: Num>(alloc: Global, c: Cell<N>) -> Result<Vec<Cell<N>>, Memory>
 /// A cell is written at its place.
 pub(crate) fn strongly<N: Num>(c: Cell<N>, u: Underway<N>) -> Result<Underway<N>, Memory>
     requires { CanStand u.state c }
-    ensures value { IfOk result (λ r. shown r ≡ spec.strongly N.ops c (shown u)) }
-    ensures keeps { IfOk result (λ r. Keeps (shown u) (shown r)) }
+    ensures value { IfOk result (λ r. view r ≡ spec.strongly N.ops c (view u)) }
+    ensures keeps { IfOk result (λ r. Keeps (view u) (view r)) }
 {
     replace_laws::<N>();
     let alloc = u.state.allocator();
@@ -116,9 +116,9 @@ pub(crate) fn weakly_each<N: Num>(
 ) -> Result<Underway<N>, Memory>
     requires fits { FitEach u.state.model (at_spot c.now) shared_stays spots.now }
     requires stays { shared_stays ≡ true → c.now.side ≡ Side.Shared }
-    ensures value { IfOk result (λ r. shown r
-        ≡ spec.weakly_each N.ops (at_spot c.now) shared_stays spots.now (shown u)) }
-    ensures keeps { IfOk result (λ r. Keeps (shown u) (shown r)) }
+    ensures value { IfOk result (λ r. view r
+        ≡ spec.weakly_each N.ops (at_spot c.now) shared_stays spots.now (view u)) }
+    ensures keeps { IfOk result (λ r. Keeps (view u) (view r)) }
 {
     weak_each_laws::<N>();
     u.state.model();

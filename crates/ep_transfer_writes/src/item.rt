@@ -2,7 +2,7 @@
 
 ghost use Rattle.std.specs.Prelude.{◌≡◌};
 ghost use Rattle.ep_transfers.specs.Writes as spec;
-ghost use Rattle.ep_transfer_writes.specs.Waiting.{shown_item};
+ghost use Rattle.ep_transfer_writes.specs.Waiting.{item_view};
 
 use ep_domain::Num;
 use ep_equalities::{PairValue, same};
@@ -28,7 +28,7 @@ pub struct Underway<N> {
 impl<N: Num> Item<N> {
     /// A pair that surely has values.
     pub fn of(pair: PairValue<N>) -> Self
-        ensures { shown_item result ≡ spec.item_of N.ops pair }
+        ensures { item_view result ≡ spec.item_of N.ops pair }
     {
         let same = same(&pair);
         Item {

@@ -5,8 +5,8 @@ ghost use Rattle.ep_int.specs.Types.{size_of};
 ghost use Rattle.ep_cells.specs.Look.{is_some_partly_in};
 ghost use Rattle.ep_cells.specs.Forms.{common_form};
 ghost use Rattle.ep_transfers.specs.Writes as spec;
-ghost use Rattle.ep_transfer_places.specs.Room.{shown as shown_places};
-ghost use Rattle.ep_transfer_writes.specs.Waiting.{shown, shown_item, CanStand, ItemFits, Keeps};
+ghost use Rattle.ep_transfer_places.specs.Room.{view as shown_places};
+ghost use Rattle.ep_transfer_writes.specs.Waiting.{view, item_view, CanStand, ItemFits, Keeps};
 ghost use Rattle.ep_transfer_writes.specs.Running.{Agree, RunsAt, item_cell, copies, range_of, range_written};
 
 use crate::cells::{common_form, shared_cell, side_cell};
@@ -15,9 +15,9 @@ use crate::item::{Item, Underway};
 use crate::sides::On;
 use crate::writes::one_spot;
 use ep_bitslice::{Form, Side};
-use ep_cell_ranges_laws::replace_laws;
+use ep_cell_ranges::replace_laws;
 use ep_cell_rows::values::{copy_boxed, copy_form, copy_value};
-use ep_cells::{Cell, Place};
+use ep_cells::{ByteRange, Cell};
 use ep_domain::Num;
 use ep_equalities::Mode;
 use ep_int::{IntType, Memory, Scalar};
@@ -58,7 +58,7 @@ fn one_at(side: Side, spots: &[(u32, u32)]) -> Option<(Side, (u32, u32))>
 }
 
 fn both_at<N: Num>(same_to: bool, places: &Places, item: &Item<N>) -> Option<(Side, (u32, u32))>
-    ensures { IfSome result (RunsAt Mode.Both same_to (shown_places places.now) (shown_item item.now)) }
+    ensures { IfSome result (RunsAt Mode.Both same_to (shown_places places.now) (item_view item.now)) }
 {
     if !same_to {
         return None;
@@ -82,7 +82,7 @@ pub fn run_at<N: Num>(
     places: &Places,
     item: &Item<N>,
 ) -> Option<(Side, (u32, u32))>
-    ensures { IfSome result (RunsAt mode same_to (shown_places places.now) (shown_item item.now)) }
+    ensures { IfSome result (RunsAt mode same_to (shown_places places.now) (item_view item.now)) }
 {
     match mode {
         Mode::Both => both_at(same_to, places, item),
@@ -100,7 +100,7 @@ pub fn is_whole<N: Num>(state: &State<N>, side: Side, spot: (u32, u32), bytes: u
     if bytes == 0 {
         return false;
     }
-    !state.partly(&Place {
+    !state.partly(&ByteRange {
         side,
         block: spot.0,
         offset: spot.1,
@@ -113,7 +113,7 @@ pub(crate) fn cut_at_end<N: Num>(state: &State<N>, side: Side, spot: (u32, u32),
     ensures { result ≤ bytes }
 {
     for k in 0..bytes.min(8) {
-        let place = Place {
+        let place = ByteRange {
             side,
             block: spot.0,
             offset: spot.1,
@@ -169,9 +169,9 @@ pub fn item_cell<N: Num>(
     item: &Item<N>,
     spot: (u32, u32),
 ) -> Result<Cell<N>, Memory>
-    requires item { ItemFits state.now what (shown_item item.now) }
+    requires item { ItemFits state.now what (item_view item.now) }
     requires room { spot.1 + size_of state.now.model what ≤ 2 ^ 32 }
-    ensures value { IfOk result (λ c. c ≡ item_cell N.ops side what (shown_item item.now) spot) }
+    ensures value { IfOk result (λ c. c ≡ item_cell N.ops side what (item_view item.now) spot) }
     ensures stands { IfOk result (λ c. CanStand state.now c) }
 {
     match side {
@@ -199,13 +199,13 @@ pub(crate) fn write_range<N: Num>(
     requires stands { CanStand u.state c.now }
     requires byte { c.now.what ≡ Scalar.Int IntType.U8 }
     requires room { c.now.offset + bytes ≤ 2 ^ 32 }
-    ensures value { IfOk result (λ r. shown r ≡ range_written N.ops c.now bytes (shown u)) }
-    ensures keeps { IfOk result (λ r. Keeps (shown u) (shown r)) }
+    ensures value { IfOk result (λ r. view r ≡ range_written N.ops c.now bytes (view u)) }
+    ensures keeps { IfOk result (λ r. Keeps (view u) (view r)) }
 {
     replace_laws::<N>();
     u.state.model();
     let alloc = u.state.allocator();
-    let place = Place {
+    let place = ByteRange {
         side: c.side,
         block: c.block,
         offset: c.offset,

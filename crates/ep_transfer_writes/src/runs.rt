@@ -3,8 +3,8 @@
 ghost use Rattle.std.specs.Prelude.{◌≡◌, ◌<◌, ◌+◌, IfOk};
 ghost use Rattle.ep_transfers.specs.Writes as spec;
 ghost use Rattle.ep_transfers.specs.Places.{moved_places};
-ghost use Rattle.ep_transfer_places.specs.Room.{BothHaveRoom, shown as shown_places};
-ghost use Rattle.ep_transfer_writes.specs.Waiting.{shown, shown_item, ItemFits, Keeps};
+ghost use Rattle.ep_transfer_places.specs.Room.{BothHaveRoom, view as shown_places};
+ghost use Rattle.ep_transfer_writes.specs.Waiting.{view, item_view, ItemFits, Keeps};
 ghost use Rattle.ep_transfer_writes.specs.Running.{RunsAt};
 
 use crate::changes::{forms, with_forms};
@@ -12,11 +12,11 @@ use crate::item::Underway;
 use crate::ranges::{cut_at_end, is_whole, item_cell, run_at, write_range};
 use crate::writes::write;
 use ep_bitslice::Side;
-use ep_cell_ranges_laws::{blur_laws, more_split_laws, replace_laws};
+use ep_cell_ranges::{blur_laws, more_split_laws, replace_laws};
 use ep_domain::Num;
 use ep_equalities::Mode;
 use ep_int::{IntType, Memory, Scalar};
-use ep_split_laws::split_laws;
+use ep_reads::split_laws;
 use ep_state_ranges::blur_each;
 use ep_transfer_places::Places;
 use ep_transfer_places::places::moved_places;
@@ -28,11 +28,11 @@ fn write_byte<N: Num>(
     at: u32,
     u: Underway<N>,
 ) -> Result<Underway<N>, Memory>
-    requires item { ItemFits u.state (Scalar.Int IntType.U8) (shown_item u.item) }
+    requires item { ItemFits u.state (Scalar.Int IntType.U8) (item_view u.item) }
     requires room { BothHaveRoom (at + 1) (shown_places places.now) }
-    ensures value { IfOk result (λ r. shown r ≡ spec.write N.ops mode same_to (Scalar.Int IntType.U8)
-        (moved_places at (shown_places places.now)) (shown u)) }
-    ensures keeps { IfOk result (λ r. Keeps (shown u) (shown r)) }
+    ensures value { IfOk result (λ r. view r ≡ spec.write N.ops mode same_to (Scalar.Int IntType.U8)
+        (moved_places at (shown_places places.now)) (view u)) }
+    ensures keeps { IfOk result (λ r. Keeps (view u) (view r)) }
 {
     let moved = moved_places(u.state.allocator(), at, places)?;
     write(mode, same_to, Scalar::Int(IntType::U8), &moved, u)
@@ -46,11 +46,11 @@ fn write_in_turn<N: Num>(
     bytes: u32,
     u: Underway<N>,
 ) -> Result<Underway<N>, Memory>
-    requires item { ItemFits u.state (Scalar.Int IntType.U8) (shown_item u.item) }
+    requires item { ItemFits u.state (Scalar.Int IntType.U8) (item_view u.item) }
     requires room { BothHaveRoom bytes (shown_places places.now) }
-    ensures value { IfOk result (λ r. shown r ≡ spec.write_run N.ops mode same_to (Scalar.Int IntType.U8)
-        (shown_places places.now) 0 bytes (shown u)) }
-    ensures keeps { IfOk result (λ r. Keeps (shown u) (shown r)) }
+    ensures value { IfOk result (λ r. view r ≡ spec.write_run N.ops mode same_to (Scalar.Int IntType.U8)
+        (shown_places places.now) 0 bytes (view u)) }
+    ensures keeps { IfOk result (λ r. Keeps (view u) (view r)) }
 {
     let mut after = u;
     for i in 0..bytes {
@@ -67,12 +67,12 @@ fn write_at_one<N: Num>(
     bytes: u32,
     u: Underway<N>,
 ) -> Result<Underway<N>, Memory>
-    requires item { ItemFits u.state (Scalar.Int IntType.U8) (shown_item u.item) }
+    requires item { ItemFits u.state (Scalar.Int IntType.U8) (item_view u.item) }
     requires room { BothHaveRoom bytes (shown_places places.now) }
-    requires runs { RunsAt mode same_to (shown_places places.now) (shown_item u.item) at }
-    ensures value { IfOk result (λ r. shown r ≡ spec.write_run N.ops mode same_to (Scalar.Int IntType.U8)
-        (shown_places places.now) 0 bytes (shown u)) }
-    ensures keeps { IfOk result (λ r. Keeps (shown u) (shown r)) }
+    requires runs { RunsAt mode same_to (shown_places places.now) (item_view u.item) at }
+    ensures value { IfOk result (λ r. view r ≡ spec.write_run N.ops mode same_to (Scalar.Int IntType.U8)
+        (shown_places places.now) 0 bytes (view u)) }
+    ensures keeps { IfOk result (λ r. Keeps (view u) (view r)) }
 {
     split_laws::<N>();
     more_split_laws::<N>();
@@ -94,11 +94,11 @@ fn write_part<N: Num>(
     bytes: u32,
     u: Underway<N>,
 ) -> Result<Underway<N>, Memory>
-    requires item { ItemFits u.state (Scalar.Int IntType.U8) (shown_item u.item) }
+    requires item { ItemFits u.state (Scalar.Int IntType.U8) (item_view u.item) }
     requires room { BothHaveRoom bytes (shown_places places.now) }
-    ensures value { IfOk result (λ r. shown r ≡ spec.write_run N.ops mode same_to (Scalar.Int IntType.U8)
-        (shown_places places.now) 0 bytes (shown u)) }
-    ensures keeps { IfOk result (λ r. Keeps (shown u) (shown r)) }
+    ensures value { IfOk result (λ r. view r ≡ spec.write_run N.ops mode same_to (Scalar.Int IntType.U8)
+        (shown_places places.now) 0 bytes (view u)) }
+    ensures keeps { IfOk result (λ r. Keeps (view u) (view r)) }
 {
     match run_at(mode, same_to, places, &u.item) {
         None => write_in_turn(mode, same_to, places, bytes, u),
@@ -114,12 +114,12 @@ fn write_two<N: Num>(
     bytes: (u32, u32),
     u: Underway<N>,
 ) -> Result<Underway<N>, Memory>
-    requires item { ItemFits u.state (Scalar.Int IntType.U8) (shown_item u.item) }
+    requires item { ItemFits u.state (Scalar.Int IntType.U8) (item_view u.item) }
     requires room { BothHaveRoom (bytes.0 + bytes.1) (shown_places places.now) }
     requires more { 0 < bytes.1 }
-    ensures value { IfOk result (λ r. shown r ≡ spec.write_run N.ops mode same_to (Scalar.Int IntType.U8)
-        (shown_places places.now) 0 (bytes.0 + bytes.1) (shown u)) }
-    ensures keeps { IfOk result (λ r. Keeps (shown u) (shown r)) }
+    ensures value { IfOk result (λ r. view r ≡ spec.write_run N.ops mode same_to (Scalar.Int IntType.U8)
+        (shown_places places.now) 0 (bytes.0 + bytes.1) (view u)) }
+    ensures keeps { IfOk result (λ r. Keeps (view u) (view r)) }
 {
     let before = write_part(mode, same_to, places, bytes.0, u)?;
     let moved = moved_places(before.state.allocator(), bytes.0, places)?;
@@ -136,11 +136,11 @@ fn write_to_end<N: Num>(
     bytes: u32,
     u: Underway<N>,
 ) -> Result<Underway<N>, Memory>
-    requires item { ItemFits u.state (Scalar.Int IntType.U8) (shown_item u.item) }
+    requires item { ItemFits u.state (Scalar.Int IntType.U8) (item_view u.item) }
     requires room { BothHaveRoom bytes (shown_places places.now) }
-    ensures value { IfOk result (λ r. shown r ≡ spec.write_run N.ops mode same_to (Scalar.Int IntType.U8)
-        (shown_places places.now) 0 bytes (shown u)) }
-    ensures keeps { IfOk result (λ r. Keeps (shown u) (shown r)) }
+    ensures value { IfOk result (λ r. view r ≡ spec.write_run N.ops mode same_to (Scalar.Int IntType.U8)
+        (shown_places places.now) 0 bytes (view u)) }
+    ensures keeps { IfOk result (λ r. Keeps (view u) (view r)) }
 {
     let last = cut_at_end(&u.state, at.0, at.1, bytes);
     if last == 0 {
@@ -158,12 +158,12 @@ fn write_after_first<N: Num>(
     bytes: u32,
     u: Underway<N>,
 ) -> Result<Underway<N>, Memory>
-    requires item { ItemFits u.state (Scalar.Int IntType.U8) (shown_item u.item) }
+    requires item { ItemFits u.state (Scalar.Int IntType.U8) (item_view u.item) }
     requires room { BothHaveRoom bytes (shown_places places.now) }
     requires more { 1 < bytes }
-    ensures value { IfOk result (λ r. shown r ≡ spec.write_run N.ops mode same_to (Scalar.Int IntType.U8)
-        (shown_places places.now) 0 bytes (shown u)) }
-    ensures keeps { IfOk result (λ r. Keeps (shown u) (shown r)) }
+    ensures value { IfOk result (λ r. view r ≡ spec.write_run N.ops mode same_to (Scalar.Int IntType.U8)
+        (shown_places places.now) 0 bytes (view u)) }
+    ensures keeps { IfOk result (λ r. Keeps (view u) (view r)) }
 {
     let before = write_part(mode, same_to, places, 1, u)?;
     let moved = moved_places(before.state.allocator(), 1, places)?;
@@ -180,11 +180,11 @@ fn write_around<N: Num>(
     bytes: u32,
     u: Underway<N>,
 ) -> Result<Underway<N>, Memory>
-    requires item { ItemFits u.state (Scalar.Int IntType.U8) (shown_item u.item) }
+    requires item { ItemFits u.state (Scalar.Int IntType.U8) (item_view u.item) }
     requires room { BothHaveRoom bytes (shown_places places.now) }
-    ensures value { IfOk result (λ r. shown r ≡ spec.write_run N.ops mode same_to (Scalar.Int IntType.U8)
-        (shown_places places.now) 0 bytes (shown u)) }
-    ensures keeps { IfOk result (λ r. Keeps (shown u) (shown r)) }
+    ensures value { IfOk result (λ r. view r ≡ spec.write_run N.ops mode same_to (Scalar.Int IntType.U8)
+        (shown_places places.now) 0 bytes (view u)) }
+    ensures keeps { IfOk result (λ r. Keeps (view u) (view r)) }
 {
     if bytes < 16 {
         return write_part(mode, same_to, places, bytes, u);
@@ -204,11 +204,11 @@ pub fn write_run<N: Num>(
     bytes: u32,
     underway: Underway<N>,
 ) -> Result<Underway<N>, Memory>
-    requires item { ItemFits underway.state (Scalar.Int IntType.U8) (shown_item underway.item) }
+    requires item { ItemFits underway.state (Scalar.Int IntType.U8) (item_view underway.item) }
     requires room { BothHaveRoom bytes (shown_places places.now) }
-    ensures value { IfOk result (λ r. shown r ≡ spec.write_run N.ops mode same_to (Scalar.Int IntType.U8)
-        (shown_places places.now) 0 bytes (shown underway)) }
-    ensures keeps { IfOk result (λ r. Keeps (shown underway) (shown r)) }
+    ensures value { IfOk result (λ r. view r ≡ spec.write_run N.ops mode same_to (Scalar.Int IntType.U8)
+        (shown_places places.now) 0 bytes (view underway)) }
+    ensures keeps { IfOk result (λ r. Keeps (view underway) (view r)) }
 {
     match run_at(mode, same_to, places, &underway.item) {
         None => write_in_turn(mode, same_to, places, bytes, underway),
@@ -223,9 +223,9 @@ pub fn blurred_side<N: Num>(
     spots: &[(u32, u32)],
     underway: Underway<N>,
 ) -> Result<Underway<N>, Memory>
-    ensures value { IfOk result (λ r. shown r
-        ≡ spec.blurred_side N.ops side bytes spots.now (shown underway)) }
-    ensures keeps { IfOk result (λ r. Keeps (shown underway) (shown r)) }
+    ensures value { IfOk result (λ r. view r
+        ≡ spec.blurred_side N.ops side bytes spots.now (view underway)) }
+    ensures keeps { IfOk result (λ r. Keeps (view underway) (view r)) }
 {
     blur_laws::<N>();
     let held = forms(underway.state.allocator(), &underway.item.pair)?;

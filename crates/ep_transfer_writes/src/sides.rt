@@ -4,8 +4,8 @@ ghost use Rattle.std.specs.Prelude.{◌≡◌, ◌+◌, ◌^◌, ◌≤◌, IfOk
 ghost use Rattle.ep_int.specs.Types.{size_of};
 ghost use Rattle.ep_evaluation.specs.Given.{cells_of, on};
 ghost use Rattle.ep_transfers.specs.Writes as spec;
-ghost use Rattle.ep_transfer_places.specs.Room.{HaveRoom, BothHaveRoom, shown as shown_places};
-ghost use Rattle.ep_transfer_writes.specs.Waiting.{shown, shown_item, ItemFits, Keeps, side_of};
+ghost use Rattle.ep_transfer_places.specs.Room.{HaveRoom, BothHaveRoom, view as shown_places};
+ghost use Rattle.ep_transfer_writes.specs.Waiting.{view, item_view, ItemFits, Keeps, side_of};
 
 use crate::cells::side_cell;
 use crate::changes::{strongly, weakly_each};
@@ -47,7 +47,7 @@ impl On {
 
     /// Whether what it has may be undefined.
     pub(crate) fn maybe<N>(self, item: &Item<N>) -> bool
-        ensures { result ≡ spec.maybe_on (shown_item item.now) (side_of self) }
+        ensures { result ≡ spec.maybe_on (item_view item.now) (side_of self) }
     {
         match self {
             On::Left => item.left_maybe,
@@ -62,12 +62,12 @@ fn write_one<N: Num>(
     spot: (u32, u32),
     u: Underway<N>,
 ) -> Result<Underway<N>, Memory>
-    requires item { ItemFits u.state what (shown_item u.item) }
+    requires item { ItemFits u.state what (item_view u.item) }
     requires room { spot.1 + size_of u.state.model what ≤ 2 ^ 32 }
-    ensures value { IfOk result (λ r. shown r ≡ spec.strongly N.ops
-        (spec.side_cell N.ops (side_of side) what (shown_item u.item) (on u.item.pair (side_of side)).form spot)
-        (shown u)) }
-    ensures keeps { IfOk result (λ r. Keeps (shown u) (shown r)) }
+    ensures value { IfOk result (λ r. view r ≡ spec.strongly N.ops
+        (spec.side_cell N.ops (side_of side) what (item_view u.item) (on u.item.pair (side_of side)).form spot)
+        (view u)) }
+    ensures keeps { IfOk result (λ r. Keeps (view u) (view r)) }
 {
     let form = copy_form(&side.of(&u.item.pair).form);
     let c = side_cell(&u.state, side, what, &u.item, form, spot)?;
@@ -80,11 +80,11 @@ fn write_each<N: Num>(
     spots: &[(u32, u32)],
     u: Underway<N>,
 ) -> Result<Underway<N>, Memory>
-    requires item { ItemFits u.state what (shown_item u.item) }
+    requires item { ItemFits u.state what (item_view u.item) }
     requires room { HaveRoom (size_of u.state.model what) spots.now }
-    ensures value { IfOk result (λ r. shown r ≡ spec.weakly_each N.ops
-        (spec.side_cell N.ops (side_of side) what (shown_item u.item) None) false spots.now (shown u)) }
-    ensures keeps { IfOk result (λ r. Keeps (shown u) (shown r)) }
+    ensures value { IfOk result (λ r. view r ≡ spec.weakly_each N.ops
+        (spec.side_cell N.ops (side_of side) what (item_view u.item) None) false spots.now (view u)) }
+    ensures keeps { IfOk result (λ r. Keeps (view u) (view r)) }
 {
     let c = side_cell(&u.state, side, what, &u.item, None, (0, 0))?;
     weakly_each(&c, false, spots, u)
@@ -97,10 +97,10 @@ pub(crate) fn write_side<N: Num>(
     spots: &[(u32, u32)],
     u: Underway<N>,
 ) -> Result<Underway<N>, Memory>
-    requires item { ItemFits u.state what (shown_item u.item) }
+    requires item { ItemFits u.state what (item_view u.item) }
     requires room { HaveRoom (size_of u.state.model what) spots.now }
-    ensures value { IfOk result (λ r. shown r ≡ spec.write_side N.ops (side_of side) what spots.now (shown u)) }
-    ensures keeps { IfOk result (λ r. Keeps (shown u) (shown r)) }
+    ensures value { IfOk result (λ r. view r ≡ spec.write_side N.ops (side_of side) what spots.now (view u)) }
+    ensures keeps { IfOk result (λ r. Keeps (view u) (view r)) }
 {
     match spots {
         [] => Ok(u),
@@ -115,10 +115,10 @@ pub(crate) fn write_sides<N: Num>(
     places: &Places,
     u: Underway<N>,
 ) -> Result<Underway<N>, Memory>
-    requires item { ItemFits u.state what (shown_item u.item) }
+    requires item { ItemFits u.state what (item_view u.item) }
     requires room { BothHaveRoom (size_of u.state.model what) (shown_places places.now) }
-    ensures value { IfOk result (λ r. shown r ≡ spec.write_sides N.ops what (shown_places places.now) (shown u)) }
-    ensures keeps { IfOk result (λ r. Keeps (shown u) (shown r)) }
+    ensures value { IfOk result (λ r. view r ≡ spec.write_sides N.ops what (shown_places places.now) (view u)) }
+    ensures keeps { IfOk result (λ r. Keeps (view u) (view r)) }
 {
     let left = write_side(On::Left, what, &places.left, u)?;
     let right = write_side(On::Right, what, &places.right, left)?;

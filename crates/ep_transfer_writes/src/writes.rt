@@ -5,8 +5,8 @@ ghost use Rattle.ep_int.specs.Types.{size_of};
 ghost use Rattle.ep_cells.specs.Forms.{common_form};
 ghost use Rattle.ep_cell_ranges.specs.Spots.{is_same_spot};
 ghost use Rattle.ep_transfers.specs.Writes as spec;
-ghost use Rattle.ep_transfer_places.specs.Room.{HaveRoom, BothHaveRoom, shown as shown_places};
-ghost use Rattle.ep_transfer_writes.specs.Waiting.{shown, shown_item, one_spot, ItemFits, Keeps};
+ghost use Rattle.ep_transfer_places.specs.Room.{HaveRoom, BothHaveRoom, view as shown_places};
+ghost use Rattle.ep_transfer_writes.specs.Waiting.{view, item_view, one_spot, ItemFits, Keeps};
 
 use crate::cells::{common_form, shared_cell};
 use crate::changes::{strongly, weakly_each};
@@ -26,10 +26,10 @@ fn write_shared<N: Num>(
     spot: (u32, u32),
     u: Underway<N>,
 ) -> Result<Underway<N>, Memory>
-    requires item { ItemFits u.state what (shown_item u.item) }
+    requires item { ItemFits u.state what (item_view u.item) }
     requires room { spot.1 + size_of u.state.model what ≤ 2 ^ 32 }
-    ensures value { IfOk result (λ r. shown r ≡ spec.write_shared N.ops what spot (shown u)) }
-    ensures keeps { IfOk result (λ r. Keeps (shown u) (shown r)) }
+    ensures value { IfOk result (λ r. view r ≡ spec.write_shared N.ops what spot (view u)) }
+    ensures keeps { IfOk result (λ r. Keeps (view u) (view r)) }
 {
     let form = common_form(&u.item.pair.left.form, &u.item.pair.right.form);
     let c = shared_cell(&u.state, what, &u.item, form, spot)?;
@@ -41,10 +41,10 @@ fn write_shared_each<N: Num>(
     spots: &[(u32, u32)],
     u: Underway<N>,
 ) -> Result<Underway<N>, Memory>
-    requires item { ItemFits u.state what (shown_item u.item) }
+    requires item { ItemFits u.state what (item_view u.item) }
     requires room { HaveRoom (size_of u.state.model what) spots.now }
-    ensures value { IfOk result (λ r. shown r ≡ spec.write_shared_each N.ops what spots.now (shown u)) }
-    ensures keeps { IfOk result (λ r. Keeps (shown u) (shown r)) }
+    ensures value { IfOk result (λ r. view r ≡ spec.write_shared_each N.ops what spots.now (view u)) }
+    ensures keeps { IfOk result (λ r. Keeps (view u) (view r)) }
 {
     let c = shared_cell(&u.state, what, &u.item, None, (0, 0))?;
     weakly_each(&c, true, spots, u)
@@ -84,11 +84,11 @@ pub(crate) fn one_spot(left: &[(u32, u32)], right: &[(u32, u32)]) -> Option<(u32
 
 // At the one place of both, or at each place of either.
 fn write_same<N: Num>(what: Scalar, places: &Places, u: Underway<N>) -> Result<Underway<N>, Memory>
-    requires item { ItemFits u.state what (shown_item u.item) }
+    requires item { ItemFits u.state what (item_view u.item) }
     requires room { BothHaveRoom (size_of u.state.model what) (shown_places places.now) }
-    ensures value { IfOk result (λ r. shown r
-        ≡ spec.write_same N.ops what (shown_places places.now).left (shown_places places.now).right (shown u)) }
-    ensures keeps { IfOk result (λ r. Keeps (shown u) (shown r)) }
+    ensures value { IfOk result (λ r. view r
+        ≡ spec.write_same N.ops what (shown_places places.now).left (shown_places places.now).right (view u)) }
+    ensures keeps { IfOk result (λ r. Keeps (view u) (view r)) }
 {
     match one_spot(&places.left, &places.right) {
         None => {
@@ -107,11 +107,11 @@ fn write_both<N: Num>(
     places: &Places,
     u: Underway<N>,
 ) -> Result<Underway<N>, Memory>
-    requires item { ItemFits u.state what (shown_item u.item) }
+    requires item { ItemFits u.state what (item_view u.item) }
     requires room { BothHaveRoom (size_of u.state.model what) (shown_places places.now) }
-    ensures value { IfOk result (λ r. shown r
-        ≡ spec.write_both N.ops same what (shown_places places.now) (shown u)) }
-    ensures keeps { IfOk result (λ r. Keeps (shown u) (shown r)) }
+    ensures value { IfOk result (λ r. view r
+        ≡ spec.write_both N.ops same what (shown_places places.now) (view u)) }
+    ensures keeps { IfOk result (λ r. Keeps (view u) (view r)) }
 {
     if same {
         return write_same(what, places, u);
@@ -129,11 +129,11 @@ pub fn write<N: Num>(
     places: &Places,
     underway: Underway<N>,
 ) -> Result<Underway<N>, Memory>
-    requires item { ItemFits underway.state what (shown_item underway.item) }
+    requires item { ItemFits underway.state what (item_view underway.item) }
     requires room { BothHaveRoom (size_of underway.state.model what) (shown_places places.now) }
-    ensures value { IfOk result (λ r. shown r
-        ≡ spec.write N.ops mode same_to what (shown_places places.now) (shown underway)) }
-    ensures keeps { IfOk result (λ r. Keeps (shown underway) (shown r)) }
+    ensures value { IfOk result (λ r. view r
+        ≡ spec.write N.ops mode same_to what (shown_places places.now) (view underway)) }
+    ensures keeps { IfOk result (λ r. Keeps (view underway) (view r)) }
 {
     match mode {
         Mode::Both => write_both(same_to && underway.item.same, what, places, underway),
@@ -151,10 +151,10 @@ pub fn write_now<N: Num>(
     item: Item<N>,
     state: State<N>,
 ) -> Result<State<N>, Memory>
-    requires item { ItemFits state what (shown_item item) }
+    requires item { ItemFits state what (item_view item) }
     requires room { BothHaveRoom (size_of state.model what) (shown_places places.now) }
     ensures { IfOk result (λ s. s
-        ≡ spec.write_now N.ops mode same_to what (shown_places places.now) (shown_item item) state) }
+        ≡ spec.write_now N.ops mode same_to what (shown_places places.now) (item_view item) state) }
 {
     let after = write(mode, same_to, what, places, Underway { state, item })?;
     Ok(after.state)

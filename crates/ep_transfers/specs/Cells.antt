@@ -11,7 +11,7 @@ use Rattle.ep_core.specs.Program.{Program}
 use Rattle.ep_core.specs.Runs.{Side, left, right}
 use Rattle.ep_equalities.specs.declared.pair.Mode.{Mode as PairMode}
 use Rattle.ep_equalities.specs.declared.pair.Mode.TheVariants as pair_mode
-use Rattle.ep_pass.specs.States.{Mode, Both, One, Gives, Tested, stuck, StateOps}
+use Rattle.ep_pass.specs.States.{Mode, Both, One, Transfer, Tested, stuck, StateOps}
 use Rattle.ep_evaluation.specs.Given.{alone}
 use Rattle.ep_evaluation.specs.Evaluation.{expression, tested, test_taken, test_taken_by, told}
 use Rattle.ep_transfers.specs.Transfers.{Stepped, stepped, sizes, simple_step, entered}
@@ -24,7 +24,7 @@ abbrev pub mode_of : Mode → PairMode
 mode_of Both = pair_mode.Both
 mode_of (One s) = alone s
 
-abbrev pub told_of : {N : Type 0} → Ops N → Stepped N → Gives (Known N)
+abbrev pub told_of : {N : Type 0} → Ops N → Stepped N → Transfer (Known N)
 told_of D s = record { faults = map (told D) s.faults; next = s.next }
 
 -- Where what is known is told in another data model, nothing goes on.

@@ -6,3 +6,11 @@ pub mod Calls
 pub mod Ends
 pub mod Guards
 pub mod Cells
+pub mod Laws
+pub mod Statements
+pub mod CallLaws
+pub mod Copying
+pub mod Runs
+pub mod Steps
+pub mod WaitingLaws
+pub mod Taken

@@ -6,7 +6,7 @@ use Rattle.ep_core.specs.Program.{Program}
 use Rattle.ep_core.specs.Runs.{Side}
 use Rattle.ep_pass.specs.States.{StateOps}
 use Rattle.ep_pass.specs.Pass.{Log, logged, both_logs, join_on, main_pass, faults_at_end, report_of, turns_of, heads_of}
-use Rattle.ep_flows.specs.Shown.{Plan}
+use Rattle.ep_flows.specs.View.{Plan}
 use Rattle.ep_walk_parts.specs.Pieces.{o}
 
 module _ {S : Type 0} (ops : Program → (Side → Order) → StateOps S) (c : Plan) where

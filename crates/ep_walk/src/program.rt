@@ -1,7 +1,7 @@
 //! The walk through a program.
 
 ghost use Rattle.std.specs.Prelude.{◌≡◌, ◌+◌, ◌≤◌, [], if◌then◌else◌, IfOk, None, OnErr, OnOk, Some, slice_get};
-ghost use Rattle.ep_flows.specs.Shown.{CountsUpTo, Tells, capped, plan_of};
+ghost use Rattle.ep_flows.specs.View.{CountsUpTo, Tells, capped, plan_of};
 ghost use Rattle.ep_pass.specs.Pass.{join_on, logged};
 ghost use Rattle.ep_walk.specs.Reported.{end_of, heads_in, report_on, told_in, turns_in};
 ghost use Rattle.ep_walk_parts.specs.Pieces.{o};

@@ -3,9 +3,9 @@
 ghost use Rattle.std.specs.Prelude.{◌≡◌, ◌-◌, false, true, map};
 ghost use Rattle.std.specs.Option.{option_map};
 ghost use Rattle.ep_core.specs.Program.{call, by_order, loop};
-ghost use Rattle.ep_core.specs.View.{shown_dest, shown_expr, shown_stmts, shown_what};
+ghost use Rattle.ep_core.specs.View.{dest_view, expr_view, stmts_view, what_view};
 ghost use Rattle.ep_flows.specs.declared.setting.Running.TheVariants.{Together};
-ghost use Rattle.ep_flows.specs.Shown.{Passes, mode_of, plan_of, shown_flow, shown_ways, side_of};
+ghost use Rattle.ep_flows.specs.View.{Passes, mode_of, plan_of, flow_view, ways_view, side_of};
 ghost use Rattle.ep_flows.specs.Typed.{IsTypedTest};
 ghost use Rattle.ep_pass.specs.Pass.{apart, branch, either_pass, four_ways, two_ways};
 ghost use Rattle.ep_walk_parts.specs.Pieces.{alone_of, begun_of, entered_of, followed, followed_of, function};
@@ -38,8 +38,8 @@ fn pass_stmt<K: AbstractStates>(
     known: K,
     log: &mut Log<K>,
 ) -> Result<Flow<K>, Memory>
-    requires { IsTyped (plan_of c.now).program here (shown_what s.now.what) }
-    ensures { Passes (one K.ops (plan_of c.now) here (shown_what s.now.what)
+    requires { IsTyped (plan_of c.now).program here (what_view s.now.what) }
+    ensures { Passes (one K.ops (plan_of c.now) here (what_view s.now.what)
         (mode_of mode) s.now.line known) result log.old log.new }
 {
     match &s.what {
@@ -102,8 +102,8 @@ fn pass_list<K: AbstractStates>(
     known: K,
     log: &mut Log<K>,
 ) -> Result<Flow<K>, Memory>
-    requires { AreTyped (plan_of c.now).program here (shown_stmts body.now) }
-    ensures { Passes (row K.ops (plan_of c.now) here (shown_stmts body.now)
+    requires { AreTyped (plan_of c.now).program here (stmts_view body.now) }
+    ensures { Passes (row K.ops (plan_of c.now) here (stmts_view body.now)
         (mode_of mode) known) result log.old log.new }
 {
     let mut at = known;
@@ -129,8 +129,8 @@ fn pass_branch<K: AbstractStates>(
     known: Option<K>,
     log: &mut Log<K>,
 ) -> Result<Flow<K>, Memory>
-    requires { AreTyped (plan_of c.now).program here (shown_stmts body.now) }
-    ensures { Passes (branch known (row K.ops (plan_of c.now) here (shown_stmts body.now)
+    requires { AreTyped (plan_of c.now).program here (stmts_view body.now) }
+    ensures { Passes (branch known (row K.ops (plan_of c.now) here (stmts_view body.now)
         (mode_of mode))) result log.old log.new }
 {
     match known {
@@ -171,9 +171,9 @@ fn pass_call<K: AbstractStates>(
     known: K,
     log: &mut Log<K>,
 ) -> Result<Flow<K>, Memory>
-    requires { IsTyped (plan_of c.now).program here (call k (map shown_expr es.now) (option_map shown_dest d.now)) }
-    ensures { Passes (one K.ops (plan_of c.now) here (call k (map shown_expr es.now)
-        (option_map shown_dest d.now)) (mode_of mode) line known) result log.old log.new }
+    requires { IsTyped (plan_of c.now).program here (call k (map expr_view es.now) (option_map dest_view d.now)) }
+    ensures { Passes (one K.ops (plan_of c.now) here (call k (map expr_view es.now)
+        (option_map dest_view d.now)) (mode_of mode) line known) result log.old log.new }
 {
     match callee(c, here, k) {
         None => Ok(Flow::none()),
@@ -199,10 +199,10 @@ fn pass_order<K: AbstractStates>(
     known: K,
     log: &mut Log<K>,
 ) -> Result<Flow<K>, Memory>
-    requires first { AreTyped (plan_of c.now).program here (shown_stmts yes.now) }
-    requires second { AreTyped (plan_of c.now).program here (shown_stmts no.now) }
-    ensures { Passes (one K.ops (plan_of c.now) here (by_order named (shown_stmts yes.now)
-        (shown_stmts no.now)) (mode_of mode) line known) result log.old log.new }
+    requires first { AreTyped (plan_of c.now).program here (stmts_view yes.now) }
+    requires second { AreTyped (plan_of c.now).program here (stmts_view no.now) }
+    ensures { Passes (one K.ops (plan_of c.now) here (by_order named (stmts_view yes.now)
+        (stmts_view no.now)) (mode_of mode) line known) result log.old log.new }
 {
     match mode {
         Running::Together => {
@@ -229,11 +229,11 @@ fn pass_apart<K: AbstractStates>(
     known: K,
     log: &mut Log<K>,
 ) -> Result<Flow<K>, Memory>
-    requires first { AreTyped (plan_of c.now).program here (shown_stmts first.now) }
-    requires second { AreTyped (plan_of c.now).program here (shown_stmts second.now) }
+    requires first { AreTyped (plan_of c.now).program here (stmts_view first.now) }
+    requires second { AreTyped (plan_of c.now).program here (stmts_view second.now) }
     ensures { Passes (apart (o K.ops (plan_of c.now)) line
-        (λ m s. row K.ops (plan_of c.now) here (shown_stmts first.now) m s)
-        (λ m s. row K.ops (plan_of c.now) here (shown_stmts second.now) m s) known) result log.old log.new }
+        (λ m s. row K.ops (plan_of c.now) here (stmts_view first.now) m s)
+        (λ m s. row K.ops (plan_of c.now) here (stmts_view second.now) m s) known) result log.old log.new }
 {
     let left = Running::Alone(Machine::Left);
     let right = Running::Alone(Machine::Right);
@@ -269,10 +269,10 @@ fn pass_test<K: AbstractStates>(
     known: K,
     log: &mut Log<K>,
 ) -> Result<Flow<K>, Memory>
-    requires test { IsTypedTest (plan_of c.now).program (shown_expr test.now) }
+    requires test { IsTypedTest (plan_of c.now).program (expr_view test.now) }
     requires parts { FollowIsTyped (plan_of c.now).program here (followed_of follow) }
     ensures { Passes (tested_of K.ops (plan_of c.now) here (followed_of follow.entry)
-        (mode_of mode) (shown_expr test.now) line (shown_ways before) known) result log.old log.new }
+        (mode_of mode) (expr_view test.now) line (ways_view before) known) result log.old log.new }
 {
     let truths = known.test(c, mode, test, line, &mut log.alarms)?;
     let flow = Flow {
@@ -301,10 +301,10 @@ fn pass_two<K: AbstractStates>(
     known: K,
     log: &mut Log<K>,
 ) -> Result<Flow<K>, Memory>
-    requires test { IsTypedTest (plan_of c.now).program (shown_expr test.now) }
+    requires test { IsTypedTest (plan_of c.now).program (expr_view test.now) }
     requires parts { FollowIsTyped (plan_of c.now).program here (followed_of follow) }
-    ensures { Passes (two_ways (o K.ops (plan_of c.now)) (shown_flow before) (mode_of mode)
-        (shown_expr test.now)
+    ensures { Passes (two_ways (o K.ops (plan_of c.now)) (flow_view before) (mode_of mode)
+        (expr_view test.now)
         (followed K.ops (plan_of c.now) here (followed_of follow.entry) (mode_of mode) true true)
         (followed K.ops (plan_of c.now) here (followed_of follow.entry) (mode_of mode) false false) known)
         result log.old log.new }
@@ -326,9 +326,9 @@ fn pass_four<K: AbstractStates>(
     known: K,
     log: &mut Log<K>,
 ) -> Result<Flow<K>, Memory>
-    requires test { IsTypedTest (plan_of c.now).program (shown_expr test.now) }
+    requires test { IsTypedTest (plan_of c.now).program (expr_view test.now) }
     requires parts { FollowIsTyped (plan_of c.now).program here (followed_of follow) }
-    ensures { Passes (four_ways (o K.ops (plan_of c.now)) (shown_flow before) (shown_expr test.now)
+    ensures { Passes (four_ways (o K.ops (plan_of c.now)) (flow_view before) (expr_view test.now)
         (followed K.ops (plan_of c.now) here (followed_of follow.entry) (mode_of Together) true true)
         (followed K.ops (plan_of c.now) here (followed_of follow.entry) (mode_of Together) true false)
         (followed K.ops (plan_of c.now) here (followed_of follow.entry) (mode_of Together) false true)
@@ -360,7 +360,7 @@ fn follow_truths<K: AbstractStates>(
     log: &mut Log<K>,
 ) -> Result<Flow<K>, Memory>
     requires { FollowIsTyped (plan_of c.now).program here (followed_of follow) }
-    ensures { Passes (either_pass (o K.ops (plan_of c.now)) (shown_flow before)
+    ensures { Passes (either_pass (o K.ops (plan_of c.now)) (flow_view before)
         (branch known (followed K.ops (plan_of c.now) here (followed_of follow.entry)
         (mode_of mode) on_left on_right))) result log.old log.new }
 {
@@ -552,7 +552,7 @@ fn pass_rounds<K: AbstractStates>(
 ) -> Result<Flow<K>, Memory>
     requires { LoopIsTyped (plan_of c.now).program here (loop_of parts) }
     ensures { Passes (rounds_of K.ops (plan_of c.now) here (loop_of parts.entry)
-        (mode_of mode) count known (shown_ways before)) result log.old log.new }
+        (mode_of mode) count known (ways_view before)) result log.old log.new }
 {
     let mut at = known;
     let mut ways = before;
@@ -580,7 +580,7 @@ fn pass_turn<K: AbstractStates>(
 ) -> Result<Flow<K>, Memory>
     requires { LoopIsTyped (plan_of c.now).program here (loop_of parts) }
     ensures { Passes (turn_of K.ops (plan_of c.now) here (loop_of parts.entry) (mode_of mode)
-        (shown_ways before) known) result log.old log.new }
+        (ways_view before) known) result log.old log.new }
 {
     pass_test(
         c,
@@ -607,7 +607,7 @@ fn pass_last<K: AbstractStates>(
 ) -> Result<Flow<K>, Memory>
     requires { LoopIsTyped (plan_of c.now).program here (loop_of parts) }
     ensures { Passes (last_of K.ops (plan_of c.now) here (loop_of parts.entry) (mode_of mode)
-        (shown_ways before) known) result log.old log.new }
+        (ways_view before) known) result log.old log.new }
 {
     match mode {
         Running::Alone(_) => {
@@ -673,7 +673,7 @@ fn pass_heads<K: AbstractStates>(
 ) -> Result<Flow<K>, Memory>
     requires { LoopIsTyped (plan_of c.now).program here (loop_of parts) }
     ensures { Passes (settled_of K.ops (plan_of c.now) here (loop_of parts.entry)
-        (shown_ways before) ((plan_of c.now).limit - 1) known) result log.old log.new }
+        (ways_view before) ((plan_of c.now).limit - 1) known) result log.old log.new }
 {
     let mut head = known;
     let mut rounds = started(&head, c.limit.saturating_sub(1))?;

@@ -17,7 +17,7 @@ use Rattle.ep_core.specs.Program as plain
 use Rattle.ep_core.specs.Program.{What, call, if_else, loop, by_order, scope, Program, Function, Stmts}
 use Rattle.ep_core.specs.Runs.{Side}
 use Rattle.ep_core.specs.Exec.{on, broken, continued, returned, callee_of, frame_of}
-use Rattle.ep_core.specs.View.{shown_expr, shown_dest, shown_what, shown_stmts}
+use Rattle.ep_core.specs.View.{expr_view, dest_view, what_view, stmts_view}
 use Rattle.ep_core.proofs.Views.{if_is, loop_is, by_order_is, scope_is}
 use Rattle.ep_pass.specs.States.{Mode, Both, One, StateOps, Verdict, stuck, same, differs}
 use Rattle.ep_pass.specs.Pass.{Ways, none, Log, logged, both_logs, Pass, passed, after, so_far, branch, alarms_at}
@@ -25,8 +25,8 @@ use Rattle.ep_pass.specs.Pass.{simple_pass, join_on, join_ways, either_pass, go_
 use Rattle.ep_pass.specs.Pass.{scope_pass, leave_call, call_pass, next_pass, decided, two_ways, four_ways, parted}
 use Rattle.ep_pass.specs.Pass.{differ, only_on, only_broken, only_continued, only_returned, arm_of, body_pass}
 use Rattle.ep_pass.specs.Pass.{bodies_pass}
-use Rattle.ep_flows.specs.Shown.{Told, Tells, HasPassed, Passes, CountsUpTo, shown_ways, shown_flow, Plan, mode_of}
-use Rattle.ep_flows.specs.Shown.{side_of, verdict_of}
+use Rattle.ep_flows.specs.View.{Told, Tells, HasPassed, Passes, CountsUpTo, ways_view, flow_view, Plan, mode_of}
+use Rattle.ep_flows.specs.View.{side_of, verdict_of}
 use Rattle.ep_flows.specs.declared.setting.Machine.{Machine}
 use Rattle.ep_flows.specs.declared.setting.Running.{Running}
 use Rattle.ep_flows.specs.declared.setting.Running.TheVariants.{Together, Alone}
@@ -50,67 +50,67 @@ module _ {S : Type 0} (ops : Program → (Side → Order) → StateOps S) (c : P
 
     pub if_passes : (e : Expr) (a b : Vec Stmt Global) (sa sb : List Stmt) (before : Ways S) → w ≡ If e a b
         → sa ≡ a.items → sb ≡ b.items → before ≡ none
-        → Passes (tested_of ops c here (arms l (shown_stmts sa) (shown_stmts sb)) m
-        (shown_expr e) l before s) x old new → Goes (shown_what w)
+        → Passes (tested_of ops c here (arms l (stmts_view sa) (stmts_view sb)) m
+        (expr_view e) l before s) x old new → Goes (what_view w)
     if_passes e a b sa sb before ew ea eb en h =
-        let h' : Goes (if_else (shown_expr e) (shown_stmts sa) (shown_stmts sb)) = subst (λ z. Passes (tested_of ops c here (arms l (shown_stmts sa) (shown_stmts sb)) m (shown_expr e) l z s) x old new) en h
+        let h' : Goes (if_else (expr_view e) (stmts_view sa) (stmts_view sb)) = subst (λ z. Passes (tested_of ops c here (arms l (stmts_view sa) (stmts_view sb)) m (expr_view e) l z s) x old new) en h
         in
-        as_what (if_else (shown_expr e) (shown_stmts sa) (shown_stmts sb)) (shown_what w) m l s x old new
-        (ap shown_what ew ∙ if_is e a b ∙ ap (λ z. if_else (shown_expr e) (shown_stmts z) (shown_stmts b.items))
-        (sym ea) ∙ ap (λ z. if_else (shown_expr e) (shown_stmts sa) (shown_stmts z)) (sym eb)) h'
+        as_what (if_else (expr_view e) (stmts_view sa) (stmts_view sb)) (what_view w) m l s x old new
+        (ap what_view ew ∙ if_is e a b ∙ ap (λ z. if_else (expr_view e) (stmts_view z) (stmts_view b.items))
+        (sym ea) ∙ ap (λ z. if_else (expr_view e) (stmts_view sa) (stmts_view z)) (sym eb)) h'
 
     pub loop_passes : (first : Bool) (e : Expr) (a b : Vec Stmt Global) (sa sb : List Stmt) → w ≡ Loop first e a b
-        → sa ≡ a.items → sb ≡ b.items → Goes (loop first (shown_expr e) (shown_stmts sa) (shown_stmts sb))
-        → Goes (shown_what w)
+        → sa ≡ a.items → sb ≡ b.items → Goes (loop first (expr_view e) (stmts_view sa) (stmts_view sb))
+        → Goes (what_view w)
     loop_passes first e a b sa sb ew ea eb h =
-        as_what (loop first (shown_expr e) (shown_stmts sa) (shown_stmts sb)) (shown_what w) m l s x old new
-        (ap shown_what ew ∙ loop_is first e a b ∙ ap (λ z. loop first (shown_expr e) (shown_stmts z)
-        (shown_stmts b.items)) (sym ea) ∙ ap (λ z. loop first (shown_expr e) (shown_stmts sa) (shown_stmts z))
+        as_what (loop first (expr_view e) (stmts_view sa) (stmts_view sb)) (what_view w) m l s x old new
+        (ap what_view ew ∙ loop_is first e a b ∙ ap (λ z. loop first (expr_view e) (stmts_view z)
+        (stmts_view b.items)) (sym ea) ∙ ap (λ z. loop first (expr_view e) (stmts_view sa) (stmts_view z))
         (sym eb)) h
 
     pub order_passes : (n : Order) (a b : Vec Stmt Global) (sa sb : List Stmt) → w ≡ ByOrder n a b → sa ≡ a.items
-        → sb ≡ b.items → Goes (by_order n (shown_stmts sa) (shown_stmts sb)) → Goes (shown_what w)
+        → sb ≡ b.items → Goes (by_order n (stmts_view sa) (stmts_view sb)) → Goes (what_view w)
     order_passes n a b sa sb ew ea eb h =
-        as_what (by_order n (shown_stmts sa) (shown_stmts sb)) (shown_what w) m l s x old new
-        (ap shown_what ew ∙ by_order_is n a b ∙ ap (λ z. by_order n (shown_stmts z) (shown_stmts b.items)) (sym ea)
-        ∙ ap (λ z. by_order n (shown_stmts sa) (shown_stmts z)) (sym eb)) h
+        as_what (by_order n (stmts_view sa) (stmts_view sb)) (what_view w) m l s x old new
+        (ap what_view ew ∙ by_order_is n a b ∙ ap (λ z. by_order n (stmts_view z) (stmts_view b.items)) (sym ea)
+        ∙ ap (λ z. by_order n (stmts_view sa) (stmts_view z)) (sym eb)) h
 
     pub call_passes : (k : ℕ) (es : Vec Expr Global) (d dd : Option Dest) (ee : List Expr) → w ≡ Call k es d
-        → ee ≡ es.items → dd ≡ d → Goes (call k (map shown_expr ee) (option_map shown_dest dd)) → Goes (shown_what w)
+        → ee ≡ es.items → dd ≡ d → Goes (call k (map expr_view ee) (option_map dest_view dd)) → Goes (what_view w)
     call_passes k es d dd ee ew ea ed h =
-        as_what (call k (map shown_expr ee) (option_map shown_dest dd)) (shown_what w) m l s x old new
-        (ap shown_what ew ∙ ap (λ z. call k (map shown_expr z) (option_map shown_dest d)) (sym ea)
-        ∙ ap (λ z. call k (map shown_expr ee) (option_map shown_dest z)) (sym ed)) h
+        as_what (call k (map expr_view ee) (option_map dest_view dd)) (what_view w) m l s x old new
+        (ap what_view ew ∙ ap (λ z. call k (map expr_view z) (option_map dest_view d)) (sym ea)
+        ∙ ap (λ z. call k (map expr_view ee) (option_map dest_view z)) (sym ed)) h
 
     -- a scope is entered, gone through and left
     pub scope_passes : (bs : Vec ℕ Global) (a : Vec Stmt Global) (cs ds : List ℕ) (ss : List Stmt) (inner : S)
         (f : Flow S) → w ≡ Scope bs a → cs ≡ bs.items → ds ≡ bs.items → ss ≡ a.items → inner ≡ (o ops c).enter m cs s
-        → HasPassed (row ops c here (shown_stmts ss) m inner) f old new
-        → IfOk x (λ g. g.on ≡ (scope_pass (o ops c) m ds (shown_flow f)).on)
-        → IfOk x (λ g. shown_ways g.ways ≡ (scope_pass (o ops c) m ds (shown_flow f)).ways) → Goes (shown_what w)
+        → HasPassed (row ops c here (stmts_view ss) m inner) f old new
+        → IfOk x (λ g. g.on ≡ (scope_pass (o ops c) m ds (flow_view f)).on)
+        → IfOk x (λ g. ways_view g.ways ≡ (scope_pass (o ops c) m ds (flow_view f)).ways) → Goes (what_view w)
     scope_passes bs a cs ds ss inner f ew ec ed es ei h a1 a2 =
-        as_what (scope bs.items (shown_stmts a.items)) (shown_what w) m l s x old new (ap shown_what ew
+        as_what (scope bs.items (stmts_view a.items)) (what_view w) m l s x old new (ap what_view ew
         ∙ scope_is bs a) (each x a1 a2)
       where
-        each : (x : Result (Flow S) Memory) → IfOk x (λ g. g.on ≡ (scope_pass (o ops c) m ds (shown_flow f)).on)
-            → IfOk x (λ g. shown_ways g.ways ≡ (scope_pass (o ops c) m ds (shown_flow f)).ways)
-            → Passes (one ops c here (scope bs.items (shown_stmts a.items)) m l s) x old new
+        each : (x : Result (Flow S) Memory) → IfOk x (λ g. g.on ≡ (scope_pass (o ops c) m ds (flow_view f)).on)
+            → IfOk x (λ g. ways_view g.ways ≡ (scope_pass (o ops c) m ds (flow_view f)).ways)
+            → Passes (one ops c here (scope bs.items (stmts_view a.items)) m l s) x old new
         each (Err y) u v =
-            let p = row ops c here (shown_stmts a.items) m ((o ops c).enter m bs.items s) in
+            let p = row ops c here (stmts_view a.items) m ((o ops c).enter m bs.items s) in
             let e : inner ≡ (o ops c).enter m bs.items s = ei ∙ ap (λ z. (o ops c).enter m z s) ec in
-            let h1 = subst (λ z. HasPassed (row ops c here (shown_stmts z) m inner) f old new) es h in
-            let h2 : HasPassed p f old new = subst (λ z. HasPassed (row ops c here (shown_stmts a.items) m z) f old
+            let h1 = subst (λ z. HasPassed (row ops c here (stmts_view z) m inner) f old new) es h in
+            let h2 : HasPassed p f old new = subst (λ z. HasPassed (row ops c here (stmts_view a.items) m z) f old
             new) e h1 in
             told_count p.log old new h2.log
         each (Ok g) u v =
-            let p = row ops c here (shown_stmts a.items) m ((o ops c).enter m bs.items s) in
+            let p = row ops c here (stmts_view a.items) m ((o ops c).enter m bs.items s) in
             let e : inner ≡ (o ops c).enter m bs.items s = ei ∙ ap (λ z. (o ops c).enter m z s) ec in
-            let h1 = subst (λ z. HasPassed (row ops c here (shown_stmts z) m inner) f old new) es h in
-            let h2 : HasPassed p f old new = subst (λ z. HasPassed (row ops c here (shown_stmts a.items) m z) f old
+            let h1 = subst (λ z. HasPassed (row ops c here (stmts_view z) m inner) f old new) es h in
+            let h2 : HasPassed p f old new = subst (λ z. HasPassed (row ops c here (stmts_view a.items) m z) f old
             new) e h1 in
             record {
               on = u ∙ ap (λ z. leave_on (o ops c) m z f.on) ed ∙ ap (leave_on (o ops c) m bs.items) h2.on;
-              ways = v ∙ ap (λ z. (scope_pass (o ops c) m z (shown_flow f)).ways) ed
+              ways = v ∙ ap (λ z. (scope_pass (o ops c) m z (flow_view f)).ways) ed
                   ∙ ap (λ z. (scope_pass (o ops c) m bs.items (passed f.on z (logged [] 0 []))).ways) h2.ways;
               log = h2.log;
             }
@@ -118,14 +118,14 @@ module _ {S : Type 0} (ops : Program → (Side → Order) → StateOps S) (c : P
     -- memory runs out in its body
     pub scope_stops : (bs : Vec ℕ Global) (a : Vec Stmt Global) (cs : List ℕ) (ss : List Stmt) (inner : S)
         → w ≡ Scope bs a → cs ≡ bs.items → ss ≡ a.items → inner ≡ (o ops c).enter m cs s
-        → CountsUpTo (row ops c here (shown_stmts ss) m inner).log.count old.count new.count
-        → CountsUpTo (one ops c here (shown_what w) m l s).log.count old.count new.count
+        → CountsUpTo (row ops c here (stmts_view ss) m inner).log.count old.count new.count
+        → CountsUpTo (one ops c here (what_view w) m l s).log.count old.count new.count
     scope_stops bs a cs ss inner ew ec es ei h =
         let e : inner ≡ (o ops c).enter m bs.items s = ei ∙ ap (λ z. (o ops c).enter m z s) ec in
-        let h1 = subst (λ z. CountsUpTo (row ops c here (shown_stmts z) m inner).log.count old.count new.count) es h in
-        let h2 = subst (λ z. CountsUpTo (row ops c here (shown_stmts a.items) m z).log.count old.count new.count) e h1
+        let h1 = subst (λ z. CountsUpTo (row ops c here (stmts_view z) m inner).log.count old.count new.count) es h in
+        let h2 = subst (λ z. CountsUpTo (row ops c here (stmts_view a.items) m z).log.count old.count new.count) e h1
         in
-        let i : shown_what w ≡ scope bs.items (shown_stmts a.items) = ap shown_what ew ∙ scope_is bs a in
+        let i : what_view w ≡ scope bs.items (stmts_view a.items) = ap what_view ew ∙ scope_is bs a in
         subst (λ z. CountsUpTo (one ops c here z m l s).log.count old.count new.count) (sym i) h2
 
   -- ---- calls
@@ -153,17 +153,17 @@ module _ {S : Type 0} (ops : Program → (Side → Order) → StateOps S) (c : P
   module _ (mode : Running) (fw : Followed) (e : plain.Expr) (l : ℕ) (before : Ways S) (flow : Flow S) (s : S)
       (truths : Truths) (old mid new : Told S) (tl : Tells (logged (alarms_at l ((o ops c).test
       (mode_of mode) e s).faults) 0 []) old mid) (ev : verdict_of truths ≡ ((o ops c).test
-      (mode_of mode) e s).verdict) (en : flow.on ≡ None) (ew : shown_ways flow.ways ≡ before) where
+      (mode_of mode) e s).verdict) (en : flow.on ≡ None) (ew : ways_view flow.ways ≡ before) where
     abbrev goes : Mode → Verdict → Pass S → Pass S
     goes m v a = decided (o ops c) a m v e (followed ops c here fw m true true) (followed ops c here fw m true false)
         (followed ops c here fw m false true) (followed ops c here fw m false false) s
 
-    flow_is : shown_flow flow ≡ so_far before
-    flow_is = ap (λ z. passed z (shown_ways flow.ways) (logged [] 0 [])) en
+    flow_is : flow_view flow ≡ so_far before
+    flow_is = ap (λ z. passed z (ways_view flow.ways) (logged [] 0 [])) en
         ∙ ap (λ z. passed None z (logged [] 0 [])) ew
 
     test_goes : (v : Truths) (x : Result (Flow S) Memory) → truths ≡ v → Passes (goes (mode_of mode) (verdict_of v)
-        (shown_flow flow)) x mid new → Passes (tested_of ops c here fw (mode_of mode) e l before s) x old new
+        (flow_view flow)) x mid new → Passes (tested_of ops c here fw (mode_of mode) e l before s) x old new
     test_goes v x et h =
         let d : verdict_of v ≡ ((o ops c).test (mode_of mode) e s).verdict = ap verdict_of (sym et) ∙ ev in
         let h1 : Passes (goes (mode_of mode) (verdict_of v) (so_far before)) x mid new = subst (λ z. Passes
@@ -186,30 +186,30 @@ module _ {S : Type 0} (ops : Program → (Side → Order) → StateOps S) (c : P
     pub test_stuck : truths ≡ Stuck → new ≡ mid → HasPassed (tested_of ops c here fw (mode_of mode) e l before s) flow
         old new
     test_stuck et em =
-        let h : HasPassed (shown_flow flow) flow mid new = record {
+        let h : HasPassed (flow_view flow) flow mid new = record {
           on = refl;
           ways = refl;
           log = subst (λ z. Tells
               (logged [] 0 []) mid z) (sym em) (tells_nothing mid);
         } in
         test_goes Stuck (Ok flow) et (subst (λ z. HasPassed z flow mid new) (sym (stuck_is (mode_of mode)
-        (shown_flow flow))) h)
+        (flow_view flow))) h)
 
     pub test_same : (x : Result (Flow S) Memory) → truths ≡ Same → Passes (two_ways (o ops c)
-        (shown_flow flow) (mode_of mode) e (followed ops c here fw (mode_of mode) true true) (followed ops c here fw
+        (flow_view flow) (mode_of mode) e (followed ops c here fw (mode_of mode) true true) (followed ops c here fw
         (mode_of mode) false false) s) x mid new → Passes (tested_of ops c here fw
         (mode_of mode) e l before s) x old new
     test_same x et h = test_goes Same x et (subst (λ z. Passes z x mid new) (sym (same_is (mode_of mode)
-        (shown_flow flow))) h)
+        (flow_view flow))) h)
 
     pub test_alone : (k : Machine) (x : Result (Flow S) Memory) → truths ≡ Differs → mode ≡ Alone k
-        → Passes (two_ways (o ops c) (shown_flow flow) (mode_of mode) e (followed ops c here fw
+        → Passes (two_ways (o ops c) (flow_view flow) (mode_of mode) e (followed ops c here fw
         (mode_of mode) true true) (followed ops c here fw (mode_of mode) false false) s) x mid new
         → Passes (tested_of ops c here fw (mode_of mode) e l before s) x old new
     test_alone k x et em h =
-        let is : goes (mode_of mode) differs (shown_flow flow) ≡ two_ways (o ops c) (shown_flow flow) (mode_of mode) e
+        let is : goes (mode_of mode) differs (flow_view flow) ≡ two_ways (o ops c) (flow_view flow) (mode_of mode) e
         (followed ops c here fw (mode_of mode) true true) (followed ops c here fw (mode_of mode) false false) s =
-        alone_is (mode_of mode) (ap mode_of em) (shown_flow flow) in
+        alone_is (mode_of mode) (ap mode_of em) (flow_view flow) in
         test_goes Differs x et (subst (λ z. Passes z x mid new) (sym is) h)
       where
         alone_is : (m : Mode) → m ≡ One (side_of k) → (a : Pass S) → goes m differs a ≡ two_ways (o ops c) a m e
@@ -218,31 +218,31 @@ module _ {S : Type 0} (ops : Program → (Side → Order) → StateOps S) (c : P
         alone_is (One z) d a = refl
 
     pub test_both : (x : Result (Flow S) Memory) → truths ≡ Differs → mode ≡ Together
-        → Passes (four_ways (o ops c) (shown_flow flow) e (followed ops c here fw Both true true)
+        → Passes (four_ways (o ops c) (flow_view flow) e (followed ops c here fw Both true true)
         (followed ops c here fw Both true false) (followed ops c here fw Both false true)
         (followed ops c here fw Both false false) s) x mid new → Passes (tested_of ops c here fw
         (mode_of mode) e l before s) x old new
     test_both x et em h =
-        let is : goes (mode_of mode) differs (shown_flow flow) ≡ goes Both differs (shown_flow flow) = ap
-        (λ z. goes z differs (shown_flow flow)) (ap mode_of em) in
+        let is : goes (mode_of mode) differs (flow_view flow) ≡ goes Both differs (flow_view flow) = ap
+        (λ z. goes z differs (flow_view flow)) (ap mode_of em) in
         test_goes Differs x et (subst (λ z. Passes z x mid new) (sym is) h)
 
 -- ---- the body of a loop, once
 module _ {S : Type 0} (o : StateOps S) (p : Pass S) (next : S → Pass S) (f g h : Flow S)
     (old one two new : Told S) where
   pub body_passes : (ended : Option S) → Tells (logged [] 1 []) old one → HasPassed p f one two
-      → ended ≡ join_on o (shown_ways f.ways).continued f.on → HasPassed (branch ended next) g two new
-      → h.on ≡ g.on → shown_ways h.ways ≡ record {
-        broken = (shown_ways f.ways).broken;
+      → ended ≡ join_on o (ways_view f.ways).continued f.on → HasPassed (branch ended next) g two new
+      → h.on ≡ g.on → ways_view h.ways ≡ record {
+        broken = (ways_view f.ways).broken;
         continued = None;
         returned =
-            (shown_ways f.ways).returned;
+            (ways_view f.ways).returned;
       }
       → HasPassed (after (logged [] 1 []) (next_pass o p next)) h old new
   body_passes ended t a e b u w =
       let e' : join_on o p.ways.continued p.on ≡ ended = sym (e
       ∙ ap (λ (z : Ways S). join_on o z.continued f.on) a.ways ∙ ap (join_on o p.ways.continued) a.on) in
-      let w' : shown_ways h.ways ≡ record { broken = p.ways.broken; continued = None; returned = p.ways.returned } = w
+      let w' : ways_view h.ways ≡ record { broken = p.ways.broken; continued = None; returned = p.ways.returned } = w
       ∙ ap (λ (z : Ways S). record { broken = z.broken; continued = None; returned = z.returned }) a.ways in
       after_passed (logged [] 1 []) (next_pass o p next) h old one new t
       (subst (λ z. HasPassed (go_on o z (record {
@@ -253,7 +253,7 @@ module _ {S : Type 0} (o : StateOps S) (p : Pass S) (next : S → Pass S) (f g h
       }) p.log (rowed o next)) h one new) (sym e') (each ended b u w'))
     where
       each : (ended : Option S) → HasPassed (branch ended next) g two new → h.on ≡ g.on
-          → shown_ways h.ways ≡ record { broken = p.ways.broken; continued = None; returned = p.ways.returned }
+          → ways_view h.ways ≡ record { broken = p.ways.broken; continued = None; returned = p.ways.returned }
           → HasPassed (go_on o ended (record { broken = p.ways.broken; continued = None; returned = p.ways.returned })
           p.log (rowed o next)) h one new
       each None b u w = record {
@@ -276,15 +276,15 @@ module _ {S : Type 0} (o : StateOps S) (l : ℕ) (p : Pass S) (go : S
   just u w = u
 
   pub parted_passes : (x y z : Flow S) → HasPassed p f t0 t1
-      → HasPassed (branch f.on go) a1 t1 t2 → HasPassed (only_on l (shown_flow a1)) b1 t2 t3
-      → HasPassed (branch (shown_ways f.ways).broken go) a2 t3 t4 → HasPassed (only_broken l (shown_flow a2)) b2 t4 t5
-      → x.on ≡ join_on o b1.on b2.on → shown_ways x.ways ≡ join_ways o (shown_ways b1.ways) (shown_ways b2.ways)
-      → HasPassed (branch (shown_ways f.ways).continued go) a3 t5 t6
-      → HasPassed (only_continued l (shown_flow a3)) b3 t6 t7
-      → y.on ≡ join_on o x.on b3.on → shown_ways y.ways ≡ join_ways o (shown_ways x.ways) (shown_ways b3.ways)
-      → HasPassed (branch (shown_ways f.ways).returned go) a4 t7 t8
-      → HasPassed (only_returned l (shown_flow a4)) b4 t8 t9
-      → z.on ≡ join_on o y.on b4.on → shown_ways z.ways ≡ join_ways o (shown_ways y.ways) (shown_ways b4.ways)
+      → HasPassed (branch f.on go) a1 t1 t2 → HasPassed (only_on l (flow_view a1)) b1 t2 t3
+      → HasPassed (branch (ways_view f.ways).broken go) a2 t3 t4 → HasPassed (only_broken l (flow_view a2)) b2 t4 t5
+      → x.on ≡ join_on o b1.on b2.on → ways_view x.ways ≡ join_ways o (ways_view b1.ways) (ways_view b2.ways)
+      → HasPassed (branch (ways_view f.ways).continued go) a3 t5 t6
+      → HasPassed (only_continued l (flow_view a3)) b3 t6 t7
+      → y.on ≡ join_on o x.on b3.on → ways_view y.ways ≡ join_ways o (ways_view x.ways) (ways_view b3.ways)
+      → HasPassed (branch (ways_view f.ways).returned go) a4 t7 t8
+      → HasPassed (only_returned l (flow_view a4)) b4 t8 t9
+      → z.on ≡ join_on o y.on b4.on → ways_view z.ways ≡ join_ways o (ways_view y.ways) (ways_view b4.ways)
       → HasPassed (parted o l p go) z t0 t9
   parted_passes x y z h h1 k1 h2 k2 xu xw h3 k3 yu yw h4 k4 zu zw =
       let r1 = branch p.on go in
@@ -316,19 +316,19 @@ module _ {S : Type 0} (o : StateOps S) (l : ℕ) (p : Pass S) (go : S
 pub parted_ok : {S : Type 0} (o : StateOps S) (l : ℕ) (p : Pass S) (go : S
     → Pass S) (f : Flow S) (a1 a2 a3 a4 b1 b2 b3 b4 : Flow S) (t0 t1 t2 t3 t4 t5 t6 t7 t8 t9 : Told S) (x y : Flow S)
     (z : Result (Flow S) Memory) → HasPassed p f t0 t1
-    → HasPassed (branch f.on go) a1 t1 t2 → HasPassed (only_on l (shown_flow a1)) b1 t2 t3
-    → HasPassed (branch (shown_ways f.ways).broken go) a2 t3 t4 → HasPassed (only_broken l (shown_flow a2)) b2 t4 t5
-    → x.on ≡ join_on o b1.on b2.on → shown_ways x.ways ≡ join_ways o (shown_ways b1.ways) (shown_ways b2.ways)
-    → HasPassed (branch (shown_ways f.ways).continued go) a3 t5 t6
-    → HasPassed (only_continued l (shown_flow a3)) b3 t6 t7
-    → y.on ≡ join_on o x.on b3.on → shown_ways y.ways ≡ join_ways o (shown_ways x.ways) (shown_ways b3.ways)
-    → HasPassed (branch (shown_ways f.ways).returned go) a4 t7 t8 → HasPassed (only_returned l (shown_flow a4)) b4 t8 t9
-    → IfOk z (λ z. z.on ≡ join_on o y.on b4.on) → IfOk z (λ z. shown_ways z.ways ≡ join_ways o (shown_ways y.ways)
-    (shown_ways b4.ways))
+    → HasPassed (branch f.on go) a1 t1 t2 → HasPassed (only_on l (flow_view a1)) b1 t2 t3
+    → HasPassed (branch (ways_view f.ways).broken go) a2 t3 t4 → HasPassed (only_broken l (flow_view a2)) b2 t4 t5
+    → x.on ≡ join_on o b1.on b2.on → ways_view x.ways ≡ join_ways o (ways_view b1.ways) (ways_view b2.ways)
+    → HasPassed (branch (ways_view f.ways).continued go) a3 t5 t6
+    → HasPassed (only_continued l (flow_view a3)) b3 t6 t7
+    → y.on ≡ join_on o x.on b3.on → ways_view y.ways ≡ join_ways o (ways_view x.ways) (ways_view b3.ways)
+    → HasPassed (branch (ways_view f.ways).returned go) a4 t7 t8 → HasPassed (only_returned l (flow_view a4)) b4 t8 t9
+    → IfOk z (λ z. z.on ≡ join_on o y.on b4.on) → IfOk z (λ z. ways_view z.ways ≡ join_ways o (ways_view y.ways)
+    (ways_view b4.ways))
     → Passes (parted o l p go) z t0 t9
 parted_ok o l p go f a1 a2 a3 a4 b1 b2 b3 b4 t0 t1 t2 t3 t4 t5 t6 t7 t8 t9 x y (Err e) h h1 k1 h2 k2 xu xw h3 k3 yu yw
     h4 k4 zu zw =
-    let w = join_ways o (shown_ways y.ways) (shown_ways b4.ways) in
+    let w = join_ways o (ways_view y.ways) (ways_view b4.ways) in
     let z = left_as (passed (join_on o y.on b4.on) w (logged [] 0 [])) in
     told_count (parted o l p go).log t0 t9 (parted_passes o l p go f a1 a2 a3 a4 b1 b2 b3 b4 t0 t1 t2 t3 t4 t5 t6 t7 t8
     t9 x y z h h1 k1 h2 k2 xu xw h3 k3 yu yw h4 k4 refl refl).log
@@ -375,13 +375,13 @@ module _ {S : Type 0} (o : StateOps S) (m : Mode) (l : ℕ) (f : Function) (es :
 
   module _ (q : Flow S) (t : Tells (logged (alarms_at l (o.arguments m f es s).faults) 0 []) old one) where
     abbrev left_by_body : Option S
-    left_by_body = (leave_call o (scope_pass o m (frame_of f) (shown_flow q))).on
+    left_by_body = (leave_call o (scope_pass o m (frame_of f) (flow_view q))).on
 
     by_arguments : (u : Option S) → (o.arguments m f es s).next ≡ u → HasPassed (branch u body) q one two
         → (g : Flow S) (new : Told S) → HasPassed (branch left_by_body C) g two new → HasPassed whole g old new
     by_arguments None e h g new k =
         let i : left_by_body ≡ None = ap (λ z. (leave_call o (scope_pass o m (frame_of f) (passed z
-        (shown_ways q.ways) (logged [] 0 [])))).on) h.on ∙ ap (λ z. (leave_call o (scope_pass o m (frame_of f)
+        (ways_view q.ways) (logged [] 0 [])))).on) h.on ∙ ap (λ z. (leave_call o (scope_pass o m (frame_of f)
         (passed None z (logged [] 0 [])))).on) h.ways in
         let k' : HasPassed (branch None C) g two new = subst (λ z. HasPassed (branch z C) g two new) i k in
         let told : Tells A.log old two = drop_last A.log old two (tells_both A.log (logged [] 0 []) old one two t
@@ -390,7 +390,7 @@ module _ {S : Type 0} (o : StateOps S) (m : Mode) (l : ℕ) (f : Function) (es :
         subst (λ z. HasPassed (then_pass o z none (rowed o C)) g old new) (sym d) (finish new A.log told None g k')
     by_arguments (Some inner) e h g new k =
         let i : left_by_body ≡ (B inner).on = ap (λ z. (leave_call o (scope_pass o m (frame_of f) (passed z
-        (shown_ways q.ways) (logged [] 0 [])))).on) h.on ∙ ap (λ z. (leave_call o (scope_pass o m (frame_of f)
+        (ways_view q.ways) (logged [] 0 [])))).on) h.on ∙ ap (λ z. (leave_call o (scope_pass o m (frame_of f)
         (passed (body inner).on z (logged [] 0 [])))).on) h.ways in
         let k' : HasPassed (branch (B inner).on C) g two new = subst (λ z. HasPassed (branch z C) g two new) i k in
         let told : Tells (both_logs A.log (body inner).log) old two = tells_both A.log (body inner).log old one two t
@@ -436,7 +436,7 @@ call_stops o m l f es d body s old one new t u e h =
 module _ {S : Type 0} (ops : Program → (Side → Order) → StateOps S) (c : Plan) (here : ℕ) (m : Mode) (l : ℕ) (k : ℕ)
     (es : List plain.Expr) (d : Option plain.Dest) (s : S) where
   pub calls_none : (f : Flow S) (t : Told S) → callee_of c.program here k ≡ None → f.on ≡ None
-      → shown_ways f.ways ≡ none → HasPassed (one ops c here (call k es d) m l s) f t t
+      → ways_view f.ways ≡ none → HasPassed (one ops c here (call k es d) m l s) f t t
   calls_none f t e a b =
       subst (λ z. HasPassed (call_pass (o ops c) z m es d l (bodies_pass (o ops c) c.unroll c.limit c.order c.program
       here k m) s) f t t) (sym e)
@@ -460,7 +460,7 @@ module _ {S : Type 0} (ops : Program → (Side → Order) → StateOps S) (c : P
   jump_passes here v w m l s f old new e h = subst (λ z. HasPassed (one ops c here z m l s) f old new) (sym e) h
 
   pub function_none : (k : ℕ) (m : Mode) (u : Option S) (s : S) (f : Flow S) (t : Told S)
-      → slice_get c.program.functions k ≡ None → u ≡ Some s → f.on ≡ Some s → shown_ways f.ways ≡ none
+      → slice_get c.program.functions k ≡ None → u ≡ Some s → f.on ≡ Some s → ways_view f.ways ≡ none
       → HasPassed (branch u (function ops c k m)) f t t
   function_none k m u s f t e d a b =
       subst (λ z. HasPassed (branch z (function ops c k m)) f t t) (sym d)

@@ -7,8 +7,8 @@ use Rattle.ep_core.specs.Program.{Program}
 use Rattle.ep_core.specs.Runs.{Side}
 use Rattle.ep_pass.specs.States.{Both, StateOps}
 use Rattle.ep_pass.specs.Pass.{Ways, Pass}
-use Rattle.ep_pass_laws.specs.Laws.{HeadsGoRound}
-use Rattle.ep_flows.specs.Shown.{Told, HasPassed, Plan, capped, kept_heads, wider_of}
+use Rattle.ep_pass.specs.ReportLaws.{HeadsGoRound}
+use Rattle.ep_flows.specs.View.{Told, HasPassed, Plan, capped, kept_heads, wider_of}
 use Rattle.ep_flows.specs.Rounds.{ComesRound}
 use Rattle.ep_flows.specs.declared.flow.Flow.{Flow}
 use Rattle.ep_flows.specs.declared.heads.Rounds.{Rounds}

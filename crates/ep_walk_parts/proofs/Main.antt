@@ -9,7 +9,7 @@ use Rattle.ep_core.specs.Runs.{Side}
 use Rattle.ep_pass.specs.States.{Both, StateOps}
 use Rattle.ep_pass.specs.Pass.{Ways, logged, both_logs, Pass, alarms_at, join_on, main_pass, faults_at_end, report_of}
 use Rattle.ep_pass.specs.Pass.{turns_of, heads_of}
-use Rattle.ep_flows.specs.Shown.{Told, Tells, HasPassed, CountsUpTo, shown_ways, Plan, capped, more_heads}
+use Rattle.ep_flows.specs.View.{Told, Tells, HasPassed, CountsUpTo, ways_view, Plan, capped, more_heads}
 use Rattle.ep_walk_parts.specs.Pieces.{o, function}
 use Rattle.ep_flows.specs.declared.flow.Flow.{Flow}
 use Rattle.ep_flows.proofs.Telling.{nil_right, tells_both}
@@ -43,13 +43,13 @@ module _ {S : Type 0} (ops : Program → (Side → Order) → StateOps S) (c : P
   -- main, with its end
   pub main_told : {T E : Type 0} (x : Result T E) (s : S) (f : Flow S) (old one new : Told S) → s ≡ (o ops c).entry
       → HasPassed (function ops c c.program.main Both s) f old one
-      → OnOk x (Tells (logged (ends (join_on (o ops c) (shown_ways f.ways).returned f.on)) 0 []) one new)
+      → OnOk x (Tells (logged (ends (join_on (o ops c) (ways_view f.ways).returned f.on)) 0 []) one new)
       → OnOk x (Tells (both_logs main.log (logged (ends (join_on (o ops c) main.ways.returned main.on)) 0 [])) old new)
   main_told (Err y) s f old one new es h t = tt
   main_told (Ok y) s f old one new es h t =
       let h' : HasPassed main f old one = subst (λ z. HasPassed (function ops c c.program.main Both z) f old one) es h
       in
-      let at : join_on (o ops c) (shown_ways f.ways).returned f.on ≡ join_on (o ops c) main.ways.returned main.on = ap
+      let at : join_on (o ops c) (ways_view f.ways).returned f.on ≡ join_on (o ops c) main.ways.returned main.on = ap
       (λ (z : Ways S). join_on (o ops c) z.returned f.on) h'.ways
       ∙ ap (join_on (o ops c) main.ways.returned) h'.on in
       let t' : Tells (logged (ends (join_on (o ops c) main.ways.returned main.on)) 0 []) one new = subst (λ z. Tells

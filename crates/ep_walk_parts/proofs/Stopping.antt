@@ -1,5 +1,6 @@
 -- Where memory runs out in a part of a pass, no more was counted than the whole pass counts.
 use Rattle.std.proofs.Common.{◌≡◌, ℕ, suc, ◌+◌, ◌-◌, ◌*◌, ◌<◌, ◌≤◌, Bool, true, false, List, length, get_or, drop}
+use Rattle.ep_int.proofs.Basics.{le-plus}
 use Rattle.std.proofs.Common.{sym, ap, ◌∙◌, subst, arith, Option, Some, None, Result, Ok, Err, IsErrAnd}
 use Rattle.std.proofs.Common.{if◌then◌else◌}
 use Rattle.ep_int.specs.declared.types.Memory.{Memory}
@@ -7,12 +8,12 @@ use Rattle.ep_int.specs.declared.types.Order.{Order}
 use Rattle.ep_core.specs.declared.tree.Stmt.{Stmt}
 use Rattle.ep_core.specs.Program.{Program}
 use Rattle.ep_core.specs.Runs.{Side}
-use Rattle.ep_core.specs.View.{shown_what, shown_stmts}
+use Rattle.ep_core.specs.View.{what_view, stmts_view}
 use Rattle.ep_pass.specs.States.{Mode, Both, One, StateOps}
 use Rattle.ep_pass.specs.Pass.{Ways, none, Log, Pass, branch, join_on, join_ways, either_pass, go_on, then_pass}
 use Rattle.ep_pass.specs.Pass.{turn_then, rowed, next_pass, parted, unrolled, from_head, dropped, is_stable}
 use Rattle.ep_pass.specs.Pass.{next_head}
-use Rattle.ep_flows.specs.Shown.{Told, HasPassed, Passes, CountsUpTo, capped, shown_ways, shown_flow, Plan}
+use Rattle.ep_flows.specs.View.{Told, HasPassed, Passes, CountsUpTo, capped, ways_view, flow_view, Plan}
 use Rattle.ep_flows.specs.declared.flow.Flow.{Flow}
 use Rattle.ep_flows.specs.declared.heads.Rounds.{Rounds}
 use Rattle.ep_flows.proofs.Combined.{Leads}
@@ -23,10 +24,6 @@ use Rattle.ep_walk_parts.proofs.Heading.{GoesIn}
 use Rattle.ep_walk_parts.proofs.Rows.{drop_next}
 
 -- ---- numbers
-
--- of two numbers the first, of three the first two, and so on
-first_less : (a b : ℕ) → a ≤ a + b
-first_less a b = omega arith
 
 pub still_count : (k a b d : ℕ) → CountsUpTo k a b → CountsUpTo 0 b d → CountsUpTo k a d
 still_count k a b d h i = let x = h.bound in let y = i.bound in record { bound = omega (arith, x, y) }
@@ -58,15 +55,15 @@ module _ {S : Type 0} where
 
     module _ (x y : ℕ) where
       pub two_stop : CountsUpTo one_way.log.count x y → CountsUpTo two_of.log.count x y
-      two_stop h = more_count one_way.log.count two_of.log.count x y (first_less one_way.log.count
+      two_stop h = more_count one_way.log.count two_of.log.count x y (le-plus one_way.log.count
           (branch v2 g2).log.count) h
 
       pub four_stop_three : CountsUpTo three_of.log.count x y → CountsUpTo four_of.log.count x y
-      four_stop_three h = more_count three_of.log.count four_of.log.count x y (first_less three_of.log.count
+      four_stop_three h = more_count three_of.log.count four_of.log.count x y (le-plus three_of.log.count
           (branch v4 g4).log.count) h
 
       pub four_stop_two : CountsUpTo two_of.log.count x y → CountsUpTo four_of.log.count x y
-      four_stop_two h = four_stop_three (more_count two_of.log.count three_of.log.count x y (first_less
+      four_stop_two h = four_stop_three (more_count two_of.log.count three_of.log.count x y (le-plus
           two_of.log.count (branch v3 g3).log.count) h)
 
       pub four_stop_one : CountsUpTo one_way.log.count x y → CountsUpTo four_of.log.count x y
@@ -74,7 +71,7 @@ module _ {S : Type 0} where
 
   -- what follows a pair of truths, joined to what came before
   pub next_way : (p : StateOps S) (f : Flow S) (a : Pass S) (u v : Option S) (go : S → Pass S) (x y n : ℕ) → u ≡ v
-      → CountsUpTo a.log.count x y → CountsUpTo (either_pass p (shown_flow f) (branch u go)).log.count y n
+      → CountsUpTo a.log.count x y → CountsUpTo (either_pass p (flow_view f) (branch u go)).log.count y n
       → CountsUpTo (either_pass p a (branch v go)).log.count x n
   next_way p f a u v go x y n e h i =
       subst (λ k. CountsUpTo (a.log.count + k) x n) (branch_is u v go e)
@@ -89,7 +86,7 @@ module _ {S : Type 0} where
   first_way p a u v go x y e h = subst (λ k. CountsUpTo (a.log.count + k) x y) (branch_is u v go e) h
 
   pub joined_stops : (p : StateOps S) (f : Flow S) (a : Pass S) (x y : ℕ) → CountsUpTo a.log.count x y
-      → CountsUpTo (either_pass p (shown_flow f) a).log.count x y
+      → CountsUpTo (either_pass p (flow_view f) a).log.count x y
   joined_stops p f a x y h = more_count a.log.count (0 + a.log.count) x y (omega arith) h
 
   -- ---- what follows the end of a pass
@@ -97,7 +94,7 @@ module _ {S : Type 0} where
   pub goes_count : (p : StateOps S) (u : Option S) (w : Ways S) (g : Log S) (go : S → Ways S → Pass S)
       → g.count ≤ (go_on p u w g go).log.count
   goes_count p None w g go = omega arith
-  goes_count p (Some s) w g go = first_less g.count (go s w).log.count
+  goes_count p (Some s) w g go = le-plus g.count (go s w).log.count
 
   pub then_stops : (p : StateOps S) (a : Pass S) (w : Ways S) (go : S → Ways S → Pass S) (x y : ℕ)
       → CountsUpTo a.log.count x y → CountsUpTo (then_pass p a w go).log.count x y
@@ -125,7 +122,7 @@ module _ {S : Type 0} where
 
     -- in the step part
     pub next_stops : (f : Flow S) (mid : Told S) (ended : Option S) → CountsUpTo 1 x.count t.count → HasPassed a f t mid
-        → ended ≡ join_on p (shown_ways f.ways).continued f.on
+        → ended ≡ join_on p (ways_view f.ways).continued f.on
         → CountsUpTo (branch ended next).log.count mid.count n → CountsUpTo body_whole x.count n
     next_stops f mid ended h k e i =
         let is : ended ≡ join_on p a.ways.continued a.on = e ∙ ap (λ (z : Ways S). join_on p z.continued f.on) k.ways
@@ -184,19 +181,19 @@ module _ {S : Type 0} where
 
     module _ (m n : ℕ) where
       pub count_broken : CountsUpTo one_side old.count m
-          → CountsUpTo (branch (shown_ways f.ways).broken go).log.count m n → CountsUpTo two_sides old.count n
+          → CountsUpTo (branch (ways_view f.ways).broken go).log.count m n → CountsUpTo two_sides old.count n
       count_broken k i =
           both_count one_side (way a.ways.broken) old.count m n k
           (subst (λ (z : Ways S). CountsUpTo (way z.broken) m n) h.ways i)
 
       pub count_continued : CountsUpTo two_sides old.count m
-          → CountsUpTo (branch (shown_ways f.ways).continued go).log.count m n → CountsUpTo three_sides old.count n
+          → CountsUpTo (branch (ways_view f.ways).continued go).log.count m n → CountsUpTo three_sides old.count n
       count_continued k i =
           both_count two_sides (way a.ways.continued) old.count m n k
           (subst (λ (z : Ways S). CountsUpTo (way z.continued) m n) h.ways i)
 
       pub count_returned : CountsUpTo three_sides old.count m
-          → CountsUpTo (branch (shown_ways f.ways).returned go).log.count m n → CountsUpTo four_sides old.count n
+          → CountsUpTo (branch (ways_view f.ways).returned go).log.count m n → CountsUpTo four_sides old.count n
       count_returned k i =
           both_count three_sides (way a.ways.returned) old.count m n k
           (subst (λ (z : Ways S). CountsUpTo (way z.returned) m n) h.ways i)
@@ -211,30 +208,30 @@ module _ {S : Type 0} where
           (way a.ways.continued) (way a.ways.returned)) i
 
       pub apart_three : CountsUpTo three_sides old.count n → CountsUpTo apart_whole old.count n
-      apart_three i = apart_four (more_count three_sides four_sides old.count n (first_less three_sides
+      apart_three i = apart_four (more_count three_sides four_sides old.count n (le-plus three_sides
           (way a.ways.returned)) i)
 
       pub apart_two : CountsUpTo two_sides old.count n → CountsUpTo apart_whole old.count n
-      apart_two i = apart_three (more_count two_sides three_sides old.count n (first_less two_sides
+      apart_two i = apart_three (more_count two_sides three_sides old.count n (le-plus two_sides
           (way a.ways.continued)) i)
 
       pub apart_one : CountsUpTo one_side old.count n → CountsUpTo apart_whole old.count n
-      apart_one i = apart_two (more_count one_side two_sides old.count n (first_less one_side (way a.ways.broken)) i)
+      apart_one i = apart_two (more_count one_side two_sides old.count n (le-plus one_side (way a.ways.broken)) i)
 
 -- ---- rows, turns and heads
 
 module _ {S : Type 0} (ops : Program → (Side → Order) → StateOps S) (c : Plan) (here : ℕ) where
   pub rows_stop : (m : Mode) (ss : List Stmt) (i : ℕ) (s : Stmt) (at : S) (w : Ways S) (now start : Told S)
       (whole : Pass S) (n : ℕ) → i < length ss → s ≡ get_or ss i s
-      → Leads (all ops c here (shown_stmts (drop i ss)) m at w) now whole start
-      → CountsUpTo (one ops c here (shown_what s.what) m s.line at).log.count now.count n
+      → Leads (all ops c here (stmts_view (drop i ss)) m at w) now whole start
+      → CountsUpTo (one ops c here (what_view s.what) m s.line at).log.count now.count n
       → CountsUpTo whole.log.count start.count n
   rows_stop m ss i s at w now start whole n lt is lead h =
-      let q = one ops c here (shown_what s.what) m s.line at in
-      let rest = all ops c here (shown_stmts (drop (i + 1) ss)) m in
-      let k = subst (λ ts. CountsUpTo (all ops c here (shown_stmts ts) m at w).log.count now.count n)
+      let q = one ops c here (what_view s.what) m s.line at in
+      let rest = all ops c here (stmts_view (drop (i + 1) ss)) m in
+      let k = subst (λ ts. CountsUpTo (all ops c here (stmts_view ts) m at w).log.count now.count n)
       (sym (drop_next ss i s lt is)) (then_stops (o ops c) q w rest now.count n h) in
-      leads_count (all ops c here (shown_stmts (drop i ss)) m at w) whole now start lead n k
+      leads_count (all ops c here (stmts_view (drop i ss)) m at w) whole now start lead n k
 
   module _ (l : Loop) where
     pub begun_stops_at : (m : Mode) (k : ℕ) (s : S) (x n : ℕ) → CountsUpTo (turned ops c here l m s).log.count x n
@@ -247,7 +244,7 @@ module _ {S : Type 0} (ops : Program → (Side → Order) → StateOps S) (c : P
     lone_stops (One j) i s x n e h = absurd cc
     lone_stops Both i s x n e h =
         more_count (entered_of ops c here l i c.unroll s).log.count (alone_of ops c here l Both i s).log.count x n
-        (first_less (entered_of ops c here l i c.unroll s).log.count 0) h
+        (le-plus (entered_of ops c here l i c.unroll s).log.count 0) h
 
     module _ (m : Mode) (first : Bool) (s : S) (x n : ℕ) where
       pub tests_stop : (w : Ways S) → first ≡ true → w ≡ none
@@ -295,7 +292,7 @@ module _ {S : Type 0} (ops : Program → (Side → Order) → StateOps S) (c : P
         where
           by_test : (b : Bool) (p q : Pass S) → p.log.count ≤ (if b then from_head h p else dropped p q).log.count
           by_test true p q = omega arith
-          by_test false p q = first_less p.log.count q.log.count
+          by_test false p q = le-plus p.log.count q.log.count
 
       module _ (r : Rounds S) (h : S) (now start : Told S) (whole : Pass S) (g : GoesIn ops c here l w r h now start
           whole) (n : ℕ) where

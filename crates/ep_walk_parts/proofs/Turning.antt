@@ -10,7 +10,7 @@ use Rattle.ep_core.specs.Runs.{Side}
 use Rattle.ep_pass.specs.States.{Mode, Both, One, StateOps}
 use Rattle.ep_pass.specs.Pass.{Ways, none, logged, Pass, ends, branch, differ, plain_alarm, comes_after, leave_loop}
 use Rattle.ep_pass.specs.Pass.{join_ways, then_pass}
-use Rattle.ep_flows.specs.Shown.{Told, Tells, HasPassed, Passes, shown_ways, shown_flow, Plan}
+use Rattle.ep_flows.specs.View.{Told, Tells, HasPassed, Passes, ways_view, flow_view, Plan}
 use Rattle.ep_flows.specs.declared.flow.Flow.{Flow}
 use Rattle.ep_flows.proofs.Telling.{tells_nothing}
 use Rattle.ep_flows.proofs.Combined.{goes_on, stops_there, leave_loop_passed, keeps_passed}
@@ -20,11 +20,11 @@ use Rattle.ep_walk_parts.specs.Pieces.{last_of, loop_pass_of, rounds_of, settled
 
 module _ {S : Type 0} where
   -- nothing is reached, and nothing told
-  pub ends_passed : (f : Flow S) (t : Told S) → f.on ≡ None → shown_ways f.ways ≡ none → HasPassed (ends []) f t t
+  pub ends_passed : (f : Flow S) (t : Told S) → f.on ≡ None → ways_view f.ways ≡ none → HasPassed (ends []) f t t
   ends_passed f t a b = record { on = a; ways = b; log = tells_nothing t }
 
   pub branch_none : (u : Option S) (go : S → Pass S) (f : Flow S) (t : Told S) → u ≡ None → f.on ≡ None
-      → shown_ways f.ways ≡ none → HasPassed (branch u go) f t t
+      → ways_view f.ways ≡ none → HasPassed (branch u go) f t t
   branch_none u go f t e a b = subst (λ z. HasPassed (branch z go) f t t) (sym e) (ends_passed f t a b)
 
   pub branch_ok : (u : Option S) (s : S) (go : S → Pass S) (x : Result (Flow S) Memory) (old new : Told S)
@@ -34,17 +34,17 @@ module _ {S : Type 0} where
   module _ (p : StateOps S) (a : Pass S) (go : S → Ways S → Pass S) (f : Flow S) (old mid : Told S)
       (h : HasPassed a f old mid) where
     -- what follows a pass whose ways out are the first
-    pub begun_stops : (g : Flow S) → f.on ≡ None → g.on ≡ None → shown_ways g.ways ≡ shown_ways f.ways
+    pub begun_stops : (g : Flow S) → f.on ≡ None → g.on ≡ None → ways_view g.ways ≡ ways_view f.ways
         → HasPassed (then_pass p a none go) g old mid
     begun_stops g e u w = stops_there p a.on (join_ways p none a.ways) a.log go g old mid (sym h.on ∙ e) u (w
         ∙ h.ways) h.log
 
     pub begun_goes : (next : S) (x : Result (Flow S) Memory) (new : Told S) → f.on ≡ Some next
-        → Passes (go next (shown_ways f.ways)) x mid new
+        → Passes (go next (ways_view f.ways)) x mid new
         → Passes (then_pass p a none go) x old new
     begun_goes next x new e k =
-        leads_passes (go next (shown_ways f.ways)) (then_pass p a none go) mid old
-        (λ g n k. goes_on p a.on (join_ways p none a.ways) a.log go next (shown_ways f.ways) g old mid n (sym h.on
+        leads_passes (go next (ways_view f.ways)) (then_pass p a none go) mid old
+        (λ g n k. goes_on p a.on (join_ways p none a.ways) a.log go next (ways_view f.ways) g old mid n (sym h.on
         ∙ e) (sym h.ways) h.log k) x new k
 
 module _ {S : Type 0} (ops : Program → (Side → Order) → StateOps S) (c : Plan) (here : ℕ) where
@@ -79,7 +79,7 @@ module _ {S : Type 0} (ops : Program → (Side → Order) → StateOps S) (c : P
     -- ---- one side's loop from its body on
 
     pub entered_none : (m : Side) (n : ℕ) (s : S) (f : Flow S) (old new : Told S) → n ≡ 0
-        → Tells (logged (plain_alarm E4 l.line ∷ []) 0 []) old new → f.on ≡ None → shown_ways f.ways ≡ none
+        → Tells (logged (plain_alarm E4 l.line ∷ []) 0 []) old new → f.on ≡ None → ways_view f.ways ≡ none
         → HasPassed (entered_of ops c here l m n s) f old new
     entered_none m n s f old new e t a b = subst (λ z. HasPassed (entered_of ops c here l m z s) f old new) (sym e)
         (record { on = a; ways = b; log = t })
@@ -91,7 +91,7 @@ module _ {S : Type 0} (ops : Program → (Side → Order) → StateOps S) (c : P
 
     pub lone_ok : (m : Mode) (i : Side) (s : S) (f : Flow S) (x : Result (Flow S) Memory) (old mid new : Told S)
         → m ≡ Both → HasPassed (entered_of ops c here l i c.unroll s) f old mid
-        → Passes (comes_after l.line (shown_flow f)) x mid new
+        → Passes (comes_after l.line (flow_view f)) x mid new
         → Passes (alone_of ops c here l m i s) x old new
     lone_ok (One j) i s f x old mid new e h k = absurd cc
     lone_ok Both i s f (Err y) old mid new e h k =
@@ -101,14 +101,14 @@ module _ {S : Type 0} (ops : Program → (Side → Order) → StateOps S) (c : P
         (λ u w. differ l.line w.returned) (entered_of ops c here l i c.unroll s) f g old mid new h k
 
     pub lone_none : (m : Mode) (j i : Side) (s : S) (f : Flow S) (t : Told S) → m ≡ One j → f.on ≡ None
-        → shown_ways f.ways ≡ none → HasPassed (alone_of ops c here l m i s) f t t
+        → ways_view f.ways ≡ none → HasPassed (alone_of ops c here l m i s) f t t
     lone_none Both j i s f t e a b = absurd cc
     lone_none (One k) j i s f t e a b = ends_passed f t a b
 
     -- ---- loops
 
     module _ (m : Mode) (first : Bool) (s : S) (f g : Flow S) (old new : Told S) (a : g.on ≡ (leave_loop
-        (shown_flow f)).on) (b : shown_ways g.ways ≡ (leave_loop (shown_flow f)).ways) where
+        (flow_view f)).on) (b : ways_view g.ways ≡ (leave_loop (flow_view f)).ways) where
       pub loop_tests : (w : Ways S) → first ≡ true → w ≡ none
           → HasPassed (rounds_of ops c here l m c.unroll s w) f old new
           → HasPassed (loop_pass_of ops c here l m first s) g old new

@@ -18,8 +18,8 @@ use Rattle.ep_core.specs.declared.tree.What.TheVariants.{Call, If, Loop, ByOrder
 use Rattle.ep_core.specs.Exec.{callee_of, frame_of}
 use Rattle.ep_core.specs.Program as plain
 use Rattle.ep_core.specs.Program.{What, call, if_else, loop, by_order, scope, Stmts, Dest, Function, Program}
-use Rattle.ep_core.specs.Shown.{shown}
-use Rattle.ep_core.specs.View.{shown_dest, shown_expr, shown_what, shown_stmts, shown_function}
+use Rattle.ep_core.specs.ProgramView.{program_view}
+use Rattle.ep_core.specs.View.{dest_view, expr_view, what_view, stmts_view, function_view}
 use Rattle.ep_core.specs.WellFormed.{result_type, is_tested, are_plain, arguments_fit, takes_result, call_fits}
 use Rattle.ep_core.specs.WellFormed.{what_fits, stmts_fit}
 use Rattle.ep_core.proofs.Operands.{fits_at}
@@ -31,8 +31,8 @@ module _ (p : Program) (here : ℕ) where
   as_typed : (v w : What) → v ≡ w → IsTyped p here v → IsTyped p here w
   as_typed v w e h = subst (IsTyped p here) e h
 
-  as_list : (ss ts : List Stmt) → ss ≡ ts → AreTyped p here (shown_stmts ts) → AreTyped p here (shown_stmts ss)
-  as_list ss ts e h = subst (λ l. AreTyped p here (shown_stmts l)) (sym e) h
+  as_list : (ss ts : List Stmt) → ss ≡ ts → AreTyped p here (stmts_view ts) → AreTyped p here (stmts_view ss)
+  as_list ss ts e h = subst (λ l. AreTyped p here (stmts_view l)) (sym e) h
 
   abbrev fit : Function → What → List ℕ → Bool → Bool
   fit f w seen i = what_fits p here (result_type p.blocks f.result) w seen i
@@ -60,11 +60,11 @@ module _ (p : Program) (here : ℕ) where
       }
 
   pub if_typed : (w : tree.What) (e : Expr) (a b : Vec Stmt Global) (sa sb : List Stmt) → w ≡ If e a b → sa ≡ a.items
-      → sb ≡ b.items → IsTyped p here (shown_what w)
-      → IfIsTyped (shown_expr e) (shown_stmts sa) (shown_stmts sb)
+      → sb ≡ b.items → IsTyped p here (what_view w)
+      → IfIsTyped (expr_view e) (stmts_view sa) (stmts_view sb)
   if_typed w e a b sa sb h d g t =
-      let i = if_parts (shown_expr e) (shown_stmts a.items) (shown_stmts b.items) (as_typed (shown_what w) (if_else
-      (shown_expr e) (shown_stmts a.items) (shown_stmts b.items)) (ap shown_what h ∙ if_is e a b) t) in
+      let i = if_parts (expr_view e) (stmts_view a.items) (stmts_view b.items) (as_typed (what_view w) (if_else
+      (expr_view e) (stmts_view a.items) (stmts_view b.items)) (ap what_view h ∙ if_is e a b) t) in
       record { test = i.test; yes = as_list sa a.items d i.yes; other = as_list sb b.items g i.other }
 
   -- ---- a loop
@@ -90,11 +90,11 @@ module _ (p : Program) (here : ℕ) where
       }
 
   pub loop_typed : (w : tree.What) (first : Bool) (l : ℕ) (e : Expr) (a b : Vec Stmt Global) (sa sb : List Stmt)
-      → w ≡ Loop first e a b → sa ≡ a.items → sb ≡ b.items → IsTyped p here (shown_what w)
-      → LoopIsTyped p here (record { line = l; test = shown_expr e; body = shown_stmts sa; next = shown_stmts sb })
+      → w ≡ Loop first e a b → sa ≡ a.items → sb ≡ b.items → IsTyped p here (what_view w)
+      → LoopIsTyped p here (record { line = l; test = expr_view e; body = stmts_view sa; next = stmts_view sb })
   loop_typed w first l e a b sa sb h d g t =
-      let i = loop_parts first l (shown_expr e) (shown_stmts a.items) (shown_stmts b.items) (as_typed (shown_what w)
-      (loop first (shown_expr e) (shown_stmts a.items) (shown_stmts b.items)) (ap shown_what h
+      let i = loop_parts first l (expr_view e) (stmts_view a.items) (stmts_view b.items) (as_typed (what_view w)
+      (loop first (expr_view e) (stmts_view a.items) (stmts_view b.items)) (ap what_view h
       ∙ loop_is first e a b) t) in
       record { test = i.test; body = as_list sa a.items d i.body; next = as_list sb b.items g i.next }
 
@@ -115,24 +115,24 @@ module _ (p : Program) (here : ℕ) where
       )
 
   pub order_typed : (w : tree.What) (o : Order) (a b : Vec Stmt Global) (sa sb : List Stmt) → w ≡ ByOrder o a b
-      → sa ≡ a.items → sb ≡ b.items → IsTyped p here (shown_what w)
-      → AreTyped p here (shown_stmts sa) × AreTyped p here (shown_stmts sb)
+      → sa ≡ a.items → sb ≡ b.items → IsTyped p here (what_view w)
+      → AreTyped p here (stmts_view sa) × AreTyped p here (stmts_view sb)
   order_typed w o a b sa sb h d g t =
-      let i = order_parts o (shown_stmts a.items) (shown_stmts b.items) (as_typed (shown_what w) (by_order o
-      (shown_stmts a.items) (shown_stmts b.items)) (ap shown_what h ∙ by_order_is o a b) t) in
+      let i = order_parts o (stmts_view a.items) (stmts_view b.items) (as_typed (what_view w) (by_order o
+      (stmts_view a.items) (stmts_view b.items)) (ap what_view h ∙ by_order_is o a b) t) in
       (as_list sa a.items d i.0, as_list sb b.items g i.1)
 
-  pub arm_typed : (b : Bool) (sa sb x : List Stmt) → x ≡ (if b then sa else sb) → AreTyped p here (shown_stmts sa)
-      → AreTyped p here (shown_stmts sb) → AreTyped p here (shown_stmts x)
+  pub arm_typed : (b : Bool) (sa sb x : List Stmt) → x ≡ (if b then sa else sb) → AreTyped p here (stmts_view sa)
+      → AreTyped p here (stmts_view sb) → AreTyped p here (stmts_view x)
   arm_typed true sa sb x e a b = as_list x sa e a
   arm_typed false sa sb x e a b = as_list x sb e b
 
   -- ---- a scope
 
   pub scope_typed : (w : tree.What) (bs : Vec ℕ Global) (a : Vec Stmt Global) (ss : List Stmt) → w ≡ Scope bs a
-      → ss ≡ a.items → IsTyped p here (shown_what w) → AreTyped p here (shown_stmts ss)
+      → ss ≡ a.items → IsTyped p here (what_view w) → AreTyped p here (stmts_view ss)
   scope_typed w bs a ss h d t =
-      let i = as_typed (shown_what w) (scope bs.items (shown_stmts a.items)) (ap shown_what h ∙ scope_is bs a) t in
+      let i = as_typed (what_view w) (scope bs.items (stmts_view a.items)) (ap what_view h ∙ scope_is bs a) t in
       as_list ss a.items d (record {
         function = i.function;
         is_there = i.is_there;
@@ -144,16 +144,16 @@ module _ (p : Program) (here : ℕ) where
   -- ---- one statement of a row
 
   fits_in : (r : Option ℕ) (ss : List Stmt) (seen : List ℕ) (inner : Bool)
-      → stmts_fit p here r (shown_stmts ss) seen inner ≡ true → (k : ℕ) (d : Stmt) → k < length ss
-      → what_fits p here r (shown_what (get_or ss k d).what) seen inner ≡ true
+      → stmts_fit p here r (stmts_view ss) seen inner ≡ true → (k : ℕ) (d : Stmt) → k < length ss
+      → what_fits p here r (what_view (get_or ss k d).what) seen inner ≡ true
   fits_in r [] seen inner h k d lt = absurd (omega arith)
   fits_in r (s ∷ ss) seen inner h zero d lt = (and_parts _ _ h).0
   fits_in r (s ∷ ss) seen inner h (suc k) d lt = fits_in r ss seen inner (and_parts _ _ h).1 k d (omega arith)
 
   pub item_typed : (ss : List Stmt) (k : ℕ) (s : Stmt) → k < length ss → s ≡ get_or ss k s
-      → AreTyped p here (shown_stmts ss) → IsTyped p here (shown_what s.what)
+      → AreTyped p here (stmts_view ss) → IsTyped p here (what_view s.what)
   item_typed ss k s lt e t =
-      subst (λ (x : Stmt). IsTyped p here (shown_what x.what)) (sym e)
+      subst (λ (x : Stmt). IsTyped p here (what_view x.what)) (sym e)
       (record {
         function = t.function;
         is_there = t.is_there;
@@ -166,11 +166,11 @@ module _ (p : Program) (here : ℕ) where
   -- ---- a call
 
   pub stmt_typed : (w : tree.What) (k : ℕ) (es : Vec Expr Global) (d : Option dest) (ee : List Expr) → w ≡ Call k es d
-      → ee ≡ es.items → IsTyped p here (shown_what w) → IsTyped p here (call k (map shown_expr ee)
-      (option_map shown_dest d))
+      → ee ≡ es.items → IsTyped p here (what_view w) → IsTyped p here (call k (map expr_view ee)
+      (option_map dest_view d))
   stmt_typed w k es d ee h g t =
-      subst (λ z. IsTyped p here (call k (map shown_expr z) (option_map shown_dest d))) (sym g) (as_typed
-      (shown_what w) (call k (map shown_expr es.items) (option_map shown_dest d)) (ap shown_what h) t)
+      subst (λ z. IsTyped p here (call k (map expr_view z) (option_map dest_view d))) (sym g) (as_typed
+      (what_view w) (call k (map expr_view es.items) (option_map dest_view d)) (ap what_view h) t)
 
   callee_there : (b : Bool) (v : Option Function) (f : Function) → (if b then v else None) ≡ Some f → v ≡ Some f
   callee_there true v f e = e
@@ -201,54 +201,54 @@ module _ (p : Program) (here : ℕ) where
 -- ---- functions
 
 shown_at : (fs : List function.Function) (k : ℕ) (f : function.Function) → slice_get fs k ≡ Some f
-    → slice_get (map shown_function fs) k ≡ Some (shown_function f)
+    → slice_get (map function_view fs) k ≡ Some (function_view f)
 shown_at [] k f e = absurd cc
-shown_at (g ∷ fs) zero f e = let d : g ≡ f = cc in ap (λ z. Some (shown_function z)) d
+shown_at (g ∷ fs) zero f e = let d : g ≡ f = cc in ap (λ z. Some (function_view z)) d
 shown_at (g ∷ fs) (suc k) f e = shown_at fs k f e
 
-not_there : (fs : List function.Function) (k : ℕ) → slice_get fs k ≡ None → slice_get (map shown_function fs) k ≡ None
+not_there : (fs : List function.Function) (k : ℕ) → slice_get fs k ≡ None → slice_get (map function_view fs) k ≡ None
 not_there [] k e = refl
 not_there (g ∷ fs) zero e = absurd cc
 not_there (g ∷ fs) (suc k) e = not_there fs k e
 
 module _ (c : CoreProgram) (k : ℕ) where
   pub is_at : (f : function.Function) → slice_get c.functions.items k ≡ Some f
-      → slice_get (shown c).functions k ≡ Some (shown_function f)
+      → slice_get (program_view c).functions k ≡ Some (function_view f)
   is_at f e = shown_at c.functions.items k f e
 
-  pub is_none : slice_get c.functions.items k ≡ None → slice_get (shown c).functions k ≡ None
+  pub is_none : slice_get c.functions.items k ≡ None → slice_get (program_view c).functions k ≡ None
   is_none e = not_there c.functions.items k e
 
   pub function_typed : (f : function.Function) (ss : List Stmt) → slice_get c.functions.items k ≡ Some f
-      → ss ≡ f.body.items → AreTyped (shown c) k (shown_stmts ss)
+      → ss ≡ f.body.items → AreTyped (program_view c) k (stmts_view ss)
   function_typed f ss e d =
       let at = is_at f e in
-      subst (λ l. AreTyped (shown c) k (shown_stmts l)) (sym d)
+      subst (λ l. AreTyped (program_view c) k (stmts_view l)) (sym d)
       (record {
-        function = shown_function f;
+        function = function_view f;
         is_there = at;
-        seen = frame_of (shown_function f);
+        seen = frame_of (function_view f);
         in_loop = false;
-        fits = (fits_at (shown c) c.well_formed k (shown_function f) at).2;
+        fits = (fits_at (program_view c) c.well_formed k (function_view f) at).2;
       })
 
   -- a function that is called
   pub callee_is : (here : ℕ) (f : function.Function)
-      → (if nat_lt k here then slice_get c.functions.items k else None) ≡ Some f → callee_of (shown c) here k ≡ Some
-      (shown_function f)
+      → (if nat_lt k here then slice_get c.functions.items k else None) ≡ Some f → callee_of (program_view c) here k ≡ Some
+      (function_view f)
   callee_is here f e = by_test (nat_lt k here) e
     where
       by_test : (b : Bool) → (if b then slice_get c.functions.items k else None) ≡ Some f
-          → (if b then slice_get (shown c).functions k else None) ≡ Some (shown_function f)
+          → (if b then slice_get (program_view c).functions k else None) ≡ Some (function_view f)
       by_test true e = shown_at c.functions.items k f e
       by_test false e = absurd cc
 
   pub callee_none : (here : ℕ) → (if nat_lt k here then slice_get c.functions.items k else None) ≡ None
-      → callee_of (shown c) here k ≡ None
+      → callee_of (program_view c) here k ≡ None
   callee_none here e = by_test (nat_lt k here) e
     where
       by_test : (b : Bool) → (if b then slice_get c.functions.items k else None) ≡ None
-          → (if b then slice_get (shown c).functions k else None) ≡ None
+          → (if b then slice_get (program_view c).functions k else None) ≡ None
       by_test true e = not_there c.functions.items k e
       by_test false e = refl
 

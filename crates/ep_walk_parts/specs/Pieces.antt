@@ -4,12 +4,12 @@ use Rattle.ep_core.specs.Program.{Expr, What, Stmts, Function, Program}
 use Rattle.ep_int.specs.declared.types.Order.{Order}
 use Rattle.ep_core.specs.Exec.{broken, frame_of}
 use Rattle.ep_core.specs.Runs.{Side, left, right}
-use Rattle.ep_core.specs.View.{shown_expr, shown_stmts}
+use Rattle.ep_core.specs.View.{expr_view, stmts_view}
 use Rattle.ep_pass.specs.States.{Mode, Both, One, StateOps}
 use Rattle.ep_pass.specs.Pass.{Ways, none, Pass, ends, so_far, jumps, too_long, then_pass, tested, apart, next_pass}
 use Rattle.ep_pass.specs.Pass.{unrolled, in_body, one_turn, cut_turn, lone, joint_turn, settled, last_turns, entered}
 use Rattle.ep_pass.specs.Pass.{loop_pass, leave_call, scope_pass, pass, pass_all, body_pass, bodies_pass}
-use Rattle.ep_flows.specs.Shown.{Plan}
+use Rattle.ep_flows.specs.View.{Plan}
 use Rattle.ep_walk_parts.specs.declared.follow.Parts.{Parts}
 use Rattle.ep_walk_parts.specs.declared.follow.Follow as declared
 use Rattle.ep_walk_parts.specs.declared.follow.Follow.TheVariants.{Arms, Turn, Cut}
@@ -24,9 +24,9 @@ pub record Loop : Type 0 where
 abbrev pub loop_of : Parts → Loop
 loop_of l = record {
   line = l.line;
-  test = shown_expr l.test.now;
-  body = shown_stmts l.body.now;
-  next = shown_stmts
+  test = expr_view l.test.now;
+  body = stmts_view l.body.now;
+  next = stmts_view
       l.next.now;
 }
 
@@ -37,7 +37,7 @@ pub data Followed : Type 0 where
   cut : (line : ℕ) → Followed
 
 abbrev pub followed_of : declared.Follow → Followed
-followed_of (Arms l a b) = arms l (shown_stmts a.now) (shown_stmts b.now)
+followed_of (Arms l a b) = arms l (stmts_view a.now) (stmts_view b.now)
 followed_of (Turn l) = turns (loop_of l)
 followed_of (Cut l) = cut l
 

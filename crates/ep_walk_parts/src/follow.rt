@@ -3,9 +3,9 @@
 ghost use Rattle.std.specs.Prelude.{◌≡◌, true, if◌then◌else◌, nat_lt, IfOk, None, Option, Some, slice_get};
 ghost use Rattle.std.specs.Option.{option_map};
 ghost use Rattle.ep_core.specs.Exec.{first_of, frame_of, is_order, on, result_in};
-ghost use Rattle.ep_core.specs.View.{shown_dest, shown_expr, shown_function, shown_what};
+ghost use Rattle.ep_core.specs.View.{dest_view, expr_view, function_view, what_view};
 ghost use Rattle.ep_core.specs.WellFormed.{is_return};
-ghost use Rattle.ep_flows.specs.Shown.{Passes, is_simple, mode_of, plan_of, shown_flow, side_of, simple_of};
+ghost use Rattle.ep_flows.specs.View.{Passes, is_simple, mode_of, plan_of, flow_view, side_of, simple_of};
 ghost use Rattle.ep_flows.specs.Typed.{IsTypedTest, TakesResult};
 ghost use Rattle.ep_pass.specs.Pass.{agreed, branch, simple_pass};
 ghost use Rattle.ep_walk_parts.specs.Pieces.{left_of, o, one};
@@ -73,9 +73,9 @@ pub fn assumed<K: AbstractStates>(
     truth: bool,
     known: &K,
 ) -> Result<Option<K>, Memory>
-    requires { IsTypedTest (plan_of c.now).program (shown_expr e.now) }
+    requires { IsTypedTest (plan_of c.now).program (expr_view e.now) }
     ensures { IfOk result (λ r. r ≡ agreed (o K.ops (plan_of c.now)) (mode_of mode)
-        (shown_expr e.now) truth known.now) }
+        (expr_view e.now) truth known.now) }
 {
     match mode {
         Running::Together => known.assume(c, e, truth, truth),
@@ -101,7 +101,7 @@ pub fn arm<'p>(own: Order, named: Order, yes: &'p [Stmt], no: &'p [Stmt]) -> &'p
 }
 
 fn returns(w: &What) -> bool
-    ensures { result ≡ is_return (simple_of (shown_what w.now)) }
+    ensures { result ≡ is_return (simple_of (what_view w.now)) }
 {
     match w {
         What::Return(_) => true,
@@ -135,9 +135,9 @@ pub fn pass_simple<K: AbstractStates>(
     known: K,
     log: &mut Log<K>,
 ) -> Result<Flow<K>, Memory>
-    requires simple { is_simple (shown_what s.now.what) ≡ true }
-    requires typed { IsTyped (plan_of c.now).program here (shown_what s.now.what) }
-    ensures { Passes (one K.ops (plan_of c.now) here (shown_what s.now.what) (mode_of mode) s.now.line known) result
+    requires simple { is_simple (what_view s.now.what) ≡ true }
+    requires typed { IsTyped (plan_of c.now).program here (what_view s.now.what) }
+    ensures { Passes (one K.ops (plan_of c.now) here (what_view s.now.what) (mode_of mode) s.now.line known) result
         log.old log.new }
 {
     let next = known.simple(c, mode, result_of(c, here), s, &mut log.alarms)?;
@@ -157,9 +157,9 @@ pub fn give_result<K: AbstractStates>(
     left: Option<K>,
     log: &mut Log<K>,
 ) -> Result<Flow<K>, Memory>
-    requires { TakesResult (plan_of c.now).program (shown_function f.now) (option_map shown_dest d.now) }
+    requires { TakesResult (plan_of c.now).program (function_view f.now) (option_map dest_view d.now) }
     ensures { Passes (branch left (λ s. simple_pass on line
-        ((o K.ops (plan_of c.now)).result (mode_of mode) (shown_function f.now) (option_map shown_dest d.now) s)))
+        ((o K.ops (plan_of c.now)).result (mode_of mode) (function_view f.now) (option_map dest_view d.now) s)))
         result log.old log.new }
 {
     match left {
@@ -179,7 +179,7 @@ pub fn leave_function<K: AbstractStates>(
     flow: Flow<K>,
 ) -> Result<Option<K>, Memory>
     ensures { IfOk result (λ r. r
-        ≡ left_of K.ops (plan_of c.now) (mode_of mode) (shown_function f.now) (shown_flow flow)) }
+        ≡ left_of K.ops (plan_of c.now) (mode_of mode) (function_view f.now) (flow_view flow)) }
 {
     let blocks = frame(c.alloc, f)?;
     let Flow { on, ways } = leave_scope(c, mode, &blocks, flow)?;
@@ -188,7 +188,7 @@ pub fn leave_function<K: AbstractStates>(
 
 // The parameters and locals of a function.
 fn frame(alloc: Global, f: &Function) -> Result<Vec<u32>, Memory>
-    ensures { IfOk result (λ bs. bs.items ≡ frame_of (shown_function f.now)) }
+    ensures { IfOk result (λ bs. bs.items ≡ frame_of (function_view f.now)) }
 {
     let mut blocks = firsts(alloc, &f.params)?;
     blocks.extend_from_slice(&f.locals).map_err(|_| Memory)?;

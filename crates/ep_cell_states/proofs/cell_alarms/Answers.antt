@@ -1,5 +1,5 @@
 use Rattle.std.proofs.Common.{true, false}
-use Rattle.ep_pass_laws.proofs.Placing.{alarms_stand}
+use Rattle.ep_pass.proofs.Placing.{alarms_stand}
 use Rattle.ep_transfers.specs.Cells.{cell_ops}
 use Rattle.ep_alarm_laws.proofs.Safe.{plain_honest, even_honest}
 use Rattle.ep_cell_states.proofs.cell_alarms.Goals as goal

@@ -2,7 +2,7 @@ use Rattle.std.proofs.Common.{true, false, not, [], drop, FitsSigned, rules, ref
 use Rattle.std.specs.Int.{w128}
 use Rattle.std.proofs.lemmas.Int.{to_z-of_z}
 use Rattle.std.proofs.lemmas.Result.{IfOk-weaker}
-use Rattle.ep_core.specs.View.{shown_expr, shown_place}
+use Rattle.ep_core.specs.View.{expr_view, place_view}
 use Rattle.ep_core.specs.WellFormed.{int_type_of}
 use Rattle.ep_evaluation.specs.Given.{alone, on, are_sure, mode_where}
 use Rattle.ep_evaluation.specs.Operators.{may_be}
@@ -51,9 +51,9 @@ eval_strict-returns-in_ok-x-in-AddrOf g t c =
 pub eval_strict-returns-in_ok-x-in-Convert : goal.eval_strict-returns-in_ok-x-in-Convert
 eval_strict-returns-in_ok-x-in-Convert g t c =
     given_whole g.N.Num.ops c.args.sizes.now c.in-Convert.is (one_plain (convert_given g.N.Num.ops (int_type_of
-    (shown_expr c.in-Convert.a.value)) c.in-Convert.t c.args.mode) refl (λ u. refl) (λ u. refl) (given_part
+    (expr_view c.in-Convert.a.value)) c.in-Convert.t c.args.mode) refl (λ u. refl) (λ u. refl) (given_part
     g.N.Num.ops c.args.sizes.now c.deref-in-Convert.ensures c.in_ok-x-in-Convert.ensures) (c.converted.ensures ∙ ap
-    (λ v. (convert_given g.N.Num.ops (int_type_of (shown_expr v)) c.in-Convert.t c.args.mode (faultless
+    (λ v. (convert_given g.N.Num.ops (int_type_of (expr_view v)) c.in-Convert.t c.args.mode (faultless
     c.in_ok-x-in-Convert.x)).pair) c.deref-in-Convert-2.ensures))
 
 pub eval_strict-converted-requires-clause-first : goal.eval_strict-converted-requires-clause-first
@@ -245,13 +245,13 @@ test-returns-in_ok-y-in-Or g t c =
 
 pub test-conjunction-requires-clause-first : goal.test-conjunction-requires-clause-first
 test-conjunction-requires-clause-first g t c =
-    λ w. first_like g.N.Num.ops c.args.sizes.now (shown_expr c.in-And.a.value) (shown_expr c.in-And.b.value) (side_of
+    λ w. first_like g.N.Num.ops c.args.sizes.now (expr_view c.in-And.a.value) (expr_view c.in-And.b.value) (side_of
     c.args.side) c.args.state.now false _ ((tested_part g.N.Num.ops c.args.sizes.now c.deref.ensures
     c.in_ok-x-in-And.ensures).no (c.with_true.ensures.no ∙ w))
 
 pub test-conjunction-requires-clause-second : goal.test-conjunction-requires-clause-second
 test-conjunction-requires-clause-second g t c =
-    second_like g.N.Num.ops c.args.sizes.now (shown_expr c.in-And.a.value) (shown_expr c.in-And.b.value) (side_of
+    second_like g.N.Num.ops c.args.sizes.now (expr_view c.in-And.a.value) (expr_view c.in-And.b.value) (side_of
     c.args.side) c.args.state.now true false c.args.wants.no (left_of c.args.state.now c.in_ok-x-in-And.x.when_true)
     (left_of c.args.state.now c.in_ok-y-in-And.y.when_false) ((tested_part g.N.Num.ops c.args.sizes.now
     c.deref.ensures c.in_ok-x-in-And.ensures).yes c.with_true.ensures.yes) (second_part g.N.Num.ops c.args.sizes.now
@@ -259,13 +259,13 @@ test-conjunction-requires-clause-second g t c =
 
 pub test-disjunction-requires-clause-first : goal.test-disjunction-requires-clause-first
 test-disjunction-requires-clause-first g t c =
-    λ w. first_like g.N.Num.ops c.args.sizes.now (shown_expr c.in-Or.a.value) (shown_expr c.in-Or.b.value) (side_of
+    λ w. first_like g.N.Num.ops c.args.sizes.now (expr_view c.in-Or.a.value) (expr_view c.in-Or.b.value) (side_of
     c.args.side) c.args.state.now true _ ((tested_part g.N.Num.ops c.args.sizes.now c.deref-in-Or.ensures
     c.in_ok-x-in-Or.ensures).yes (c.with_false.ensures.yes ∙ w))
 
 pub test-disjunction-requires-clause-second : goal.test-disjunction-requires-clause-second
 test-disjunction-requires-clause-second g t c =
-    second_like g.N.Num.ops c.args.sizes.now (shown_expr c.in-Or.a.value) (shown_expr c.in-Or.b.value) (side_of
+    second_like g.N.Num.ops c.args.sizes.now (expr_view c.in-Or.a.value) (expr_view c.in-Or.b.value) (side_of
     c.args.side) c.args.state.now false true c.args.wants.yes (left_of c.args.state.now c.in_ok-x-in-Or.x.when_false)
     (left_of c.args.state.now c.in_ok-y-in-Or.y.when_true) ((tested_part g.N.Num.ops c.args.sizes.now
     c.deref-in-Or.ensures c.in_ok-x-in-Or.ensures).no c.with_false.ensures.no) (second_part g.N.Num.ops
@@ -367,7 +367,7 @@ pub operand-returns-in_ok-x-in-Load : goal.operand-returns-in_ok-x-in-Load
 operand-returns-in_ok-x-in-Load g t c =
     if_four c.loaded.result _ _ _ _ (λ r v f l o. operand_whole g.N.Num.ops c.args.sizes.now c.in-Load.is
     (load_operand g.N.Num.ops (side_of c.args.side) c.args.state.now c.args.sizes.now (place g.N.Num.ops
-    c.args.sizes.now (shown_place c.in-Load.a.value)) c.in-Load.what c.are_sure-sure.result c.len-from.result
+    c.args.sizes.now (place_view c.in-Load.a.value)) c.in-Load.what c.are_sure-sure.result c.len-from.result
     (given_mode c.mode.ensures (place_part g.N.Num.ops c.args.sizes.now c.deref.ensures c.in_ok-x-in-Load.ensures))
     (c.len-from.ensures ∙ c.args.faults.now.ok.0) (c.are_sure-sure.ensures ∙ ap (λ fs. are_sure (drop
     c.len-from.result fs)) c.deref-in-Load.ensures.value) v f l o)) c.loaded.ensures.value c.loaded.ensures.faults
@@ -376,10 +376,10 @@ operand-returns-in_ok-x-in-Load g t c =
 pub operand-returns-in_ok-x-in-Convert : goal.operand-returns-in_ok-x-in-Convert
 operand-returns-in_ok-x-in-Convert g t c =
     operand_whole g.N.Num.ops c.args.sizes.now c.in-Convert.is (convert_operand g.N.Num.ops (side_of c.args.side)
-    c.args.state.now (meant g.N.Num.ops c.args.sizes.now c.in-Convert.a.value) (int_type_of (shown_expr
+    c.args.state.now (meant g.N.Num.ops c.args.sizes.now c.in-Convert.a.value) (int_type_of (expr_view
     c.in-Convert.a.value)) c.in-Convert.t (operand_part g.N.Num.ops c.args.sizes.now c.deref-in-Convert.ensures
     c.in_ok-x-in-Convert.ensures) (c.converted_operand.ensures.value ∙ ap (λ v. (convert_given g.N.Num.ops
-    (int_type_of (shown_expr v)) c.in-Convert.t (alone (side_of c.args.side)) (faultless
+    (int_type_of (expr_view v)) c.in-Convert.t (alone (side_of c.args.side)) (faultless
     c.in_ok-x-in-Convert.x.value)).pair) c.deref-in-Convert-2.ensures) c.converted_operand.ensures.cell
     c.converted_operand.ensures.sort)
 

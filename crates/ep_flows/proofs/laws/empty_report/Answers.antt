@@ -1,4 +1,4 @@
-use Rattle.ep_pass_laws.proofs.Sound.{sound}
+use Rattle.ep_pass.proofs.Sound.{sound}
 use Rattle.ep_flows.proofs.laws.empty_report.Goals as goal
 
 pub returns : goal.returns

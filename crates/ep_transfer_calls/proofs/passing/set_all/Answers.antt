@@ -3,9 +3,9 @@ use Rattle.std.specs.Vec.Iter.{into_iter_items}
 use Rattle.std.proofs.lemmas.List.{append-nil, drop_more}
 use Rattle.ep_int.specs.declared.types.IntType.TheVariants.{I8}
 use Rattle.ep_int.specs.declared.types.Scalar.TheVariants.{Int}
-use Rattle.ep_core.specs.Shown.{shown}
+use Rattle.ep_core.specs.ProgramView.{program_view}
 use Rattle.ep_transfers.specs.Transfers.{Stepped}
-use Rattle.ep_waiting_laws.specs.Laws.{OthersThere}
+use Rattle.ep_transfers.specs.WaitingLaws.{OthersThere}
 use Rattle.ep_transfer_calls.proofs.Set.{is_empty, none_left, first_waits, rest_waits, then_next, then_faults}
 use Rattle.ep_transfer_calls.proofs.Set.{stop_next, stop_faults}
 use Rattle.ep_transfer_calls.proofs.passing.set_all.Goals as goal
@@ -13,7 +13,7 @@ use Rattle.ep_transfer_calls.proofs.passing.set_all.Goals as goal
 pub returns-in-None-clause-next : goal.returns-in-None-clause-next
 returns-in-None-clause-next g c =
     sym (ap (λ (s : Stepped _). s.next)
-    (none_left g.N.Num.ops (shown c.args.program.now) c.args.frame.now.keys c.args.mode
+    (none_left g.N.Num.ops (program_view c.args.program.now) c.args.frame.now.keys c.args.mode
     (drop c.loop-b.b-index c.args.params.now) (drop (c.loop-b.b-index + 1) c.args.params.now)
     (into_iter_items c.loop-b.rest) (get_or c.args.params.now c.loop-b.b-index (0, Int I8)) c.loop-b.now
     (drop_more c.args.params.now c.loop-b.b-index (0, Int I8) c.loop-b-test.true)
@@ -25,7 +25,7 @@ pub returns-in-None-clause-faults : goal.returns-in-None-clause-faults
 returns-in-None-clause-faults g c =
     sym (append-nil c.loop-b.faults.items)
     ∙ ap (λ (s : Stepped _). c.loop-b.faults.items ++ s.faults)
-    (sym (none_left g.N.Num.ops (shown c.args.program.now) c.args.frame.now.keys c.args.mode
+    (sym (none_left g.N.Num.ops (program_view c.args.program.now) c.args.frame.now.keys c.args.mode
     (drop c.loop-b.b-index c.args.params.now) (drop (c.loop-b.b-index + 1) c.args.params.now)
     (into_iter_items c.loop-b.rest) (get_or c.args.params.now c.loop-b.b-index (0, Int I8)) c.loop-b.now
     (drop_more c.args.params.now c.loop-b.b-index (0, Int I8) c.loop-b-test.true)
@@ -35,7 +35,7 @@ returns-in-None-clause-faults g c =
 
 pub set_one-requires-clause-waits : goal.set_one-requires-clause-waits
 set_one-requires-clause-waits g c =
-    first_waits g.N.Num.ops (shown c.args.program.now) c.args.frame.now.keys c.args.mode
+    first_waits g.N.Num.ops (program_view c.args.program.now) c.args.frame.now.keys c.args.mode
     (drop c.loop-b.b-index c.args.params.now) (drop (c.loop-b.b-index + 1) c.args.params.now)
     (into_iter_items c.loop-b.rest) (get_or c.args.params.now c.loop-b.b-index (0, Int I8)) c.loop-b.now
     (drop_more c.args.params.now c.loop-b.b-index (0, Int I8) c.loop-b-test.true)
@@ -43,7 +43,7 @@ set_one-requires-clause-waits g c =
 
 pub returns-in-None-2-clause-next : goal.returns-in-None-2-clause-next
 returns-in-None-2-clause-next g c =
-    stop_next g.N.Num.ops (shown c.args.program.now) c.args.frame.now.keys c.args.mode
+    stop_next g.N.Num.ops (program_view c.args.program.now) c.args.frame.now.keys c.args.mode
     (drop c.loop-b.b-index c.args.params.now) (drop (c.loop-b.b-index + 1) c.args.params.now)
     (into_iter_items c.loop-b.rest) (get_or c.args.params.now c.loop-b.b-index (0, Int I8)) c.loop-b.now
     (drop_more c.args.params.now c.loop-b.b-index (0, Int I8) c.loop-b-test.true)
@@ -53,7 +53,7 @@ returns-in-None-2-clause-next g c =
 
 pub returns-in-None-2-clause-faults : goal.returns-in-None-2-clause-faults
 returns-in-None-2-clause-faults g c =
-    stop_faults g.N.Num.ops (shown c.args.program.now) c.args.frame.now.keys c.args.mode
+    stop_faults g.N.Num.ops (program_view c.args.program.now) c.args.frame.now.keys c.args.mode
     (drop c.loop-b.b-index c.args.params.now) (drop (c.loop-b.b-index + 1) c.args.params.now)
     (into_iter_items c.loop-b.rest) (get_or c.args.params.now c.loop-b.b-index (0, Int I8)) c.loop-b.now
     (drop_more c.args.params.now c.loop-b.b-index (0, Int I8) c.loop-b-test.true)
@@ -64,21 +64,21 @@ returns-in-None-2-clause-faults g c =
 
 pub loop-b-preserved : goal.loop-b-preserved
 loop-b-preserved g c = record {
-  waits = rest_waits g.N.Num.ops (shown c.args.program.now) c.args.frame.now.keys c.args.mode
+  waits = rest_waits g.N.Num.ops (program_view c.args.program.now) c.args.frame.now.keys c.args.mode
       (drop c.loop-b.b-index c.args.params.now) (drop (c.loop-b.b-index + 1) c.args.params.now)
       (into_iter_items c.loop-b.rest) (get_or c.args.params.now c.loop-b.b-index (0, Int I8)) c.loop-b.now
       (drop_more c.args.params.now c.loop-b.b-index (0, Int I8) c.loop-b-test.true)
       (into_iter_items c.next.new.self) c.in-Some.v c.in-Some.ensures.items c.loop-b.invariant.waits c.in-Some-2.after
       (subst (λ o. IfSome o (OthersThere c.args.frame.now.keys c.loop-b.now)) c.in-Some-2.is
       c.in_ok-set_one-in-Some.ensures.stays);
-  next = then_next g.N.Num.ops (shown c.args.program.now) c.args.frame.now.keys c.args.mode
+  next = then_next g.N.Num.ops (program_view c.args.program.now) c.args.frame.now.keys c.args.mode
       (drop c.loop-b.b-index c.args.params.now) (drop (c.loop-b.b-index + 1) c.args.params.now)
       (into_iter_items c.loop-b.rest) (get_or c.args.params.now c.loop-b.b-index (0, Int I8)) c.loop-b.now
       (drop_more c.args.params.now c.loop-b.b-index (0, Int I8) c.loop-b-test.true)
       (into_iter_items c.next.new.self) c.in-Some.v c.in-Some.ensures.items c.in-Some-2.after
       (sym c.in-Some-2.is ∙ c.in_ok-set_one-in-Some.ensures.next)
       ∙ c.loop-b.invariant.next;
-  faults = then_faults g.N.Num.ops (shown c.args.program.now) c.args.frame.now.keys c.args.mode
+  faults = then_faults g.N.Num.ops (program_view c.args.program.now) c.args.frame.now.keys c.args.mode
       (drop c.loop-b.b-index c.args.params.now) (drop (c.loop-b.b-index + 1) c.args.params.now)
       (into_iter_items c.loop-b.rest) (get_or c.args.params.now c.loop-b.b-index (0, Int I8)) c.loop-b.now
       (drop_more c.args.params.now c.loop-b.b-index (0, Int I8) c.loop-b-test.true)

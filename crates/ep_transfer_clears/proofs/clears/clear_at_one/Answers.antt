@@ -1,6 +1,6 @@
 use Rattle.std.proofs.Common.{◌∙◌, sym, refl}
 use Rattle.std.proofs.lemmas.Result.{IfOk-weaker}
-use Rattle.ep_transfer_places.specs.Room.{shown as shown_places}
+use Rattle.ep_transfer_places.specs.Room.{view as shown_places}
 use Rattle.ep_transfers.specs.Transfers.{undefined_item}
 use Rattle.ep_transfer_writes.proofs.Placing.{run_room}
 use Rattle.ep_transfer_clears.proofs.AtOnce.{cleared_at_once}

@@ -1,5 +1,5 @@
 use Rattle.std.proofs.Common.{◌∙◌, ◌+◌, nat_lt, refl, sym, subst, arith}
-use Rattle.ep_transfer_places.specs.Room.{shown as shown_places}
+use Rattle.ep_transfer_places.specs.Room.{view as shown_places}
 use Rattle.ep_transfer_places.proofs.Moving.{less_both}
 use Rattle.ep_transfer_clears.specs.Walk.{IsAt}
 use Rattle.ep_transfer_clears.proofs.Stepping.{leaf_is, inside_is, leaf_room, next_turn}

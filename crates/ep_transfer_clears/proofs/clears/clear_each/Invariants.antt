@@ -1,6 +1,6 @@
 use Rattle.std.proofs.Common.{◌≡◌, ◌-◌, []}
 use Rattle.ep_transfers.specs.Transfers as spec
-use Rattle.ep_transfer_places.specs.Room.{shown as shown_places}
+use Rattle.ep_transfer_places.specs.Room.{view as shown_places}
 use Rattle.ep_transfer_clears.specs.Walk.{IsAt}
 use Rattle.ep_transfer_clears.proofs.clears.clear_each.Given as goal
 

@@ -1,6 +1,6 @@
 use Rattle.std.proofs.Common.{sym, subst}
 use Rattle.ep_cell_ranges.specs.Moves.{place_at}
-use Rattle.ep_cell_ranges_laws.specs.Sound.{AreNew}
+use Rattle.ep_cell_ranges.specs.Sound.{AreNew}
 use Rattle.ep_transfer_clears.proofs.AtOnce.{cells_new}
 use Rattle.ep_transfer_clears.proofs.clears.clear_range.Goals as goal
 

@@ -1,7 +1,7 @@
 use Rattle.std.proofs.Common.{◌+◌, sym, subst, arith}
+use Rattle.ep_int.proofs.Basics.{size_positive}
 use Rattle.ep_int.specs.Types.{size_of}
-use Rattle.ep_cells_laws.proofs.Places.{size_positive}
-use Rattle.ep_transfer_places.specs.Room.{BothHaveRoom, shown as shown_places}
+use Rattle.ep_transfer_places.specs.Room.{BothHaveRoom, view as shown_places}
 use Rattle.ep_transfer_places.proofs.Moving.{less_both, moved_both}
 use Rattle.ep_transfer_clears.proofs.clears.put.Goals as goal
 

@@ -1,8 +1,8 @@
 use Rattle.std.proofs.Common.{◌∙◌, ◌++◌, map, FitsSigned, refl, rules}
 use Rattle.std.specs.Int.{w128}
 use Rattle.std.proofs.lemmas.Int.{to_z-of_z}
-use Rattle.ep_core.specs.Shown.{shown}
-use Rattle.ep_core.specs.View.{shown_block}
+use Rattle.ep_core.specs.ProgramView.{program_view}
+use Rattle.ep_core.specs.View.{block_view}
 use Rattle.ep_transfer_entry.proofs.Begins.{begun}
 use Rattle.ep_transfer_entry.proofs.Blocks.{type_there}
 use Rattle.ep_transfer_entry.proofs.Turns.{number_fits, numbers_left, cell_turn, block_leaves, block_numbers}
@@ -11,19 +11,19 @@ use Rattle.ep_transfer_entry.proofs.cells.push_block.Goals as goal
 
 pub leaves-requires : goal.leaves-requires
 leaves-requires g c =
-    type_there (shown c.args.program.now) c.args.program.now.well_formed c.args.number (shown_block c.args.block.now)
+    type_there (program_view c.args.program.now) c.args.program.now.well_formed c.args.number (block_view c.args.block.now)
     c.requires.block
 
 pub entry_cells-requires : goal.entry_cells-requires
 entry_cells-requires g c =
-    block_leaves g.N.Num.ops c.args.program.now c.args.number (shown_block c.args.block.now) c.requires.block
+    block_leaves g.N.Num.ops c.args.program.now c.args.number (block_view c.args.block.now) c.requires.block
     c.requires.begins c.model-model.result c.deref.result.now c.model-model.ensures.model
     (c.deref.ensures.value ∙ c.in_ok-leaves.ensures.value)
 
 pub loop-c-init : goal.loop-c-init
 loop-c-init g c = record {
   rest = refl;
-  numbers = block_numbers g.N.Num.ops c.args.program.now c.args.number (shown_block c.args.block.now) c.requires.block
+  numbers = block_numbers g.N.Num.ops c.args.program.now c.args.number (block_view c.args.block.now) c.requires.block
       c.requires.begins c.model-model.result c.deref.result.now c.model-model.ensures.model
       (c.deref.ensures.value ∙ c.in_ok-leaves.ensures.value) c.deref-c-items.result.now
       (c.deref-c-items.ensures.value ∙ c.in_ok-undefined.ensures);
@@ -42,7 +42,7 @@ loop-c-preserved g c =
     record {
       rest = cell_turn g.N.Num.ops c.args.program.now c.args.values.now c.first_number-v.result _
           c.deref-c-items.result.now c.loop-c.out.items c.push.new.out.items
-          (c.args.out.now.items ++ map (begun g.N.Num.ops (shown c.args.program.now)) c.deref-c-items.result.now)
+          (c.args.out.now.items ++ map (begun g.N.Num.ops (program_view c.args.program.now)) c.deref-c-items.result.now)
           c.loop-c.c-index c.c-item.result
           c.in_ok-cell_with.field-0 c.requires.values c.first_number-v.ensures
           (to_z-of_z w128 c.first_number-v.result fits) c.loop-c-test.true c.c-item.is c.in_ok-cell_with.ensures
@@ -53,7 +53,7 @@ loop-c-preserved g c =
 
 pub returns : goal.returns
 returns g c =
-    block_ends g.N.Num.ops c.args.program.now c.args.number (shown_block c.args.block.now) c.requires.block
+    block_ends g.N.Num.ops c.args.program.now c.args.number (block_view c.args.block.now) c.requires.block
     c.requires.begins c.model-model.result c.deref.result.now c.model-model.ensures.model
     (c.deref.ensures.value ∙ c.in_ok-leaves.ensures.value) c.deref-c-items.result.now c.loop-c.out.items
     c.args.out.now.items c.loop-c.c-index (c.deref-c-items.ensures.value ∙ c.in_ok-undefined.ensures)

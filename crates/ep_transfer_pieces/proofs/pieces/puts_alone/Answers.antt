@@ -1,7 +1,7 @@
 use Rattle.std.proofs.Common.{◌+◌, ap, sym, ◌∙◌, subst, arith}
 use Rattle.ep_evaluation.specs.Given.{alone, cells_of}
 use Rattle.ep_transfers.specs.Places.{at_side}
-use Rattle.ep_transfer_places.specs.Room.{HaveRoom, shown}
+use Rattle.ep_transfer_places.specs.Room.{HaveRoom, view}
 use Rattle.ep_transfer_places.proofs.Moving.{less_room}
 use Rattle.ep_transfer_pieces.specs.Pieces.{side_of}
 use Rattle.ep_transfer_pieces.specs.Walked.{next_piece}
@@ -13,13 +13,13 @@ pub next_piece-requires : goal.next_piece-requires
 next_piece-requires g c =
     let inside = c.loop-o-test.true in
     subst (HaveRoom (c.loop-o.o + 1)) (sym c.places-spots.ensures)
-    (less_room c.args.bytes (c.loop-o.o + 1) (at_side (shown c.args.from.now) (side_of c.args.on))
+    (less_room c.args.bytes (c.loop-o.o + 1) (at_side (view c.args.from.now) (side_of c.args.on))
     (omega (arith, inside)) c.requires.from)
 
 pub push_alone-requires : goal.push_alone-requires
 push_alone-requires g c =
     let inside = c.loop-o-test.true in
-    less_room c.args.bytes (c.loop-o.o + 1) (at_side (shown c.args.from.now) (side_of c.args.on))
+    less_room c.args.bytes (c.loop-o.o + 1) (at_side (view c.args.from.now) (side_of c.args.on))
     (omega (arith, inside)) c.requires.from
 
 pub loop-o-init : goal.loop-o-init
@@ -28,10 +28,10 @@ loop-o-init g c =
     let k = c.args.state.now in
     let s = side_of c.args.on in
     record {
-      plan = λ joint. plan_first D k (shown c.args.from.now) c.args.leaves.now joint (alone s) c.args.bytes
+      plan = λ joint. plan_first D k (view c.args.from.now) c.args.leaves.now joint (alone s) c.args.bytes
           c.new-puts.result.items c.new-puts.ensures.items;
       fits = none_fit k.model c.args.bytes c.new-puts.result.items c.new-puts.ensures.items;
-      at = at_first D k (cells_of s) (at_side (shown c.args.from.now) s) c.args.leaves.now c.args.bytes
+      at = at_first D k (cells_of s) (at_side (view c.args.from.now) s) c.args.leaves.now c.args.bytes
           c.first-walk.result c.first-walk.ensures.begun c.first-walk.ensures.until c.requires.leaves;
     }
 
@@ -40,9 +40,9 @@ loop-o-preserved g c =
     let D = g.N.Num.ops in
     let k = c.args.state.now in
     let s = side_of c.args.on in
-    let ps = at_side (shown c.args.from.now) s in
+    let ps = at_side (view c.args.from.now) s in
     let i = c.loop-o.invariant in
-    let next = alone_next D k (shown c.args.from.now) c.args.leaves.now c.read_laws.ensures c.model.ensures.cells
+    let next = alone_next D k (view c.args.from.now) c.args.leaves.now c.read_laws.ensures c.model.ensures.cells
     c.args.bytes c.loop-o.o c.requires.leaves c.loop-o-test.true s c.loop-o.walk c.in_ok-next.next c.loop-o.puts.items
     c.push_alone.new.puts.items
     (c.in_ok-next.ensures
@@ -54,7 +54,7 @@ loop-o-preserved g c =
 
 pub returns-clause-value : goal.returns-clause-value
 returns-clause-value g c = λ joint.
-    plan_last g.N.Num.ops c.args.state.now (shown c.args.from.now) c.args.leaves.now joint (alone (side_of c.args.on))
+    plan_last g.N.Num.ops c.args.state.now (view c.args.from.now) c.args.leaves.now joint (alone (side_of c.args.on))
     c.args.bytes c.loop-o.o c.loop-o.puts.items c.loop-o-test.false (c.loop-o.invariant.plan joint)
 
 pub returns-clause-fits : goal.returns-clause-fits

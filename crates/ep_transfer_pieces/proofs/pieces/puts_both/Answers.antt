@@ -2,7 +2,7 @@ use Rattle.std.proofs.Common.{◌+◌, ap, sym, ◌∙◌, subst, arith}
 use Rattle.ep_core.specs.Runs.{left, right}
 use Rattle.ep_equalities.specs.declared.pair.Mode.TheVariants.{Both}
 use Rattle.ep_evaluation.specs.Given.{cells_of}
-use Rattle.ep_transfer_places.specs.Room.{HaveRoom, shown}
+use Rattle.ep_transfer_places.specs.Room.{HaveRoom, view}
 use Rattle.ep_transfer_places.proofs.Moving.{less_room, less_both}
 use Rattle.ep_transfer_pieces.specs.Walked.{next_piece}
 use Rattle.ep_transfer_pieces.proofs.Turns.{none_fit, plan_first, plan_last, both_next}
@@ -13,26 +13,26 @@ pub next_piece-requires : goal.next_piece-requires
 next_piece-requires g c =
     let inside = c.loop-o-test.true in
     subst (HaveRoom (c.loop-o.o + 1)) (sym c.deref.ensures.value)
-    (less_room c.args.bytes (c.loop-o.o + 1) (shown c.args.from.now).left (omega (arith, inside))
+    (less_room c.args.bytes (c.loop-o.o + 1) (view c.args.from.now).left (omega (arith, inside))
     c.requires.from.left)
 
 pub next_piece-requires-in-loop-o : goal.next_piece-requires-in-loop-o
 next_piece-requires-in-loop-o g c =
     let inside = c.loop-o-test.true in
     subst (HaveRoom (c.loop-o.o + 1)) (sym c.deref-in-loop-o.ensures.value)
-    (less_room c.args.bytes (c.loop-o.o + 1) (shown c.args.from.now).right (omega (arith, inside))
+    (less_room c.args.bytes (c.loop-o.o + 1) (view c.args.from.now).right (omega (arith, inside))
     c.requires.from.right)
 
 pub push_both-requires : goal.push_both-requires
 push_both-requires g c =
     let inside = c.loop-o-test.true in
-    less_both c.args.bytes (c.loop-o.o + 1) (shown c.args.from.now) (omega (arith, inside)) c.requires.from
+    less_both c.args.bytes (c.loop-o.o + 1) (view c.args.from.now) (omega (arith, inside)) c.requires.from
 
 pub loop-o-init : goal.loop-o-init
 loop-o-init g c =
     let D = g.N.Num.ops in
     let k = c.args.state.now in
-    let from = shown c.args.from.now in
+    let from = view c.args.from.now in
     record {
       plan = plan_first D k from c.args.leaves.now c.args.joint Both c.args.bytes c.new-puts.result.items
           c.new-puts.ensures.items;
@@ -47,7 +47,7 @@ pub loop-o-preserved : goal.loop-o-preserved
 loop-o-preserved g c =
     let D = g.N.Num.ops in
     let k = c.args.state.now in
-    let from = shown c.args.from.now in
+    let from = view c.args.from.now in
     let ls = c.args.leaves.now in
     let o = c.loop-o.o in
     let i = c.loop-o.invariant in
@@ -63,7 +63,7 @@ loop-o-preserved g c =
 
 pub returns-clause-value : goal.returns-clause-value
 returns-clause-value g c =
-    plan_last g.N.Num.ops c.args.state.now (shown c.args.from.now) c.args.leaves.now c.args.joint Both c.args.bytes
+    plan_last g.N.Num.ops c.args.state.now (view c.args.from.now) c.args.leaves.now c.args.joint Both c.args.bytes
     c.loop-o.o c.loop-o.puts.items c.loop-o-test.false c.loop-o.invariant.plan
 
 pub returns-clause-fits : goal.returns-clause-fits

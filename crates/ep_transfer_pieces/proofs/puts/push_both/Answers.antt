@@ -1,6 +1,6 @@
 use Rattle.std.proofs.Common.{sym, ◌∙◌}
 use Rattle.std.proofs.lemmas.Result.{IfOk-weaker}
-use Rattle.ep_transfer_places.specs.Room.{shown}
+use Rattle.ep_transfer_places.specs.Room.{view}
 use Rattle.ep_transfer_pieces.proofs.Planning.{alike_added, apart_added}
 use Rattle.ep_transfer_pieces.proofs.puts.push_both.Goals as goal
 
@@ -13,7 +13,7 @@ push_alone-requires-2 g c = c.requires.right
 pub returns-then-are_alike : goal.returns-then-are_alike
 returns-then-are_alike g c =
     IfOk-weaker c.push_together.result _ _
-    (λ r h. alike_added g.N.Num.ops c.args.joint c.args.state.now (shown c.args.from.now) c.args.puts.now.items
+    (λ r h. alike_added g.N.Num.ops c.args.joint c.args.state.now (view c.args.from.now) c.args.puts.now.items
     c.push_together.new.puts.items c.args.offset c.args.left c.args.right
     (sym c.are_alike.ensures ∙ c.if-are_alike.true) h)
     c.push_together.ensures
@@ -21,7 +21,7 @@ returns-then-are_alike g c =
 pub returns : goal.returns
 returns g c =
     IfOk-weaker c.push_alone-2.result _ _
-    (λ r h. apart_added g.N.Num.ops c.args.joint c.args.state.now (shown c.args.from.now) c.args.puts.now.items
+    (λ r h. apart_added g.N.Num.ops c.args.joint c.args.state.now (view c.args.from.now) c.args.puts.now.items
     c.push_alone.new.puts.items c.push_alone-2.new.puts.items c.args.offset c.args.left c.args.right
     (sym c.are_alike.ensures ∙ c.if-are_alike.false) (c.in_ok-push_alone.ensures c.args.joint) (h c.args.joint))
     c.push_alone-2.ensures

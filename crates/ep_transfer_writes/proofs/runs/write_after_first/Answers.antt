@@ -2,9 +2,9 @@ use Rattle.std.proofs.Common.{◌≡◌, ◌+◌, ◌-◌, ap, sym, subst, ◌�
 use Rattle.ep_int.specs.declared.types.IntType.TheVariants.{U8}
 use Rattle.ep_int.specs.declared.types.Scalar.TheVariants.{Int}
 use Rattle.ep_transfers.specs.Writes as spec
-use Rattle.ep_transfer_places.specs.Room.{BothHaveRoom, shown as shown_places}
+use Rattle.ep_transfer_places.specs.Room.{BothHaveRoom, view as shown_places}
 use Rattle.ep_transfer_places.proofs.Moving.{less_both, moved_both}
-use Rattle.ep_transfer_writes.specs.Waiting.{shown}
+use Rattle.ep_transfer_writes.specs.Waiting.{view}
 use Rattle.ep_transfer_writes.proofs.Turns.{in_two_of}
 use Rattle.ep_transfer_writes.proofs.runs.write_after_first.Goals as goal
 
@@ -32,7 +32,7 @@ returns-clause-value g c =
     let more = c.requires.more in
     let all : 1 + (c.args.bytes - 1) ≡ c.args.bytes = omega (arith, more) in
     in_two_of D c.args.mode c.args.same_to (Int U8) (shown_places c.args.places.now) 1 (c.args.bytes - 1) c.args.bytes
-    (shown c.args.u) (shown c.in_ok-before.before) (shown c.in_ok-after.after) all c.in_ok-before.ensures.value
+    (view c.args.u) (view c.in_ok-before.before) (view c.in_ok-after.after) all c.in_ok-before.ensures.value
     (c.in_ok-after.ensures.value
     ∙ ap (λ ps. spec.write_run D c.args.mode c.args.same_to (Int U8) ps 0 (c.args.bytes - 1)
-    (shown c.in_ok-before.before)) c.in_ok-moved.ensures)
+    (view c.in_ok-before.before)) c.in_ok-moved.ensures)

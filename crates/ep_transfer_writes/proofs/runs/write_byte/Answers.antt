@@ -1,5 +1,5 @@
 use Rattle.std.proofs.Common.{sym, subst}
-use Rattle.ep_transfer_places.specs.Room.{BothHaveRoom, shown as shown_places}
+use Rattle.ep_transfer_places.specs.Room.{BothHaveRoom, view as shown_places}
 use Rattle.ep_transfer_places.proofs.Moving.{moved_both}
 use Rattle.ep_transfer_writes.proofs.runs.write_byte.Goals as goal
 

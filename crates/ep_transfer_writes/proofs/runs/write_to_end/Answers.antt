@@ -3,8 +3,8 @@ use Rattle.std.proofs.lemmas.Result.{IfOk-weaker}
 use Rattle.ep_int.specs.declared.types.IntType.TheVariants.{U8}
 use Rattle.ep_int.specs.declared.types.Scalar.TheVariants.{Int}
 use Rattle.ep_transfers.specs.Writes as spec
-use Rattle.ep_transfer_places.specs.Room.{BothHaveRoom, shown as shown_places}
-use Rattle.ep_transfer_writes.specs.Waiting.{shown}
+use Rattle.ep_transfer_places.specs.Room.{BothHaveRoom, view as shown_places}
+use Rattle.ep_transfer_writes.specs.Waiting.{view}
 use Rattle.ep_transfer_writes.proofs.runs.write_to_end.Goals as goal
 
 pub write_two-requires-clause-room : goal.write_two-requires-clause-room
@@ -23,6 +23,6 @@ returns-clause-value g c =
     IfOk-weaker c.write_two.result _ _
     (λ r h. h
     ∙ ap (λ n. spec.write_run D c.args.mode c.args.same_to (Int U8) (shown_places c.args.places.now) 0 n
-    (shown c.args.u))
+    (view c.args.u))
     all)
     c.write_two.ensures.value

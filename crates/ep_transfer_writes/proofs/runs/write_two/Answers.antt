@@ -2,9 +2,9 @@ use Rattle.std.proofs.Common.{◌+◌, ap, sym, subst, ◌∙◌, arith}
 use Rattle.ep_int.specs.declared.types.IntType.TheVariants.{U8}
 use Rattle.ep_int.specs.declared.types.Scalar.TheVariants.{Int}
 use Rattle.ep_transfers.specs.Writes as spec
-use Rattle.ep_transfer_places.specs.Room.{BothHaveRoom, shown as shown_places}
+use Rattle.ep_transfer_places.specs.Room.{BothHaveRoom, view as shown_places}
 use Rattle.ep_transfer_places.proofs.Moving.{less_both, moved_both}
-use Rattle.ep_transfer_writes.specs.Waiting.{shown}
+use Rattle.ep_transfer_writes.specs.Waiting.{view}
 use Rattle.ep_transfer_writes.proofs.Turns.{in_two}
 use Rattle.ep_transfer_writes.proofs.runs.write_two.Goals as goal
 
@@ -28,8 +28,8 @@ pub returns-clause-value : goal.returns-clause-value
 returns-clause-value g c =
     let D = g.N.Num.ops in
     in_two D c.args.mode c.args.same_to (Int U8) (shown_places c.args.places.now) c.args.bytes.0 c.args.bytes.1
-    (shown c.args.u) (shown c.in_ok-before.before) (shown c.in_ok-after.after) c.in_ok-before.ensures.value
+    (view c.args.u) (view c.in_ok-before.before) (view c.in_ok-after.after) c.in_ok-before.ensures.value
     (c.in_ok-after.ensures.value
     ∙ ap (λ ps. spec.write_run D c.args.mode c.args.same_to (Int U8) ps 0 c.args.bytes.1
-    (shown c.in_ok-before.before))
+    (view c.in_ok-before.before))
     c.in_ok-moved.ensures)

@@ -1,9 +1,9 @@
 use Rattle.std.proofs.Common.{true, ap, sym, ◌∙◌}
 use Rattle.std.proofs.lemmas.Result.{IfOk-weaker}
 use Rattle.ep_int.specs.Types.{size_of}
-use Rattle.ep_state_ranges.specs.Held.{at_spot}
+use Rattle.ep_state_ranges.specs.HeldForms.{at_spot}
 use Rattle.ep_transfers.specs.Writes as spec
-use Rattle.ep_transfer_writes.specs.Waiting.{shown}
+use Rattle.ep_transfer_writes.specs.Waiting.{view}
 use Rattle.ep_transfer_writes.proofs.Standing.{stands_at_each}
 use Rattle.ep_transfer_writes.proofs.writes.write_shared_each.Goals as goal
 
@@ -20,6 +20,6 @@ weakly_each-requires-clause-stays g c = λ e. ap (λ x. x.side) c.in_ok-c.ensure
 pub returns-clause-value : goal.returns-clause-value
 returns-clause-value g c =
     IfOk-weaker c.weakly_each.result _ _
-    (λ r h. h ∙ ap (λ x. spec.weakly_each g.N.Num.ops (at_spot x) true c.args.spots.now (shown c.args.u))
+    (λ r h. h ∙ ap (λ x. spec.weakly_each g.N.Num.ops (at_spot x) true c.args.spots.now (view c.args.u))
     c.in_ok-c.ensures.value)
     c.weakly_each.ensures.value

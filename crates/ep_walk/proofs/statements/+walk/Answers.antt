@@ -1,10 +1,10 @@
 use Rattle.std.proofs.Common.{◌≡◌, refl, sym, ap, ◌∙◌, ◌-◌, subst, arith, true, false, suc, if◌then◌else◌}
 use Rattle.ep_core.specs.Exec.{is_order}
 use Rattle.ep_core.specs.Runs.{right}
-use Rattle.ep_core.specs.View.{shown_expr, shown_stmts, shown_function}
+use Rattle.ep_core.specs.View.{expr_view, stmts_view, function_view}
 use Rattle.ep_pass.specs.States.{Both, One}
 use Rattle.ep_pass.specs.Pass.{agreed, either_pass, branch}
-use Rattle.ep_flows.specs.Shown.{HasPassed, Passes, mode_of, plan_of, side_of, shown_ways, shown_flow}
+use Rattle.ep_flows.specs.View.{HasPassed, Passes, mode_of, plan_of, side_of, ways_view, flow_view}
 use Rattle.ep_flows.proofs.Combined.{either_ok, first_passed, step_ok, step_passed, tells_at}
 use Rattle.ep_walk_parts.specs.Pieces.{all, followed, followed_of, loop_of, o, row, rounds_of, turned}
 use Rattle.ep_walk_parts.specs.Typed.{FollowIsTyped}
@@ -157,7 +157,7 @@ pass_apart-pass_branch-requires-4 g t c κs within = (omega arith, (within, c.re
 pub pass_apart-returns : goal.pass_apart-returns
 pass_apart-returns g t c =
     parted_ok (o g.K.AbstractStates.ops (plan_of c.args.c.now)) c.args.line _ (row g.K.AbstractStates.ops (plan_of
-    c.args.c.now) c.args.here (shown_stmts c.args.second.now) (One right)) c.in_ok-on.field-0 c.in_ok-flow.flow
+    c.args.c.now) c.args.here (stmts_view c.args.second.now) (One right)) c.in_ok-on.field-0 c.in_ok-flow.flow
     c.in_ok-flow-2.flow c.in_ok-flow-4.flow c.in_ok-flow-6.flow c.in_ok-whole.whole c.in_ok-flow-3.flow
     c.in_ok-flow-5.flow c.in_ok-flow-7.flow _ _ _ _ _ _ _ _ _ _ c.in_ok-whole-2.whole c.in_ok-whole-3.whole
     c.either-3.result c.in_ok-on.ensures c.in_ok-flow.ensures c.in_ok-whole.ensures c.in_ok-flow-2.ensures
@@ -200,7 +200,7 @@ pass_branch-pass_list-requires g t c κs within = (omega arith, (within, c.requi
 
 pub pass_branch-returns-in-Some : goal.pass_branch-returns-in-Some
 pass_branch-returns-in-Some g t c =
-    branch_ok c.args.known _ (row g.K.AbstractStates.ops (plan_of c.args.c.now) c.args.here (shown_stmts
+    branch_ok c.args.known _ (row g.K.AbstractStates.ops (plan_of c.args.c.now) c.args.here (stmts_view
     c.args.body.now) (mode_of c.args.mode)) c.pass_list.result c.args.log.now c.pass_list.new.log c.in-Some.is
     c.pass_list.ensures
 
@@ -251,30 +251,30 @@ pub pass_four-returns : goal.pass_four-returns
 pass_four-returns g t c =
     step_ok (o g.K.AbstractStates.ops (plan_of c.args.c.now)) (either_pass (o g.K.AbstractStates.ops (plan_of
     c.args.c.now)) (either_pass (o g.K.AbstractStates.ops (plan_of c.args.c.now)) (either_pass (o
-    g.K.AbstractStates.ops (plan_of c.args.c.now)) (shown_flow c.args.before) (branch ((o g.K.AbstractStates.ops
-    (plan_of c.args.c.now)).assume (shown_expr c.args.test.now) true true c.args.known) (followed
+    g.K.AbstractStates.ops (plan_of c.args.c.now)) (flow_view c.args.before) (branch ((o g.K.AbstractStates.ops
+    (plan_of c.args.c.now)).assume (expr_view c.args.test.now) true true c.args.known) (followed
     g.K.AbstractStates.ops (plan_of c.args.c.now) c.args.here (followed_of c.args.follow) Both true true)))
-    (branch ((o g.K.AbstractStates.ops (plan_of c.args.c.now)).assume (shown_expr c.args.test.now) true false
+    (branch ((o g.K.AbstractStates.ops (plan_of c.args.c.now)).assume (expr_view c.args.test.now) true false
     c.args.known) (followed g.K.AbstractStates.ops (plan_of c.args.c.now) c.args.here (followed_of c.args.follow)
-    Both true false))) (branch ((o g.K.AbstractStates.ops (plan_of c.args.c.now)).assume (shown_expr
+    Both true false))) (branch ((o g.K.AbstractStates.ops (plan_of c.args.c.now)).assume (expr_view
     c.args.test.now) false true c.args.known) (followed g.K.AbstractStates.ops (plan_of c.args.c.now) c.args.here
     (followed_of c.args.follow) Both false true))) _ _ (followed g.K.AbstractStates.ops (plan_of c.args.c.now)
     c.args.here (followed_of c.args.follow) Both false false) c.in_ok-flow-3.flow c.follow_truths-4.result _ _ _
     c.in_ok-neither.ensures (step_passed (o g.K.AbstractStates.ops (plan_of c.args.c.now)) (either_pass (o
     g.K.AbstractStates.ops (plan_of c.args.c.now)) (either_pass (o g.K.AbstractStates.ops (plan_of c.args.c.now))
-    (shown_flow c.args.before) (branch ((o g.K.AbstractStates.ops (plan_of c.args.c.now)).assume (shown_expr
+    (flow_view c.args.before) (branch ((o g.K.AbstractStates.ops (plan_of c.args.c.now)).assume (expr_view
     c.args.test.now) true true c.args.known) (followed g.K.AbstractStates.ops (plan_of c.args.c.now) c.args.here
     (followed_of c.args.follow) Both true true))) (branch ((o g.K.AbstractStates.ops (plan_of
-    c.args.c.now)).assume (shown_expr c.args.test.now) true false c.args.known) (followed g.K.AbstractStates.ops
+    c.args.c.now)).assume (expr_view c.args.test.now) true false c.args.known) (followed g.K.AbstractStates.ops
     (plan_of c.args.c.now) c.args.here (followed_of c.args.follow) Both true false))) _ _ (followed
     g.K.AbstractStates.ops (plan_of c.args.c.now) c.args.here (followed_of c.args.follow) Both false true)
     c.in_ok-flow-2.flow c.in_ok-flow-3.flow _ _ _ c.in_ok-right.ensures (step_passed (o g.K.AbstractStates.ops
-    (plan_of c.args.c.now)) (either_pass (o g.K.AbstractStates.ops (plan_of c.args.c.now)) (shown_flow
-    c.args.before) (branch ((o g.K.AbstractStates.ops (plan_of c.args.c.now)).assume (shown_expr c.args.test.now)
+    (plan_of c.args.c.now)) (either_pass (o g.K.AbstractStates.ops (plan_of c.args.c.now)) (flow_view
+    c.args.before) (branch ((o g.K.AbstractStates.ops (plan_of c.args.c.now)).assume (expr_view c.args.test.now)
     true true c.args.known) (followed g.K.AbstractStates.ops (plan_of c.args.c.now) c.args.here (followed_of
     c.args.follow) Both true true))) _ _ (followed g.K.AbstractStates.ops (plan_of c.args.c.now) c.args.here
     (followed_of c.args.follow) Both true false) c.in_ok-flow.flow c.in_ok-flow-2.flow _ _ _ c.in_ok-left.ensures
-    (first_passed (o g.K.AbstractStates.ops (plan_of c.args.c.now)) (shown_flow c.args.before) _ _ (followed
+    (first_passed (o g.K.AbstractStates.ops (plan_of c.args.c.now)) (flow_view c.args.before) _ _ (followed
     g.K.AbstractStates.ops (plan_of c.args.c.now) c.args.here (followed_of c.args.follow) Both true true)
     c.in_ok-flow.flow _ _ c.in_ok-both.ensures c.in_ok-flow.ensures) c.in_ok-flow-2.ensures)
     c.in_ok-flow-3.ensures) c.follow_truths-4.ensures
@@ -299,10 +299,10 @@ pass_function-returns-in-Some-function_at g t c =
     let e = sym (rw c.in-Some-function_at.is at c.function_at.ensures) in
     let f = c.in-Some-function_at.f.now in
     function_some g.K.AbstractStates.ops (plan_of c.args.c.now) c.args.k (mode_of c.args.mode) c.args.known
-    c.in-Some.known (shown_function f) c.pass_list.result c.args.log.now c.pass_list.new.log (is_at
+    c.in-Some.known (function_view f) c.pass_list.result c.args.log.now c.pass_list.new.log (is_at
     c.args.c.now.program.now c.args.k f e) c.in-Some.is
     (subst (λ z. Passes (row g.K.AbstractStates.ops (plan_of c.args.c.now) c.args.k
-    (shown_stmts z) (mode_of c.args.mode) c.in-Some.known) c.pass_list.result c.args.log.now c.pass_list.new.log)
+    (stmts_view z) (mode_of c.args.mode) c.in-Some.known) c.pass_list.result c.args.log.now c.pass_list.new.log)
     c.deref.ensures.value c.pass_list.ensures)
 
 pub pass_heads-heads-init : goal.pass_heads-heads-init
@@ -346,7 +346,7 @@ pass_last-returns-in_ok-head-in-Together = loops.pass_last-returns-in_ok-head-in
 
 pub pass_list-loop-s-init : goal.pass_list-loop-s-init
 pass_list-loop-s-init g t c =
-    λ f new h. subst (λ w. HasPassed (all g.K.AbstractStates.ops (plan_of c.args.c.now) c.args.here (shown_stmts
+    λ f new h. subst (λ w. HasPassed (all g.K.AbstractStates.ops (plan_of c.args.c.now) c.args.here (stmts_view
     c.args.body.now) (mode_of c.args.mode) c.args.known w) f c.args.log.now new) c.none-ways.ensures h
 
 pub pass_list-pass_stmt-requires : goal.pass_list-pass_stmt-requires
@@ -359,21 +359,21 @@ pass_list-pass_stmt-requires g t c κs within =
 pub pass_list-returns-in-None : goal.pass_list-returns-in-None
 pass_list-returns-in-None g t c =
     rows_end g.K.AbstractStates.ops (plan_of c.args.c.now) c.args.here (mode_of c.args.mode) c.args.body.now
-    c.loop-s.s-index c.s-item.result c.loop-s.at (shown_ways c.loop-s.ways) c.in_ok-on.field-0 c.loop-s.log
-    c.pass_stmt.new.log c.args.log.now (shown_ways c.in_ok-ways.ways) _ _ c.loop-s-test.true c.s-item.is
+    c.loop-s.s-index c.s-item.result c.loop-s.at (ways_view c.loop-s.ways) c.in_ok-on.field-0 c.loop-s.log
+    c.pass_stmt.new.log c.args.log.now (ways_view c.in_ok-ways.ways) _ _ c.loop-s-test.true c.s-item.is
     c.loop-s.invariant c.in_ok-on.ensures c.in_ok-ways.ensures c.in-None.is refl refl
 
 pub pass_list-loop-s-preserved : goal.pass_list-loop-s-preserved
 pass_list-loop-s-preserved g t c =
     rows_more g.K.AbstractStates.ops (plan_of c.args.c.now) c.args.here (mode_of c.args.mode) c.args.body.now
-    c.loop-s.s-index c.s-item.result c.loop-s.at (shown_ways c.loop-s.ways) c.in_ok-on.field-0 c.loop-s.log
-    c.pass_stmt.new.log c.args.log.now (shown_ways c.in_ok-ways.ways) _ c.in-Some.next c.loop-s-test.true
+    c.loop-s.s-index c.s-item.result c.loop-s.at (ways_view c.loop-s.ways) c.in_ok-on.field-0 c.loop-s.log
+    c.pass_stmt.new.log c.args.log.now (ways_view c.in_ok-ways.ways) _ c.in-Some.next c.loop-s-test.true
     c.s-item.is c.loop-s.invariant c.in_ok-on.ensures c.in_ok-ways.ensures c.in-Some.is
 
 pub pass_list-returns : goal.pass_list-returns
 pass_list-returns g t c =
     rows_all g.K.AbstractStates.ops (plan_of c.args.c.now) c.args.here (mode_of c.args.mode) c.args.body.now
-    c.loop-s.s-index c.loop-s.at (shown_ways c.loop-s.ways) c.loop-s.log c.args.log.now _ _ c.loop-s-test.false
+    c.loop-s.s-index c.loop-s.at (ways_view c.loop-s.ways) c.loop-s.log c.args.log.now _ _ c.loop-s-test.false
     c.loop-s.invariant refl refl
 
 pub pass_lone-pass_entered-requires : goal.pass_lone-pass_entered-requires
@@ -514,7 +514,7 @@ pub pass_stmt-returns-in-If : goal.pass_stmt-returns-in-If
 pass_stmt-returns-in-If g t c =
     if_passes g.K.AbstractStates.ops (plan_of c.args.c.now) c.args.here c.args.s.now.what (mode_of c.args.mode)
     c.args.s.now.line c.args.known c.pass_test.result c.args.log.now c.pass_test.new.log c.in-If.test c.in-If.yes
-    c.in-If.no c.deref-in-If.result.now c.deref-in-If-2.result.now (shown_ways c.none.result) c.in-If.is
+    c.in-If.no c.deref-in-If.result.now c.deref-in-If-2.result.now (ways_view c.none.result) c.in-If.is
     c.deref-in-If.ensures.value c.deref-in-If-2.ensures.value c.none.ensures c.pass_test.ensures
 
 pub pass_stmt-returns-in-Loop : goal.pass_stmt-returns-in-Loop
@@ -557,21 +557,21 @@ pass_test-pass_two-requires-in-Alone g t c κs within = (omega arith, (within, (
 pub pass_test-returns-in-Stuck : goal.pass_test-returns-in-Stuck
 pass_test-returns-in-Stuck g t c =
     test_stuck g.K.AbstractStates.ops (plan_of c.args.c.now) c.args.here c.args.mode (followed_of c.args.follow)
-    (shown_expr c.args.test.now) c.args.line (shown_ways c.args.before) _ c.args.known c.in_ok-truths.truths
+    (expr_view c.args.test.now) c.args.line (ways_view c.args.before) _ c.args.known c.in_ok-truths.truths
     c.args.log.now _ _ (tells_at _ c.args.log.now _ _ (sym c.log.view_is) c.in_ok-truths.ensures.faults refl
     refl) c.in_ok-truths.ensures.truths refl refl c.in-Stuck.is refl
 
 pub pass_test-returns-in-Same : goal.pass_test-returns-in-Same
 pass_test-returns-in-Same g t c =
     test_same g.K.AbstractStates.ops (plan_of c.args.c.now) c.args.here c.args.mode (followed_of c.args.follow)
-    (shown_expr c.args.test.now) c.args.line (shown_ways c.args.before) _ c.args.known c.in_ok-truths.truths
+    (expr_view c.args.test.now) c.args.line (ways_view c.args.before) _ c.args.known c.in_ok-truths.truths
     c.args.log.now _ _ (tells_at _ c.args.log.now _ _ (sym c.log.view_is) c.in_ok-truths.ensures.faults refl
     refl) c.in_ok-truths.ensures.truths refl refl c.pass_two.result c.in-Same.is c.pass_two.ensures
 
 pub pass_test-returns-in-Together : goal.pass_test-returns-in-Together
 pass_test-returns-in-Together g t c =
     test_both g.K.AbstractStates.ops (plan_of c.args.c.now) c.args.here c.args.mode (followed_of c.args.follow)
-    (shown_expr c.args.test.now) c.args.line (shown_ways c.args.before) _ c.args.known c.in_ok-truths.truths
+    (expr_view c.args.test.now) c.args.line (ways_view c.args.before) _ c.args.known c.in_ok-truths.truths
     c.args.log.now _ _ (tells_at _ c.args.log.now _ _ (sym c.log.view_is) c.in_ok-truths.ensures.faults refl
     refl) c.in_ok-truths.ensures.truths refl refl c.pass_four.result c.in-Differs.is c.in-Together.is
     c.pass_four.ensures
@@ -579,7 +579,7 @@ pass_test-returns-in-Together g t c =
 pub pass_test-returns-in-Alone : goal.pass_test-returns-in-Alone
 pass_test-returns-in-Alone g t c =
     test_alone g.K.AbstractStates.ops (plan_of c.args.c.now) c.args.here c.args.mode (followed_of c.args.follow)
-    (shown_expr c.args.test.now) c.args.line (shown_ways c.args.before) _ c.args.known c.in_ok-truths.truths
+    (expr_view c.args.test.now) c.args.line (ways_view c.args.before) _ c.args.known c.in_ok-truths.truths
     c.args.log.now _ _ (tells_at _ c.args.log.now _ _ (sym c.log.view_is) c.in_ok-truths.ensures.faults refl
     refl) c.in_ok-truths.ensures.truths refl refl c.in-Alone.field-0 c.pass_two-in-Alone.result c.in-Differs.is
     c.in-Alone.is c.pass_two-in-Alone.ensures
@@ -599,13 +599,13 @@ pass_two-follow_truths-requires-2 g t c κs within = (omega arith, (within, c.re
 pub pass_two-returns : goal.pass_two-returns
 pass_two-returns g t c =
     step_ok (o g.K.AbstractStates.ops (plan_of c.args.c.now)) (either_pass (o g.K.AbstractStates.ops (plan_of
-    c.args.c.now)) (shown_flow c.args.before) (branch (agreed (o g.K.AbstractStates.ops (plan_of c.args.c.now))
-    (mode_of c.args.mode) (shown_expr c.args.test.now) true c.args.known) (followed g.K.AbstractStates.ops
+    c.args.c.now)) (flow_view c.args.before) (branch (agreed (o g.K.AbstractStates.ops (plan_of c.args.c.now))
+    (mode_of c.args.mode) (expr_view c.args.test.now) true c.args.known) (followed g.K.AbstractStates.ops
     (plan_of c.args.c.now) c.args.here (followed_of c.args.follow) (mode_of c.args.mode) true true))) _ (agreed
-    (o g.K.AbstractStates.ops (plan_of c.args.c.now)) (mode_of c.args.mode) (shown_expr c.args.test.now) false
+    (o g.K.AbstractStates.ops (plan_of c.args.c.now)) (mode_of c.args.mode) (expr_view c.args.test.now) false
     c.args.known) (followed g.K.AbstractStates.ops (plan_of c.args.c.now) c.args.here (followed_of c.args.follow)
     (mode_of c.args.mode) false false) c.in_ok-flow.flow c.follow_truths-2.result _ _ _ c.in_ok-no.ensures
-    (first_passed (o g.K.AbstractStates.ops (plan_of c.args.c.now)) (shown_flow c.args.before) _ _ (followed
+    (first_passed (o g.K.AbstractStates.ops (plan_of c.args.c.now)) (flow_view c.args.before) _ _ (followed
     g.K.AbstractStates.ops (plan_of c.args.c.now) c.args.here (followed_of c.args.follow) (mode_of c.args.mode)
     true true) c.in_ok-flow.flow _ _ c.in_ok-yes.ensures c.in_ok-flow.ensures) c.follow_truths-2.ensures
 

@@ -1,7 +1,7 @@
 use Rattle.std.proofs.Common.{◌+◌, ◌-◌, ◌*◌, drop}
-use Rattle.ep_core.specs.View.{shown_stmts}
+use Rattle.ep_core.specs.View.{stmts_view}
 use Rattle.ep_walk_parts.specs.Pieces.{all, loop_of, row, rounds_of, settled_of}
-use Rattle.ep_flows.specs.Shown.{mode_of, plan_of, shown_ways}
+use Rattle.ep_flows.specs.View.{mode_of, plan_of, ways_view}
 use Rattle.ep_flows.proofs.Combined.{Leads}
 use Rattle.ep_walk_parts.proofs.Deeper.{before, depth, depth_two, depth_parts, depth_follow, lone_rank, mode_rank}
 use Rattle.ep_walk_parts.proofs.Heading.{GoesIn}
@@ -88,22 +88,22 @@ decreases-pass_loop g l = before l.c.now.program.now.functions.items l.here + (6
 
 abbrev pub invariant-pass_list-loop-s : goal.invariant-pass_list-loop-s
 invariant-pass_list-loop-s g l =
-    Leads (all g.K.AbstractStates.ops (plan_of l.c) l.here (shown_stmts (drop l.s-index l.body)) (mode_of l.mode) l.at
-    (shown_ways l.ways)) l.log
-    (row g.K.AbstractStates.ops (plan_of l.c) l.here (shown_stmts l.body) (mode_of l.mode) l.fn.known) l.initial.log
+    Leads (all g.K.AbstractStates.ops (plan_of l.c) l.here (stmts_view (drop l.s-index l.body)) (mode_of l.mode) l.at
+    (ways_view l.ways)) l.log
+    (row g.K.AbstractStates.ops (plan_of l.c) l.here (stmts_view l.body) (mode_of l.mode) l.fn.known) l.initial.log
 
 abbrev pub invariant-pass_rounds-loop-turn : goal.invariant-pass_rounds-loop-turn
 invariant-pass_rounds-loop-turn g l =
     Leads (rounds_of g.K.AbstractStates.ops (plan_of l.c) l.here (loop_of l.parts) (mode_of l.mode)
-    (l.count - l._turn) l.at (shown_ways l.ways)) l.log
+    (l.count - l._turn) l.at (ways_view l.ways)) l.log
     (rounds_of g.K.AbstractStates.ops (plan_of l.c) l.here (loop_of l.parts) (mode_of l.mode) l.count l.fn.known
-    (shown_ways l.fn.before)) l.initial.log
+    (ways_view l.fn.before)) l.initial.log
 
 abbrev pub invariant-pass_heads-heads : goal.invariant-pass_heads-heads
 invariant-pass_heads-heads g l =
-    GoesIn g.K.AbstractStates.ops (plan_of l.c) l.here (loop_of l.parts) (shown_ways l.before) l.rounds l.head l.log
+    GoesIn g.K.AbstractStates.ops (plan_of l.c) l.here (loop_of l.parts) (ways_view l.before) l.rounds l.head l.log
     l.initial.log
-    (settled_of g.K.AbstractStates.ops (plan_of l.c) l.here (loop_of l.parts) (shown_ways l.before)
+    (settled_of g.K.AbstractStates.ops (plan_of l.c) l.here (loop_of l.parts) (ways_view l.before)
     ((plan_of l.c).limit - 1) l.fn.known)
 
 abbrev pub decreases-pass_heads-heads : goal.decreases-pass_heads-heads

@@ -1,5 +1,5 @@
 use Rattle.std.proofs.Common.{refl}
-use Rattle.ep_flows.specs.Shown.{orders}
+use Rattle.ep_flows.specs.View.{orders}
 use Rattle.ep_cell_walks.proofs.known.KnownCellsAbstractStates.entry.Goals as goal
 
 pub returns : goal.returns

@@ -1,11 +1,12 @@
 -- Memory runs out.
-use Rattle.std.proofs.Common.{Err, ◌≡◌, ◌+◌, ◌*◌, refl, sym, ap, ◌∙◌, ◌-◌, map, subst, arith, true, false, ℕ}
+use Rattle.std.proofs.Common.{Err, ◌≡◌, ◌+◌, ◌*◌, refl, sym, ap, ◌∙◌, ◌-◌, map, arith, true, false}
+use Rattle.ep_flows.proofs.Basics.{capped-told}
 use Rattle.std.specs.Option.{option_map}
 use Rattle.ep_core.specs.Runs.{left, right}
-use Rattle.ep_core.specs.View.{shown_dest, shown_expr, shown_stmts, shown_function}
+use Rattle.ep_core.specs.View.{dest_view, expr_view, stmts_view, function_view}
 use Rattle.ep_pass.specs.States.{Both, One}
 use Rattle.ep_pass.specs.Pass.{agreed, either_pass, branch}
-use Rattle.ep_flows.specs.Shown.{Told, capped, mode_of, plan_of, side_of, shown_ways, shown_flow}
+use Rattle.ep_flows.specs.View.{Told, capped, mode_of, plan_of, side_of, ways_view, flow_view}
 use Rattle.ep_flows.proofs.Counting.{same_count, told_count}
 use Rattle.ep_flows.proofs.Combined.{tells_at}
 use Rattle.ep_walk_parts.specs.Pieces.{followed, followed_of, function, last_of, loop_of, o, row, turn_of}
@@ -21,10 +22,6 @@ use Rattle.ep_walk.proofs.statements.+walk.Goals as goal
 
 same_turns : {S : Type 0} (a b : Told S) → a ≡ b → a.count ≡ b.count
 same_turns {S = S} a b e = ap (λ (z : Told S). z.count) e
-
-seen_turns : {S : Type 0} (n x : ℕ) (a b : Told S) → a ≡ b → capped n ≡ capped (x + 1 * a.count)
-    → capped n ≡ capped (x + 1 * b.count)
-seen_turns {S = S} n x a b e h = subst (λ (z : Told S). capped n ≡ capped (x + 1 * z.count)) e h
 
 pub follow_one-returns-in_err-alarm-in-true-true-3 : goal.follow_one-returns-in_err-alarm-in-true-true-3
 follow_one-returns-in_err-alarm-in-true-true-3 g t c =
@@ -42,32 +39,32 @@ pub pass_apart-returns-in_err-on : goal.pass_apart-returns-in_err-on
 pass_apart-returns-in_err-on g t c =
     err_passes _ c.from_residual.result _ _ _ c.from_residual.ensures.1
     (apart_none (o g.K.AbstractStates.ops (plan_of c.args.c.now)) c.args.line (row g.K.AbstractStates.ops
-    (plan_of c.args.c.now) c.args.here (shown_stmts c.args.first.now) (One left) c.args.known)
-    (row g.K.AbstractStates.ops (plan_of c.args.c.now) c.args.here (shown_stmts c.args.second.now)
+    (plan_of c.args.c.now) c.args.here (stmts_view c.args.first.now) (One left) c.args.known)
+    (row g.K.AbstractStates.ops (plan_of c.args.c.now) c.args.here (stmts_view c.args.second.now)
     (One right)) _ _ c.in_err-on.ensures)
 
 pub pass_apart-returns-in_err-flow : goal.pass_apart-returns-in_err-flow
 pass_apart-returns-in_err-flow g t c =
     err_passes _ c.from_residual-in_err-flow.result _ _ _ c.from_residual-in_err-flow.ensures.1
     (apart_one (o g.K.AbstractStates.ops (plan_of c.args.c.now)) c.args.line (row g.K.AbstractStates.ops
-    (plan_of c.args.c.now) c.args.here (shown_stmts c.args.first.now) (One left) c.args.known)
-    (row g.K.AbstractStates.ops (plan_of c.args.c.now) c.args.here (shown_stmts c.args.second.now)
+    (plan_of c.args.c.now) c.args.here (stmts_view c.args.first.now) (One left) c.args.known)
+    (row g.K.AbstractStates.ops (plan_of c.args.c.now) c.args.here (stmts_view c.args.second.now)
     (One right)) c.in_ok-on.field-0 c.args.log.now _ c.in_ok-on.ensures _ (count_on (o g.K.AbstractStates.ops
     (plan_of c.args.c.now)) c.args.line (row g.K.AbstractStates.ops (plan_of c.args.c.now) c.args.here
-    (shown_stmts c.args.first.now) (One left) c.args.known) (row g.K.AbstractStates.ops
-    (plan_of c.args.c.now) c.args.here (shown_stmts c.args.second.now)
+    (stmts_view c.args.first.now) (One left) c.args.known) (row g.K.AbstractStates.ops
+    (plan_of c.args.c.now) c.args.here (stmts_view c.args.second.now)
     (One right)) c.in_ok-on.field-0 c.args.log.now _ c.in_ok-on.ensures _ c.in_err-flow.ensures))
 
 pub pass_apart-returns-in_err-whole : goal.pass_apart-returns-in_err-whole
 pass_apart-returns-in_err-whole g t c =
     err_passes _ c.from_residual-in_err-whole.result _ _ _ c.from_residual-in_err-whole.ensures.1
     (apart_one (o g.K.AbstractStates.ops (plan_of c.args.c.now)) c.args.line (row g.K.AbstractStates.ops
-    (plan_of c.args.c.now) c.args.here (shown_stmts c.args.first.now) (One left) c.args.known)
-    (row g.K.AbstractStates.ops (plan_of c.args.c.now) c.args.here (shown_stmts c.args.second.now)
+    (plan_of c.args.c.now) c.args.here (stmts_view c.args.first.now) (One left) c.args.known)
+    (row g.K.AbstractStates.ops (plan_of c.args.c.now) c.args.here (stmts_view c.args.second.now)
     (One right)) c.in_ok-on.field-0 c.args.log.now _ c.in_ok-on.ensures _ (still_count _ _ _ _ (count_on
     (o g.K.AbstractStates.ops (plan_of c.args.c.now)) c.args.line (row g.K.AbstractStates.ops
-    (plan_of c.args.c.now) c.args.here (shown_stmts c.args.first.now) (One left) c.args.known)
-    (row g.K.AbstractStates.ops (plan_of c.args.c.now) c.args.here (shown_stmts c.args.second.now)
+    (plan_of c.args.c.now) c.args.here (stmts_view c.args.first.now) (One left) c.args.known)
+    (row g.K.AbstractStates.ops (plan_of c.args.c.now) c.args.here (stmts_view c.args.second.now)
     (One right)) c.in_ok-on.field-0 c.args.log.now _ c.in_ok-on.ensures _
     (told_count _ _ _ c.in_ok-flow.ensures.log)) c.in_err-whole.ensures))
 
@@ -75,16 +72,16 @@ pub pass_apart-returns-in_err-flow-2 : goal.pass_apart-returns-in_err-flow-2
 pass_apart-returns-in_err-flow-2 g t c =
     err_passes _ c.from_residual-in_err-flow-2.result _ _ _ c.from_residual-in_err-flow-2.ensures.1
     (apart_two (o g.K.AbstractStates.ops (plan_of c.args.c.now)) c.args.line (row g.K.AbstractStates.ops
-    (plan_of c.args.c.now) c.args.here (shown_stmts c.args.first.now) (One left) c.args.known)
-    (row g.K.AbstractStates.ops (plan_of c.args.c.now) c.args.here (shown_stmts c.args.second.now)
+    (plan_of c.args.c.now) c.args.here (stmts_view c.args.first.now) (One left) c.args.known)
+    (row g.K.AbstractStates.ops (plan_of c.args.c.now) c.args.here (stmts_view c.args.second.now)
     (One right)) c.in_ok-on.field-0 c.args.log.now _ c.in_ok-on.ensures _ (count_broken (o g.K.AbstractStates.ops
     (plan_of c.args.c.now)) c.args.line (row g.K.AbstractStates.ops (plan_of c.args.c.now) c.args.here
-    (shown_stmts c.args.first.now) (One left) c.args.known) (row g.K.AbstractStates.ops
-    (plan_of c.args.c.now) c.args.here (shown_stmts c.args.second.now)
+    (stmts_view c.args.first.now) (One left) c.args.known) (row g.K.AbstractStates.ops
+    (plan_of c.args.c.now) c.args.here (stmts_view c.args.second.now)
     (One right)) c.in_ok-on.field-0 c.args.log.now _ c.in_ok-on.ensures _ _ (still_count _ _ _ _ (count_on
     (o g.K.AbstractStates.ops (plan_of c.args.c.now)) c.args.line (row g.K.AbstractStates.ops
-    (plan_of c.args.c.now) c.args.here (shown_stmts c.args.first.now) (One left) c.args.known)
-    (row g.K.AbstractStates.ops (plan_of c.args.c.now) c.args.here (shown_stmts c.args.second.now)
+    (plan_of c.args.c.now) c.args.here (stmts_view c.args.first.now) (One left) c.args.known)
+    (row g.K.AbstractStates.ops (plan_of c.args.c.now) c.args.here (stmts_view c.args.second.now)
     (One right)) c.in_ok-on.field-0 c.args.log.now _ c.in_ok-on.ensures _
     (told_count _ _ _ c.in_ok-flow.ensures.log))
     (told_count _ _ _ c.in_ok-whole.ensures.log)) c.in_err-flow-2.ensures))
@@ -93,16 +90,16 @@ pub pass_apart-returns-in_err-flow-3 : goal.pass_apart-returns-in_err-flow-3
 pass_apart-returns-in_err-flow-3 g t c =
     err_passes _ c.from_residual-in_err-flow-3.result _ _ _ c.from_residual-in_err-flow-3.ensures.1
     (apart_two (o g.K.AbstractStates.ops (plan_of c.args.c.now)) c.args.line (row g.K.AbstractStates.ops
-    (plan_of c.args.c.now) c.args.here (shown_stmts c.args.first.now) (One left) c.args.known)
-    (row g.K.AbstractStates.ops (plan_of c.args.c.now) c.args.here (shown_stmts c.args.second.now)
+    (plan_of c.args.c.now) c.args.here (stmts_view c.args.first.now) (One left) c.args.known)
+    (row g.K.AbstractStates.ops (plan_of c.args.c.now) c.args.here (stmts_view c.args.second.now)
     (One right)) c.in_ok-on.field-0 c.args.log.now _ c.in_ok-on.ensures _ (still_count _ _ _ _ (count_broken
     (o g.K.AbstractStates.ops (plan_of c.args.c.now)) c.args.line (row g.K.AbstractStates.ops
-    (plan_of c.args.c.now) c.args.here (shown_stmts c.args.first.now) (One left) c.args.known)
-    (row g.K.AbstractStates.ops (plan_of c.args.c.now) c.args.here (shown_stmts c.args.second.now)
+    (plan_of c.args.c.now) c.args.here (stmts_view c.args.first.now) (One left) c.args.known)
+    (row g.K.AbstractStates.ops (plan_of c.args.c.now) c.args.here (stmts_view c.args.second.now)
     (One right)) c.in_ok-on.field-0 c.args.log.now _ c.in_ok-on.ensures _ _ (still_count _ _ _ _ (count_on
     (o g.K.AbstractStates.ops (plan_of c.args.c.now)) c.args.line (row g.K.AbstractStates.ops
-    (plan_of c.args.c.now) c.args.here (shown_stmts c.args.first.now) (One left) c.args.known)
-    (row g.K.AbstractStates.ops (plan_of c.args.c.now) c.args.here (shown_stmts c.args.second.now)
+    (plan_of c.args.c.now) c.args.here (stmts_view c.args.first.now) (One left) c.args.known)
+    (row g.K.AbstractStates.ops (plan_of c.args.c.now) c.args.here (stmts_view c.args.second.now)
     (One right)) c.in_ok-on.field-0 c.args.log.now _ c.in_ok-on.ensures _
     (told_count _ _ _ c.in_ok-flow.ensures.log)) (told_count _ _ _ c.in_ok-whole.ensures.log))
     (told_count _ _ _ c.in_ok-flow-2.ensures.log)) c.in_err-flow-3.ensures))
@@ -111,16 +108,16 @@ pub pass_apart-returns-in_err-whole-2 : goal.pass_apart-returns-in_err-whole-2
 pass_apart-returns-in_err-whole-2 g t c =
     err_passes _ c.from_residual-in_err-whole-2.result _ _ _ c.from_residual-in_err-whole-2.ensures.1
     (apart_two (o g.K.AbstractStates.ops (plan_of c.args.c.now)) c.args.line (row g.K.AbstractStates.ops
-    (plan_of c.args.c.now) c.args.here (shown_stmts c.args.first.now) (One left) c.args.known)
-    (row g.K.AbstractStates.ops (plan_of c.args.c.now) c.args.here (shown_stmts c.args.second.now)
+    (plan_of c.args.c.now) c.args.here (stmts_view c.args.first.now) (One left) c.args.known)
+    (row g.K.AbstractStates.ops (plan_of c.args.c.now) c.args.here (stmts_view c.args.second.now)
     (One right)) c.in_ok-on.field-0 c.args.log.now _ c.in_ok-on.ensures _ (still_count _ _ _ _ (count_broken
     (o g.K.AbstractStates.ops (plan_of c.args.c.now)) c.args.line (row g.K.AbstractStates.ops
-    (plan_of c.args.c.now) c.args.here (shown_stmts c.args.first.now) (One left) c.args.known)
-    (row g.K.AbstractStates.ops (plan_of c.args.c.now) c.args.here (shown_stmts c.args.second.now)
+    (plan_of c.args.c.now) c.args.here (stmts_view c.args.first.now) (One left) c.args.known)
+    (row g.K.AbstractStates.ops (plan_of c.args.c.now) c.args.here (stmts_view c.args.second.now)
     (One right)) c.in_ok-on.field-0 c.args.log.now _ c.in_ok-on.ensures _ _ (still_count _ _ _ _ (count_on
     (o g.K.AbstractStates.ops (plan_of c.args.c.now)) c.args.line (row g.K.AbstractStates.ops
-    (plan_of c.args.c.now) c.args.here (shown_stmts c.args.first.now) (One left) c.args.known)
-    (row g.K.AbstractStates.ops (plan_of c.args.c.now) c.args.here (shown_stmts c.args.second.now)
+    (plan_of c.args.c.now) c.args.here (stmts_view c.args.first.now) (One left) c.args.known)
+    (row g.K.AbstractStates.ops (plan_of c.args.c.now) c.args.here (stmts_view c.args.second.now)
     (One right)) c.in_ok-on.field-0 c.args.log.now _ c.in_ok-on.ensures _
     (told_count _ _ _ c.in_ok-flow.ensures.log)) (told_count _ _ _ c.in_ok-whole.ensures.log))
     (told_count _ _ _ c.in_ok-flow-2.ensures.log)) (told_count _ _ _ c.in_ok-flow-3.ensures.log)))
@@ -129,20 +126,20 @@ pub pass_apart-returns-in_err-flow-4 : goal.pass_apart-returns-in_err-flow-4
 pass_apart-returns-in_err-flow-4 g t c =
     err_passes _ c.from_residual-in_err-flow-4.result _ _ _ c.from_residual-in_err-flow-4.ensures.1
     (apart_three (o g.K.AbstractStates.ops (plan_of c.args.c.now)) c.args.line (row g.K.AbstractStates.ops
-    (plan_of c.args.c.now) c.args.here (shown_stmts c.args.first.now) (One left) c.args.known)
-    (row g.K.AbstractStates.ops (plan_of c.args.c.now) c.args.here (shown_stmts c.args.second.now)
+    (plan_of c.args.c.now) c.args.here (stmts_view c.args.first.now) (One left) c.args.known)
+    (row g.K.AbstractStates.ops (plan_of c.args.c.now) c.args.here (stmts_view c.args.second.now)
     (One right)) c.in_ok-on.field-0 c.args.log.now _ c.in_ok-on.ensures _ (count_continued
     (o g.K.AbstractStates.ops (plan_of c.args.c.now)) c.args.line (row g.K.AbstractStates.ops
-    (plan_of c.args.c.now) c.args.here (shown_stmts c.args.first.now) (One left) c.args.known)
-    (row g.K.AbstractStates.ops (plan_of c.args.c.now) c.args.here (shown_stmts c.args.second.now)
+    (plan_of c.args.c.now) c.args.here (stmts_view c.args.first.now) (One left) c.args.known)
+    (row g.K.AbstractStates.ops (plan_of c.args.c.now) c.args.here (stmts_view c.args.second.now)
     (One right)) c.in_ok-on.field-0 c.args.log.now _ c.in_ok-on.ensures _ _ (still_count _ _ _ _ (count_broken
     (o g.K.AbstractStates.ops (plan_of c.args.c.now)) c.args.line (row g.K.AbstractStates.ops
-    (plan_of c.args.c.now) c.args.here (shown_stmts c.args.first.now) (One left) c.args.known)
-    (row g.K.AbstractStates.ops (plan_of c.args.c.now) c.args.here (shown_stmts c.args.second.now)
+    (plan_of c.args.c.now) c.args.here (stmts_view c.args.first.now) (One left) c.args.known)
+    (row g.K.AbstractStates.ops (plan_of c.args.c.now) c.args.here (stmts_view c.args.second.now)
     (One right)) c.in_ok-on.field-0 c.args.log.now _ c.in_ok-on.ensures _ _ (still_count _ _ _ _ (count_on
     (o g.K.AbstractStates.ops (plan_of c.args.c.now)) c.args.line (row g.K.AbstractStates.ops
-    (plan_of c.args.c.now) c.args.here (shown_stmts c.args.first.now) (One left) c.args.known)
-    (row g.K.AbstractStates.ops (plan_of c.args.c.now) c.args.here (shown_stmts c.args.second.now)
+    (plan_of c.args.c.now) c.args.here (stmts_view c.args.first.now) (One left) c.args.known)
+    (row g.K.AbstractStates.ops (plan_of c.args.c.now) c.args.here (stmts_view c.args.second.now)
     (One right)) c.in_ok-on.field-0 c.args.log.now _ c.in_ok-on.ensures _
     (told_count _ _ _ c.in_ok-flow.ensures.log)) (told_count _ _ _ c.in_ok-whole.ensures.log))
     (told_count _ _ _ c.in_ok-flow-2.ensures.log))
@@ -152,20 +149,20 @@ pub pass_apart-returns-in_err-flow-5 : goal.pass_apart-returns-in_err-flow-5
 pass_apart-returns-in_err-flow-5 g t c =
     err_passes _ c.from_residual-in_err-flow-5.result _ _ _ c.from_residual-in_err-flow-5.ensures.1
     (apart_three (o g.K.AbstractStates.ops (plan_of c.args.c.now)) c.args.line (row g.K.AbstractStates.ops
-    (plan_of c.args.c.now) c.args.here (shown_stmts c.args.first.now) (One left) c.args.known)
-    (row g.K.AbstractStates.ops (plan_of c.args.c.now) c.args.here (shown_stmts c.args.second.now)
+    (plan_of c.args.c.now) c.args.here (stmts_view c.args.first.now) (One left) c.args.known)
+    (row g.K.AbstractStates.ops (plan_of c.args.c.now) c.args.here (stmts_view c.args.second.now)
     (One right)) c.in_ok-on.field-0 c.args.log.now _ c.in_ok-on.ensures _ (still_count _ _ _ _ (count_continued
     (o g.K.AbstractStates.ops (plan_of c.args.c.now)) c.args.line (row g.K.AbstractStates.ops
-    (plan_of c.args.c.now) c.args.here (shown_stmts c.args.first.now) (One left) c.args.known)
-    (row g.K.AbstractStates.ops (plan_of c.args.c.now) c.args.here (shown_stmts c.args.second.now)
+    (plan_of c.args.c.now) c.args.here (stmts_view c.args.first.now) (One left) c.args.known)
+    (row g.K.AbstractStates.ops (plan_of c.args.c.now) c.args.here (stmts_view c.args.second.now)
     (One right)) c.in_ok-on.field-0 c.args.log.now _ c.in_ok-on.ensures _ _ (still_count _ _ _ _ (count_broken
     (o g.K.AbstractStates.ops (plan_of c.args.c.now)) c.args.line (row g.K.AbstractStates.ops
-    (plan_of c.args.c.now) c.args.here (shown_stmts c.args.first.now) (One left) c.args.known)
-    (row g.K.AbstractStates.ops (plan_of c.args.c.now) c.args.here (shown_stmts c.args.second.now)
+    (plan_of c.args.c.now) c.args.here (stmts_view c.args.first.now) (One left) c.args.known)
+    (row g.K.AbstractStates.ops (plan_of c.args.c.now) c.args.here (stmts_view c.args.second.now)
     (One right)) c.in_ok-on.field-0 c.args.log.now _ c.in_ok-on.ensures _ _ (still_count _ _ _ _ (count_on
     (o g.K.AbstractStates.ops (plan_of c.args.c.now)) c.args.line (row g.K.AbstractStates.ops
-    (plan_of c.args.c.now) c.args.here (shown_stmts c.args.first.now) (One left) c.args.known)
-    (row g.K.AbstractStates.ops (plan_of c.args.c.now) c.args.here (shown_stmts c.args.second.now)
+    (plan_of c.args.c.now) c.args.here (stmts_view c.args.first.now) (One left) c.args.known)
+    (row g.K.AbstractStates.ops (plan_of c.args.c.now) c.args.here (stmts_view c.args.second.now)
     (One right)) c.in_ok-on.field-0 c.args.log.now _ c.in_ok-on.ensures _
     (told_count _ _ _ c.in_ok-flow.ensures.log)) (told_count _ _ _ c.in_ok-whole.ensures.log))
     (told_count _ _ _ c.in_ok-flow-2.ensures.log)) (told_count _ _ _ c.in_ok-flow-3.ensures.log))
@@ -175,20 +172,20 @@ pub pass_apart-returns-in_err-whole-3 : goal.pass_apart-returns-in_err-whole-3
 pass_apart-returns-in_err-whole-3 g t c =
     err_passes _ c.from_residual-in_err-whole-3.result _ _ _ c.from_residual-in_err-whole-3.ensures.1
     (apart_three (o g.K.AbstractStates.ops (plan_of c.args.c.now)) c.args.line (row g.K.AbstractStates.ops
-    (plan_of c.args.c.now) c.args.here (shown_stmts c.args.first.now) (One left) c.args.known)
-    (row g.K.AbstractStates.ops (plan_of c.args.c.now) c.args.here (shown_stmts c.args.second.now)
+    (plan_of c.args.c.now) c.args.here (stmts_view c.args.first.now) (One left) c.args.known)
+    (row g.K.AbstractStates.ops (plan_of c.args.c.now) c.args.here (stmts_view c.args.second.now)
     (One right)) c.in_ok-on.field-0 c.args.log.now _ c.in_ok-on.ensures _ (still_count _ _ _ _ (count_continued
     (o g.K.AbstractStates.ops (plan_of c.args.c.now)) c.args.line (row g.K.AbstractStates.ops
-    (plan_of c.args.c.now) c.args.here (shown_stmts c.args.first.now) (One left) c.args.known)
-    (row g.K.AbstractStates.ops (plan_of c.args.c.now) c.args.here (shown_stmts c.args.second.now)
+    (plan_of c.args.c.now) c.args.here (stmts_view c.args.first.now) (One left) c.args.known)
+    (row g.K.AbstractStates.ops (plan_of c.args.c.now) c.args.here (stmts_view c.args.second.now)
     (One right)) c.in_ok-on.field-0 c.args.log.now _ c.in_ok-on.ensures _ _ (still_count _ _ _ _ (count_broken
     (o g.K.AbstractStates.ops (plan_of c.args.c.now)) c.args.line (row g.K.AbstractStates.ops
-    (plan_of c.args.c.now) c.args.here (shown_stmts c.args.first.now) (One left) c.args.known)
-    (row g.K.AbstractStates.ops (plan_of c.args.c.now) c.args.here (shown_stmts c.args.second.now)
+    (plan_of c.args.c.now) c.args.here (stmts_view c.args.first.now) (One left) c.args.known)
+    (row g.K.AbstractStates.ops (plan_of c.args.c.now) c.args.here (stmts_view c.args.second.now)
     (One right)) c.in_ok-on.field-0 c.args.log.now _ c.in_ok-on.ensures _ _ (still_count _ _ _ _ (count_on
     (o g.K.AbstractStates.ops (plan_of c.args.c.now)) c.args.line (row g.K.AbstractStates.ops
-    (plan_of c.args.c.now) c.args.here (shown_stmts c.args.first.now) (One left) c.args.known)
-    (row g.K.AbstractStates.ops (plan_of c.args.c.now) c.args.here (shown_stmts c.args.second.now)
+    (plan_of c.args.c.now) c.args.here (stmts_view c.args.first.now) (One left) c.args.known)
+    (row g.K.AbstractStates.ops (plan_of c.args.c.now) c.args.here (stmts_view c.args.second.now)
     (One right)) c.in_ok-on.field-0 c.args.log.now _ c.in_ok-on.ensures _
     (told_count _ _ _ c.in_ok-flow.ensures.log)) (told_count _ _ _ c.in_ok-whole.ensures.log))
     (told_count _ _ _ c.in_ok-flow-2.ensures.log)) (told_count _ _ _ c.in_ok-flow-3.ensures.log))
@@ -198,24 +195,24 @@ pub pass_apart-returns-in_err-flow-6 : goal.pass_apart-returns-in_err-flow-6
 pass_apart-returns-in_err-flow-6 g t c =
     err_passes _ c.from_residual-in_err-flow-6.result _ _ _ c.from_residual-in_err-flow-6.ensures.1
     (apart_four (o g.K.AbstractStates.ops (plan_of c.args.c.now)) c.args.line (row g.K.AbstractStates.ops
-    (plan_of c.args.c.now) c.args.here (shown_stmts c.args.first.now) (One left) c.args.known)
-    (row g.K.AbstractStates.ops (plan_of c.args.c.now) c.args.here (shown_stmts c.args.second.now)
+    (plan_of c.args.c.now) c.args.here (stmts_view c.args.first.now) (One left) c.args.known)
+    (row g.K.AbstractStates.ops (plan_of c.args.c.now) c.args.here (stmts_view c.args.second.now)
     (One right)) c.in_ok-on.field-0 c.args.log.now _ c.in_ok-on.ensures _ (count_returned
     (o g.K.AbstractStates.ops (plan_of c.args.c.now)) c.args.line (row g.K.AbstractStates.ops
-    (plan_of c.args.c.now) c.args.here (shown_stmts c.args.first.now) (One left) c.args.known)
-    (row g.K.AbstractStates.ops (plan_of c.args.c.now) c.args.here (shown_stmts c.args.second.now)
+    (plan_of c.args.c.now) c.args.here (stmts_view c.args.first.now) (One left) c.args.known)
+    (row g.K.AbstractStates.ops (plan_of c.args.c.now) c.args.here (stmts_view c.args.second.now)
     (One right)) c.in_ok-on.field-0 c.args.log.now _ c.in_ok-on.ensures _ _ (still_count _ _ _ _ (count_continued
     (o g.K.AbstractStates.ops (plan_of c.args.c.now)) c.args.line (row g.K.AbstractStates.ops
-    (plan_of c.args.c.now) c.args.here (shown_stmts c.args.first.now) (One left) c.args.known)
-    (row g.K.AbstractStates.ops (plan_of c.args.c.now) c.args.here (shown_stmts c.args.second.now)
+    (plan_of c.args.c.now) c.args.here (stmts_view c.args.first.now) (One left) c.args.known)
+    (row g.K.AbstractStates.ops (plan_of c.args.c.now) c.args.here (stmts_view c.args.second.now)
     (One right)) c.in_ok-on.field-0 c.args.log.now _ c.in_ok-on.ensures _ _ (still_count _ _ _ _ (count_broken
     (o g.K.AbstractStates.ops (plan_of c.args.c.now)) c.args.line (row g.K.AbstractStates.ops
-    (plan_of c.args.c.now) c.args.here (shown_stmts c.args.first.now) (One left) c.args.known)
-    (row g.K.AbstractStates.ops (plan_of c.args.c.now) c.args.here (shown_stmts c.args.second.now)
+    (plan_of c.args.c.now) c.args.here (stmts_view c.args.first.now) (One left) c.args.known)
+    (row g.K.AbstractStates.ops (plan_of c.args.c.now) c.args.here (stmts_view c.args.second.now)
     (One right)) c.in_ok-on.field-0 c.args.log.now _ c.in_ok-on.ensures _ _ (still_count _ _ _ _ (count_on
     (o g.K.AbstractStates.ops (plan_of c.args.c.now)) c.args.line (row g.K.AbstractStates.ops
-    (plan_of c.args.c.now) c.args.here (shown_stmts c.args.first.now) (One left) c.args.known)
-    (row g.K.AbstractStates.ops (plan_of c.args.c.now) c.args.here (shown_stmts c.args.second.now)
+    (plan_of c.args.c.now) c.args.here (stmts_view c.args.first.now) (One left) c.args.known)
+    (row g.K.AbstractStates.ops (plan_of c.args.c.now) c.args.here (stmts_view c.args.second.now)
     (One right)) c.in_ok-on.field-0 c.args.log.now _ c.in_ok-on.ensures _
     (told_count _ _ _ c.in_ok-flow.ensures.log)) (told_count _ _ _ c.in_ok-whole.ensures.log))
     (told_count _ _ _ c.in_ok-flow-2.ensures.log)) (told_count _ _ _ c.in_ok-flow-3.ensures.log))
@@ -226,24 +223,24 @@ pub pass_apart-returns-in_err-flow-7 : goal.pass_apart-returns-in_err-flow-7
 pass_apart-returns-in_err-flow-7 g t c =
     err_passes _ c.from_residual-in_err-flow-7.result _ _ _ c.from_residual-in_err-flow-7.ensures.1
     (apart_four (o g.K.AbstractStates.ops (plan_of c.args.c.now)) c.args.line (row g.K.AbstractStates.ops
-    (plan_of c.args.c.now) c.args.here (shown_stmts c.args.first.now) (One left) c.args.known)
-    (row g.K.AbstractStates.ops (plan_of c.args.c.now) c.args.here (shown_stmts c.args.second.now)
+    (plan_of c.args.c.now) c.args.here (stmts_view c.args.first.now) (One left) c.args.known)
+    (row g.K.AbstractStates.ops (plan_of c.args.c.now) c.args.here (stmts_view c.args.second.now)
     (One right)) c.in_ok-on.field-0 c.args.log.now _ c.in_ok-on.ensures _ (still_count _ _ _ _ (count_returned
     (o g.K.AbstractStates.ops (plan_of c.args.c.now)) c.args.line (row g.K.AbstractStates.ops
-    (plan_of c.args.c.now) c.args.here (shown_stmts c.args.first.now) (One left) c.args.known)
-    (row g.K.AbstractStates.ops (plan_of c.args.c.now) c.args.here (shown_stmts c.args.second.now)
+    (plan_of c.args.c.now) c.args.here (stmts_view c.args.first.now) (One left) c.args.known)
+    (row g.K.AbstractStates.ops (plan_of c.args.c.now) c.args.here (stmts_view c.args.second.now)
     (One right)) c.in_ok-on.field-0 c.args.log.now _ c.in_ok-on.ensures _ _ (still_count _ _ _ _ (count_continued
     (o g.K.AbstractStates.ops (plan_of c.args.c.now)) c.args.line (row g.K.AbstractStates.ops
-    (plan_of c.args.c.now) c.args.here (shown_stmts c.args.first.now) (One left) c.args.known)
-    (row g.K.AbstractStates.ops (plan_of c.args.c.now) c.args.here (shown_stmts c.args.second.now)
+    (plan_of c.args.c.now) c.args.here (stmts_view c.args.first.now) (One left) c.args.known)
+    (row g.K.AbstractStates.ops (plan_of c.args.c.now) c.args.here (stmts_view c.args.second.now)
     (One right)) c.in_ok-on.field-0 c.args.log.now _ c.in_ok-on.ensures _ _ (still_count _ _ _ _ (count_broken
     (o g.K.AbstractStates.ops (plan_of c.args.c.now)) c.args.line (row g.K.AbstractStates.ops
-    (plan_of c.args.c.now) c.args.here (shown_stmts c.args.first.now) (One left) c.args.known)
-    (row g.K.AbstractStates.ops (plan_of c.args.c.now) c.args.here (shown_stmts c.args.second.now)
+    (plan_of c.args.c.now) c.args.here (stmts_view c.args.first.now) (One left) c.args.known)
+    (row g.K.AbstractStates.ops (plan_of c.args.c.now) c.args.here (stmts_view c.args.second.now)
     (One right)) c.in_ok-on.field-0 c.args.log.now _ c.in_ok-on.ensures _ _ (still_count _ _ _ _ (count_on
     (o g.K.AbstractStates.ops (plan_of c.args.c.now)) c.args.line (row g.K.AbstractStates.ops
-    (plan_of c.args.c.now) c.args.here (shown_stmts c.args.first.now) (One left) c.args.known)
-    (row g.K.AbstractStates.ops (plan_of c.args.c.now) c.args.here (shown_stmts c.args.second.now)
+    (plan_of c.args.c.now) c.args.here (stmts_view c.args.first.now) (One left) c.args.known)
+    (row g.K.AbstractStates.ops (plan_of c.args.c.now) c.args.here (stmts_view c.args.second.now)
     (One right)) c.in_ok-on.field-0 c.args.log.now _ c.in_ok-on.ensures _
     (told_count _ _ _ c.in_ok-flow.ensures.log)) (told_count _ _ _ c.in_ok-whole.ensures.log))
     (told_count _ _ _ c.in_ok-flow-2.ensures.log)) (told_count _ _ _ c.in_ok-flow-3.ensures.log))
@@ -260,16 +257,16 @@ pub pass_body-returns-in_err-on : goal.pass_body-returns-in_err-on
 pass_body-returns-in_err-on g t c =
     err_passes _ c.from_residual.result _ _ _ c.from_residual.ensures.1
     (body_stops (o g.K.AbstractStates.ops (plan_of c.args.c.now)) (row g.K.AbstractStates.ops
-    (plan_of c.args.c.now) c.args.here (shown_stmts c.args.parts.body.now) (mode_of c.args.mode) c.args.known)
-    (row g.K.AbstractStates.ops (plan_of c.args.c.now) c.args.here (shown_stmts c.args.parts.next.now)
+    (plan_of c.args.c.now) c.args.here (stmts_view c.args.parts.body.now) (mode_of c.args.mode) c.args.known)
+    (row g.K.AbstractStates.ops (plan_of c.args.c.now) c.args.here (stmts_view c.args.parts.next.now)
     (mode_of c.args.mode)) c.args.log.now c.turn.new.self _ (told_count _ _ _ c.turn.ensures) c.in_err-on.ensures)
 
 pub pass_body-returns-in_err-ended : goal.pass_body-returns-in_err-ended
 pass_body-returns-in_err-ended g t c =
     err_passes _ c.from_residual-in_err-ended.result _ _ _ c.from_residual-in_err-ended.ensures.1
     (body_stops (o g.K.AbstractStates.ops (plan_of c.args.c.now)) (row g.K.AbstractStates.ops
-    (plan_of c.args.c.now) c.args.here (shown_stmts c.args.parts.body.now) (mode_of c.args.mode) c.args.known)
-    (row g.K.AbstractStates.ops (plan_of c.args.c.now) c.args.here (shown_stmts c.args.parts.next.now)
+    (plan_of c.args.c.now) c.args.here (stmts_view c.args.parts.body.now) (mode_of c.args.mode) c.args.known)
+    (row g.K.AbstractStates.ops (plan_of c.args.c.now) c.args.here (stmts_view c.args.parts.next.now)
     (mode_of c.args.mode)) c.args.log.now c.turn.new.self _ (told_count _ _ _ c.turn.ensures)
     (told_count _ _ _ c.in_ok-on.ensures.log))
 
@@ -277,8 +274,8 @@ pub pass_body-returns-in_err-on-2 : goal.pass_body-returns-in_err-on-2
 pass_body-returns-in_err-on-2 g t c =
     err_passes _ c.from_residual-in_err-on-2.result _ _ _ c.from_residual-in_err-on-2.ensures.1
     (next_stops (o g.K.AbstractStates.ops (plan_of c.args.c.now)) (row g.K.AbstractStates.ops
-    (plan_of c.args.c.now) c.args.here (shown_stmts c.args.parts.body.now) (mode_of c.args.mode) c.args.known)
-    (row g.K.AbstractStates.ops (plan_of c.args.c.now) c.args.here (shown_stmts c.args.parts.next.now)
+    (plan_of c.args.c.now) c.args.here (stmts_view c.args.parts.body.now) (mode_of c.args.mode) c.args.known)
+    (row g.K.AbstractStates.ops (plan_of c.args.c.now) c.args.here (stmts_view c.args.parts.next.now)
     (mode_of c.args.mode)) c.args.log.now c.turn.new.self _ c.in_ok-on.field-0 _ c.in_ok-ended.ended
     (told_count _ _ _ c.turn.ensures) c.in_ok-on.ensures c.in_ok-ended.ensures c.in_err-on-2.ensures)
 
@@ -291,16 +288,16 @@ pub pass_call-returns-in_err-flow-in-Some : goal.pass_call-returns-in_err-flow-i
 pass_call-returns-in_err-flow-in-Some g t c =
     err_passes _ c.from_residual-in_err-flow-in-Some.result _ _ _ c.from_residual-in_err-flow-in-Some.ensures.1
     (let e = rw c.in-Some.is at c.callee.ensures in
-    let f = shown_function c.in-Some.f.now in
+    let f = function_view c.in-Some.f.now in
     let is = callee_is c.args.c.now.program.now c.args.k c.args.here c.in-Some.f.now (sym e) in
     let less = callee_less c.args.c.now.program.now c.args.k c.args.here c.in-Some.f.now (sym e) in
     let body = function g.K.AbstractStates.ops (plan_of c.args.c.now) c.args.k (mode_of c.args.mode) in
     calls_some g.K.AbstractStates.ops (plan_of c.args.c.now) c.args.here
-    (mode_of c.args.mode) c.args.line c.args.k (map shown_expr c.args.es.now)
-    (option_map shown_dest c.args.d.now) c.args.known f (Err
+    (mode_of c.args.mode) c.args.line c.args.k (map expr_view c.args.es.now)
+    (option_map dest_view c.args.d.now) c.args.known f (Err
     (record {})) c.args.log.now c.pass_function.new.log is less (call_stops (o g.K.AbstractStates.ops
-    (plan_of c.args.c.now)) (mode_of c.args.mode) c.args.line f (map shown_expr c.args.es.now)
-    (option_map shown_dest c.args.d.now) body c.args.known c.args.log.now _ c.pass_function.new.log
+    (plan_of c.args.c.now)) (mode_of c.args.mode) c.args.line f (map expr_view c.args.es.now)
+    (option_map dest_view c.args.d.now) body c.args.known c.args.log.now _ c.pass_function.new.log
     (tells_at _ c.args.log.now _ _
     (sym c.log.view_is) c.in_ok-inner-in-Some.ensures.faults refl refl) c.in_ok-inner-in-Some.inner
     c.in_ok-inner-in-Some.ensures.next c.in_err-flow-in-Some.ensures))
@@ -309,16 +306,16 @@ pub pass_call-returns-in_err-left-in-Some : goal.pass_call-returns-in_err-left-i
 pass_call-returns-in_err-left-in-Some g t c =
     err_passes _ c.from_residual-in_err-left-in-Some.result _ _ _ c.from_residual-in_err-left-in-Some.ensures.1
     (let e = rw c.in-Some.is at c.callee.ensures in
-    let f = shown_function c.in-Some.f.now in
+    let f = function_view c.in-Some.f.now in
     let is = callee_is c.args.c.now.program.now c.args.k c.args.here c.in-Some.f.now (sym e) in
     let less = callee_less c.args.c.now.program.now c.args.k c.args.here c.in-Some.f.now (sym e) in
     let body = function g.K.AbstractStates.ops (plan_of c.args.c.now) c.args.k (mode_of c.args.mode) in
     calls_some g.K.AbstractStates.ops (plan_of c.args.c.now) c.args.here
-    (mode_of c.args.mode) c.args.line c.args.k (map shown_expr c.args.es.now)
-    (option_map shown_dest c.args.d.now) c.args.known f (Err
+    (mode_of c.args.mode) c.args.line c.args.k (map expr_view c.args.es.now)
+    (option_map dest_view c.args.d.now) c.args.known f (Err
     (record {})) c.args.log.now c.pass_function.new.log is less (call_left (o g.K.AbstractStates.ops
-    (plan_of c.args.c.now)) (mode_of c.args.mode) c.args.line f (map shown_expr c.args.es.now)
-    (option_map shown_dest c.args.d.now) body c.args.known c.args.log.now _ c.pass_function.new.log
+    (plan_of c.args.c.now)) (mode_of c.args.mode) c.args.line f (map expr_view c.args.es.now)
+    (option_map dest_view c.args.d.now) body c.args.known c.args.log.now _ c.pass_function.new.log
     c.in_ok-flow-in-Some.flow (tells_at _ c.args.log.now _ _
     (sym c.log.view_is) c.in_ok-inner-in-Some.ensures.faults refl refl) c.in_ok-inner-in-Some.inner
     c.in_ok-inner-in-Some.ensures.next c.in_ok-flow-in-Some.ensures))
@@ -336,55 +333,55 @@ pass_four-returns-in_err-both g t c =
 pub pass_four-returns-in_err-flow : goal.pass_four-returns-in_err-flow
 pass_four-returns-in_err-flow g t c =
     err_passes _ c.from_residual-in_err-flow.result _ _ _ c.from_residual-in_err-flow.ensures.1
-    (four_stop_one (o g.K.AbstractStates.ops (plan_of c.args.c.now)) (shown_flow c.args.before)
-    ((o g.K.AbstractStates.ops (plan_of c.args.c.now)).assume (shown_expr c.args.test.now) true true c.args.known)
+    (four_stop_one (o g.K.AbstractStates.ops (plan_of c.args.c.now)) (flow_view c.args.before)
+    ((o g.K.AbstractStates.ops (plan_of c.args.c.now)).assume (expr_view c.args.test.now) true true c.args.known)
     ((o g.K.AbstractStates.ops (plan_of c.args.c.now)).assume
-    (shown_expr c.args.test.now) true false c.args.known) ((o g.K.AbstractStates.ops
-    (plan_of c.args.c.now)).assume (shown_expr c.args.test.now) false true c.args.known)
+    (expr_view c.args.test.now) true false c.args.known) ((o g.K.AbstractStates.ops
+    (plan_of c.args.c.now)).assume (expr_view c.args.test.now) false true c.args.known)
     ((o g.K.AbstractStates.ops (plan_of c.args.c.now)).assume
-    (shown_expr c.args.test.now) false false c.args.known) (followed g.K.AbstractStates.ops
+    (expr_view c.args.test.now) false false c.args.known) (followed g.K.AbstractStates.ops
     (plan_of c.args.c.now) c.args.here (followed_of c.args.follow) Both true true)
     (followed g.K.AbstractStates.ops (plan_of c.args.c.now) c.args.here
     (followed_of c.args.follow) Both true false) (followed g.K.AbstractStates.ops
     (plan_of c.args.c.now) c.args.here (followed_of c.args.follow) Both false true)
     (followed g.K.AbstractStates.ops (plan_of c.args.c.now) c.args.here
     (followed_of c.args.follow) Both false false) _ _ (first_way (o g.K.AbstractStates.ops (plan_of c.args.c.now))
-    (shown_flow c.args.before) _ ((o g.K.AbstractStates.ops (plan_of c.args.c.now)).assume
-    (shown_expr c.args.test.now) true true c.args.known) (followed g.K.AbstractStates.ops
+    (flow_view c.args.before) _ ((o g.K.AbstractStates.ops (plan_of c.args.c.now)).assume
+    (expr_view c.args.test.now) true true c.args.known) (followed g.K.AbstractStates.ops
     (plan_of c.args.c.now) c.args.here
     (followed_of c.args.follow) Both true true) _ _ c.in_ok-both.ensures c.in_err-flow.ensures))
 
 pub pass_four-returns-in_err-left : goal.pass_four-returns-in_err-left
 pass_four-returns-in_err-left g t c =
     err_passes _ c.from_residual-in_err-left.result _ _ _ c.from_residual-in_err-left.ensures.1
-    (four_stop_one (o g.K.AbstractStates.ops (plan_of c.args.c.now)) (shown_flow c.args.before)
-    ((o g.K.AbstractStates.ops (plan_of c.args.c.now)).assume (shown_expr c.args.test.now) true true c.args.known)
+    (four_stop_one (o g.K.AbstractStates.ops (plan_of c.args.c.now)) (flow_view c.args.before)
+    ((o g.K.AbstractStates.ops (plan_of c.args.c.now)).assume (expr_view c.args.test.now) true true c.args.known)
     ((o g.K.AbstractStates.ops (plan_of c.args.c.now)).assume
-    (shown_expr c.args.test.now) true false c.args.known) ((o g.K.AbstractStates.ops
-    (plan_of c.args.c.now)).assume (shown_expr c.args.test.now) false true c.args.known)
+    (expr_view c.args.test.now) true false c.args.known) ((o g.K.AbstractStates.ops
+    (plan_of c.args.c.now)).assume (expr_view c.args.test.now) false true c.args.known)
     ((o g.K.AbstractStates.ops (plan_of c.args.c.now)).assume
-    (shown_expr c.args.test.now) false false c.args.known) (followed g.K.AbstractStates.ops
+    (expr_view c.args.test.now) false false c.args.known) (followed g.K.AbstractStates.ops
     (plan_of c.args.c.now) c.args.here (followed_of c.args.follow) Both true true)
     (followed g.K.AbstractStates.ops (plan_of c.args.c.now) c.args.here
     (followed_of c.args.follow) Both true false) (followed g.K.AbstractStates.ops
     (plan_of c.args.c.now) c.args.here (followed_of c.args.follow) Both false true)
     (followed g.K.AbstractStates.ops (plan_of c.args.c.now) c.args.here
     (followed_of c.args.follow) Both false false) _ _ (first_way (o g.K.AbstractStates.ops (plan_of c.args.c.now))
-    (shown_flow c.args.before) _ ((o g.K.AbstractStates.ops (plan_of c.args.c.now)).assume
-    (shown_expr c.args.test.now) true true c.args.known) (followed g.K.AbstractStates.ops
+    (flow_view c.args.before) _ ((o g.K.AbstractStates.ops (plan_of c.args.c.now)).assume
+    (expr_view c.args.test.now) true true c.args.known) (followed g.K.AbstractStates.ops
     (plan_of c.args.c.now) c.args.here (followed_of c.args.follow) Both true true) _ _ c.in_ok-both.ensures
     (told_count _ _ _ c.in_ok-flow.ensures.log)))
 
 pub pass_four-returns-in_err-flow-2 : goal.pass_four-returns-in_err-flow-2
 pass_four-returns-in_err-flow-2 g t c =
     err_passes _ c.from_residual-in_err-flow-2.result _ _ _ c.from_residual-in_err-flow-2.ensures.1
-    (four_stop_two (o g.K.AbstractStates.ops (plan_of c.args.c.now)) (shown_flow c.args.before)
-    ((o g.K.AbstractStates.ops (plan_of c.args.c.now)).assume (shown_expr c.args.test.now) true true c.args.known)
+    (four_stop_two (o g.K.AbstractStates.ops (plan_of c.args.c.now)) (flow_view c.args.before)
+    ((o g.K.AbstractStates.ops (plan_of c.args.c.now)).assume (expr_view c.args.test.now) true true c.args.known)
     ((o g.K.AbstractStates.ops (plan_of c.args.c.now)).assume
-    (shown_expr c.args.test.now) true false c.args.known) ((o g.K.AbstractStates.ops
-    (plan_of c.args.c.now)).assume (shown_expr c.args.test.now) false true c.args.known)
+    (expr_view c.args.test.now) true false c.args.known) ((o g.K.AbstractStates.ops
+    (plan_of c.args.c.now)).assume (expr_view c.args.test.now) false true c.args.known)
     ((o g.K.AbstractStates.ops (plan_of c.args.c.now)).assume
-    (shown_expr c.args.test.now) false false c.args.known) (followed g.K.AbstractStates.ops
+    (expr_view c.args.test.now) false false c.args.known) (followed g.K.AbstractStates.ops
     (plan_of c.args.c.now) c.args.here (followed_of c.args.follow) Both true true)
     (followed g.K.AbstractStates.ops (plan_of c.args.c.now) c.args.here
     (followed_of c.args.follow) Both true false) (followed g.K.AbstractStates.ops
@@ -392,27 +389,27 @@ pass_four-returns-in_err-flow-2 g t c =
     (followed g.K.AbstractStates.ops (plan_of c.args.c.now) c.args.here
     (followed_of c.args.follow) Both false false) _ _ (next_way (o g.K.AbstractStates.ops
     (plan_of c.args.c.now)) c.in_ok-flow.flow (either_pass (o g.K.AbstractStates.ops (plan_of c.args.c.now))
-    (shown_flow c.args.before) (branch ((o g.K.AbstractStates.ops (plan_of c.args.c.now)).assume
-    (shown_expr c.args.test.now) true true c.args.known) (followed g.K.AbstractStates.ops
+    (flow_view c.args.before) (branch ((o g.K.AbstractStates.ops (plan_of c.args.c.now)).assume
+    (expr_view c.args.test.now) true true c.args.known) (followed g.K.AbstractStates.ops
     (plan_of c.args.c.now) c.args.here (followed_of c.args.follow) Both true true))) _ ((o g.K.AbstractStates.ops
-    (plan_of c.args.c.now)).assume (shown_expr c.args.test.now) true false c.args.known)
+    (plan_of c.args.c.now)).assume (expr_view c.args.test.now) true false c.args.known)
     (followed g.K.AbstractStates.ops (plan_of c.args.c.now) c.args.here
     (followed_of c.args.follow) Both true false) _ _ _ c.in_ok-left.ensures (first_way (o g.K.AbstractStates.ops
-    (plan_of c.args.c.now)) (shown_flow c.args.before) _ ((o g.K.AbstractStates.ops (plan_of c.args.c.now)).assume
-    (shown_expr c.args.test.now) true true c.args.known) (followed g.K.AbstractStates.ops
+    (plan_of c.args.c.now)) (flow_view c.args.before) _ ((o g.K.AbstractStates.ops (plan_of c.args.c.now)).assume
+    (expr_view c.args.test.now) true true c.args.known) (followed g.K.AbstractStates.ops
     (plan_of c.args.c.now) c.args.here (followed_of c.args.follow) Both true true) _ _ c.in_ok-both.ensures
     (told_count _ _ _ c.in_ok-flow.ensures.log)) c.in_err-flow-2.ensures))
 
 pub pass_four-returns-in_err-right : goal.pass_four-returns-in_err-right
 pass_four-returns-in_err-right g t c =
     err_passes _ c.from_residual-in_err-right.result _ _ _ c.from_residual-in_err-right.ensures.1
-    (four_stop_two (o g.K.AbstractStates.ops (plan_of c.args.c.now)) (shown_flow c.args.before)
-    ((o g.K.AbstractStates.ops (plan_of c.args.c.now)).assume (shown_expr c.args.test.now) true true c.args.known)
+    (four_stop_two (o g.K.AbstractStates.ops (plan_of c.args.c.now)) (flow_view c.args.before)
+    ((o g.K.AbstractStates.ops (plan_of c.args.c.now)).assume (expr_view c.args.test.now) true true c.args.known)
     ((o g.K.AbstractStates.ops (plan_of c.args.c.now)).assume
-    (shown_expr c.args.test.now) true false c.args.known) ((o g.K.AbstractStates.ops
-    (plan_of c.args.c.now)).assume (shown_expr c.args.test.now) false true c.args.known)
+    (expr_view c.args.test.now) true false c.args.known) ((o g.K.AbstractStates.ops
+    (plan_of c.args.c.now)).assume (expr_view c.args.test.now) false true c.args.known)
     ((o g.K.AbstractStates.ops (plan_of c.args.c.now)).assume
-    (shown_expr c.args.test.now) false false c.args.known) (followed g.K.AbstractStates.ops
+    (expr_view c.args.test.now) false false c.args.known) (followed g.K.AbstractStates.ops
     (plan_of c.args.c.now) c.args.here (followed_of c.args.follow) Both true true)
     (followed g.K.AbstractStates.ops (plan_of c.args.c.now) c.args.here
     (followed_of c.args.follow) Both true false) (followed g.K.AbstractStates.ops
@@ -420,27 +417,27 @@ pass_four-returns-in_err-right g t c =
     (followed g.K.AbstractStates.ops (plan_of c.args.c.now) c.args.here
     (followed_of c.args.follow) Both false false) _ _ (next_way (o g.K.AbstractStates.ops
     (plan_of c.args.c.now)) c.in_ok-flow.flow (either_pass (o g.K.AbstractStates.ops (plan_of c.args.c.now))
-    (shown_flow c.args.before) (branch ((o g.K.AbstractStates.ops (plan_of c.args.c.now)).assume
-    (shown_expr c.args.test.now) true true c.args.known) (followed g.K.AbstractStates.ops
+    (flow_view c.args.before) (branch ((o g.K.AbstractStates.ops (plan_of c.args.c.now)).assume
+    (expr_view c.args.test.now) true true c.args.known) (followed g.K.AbstractStates.ops
     (plan_of c.args.c.now) c.args.here (followed_of c.args.follow) Both true true))) _ ((o g.K.AbstractStates.ops
-    (plan_of c.args.c.now)).assume (shown_expr c.args.test.now) true false c.args.known)
+    (plan_of c.args.c.now)).assume (expr_view c.args.test.now) true false c.args.known)
     (followed g.K.AbstractStates.ops (plan_of c.args.c.now) c.args.here
     (followed_of c.args.follow) Both true false) _ _ _ c.in_ok-left.ensures (first_way (o g.K.AbstractStates.ops
-    (plan_of c.args.c.now)) (shown_flow c.args.before) _ ((o g.K.AbstractStates.ops (plan_of c.args.c.now)).assume
-    (shown_expr c.args.test.now) true true c.args.known) (followed g.K.AbstractStates.ops
+    (plan_of c.args.c.now)) (flow_view c.args.before) _ ((o g.K.AbstractStates.ops (plan_of c.args.c.now)).assume
+    (expr_view c.args.test.now) true true c.args.known) (followed g.K.AbstractStates.ops
     (plan_of c.args.c.now) c.args.here (followed_of c.args.follow) Both true true) _ _ c.in_ok-both.ensures
     (told_count _ _ _ c.in_ok-flow.ensures.log)) (told_count _ _ _ c.in_ok-flow-2.ensures.log)))
 
 pub pass_four-returns-in_err-flow-3 : goal.pass_four-returns-in_err-flow-3
 pass_four-returns-in_err-flow-3 g t c =
     err_passes _ c.from_residual-in_err-flow-3.result _ _ _ c.from_residual-in_err-flow-3.ensures.1
-    (four_stop_three (o g.K.AbstractStates.ops (plan_of c.args.c.now)) (shown_flow c.args.before)
-    ((o g.K.AbstractStates.ops (plan_of c.args.c.now)).assume (shown_expr c.args.test.now) true true c.args.known)
+    (four_stop_three (o g.K.AbstractStates.ops (plan_of c.args.c.now)) (flow_view c.args.before)
+    ((o g.K.AbstractStates.ops (plan_of c.args.c.now)).assume (expr_view c.args.test.now) true true c.args.known)
     ((o g.K.AbstractStates.ops (plan_of c.args.c.now)).assume
-    (shown_expr c.args.test.now) true false c.args.known) ((o g.K.AbstractStates.ops
-    (plan_of c.args.c.now)).assume (shown_expr c.args.test.now) false true c.args.known)
+    (expr_view c.args.test.now) true false c.args.known) ((o g.K.AbstractStates.ops
+    (plan_of c.args.c.now)).assume (expr_view c.args.test.now) false true c.args.known)
     ((o g.K.AbstractStates.ops (plan_of c.args.c.now)).assume
-    (shown_expr c.args.test.now) false false c.args.known) (followed g.K.AbstractStates.ops
+    (expr_view c.args.test.now) false false c.args.known) (followed g.K.AbstractStates.ops
     (plan_of c.args.c.now) c.args.here (followed_of c.args.follow) Both true true)
     (followed g.K.AbstractStates.ops (plan_of c.args.c.now) c.args.here
     (followed_of c.args.follow) Both true false) (followed g.K.AbstractStates.ops
@@ -448,24 +445,24 @@ pass_four-returns-in_err-flow-3 g t c =
     (followed g.K.AbstractStates.ops (plan_of c.args.c.now) c.args.here
     (followed_of c.args.follow) Both false false) _ _ (next_way (o g.K.AbstractStates.ops
     (plan_of c.args.c.now)) c.in_ok-flow-2.flow (either_pass (o g.K.AbstractStates.ops (plan_of c.args.c.now))
-    (either_pass (o g.K.AbstractStates.ops (plan_of c.args.c.now)) (shown_flow c.args.before) (branch
-    ((o g.K.AbstractStates.ops (plan_of c.args.c.now)).assume (shown_expr c.args.test.now) true true c.args.known)
+    (either_pass (o g.K.AbstractStates.ops (plan_of c.args.c.now)) (flow_view c.args.before) (branch
+    ((o g.K.AbstractStates.ops (plan_of c.args.c.now)).assume (expr_view c.args.test.now) true true c.args.known)
     (followed g.K.AbstractStates.ops (plan_of c.args.c.now) c.args.here
     (followed_of c.args.follow) Both true true))) (branch ((o g.K.AbstractStates.ops
-    (plan_of c.args.c.now)).assume (shown_expr c.args.test.now) true false c.args.known)
+    (plan_of c.args.c.now)).assume (expr_view c.args.test.now) true false c.args.known)
     (followed g.K.AbstractStates.ops (plan_of c.args.c.now) c.args.here
     (followed_of c.args.follow) Both true false))) _ ((o g.K.AbstractStates.ops (plan_of c.args.c.now)).assume
-    (shown_expr c.args.test.now) false true c.args.known) (followed g.K.AbstractStates.ops
+    (expr_view c.args.test.now) false true c.args.known) (followed g.K.AbstractStates.ops
     (plan_of c.args.c.now) c.args.here (followed_of c.args.follow) Both false true) _ _ _ c.in_ok-right.ensures
     (next_way (o g.K.AbstractStates.ops (plan_of c.args.c.now)) c.in_ok-flow.flow (either_pass
-    (o g.K.AbstractStates.ops (plan_of c.args.c.now)) (shown_flow c.args.before) (branch
-    ((o g.K.AbstractStates.ops (plan_of c.args.c.now)).assume (shown_expr c.args.test.now) true true c.args.known)
+    (o g.K.AbstractStates.ops (plan_of c.args.c.now)) (flow_view c.args.before) (branch
+    ((o g.K.AbstractStates.ops (plan_of c.args.c.now)).assume (expr_view c.args.test.now) true true c.args.known)
     (followed g.K.AbstractStates.ops (plan_of c.args.c.now) c.args.here
     (followed_of c.args.follow) Both true true))) _ ((o g.K.AbstractStates.ops (plan_of c.args.c.now)).assume
-    (shown_expr c.args.test.now) true false c.args.known) (followed g.K.AbstractStates.ops
+    (expr_view c.args.test.now) true false c.args.known) (followed g.K.AbstractStates.ops
     (plan_of c.args.c.now) c.args.here (followed_of c.args.follow) Both true false) _ _ _ c.in_ok-left.ensures
-    (first_way (o g.K.AbstractStates.ops (plan_of c.args.c.now)) (shown_flow c.args.before) _
-    ((o g.K.AbstractStates.ops (plan_of c.args.c.now)).assume (shown_expr c.args.test.now) true true c.args.known)
+    (first_way (o g.K.AbstractStates.ops (plan_of c.args.c.now)) (flow_view c.args.before) _
+    ((o g.K.AbstractStates.ops (plan_of c.args.c.now)).assume (expr_view c.args.test.now) true true c.args.known)
     (followed g.K.AbstractStates.ops (plan_of c.args.c.now) c.args.here
     (followed_of c.args.follow) Both true true) _ _ c.in_ok-both.ensures
     (told_count _ _ _ c.in_ok-flow.ensures.log))
@@ -474,13 +471,13 @@ pass_four-returns-in_err-flow-3 g t c =
 pub pass_four-returns-in_err-neither : goal.pass_four-returns-in_err-neither
 pass_four-returns-in_err-neither g t c =
     err_passes _ c.from_residual-in_err-neither.result _ _ _ c.from_residual-in_err-neither.ensures.1
-    (four_stop_three (o g.K.AbstractStates.ops (plan_of c.args.c.now)) (shown_flow c.args.before)
-    ((o g.K.AbstractStates.ops (plan_of c.args.c.now)).assume (shown_expr c.args.test.now) true true c.args.known)
+    (four_stop_three (o g.K.AbstractStates.ops (plan_of c.args.c.now)) (flow_view c.args.before)
+    ((o g.K.AbstractStates.ops (plan_of c.args.c.now)).assume (expr_view c.args.test.now) true true c.args.known)
     ((o g.K.AbstractStates.ops (plan_of c.args.c.now)).assume
-    (shown_expr c.args.test.now) true false c.args.known) ((o g.K.AbstractStates.ops
-    (plan_of c.args.c.now)).assume (shown_expr c.args.test.now) false true c.args.known)
+    (expr_view c.args.test.now) true false c.args.known) ((o g.K.AbstractStates.ops
+    (plan_of c.args.c.now)).assume (expr_view c.args.test.now) false true c.args.known)
     ((o g.K.AbstractStates.ops (plan_of c.args.c.now)).assume
-    (shown_expr c.args.test.now) false false c.args.known) (followed g.K.AbstractStates.ops
+    (expr_view c.args.test.now) false false c.args.known) (followed g.K.AbstractStates.ops
     (plan_of c.args.c.now) c.args.here (followed_of c.args.follow) Both true true)
     (followed g.K.AbstractStates.ops (plan_of c.args.c.now) c.args.here
     (followed_of c.args.follow) Both true false) (followed g.K.AbstractStates.ops
@@ -488,24 +485,24 @@ pass_four-returns-in_err-neither g t c =
     (followed g.K.AbstractStates.ops (plan_of c.args.c.now) c.args.here
     (followed_of c.args.follow) Both false false) _ _ (next_way (o g.K.AbstractStates.ops
     (plan_of c.args.c.now)) c.in_ok-flow-2.flow (either_pass (o g.K.AbstractStates.ops (plan_of c.args.c.now))
-    (either_pass (o g.K.AbstractStates.ops (plan_of c.args.c.now)) (shown_flow c.args.before) (branch
-    ((o g.K.AbstractStates.ops (plan_of c.args.c.now)).assume (shown_expr c.args.test.now) true true c.args.known)
+    (either_pass (o g.K.AbstractStates.ops (plan_of c.args.c.now)) (flow_view c.args.before) (branch
+    ((o g.K.AbstractStates.ops (plan_of c.args.c.now)).assume (expr_view c.args.test.now) true true c.args.known)
     (followed g.K.AbstractStates.ops (plan_of c.args.c.now) c.args.here
     (followed_of c.args.follow) Both true true))) (branch ((o g.K.AbstractStates.ops
-    (plan_of c.args.c.now)).assume (shown_expr c.args.test.now) true false c.args.known)
+    (plan_of c.args.c.now)).assume (expr_view c.args.test.now) true false c.args.known)
     (followed g.K.AbstractStates.ops (plan_of c.args.c.now) c.args.here
     (followed_of c.args.follow) Both true false))) _ ((o g.K.AbstractStates.ops (plan_of c.args.c.now)).assume
-    (shown_expr c.args.test.now) false true c.args.known) (followed g.K.AbstractStates.ops
+    (expr_view c.args.test.now) false true c.args.known) (followed g.K.AbstractStates.ops
     (plan_of c.args.c.now) c.args.here (followed_of c.args.follow) Both false true) _ _ _ c.in_ok-right.ensures
     (next_way (o g.K.AbstractStates.ops (plan_of c.args.c.now)) c.in_ok-flow.flow (either_pass
-    (o g.K.AbstractStates.ops (plan_of c.args.c.now)) (shown_flow c.args.before) (branch
-    ((o g.K.AbstractStates.ops (plan_of c.args.c.now)).assume (shown_expr c.args.test.now) true true c.args.known)
+    (o g.K.AbstractStates.ops (plan_of c.args.c.now)) (flow_view c.args.before) (branch
+    ((o g.K.AbstractStates.ops (plan_of c.args.c.now)).assume (expr_view c.args.test.now) true true c.args.known)
     (followed g.K.AbstractStates.ops (plan_of c.args.c.now) c.args.here
     (followed_of c.args.follow) Both true true))) _ ((o g.K.AbstractStates.ops (plan_of c.args.c.now)).assume
-    (shown_expr c.args.test.now) true false c.args.known) (followed g.K.AbstractStates.ops
+    (expr_view c.args.test.now) true false c.args.known) (followed g.K.AbstractStates.ops
     (plan_of c.args.c.now) c.args.here (followed_of c.args.follow) Both true false) _ _ _ c.in_ok-left.ensures
-    (first_way (o g.K.AbstractStates.ops (plan_of c.args.c.now)) (shown_flow c.args.before) _
-    ((o g.K.AbstractStates.ops (plan_of c.args.c.now)).assume (shown_expr c.args.test.now) true true c.args.known)
+    (first_way (o g.K.AbstractStates.ops (plan_of c.args.c.now)) (flow_view c.args.before) _
+    ((o g.K.AbstractStates.ops (plan_of c.args.c.now)).assume (expr_view c.args.test.now) true true c.args.known)
     (followed g.K.AbstractStates.ops (plan_of c.args.c.now) c.args.here
     (followed_of c.args.follow) Both true true) _ _ c.in_ok-both.ensures
     (told_count _ _ _ c.in_ok-flow.ensures.log)) (told_count _ _ _ c.in_ok-flow-2.ensures.log))
@@ -519,42 +516,42 @@ pass_two-returns-in_err-yes g t c =
 pub pass_two-returns-in_err-flow : goal.pass_two-returns-in_err-flow
 pass_two-returns-in_err-flow g t c =
     err_passes _ c.from_residual-in_err-flow.result _ _ _ c.from_residual-in_err-flow.ensures.1
-    (two_stop (o g.K.AbstractStates.ops (plan_of c.args.c.now)) (shown_flow c.args.before) (agreed
+    (two_stop (o g.K.AbstractStates.ops (plan_of c.args.c.now)) (flow_view c.args.before) (agreed
     (o g.K.AbstractStates.ops (plan_of c.args.c.now)) (mode_of c.args.mode)
-    (shown_expr c.args.test.now) true c.args.known) (agreed (o g.K.AbstractStates.ops (plan_of c.args.c.now))
-    (mode_of c.args.mode) (shown_expr c.args.test.now) false c.args.known) (agreed (o g.K.AbstractStates.ops
-    (plan_of c.args.c.now)) (mode_of c.args.mode) (shown_expr c.args.test.now) false c.args.known) (agreed
+    (expr_view c.args.test.now) true c.args.known) (agreed (o g.K.AbstractStates.ops (plan_of c.args.c.now))
+    (mode_of c.args.mode) (expr_view c.args.test.now) false c.args.known) (agreed (o g.K.AbstractStates.ops
+    (plan_of c.args.c.now)) (mode_of c.args.mode) (expr_view c.args.test.now) false c.args.known) (agreed
     (o g.K.AbstractStates.ops (plan_of c.args.c.now)) (mode_of c.args.mode)
-    (shown_expr c.args.test.now) false c.args.known) (followed g.K.AbstractStates.ops
+    (expr_view c.args.test.now) false c.args.known) (followed g.K.AbstractStates.ops
     (plan_of c.args.c.now) c.args.here (followed_of c.args.follow) (mode_of c.args.mode) true true)
     (followed g.K.AbstractStates.ops (plan_of c.args.c.now) c.args.here (followed_of c.args.follow)
     (mode_of c.args.mode) false false) (followed g.K.AbstractStates.ops (plan_of c.args.c.now) c.args.here
     (followed_of c.args.follow) (mode_of c.args.mode) false false) (followed g.K.AbstractStates.ops
     (plan_of c.args.c.now) c.args.here (followed_of c.args.follow) (mode_of c.args.mode) false false) _ _
-    (first_way (o g.K.AbstractStates.ops (plan_of c.args.c.now)) (shown_flow c.args.before) _ (agreed
+    (first_way (o g.K.AbstractStates.ops (plan_of c.args.c.now)) (flow_view c.args.before) _ (agreed
     (o g.K.AbstractStates.ops (plan_of c.args.c.now)) (mode_of c.args.mode)
-    (shown_expr c.args.test.now) true c.args.known) (followed g.K.AbstractStates.ops
+    (expr_view c.args.test.now) true c.args.known) (followed g.K.AbstractStates.ops
     (plan_of c.args.c.now) c.args.here (followed_of c.args.follow)
     (mode_of c.args.mode) true true) _ _ c.in_ok-yes.ensures c.in_err-flow.ensures))
 
 pub pass_two-returns-in_err-no : goal.pass_two-returns-in_err-no
 pass_two-returns-in_err-no g t c =
     err_passes _ c.from_residual-in_err-no.result _ _ _ c.from_residual-in_err-no.ensures.1
-    (two_stop (o g.K.AbstractStates.ops (plan_of c.args.c.now)) (shown_flow c.args.before) (agreed
+    (two_stop (o g.K.AbstractStates.ops (plan_of c.args.c.now)) (flow_view c.args.before) (agreed
     (o g.K.AbstractStates.ops (plan_of c.args.c.now)) (mode_of c.args.mode)
-    (shown_expr c.args.test.now) true c.args.known) (agreed (o g.K.AbstractStates.ops (plan_of c.args.c.now))
-    (mode_of c.args.mode) (shown_expr c.args.test.now) false c.args.known) (agreed (o g.K.AbstractStates.ops
-    (plan_of c.args.c.now)) (mode_of c.args.mode) (shown_expr c.args.test.now) false c.args.known) (agreed
+    (expr_view c.args.test.now) true c.args.known) (agreed (o g.K.AbstractStates.ops (plan_of c.args.c.now))
+    (mode_of c.args.mode) (expr_view c.args.test.now) false c.args.known) (agreed (o g.K.AbstractStates.ops
+    (plan_of c.args.c.now)) (mode_of c.args.mode) (expr_view c.args.test.now) false c.args.known) (agreed
     (o g.K.AbstractStates.ops (plan_of c.args.c.now)) (mode_of c.args.mode)
-    (shown_expr c.args.test.now) false c.args.known) (followed g.K.AbstractStates.ops
+    (expr_view c.args.test.now) false c.args.known) (followed g.K.AbstractStates.ops
     (plan_of c.args.c.now) c.args.here (followed_of c.args.follow) (mode_of c.args.mode) true true)
     (followed g.K.AbstractStates.ops (plan_of c.args.c.now) c.args.here (followed_of c.args.follow)
     (mode_of c.args.mode) false false) (followed g.K.AbstractStates.ops (plan_of c.args.c.now) c.args.here
     (followed_of c.args.follow) (mode_of c.args.mode) false false) (followed g.K.AbstractStates.ops
     (plan_of c.args.c.now) c.args.here (followed_of c.args.follow) (mode_of c.args.mode) false false) _ _
-    (first_way (o g.K.AbstractStates.ops (plan_of c.args.c.now)) (shown_flow c.args.before) _ (agreed
+    (first_way (o g.K.AbstractStates.ops (plan_of c.args.c.now)) (flow_view c.args.before) _ (agreed
     (o g.K.AbstractStates.ops (plan_of c.args.c.now)) (mode_of c.args.mode)
-    (shown_expr c.args.test.now) true c.args.known) (followed g.K.AbstractStates.ops
+    (expr_view c.args.test.now) true c.args.known) (followed g.K.AbstractStates.ops
     (plan_of c.args.c.now) c.args.here (followed_of c.args.follow)
     (mode_of c.args.mode) true true) _ _ c.in_ok-yes.ensures (told_count _ _ _ c.in_ok-flow.ensures.log)))
 
@@ -567,84 +564,84 @@ pub pass_heads-returns-in_err-kept : goal.pass_heads-returns-in_err-kept
 pass_heads-returns-in_err-kept g t c =
     err_passes _ c.from_residual-in_err-kept.result _ _ _ c.from_residual-in_err-kept.ensures.1
     (heads_stop g.K.AbstractStates.ops (plan_of c.args.c.now) c.args.here (loop_of c.args.parts)
-    (shown_ways c.args.before) c.heads.rounds c.heads.head c.heads.log c.args.log.now _ c.heads.invariant _ refl)
+    (ways_view c.args.before) c.heads.rounds c.heads.head c.heads.log c.args.log.now _ c.heads.invariant _ refl)
 
 pub pass_heads-returns-in_err-copy : goal.pass_heads-returns-in_err-copy
 pass_heads-returns-in_err-copy g t c =
     err_passes _ c.from_residual-in_err-copy.result _ _ _ c.from_residual-in_err-copy.ensures.1
     (heads_stop g.K.AbstractStates.ops (plan_of c.args.c.now) c.args.here (loop_of c.args.parts)
-    (shown_ways c.args.before) c.heads.rounds c.heads.head c.heads.log c.args.log.now _ c.heads.invariant _ refl)
+    (ways_view c.args.before) c.heads.rounds c.heads.head c.heads.log c.args.log.now _ c.heads.invariant _ refl)
 
 pub pass_heads-returns-in_err-flow : goal.pass_heads-returns-in_err-flow
 pass_heads-returns-in_err-flow g t c =
     err_passes _ c.from_residual-in_err-flow.result _ _ _ c.from_residual-in_err-flow.ensures.1
     (turn_stops g.K.AbstractStates.ops (plan_of c.args.c.now) c.args.here (loop_of c.args.parts)
-    (shown_ways c.args.before) c.heads.rounds c.heads.head c.heads.log c.args.log.now _ c.heads.invariant _
-    (shown_ways c.in_ok-kept.kept) c.in_ok-copy.copy _ _ c.heads-test.true c.in_ok-kept.ensures
+    (ways_view c.args.before) c.heads.rounds c.heads.head c.heads.log c.args.log.now _ c.heads.invariant _
+    (ways_view c.in_ok-kept.kept) c.in_ok-copy.copy _ _ c.heads-test.true c.in_ok-kept.ensures
     c.in_ok-copy.ensures c.begun-found.ensures.count (rw c.in_err-flow.was at c.pass_turn-turn.ensures)
-    (seen_turns _ _ _ _ c.found-in-heads.view_is c.count_more.ensures.count))
+    (capped-told _ _ _ _ c.found-in-heads.view_is c.count_more.ensures.count))
 
 pub pass_heads-returns-in_err-wider : goal.pass_heads-returns-in_err-wider
 pass_heads-returns-in_err-wider g t c =
     err_passes _ c.from_residual-in_err-wider.result _ _ _ c.from_residual-in_err-wider.ensures.1
     (turn_stops g.K.AbstractStates.ops (plan_of c.args.c.now) c.args.here (loop_of c.args.parts)
-    (shown_ways c.args.before) c.heads.rounds c.heads.head c.heads.log c.args.log.now _ c.heads.invariant _
-    (shown_ways c.in_ok-kept.kept) c.in_ok-copy.copy _ _ c.heads-test.true c.in_ok-kept.ensures
+    (ways_view c.args.before) c.heads.rounds c.heads.head c.heads.log c.args.log.now _ c.heads.invariant _
+    (ways_view c.in_ok-kept.kept) c.in_ok-copy.copy _ _ c.heads-test.true c.in_ok-kept.ensures
     c.in_ok-copy.ensures c.begun-found.ensures.count (told_count _ _ _
     (rw c.in_ok-flow.was at c.pass_turn-turn.ensures).log)
-    (seen_turns _ _ _ _ c.found-in-heads.view_is c.count_more.ensures.count))
+    (capped-told _ _ _ _ c.found-in-heads.view_is c.count_more.ensures.count))
 
 pub pass_heads-returns-in_err-keep-in-None : goal.pass_heads-returns-in_err-keep-in-None
 pass_heads-returns-in_err-keep-in-None g t c =
     err_passes _ c.from_residual-in_err-keep-in-None.result _ _ _ c.from_residual-in_err-keep-in-None.ensures.1
     (turn_stops g.K.AbstractStates.ops (plan_of c.args.c.now) c.args.here (loop_of c.args.parts)
-    (shown_ways c.args.before) c.heads.rounds c.heads.head c.heads.log c.args.log.now _ c.heads.invariant _
-    (shown_ways c.in_ok-kept.kept) c.in_ok-copy.copy _ _ c.heads-test.true c.in_ok-kept.ensures
+    (ways_view c.args.before) c.heads.rounds c.heads.head c.heads.log c.args.log.now _ c.heads.invariant _
+    (ways_view c.in_ok-kept.kept) c.in_ok-copy.copy _ _ c.heads-test.true c.in_ok-kept.ensures
     c.in_ok-copy.ensures c.begun-found.ensures.count (told_count _ _ _
     (rw c.in_ok-flow.was at c.pass_turn-turn.ensures).log) (ap capped c.keep.ensures.count
-    ∙ seen_turns _ _ _ _ c.found-in-heads.view_is c.count_more.ensures.count))
+    ∙ capped-told _ _ _ _ c.found-in-heads.view_is c.count_more.ensures.count))
 
 pub pass_heads-returns-in_err-rounds-in-Some : goal.pass_heads-returns-in_err-rounds-in-Some
 pass_heads-returns-in_err-rounds-in-Some g t c =
     err_passes _ c.from_residual-in_err-rounds-in-Some.result _ _ _ c.from_residual-in_err-rounds-in-Some.ensures.1
     (turn_stops g.K.AbstractStates.ops (plan_of c.args.c.now) c.args.here (loop_of c.args.parts)
-    (shown_ways c.args.before) c.heads.rounds c.heads.head c.heads.log c.args.log.now _ c.heads.invariant _
-    (shown_ways c.in_ok-kept.kept) c.in_ok-copy.copy _ _ c.heads-test.true c.in_ok-kept.ensures
+    (ways_view c.args.before) c.heads.rounds c.heads.head c.heads.log c.args.log.now _ c.heads.invariant _
+    (ways_view c.in_ok-kept.kept) c.in_ok-copy.copy _ _ c.heads-test.true c.in_ok-kept.ensures
     c.in_ok-copy.ensures c.begun-found.ensures.count (told_count _ _ _
     (rw c.in_ok-flow.was at c.pass_turn-turn.ensures).log) (ap capped c.in_err-rounds-in-Some.ensures.stop
-    ∙ seen_turns _ _ _ _ c.found-in-heads.view_is c.count_more.ensures.count))
+    ∙ capped-told _ _ _ _ c.found-in-heads.view_is c.count_more.ensures.count))
 
 pub pass_heads-returns-in_err-head : goal.pass_heads-returns-in_err-head
 pass_heads-returns-in_err-head g t c =
     err_passes _ c.from_residual-in_err-head.result _ _ _ c.from_residual-in_err-head.ensures.1
     (heads_stop g.K.AbstractStates.ops (plan_of c.args.c.now) c.args.here (loop_of c.args.parts)
-    (shown_ways c.args.before) c.heads.rounds c.heads.head c.heads.log c.args.log.now _ c.heads.invariant _ refl)
+    (ways_view c.args.before) c.heads.rounds c.heads.head c.heads.log c.args.log.now _ c.heads.invariant _ refl)
 
 pub pass_heads-returns-in_err-copy-2 : goal.pass_heads-returns-in_err-copy-2
 pass_heads-returns-in_err-copy-2 g t c =
     err_passes _ c.from_residual-in_err-copy-2.result _ _ _ c.from_residual-in_err-copy-2.ensures.1
     (heads_stop g.K.AbstractStates.ops (plan_of c.args.c.now) c.args.here (loop_of c.args.parts)
-    (shown_ways c.args.before) c.heads.rounds c.heads.head c.heads.log c.args.log.now _ c.heads.invariant _ refl)
+    (ways_view c.args.before) c.heads.rounds c.heads.head c.heads.log c.args.log.now _ c.heads.invariant _ refl)
 
 pub pass_heads-returns-in_err-flow-2 : goal.pass_heads-returns-in_err-flow-2
 pass_heads-returns-in_err-flow-2 g t c =
     err_passes _ c.from_residual-in_err-flow-2.result _ _ _ c.from_residual-in_err-flow-2.ensures.1
     (last_stops g.K.AbstractStates.ops (plan_of c.args.c.now) c.args.here (loop_of c.args.parts)
-    (shown_ways c.args.before) c.heads.rounds c.heads.head c.heads.log c.args.log.now _ c.heads.invariant _
-    (shown_ways c.args.before) c.in_ok-copy-2.copy _ _ (omega (arith, c.heads-test.false)) refl
+    (ways_view c.args.before) c.heads.rounds c.heads.head c.heads.log c.args.log.now _ c.heads.invariant _
+    (ways_view c.args.before) c.in_ok-copy-2.copy _ _ (omega (arith, c.heads-test.false)) refl
     (c.in_ok-copy-2.ensures ∙ c.in_ok-head.ensures) c.begun-found-2.ensures.count
     (rw c.in_err-flow-2.was at c.pass_turn-turn-2.ensures)
-    (seen_turns _ _ _ _ c.found-3.view_is c.count_more-2.ensures.count))
+    (capped-told _ _ _ _ c.found-3.view_is c.count_more-2.ensures.count))
 
 pub pass_heads-returns-in_err-keep : goal.pass_heads-returns-in_err-keep
 pass_heads-returns-in_err-keep g t c =
     err_passes _ c.from_residual-in_err-keep.result _ _ _ c.from_residual-in_err-keep.ensures.1
     (last_stops g.K.AbstractStates.ops (plan_of c.args.c.now) c.args.here (loop_of c.args.parts)
-    (shown_ways c.args.before) c.heads.rounds c.heads.head c.heads.log c.args.log.now _ c.heads.invariant _
-    (shown_ways c.args.before) c.in_ok-copy-2.copy _ _ (omega (arith, c.heads-test.false)) refl
+    (ways_view c.args.before) c.heads.rounds c.heads.head c.heads.log c.args.log.now _ c.heads.invariant _
+    (ways_view c.args.before) c.in_ok-copy-2.copy _ _ (omega (arith, c.heads-test.false)) refl
     (c.in_ok-copy-2.ensures ∙ c.in_ok-head.ensures) c.begun-found-2.ensures.count (told_count _ _ _
     (rw c.in_ok-flow-2.was at c.pass_turn-turn-2.ensures).log) (ap capped c.keep-2.ensures.count
-    ∙ seen_turns _ _ _ _ c.found-3.view_is c.count_more-2.ensures.count))
+    ∙ capped-told _ _ _ _ c.found-3.view_is c.count_more-2.ensures.count))
 
 pub pass_last-returns-in_err-head-in-Together : goal.pass_last-returns-in_err-head-in-Together
 pass_last-returns-in_err-head-in-Together g t c =
@@ -656,7 +653,7 @@ pass_list-returns-in_err-on g t c =
     err_passes _ c.from_residual.result _ _ _ c.from_residual.ensures.1
     (rows_stop g.K.AbstractStates.ops (plan_of c.args.c.now) c.args.here
     (mode_of c.args.mode) c.args.body.now c.loop-s.s-index c.s-item.result c.loop-s.at
-    (shown_ways c.loop-s.ways) c.loop-s.log c.args.log.now _ _ c.loop-s-test.true c.s-item.is c.loop-s.invariant
+    (ways_view c.loop-s.ways) c.loop-s.log c.args.log.now _ _ c.loop-s-test.true c.s-item.is c.loop-s.invariant
     c.in_err-on.ensures)
 
 pub pass_list-returns-in_err-ways : goal.pass_list-returns-in_err-ways
@@ -664,7 +661,7 @@ pass_list-returns-in_err-ways g t c =
     err_passes _ c.from_residual-in_err-ways.result _ _ _ c.from_residual-in_err-ways.ensures.1
     (rows_stop g.K.AbstractStates.ops (plan_of c.args.c.now) c.args.here
     (mode_of c.args.mode) c.args.body.now c.loop-s.s-index c.s-item.result c.loop-s.at
-    (shown_ways c.loop-s.ways) c.loop-s.log c.args.log.now _ _ c.loop-s-test.true c.s-item.is c.loop-s.invariant
+    (ways_view c.loop-s.ways) c.loop-s.log c.args.log.now _ _ c.loop-s-test.true c.s-item.is c.loop-s.invariant
     (told_count _ _ _ c.in_ok-on.ensures.log))
 
 pub pass_lone-returns-in_err-flow-in-Together : goal.pass_lone-returns-in_err-flow-in-Together
@@ -679,7 +676,7 @@ pass_loop-returns-in_err-flow g t c =
     err_passes _ c.from_residual.result _ _ _ c.from_residual.ensures.1
     (tests_stop g.K.AbstractStates.ops (plan_of c.args.c.now) c.args.here (loop_of c.args.parts)
     (mode_of c.args.mode) c.args.tests_first c.args.known _ _
-    (shown_ways c.none.result) c.if-tests_first.true c.none.ensures c.in_err-flow.ensures)
+    (ways_view c.none.result) c.if-tests_first.true c.none.ensures c.in_err-flow.ensures)
 
 pub pass_loop-returns-in_err-flow-in-Together : goal.pass_loop-returns-in_err-flow-in-Together
 pass_loop-returns-in_err-flow-in-Together g t c =
@@ -703,7 +700,7 @@ pass_rounds-returns-in_err-on g t c =
     (plan_of c.args.c.now) c.args.here (loop_of c.args.parts) (mode_of c.args.mode))
     (last_of g.K.AbstractStates.ops (plan_of c.args.c.now) c.args.here (loop_of c.args.parts)
     (mode_of c.args.mode)) c.args.count c.loop-turn._turn c.loop-turn.at
-    (shown_ways c.loop-turn.ways) c.loop-turn.log c.args.log.now _ _ c.loop-turn-test.true c.loop-turn.invariant
+    (ways_view c.loop-turn.ways) c.loop-turn.log c.args.log.now _ _ c.loop-turn-test.true c.loop-turn.invariant
     c.in_err-on.ensures)
 
 pub pass_rounds-returns-in_err-ways : goal.pass_rounds-returns-in_err-ways
@@ -713,7 +710,7 @@ pass_rounds-returns-in_err-ways g t c =
     (plan_of c.args.c.now) c.args.here (loop_of c.args.parts) (mode_of c.args.mode))
     (last_of g.K.AbstractStates.ops (plan_of c.args.c.now) c.args.here (loop_of c.args.parts)
     (mode_of c.args.mode)) c.args.count c.loop-turn._turn c.loop-turn.at
-    (shown_ways c.loop-turn.ways) c.loop-turn.log c.args.log.now _ _ c.loop-turn-test.false c.loop-turn.invariant
+    (ways_view c.loop-turn.ways) c.loop-turn.log c.args.log.now _ _ c.loop-turn-test.false c.loop-turn.invariant
     c.in_err-ways.ensures)
 
 pub pass_stmt-returns-in_err-inner-in-Scope : goal.pass_stmt-returns-in_err-inner-in-Scope

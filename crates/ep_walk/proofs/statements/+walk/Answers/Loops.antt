@@ -1,8 +1,10 @@
 -- Arms, calls and loops.
-use Rattle.std.proofs.Common.{◌≡◌, ◌+◌, ◌*◌, refl, sym, ap, ◌-◌, map, subst, arith, ℕ}
+use Rattle.std.proofs.Common.{◌≡◌, ◌+◌, ◌*◌, refl, sym, ap, ◌-◌, map, subst, arith}
+use Rattle.ep_flows.proofs.Basics.{capped-told}
+use Rattle.ep_int.proofs.Basics.{minus-zero}
 use Rattle.std.specs.Option.{option_map}
-use Rattle.ep_core.specs.View.{shown_dest, shown_expr, shown_stmts, shown_function}
-use Rattle.ep_flows.specs.Shown.{HasPassed, Told, capped, mode_of, plan_of, side_of, shown_ways}
+use Rattle.ep_core.specs.View.{dest_view, expr_view, stmts_view, function_view}
+use Rattle.ep_flows.specs.View.{HasPassed, mode_of, plan_of, side_of, ways_view}
 use Rattle.ep_flows.proofs.Combined.{tells_at}
 use Rattle.ep_walk_parts.specs.Pieces.{function, last_of, loop_of, o, row, rounds_of, turn_of}
 use Rattle.ep_walk_parts.proofs.Arms.{body_passes, call_goes, calls_none, calls_some}
@@ -14,13 +16,6 @@ use Rattle.ep_walk_parts.proofs.Turning.{turn_ok}
 use Rattle.ep_walk_parts.proofs.TypedParts.{call_typed, callee_is, callee_less, callee_none}
 use Rattle.ep_walk.proofs.statements.+walk.Goals as goal
 
-less_none : (n : ℕ) → n - 0 ≡ n
-less_none n = omega arith
-
-seen_turns : {S : Type 0} (n x : ℕ) (a b : Told S) → a ≡ b → capped n ≡ capped (x + 1 * a.count)
-    → capped n ≡ capped (x + 1 * b.count)
-seen_turns {S = S} n x a b e h = subst (λ (z : Told S). capped n ≡ capped (x + 1 * z.count)) e h
-
 pub pass_body-pass_list-requires : goal.pass_body-pass_list-requires
 pass_body-pass_list-requires g t c κs within = (omega arith, (within, c.requires.body))
 
@@ -30,14 +25,14 @@ pass_body-pass_branch-requires g t c κs within = (omega arith, (within, c.requi
 pub pass_body-returns : goal.pass_body-returns
 pass_body-returns g t c =
     body_passes (o g.K.AbstractStates.ops (plan_of c.args.c.now)) _ (row g.K.AbstractStates.ops (plan_of
-    c.args.c.now) c.args.here (shown_stmts c.args.parts.next.now) (mode_of c.args.mode)) c.in_ok-on.field-0
+    c.args.c.now) c.args.here (stmts_view c.args.parts.next.now) (mode_of c.args.mode)) c.in_ok-on.field-0
     c.in_ok-on-2.field-0 _ _ _ _ _ c.in_ok-ended.ended c.turn.ensures c.in_ok-on.ensures c.in_ok-ended.ensures
     c.in_ok-on-2.ensures refl refl
 
 pub pass_call-arguments-requires : goal.pass_call-arguments-requires
 pass_call-arguments-requires g t c =
     let e = rw c.in-Some.is at c.callee.ensures in (call_typed (plan_of c.args.c.now).program c.args.here c.args.k
-    (map shown_expr c.args.es.now) (option_map shown_dest c.args.d.now) (shown_function c.in-Some.f.now)
+    (map expr_view c.args.es.now) (option_map dest_view c.args.d.now) (function_view c.in-Some.f.now)
     (callee_is c.args.c.now.program.now c.args.k c.args.here c.in-Some.f.now (sym e)) c.requires).arguments
 
 pub pass_call-pass_function-requires : goal.pass_call-pass_function-requires
@@ -50,27 +45,27 @@ pass_call-pass_function-requires g t c κs within =
 pub pass_call-give_result-requires : goal.pass_call-give_result-requires
 pass_call-give_result-requires g t c =
     let e = rw c.in-Some.is at c.callee.ensures in (call_typed (plan_of c.args.c.now).program c.args.here c.args.k
-    (map shown_expr c.args.es.now) (option_map shown_dest c.args.d.now) (shown_function c.in-Some.f.now)
+    (map expr_view c.args.es.now) (option_map dest_view c.args.d.now) (function_view c.in-Some.f.now)
     (callee_is c.args.c.now.program.now c.args.k c.args.here c.in-Some.f.now (sym e)) c.requires).result
 
 pub pass_call-returns-in-None : goal.pass_call-returns-in-None
 pass_call-returns-in-None g t c =
     let e = rw c.in-None.is at c.callee.ensures in calls_none g.K.AbstractStates.ops (plan_of c.args.c.now)
-    c.args.here (mode_of c.args.mode) c.args.line c.args.k (map shown_expr c.args.es.now) (option_map shown_dest
+    c.args.here (mode_of c.args.mode) c.args.line c.args.k (map expr_view c.args.es.now) (option_map dest_view
     c.args.d.now) c.args.known c.none.result c.args.log.now (callee_none c.args.c.now.program.now c.args.k
     c.args.here (sym e)) c.none.ensures.on c.none.ensures.ways
 
 pub pass_call-returns-in_ok-left-in-Some : goal.pass_call-returns-in_ok-left-in-Some
 pass_call-returns-in_ok-left-in-Some g t c =
     let e = rw c.in-Some.is at c.callee.ensures in
-    let f = shown_function c.in-Some.f.now in
+    let f = function_view c.in-Some.f.now in
     let is = callee_is c.args.c.now.program.now c.args.k c.args.here c.in-Some.f.now (sym e) in
     let less = callee_less c.args.c.now.program.now c.args.k c.args.here c.in-Some.f.now (sym e) in
     calls_some g.K.AbstractStates.ops (plan_of c.args.c.now) c.args.here (mode_of c.args.mode) c.args.line c.args.k
-    (map shown_expr c.args.es.now) (option_map shown_dest c.args.d.now) c.args.known f c.give_result.result
+    (map expr_view c.args.es.now) (option_map dest_view c.args.d.now) c.args.known f c.give_result.result
     c.args.log.now c.give_result.new.log is less
-    (call_goes (o g.K.AbstractStates.ops (plan_of c.args.c.now)) (mode_of c.args.mode) c.args.line f (map shown_expr
-    c.args.es.now) (option_map shown_dest c.args.d.now) (function g.K.AbstractStates.ops (plan_of c.args.c.now)
+    (call_goes (o g.K.AbstractStates.ops (plan_of c.args.c.now)) (mode_of c.args.mode) c.args.line f (map expr_view
+    c.args.es.now) (option_map dest_view c.args.d.now) (function g.K.AbstractStates.ops (plan_of c.args.c.now)
     c.args.k (mode_of c.args.mode)) c.args.known c.args.log.now _ c.pass_function.new.log
     c.in_ok-flow-in-Some.flow
     (tells_at _ c.args.log.now _ _ (sym c.log.view_is) c.in_ok-inner-in-Some.ensures.faults refl refl)
@@ -81,7 +76,7 @@ pass_call-returns-in_ok-left-in-Some g t c =
 pub pass_heads-heads-init : goal.pass_heads-heads-init
 pass_heads-heads-init g t c =
     let i = c.saturating_sub.type_inv in heads_begin g.K.AbstractStates.ops (plan_of c.args.c.now) c.args.here
-    (loop_of c.args.parts) (shown_ways c.args.before) c.in_ok-rounds.rounds c.args.known c.saturating_sub.result
+    (loop_of c.args.parts) (ways_view c.args.before) c.in_ok-rounds.rounds c.args.known c.saturating_sub.result
     c.args.log.now (omega (arith, i)) c.saturating_sub.ensures c.in_ok-rounds.ensures.mark
     c.in_ok-rounds.ensures.left c.in_ok-rounds.ensures.since c.in_ok-rounds.ensures.counted
 
@@ -90,9 +85,9 @@ pass_heads-pass_turn-turn-requires g t c κs within = (omega arith, (within, c.r
 
 pub pass_heads-returns-in-None : goal.pass_heads-returns-in-None
 pass_heads-returns-in-None g t c =
-    heads_kept g.K.AbstractStates.ops (plan_of c.args.c.now) c.args.here (loop_of c.args.parts) (shown_ways
+    heads_kept g.K.AbstractStates.ops (plan_of c.args.c.now) c.args.here (loop_of c.args.parts) (ways_view
     c.args.before) c.heads.rounds c.heads.head c.in_ok-flow.flow c.heads.log c.begun-found.result
-    c.pass_turn-turn.new.log c.args.log.now _ (shown_ways c.in_ok-kept.kept) c.in_ok-copy.copy c.in_ok-wider.field-0
+    c.pass_turn-turn.new.log c.args.log.now _ (ways_view c.in_ok-kept.kept) c.in_ok-copy.copy c.in_ok-wider.field-0
     c.heads.invariant c.heads-test.true (record {
       alarms = c.begun-found.ensures.alarms;
       count = c.begun-found.ensures.count;
@@ -101,7 +96,7 @@ pass_heads-returns-in-None g t c =
     (rw c.in_ok-flow.was at c.pass_turn-turn.ensures) c.in_ok-wider.ensures c.count_more.new.self c.keep.new.self
     c.pass_turn-turn.new.log
     c.in-None.is refl c.count_more.ensures.alarms
-    (seen_turns _ _ _ _ c.found-in-heads.view_is c.count_more.ensures.count) c.count_more.ensures.heads
+    (capped-told _ _ _ _ c.found-in-heads.view_is c.count_more.ensures.count) c.count_more.ensures.heads
     c.in_ok-keep-in-None.ensures.alarms c.keep.ensures.count c.in_ok-keep-in-None.ensures.heads
 
 pub pass_heads-heads-smaller-in_ok-rounds-in-Some : goal.pass_heads-heads-smaller-in_ok-rounds-in-Some
@@ -111,9 +106,9 @@ pass_heads-heads-smaller-in_ok-rounds-in-Some g t c =
 
 pub pass_heads-heads-preserved-in_ok-rounds-in-Some : goal.pass_heads-heads-preserved-in_ok-rounds-in-Some
 pass_heads-heads-preserved-in_ok-rounds-in-Some g t c =
-    heads_next g.K.AbstractStates.ops (plan_of c.args.c.now) c.args.here (loop_of c.args.parts) (shown_ways
+    heads_next g.K.AbstractStates.ops (plan_of c.args.c.now) c.args.here (loop_of c.args.parts) (ways_view
     c.args.before) c.heads.rounds c.heads.head c.in_ok-flow.flow c.heads.log c.begun-found.result
-    c.pass_turn-turn.new.log c.args.log.now _ (shown_ways c.in_ok-kept.kept) c.in_ok-copy.copy c.in_ok-wider.field-0
+    c.pass_turn-turn.new.log c.args.log.now _ (ways_view c.in_ok-kept.kept) c.in_ok-copy.copy c.in_ok-wider.field-0
     c.heads.invariant c.heads-test.true (record {
       alarms = c.begun-found.ensures.alarms;
       count = c.begun-found.ensures.count;
@@ -133,9 +128,9 @@ pass_heads-heads-smaller g t c =
 
 pub pass_heads-heads-preserved : goal.pass_heads-heads-preserved
 pass_heads-heads-preserved g t c =
-    heads_next g.K.AbstractStates.ops (plan_of c.args.c.now) c.args.here (loop_of c.args.parts) (shown_ways
+    heads_next g.K.AbstractStates.ops (plan_of c.args.c.now) c.args.here (loop_of c.args.parts) (ways_view
     c.args.before) c.heads.rounds c.heads.head c.in_ok-flow.flow c.heads.log c.begun-found.result
-    c.pass_turn-turn.new.log c.args.log.now _ (shown_ways c.in_ok-kept.kept) c.in_ok-copy.copy c.in_ok-wider.field-0
+    c.pass_turn-turn.new.log c.args.log.now _ (ways_view c.in_ok-kept.kept) c.in_ok-copy.copy c.in_ok-wider.field-0
     c.heads.invariant c.heads-test.true (record {
       alarms = c.begun-found.ensures.alarms;
       count = c.begun-found.ensures.count;
@@ -153,17 +148,17 @@ pass_heads-pass_turn-turn-requires-2 g t c κs within = (omega arith, (within, c
 
 pub pass_heads-returns : goal.pass_heads-returns
 pass_heads-returns g t c =
-    heads_last g.K.AbstractStates.ops (plan_of c.args.c.now) c.args.here (loop_of c.args.parts) (shown_ways
+    heads_last g.K.AbstractStates.ops (plan_of c.args.c.now) c.args.here (loop_of c.args.parts) (ways_view
     c.args.before) c.heads.rounds c.heads.head c.in_ok-head.head c.in_ok-copy-2.copy c.in_ok-flow-2.flow
     c.heads.log c.begun-found-2.result c.pass_turn-turn-2.new.log c.count_more-2.new.self c.keep-2.new.self
-    c.pass_turn-turn-2.new.log c.args.log.now _ (shown_ways
+    c.pass_turn-turn-2.new.log c.args.log.now _ (ways_view
     c.args.before) c.heads.invariant (omega (arith, c.heads-test.false)) (record {
       alarms = c.begun-found-2.ensures.alarms;
       count = c.begun-found-2.ensures.count;
       heads = c.begun-found-2.ensures.heads;
     }) refl c.in_ok-copy-2.ensures
     (rw c.in_ok-flow-2.was at c.pass_turn-turn-2.ensures) c.in_ok-head.ensures refl c.count_more-2.ensures.alarms
-    (seen_turns _ _ _ _ c.found-3.view_is c.count_more-2.ensures.count) c.count_more-2.ensures.heads
+    (capped-told _ _ _ _ c.found-3.view_is c.count_more-2.ensures.count) c.count_more-2.ensures.heads
     c.in_ok-keep.ensures.alarms c.keep-2.ensures.count
     c.in_ok-keep.ensures.heads
 
@@ -178,13 +173,13 @@ pass_last-pass_heads-requires g t c κs within =
 pub pass_last-returns-in-Alone : goal.pass_last-returns-in-Alone
 pass_last-returns-in-Alone g t c =
     last_alone g.K.AbstractStates.ops (plan_of c.args.c.now) c.args.here (loop_of c.args.parts) (mode_of c.args.mode)
-    _ (shown_ways c.args.before) c.args.known c.pass_test.result c.args.log.now c.pass_test.new.log (ap mode_of
+    _ (ways_view c.args.before) c.args.known c.pass_test.result c.args.log.now c.pass_test.new.log (ap mode_of
     c.in-Alone.is) c.pass_test.ensures
 
 pub pass_last-returns-in_ok-head-in-Together : goal.pass_last-returns-in_ok-head-in-Together
 pass_last-returns-in_ok-head-in-Together g t c =
     last_both g.K.AbstractStates.ops (plan_of c.args.c.now) c.args.here (loop_of c.args.parts) (mode_of c.args.mode)
-    (shown_ways c.args.before) c.args.known c.in_ok-head-in-Together.head c.pass_heads.result c.args.log.now
+    (ways_view c.args.before) c.args.known c.in_ok-head-in-Together.head c.pass_heads.result c.args.log.now
     c.pass_heads.new.log (ap mode_of c.in-Together.is) c.in_ok-head-in-Together.ensures c.pass_heads.ensures
 
 pub pass_lone-pass_entered-requires : goal.pass_lone-pass_entered-requires
@@ -212,7 +207,7 @@ pub pass_loop-returns-then-tests_first : goal.pass_loop-returns-then-tests_first
 pass_loop-returns-then-tests_first g t c =
     loop_tests g.K.AbstractStates.ops (plan_of c.args.c.now) c.args.here (loop_of c.args.parts) (mode_of c.args.mode)
     c.args.tests_first c.args.known c.in_ok-flow.flow c.end_loop.result c.args.log.now c.pass_rounds.new.log
-    c.end_loop.ensures.on c.end_loop.ensures.ways (shown_ways c.none.result) c.if-tests_first.true c.none.ensures
+    c.end_loop.ensures.on c.end_loop.ensures.ways (ways_view c.none.result) c.if-tests_first.true c.none.ensures
     c.in_ok-flow.ensures
 
 pub pass_loop-pass_begun-requires : goal.pass_loop-pass_begun-requires
@@ -239,8 +234,8 @@ pass_loop-returns-in_ok-flow-in-Alone g t c =
 pub pass_rounds-loop-turn-init : goal.pass_rounds-loop-turn-init
 pass_rounds-loop-turn-init g t c =
     λ f new h. subst (λ k. HasPassed (rounds_of g.K.AbstractStates.ops (plan_of c.args.c.now) c.args.here (loop_of
-    c.args.parts) (mode_of c.args.mode) k c.args.known (shown_ways c.args.before)) f c.args.log.now new)
-    (less_none c.args.count) h
+    c.args.parts) (mode_of c.args.mode) k c.args.known (ways_view c.args.before)) f c.args.log.now new)
+    (minus-zero c.args.count) h
 
 pub pass_rounds-pass_turn-requires : goal.pass_rounds-pass_turn-requires
 pass_rounds-pass_turn-requires g t c κs within = (omega arith, (within, c.requires))
@@ -250,9 +245,9 @@ pass_rounds-returns-in-None g t c =
     turns_end (o g.K.AbstractStates.ops (plan_of c.args.c.now)) (turn_of g.K.AbstractStates.ops (plan_of
     c.args.c.now) c.args.here (loop_of c.args.parts) (mode_of c.args.mode)) (last_of g.K.AbstractStates.ops
     (plan_of c.args.c.now) c.args.here (loop_of c.args.parts) (mode_of c.args.mode)) c.args.count
-    c.loop-turn._turn c.loop-turn.at (shown_ways c.loop-turn.ways) c.in_ok-on.field-0 c.loop-turn.log
+    c.loop-turn._turn c.loop-turn.at (ways_view c.loop-turn.ways) c.in_ok-on.field-0 c.loop-turn.log
     c.pass_turn.new.log c.args.log.now (rounds_of g.K.AbstractStates.ops (plan_of c.args.c.now) c.args.here
-    (loop_of c.args.parts) (mode_of c.args.mode) c.args.count c.args.known (shown_ways c.args.before)) _
+    (loop_of c.args.parts) (mode_of c.args.mode) c.args.count c.args.known (ways_view c.args.before)) _
     c.loop-turn-test.true c.loop-turn.invariant c.in_ok-on.ensures c.in-None.is refl refl
 
 pub pass_rounds-loop-turn-preserved : goal.pass_rounds-loop-turn-preserved
@@ -260,10 +255,10 @@ pass_rounds-loop-turn-preserved g t c =
     turns_more (o g.K.AbstractStates.ops (plan_of c.args.c.now)) (turn_of g.K.AbstractStates.ops (plan_of
     c.args.c.now) c.args.here (loop_of c.args.parts) (mode_of c.args.mode)) (last_of g.K.AbstractStates.ops
     (plan_of c.args.c.now) c.args.here (loop_of c.args.parts) (mode_of c.args.mode)) c.args.count
-    c.loop-turn._turn c.loop-turn.at (shown_ways c.loop-turn.ways) c.in_ok-on.field-0 c.loop-turn.log
+    c.loop-turn._turn c.loop-turn.at (ways_view c.loop-turn.ways) c.in_ok-on.field-0 c.loop-turn.log
     c.pass_turn.new.log c.args.log.now (rounds_of g.K.AbstractStates.ops (plan_of c.args.c.now) c.args.here
-    (loop_of c.args.parts) (mode_of c.args.mode) c.args.count c.args.known (shown_ways c.args.before))
-    c.in-Some.next (shown_ways c.in_ok-on.field-0.ways) c.loop-turn-test.true c.loop-turn.invariant
+    (loop_of c.args.parts) (mode_of c.args.mode) c.args.count c.args.known (ways_view c.args.before))
+    c.in-Some.next (ways_view c.in_ok-on.field-0.ways) c.loop-turn-test.true c.loop-turn.invariant
     c.in_ok-on.ensures c.in-Some.is refl
 
 pub pass_rounds-pass_last-requires : goal.pass_rounds-pass_last-requires
@@ -274,9 +269,9 @@ pass_rounds-returns g t c =
     turns_all (o g.K.AbstractStates.ops (plan_of c.args.c.now)) (turn_of g.K.AbstractStates.ops (plan_of
     c.args.c.now) c.args.here (loop_of c.args.parts) (mode_of c.args.mode)) (last_of g.K.AbstractStates.ops
     (plan_of c.args.c.now) c.args.here (loop_of c.args.parts) (mode_of c.args.mode)) c.args.count
-    c.loop-turn._turn c.loop-turn.at (shown_ways c.loop-turn.ways) c.in_ok-ways.field-0 c.loop-turn.log
+    c.loop-turn._turn c.loop-turn.at (ways_view c.loop-turn.ways) c.in_ok-ways.field-0 c.loop-turn.log
     c.pass_last.new.log c.args.log.now (rounds_of g.K.AbstractStates.ops (plan_of c.args.c.now) c.args.here
-    (loop_of c.args.parts) (mode_of c.args.mode) c.args.count c.args.known (shown_ways c.args.before)) _
+    (loop_of c.args.parts) (mode_of c.args.mode) c.args.count c.args.known (ways_view c.args.before)) _
     c.loop-turn-test.false c.loop-turn.invariant c.in_ok-ways.ensures refl refl
 
 pub pass_turn-pass_test-requires : goal.pass_turn-pass_test-requires
@@ -285,5 +280,5 @@ pass_turn-pass_test-requires g t c κs within = (omega arith, (within, (c.requir
 pub pass_turn-returns : goal.pass_turn-returns
 pass_turn-returns g t c =
     turn_ok g.K.AbstractStates.ops (plan_of c.args.c.now) c.args.here (loop_of c.args.parts) (mode_of c.args.mode)
-    (shown_ways c.args.before) c.args.known c.pass_test.result c.args.log.now c.pass_test.new.log
+    (ways_view c.args.before) c.args.known c.pass_test.result c.args.log.now c.pass_test.new.log
     c.pass_test.ensures

@@ -1,5 +1,0 @@
-use Rattle.ep_evaluation_laws.proofs.Gathered.{only_laws}
-use Rattle.ep_evaluation_laws.proofs.only_laws.Goals as goal
-
-pub returns : goal.returns
-returns g c = only_laws g.N.Num.ops g.met.N.Num.laws

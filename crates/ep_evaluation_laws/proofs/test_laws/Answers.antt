@@ -1,5 +1,0 @@
-use Rattle.ep_evaluation_laws.proofs.Gathered.{test_laws}
-use Rattle.ep_evaluation_laws.proofs.test_laws.Goals as goal
-
-pub returns : goal.returns
-returns g c = test_laws g.N.Num.ops g.met.N.Num.laws

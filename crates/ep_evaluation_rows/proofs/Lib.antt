@@ -1,4 +1,0 @@
-pub mod Rows
-pub mod Values
-pub mod Pointing
-pub mod Assumed

@@ -1,5 +1,0 @@
-use Rattle.ep_transfers_laws.proofs.Entering.{each_entry}
-use Rattle.ep_transfers_laws.proofs.entry_laws.Goals as goal
-
-pub returns : goal.returns
-returns g c p ord formed = each_entry g.N.Num.ops g.met.N.Num.laws p ord formed

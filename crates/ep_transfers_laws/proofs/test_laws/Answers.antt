@@ -1,5 +1,0 @@
-use Rattle.ep_transfers_laws.proofs.Gathered.{each_test}
-use Rattle.ep_transfers_laws.proofs.test_laws.Goals as goal
-
-pub returns : goal.returns
-returns g c p ord formed = each_test g.N.Num.ops g.met.N.Num.laws p ord formed

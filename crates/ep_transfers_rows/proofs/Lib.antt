@@ -1,4 +1,0 @@
-pub mod Scalars
-pub mod Runs
-pub mod Structs
-pub mod Calls

@@ -1,5 +1,0 @@
-use Rattle.ep_waiting_laws.proofs.Waiting.{each_waits}
-use Rattle.ep_waiting_laws.proofs.waiting_laws.Goals as goal
-
-pub returns : goal.returns
-returns g c p ord formed = each_waits g.N.Num.ops g.met.N.Num.laws p ord formed
