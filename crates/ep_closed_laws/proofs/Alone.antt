@@ -1,5 +1,6 @@
 -- Passes of one side follow its machine's run exactly: they have no fault, and one way out alone.
 use Rattle.std.proofs.Common.{◌≡◌, ℕ, zero, suc, List, [], ◌∷◌, ◌++◌, refl, sym, subst, ap, ◌∙◌, Option, Some, None}
+use Rattle.ep_core.proofs.Operands.{callee_at}
 use Rattle.std.proofs.Common.{Bool, true, false, ◌&&◌, ◌||◌, nat_eq, slice_get}
 use Rattle.std.proofs.lemmas.Bool.{eqb-true, and_parts}
 use Rattle.ep_int.specs.declared.types.Order.{Order}
@@ -16,7 +17,7 @@ use Rattle.ep_core.specs.Ways.{ways_of_all}
 use Rattle.ep_core.specs.WellFormed.{is_tested, result_type, arguments_fit, takes_result, call_fits, are_plain}
 use Rattle.ep_core.specs.WellFormed.{what_fits, stmts_fit, is_well_formed}
 use Rattle.ep_core.proofs.Operands.{fits_at}
-use Rattle.ep_pass.specs.States.{Mode, One, Gives, Verdict, stuck, same, differs, StateOps}
+use Rattle.ep_pass.specs.States.{Mode, One, Transfer, Verdict, stuck, same, differs, StateOps}
 use Rattle.ep_pass.specs.Laws.{passes, IsTruth, GoesOn}
 use Rattle.ep_pass.specs.Pass.{Ways, none, Log, logged, Pass, passed, after, ends, branch, alarms_at, left_by, jumps}
 use Rattle.ep_pass.specs.Pass.{way_of, simple_pass, too_long, then_pass, rowed, either_pass, leave_call, scope_pass}
@@ -25,10 +26,9 @@ use Rattle.ep_pass.specs.Pass.{turn_then, unrolled, in_body, one_turn, cut_turn,
 use Rattle.ep_pass.specs.Pass.{pass_all, body_pass, bodies_pass}
 use Rattle.ep_kinds.specs.InOut.{is_talk, comes_to, some_comes_to, body_comes_to, answer_if, bodies_come_to}
 use Rattle.ep_closed_laws.specs.Bounded.{turns_from, tests_from, visit, exec_in, all_in, body_in, bodies_in}
-use Rattle.ep_pass_laws.proofs.Outcomes.{body_end, with_next, loop_left}
-use Rattle.ep_closed_laws.specs.Exactly.{IsThere, IfLeft, GivesExact, SeenFrom, retold, Exactly}
-use Rattle.ep_pass_laws.proofs.Outcomes.{IsPlain, IsCall, run_called, called_end, call_is, scope_call}
-use Rattle.ep_pass_laws.proofs.Text.{callee_at}
+use Rattle.ep_pass.proofs.Outcomes.{body_end, with_next, loop_left}
+use Rattle.ep_closed_laws.specs.Exactly.{IsThere, IfLeft, TransferIsExact, SeenFrom, retold, Exactly}
+use Rattle.ep_pass.proofs.Outcomes.{IsPlain, IsCall, run_called, called_end, call_is, scope_call}
 use Rattle.ep_closed_laws.proofs.WaysIn.{IsTurnOf, IsVisitOf, body_turn, visit_is, all_among_in, plain_in}
 use Rattle.ep_closed_laws.proofs.WaysIn.{bodies_call_in}
 
@@ -168,7 +168,7 @@ module _ {S : Type 0} (o : StateOps S) where
   branch_left P Q k None go h f = absurd h
   branch_left P Q k (Some s) go h f = f s h
 
-  pub simple_left : (P : S → Type 0) (k : Way) (l : ℕ) (g : Gives S) → GivesExact P g → Leaves P k (simple_pass k l g)
+  pub simple_left : (P : S → Type 0) (k : Way) (l : ℕ) (g : Transfer S) → TransferIsExact P g → Leaves P k (simple_pass k l g)
   simple_left P k l g h = by_next g.next h.next
     where
       quiet : alarms_at l g.faults ≡ []
@@ -291,8 +291,8 @@ module _ {S : Type 0} (o : StateOps S) where
     last_alone p y (no_input x) z h = tt
     last_alone p y (undefined_at l k x) z h = tt
 
-    gives_alone : (k : Way) (l : ℕ) (g : Gives S) (y : State) (c : Outcome)
-        → IfLeft k (λ x. GivesExact (λ s. SeenFrom K m s x y) g) c → AloneOf (simple_pass k l g) y c
+    gives_alone : (k : Way) (l : ℕ) (g : Transfer S) (y : State) (c : Outcome)
+        → IfLeft k (λ x. TransferIsExact (λ s. SeenFrom K m s x y) g) c → AloneOf (simple_pass k l g) y c
     gives_alone k l g y (leaves w n x) h =
         subst (λ j. Leaves (λ s. SeenFrom K m s x y) j (simple_pass k l g)) (sym h.0)
         (simple_left (λ s. SeenFrom K m s x y) k l g h.1)
@@ -300,8 +300,8 @@ module _ {S : Type 0} (o : StateOps S) where
     gives_alone k l g y (no_input x) h = tt
     gives_alone k l g y (undefined_at l' j x) h = tt
 
-    rowed_gives : (go : S → Gives S) (l : ℕ) (s : S) (y : State) (c : Outcome)
-        → IfLeft on (λ x. GivesExact (λ s. SeenFrom K m s x y) (go s)) c
+    rowed_gives : (go : S → Transfer S) (l : ℕ) (s : S) (y : State) (c : Outcome)
+        → IfLeft on (λ x. TransferIsExact (λ s. SeenFrom K m s x y) (go s)) c
         → AloneOf (rowed o (λ s. simple_pass on l (go s)) s none) y c
     rowed_gives go l s y (leaves w n x) h =
         subst (λ j. Leaves (λ s. SeenFrom K m s x y) j (rowed o (λ s. simple_pass on l (go s)) s none)) (sym h.0)

@@ -19,10 +19,10 @@ use Rattle.ep_pass.specs.Pass.{then_pass, rowed, either_pass, leave_call, scope_
 use Rattle.ep_pass.specs.Pass.{tested, apart, last_pass, turn_then, in_body, lone, entered, joint_turn, is_stable}
 use Rattle.ep_pass.specs.Pass.{next_head, dropped, from_head, settled, last_turns, joint_rounds, loop_pass}
 use Rattle.ep_closed_laws.specs.Bounded.{turns_from, tests_from, visit}
-use Rattle.ep_pass_laws.proofs.Outcomes.{loop_left}
+use Rattle.ep_pass.proofs.Outcomes.{loop_left}
 use Rattle.ep_closed_laws.specs.Exactly.{IsThere, SeenFrom, retold, Exactly}
-use Rattle.ep_pass_laws.proofs.Outcomes.{IsPlain, IsCall, run_called, run_called_grows, called_end, call_is, scope_call}
-use Rattle.ep_pass_laws.proofs.Differing.{Differ, differ_true, twice_differ, twice_differ_back}
+use Rattle.ep_pass.proofs.Outcomes.{IsPlain, IsCall, run_called, run_called_grows, called_end, call_is, scope_call}
+use Rattle.ep_pass.proofs.Differing.{Differ, differ_true, twice_differ, twice_differ_back}
 use Rattle.ep_closed_laws.proofs.WaysIn.{IsTurnOf, IsVisitOf, visit_is}
 use Rattle.ep_closed_laws.proofs.GrowsIn.{turns_grow, tests_grow, passes_adds, received_adds}
 use Rattle.ep_closed_laws.proofs.Alone.{Leaves, as_left, more_left, after_left, mapped, turned_into, either_before}

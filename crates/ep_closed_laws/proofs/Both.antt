@@ -6,8 +6,8 @@ use Rattle.ep_core.proofs.Grows.{later_refl, Grows, Growing}
 use Rattle.ep_pass.specs.States.{StateOps}
 use Rattle.ep_pass.specs.Pass.{Ways, none, Pass, passed, then_pass, leave_call, body_ends, leave_loop, last_pass}
 use Rattle.ep_pass.specs.Pass.{turn_then}
-use Rattle.ep_pass_laws.proofs.Outcomes.{body_end, loop_left}
-use Rattle.ep_pass_laws.proofs.Outcomes.{IsPlain, IsCall, called_end}
+use Rattle.ep_pass.proofs.Outcomes.{body_end, loop_left}
+use Rattle.ep_pass.proofs.Outcomes.{IsPlain, IsCall, called_end}
 use Rattle.ep_closed_laws.proofs.Alone.{Leaves, as_left, mapped, then_on, IsJump, then_jump, turn_on, turn_jump}
 use Rattle.ep_closed_laws.proofs.Alone.{IsTurnLeft}
 use Rattle.ep_closed_laws.proofs.Rules.{Rule, Same, Ahead, ahead_back}

@@ -3,10 +3,10 @@ use Rattle.std.proofs.Common.{◌≡◌, ℕ, ◌+◌, List, [], ◌++◌, lengt
 use Rattle.ep_alarms.specs.declared.types.Alarm.{Alarm}
 use Rattle.ep_core.specs.Exec.{Output, State, Way, on, broken, continued, returned, Outcome, leaves, running}
 use Rattle.ep_core.specs.Exec.{no_input, undefined_at}
-use Rattle.ep_pass.specs.States.{Gives, StateOps}
+use Rattle.ep_pass.specs.States.{Transfer, StateOps}
 use Rattle.ep_pass.specs.Pass.{none, Log, Pass, after, ends, left_by, simple_pass, rowed, either_pass, parted}
 use Rattle.ep_pass.specs.Pass.{only_on, only_broken, only_continued, only_returned}
-use Rattle.ep_closed_laws.specs.Exactly.{IsThere, IfBothLeft, GivesExact}
+use Rattle.ep_closed_laws.specs.Exactly.{IsThere, IfBothLeft, TransferIsExact}
 use Rattle.ep_closed_laws.proofs.GrowsIn.{Adds, AddsIfLeft}
 use Rattle.ep_closed_laws.proofs.Alone.{Leaves, as_left, after_left, mapped, turned_into, rowed_on, either_before}
 use Rattle.ep_closed_laws.proofs.Alone.{either_after, simple_left}
@@ -49,9 +49,9 @@ module _ {S : Type 0} (o : StateOps S) (K : S → State → State → Type 0) (r
       same_tests (alike fs) s = h.tests ∙ (s ∙ sym k.tests)
       same_tests quiet s = tt
 
-  pub gives_both : (k : Way) (l : ℕ) (g : Gives S) (i : ℕ) (x y : State) (c d : Outcome) → x.outputs ≡ y.outputs
+  pub gives_both : (k : Way) (l : ℕ) (g : Transfer S) (i : ℕ) (x y : State) (c d : Outcome) → x.outputs ≡ y.outputs
       → Same rule x y → AddsIfLeft i x c → AddsIfLeft i y d
-      → IfBothLeft k (λ x y. x.outputs ≡ y.outputs → GivesExact (λ s. K s x y) g) c d → BothOf o K rule os
+      → IfBothLeft k (λ x y. x.outputs ≡ y.outputs → TransferIsExact (λ s. K s x y) g) c d → BothOf o K rule os
       (simple_pass k l g) c d
   gives_both k l g i x y (leaves w n r) (leaves v m q) e s ac ad h = λ a. (
       let t = same_after i x y r q e s ac ad a in (
@@ -70,9 +70,9 @@ module _ {S : Type 0} (o : StateOps S) (K : S → State → State → Type 0) (r
   gives_both k l g i x y (no_input r) d e s ac ad h = tt
   gives_both k l g i x y (undefined_at lr kr r) d e s ac ad h = tt
 
-  pub rowed_gives_both : (go : S → Gives S) (l : ℕ) (s : S) (i : ℕ) (x y : State) (c d : Outcome)
+  pub rowed_gives_both : (go : S → Transfer S) (l : ℕ) (s : S) (i : ℕ) (x y : State) (c d : Outcome)
       → x.outputs ≡ y.outputs → Same rule x y → AddsIfLeft i x c → AddsIfLeft i y d
-      → IfBothLeft on (λ x y. x.outputs ≡ y.outputs → GivesExact (λ s. K s x y) (go s)) c d
+      → IfBothLeft on (λ x y. x.outputs ≡ y.outputs → TransferIsExact (λ s. K s x y) (go s)) c d
       → BothOf o K rule os (rowed o (λ s. simple_pass on l (go s)) s none) c d
   rowed_gives_both go l s i x y (leaves w n r) (leaves v m q) e z ac ad h = λ a. (
       let t = same_after i x y r q e z ac ad a in (

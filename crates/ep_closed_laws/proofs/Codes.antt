@@ -1,6 +1,7 @@
 -- Joint tests that are equal or unequal, and runs with more turns.
 use Rattle.std.proofs.Common.{◌≡◌, ◌⊎◌, inl, inr, ℕ, zero, suc, ◌≤◌, List, [], ◌∷◌, ◌++◌, refl, sym, subst, ap, ◌∙◌}
-use Rattle.std.proofs.Common.{Bool, true, false, not, ◌&&◌, ◌||◌, nat_eq, arith}
+use Rattle.std.proofs.lemmas.Bool.{not-true, or_parts}
+use Rattle.std.proofs.Common.{Bool, true, false, ◌&&◌, ◌||◌, nat_eq, arith}
 use Rattle.std.proofs.lemmas.Bool.{eqb-true, and_parts}
 use Rattle.ep_int.specs.Memory.{Memory, Found, has, faults}
 use Rattle.ep_core.specs.Program.{Stmts}
@@ -12,7 +13,7 @@ use Rattle.ep_core.specs.Laws.{IsAmong}
 use Rattle.ep_core.proofs.Prefixes.{begins_trans}
 use Rattle.ep_core.proofs.Grows.{Later}
 use Rattle.ep_closed_laws.specs.Bounded.{turns_from, tests_from}
-use Rattle.ep_pass_laws.proofs.Differing.{Differ}
+use Rattle.ep_pass.proofs.Differing.{Differ}
 use Rattle.ep_core.specs.Exec.{running}
 use Rattle.ep_closed_laws.proofs.Rules.{Rule, alike, quiet, Same, Ahead, codes_same, code_way}
 
@@ -106,14 +107,6 @@ text_parts quiet a b h = and_parts a b h
 pub text_true : (rule : Rule) (a : Bool) → TextIs rule a → IsQuietRule rule → a ≡ true
 text_true (alike fs) a h z = absurd z
 text_true quiet a h z = h
-
-pub not_true : (a : Bool) → not a ≡ true → a ≡ false
-not_true false e = refl
-not_true true e = absurd cc
-
-pub or_false : (a b : Bool) → (a || b) ≡ false → (a ≡ false) × (b ≡ false)
-or_false false b e = (refl, e)
-or_false true b e = absurd cc
 
 -- ways that can't differ are one
 pub same_way : (a b : TextWays)

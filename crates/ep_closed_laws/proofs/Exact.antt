@@ -1,5 +1,7 @@
 -- Reports on closed programs whose runs agree are empty: the induction over the pass of both sides.
 use Rattle.std.proofs.Common.{◌≡◌, ◌⊎◌, inl, inr, ℕ, zero, suc, ◌+◌, ◌≤◌, List, [], ◌∷◌, ◌++◌, refl, sym, subst, ap}
+use Rattle.ep_core.proofs.Operands.{callee_at}
+use Rattle.std.proofs.lemmas.Bool.{not-true, or_parts}
 use Rattle.std.proofs.Common.{◌∙◌, Option, Some, None, Bool, true, false, not, ◌&&◌, ◌||◌, nat_eq, slice_get, arith}
 use Rattle.std.proofs.lemmas.Bool.{eqb-true, and_parts}
 use Rattle.ep_int.specs.declared.types.Order.{Order}
@@ -26,10 +28,9 @@ use Rattle.ep_kinds.specs.InOut.{is_input, is_talk, some_comes_to, bodies_come_t
 use Rattle.ep_kinds.specs.Closed.{is_closed_what, are_closed}
 use Rattle.ep_kinds.specs.Steady.{are_quiet_arms, is_quiet_what, are_quiet}
 use Rattle.ep_closed_laws.specs.Bounded.{visit, exec_in, all_in, body_in, bodies_in}
-use Rattle.ep_pass_laws.proofs.Outcomes.{body_end, with_next, loop_left}
+use Rattle.ep_pass.proofs.Outcomes.{body_end, with_next, loop_left}
 use Rattle.ep_closed_laws.specs.Exactly.{SeenFrom, Exactly}
-use Rattle.ep_pass_laws.proofs.Outcomes.{IsCall, next_grows}
-use Rattle.ep_pass_laws.proofs.Text.{callee_at}
+use Rattle.ep_pass.proofs.Outcomes.{IsCall, next_grows}
 use Rattle.ep_closed_laws.proofs.WaysIn.{body_turn, all_among_in, plain_in, bodies_call_in}
 use Rattle.ep_closed_laws.proofs.GrowsIn.{all_grow_in, bodies_grow_in, puts_out, does_adds}
 use Rattle.ep_closed_laws.proofs.Alone.{Leaves, as_left, AloneOf, all_alone}
@@ -49,7 +50,7 @@ use Rattle.ep_closed_laws.proofs.Alone.{then_alone, body_ends_alone, rowed_alone
 use Rattle.ep_closed_laws.proofs.Both.{BothOf, then_both, body_ends_both, plain_both}
 use Rattle.ep_closed_laws.proofs.Rules.{Rule, alike, quiet, Same, Tests}
 use Rattle.ep_closed_laws.proofs.BothGiven.{gives_both}
-use Rattle.ep_closed_laws.proofs.Codes.{TextIs, text_parts, text_true, not_true, or_false, same_way, taken_way}
+use Rattle.ep_closed_laws.proofs.Codes.{TextIs, text_parts, text_true, same_way, taken_way}
 use Rattle.ep_closed_laws.proofs.Codes.{arm_text, IsQuietRule, same_kept}
 use Rattle.ep_closed_laws.proofs.Arms.{scope_both, WaysAgree, apart_both, arms_agree, call_both, arms_both, if_both}
 use Rattle.ep_closed_laws.proofs.Arms.{loop_both}
@@ -108,10 +109,10 @@ module _ (p : Program) (ord : Side → Order) {S : Type 0} (o : StateOps S) (K :
       split_both a b seen t fa fb text z l n m s x y h =
           let q = and_parts (not (some_comes_to is_talk ts a || some_comes_to is_talk ts b))
           (not (may_differ (ways_of_all a) (ways_of_all b))) (text_true rule (are_quiet_arms ts a b) text z) in
-          let v = or_false (some_comes_to is_talk ts a) (some_comes_to is_talk ts b) (not_true _ q.0) in
+          let v = or_parts (some_comes_to is_talk ts a) (some_comes_to is_talk ts b) (not-true _ q.0) in
           apart_both p ord o K law rule os (arm a) (arm b) l s y (run left a n x) (run right b m y)
           (λ k j e d. same_way (ways_of_all a) (ways_of_all b)
-          (arms_agree p ord o K law rule os a b (not_true _ q.1) true false) k j
+          (arms_agree p ord o K law rule os a b (not-true _ q.1) true false) k j
           (taken_way (ways_of_all a) (run left a n x) k (arm_ways left a seen t fa n x) e)
           (taken_way (ways_of_all b) (run right b m y) j (arm_ways right b seen t fb m y) d)) z
           (arm_alone left a seen t fa v.0 n s x y h)
@@ -124,10 +125,10 @@ module _ (p : Program) (ord : Side → Order) {S : Type 0} (o : StateOps S) (K :
       split_back a b seen t fa fb text z l n m s x y h =
           let q = and_parts (not (some_comes_to is_talk ts a || some_comes_to is_talk ts b))
           (not (may_differ (ways_of_all a) (ways_of_all b))) (text_true rule (are_quiet_arms ts a b) text z) in
-          let v = or_false (some_comes_to is_talk ts a) (some_comes_to is_talk ts b) (not_true _ q.0) in
+          let v = or_parts (some_comes_to is_talk ts a) (some_comes_to is_talk ts b) (not-true _ q.0) in
           apart_both p ord o K law rule os (arm b) (arm a) l s y (run left b n x) (run right a m y)
           (λ k j e d. same_way (ways_of_all b) (ways_of_all a)
-          (arms_agree p ord o K law rule os a b (not_true _ q.1) false true) k j
+          (arms_agree p ord o K law rule os a b (not-true _ q.1) false true) k j
           (taken_way (ways_of_all b) (run left b n x) k (arm_ways left b seen t fb n x) e)
           (taken_way (ways_of_all a) (run right a m y) j (arm_ways right a seen t fa m y) d)) z
           (arm_alone left b seen t fb v.1 n s x y h)
@@ -165,7 +166,7 @@ module _ (p : Program) (ord : Side → Order) {S : Type 0} (o : StateOps S) (K :
               let q = and_parts (not (some_comes_to is_talk ts a || some_comes_to is_talk ts b))
               (not (may_differ (ways_of_all a) (ways_of_all b))) (text_true rule (are_quiet_arms ts a b) text r) in
               same_way (ways_of_all (arm_text v a b)) (ways_of_all (arm_text w a b))
-              (arms_agree p ord o K law rule os a b (not_true _ q.1) v w) k j
+              (arms_agree p ord o K law rule os a b (not-true _ q.1) v w) k j
               (taken_way (ways_of_all (arm_text v a b)) (chosen v (run left a) (run left b) n x) k
               (of_ways left v n x) e)
               (taken_way (ways_of_all (arm_text w a b)) (chosen w (run right a) (run right b) m y) j
@@ -190,13 +191,13 @@ module _ (p : Program) (ord : Side → Order) {S : Type 0} (o : StateOps S) (K :
           (λ j n x. body_turn (ways_of_all a) (run j a n x) (run j b) (arm_ways j a seen true fa n x)
           (plain_in (ord j) p u here (fs j) own b seen i plain fb))
           (λ j. next_grows (run j a) (run j b) (run_grows j a) (run_grows j b)) body turn_one
-          (λ q. not_true _ (text_true rule (not (ways_of_all a).by_return) returns q)) first n m s x y h z
+          (λ q. not-true _ (text_true rule (not (ways_of_all a).by_return) returns q)) first n m s x y h z
         where
           turn_one : IsQuietRule rule → (j : Side) (n : ℕ) (s : S) (x y : State) → SeenFrom K j s x y
               → AloneOf o K j (next_pass o (arm a (One j) s) (arm b (One j))) y (with_next (run j a) (run j b) n x)
           turn_one q j n s x y h =
-              let v = or_false (some_comes_to is_talk ts a) (some_comes_to is_talk ts b)
-              (not_true _ (text_true rule (not (some_comes_to is_talk ts a || some_comes_to is_talk ts b)) talks q)) in
+              let v = or_parts (some_comes_to is_talk ts a) (some_comes_to is_talk ts b)
+              (not-true _ (text_true rule (not (some_comes_to is_talk ts a || some_comes_to is_talk ts b)) talks q)) in
               then_alone o K j (body_ends o (arm a (One j) s)) y (body_end (run j a n x)) (rowed o (arm b (One j)))
               (run j b)
               (body_ends_alone o K j (arm a (One j) s) y (run j a n x) (arm_alone j a seen true fa v.0 n s x y h))
@@ -218,7 +219,7 @@ module _ (p : Program) (ord : Side → Order) {S : Type 0} (o : StateOps S) (K :
             (does (ord left) p uncounted f.result w l n x) (does (ord right) p uncounted f.result w l m y)
             (law.same_outputs s x y h) z (does_adds (ord left) p f.result w l n x)
             (does_adds (ord right) p f.result w l m y)
-            (law.simple_both here f at w seen fits (not_true (is_input w) closed) l n m s x y h))
+            (law.simple_both here f at w seen fits (not-true (is_input w) closed) l n m s x y h))
         pass_both (call k es d) seen i fits closed text l n m s x y h z =
             called_both k es d seen l n m s x y h z (callee_of p here k) refl fits
         pass_both (if_else e a b) seen i fits closed text l n m s x y h z =
@@ -268,7 +269,7 @@ module _ (p : Program) (ord : Side → Order) {S : Type 0} (o : StateOps S) (K :
             let q = and_parts (stmts_fit p here own a seen i) (stmts_fit p here own b seen i) fits in
             let c = and_parts (not (some_comes_to is_talk ts a || some_comes_to is_talk ts b))
             (are_closed ts a && are_closed ts b) closed in
-            let v = or_false (some_comes_to is_talk ts a) (some_comes_to is_talk ts b) (not_true _ c.0) in
+            let v = or_parts (some_comes_to is_talk ts a) (some_comes_to is_talk ts b) (not-true _ c.0) in
             let t = text_parts rule (are_quiet_arms ts a b) (are_quiet ts a && are_quiet ts b) text in
             order_both a b seen i q.0 q.1 v.0 v.1 t.0 (is_order (ord left) named) (is_order
             (ord right) named) l n m s x

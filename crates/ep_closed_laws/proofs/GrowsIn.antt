@@ -1,5 +1,6 @@
 -- What was put out and tested stays also where loops make at most so many turns; and what statements list and put out.
 use Rattle.std.proofs.Common.{◌≡◌, ℕ, zero, suc, ◌+◌, ◌%◌, ℤ, pos, List, [], ◌∷◌, ◌++◌, length, refl, ap, ◌∙◌, Option}
+use Rattle.std.proofs.lemmas.List.{length_push}
 use Rattle.std.proofs.Common.{Some, None, option_to_list, arith, nat_eq, ◌&&◌, slice_get, Bool, true, false}
 use Rattle.ep_int.specs.declared.types.IntType.TheVariants.{U8}
 use Rattle.ep_int.specs.declared.types.Scalar.{Scalar}
@@ -20,8 +21,8 @@ use Rattle.ep_core.proofs.Grows.{later_refl, Grows, Growing, grows_from, given_g
 use Rattle.ep_core.proofs.Grows.{either_grows, scope_grows, arm_grows, chosen_grows, does_grows, call_grows}
 use Rattle.ep_pass.specs.Laws.{passes}
 use Rattle.ep_closed_laws.specs.Bounded.{turns_from, tests_from, visit, exec_in, all_in, body_in, bodies_in}
-use Rattle.ep_pass_laws.proofs.Outcomes.{with_next, loop_left}
-use Rattle.ep_pass_laws.proofs.Outcomes.{next_grows}
+use Rattle.ep_pass.proofs.Outcomes.{with_next, loop_left}
+use Rattle.ep_pass.proofs.Outcomes.{next_grows}
 
 module _ (test : Memory → Found) (l : ℕ) (turn : Going) (g : Growing turn) where
   mutual_turns : (k : ℕ) → Growing (turns_from test l turn k)
@@ -158,10 +159,6 @@ adds_then j k i s r (running q) h e f = tt
 adds_then j k i s r (no_input q) h e f = tt
 adds_then j k i s r (undefined_at l t q) h e f = tt
 
-more_one : {A : Type 0} (xs : List A) (a : A) → length (xs ++ a ∷ []) ≡ length xs + 1
-more_one [] a = refl
-more_one (x ∷ xs) a = let d = more_one xs a in omega (arith, d)
-
 module _ (o : Order) (p : Program) where
   put_adds : (what : Scalar) (b q : ℕ) (v : Value) (l : ℕ) (s : State) (go : State → Outcome)
       → ((r : State) → AddsIfLeft 0 r (go r)) → AddsIfLeft 0 s (put_at o p what b q v l s go)
@@ -212,7 +209,7 @@ module _ (o : Order) (p : Program) where
       by_byte (number v) h =
           let r : State = put_out U8 (pos v) s in
           adds_then 1 k (suc k) s r _
-          (record { outputs = more_one s.outputs (record { t = U8; value = pos v }); tests = refl }) (omega arith)
+          (record { outputs = length_push s.outputs (record { t = U8; value = pos v }); tests = refl }) (omega arith)
           (h r)
       by_byte (fragment c q i) h = tt
 
@@ -277,7 +274,7 @@ module _ (o : Order) (p : Program) where
   does_adds r (output t e) l n s =
       given_adds 1 s s (value o p e s.memory) l _
       (λ v. int_adds 1 s s v l _
-      (λ x. record { outputs = more_one s.outputs (record { t = t; value = x }); tests = refl }))
+      (λ x. record { outputs = length_push s.outputs (record { t = t; value = x }); tests = refl }))
   does_adds r (read_bytes e k) l n s =
       given_adds 0 s s (value o p e s.memory) l _
       (λ w. place_adds 0 s s w l _

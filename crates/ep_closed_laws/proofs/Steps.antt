@@ -30,11 +30,11 @@ use Rattle.ep_core.proofs.Operands.{fits_at}
 use Rattle.std.proofs.lemmas.Bool.{and_parts}
 use Rattle.ep_closed_laws.specs.Bounded.{turns_from, tests_from, visit, exec_in, all_in, body_in, bodies_in, main_in}
 use Rattle.ep_closed_laws.specs.Bounded.{run_in}
-use Rattle.ep_pass_laws.proofs.Outcomes.{body_end, with_next, loop_left}
+use Rattle.ep_pass.proofs.Outcomes.{body_end, with_next, loop_left}
 use Rattle.ep_kinds.specs.Steady.{cut_turns, cut_tests, cut_visit, exec_cut, all_cut, body_cut, bodies_cut}
 use Rattle.ep_kinds.specs.Steady.{TakesTurns, EndsSteadily}
 use Rattle.ep_closed_laws.specs.BoundedLaws.{EndsAlike}
-use Rattle.ep_pass_laws.proofs.Outcomes.{IsPlain}
+use Rattle.ep_pass.proofs.Outcomes.{IsPlain}
 use Rattle.ep_closed_laws.proofs.WaysIn.{plain_in}
 
 -- left by this way, in this state

@@ -1,58 +1,24 @@
 -- Statements whose loops make at most so many turns are left by no other way than their text has.
 use Rattle.std.proofs.Common.{◌≡◌, ℕ, zero, suc, List, ◌++◌, refl, sym, subst, Option, Some, None, Bool, true, false}
+use Rattle.ep_core.proofs.WaysTaken.{has_left, has_right, then_among, widened}
 use Rattle.std.proofs.Common.{◌&&◌, nat_eq, slice_get}
-use Rattle.std.proofs.lemmas.Bool.{or_left, or_right, and_from, and_parts}
+use Rattle.std.proofs.lemmas.Bool.{and_parts}
 use Rattle.ep_int.specs.declared.types.Order.{Order}
 use Rattle.ep_int.specs.Memory.{Memory, Value, Found, has, faults}
 use Rattle.ep_core.specs.Program.{What, simple, call, if_else, loop, break_loop, continue_loop, by_order, scope}
 use Rattle.ep_core.specs.Program.{Stmts, stop, more, Function, Program}
-use Rattle.ep_core.specs.Exec.{State, Way, on, broken, continued, returned, Outcome, leaves, running, no_input}
+use Rattle.ep_core.specs.Exec.{State, on, broken, continued, returned, Outcome, leaves, running, no_input}
 use Rattle.ep_core.specs.Exec.{undefined_at, Going, given, uncounted, and_then, is_true, code_of_test, listed, either}
 use Rattle.ep_core.specs.Exec.{scope_left, is_order, chosen, arm_left, frame_of, without, value}
-use Rattle.ep_core.specs.Ways.{Ways, has_way, either_way, then_ways, ways_of, ways_of_all}
+use Rattle.ep_core.specs.Ways.{Ways, either_way, ways_of, ways_of_all}
 use Rattle.ep_core.specs.Laws.{IsAmong}
 use Rattle.ep_core.specs.WellFormed.{is_tested, result_type, are_plain, what_fits, stmts_fit, is_well_formed}
 use Rattle.ep_core.proofs.WaysTaken.{exec_among, all_plain_ways}
 use Rattle.ep_core.proofs.Operands.{fits_at}
 use Rattle.ep_closed_laws.specs.Bounded.{turns_from, visit, exec_in, all_in, body_in, bodies_in}
-use Rattle.ep_pass_laws.proofs.Outcomes.{body_end, with_next, loop_left}
-use Rattle.ep_pass_laws.proofs.Outcomes.{IsPlain, plain_end, IsCall}
-use Rattle.ep_pass_laws.proofs.Text.{Stays, all_stay}
-
-more_among : (a b : Ways) → ((k : Way) → has_way a k ≡ true → has_way b k ≡ true) → (c : Outcome) → IsAmong a c
-    → IsAmong b c
-more_among a b f (leaves k n s) h = f k h
-more_among a b f (running s) h = tt
-more_among a b f (no_input s) h = tt
-more_among a b f (undefined_at l k s) h = tt
-
-has_first : (a b : Ways) (k : Way) → has_way a k ≡ true → has_way (either_way a b) k ≡ true
-has_first a b on h = or_left a.at_end b.at_end h
-has_first a b broken h = or_left a.by_break b.by_break h
-has_first a b continued h = or_left a.by_continue b.by_continue h
-has_first a b returned h = or_left a.by_return b.by_return h
-
-has_second : (a b : Ways) (k : Way) → has_way b k ≡ true → has_way (either_way a b) k ≡ true
-has_second a b on h = or_right a.at_end b.at_end h
-has_second a b broken h = or_right a.by_break b.by_break h
-has_second a b continued h = or_right a.by_continue b.by_continue h
-has_second a b returned h = or_right a.by_return b.by_return h
-
-then_among : (a b : Ways) (c : Outcome) (f : Going) → IsAmong a c → ((n : ℕ) (s : State) → IsAmong b (f n s))
-    → IsAmong (then_ways a b) (and_then c f)
-then_among a b (leaves on n s) f h i = more_among b (then_ways a b) (λ k e. after k e) (f n s) (i n s)
-  where
-    after : (k : Way) → has_way b k ≡ true → has_way (then_ways a b) k ≡ true
-    after on e = and_from a.at_end b.at_end h e
-    after broken e = or_right a.by_break (a.at_end && b.by_break) (and_from a.at_end b.by_break h e)
-    after continued e = or_right a.by_continue (a.at_end && b.by_continue) (and_from a.at_end b.by_continue h e)
-    after returned e = or_right a.by_return (a.at_end && b.by_return) (and_from a.at_end b.by_return h e)
-then_among a b (leaves broken n s) f h i = or_left a.by_break (a.at_end && b.by_break) h
-then_among a b (leaves continued n s) f h i = or_left a.by_continue (a.at_end && b.by_continue) h
-then_among a b (leaves returned n s) f h i = or_left a.by_return (a.at_end && b.by_return) h
-then_among a b (running s) f h i = tt
-then_among a b (no_input s) f h i = tt
-then_among a b (undefined_at l k s) f h i = tt
+use Rattle.ep_pass.proofs.Outcomes.{body_end, with_next, loop_left}
+use Rattle.ep_pass.proofs.Outcomes.{IsPlain, plain_end, IsCall}
+use Rattle.ep_pass.proofs.Text.{Stays, all_stay}
 
 scope_among : (a : Ways) (bs : List ℕ) (c : Outcome) → IsAmong a c → IsAmong a (scope_left bs c)
 scope_among a bs (leaves k n s) h = h
@@ -188,10 +154,10 @@ module _ (o : Order) (p : Program) (u : ℕ) where
           let ws = either_way (ways_of_all a) (ways_of_all b) in
           given_among ws (value o p e s.memory) l s _
           (λ v. either_among ws (is_true v) (all_in o p u here bs a) (all_in o p u here bs b)
-          (λ n s. more_among (ways_of_all a) ws (has_first (ways_of_all a) (ways_of_all b))
+          (λ n s. widened (ways_of_all a) ws (has_left (ways_of_all a) (ways_of_all b))
           (all_in o p u here bs a n s)
           (all_among_in a seen i r.1 n s))
-          (λ n s. more_among (ways_of_all b) ws (has_second (ways_of_all a) (ways_of_all b))
+          (λ n s. widened (ways_of_all b) ws (has_right (ways_of_all a) (ways_of_all b))
           (all_in o p u here bs b n s)
           (all_among_in b seen i q.1 n s)) n s)
       among_in (loop first e a b) l seen i h n s =
@@ -214,10 +180,10 @@ module _ (o : Order) (p : Program) (u : ℕ) where
           let ws = either_way (ways_of_all a) (ways_of_all b) in
           arm_among ws s.joint_tests _
           (chosen_in (is_order o named) ws (all_in o p u here bs a) (all_in o p u here bs b)
-          (λ n s. more_among (ways_of_all a) ws (has_first (ways_of_all a) (ways_of_all b))
+          (λ n s. widened (ways_of_all a) ws (has_left (ways_of_all a) (ways_of_all b))
           (all_in o p u here bs a n s)
           (all_among_in a seen i q.0 n s))
-          (λ n s. more_among (ways_of_all b) ws (has_second (ways_of_all a) (ways_of_all b))
+          (λ n s. widened (ways_of_all b) ws (has_right (ways_of_all a) (ways_of_all b))
           (all_in o p u here bs b n s)
           (all_among_in b seen i q.1 n s)) n s)
       among_in (scope bs' a) l seen i h n s =

@@ -9,7 +9,7 @@ use Rattle.ep_core.specs.Exec.{on, broken, continued, Outcome, leaves, running, 
 use Rattle.ep_core.specs.Exec.{is_true, either, scope_left, is_order, chosen, arm_left, result_in, callee_of, without}
 use Rattle.ep_core.specs.Exec.{value, does, call_of}
 use Rattle.ep_core.specs.Runs.{Run, main_function, start, finished}
-use Rattle.ep_pass_laws.proofs.Outcomes.{with_next, loop_left}
+use Rattle.ep_pass.proofs.Outcomes.{with_next, loop_left}
 
 module _ (test : Memory → Found) (l : ℕ) (turn : Going) where
   -- from a turn on, with so many turns left

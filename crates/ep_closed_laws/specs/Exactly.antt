@@ -6,7 +6,7 @@ use Rattle.ep_core.specs.Exec.{State, Way, on, Outcome, leaves, running, no_inpu
 use Rattle.ep_core.specs.Exec.{does, received}
 use Rattle.ep_core.specs.Runs.{Side, left, right, start, main_ends}
 use Rattle.ep_core.specs.WellFormed.{result_type, is_tested, simple_fits, arguments_fit, takes_result}
-use Rattle.ep_pass.specs.States.{Both, One, Gives, StateOps}
+use Rattle.ep_pass.specs.States.{Both, One, Transfer, StateOps}
 use Rattle.ep_pass.specs.Laws.{passes, IsTruth, Fits, GoesOn}
 use Rattle.ep_pass.specs.Pass.{way_of}
 use Rattle.ep_kinds.specs.InOut.{is_input, is_talk}
@@ -28,7 +28,7 @@ abbrev pub IfBothLeft : Way → (State → State → Type 0) → Outcome → Out
 IfBothLeft k Q c d = IfLeft k (λ x. IfLeft k (λ y. Q x y) d) c
 
 -- no fault, and a state after it
-pub record GivesExact {S : Type 0} (P : S → Type 0) (g : Gives S) : Type 0 where
+pub record TransferIsExact {S : Type 0} (P : S → Type 0) (g : Transfer S) : Type 0 where
   pub faults : g.faults ≡ []
   pub next : IsThere P g.next
 
@@ -51,7 +51,7 @@ pub record Exactly (p : Program) (ord : Side → Order) {S : Type 0} (o : StateO
   pub simple_alone : (m : Side) (here : ℕ) (f : Function) → slice_get p.functions here ≡ Some f
       → (w : Simple) (seen : List ℕ) → simple_fits p here (result_type p.blocks f.result) w seen ≡ true
       → is_talk w ≡ false → (l n : ℕ) (s : S) (x y : State) → SeenFrom K m s x y
-      → IfLeft (way_of w) (λ x'. GivesExact (λ t. SeenFrom K m t x' y) (o.simple (One m) f.result w s))
+      → IfLeft (way_of w) (λ x'. TransferIsExact (λ t. SeenFrom K m t x' y) (o.simple (One m) f.result w s))
       (does (ord m) p uncounted f.result w l n x)
   pub test_alone : (m : Side) (e : Expr) (seen : List ℕ) → is_tested p.types p.blocks seen e ≡ true
       → (t : Bool) (s : S) (x y : State) → SeenFrom K m s x y → IsTruth p (ord m) e x.memory t
@@ -62,13 +62,13 @@ pub record Exactly (p : Program) (ord : Side → Order) {S : Type 0} (o : StateO
   pub arguments_alone : (m : Side) (k : ℕ) (f : Function) → slice_get p.functions k ≡ Some f
       → (es : List Expr) (seen : List ℕ) → arguments_fit p.types p.blocks seen f.params es ≡ true
       → (l n : ℕ) (s : S) (x y : State) → SeenFrom K m s x y
-      → IfLeft on (λ x'. GivesExact (λ t. SeenFrom K m t x' y) (o.arguments (One m) f es s))
+      → IfLeft on (λ x'. TransferIsExact (λ t. SeenFrom K m t x' y) (o.arguments (One m) f es s))
       (passes (ord m) p f es l n x)
   pub result_alone : (m : Side) (k : ℕ) (f : Function) → slice_get p.functions k ≡ Some f
       → (d : Option Dest) (seen : List ℕ)
       → takes_result p.types p.blocks seen (result_type p.blocks f.result) d ≡ true
       → (l n : ℕ) (s : S) (x y : State) → SeenFrom K m s x y
-      → IfLeft on (λ x'. GivesExact (λ t. SeenFrom K m t x' y) (o.result (One m) f d s))
+      → IfLeft on (λ x'. TransferIsExact (λ t. SeenFrom K m t x' y) (o.result (One m) f d s))
       (received (ord m) p f.result d l n x)
   pub enter_alone : (m : Side) (bs : List ℕ) (s : S) (x y : State) → SeenFrom K m s x y
       → SeenFrom K m (o.enter (One m) bs s) (without bs x) y
@@ -78,7 +78,7 @@ pub record Exactly (p : Program) (ord : Side → Order) {S : Type 0} (o : StateO
   pub simple_both : (here : ℕ) (f : Function) → slice_get p.functions here ≡ Some f → (w : Simple) (seen : List ℕ)
       → simple_fits p here (result_type p.blocks f.result) w seen ≡ true → is_input w ≡ false
       → (l n m : ℕ) (s : S) (x y : State) → K s x y
-      → IfBothLeft (way_of w) (λ x' y'. x'.outputs ≡ y'.outputs → GivesExact (λ t. K t x' y')
+      → IfBothLeft (way_of w) (λ x' y'. x'.outputs ≡ y'.outputs → TransferIsExact (λ t. K t x' y')
       (o.simple Both f.result w s))
       (does (ord left) p uncounted f.result w l n x) (does (ord right) p uncounted f.result w l m y)
   pub test_both : (e : Expr) (seen : List ℕ) → is_tested p.types p.blocks seen e ≡ true
@@ -92,12 +92,12 @@ pub record Exactly (p : Program) (ord : Side → Order) {S : Type 0} (o : StateO
   pub arguments_both : (k : ℕ) (f : Function) → slice_get p.functions k ≡ Some f → (es : List Expr) (seen : List ℕ)
       → arguments_fit p.types p.blocks seen f.params es ≡ true
       → (l n m : ℕ) (s : S) (x y : State) → K s x y
-      → IfBothLeft on (λ x' y'. x'.outputs ≡ y'.outputs → GivesExact (λ t. K t x' y') (o.arguments Both f es s))
+      → IfBothLeft on (λ x' y'. x'.outputs ≡ y'.outputs → TransferIsExact (λ t. K t x' y') (o.arguments Both f es s))
       (passes (ord left) p f es l n x) (passes (ord right) p f es l m y)
   pub result_both : (k : ℕ) (f : Function) → slice_get p.functions k ≡ Some f → (d : Option Dest) (seen : List ℕ)
       → takes_result p.types p.blocks seen (result_type p.blocks f.result) d ≡ true
       → (l n m : ℕ) (s : S) (x y : State) → K s x y
-      → IfBothLeft on (λ x' y'. x'.outputs ≡ y'.outputs → GivesExact (λ t. K t x' y') (o.result Both f d s))
+      → IfBothLeft on (λ x' y'. x'.outputs ≡ y'.outputs → TransferIsExact (λ t. K t x' y') (o.result Both f d s))
       (received (ord left) p f.result d l n x) (received (ord right) p f.result d l m y)
   pub enter_both : (bs : List ℕ) (s : S) (x y : State) → K s x y → K (o.enter Both bs s) (without bs x) (without bs y)
   pub leave_both : (bs : List ℕ) (s : S) (x y : State) → K s x y → K (o.leave Both bs s) (without bs x) (without bs y)

@@ -16,10 +16,10 @@ use Rattle.ep_closed_laws.specs.Closely.{Closely}
 module _ (S : Type 0) where
   -- The operations are exact on closed programs.
   abbrev pub AreExact : (ops : Program → (Side → Order) → StateOps S)
-      → (Is : Program → (Side → Order) → S → Memory → Memory → Type 0) → Type 0
-  AreExact ops Is =
+      → (ConcretisesOne : Program → (Side → Order) → S → Memory → Memory → Type 0) → Type 0
+  AreExact ops ConcretisesOne =
       (p : Program) (ord : Side → Order) → IsTrue (is_well_formed p) → IsTrue (is_closed_text p) → AreOther ord
-      → Closely p ord (ops p ord) (Is p ord)
+      → Closely p ord (ops p ord) (ConcretisesOne p ord)
 
   -- The report on a closed and steady program is empty, where so many turns are unrolled as its loops take at most.
   abbrev pub ClosedReports : (ops : Program → (Side → Order) → StateOps S) → Type 0

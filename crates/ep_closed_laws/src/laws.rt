@@ -12,9 +12,9 @@ ghost use Rattle.ep_closed_laws.specs.Laws.{AreExact, ClosedReports};
 pub trait ExactStates {
     ghost ops: { Program → (Side → Order) → StateOps Self };
 
-    ghost Is: { Program → (Side → Order) → Self → Memory → Memory → Type 0 };
+    ghost ConcretisesOne: { Program → (Side → Order) → Self → Memory → Memory → Type 0 };
 
-    ghost laws: { AreExact Self ops Is };
+    ghost laws: { AreExact Self ops ConcretisesOne };
 }
 
 /// States that the reports on closed and steady programs are empty, and does nothing.

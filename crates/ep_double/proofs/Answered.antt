@@ -8,21 +8,21 @@ use Rattle.std.proofs.lemmas.Bool.{eqb-true, eqb-false}
 use Rattle.ep_layout.specs.declared.types.Member.{Member}
 use Rattle.ep_layout.specs.declared.types.Ty.TheVariants.{Aggregate}
 use Rattle.ep_layout.specs.Table.{Table, MemberRow, IsBuilt, members_of}
-use Rattle.ep_layout.specs.Views.{view_member, view_members}
+use Rattle.ep_layout.specs.Views.{member_view, members_view}
 use Rattle.ep_layout.proofs.Options.{same_some}
 use Rattle.ep_double.specs.Holders.{is_array, holds, has_array, levels, rows_levels, AreThere, OtherHas}
 use Rattle.ep_double.proofs.Insides.{whole_is, empty_is, member_lower, has_one, has_none}
 
 pub row_at : (ms : List Member) (i : ℕ) (m : Member) → i < length ms → m ≡ get_or ms i m
-    → slice_get (view_members ms) i ≡ Some (view_member m)
+    → slice_get (members_view ms) i ≡ Some (member_view m)
 row_at ms i m l e =
-    slice_get-map view_member ms i ∙ ap (option_map view_member) (slice_get_read ms (length ms) i m refl l e)
+    slice_get-map member_view ms i ∙ ap (option_map member_view) (slice_get_read ms (length ms) i m refl l e)
 
-rows_length : (ms : List Member) → length (view_members ms) ≡ length ms
+rows_length : (ms : List Member) → length (members_view ms) ≡ length ms
 rows_length [] = refl
 rows_length (m ∷ ms) = ap suc (rows_length ms)
 
-rows_none : (ms : List Member) → length ms ≡ 0 → view_members ms ≡ []
+rows_none : (ms : List Member) → length ms ≡ 0 → members_view ms ≡ []
 rows_none [] h = refl
 rows_none (m ∷ ms) h = absurd (omega (arith, h))
 
@@ -32,60 +32,60 @@ eq_or_not j i false h = inr (eqb-false j i h)
 
 -- of a type that is an aggregate with these members
 module _ (t : Table) (built : IsBuilt t) (n a : ℕ) (h : slice_get t.types n ≡ Some (Aggregate a)) (ms : List Member)
-    (e : view_members ms ≡ members_of t a) where
+    (e : members_view ms ≡ members_of t a) where
   pub no_members : length ms ≡ 0 → holds t n ≡ false
   no_members none = empty_is t built n a h (sym e ∙ rows_none ms none)
 
   module _ (some : 0 < length ms) where
-    whole : (holds t n ≡ list_any (has_array t) (view_members ms))
-        × (levels t n ≡ suc (rows_levels t (view_members ms)))
-        × AreThere t (view_members ms)
-    whole = whole_is t built n a h (view_members ms) (sym e) (let l = rows_length ms in omega (arith, some, l))
+    whole : (holds t n ≡ list_any (has_array t) (members_view ms))
+        × (levels t n ≡ suc (rows_levels t (members_view ms)))
+        × AreThere t (members_view ms)
+    whole = whole_is t built n a h (members_view ms) (sym e) (let l = rows_length ms in omega (arith, some, l))
 
-    pub rows_there : AreThere t (view_members ms)
+    pub rows_there : AreThere t (members_view ms)
     rows_there = whole.2
 
-    pub rows_lower : 4 * rows_levels t (view_members ms) + 4 < 4 * levels t n + 1
+    pub rows_lower : 4 * rows_levels t (members_view ms) + 4 < 4 * levels t n + 1
     rows_lower = let l = whole.1 in omega (arith, l)
 
-    pub other_found : list_any (has_array t) (view_members ms) ≡ true → holds t n ≡ true
+    pub other_found : list_any (has_array t) (members_view ms) ≡ true → holds t n ≡ true
     other_found q = whole.0 ∙ q
 
     module _ (i : ℕ) (m : Member) (l : i < length ms) (at : m ≡ get_or ms i m) where
       pub part_there : m.ty < length t.types
-      part_there = rows_there i (view_member m) (row_at ms i m l at)
+      part_there = rows_there i (member_view m) (row_at ms i m l at)
 
       pub part_is_array : is_array t m.ty ≡ true → holds t n ≡ true
       part_is_array q =
-          whole.0 ∙ has_one t built (view_members ms) i (view_member m) (row_at ms i m l at) (array_first m.ty q)
+          whole.0 ∙ has_one t built (members_view ms) i (member_view m) (row_at ms i m l at) (array_first m.ty q)
         where
           array_first : (k : ℕ) → is_array t k ≡ true → (is_array t k || holds t k) ≡ true
           array_first k q = rw q refl
 
       -- no other has an array, and this is none
-      pub as_part : OtherHas t (view_members ms) i false → is_array t m.ty ≡ false
+      pub as_part : OtherHas t (members_view ms) i false → is_array t m.ty ≡ false
           → (holds t n ≡ holds t m.ty) × (m.ty < length t.types) × (levels t m.ty < levels t n)
       as_part none q =
-          let lower = member_lower t built (view_members ms) i (view_member m) row in
+          let lower = member_lower t built (members_view ms) i (member_view m) row in
           let w = whole.1 in
           (whole.0 ∙ by_part (holds t m.ty) refl, part_there, omega (arith, lower, w))
         where
-          row : slice_get (view_members ms) i ≡ Some (view_member m)
+          row : slice_get (members_view ms) i ≡ Some (member_view m)
           row = row_at ms i m l at
 
-          here : (b : Bool) → holds t m.ty ≡ b → has_array t (view_member m) ≡ b
+          here : (b : Bool) → holds t m.ty ≡ b → has_array t (member_view m) ≡ b
           here b e = rw (q, e) refl
 
-          by_part : (b : Bool) → holds t m.ty ≡ b → list_any (has_array t) (view_members ms) ≡ b
-          by_part true e = has_one t built (view_members ms) i (view_member m) (row_at ms i m l at) (here true e)
-          by_part false e = has_none t built (view_members ms) (λ j k at_j.
+          by_part : (b : Bool) → holds t m.ty ≡ b → list_any (has_array t) (members_view ms) ≡ b
+          by_part true e = has_one t built (members_view ms) i (member_view m) (row_at ms i m l at) (here true e)
+          by_part false e = has_none t built (members_view ms) (λ j k at_j.
               each j k at_j (eq_or_not j i (nat_eq j i) refl))
             where
-              each : (j : ℕ) (k : MemberRow) → slice_get (view_members ms) j ≡ Some k → (j ≡ i) ⊎ (j ≡ i → ⊥)
+              each : (j : ℕ) (k : MemberRow) → slice_get (members_view ms) j ≡ Some k → (j ≡ i) ⊎ (j ≡ i → ⊥)
                   → has_array t k ≡ false
               each j k at_j (inl s) =
-                  let other = subst (λ (x : ℕ). slice_get (view_members ms) x ≡ Some k) s at_j in
-                  let one = same_some (view_member m) k (slice_get (view_members ms) i) row other in
+                  let other = subst (λ (x : ℕ). slice_get (members_view ms) x ≡ Some k) s at_j in
+                  let one = same_some (member_view m) k (slice_get (members_view ms) i) row other in
                   sym (ap (has_array t) one) ∙ here false e
               each j k at_j (inr d) = none j k d at_j
 
@@ -117,9 +117,9 @@ next_none t ms s n none k here q i m l d at = elim (below_or_last i n l) [
       sym (ap (has_array t) (same_some k m (slice_get ms n) here there)) ∙ q
 ]
 
-pub none_all : (t : Table) (ms : List Member) (s n : ℕ) → NoneBefore t (view_members ms) s n → length ms ≤ n
-    → OtherHas t (view_members ms) s false
+pub none_all : (t : Table) (ms : List Member) (s n : ℕ) → NoneBefore t (members_view ms) s n → length ms ≤ n
+    → OtherHas t (members_view ms) s false
 none_all t ms s n none past i m d at =
-    let l = slice_get_within (view_members ms) i m at in
+    let l = slice_get_within (members_view ms) i m at in
     let e = rows_length ms in
     none i m (omega (arith, l, e, past)) d at

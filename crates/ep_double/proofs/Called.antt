@@ -8,8 +8,8 @@ use Rattle.ep_core.specs.declared.program.CoreProgram.{CoreProgram}
 use Rattle.ep_core.specs.declared.program.Function as memory
 use Rattle.ep_core.specs.declared.tree.Stmt.{Stmt}
 use Rattle.ep_core.specs.Program.{Simple, Program}
-use Rattle.ep_core.specs.Shown.{shown}
-use Rattle.ep_core.specs.View.{shown_function, shown_stmts}
+use Rattle.ep_core.specs.ProgramView.{program_view}
+use Rattle.ep_core.specs.View.{function_view, stmts_view}
 use Rattle.ep_kinds.specs.InOut.{answer_if, body_comes_to, bodies_come_to, is_talk, some_comes_to}
 use Rattle.ep_double.specs.Remembered.{AreRemembered, called}
 
@@ -59,19 +59,19 @@ fewer p n k talks r h j i l =
     r j (omega (arith, h, i)) l
     ∙ (one_comes is_talk p n j (omega (arith, h, i)) ∙ sym (one_comes is_talk p k j i))
 
-pub no_body : (p : CoreProgram) (n k : ℕ) → k < n → slice_get p.functions.items k ≡ None → false ≡ called (shown p) n k
+pub no_body : (p : CoreProgram) (n k : ℕ) → k < n → slice_get p.functions.items k ≡ None → false ≡ called (program_view p) n k
 no_body p n k h e =
     sym
-    (one_comes is_talk (shown p) n k h
-    ∙ ap (λ f. body_comes_to is_talk f (called (shown p) k)) (slice_get-map shown_function p.functions.items k ∙ ap
-    (option_map shown_function) e))
+    (one_comes is_talk (program_view p) n k h
+    ∙ ap (λ f. body_comes_to is_talk f (called (program_view p) k)) (slice_get-map function_view p.functions.items k ∙ ap
+    (option_map function_view) e))
 
 pub its_body : (p : CoreProgram) (n k : ℕ) (f : memory.Function) (ss : List Stmt) (r : Bool) → k < n
     → slice_get p.functions.items k ≡ Some f → ss ≡ f.body.items
-    → r ≡ some_comes_to is_talk (called (shown p) k) (shown_stmts ss) → r ≡ called (shown p) n k
+    → r ≡ some_comes_to is_talk (called (program_view p) k) (stmts_view ss) → r ≡ called (program_view p) n k
 its_body p n k f ss r h e d g =
-    g ∙ (ap (λ (x : List Stmt). some_comes_to is_talk (called (shown p) k) (shown_stmts x)) d
+    g ∙ (ap (λ (x : List Stmt). some_comes_to is_talk (called (program_view p) k) (stmts_view x)) d
     ∙ sym
-    (one_comes is_talk (shown p) n k h
-    ∙ ap (λ f. body_comes_to is_talk f (called (shown p) k)) (slice_get-map shown_function p.functions.items k ∙ ap
-    (option_map shown_function) e)))
+    (one_comes is_talk (program_view p) n k h
+    ∙ ap (λ f. body_comes_to is_talk f (called (program_view p) k)) (slice_get-map function_view p.functions.items k ∙ ap
+    (option_map function_view) e)))

@@ -1,5 +1,6 @@
 -- What a type says of its parts: arrays in it, and how deep it is.
 use Rattle.std.proofs.Common.{◌≡◌, ℕ, suc, zero, ◌≤◌, ◌<◌, Bool, true, false, ◌||◌, if◌then◌else◌, List, [], ◌∷◌}
+use Rattle.std.proofs.lemmas.Option.{none-some}
 use Rattle.std.proofs.Common.{length, map, slice_get, Option, Some, None, option_map, option_and_then, unwrap_or, inl}
 use Rattle.std.proofs.Common.{inr, eq-zero-or-pos, ◌-◌, ◌⊎◌, refl, sym, ap, ◌∙◌, subst, arith}
 use Rattle.std.specs.Option.{option_map_or}
@@ -28,9 +29,6 @@ level_in o = unwrap_or o 0
 any_step : (b c x y : Bool) → b ≡ c → x ≡ y → (b || x) ≡ (c || y)
 any_step b c x y p q = rw (p, q) refl
 
-differ : {A : Type 0} (x : A) → None ≡ Some x → ⊥
-differ x e = cc
-
 module _ (t : Table) (built : IsBuilt t) where
   value_of : {A : Type 0} (r : TypeRules A) (n : ℕ) (ty : Ty) → slice_get t.types n ≡ Some ty
       → by_type r t n ≡ at_type r t (by_type r t) ty
@@ -40,7 +38,7 @@ module _ (t : Table) (built : IsBuilt t) where
   there r n x h = elim (eq-zero-or-pos (length t.types - n)) [
     | inl past ↦
         let none : by_type r t n ≡ None = at_depth_past r t _ n (omega (arith, past)) in
-        absurd (differ x (sym none ∙ h))
+        absurd (none-some x (sym none ∙ h))
     | inr below ↦ omega (arith, below)
   ]
 

@@ -9,8 +9,8 @@ use Rattle.ep_core.specs.declared.program.CoreProgram.{CoreProgram}
 use Rattle.ep_core.specs.declared.program.Function as memory
 use Rattle.ep_core.specs.declared.tree.Stmt.{Stmt}
 use Rattle.ep_core.specs.Program.{Program}
-use Rattle.ep_core.specs.Shown.{shown}
-use Rattle.ep_core.specs.View.{shown_function, shown_stmts}
+use Rattle.ep_core.specs.ProgramView.{program_view}
+use Rattle.ep_core.specs.View.{function_view, stmts_view}
 use Rattle.ep_kinds.specs.Closed.{are_closed, each_function, is_closed_text}
 use Rattle.ep_kinds.specs.InOut.{is_talk, some_comes_to}
 use Rattle.ep_double.specs.Remembered.{AreRemembered, called}
@@ -29,32 +29,32 @@ pub record Kept (p : Program) (n : ℕ) (talks : List Bool) : Type 0 where
 module _ (p : CoreProgram) (n : ℕ) (f : memory.Function) (ss : List Stmt) (r : Bool)
     (within : n < length p.functions.items)
     (is : f ≡ get_or p.functions.items n f) (body : ss ≡ f.body.items)
-    (told : r ≡ are_closed (called (shown p) n) (shown_stmts ss)) where
-  one_and_rest : rest (shown p) n ≡ (r && rest (shown p) (suc n))
+    (told : r ≡ are_closed (called (program_view p) n) (stmts_view ss)) where
+  one_and_rest : rest (program_view p) n ≡ (r && rest (program_view p) (suc n))
   one_and_rest =
       let fs = p.functions.items in
-      ap (each_function (λ n f. are_closed (called (shown p) n) f.body) n)
-      (drop-map shown_function n fs
-      ∙ (ap (map shown_function)
+      ap (each_function (λ n f. are_closed (called (program_view p) n) f.body) n)
+      (drop-map function_view n fs
+      ∙ (ap (map function_view)
       (drop-cons fs n f within ∙ ap (λ (g : memory.Function). g ∷ drop (suc n) fs) (sym is))
-      ∙ ap (λ gs. shown_function f ∷ gs) (sym (drop-map shown_function (suc n) fs))))
-      ∙ ap (λ b. b && rest (shown p) (suc n))
-      (ap (λ (x : List Stmt). are_closed (called (shown p) n) (shown_stmts x)) (sym body) ∙ sym told)
+      ∙ ap (λ gs. function_view f ∷ gs) (sym (drop-map function_view (suc n) fs))))
+      ∙ ap (λ b. b && rest (program_view p) (suc n))
+      (ap (λ (x : List Stmt). are_closed (called (program_view p) n) (stmts_view x)) (sym body) ∙ sym told)
 
-  pub not_closed : (talks : List Bool) → Kept (shown p) n talks → r ≡ false → false ≡ is_closed_text (shown p)
-  not_closed talks k e = sym (ap (λ b. b && rest (shown p) (suc n)) e) ∙ (sym one_and_rest ∙ k.whole)
+  pub not_closed : (talks : List Bool) → Kept (program_view p) n talks → r ≡ false → false ≡ is_closed_text (program_view p)
+  not_closed talks k e = sym (ap (λ b. b && rest (program_view p) (suc n)) e) ∙ (sym one_and_rest ∙ k.whole)
 
   -- and c tells whether it comes to an input or output
   module _ (c : Bool) (ts : List Stmt) (again : ts ≡ f.body.items)
-      (comes : c ≡ some_comes_to is_talk (called (shown p) n) (shown_stmts ts)) where
-    its_own : c ≡ called (shown p) (suc n) n
+      (comes : c ≡ some_comes_to is_talk (called (program_view p) n) (stmts_view ts)) where
+    its_own : c ≡ called (program_view p) (suc n) n
     its_own =
         its_body p (suc n) n f ts c (omega arith)
         (slice_get-get_or p.functions.items n f within ∙ ap (λ (g : memory.Function). Some g) (sym is)) again comes
 
-    right_after : (old new : List Bool) → AreRemembered (shown p) n old
+    right_after : (old new : List Bool) → AreRemembered (program_view p) n old
         → ((new ≡ set old n c) × (n < length old)) ⊎ ((new ≡ old) × (length old ≤ n))
-        → AreRemembered (shown p) (n + 1) new
+        → AreRemembered (program_view p) (n + 1) new
     right_after old new h (inl s) k i l = by_number (nat_eq k n) refl
       where
         one_more : suc n ≡ n + 1
@@ -69,29 +69,29 @@ module _ (p : CoreProgram) (n : ℕ) (f : memory.Function) (ss : List Stmt) (r :
         longer : k < length old
         longer = let d = ap length s.0 in let v = length-set old n c in omega (arith, l, d, v)
 
-        by_number : (t : Bool) → nat_eq k n ≡ t → get_or new k false ≡ called (shown p) (n + 1) k
+        by_number : (t : Bool) → nat_eq k n ≡ t → get_or new k false ≡ called (program_view p) (n + 1) k
         by_number true e =
             let d = eqb-true k n e in
             ap (λ (xs : List Bool). get_or xs k false) s.0
             ∙ (ap (λ j. get_or (set old n c) j false) d
             ∙ (get_or-set_same old n c false s.1
-            ∙ (its_own ∙ (ap (called (shown p) (suc n)) (sym d) ∙ ap (λ j. called (shown p) j k) one_more))))
+            ∙ (its_own ∙ (ap (called (program_view p) (suc n)) (sym d) ∙ ap (λ j. called (program_view p) j k) one_more))))
         by_number false e =
             ap (λ (xs : List Bool). get_or xs k false) s.0
             ∙ (get_or-set_other old n k c false (other e)
-            ∙ (h k (earlier e) longer ∙ same_called (shown p) n (n + 1) k (earlier e) i))
+            ∙ (h k (earlier e) longer ∙ same_called (program_view p) n (n + 1) k (earlier e) i))
     right_after old new h (inr s) k i l =
         let d = ap length s.0 in
         ap (λ (xs : List Bool). get_or xs k false) s.0
-        ∙ (h k (omega (arith, l, d, s.1)) (omega (arith, l, d)) ∙ same_called (shown p) n (n + 1) k (omega
+        ∙ (h k (omega (arith, l, d, s.1)) (omega (arith, l, d)) ∙ same_called (program_view p) n (n + 1) k (omega
         (arith, l, d, s.1)) i)
 
-    pub kept_on : (old new : List Bool) → Kept (shown p) n old → r ≡ true
-        → ((new ≡ set old n c) × (n < 81920)) ⊎ ((new ≡ old) × (81920 ≤ n)) → Kept (shown p) (n + 1) new
+    pub kept_on : (old new : List Bool) → Kept (program_view p) n old → r ≡ true
+        → ((new ≡ set old n c) × (n < 81920)) ⊎ ((new ≡ old) × (81920 ≤ n)) → Kept (program_view p) (n + 1) new
     kept_on old new k e s = record {
       right = right_after old new k.right (to_length s);
       long = to_long s;
-      whole = ap (rest (shown p)) one_more ∙ (sym (ap (λ b. b && rest (shown p) (suc n)) e) ∙ (sym one_and_rest
+      whole = ap (rest (program_view p)) one_more ∙ (sym (ap (λ b. b && rest (program_view p) (suc n)) e) ∙ (sym one_and_rest
           ∙ k.whole));
     }
       where

@@ -10,7 +10,7 @@ use Rattle.ep_core.specs.declared.tree.Dest as dest
 use Rattle.ep_core.specs.declared.tree.Stmt.{Stmt}
 use Rattle.ep_core.specs.declared.tree.What.{What}
 use Rattle.ep_core.specs.declared.tree.What.TheVariants.{Call, If, Loop, Scope}
-use Rattle.ep_core.specs.View.{shown_dest, shown_expr, shown_what, shown_stmts}
+use Rattle.ep_core.specs.View.{dest_view, expr_view, what_view, stmts_view}
 use Rattle.ep_core.proofs.Views.{if_is, loop_is, scope_is}
 use Rattle.ep_kinds.specs.Tame.{is_tame_expr, is_tame_dest, is_tame_what, are_tame}
 
@@ -31,31 +31,31 @@ all_mapped test f (x ∷ xs) = ap (λ b. test (f x) && b) (all_mapped test f xs)
 
 module _ (t : Table) where
   abbrev pub list_tame : List Stmt → Bool
-  list_tame ss = are_tame t (shown_stmts ss)
+  list_tame ss = are_tame t (stmts_view ss)
 
   -- ---- statements
 
   pub call_tame : (w : What) (k : ℕ) (es : Vec tree.Expr Global) (d : Option dest.Dest) (xs : List tree.Expr)
       → w ≡ Call k es d → xs ≡ es.items
-      → is_tame_what t (shown_what w)
-      ≡ (list_all (λ e. is_tame_expr t (shown_expr e)) xs && is_tame_dest t (option_map shown_dest d))
+      → is_tame_what t (what_view w)
+      ≡ (list_all (λ e. is_tame_expr t (expr_view e)) xs && is_tame_dest t (option_map dest_view d))
   call_tame w k es d xs h e =
-      ap (λ w. is_tame_what t (shown_what w)) h
-      ∙ ap (λ b. b && is_tame_dest t (option_map shown_dest d)) (all_mapped (is_tame_expr t) shown_expr es.items)
-      ∙ ap (λ xs. list_all (λ e. is_tame_expr t (shown_expr e)) xs && is_tame_dest t (option_map shown_dest d)) (sym e)
+      ap (λ w. is_tame_what t (what_view w)) h
+      ∙ ap (λ b. b && is_tame_dest t (option_map dest_view d)) (all_mapped (is_tame_expr t) expr_view es.items)
+      ∙ ap (λ xs. list_all (λ e. is_tame_expr t (expr_view e)) xs && is_tame_dest t (option_map dest_view d)) (sym e)
 
   pub if_tame : (w : What) (e : tree.Expr) (a b : Vec Stmt Global) (xs ys : List Stmt) → w ≡ If e a b → xs ≡ a.items
       → ys ≡ b.items
-      → is_tame_what t (shown_what w) ≡ (is_tame_expr t (shown_expr e) && (list_tame xs && list_tame ys))
+      → is_tame_what t (what_view w) ≡ (is_tame_expr t (expr_view e) && (list_tame xs && list_tame ys))
   if_tame w e a b xs ys h p q =
-      rw (p, q) (ap (λ w. is_tame_what t (shown_what w)) h ∙ ap (is_tame_what t) (if_is e a b))
+      rw (p, q) (ap (λ w. is_tame_what t (what_view w)) h ∙ ap (is_tame_what t) (if_is e a b))
 
   pub loop_tame : (w : What) (first : Bool) (e : tree.Expr) (a b : Vec Stmt Global) (xs ys : List Stmt)
       → w ≡ Loop first e a b → xs ≡ a.items → ys ≡ b.items
-      → is_tame_what t (shown_what w) ≡ (is_tame_expr t (shown_expr e) && (list_tame xs && list_tame ys))
+      → is_tame_what t (what_view w) ≡ (is_tame_expr t (expr_view e) && (list_tame xs && list_tame ys))
   loop_tame w first e a b xs ys h p q =
-      rw (p, q) (ap (λ w. is_tame_what t (shown_what w)) h ∙ ap (is_tame_what t) (loop_is first e a b))
+      rw (p, q) (ap (λ w. is_tame_what t (what_view w)) h ∙ ap (is_tame_what t) (loop_is first e a b))
 
   pub scope_tame : (w : What) (bs : Vec ℕ Global) (a : Vec Stmt Global) (xs : List Stmt) → w ≡ Scope bs a
-      → xs ≡ a.items → is_tame_what t (shown_what w) ≡ list_tame xs
-  scope_tame w bs a xs h p = rw p (ap (λ w. is_tame_what t (shown_what w)) h ∙ ap (is_tame_what t) (scope_is bs a))
+      → xs ≡ a.items → is_tame_what t (what_view w) ≡ list_tame xs
+  scope_tame w bs a xs h p = rw p (ap (λ w. is_tame_what t (what_view w)) h ∙ ap (is_tame_what t) (scope_is bs a))

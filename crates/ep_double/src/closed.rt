@@ -4,8 +4,8 @@ ghost use Rattle.std.specs.Prelude.{◌≡◌, ◌&&◌, ◌||◌, slice_get};
 ghost use Rattle.std.specs.Option.{option_map};
 ghost use Rattle.ep_int.specs.declared.types.Order.TheVariants.{Little};
 ghost use Rattle.ep_core.specs.Program.{by_order};
-ghost use Rattle.ep_core.specs.Shown.{shown};
-ghost use Rattle.ep_core.specs.View.{shown_stmts, shown_what};
+ghost use Rattle.ep_core.specs.ProgramView.{program_view};
+ghost use Rattle.ep_core.specs.View.{stmts_view, what_view};
 ghost use Rattle.ep_kinds.specs.Closed.{are_closed, is_closed_text, is_closed_what};
 ghost use Rattle.ep_kinds.specs.InOut.{comes_to, is_talk, some_comes_to};
 ghost use Rattle.ep_double.specs.Remembered.{AreRemembered, called};
@@ -22,12 +22,12 @@ struct Before<'a> {
     program: &'a CoreProgram,
     here: usize,
     talks: &'a [bool],
-    ghost right: { AreRemembered (shown program.now) here talks.now },
+    ghost right: { AreRemembered (program_view program.now) here talks.now },
 }
 
 /// Takes no memory.
 pub fn is_closed(p: &CoreProgram) -> bool
-    ensures { result ≡ is_closed_text (shown p.now) }
+    ensures { result ≡ is_closed_text (program_view p.now) }
 {
     let mut talks = [false; REMEMBERED];
     for here in 0..p.functions.len() {
@@ -50,7 +50,7 @@ pub fn is_closed(p: &CoreProgram) -> bool
 
 #[cycle(closed)]
 fn is_closed_stmt(c: &Before<'_>, s: &Stmt) -> bool
-    ensures { result ≡ is_closed_what (called (shown c.now.program.now) c.now.here) (shown_what s.now.what) }
+    ensures { result ≡ is_closed_what (called (program_view c.now.program.now) c.now.here) (what_view s.now.what) }
 {
     match &s.what {
         What::Input(_, _) => false,
@@ -65,7 +65,7 @@ fn is_closed_stmt(c: &Before<'_>, s: &Stmt) -> bool
 
 #[cycle(closed)]
 fn list_is_closed(c: &Before<'_>, body: &[Stmt]) -> bool
-    ensures { result ≡ are_closed (called (shown c.now.program.now) c.now.here) (shown_stmts body.now) }
+    ensures { result ≡ are_closed (called (program_view c.now.program.now) c.now.here) (stmts_view body.now) }
 {
     for s in body {
         if !is_closed_stmt(c, s) {
@@ -77,8 +77,8 @@ fn list_is_closed(c: &Before<'_>, body: &[Stmt]) -> bool
 
 #[cycle(closed)]
 fn two_are_closed(c: &Before<'_>, a: &[Stmt], b: &[Stmt]) -> bool
-    ensures { result ≡ are_closed (called (shown c.now.program.now) c.now.here) (shown_stmts a.now)
-        && are_closed (called (shown c.now.program.now) c.now.here) (shown_stmts b.now) }
+    ensures { result ≡ are_closed (called (program_view c.now.program.now) c.now.here) (stmts_view a.now)
+        && are_closed (called (program_view c.now.program.now) c.now.here) (stmts_view b.now) }
 {
     list_is_closed(c, a) && list_is_closed(c, b)
 }
@@ -86,8 +86,8 @@ fn two_are_closed(c: &Before<'_>, a: &[Stmt], b: &[Stmt]) -> bool
 // The arms of a byte-order conditional.
 #[cycle(closed)]
 fn arms_are_closed(c: &Before<'_>, a: &[Stmt], b: &[Stmt]) -> bool
-    ensures { result ≡ is_closed_what (called (shown c.now.program.now) c.now.here)
-        (by_order Little (shown_stmts a.now) (shown_stmts b.now)) }
+    ensures { result ≡ is_closed_what (called (program_view c.now.program.now) c.now.here)
+        (by_order Little (stmts_view a.now) (stmts_view b.now)) }
 {
     if two_talk(c, a, b) {
         return false;
@@ -98,7 +98,7 @@ fn arms_are_closed(c: &Before<'_>, a: &[Stmt], b: &[Stmt]) -> bool
 // Whether a statement comes to an input or output.
 #[cycle(talking)]
 fn talks_stmt(c: &Before<'_>, s: &Stmt) -> bool
-    ensures { result ≡ comes_to is_talk (called (shown c.now.program.now) c.now.here) (shown_what s.now.what) }
+    ensures { result ≡ comes_to is_talk (called (program_view c.now.program.now) c.now.here) (what_view s.now.what) }
 {
     match &s.what {
         What::Input(_, _) => true,
@@ -116,7 +116,8 @@ fn talks_stmt(c: &Before<'_>, s: &Stmt) -> bool
 
 #[cycle(talking)]
 fn list_talks(c: &Before<'_>, body: &[Stmt]) -> bool
-    ensures { result ≡ some_comes_to is_talk (called (shown c.now.program.now) c.now.here) (shown_stmts body.now) }
+    ensures { result ≡ some_comes_to is_talk (called (program_view c.now.program.now) c.now.here)
+        (stmts_view body.now) }
 {
     for s in body {
         if talks_stmt(c, s) {
@@ -128,8 +129,8 @@ fn list_talks(c: &Before<'_>, body: &[Stmt]) -> bool
 
 #[cycle(talking)]
 fn two_talk(c: &Before<'_>, a: &[Stmt], b: &[Stmt]) -> bool
-    ensures { result ≡ some_comes_to is_talk (called (shown c.now.program.now) c.now.here) (shown_stmts a.now)
-        || some_comes_to is_talk (called (shown c.now.program.now) c.now.here) (shown_stmts b.now) }
+    ensures { result ≡ some_comes_to is_talk (called (program_view c.now.program.now) c.now.here) (stmts_view a.now)
+        || some_comes_to is_talk (called (program_view c.now.program.now) c.now.here) (stmts_view b.now) }
 {
     list_talks(c, a) || list_talks(c, b)
 }
@@ -137,7 +138,7 @@ fn two_talk(c: &Before<'_>, a: &[Stmt], b: &[Stmt]) -> bool
 // Whether the body of a function does that comes before.
 #[cycle(talking)]
 fn talks_called(c: &Before<'_>, k: usize) -> bool
-    ensures { result ≡ called (shown c.now.program.now) c.now.here k }
+    ensures { result ≡ called (program_view c.now.program.now) c.now.here k }
 {
     if k >= c.here {
         return false;

@@ -3,8 +3,8 @@
 ghost use Rattle.std.specs.Prelude.{◌≡◌, ◌<◌, ◌≤◌, IsTrue, length, List, vec_len};
 ghost use Rattle.std.specs.List.{list_all, list_any};
 ghost use Rattle.std.specs.Option.{option_map};
-ghost use Rattle.ep_core.specs.Shown.{shown};
-ghost use Rattle.ep_core.specs.View.{shown_dest, shown_expr, shown_function, shown_place, shown_stmts, shown_what};
+ghost use Rattle.ep_core.specs.ProgramView.{program_view};
+ghost use Rattle.ep_core.specs.View.{dest_view, expr_view, function_view, place_view, stmts_view, what_view};
 ghost use Rattle.ep_kinds.specs.Tame as kind;
 
 mod holders;
@@ -17,13 +17,13 @@ use types::{are_tame_types, is_size_of_holder};
 
 /// Whether no byte of a number is looked at by itself, and each pointer goes along one array. Takes no memory.
 pub fn is_tame(p: &CoreProgram) -> bool
-    ensures { result ≡ kind.is_tame (shown p.now) }
+    ensures { result ≡ kind.is_tame (program_view p.now) }
 {
     are_tame_types(&p.types) && are_tame_functions(&p.types, &p.functions)
 }
 
 fn are_tame_functions(types: &Types, functions: &[Function]) -> bool
-    ensures { result ≡ list_all (λ f. kind.are_tame types.now (shown_function f).body) functions.now }
+    ensures { result ≡ list_all (λ f. kind.are_tame types.now (function_view f).body) functions.now }
 {
     for f in functions {
         if !are_tame(types, &f.body) {
@@ -35,7 +35,7 @@ fn are_tame_functions(types: &Types, functions: &[Function]) -> bool
 
 #[cycle(statements)]
 fn are_tame(types: &Types, body: &[Stmt]) -> bool
-    ensures { result ≡ kind.are_tame types.now (shown_stmts body.now) }
+    ensures { result ≡ kind.are_tame types.now (stmts_view body.now) }
 {
     for s in body {
         if !is_tame_what(types, &s.what) {
@@ -47,7 +47,7 @@ fn are_tame(types: &Types, body: &[Stmt]) -> bool
 
 #[cycle(statements)]
 fn is_tame_what(types: &Types, what: &What) -> bool
-    ensures { result ≡ kind.is_tame_what types.now (shown_what what.now) }
+    ensures { result ≡ kind.is_tame_what types.now (what_view what.now) }
 {
     match what {
         What::Nothing => true,
@@ -75,7 +75,7 @@ fn is_tame_what(types: &Types, what: &What) -> bool
 }
 
 fn is_tame_value(types: &Types, value: &Option<Expr>) -> bool
-    ensures { result ≡ kind.is_tame_value types.now (option_map shown_expr value.now) }
+    ensures { result ≡ kind.is_tame_value types.now (option_map expr_view value.now) }
 {
     match value {
         None => true,
@@ -84,7 +84,7 @@ fn is_tame_value(types: &Types, value: &Option<Expr>) -> bool
 }
 
 fn is_tame_dest(types: &Types, dest: &Option<Dest>) -> bool
-    ensures { result ≡ kind.is_tame_dest types.now (option_map shown_dest dest.now) }
+    ensures { result ≡ kind.is_tame_dest types.now (option_map dest_view dest.now) }
 {
     match dest {
         None => true,
@@ -93,7 +93,7 @@ fn is_tame_dest(types: &Types, dest: &Option<Dest>) -> bool
 }
 
 fn are_tame_exprs(types: &Types, es: &[Expr]) -> bool
-    ensures { result ≡ list_all (λ e. kind.is_tame_expr types.now (shown_expr e)) es.now }
+    ensures { result ≡ list_all (λ e. kind.is_tame_expr types.now (expr_view e)) es.now }
 {
     for e in es {
         if !is_tame_expr(types, e) {
@@ -105,7 +105,7 @@ fn are_tame_exprs(types: &Types, es: &[Expr]) -> bool
 
 #[cycle(expressions)]
 fn is_tame_expr(types: &Types, e: &Expr) -> bool
-    ensures { result ≡ kind.is_tame_expr types.now (shown_expr e.now) }
+    ensures { result ≡ kind.is_tame_expr types.now (expr_view e.now) }
 {
     match e {
         Expr::Const(_, _) => true,
@@ -131,7 +131,7 @@ fn is_tame_expr(types: &Types, e: &Expr) -> bool
 
 #[cycle(expressions)]
 fn is_tame_place(types: &Types, a: &Place) -> bool
-    ensures { result ≡ kind.is_tame_place types.now (shown_place a.now) }
+    ensures { result ≡ kind.is_tame_place types.now (place_view a.now) }
 {
     match a {
         Place::Block(_) => true,
@@ -142,7 +142,7 @@ fn is_tame_place(types: &Types, a: &Place) -> bool
 }
 
 fn through_member(a: &Place) -> bool
-    ensures { result ≡ kind.through_member (shown_place a.now) }
+    ensures { result ≡ kind.through_member (place_view a.now) }
 {
     match a {
         Place::Block(_) => false,

@@ -8,11 +8,11 @@ abbrev pub IsMember : Table → (aggregate offset ty : ℕ) → Type 0
 IsMember t g q ty = (a : ℕ) × (aggregate_of t g ≡ Some a) × (has_member_at t a q ty ≡ true)
 
 -- an object of type `ty` lies at this offset of one of type `whole`, as a member or an element (C11 6.2.5)
-pub data Stands (t : Table) (whole : ℕ) : (offset ty : ℕ) → Type 0 where
-  here : Stands t whole 0 whole
-  in_member : (o g q ty : ℕ) → Stands t whole o g → IsMember t g q ty → Stands t whole (o + q) ty
-  in_element : (o a e n i u : ℕ) → Stands t whole o a → elements_of t a ≡ Some (e, n) → i < n → size t e ≡ Some u
-      → Stands t whole (o + u * i) e
+pub data HasScalar (t : Table) (whole : ℕ) : (offset ty : ℕ) → Type 0 where
+  here : HasScalar t whole 0 whole
+  in_member : (o g q ty : ℕ) → HasScalar t whole o g → IsMember t g q ty → HasScalar t whole (o + q) ty
+  in_element : (o a e n i u : ℕ) → HasScalar t whole o a → elements_of t a ≡ Some (e, n) → i < n → size t e ≡ Some u
+      → HasScalar t whole (o + u * i) e
 
 -- The type itself, or one of the elements of arrays in it, with its size, and how many there are beside the first.
 pub data IsInChain (t : Table) (whole : ℕ) : (ty step most : ℕ) → Type 0 where
@@ -43,4 +43,4 @@ pub data IsRow (t : Table) (b whole bytes : ℕ) : Place → Row → Type 0 wher
 
 -- at each place of the row such an object lies
 abbrev pub AreLaid : Table → (whole : ℕ) → Row → Type 0
-AreLaid t whole r = (k : ℕ) → k ≤ r.most → Stands t whole (r.first + r.step * k) r.ty
+AreLaid t whole r = (k : ℕ) → k ≤ r.most → HasScalar t whole (r.first + r.step * k) r.ty

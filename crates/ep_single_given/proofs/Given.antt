@@ -1,30 +1,21 @@
 -- Constants, addresses of blocks and null, and what is the same as another.
-use Rattle.std.proofs.Common.{◌≡◌, ℕ, ℤ, Bool, true, List, [], ◌++◌, Some, None, refl, sym, ap, ◌∙◌, subst}
-use Rattle.ep_alarms.specs.declared.types.AlarmKind.{AlarmKind}
+use Rattle.std.proofs.Common.{◌≡◌, ℕ, ℤ, Bool, true, List, [], ◌++◌, Some, refl, sym, ap, ◌∙◌, subst}
 use Rattle.ep_int.specs.declared.types.IntType.{IntType}
 use Rattle.ep_int.specs.Types.{InRange}
 use Rattle.ep_int.proofs.Arithmetic.{in_range_some_type}
 use Rattle.ep_domain.specs.Domain.{Ops, Lawful}
 use Rattle.ep_pointers.specs.Value.{Pointers, HasOneMember}
-use Rattle.ep_core.specs.Runs.{Side, left, right}
+use Rattle.ep_core.specs.Runs.{Side}
 use Rattle.ep_equalities.specs.declared.pair.Mode.{Mode}
-use Rattle.ep_equalities.specs.declared.pair.Mode.TheVariants.{Both, Left, Right}
 use Rattle.ep_equalities.specs.declared.pair.Fault.{Fault}
 use Rattle.ep_equalities.specs.declared.pair.SideValue.{SideValue}
-use Rattle.ep_evaluation.specs.Given.{Given, runs, on, pair_on, Shown, fault_of, faults_on}
+use Rattle.ep_evaluation.specs.Given.{Given, runs, on, pair_on}
 use Rattle.ep_evaluation.specs.Operators.{constant_form}
 use Rattle.ep_evaluation.specs.Evaluation.{same, formless, constant_given, pointer_given, same_given, same_side}
-use Rattle.ep_evaluation_laws.proofs.General.{on_running}
+use Rattle.ep_evaluation.proofs.General.{on_running}
 use Rattle.ep_cells.specs.declared.cell.Value.TheVariants.{Num, Ptr}
 use Rattle.ep_singles.specs.Cells.{IsOneValue, one_number, one_pointer}
 use Rattle.ep_single_given.specs.Laws.{IsOneGiven}
-
-pub quiet_on : (mode : Mode) (k : AlarmKind) (f : Side → Shown) → ((s : Side) → runs mode s ≡ true → f s ≡ None)
-    → faults_on mode k f ≡ []
-quiet_on Both k f h =
-    ap (λ a. fault_of k a (f right)) (h left refl) ∙ ap (λ b. fault_of k None b) (h right refl)
-quiet_on Left k f h = ap (λ a. fault_of k a None) (h left refl)
-quiet_on Right k f h = ap (λ b. fault_of k None b) (h right refl)
 
 pub no_faults : (xs ys : List Fault) → xs ≡ [] → ys ≡ [] → xs ++ ys ≡ []
 no_faults xs ys e f = ap (λ z. z ++ ys) e ∙ f

@@ -1,5 +1,7 @@
 -- A load gives one value, without a fault, where the machines find one.
 use Rattle.std.proofs.Common.{◌≡◌, ℕ, ◌+◌, ◌%◌, ◌<◌, ◌≤◌, Bool, true, false, ◌&&◌, not, nat_lt, cond, []}
+use Rattle.ep_evaluation.proofs.Basics.{faults_on-none}
+use Rattle.ep_int.proofs.Basics.{size_positive}
 use Rattle.std.proofs.Common.{◌++◌, slice_get, Option, Some, None, refl, sym, ap, ◌∙◌, subst, arith}
 use Rattle.std.specs.List.{list_any}
 use Rattle.std.specs.Option.{option_map}
@@ -24,18 +26,18 @@ use Rattle.ep_evaluation.specs.Given.{cells_of, runs, on, Shown, shown_if, fault
 use Rattle.ep_evaluation.specs.Accesses.{bounds_of, may_be_odd, is_unset, is_mixed}
 use Rattle.ep_evaluation.specs.Evaluation.{Reaches, pointer, same, targets_of, is_null, reads_at, load_side, load_given}
 use Rattle.ep_evaluation.specs.Evaluation.{load_faults, all_shared}
-use Rattle.ep_evaluation_laws.specs.Laws.{memory_of, Machine, SoundPlace, sizes_of}
-use Rattle.ep_evaluation_laws.proofs.General.{reliable_none}
-use Rattle.ep_evaluation_laws.proofs.Loads.{some_bytes, memory_at, order_at}
-use Rattle.ep_evaluation_laws.proofs.LoadSound.{place_found}
-use Rattle.ep_reads_laws.specs.Laws.{memory_on}
+use Rattle.ep_evaluation.specs.Laws.{memory_of, Machine, SoundPlace, sizes_of}
+use Rattle.ep_evaluation.proofs.General.{reliable_none}
+use Rattle.ep_evaluation.proofs.Loads.{memory_at, order_at}
+use Rattle.ep_evaluation.proofs.LoadSound.{place_found}
+use Rattle.ep_reads.specs.Laws.{memory_on}
 use Rattle.ep_singles.specs.Laws.{Finds, ReadsAreOne}
 use Rattle.ep_single_narrowed.specs.Laws.{IsKeptOne}
 use Rattle.ep_single_places.specs.Laws.{IsPlaceFor, IsOneInto, IsOneAccess, IsOneLoad}
 use Rattle.ep_single_places.proofs.Places.{accesses_are_one}
 use Rattle.ep_single_places.proofs.Loads.{loads_are_one}
 use Rattle.ep_single_given.specs.Laws.{FindAll, load_at, IsOneGiven, GivesOne}
-use Rattle.ep_single_given.proofs.Given.{quiet_on, no_faults, given_one}
+use Rattle.ep_single_given.proofs.Given.{no_faults, given_one}
 
 -- ---- what a machine's load says
 
@@ -110,7 +112,7 @@ module _ {N : Type 0} (D : Ops N) (law : Lawful D) (reads : ReadsAreOne D) (p : 
             size = size_at (ord i) p z.0;
             of_block = slice_get-map (λ (y : Block). y.size) p.blocks z.0
                 ∙ block_there (ord i) p (slice_get p.blocks z.0) z.1 (size_of p.types.model w) l.inside
-                (some_bytes p.types.model w);
+                (size_positive p.types.model w);
             inside = subst (λ d. z.1 + size_of d w ≤ size_at (ord i) p z.0) (sym model) l.inside;
             aligned = subst (λ d. z.1 % size_of d w ≡ 0) (sym model) l.aligned;
           } in
@@ -128,7 +130,7 @@ module _ {N : Type 0} (D : Ops N) (law : Lawful D) (reads : ReadsAreOne D) (p : 
             b = z.0;
             q = z.1;
             access = accesses_are_one D law (sizes_of p.blocks) (size_of k.model w) (on (a mode k).pair i) z.0 z.1 into
-                (some_bytes k.model w) at;
+                (size_positive k.model w) at;
             v = v.0;
             load = loads_are_one D law reads k m s.one i w (sizes_of p.blocks) (on (a mode k).pair i) z.0 z.1 into at
                 v.0 finds;
@@ -157,14 +159,14 @@ module _ {N : Type 0} (D : Ops N) (law : Lawful D) (reads : ReadsAreOne D) (p : 
       quiet =
           no_faults (faults_on mode U6 f6)
           (faults_on mode U5 f5 ++ (faults_on mode U7 f7 ++ (faults_on mode U4 f4 ++ faults_on mode U10 f10)))
-          (quiet_on mode U6 f6 (λ i r. ap shown_if (load_of i r).access.not_null))
+          (faults_on-none mode U6 f6 (λ i r. ap shown_if (load_of i r).access.not_null))
           (no_faults (faults_on mode U5 f5) (faults_on mode U7 f7 ++ (faults_on mode U4 f4 ++ faults_on mode U10 f10))
-          (quiet_on mode U5 f5 (λ i r. (load_of i r).access.inside))
+          (faults_on-none mode U5 f5 (λ i r. (load_of i r).access.inside))
           (no_faults (faults_on mode U7 f7) (faults_on mode U4 f4 ++ faults_on mode U10 f10)
-          (quiet_on mode U7 f7 (λ i r. ap shown_if (load_of i r).access.aligned))
+          (faults_on-none mode U7 f7 (λ i r. ap shown_if (load_of i r).access.aligned))
           (no_faults (faults_on mode U4 f4) (faults_on mode U10 f10)
-          (quiet_on mode U4 f4 (λ i r. ap shown_if (load_of i r).load.set))
-          (quiet_on mode U10 f10 (λ i r. ap shown_if (load_of i r).load.unmixed)))))
+          (faults_on-none mode U4 f4 (λ i r. ap shown_if (load_of i r).load.set))
+          (faults_on-none mode U10 f10 (λ i r. ap shown_if (load_of i r).load.unmixed)))))
 
       load_one : IsOneGiven D mode (load_given D (sizes_of p.blocks) w mode k (a mode k))
       load_one =

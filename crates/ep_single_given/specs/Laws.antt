@@ -16,7 +16,7 @@ use Rattle.ep_core.specs.Runs.{Side}
 use Rattle.ep_equalities.specs.declared.pair.Mode.{Mode}
 use Rattle.ep_evaluation.specs.Given.{Given, runs, on}
 use Rattle.ep_evaluation.specs.Evaluation.{Reaches, constant_given, pointer_given, same_given, load_given}
-use Rattle.ep_evaluation_laws.specs.Laws.{memory_of, Machine, SoundPlace, sizes_of}
+use Rattle.ep_evaluation.specs.Laws.{memory_of, Machine, SoundPlace, sizes_of}
 use Rattle.ep_singles.specs.Cells.{IsOneValue}
 use Rattle.ep_single_narrowed.specs.Laws.{IsKeptOne}
 

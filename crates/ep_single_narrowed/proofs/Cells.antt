@@ -19,9 +19,9 @@ use Rattle.ep_core.specs.Program.{Program}
 use Rattle.ep_core.specs.Exec.{is_true}
 use Rattle.ep_core.specs.Runs.{Side}
 use Rattle.ep_evaluation.specs.Narrowed.{then_with, met, refined, null_met, null_refined}
-use Rattle.ep_evaluation_laws.specs.Laws.{IfKept, IsOfCell}
-use Rattle.ep_evaluation_laws.proofs.Assuming.{refined_kept}
-use Rattle.ep_evaluation_laws.proofs.Tests.{null_refined_kept}
+use Rattle.ep_evaluation.specs.Laws.{IfKept, IsOfCell}
+use Rattle.ep_evaluation.proofs.Assuming.{refined_kept}
+use Rattle.ep_evaluation.proofs.Tests.{null_refined_kept}
 use Rattle.ep_singles.specs.Numbers.{KeepsSingles}
 use Rattle.ep_singles.specs.Cells.{IsOneValue, one_number, one_pointer, IsOneCell, no_value, one_value, IsOne}
 use Rattle.ep_singles.proofs.Bytes.{held_single}

@@ -1,5 +1,6 @@
 -- What is not so can't be assumed of values that can be one alone.
 use Rattle.std.proofs.Common.{◌≡◌, ℤ, pos, Bool, true, false, not, cond, Option, Some, None, refl, sym, ap, ◌∙◌, subst}
+use Rattle.ep_single_places.proofs.Truths.{truth_is}
 use Rattle.ep_int.specs.declared.types.Cmp.{Cmp}
 use Rattle.ep_int.specs.declared.types.Cmp.TheVariants.{Ne}
 use Rattle.ep_int.specs.declared.types.Scalar.{Scalar}
@@ -19,15 +20,11 @@ use Rattle.ep_evaluation.specs.Operators.{pointer_in, test_of}
 use Rattle.ep_evaluation.specs.Narrowed.{then_with, narrowed_by, numbers_narrowed, says_alike, null_side, answer}
 use Rattle.ep_evaluation.specs.Narrowed.{pointers_narrowed}
 use Rattle.ep_evaluation.specs.Evaluation.{formless, value_narrowed}
-use Rattle.ep_evaluation_laws.proofs.Assuming.{zero_type}
+use Rattle.ep_evaluation.proofs.Assuming.{zero_type}
 use Rattle.ep_singles.specs.Cells.{IsOneValue, one_number, one_pointer}
 use Rattle.ep_singles.proofs.Bytes.{held_single}
 use Rattle.ep_single_places.proofs.Truths.{comparisons_are_one}
 use Rattle.ep_single_narrowed.proofs.Stays.{among, tested_so}
-
-true_number : (r : Bool) → is_true (int (cond r (pos 1) (pos 0))) ≡ r
-true_number true = refl
-true_number false = refl
 
 other_answer : (t : Bool) → answer (these_truths (not t) (not (not t)) false) t ≡ false
 other_answer true = refl
@@ -59,7 +56,7 @@ module _ {N : Type 0} (D : Ops N) (law : Lawful D) where
       (subst (λ o. Allows D Pointer o false (Some u)) i.is ax) (subst (λ o. Allows D Pointer o false (Some v)) j.is ay)
       e in
       let a : answer (comparison_of D c i.p j.p) t ≡ false
-      = ap (λ r. answer r t) (r ∙ ap (λ b. these_truths b (not b) false) (true_number (not t))) ∙ other_answer t in
+      = ap (λ r. answer r t) (r ∙ ap (λ b. these_truths b (not b) false) (truth_is (not t))) ∙ other_answer t in
       ap (λ o. pointers_narrowed D c t o (pointer_in y) f g k) (ap pointer_in i.is)
       ∙ ap (λ o. pointers_narrowed D c t (Some i.p) o f g k) (ap pointer_in j.is)
       ∙ ap (λ b. cond b (then_with (null_side j.p (says_alike c t) f k) (λ k. null_side i.p (says_alike c t) g k)) None)

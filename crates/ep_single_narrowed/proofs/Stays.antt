@@ -1,5 +1,6 @@
 -- Where what is assumed is so, a state stands for one pair of memories still.
 use Rattle.std.proofs.Common.{◌≡◌, ℤ, pos, Bool, true, false, not, cond, Option, Some, None, IfSome, IsSomeAnd}
+use Rattle.ep_single_places.proofs.Truths.{truth_is}
 use Rattle.std.proofs.Common.{refl, sym, ap, ◌∙◌, subst}
 use Rattle.ep_int.specs.declared.types.Order.{Order}
 use Rattle.ep_int.specs.declared.types.Cmp.{Cmp}
@@ -24,23 +25,19 @@ use Rattle.ep_evaluation.specs.Operators.{pointer_in, test_of}
 use Rattle.ep_evaluation.specs.Narrowed.{refined, narrowed_by, numbers_narrowed, null_refined, says_alike}
 use Rattle.ep_evaluation.specs.Narrowed.{null_side, pointers_narrowed}
 use Rattle.ep_evaluation.specs.Evaluation.{value_narrowed}
-use Rattle.ep_evaluation_laws.proofs.Pointers.{at, IsPointer, Linked, as_truth, as_mix, linked, only_null, answered}
-use Rattle.ep_evaluation_laws.proofs.Assuming.{zero_type}
-use Rattle.ep_evaluation_laws.proofs.Tests.{compares_zero}
+use Rattle.ep_evaluation.proofs.Pointers.{at, IsPointer, Linked, as_truth, as_mix, linked, only_null, answered}
+use Rattle.ep_evaluation.proofs.Assuming.{zero_type}
+use Rattle.ep_evaluation.proofs.Tests.{compares_zero}
 use Rattle.ep_singles.specs.Numbers.{KeepsSingles}
 use Rattle.ep_singles.specs.Cells.{IsOneValue, one_number}
 use Rattle.ep_singles.proofs.Bytes.{held_single}
 use Rattle.ep_single_narrowed.specs.Laws.{HasCell, IsKeptOne, IfKeptOne}
 use Rattle.ep_single_narrowed.proofs.Cells.{then_one, refined_one, null_refined_one}
 
-number_truth : (r : Bool) → is_true (int (cond r (pos 1) (pos 0))) ≡ r
-number_truth true = refl
-number_truth false = refl
-
 one_truth : (a b : Bool) → truth a ≡ truth b → a ≡ b
 one_truth a b e =
     let d : int (cond a (pos 1) (pos 0)) ≡ int (cond b (pos 1) (pos 0)) = one_value e in
-    sym (number_truth a) ∙ ap is_true d ∙ number_truth b
+    sym (truth_is a) ∙ ap is_true d ∙ truth_is b
   where
     one_value : {u v : Datum} → has u ≡ has v → u ≡ v
     one_value e = cc

@@ -18,7 +18,7 @@ use Rattle.ep_core.specs.Runs.{Side}
 use Rattle.ep_evaluation.specs.Operators.{pointer_in}
 use Rattle.ep_evaluation.specs.Narrowed.{numbers_narrowed, pointers_narrowed}
 use Rattle.ep_evaluation.specs.Evaluation.{value_narrowed}
-use Rattle.ep_evaluation_laws.specs.Laws.{IsKept, IsOfCell}
+use Rattle.ep_evaluation.specs.Laws.{IsKept, IsOfCell}
 use Rattle.ep_singles.specs.Numbers.{KeepsSingles}
 use Rattle.ep_singles.specs.Cells.{IsOneValue, IsOne}
 

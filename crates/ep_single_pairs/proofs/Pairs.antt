@@ -1,5 +1,6 @@
 -- Equal values that can be one alone are known to be equal, and tests of such values go on.
 use Rattle.std.proofs.Common.{◌≡◌, ℕ, ℤ, pos, Bool, true, false, ◌&&◌, ◌||◌, not, [], map, Option, Some, None}
+use Rattle.std.proofs.lemmas.Bool.{or_left, or_right}
 use Rattle.std.proofs.Common.{refl, sym, ap, ◌∙◌, subst}
 use Rattle.std.specs.Option.{option_map_or}
 use Rattle.std.specs.Ordering.{int_eq}
@@ -27,14 +28,6 @@ use Rattle.ep_pass.specs.Laws.{GoesOn}
 use Rattle.ep_singles.specs.Cells.{IsOneValue, one_number, one_pointer}
 use Rattle.ep_singles.proofs.Bytes.{held_single}
 use Rattle.ep_single_places.proofs.Places.{one_into}
-
-second_of : (a b : Bool) → b ≡ true → (a || b) ≡ true
-second_of true b e = refl
-second_of false b e = e
-
-first_of : (a b : Bool) → a ≡ true → (a || b) ≡ true
-first_of true b e = refl
-first_of false b e = absurd (let d : false ≡ true = e in cc)
 
 equal_itself : (z : ℤ) → int_eq z z ≡ true
 equal_itself z = (Decides-int_eq z z).1 refl
@@ -115,7 +108,7 @@ module _ {N : Type 0} (D : Ops N) where
     known_same w None v x i j a b = elim i [ ]
     known_same w (Some u) None x i j a b = elim j [ ]
     known_same (Int t) (Some (Num c)) (Some (Num d)) (int z) (one_number _ y e) (one_number _ y' e') a b =
-        first_of (are_one_number D (Some (Num c)) (Some (Num d))) (are_one_pointer D (Some (Num c)) (Some (Num d)))
+        or_left (are_one_number D (Some (Num c)) (Some (Num d))) (are_one_pointer D (Some (Num c)) (Some (Num d)))
         (numbers_same c d y y' z e e' a.1 b.1)
     known_same (Int t) (Some (Num c)) (Some (Num d)) null i j a b = absurd a
     known_same (Int t) (Some (Num c)) (Some (Num d)) (pointer s o) i j a b = absurd a
@@ -141,5 +134,5 @@ module _ {N : Type 0} (D : Ops N) where
         → IsOneValue D x.right.value → Allows D w x.left.value false (Some v)
         → Allows D w x.right.value false (Some v) → is_same D x ≡ true
     sames_are_known x w v i j a b =
-        second_of x.equal _ (second_of _ (are_one_number D x.left.value x.right.value
+        or_right x.equal _ (or_right _ (are_one_number D x.left.value x.right.value
         || are_one_pointer D x.left.value x.right.value) (known_same w x.left.value x.right.value v i j a b))

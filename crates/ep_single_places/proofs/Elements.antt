@@ -1,15 +1,17 @@
 -- An element of an array in place, of one pointer and one index.
-use Rattle.std.proofs.Common.{◌≡◌, ℕ, zero, suc, ◌+◌, ◌*◌, ◌^◌, ◌<◌, ◌≤◌, ℤ, pos, negsuc, ◌+ℤ◌, ◌-ℤ◌, ◌*ℤ◌}
+use Rattle.std.proofs.Common.{◌≡◌, ℕ, ◌+◌, ◌*◌, ◌^◌, ◌<◌, ◌≤◌, ℤ, pos, ◌+ℤ◌, ◌-ℤ◌, ◌*ℤ◌}
+use Rattle.ep_int.proofs.Arithmetic.{le_fact, le_test}
+use Rattle.ep_evaluation.proofs.Elements.{natural, products, small_size}
 use Rattle.std.proofs.Common.{Bool, true, false, ◌&&◌, ◌||◌, cond, List, [], ◌∷◌, Option, Some, None, IsSomeAnd, refl}
 use Rattle.std.proofs.Common.{sym, ap, ◌∙◌, subst, arith}
-use Rattle.std.specs.Prelude.{int_le, int_lt, nat_le, unsigned_abs, slice_index, option_and_then}
+use Rattle.std.specs.Prelude.{int_le, int_lt, nat_le, unsigned_abs, option_and_then}
 use Rattle.std.specs.Option.{option_map}
 use Rattle.std.proofs.lemmas.Int.{ints}
 use Rattle.std.proofs.lemmas.Bool.{leb-true}
 use Rattle.std.proofs.Math.IntN.{pos-*ℤ-pos}
 use Rattle.ep_int.specs.Memory.{Value as Datum, pointer, has, faults, bounds}
 use Rattle.ep_range_laws.specs.Ranges.{LiesIn}
-use Rattle.ep_range_laws.proofs.Comparisons.{from_le_true, from_lt_true, le_true, le_false, lt_false}
+use Rattle.ep_range_laws.proofs.Comparisons.{le_false, lt_false}
 use Rattle.ep_domain.specs.Domain.{Ops, Lawful, IsSingle}
 use Rattle.ep_pointers.specs.Value.{Pointers, Target, pointers, one_target, only_null, only_place}
 use Rattle.ep_pointers.specs.Sum.{move, moved_offset, put, of_targets, exact_range, exact_ends, shown_of}
@@ -34,11 +36,6 @@ record IsElement (bound unit q : ℕ) (i : ℤ) : Type 0 where
   below : index < bound
   near : q + index * unit ≤ greatest_offset
 
-natural : (bound : ℕ) (i : ℤ) → int_le (pos 0) i ≡ true → int_lt i (pos bound) ≡ true
-    → (i ≡ pos (unsigned_abs i)) × (unsigned_abs i < bound)
-natural bound (pos a) e f = let l = from_lt_true (pos a) (pos bound) f in (refl, omega (arith, ints, l))
-natural bound (negsuc a) e f = absurd (let l = from_le_true (pos 0) (negsuc a) e in omega (arith, ints, l))
-
 element_found : (bound unit b q : ℕ) (i : ℤ) (w : Datum) → element_at b q bound unit i ≡ has w
     → IsElement bound unit q i
 element_found bound unit b q i w e =
@@ -61,23 +58,13 @@ element_found bound unit b q i w e =
 
 -- ---- as a move in a block of the greatest size
 
-small_size : (i : ℕ) → slice_index (greatest_offset ∷ []) i < 4294967296
-small_size zero = omega arith
-small_size (suc i) = omega arith
-
 place_there : (z : ℤ) (p : ℕ) → z ≡ pos p → p ≤ greatest_offset → place_in greatest_offset 0 z
     ≡ has (pointer 0 (unsigned_abs z))
 place_there z p e h =
     ap (λ t. cond (t && int_le z (pos greatest_offset)) (has (pointer 0 (unsigned_abs z))) (faults bounds))
-    (le_true (pos 0) z (omega (arith, ints, e)))
+    (le_test (pos 0) z (omega (arith, ints, e)))
     ∙ ap (λ t. cond t (has (pointer 0 (unsigned_abs z))) (faults bounds))
-    (le_true z (pos greatest_offset) (omega (arith, ints, e, h)))
-
-sum_is : (q a unit : ℕ) → pos q +ℤ (pos a *ℤ pos unit) ≡ pos (q + a * unit)
-sum_is q a unit = by (pos a *ℤ pos unit) (a * unit) (pos-*ℤ-pos a unit)
-  where
-    by : (z : ℤ) (k : ℕ) → z ≡ pos k → pos q +ℤ z ≡ pos (q + k)
-    by z k e = omega (arith, ints, e)
+    (le_test z (pos greatest_offset) (omega (arith, ints, e, h)))
 
 in_bound : (bound a : ℕ) → a < bound → LiesIn (pos 0, pos bound -ℤ pos 1) (pos a)
 in_bound bound a h = record { low = omega (arith, ints); high = omega (arith, ints, h) }
@@ -95,7 +82,7 @@ module _ {N : Type 0} (D : Ops N) (law : Lawful D) (unit : ℕ) (u : IsUnit unit
 
     there : place_in greatest_offset 0 (pos q +ℤ distance unit (pos a) false)
         ≡ has (pointer 0 (unsigned_abs (pos q +ℤ (pos a *ℤ pos unit))))
-    there = place_there (pos q +ℤ (pos a *ℤ pos unit)) (q + a * unit) (sum_is q a unit) near
+    there = place_there (pos q +ℤ (pos a *ℤ pos unit)) (q + a * unit) (products q a unit) near
 
     -- the offset of the element is single
     record IsOneOffset (o : Option N) : Type 0 where
@@ -134,7 +121,7 @@ module _ {N : Type 0} (D : Ops N) (law : Lawful D) (unit : ℕ) (u : IsUnit unit
     high_is =
         ap (λ (r : ℤ × ℤ). (exact_ends false unit r (D.range c)).1) sn
         ∙ ap (λ (r : ℤ × ℤ). (exact_ends false unit (pos q, pos q) r).1) sc
-        ∙ sum_is q a unit
+        ∙ products q a unit
 
     not_past : (int_lt (pos greatest_offset) (exact_range D (move c unit false) n).1 || false) ≡ false
     not_past =

@@ -1,5 +1,6 @@
 -- What is read at the one place of an access.
 use Rattle.std.proofs.Common.{◌≡◌, ℕ, true, false, ◌&&◌, ◌||◌, not, List, [], ◌∷◌, Option, Some, None, refl, sym, ap}
+use Rattle.ep_int.proofs.Basics.{size_positive}
 use Rattle.std.proofs.Common.{◌∙◌, subst}
 use Rattle.std.specs.Option.{option_map_or}
 use Rattle.ep_int.specs.declared.types.Scalar.{Scalar}
@@ -16,7 +17,6 @@ use Rattle.ep_equalities.specs.declared.pair.SideValue.{SideValue}
 use Rattle.ep_evaluation.specs.Given.{cells_of}
 use Rattle.ep_evaluation.specs.Accesses.{reads_of, joined_reads, is_unset, is_mixed}
 use Rattle.ep_evaluation.specs.Evaluation.{reads_at, load_side}
-use Rattle.ep_evaluation_laws.proofs.Loads.{some_bytes}
 use Rattle.ep_singles.specs.Cells.{IsOneValue, IsOne}
 use Rattle.ep_singles.specs.Laws.{IsMachine, Finds, IsReadAs, ReadsAreOne}
 use Rattle.ep_single_places.specs.Laws.{IsPlaceFor, IsOneInto, IsOneLoad}
@@ -46,7 +46,7 @@ module _ {N : Type 0} (D : Ops N) where
       → IsOneLoad D sizes w k x s v
   loads_are_one law reads k m one s w sizes x b q i at v f =
       let r = reads k m one (cells_of s) (machine s) b q w v f in
-      let a = accesses_are_one D law sizes (size_of k.model w) x b q i (some_bytes k.model w) at in
+      let a = accesses_are_one D law sizes (size_of k.model w) x b q i (size_positive k.model w) at in
       let e : reads_at D sizes w k x s ≡ read D k (cells_of s) b q w ∷ []
       = ap (λ qs. reads_of D k (cells_of s) w qs) a.place in
       let y : (load_side D sizes w k x s).value ≡ (read D k (cells_of s) b q w).value = ap (joined_reads D) e in

@@ -1,12 +1,13 @@
 -- A pointer that can be one alone, moved by one number.
 use Rattle.std.proofs.Common.{◌≡◌, ℕ, zero, suc, ◌+◌, ◌*◌, ◌^◌, ◌<◌, ◌≤◌, ℤ, pos, negsuc, ◌+ℤ◌, ◌-ℤ◌, ◌*ℤ◌, ◌≤ℤ◌, neg_ℤ}
+use Rattle.ep_pointers.proofs.Moving.{at_least, offset_in_range}
+use Rattle.ep_evaluation.proofs.Sums.{exact_is}
 use Rattle.std.proofs.Common.{Bool, true, false, ◌||◌, cond, List, [], ◌∷◌, slice_get, Option, Some, None}
 use Rattle.std.proofs.Common.{IfSome, IsSomeAnd, refl, sym, ap, ◌∙◌, subst, arith}
 use Rattle.std.specs.Prelude.{int_lt, slice_index}
 use Rattle.std.specs.Option.{option_map}
 use Rattle.std.proofs.lemmas.Int.{ints}
 use Rattle.std.proofs.lemmas.Bool.{eq-eqb}
-use Rattle.std.proofs.Math.Nat.{suc-mul}
 use Rattle.std.proofs.Math.IntN.{pos-*ℤ-pos}
 use Rattle.ep_int.specs.declared.types.IntType.TheVariants.{I64}
 use Rattle.ep_int.specs.Types.{InRange}
@@ -23,18 +24,13 @@ use Rattle.ep_equalities.specs.declared.pair.SideValue.{SideValue}
 use Rattle.ep_evaluation.specs.Given.{shows_if}
 use Rattle.ep_evaluation.specs.Operators.{pointer_in}
 use Rattle.ep_evaluation.specs.Accesses.{move_leaves, moves_null, moved_by}
-use Rattle.ep_evaluation_laws.proofs.Sums.{IsInside, place_found}
+use Rattle.ep_evaluation.proofs.Sums.{IsInside, place_found}
 use Rattle.ep_singles.specs.Cells.{IsOneValue, one_pointer}
 use Rattle.ep_single_places.specs.Laws.{IsOneInto}
 use Rattle.ep_single_places.specs.MoveLaws.{IsUnit, AreSizes, IsOneNumber, IsOneMove}
 use Rattle.ep_single_places.proofs.Places.{one_into}
 
 -- ---- numbers
-
-more_units : (a unit : ℕ) → 1 ≤ unit → a ≤ a * unit
-more_units zero unit h = omega arith
-more_units (suc a) unit h =
-    let e = suc-mul a unit in let i = more_units a unit h in omega (arith, e, i, h)
 
 -- so many bytes at most, forwards or backwards
 record IsNear (k : ℤ) : Type 0 where
@@ -59,9 +55,9 @@ negative a unit = by (suc a * unit)
 -- a number of units is no more than that of bytes
 near_units : (unit : ℕ) → 1 ≤ unit → (k : ℤ) → IsNear (k *ℤ pos unit) → IsNear k
 near_units unit h (pos a) n =
-    up_by a (a * unit) (pos a *ℤ pos unit) (pos-*ℤ-pos a unit) (more_units a unit h) n
+    up_by a (a * unit) (pos a *ℤ pos unit) (pos-*ℤ-pos a unit) (at_least a unit h) n
 near_units unit h (negsuc a) n =
-    down_by a (suc a * unit) (negsuc a *ℤ pos unit) (negative a unit) (more_units (suc a) unit h) n
+    down_by a (suc a * unit) (negsuc a *ℤ pos unit) (negative a unit) (at_least (suc a) unit h) n
 
 near_bytes : (back : Bool) (z : ℤ) (q place size : ℕ) → pos q +ℤ cond back (pos 0 -ℤ z) z ≡ pos place
     → q < 4294967296 → place ≤ size → size < 4294967296 → IsNear z
@@ -75,20 +71,10 @@ in_type k n =
     let l = n.low in let h = n.high in
     record { low = omega (arith, ints, l); high = omega (arith, ints, h) }
 
-offset_in_type : (q : ℕ) → q < 4294967296 → InRange I64 (pos q)
-offset_in_type q h = record { low = omega (arith, ints); high = omega (arith, ints, h) }
-
 size_at : (sizes : List ℕ) (b size : ℕ) → slice_get sizes b ≡ Some size → slice_index sizes b ≡ size
 size_at [] b size e = absurd (let z : None ≡ Some size = e in cc)
 size_at (x ∷ sizes) zero size e = let z : Some x ≡ Some size = e in cc
 size_at (x ∷ sizes) (suc b) size e = size_at sizes b size e
-
-exact_is : (back : Bool) (unit q : ℕ) (y : ℤ) → exact_at back unit (pos q) y ≡ pos q +ℤ distance unit y back
-exact_is false unit q y = refl
-exact_is true unit q y = by (y *ℤ pos unit)
-  where
-    by : (z : ℤ) → pos q -ℤ z ≡ pos q +ℤ (pos 0 -ℤ z)
-    by z = omega (arith, ints)
 
 -- a single result in the block doesn't leave it
 stays_in : (z : ℤ) (place size : ℕ) → z ≡ pos place → place ≤ size
@@ -134,7 +120,7 @@ module _ {N : Type 0} (D : Ops N) (law : Lawful D) (sizes : List ℕ) (each : Ar
     one_moved =
         by (moved D (move c unit back) sizes (one_target b n))
         (((pointer_laws D law).sum_of_one (move c unit back) sizes (one_target b n) (fits c)).of_place b n (pos q) k
-        refl sn sc (offset_in_type q l) (in_type k near))
+        refl sn sc (offset_in_range q l) (in_type k near))
         ((pointer_laws D law).sum_holds (move c unit back) sizes (one_target b n) (fits c) (tt, tt) b q size
         in_block.place k l held (law.range_single c k sc) exact s in_block.inside)
       where

@@ -1,12 +1,13 @@
 -- The one place of an access through a pointer that can be one alone.
 use Rattle.std.proofs.Common.{zero-mul, add-zero, ◌≡◌, ℕ, zero, suc, ◌+◌, ◌-◌, ◌*◌, ◌/◌, ◌%◌, ◌<◌, ◌≤◌, ℤ, pos, ◌+ℤ◌}
+use Rattle.ep_evaluation.proofs.Spots.{below_next, enough, exact, from_zero, next_by, no_less}
 use Rattle.std.proofs.Common.{◌-ℤ◌, Bool, true, false, ◌&&◌, ◌||◌, not, nat_eq, cond, List, [], ◌∷◌, ◌++◌}
 use Rattle.std.proofs.Common.{map, slice_get, Option, Some, None, IsSomeAnd, refl, sym, ap, ◌∙◌, subst, arith}
 use Rattle.std.specs.Prelude.{int_lt, unsigned_abs}
 use Rattle.std.specs.List.{filter}
 use Rattle.std.proofs.lemmas.Int.{ints}
 use Rattle.std.proofs.lemmas.Bool.{eqb-true, le-leb}
-use Rattle.std.proofs.Math.Nat.{le-div_iff_mul-le, mod-eq-sub-div-mul, div-mul-le_self, suc-mul}
+use Rattle.std.proofs.Math.Nat.{le-div_iff_mul-le, suc-mul}
 use Rattle.ep_range_laws.proofs.Comparisons.{lt_false}
 use Rattle.ep_int.specs.declared.types.Scalar.TheVariants.{Pointer}
 use Rattle.ep_int.specs.Memory.{pointer as into_block}
@@ -26,27 +27,6 @@ use Rattle.ep_singles.proofs.Bytes.{held_single}
 use Rattle.ep_single_places.specs.Laws.{IsPlaceFor, IsOneInto, IsOneAccess}
 
 -- ---- offsets
-
-exact_by : (q r x : ℕ) → r ≡ 0 → r ≡ q - x → x ≤ q → q ≡ x
-exact_by q r x e f g = omega (arith, e, f, g)
-
-exact : (q n : ℕ) → q % n ≡ 0 → q ≡ q / n * n
-exact q n e = exact_by q (q % n) (q / n * n) e (mod-eq-sub-div-mul q n) (div-mul-le_self q n)
-
-next_by : (q a x y : ℕ) → y ≡ x + a → q + a + x ≡ q + y
-next_by q a x y e = omega (arith, e)
-
-enough : (size n q x : ℕ) → q ≡ x → q + n ≤ size → x ≤ size - n
-enough size n q x e h = omega (arith, e, h)
-
-no_less : (n q size : ℕ) → q + n ≤ size → n ≤ size
-no_less n q size h = omega (arith, h)
-
-below_next : (x y : ℕ) → x ≤ y → x < y + 1
-below_next x y h = omega (arith, h)
-
-from_zero : (q x : ℕ) → q ≡ x → 0 + x ≡ q
-from_zero q x e = omega (arith, e)
 
 not_last : (a q n x y : ℕ) → y ≡ x + n → a + y ≡ q → 0 < n → a ≡ q → ⊥
 not_last a q n x y e f some i = omega (arith, e, f, some, i)

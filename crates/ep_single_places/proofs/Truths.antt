@@ -1,5 +1,6 @@
 -- The truth of a value that can be one alone, and how two pointers compare.
 use Rattle.std.proofs.Common.{◌≡◌, ℤ, pos, Bool, true, false, not, cond, Option, Some, None, is_some, IsSomeAnd}
+use Rattle.ep_pointers.proofs.Answering.{not_not}
 use Rattle.std.proofs.Common.{IsTrue, refl, sym, ap, ◌∙◌, subst, arith}
 use Rattle.std.proofs.lemmas.Int.{ints}
 use Rattle.ep_int.specs.declared.types.Cmp.{Cmp}
@@ -20,16 +21,12 @@ use Rattle.ep_core.specs.Exec.{is_true, truth, pointers_compare}
 use Rattle.ep_equalities.specs.declared.pair.SideValue.{SideValue}
 use Rattle.ep_evaluation.specs.Operators.{test_of, may_be, truths_of, pointer_in}
 use Rattle.ep_evaluation.specs.Evaluation.{truths}
-use Rattle.ep_evaluation_laws.proofs.Pointers.{at, IsPointer, Linked, as_truth, as_mix, linked}
+use Rattle.ep_evaluation.proofs.Pointers.{at, IsPointer, Linked, as_truth, as_mix, linked}
 use Rattle.ep_singles.specs.Cells.{IsOneValue, one_number, one_pointer}
 use Rattle.ep_singles.proofs.Bytes.{held_single}
 use Rattle.ep_single_places.specs.Laws.{is_of_truth}
 
-twice_not : (b : Bool) → b ≡ not (not b)
-twice_not true = refl
-twice_not false = refl
-
-truth_is : (b : Bool) → is_true (int (cond b (pos 1) (pos 0))) ≡ b
+pub truth_is : (b : Bool) → is_true (int (cond b (pos 1) (pos 0))) ≡ b
 truth_is true = refl
 truth_is false = refl
 
@@ -53,7 +50,7 @@ module _ {N : Type 0} (D : Ops N) (law : Lawful D) where
 
   test_is : (t : Bool) (z : ℤ) → compares (test_of t) z (pos 0) ≡ is_of_truth (is_true (int z)) t
   test_is true z = refl
-  test_is false z = twice_not (int_eq z (pos 0))
+  test_is false z = not_not (int_eq z (pos 0))
 
   number_truth : (n : N) (z : ℤ) → IsSingle D n z → (t : Bool)
       → may_be D (Some (Num n)) t ≡ is_of_truth (is_true (int z)) t

@@ -1,13 +1,16 @@
 -- Where cells of both sides become one, a state stands for one pair of memories still.
 use Rattle.std.proofs.Common.{◌≡◌, ℕ, ◌+◌, ℤ, Bool, true, false, ◌&&◌, ◌||◌, nat_eq, nat_le, nat_lt, cond, List, []}
+use Rattle.ep_bitslice.proofs.Joining.{side_back}
+use Rattle.ep_int.proofs.Basics.{size_positive}
+use Rattle.ep_cells.proofs.Reshare.{integer_is, one_here}
 use Rattle.std.proofs.Common.{◌∷◌, map}
-use Rattle.std.proofs.Common.{◌⊎◌, inl, inr, Option, Some, None, IfSome, refl, sym, ◌∙◌, ap, subst, arith}
+use Rattle.std.proofs.Common.{◌⊎◌, inl, inr, Option, Some, None, IfSome, refl, sym, ◌∙◌, ap, subst}
 use Rattle.std.specs.Option.{option_map_or}
-use Rattle.std.proofs.lemmas.Bool.{and_parts, and_from, or_cases, eqb-true, eq-eqb, lt-ltb, both_ways}
+use Rattle.std.proofs.lemmas.Bool.{and_parts, and_from, or_cases, eqb-true}
 use Rattle.ep_int.specs.declared.types.Model.{Model}
 use Rattle.ep_int.specs.declared.types.IntType.{IntType}
 use Rattle.ep_int.specs.declared.types.Scalar.{Scalar}
-use Rattle.ep_int.specs.declared.types.Scalar.TheVariants.{Int, Pointer}
+use Rattle.ep_int.specs.declared.types.Scalar.TheVariants.{Int}
 use Rattle.ep_int.specs.Types.{size_of}
 use Rattle.ep_int.specs.Memory.{int}
 use Rattle.ep_bitslice.specs.declared.cell.Side.{Side}
@@ -18,55 +21,27 @@ use Rattle.ep_domain.specs.Domain.{Ops, Lawful, IsSingle}
 use Rattle.ep_cells.specs.declared.cell.Cell.{Cell}
 use Rattle.ep_cells.specs.declared.cell.Value.{Value}
 use Rattle.ep_cells.specs.declared.cell.Value.TheVariants.{Num, Ptr}
-use Rattle.ep_cells.specs.Cells.{IsIn, first, later, share_memory, place_of, touches, meets, is_same_side}
+use Rattle.ep_cells.specs.Cells.{IsIn, first, later, share_memory, is_same_side}
 use Rattle.ep_cells.specs.Cells.{is_same_scalar, on_left, on_right, put, each_becomes}
 use Rattle.ep_cells.specs.Forms.{Fate, reformed, form_after, have_same_form, common_form}
 use Rattle.ep_cells.specs.Look.{covers}
-use Rattle.ep_cells.specs.States.{Known, IsOfSort, Fits, EachPair, AreApart, IsFormOf, HasForm}
+use Rattle.ep_cells.specs.States.{Known, IsOfSort, Fits, IsFormOf, HasForm}
 use Rattle.ep_cells.specs.Meaning.{Memories, Allows, StandsAt, Says, numbers_of, name_of, In}
 use Rattle.ep_cells.specs.Reshare.{are_one_number, is_integer, are_same, met_value, reshared_cell, left_by_reshare}
 use Rattle.ep_cells.specs.Reshare.{fate_by_reshare, cell_from, reshared_pair, reshared_at, reshared_each, places}
 use Rattle.ep_cells.specs.Reshare.{reshared}
-use Rattle.ep_cells_laws.proofs.Lists.{in_each, each_in, in_map, map_in, in_put, put_there, put_keeps}
-use Rattle.ep_cells_laws.proofs.Bytes.{IsNumber, number_of_cell}
-use Rattle.ep_cells_laws.proofs.Places.{at, size_positive, side_back, meets_sym}
-use Rattle.ep_cells_laws.proofs.Changes.{datum_of}
-use Rattle.ep_cells_laws.proofs.Both.{scalar_same, one, left_first, right_first, one_order}
-use Rattle.ep_cells_laws.proofs.Reshare.{GoesOnHolding, reshared_goes_on}
+use Rattle.ep_cells.proofs.Lists.{in_each, each_in, in_map, map_in, in_put, put_there, put_keeps}
+use Rattle.ep_cells.proofs.Bytes.{IsNumber, number_of_cell}
+use Rattle.ep_cells.proofs.Places.{at}
+use Rattle.ep_cells.proofs.Changes.{datum_of}
+use Rattle.ep_cells.proofs.Both.{scalar_same, one}
+use Rattle.ep_cells.proofs.Reshare.{GoesOnHolding, reshared_goes_on}
 use Rattle.ep_singles.specs.Numbers.{KeepsSingles}
 use Rattle.ep_singles.specs.Cells.{IsOneValue, one_number, IsOneCell, no_value, one_value, IsOne}
 use Rattle.ep_singles.proofs.Bytes.{held_single}
 use Rattle.ep_singles.proofs.Covers.{stays, empty_after}
 
 -- ---- cells of one place
-
-touches_here : {N : Type 0} (d : Model) (x y : Cell N) → x.block ≡ y.block → x.offset ≡ y.offset
-    → touches (place_of d x) (place_of d y) ≡ true
-touches_here d x y e f =
-    let a = size_positive d x.what in
-    let b = size_positive d y.what in
-    and_from (nat_eq x.block y.block)
-    (nat_lt x.offset (y.offset + size_of d y.what) && nat_lt y.offset (x.offset + size_of d x.what))
-    (eq-eqb x.block y.block e)
-    (and_from (nat_lt x.offset (y.offset + size_of d y.what)) (nat_lt y.offset (x.offset + size_of d x.what))
-    (lt-ltb x.offset (y.offset + size_of d y.what) (omega (arith, b, f)))
-    (lt-ltb y.offset (x.offset + size_of d x.what) (omega (arith, a, f))))
-
--- those of a state that share a memory are one
-one_here : {N : Type 0} (d : Model) (x y : Cell N) (cs : List (Cell N)) → EachPair (AreApart d) cs → IsIn x cs
-    → IsIn y cs → x.block ≡ y.block → x.offset ≡ y.offset → share_memory x.side y.side ≡ true → x ≡ y
-one_here d x y cs p h k e f g =
-    elim (one_order (AreApart d) x y cs p h k) [
-      | one i ↦ i
-      | left_first r ↦ absurd (both_ways (meets (place_of d x) (place_of d y)) r.apart here)
-      | right_first r ↦ absurd (both_ways (meets (place_of d x) (place_of d y)) (turned r) here)
-    ]
-  where
-    here : meets (place_of d x) (place_of d y) ≡ true
-    here = and_from (share_memory x.side y.side) (touches (place_of d x) (place_of d y)) g (touches_here d x y e f)
-
-    turned : AreApart d y x → meets (place_of d x) (place_of d y) ≡ false
-    turned r = meets_sym y.side x.side y.block y.offset (size_of d y.what) x.block x.offset (size_of d x.what) r.apart
 
 -- ---- the cells of a place that are looked up
 
@@ -98,10 +73,6 @@ found {N = N} s b q (x ∷ cs) c h =
     by_first false e k rest =
         let r = rest k in
         record { is_in = later x cs r.is_in; side = r.side; block = r.block; offset = r.offset }
-
-integer_is : (w : Scalar) → is_integer w ≡ true → (t : IntType) × (w ≡ Int t)
-integer_is (Int t) h = (t, refl)
-integer_is Pointer h = absurd cc
 
 -- a cell of another place stays
 left_is : {N : Type 0} (l x y : Cell N) → IsIn y (left_by_reshare l x) → y ≡ x

@@ -1,5 +1,6 @@
 -- Truths of values that can be one alone, on one side.
 use Rattle.std.proofs.Common.{◌≡◌, Bool, true, false, ◌&&◌, ◌||◌, not, Option, Some, None, refl, sym, ap, ◌∙◌, subst}
+use Rattle.ep_int.proofs.Basics.{not_not, or-false}
 use Rattle.ep_int.specs.declared.types.Cmp.{Cmp}
 use Rattle.ep_int.specs.declared.types.Scalar.{Scalar}
 use Rattle.ep_int.specs.declared.types.Scalar.TheVariants.{Pointer}
@@ -19,14 +20,6 @@ use Rattle.ep_single_places.proofs.Truths.{truths_are_one, comparisons_are_one}
 use Rattle.ep_single_sides.specs.Laws.{IsOneAs}
 use Rattle.ep_single_sides.proofs.Numbers.{one_truth}
 
-twice_not : (b : Bool) → not (not b) ≡ b
-twice_not true = refl
-twice_not false = refl
-
-or_false : (b : Bool) → (b || false) ≡ b
-or_false true = refl
-or_false false = refl
-
 module _ {N : Type 0} (D : Ops N) (law : Lawful D) where
   -- of what surely is b
   pub sure_truth : (b x y : Bool) → x ≡ b → y ≡ not b → IsOneValue D (truth_value D x y)
@@ -45,7 +38,7 @@ module _ {N : Type 0} (D : Ops N) (law : Lawful D) where
   pub not_one : (w : Scalar) (x : SideValue N) (u : Datum) → IsOneAs D w x u → IsOneValue D (not_side D x).value
   not_one w x u a =
       sure_truth (not (is_true u)) (may_be D x.value false) (may_be D x.value true) (may w x u a false)
-      (may w x u a true ∙ sym (twice_not (is_true u)))
+      (may w x u a true ∙ sym (not_not (is_true u)))
 
   pub pointers_one : (c : Cmp) (x y : SideValue N) (u v d : Datum) → IsOneAs D Pointer x u → IsOneAs D Pointer y v
       → pointers_compare c u v ≡ has d
@@ -62,13 +55,13 @@ module _ {N : Type 0} (D : Ops N) (law : Lawful D) where
   -- the first has the truth that asks for the second: it adds nothing
   second_yes : (t : Bool) (x : SideValue N) (y : Bool) → may_be D x.value (not t) ≡ false
       → (y || (not t && may_be D x.value true)) ≡ y
-  second_yes true x y e = or_false y
-  second_yes false x y e = ap (λ b. y || b) e ∙ or_false y
+  second_yes true x y e = or-false y
+  second_yes false x y e = ap (λ b. y || b) e ∙ or-false y
 
   second_no : (t : Bool) (x : SideValue N) (y : Bool) → may_be D x.value (not t) ≡ false
       → (y || (t && may_be D x.value false)) ≡ y
-  second_no true x y e = ap (λ b. y || b) e ∙ or_false y
-  second_no false x y e = or_false y
+  second_no true x y e = ap (λ b. y || b) e ∙ or-false y
+  second_no false x y e = or-false y
 
   other_truth : (u t : Bool) → u ≡ t → is_of_truth u (not t) ≡ false
   other_truth true true e = refl

@@ -1,5 +1,6 @@
 -- Of two pairs of single numbers that compare so a filter leaves each as it is: so do the filters of both parts.
 use Rattle.std.proofs.Common.{◌≡◌, ℤ, pos, ◌+ℤ◌, ◌-ℤ◌, ◌≤ℤ◌, ◌⊎◌, inl, inr, Bool, true, false, Option, Some, None}
+use Rattle.ep_straight_laws.proofs.Meets.{lower, upper}
 use Rattle.std.proofs.Common.{option_map, if◌then◌else◌, IfSome, IsSomeAnd, refl, sym, ap, ◌∙◌, arith}
 use Rattle.std.specs.Option.{option_zip}
 use Rattle.std.specs.Int.{int_min, int_max}
@@ -46,14 +47,8 @@ inside a x lo hi e l h = by_test (is_range lo hi) refl
     by_test true d =
         one a.lo a.hi lo hi (ap (λ r. r.0) e) (ap (λ r. r.1) e) l h (is_range_true lo hi d).ordered
 
-low_in : (x y : ℤ) → x ≤ℤ int_max x y
-low_in x y = omega (arith, ints, clamps)
-
-high_in : (x y : ℤ) → int_min x y ≤ℤ x
-high_in x y = omega (arith, ints, clamps)
-
 overlap_at : (a : Interval) (x lo hi : ℤ) → IsAt x a → IfSome (intervals.overlap a lo hi) (IsAt x)
-overlap_at a x lo hi e = inside a x (int_max a.lo lo) (int_min a.hi hi) e (low_in a.lo lo) (high_in a.hi hi)
+overlap_at a x lo hi e = inside a x (int_max a.lo lo) (int_min a.hi hi) e (lower a.lo lo) (upper a.hi hi)
 
 apart_low : (l v : ℤ) → l ≤ℤ low_apart l v
 apart_low l v = by_test (int_eq l v)

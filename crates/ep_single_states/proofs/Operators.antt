@@ -1,20 +1,20 @@
 -- Operators on single numbers give the machine's number alone.
-use Rattle.std.proofs.Common.{◌≡◌, ℤ, pos, Bool, true, false, not, int_le, int_lt, IsTrue, Option, Some, None}
+use Rattle.std.proofs.Common.{◌≡◌, ℤ, pos, Bool, true, false, not, IsTrue, Option, Some, None}
+use Rattle.ep_pointers.proofs.Answering.{not_le, not_lt, opposite_is}
 use Rattle.std.proofs.Common.{IsSomeAnd, MatchResult, Ok, is_some, refl, sym, ◌∙◌, ap, subst, arith}
 use Rattle.std.specs.Result.{is_err}
 use Rattle.std.proofs.lemmas.Int.{ints}
 use Rattle.ep_int.specs.declared.types.IntType.{IntType}
 use Rattle.ep_int.specs.declared.types.BinOp.{BinOp}
 use Rattle.ep_int.specs.declared.types.Cmp.{Cmp}
-use Rattle.ep_int.specs.declared.types.Cmp.TheVariants.{Eq, Ne, Lt, Le, Gt, Ge}
-use Rattle.ep_int.specs.Arith.{arith_of, compares, int_eq}
+use Rattle.ep_int.specs.Arith.{arith_of, compares}
 use Rattle.ep_range_laws.specs.Ranges.{LiesIn}
 use Rattle.ep_range_laws.specs.Faults.{Takes, MayFault}
 use Rattle.ep_domain.specs.Domain.{Ops, IsSingle, Lawful}
 use Rattle.ep_pointers.specs.Compare.{opposite}
 use Rattle.ep_cells.specs.declared.cell.Value.TheVariants.{Num}
 use Rattle.ep_evaluation.specs.Operators.{truth_value, compared, test_of}
-use Rattle.ep_reads_laws.proofs.Numbers.{small_number}
+use Rattle.ep_reads.proofs.Numbers.{small_number}
 use Rattle.ep_single_states.specs.OperatorLaws.{truth_number, OperatorsKeepOne}
 
 lies_single : (r : ℤ × ℤ) (v z : ℤ) → r ≡ (v, v) → LiesIn r z → z ≡ v
@@ -60,25 +60,6 @@ module _ {N : Type 0} (D : Ops N) (law : Lawful D) where
           ∙ sym e
       by_test false e = ap is_some (law.filter_single c a b x y e h i) ∙ sym e
 
-not_not : (t : Bool) → t ≡ not (not t)
-not_not true = refl
-not_not false = refl
-
-le_after_lt : (x y : ℤ) → int_le y x ≡ not (int_lt x y)
-le_after_lt x y = grind (arith, ints)
-
-lt_after_le : (x y : ℤ) → int_lt y x ≡ not (int_le x y)
-lt_after_le x y = grind (arith, ints)
-
--- the opposite comparison has the other truth
-other_truth : (c : Cmp) (x y : ℤ) → compares (opposite c) x y ≡ not (compares c x y)
-other_truth Eq x y = refl
-other_truth Ne x y = not_not (int_eq x y)
-other_truth Lt x y = le_after_lt x y
-other_truth Le x y = lt_after_le x y
-other_truth Gt x y = le_after_lt y x
-other_truth Ge x y = lt_after_le y x
-
 module _ {N : Type 0} (D : Ops N) (law : Lawful D) where
   truth_one : (t : Bool) → truth_value D t (not t) ≡ Some (Num (D.single (truth_number t)))
   truth_one true = refl
@@ -88,7 +69,7 @@ module _ {N : Type 0} (D : Ops N) (law : Lawful D) where
       → compared D c (Some a) (Some b) ≡ Some (Num (D.single (truth_number (compares c x y))))
   compare_one c a b x y h i =
       ap (λ t. truth_value D t (is_some (D.filter (opposite c) a b))) (filter_one D law c a b x y h i)
-      ∙ (ap (truth_value D (compares c x y)) (filter_one D law (opposite c) a b x y h i ∙ other_truth c x y)
+      ∙ (ap (truth_value D (compares c x y)) (filter_one D law (opposite c) a b x y h i ∙ opposite_is c x y)
       ∙ truth_one (compares c x y))
 
   pub operators_keep_one : OperatorsKeepOne D

@@ -1,6 +1,8 @@
 -- Where one value is stored at one place, a state stands for one pair of memories still.
-use Rattle.std.proofs.Common.{◌≡◌, ℕ, ◌+◌, ◌≤◌, Bool, true, false, ◌&&◌, ◌||◌, nat_eq, nat_le, nat_lt, [], ◌∷◌}
-use Rattle.std.proofs.Common.{Option, Some, None, IfSome, refl, sym, ◌∙◌, arith}
+use Rattle.std.proofs.Common.{◌≡◌, ◌+◌, ◌≤◌, true, false, ◌&&◌, ◌||◌, nat_eq, nat_le, nat_lt, [], ◌∷◌}
+use Rattle.ep_transfers.proofs.Patches.{self_le}
+use Rattle.ep_int.proofs.Basics.{true_and_false}
+use Rattle.std.proofs.Common.{Option, Some, None, IfSome, refl, ◌∙◌}
 use Rattle.std.proofs.lemmas.Bool.{and_from, le-leb}
 use Rattle.ep_int.specs.declared.types.Scalar.{Scalar}
 use Rattle.ep_int.specs.Types.{size_of}
@@ -10,18 +12,18 @@ use Rattle.ep_bitslice.specs.declared.cell.Side.TheVariants.{Left, Right, Shared
 use Rattle.ep_domain.specs.Domain.{Ops, Lawful}
 use Rattle.ep_cells.specs.declared.cell.Cell.{Cell}
 use Rattle.ep_cells.specs.declared.cell.Value.{Value}
-use Rattle.ep_cells.specs.declared.place.Place.{Place}
+use Rattle.ep_cells.specs.declared.place.ByteRange.{ByteRange}
 use Rattle.ep_cells.specs.Cells.{IsIn, first, later, is_same_side, on_left, on_right, place_of, encloses}
 use Rattle.ep_cells.specs.Look.{covers}
 use Rattle.ep_cells.specs.States.{Known, IsCell, HasForm, IsFormOf}
 use Rattle.ep_cells.specs.Meaning.{Memories}
-use Rattle.ep_cells_laws.specs.Sound.{SaysNew}
+use Rattle.ep_cells.specs.Sound.{SaysNew}
 use Rattle.ep_cell_ranges.specs.Ranges.{Form, replaced}
 use Rattle.ep_cell_ranges.specs.Spots.{Spot}
-use Rattle.ep_cell_ranges_laws.specs.Follow.{FormFits}
-use Rattle.ep_cell_ranges_laws.specs.Sound.{AreStored, IsInside, AreNew, SayNew}
+use Rattle.ep_cell_ranges.specs.Follow.{FormFits}
+use Rattle.ep_cell_ranges.specs.Sound.{AreStored, IsInside, AreNew, SayNew}
 use Rattle.ep_transfers.specs.Writes.{new_cell}
-use Rattle.ep_transfers_laws.proofs.Sides.{with_beside, with_there, new_says, new_form}
+use Rattle.ep_transfers.proofs.Sides.{with_beside, with_there, new_says, new_form}
 use Rattle.ep_singles.specs.Cells.{IsOneCell, one_value, IsOne}
 use Rattle.ep_singles.specs.CellLaws.{IsFilled}
 use Rattle.ep_singles.proofs.Covers.{not_covering}
@@ -38,17 +40,11 @@ right_side Left e = absurd (let d : false ≡ true = e in cc)
 right_side Right e = refl
 right_side Shared e = refl
 
-at_most_itself : (x : ℕ) → x ≤ x
-at_most_itself x = omega arith
-
-encloses_itself : (p : Place) → encloses p p ≡ true
+encloses_itself : (p : ByteRange) → encloses p p ≡ true
 encloses_itself p =
     and_from (nat_le p.offset p.offset) (nat_le (p.offset + p.bytes) (p.offset + p.bytes))
-    (le-leb p.offset p.offset (at_most_itself p.offset))
-    (le-leb (p.offset + p.bytes) (p.offset + p.bytes) (at_most_itself (p.offset + p.bytes)))
-
-not_false : (t : Bool) → t ≡ true → t ≡ false → ⊥
-not_false t h k = let d : true ≡ false = sym h ∙ k in cc
+    (le-leb p.offset p.offset (self_le p.offset))
+    (le-leb (p.offset + p.bytes) (p.offset + p.bytes) (self_le (p.offset + p.bytes)))
 
 -- the only cell
 only_in : {N : Type 0} (P : Cell N → Type 0) (c y : Cell N) → P c → IsIn y (c ∷ []) → P y
@@ -62,7 +58,7 @@ module _ {N : Type 0} (D : Ops N) (law : Lawful D) (k : Known N) (m n : Memories
   abbrev c : Cell N
   c = new_cell s q w (Some v) false f
 
-  abbrev place : Place
+  abbrev place : ByteRange
   place = place_of k.model (new_cell s q w (Some v) false f)
 
   formed : (g : Form) → FormFits k.cells w g → IfSome g (IsFormOf k.cells (new_cell s q w (Some v) false f))
@@ -115,14 +111,14 @@ module _ {N : Type 0} (D : Ops N) (law : Lawful D) (k : Known N) (m n : Memories
   -- it has each byte of the place
   left_filled : on_left s ≡ true → IsFilled D k place (c ∷ []) Left n.left
   left_filled e b j h none =
-      absurd (not_false (covers k.model Left b j c)
+      absurd (true_and_false (covers k.model Left b j c)
       (and_from (is_same_side s Left || is_same_side s Shared)
       (nat_eq q.0 b && (nat_le q.1 j && nat_lt j (q.1 + size_of k.model w))) (left_side s e) h)
       (not_covering k.model Left b j (c ∷ []) c none (first [])))
 
   right_filled : on_right s ≡ true → IsFilled D k place (c ∷ []) Right n.right
   right_filled e b j h none =
-      absurd (not_false (covers k.model Right b j c)
+      absurd (true_and_false (covers k.model Right b j c)
       (and_from (is_same_side s Right || is_same_side s Shared)
       (nat_eq q.0 b && (nat_le q.1 j && nat_lt j (q.1 + size_of k.model w))) (right_side s e) h)
       (not_covering k.model Right b j (c ∷ []) c none (first [])))

@@ -14,15 +14,15 @@ use Rattle.ep_cells.specs.Cells.{place_of}
 use Rattle.ep_cells.specs.Forms.{have_same_form, common_form}
 use Rattle.ep_cells.specs.States.{Known}
 use Rattle.ep_cells.specs.Meaning.{Memories, Allows}
-use Rattle.ep_cells_laws.proofs.Gathered.{of_writes}
-use Rattle.ep_split_laws.proofs.Splits.{of_splits}
+use Rattle.ep_cells.proofs.Gathered.{of_writes}
+use Rattle.ep_reads.proofs.Splits.{of_splits}
 use Rattle.ep_cell_ranges.specs.Ranges.{Form, form_by_replace}
 use Rattle.ep_cell_ranges.specs.Spots.{Spot, is_same_spot, all_spots}
-use Rattle.ep_cell_ranges_laws.specs.Follow.{FormFits, FormHas}
-use Rattle.ep_cell_ranges_laws.specs.Laws.{ReplaceLaws}
-use Rattle.ep_cell_ranges_laws.proofs.Overwrites.{of_overwrites}
-use Rattle.ep_cell_ranges_laws.proofs.Replaces.{of_replaces}
-use Rattle.ep_cell_ranges_laws.proofs.Waits.{of_splits as of_more_splits}
+use Rattle.ep_cell_ranges.specs.Follow.{FormFits, FormHas}
+use Rattle.ep_cell_ranges.specs.Laws.{ReplaceLaws}
+use Rattle.ep_cell_ranges.proofs.Overwrites.{of_overwrites}
+use Rattle.ep_cell_ranges.proofs.Replaces.{of_replaces}
+use Rattle.ep_cell_ranges.proofs.Waits.{of_splits as of_more_splits}
 use Rattle.ep_core.specs.Runs.{left, right}
 use Rattle.ep_equalities.specs.declared.pair.Mode.{Mode}
 use Rattle.ep_equalities.specs.declared.pair.Mode.TheVariants.{Both, Left, Right}
@@ -31,7 +31,7 @@ use Rattle.ep_equalities.specs.Pairs.{runs_left, runs_right}
 use Rattle.ep_equalities.specs.Same.{is_same}
 use Rattle.ep_transfers.specs.Writes.{item_of, underway, new_cell, write_side, write_sides, value_of_same}
 use Rattle.ep_transfers.specs.Writes.{write_shared, write_shared_each, write_both, write_now}
-use Rattle.ep_transfers_laws.proofs.Sides.{with_beside, same_allowed, same_sort, same_rising}
+use Rattle.ep_transfers.proofs.Sides.{with_beside, same_allowed, same_sort, same_rising}
 use Rattle.ep_singles.specs.Numbers.{KeepsSingles}
 use Rattle.ep_singles.specs.Cells.{IsOneValue, one_number, IsOne}
 use Rattle.ep_singles.proofs.Bytes.{held_single}

@@ -13,7 +13,7 @@ use Rattle.ep_cells.specs.States.{Known, IsOfSort, HasRisingBlocks}
 use Rattle.ep_cells.specs.Meaning.{Memories, Allows}
 use Rattle.ep_cell_ranges.specs.Ranges.{Form, replaced}
 use Rattle.ep_cell_ranges.specs.Spots.{Spot}
-use Rattle.ep_cell_ranges_laws.specs.Follow.{FormFits, FormHas}
+use Rattle.ep_cell_ranges.specs.Follow.{FormFits, FormHas}
 use Rattle.ep_transfers.specs.Writes.{new_cell}
 use Rattle.ep_singles.specs.Cells.{IsOneValue, IsOne}
 

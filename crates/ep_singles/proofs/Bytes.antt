@@ -23,9 +23,9 @@ use Rattle.ep_cells.specs.Meaning.{Memories, Allows, HasBytes, Says}
 use Rattle.ep_reads.specs.declared.read.ReadValue.{ReadValue}
 use Rattle.ep_reads.specs.Bytes.{order_on, byte_of_value, pointer_byte, byte_at}
 use Rattle.ep_reads.specs.Read.{byte_read, byte_there}
-use Rattle.ep_reads_laws.specs.Laws.{memory_on}
-use Rattle.ep_reads_laws.proofs.Numbers.{small_number}
-use Rattle.ep_reads_laws.proofs.Found.{Covering, covering, stands_there}
+use Rattle.ep_reads.specs.Laws.{memory_on}
+use Rattle.ep_reads.proofs.Numbers.{small_number}
+use Rattle.ep_reads.proofs.Found.{Covering, covering, stands_there}
 use Rattle.ep_singles.specs.Cells.{IsOneValue, one_number, one_pointer, IsOneCell, no_value, one_value}
 use Rattle.ep_singles.specs.Cells.{IsEmptyOutside, IsOne}
 use Rattle.ep_singles.proofs.Sums.{byte_single}

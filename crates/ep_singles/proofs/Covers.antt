@@ -13,7 +13,7 @@ use Rattle.ep_cells.specs.Cells.{IsIn, first, later, is_same_side, share_memory,
 use Rattle.ep_cells.specs.Cells.{parts_on, put_all, each_becomes}
 use Rattle.ep_cells.specs.Forms.{Fate, reformed}
 use Rattle.ep_cells.specs.Look.{covers, cell_at}
-use Rattle.ep_cells_laws.proofs.Lists.{each_in, map_in, put_all_keeps}
+use Rattle.ep_cells.proofs.Lists.{each_in, map_in, put_all_keeps}
 use Rattle.ep_singles.specs.Cells.{IsOneCell, no_value, one_value}
 use Rattle.ep_singles.specs.Laws.{IsMachine}
 

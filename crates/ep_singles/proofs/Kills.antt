@@ -24,10 +24,10 @@ use Rattle.ep_cells.specs.Kill.{left_by_kill, fate_by_kill, killed_cells}
 use Rattle.ep_cells.specs.Look.{covers}
 use Rattle.ep_cells.specs.States.{Known}
 use Rattle.ep_cells.specs.Meaning.{Memories}
-use Rattle.ep_cells_laws.specs.Memories.{IsKilled, AreKilled}
-use Rattle.ep_cells_laws.proofs.Gathered.{of_kills}
-use Rattle.ep_cells_laws.proofs.Kill.{AfterKill, away, alive, lost, after_kill}
-use Rattle.ep_cells_laws.proofs.Lists.{in_append, in_each, in_map, map_in, in_put_all}
+use Rattle.ep_cells.specs.Memories.{IsKilled, AreKilled}
+use Rattle.ep_cells.proofs.Gathered.{of_kills}
+use Rattle.ep_cells.proofs.Kill.{AfterKill, away, alive, lost, after_kill}
+use Rattle.ep_cells.proofs.Lists.{in_append, in_each, in_map, map_in, in_put_all}
 use Rattle.ep_singles.specs.Cells.{IsOneValue, one_pointer, IsOneCell, no_value, one_value, IsOne}
 use Rattle.ep_singles.specs.Laws.{IsMachine}
 use Rattle.ep_singles.proofs.Covers.{has_side, share_left, share_right, keeps_side, side_covers, part_covers}

@@ -11,10 +11,10 @@ use Rattle.ep_cells.specs.Cells.{IsIn, is_same_cell}
 use Rattle.ep_cells.specs.Look.{covers}
 use Rattle.ep_cells.specs.States.{Known, IsOfSort, HasRisingBlocks}
 use Rattle.ep_cells.specs.Meaning.{Memories, Allows, StandsAt}
-use Rattle.ep_cells_laws.proofs.Both.{alike_same, only_one}
-use Rattle.ep_cells_laws.proofs.Lists.{in_map, map_in}
+use Rattle.ep_cells.proofs.Both.{alike_same, only_one}
+use Rattle.ep_cells.proofs.Lists.{in_map, map_in}
 use Rattle.ep_cell_ranges.specs.Narrow.{set_in, with_value}
-use Rattle.ep_cell_ranges_laws.proofs.Narrowing.{of_narrow}
+use Rattle.ep_cell_ranges.proofs.Narrowing.{of_narrow}
 use Rattle.ep_singles.specs.Cells.{IsOneValue, IsOneCell, one_value, IsOne}
 use Rattle.ep_singles.proofs.Covers.{IsByteAfter, stays, empty_after}
 

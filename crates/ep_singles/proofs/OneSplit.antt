@@ -25,17 +25,17 @@ use Rattle.ep_cells.specs.Forms.{reformed}
 use Rattle.ep_cells.specs.Look.{covers}
 use Rattle.ep_cells.specs.States.{Known, IsOfSort}
 use Rattle.ep_cells.specs.Meaning.{Memories, Allows}
-use Rattle.ep_cells_laws.specs.Memories.{is_byte_of, IsRewritten}
-use Rattle.ep_cells_laws.proofs.Lists.{in_each, in_map, map_in, in_put_all, put_there, put_keeps}
-use Rattle.ep_cells_laws.proofs.Places.{at}
-use Rattle.ep_cells_laws.proofs.Both.{alike_same}
+use Rattle.ep_cells.specs.Memories.{is_byte_of, IsRewritten}
+use Rattle.ep_cells.proofs.Lists.{in_each, in_map, map_in, in_put_all, put_there, put_keeps}
+use Rattle.ep_cells.proofs.Places.{at}
+use Rattle.ep_cells.proofs.Both.{alike_same}
 use Rattle.ep_reads.specs.Bytes.{order_on, byte_at, byte_form, byte_value, has_targets}
 use Rattle.ep_reads.specs.Split.{form_beside, byte_with, byte_of_pointer, byte_of, bytes_of_cell, byte_cells}
 use Rattle.ep_reads.specs.Split.{fate_by_split, left_by_split, split_cell}
-use Rattle.ep_reads_laws.proofs.Numbers.{small_number}
-use Rattle.ep_split_laws.proofs.ByteCells.{IsByteCell, byte_is, one_of}
-use Rattle.ep_split_laws.proofs.OneSplit.{IsLoosened, AfterSplit, rest, other, after_split, split_cell_cells}
-use Rattle.ep_split_laws.proofs.OneSplit.{split_cell_holds}
+use Rattle.ep_reads.proofs.Numbers.{small_number}
+use Rattle.ep_reads.proofs.ByteCells.{IsByteCell, byte_is, one_of}
+use Rattle.ep_reads.proofs.OneSplit.{IsLoosened, AfterSplit, rest, other, after_split, split_cell_cells}
+use Rattle.ep_reads.proofs.OneSplit.{split_cell_holds}
 use Rattle.ep_singles.specs.Cells.{IsOneValue, one_number, one_pointer, IsOneCell, no_value, one_value, IsOne}
 use Rattle.ep_singles.specs.Laws.{IsMachine}
 use Rattle.ep_singles.proofs.Sums.{byte_single}
@@ -172,7 +172,7 @@ split_covers {N = N} d s q x z c p i out h = by_same (is_same_cell z x) refl
     by_same true e = by_share (share_memory s q) refl e
     by_same false e = (z, first [], h)
 
-new_in : {N : Type 0} (new cs : List (Cell N)) (y : Cell N) → IsIn y new → IsIn y (put_all new cs)
+pub new_in : {N : Type 0} (new cs : List (Cell N)) (y : Cell N) → IsIn y new → IsIn y (put_all new cs)
 new_in [] cs y i = elim i [ ]
 new_in (c ∷ new) cs _ (first _) = put_there c (put_all new cs)
 new_in (c ∷ new) cs y (later _ _ i) = put_keeps c y (put_all new cs) (new_in new cs y i)

@@ -1,5 +1,6 @@
 -- Where new cells of one value take a place, a state stands for one pair of memories again.
 use Rattle.std.proofs.Common.{◌≡◌, ◌⊎◌, inl, inr, ℕ, ◌+◌, ◌<◌, ◌≤◌, Bool, true, false, ◌&&◌, not, nat_eq, nat_le}
+use Rattle.ep_singles.proofs.OneSplit.{new_in}
 use Rattle.std.proofs.Common.{nat_lt, cond, List, [], ◌∷◌, Option, Some, None, refl, sym, ◌∙◌, ap, subst, arith}
 use Rattle.std.proofs.lemmas.Bool.{and_parts, and_from, eqb-true, leb-true, ltb-true}
 use Rattle.ep_int.specs.declared.types.Model.{Model}
@@ -9,20 +10,20 @@ use Rattle.ep_bitslice.specs.declared.cell.Side.{Side}
 use Rattle.ep_bitslice.specs.declared.cell.Side.TheVariants.{Left, Right}
 use Rattle.ep_domain.specs.Domain.{Ops}
 use Rattle.ep_cells.specs.declared.cell.Cell.{Cell}
-use Rattle.ep_cells.specs.declared.place.Place.{Place}
-use Rattle.ep_cells.specs.Cells.{IsIn, first, later, place_of, touches, meets, encloses, is_partly_in, share_memory}
+use Rattle.ep_cells.specs.declared.place.ByteRange.{ByteRange}
+use Rattle.ep_cells.specs.Cells.{IsIn, first, place_of, touches, meets, encloses, is_partly_in, share_memory}
 use Rattle.ep_cells.specs.Cells.{side_without, on_left, on_right, with_side, put_all, each_becomes}
 use Rattle.ep_cells.specs.Forms.{reformed}
 use Rattle.ep_cells.specs.Look.{covers, cell_at}
 use Rattle.ep_cells.specs.States.{Known}
 use Rattle.ep_cells.specs.Meaning.{Memories}
 use Rattle.ep_cells.specs.Write.{left_by_write, fate_by_write}
-use Rattle.ep_cells_laws.specs.Memories.{is_byte_of, IsRewritten, AreRewritten}
-use Rattle.ep_cells_laws.proofs.Lists.{in_each, in_map, map_in, in_put_all, put_there, put_keeps}
-use Rattle.ep_cells_laws.proofs.Write.{left_is}
+use Rattle.ep_cells.specs.Memories.{is_byte_of, IsRewritten, AreRewritten}
+use Rattle.ep_cells.proofs.Lists.{in_each, in_map, map_in, in_put_all}
+use Rattle.ep_cells.proofs.Write.{left_is}
 use Rattle.ep_cell_ranges.specs.Ranges.{overwritten}
-use Rattle.ep_cell_ranges_laws.specs.Sound.{AreNew, SayNew}
-use Rattle.ep_cell_ranges_laws.proofs.Overwrites.{of_overwrites}
+use Rattle.ep_cell_ranges.specs.Sound.{AreNew, SayNew}
+use Rattle.ep_cell_ranges.proofs.Overwrites.{of_overwrites}
 use Rattle.ep_singles.specs.Cells.{IsOneCell, IsOne}
 use Rattle.ep_singles.specs.Laws.{IsMachine}
 use Rattle.ep_singles.specs.CellLaws.{IsFilled}
@@ -33,7 +34,7 @@ use Rattle.ep_singles.proofs.Covers.{one_side, one_form}
 -- ---- the cells that had a byte
 
 -- the byte that a cell in a place has is one of the place
-byte_inside : (p : Place) (c q o n : ℕ) → nat_eq p.block c ≡ true → (nat_le o q && nat_lt q (o + n)) ≡ true
+byte_inside : (p : ByteRange) (c q o n : ℕ) → nat_eq p.block c ≡ true → (nat_le o q && nat_lt q (o + n)) ≡ true
     → (nat_le p.offset o && nat_le (o + n) (p.offset + p.bytes)) ≡ true → is_byte_of p c q ≡ true
 byte_inside p c q o n e h i =
     let a = and_parts (nat_le o q) (nat_lt q (o + n)) h in
@@ -48,7 +49,7 @@ byte_inside p c q o n e h i =
     (and_from (nat_le p.offset q) (nat_lt q (p.offset + p.bytes)) (grind (arith, from)) (grind (arith, to)))
 
 -- on a machine, outside of the bytes that are written there
-write_covers : {N : Type 0} (d : Model) (s : Side) (p : Place) (c q : ℕ) (x : Cell N) → IsMachine s
+write_covers : {N : Type 0} (d : Model) (s : Side) (p : ByteRange) (c q : ℕ) (x : Cell N) → IsMachine s
     → is_partly_in p (place_of d x) ≡ false → (share_memory p.side s && is_byte_of p c q) ≡ false
     → covers d s c q x ≡ true → (y : Cell N) × IsIn y (left_by_write d p x) × (covers d s c q y ≡ true)
 write_covers {N = N} d s p c q x i uncut out h = by_touch (touches p (place_of d x)) refl
@@ -102,15 +103,9 @@ write_covers {N = N} d s p c q x i uncut out h = by_touch (touches p (place_of d
     by_touch true e = by_share (share_memory p.side s) refl e
     by_touch false e = (x, first [], h)
 
--- a new cell is among those after
-new_in : {N : Type 0} (new cs : List (Cell N)) (y : Cell N) → IsIn y new → IsIn y (put_all new cs)
-new_in [] cs y i = elim i [ ]
-new_in (c ∷ new) cs _ (first _) = put_there c (put_all new cs)
-new_in (c ∷ new) cs y (later _ _ i) = put_keeps c y (put_all new cs) (new_in new cs y i)
-
 -- ---- what is undefined
 
-module _ {N : Type 0} (D : Ops N) (k : Known N) (s : Side) (p : Place) (new : List (Cell N)) (m n : Memory)
+module _ {N : Type 0} (D : Ops N) (k : Known N) (s : Side) (p : ByteRange) (new : List (Cell N)) (m n : Memory)
     (i : IsMachine s) (uncut : (x : Cell N) → IsIn x k.cells → is_partly_in p (place_of k.model x) ≡ false)
     (here : Bool) (same : share_memory p.side s ≡ here) (w : IsRewritten p here m n)
     (filled : here ≡ true → IsFilled D k p new s n) where
@@ -142,7 +137,7 @@ module _ {N : Type 0} (D : Ops N) (k : Known N) (s : Side) (p : Place) (new : Li
           ))
 
 -- each cell after it is of one value
-pub overwritten_each : {N : Type 0} (D : Ops N) (k : Known N) (p : Place) (new : List (Cell N))
+pub overwritten_each : {N : Type 0} (D : Ops N) (k : Known N) (p : ByteRange) (new : List (Cell N))
     → ((c : Cell N) → IsIn c k.cells → IsOneCell D c) → ((c : Cell N) → IsIn c new → IsOneCell D c) → (y : Cell N)
     → IsIn y (overwritten D p new k).cells → IsOneCell D y
 overwritten_each {N = N} D k p new old each y i =
@@ -159,7 +154,7 @@ overwritten_each {N = N} D k p new old each y i =
         let y = left_is k.model p x.origin z x.becomes in
         subst (IsOneCell D) (sym y.is) (one_side D x.origin y.side (old x.origin x.is_in))
 
-pub overwrites_keep_one : {N : Type 0} (D : Ops N) (k : Known N) (m n : Memories) → IsOne D k m → (p : Place)
+pub overwrites_keep_one : {N : Type 0} (D : Ops N) (k : Known N) (m n : Memories) → IsOne D k m → (p : ByteRange)
     (new : List (Cell N)) → AreNew k.model p k.cells new
     → ((x : Cell N) → IsIn x k.cells → is_partly_in p (place_of k.model x) ≡ false)
     → ((c : Cell N) → IsIn c new → IsOneCell D c) → AreRewritten p m n → SayNew D k new m n

@@ -8,21 +8,21 @@ use Rattle.ep_bitslice.specs.declared.cell.Side.{Side}
 use Rattle.ep_bitslice.specs.declared.cell.Side.TheVariants.{Left, Right, Shared}
 use Rattle.ep_domain.specs.Domain.{Ops, Lawful}
 use Rattle.ep_cells.specs.declared.cell.Cell.{Cell}
-use Rattle.ep_cells.specs.declared.place.Place.{Place}
+use Rattle.ep_cells.specs.declared.place.ByteRange.{ByteRange}
 use Rattle.ep_cells.specs.Cells.{IsIn, first, later, on_left, on_right, place_of, is_partly_in}
 use Rattle.ep_cells.specs.Look.{covers, cell_at}
 use Rattle.ep_cells.specs.States.{Known, AreCells}
 use Rattle.ep_cells.specs.Meaning.{Memories, In}
-use Rattle.ep_cells_laws.proofs.Lists.{in_map}
-use Rattle.ep_split_laws.specs.Laws.{AreBroken}
-use Rattle.ep_split_laws.proofs.Splits.{of_splits}
+use Rattle.ep_cells.proofs.Lists.{in_map}
+use Rattle.ep_reads.specs.SplitLaws.{AreBroken}
+use Rattle.ep_reads.proofs.Splits.{of_splits}
 use Rattle.ep_cell_ranges.specs.Ranges.{Reform, with_form, split_at, cut, form_by_cut, overwritten, replaced}
-use Rattle.ep_cell_ranges_laws.specs.Laws.{ReplaceLaws}
-use Rattle.ep_cell_ranges_laws.specs.Sound.{AreStored, AreNew, SayNew}
-use Rattle.ep_cell_ranges_laws.proofs.Cut.{broken_on, is_cut}
-use Rattle.ep_cell_ranges_laws.proofs.Overwrites.{of_overwrites}
-use Rattle.ep_cell_ranges_laws.proofs.Replaces.{are_rewritten, cut_is, of_replaces}
-use Rattle.ep_cell_ranges_laws.proofs.Waits.{of_splits as of_more_splits}
+use Rattle.ep_cell_ranges.specs.Laws.{ReplaceLaws}
+use Rattle.ep_cell_ranges.specs.Sound.{AreStored, AreNew, SayNew}
+use Rattle.ep_cell_ranges.proofs.Cut.{broken_on, is_cut}
+use Rattle.ep_cell_ranges.proofs.Overwrites.{of_overwrites}
+use Rattle.ep_cell_ranges.proofs.Replaces.{are_rewritten, cut_is, of_replaces}
+use Rattle.ep_cell_ranges.proofs.Waits.{of_splits as of_more_splits}
 use Rattle.ep_singles.specs.Cells.{IsOneCell, no_value, one_value, IsOne}
 use Rattle.ep_singles.specs.CellLaws.{IsFilled}
 use Rattle.ep_singles.proofs.Covers.{share_left, share_right, empty_after}
@@ -49,22 +49,22 @@ right_broken d b q n m = record {
 
 module _ {N : Type 0} (D : Ops N) (law : Lawful D) where
   cut_by : (s : Side) (b q n : ℕ) (k : Known N) (m : Memories) → IsOne D k m
-      → (let p : Place = record { side = s; block = b; offset = q; bytes = n } in
+      → (let p : ByteRange = record { side = s; block = b; offset = q; bytes = n } in
       IsOne D (record k { cells = (cut D p k).cells }) (broken_on k.model p m))
   cut_by Left b q n k m one =
-      let p : Place = record { side = Left; block = b; offset = q; bytes = n } in
+      let p : ByteRange = record { side = Left; block = b; offset = q; bytes = n } in
       splits_keep_one D law k m (broken_on k.model p m) one p refl (left_broken k.model b q n m)
   cut_by Right b q n k m one =
-      let p : Place = record { side = Right; block = b; offset = q; bytes = n } in
+      let p : ByteRange = record { side = Right; block = b; offset = q; bytes = n } in
       splits_keep_one D law k m (broken_on k.model p m) one p refl (right_broken k.model b q n m)
   cut_by Shared b q n k m one =
-      let l : Place = record { side = Left; block = b; offset = q; bytes = n } in
-      let r : Place = record { side = Right; block = b; offset = q; bytes = n } in
+      let l : ByteRange = record { side = Left; block = b; offset = q; bytes = n } in
+      let r : ByteRange = record { side = Right; block = b; offset = q; bytes = n } in
       let h : Memories = record { left = broken k.model m.left b q n; right = m.right } in
       splits_keep_one D law (split_at D l k) h (record { left = h.left; right = broken k.model h.right b q n })
       (splits_keep_one D law k m h one l refl (left_broken k.model b q n m)) r refl (right_broken k.model b q n h)
 
-  cut_one : (p : Place) (k : Known N) (m : Memories) → IsOne D k m
+  cut_one : (p : ByteRange) (k : Known N) (m : Memories) → IsOne D k m
       → IsOne D (record k { cells = (cut D p k).cells }) (broken_on k.model p m)
   cut_one p k m one = cut_by p.side p.block p.offset p.bytes k m one
 
@@ -99,7 +99,7 @@ formed_each D g cs each y i =
     subst (IsOneCell D) (sym z.is) (one_formed D g z.origin (each z.origin z.is_in))
 
 pub replaces_keep_one : {N : Type 0} (D : Ops N) → Lawful D → (k : Known N) (m n : Memories) → IsOne D k m
-    → (p : Place) (new : List (Cell N)) → AreNew k.model p k.cells new
+    → (p : ByteRange) (new : List (Cell N)) → AreNew k.model p k.cells new
     → ((c : Cell N) → IsIn c new → IsOneCell D c) → AreStored k.model p m n → SayNew D k new m n
     → (on_left p.side ≡ true → IsFilled D k p new Left n.left)
     → (on_right p.side ≡ true → IsFilled D k p new Right n.right) → IsOne D (replaced D p new k) n

@@ -34,11 +34,11 @@ use Rattle.ep_reads.specs.Bytes.{order_on}
 use Rattle.ep_reads.specs.Read.{is_exact, is_same_sort, converted, whole_read, byte_there, bytes_from, bytes_there}
 use Rattle.ep_reads.specs.Read.{may_be_undefined, unsigned_of, is_zero_value, is_undefined_byte, read_in_parts}
 use Rattle.ep_reads.specs.Read.{read_with, read}
-use Rattle.ep_reads_laws.specs.Laws.{memory_on}
-use Rattle.ep_reads_laws.proofs.Numbers.{is_unsigned, bytes_of_unsigned}
-use Rattle.ep_reads_laws.proofs.Sums.{byte_of_number}
-use Rattle.ep_reads_laws.proofs.Found.{covering, stands_there, there_holds}
-use Rattle.ep_reads_laws.proofs.Gathered.{of_reads}
+use Rattle.ep_reads.specs.Laws.{memory_on}
+use Rattle.ep_reads.proofs.Numbers.{is_unsigned, bytes_of_unsigned}
+use Rattle.ep_reads.proofs.Sums.{byte_of_number}
+use Rattle.ep_reads.proofs.Found.{covering, stands_there, there_holds}
+use Rattle.ep_reads.proofs.Gathered.{of_reads}
 use Rattle.ep_singles.specs.Cells.{IsOneValue, one_number, one_pointer, IsOneCell, no_value, one_value}
 use Rattle.ep_singles.specs.Cells.{IsEmptyOutside, IsOne}
 use Rattle.ep_singles.specs.Laws.{IsMachine, Finds, IsReadAs}

@@ -1,33 +1,29 @@
 -- Bytes of single numbers, and sums of such bytes, are single.
-use Rattle.std.proofs.Common.{◌≡◌, ℕ, zero, suc, ◌+◌, ◌-◌, ◌*◌, ◌^◌, ◌<◌, ◌≤◌, zero-add, add-zero, ℤ, pos, negsuc}
-use Rattle.std.proofs.Common.{◌+ℤ◌, ◌*ℤ◌, true, false, ◌&&◌, nat_le, int_le, int_lt, cond, IsSomeAnd, MatchResult}
-use Rattle.std.proofs.Common.{Result, Ok, Err, Option, Some, None, refl, sym, ◌∙◌, ap, subst, arith}
+use Rattle.std.proofs.Common.{◌≡◌, ℕ, zero, suc, ◌+◌, ◌-◌, ◌*◌, ◌^◌, ◌<◌, ◌≤◌, zero-add, add-zero, ℤ, pos}
+use Rattle.ep_reads.proofs.Numbers.{settled_is, shift_is, unsigned_in_range}
+use Rattle.std.proofs.Common.{◌+ℤ◌, ◌*ℤ◌, false, ◌&&◌, IsSomeAnd, MatchResult}
+use Rattle.std.proofs.Common.{Ok, Option, Some, None, refl, sym, ◌∙◌, ap, subst, arith}
 use Rattle.std.specs.Option.{option_map}
 use Rattle.std.specs.Int.{int_shr}
-use Rattle.std.proofs.lemmas.Int.{ints}
-use Rattle.std.proofs.lemmas.Bool.{cond-true}
 use Rattle.std.proofs.Math.Nat.{pow-suc, pow-le-pow_right, le-mul_of_pos_right}
 use Rattle.std.proofs.Math.IntN.{pos-*ℤ-pos, pos-+ℤ-pos}
 use Rattle.ep_int.specs.declared.types.IntType.{IntType}
 use Rattle.ep_int.specs.declared.types.IntType.TheVariants.{U8}
 use Rattle.ep_int.specs.declared.types.BinOp.{BinOp}
 use Rattle.ep_int.specs.declared.types.BinOp.TheVariants.{Add, Mul, Shr}
-use Rattle.ep_int.specs.declared.types.Undef.{Undef}
-use Rattle.ep_int.specs.declared.types.Undef.TheVariants.{Overflow, Shift}
-use Rattle.ep_int.specs.Types.{bytes_of, bits_of, is_signed, InRange, representation, wrapped}
-use Rattle.ep_int.specs.Arith.{IsOfSomeType, arith_of, is_amount, settled}
+use Rattle.ep_int.specs.Types.{bytes_of, bits_of, is_signed, InRange, representation}
+use Rattle.ep_int.specs.Arith.{IsOfSomeType, arith_of}
 use Rattle.ep_int.specs.Encoding.{byte_of, sum_of_bytes}
-use Rattle.ep_int.proofs.Arithmetic.{settled_unsigned, in_range_some_type}
+use Rattle.ep_int.proofs.Arithmetic.{in_range_some_type}
 use Rattle.ep_int.proofs.Encodings.{bytes_pow, bytes_pow_pos}
-use Rattle.ep_int.proofs.Wrapping.{represented_in_range, wrapped_same}
 use Rattle.ep_range_laws.specs.Faults.{Takes}
 use Rattle.ep_domain.specs.Domain.{Ops, IsSingle, Lawful}
 use Rattle.ep_cells.specs.declared.cell.Value.TheVariants.{Num}
 use Rattle.ep_reads.specs.declared.read.ReadValue.{ReadValue}
 use Rattle.ep_reads.specs.Bytes.{byte_value}
 use Rattle.ep_reads.specs.Read.{bytes_from, weighted, plus, sum_after, sum_of}
-use Rattle.ep_reads_laws.proofs.Numbers.{Gives, byte_is, at_most_eight, small_number}
-use Rattle.ep_reads_laws.proofs.Sums.{sum_below}
+use Rattle.ep_reads.proofs.Numbers.{Gives, byte_is, at_most_eight, small_number}
+use Rattle.ep_reads.proofs.Sums.{sum_below}
 
 gives : {N : Type 0} (o : Option N) (P : N → Type 0) → IsSomeAnd o P → Gives o P
 gives None P h = absurd h
@@ -42,14 +38,6 @@ result_single D law o t a b x y z takes e p q =
     (λ _. (D.op o t a b).value ≡ None)) e (law.op_single o t a b x y takes p q))
 
 -- ---- byte k of a number, by a shift
-
-below_tests : (m n : ℕ) → m < n → (int_le (pos 0) (pos m) && int_lt (pos m) (pos n)) ≡ true
-below_tests m n h = grind (arith, ints)
-
-shift_is : (t : IntType) (v : ℤ) (k : ℕ) → k < bytes_of t → arith_of Shr t v (pos (8 * k)) ≡ Ok (int_shr v (8 * k))
-shift_is t v k h =
-    cond-true (is_amount t (pos (8 * k))) (Ok (int_shr v (8 * k))) (Err Shift)
-    (below_tests (8 * k) (bits_of t) (omega arith))
 
 pub byte_single : {N : Type 0} (D : Ops N) → Lawful D → (t : IntType) (k : ℕ) (n : N) (z : ℤ) → k < bytes_of t
     → InRange t z → IsSingle D n z
@@ -68,19 +56,6 @@ byte_single D law t k n z h r p =
     }
 
 -- ---- sums and products of an unsigned type
-
-unsigned_in_range : (u : IntType) (n : ℕ) → is_signed u ≡ false → n < 2 ^ bits_of u → InRange u (pos n)
-unsigned_in_range u n e h =
-    subst (InRange u)
-    (ap (λ b. cond (b && nat_le (2 ^ (bits_of u - 1)) n) (negsuc (2 ^ bits_of u - 1 - n)) (pos n)) e)
-    (represented_in_range u n h)
-
-settled_is : (u : IntType) (v : ℤ) (n : ℕ) → is_signed u ≡ false → v ≡ pos n → n < 2 ^ bits_of u
-    → settled Overflow u v ≡ Ok (pos n)
-settled_is u v n e i h =
-    sym (settled_unsigned Overflow u v e)
-    ∙ ap (λ z. let r : Result ℤ Undef = Ok z in r)
-    (ap (wrapped u) i ∙ wrapped_same u (pos n) (unsigned_in_range u n e h))
 
 product_single : {N : Type 0} (D : Ops N) → Lawful D → (u : IntType) (a b : N) (x y : ℕ) → is_signed u ≡ false
     → x < 2 ^ bits_of u → y < 2 ^ bits_of u → x * y < 2 ^ bits_of u → IsSingle D a (pos x) → IsSingle D b (pos y)

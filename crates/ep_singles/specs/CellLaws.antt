@@ -7,16 +7,16 @@ use Rattle.ep_bitslice.specs.declared.cell.Side.TheVariants.{Left, Right}
 use Rattle.ep_domain.specs.Domain.{Ops}
 use Rattle.ep_cells.specs.declared.cell.Cell.{Cell}
 use Rattle.ep_cells.specs.declared.cell.Value.{Value}
-use Rattle.ep_cells.specs.declared.place.Place.{Place}
+use Rattle.ep_cells.specs.declared.place.ByteRange.{ByteRange}
 use Rattle.ep_cells.specs.Cells.{IsIn, on_left, on_right, place_of, is_partly_in}
 use Rattle.ep_cells.specs.Kill.{AreLeavesIn, killed_cells}
 use Rattle.ep_cells.specs.Look.{cell_at}
 use Rattle.ep_cells.specs.States.{Known, IsOfSort, HasRisingBlocks}
 use Rattle.ep_cells.specs.Meaning.{Memories, Allows, StandsAt}
-use Rattle.ep_cells_laws.specs.Memories.{is_byte_of, AreRewritten, AreKilled}
+use Rattle.ep_cells.specs.Memories.{is_byte_of, AreRewritten, AreKilled}
 use Rattle.ep_cell_ranges.specs.Narrow.{with_value}
 use Rattle.ep_cell_ranges.specs.Ranges.{overwritten}
-use Rattle.ep_cell_ranges_laws.specs.Sound.{AreNew, SayNew}
+use Rattle.ep_cell_ranges.specs.Sound.{AreNew, SayNew}
 use Rattle.ep_singles.specs.Cells.{IsOneValue, IsOneCell, IsOne}
 
 module _ {N : Type 0} (D : Ops N) where
@@ -36,14 +36,15 @@ module _ {N : Type 0} (D : Ops N) where
       → IsOne D (with_value c v k) m
 
   -- bytes of a place on a side that no new cell has are undefined
-  abbrev pub IsFilled : Known N → Place → List (Cell N) → Side → Memory → Type 0
+  abbrev pub IsFilled : Known N → ByteRange → List (Cell N) → Side → Memory → Type 0
   IsFilled k p new s m =
       (b q : ℕ) → is_byte_of p b q ≡ true → cell_at k.model s b q new ≡ None → m b q ≡ undefined
 
   -- new cells, each of one value, take a place in which no cell lies partly
   abbrev pub OverwritesKeepOne : Type 0
   OverwritesKeepOne =
-      (k : Known N) (m n : Memories) → IsOne D k m → (p : Place) (new : List (Cell N)) → AreNew k.model p k.cells new
+      (k : Known N) (m n : Memories) → IsOne D k m → (p : ByteRange) (new : List (Cell N)) →
+      AreNew k.model p k.cells new
       → ((x : Cell N) → IsIn x k.cells → is_partly_in p (place_of k.model x) ≡ false)
       → ((c : Cell N) → IsIn c new → IsOneCell D c) → AreRewritten p m n → SayNew D k new m n
       → (on_left p.side ≡ true → IsFilled k p new Left n.left)

@@ -12,7 +12,7 @@ use Rattle.ep_cells.specs.Meaning.{Memories, Allows}
 use Rattle.ep_reads.specs.declared.read.ReadValue.{ReadValue}
 use Rattle.ep_reads.specs.Bytes.{order_on}
 use Rattle.ep_reads.specs.Read.{read}
-use Rattle.ep_reads_laws.specs.Laws.{memory_on}
+use Rattle.ep_reads.specs.Laws.{memory_on}
 use Rattle.ep_singles.specs.Cells.{IsOneValue, IsOne}
 
 -- the side of one machine

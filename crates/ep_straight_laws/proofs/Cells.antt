@@ -1,7 +1,10 @@
 -- What becomes of the cells of variables where one of them is written as a whole.
 use Rattle.std.proofs.Common.{◌≡◌, ℕ, ◌+◌, Bool, true, false, ◌&&◌, not, cond, nat_eq, nat_lt, nat_le, List, [], ◌∷◌}
+use Rattle.ep_reads.proofs.Members.{place_alike}
+use Rattle.ep_cells.proofs.Basics.{filter-none}
+use Rattle.ep_cells.proofs.WeakCells.{shared_all}
+use Rattle.std.proofs.lemmas.Bool.{and_right}
 use Rattle.std.proofs.Common.{refl, sym, ap, ◌∙◌, subst, Option, arith}
-use Rattle.std.specs.List.{filter}
 use Rattle.std.proofs.lemmas.Bool.{eq-eqb, le-leb}
 use Rattle.ep_int.specs.declared.types.IntType.{IntType}
 use Rattle.ep_int.specs.declared.types.Model.{Model}
@@ -12,51 +15,35 @@ use Rattle.ep_bitslice.specs.declared.cell.Side.TheVariants.{Left, Right, Shared
 use Rattle.ep_domain.specs.Domain.{Ops}
 use Rattle.ep_cells.specs.declared.cell.Cell.{Cell}
 use Rattle.ep_cells.specs.declared.cell.Value.{Value}
-use Rattle.ep_cells.specs.declared.place.Place.{Place}
+use Rattle.ep_cells.specs.declared.place.ByteRange.{ByteRange}
 use Rattle.ep_cells.specs.Cells.{place_of, touches, meets, share_memory, is_partly_in, is_same_cell, side_without}
-use Rattle.ep_cells.specs.Cells.{with_side, IsIn, first, later, put, each_becomes}
+use Rattle.ep_cells.specs.Cells.{with_side, IsIn, first, put, each_becomes}
 use Rattle.ep_cells.specs.Forms.{reformed, common_form}
 use Rattle.ep_cells.specs.States.{Known, AreCells}
 use Rattle.ep_cells.specs.Write.{left_by_write, fate_by_write}
-use Rattle.ep_cells_laws.proofs.Lists.{map_in, each_in, put_there, put_keeps}
-use Rattle.ep_cells_laws.proofs.Both.{alike_same}
+use Rattle.ep_cells.proofs.Lists.{map_in, each_in, put_there, put_keeps}
+use Rattle.ep_cells.proofs.Both.{alike_same}
 use Rattle.ep_reads.specs.Split.{split_all}
-use Rattle.ep_split_laws.proofs.Sides.{others_apart}
-use Rattle.ep_split_laws.proofs.Splits.{place_alike}
+use Rattle.ep_reads.proofs.Sides.{others_apart}
 use Rattle.ep_cell_ranges.specs.Ranges.{on_cell_side, with_cells, with_form, form_by_cut, split_at, cut, overwritten}
 use Rattle.ep_cell_ranges.specs.Ranges.{replaced}
 use Rattle.ep_cell_ranges.specs.Spots.{is_same_spot, all_spots}
-use Rattle.ep_cell_ranges_laws.specs.Sound.{IsPlaced}
+use Rattle.ep_cell_ranges.specs.Sound.{IsPlaced}
 use Rattle.ep_equalities.specs.declared.pair.Mode.TheVariants.{Both}
 use Rattle.ep_transfers.specs.Writes.{Item, underway, shared_cell, write_shared, write_shared_each, write_both}
 use Rattle.ep_transfers.specs.Writes.{write_now}
 
 -- the place of a variable, on both sides
-abbrev pub whole : (block : ℕ) → IntType → Place
+abbrev pub whole : (block : ℕ) → IntType → ByteRange
 whole b t = record { side = Shared; block = b; offset = 0; bytes = bytes_of t }
 
 pub placed_at : {N : Type 0} (d : Model) (b : ℕ) (t : IntType) (x : Cell N) → IsPlaced Shared b 0 (Int t) x
     → place_of d x ≡ whole b t
 placed_at d b t x q = rw (q.side, q.block, q.offset, q.what) refl
 
-filter_none : {N : Type 0} (test : Cell N → Bool) (cs : List (Cell N)) → ((z : Cell N) → IsIn z cs → test z ≡ false)
-    → filter test cs ≡ []
-filter_none test [] h = refl
-filter_none test (c ∷ cs) h =
-    rw (h c (first cs)) (filter_none test cs (λ z i. h z (later c cs i)))
-
-share_all : (s : Side) → share_memory Shared s ≡ true
-share_all Left = refl
-share_all Right = refl
-share_all Shared = refl
-
-never_both : (a b : Bool) → b ≡ false → (a && b) ≡ false
-never_both true b e = e
-never_both false b e = refl
-
 not_met : (s q : Side) (t e : Bool) → (share_memory Shared q && t) ≡ false → ((share_memory s q && t) && e) ≡ false
-not_met s q true e h = absurd (let k : (share_memory Shared q && true) ≡ true = rw (share_all q) refl in cc)
-not_met s q false e h = rw (never_both (share_memory s q) false refl) refl
+not_met s q true e h = absurd (let k : (share_memory Shared q && true) ≡ true = rw (shared_all q) refl in cc)
+not_met s q false e h = rw (and_right (share_memory s q) false refl) refl
 
 -- a cell of a variable, with this value
 pub record IsCellOf {N : Type 0} (k : Known N) (b : ℕ) (t : IntType) (v : Option (Value N)) (maybe : Bool) : Type 0
@@ -75,7 +62,7 @@ module _ {N : Type 0} (D : Ops N) (k : Known N) (cells : AreCells k.model k.cell
       let a : place_of k.model z ≡ whole b t = place_alike k.model z x (alike_same z x e)
       ∙ placed_at k.model b t x q in
       subst (λ u. is_partly_in (on_cell_side s (whole b t)) u ≡ false) (sym a)
-      (never_both (meets (on_cell_side s (whole b t)) (whole b t)) _ (inside (bytes_of t)))
+      (and_right (meets (on_cell_side s (whole b t)) (whole b t)) _ (inside (bytes_of t)))
     where
       inside : (n : ℕ) → not (nat_le 0 0 && nat_le (0 + n) (0 + n)) ≡ false
       inside n = rw (le-leb (0 + n) (0 + n) (omega arith)) refl
@@ -93,7 +80,7 @@ module _ {N : Type 0} (D : Ops N) (k : Known N) (cells : AreCells k.model k.cell
     split_same : (s : Side) → split_at D (on_cell_side s (whole b t)) k ≡ k
     split_same s =
         ap (λ xs. with_cells k (split_all D k s xs k.cells))
-        (filter_none (λ x. is_partly_in (on_cell_side s (whole b t)) (place_of k.model x)) k.cells (none_cut s))
+        (filter-none (λ x. is_partly_in (on_cell_side s (whole b t)) (place_of k.model x)) k.cells (none_cut s))
 
     cut_same : cut D (whole b t) k ≡ k
     cut_same = ap (split_at D (on_cell_side Right (whole b t))) (split_same Left) ∙ split_same Right

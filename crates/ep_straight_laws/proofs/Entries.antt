@@ -17,7 +17,7 @@ use Rattle.ep_cells.specs.Cells.{side_without, with_side, IsIn, first, later, pu
 use Rattle.ep_cells.specs.Forms.{reformed}
 use Rattle.ep_cells.specs.Kill.{undefined_cell, entry_cells, has_target, killed_pointer, left_by_kill, fate_by_kill}
 use Rattle.ep_cells.specs.States.{Known}
-use Rattle.ep_cells_laws.proofs.Lists.{in_left, in_right, map_in, each_in, put_there, put_keeps, put_all_keeps}
+use Rattle.ep_cells.proofs.Lists.{in_left, in_right, map_in, each_in, put_there, put_keeps, put_all_keeps}
 use Rattle.ep_core.specs.Program.{Block, Program}
 use Rattle.ep_core.specs.Runs.{is_result}
 use Rattle.ep_transfers.specs.Transfers.{leaves_in, bytes_in, killed_block, killed_blocks}

@@ -1,6 +1,8 @@
 -- A byte that both machines have alike is put out without a fault and is surely the same: it is of a cell of one byte,
 -- of a single number, or of the number 1, of which both read the same byte.
 use Rattle.std.proofs.Common.{◌≡◌, ℕ, ◌+◌, ◌-◌, ◌*◌, ◌<◌, inl, inr, pos, Bool, true, false, ◌&&◌, ◌||◌, nat_eq, cond}
+use Rattle.ep_transfers.proofs.PieceReads.{place_zero}
+use Rattle.ep_cell_rows.proofs.Same.{segments_itself}
 use Rattle.std.proofs.Common.{List, [], ◌∷◌, ◌++◌, refl, sym, ap, ◌∙◌, subst, Option, Some, None, IfSome}
 use Rattle.std.proofs.Common.{option_and_then, arith}
 use Rattle.std.specs.Option.{option_map}
@@ -20,16 +22,15 @@ use Rattle.ep_int.proofs.Places.{width_of, place_below}
 use Rattle.ep_alarms.specs.declared.types.AlarmKind.TheVariants.{U4, U10}
 use Rattle.ep_bitslice.specs.declared.cell.Side.TheVariants.{Shared}
 use Rattle.ep_bitslice.specs.declared.segment.Segment.{Segment}
-use Rattle.ep_bitslice.specs.declared.segment.Segment.TheVariants.{Bits, Fixed}
+use Rattle.ep_bitslice.specs.declared.segment.Segment.TheVariants.{Bits}
 use Rattle.ep_bitslice.specs.Segments.{bits, width, form_of, IsForm}
 use Rattle.ep_bitslice.proofs.Appending.{form_of-bits}
-use Rattle.ep_bitslice.proofs.Joining.{cell_itself, eq_self}
 use Rattle.ep_domain.specs.Domain.{Ops, Lawful, IsSingle}
 use Rattle.std.proofs.lemmas.Cmp.{int_eq_equiv}
 use Rattle.ep_cells.specs.declared.cell.Cell.{Cell}
 use Rattle.ep_cells.specs.declared.cell.Value.TheVariants.{Num}
 use Rattle.ep_cells.specs.Cells.{is_same_side}
-use Rattle.ep_cells.specs.Forms.{is_same_segment, are_same_segments, have_same_form}
+use Rattle.ep_cells.specs.Forms.{have_same_form}
 use Rattle.ep_cells.specs.Look.{cell_at}
 use Rattle.ep_cells.specs.Meaning.{name_of}
 use Rattle.ep_cells.specs.Reshare.{are_one_number}
@@ -39,8 +40,8 @@ use Rattle.ep_reads.specs.Bytes.{byte_at, byte_form, byte_of_value, byte_of_cell
 use Rattle.ep_reads.specs.Bytes.{number_byte, order_on}
 use Rattle.ep_reads.specs.Read.{is_exact, is_same_sort, whole_read, read_with, read_in_parts, byte_read, byte_there}
 use Rattle.ep_reads.specs.Read.{appended, integer_read, converted, read}
-use Rattle.ep_reads_laws.proofs.Bytes.{cell_form_fits}
-use Rattle.ep_reads_laws.proofs.Slices.{slice_is}
+use Rattle.ep_reads.proofs.Bytes.{cell_form_fits}
+use Rattle.ep_reads.proofs.Slices.{slice_is}
 use Rattle.ep_cell_ranges.specs.Shared.{is_shared_cell}
 use Rattle.ep_core.specs.Program.{Program}
 use Rattle.ep_core.specs.Exec.{is_order}
@@ -76,20 +77,7 @@ and_false : (a b : Bool) → (a && (false && b)) ≡ false
 and_false true b = refl
 and_false false b = refl
 
-segment_itself : (s : Segment) → is_same_segment s s ≡ true
-segment_itself (Bits c f t) = rw (cell_itself c, eq_self f, eq_self t) refl
-segment_itself (Fixed v w) = rw (eq_self v, eq_self w) refl
-
-segments_itself : (ss : List Segment) → are_same_segments ss ss ≡ true
-segments_itself [] = refl
-segments_itself (s ∷ ss) = rw (segment_itself s, segments_itself ss) refl
-
 -- ---- places of one byte of the number 1
-
-place_one : (o : Order) → place o 1 0 ≡ 0
-place_one Little = refl
-place_one Big = refl
-place_one SwappedWords = refl
 
 -- Where the first bytes of 1 are alike, all bytes are placed alike.
 pub places_alike : (o : Order) (t : IntType) (i : ℕ) → i < bytes_of t → nat_eq (bytes_of t) 1 ≡ false
@@ -265,7 +253,7 @@ module _ {N : Type 0} (D : Ops N) (law : Lawful D) where
       parts_are : (q : Side) → read D k (cells_of q) b i (Int U8) ≡ part_of (ord q)
       parts_are q =
           let o = order_on (cells_of q) k.orders in
-          let z : i + place o 1 0 ≡ i = omega (arith, place_one o) in
+          let z : i + place o 1 0 ≡ i = omega (arith, place_zero o) in
           let d : i - c.offset ≡ i = omega (arith, s.cell.placed.offset) in
           ap (λ u. read_with D k (cells_of q) b i (Int U8) u) (look q)
           ∙ ap (λ h. cond h (whole_read D (Int U8) c) (read_in_parts D k (cells_of q) b i (Int U8))) inexact

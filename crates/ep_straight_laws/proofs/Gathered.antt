@@ -24,11 +24,11 @@ use Rattle.ep_core.proofs.Operands.{holds_at}
 use Rattle.ep_core.proofs.Sorts.{same_scalar, sort_scalar, loaded_scalar, number_scalar, type_where, tested_where}
 use Rattle.ep_core.proofs.Sorts.{typed_where}
 use Rattle.ep_pass.specs.States.{Both, StateOps}
-use Rattle.ep_pass.specs.Laws.{Kept, AreOther}
-use Rattle.ep_pass_laws.proofs.Sure.{Sure, Meets}
-use Rattle.ep_pass_laws.proofs.Keeping.{sure}
+use Rattle.ep_pass.specs.Laws.{ConcretisesTyped, AreOther}
+use Rattle.ep_pass.proofs.Sure.{Sure, Meets}
+use Rattle.ep_pass.proofs.Keeping.{sure}
 use Rattle.ep_transfers.specs.Cells.{cell_ops}
-use Rattle.ep_transfers_laws.specs.Laws.{StandsFor}
+use Rattle.ep_transfers.specs.Laws.{StandsFor}
 use Rattle.ep_cell_states.proofs.Lawful.{cells_lawful}
 use Rattle.ep_straight_laws.specs.Straight.{is_variable, is_straight_value, is_straight_step, are_straight}
 use Rattle.ep_straight_laws.specs.Laws.{MeetsKeepSingles, IsExact}
@@ -175,7 +175,7 @@ module _ {N : Type 0} (D : Ops N) (law : Lawful D) (meets : MeetsKeepSingles D) 
     ops = cell_ops D p ord
 
     module _ (other : AreOther ord) where
-      laws : Sure p ord ops (Kept p (StandsFor D p ord))
+      laws : Sure p ord ops (ConcretisesTyped p (StandsFor D p ord))
       laws = sure p formed ord ops (StandsFor D p ord) (cells_lawful D law p ord formed other)
 
       steps : Steps p ord ops main.f.result seen Holds
@@ -183,7 +183,7 @@ module _ {N : Type 0} (D : Ops N) (law : Lawful D) (meets : MeetsKeepSingles D) 
         goes = λ w g h l n m k x y v q. judged_goes D law p formed ord seen main.r
             (ops.simple Both main.f.result w k) n m _ _
             (judged w g h l n m k x y v) q
-            (subst (λ z. Meets (Kept p (StandsFor D p ord)) z (ops.simple Both main.f.result w k).next n m
+            (subst (λ z. Meets (ConcretisesTyped p (StandsFor D p ord)) z (ops.simple Both main.f.result w k).next n m
             (does (ord left) p uncounted main.f.result w l n x) (does (ord right) p uncounted main.f.result w l m y))
             (way_on p w g) (laws.simple_sound p.main main.f main.here w seen h l n m k x y v.kept q));
         parts = λ w g h l n m k x y v q. judged_parts D law p formed ord seen main.r

@@ -8,10 +8,10 @@ use Rattle.ep_core.specs.Program.{Program}
 use Rattle.ep_core.specs.Exec.{State, on, Outcome, leaves, no_input}
 use Rattle.ep_core.specs.Runs.{Side}
 use Rattle.ep_core.specs.WellFormed.{is_well_formed}
-use Rattle.ep_pass.specs.States.{Gives}
-use Rattle.ep_pass.specs.Laws.{Kept}
-use Rattle.ep_pass_laws.proofs.Sure.{Reaches, Meets, meet_on, meet_none}
-use Rattle.ep_transfers_laws.specs.Laws.{StandsFor}
+use Rattle.ep_pass.specs.States.{Transfer}
+use Rattle.ep_pass.specs.Laws.{ConcretisesTyped}
+use Rattle.ep_pass.proofs.Sure.{Reaches, Meets, meet_on, meet_none}
+use Rattle.ep_transfers.specs.Laws.{StandsFor}
 use Rattle.ep_straight_laws.proofs.Runs.{Apart, AreOnes, not_equal}
 use Rattle.ep_straight_laws.proofs.Loads.{IsSet}
 use Rattle.ep_straight_laws.proofs.Evaluates.{AreVariables}
@@ -20,7 +20,7 @@ module _ {N : Type 0} (D : Ops N) (law : Lawful D) (p : Program) (formed : is_we
     → Order)
     (seen : List ℕ) (r : ℕ) where
   abbrev pub K : Known N → State → State → Type 0
-  K = Kept p (StandsFor D p ord)
+  K = ConcretisesTyped p (StandsFor D p ord)
 
   -- What holds between straight statements: each variable is known, or undefined, and main's result has a value.
   pub record V (k : Known N) (x y : State) : Type 0 where
@@ -29,7 +29,7 @@ module _ {N : Type 0} (D : Ops N) (law : Lawful D) (p : Program) (formed : is_we
     pub vars : AreVariables D law p formed seen ord k x.memory y.memory
     pub result : IsSet D ord k x.memory y.memory r I32
 
-  pub data Judged (g : Gives (Known N)) (n m : ℕ) (c d : Outcome) : Type 0 where
+  pub data Judged (g : Transfer (Known N)) (n m : ℕ) (c d : Outcome) : Type 0 where
     passes : (k : Known N) (x y : State) → g.faults ≡ [] → g.next ≡ Some k → c ≡ leaves on n x → d ≡ leaves on m y
         → (K k x y → V k x y) → Judged g n m c d
     starves : (x y : State) → g.faults ≡ [] → c ≡ no_input x → d ≡ no_input y → x.outputs ≡ y.outputs
@@ -52,7 +52,7 @@ module _ {N : Type 0} (D : Ops N) (law : Lawful D) (p : Program) (formed : is_we
   never_meets u n m c d (inl h) (meet_none e) = h
   never_meets u n m c d (inr h) (meet_none {x} {y} e) = not_equal x.outputs y.outputs h e
 
-  pub judged_goes : (g : Gives (Known N)) (n m : ℕ) (c d : Outcome) → Judged g n m c d → g.faults ≡ []
+  pub judged_goes : (g : Transfer (Known N)) (n m : ℕ) (c d : Outcome) → Judged g n m c d → g.faults ≡ []
       → Meets K on g.next n m c d → Meets V on g.next n m c d
   judged_goes g n m c d (passes k x y q e f h v) z i =
       let j : Meets V on (Some k) n m (leaves on n x) (leaves on m y)
@@ -65,7 +65,7 @@ module _ {N : Type 0} (D : Ops N) (law : Lawful D) (p : Program) (formed : is_we
       subst (λ a. Meets V on g.next n m a d) (sym f) (subst (λ b. Meets V on g.next n m (no_input x) b) (sym h) j)
   judged_goes g n m c d (parts a) z i = absurd (never_meets g.next n m c d a i)
 
-  pub judged_parts : (g : Gives (Known N)) (n m : ℕ) (c d : Outcome) → Judged g n m c d → g.faults ≢ [] → Apart c d
+  pub judged_parts : (g : Transfer (Known N)) (n m : ℕ) (c d : Outcome) → Judged g n m c d → g.faults ≢ [] → Apart c d
   judged_parts g n m c d (passes k x y q e f h v) z = absurd (z q)
   judged_parts g n m c d (starves x y q f h o) z = absurd (z q)
   judged_parts g n m c d (parts a) z = a

@@ -1,5 +1,6 @@
 -- What the load of a variable comes to.
 use Rattle.std.proofs.Common.{◌≡◌, ◌≢◌, ℕ, ◌<◌, ◌⊎◌, inl, inr, ℤ, pos, Bool, true, false, ◌&&◌, cond, List, [], ◌∷◌}
+use Rattle.ep_int.proofs.Wrapping.{bytes_of_positive}
 use Rattle.std.proofs.Common.{◌++◌, map, refl, sym, ap, ◌∙◌, subst, Option, Some, None, option_map, arith}
 use Rattle.std.specs.List.{filter}
 use Rattle.std.proofs.lemmas.Int.{ints}
@@ -39,12 +40,12 @@ use Rattle.ep_evaluation.specs.Accesses.{offsets_in, held_spots, spots, reads_of
 use Rattle.ep_evaluation.specs.Accesses.{are_shared, bounds_of, may_be_odd}
 use Rattle.ep_evaluation.specs.Evaluation.{pointer_given, load_given, reads_at, targets_of, pointer, is_null}
 use Rattle.ep_evaluation.specs.Evaluation.{load_shared}
-use Rattle.ep_evaluation_laws.proofs.General.{none_left}
+use Rattle.ep_evaluation.proofs.General.{none_left}
 use Rattle.ep_transfers.specs.Places.{range_faults}
 use Rattle.ep_transfers.specs.Transfers.{sizes}
 use Rattle.ep_straight_laws.proofs.Cells.{IsCellOf}
 use Rattle.ep_straight_laws.proofs.Scalars.{integer_is}
-use Rattle.ep_straight_laws.proofs.Values.{looked_up, bytes_some}
+use Rattle.ep_straight_laws.proofs.Values.{looked_up}
 
 -- ---- what is known of a variable, and what the machines hold there
 
@@ -150,7 +151,7 @@ module _ {N : Type 0} (D : Ops N) where
 
       read_is : (s : Side) → read D k (cells_of s) b 0 (Int t) ≡ whole_read D (Int t) c.cell
       read_is s =
-          ap (λ o. read_with D k (cells_of s) b 0 (Int t) o) (look s 0 (bytes_some t))
+          ap (λ o. read_with D k (cells_of s) b 0 (Int t) o) (look s 0 (bytes_of_positive t))
           ∙ ap (λ h. cond h (whole_read D (Int t) c.cell) (read_in_parts D k (cells_of s) b 0 (Int t))) exact
 
       reads_is : (s : Side) → reads_at D (sizes D p) (Int t) k (on here.pair s) s ≡ whole_read D (Int t) c.cell ∷ []
@@ -186,7 +187,7 @@ module _ {N : Type 0} (D : Ops N) where
 
       one_shared : (s : Side) → are_shared k (cells_of s) (Int t) ((b, 0) ∷ []) ≡ true
       one_shared s =
-          ap (λ o. is_shared_cell k (Int t) 0 o && true) (look s 0 (bytes_some t))
+          ap (λ o. is_shared_cell k (Int t) 0 o && true) (look s 0 (bytes_of_positive t))
           ∙ (let e : (is_exact k.model (Int t) 0 c.cell && is_same_side c.cell.side Shared) ≡ true
           = rw (exact, c.placed.side) refl in ap (λ z. z && true) e)
 

@@ -24,13 +24,13 @@ use Rattle.ep_congruence_domain.specs.Congruence.{Congruence, class_of, formed, 
 
 -- ---- each domain
 
-lower : (x y : ℤ) → x ≤ℤ int_max x y
+pub lower : (x y : ℤ) → x ≤ℤ int_max x y
 lower x y = omega (arith, ints, clamps)
 
 lower_too : (x y : ℤ) → y ≤ℤ int_max x y
 lower_too x y = omega (arith, ints, clamps)
 
-upper : (x y : ℤ) → int_min x y ≤ℤ x
+pub upper : (x y : ℤ) → int_min x y ≤ℤ x
 upper x y = omega (arith, ints, clamps)
 
 upper_too : (x y : ℤ) → int_min x y ≤ℤ y

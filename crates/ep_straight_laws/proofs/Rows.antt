@@ -22,10 +22,10 @@ use Rattle.ep_core.specs.Runs.{Side, left, right, main_from, start, Agree}
 use Rattle.ep_core.specs.WellFormed.{result_type, simple_fits, stmts_fit, is_well_formed}
 use Rattle.ep_core.proofs.Grows.{Growing, all_grow, bodies_grow}
 use Rattle.ep_core.proofs.Operands.{fits_at}
-use Rattle.ep_pass.specs.States.{Mode, Both, Fault, Gives, StateOps}
+use Rattle.ep_pass.specs.States.{Mode, Both, Fault, Transfer, StateOps}
 use Rattle.ep_pass.specs.Pass.{Ways, none, Pass, alarms_at, way_of, simple_pass, then_pass, join_on, pass_all}
 use Rattle.ep_pass.specs.Pass.{body_pass, bodies_pass, faults_at_end, all_faults, report_of}
-use Rattle.ep_pass_laws.proofs.Sure.{Meets, meet_on, meet_none}
+use Rattle.ep_pass.proofs.Sure.{Meets, meet_on, meet_none}
 use Rattle.ep_straight_laws.specs.Straight.{is_straight_step, are_straight}
 use Rattle.ep_straight_laws.proofs.Runs.{Apart, apart_then, Stops, never_apart, ones_of, length-ones, are_inputs}
 use Rattle.ep_straight_laws.proofs.Runs.{AreOnes, are_ones}
@@ -206,7 +206,7 @@ module _ (p : Program) (ord : Side → Order) {S : Type 0} (o : StateOps S) (V :
   Comes q n m x y = Quiet q n m x y ⊎ Apart x y
 
   -- a pass through the rest after a statement
-  abbrev rest_pass : Bodies → Way → ℕ → Gives S → Stmts → Pass S
+  abbrev rest_pass : Bodies → Way → ℕ → Transfer S → Stmts → Pass S
   rest_pass ps k l g rest = then_pass o (simple_pass k l g) none (λ s w. all ps rest s w)
 
   -- they are left at their end alone

@@ -13,7 +13,7 @@ use Rattle.ep_core.specs.Runs.{IsDefined, IsOver, Begins, Agrees, AreInputs, Agr
 use Rattle.ep_core.proofs.Prefixes.{begins_refl, begins_trans}
 use Rattle.ep_core.proofs.Grows.{state_in, Growing, grown}
 use Rattle.ep_core.proofs.Whole.{steps_reach}
-use Rattle.ep_pass_laws.proofs.Runs.{finished_begins}
+use Rattle.ep_pass.proofs.Runs.{finished_begins}
 
 -- after the same outputs comes another
 pub record Diverge (xs ys : List Output) : Type 0 where

@@ -1,8 +1,9 @@
 -- The size and the leaf of a block that is one integer.
-use Rattle.std.proofs.Common.{◌≡◌, ℕ, suc, ◌+◌, true, List, [], ◌∷◌, length, map, slice_get, Option, Some, None}
-use Rattle.std.proofs.Common.{option_map, option_and_then, unwrap_or, refl, sym, ap, ◌∙◌, arith}
+use Rattle.std.proofs.Common.{◌≡◌, ℕ, ◌+◌, true, [], ◌∷◌, length, map, slice_get, Option, Some, None}
+use Rattle.ep_alarm_laws.proofs.OwnPlaces.{depth, number_is}
+use Rattle.std.proofs.Common.{option_map, option_and_then, unwrap_or, refl, ap, ◌∙◌}
 use Rattle.std.specs.List.{list_all}
-use Rattle.std.proofs.lemmas.Bool.{and_parts, eqb-true}
+use Rattle.std.proofs.lemmas.Bool.{and_parts}
 use Rattle.ep_int.specs.declared.types.IntType.{IntType}
 use Rattle.ep_int.specs.declared.types.Scalar.TheVariants.{Int}
 use Rattle.ep_int.specs.Types.{bytes_of}
@@ -16,11 +17,6 @@ use Rattle.ep_core.proofs.Operands.{sizes as blocks_of}
 use Rattle.ep_core.proofs.Sorts.{same_scalar, all_at}
 use Rattle.ep_alarm_laws.proofs.OwnPlaces.{sized}
 
--- a type's number is below the depth that is looked at
-depth : (xs : List Ty) (n c : ℕ) (x : Ty) → slice_get xs n ≡ Some x → (k : ℕ) × (length xs + c ≡ suc k)
-depth [] n c x h = absurd (let q : None ≡ Some x = h in cc)
-depth (y ∷ xs) n c x h = (length xs + c, (let e : length (y ∷ xs) + c ≡ suc (length xs + c) = omega arith in e))
-
 integer_layout : (t : Table) (n : ℕ) (i : IntType) → slice_get t.types n ≡ Some (ty.Int i)
     → layout_of t n ≡ Some (scalar_layout t.model (Int i))
 unfolding at_depth
@@ -28,10 +24,6 @@ integer_layout t n i h =
     let d = depth t.types n (length t.completed) (ty.Int i) h in
     ap (λ k. at_depth (layout_rules t.model) t k n) d.1
     ∙ ap (option_and_then (at_type (layout_rules t.model) t (at_depth (layout_rules t.model) t d.0))) h
-
-number_is : (o : Option ℕ) (m n : ℕ) → o ≡ Some m → is_number o n ≡ true → n ≡ m
-number_is None m n e h = absurd (cc)
-number_is (Some k) m n e h = let q : k ≡ m = cc in sym (eqb-true k n h) ∙ q
 
 -- a block that is one integer
 pub record IsInteger (p : Program) (b : ℕ) (t : IntType) : Type 0 where

@@ -1,5 +1,6 @@
 -- What is known of a byte of a number: of a single number a single byte.
 use Rattle.std.proofs.Common.{◌≡◌, ℕ, ◌*◌, ◌<◌, ◌≤◌, ℤ, pos, ◌≤ℤ◌, [], ◌∷◌, IsSomeAnd, MatchResult, Result, Ok, Err}
+use Rattle.ep_reads.proofs.ByteCells.{byte_in_range}
 use Rattle.std.proofs.Common.{refl, sym, ap, ◌∙◌, subst, Option, Some, None, arith}
 use Rattle.std.specs.Option.{option_map}
 use Rattle.std.proofs.lemmas.Int.{ints}
@@ -20,10 +21,7 @@ use Rattle.ep_cells.specs.declared.cell.Value.{Value}
 use Rattle.ep_cells.specs.declared.cell.Value.TheVariants.{Num}
 use Rattle.ep_reads.specs.Bytes.{byte_value, number_byte}
 use Rattle.ep_reads.specs.Read.{weighted, integer_read}
-use Rattle.ep_reads_laws.proofs.Numbers.{at_most_eight, byte_held, product_held}
-
-byte_in_range : (e : ℕ) → e < 256 → InRange U8 (pos e)
-byte_in_range e h = record { low = omega (arith, ints); high = omega (arith, ints, h) }
+use Rattle.ep_reads.proofs.Numbers.{at_most_eight, byte_held, product_held}
 
 small : (e : ℕ) → e ≤ 64 → IsOfSomeType (pos e)
 small e h = record { low = omega (arith, ints); high = omega (arith, ints, h) }

@@ -25,13 +25,13 @@ use Rattle.ep_core.specs.Runs.{Side, left, right, is_global, is_result, start, i
 use Rattle.ep_core.specs.WellFormed.{is_named, is_well_formed}
 use Rattle.ep_core.proofs.Operands.{sizes, first_values_fit}
 use Rattle.ep_pass.specs.Laws.{AreOther}
-use Rattle.ep_pass_laws.proofs.Keeping.{start_in}
+use Rattle.ep_pass.proofs.Keeping.{start_in}
 use Rattle.ep_transfers.specs.Transfers.{killed_blocks}
 use Rattle.ep_transfers.specs.Ends.{value_in, main_result, first_cell, first_of_blocks, locals_in, entry_known}
 use Rattle.ep_transfers.specs.Cells.{cell_ops}
-use Rattle.ep_transfers_laws.specs.Laws.{memories, StandsFor}
-use Rattle.ep_transfers_laws.proofs.Locals.{not_result}
-use Rattle.ep_transfers_laws.proofs.FirstCells.{leaf_range}
+use Rattle.ep_transfers.specs.Laws.{memories, StandsFor}
+use Rattle.ep_transfers.proofs.Locals.{not_result}
+use Rattle.ep_transfers.proofs.FirstCells.{leaf_range}
 use Rattle.ep_cell_states.proofs.Lawful.{cells_lawful}
 use Rattle.ep_straight_laws.specs.Laws.{MeetsKeepSingles}
 use Rattle.ep_straight_laws.proofs.Runs.{AreOnes}

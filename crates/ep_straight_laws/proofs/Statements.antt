@@ -1,12 +1,12 @@
 -- Each straight statement but the output of bytes is passed without a fault, and both machines go on alike, or each is
 -- undefined.
 use Rattle.std.proofs.Common.{◌≡◌, ℕ, ◌+◌, ◌%◌, ◌==◌, inl, Bool, true, false, not, cond, nat_lt, List, [], ◌++◌, map}
+use Rattle.ep_cell_ranges.proofs.Basics.{is_model-self}
 use Rattle.std.proofs.Common.{refl, sym, ap, ◌∙◌, subst, Option, Some, None, arith}
 use Rattle.std.proofs.lemmas.Bool.Decides.{nat_tests}
 use Rattle.ep_int.specs.declared.types.IntType.{IntType}
 use Rattle.ep_int.specs.declared.types.IntType.TheVariants.{I8, U8, I16, U16, I32, U32, I64, U64}
 use Rattle.ep_int.specs.declared.types.Model.{Model}
-use Rattle.ep_int.specs.declared.types.Model.TheVariants.{Ilp32, Lp64}
 use Rattle.ep_int.specs.declared.types.Order.{Order}
 use Rattle.ep_int.specs.declared.types.Scalar.{Scalar}
 use Rattle.ep_int.specs.declared.types.Scalar.TheVariants.{Int}
@@ -21,15 +21,11 @@ use Rattle.ep_core.specs.Runs.{Side, left, right}
 use Rattle.ep_core.specs.WellFormed.{is_well_formed}
 use Rattle.ep_equalities.specs.declared.pair.Mode.TheVariants as pair_mode
 use Rattle.ep_evaluation.specs.Evaluation.{told}
-use Rattle.ep_pass.specs.States.{Both, Gives}
+use Rattle.ep_pass.specs.States.{Both, Transfer}
 use Rattle.ep_transfers.specs.Transfers.{Stepped, gives, simple_step}
 use Rattle.ep_transfers.specs.Cells.{told_of, when_known, is_told_so, cell_ops}
 use Rattle.ep_straight_laws.proofs.Loads.{Comes, nothing as none_found, found}
 use Rattle.ep_straight_laws.proofs.Judged.{V, Judged, passes, parts}
-
-pub model_itself : (d : Model) → is_model d d ≡ true
-model_itself Ilp32 = refl
-model_itself Lp64 = refl
 
 pub store_ok : (d : Model) (t : IntType) (size : ℕ) → size ≡ bytes_of t → store_fault d size (Int t) 0 ≡ None
 store_ok d t size e =
@@ -53,14 +49,14 @@ store_ok d t size e =
 module _ {N : Type 0} (D : Ops N) (law : Lawful D) (p : Program) (formed : is_well_formed p ≡ true) (ord : Side
     → Order)
     (seen : List ℕ) (r : ℕ) (result : Option (ℕ × Scalar)) where
-  abbrev pub step : Simple → Known N → Gives (Known N)
+  abbrev pub step : Simple → Known N → Transfer (Known N)
   step w k = (cell_ops D p ord).simple Both result w k
 
   abbrev pub plain : Simple → Known N → Stepped N
   plain w k = simple_step D p pair_mode.Both result w k
 
   pub told_so : (k : Known N) → k.model ≡ p.types.model → is_told_so D p ord k ≡ true
-  told_so k e = ap (λ d. is_model d p.types.model) e ∙ model_itself p.types.model
+  told_so k e = ap (λ d. is_model d p.types.model) e ∙ is_model-self p.types.model
 
   pub step_is : (w : Simple) (k : Known N) → k.model ≡ p.types.model → step w k ≡ told_of D (plain w k)
   step_is w k e = ap (λ b. told_of D (when_known b (plain w k))) (told_so k e)

@@ -19,7 +19,7 @@ use Rattle.ep_bitslice.specs.declared.cell.Side.TheVariants.{Shared}
 use Rattle.ep_cells.specs.Forms.{common_form}
 use Rattle.ep_cells.specs.States.{Known, AreCells}
 use Rattle.ep_cell_ranges.specs.Ranges.{replaced}
-use Rattle.ep_cell_ranges_laws.specs.Sound.{IsPlaced}
+use Rattle.ep_cell_ranges.specs.Sound.{IsPlaced}
 use Rattle.ep_core.specs.Program.{Program}
 use Rattle.ep_core.specs.Exec.{model}
 use Rattle.ep_core.specs.Runs.{Side, left, right}

@@ -1,10 +1,10 @@
 -- What a straight value comes to: both machines find the same number, and what is known of it is that number alone, or
 -- it is 1; or a variable without a value is undefined on both.
 use Rattle.std.proofs.Common.{◌≡◌, ℕ, ◌+◌, ◌<◌, Bool, true, false, ◌&&◌, ◌||◌, cond, List, [], ◌∷◌, refl, sym, ap}
+use Rattle.ep_int.proofs.Wrapping.{bytes_of_positive}
 use Rattle.std.proofs.Common.{◌∙◌, subst, Some, arith}
 use Rattle.std.proofs.lemmas.Bool.{eq-eqb, le-leb, lt-ltb}
 use Rattle.ep_int.specs.declared.types.IntType.{IntType}
-use Rattle.ep_int.specs.declared.types.IntType.TheVariants.{I8, U8, I16, U16, I32, U32, I64, U64}
 use Rattle.ep_int.specs.declared.types.Model.{Model}
 use Rattle.ep_int.specs.declared.types.Scalar.TheVariants.{Int}
 use Rattle.ep_int.specs.Types.{bytes_of, size_of}
@@ -14,9 +14,9 @@ use Rattle.ep_cells.specs.declared.cell.Cell.{Cell}
 use Rattle.ep_cells.specs.Cells.{place_of, meets, share_memory, is_same_side, IsIn, first, later}
 use Rattle.ep_cells.specs.Look.{covers, cell_at}
 use Rattle.ep_cells.specs.States.{Known, AreApart, AreCells}
-use Rattle.ep_cells_laws.proofs.Both.{one, left_first, right_first, one_order}
-use Rattle.ep_reads_laws.proofs.Found.{Covering, covering}
-use Rattle.ep_cell_ranges_laws.specs.Sound.{IsPlaced}
+use Rattle.ep_cells.proofs.Both.{one, left_first, right_first, one_order}
+use Rattle.ep_reads.proofs.Found.{Covering, covering}
+use Rattle.ep_cell_ranges.specs.Sound.{IsPlaced}
 use Rattle.ep_core.specs.Runs.{Side, left, right}
 use Rattle.ep_evaluation.specs.Given.{cells_of}
 use Rattle.ep_straight_laws.proofs.Cells.{placed_at}
@@ -40,16 +40,6 @@ share_all : (s : CellSide) → share_memory s Shared ≡ true
 share_all Left = refl
 share_all Right = refl
 share_all Shared = refl
-
-pub bytes_some : (t : IntType) → 0 < bytes_of t
-bytes_some I8 = omega arith
-bytes_some U8 = omega arith
-bytes_some I16 = omega arith
-bytes_some U16 = omega arith
-bytes_some I32 = omega arith
-bytes_some U32 = omega arith
-bytes_some I64 = omega arith
-bytes_some U64 = omega arith
 
 module _ {N : Type 0} (k : Known N) (cells : AreCells k.model k.cells) (b : ℕ) (t : IntType) (c : Cell N)
     (q : IsPlaced Shared b 0 (Int t) c) (here : IsIn c k.cells) (s : Side) (j : ℕ) (inside : j < bytes_of t) where

@@ -1,5 +1,6 @@
 -- The law of straight programs, over what is shown of each byte that is put out.
 use Rattle.std.proofs.Common.{◌≡◌, ℕ, inl, inr, true, false, nat_le, slice_get, refl, subst}
+use Rattle.std.proofs.lemmas.Bool.{or_cases}
 use Rattle.std.proofs.lemmas.Bool.{and_parts, leb-true}
 use Rattle.ep_int.specs.declared.types.Order.{Order}
 use Rattle.ep_int.specs.declared.types.Order.TheVariants.{Little, Big, SwappedWords}
@@ -11,7 +12,7 @@ use Rattle.ep_core.specs.Exec.{is_order}
 use Rattle.ep_core.specs.Runs.{Side}
 use Rattle.ep_core.specs.WellFormed.{is_length, is_address, is_array_of, some_type, is_named, block_has, place_has}
 use Rattle.ep_core.specs.WellFormed.{has_sort, is_well_formed}
-use Rattle.ep_core.proofs.Sorts.{either_is, type_where, pointer_where}
+use Rattle.ep_core.proofs.Sorts.{type_where, pointer_where}
 use Rattle.ep_pass.specs.Laws.{AreOther}
 use Rattle.ep_straight_laws.specs.Straight.{is_straight_body, is_straight}
 use Rattle.ep_straight_laws.specs.Laws.{orders, MeetsKeepSingles, IsExact, IsStraightExact}
@@ -43,7 +44,7 @@ module _ {N : Type 0} (D : Ops N) (law : Lawful D) (meets : MeetsKeepSingles D) 
     front_named b h =
         let bs = seen D law meets p formed ord main in
         let q = pointer_where p.types p.blocks bs (has_sort p.types p.blocks bs (addr_of (block b))) h in
-        elim (either_is (place_has p.types p.blocks bs (block b) q.0)
+        elim (or_cases (place_has p.types p.blocks bs (block b) q.0)
         (some_type p.types p.blocks bs (λ u. is_array_of u q.0) (place_has p.types p.blocks bs (block b))) q.1) [
           | inl e ↦ block_named b q.0 e
           | inr e ↦ (let z = type_where p.types p.blocks bs (λ u. is_array_of u q.0)

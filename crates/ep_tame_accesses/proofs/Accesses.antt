@@ -1,8 +1,9 @@
 -- Objects stand at the places of an address.
 use Rattle.std.proofs.Common.{◌≡◌, ℕ, zero, suc, ◌+◌, ◌-◌, ◌*◌, ◌/◌, ◌≤◌, ◌<◌, pos, Bool, true, false, cond, List, []}
+use Rattle.ep_transfers.proofs.Rooms.{last_end, next_end, one_more}
 use Rattle.std.proofs.Common.{◌∷◌, ◌++◌, map, slice_get, Option, Some, None, nat_le, refl, sym, subst, arith}
 use Rattle.std.specs.List.{filter}
-use Rattle.std.proofs.Math.Nat.{suc-mul, div-mul-le_self}
+use Rattle.std.proofs.Math.Nat.{div-mul-le_self}
 use Rattle.std.proofs.lemmas.Bool.{leb-true}
 use Rattle.ep_layout.specs.Table.{size}
 use Rattle.ep_core.specs.Program.{Place, Block, Program}
@@ -21,18 +22,9 @@ abbrev EndAll : (limit n : ℕ) → List ℕ → Type 0
 EndAll l n [] = Unit {0}
 EndAll l n (q ∷ qs) = (q + n ≤ l) × EndAll l n qs
 
-next_end : (l n a q c : ℕ) → q + suc c * a + n ≤ l → q + a + c * a + n ≤ l
-next_end l n a q c h = let e = suc-mul c a in omega (arith, e, h)
-
 multiples_end : (l n a q c : ℕ) → q + c * a + n ≤ l → EndAll l n (multiples a q (suc c))
 multiples_end l n a q zero h = (omega (arith, h), tt)
 multiples_end l n a q (suc c) h = (omega (arith, h), multiples_end l n a (q + a) c (next_end l n a q c h))
-
-one_more : (c : ℕ) → suc c ≡ c + 1
-one_more c = omega arith
-
-last_end : (l n x : ℕ) → x ≤ l - n → n ≤ l → 0 + x + n ≤ l
-last_end l n x h i = omega (arith, h, i)
 
 offsets_end : (l n a : ℕ) (t : Bool) → nat_le n l ≡ t → EndAll l n (cond t (multiples a 0 ((l - n) / a + 1)) [])
 offsets_end l n a true e =

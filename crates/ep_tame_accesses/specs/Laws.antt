@@ -7,7 +7,7 @@ use Rattle.ep_domain.specs.Domain.{Ops}
 use Rattle.ep_pointers.specs.Value.{Target}
 use Rattle.ep_cell_ranges.specs.Spots.{Spot}
 use Rattle.ep_evaluation.specs.Accesses.{spots}
-use Rattle.ep_kinds.specs.Rows.{Stands}
+use Rattle.ep_kinds.specs.Rows.{HasScalar}
 use Rattle.ep_tame_values.specs.Offsets.{EachTarget}
 use Rattle.ep_tame_places.specs.Places.{LiesAt}
 
@@ -16,7 +16,7 @@ pub record HasObject (p : Program) (live : List ℕ) (ty : ℕ) (q : Spot) : Typ
   pub of_block : Block
   pub there : slice_get p.blocks q.0 ≡ Some of_block
   pub named : is_named p.types p.blocks live q.0 ≡ true
-  pub stands : Stands p.types of_block.ty q.1 ty
+  pub stands : HasScalar p.types of_block.ty q.1 ty
 
 abbrev pub EachSpot : (Spot → Type 0) → List Spot → Type 0
 EachSpot P [] = Unit {0}

@@ -1,5 +1,6 @@
 -- Cells of a block that is entered or left, and of all others.
 use Rattle.std.proofs.Common.{◌≡◌, ℕ, zero, suc, ◌+◌, ◌<◌, ◌≤◌, Bool, true, false, cond, ◌⊎◌, inl, inr, List, [], ◌∷◌}
+use Rattle.ep_int.proofs.Basics.{some-injective}
 use Rattle.std.proofs.Common.{Option, Some, None, refl, sym, ap, ◌∙◌, subst, arith, nat_eq, slice_get, eq-zero-or-pos}
 use Rattle.std.proofs.Common.{◌-◌}
 use Rattle.std.proofs.lemmas.Bool.{eqb-true}
@@ -17,21 +18,18 @@ use Rattle.ep_cells.specs.Forms.{Fate, reformed}
 use Rattle.ep_cells.specs.Kill.{undefined_cell, leaf_at, is_in_leaf, cell_here, cells_from, entry_cells, has_target}
 use Rattle.ep_cells.specs.Kill.{without_target, left_by_kill, fate_by_kill}
 use Rattle.ep_cells.specs.States.{AreCells, AreAlike}
-use Rattle.ep_cells_laws.proofs.Lists.{in_append, in_left, in_right, in_each, each_in, in_map, map_in, in_put_all}
-use Rattle.ep_cells_laws.proofs.Lists.{put_all_keeps, put_there, put_keeps}
+use Rattle.ep_cells.proofs.Lists.{in_append, in_left, in_right, in_each, each_in, in_map, map_in, in_put_all}
+use Rattle.ep_cells.proofs.Lists.{put_all_keeps, put_there, put_keeps}
 use Rattle.ep_core.specs.Program.{Block, Program}
 use Rattle.ep_tame_cells.specs.Shape.{or_outside, cell_type, IsLeafCell, IsCovered, HasShape}
 use Rattle.ep_tame_cells.proofs.Shapes.{leaf_alike}
 use Rattle.ep_tame_cells.specs.BlockLaws.{cells_after, BlockLaws}
 
-some_is : {A : Type 0} {x y : A} → Some x ≡ Some y → x ≡ y
-some_is e = cc
-
 module _ {N : Type 0} where
   -- ---- the new cells
 
   -- an undefined cell of this block, of a place and type that has one
-  record IsNew (d : Model) (b : ℕ) (ls : List Leaf) (from end : ℕ) (y : Cell N) : Type 0 where
+  pub record IsNew (d : Model) (b : ℕ) (ls : List Leaf) (from end : ℕ) (y : Cell N) : Type 0 where
     pub offset : ℕ
     pub what : Scalar
     pub low : from ≤ offset
@@ -55,13 +53,13 @@ module _ {N : Type 0} where
   here_in : (b q : ℕ) (o : Option Scalar) (inside : Bool) (w : Scalar) → or_outside o inside ≡ Some w
       → IsIn {N = N} (undefined_cell Shared b q w) (cell_here Shared b q o inside)
   here_in b q (Some v) inside w h =
-      subst (λ x. IsIn {N = N} (undefined_cell Shared b q x) (cell_here Shared b q (Some v) inside)) (some_is h)
+      subst (λ x. IsIn {N = N} (undefined_cell Shared b q x) (cell_here Shared b q (Some v) inside)) (some-injective h)
       (first [])
   here_in b q None true w h = absurd cc
   here_in b q None false w h =
-      subst (λ x. IsIn {N = N} (undefined_cell Shared b q x) (cell_here Shared b q None false)) (some_is h) (first [])
+      subst (λ x. IsIn {N = N} (undefined_cell Shared b q x) (cell_here Shared b q None false)) (some-injective h) (first [])
 
-  new_is : (d : Model) (b : ℕ) (ls : List Leaf) (q n : ℕ) (y : Cell N) → IsIn y (cells_from d Shared b ls q n)
+  pub new_is : (d : Model) (b : ℕ) (ls : List Leaf) (q n : ℕ) (y : Cell N) → IsIn y (cells_from d Shared b ls q n)
       → IsNew d b ls q (q + n) y
   new_is d b ls q zero y i = elim i [ ]
   new_is d b ls q (suc n) y i =
@@ -123,7 +121,7 @@ module _ {N : Type 0} where
   without_alike : (b : ℕ) (x : Cell N) → AreAlike x (without_target b x)
   without_alike b x = record { side = refl; block = refl; offset = refl; what = refl }
 
-  one_in : (y z : Cell N) → IsIn y (z ∷ []) → y ≡ z
+  pub one_in : (y z : Cell N) → IsIn y (z ∷ []) → y ≡ z
   one_in _ z (first _) = refl
   one_in y z (later _ _ i) = elim i [ ]
 
@@ -179,7 +177,7 @@ module _ {N : Type 0} where
 
     new_covers : IsCovered p (cells_after p b k cs) b
     new_covers j there q l w is =
-        let same : k ≡ j = some_is (sym at ∙ there) in
+        let same : k ≡ j = some-injective (sym at ∙ there) in
         let inside : q < k.size = subst (λ (z : Block). q < z.size) (sym same) l in
         let typed = ap (λ (z : Block). cell_type p.types z.ty q) same ∙ is in
         record {

@@ -1,17 +1,12 @@
 -- What is read of cells of both memories alone, each as a whole.
 use Rattle.std.proofs.Common.{◌≡◌, ℕ, ◌+◌, Bool, true, false, ◌&&◌, ◌||◌, cond, ◌⊎◌, inl, inr, List, [], ◌∷◌, Option}
+use Rattle.ep_evaluation.proofs.LoadCell.{same_sort}
 use Rattle.std.proofs.Common.{Some, None, refl, sym, ap, ◌∙◌, arith, nat_eq, nat_lt, nat_le, slice_get}
-use Rattle.std.specs.Prelude.{option_map, option_and_then}
 use Rattle.std.proofs.lemmas.Bool.{and_parts, and_from, or_right, eq-eqb, leb-true, le-leb, lt-ltb}
 use Rattle.ep_int.specs.declared.types.Model.{Model}
 use Rattle.ep_int.specs.declared.types.Scalar.{Scalar}
-use Rattle.ep_int.specs.declared.types.Scalar.TheVariants.{Int as Number, Pointer}
 use Rattle.ep_int.specs.Types.{size_of}
-use Rattle.ep_layout.specs.Layout.{Layout}
-use Rattle.ep_layout.specs.declared.types.Ty.{Ty}
-use Rattle.ep_layout.specs.declared.types.Ty.TheVariants.{Void, Int, Ptr, Array, Aggregate}
-use Rattle.ep_layout.specs.Table.{Table, IsBuilt, size, leaves, scalar_of, at_type, layout_rules, layout_of}
-use Rattle.ep_layout.proofs.Laid.{by_type_is}
+use Rattle.ep_layout.specs.Table.{IsBuilt, size, leaves, scalar_of}
 use Rattle.ep_layout.proofs.Sizes.{size_of_scalar}
 use Rattle.ep_bitslice.specs.declared.cell.Side.{Side}
 use Rattle.ep_bitslice.specs.declared.cell.Side.TheVariants.{Left, Right, Shared}
@@ -21,61 +16,28 @@ use Rattle.ep_cells.specs.Cells.{IsIn, first, later, place_of, touches, meets, s
 use Rattle.ep_cells.specs.Kill.{is_in_leaf}
 use Rattle.ep_cells.specs.Look.{covers, cell_at}
 use Rattle.ep_cells.specs.States.{Known, EachPair, AreApart}
-use Rattle.ep_cells_laws.proofs.Lists.{each_at}
+use Rattle.ep_cells.proofs.Lists.{each_at}
 use Rattle.ep_reads.specs.Read.{is_same_sort, is_exact, whole_read, read_in_parts, read_with, read}
 use Rattle.ep_cell_ranges.specs.Shared.{is_shared_cell}
 use Rattle.ep_cell_ranges.specs.Spots.{Spot}
 use Rattle.ep_core.specs.Program.{Block, Program}
 use Rattle.ep_evaluation.specs.Accesses.{reads_of, are_shared}
 use Rattle.ep_kinds.specs.Tame.{are_tame_types}
-use Rattle.ep_kinds.specs.Rows.{Stands}
+use Rattle.ep_kinds.specs.Rows.{HasScalar}
 use Rattle.ep_tame_cells.specs.Shared.{AreShared, AreSharedCells}
-use Rattle.ep_tame_laws.proofs.Parts.{part_fits, scalar_is_leaf}
+use Rattle.ep_tame_laws.proofs.Parts.{part_fits, scalar_is_leaf, scalar_size}
 use Rattle.ep_tame_cells.specs.Shape.{or_outside, HasCellAt, IsCovered}
 use Rattle.ep_tame_cells.specs.ReadLaws.{HaveCells, ReadLaws}
 
-differ : {A : Type 0} → true ≡ false → A
+pub differ : {A : Type 0} → true ≡ false → A
 differ h = absurd cc
-
-same_sort : (w : Scalar) → is_same_sort w w ≡ true
-same_sort (Number t) = refl
-same_sort Pointer = refl
-
--- the size of a scalar type
-scalar_size : (t : Table) → IsBuilt t → (ty : ℕ) (w : Scalar) → scalar_of t ty ≡ Some w
-    → size t ty ≡ Some (size_of t.model w)
-scalar_size t built ty w h = by_ty (slice_get t.types ty) refl
-  where
-    some_is : {x y : Scalar} → Some x ≡ Some y → x ≡ y
-    some_is e = cc
-
-    none_some : {A : Type 0} → None ≡ Some w → A
-    none_some e = absurd cc
-
-    of_scalar : (k : Ty) (v : Scalar) → slice_get t.types ty ≡ Some k
-        → at_type (layout_rules t.model) t (layout_of t) k ≡ Some ((layout_rules t.model).scalar v) → v ≡ w
-        → size t ty ≡ Some (size_of t.model w)
-    of_scalar k v q is e =
-        ap (option_map (λ (l : Layout). l.size)) (by_type_is (layout_rules t.model) t built ty
-        ∙ ap (option_and_then (at_type (layout_rules t.model) t (layout_of t))) q ∙ is)
-        ∙ ap (λ w. Some (size_of t.model w)) e
-
-    by_ty : (o : Option Ty) → slice_get t.types ty ≡ o → size t ty ≡ Some (size_of t.model w)
-    by_ty None q = none_some (rw q at h)
-    by_ty (Some Void) q = none_some (rw q at h)
-    by_ty (Some (Int i)) q =
-        let k : Some (Number i) ≡ Some w = rw q at h in of_scalar (Int i) (Number i) q refl (some_is k)
-    by_ty (Some (Ptr d)) q = let k : Some Pointer ≡ Some w = rw q at h in
-        of_scalar (Ptr d) Pointer q refl (some_is k)
-    by_ty (Some (Array d m)) q = none_some (rw q at h)
-    by_ty (Some (Aggregate g)) q = none_some (rw q at h)
 
 module _ {N : Type 0} where
   -- ---- the cell at a scalar
 
   cell_stands : (p : Program) (cs : List (Cell N)) (b : ℕ) (k : Block) (o ty : ℕ) (w : Scalar) → IsBuilt p.types
       → are_tame_types p.types ≡ true → slice_get p.blocks b ≡ Some k → size p.types k.ty ≡ Some k.size
-      → IsCovered p cs b → Stands p.types k.ty o ty → scalar_of p.types ty ≡ Some w → HasCellAt p cs b o w
+      → IsCovered p cs b → HasScalar p.types k.ty o ty → scalar_of p.types ty ≡ Some w → HasCellAt p cs b o w
   cell_stands p cs b k o ty w built tame there sized covered at is =
       let fits = part_fits p.types built k.ty o ty k.size (size_of p.types.model w) at sized
       (scalar_size p.types built ty w is) in
@@ -163,7 +125,7 @@ module _ {N : Type 0} where
       ∙ ap (λ t. cond t (whole_read D c.what c) (read_in_parts D k s c.block c.offset c.what)) (exact k.model c)
 
   -- at a place that has a cell
-  read_there : (D : Ops N) (p : Program) (k : Known N) (s : Side) (b q : ℕ) (w : Scalar)
+  pub read_there : (D : Ops N) (p : Program) (k : Known N) (s : Side) (b q : ℕ) (w : Scalar)
       → AreSharedCells k.model k.cells → (h : HasCellAt p k.cells b q w) → read D k s b q w ≡ whole_read D w h.cell
   read_there D p k s b q w a h =
       ap (λ x. read D k s x q w) (sym h.block) ∙ ap (λ x. read D k s h.cell.block x w) (sym h.offset)

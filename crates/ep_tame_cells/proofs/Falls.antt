@@ -1,5 +1,7 @@
 -- The rank of a widened state is no greater, and falls where the other state isn't within.
 use Rattle.std.proofs.Common.{◌≡◌, ℕ, zero, suc, ◌+◌, ◌*◌, ◌-◌, ◌<◌, ◌≤◌, Bool, true, false, ◌&&◌, ◌||◌, ◌⊎◌, inl}
+use Rattle.ep_cells.proofs.Lists.{each_from}
+use Rattle.ep_tame_cells.proofs.Exact.{differ}
 use Rattle.std.proofs.Common.{inr, not, if◌then◌else◌, cond, List, [], ◌∷◌, Option, Some, None, refl, sym, ap, ◌∙◌}
 use Rattle.std.proofs.Common.{subst, arith, eq-zero-or-pos, nat_eq}
 use Rattle.std.specs.Prelude.{IsSomeAnd}
@@ -25,15 +27,12 @@ use Rattle.ep_cells.specs.Forms.{have_same_form, common_form}
 use Rattle.ep_cells.specs.Both.{value_of_both, cell_of_both, widened, is_value_within, is_form_kept, is_cell_within}
 use Rattle.ep_cells.specs.Both.{cell_like, are_within}
 use Rattle.ep_cells.specs.States.{IsOfSort, HasRisingBlocks, IsCell, Each, EachPair, AreApart, AreAlike, HaveCellsAlike}
-use Rattle.ep_cells_laws.proofs.Both.{same_forms, alike_same, alike_sym}
-use Rattle.ep_cells_laws.proofs.Places.{Before, in_block, by_block, before_true}
-use Rattle.ep_split_laws.proofs.Sides.{same_itself}
+use Rattle.ep_cells.proofs.Both.{same_forms, alike_same, alike_sym}
+use Rattle.ep_cells.proofs.Places.{Before, in_block, by_block, before_true}
+use Rattle.ep_reads.proofs.Sides.{same_itself}
 use Rattle.ep_tame_cells.specs.Rank.{rank_unless, form_rank, offsets_rank, targets_rank, pointer_rank, value_rank}
 use Rattle.ep_tame_cells.specs.Rank.{cell_rank, rank, HasTargetsBelow, HaveTargetsBelow}
 use Rattle.ep_tame_cells.specs.RankLaws.{RankLaws}
-
-differ : {A : Type 0} → true ≡ false → A
-differ h = absurd cc
 
 -- n isn't below m, or it is
 order : (m n : ℕ) → (m ≤ n) ⊎ (n < m)
@@ -362,16 +361,12 @@ module _ {N : Type 0} (D : Ops N) (law : Lawful D) (B : ℕ) (some : 0 < B) wher
             let rest = tail_falls (sym (ap (λ t. t && are_within D ys xs) is) ∙ w) in
             omega (arith, one, rest)
 
-each_of : {N : Type 0} (P : Cell N → Type 0) (cs : List (Cell N)) → ((c : Cell N) → IsIn c cs → P c) → Each P cs
-each_of P [] h = tt
-each_of P (c ∷ cs) h = (h c (first cs), each_of P cs (λ x i. h x (later c cs i)))
-
 pub rank_laws_of : {N : Type 0} (D : Ops N) → Lawful D → RankLaws D
 rank_laws_of D law = record {
   bound = λ B some c. cell_bound D law B some c;
   rises_not = λ B some small d xs ys a b h q.
-      list_not D law B some small d xs ys (each_of (IsCell d) xs a.each) (each_of (IsCell d) ys b.each) h;
+      list_not D law B some small d xs ys (each_from (IsCell d) xs a.each) (each_from (IsCell d) ys b.each) h;
   falls = λ B some small d xs ys a b h p q w.
-      list_falls D law B some small d xs ys (each_of (IsCell d) xs a.each) (each_of (IsCell d) ys b.each) h
+      list_falls D law B some small d xs ys (each_from (IsCell d) xs a.each) (each_from (IsCell d) ys b.each) h
       a.pairs p q w;
 }

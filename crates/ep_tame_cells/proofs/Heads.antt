@@ -10,9 +10,9 @@ use Rattle.ep_cells.specs.Cells.{each_becomes}
 use Rattle.ep_cells.specs.Both.{joined, widened, are_within, cell_like}
 use Rattle.ep_cells.specs.Reshare.{reshared}
 use Rattle.ep_cells.specs.States.{HaveCellsAlike}
-use Rattle.ep_cells_laws.proofs.Gathered.{of_joins}
+use Rattle.ep_cells.proofs.Gathered.{of_joins}
 use Rattle.ep_reads.specs.Unify.{left_by_lack, fate_by_lack, had_by_both}
-use Rattle.ep_split_laws.proofs.Unified.{of_unification}
+use Rattle.ep_reads.proofs.Unified.{of_unification}
 use Rattle.ep_core.specs.Program.{Program}
 use Rattle.ep_tame_cells.specs.Shared.{AreHad}
 use Rattle.ep_tame_cells.proofs.Unparted.{reshared_shared, unified_shared, had_stays}
@@ -46,12 +46,12 @@ module _ {N : Type 0} (D : Ops N) (law : Lawful D) (p : Program) (os : Order × 
   abbrev both : Lists
   both = (had_by_both ys xs, had_by_both xs ys)
 
-  is_both : ◌≡◌ {A = Lists} (together D p os xs ys) both
+  pub is_both : ◌≡◌ {A = Lists} (together D p os xs ys) both
   is_both =
       unified_shared D (known p os xs) ys (shapes.shared p xs a) (shapes.shared p ys b) (shapes.uncrossed p xs ys a b)
       (shapes.uncrossed p ys xs b a)
 
-  alike : HaveCellsAlike (had_by_both ys xs) (had_by_both xs ys)
+  pub alike : HaveCellsAlike (had_by_both ys xs) (had_by_both xs ys)
   alike =
       subst (λ (q : Lists). HaveCellsAlike q.0 q.1) is_both
       ((of_unification D law).alike (known p os xs) ys a.cells b.cells)

@@ -1,5 +1,6 @@
 -- Cells of leaves and of bytes outside of them overlap only where they are the same.
 use Rattle.std.proofs.Common.{◌≡◌, ℕ, ◌+◌, ◌-◌, ◌<◌, ◌≤◌, Bool, true, false, ◌&&◌, ◌⊎◌, inl, inr, List, [], ◌∷◌}
+use Rattle.ep_tame_cells.proofs.Exact.{differ}
 use Rattle.std.proofs.Common.{Option, Some, None, refl, sym, ap, ◌∙◌, arith, eq-zero-or-pos, nat_le, nat_lt}
 use Rattle.std.specs.Prelude.{unwrap_or}
 use Rattle.std.proofs.lemmas.Bool.{and_from, or_left, or_right, le-leb, lt-ltb}
@@ -15,9 +16,6 @@ use Rattle.ep_layout.proofs.Ordered.{leaves_ordered}
 use Rattle.ep_cells.specs.Kill.{leaf_at, is_in_leaf}
 use Rattle.ep_tame_laws.proofs.LeavesIn.{HasLeaf, has_leaf, past}
 use Rattle.ep_tame_cells.specs.Shape.{cell_type, or_outside, outside_leaves}
-
-differ : {A : Type 0} → true ≡ false → A
-differ h = absurd cc
 
 -- what comes later begins behind the end
 later_leaf : (m : Model) (e n : ℕ) (xs : List Leaf) → AreLeavesFrom m e n xs → (q r : ℕ) (w v : Scalar)

@@ -11,7 +11,7 @@ use Rattle.ep_bitslice.specs.declared.cell.Side.TheVariants.{Shared}
 use Rattle.ep_layout.proofs.Sizes.{size_of_scalar}
 use Rattle.ep_domain.specs.Domain.{Ops}
 use Rattle.ep_cells.specs.declared.cell.Cell.{Cell}
-use Rattle.ep_cells.specs.declared.place.Place.{Place}
+use Rattle.ep_cells.specs.declared.place.ByteRange.{ByteRange}
 use Rattle.ep_cells.specs.Cells.{IsIn, first, later, put, each_becomes, place_of, touches, meets, share_memory}
 use Rattle.ep_cells.specs.Cells.{comes_before, key_of, is_same_side, is_same_scalar, is_same_place, is_same_cell}
 use Rattle.ep_cells.specs.Cells.{with_side, side_without, parts_of}
@@ -20,9 +20,9 @@ use Rattle.ep_cells.specs.Write.{left_by_write, fate_by_write, written}
 use Rattle.ep_cells.specs.Weaken.{with_join, weak_part, blurred, left_by_weak_write, fate_by_weak_write, weakened}
 use Rattle.ep_cells.specs.Both.{cells_of_both}
 use Rattle.ep_cells.specs.States.{Each, EachPair, AreApart, AreAlike, HaveCellsAlike}
-use Rattle.ep_cells_laws.proofs.Both.{alike_same, alike_sym}
-use Rattle.ep_cells_laws.proofs.Places.{before_true, not_both, meets_sym}
-use Rattle.ep_split_laws.proofs.Sides.{same_itself, others_apart}
+use Rattle.ep_cells.proofs.Both.{alike_same, alike_sym}
+use Rattle.ep_cells.proofs.Places.{before_true, not_both, meets_sym}
+use Rattle.ep_reads.proofs.Sides.{same_itself, others_apart}
 use Rattle.ep_tame_cells.specs.Shared.{AreShared, AreSharedCells, IsOverCell}
 
 differ : true ≡ false → ⊥
@@ -54,14 +54,14 @@ module _ {N : Type 0} where
   alike_itself : (x : Cell N) → AreAlike x x
   alike_itself x = record { side = refl; block = refl; offset = refl; what = refl }
 
-  place_alike : (d : Model) (x y : Cell N) → AreAlike x y → place_of d x ≡ place_of d y
+  pub place_alike : (d : Model) (x y : Cell N) → AreAlike x y → place_of d x ≡ place_of d y
   place_alike d x y a =
       ap (λ s. at s x.block x.offset (size_of d x.what)) a.side
       ∙ ap (λ b. at y.side b x.offset (size_of d x.what)) a.block
       ∙ ap (λ q. at y.side y.block q (size_of d x.what)) a.offset
       ∙ ap (λ w. at y.side y.block y.offset (size_of d w)) a.what
     where
-      at : Side → (b q n : ℕ) → Place
+      at : Side → (b q n : ℕ) → ByteRange
       at s b q n = record { side = s; block = b; offset = q; bytes = n }
 
   before_alike : (x y z : Cell N) → AreAlike x y → comes_before x z ≡ comes_before y z
@@ -133,7 +133,7 @@ module _ {N : Type 0} where
         (ap side_number (over.shared ∙ sym (shared_in cs a.shared over.old over.is_in)))) over.same)
 
     -- what is touched is that cell
-    touched_alike : (x : Cell N) → IsIn x cs → touches (place_of d c) (place_of d x) ≡ true → AreAlike c x
+    pub touched_alike : (x : Cell N) → IsIn x cs → touches (place_of d c) (place_of d x) ≡ true → AreAlike c x
     touched_alike x i h = by_same (is_same_cell x over.old) refl
       where
         own : touches (place_of d over.old) (place_of d x) ≡ true

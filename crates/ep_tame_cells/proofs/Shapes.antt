@@ -1,5 +1,6 @@
 -- Cells of whole blocks, and what keeps them so.
 use Rattle.std.proofs.Common.{◌≡◌, ℕ, ◌+◌, ◌<◌, Bool, true, false, ◌&&◌, ◌||◌, not, cond, List, [], ◌∷◌, Option, Some}
+use Rattle.ep_int.proofs.Basics.{some-injective}
 use Rattle.std.proofs.Common.{None, refl, sym, ap, ◌∙◌, subst, nat_eq, nat_lt, slice_get}
 use Rattle.std.specs.Prelude.{is_some}
 use Rattle.std.proofs.lemmas.Bool.{and_parts, eqb-true, ltb-true}
@@ -12,20 +13,17 @@ use Rattle.ep_cells.specs.Cells.{IsIn, first, later, each_becomes, place_of, tou
 use Rattle.ep_cells.specs.Forms.{reformed}
 use Rattle.ep_cells.specs.Both.{cell_like}
 use Rattle.ep_cells.specs.States.{AreCells, AreAlike, HaveCellsAlike}
-use Rattle.ep_cells_laws.proofs.Lists.{in_each, each_in, in_map, map_in}
-use Rattle.ep_cells_laws.proofs.Both.{alike_same, alike_sym}
+use Rattle.ep_cells.proofs.Lists.{in_each, each_in, in_map, map_in}
+use Rattle.ep_cells.proofs.Both.{alike_same, alike_sym}
 use Rattle.ep_reads.specs.Unify.{is_crossed, left_by_lack, fate_by_lack, had_by_both}
-use Rattle.ep_split_laws.proofs.Splits.{first_like}
-use Rattle.ep_split_laws.proofs.Lacks.{lack_keeps}
+use Rattle.ep_reads.proofs.Splits.{first_like}
+use Rattle.ep_reads.proofs.Lacks.{lack_keeps}
 use Rattle.ep_core.specs.Program.{Block, Program}
 use Rattle.ep_tame_cells.specs.Shared.{AreShared, AreSharedCells, AreUncrossed}
 use Rattle.ep_tame_cells.proofs.Over.{same_alike}
 use Rattle.ep_tame_cells.specs.Shape.{cell_type, IsLeafCell, IsCovered, HasShape}
 use Rattle.ep_tame_cells.specs.Laws.{ShapeLaws}
 use Rattle.ep_tame_cells.proofs.LeafCells.{one_offset}
-
-some_is : {A : Type 0} {x y : A} → Some x ≡ Some y → x ≡ y
-some_is e = cc
 
 module _ {N : Type 0} where
   -- ---- lists
@@ -34,12 +32,12 @@ module _ {N : Type 0} where
   all_shared [] h = tt
   all_shared (c ∷ cs) h = (h c (first cs), all_shared cs (λ x i. h x (later c cs i)))
 
-  record HasAlike (xs : List (Cell N)) (y : Cell N) : Type 0 where
+  pub record HasAlike (xs : List (Cell N)) (y : Cell N) : Type 0 where
     pub cell : Cell N
     pub is_in : IsIn cell xs
     pub alike : AreAlike cell y
 
-  back : (xs ys : List (Cell N)) → HaveCellsAlike xs ys → (y : Cell N) → IsIn y ys → HasAlike xs y
+  pub back : (xs ys : List (Cell N)) → HaveCellsAlike xs ys → (y : Cell N) → IsIn y ys → HasAlike xs y
   back [] [] h y i = elim i [ ]
   back [] (z ∷ ys) h y i = absurd h
   back (x ∷ xs) [] h y i = absurd h
@@ -47,7 +45,7 @@ module _ {N : Type 0} where
   back (x ∷ xs) (z ∷ ys) h y (later _ _ i) =
       let r = back xs ys h.1 y i in record { cell = r.cell; is_in = later x xs r.is_in; alike = r.alike }
 
-  forth : (xs ys : List (Cell N)) → HaveCellsAlike xs ys → (x : Cell N) → IsIn x xs → HasAlike ys x
+  pub forth : (xs ys : List (Cell N)) → HaveCellsAlike xs ys → (x : Cell N) → IsIn x xs → HasAlike ys x
   forth [] [] h x i = elim i [ ]
   forth [] (z ∷ ys) h x i = elim i [ ]
   forth (z ∷ xs) [] h x i = absurd h
@@ -56,7 +54,7 @@ module _ {N : Type 0} where
       let r = forth xs ys h.1 x i in record { cell = r.cell; is_in = later y ys r.is_in; alike = r.alike }
 
   -- a cell like it is there
-  like_there : (x : Cell N) (ys : List (Cell N)) (y : Cell N) → IsIn y ys → is_same_cell y x ≡ true
+  pub like_there : (x : Cell N) (ys : List (Cell N)) (y : Cell N) → IsIn y ys → is_same_cell y x ≡ true
       → is_some (cell_like x ys) ≡ true
   like_there x [] y i h = elim i [ ]
   like_there x (_ ∷ ys) y (first _) h = ap (λ t. is_some (cond t (Some y) (cell_like x ys))) h
@@ -66,7 +64,7 @@ module _ {N : Type 0} where
       by_test true r = refl
       by_test false r = r
 
-  is_like : (x : Cell N) (ys : List (Cell N)) → is_some (cell_like x ys) ≡ true → HasAlike ys x
+  pub is_like : (x : Cell N) (ys : List (Cell N)) → is_some (cell_like x ys) ≡ true → HasAlike ys x
   is_like x ys h = by_like (cell_like x ys) refl h
     where
       by_like : (o : Option (Cell N)) → cell_like x ys ≡ o → is_some o ≡ true → HasAlike ys x
@@ -105,14 +103,14 @@ module _ {N : Type 0} where
         alike_at : x.block ≡ y.block → x.offset < y.offset + size_of p.types.model y.what
             → y.offset < x.offset + size_of p.types.model x.what → AreAlike x y
         alike_at block low high =
-            let k : l.of_block ≡ m.of_block = some_is (sym l.there ∙ ap (slice_get p.blocks) block ∙ m.there) in
+            let k : l.of_block ≡ m.of_block = some-injective (sym l.there ∙ ap (slice_get p.blocks) block ∙ m.there) in
             let own = ap (λ (z : Block). cell_type p.types z.ty y.offset) k ∙ m.what in
             let q = one_offset p.types l.of_block.ty x.offset y.offset x.what y.what l.what own low high in
             record {
               side = l.side ∙ sym m.side;
               block = block;
               offset = q;
-              what = some_is (sym l.what ∙ ap (cell_type p.types l.of_block.ty) q ∙ own);
+              what = some-injective (sym l.what ∙ ap (cell_type p.types l.of_block.ty) q ∙ own);
             }
 
     none_crossed : (x : Cell N) → IsLeafCell p x → (ys : List (Cell N)) → ((y : Cell N) → IsIn y ys → IsLeafCell p y)
@@ -162,19 +160,19 @@ module _ {N : Type 0} where
 
     -- ---- the cells of blocks that another state has too
 
-    kept_there : (xs ys : List (Cell N)) (x : Cell N) → IsIn x xs → is_some (cell_like x ys) ≡ true
+    pub kept_there : (xs ys : List (Cell N)) (x : Cell N) → IsIn x xs → is_some (cell_like x ys) ≡ true
         → IsIn (reformed (fate_by_lack ys) x) (had_by_both ys xs)
     kept_there xs ys x i h =
         map_in (reformed (fate_by_lack ys)) x (each_becomes (left_by_lack ys) xs)
         (each_in (left_by_lack ys) x x xs i (subst (λ t. IsIn x (cond t (x ∷ []) [])) (sym h) (first [])))
 
-    record IsKept (xs ys : List (Cell N)) (c : Cell N) : Type 0 where
+    pub record IsKept (xs ys : List (Cell N)) (c : Cell N) : Type 0 where
       pub old : Cell N
       pub is_in : IsIn old xs
       pub is : c ≡ reformed (fate_by_lack ys) old
       pub like : HasAlike ys old
 
-    kept_is : (xs ys : List (Cell N)) (c : Cell N) → IsIn c (had_by_both ys xs) → IsKept xs ys c
+    pub kept_is : (xs ys : List (Cell N)) (c : Cell N) → IsIn c (had_by_both ys xs) → IsKept xs ys c
     kept_is xs ys c i =
         let m = in_map (reformed (fate_by_lack ys)) c (each_becomes (left_by_lack ys) xs) i in
         let f = in_each (left_by_lack ys) m.origin xs m.is_in in

@@ -14,7 +14,7 @@ use Rattle.ep_bitslice.proofs.NormalForm.{form_is_normal}
 use Rattle.ep_bitslice.proofs.Joining.{cell_itself}
 use Rattle.ep_domain.specs.Domain.{Ops}
 use Rattle.ep_cells.specs.declared.cell.Cell.{Cell}
-use Rattle.ep_cells.specs.declared.place.Place.{Place}
+use Rattle.ep_cells.specs.declared.place.ByteRange.{ByteRange}
 use Rattle.ep_cells.specs.Cells.{IsIn, first, later, put_all, each_becomes, place_of, place_of_name, meets}
 use Rattle.ep_cells.specs.Cells.{is_same_side, parts_of}
 use Rattle.ep_cells.specs.Forms.{Fate, put_bit, bits_after, form_after, reformed}
@@ -25,10 +25,10 @@ use Rattle.ep_reads.specs.Split.{is_name_of}
 use Rattle.ep_reads.specs.Unify.{is_of_one_side, faces, left_by_facing, fate_by_facing, parted, parted_times}
 use Rattle.ep_reads.specs.Unify.{parted_both, is_crossed, crossed_all, uncrossed, uncrossed_both, left_by_lack}
 use Rattle.ep_reads.specs.Unify.{fate_by_lack, had_by_both, had_both, unified}
-use Rattle.ep_split_laws.proofs.Parted.{put_sorted}
-use Rattle.ep_split_laws.proofs.Sides.{named_same}
-use Rattle.ep_split_laws.proofs.Splits.{first_like}
-use Rattle.ep_cells_laws.proofs.Both.{alike_same, alike_sym}
+use Rattle.ep_reads.proofs.Parted.{put_sorted}
+use Rattle.ep_reads.proofs.Sides.{named_same}
+use Rattle.ep_reads.proofs.Splits.{first_like}
+use Rattle.ep_cells.proofs.Both.{alike_same, alike_sym}
 use Rattle.ep_tame_cells.proofs.Over.{same_alike}
 use Rattle.ep_tame_cells.specs.Shared.{AreShared, AreSharedCells, AreUncrossed, AreHad}
 
@@ -87,12 +87,12 @@ module _ {N : Type 0} where
 
   -- ---- parting
 
-  none_of_one_side : (d : Model) (p : Place) (ys : List (Cell N)) → AreShared ys
+  none_of_one_side : (d : Model) (p : ByteRange) (ys : List (Cell N)) → AreShared ys
       → list_any (λ (y : Cell N). is_of_one_side y && meets p (place_of d y)) ys ≡ false
   none_of_one_side d p [] s = refl
   none_of_one_side d p (y ∷ ys) s = rw (s.0) (none_of_one_side d p ys s.1)
 
-  none_faced : (d : Model) (ys : List (Cell N)) → AreShared ys → (p : Place) → faces d ys p ≡ false
+  none_faced : (d : Model) (ys : List (Cell N)) → AreShared ys → (p : ByteRange) → faces d ys p ≡ false
   none_faced d ys s p =
       ap (λ b. is_same_side p.side Shared && b) (none_of_one_side d p ys s) ∙ and_false (is_same_side p.side Shared)
     where

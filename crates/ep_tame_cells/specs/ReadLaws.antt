@@ -14,7 +14,7 @@ use Rattle.ep_cell_ranges.specs.Spots.{Spot}
 use Rattle.ep_core.specs.Program.{Block, Program}
 use Rattle.ep_evaluation.specs.Accesses.{reads_of, are_shared}
 use Rattle.ep_kinds.specs.Tame.{are_tame_types}
-use Rattle.ep_kinds.specs.Rows.{Stands}
+use Rattle.ep_kinds.specs.Rows.{HasScalar}
 use Rattle.ep_tame_cells.specs.Shared.{AreSharedCells}
 use Rattle.ep_tame_cells.specs.Shape.{HasCellAt, IsCovered}
 
@@ -26,7 +26,7 @@ HaveCells p cs w (q ∷ qs) = HasCellAt p cs q.0 q.1 w × HaveCells p cs w qs
 pub record ReadLaws {N : Type 0} (D : Ops N) : Type 0 where
   pub stands : (p : Program) (cs : List (Cell N)) (b : ℕ) (k : Block) (o ty : ℕ) (w : Scalar) → IsBuilt p.types
       → IsTrue (are_tame_types p.types) → slice_get p.blocks b ≡ Some k → size p.types k.ty ≡ Some k.size
-      → IsCovered p cs b → Stands p.types k.ty o ty → scalar_of p.types ty ≡ Some w → HasCellAt p cs b o w
+      → IsCovered p cs b → HasScalar p.types k.ty o ty → scalar_of p.types ty ≡ Some w → HasCellAt p cs b o w
   pub read : (k : Known N) (s : Side) (c : Cell N) → AreSharedCells k.model k.cells → IsIn c k.cells
       → read D k s c.block c.offset c.what ≡ whole_read D c.what c
   -- where each place has a cell, both sides read the same, and all of it of cells of both memories

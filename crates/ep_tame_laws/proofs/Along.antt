@@ -1,5 +1,6 @@
 -- Addresses of tame programs go along their blocks.
 use Rattle.std.proofs.Common.{◌≡◌, ℕ, ◌+◌, ◌-◌, ◌*◌, ◌<◌, false, Some, refl, sym, ap, ◌∙◌, subst}
+use Rattle.ep_int.proofs.Basics.{some-injective}
 use Rattle.std.proofs.Math.Nat.{mul_comm}
 use Rattle.std.specs.Prelude.{option_map}
 use Rattle.ep_layout.specs.Layout.{Layout}
@@ -9,13 +10,13 @@ use Rattle.ep_core.specs.Program.{Place}
 use Rattle.ep_kinds.specs.Tame.{through_member}
 use Rattle.ep_kinds.specs.Rows.{IsInChain, itself, of_elements, Row, IsRow, of_block, of_target, of_member, of_element}
 use Rattle.ep_tame_laws.specs.Laws.{GoesAlong}
-use Rattle.ep_tame_laws.proofs.Found.{array_at, array_size, some_is}
+use Rattle.ep_tame_laws.proofs.Found.{array_at, array_size}
 
 chain_at : (t : Table) (whole ty s m : ℕ) → IsInChain t whole ty s m → (z : ℕ) → size t ty ≡ Some z
     → IsInChain t whole ty z m
 chain_at t whole ty s m (itself k) z h = itself z
 chain_at t whole ty s m (of_elements a e n u k c el sz some) z h =
-    subst (λ x. IsInChain t whole e x (n * k + (n - 1))) (some_is (sym sz ∙ h)) (of_elements a e n u k c el sz some)
+    subst (λ x. IsInChain t whole e x (n * k + (n - 1))) (some-injective (sym sz ∙ h)) (of_elements a e n u k c el sz some)
 
 -- the elements of an array that goes along
 elements_along : (t : Table) → IsBuilt t → (whole ty s m : ℕ) → IsInChain t whole ty s m → (e n u : ℕ)

@@ -1,5 +1,8 @@
 -- Each place of a tame program is on a row.
 use Rattle.std.proofs.Common.{◌≡◌, ℕ, zero, suc, ◌+◌, ◌-◌, ◌*◌, ◌<◌, Bool, true, false, ◌&&◌, ◌||◌, ◌⊎◌, inl, inr}
+use Rattle.ep_core.proofs.Sorts.{never}
+use Rattle.ep_int.proofs.Basics.{some-injective, and_false-right}
+use Rattle.std.proofs.lemmas.Bool.{not-true}
 use Rattle.std.proofs.Common.{List, [], ◌∷◌, slice_get, length, Option, Some, None, refl, sym, ap, ◌∙◌, subst, arith}
 use Rattle.std.proofs.Common.{nat_eq, nat_le, ◌==◌}
 use Rattle.std.specs.Prelude.{not, option_map, option_and_then}
@@ -29,14 +32,8 @@ use Rattle.ep_tame_laws.specs.Laws.{BeginsIn, HasRow}
 
 -- ---- types
 
-pub some_is : {A : Type 0} {x y : A} → Some x ≡ Some y → x ≡ y
-some_is e = cc
-
 pub none_some : {A B : Type 0} (x : A) → None ≡ Some x → B
 none_some x h = absurd cc
-
-never_true : {A : Type 0} → false ≡ true → A
-never_true h = absurd cc
 
 pub array_at : (t : Table) (ty e n : ℕ) → elements_of t ty ≡ Some (e, n) → slice_get t.types ty ≡ Some (Array e n)
 array_at t ty e n h = by_type (slice_get t.types ty) refl
@@ -48,14 +45,14 @@ array_at t ty e n h = by_type (slice_get t.types ty) refl
     by_type (Some (Ptr d)) q = none_some (e, n) (rw q at h)
     by_type (Some (Array d m)) q =
         let k : Some (d, m) ≡ Some (e, n) = rw q at h in
-        q ∙ ap (λ (p : ℕ × ℕ). Some (Array p.0 p.1)) (some_is k)
+        q ∙ ap (λ (p : ℕ × ℕ). Some (Array p.0 p.1)) (some-injective k)
     by_type (Some (Aggregate a)) q = none_some (e, n) (rw q at h)
 
-elements_at : (t : Table) (ty e n : ℕ) → slice_get t.types ty ≡ Some (Array e n) → elements_of t ty ≡ Some (e, n)
+pub elements_at : (t : Table) (ty e n : ℕ) → slice_get t.types ty ≡ Some (Array e n) → elements_of t ty ≡ Some (e, n)
 elements_at t ty e n h = rw h refl
 
 -- what is an array of these elements, of so many
-array_is_of : (o : Option Ty) (ty n : ℕ) → (is_array_of o ty && has_bound o n) ≡ true → o ≡ Some (Array ty n)
+pub array_is_of : (o : Option Ty) (ty n : ℕ) → (is_array_of o ty && has_bound o n) ≡ true → o ≡ Some (Array ty n)
 array_is_of None ty n h = absurd cc
 array_is_of (Some Void) ty n h = absurd cc
 array_is_of (Some (Int i)) ty n h = absurd cc
@@ -65,7 +62,7 @@ array_is_of (Some (Array d m)) ty n h =
     ap (λ d. Some (Array d m)) (eqb-true d ty q.0) ∙ ap (λ m. Some (Array ty m)) (eqb-true m n q.1)
 array_is_of (Some (Aggregate a)) ty n h = absurd cc
 
-member_is_of : (t : Table) (o : Option Ty) (q ty : ℕ) → has_member t o q ty ≡ true
+pub member_is_of : (t : Table) (o : Option Ty) (q ty : ℕ) → has_member t o q ty ≡ true
     → (a : ℕ) × (o ≡ Some (Aggregate a)) × (has_member_at t a q ty ≡ true)
 member_is_of t None q ty h = absurd cc
 member_is_of t (Some Void) q ty h = absurd cc
@@ -74,7 +71,7 @@ member_is_of t (Some (Ptr d)) q ty h = absurd cc
 member_is_of t (Some (Array d m)) q ty h = absurd cc
 member_is_of t (Some (Aggregate a)) q ty h = (a, refl, h)
 
-aggregate_is : (t : Table) (ty a : ℕ) → slice_get t.types ty ≡ Some (Aggregate a) → aggregate_of t ty ≡ Some a
+pub aggregate_is : (t : Table) (ty a : ℕ) → slice_get t.types ty ≡ Some (Aggregate a) → aggregate_of t ty ≡ Some a
 aggregate_is t ty a h = rw h refl
 
 -- the size of an array
@@ -86,7 +83,7 @@ array_size t built ty e n u h sz =
     by_type_is (layout_rules t.model) t built ty
     ∙ ap (option_and_then (at_type (layout_rules t.model) t (layout_of t))) h
     ∙ ap (option_map ((layout_rules t.model).array n)) l.1 in
-    let own : l.0.size ≡ u = some_is (sym (ap (option_map (λ (l : Layout). l.size)) l.1) ∙ sz) in
+    let own : l.0.size ≡ u = some-injective (sym (ap (option_map (λ (l : Layout). l.size)) l.1) ∙ sz) in
     ap (option_map (λ (l : Layout). l.size)) whole ∙ ap (λ k. Some (n * k)) own
 
 -- ---- tame types
@@ -100,7 +97,7 @@ aggregate_at t ty a h = by_type (slice_get t.types ty) refl
     by_type (Some (Int i)) q = none_some a (rw q at h)
     by_type (Some (Ptr d)) q = none_some a (rw q at h)
     by_type (Some (Array d m)) q = none_some a (rw q at h)
-    by_type (Some (Aggregate g)) q = let k : Some g ≡ Some a = rw q at h in q ∙ ap (λ x. Some (Aggregate x)) (some_is k)
+    by_type (Some (Aggregate g)) q = let k : Some g ≡ Some a = rw q at h in q ∙ ap (λ x. Some (Aggregate x)) (some-injective k)
 
 numbered : (test : ℕ → Bool) (n k : ℕ) → list_all test (numbers_below n) ≡ true → k < n → test k ≡ true
 numbered test zero k h l = absurd (omega (arith, l))
@@ -111,14 +108,6 @@ numbered test (suc n) k h l =
     by_place : (k ≡ n) ⊎ (k < n) → test n ≡ true → (k < n → test k ≡ true) → test k ≡ true
     by_place (inl e) last below = ap test e ∙ last
     by_place (inr b) last below = below b
-
-not_true : (b : Bool) → not b ≡ true → b ≡ false
-not_true true h = absurd cc
-not_true false h = refl
-
-both_at : (x y : Bool) → (x && y) ≡ false → x ≡ true → y ≡ false
-both_at true y h e = h
-both_at false y h e = absurd cc
 
 member_fails : (t : Table) (ms : List MemberRow) (q ty : ℕ) → list_any (has_array t) ms ≡ false
     → list_any (λ (m : MemberRow). m.offset == q && m.ty == ty) ms ≡ true
@@ -163,7 +152,7 @@ module _ (t : Table) (built : IsBuilt t) (tame : are_tame_types t ≡ true) wher
   pub no_holders : (ty e n : ℕ) → slice_get t.types ty ≡ Some (Array e n) → holds t e ≡ false
   no_holders ty e n h =
       let all = (and_parts (list_all (λ (g : AggregateRow). not g.is_union) t.aggregates) _ tame).1 in
-      let one = not_true (is_array_of_holders t ty) (numbered (λ ty. not (is_array_of_holders t ty))
+      let one = not-true (is_array_of_holders t ty) (numbered (λ ty. not (is_array_of_holders t ty))
       (length t.types) ty all
       (slice_get_within t.types ty (Array e n) h)) in
       sym (element_holds t built ty e n h) ∙ array_holds one (array_is t built ty e n h)
@@ -172,7 +161,7 @@ module _ (t : Table) (built : IsBuilt t) (tame : are_tame_types t ≡ true) wher
           → option_map_or (λ (x : Inside). x.is_array) o false ≡ true
           → option_map_or (λ (x : Inside). x.holds_array) o false ≡ false
       by_inside None h e = refl
-      by_inside (Some x) h e = both_at x.is_array x.holds_array h e
+      by_inside (Some x) h e = and_false-right x.is_array x.holds_array h e
 
       array_holds : is_array_of_holders t ty ≡ false → is_array t ty ≡ true → holds t ty ≡ false
       array_holds h e = by_inside (by_type inside_rules t ty) h e
@@ -192,7 +181,7 @@ module _ (t : Table) (built : IsBuilt t) (tame : are_tame_types t ≡ true) wher
       let at = aggregate_at t r.ty m.0 m.1 in
       let w = whole_is t built r.ty m.0 at (members_of t m.0) refl (some_member (members_of t m.0) q ty m.2) in
       let none = member_fails t (members_of t m.0) q ty (sym w.0 ∙ s.no_holder) m.2 in
-      inr (record { no_holder = none.1; sized = λ x. never_true (sym none.0 ∙ x) })
+      inr (record { no_holder = none.1; sized = λ x. never (sym none.0 ∙ x) })
 
   step_is : (r : Row) (e n u : ℕ) → slice_get t.types r.ty ≡ Some (Array e n) → size t e ≡ Some u → IsEven t r
       → (r.most ≡ 0) ⊎ (r.step ≡ u * n)
@@ -200,7 +189,7 @@ module _ (t : Table) (built : IsBuilt t) (tame : are_tame_types t ≡ true) wher
   step_is r e n u h sz (inr s) =
       let own = s.sized (array_is t built r.ty e n h) in
       let whole = array_size t built r.ty e n u h sz in
-      inr (some_is (sym own ∙ whole) ∙ mul_comm n u)
+      inr (some-injective (sym own ∙ whole) ∙ mul_comm n u)
 
   -- ---- places
 
@@ -224,7 +213,7 @@ module _ (t : Table) (built : IsBuilt t) (tame : are_tame_types t ≡ true) wher
       where
         of_type : (o : Option Block) → block_type o ≡ Some whole → block_has t bs seen o ty ≡ true → whole ≡ ty
         of_type None e h = absurd cc
-        of_type (Some k) e h = sym (some_is e) ∙ eqb-true k.ty ty h
+        of_type (Some k) e h = sym (some-injective e) ∙ eqb-true k.ty ty h
 
     record ElementParts (a : Place) (ty n u : ℕ) : Type 0 where
       pub some : 0 < n

@@ -1,5 +1,6 @@
 -- Leaves in lists of leaves.
 use Rattle.std.proofs.Common.{◌≡◌, ℕ, zero, suc, ◌+◌, ◌*◌, ◌<◌, ◌≤◌, Bool, true, false, ◌⊎◌, inl, inr, if◌then◌else◌}
+use Rattle.ep_int.proofs.Basics.{some-injective}
 use Rattle.std.proofs.Common.{nat_eq, List, [], ◌∷◌, ◌++◌, Some, refl, ap, subst, arith}
 use Rattle.std.proofs.lemmas.Bool.{eqb-true, eqb-false}
 use Rattle.std.proofs.Math.Nat.{mul-suc, mul-zero}
@@ -16,16 +17,13 @@ abbrev pub HasLeaf : ℕ → Scalar → List Leaf → Type 0
 HasLeaf q w [] = ⊥
 HasLeaf q w (l ∷ ls) = ((l.offset ≡ q) × (l.what ≡ w)) ⊎ HasLeaf q w ls
 
-some_is : {A : Type 0} {x y : A} → Some x ≡ Some y → x ≡ y
-some_is e = cc
-
 pub has_leaf : (xs : List Leaf) (q : ℕ) (w : Scalar) → leaf_at xs q ≡ Some w → HasLeaf q w xs
 has_leaf [] q w h = absurd cc
 has_leaf (l ∷ ls) q w h = by_place (nat_eq l.offset q) refl h (has_leaf ls q w)
   where
     by_place : (b : Bool) → nat_eq l.offset q ≡ b → (if b then Some l.what else leaf_at ls q) ≡ Some w
         → (leaf_at ls q ≡ Some w → HasLeaf q w ls) → HasLeaf q w (l ∷ ls)
-    by_place true e h later = inl (eqb-true l.offset q e, some_is h)
+    by_place true e h later = inl (eqb-true l.offset q e, some-injective h)
     by_place false e h later = inr (later h)
 
 -- leaves that begin at e or later

@@ -1,5 +1,6 @@
 -- Where an object's bytes and leaves lie in an object round it.
 use Rattle.std.proofs.Common.{◌≡◌, ℕ, suc, ◌+◌, ◌*◌, ◌<◌, ◌≤◌, Bool, true, false, ◌&&◌, ◌||◌, if◌then◌else◌, List, []}
+use Rattle.ep_int.proofs.Basics.{some-injective}
 use Rattle.std.proofs.Common.{◌∷◌, slice_get, length, Option, Some, None, refl, sym, ap, ◌∙◌, subst, arith}
 use Rattle.std.specs.Prelude.{option_map, option_and_then, unwrap_or, not, ◌==◌}
 use Rattle.std.specs.Int.{next_multiple_of}
@@ -8,9 +9,11 @@ use Rattle.std.proofs.lemmas.Bool.{eqb-true, and_parts}
 use Rattle.std.proofs.Math.Nat.{mul_comm, mul-suc, mul-le-mul_left}
 use Rattle.ep_int.specs.declared.types.Scalar.{Scalar}
 use Rattle.ep_int.specs.declared.types.Scalar.TheVariants.{Int as Number, Pointer}
+use Rattle.ep_int.specs.Types.{size_of}
 use Rattle.ep_layout.specs.declared.types.Ty.{Ty}
 use Rattle.ep_layout.specs.declared.types.Ty.TheVariants.{Void, Int, Ptr, Array, Aggregate}
-use Rattle.ep_layout.specs.Layout.{Layout, shifted, repeated, end_of, greatest_size, struct_layout, union_layout}
+use Rattle.ep_layout.specs.Layout.{Layout, shifted, repeated, end_of, greatest_size, scalar_layout, struct_layout}
+use Rattle.ep_layout.specs.Layout.{union_layout}
 use Rattle.ep_layout.specs.Table.{Table, AggregateRow, MemberRow, IsBuilt, size, leaves, scalar_of, members_of}
 use Rattle.ep_layout.specs.Table.{has_member_at, layout_of, at_each, at_type, at_aggregate, at_whole, layout_rules}
 use Rattle.ep_layout.specs.Pending.{rows_leaves}
@@ -25,8 +28,8 @@ use Rattle.ep_core.proofs.Sorts.{all_at}
 use Rattle.ep_cells.specs.Kill.{leaf_at}
 use Rattle.ep_kinds.specs.Tame.{are_tame_types, is_array_of_holders}
 use Rattle.ep_core.specs.WellFormed.{numbers_below}
-use Rattle.ep_kinds.specs.Rows.{IsMember, Stands, here, in_member, in_element}
-use Rattle.ep_tame_laws.proofs.Found.{array_at, array_size, aggregate_at, some_is, none_some}
+use Rattle.ep_kinds.specs.Rows.{IsMember, HasScalar, here, in_member, in_element}
+use Rattle.ep_tame_laws.proofs.Found.{array_at, array_size, aggregate_at, none_some}
 use Rattle.ep_tame_laws.proofs.LeavesIn.{HasLeaf, has_leaf, leaf_is_at, has_left, has_right, has_shifted, has_repeated}
 
 -- ---- members
@@ -96,7 +99,7 @@ module _ (t : Table) (built : IsBuilt t) where
       (λ some. rows_end u (next_multiple_of e l.align + l.size) ls ms (x.3 ∙ ap Some more) r.1 q ty s some sz)
     where
       own_size : layout_of t m.ty ≡ Some l → m.ty ≡ ty → l.size ≡ s
-      own_size one e = some_is (sym (size_is m.ty l one) ∙ ap (size t) e ∙ sz)
+      own_size one e = some-injective (sym (size_is m.ty l one) ∙ ap (size t) e ∙ sz)
 
       by_first : (u b : Bool) → IsAt q ty m ≡ b → RowsAt u e (l ∷ ls) (m ∷ ms) → (b || list_any (IsAt q ty) ms) ≡ true
           → layout_of t m.ty ≡ Some l
@@ -130,7 +133,7 @@ module _ (t : Table) (built : IsBuilt t) where
       let some : list_any (IsAt q ty) p.members ≡ true = sym (ap (list_any (IsAt q ty)) ms_are) ∙ m.2 in
       let end = rows_end p.row.is_union 0 p.placed.layouts p.members p.placed.each p.placed.rows q ty s some part in
       let ends = whole_ends p.row.is_union p.placed.layouts in
-      let own = some_is (sym whole ∙ size_is g _ p.layout) in
+      let own = some-injective (sym whole ∙ size_is g _ p.layout) in
       omega (arith, end, ends, own)
 
   -- so does an element in its array
@@ -141,8 +144,8 @@ module _ (t : Table) (built : IsBuilt t) where
       let g = mul-le-mul_left u (let k : suc i ≤ n = omega (arith, l) in k) in
       omega (arith, e, f, g)
 
-  pub part_fits : (whole o ty n s : ℕ) → Stands t whole o ty → size t whole ≡ Some n → size t ty ≡ Some s → o + s ≤ n
-  part_fits whole o ty n s here hn hs = let e = some_is (sym hn ∙ hs) in omega (arith, e)
+  pub part_fits : (whole o ty n s : ℕ) → HasScalar t whole o ty → size t whole ≡ Some n → size t ty ≡ Some s → o + s ≤ n
+  part_fits whole o ty n s here hn hs = let e = some-injective (sym hn ∙ hs) in omega (arith, e)
   part_fits whole o ty n s (in_member p g q k at m) hn hs =
       let a = aggregate_at t g m.0 m.1 in
       let l = of_members g m.0 q k a m.2 in
@@ -154,7 +157,7 @@ module _ (t : Table) (built : IsBuilt t) where
       let z = array_size t built a e c u (array_at t a e c el) sz in
       let one = part_fits whole p a n (c * u) at hn z in
       let two = element_fits u i c l in
-      let own = some_is (sym sz ∙ hs) in
+      let own = some-injective (sym sz ∙ hs) in
       omega (arith, one, two, own)
 
   -- ---- leaves
@@ -185,15 +188,41 @@ module _ (t : Table) (built : IsBuilt t) where
       by_type_is (layout_rules t.model) t built a
       ∙ ap (option_and_then (at_type (layout_rules t.model) t (layout_of t))) h
       ∙ ap (option_map ((layout_rules t.model).array n)) l.1 in
-      let own : l.0.size ≡ u = some_is (sym (size_is e l.0 l.1) ∙ sz) in
+      let own : l.0.size ≡ u = some-injective (sym (size_is e l.0 l.1) ∙ sz) in
       leaves_of t a _ whole ∙ ap (λ k. repeated n k l.0.leaves) own ∙ ap (repeated n u) (sym (leaves_of t e l.0 l.1))
+
+  -- scalars
+
+  scalar_laid : (ty : ℕ) (w : Scalar) → scalar_of t ty ≡ Some w → layout_of t ty ≡ Some (scalar_layout t.model w)
+  scalar_laid ty w h = by_ty (slice_get t.types ty) refl
+    where
+      of_scalar : (k : Ty) (v : Scalar) → slice_get t.types ty ≡ Some k
+          → at_type (layout_rules t.model) t (layout_of t) k ≡ Some (scalar_layout t.model v) → v ≡ w
+          → layout_of t ty ≡ Some (scalar_layout t.model w)
+      of_scalar k v q is e =
+          by_type_is (layout_rules t.model) t built ty
+          ∙ ap (option_and_then (at_type (layout_rules t.model) t (layout_of t))) q ∙ is
+          ∙ ap (λ w. Some (scalar_layout t.model w)) e
+
+      by_ty : (o : Option Ty) → slice_get t.types ty ≡ o → layout_of t ty ≡ Some (scalar_layout t.model w)
+      by_ty None q = none_some w (rw q at h)
+      by_ty (Some Void) q = none_some w (rw q at h)
+      by_ty (Some (Int i)) q = let k : Some (Number i) ≡ Some w = rw q at h in
+          of_scalar (Int i) (Number i) q refl (some-injective k)
+      by_ty (Some (Ptr d)) q = let k : Some Pointer ≡ Some w = rw q at h in
+          of_scalar (Ptr d) Pointer q refl (some-injective k)
+      by_ty (Some (Array d m)) q = none_some w (rw q at h)
+      by_ty (Some (Aggregate g)) q = none_some w (rw q at h)
+
+  pub scalar_size : (ty : ℕ) (w : Scalar) → scalar_of t ty ≡ Some w → size t ty ≡ Some (size_of t.model w)
+  scalar_size ty w h = ap (option_map (λ (l : Layout). l.size)) (scalar_laid ty w h)
 
   module _ (tame : are_tame_types t ≡ true) where
     not_true : (b : Bool) → not b ≡ true → b ≡ false
     not_true true h = absurd cc
     not_true false h = refl
 
-    no_union : (a : ℕ) (g : AggregateRow) → slice_get t.aggregates a ≡ Some g → g.is_union ≡ false
+    pub no_union : (a : ℕ) (g : AggregateRow) → slice_get t.aggregates a ≡ Some g → g.is_union ≡ false
     no_union a g h =
         not_true g.is_union (all_at (λ (g : AggregateRow). not g.is_union) t.aggregates a g
         (and_parts (list_all (λ (g : AggregateRow). not g.is_union) t.aggregates)
@@ -210,7 +239,7 @@ module _ (t : Table) (built : IsBuilt t) where
         ∙ rows_leaves_are t r.row.is_union r.members r.placed
         ∙ ap (λ u. rows_leaves t u r.members) (no_union a r.row r.there)
 
-    part_leaf : (whole o ty : ℕ) → Stands t whole o ty → (p : ℕ) (w : Scalar) → HasLeaf p w (leaves t ty)
+    part_leaf : (whole o ty : ℕ) → HasScalar t whole o ty → (p : ℕ) (w : Scalar) → HasLeaf p w (leaves t ty)
         → HasLeaf (o + p) w (leaves t whole)
     part_leaf whole o ty here p w i =
         let e : p ≡ 0 + p = omega arith in subst (λ x. HasLeaf x w (leaves t whole)) e i
@@ -231,32 +260,15 @@ module _ (t : Table) (built : IsBuilt t) where
     leaf_there n q w i =
         leaf_is_at t.model 0 (unwrap_or (size t n) 0) (leaves t n) (leaves_ordered t n) q w i
 
-    pub part_has_leaves : (whole o ty : ℕ) → Stands t whole o ty → (q : ℕ) (w : Scalar)
+    pub part_has_leaves : (whole o ty : ℕ) → HasScalar t whole o ty → (q : ℕ) (w : Scalar)
         → leaf_at (leaves t ty) q ≡ Some w → leaf_at (leaves t whole) (o + q) ≡ Some w
     part_has_leaves whole o ty at q w h =
         leaf_there whole (o + q) w (part_leaf whole o ty at q w (has_leaf (leaves t ty) q w h))
 
     scalar_leaf : (ty : ℕ) (w : Scalar) → scalar_of t ty ≡ Some w → leaf_at (leaves t ty) 0 ≡ Some w
-    scalar_leaf ty w h = by_ty (slice_get t.types ty) refl
-      where
-        of_scalar : (k : Ty) (v : Scalar) → slice_get t.types ty ≡ Some k
-            → at_type (layout_rules t.model) t (layout_of t) k ≡ Some ((layout_rules t.model).scalar v) → v ≡ w
-            → leaf_at (leaves t ty) 0 ≡ Some w
-        of_scalar k v q is e =
-            ap (λ xs. leaf_at xs 0) (leaves_of t ty _ (by_type_is (layout_rules t.model) t built ty
-            ∙ ap (option_and_then (at_type (layout_rules t.model) t (layout_of t))) q ∙ is)) ∙ ap Some e
+    scalar_leaf ty w h = ap (λ xs. leaf_at xs 0) (leaves_of t ty _ (scalar_laid ty w h))
 
-        by_ty : (o : Option Ty) → slice_get t.types ty ≡ o → leaf_at (leaves t ty) 0 ≡ Some w
-        by_ty None q = none_some w (rw q at h)
-        by_ty (Some Void) q = none_some w (rw q at h)
-        by_ty (Some (Int i)) q = let k : Some (Number i) ≡ Some w = rw q at h in
-            of_scalar (Int i) (Number i) q refl (some_is k)
-        by_ty (Some (Ptr d)) q = let k : Some Pointer ≡ Some w = rw q at h in
-            of_scalar (Ptr d) Pointer q refl (some_is k)
-        by_ty (Some (Array d m)) q = none_some w (rw q at h)
-        by_ty (Some (Aggregate g)) q = none_some w (rw q at h)
-
-    pub scalar_is_leaf : (whole o ty : ℕ) → Stands t whole o ty → (w : Scalar) → scalar_of t ty ≡ Some w
+    pub scalar_is_leaf : (whole o ty : ℕ) → HasScalar t whole o ty → (w : Scalar) → scalar_of t ty ≡ Some w
         → leaf_at (leaves t whole) o ≡ Some w
     scalar_is_leaf whole o ty at w h =
         let e : o + 0 ≡ o = omega arith in

@@ -1,8 +1,10 @@
 -- Reports on tame programs have no alarm of the kinds E1 to E4: the induction over the pass, of both machines together.
 use Rattle.std.proofs.Common.{◌≡◌, ℕ, zero, suc, ◌-◌, ◌<◌, List, [], ◌∷◌, ◌++◌, refl, sym, subst, Option, Some, None}
+use Rattle.ep_core.proofs.Operands.{callee_at}
+use Rattle.ep_int.proofs.Basics.{contains-left, contains-right}
 use Rattle.std.proofs.Common.{Bool, true, false, ◌&&◌, ◌||◌, if◌then◌else◌, nat_eq, slice_get, arith}
 use Rattle.std.specs.List.{list_all}
-use Rattle.std.proofs.lemmas.Bool.{eqb-true, or_right, and_parts}
+use Rattle.std.proofs.lemmas.Bool.{eqb-true, and_parts}
 use Rattle.ep_int.specs.declared.types.Order.{Order}
 use Rattle.ep_int.specs.Memory.{contains}
 use Rattle.ep_alarms.specs.declared.types.Alarm.{Alarm}
@@ -14,7 +16,7 @@ use Rattle.ep_core.specs.Runs.{Side, left, right}
 use Rattle.ep_core.specs.WellFormed.{is_tested, result_type, arguments_fit, takes_result, are_plain, call_fits}
 use Rattle.ep_core.specs.WellFormed.{what_fits, stmts_fit, is_well_formed}
 use Rattle.ep_core.proofs.Operands.{fits_at}
-use Rattle.ep_pass.specs.States.{Mode, Both, Fault, Gives, Verdict, stuck, same, differs, StateOps}
+use Rattle.ep_pass.specs.States.{Mode, Both, Fault, Transfer, Verdict, stuck, same, differs, StateOps}
 use Rattle.ep_pass.specs.Honest.{AreOf}
 use Rattle.ep_pass.specs.Pass.{Ways, none, Log, Pass, ends, so_far, branch, alarms_at, jumps, way_of, simple_pass}
 use Rattle.ep_pass.specs.Pass.{join_on, go_on, join_ways, then_pass, rowed, either_pass, leave_on, leave_call}
@@ -22,10 +24,9 @@ use Rattle.ep_pass.specs.Pass.{scope_pass, call_pass, next_pass, body_ends, leav
 use Rattle.ep_pass.specs.Pass.{arm_of, unrolled, in_body, lone, joint_turn, is_stable, next_head, dropped, settled}
 use Rattle.ep_pass.specs.Pass.{from_head, last_turns, joint_rounds, loop_pass, pass, pass_all, body_pass, bodies_pass}
 use Rattle.ep_pass.specs.Pass.{faults_at_end, report_of}
-use Rattle.ep_pass_laws.proofs.Text.{callee_at}
-use Rattle.ep_pass_laws.proofs.Placing.{placed_both, gathered_placed}
+use Rattle.ep_pass.proofs.Placing.{placed_both, gathered_placed}
 use Rattle.ep_kinds.specs.Tame.{is_tame_expr, is_tame_dest, is_tame_what, are_tame, are_tame_types, is_tame}
-use Rattle.ep_tame_laws.specs.Tamely.{is_undefined, IfReached, AreAmong, result_block, IsAlike, GivesGood, Tamely}
+use Rattle.ep_tame_laws.specs.Tamely.{is_undefined, IfReached, AreAmong, result_block, IsAlike, TransferIsGood, Tamely}
 use Rattle.ep_tame_laws.specs.Tamely.{IsUndefinedOnly}
 
 -- ---- alarms
@@ -45,15 +46,6 @@ only_at l (f ∷ fs) h = (h.0, only_at l fs h.1)
 either_true : (t x y : Bool) → (x ≡ true → y ≡ true) → (t || x) ≡ true → (t || y) ≡ true
 either_true true x y f h = refl
 either_true false x y f h = f h
-
-contains_both : (b : ℕ) (bs cs : List ℕ) → contains b bs ≡ true → contains b (bs ++ cs) ≡ true
-contains_both b (c ∷ bs) cs h =
-    either_true (nat_eq b c) (contains b bs) (contains b (bs ++ cs)) (contains_both b bs cs) h
-contains_both b [] cs h = absurd cc
-
-contains_after : (b : ℕ) (bs cs : List ℕ) → contains b cs ≡ true → contains b (bs ++ cs) ≡ true
-contains_after b [] cs h = h
-contains_after b (c ∷ bs) cs h = or_right (nat_eq b c) (contains b (bs ++ cs)) (contains_after b bs cs h)
 
 more_among : (own seen live : List ℕ) → AreAmong seen live → AreAmong (own ++ seen) (own ++ live)
 more_among [] seen live h = h
@@ -180,7 +172,7 @@ module _ {S : Type 0} (o : StateOps S) where
             (branch_holds (o.assume e false false s) t (assume false) ht)
         by_verdict differs i = absurd i
 
-  simple_holds : (P : S → Type 0) (k : Way) (l : ℕ) (g : Gives S) → GivesGood P g → Holds P (simple_pass k l g)
+  simple_holds : (P : S → Type 0) (k : Way) (l : ℕ) (g : Transfer S) → TransferIsGood P g → Holds P (simple_pass k l g)
   simple_holds P on l g h = record { at_end = h.next; ways = (tt, (tt, tt)); alarms = only_at l g.faults h.faults }
   simple_holds P broken l g h = record { at_end = tt; ways = (h.next, (tt, tt)); alarms = only_at l g.faults h.faults }
   simple_holds P continued l g h =
@@ -359,8 +351,8 @@ module _ (p : Program) {S : Type 0} (o : StateOps S) (Good : S → (live res : L
           leave_call_holds o (Good h live (result_block f ++ res)) (joins h live (result_block f ++ res))
           (scope_pass o Both (frame_of f) (body s))
           (scope_holds (frame_of f) h live (result_block f ++ res) (body s)
-          (known f at h s (frame_of f ++ live) (result_block f ++ res) (λ b i. contains_both b (frame_of f) live i)
-          (λ b i. contains_both b (result_block f) res i) g))
+          (known f at h s (frame_of f ++ live) (result_block f ++ res) (λ b i. contains-left b (frame_of f) live i)
+          (λ b i. contains-left b (result_block f) res i) g))
 
       last_holds : (s : S) → Good h live (result_block f ++ res) s → Holds o P (last s)
       last_holds s g =

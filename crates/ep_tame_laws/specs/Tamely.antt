@@ -13,7 +13,7 @@ use Rattle.ep_core.specs.Program.{Expr, Dest, Simple, Function, Program}
 use Rattle.ep_core.specs.Exec.{first_of, frame_of}
 use Rattle.ep_core.specs.Runs.{Side}
 use Rattle.ep_core.specs.WellFormed.{result_type, is_tested, simple_fits, arguments_fit, takes_result, is_well_formed}
-use Rattle.ep_pass.specs.States.{Both, Gives, Verdict, stuck, same, differs, StateOps}
+use Rattle.ep_pass.specs.States.{Both, Transfer, Verdict, stuck, same, differs, StateOps}
 use Rattle.ep_pass.specs.Laws.{AreOther}
 use Rattle.ep_pass.specs.Honest.{AreOf}
 use Rattle.ep_pass.specs.Pass.{report_of}
@@ -56,7 +56,7 @@ IsAlike same = Unit {0}
 IsAlike differs = ⊥
 
 -- of what an operation gives: the faults are of undefined behaviour alone, and this holds of the state after it
-pub record GivesGood {S : Type 0} (P : S → Type 0) (g : Gives S) : Type 0 where
+pub record TransferIsGood {S : Type 0} (P : S → Type 0) (g : Transfer S) : Type 0 where
   pub faults : AreOf is_undefined g.faults
   pub next : IfReached P g.next
 
@@ -71,7 +71,7 @@ pub record Tamely (p : Program) {S : Type 0} (o : StateOps S) (Good : S → (liv
       → simple_fits p here (result_type p.blocks f.result) w seen ≡ true
       → is_tame_simple p.types w ≡ true
       → (h s : S) (live res : List ℕ) → AreAmong seen live → AreAmong (result_block f) res → Good h live res s
-      → GivesGood (Good h live res) (o.simple Both f.result w s)
+      → TransferIsGood (Good h live res) (o.simple Both f.result w s)
   pub test : (e : Expr) (seen : List ℕ) → is_tested p.types p.blocks seen e ≡ true
       → is_tame_expr p.types e ≡ true
       → (h s : S) (live res : List ℕ) → AreAmong seen live → Good h live res s
@@ -85,13 +85,13 @@ pub record Tamely (p : Program) {S : Type 0} (o : StateOps S) (Good : S → (liv
       → arguments_fit p.types p.blocks seen f.params es ≡ true
       → list_all (is_tame_expr p.types) es ≡ true
       → (h s : S) (live res : List ℕ) → AreAmong seen live → Good h live res s
-      → GivesGood (Good h (frame_of f ++ live) (result_block f ++ res)) (o.arguments Both f es s)
+      → TransferIsGood (Good h (frame_of f ++ live) (result_block f ++ res)) (o.arguments Both f es s)
   -- its result goes
   pub result : (k : ℕ) (f : Function) → slice_get p.functions k ≡ Some f → (d : Option Dest) (seen : List ℕ)
       → takes_result p.types p.blocks seen (result_type p.blocks f.result) d ≡ true
       → is_tame_dest p.types d ≡ true
       → (h s : S) (live res : List ℕ) → AreAmong seen live → Good h live (result_block f ++ res) s
-      → GivesGood (Good h live res) (o.result Both f d s)
+      → TransferIsGood (Good h live res) (o.result Both f d s)
   pub enter : (bs : List ℕ) (h s : S) (live res : List ℕ) → Good h live res s
       → Good h (bs ++ live) res (o.enter Both bs s)
   pub leave : (bs : List ℕ) (h s : S) (live res : List ℕ) → Good h (bs ++ live) res s

@@ -102,7 +102,7 @@ times a x y k h e f =
     (four_high (a.1 *ℤ pos k) (x.lo *ℤ pos k) (x.hi *ℤ pos k) high mid))))
 
 -- an interval inside of one number
-one_end : (l h v : ℤ) → l ≤ℤ h → Encloses (v, v) (l, h) → (l ≡ v) × (h ≡ v)
+pub one_end : (l h v : ℤ) → l ≤ℤ h → Encloses (v, v) (l, h) → (l ≡ v) × (h ≡ v)
 one_end l h v o e = let p = e.low in let q = e.high in (omega (arith, ints), omega (arith, ints))
 
 pub interval_ranges : KeepsRanges interval_ops

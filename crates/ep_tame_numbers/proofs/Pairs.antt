@@ -1,5 +1,7 @@
 -- A pair keeps the ranges of its left part, and single numbers where both parts do.
 use Rattle.std.proofs.Common.{◌≡◌, ℕ, ℤ, pos, ◌+ℤ◌, ◌*ℤ◌, ◌≤ℤ◌, true, Option, Some, None, IfSome, refl, sym, ap, ◌∙◌}
+use Rattle.ep_tame_numbers.proofs.Intervals.{one_end}
+use Rattle.ep_int.proofs.Basics.{if_some-map}
 use Rattle.std.proofs.Common.{subst, arith}
 use Rattle.std.specs.Option.{option_and_then}
 use Rattle.std.proofs.lemmas.Int.{ints, clamps}
@@ -27,9 +29,6 @@ encloses_trans r s e h k = record { low = le_trans _ _ _ h.low k.low; high = le_
 left_encloses : (r s : ℤ × ℤ) → Encloses r (common_part r s)
 left_encloses r s = record { low = omega (arith, ints, clamps); high = omega (arith, ints, clamps) }
 
-one_end : (l h v : ℤ) → l ≤ℤ h → Encloses (v, v) (l, h) → (l ≡ v) × (h ≡ v)
-one_end l h v o e = let p = e.low in let q = e.high in (omega (arith, ints), omega (arith, ints))
-
 abbrev sum_ends : ℤ × ℤ → ℤ × ℤ → ℤ × ℤ
 sum_ends r s = (r.0 +ℤ s.0, r.1 +ℤ s.1)
 
@@ -41,12 +40,8 @@ sums_enclose r s x y h k =
     let a = h.low in let b = h.high in let c = k.low in let d = k.high in
     record { low = omega (arith, ints); high = omega (arith, ints) }
 
-both_same : {N : Type 0} (j : N → N → N) (a b c : N) → a ≡ c → b ≡ c → j c c ≡ c → j a b ≡ c
+pub both_same : {N : Type 0} (j : N → N → N) (a b c : N) → a ≡ c → b ≡ c → j c c ≡ c → j a b ≡ c
 both_same j a b c h k e = ap (λ x. j x b) h ∙ ap (j c) k ∙ e
-
-map_if : {X : Type 0} (P Q : X → Type 0) (o : Option X) → ((x : X) → P x → Q x) → IfSome o P → IfSome o Q
-map_if P Q None go h = tt
-map_if P Q (Some x) go h = go x h
 
 module _ {A B : Type 0} (f : Ghosts A) (g : Ghosts B) (law : Lawful f.ops) (too : Lawful g.ops)
     (keeps : KeepsRanges f.ops) where
@@ -66,12 +61,12 @@ module _ {A B : Type 0} (f : Ghosts A) (g : Ghosts B) (law : Lawful f.ops) (too 
 
   cut_part : (r : ℤ × ℤ) (a : A) (lo hi : ℤ) → In r a → IfSome (f.ops.cut a lo hi) (In r)
   cut_part r a lo hi h =
-      map_if (λ c. Encloses (lo, hi) (f.ops.range c) × Encloses (f.ops.range a) (f.ops.range c)) (In r)
+      if_some-map (λ c. Encloses (lo, hi) (f.ops.range c) × Encloses (f.ops.range a) (f.ops.range c)) (In r)
       (f.ops.cut a lo hi) (λ c k. encloses_trans r (f.ops.range a) (f.ops.range c) h k.1) (keeps.cut a lo hi)
 
   cut_ends : (a : A) (lo hi : ℤ) → IfSome (f.ops.cut a lo hi) (In (lo, hi))
   cut_ends a lo hi =
-      map_if (λ c. Encloses (lo, hi) (f.ops.range c) × Encloses (f.ops.range a) (f.ops.range c)) (In (lo, hi))
+      if_some-map (λ c. Encloses (lo, hi) (f.ops.range c) × Encloses (f.ops.range a) (f.ops.range c)) (In (lo, hi))
       (f.ops.cut a lo hi) (λ c k. k.0) (keeps.cut a lo hi)
 
   any_cut : (b : B) (lo hi : ℤ) → IfSome (g.ops.cut b lo hi) Any
@@ -91,11 +86,11 @@ module _ {A B : Type 0} (f : Ghosts A) (g : Ghosts B) (law : Lawful f.ops) (too 
   operand_in : (p : Pair A B f g) → IfSome (common_edges f.ops g.ops p.left p.right)
       (λ e. IfSome (cut_to {f = f} {g = g} p.left p.right e) (LeftIn (range_of p)))
   operand_in p =
-      map_if (λ e. (e.0 ≤ℤ e.1) × Encloses (range_of p) e)
+      if_some-map (λ e. (e.0 ≤ℤ e.1) × Encloses (range_of p) e)
       (λ e. IfSome (cut_to {f = f} {g = g} p.left p.right e) (LeftIn (range_of p)))
       (common_edges f.ops g.ops p.left p.right)
       (λ e h. cut_keeps f g law too (In (range_of p)) Any p.left p.right e
-      (map_if (In (e.0, e.1)) (In (range_of p)) (f.ops.cut p.left e.0 e.1)
+      (if_some-map (In (e.0, e.1)) (In (range_of p)) (f.ops.cut p.left e.0 e.1)
       (λ c k. encloses_trans (range_of p) (e.0, e.1) (f.ops.range c) (record { low = h.1.low; high = h.1.high }) k)
       (cut_ends p.left e.0 e.1)) (any_cut p.right e.0 e.1))
       (edges_inside f g law too p.left p.right (range_of p))
@@ -151,7 +146,7 @@ module _ {A B : Type 0} (f : Ghosts A) (g : Ghosts B) (law : Lawful f.ops) (too 
       → ((x y : A) → In (range_of p) x → In (range_of q) y → IfSome (f.ops.op o I64 x y).value (In e))
       → IfSome (outcome_of o I64 p q).value (λ c. Encloses e (range_of c))
   outcome_in o p q e go =
-      map_if (LeftIn e) (λ c. Encloses e (range_of c)) (outcome_of o I64 p q).value (λ c h. range_in e c h)
+      if_some-map (LeftIn e) (λ c. Encloses e (range_of c)) (outcome_of o I64 p q).value (λ c h. range_in e c h)
       (at_in o (range_of p) (range_of q) e go p q (common_edges f.ops g.ops p.left p.right)
       (common_edges f.ops g.ops q.left q.right) (operand_in p) (operand_in q))
 
@@ -159,7 +154,7 @@ module _ {A B : Type 0} (f : Ghosts A) (g : Ghosts B) (law : Lawful f.ops) (too 
       (λ c. Encloses (sum_ends (range_of p) (range_of q)) (range_of c))
   pair_sum p q =
       outcome_in Add p q (sum_ends (range_of p) (range_of q)) (λ x y h k.
-      map_if (In (sum_ends (f.ops.range x) (f.ops.range y))) (In (sum_ends (range_of p) (range_of q)))
+      if_some-map (In (sum_ends (f.ops.range x) (f.ops.range y))) (In (sum_ends (range_of p) (range_of q)))
       (f.ops.op Add I64 x y).value
       (λ c i. encloses_trans (sum_ends (range_of p) (range_of q)) (sum_ends (f.ops.range x) (f.ops.range y))
       (f.ops.range c) (sums_enclose (range_of p) (range_of q) (f.ops.range x) (f.ops.range y) h k) i)
@@ -171,7 +166,7 @@ module _ {A B : Type 0} (f : Ghosts A) (g : Ghosts B) (law : Lawful f.ops) (too 
       outcome_in Mul p q (scaled_ends k (range_of p)) (λ x y h i.
       let o = one_end (f.ops.range y).0 (f.ops.range y).1 (pos k) (law.range_ends y).ordered
       (subst (λ (r : ℤ × ℤ). Encloses r (f.ops.range y)) d i) in
-      map_if (In (scaled_ends k (f.ops.range x))) (In (scaled_ends k (range_of p))) (f.ops.op Mul I64 x y).value
+      if_some-map (In (scaled_ends k (f.ops.range x))) (In (scaled_ends k (range_of p))) (f.ops.op Mul I64 x y).value
       (λ c j. encloses_trans (scaled_ends k (range_of p)) (scaled_ends k (f.ops.range x)) (f.ops.range c)
       (record {
         low = product_up (range_of p).0 (f.ops.range x).0 k h.low;

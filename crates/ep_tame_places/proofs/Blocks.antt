@@ -1,11 +1,12 @@
 -- Blocks of a program, and arrays in them.
-use Rattle.std.proofs.Common.{◌≡◌, ℕ, zero, suc, ◌*◌, ◌≤◌, true, List, [], ◌∷◌, sum_by, slice_get, Option, Some, None}
+use Rattle.std.proofs.Common.{◌≡◌, ℕ, zero, suc, ◌*◌, ◌≤◌, true, [], ◌∷◌, sum_by, slice_get, Option, Some, None}
+use Rattle.ep_alarm_laws.proofs.Places.{among}
+use Rattle.ep_int.proofs.Basics.{some-injective}
 use Rattle.std.proofs.Common.{nat_le, sym, ap, ◌∙◌, arith}
 use Rattle.std.specs.Prelude.{option_map}
 use Rattle.std.specs.List.{list_all}
 use Rattle.std.proofs.Math.Nat.{mul_comm, mul-zero, zero-mul, le-mul_of_pos_right}
 use Rattle.std.proofs.lemmas.Bool.{eqb-true, leb-true, and_parts}
-use Rattle.std.proofs.lemmas.List.Sums.{sum_by-cons}
 use Rattle.ep_layout.specs.Table.{Table, IsBuilt, size, elements_of}
 use Rattle.ep_layout.specs.Layout.{Layout}
 use Rattle.ep_layout.proofs.Sizes.{element_laid}
@@ -17,26 +18,13 @@ use Rattle.ep_tame_laws.proofs.Found.{array_at, array_size}
 use Rattle.ep_tame_values.specs.Offsets.{IsArrayOf}
 use Rattle.ep_tame_types.proofs.Types.{array_of}
 
-some_is : {A : Type 0} {x y : A} → Some x ≡ Some y → x ≡ y
-some_is e = cc
-
-among : (bs : List Block) (i n : ℕ) (x : Block) → sum_by (λ (b : Block). b.size) bs ≤ n → slice_get bs i ≡ Some x
-    → x.size ≤ n
-among [] i n x h e = absurd (let q : None ≡ Some x = e in cc)
-among (b ∷ bs) zero n x h e =
-    let q : b ≡ x = (let r : Some b ≡ Some x = e in cc) in
-    let s = sum_by-cons (λ (y : Block). y.size) b bs in
-    let same : b.size ≡ x.size = ap (λ (y : Block). y.size) q in omega (arith, s, h, same)
-among (b ∷ bs) (suc i) n x h e =
-    let s = sum_by-cons (λ (y : Block). y.size) b bs in among bs i n x (omega (arith, s, h)) e
-
 -- what a block that fits has
 pub record BlockHas (t : Table) (x : Block) : Type 0 where
   pub sized : size t x.ty ≡ Some x.size
   pub some : 1 ≤ x.size
   pub small : x.size ≤ 65536
 
-is_number_of : (o : Option ℕ) (n : ℕ) → is_number o n ≡ true → o ≡ Some n
+pub is_number_of : (o : Option ℕ) (n : ℕ) → is_number o n ≡ true → o ≡ Some n
 is_number_of None n h = absurd cc
 is_number_of (Some m) n h = ap Some (eqb-true m n h)
 
@@ -70,6 +58,6 @@ array_in t built tame a e k z el sz some small =
     let l = element_laid t built a e k (array_at t a e k el) in
     let own : size t e ≡ Some l.0.size = ap (option_map (λ (l : Layout). l.size)) l.1 in
     let whole = array_size t built a e k l.0.size (array_at t a e k el) own in
-    let parts = parts_of k l.0.size z (some_is (sym whole ∙ sz)) some in
+    let parts = parts_of k l.0.size z (some-injective (sym whole ∙ sz)) some in
     let less = parts.3 in
     (l.0.size, array_of t built tame a e k l.0.size el own parts.0 parts.1 (omega (arith, less, small)))

@@ -1,5 +1,8 @@
 -- Where places and pointers lie, step by step.
 use Rattle.std.proofs.Common.{◌≡◌, ℕ, zero, suc, ◌+◌, ◌-◌, ◌*◌, ◌≤◌, ◌<◌, pos, Bool, true, false, ◌⊎◌, inl, inr}
+use Rattle.ep_tame_types.proofs.Types.{no_bool}
+use Rattle.ep_int.proofs.Basics.{if_some-map, some-injective}
+use Rattle.std.proofs.lemmas.Bool.{false_from_ne_true}
 use Rattle.std.proofs.Common.{Option, Some, None, IfSome, slice_get, List, refl, sym, ◌∙◌, subst, arith}
 use Rattle.std.proofs.Math.Nat.{zero-mul}
 use Rattle.std.proofs.lemmas.Bool.{eqb-true}
@@ -11,29 +14,19 @@ use Rattle.ep_alarm_laws.specs.Laws.{ProductsKeepStrides}
 use Rattle.ep_pointers.specs.declared.sum.Move.{Move}
 use Rattle.ep_pointers.specs.Sum.{move, moved_offset}
 use Rattle.ep_kinds.specs.Tame.{are_tame_types, is_size_of_holder, holds_array, through_member}
-use Rattle.ep_kinds.specs.Rows.{IsMember, Stands, IsInChain, itself, of_elements, Row, row, of_block, of_target}
+use Rattle.ep_kinds.specs.Rows.{IsMember, HasScalar, IsInChain, itself, of_elements, Row, row, of_block, of_target}
 use Rattle.ep_kinds.specs.Rows.{of_member, of_element}
 use Rattle.ep_tame_laws.proofs.Laid.{laid}
 use Rattle.ep_tame_numbers.specs.Offsets.{KeepsOffsets}
 use Rattle.ep_tame_values.specs.Offsets.{FitsIn, IsArrayOf, LieOn, PointAt}
 use Rattle.ep_tame_values.specs.Laws.{IsIndex}
-use Rattle.ep_tame_values.proofs.Alone.{each_if, map_if}
+use Rattle.ep_tame_values.proofs.Alone.{each_if}
 use Rattle.ep_tame_values.proofs.Lines as lines
 use Rattle.ep_tame_values.proofs.Points as points
 use Rattle.ep_tame_types.proofs.Types.{member_fits_in, element_plain, array_of, chain_fills, no_holder_of}
 use Rattle.ep_tame_places.specs.Places.{IsEven, PointsTo, LiesAt}
 use Rattle.ep_tame_places.specs.Laws.{PlaceLaws}
 use Rattle.ep_tame_places.proofs.Blocks.{BlockHas, block_at, array_in}
-
-some_is : {A : Type 0} {x y : A} → Some x ≡ Some y → x ≡ y
-some_is e = cc
-
-no_bool : {A : Type 0} {b : Bool} → b ≡ true → b ≡ false → A
-no_bool h k = absurd cc
-
-bool_false : (b : Bool) → (b ≡ true → ⊥) → b ≡ false
-bool_false true h = absurd (h refl)
-bool_false false h = refl
 
 up_to : (a b : ℕ) → a ≡ b → a ≤ 0 + b
 up_to a b e = omega (arith, e)
@@ -49,7 +42,7 @@ member_even : (t : Table) (r : Row) (q ty : ℕ) → FitsIn t r.ty q ty → IsEv
 member_even t r q ty m (inl one) = inl one
 member_even t r q ty m (inr s) =
     inr (record {
-      plain = bool_false (holds_array t ty) (λ h. no_bool (m.holder h) s.plain);
+      plain = false_from_ne_true (holds_array t ty) (λ h. no_bool (m.holder h) s.plain);
       dense = λ e n h. no_bool (m.array e n h) s.plain;
     })
 
@@ -57,7 +50,7 @@ member_even t r q ty m (inr s) =
 element_step : (t : Table) (r : Row) (e n u : ℕ) → IsArrayOf t r.ty e n u → IsEven t r
     → (r.most ≡ 0) ⊎ (r.step ≡ u * n)
 element_step t r e n u is (inl one) = inl one
-element_step t r e n u is (inr s) = inr (some_is (sym (s.dense e n is.elements) ∙ is.whole))
+element_step t r e n u is (inr s) = inr (some-injective (sym (s.dense e n is.elements) ∙ is.whole))
 
 module _ (t : Table) (built : IsBuilt t) (tame : are_tame_types t ≡ true) where
   chain_even : (whole ty s m z : ℕ) → IsInChain t whole ty s m → size t ty ≡ Some z → IsEven t (row ty 0 z m)
@@ -105,7 +98,7 @@ module _ {N : Type 0} (D : Ops N) (law : Lawful D) (keeps : KeepsOffsets D) (pro
   target_lies_at e ty b n q =
       let v = q.point in
       let has = block_at p fit b q.of_block q.there in
-      let fills : q.of_block.size ≡ v.step * (v.most + 1) = some_is (sym has.sized
+      let fills : q.of_block.size ≡ v.step * (v.most + 1) = some-injective (sym has.sized
       ∙ chain_fills p.types built q.of_block.ty ty v.step v.most v.chain v.sized) in
       record {
         of_block = q.of_block;
@@ -115,7 +108,7 @@ module _ {N : Type 0} (D : Ops N) (law : Lawful D) (keeps : KeepsOffsets D) (pro
         is_row = of_target e ty v.step v.most v.chain;
         type = refl;
         even = chain_even p.types built tame q.of_block.ty ty v.step v.most v.step v.chain v.sized;
-        steps = λ s z m. subst (λ k. 0 < k) (some_is (sym z ∙ v.sized)) m;
+        steps = λ s z m. subst (λ k. 0 < k) (some-injective (sym z ∙ v.sized)) m;
         lies = lines.target_lies D law keeps products p.types q.of_block.ty ty v.most q.of_block.size n v
             (up_to q.of_block.size (v.step * (v.most + 1)) fills);
         along = λ h. v;
@@ -132,7 +125,7 @@ module _ {N : Type 0} (D : Ops N) (law : Lawful D) (keeps : KeepsOffsets D) (pro
       → IfSome (moved_offset D (move (D.single (pos q)) 1 false) limit n) (LiesAt D p live (member a q) ty b)
   member_lies_at a v q ty b n limit l m h =
       any_limit (LiesAt D p live (member a q) ty b) (move (D.single (pos q)) 1 false) limit n (λ k.
-      map_if (LieOn D p.types h.of_block.size (row ty (h.row.first + q) h.row.step h.row.most))
+      if_some-map (LieOn D p.types h.of_block.size (row ty (h.row.first + q) h.row.step h.row.most))
       (LiesAt D p live (member a q) ty b) (moved_offset D (move (D.single (pos q)) 1 false) (Some k) n)
       (λ c lies. record {
         of_block = h.of_block;
@@ -195,13 +188,13 @@ module _ {N : Type 0} (D : Ops N) (law : Lawful D) (keeps : KeepsOffsets D) (pro
       elements = row ty h.row.first u (bound * h.row.most + (bound - 1))
 
   stands_at : (a : Place) (ty b s q : ℕ) (n : N) (l : LiesAt D p live a ty b n) → size p.types ty ≡ Some s → 0 < s
-      → Holds D n (pos q) → q + s ≤ l.of_block.size → Stands p.types l.of_block.ty q ty
+      → Holds D n (pos q) → q + s ≤ l.of_block.size → HasScalar p.types l.of_block.ty q ty
   stands_at a ty b s q n l sz some held inside =
       let own = subst (λ x. size p.types x ≡ Some s) (sym l.type) sz in
       let at = lines.on_row D law keeps products p.types l.of_block.size l.row n s q l.lies own some
       (l.steps s own some) held inside in
-      subst (λ x. Stands p.types l.of_block.ty q x) l.type
-      (subst (λ x. Stands p.types l.of_block.ty x l.row.ty) (sym at.2)
+      subst (λ x. HasScalar p.types l.of_block.ty q x) l.type
+      (subst (λ x. HasScalar p.types l.of_block.ty x l.row.ty) (sym at.2)
       (laid p.types b l.of_block.ty l.of_block.size a l.row l.is_row at.0 at.1))
 
   -- ---- pointers
@@ -220,7 +213,7 @@ module _ {N : Type 0} (D : Ops N) (law : Lawful D) (keeps : KeepsOffsets D) (pro
       has = block_at p fit b q.of_block q.there
 
       fills : q.of_block.size ≡ q.point.step * (q.point.most + 1)
-      fills = some_is (sym has.sized
+      fills = some-injective (sym has.sized
           ∙ chain_fills p.types built q.of_block.ty v q.point.step q.point.most q.point.chain q.point.sized)
 
       first : (z s m : ℕ) → z ≡ s * m → 1 ≤ z → 1 ≤ s
@@ -238,7 +231,7 @@ module _ {N : Type 0} (D : Ops N) (law : Lawful D) (keeps : KeepsOffsets D) (pro
       → IfSome (moved_offset D (move delta u back) limit n) (PointsTo D p live ty b)
   moved_points_to ty u b delta n back limit sz some none q =
       any_limit (PointsTo D p live ty b) (move delta u back) limit n (λ k.
-      map_if (PointAt D p.types q.of_block.ty ty) (PointsTo D p live ty b)
+      if_some-map (PointAt D p.types q.of_block.ty ty) (PointsTo D p live ty b)
       (moved_offset D (move delta u back) (Some k) n)
       (λ c h. record { of_block = q.of_block; there = q.there; named = q.named; point = h })
       (points.moved_points D law keeps products p.types q.of_block.ty delta n ty u k back sz some
@@ -249,7 +242,7 @@ module _ {N : Type 0} (D : Ops N) (law : Lawful D) (keeps : KeepsOffsets D) (pro
       → ((whole : ℕ) → PointAt D p.types whole ty n → PointAt D p.types whole ty m → PointAt D p.types whole ty (j n m))
       → PointsTo D p live ty b n → PointsTo D p live ty b m → PointsTo D p live ty b (j n m)
   both_points_to j ty b n m go q r =
-      let same : r.of_block ≡ q.of_block = some_is (sym r.there ∙ q.there) in
+      let same : r.of_block ≡ q.of_block = some-injective (sym r.there ∙ q.there) in
       record {
         of_block = q.of_block;
         there = q.there;

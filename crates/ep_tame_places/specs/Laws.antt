@@ -6,7 +6,7 @@ use Rattle.ep_core.specs.WellFormed.{is_named, block_has}
 use Rattle.ep_domain.specs.Domain.{Ops, Holds}
 use Rattle.ep_pointers.specs.Sum.{move, moved_offset}
 use Rattle.ep_kinds.specs.Tame.{is_size_of_holder, through_member}
-use Rattle.ep_kinds.specs.Rows.{IsMember, Stands}
+use Rattle.ep_kinds.specs.Rows.{IsMember, HasScalar}
 use Rattle.ep_tame_values.specs.Laws.{IsIndex}
 use Rattle.ep_tame_places.specs.Places.{PointsTo, LiesAt}
 
@@ -28,7 +28,7 @@ pub record PlaceLaws {N : Type 0} (D : Ops N) (p : Program) : Type 0 where
   -- At a place of the address that ends in its block stands an object of its type.
   pub stands : (live : List ℕ) (a : Place) (ty b s q : ℕ) (n : N) (l : LiesAt D p live a ty b n)
       → size p.types ty ≡ Some s → 0 < s → Holds D n (pos q) → q + s ≤ l.of_block.size
-      → Stands p.types l.of_block.ty q ty
+      → HasScalar p.types l.of_block.ty q ty
   -- pointers: addresses, of arrays as their elements too, sums, joins
   pub of_address : (live : List ℕ) (a : Place) (ty b : ℕ) (n : N) → through_member a ≡ false
       → LiesAt D p live a ty b n → PointsTo D p live ty b n

@@ -24,7 +24,7 @@ use Rattle.ep_tame_values.proofs.Lines.{spread_more}
 abbrev IsAt : (offset ty : ℕ) → MemberRow → Bool
 IsAt q ty m = m.offset == q && m.ty == ty
 
-no_bool : {A : Type 0} {b : Bool} → b ≡ true → b ≡ false → A
+pub no_bool : {A : Type 0} {b : Bool} → b ≡ true → b ≡ false → A
 no_bool h k = absurd cc
 
 -- ---- what is said of what lies inside of a type

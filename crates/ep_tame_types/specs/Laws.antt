@@ -1,8 +1,9 @@
 -- What types of tame programs have.
 use Rattle.std.specs.Prelude.{◌≡◌, ℕ, ◌+◌, ◌*◌, ◌≤◌, ◌<◌, false, Some, IsTrue}
-use Rattle.ep_layout.specs.Table.{Table, IsBuilt, size, elements_of}
+use Rattle.ep_int.specs.declared.types.Scalar.{Scalar}
+use Rattle.ep_layout.specs.Table.{Table, IsBuilt, size, elements_of, scalar_of}
 use Rattle.ep_kinds.specs.Tame.{are_tame_types, is_size_of_holder, holds_array}
-use Rattle.ep_kinds.specs.Rows.{IsMember, IsInChain}
+use Rattle.ep_kinds.specs.Rows.{IsMember, HasScalar, IsInChain}
 use Rattle.ep_tame_values.specs.Offsets.{FitsIn, IsArrayOf}
 
 abbrev pub MembersFitIn : Type 0
@@ -24,3 +25,9 @@ abbrev pub ChainsFill : Type 0
 ChainsFill =
     (t : Table) → IsBuilt t → (whole ty s most : ℕ) → IsInChain t whole ty s most → size t ty ≡ Some s
     → size t whole ≡ Some (s * (most + 1))
+
+-- Of an object without unions in it at most one scalar stands at each offset.
+abbrev pub ScalarsStandOnce : Type 0
+ScalarsStandOnce =
+    (t : Table) → IsBuilt t → IsTrue (are_tame_types t) → (whole o a b : ℕ) (v w : Scalar) → HasScalar t whole o a
+    → HasScalar t whole o b → scalar_of t a ≡ Some v → scalar_of t b ≡ Some w → a ≡ b

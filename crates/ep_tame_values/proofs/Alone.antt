@@ -1,5 +1,8 @@
 -- Offsets at one place alone, and what an offset that is moved by bytes keeps.
 use Rattle.std.proofs.Common.{◌≡◌, ℕ, ◌+◌, ◌*◌, ◌%◌, ◌<◌, ◌≤◌, ℤ, pos, ◌+ℤ◌, ◌-ℤ◌, ◌*ℤ◌, ◌≤ℤ◌, Bool, true, false}
+use Rattle.ep_evaluation.proofs.Sums.{plain_sum}
+use Rattle.ep_tame_numbers.proofs.Intervals.{one_end}
+use Rattle.ep_int.proofs.Basics.{if_some-map}
 use Rattle.std.proofs.Common.{Option, Some, None, IsTrue, IfSome, ap, ◌∙◌, subst, arith}
 use Rattle.std.proofs.Math.Nat.{mod-lt, mod-eq_of_lt, mod-add-mod, add-mod-mod}
 use Rattle.std.proofs.lemmas.Int.{ints}
@@ -28,21 +31,11 @@ number v h = record { low = omega (arith, ints); high = omega (arith, ints) }
 pub sum_of_mods : (o q s : ℕ) → (o % s + q % s) % s ≡ (o + q) % s
 sum_of_mods o q s = mod-add-mod o s (q % s) ∙ add-mod-mod o q s
 
-one_end : (l h v : ℤ) → l ≤ℤ h → Encloses (v, v) (l, h) → (l ≡ v) × (h ≡ v)
-one_end l h v o e = let p = e.low in let q = e.high in (omega (arith, ints), omega (arith, ints))
-
-sums : (o q : ℕ) → pos o +ℤ pos q ≡ pos (o + q)
-sums o q = omega (arith, ints)
-
 times_one : (q : ℕ) → pos q *ℤ pos 1 ≡ pos q
 times_one q = omega (arith, ints)
 
 same_ends : (r : ℤ × ℤ) (v w : ℤ) → v ≡ w → Encloses (v, v) r → Encloses (w, w) r
 same_ends r v w e h = subst (λ x. Encloses (x, x) r) e h
-
-pub map_if : {X : Type 0} (P Q : X → Type 0) (o : Option X) → ((x : X) → P x → Q x) → IfSome o P → IfSome o Q
-map_if P Q None go h = tt
-map_if P Q (Some x) go h = go x h
 
 -- what holds for every index
 pub each_if : {X : Type 0} (I : Type 0) (P : X → Type 0) (Q : I → X → Type 0) (R : X → Type 0) (o : Option X)
@@ -89,7 +82,7 @@ module _ {N : Type 0} (D : Ops N) (law : Lawful D) (keeps : KeepsOffsets D) (pro
   pub cut_alone : (n : N) (o : ℕ) (lo hi : ℤ) → IsAlone D n o → IfSome (D.cut n lo hi) (λ c. IsAlone D c o)
   cut_alone n o lo hi h =
       alone_if (D.cut n lo hi) o
-      (map_if (λ c. Encloses (lo, hi) (D.range c) × Encloses (D.range n) (D.range c))
+      (if_some-map (λ c. Encloses (lo, hi) (D.range c) × Encloses (D.range n) (D.range c))
       (λ c. Encloses (pos o, pos o) (D.range c)) (D.cut n lo hi)
       (λ c k. subst (λ (r : ℤ × ℤ). Encloses r (D.range c)) h.range k.1) (keeps.cut_range n lo hi))
       (λ m. strides.cut n lo hi (o % m.s) m.s (is_stride o m.s m.some m.small) (h.strides m.s m.some m.small))
@@ -98,9 +91,9 @@ module _ {N : Type 0} (D : Ops N) (law : Lawful D) (keeps : KeepsOffsets D) (pro
       → IfSome (D.op Add I64 n b).value (λ c. IsAlone D c (o + q))
   sum_alone n b o q h k =
       alone_if (D.op Add I64 n b).value (o + q)
-      (map_if (λ c. Encloses ((D.range n).0 +ℤ (D.range b).0, (D.range n).1 +ℤ (D.range b).1) (D.range c))
+      (if_some-map (λ c. Encloses ((D.range n).0 +ℤ (D.range b).0, (D.range n).1 +ℤ (D.range b).1) (D.range c))
       (λ c. Encloses (pos (o + q), pos (o + q)) (D.range c)) (D.op Add I64 n b).value
-      (λ c i. same_ends (D.range c) (pos o +ℤ pos q) (pos (o + q)) (sums o q)
+      (λ c i. same_ends (D.range c) (pos o +ℤ pos q) (pos (o + q)) (plain_sum o q)
       (subst (λ (r : ℤ × ℤ). Encloses (pos o +ℤ r.0, pos o +ℤ r.1) (D.range c)) k.range
       (subst (λ (r : ℤ × ℤ). Encloses (r.0 +ℤ (D.range b).0, r.1 +ℤ (D.range b).1) (D.range c)) h.range i)))
       (keeps.sum_range n b))
@@ -112,7 +105,7 @@ module _ {N : Type 0} (D : Ops N) (law : Lawful D) (keeps : KeepsOffsets D) (pro
       → IfSome (D.op Mul I64 n b).value (λ c. IsAlone D c q)
   same_alone n b q h e =
       alone_if (D.op Mul I64 n b).value q
-      (map_if (λ c. Encloses ((D.range n).0 *ℤ pos 1, (D.range n).1 *ℤ pos 1) (D.range c))
+      (if_some-map (λ c. Encloses ((D.range n).0 *ℤ pos 1, (D.range n).1 *ℤ pos 1) (D.range c))
       (λ c. Encloses (pos q, pos q) (D.range c)) (D.op Mul I64 n b).value
       (λ c i. same_ends (D.range c) (pos q *ℤ pos 1) (pos q) (times_one q)
       (subst (λ (r : ℤ × ℤ). Encloses (r.0 *ℤ pos 1, r.1 *ℤ pos 1) (D.range c)) h.range i))

@@ -1,5 +1,6 @@
 -- Offsets of places keep on their rows.
 use Rattle.std.proofs.Common.{◌≡◌, ℕ, ◌+◌, ◌-◌, ◌*◌, ◌/◌, ◌%◌, ◌<◌, ◌≤◌, ℤ, pos, ◌+ℤ◌, ◌-ℤ◌, ◌*ℤ◌, ◌≤ℤ◌, ◌⊎◌}
+use Rattle.ep_int.proofs.Basics.{if_some-map, some-injective}
 use Rattle.std.proofs.Common.{inl, inr, Bool, true, false, Option, Some, IsTrue, IfSome, sym, ap, ◌∙◌, subst, arith}
 use Rattle.std.proofs.Math.Nat.{mod-eq_of_lt, mod-le, mod-mod_of_dvd, dvd-mul_right, mul-pos, mul-add}
 use Rattle.std.proofs.Math.Nat.{mul_assoc, mul_comm, div-add-mod, le_of_mul-le-mul_left}
@@ -20,10 +21,7 @@ use Rattle.ep_kinds.specs.Rows.{Row, row}
 use Rattle.ep_tame_numbers.specs.Offsets.{KeepsOffsets}
 use Rattle.ep_tame_values.specs.Offsets.{FitsIn, IsArrayOf, IsAlone, EndsInStep, LieOn, PointAt}
 use Rattle.ep_tame_values.proofs.Alone.{strides, is_stride, single_alone, moved_alone, moved_if, by_bytes}
-use Rattle.ep_tame_values.proofs.Alone.{unit_single, moved_stride, sum_of_mods, each_if, map_if}
-
-some_is : {A : Type 0} {x y : A} → Some x ≡ Some y → x ≡ y
-some_is e = cc
+use Rattle.ep_tame_values.proofs.Alone.{unit_single, moved_stride, sum_of_mods, each_if}
 
 -- ---- numbers
 
@@ -98,7 +96,7 @@ module _ {N : Type 0} (D : Ops N) (law : Lawful D) (keeps : KeepsOffsets D) (pro
   target_lies whole ty most bytes n p h = record {
     small = p.small;
     stride = λ q. subst (λ r. Has r p.step n) (sym (mod-eq_of_lt q)) (p.stride q);
-    low = inl (λ s e. at_end s p.step (some_is (sym e ∙ p.sized)));
+    low = inl (λ s e. at_end s p.step (some-injective (sym e ∙ p.sized)));
     high = inr h;
     one = λ e. subst (λ x. IsAlone D x 0) (sym (p.one e)) (single_alone D law keeps products 0 (omega arith));
     dense = λ e k d. inl p.sized;
@@ -119,7 +117,7 @@ module _ {N : Type 0} (D : Ops N) (law : Lawful D) (keeps : KeepsOffsets D) (pro
       (move (D.single (pos q)) 1 false) limit n (by_bytes D law keeps products q l)
       (λ b k. subst (λ (r : ℤ × ℤ). IfSome (D.op Add I64 n b).value
       (λ c. Encloses ((D.range n).0 +ℤ r.0, (D.range n).1 +ℤ r.1) (D.range c))) k.range (keeps.sum_range n b))
-      (λ c k. map_if (λ d. Encloses (pos 0, pos limit) (D.range d) × Encloses (D.range c) (D.range d))
+      (λ c k. if_some-map (λ d. Encloses (pos 0, pos limit) (D.range d) × Encloses (D.range c) (D.range d))
       (λ d. Encloses ends (D.range d)) (D.cut c (pos 0) (pos limit))
       (λ d i. record { low = le_trans _ _ _ k.low i.1.low; high = le_trans _ _ _ i.1.high k.high })
       (keeps.cut_range c (pos 0) (pos limit)))
@@ -214,13 +212,13 @@ module _ {N : Type 0} (D : Ops N) (law : Lawful D) (keeps : KeepsOffsets D) (pro
       moved_if D law keeps products Bytes (λ c. Rises n c ((b - 1) * u)) (λ c. Rises n c ((b - 1) * u))
       (move i u false) limit n
       (keeps.product_range i (D.single (pos u)) u (unit_single D law keeps products u (omega (arith, l))))
-      (λ d k. map_if (λ c. Encloses ((D.range n).0 +ℤ (D.range d).0, (D.range n).1 +ℤ (D.range d).1) (D.range c))
+      (λ d k. if_some-map (λ c. Encloses ((D.range n).0 +ℤ (D.range d).0, (D.range n).1 +ℤ (D.range d).1) (D.range c))
       (λ c. Rises n c ((b - 1) * u)) (D.op Add I64 n d).value
       (λ c e. let s = sum_rises (D.range n).0 (D.range n).1 (D.range d).0 (D.range d).1 (D.range c).0 (D.range c).1
       ((b - 1) * u) (le_trans _ _ _ (index_low (D.range i).0 u h.low) k.low)
       (le_trans _ _ _ k.high (index_high (D.range i).1 b u p h.high)) e.low e.high in
       record { low = s.0; high = s.1 }) (keeps.sum_range n d))
-      (λ c k. map_if (λ d. Encloses (pos 0, pos limit) (D.range d) × Encloses (D.range c) (D.range d))
+      (λ c k. if_some-map (λ d. Encloses (pos 0, pos limit) (D.range d) × Encloses (D.range c) (D.range d))
       (λ d. Rises n d ((b - 1) * u)) (D.cut c (pos 0) (pos limit))
       (λ d e. record { low = le_trans _ _ _ k.low e.1.low; high = le_trans _ _ _ e.1.high k.high })
       (keeps.cut_range c (pos 0) (pos limit)))
@@ -241,7 +239,7 @@ module _ {N : Type 0} (D : Ops N) (law : Lawful D) (keeps : KeepsOffsets D) (pro
   own_stride : (bytes : ℕ) (r : Row) (e b u : ℕ) (n : N) → IsArrayOf t r.ty e b u → LieOn D t bytes r n
       → (size t r.ty ≡ Some r.step) ⊎ IsAlone D n r.first → Has (r.first % u) u n
   own_stride bytes r e b u n a h (inl s) =
-      let same = some_is (sym s ∙ a.whole) in
+      let same = some-injective (sym s ∙ a.whole) in
       part_stride n r.first r.step u b a.more a.some h.small same
       (h.stride (subst (λ x. 0 < x) (sym same) (mul-pos a.more a.some)))
   own_stride bytes r e b u n a h (inr i) = i.strides u a.more a.small
@@ -253,7 +251,7 @@ module _ {N : Type 0} (D : Ops N) (law : Lawful D) (keeps : KeepsOffsets D) (pro
       → EndsInStep t r ⊎ (pos r.first ≤ℤ (D.range n).0) → (size t r.ty ≡ Some r.step) ⊎ IsAlone D n r.first
       → Rises n c ((b - 1) * u) → EndsInStep t (Elements r e b u) ⊎ (pos r.first ≤ℤ (D.range c).0)
   element_low bytes r e b u n c a (inl i) (inl s) k =
-      inl (λ z d. at_begin r.first r.step z u (i r.step s) (some_is (sym d ∙ a.sized)))
+      inl (λ z d. at_begin r.first r.step z u (i r.step s) (some-injective (sym d ∙ a.sized)))
     where
       at_begin : (f s z u : ℕ) → f + s ≤ s → z ≡ u → f + z ≤ u
       at_begin f s z u h e = omega (arith, h, e)
@@ -267,11 +265,11 @@ module _ {N : Type 0} (D : Ops N) (law : Lawful D) (keeps : KeepsOffsets D) (pro
       → ((D.range c).1 ≤ℤ pos (r.first + u * (b * r.most + (b - 1))))
       ⊎ (bytes ≤ r.first + u * (b * r.most + (b - 1) + 1))
   element_high bytes r e b u n c a (inl i) (inl s) k =
-      let same : r.step ≡ u * b = some_is (sym s ∙ a.whole) in
+      let same : r.step ≡ u * b = some-injective (sym s ∙ a.whole) in
       inl (element_last r.first r.step r.most ((b - 1) * u) (u * (b * r.most + (b - 1))) (D.range n).1 (D.range c).1 i
       k.high (spread u b r.most ∙ ap (λ x. x * r.most + (b - 1) * u) (sym same)))
   element_high bytes r e b u n c a (inr i) (inl s) k =
-      let same : r.step ≡ u * b = some_is (sym s ∙ a.whole) in
+      let same : r.step ≡ u * b = some-injective (sym s ∙ a.whole) in
       inr (subst (λ x. bytes ≤ r.first + x)
       (ap (λ x. x * (r.most + 1)) same ∙ sym (spread_more u b r.most a.some)) i)
   element_high bytes r e b u n c a l (inr i) k =

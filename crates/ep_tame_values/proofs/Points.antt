@@ -1,6 +1,8 @@
 -- Offsets of pointers stay along their blocks.
 use Rattle.std.proofs.Common.{◌≡◌, ℕ, ◌+◌, ◌-◌, ◌*◌, ◌%◌, ◌<◌, ◌≤◌, pos, Bool, true, false, Some, IsTrue, IfSome}
-use Rattle.std.proofs.Common.{refl, sym, ap, ◌∙◌, subst, arith}
+use Rattle.ep_tame_numbers.proofs.Pairs.{both_same}
+use Rattle.ep_int.proofs.Basics.{if_some-map, some-injective}
+use Rattle.std.proofs.Common.{refl, sym, ◌∙◌, subst, arith}
 use Rattle.std.proofs.Math.Nat.{mul-pos, mod-eq_of_lt}
 use Rattle.ep_layout.specs.Table.{Table, size}
 use Rattle.ep_domain.specs.Domain.{Ops, IsStride, Lawful}
@@ -10,20 +12,14 @@ use Rattle.ep_kinds.specs.Tame.{holds_array}
 use Rattle.ep_kinds.specs.Rows.{IsInChain, itself, of_elements}
 use Rattle.ep_tame_numbers.specs.Offsets.{KeepsOffsets}
 use Rattle.ep_tame_values.specs.Offsets.{IsArrayOf, PointAt}
-use Rattle.ep_tame_values.proofs.Alone.{strides, number, zero_stride, single_alone, moved_stride, map_if}
-
-some_is : {A : Type 0} {x y : A} → Some x ≡ Some y → x ≡ y
-some_is e = cc
-
-both_same : {N : Type 0} (j : N → N → N) (a b c : N) → a ≡ c → b ≡ c → j c c ≡ c → j a b ≡ c
-both_same j a b c h k e = ap (λ x. j x b) h ∙ ap (j c) k ∙ e
+use Rattle.ep_tame_values.proofs.Alone.{strides, number, zero_stride, single_alone, moved_stride}
 
 -- the size of what a chain begins with is that of its last
 chain_at : (t : Table) (whole ty s m : ℕ) → IsInChain t whole ty s m → (z : ℕ) → size t ty ≡ Some z
     → IsInChain t whole ty z m
 chain_at t whole ty s m (itself k) z h = itself z
 chain_at t whole ty s m (of_elements a e n u k c el sz some) z h =
-    subst (λ x. IsInChain t whole e x (n * k + (n - 1))) (some_is (sym sz ∙ h)) (of_elements a e n u k c el sz some)
+    subst (λ x. IsInChain t whole e x (n * k + (n - 1))) (some-injective (sym sz ∙ h)) (of_elements a e n u k c el sz some)
 
 module _ {N : Type 0} (D : Ops N) (law : Lawful D) (keeps : KeepsOffsets D) (products : ProductsKeepStrides D)
     (t : Table) (whole : ℕ) where
@@ -58,7 +54,7 @@ module _ {N : Type 0} (D : Ops N) (law : Lawful D) (keeps : KeepsOffsets D) (pro
     chain = p.chain;
     sized = p.sized;
     small = p.small;
-    stride = λ h. let e = some_is (sym q.sized ∙ p.sized) in
+    stride = λ h. let e = some-injective (sym q.sized ∙ p.sized) in
         keep p.step (zero_stride p.step h p.small) (p.stride h)
         (subst (λ s. Has 0 s m) e (q.stride (subst (λ s. 0 < s) (sym e) h)));
     one = λ h. both_same j n m (D.single (pos 0)) (p.one h) (q.one h) same;
@@ -83,7 +79,7 @@ module _ {N : Type 0} (D : Ops N) (law : Lawful D) (keeps : KeepsOffsets D) (pro
       → holds_array t ty ≡ false → PointAt D t whole ty n
       → IfSome (moved_offset D (move delta u back) (Some bytes) n) (PointAt D t whole ty)
   moved_points delta n ty u bytes back sz more plain p =
-      map_if (Has 0 u) (PointAt D t whole ty) (moved_offset D (move delta u back) (Some bytes) n)
+      if_some-map (Has 0 u) (PointAt D t whole ty) (moved_offset D (move delta u back) (Some bytes) n)
       (λ c h. record {
         step = p.step;
         most = p.most;
@@ -98,7 +94,7 @@ module _ {N : Type 0} (D : Ops N) (law : Lawful D) (keeps : KeepsOffsets D) (pro
       (subst (λ s. Has 0 s n) same (p.stride (subst (λ s. 0 < s) (sym same) more))))
     where
       same : p.step ≡ u
-      same = some_is (sym p.sized ∙ sz)
+      same = some-injective (sym p.sized ∙ sz)
 
       never : {x : Bool} → x ≡ true → x ≡ false → ⊥
       never g j = absurd cc
@@ -119,7 +115,7 @@ module _ {N : Type 0} (D : Ops N) (law : Lawful D) (keeps : KeepsOffsets D) (pro
   }
     where
       same : p.step ≡ u * b
-      same = some_is (sym p.sized ∙ is.whole)
+      same = some-injective (sym p.sized ∙ is.whole)
 
       never : {x : Bool} → x ≡ true → x ≡ false → ⊥
       never g j = absurd cc

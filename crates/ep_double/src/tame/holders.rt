@@ -2,7 +2,7 @@
 
 ghost use Rattle.std.specs.Prelude.{◌≡◌, ◌<◌, ◌||◌, length};
 ghost use Rattle.ep_layout.specs.Table.{IsBuilt};
-ghost use Rattle.ep_layout.specs.Views.{view_members};
+ghost use Rattle.ep_layout.specs.Views.{members_view};
 ghost use Rattle.ep_double.specs.Holders as seen;
 
 use ep_layout::{Member, Ty, Types};
@@ -91,8 +91,8 @@ fn has_array(types: &Types, ty: u32) -> bool
 #[cycle(holders)]
 fn other_has(types: &Types, members: &[Member], spared: usize) -> bool
     requires built { IsBuilt types.now }
-    requires there { seen.AreThere types.now (view_members members.now) }
-    ensures { seen.OtherHas types.now (view_members members.now) spared result }
+    requires there { seen.AreThere types.now (members_view members.now) }
+    ensures { seen.OtherHas types.now (members_view members.now) spared result }
 {
     for (i, member) in members.iter().enumerate() {
         if i != spared && has_array(types, member.ty) {
@@ -105,7 +105,7 @@ fn other_has(types: &Types, members: &[Member], spared: usize) -> bool
 // A member that no other has more bytes than.
 fn widest(types: &Types, members: &[Member]) -> usize
     requires some { 0 < length members.now }
-    requires there { seen.AreThere types.now (view_members members.now) }
+    requires there { seen.AreThere types.now (members_view members.now) }
     ensures { result < length members.now }
 {
     let mut widest = 0;

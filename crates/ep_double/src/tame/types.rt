@@ -2,7 +2,7 @@
 
 ghost use Rattle.std.specs.Prelude.{◌≡◌, ◌≢◌, ◌<◌, IsTrue, Some, length, slice_get, true, false};
 ghost use Rattle.ep_layout.specs.Table.{IsBuilt};
-ghost use Rattle.ep_layout.specs.Views.{view_members};
+ghost use Rattle.ep_layout.specs.Views.{members_view};
 ghost use Rattle.ep_kinds.specs.Tame as kind;
 ghost use Rattle.ep_double.specs.Holders as seen;
 

@@ -1,7 +1,7 @@
 use Rattle.std.proofs.Common.{◌≡◌, ◌+◌, ◌*◌, drop}
 use Prim.Native.Nat.{max}
-use Rattle.ep_core.specs.Shown.{shown}
-use Rattle.ep_core.specs.View.{shown_stmts}
+use Rattle.ep_core.specs.ProgramView.{program_view}
+use Rattle.ep_core.specs.View.{stmts_view}
 use Rattle.ep_core.specs.declared.tree.What.TheViews.{size-Stmt}
 use Rattle.ep_kinds.specs.Closed.{are_closed}
 use Rattle.ep_double.specs.Remembered.{called}
@@ -22,5 +22,5 @@ decreases-arms_are_closed l = 4 * max (depth l.a.now) (depth l.b.now) + 3
 
 abbrev pub invariant-list_is_closed-loop-s : goal.invariant-list_is_closed-loop-s
 invariant-list_is_closed-loop-s l =
-    are_closed (called (shown l.c.program.now) l.c.here) (shown_stmts (drop l.s-index l.body))
-    ≡ are_closed (called (shown l.c.program.now) l.c.here) (shown_stmts l.body)
+    are_closed (called (program_view l.c.program.now) l.c.here) (stmts_view (drop l.s-index l.body))
+    ≡ are_closed (called (program_view l.c.program.now) l.c.here) (stmts_view l.body)

@@ -1,5 +1,5 @@
 use Rattle.std.proofs.Common.{arith, sym}
-use Rattle.ep_core.specs.Shown.{shown}
+use Rattle.ep_core.specs.ProgramView.{program_view}
 use Rattle.ep_kinds.specs.InOut.{comes_to, is_talk}
 use Rattle.ep_double.specs.Remembered.{called}
 use Rattle.ep_double.proofs.Called.{none_called, fewer, no_body, its_body}
@@ -9,11 +9,11 @@ use Rattle.ep_double.proofs.closed.+talking.Goals as goal
 
 pub talks_called-returns-then-k-c : goal.talks_called-returns-then-k-c
 talks_called-returns-then-k-c t c =
-    none_called (shown c.args.c.now.program.now) c.args.c.now.here c.args.k (omega (arith, c.if-k-c.true))
+    none_called (program_view c.args.c.now.program.now) c.args.c.now.here c.args.k (omega (arith, c.if-k-c.true))
 
 pub talks_called-invariant_of-before : goal.talks_called-invariant_of-before
 talks_called-invariant_of-before t c = record {
-  right = fewer (shown c.args.c.now.program.now) c.args.c.now.here c.args.k c.args.c.now.talks.now c.args.c.now.right
+  right = fewer (program_view c.args.c.now.program.now) c.args.c.now.here c.args.k c.args.c.now.talks.now c.args.c.now.right
       (omega (arith, c.if-k-c.false));
 }
 
@@ -36,26 +36,26 @@ talks_called-returns-in-Some t c =
 
 pub talks_stmt-returns-in-If : goal.talks_stmt-returns-in-If
 talks_stmt-returns-in-If t c =
-    by_if (comes_to is_talk (called (shown c.args.c.now.program.now) c.args.c.now.here)) c.args.s.now.what
+    by_if (comes_to is_talk (called (program_view c.args.c.now.program.now) c.args.c.now.here)) c.args.s.now.what
     c.two_talk.result c.in-If.field-0 c.in-If.a c.in-If.b c.deref.result.now c.deref-in-If.result.now c.in-If.is
     c.deref.ensures.value c.deref-in-If.ensures.value c.two_talk.ensures
 
 pub talks_stmt-returns-in-Loop : goal.talks_stmt-returns-in-Loop
 talks_stmt-returns-in-Loop t c =
-    by_loop (comes_to is_talk (called (shown c.args.c.now.program.now) c.args.c.now.here)) c.args.s.now.what
+    by_loop (comes_to is_talk (called (program_view c.args.c.now.program.now) c.args.c.now.here)) c.args.s.now.what
     c.two_talk-in-Loop.result c.in-Loop.field-0 c.in-Loop.field-1 c.in-Loop.a c.in-Loop.b c.deref-in-Loop.result.now
     c.deref-in-Loop-2.result.now c.in-Loop.is c.deref-in-Loop.ensures.value c.deref-in-Loop-2.ensures.value
     c.two_talk-in-Loop.ensures
 
 pub talks_stmt-returns-in-ByOrder : goal.talks_stmt-returns-in-ByOrder
 talks_stmt-returns-in-ByOrder t c =
-    by_arms (comes_to is_talk (called (shown c.args.c.now.program.now) c.args.c.now.here)) c.args.s.now.what
+    by_arms (comes_to is_talk (called (program_view c.args.c.now.program.now) c.args.c.now.here)) c.args.s.now.what
     c.two_talk-in-ByOrder.result c.in-ByOrder.field-0 c.in-ByOrder.a c.in-ByOrder.b c.deref-in-ByOrder.result.now
     c.deref-in-ByOrder-2.result.now c.in-ByOrder.is c.deref-in-ByOrder.ensures.value
     c.deref-in-ByOrder-2.ensures.value c.two_talk-in-ByOrder.ensures
 
 pub talks_stmt-returns-in-Scope : goal.talks_stmt-returns-in-Scope
 talks_stmt-returns-in-Scope t c =
-    by_scope (comes_to is_talk (called (shown c.args.c.now.program.now) c.args.c.now.here)) c.args.s.now.what
+    by_scope (comes_to is_talk (called (program_view c.args.c.now.program.now) c.args.c.now.here)) c.args.s.now.what
     c.list_talks.result c.in-Scope.field-0 c.in-Scope.a c.deref-in-Scope.result.now c.in-Scope.is
     c.deref-in-Scope.ensures.value c.list_talks.ensures

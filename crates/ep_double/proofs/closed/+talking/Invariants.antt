@@ -1,7 +1,7 @@
 use Rattle.std.proofs.Common.{◌≡◌, ◌+◌, ◌*◌, drop}
 use Prim.Native.Nat.{max}
-use Rattle.ep_core.specs.Shown.{shown}
-use Rattle.ep_core.specs.View.{shown_stmts}
+use Rattle.ep_core.specs.ProgramView.{program_view}
+use Rattle.ep_core.specs.View.{stmts_view}
 use Rattle.ep_core.specs.declared.tree.What.TheViews.{size-Stmt}
 use Rattle.ep_kinds.specs.InOut.{is_talk, some_comes_to}
 use Rattle.ep_double.specs.Remembered.{called}
@@ -23,5 +23,5 @@ decreases-talks_called l = before l.c.now.program.now.functions.items l.c.now.he
 
 abbrev pub invariant-list_talks-loop-s : goal.invariant-list_talks-loop-s
 invariant-list_talks-loop-s l =
-    some_comes_to is_talk (called (shown l.c.program.now) l.c.here) (shown_stmts (drop l.s-index l.body))
-    ≡ some_comes_to is_talk (called (shown l.c.program.now) l.c.here) (shown_stmts l.body)
+    some_comes_to is_talk (called (program_view l.c.program.now) l.c.here) (stmts_view (drop l.s-index l.body))
+    ≡ some_comes_to is_talk (called (program_view l.c.program.now) l.c.here) (stmts_view l.body)

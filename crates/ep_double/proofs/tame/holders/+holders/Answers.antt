@@ -1,7 +1,7 @@
 use Rattle.std.proofs.Common.{◌<◌, Some, length, ap, sym, ◌∙◌, arith}
 use Rattle.std.proofs.lemmas.Bool.{eqb-true, eqb-false}
 use Rattle.ep_layout.specs.declared.types.Member.{Member}
-use Rattle.ep_layout.specs.Views.{view_member, view_members}
+use Rattle.ep_layout.specs.Views.{member_view, members_view}
 use Rattle.ep_double.specs.Holders.{is_array}
 use Rattle.ep_double.proofs.Insides.{void_is, number_is, pointer_is, element_holds, element_known, element_lower}
 use Rattle.ep_double.proofs.Insides.{aggregate_there, has_one, member_lower}
@@ -102,15 +102,15 @@ look_at-returns-in-Array t c =
 pub other_has-has_array-requires : goal.other_has-has_array-requires
 other_has-has_array-requires t c =
     let row = row_at c.args.members.now c.loop-i.i c.index-members-i.result c.loop-i-test.true c.index-members-i.is in
-    let l = member_lower c.args.types.now c.requires.built (view_members c.args.members.now) c.loop-i.i
-    (view_member c.index-members-i.result) row in
+    let l = member_lower c.args.types.now c.requires.built (members_view c.args.members.now) c.loop-i.i
+    (member_view c.index-members-i.result) row in
     let d = c.decreases in
-    (omega (arith, l, d), (c.requires.built, c.requires.there c.loop-i.i (view_member c.index-members-i.result) row))
+    (omega (arith, l, d), (c.requires.built, c.requires.there c.loop-i.i (member_view c.index-members-i.result) row))
 
 pub other_has-returns-then-has_array : goal.other_has-returns-then-has_array
 other_has-returns-then-has_array t c =
-    has_one c.args.types.now c.requires.built (view_members c.args.members.now) c.loop-i.i
-    (view_member c.index-members-i.result)
+    has_one c.args.types.now c.requires.built (members_view c.args.members.now) c.loop-i.i
+    (member_view c.index-members-i.result)
     (row_at c.args.members.now c.loop-i.i c.index-members-i.result c.loop-i-test.true c.index-members-i.is)
     (sym c.has_array.ensures ∙ c.if-has_array.true)
 
@@ -120,12 +120,12 @@ other_has-loop-i-preserved t c = record {
   there = c.requires.there;
   none = elim c.else-i-spared.branch [
     | other_has-else-i-spared-via-then-i-spared+else-has_array w ↦
-        next_none c.args.types.now (view_members c.args.members.now) c.args.spared c.loop-i.i c.loop-i.invariant.none
-        (view_member c.index-members-i.result)
+        next_none c.args.types.now (members_view c.args.members.now) c.args.spared c.loop-i.i c.loop-i.invariant.none
+        (member_view c.index-members-i.result)
         (row_at c.args.members.now c.loop-i.i c.index-members-i.result c.loop-i-test.true c.index-members-i.is)
         (sym w.has_array.ensures ∙ w.if-has_array.false)
     | other_has-else-i-spared-via-else-i-spared w ↦
-        next_spared c.args.types.now (view_members c.args.members.now) c.args.spared c.loop-i.i
+        next_spared c.args.types.now (members_view c.args.members.now) c.args.spared c.loop-i.i
         c.loop-i.invariant.none w.if-i-spared.false
   ];
 }

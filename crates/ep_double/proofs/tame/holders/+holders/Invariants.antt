@@ -1,6 +1,6 @@
 use Rattle.std.proofs.Common.{◌≡◌, ◌<◌, ◌≤◌, length, ◌+◌, ◌*◌}
 use Rattle.ep_layout.specs.Table.{IsBuilt}
-use Rattle.ep_layout.specs.Views.{view_members}
+use Rattle.ep_layout.specs.Views.{members_view}
 use Rattle.ep_double.specs.Holders.{holds, levels, rows_levels, AreThere}
 use Rattle.ep_double.proofs.Answered.{NoneBefore}
 use Rattle.ep_double.proofs.tame.holders.+holders.Given as goal
@@ -15,7 +15,7 @@ abbrev pub decreases-look_at : goal.decreases-look_at
 decreases-look_at l = 4 * levels l.types.now l.ty + 1
 
 abbrev pub decreases-other_has : goal.decreases-other_has
-decreases-other_has l = 4 * rows_levels l.types.now (view_members l.members.now) + 4
+decreases-other_has l = 4 * rows_levels l.types.now (members_view l.members.now) + 4
 
 abbrev pub invariant-holds-loop-part : goal.invariant-holds-loop-part
 invariant-holds-loop-part l = record {
@@ -33,6 +33,6 @@ decreases-holds-loop-part l = levels l.types l.at + 1
 abbrev pub invariant-other_has-loop-i : goal.invariant-other_has-loop-i
 invariant-other_has-loop-i l = record {
   built : IsBuilt l.types;
-  there : AreThere l.types (view_members l.members);
-  none : NoneBefore l.types (view_members l.members) l.spared l.i;
+  there : AreThere l.types (members_view l.members);
+  none : NoneBefore l.types (members_view l.members) l.spared l.i;
 }

@@ -1,0 +1,3 @@
+pub mod UndefinedKinds
+pub mod GuardsPass
+pub mod GoodOps

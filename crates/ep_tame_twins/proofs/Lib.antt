@@ -1,0 +1,5 @@
+pub mod Values
+pub mod Alike
+pub mod Parts
+pub mod LoadsAlike
+pub mod Expressions
