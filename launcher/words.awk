@@ -5,7 +5,7 @@
 # Each command: its options, those that must be there, and what may stand behind FILE; or, without a file, its numbers.
 # Each option and number: its values, or the least number, if not 0, and the greatest.
 function table() {
-    options["check"] = "--unroll --orders --model"
+    options["check"] = "--unroll --orders --model --domain"
     options["run"] = "--order --steps --model"
     needs["run"] = "--order --steps"
     more["run"] = "INPUT"
@@ -15,6 +15,7 @@ function table() {
     values["--order"] = "little big swapped-words"
     values["--orders"] = "little,big little,swapped-words big,little big,swapped-words swapped-words,little swapped-words,big"
     values["--model"] = "ilp32 lp64"
+    values["--domain"] = "bits"
     most["--unroll"] = "4096"
     most["--steps"] = "1000000"
     most["INPUT"] = "18446744073709551615"

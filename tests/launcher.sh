@@ -554,6 +554,9 @@ value out of range: --unroll 4097 (0 to 4096)|check --model lp64 --unroll 4097 a
 value out of range: --orders big,big (little,big little,swapped-words big,little big,swapped-words swapped-words,little swapped-words,big)|check --orders big,big a.c
 value out of range: --model lp32 (ilp32 lp64)|check --orders big,little --model lp32 a.c
 option behind FILE: --unroll|check a.c --unroll 7
+value out of range: --domain intervals (bits)|check --unroll 7 --domain intervals a.c
+repeated option --domain|check --domain bits --domain bits a.c
+missing value of --domain|check --domain
 word too many: b.c|check a.c b.c
 --gcc stands before the command|check a.c --gcc
 --proved stands before the command|check --proved a.c
@@ -575,6 +578,7 @@ unknown option --orders|run --orders little,big a.c
 unknown option --steps|layout --steps 5 a.c
 unknown option --unroll|layout --unroll 5 a.c
 unknown option --order|layout --order big a.c
+unknown option --domain|layout --domain bits a.c
 word too many: 7|layout a.c 7
 missing START|sample
 missing FIELDS|sample 7

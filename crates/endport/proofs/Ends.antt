@@ -31,8 +31,14 @@ checked a bytes text Undefined j = absurd j
 checked a bytes text InputEnded j = absurd j
 
 made : (c : Command) (bytes text : List ℕ) (s : Status) → IsJob c bytes s text → IsWhole c s ⊎ (s ≡ Refused)
-made (check unroll orders model file) bytes text s j =
-    checked (record { model = model; left = orders.0; right = orders.1; unroll = unroll }) bytes text s j
+made (check unroll orders model known_bits file) bytes text s j =
+    checked (record {
+      model = model;
+      left = orders.0;
+      right = orders.1;
+      unroll = unroll;
+      known_bits = known_bits;
+    }) bytes text s j
 made (layout model file) bytes text Done j = inl refl
 made (layout model file) bytes text Alarms j = absurd j
 made (layout model file) bytes text Refused j = inr refl
@@ -133,8 +139,9 @@ pub put_completes : (c : Command) (standing : List ℕ → Option (List ℕ)) (s
     (before after : Option (List ℕ)) (was now : ℕ) (source_fails : Type 0)
     → TextOf (Some c) (under (Some c) standing) status of → Put status result text before after was now
     → Completes (Some c) (under (Some c) standing) source_fails (Rose was now) result
-put_completes (check unroll orders model file) standing status result of text before after was now source_fails t p =
-    of_file (check unroll orders model file) (standing file) status result of text before after was now source_fails
+put_completes (check unroll orders model known_bits file) standing status result of text before after was now
+    source_fails t p =
+    of_file (check unroll orders model known_bits file) (standing file) status result of text before after was now source_fails
     (λ bytes text j. j) t p
 put_completes (layout model file) standing status result of text before after was now source_fails t p =
     of_file (layout model file) (standing file) status result of text before after was now source_fails

@@ -14,25 +14,25 @@ use Rattle.endport.specs.Top.{IsJob, TextOf, Written, IsTooLong, StopsSo}
 -- ---- no job comes to a status without a text
 
 never_read_fault : (c : Command) (bytes text : List ℕ) → IsJob c bytes ReadFault text → ⊥
-never_read_fault (check unroll orders model file) bytes text j = j
+never_read_fault (check unroll orders model known_bits file) bytes text j = j
 never_read_fault (layout model file) bytes text j = j
 never_read_fault (run order steps model file inputs) bytes text j = j
 never_read_fault (sample start fields) bytes text j = j.is_check
 
 never_write_fault : (c : Command) (bytes text : List ℕ) → IsJob c bytes WriteFault text → ⊥
-never_write_fault (check unroll orders model file) bytes text j = j
+never_write_fault (check unroll orders model known_bits file) bytes text j = j
 never_write_fault (layout model file) bytes text j = j
 never_write_fault (run order steps model file inputs) bytes text j = j
 never_write_fault (sample start fields) bytes text j = j.is_check
 
 never_memory : (c : Command) (bytes text : List ℕ) → IsJob c bytes Memory text → ⊥
-never_memory (check unroll orders model file) bytes text j = j
+never_memory (check unroll orders model known_bits file) bytes text j = j
 never_memory (layout model file) bytes text j = j
 never_memory (run order steps model file inputs) bytes text j = j
 never_memory (sample start fields) bytes text j = j.is_check
 
 never_too_long : (c : Command) (bytes text : List ℕ) → IsJob c bytes TooLong text → ⊥
-never_too_long (check unroll orders model file) bytes text j = j
+never_too_long (check unroll orders model known_bits file) bytes text j = j
 never_too_long (layout model file) bytes text j = j
 never_too_long (run order steps model file inputs) bytes text j = j
 never_too_long (sample start fields) bytes text j = j.is_check

@@ -20,7 +20,7 @@ use Rattle.ep_io.specs.Faults.{Rose}
 
 -- the file that a command names, if it names one
 abbrev pub file_of : Command → Option (List ℕ)
-file_of (check unroll orders model file) = Some file
+file_of (check unroll orders model known_bits file) = Some file
 file_of (layout model file) = Some file
 file_of (run order steps model file inputs) = Some file
 file_of (sample start fields) = None
@@ -38,7 +38,7 @@ under c standing = option_and_then standing (file_asked c)
 abbrev pub usage_text : List ℕ
 usage_text =
     codes "usage:\n"
-    ++ codes "  endport check [--unroll N] [--orders A,B] [--model ilp32|lp64] FILE\n"
+    ++ codes "  endport check [--unroll N] [--orders A,B] [--model ilp32|lp64] [--domain bits] FILE\n"
     ++ codes "  endport run --order little|big|swapped-words --steps N [--model ilp32|lp64] FILE [INPUT..]\n"
     ++ codes "  endport layout [--model ilp32|lp64] FILE\n"
     ++ codes "  endport sample START FIELDS\n"
@@ -47,8 +47,14 @@ usage_text =
 
 -- what a command comes to on the bytes of its file; of a sample none are read
 abbrev pub IsJob : Command → List ℕ → Status → List ℕ → Type 0
-IsJob (check unroll orders model file) bytes status text =
-    IsCheck (record { model = model; left = orders.0; right = orders.1; unroll = unroll }) bytes status text
+IsJob (check unroll orders model known_bits file) bytes status text =
+    IsCheck (record {
+      model = model;
+      left = orders.0;
+      right = orders.1;
+      unroll = unroll;
+      known_bits = known_bits;
+    }) bytes status text
 IsJob (layout model file) bytes status text = IsLayout model bytes status text
 IsJob (run order steps model file inputs) bytes status text =
     IsRun (record { model = model; order = order; steps = steps; inputs = inputs }) bytes status text
@@ -134,7 +140,7 @@ IsSilent InputEnded = ⊥
 
 -- the statuses that come with the whole text of what a command asks
 abbrev pub IsWhole : Command → Status → Type 0
-IsWhole (check unroll orders model file) s = (s ≡ Done) ⊎ (s ≡ Alarms)
+IsWhole (check unroll orders model known_bits file) s = (s ≡ Done) ⊎ (s ≡ Alarms)
 IsWhole (layout model file) s = s ≡ Done
 IsWhole (run order steps model file inputs) s = (s ≡ Done) ⊎ (s ≡ StepsUsedUp) ⊎ (s ≡ Undefined) ⊎ (s ≡ InputEnded)
 IsWhole (sample start fields) s = (s ≡ Done) ⊎ (s ≡ Alarms)
@@ -148,7 +154,7 @@ EndsSo (Some c) s =
 
 -- the data model that a command names; that of a sample is the usual one
 abbrev pub model_asked : Command → Model
-model_asked (check unroll orders model file) = model
+model_asked (check unroll orders model known_bits file) = model
 model_asked (layout model file) = model
 model_asked (run order steps model file inputs) = model
 model_asked (sample start fields) = Ilp32

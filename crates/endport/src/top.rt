@@ -2,7 +2,7 @@
 
 ghost use Rattle.std.specs.Prelude.{◌≡◌, ◌≤◌, ◌⊎◌, None, Some, IfErr, IfOk, IfSome, IsSome, OnOk, length, vec_len};
 ghost use Rattle.std.specs.Option.{option_map};
-ghost use Rattle.ep_words.specs.Seen as words_seen;
+ghost use Rattle.ep_words.specs.View as words_seen;
 ghost use Rattle.ep_words.specs.Words.{IsWithinRules, plain};
 ghost use Rattle.endport.specs.Top.{Completes, EndsSo, IsJob, IsSilent, IsTooLong, StopsSo, TextOf, WasRead, Written};
 ghost use Rattle.endport.specs.Top.{file_asked, file_of, under};
@@ -24,7 +24,7 @@ const LIMIT: u32 = 1_048_576;
 
 /// What is written where the words aren't plain.
 const USAGE: &[u8] = b"usage:
-  endport check [--unroll N] [--orders A,B] [--model ilp32|lp64] FILE
+  endport check [--unroll N] [--orders A,B] [--model ilp32|lp64] [--domain bits] FILE
   endport run --order little|big|swapped-words --steps N [--model ilp32|lp64] FILE [INPUT..]
   endport layout [--model ilp32|lp64] FILE
   endport sample START FIELDS
@@ -181,6 +181,7 @@ fn report_on(alloc: Global, bytes: &[u8], check: &CheckWords) -> Result<Job, Sta
         model: check.model,
         orders: check.orders,
         unroll: check.unroll,
+        known_bits: check.known_bits,
     };
     match check_job(alloc, bytes, asked) {
         Ok(job) => Ok(job),

@@ -9,7 +9,7 @@ use Rattle.ep_jobs.specs.Jobs.{MeansOnly}
 use Rattle.ep_jobs.specs.declared.jobs.Job.{Job}
 use Rattle.ep_jobs.specs.declared.status.Status.{Status}
 use Rattle.ep_jobs.specs.declared.status.Status.TheVariants.{Done}
-use Rattle.ep_pass_laws.specs.Agreement.{AgreeInTheEnd}
+use Rattle.ep_pass.specs.Agreement.{AgreeInTheEnd}
 
 -- a report is done where it has no alarms
 pub none_is_done : (alarms : List Alarm) → report_status alarms ≡ Done → alarms ≡ []

@@ -1,5 +1,5 @@
 -- What `check` comes to once the bytes of its file are read: a status and a text. This project's rules.
-use Rattle.std.specs.Prelude.{◌≡◌, ℕ, true, List, [], ◌∷◌}
+use Rattle.std.specs.Prelude.{◌≡◌, ℕ, Bool, true, if◌then◌else◌, List, [], ◌∷◌}
 use Rattle.ep_int.specs.declared.types.Model.{Model}
 use Rattle.ep_int.specs.declared.types.Order.{Order}
 use Rattle.ep_alarms.specs.declared.types.Alarm.{Alarm}
@@ -11,8 +11,8 @@ use Rattle.ep_jobs.specs.Jobs.{IsRefused, MeansOnly}
 use Rattle.ep_jobs.specs.declared.status.Status.{Status}
 use Rattle.ep_jobs.specs.declared.status.Status.TheVariants.{Done, Alarms, Refused, Usage, ReadFault, WriteFault}
 use Rattle.ep_jobs.specs.declared.status.Status.TheVariants.{Memory, TooLong, StepsUsedUp, Undefined, InputEnded}
-use Rattle.ep_pass_laws.specs.Agreement.{AgreeInTheEnd}
-use Rattle.ep_check.specs.Numbers.{numbers}
+use Rattle.ep_pass.specs.Agreement.{AgreeInTheEnd}
+use Rattle.ep_check.specs.Numbers.{numbers, bit_numbers}
 
 -- a report for machines of these byte orders in this data model, where so many turns of a loop are gone through one by
 -- one
@@ -21,10 +21,14 @@ pub record Asked : Type 0 where
   pub left : Order
   pub right : Order
   pub unroll : ℕ
+  -- with known bits
+  pub known_bits : Bool
 
 -- the alarms of a program, in order of line and kind
 abbrev pub alarms_of : Asked → Program → List Alarm
-alarms_of a p = reports.alarms_of numbers p a.left a.right a.unroll
+alarms_of a p =
+    if a.known_bits then reports.alarms_of bit_numbers p a.left a.right a.unroll
+    else reports.alarms_of numbers p a.left a.right a.unroll
 
 -- a report is done where it has no alarms
 abbrev pub report_status : List Alarm → Status

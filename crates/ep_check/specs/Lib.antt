@@ -1,4 +1,4 @@
 pub mod Numbers
 pub mod Check
-pub mod Seen
+pub mod View
 pub mod Sample

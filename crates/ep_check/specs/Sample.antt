@@ -1,5 +1,5 @@
 -- What `sample` comes to. This project's rules.
-use Rattle.std.specs.Prelude.{◌≡◌, ℕ, List}
+use Rattle.std.specs.Prelude.{◌≡◌, ℕ, false, List}
 use Rattle.ep_int.specs.declared.types.Model.TheVariants.{Ilp32}
 use Rattle.ep_int.specs.declared.types.Order.TheVariants.{Little, Big}
 use Rattle.ep_jobs.specs.declared.status.Status.{Status}
@@ -9,7 +9,7 @@ use Rattle.ep_check.specs.Check.{Asked, IsCheck}
 
 -- the report that `check` makes where no option is named
 abbrev pub usual : Asked
-usual = record { model = Ilp32; left = Little; right = Big; unroll = 32 }
+usual = record { model = Ilp32; left = Little; right = Big; unroll = 32; known_bits = false }
 
 -- the text of a sample, and the status of the report on its source
 pub record IsSample (start fields : ℕ) (status : Status) (text : List ℕ) : Type 0 where

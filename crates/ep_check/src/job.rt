@@ -3,17 +3,21 @@
 ghost use Rattle.std.specs.Prelude.{◌≡◌, ◌≤◌, false, true, length, IfOk};
 ghost use Rattle.ep_alarms.specs.Text.{report_text_of};
 ghost use Rattle.ep_check.specs.Check.{IsCheck, alarms_of, report_status};
-ghost use Rattle.ep_check.specs.Seen.{asked_for};
+ghost use Rattle.ep_check.specs.View.{asked_for};
 ghost use Rattle.ep_core.specs.Exec.{is_order};
-ghost use Rattle.ep_core.specs.Shown as core;
+ghost use Rattle.ep_core.specs.ProgramView as core;
+ghost use Rattle.ep_alarm_laws.specs.Laws.{ProductsKeepStrides};
+ghost use Rattle.ep_iterator.specs.Reports as reports;
 ghost use Rattle.ep_iterator.specs.Reports.{AllMayStand};
-ghost use Rattle.ep_pass_laws.specs.Agreement.{AgreeInTheEnd};
+ghost use Rattle.ep_pass.specs.Agreement.{AgreeInTheEnd};
 
 use ep_alarms::{Alarms, report_text};
 use ep_ast::Halt;
+use ep_bits::KnownBits;
 use ep_congruence::Congruence;
 use ep_core::program::CoreProgram;
-use ep_domain::Pair;
+use ep_domain::{Num, Pair};
+use ep_even_bit_laws::even_bit_laws;
 use ep_even_laws::even_laws;
 use ep_int::{Memory, Model, Order};
 use ep_intervals::Interval;
@@ -29,6 +33,8 @@ pub struct CheckAsked {
     pub orders: (Order, Order),
     /// So many turns of a loop are gone through one by one.
     pub unroll: u32,
+    /// With known bits too.
+    pub known_bits: bool,
 }
 
 /// The report on a source for two machines of different byte orders, or its refusal.
@@ -47,17 +53,38 @@ pub fn check_job(alloc: Global, source: &[u8], asked: CheckAsked) -> Result<Job,
 fn report_on(alloc: Global, program: &CoreProgram, asked: CheckAsked) -> Result<Job, Memory>
     requires { is_order asked.orders.0 asked.orders.1 ≡ false }
     ensures status { IfOk result (λ j. j.status
-        ≡ report_status (alarms_of (asked_for asked) (core.shown program.now))) }
+        ≡ report_status (alarms_of (asked_for asked) (core.program_view program.now))) }
     ensures text { IfOk result (λ j. j.text.items
-        ≡ report_text_of (alarms_of (asked_for asked) (core.shown program.now))) }
+        ≡ report_text_of (alarms_of (asked_for asked) (core.program_view program.now))) }
     ensures portable { IfOk result (λ j. j.status ≡ Status.Done
-        → AgreeInTheEnd (core.shown program.now) asked.orders.0 asked.orders.1) }
-    ensures stand { IfOk result (λ _. AllMayStand true (core.shown program.now)
-        (alarms_of (asked_for asked) (core.shown program.now))) }
+        → AgreeInTheEnd (core.program_view program.now) asked.orders.0 asked.orders.1) }
+    ensures stand { IfOk result (λ _. AllMayStand true (core.program_view program.now)
+        (alarms_of (asked_for asked) (core.program_view program.now))) }
 {
+    if asked.known_bits {
+        even_bit_laws::<Interval>();
+        return report_by::<Pair<Pair<Interval, Congruence>, KnownBits>>(alloc, program, asked);
+    }
     even_laws::<Interval>();
+    report_by::<Pair<Interval, Congruence>>(alloc, program, asked)
+}
+
+// The report over a domain of numbers that keep strides.
+fn report_by<N: Num>(alloc: Global, program: &CoreProgram, asked: CheckAsked) -> Result<Job, Memory>
+    requires others { is_order asked.orders.0 asked.orders.1 ≡ false }
+    requires strides { N.ops.keeps_strides ≡ true }
+    requires products { ProductsKeepStrides N.ops }
+    ensures status { IfOk result (λ j. j.status ≡ report_status
+        (reports.alarms_of N.ops (core.program_view program.now) asked.orders.0 asked.orders.1 asked.unroll)) }
+    ensures text { IfOk result (λ j. j.text.items ≡ report_text_of
+        (reports.alarms_of N.ops (core.program_view program.now) asked.orders.0 asked.orders.1 asked.unroll)) }
+    ensures portable { IfOk result (λ j. j.status ≡ Status.Done
+        → AgreeInTheEnd (core.program_view program.now) asked.orders.0 asked.orders.1) }
+    ensures stand { IfOk result (λ _. AllMayStand true (core.program_view program.now)
+        (reports.alarms_of N.ops (core.program_view program.now) asked.orders.0 asked.orders.1 asked.unroll)) }
+{
     let mut turns = 0u64;
-    let report = analyse::<Pair<Interval, Congruence>>(
+    let report = analyse::<N>(
         alloc,
         program,
         asked.orders,

@@ -19,6 +19,7 @@ pub fn sample_job(alloc: Global, sample: Sample) -> Result<Job, Memory>
         model: Model::Ilp32,
         orders: (Order::Little, Order::Big),
         unroll: 32,
+        known_bits: false,
     };
     let report = check_job(alloc, &source, asked)?;
     let text = sample_text(alloc, sample, &source, &report.text)?;

@@ -1,14 +1,14 @@
 -- What plain words ask is within the rules: the two orders of a report are different ones, and a sample has no more
 -- fields than are allowed.
-use Rattle.std.proofs.Common.{◌≡◌, ◌≤◌, ℕ, refl, sym, subst, Bool, true, false, ◌&&◌, List, [], ◌∷◌, Option, Some}
-use Rattle.std.proofs.Common.{None, IfSome, nat_eq, nat_le, bytes_eq, codes, length, map, is_none, option_map}
+use Rattle.std.proofs.Common.{◌≡◌, ◌≤◌, ℕ, refl, sym, subst, Bool, true, false, ◌&&◌, not, List, [], ◌∷◌, Option}
+use Rattle.std.proofs.Common.{Some, None, IfSome, nat_eq, nat_le, bytes_eq, codes, length, map, is_none, option_map}
 use Rattle.std.proofs.Common.{option_and_then, unwrap_or, if◌then◌else◌}
 use Rattle.std.proofs.lemmas.Bool.{leb-true}
 use Rattle.ep_int.specs.declared.types.Model.{Model}
 use Rattle.ep_int.specs.declared.types.Order.{Order}
 use Rattle.ep_int.specs.declared.types.Order.TheVariants as orders
 use Rattle.ep_words.specs.declared.command.Command.{Command}
-use Rattle.ep_words.specs.Seen as seen
+use Rattle.ep_words.specs.View as view
 use Rattle.ep_words.specs.Words as rule
 use Rattle.ep_words.specs.Words.{AreOther, IsWithinRules}
 
@@ -61,13 +61,17 @@ both : (o : rule.Options) (x : Option (Order × Order)) → IfSome x AreOther �
 both o None h = tt
 both o (Some x) h = if_so HasOther (is_none o.orders) (record o { orders = Some x }) h
 
+known : (o : rule.Options) (b : Bool) → HasOther o → IfSome (rule.with_known_bits o b) HasOther
+known o b h = if_so HasOther (b && not o.known_bits) (record o { known_bits = true }) h
+
 one_more : (o : rule.Options) (n v : rule.Word) → HasOther o → IfSome (rule.with_option o n v) HasOther
 one_more o n v h =
     either HasOther (bytes_eq n (codes "--order")) _ _ (order o (rule.order_named v) h)
     (either HasOther (bytes_eq n (codes "--steps")) _ _ (steps o (rule.number rule.most_steps v) h)
     (either HasOther (bytes_eq n (codes "--model")) _ _ (model o (rule.model_named v) h)
     (either HasOther (bytes_eq n (codes "--unroll")) _ _ (unroll o (rule.number rule.most_unroll v) h)
-    (either HasOther (bytes_eq n (codes "--orders")) _ None (both o (rule.orders_named v) (named v)) tt))))
+    (either HasOther (bytes_eq n (codes "--orders")) _ _ (both o (rule.orders_named v) (named v))
+    (either HasOther (bytes_eq n (codes "--domain")) _ None (known o (bytes_eq v (codes "bits")) h) tt)))))
 
 abbrev HasOtherFirst : rule.Options × List rule.Word → Type 0
 HasOtherFirst r = HasOther (r.0)
@@ -89,7 +93,7 @@ reports : (o : rule.Options) (ws : List rule.Word) → HasOther o → IfSome (ru
 reports o [] h = tt
 reports o (file ∷ []) h =
     if_so IsWithinRules (rule.is_no_run o && rule.is_file file)
-    (rule.check (rule.unroll_of o) (rule.orders_of o) (rule.model_of o) file) (usual o.orders h)
+    (rule.check (rule.unroll_of o) (rule.orders_of o) (rule.model_of o) o.known_bits file) (usual o.orders h)
 reports o (file ∷ w ∷ ws) h = tt
 
 layouts : (o : rule.Options) (ws : List rule.Word) → IfSome (rule.layout_of o ws) IsWithinRules
@@ -149,6 +153,6 @@ commands c ws =
     (either IsWithinRules (bytes_eq c (codes "sample")) _ None (samples ws) tt)))
 
 pub within_rules : (r : Option Command) (c : rule.Word) (ws : List rule.Word)
-    → option_map seen.command r ≡ rule.named c ws → IfSome r (λ c. IsWithinRules (seen.command c))
+    → option_map view.command r ≡ rule.named c ws → IfSome r (λ c. IsWithinRules (view.command c))
 within_rules None c ws e = tt
 within_rules (Some x) c ws e = subst (λ x. IfSome x IsWithinRules) (sym e) (commands c ws)

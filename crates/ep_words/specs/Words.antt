@@ -1,6 +1,6 @@
 -- The words of the command line. This project's rules.
-use Rattle.std.specs.Prelude.{◌≡◌, ℕ, ◌+◌, ◌*◌, ◌-◌, ◌≤◌, nat_le, ◌==◌, Bool, false, ◌&&◌, not, if◌then◌else◌, List, []}
-use Rattle.std.specs.Prelude.{◌∷◌, length, map, Option, Some, None, is_none, is_some, bytes_eq, codes}
+use Rattle.std.specs.Prelude.{◌≡◌, ℕ, ◌+◌, ◌*◌, ◌-◌, ◌≤◌, nat_le, ◌==◌, Bool, true, false, ◌&&◌, not, if◌then◌else◌}
+use Rattle.std.specs.Prelude.{List, [], ◌∷◌, length, map, Option, Some, None, is_none, is_some, bytes_eq, codes}
 use Rattle.std.specs.Prelude.{option_and_then, unwrap_or}
 use Rattle.std.specs.List.{list_all}
 use Rattle.ep_int.specs.declared.types.Model.{Model}
@@ -83,9 +83,11 @@ pub record Options : Type 0 where
   pub model : Option Model
   pub unroll : Option ℕ
   pub orders : Option (Order × Order)
+  -- known bits are asked for
+  pub known_bits : Bool
 
 abbrev pub no_options : Options
-no_options = record { order = None; steps = None; model = None; unroll = None; orders = None }
+no_options = record { order = None; steps = None; model = None; unroll = None; orders = None; known_bits = false }
 
 abbrev pub with_order : Options → Option Order → Option Options
 with_order o None = None
@@ -107,6 +109,10 @@ abbrev pub with_orders : Options → Option (Order × Order) → Option Options
 with_orders o None = None
 with_orders o (Some x) = if is_none o.orders then Some (record o { orders = Some x }) else None
 
+-- known bits are the only domain that is named
+abbrev pub with_known_bits : Options → (is_bits : Bool) → Option Options
+with_known_bits o b = if b && not o.known_bits then Some (record o { known_bits = true }) else None
+
 -- an option more, if there is one of this name and its value is one
 abbrev pub with_option : Options → (name value : Word) → Option Options
 with_option o name value =
@@ -115,6 +121,7 @@ with_option o name value =
     else if bytes_eq name (codes "--model") then with_model o (model_named value)
     else if bytes_eq name (codes "--unroll") then with_unroll o (number most_unroll value)
     else if bytes_eq name (codes "--orders") then with_orders o (orders_named value)
+    else if bytes_eq name (codes "--domain") then with_known_bits o (bytes_eq value (codes "bits"))
     else None
 
 abbrev pub begins_as_option : Word → Bool
@@ -132,7 +139,7 @@ options o (name ∷ value ∷ words) =
 -- ---- commands
 
 pub data Command : Type 0 where
-  check : (unroll : ℕ) (orders : Order × Order) (model : Model) (file : Word) → Command
+  check : (unroll : ℕ) (orders : Order × Order) (model : Model) (known_bits : Bool) (file : Word) → Command
   layout : (model : Model) (file : Word) → Command
   run : (order : Order) (steps : ℕ) (model : Model) (file : Word) (inputs : List ℕ) → Command
   sample : (start fields : ℕ) → Command
@@ -155,12 +162,13 @@ is_no_run o = is_none o.order && is_none o.steps
 
 -- none of the options that a report alone has
 abbrev pub is_no_check : Options → Bool
-is_no_check o = is_none o.unroll && is_none o.orders
+is_no_check o = is_none o.unroll && is_none o.orders && not o.known_bits
 
 abbrev pub check_of : Options → List Word → Option Command
 check_of o [] = None
 check_of o (file ∷ []) =
-    if is_no_run o && is_file file then Some (check (unroll_of o) (orders_of o) (model_of o) file) else None
+    if is_no_run o && is_file file then Some (check (unroll_of o) (orders_of o) (model_of o) o.known_bits file)
+    else None
 check_of o (file ∷ word ∷ words) = None
 
 abbrev pub layout_of : Options → List Word → Option Command
@@ -242,7 +250,7 @@ AreOther p = (p.0 ≡ p.1) → ⊥
 
 -- a report compares two different orders, and a sample has no more fields than the rules allow
 abbrev pub IsWithinRules : Command → Type 0
-IsWithinRules (check unroll orders model file) = AreOther orders
+IsWithinRules (check unroll orders model known_bits file) = AreOther orders
 IsWithinRules (layout model file) = Unit {0}
 IsWithinRules (run order steps model file inputs) = Unit {0}
 IsWithinRules (sample start fields) = fields ≤ most_fields

@@ -2,7 +2,7 @@
 
 ghost use Rattle.std.specs.Prelude.{◌≡◌, ◌≤◌, IfOk, IfSome, Some, map};
 ghost use Rattle.std.specs.Option.{option_map};
-ghost use Rattle.ep_words.specs.Seen as seen;
+ghost use Rattle.ep_words.specs.View as view;
 ghost use Rattle.ep_words.specs.Words as rule;
 ghost use Rattle.ep_words.specs.Words.{IsWithinRules};
 
@@ -27,6 +27,8 @@ pub struct CheckWords<'a> {
     pub unroll: u32,
     pub orders: (Order, Order),
     pub model: Model,
+    /// With known bits.
+    pub known_bits: bool,
     pub file: &'a str,
 }
 
@@ -70,13 +72,14 @@ fn is_file(word: &str) -> bool
 }
 
 fn check_of(given: Options, words: &[String]) -> Option<Command<'_>>
-    ensures { option_map seen.command result ≡ rule.check_of (seen.options given) (seen.words words.now) }
+    ensures { option_map view.command result ≡ rule.check_of (view.options given) (view.words words.now) }
 {
     match words {
         [file] if given.is_no_run() && is_file(file.as_str()) => Some(Command::Check(CheckWords {
             unroll: given.unroll(),
             orders: given.orders(),
             model: given.model(),
+            known_bits: given.known_bits,
             file: file.as_str(),
         })),
         _ => None,
@@ -84,7 +87,7 @@ fn check_of(given: Options, words: &[String]) -> Option<Command<'_>>
 }
 
 fn layout_of(given: Options, words: &[String]) -> Option<Command<'_>>
-    ensures { option_map seen.command result ≡ rule.layout_of (seen.options given) (seen.words words.now) }
+    ensures { option_map view.command result ≡ rule.layout_of (view.options given) (view.words words.now) }
 {
     match words {
         [file] if given.is_no_run() && given.is_no_check() && is_file(file.as_str()) => {
@@ -101,7 +104,7 @@ fn is_input(word: &str) -> bool
 }
 
 fn are_inputs(words: &[String]) -> bool
-    ensures { result ≡ rule.are_inputs (seen.words words.now) }
+    ensures { result ≡ rule.are_inputs (view.words words.now) }
 {
     for word in words {
         if !is_input(word.as_str()) {
@@ -113,9 +116,9 @@ fn are_inputs(words: &[String]) -> bool
 
 // A run, where it has an order and steps.
 fn run_with<'a>(given: Options, file: &'a str, inputs: &'a [String]) -> Option<Command<'a>>
-    ensures { option_map seen.command result ≡ rule.run_with given.order given.steps
-        (rule.model_of (seen.options given))
-        file.now (map rule.input (seen.words inputs.now)) }
+    ensures { option_map view.command result ≡ rule.run_with given.order given.steps
+        (rule.model_of (view.options given))
+        file.now (map rule.input (view.words inputs.now)) }
 {
     let order = given.order?;
     let steps = given.steps?;
@@ -129,7 +132,7 @@ fn run_with<'a>(given: Options, file: &'a str, inputs: &'a [String]) -> Option<C
 }
 
 fn run_of(given: Options, words: &[String]) -> Option<Command<'_>>
-    ensures { option_map seen.command result ≡ rule.run_of (seen.options given) (seen.words words.now) }
+    ensures { option_map view.command result ≡ rule.run_of (view.options given) (view.words words.now) }
 {
     match words {
         [file, inputs @ ..]
@@ -142,7 +145,7 @@ fn run_of(given: Options, words: &[String]) -> Option<Command<'_>>
 }
 
 fn check_words(words: &[String]) -> Option<Command<'_>>
-    ensures { option_map seen.command result ≡ rule.with_options rule.check_of (seen.words words.now) }
+    ensures { option_map view.command result ≡ rule.with_options rule.check_of (view.words words.now) }
 {
     match leading(Options::none(), words) {
         Some((given, rest)) => check_of(given, rest),
@@ -151,7 +154,7 @@ fn check_words(words: &[String]) -> Option<Command<'_>>
 }
 
 fn layout_words(words: &[String]) -> Option<Command<'_>>
-    ensures { option_map seen.command result ≡ rule.with_options rule.layout_of (seen.words words.now) }
+    ensures { option_map view.command result ≡ rule.with_options rule.layout_of (view.words words.now) }
 {
     match leading(Options::none(), words) {
         Some((given, rest)) => layout_of(given, rest),
@@ -160,7 +163,7 @@ fn layout_words(words: &[String]) -> Option<Command<'_>>
 }
 
 fn run_words(words: &[String]) -> Option<Command<'_>>
-    ensures { option_map seen.command result ≡ rule.with_options rule.run_of (seen.words words.now) }
+    ensures { option_map view.command result ≡ rule.with_options rule.run_of (view.words words.now) }
 {
     match leading(Options::none(), words) {
         Some((given, rest)) => run_of(given, rest),
@@ -171,7 +174,7 @@ fn run_words(words: &[String]) -> Option<Command<'_>>
 fn sample_with(start: u64, fields: u64) -> Option<Command<'static>>
     requires start { start ≤ rule.most_start }
     requires fields { fields ≤ rule.most_fields }
-    ensures { option_map seen.command result ≡ rule.sample_with (Some start) (Some fields) }
+    ensures { option_map view.command result ≡ rule.sample_with (Some start) (Some fields) }
 {
     if fields == 0 {
         return None;
@@ -183,7 +186,7 @@ fn sample_with(start: u64, fields: u64) -> Option<Command<'static>>
 }
 
 fn sample_words(words: &[String]) -> Option<Command<'_>>
-    ensures { option_map seen.command result ≡ rule.sample_of (seen.words words.now) }
+    ensures { option_map view.command result ≡ rule.sample_of (view.words words.now) }
 {
     match words {
         [start, fields] => {
@@ -197,7 +200,7 @@ fn sample_words(words: &[String]) -> Option<Command<'_>>
 
 // What the words behind a command ask.
 fn named<'a>(command: &str, words: &'a [String]) -> Option<Command<'a>>
-    ensures { option_map seen.command result ≡ rule.named command.now (seen.words words.now) }
+    ensures { option_map view.command result ≡ rule.named command.now (view.words words.now) }
 {
     match command {
         "check" => check_words(words),
@@ -210,8 +213,8 @@ fn named<'a>(command: &str, words: &'a [String]) -> Option<Command<'a>>
 
 /// What the words ask, where they are plain. The first is the program's name.
 pub fn asked(words: &[String]) -> Option<Command<'_>>
-    ensures command { option_map seen.command result ≡ rule.plain (seen.words words.now) }
-    ensures within { IfSome result (λ c. IsWithinRules (seen.command c)) }
+    ensures command { option_map view.command result ≡ rule.plain (view.words words.now) }
+    ensures within { IfSome result (λ c. IsWithinRules (view.command c)) }
 {
     match words {
         [_, command, rest @ ..] => named(command.as_str(), rest),
@@ -222,7 +225,7 @@ pub fn asked(words: &[String]) -> Option<Command<'_>>
 
 /// The numbers of the inputs of a run.
 pub fn input_numbers(alloc: Global, words: &[String]) -> Result<Vec<u64>, Memory>
-    ensures { IfOk result (λ v. v.items ≡ map rule.input (seen.words words.now)) }
+    ensures { IfOk result (λ v. v.items ≡ map rule.input (view.words words.now)) }
 {
     match collected(alloc, words) {
         Ok(numbers) => Ok(numbers),
@@ -237,7 +240,7 @@ fn input(word: &str) -> u64
 }
 
 fn collected(alloc: Global, words: &[String]) -> Result<Vec<u64>, AllocError>
-    ensures { IfOk result (λ v. v.items ≡ map rule.input (seen.words words.now)) }
+    ensures { IfOk result (λ v. v.items ≡ map rule.input (view.words words.now)) }
 {
     let mut numbers = Vec::new(alloc);
     for word in words {

@@ -2,7 +2,7 @@
 
 ghost use Rattle.std.specs.Prelude.{◌≡◌, IsTrue};
 ghost use Rattle.std.specs.Option.{option_map};
-ghost use Rattle.ep_words.specs.Seen as seen;
+ghost use Rattle.ep_words.specs.View as view;
 ghost use Rattle.ep_words.specs.Words as rule;
 
 use crate::numbers::number;
@@ -25,6 +25,8 @@ pub(crate) struct Options {
     pub model: Option<Model>,
     pub unroll: Option<u32>,
     pub orders: Option<(Order, Order)>,
+    /// Known bits are asked for.
+    pub known_bits: bool,
 }
 
 fn order_named(word: &str) -> Option<Order>
@@ -72,7 +74,7 @@ fn model_named(word: &str) -> Option<Model>
 impl Options {
     /// No option yet.
     pub fn none() -> Options
-        ensures { seen.options result ≡ rule.no_options }
+        ensures { view.options result ≡ rule.no_options }
     {
         Options {
             order: None,
@@ -80,11 +82,12 @@ impl Options {
             model: None,
             unroll: None,
             orders: None,
+            known_bits: false,
         }
     }
 
     fn with_order(self, order: Option<Order>) -> Option<Options>
-        ensures { option_map seen.options result ≡ rule.with_order (seen.options self) order }
+        ensures { option_map view.options result ≡ rule.with_order (view.options self) order }
     {
         let order = order?;
         if self.order.is_some() {
@@ -97,7 +100,7 @@ impl Options {
     }
 
     fn with_steps(self, steps: Option<u64>) -> Option<Options>
-        ensures { option_map seen.options result ≡ rule.with_steps (seen.options self) steps }
+        ensures { option_map view.options result ≡ rule.with_steps (view.options self) steps }
     {
         let steps = steps?;
         if self.steps.is_some() {
@@ -110,7 +113,7 @@ impl Options {
     }
 
     fn with_model(self, model: Option<Model>) -> Option<Options>
-        ensures { option_map seen.options result ≡ rule.with_model (seen.options self) model }
+        ensures { option_map view.options result ≡ rule.with_model (view.options self) model }
     {
         let model = model?;
         if self.model.is_some() {
@@ -123,7 +126,7 @@ impl Options {
     }
 
     fn with_unroll(self, unroll: Option<u32>) -> Option<Options>
-        ensures { option_map seen.options result ≡ rule.with_unroll (seen.options self) unroll }
+        ensures { option_map view.options result ≡ rule.with_unroll (view.options self) unroll }
     {
         let unroll = unroll?;
         if self.unroll.is_some() {
@@ -136,7 +139,7 @@ impl Options {
     }
 
     fn with_orders(self, orders: Option<(Order, Order)>) -> Option<Options>
-        ensures { option_map seen.options result ≡ rule.with_orders (seen.options self) orders }
+        ensures { option_map view.options result ≡ rule.with_orders (view.options self) orders }
     {
         let orders = orders?;
         if self.orders.is_some() {
@@ -148,9 +151,22 @@ impl Options {
         })
     }
 
+    fn with_known_bits(self, is_bits: bool) -> Option<Options>
+        ensures { option_map view.options result ≡ rule.with_known_bits (view.options self) is_bits }
+    {
+        if is_bits && !self.known_bits {
+            Some(Options {
+                known_bits: true,
+                ..self
+            })
+        } else {
+            None
+        }
+    }
+
     // One more, if there is one of this name and its value is one.
     fn with(self, name: &str, value: &str) -> Option<Options>
-        ensures { option_map seen.options result ≡ rule.with_option (seen.options self) name.now value.now }
+        ensures { option_map view.options result ≡ rule.with_option (view.options self) name.now value.now }
     {
         match name {
             "--order" => self.with_order(order_named(value)),
@@ -158,43 +174,44 @@ impl Options {
             "--model" => self.with_model(model_named(value)),
             "--unroll" => self.with_unroll(unroll_named(value)),
             "--orders" => self.with_orders(orders_named(value)),
+            "--domain" => self.with_known_bits(value == "bits"),
             _ => None,
         }
     }
 
     /// The model that is named, else ilp32.
     pub fn model(self) -> Model
-        ensures { result ≡ rule.model_of (seen.options self) }
+        ensures { result ≡ rule.model_of (view.options self) }
     {
         self.model.unwrap_or(Model::Ilp32)
     }
 
     /// The number of turns that is named, else 32.
     pub fn unroll(self) -> u32
-        ensures { result ≡ rule.unroll_of (seen.options self) }
+        ensures { result ≡ rule.unroll_of (view.options self) }
     {
         self.unroll.unwrap_or(USUAL_UNROLL)
     }
 
     /// The two orders that are named, else little and big.
     pub fn orders(self) -> (Order, Order)
-        ensures { result ≡ rule.orders_of (seen.options self) }
+        ensures { result ≡ rule.orders_of (view.options self) }
     {
         self.orders.unwrap_or((Order::Little, Order::Big))
     }
 
     /// None of the options that a run alone has.
     pub fn is_no_run(self) -> bool
-        ensures { result ≡ rule.is_no_run (seen.options self) }
+        ensures { result ≡ rule.is_no_run (view.options self) }
     {
         self.order.is_none() && self.steps.is_none()
     }
 
     /// None of the options that a report alone has.
     pub fn is_no_check(self) -> bool
-        ensures { result ≡ rule.is_no_check (seen.options self) }
+        ensures { result ≡ rule.is_no_check (view.options self) }
     {
-        self.unroll.is_none() && self.orders.is_none()
+        self.unroll.is_none() && self.orders.is_none() && !self.known_bits
     }
 }
 
@@ -210,8 +227,8 @@ fn begins_as_option(word: &str) -> bool
 /// The options that stand first, behind those found, and the words behind them.
 #[tactic(auto, unfolding(crate::specs::Words::options))]
 pub(crate) fn leading(found: Options, words: &[String]) -> Option<(Options, &[String])>
-    ensures { option_map (λ r. (seen.options r.0, seen.words r.1.now)) result
-        ≡ rule.options (seen.options found) (seen.words words.now) }
+    ensures { option_map (λ r. (view.options r.0, view.words r.1.now)) result
+        ≡ rule.options (view.options found) (view.words words.now) }
 {
     match words {
         [name, value, rest @ ..] => {

@@ -1,16 +1,16 @@
-use Rattle.ep_words.specs.Seen as seen
+use Rattle.ep_words.specs.View as view
 use Rattle.endport.proofs.Asked.{named_ok, named_within, named_stop, named_end, is_named, free_ok, free_within}
 use Rattle.endport.proofs.Asked.{free_end, free_stop}
 use Rattle.endport.proofs.top.asked_job.Goals as goal
 
 pub returns-in-Some-clause-ok : goal.returns-in-Some-clause-ok
 returns-in-Some-clause-ok g c =
-    named_ok (seen.command c.args.command.now) _ c.in-Some.file.now c.read_and_do.result c.in-Some.ensures
+    named_ok (view.command c.args.command.now) _ c.in-Some.file.now c.read_and_do.result c.in-Some.ensures
     c.read_and_do.ensures.ok
 
 pub returns-in-Some-clause-within : goal.returns-in-Some-clause-within
 returns-in-Some-clause-within g c =
-    named_within (seen.command c.args.command.now) _ c.in-Some.file.now c.read_and_do.result c.in-Some.ensures
+    named_within (view.command c.args.command.now) _ c.in-Some.file.now c.read_and_do.result c.in-Some.ensures
     c.read_and_do.ensures.within
 
 pub returns-in-Some-clause-end : goal.returns-in-Some-clause-end
@@ -18,7 +18,7 @@ returns-in-Some-clause-end g c = named_end c.read_and_do.result _ _ c.read_and_d
 
 pub returns-in-Some-clause-stop : goal.returns-in-Some-clause-stop
 returns-in-Some-clause-stop g c =
-    named_stop (seen.command c.args.command.now) _ c.in-Some.file.now c.read_and_do.result c.in-Some.ensures _ _
+    named_stop (view.command c.args.command.now) _ c.in-Some.file.now c.read_and_do.result c.in-Some.ensures _ _
     c.read_and_do.ensures.stop
 
 pub returns-in-Some-clause-unread : goal.returns-in-Some-clause-unread
@@ -29,16 +29,16 @@ returns-in-Some-clause-memory g c = λ n. absurd (is_named _ c.in-Some.ensures n
 
 pub returns-in-None-clause-ok : goal.returns-in-None-clause-ok
 returns-in-None-clause-ok g c =
-    free_ok (seen.command c.args.command.now) _ c.in-None.ensures c.unread_job.result c.unread_job.ensures.ok
+    free_ok (view.command c.args.command.now) _ c.in-None.ensures c.unread_job.result c.unread_job.ensures.ok
 
 pub returns-in-None-clause-within : goal.returns-in-None-clause-within
 returns-in-None-clause-within g c =
-    free_within (seen.command c.args.command.now) _ c.in-None.ensures c.unread_job.result
+    free_within (view.command c.args.command.now) _ c.in-None.ensures c.unread_job.result
 
 pub returns-in-None-clause-end : goal.returns-in-None-clause-end
 returns-in-None-clause-end g c =
-    free_end (seen.command c.args.command.now) c.in-None.ensures c.unread_job.result _
+    free_end (view.command c.args.command.now) c.in-None.ensures c.unread_job.result _
 
 pub returns-in-None-clause-stop : goal.returns-in-None-clause-stop
 returns-in-None-clause-stop g c =
-    free_stop (seen.command c.args.command.now) _ c.in-None.ensures c.unread_job.result _ _ c.unread_job.ensures.memory
+    free_stop (view.command c.args.command.now) _ c.in-None.ensures c.unread_job.result _ _ c.unread_job.ensures.memory

@@ -1,5 +1,5 @@
 use Rattle.std.proofs.Common.{refl, Some}
-use Rattle.ep_words.specs.Seen as seen
+use Rattle.ep_words.specs.View as view
 use Rattle.ep_jobs.specs.declared.status.Status.TheVariants.{Usage}
 use Rattle.endport.specs.Top.{usage_text}
 use Rattle.endport.proofs.Asked.{no_some}
@@ -25,19 +25,19 @@ returns-in_default-clause-complete g c = rw (← c.deref.ensures.value, ← c.in
 
 pub returns-in-Ok-clause-written : goal.returns-in-Ok-clause-written
 returns-in-Ok-clause-written g c =
-    rw (← c.deref.ensures.value, ← c.in-Some.ensures.command) (written (Some (seen.command c.in-Some.command)) _
+    rw (← c.deref.ensures.value, ← c.in-Some.ensures.command) (written (Some (view.command c.in-Some.command)) _
     c.in-Ok.job.status c.put-in-Ok.result c.deref-in-Ok.result.now _ _ _ _
     (rw (c.deref-in-Ok.ensures.value) c.in-Ok.ensures.ok) c.put-in-Ok.ensures.written)
 
 pub returns-in-Ok-clause-ends : goal.returns-in-Ok-clause-ends
 returns-in-Ok-clause-ends g c =
-    rw (← c.deref.ensures.value, ← c.in-Some.ensures.command) (put_ends (seen.command c.in-Some.command) _
+    rw (← c.deref.ensures.value, ← c.in-Some.ensures.command) (put_ends (view.command c.in-Some.command) _
     c.in-Ok.job.status c.put-in-Ok.result c.in-Ok.job.text.items c.deref-in-Ok.result.now _ _ _ _
     c.in-Ok.ensures.ok c.put-in-Ok.ensures.written)
 
 pub returns-in-Ok-clause-complete : goal.returns-in-Ok-clause-complete
 returns-in-Ok-clause-complete g c =
-    rw (← c.deref.ensures.value, ← c.in-Some.ensures.command) (put_completes (seen.command c.in-Some.command) _
+    rw (← c.deref.ensures.value, ← c.in-Some.ensures.command) (put_completes (view.command c.in-Some.command) _
     c.in-Ok.job.status c.put-in-Ok.result c.in-Ok.job.text.items c.deref-in-Ok.result.now _ _ _ _ _
     c.in-Ok.ensures.ok c.put-in-Ok.ensures.written)
 
@@ -55,12 +55,12 @@ returns-in-Err-clause-always_too_long g c =
 
 pub returns-in-Err-clause-ends : goal.returns-in-Err-clause-ends
 returns-in-Err-clause-ends g c =
-    rw (← c.deref.ensures.value, ← c.in-Some.ensures.command) (stop_ends (seen.command c.in-Some.command) _ _ _
+    rw (← c.deref.ensures.value, ← c.in-Some.ensures.command) (stop_ends (view.command c.in-Some.command) _ _ _
     c.in-Err.status c.in-Err.ensures.stop c.in-Err.ensures.memory)
 
 pub returns-in-Err-clause-complete : goal.returns-in-Err-clause-complete
 returns-in-Err-clause-complete g c =
-    rw (← c.deref.ensures.value, ← c.in-Some.ensures.command) (stop_completes (seen.command c.in-Some.command) _ _ _ _
+    rw (← c.deref.ensures.value, ← c.in-Some.ensures.command) (stop_completes (view.command c.in-Some.command) _ _ _ _
     c.in-Err.status c.in-Err.ensures.stop)
 
 pub returns-in-Err-clause-unread : goal.returns-in-Err-clause-unread

@@ -3,4 +3,10 @@ use Rattle.ep_check.specs.declared.job.CheckAsked.{CheckAsked}
 use Rattle.ep_check.specs.Check.{Asked}
 
 abbrev pub asked_for : CheckAsked → Asked
-asked_for a = record { model = a.model; left = a.orders.0; right = a.orders.1; unroll = a.unroll }
+asked_for a = record {
+  model = a.model;
+  left = a.orders.0;
+  right = a.orders.1;
+  unroll = a.unroll;
+  known_bits = a.known_bits;
+}

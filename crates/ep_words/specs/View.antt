@@ -14,13 +14,14 @@ options o = record {
   model = o.model;
   unroll = o.unroll;
   orders = o.orders;
+  known_bits = o.known_bits;
 }
 
 abbrev pub words : {A : Type 0} → List (String A) → List rule.Word
 words ws = map string_bytes ws
 
 abbrev pub checking : CheckWords → rule.Command
-checking c = rule.check c.unroll c.orders c.model c.file.now
+checking c = rule.check c.unroll c.orders c.model c.known_bits c.file.now
 
 abbrev pub running : RunWords → rule.Command
 running r = rule.run r.order r.steps r.model r.file.now (map rule.input (words r.inputs.now))
