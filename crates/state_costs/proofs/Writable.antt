@@ -4,7 +4,7 @@ use Rattle.std.proofs.Common.{subst}
 use Rattle.std.proofs.lemmas.Bool.{and_parts}
 use Rattle.ep_int.specs.declared.types.Model.{Model}
 use Rattle.ep_cells.specs.declared.cell.Cell.{Cell}
-use Rattle.ep_cells.specs.declared.place.Place.{Place}
+use Rattle.ep_cells.specs.declared.place.ByteRange.{ByteRange}
 use Rattle.ep_cells.specs.Cells.{place_of}
 use Rattle.ep_cells.specs.Look.{is_some_partly_in}
 use Rattle.ep_cells.specs.States.{IsFormOf, HasForm, IsCell, CanWrite}
@@ -13,7 +13,7 @@ use Rattle.ep_cell_parts.proofs.Allowed.{can_write_is}
 no_form : {N : Type 0} (c : Cell N) (cs : List (Cell N)) → c.form ≡ None → HasForm cs c
 no_form c cs e = subst (λ o. IfSome o (IsFormOf cs c)) (sym e) tt
 
-pub writable : {N : Type 0} (d e : Model) (c : Cell N) (cs : List (Cell N)) (q : Place) (a n p : Bool) → e ≡ d
+pub writable : {N : Type 0} (d e : Model) (c : Cell N) (cs : List (Cell N)) (q : ByteRange) (a n p : Bool) → e ≡ d
     → (IsTrue a ↔ IsCell e c) → (IsTrue n → c.form ≡ None) → q ≡ place_of e c → p ≡ is_some_partly_in d q cs
     → IsTrue ((a && n) && not p) → CanWrite d c cs
 writable d e c cs q a n p m ha hn hq hp h =

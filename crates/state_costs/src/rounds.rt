@@ -7,7 +7,7 @@ ghost use Rattle.ep_int.specs.declared.types.Order.TheVariants.{Little, Big};
 use crate::making::{Numbers, OTHER_BLOCK, cell, place, single, state, states, weaken, write};
 use crate::rows::{Operation, Row};
 use ep_bitslice::Side;
-use ep_cells::Place;
+use ep_cells::ByteRange;
 use ep_int::{Memory, Model, Order};
 use ep_state_steps::reshare_all;
 use ep_state_synthesis::{split, unify};
@@ -86,7 +86,7 @@ fn reshare_copy(state: &State<Numbers>) -> Result<(), Memory> {
 
 fn blur_copy(state: &State<Numbers>, row: &Row) -> Result<(), Memory> {
     let mut copy = state.copy()?;
-    copy.blur(Place {
+    copy.blur(ByteRange {
         side: Side::Shared,
         block: 0,
         offset: 0,

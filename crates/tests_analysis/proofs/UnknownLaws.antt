@@ -16,27 +16,27 @@ use Rattle.ep_core.specs.Runs.{Side, left, right, initial, result_out, main_ends
 use Rattle.ep_range_laws.proofs.Comparisons.{from_between, le_antisym}
 use Rattle.ep_pass.specs.States.{Both, One}
 use Rattle.ep_pass.specs.Pass.{way_of, report_of}
-use Rattle.ep_pass.specs.Laws.{Kept, KeptBeside, ReachesBeside, Meets, meet, MeetsAlone, meet_alone, InBeside}
+use Rattle.ep_pass.specs.Laws.{ConcretisesTyped, ConcretisesTypedBeside, ReachesBeside, Meets, meet, MeetsAlone, meet_alone, ConcretisesBeside}
 use Rattle.ep_pass.specs.Laws.{IsTruth, Truths, TruthAlone, EndAlike, Lawful}
 use Rattle.tests_analysis.specs.Samples.{program, usual}
 use Rattle.tests_analysis.specs.Unknown.{put_out, simple_of, test_of, Known, unknown, Any, Ends, ends_alike, unsure}
-use Rattle.tests_analysis.specs.Unknown.{found_in, result_found, SameResult, StandsFor, ends_if, ends_by, either}
+use Rattle.tests_analysis.specs.Unknown.{found_in, result_found, SameResult, ConcretisesUnknown, ends_if, ends_by, either}
 use Rattle.tests_analysis.specs.Unknown.{is_within, end_faults, of_ends}
 
 -- ---- what both keep, whatever a state stands for
-module _ (p : Program) {S : Type 0} (In : S → Memory → Memory → Type 0) where
+module _ (p : Program) {S : Type 0} (Concretises : S → Memory → Memory → Type 0) where
   abbrev K : S → State → State → Type 0
-  K = Kept p In
+  K = ConcretisesTyped p Concretises
 
   -- other machines with the same memories, inputs and outputs
-  beside : (m : Side) (s : S) (x y : State) → KeptBeside p In m s x y → ReachesBeside p In m (Some s) x y
+  beside : (m : Side) (s : S) (x y : State) → ConcretisesTypedBeside p Concretises m s x y → ReachesBeside p Concretises m (Some s) x y
   beside left s x y h = h.stands
   beside right s x y h = h.stands
 
   module _ (ord : Side → Order) where
     put_sound : (t : _) (e : Expr) (r : Option (ℕ × Scalar)) (l n m : ℕ) (s : S) (x y : State) → K s x y
         → (put_out Both e s).faults ≡ []
-        → Meets p In on (put_out Both e s).next n m (does (ord left) p uncounted r (output t e) l n x)
+        → Meets p Concretises on (put_out Both e s).next n m (does (ord left) p uncounted r (output t e) l n x)
         (does (ord right) p uncounted r (output t e) l m y)
     put_sound t (const u v) r l n m s x y h q =
         meet (record {
@@ -60,7 +60,7 @@ module _ (p : Program) {S : Type 0} (In : S → Memory → Memory → Type 0) wh
 
     simple_sound : (w : Simple) (r : Option (ℕ × Scalar)) (l n m : ℕ) (s : S) (x y : State) → K s x y
         → (simple_of Both w s).faults ≡ []
-        → Meets p In (way_of w) (simple_of Both w s).next n m (does (ord left) p uncounted r w l n x)
+        → Meets p Concretises (way_of w) (simple_of Both w s).next n m (does (ord left) p uncounted r w l n x)
         (does (ord right) p uncounted r w l m y)
     simple_sound nothing r l n m s x y h q = meet h.stands
     simple_sound (output t e) r l n m s x y h q = put_sound t e r l n m s x y h q
@@ -76,8 +76,8 @@ module _ (p : Program) {S : Type 0} (In : S → Memory → Memory → Type 0) wh
     simple_sound (returns e) r l n m s x y h q = absurd cc
 
     simple_alone : (i : Side) (w : Simple) (r : Option (ℕ × Scalar)) (l n : ℕ) (s : S) (x y : State)
-        → KeptBeside p In i s x y → (simple_of (One i) w s).faults ≡ []
-        → MeetsAlone p In i (way_of w) (simple_of (One i) w s).next n y (does (ord i) p uncounted r w l n x)
+        → ConcretisesTypedBeside p Concretises i s x y → (simple_of (One i) w s).faults ≡ []
+        → MeetsAlone p Concretises i (way_of w) (simple_of (One i) w s).next n y (does (ord i) p uncounted r w l n x)
     simple_alone i nothing r l n s x y h q = meet_alone (beside i s x y h)
     simple_alone i (output t e) r l n s x y h q = absurd cc
     simple_alone i (eval e) r l n s x y h q = absurd cc
@@ -134,7 +134,7 @@ module _ (p : Program) {S : Type 0} (In : S → Memory → Memory → Type 0) wh
 
 -- ---- nothing is known
 
-all_in : (p : Program) (i : Side) (s : Known) (m k : Memory) → InBeside p Any i s m k
+all_in : (p : Program) (i : Side) (s : Known) (m k : Memory) → ConcretisesBeside p Any i s m k
 all_in p left s m k = tt
 all_in p right s m k = tt
 
@@ -172,21 +172,21 @@ module _ (p : Program) (ord : Side → Order) where
 equal : (v w : ℤ) → int_eq v w ≡ true → v ≡ w
 equal v w e = let h = from_between v w w v e in le_antisym v w h.0 h.1
 
-all_unsure : (p : Program) (ord : Side → Order) (i : Side) (m k : Memory) → InBeside p (StandsFor p ord) i unsure m k
+all_unsure : (p : Program) (ord : Side → Order) (i : Side) (m k : Memory) → ConcretisesBeside p (ConcretisesUnknown p ord) i unsure m k
 all_unsure p ord left m k = tt
 all_unsure p ord right m k = tt
 
 module _ (p : Program) (ord : Side → Order) where
-  abbrev In : Ends → Memory → Memory → Type 0
-  In = StandsFor p ord
+  abbrev Concretises : Ends → Memory → Memory → Type 0
+  Concretises = ConcretisesUnknown p ord
 
   module _ (m k : Memory) where
-    if_stands : (b : Bool) → (b ≡ true → SameResult p ord m k) → In (ends_if b) m k
+    if_stands : (b : Bool) → (b ≡ true → SameResult p ord m k) → Concretises (ends_if b) m k
     if_stands true h = h refl
     if_stands false h = tt
 
     by_stands : (x y : Found) → result_found (ord left) p m ≡ x → result_found (ord right) p k ≡ y
-        → In (ends_by x y) m k
+        → Concretises (ends_by x y) m k
     by_stands (has (int v)) (has (int w)) e f =
         if_stands (int_eq v w)
         (λ q. record { number = v; on_left = e; on_right = f ∙ ap (λ z. has (int z)) (sym (equal v w q)) })
@@ -197,16 +197,16 @@ module _ (p : Program) (ord : Side → Order) where
     by_stands (has (pointer b q)) y e f = tt
     by_stands (faults c) y e f = tt
 
-    either_left : (s t : Ends) → In s m k → In (either s t) m k
+    either_left : (s t : Ends) → Concretises s m k → Concretises (either s t) m k
     either_left ends_alike ends_alike i = i
     either_left ends_alike unsure i = tt
     either_left unsure t i = tt
 
-    either_right : (s t : Ends) → In t m k → In (either s t) m k
+    either_right : (s t : Ends) → Concretises t m k → Concretises (either s t) m k
     either_right ends_alike t i = i
     either_right unsure t i = tt
 
-    within : (s t : Ends) → is_within s t ≡ true → In s m k → In t m k
+    within : (s t : Ends) → is_within s t ≡ true → Concretises s m k → Concretises t m k
     within s unsure e i = tt
     within ends_alike ends_alike e i = i
     within unsure ends_alike e i = absurd cc
@@ -221,7 +221,7 @@ module _ (p : Program) (ord : Side → Order) where
       (subst (λ d. EndAlike (result_out (has (int v)) l x) (result_out d l y)) (sym f)
       (record { defined = tt; ending = refl; outputs = ap (λ os. os ++ record { t = I32; value = v } ∷ []) o }))
 
-  ended : (f : Function) → slice_get p.functions p.main ≡ Some f → (s : Ends) (x y : State) → Kept p In s x y
+  ended : (f : Function) → slice_get p.functions p.main ≡ Some f → (s : Ends) (x y : State) → ConcretisesTyped p Concretises s x y
       → end_faults s ≡ [] → EndAlike (main_ends (ord left) p f.result f.line x)
       (main_ends (ord right) p f.result f.line y)
   ended f e unsure x y h q = absurd cc
@@ -231,15 +231,15 @@ module _ (p : Program) (ord : Side → Order) where
       (subst (λ g. found_in (ord left) p (result_in g) x.memory ≡ has (int r.number)) e r.on_left)
       (subst (λ g. found_in (ord right) p (result_in g) y.memory ≡ has (int r.number)) e r.on_right)
 
-  pub ends_lawful : Lawful p ord (of_ends p ord) In
+  pub ends_lawful : Lawful p ord (of_ends p ord) Concretises
   ends_lawful = record {
     entry_in = by_stands (initial (ord left) p) (initial (ord right) p) _ _ refl refl;
-    simple_sound = λ here f e w seen fits l n m s x y h q. simple_sound p In ord w f.result l n m s x y h q;
-    simple_alone = λ i here f e w seen fits l n s x y h q. simple_alone p In ord i w f.result l n s x y h q;
-    test_sound = λ e seen fits s x y h q. test_sound p In ord e x.memory y.memory q;
-    test_alone = λ i e seen fits s x y h q. test_alone p In ord (ord i) e x.memory q;
+    simple_sound = λ here f e w seen fits l n m s x y h q. simple_sound p Concretises ord w f.result l n m s x y h q;
+    simple_alone = λ i here f e w seen fits l n s x y h q. simple_alone p Concretises ord i w f.result l n s x y h q;
+    test_sound = λ e seen fits s x y h q. test_sound p Concretises ord e x.memory y.memory q;
+    test_alone = λ i e seen fits s x y h q. test_alone p Concretises ord (ord i) e x.memory q;
     assume_in = λ e seen fits t u s x y h q c d. h.stands;
-    assume_alone = λ i e seen fits t s x y h q c. beside p In i s x y h;
+    assume_alone = λ i e seen fits t s x y h q c. beside p Concretises i s x y h;
     arguments_sound = λ k f e es seen fits l n m s x y h q. absurd cc;
     arguments_alone = λ i k f e es seen fits l n s x y h q. absurd cc;
     result_sound = λ k f e d seen fits l n m s x y h q. absurd cc;

@@ -15,7 +15,7 @@ use Rattle.ep_core.specs.Program.{output, read_bytes, write_bytes, returns, Bloc
 use Rattle.ep_core.specs.Exec.{Output, State, Outcome, leaves, running, no_input, undefined_at, uncounted, is_true}
 use Rattle.ep_core.specs.Exec.{without, value, does, received}
 use Rattle.ep_core.specs.Runs.{Side, left, right, Run, start, main_ends}
-use Rattle.ep_pass.specs.States.{Mode, Both, One, Fault, Gives, Verdict, stuck, same, differs, StateOps}
+use Rattle.ep_pass.specs.States.{Mode, Both, One, Fault, Transfer, Verdict, stuck, same, differs, StateOps}
 use Rattle.ep_pass.specs.Laws.{passes}
 
 -- ---- a machine with its memory written out
@@ -151,7 +151,7 @@ abbrev pub each : (Pair → Went) → List Pair → Went
 each f [] = went [] []
 each f (x ∷ xs) = both_went (f x) (each f xs)
 
-abbrev pub gives : Went → Gives (List Pair)
+abbrev pub gives : Went → Transfer (List Pair)
 gives w = record { faults = w.faults; next = some w.pairs }
 
 abbrev pub both_step : Stepped → Stepped → (Machine → Machine → List Fault) → Went
@@ -262,7 +262,7 @@ module _ (p : Program) (ord : Side → Order) (inputs : List (List ℕ)) where
   abbrev told_outputs : Pair → Machine → Machine → List Fault
   told_outputs x c d = output_faults (new_outputs x.on_left c) (new_outputs x.on_right d)
 
-  abbrev pub exact_simple : Mode → (result : Option (ℕ × Scalar)) → Simple → List Pair → Gives (List Pair)
+  abbrev pub exact_simple : Mode → (result : Option (ℕ × Scalar)) → Simple → List Pair → Transfer (List Pair)
   exact_simple m r w s =
       gives
       (each (in_mode m (λ i x. does (ord i) p uncounted r w 0 0 x) told_outputs (faults_if (is_io w) (plain_fault E2)))

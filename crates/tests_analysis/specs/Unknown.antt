@@ -10,20 +10,20 @@ use Rattle.ep_alarms.specs.declared.types.AlarmKind.TheVariants.{E1}
 use Rattle.ep_core.specs.Program.{Expr, const, Simple, nothing, output, Program}
 use Rattle.ep_core.specs.Exec.{model, size_at, result_in}
 use Rattle.ep_core.specs.Runs.{Side, left, right, main_function, initial}
-use Rattle.ep_pass.specs.States.{Mode, Both, Fault, Gives, stuck, same, Tested, StateOps}
+use Rattle.ep_pass.specs.States.{Mode, Both, Fault, Transfer, stuck, same, Tested, StateOps}
 use Rattle.tests_analysis.specs.Exact.{plain_fault}
 
-abbrev pub goes : {S : Type 0} → S → Gives S
+abbrev pub goes : {S : Type 0} → S → Transfer S
 goes s = record { faults = []; next = Some s }
 
-abbrev pub fails : {S : Type 0} → Gives S
+abbrev pub fails : {S : Type 0} → Transfer S
 fails = record { faults = plain_fault E1; next = None }
 
-abbrev pub put_out : {S : Type 0} → Mode → Expr → S → Gives S
+abbrev pub put_out : {S : Type 0} → Mode → Expr → S → Transfer S
 put_out Both (const t v) s = goes s
 put_out m e s = fails
 
-abbrev pub simple_of : {S : Type 0} → Mode → Simple → S → Gives S
+abbrev pub simple_of : {S : Type 0} → Mode → Simple → S → Transfer S
 simple_of m nothing s = goes s
 simple_of m (output t e) s = put_out m e s
 simple_of m w s = fails
@@ -80,9 +80,9 @@ pub record SameResult (p : Program) (ord : Side → Order) (m k : Memory) : Type
   pub on_left : result_found (ord left) p m ≡ has (int number)
   pub on_right : result_found (ord right) p k ≡ has (int number)
 
-abbrev pub StandsFor : Program → (Side → Order) → Ends → Memory → Memory → Type 0
-StandsFor p ord ends_alike m k = SameResult p ord m k
-StandsFor p ord unsure m k = Unit {0}
+abbrev pub ConcretisesUnknown : Program → (Side → Order) → Ends → Memory → Memory → Type 0
+ConcretisesUnknown p ord ends_alike m k = SameResult p ord m k
+ConcretisesUnknown p ord unsure m k = Unit {0}
 
 abbrev pub ends_if : Bool → Ends
 ends_if true = ends_alike

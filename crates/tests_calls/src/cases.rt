@@ -10,7 +10,7 @@ const CHECK: &[&str] = &["endport", "check", "file.c"];
 
 /// What is written where the words ask nothing.
 pub const USAGE_TEXT: &str = "usage:
-  endport check [--unroll N] [--orders A,B] [--model ilp32|lp64] FILE
+  endport check [--unroll N] [--orders A,B] [--model ilp32|lp64] [--domain bits] FILE
   endport run --order little|big|swapped-words --steps N [--model ilp32|lp64] FILE [INPUT..]
   endport layout [--model ilp32|lp64] FILE
   endport sample START FIELDS

@@ -1,7 +1,7 @@
 //! Cells as the table spells them.
 
 use ep_bitslice::{BoxedForm, CellName, Form, Side};
-use ep_cells::{Cell, Place, Value};
+use ep_cells::{ByteRange, Cell, Value};
 use ep_congruence::Congruence;
 use ep_domain::{Num, Pair};
 use ep_int::{IntType, Model, Order, Scalar, greatest, least};
@@ -211,9 +211,9 @@ pub fn cell(alloc: Global, words: &str) -> Option<Cell<Numbers>> {
 }
 
 /// The side, the block, the offset and the number of bytes.
-pub fn place(words: &str) -> Option<Place> {
+pub fn place(words: &str) -> Option<ByteRange> {
     let mut words = words.split_whitespace();
-    Some(Place {
+    Some(ByteRange {
         side: side(words.next()?)?,
         block: words.next()?.parse().ok()?,
         offset: words.next()?.parse().ok()?,

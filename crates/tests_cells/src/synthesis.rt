@@ -2,7 +2,7 @@
 
 use crate::rows::{Setting, state, text};
 use ep_bitslice::Side;
-use ep_cells::Place;
+use ep_cells::ByteRange;
 use ep_state_synthesis::ReadValue;
 use ep_states::State;
 use std::alloc::{AllocError, Global};
@@ -33,7 +33,7 @@ pub(crate) fn read(setting: Setting, arguments: &str, cells: &str) -> Option<Str
 }
 
 // A place of one side alone is split.
-fn split_at(state: &mut State<Numbers>, p: Place) -> Option<()> {
+fn split_at(state: &mut State<Numbers>, p: ByteRange) -> Option<()> {
     match p.side {
         Side::Left => {
             ep_state_synthesis::split(state, Side::Left, p.block, p.offset, p.bytes).ok()

@@ -323,6 +323,54 @@ fn sources_that_mean_nothing(rt: HostRuntime) -> Result<(), Fail> {
     Ok(())
 }
 
+// A name that isn't called, arguments without a parameter, arrays of no size.
+#[test]
+fn types_that_are_refused(rt: HostRuntime) -> Result<(), Fail> {
+    let table: [Refused; 9] = [
+        (
+            "void f(void) { }\nint main(void) {\nf\n= y;\n}\n",
+            "3: refused 32 type-mismatch\n",
+        ),
+        (
+            "int f(void) { return 1; }\nint main(void) {\nint x;\nx = 1 +\nf;\n}\n",
+            "5: refused 32 type-mismatch\n",
+        ),
+        (
+            "void f(void) { }\nint z[\nf];\nint main(void) { }\n",
+            "3: refused 32 type-mismatch\n",
+        ),
+        (
+            "struct s { int a; } s;\nvoid f(int a) { }\nint main(void) {\nf(1, s);\n}\n",
+            "4: refused 32 type-mismatch\n",
+        ),
+        (
+            "struct s { int a; } s;\nint main(void) {\nep_write(&s, 4, s);\n}\n",
+            "3: refused 32 type-mismatch\n",
+        ),
+        (
+            "int x;\nvoid f(int a) { }\nint main(void) {\nf(1, &x);\n}\n",
+            "4: refused 39 arity\n",
+        ),
+        (
+            "int x;\nvoid f(int a) { }\nint main(void) {\nf(&x, 1);\n}\n",
+            "4: refused 34 pointer-to-integer\n",
+        ),
+        (
+            "void f(void\na[]);\nint main(void) { }\n",
+            "2: refused 33 incomplete-type\n",
+        ),
+        (
+            "struct s *p;\nvoid f(struct s a[2]);\nint main(void) { }\n",
+            "2: refused 33 incomplete-type\n",
+        ),
+    ];
+    for (source, text) in table.iter() {
+        let case = Case::check(source.as_bytes());
+        expect(&rt, rt.alloc(), &case, Status::Refused, text)?;
+    }
+    Ok(())
+}
+
 /// A main of so many tests inside one another.
 fn nested(alloc: Global, depth: u32) -> Result<String, Fail> {
     let mut source = String::from_str(alloc, "int main(void) {\n")?;

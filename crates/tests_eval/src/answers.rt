@@ -1,7 +1,7 @@
 //! Lines of the table, and what they are answered.
 
 ghost use Rattle.std.specs.Prelude.{◌≡◌};
-ghost use Rattle.ep_core.specs.View.{shown_expr};
+ghost use Rattle.ep_core.specs.View.{expr_view};
 ghost use Rattle.ep_eval_fits.specs.Fitting.{ExprIsFit};
 
 use crate::fits::expr_fits;
@@ -117,7 +117,7 @@ fn told(verdict: Verdict) -> &'static str {
 }
 
 fn on_both(alloc: Global, sizes: &[u32], state: &State<Numbers>, e: &Expr) -> Option<String>
-    requires { ExprIsFit (shown_expr e.now) }
+    requires { ExprIsFit (expr_view e.now) }
 {
     let mut faults = Vec::new(alloc);
     let x = eval(e, sizes, state, Mode::Both, &mut faults).ok()?;
@@ -142,7 +142,7 @@ fn on_one(
     e: &Expr,
     side: Running,
 ) -> Option<String>
-    requires { ExprIsFit (shown_expr e.now) }
+    requires { ExprIsFit (expr_view e.now) }
 {
     let mut faults = Vec::new(alloc);
     let x = test_taken_by(e, sizes, state, side, Wants::both(), &mut faults).ok()?;

@@ -1,7 +1,7 @@
 //! Whether constants are in range, units are some bytes, and operands have their operators' types.
 
 ghost use Rattle.std.specs.Prelude.{◌≡◌, true, Some};
-ghost use Rattle.ep_core.specs.View.{shown_expr, shown_place};
+ghost use Rattle.ep_core.specs.View.{expr_view, place_view};
 ghost use Rattle.ep_core.specs.WellFormed.{right_type};
 ghost use Rattle.ep_eval_fits.specs.Fitting.{ExprIsFit, PlaceIsFit};
 
@@ -39,7 +39,7 @@ fn is_right(op: BinOp, t: IntType, own: Option<IntType>) -> bool
 
 #[cycle(fits)]
 pub(crate) fn expr_fits(e: &Expr) -> bool
-    ensures { result ≡ true → ExprIsFit (shown_expr e.now) }
+    ensures { result ≡ true → ExprIsFit (expr_view e.now) }
 {
     match e {
         Expr::Const(t, v) => least(*t) <= *v && *v <= greatest(*t),
@@ -66,7 +66,7 @@ pub(crate) fn expr_fits(e: &Expr) -> bool
 
 #[cycle(fits)]
 fn place_fits(a: &Place) -> bool
-    ensures { result ≡ true → PlaceIsFit (shown_place a.now) }
+    ensures { result ≡ true → PlaceIsFit (place_view a.now) }
 {
     match a {
         Place::Block(_) => true,

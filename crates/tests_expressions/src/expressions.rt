@@ -24,7 +24,7 @@ fn read(alloc: Global, source: &[u8], from: usize) -> Result<String, AllocError>
             let kind = r.kind.number();
             let line = r.line;
             let word = r.word;
-            write!(out, "refused {kind} line {line} word {word}")?;
+            write!(out, "refused {kind} line {line} word {word:?}")?;
         }
         Err(Halt::Memory) => out.push_str("memory")?,
     }
@@ -36,7 +36,7 @@ fn trees(rt: HostRuntime) -> Result<(), Fail> {
     for (source, want) in [
         (
             "a - b - c",
-            "Binary(1, 32, Binary(1, 32, Id(1, [97]), Id(1, [98])), Id(1, [99])) 5",
+            "Binary(1, Minus, Binary(1, Minus, Id(1, [97]), Id(1, [98])), Id(1, [99])) 5",
         ),
         (
             "(T)a",
@@ -44,21 +44,22 @@ fn trees(rt: HostRuntime) -> Result<(), Fail> {
         ),
         (
             "(T)-a",
-            "Cast(1, TypeNameTree { line: 1, specs: [Name(1, [84])], stars: [] }, Unary(1, 32, Id(1, [97]))) 5",
+            "Cast(1, TypeNameTree { line: 1, specs: [Name(1, [84])], stars: [] }, Unary(1, Minus, Id(1, [97]))) 5",
         ),
-        ("(t)-a", "Binary(1, 32, Id(1, [116]), Id(1, [97])) 5"),
+        ("(t)-a", "Binary(1, Minus, Id(1, [116]), Id(1, [97])) 5"),
         (
             "(const unsigned *const *)a",
-            "Cast(1, TypeNameTree { line: 1, specs: [Word(1, 3), Word(1, 20)], stars: [1, 0] }, Id(1, [97])) 8",
+            "Cast(1, TypeNameTree { line: 1, specs: [Word(1, Const), Word(1, Unsigned)], stars: [1, 0] }, Id(1, \
+            [97])) 8",
         ),
         ("sizeof a", "SizeofExpr(1, Id(1, [97])) 2"),
         (
             "sizeof (int)",
-            "SizeofType(1, TypeNameTree { line: 1, specs: [Word(1, 10)], stars: [] }) 4",
+            "SizeofType(1, TypeNameTree { line: 1, specs: [Word(1, Int)], stars: [] }) 4",
         ),
         (
             "sizeof (struct s *)",
-            "SizeofType(1, TypeNameTree { line: 1, specs: [Tag(1, 17, [115])], stars: [0] }) 6",
+            "SizeofType(1, TypeNameTree { line: 1, specs: [Tag(1, Struct, [115])], stars: [0] }) 6",
         ),
         (
             "sizeof (a)++",
@@ -66,20 +67,26 @@ fn trees(rt: HostRuntime) -> Result<(), Fail> {
         ),
         (
             "a = b = c",
-            "Assign(1, 44, Id(1, [97]), Assign(1, 44, Id(1, [98]), Id(1, [99]))) 5",
+            "Assign(1, Equal, Id(1, [97]), Assign(1, Equal, Id(1, [98]), Id(1, [99]))) 5",
         ),
-        ("a <<= b", "Assign(1, 1, Id(1, [97]), Id(1, [98])) 3"),
+        (
+            "a <<= b",
+            "Assign(1, LeftShiftEqual, Id(1, [97]), Id(1, [98])) 3",
+        ),
         (
             "a ? b : c ? d : e",
             "Conditional(1, Id(1, [97]), Id(1, [98]), Conditional(1, Id(1, [99]), Id(1, [100]), Id(1, [101]))) 9",
         ),
         (
             "a ? b = c : d",
-            "Conditional(1, Id(1, [97]), Assign(1, 44, Id(1, [98]), Id(1, [99])), Id(1, [100])) 7",
+            "Conditional(1, Id(1, [97]), Assign(1, Equal, Id(1, [98]), Id(1, [99])), Id(1, [100])) 7",
         ),
-        ("-a++", "Unary(1, 32, PostIncrement(1, Id(1, [97]))) 3"),
-        ("*a++", "Unary(1, 30, PostIncrement(1, Id(1, [97]))) 3"),
-        ("++a--", "Step(1, 4, PostDecrement(1, Id(1, [97]))) 3"),
+        ("-a++", "Unary(1, Minus, PostIncrement(1, Id(1, [97]))) 3"),
+        ("*a++", "Unary(1, Star, PostIncrement(1, Id(1, [97]))) 3"),
+        (
+            "++a--",
+            "Step(1, PlusPlus, PostDecrement(1, Id(1, [97]))) 3",
+        ),
         (
             "a.b->c[1](2, 3)",
             "Call(1, Index(1, Arrow(1, Member(1, Id(1, [97]), [98]), [99]), Number(1, Literal { value: 1, decimal: \
@@ -88,18 +95,20 @@ fn trees(rt: HostRuntime) -> Result<(), Fail> {
         ),
         ("(a)(b)", "Call(1, Id(1, [97]), [Id(1, [98])]) 6"),
         ("f()", "Call(1, Id(1, [102]), []) 3"),
-        ("\na\n+\n(b)", "Binary(2, 31, Id(2, [97]), Id(4, [98])) 5"),
+        ("\na\n+\n(b)", "Binary(2, Plus, Id(2, [97]), Id(4, [98])) 5"),
         (
             "a || b && c | d ^ e & f == g < h << i + j * k",
-            "Binary(1, 13, Id(1, [97]), Binary(1, 12, Id(1, [98]), Binary(1, 40, Id(1, [99]), Binary(1, 39, Id(1, \
-            [100]), Binary(1, 29, Id(1, [101]), Binary(1, 10, Id(1, [102]), Binary(1, 37, Id(1, [103]), Binary(1, 6, \
-            Id(1, [104]), Binary(1, 31, Id(1, [105]), Binary(1, 30, Id(1, [106]), Id(1, [107]))))))))))) 21",
+            "Binary(1, BarBar, Id(1, [97]), Binary(1, AndAnd, Id(1, [98]), Binary(1, Bar, Id(1, [99]), Binary(1, \
+            Caret, Id(1, [100]), Binary(1, Ampersand, Id(1, [101]), Binary(1, EqualEqual, Id(1, [102]), Binary(1, \
+            Less, Id(1, [103]), Binary(1, LeftShift, Id(1, [104]), Binary(1, Plus, Id(1, [105]), Binary(1, Star, \
+            Id(1, [106]), Id(1, [107]))))))))))) 21",
         ),
         (
             "a * b + c << d < e == f & g ^ h | i && j || k",
-            "Binary(1, 13, Binary(1, 12, Binary(1, 40, Binary(1, 39, Binary(1, 29, Binary(1, 10, Binary(1, 37, \
-            Binary(1, 6, Binary(1, 31, Binary(1, 30, Id(1, [97]), Id(1, [98])), Id(1, [99])), Id(1, [100])), Id(1, \
-            [101])), Id(1, [102])), Id(1, [103])), Id(1, [104])), Id(1, [105])), Id(1, [106])), Id(1, [107])) 21",
+            "Binary(1, BarBar, Binary(1, AndAnd, Binary(1, Bar, Binary(1, Caret, Binary(1, Ampersand, Binary(1, \
+            EqualEqual, Binary(1, Less, Binary(1, LeftShift, Binary(1, Plus, Binary(1, Star, Id(1, [97]), Id(1, \
+            [98])), Id(1, [99])), Id(1, [100])), Id(1, [101])), Id(1, [102])), Id(1, [103])), Id(1, [104])), Id(1, \
+            [105])), Id(1, [106])), Id(1, [107])) 21",
         ),
         ("a)", "Id(1, [97]) 1"),
         ("a]", "Id(1, [97]) 1"),
@@ -156,7 +165,7 @@ fn refusals(rt: HostRuntime) -> Result<(), Fail> {
             2,
         ),
     ] {
-        let want = format!(in rt.alloc(); "refused 10 line {line} word 0")?;
+        let want = format!(in rt.alloc(); "refused 10 line {line} word None")?;
         assert_eq!(rt;
             read(rt.alloc(), source.as_bytes(), 0)?.as_str(),
             want.as_str(),
@@ -188,8 +197,8 @@ fn nested(
 #[test]
 fn sixty_four_are_accepted(rt: HostRuntime) -> Result<(), Fail> {
     for (front, end, node, close, next) in [
-        ("- ", "a", "Unary(1, 32, ", ")", 65),
-        ("a+", "a", "Binary(1, 31, ", ", Id(1, [97]))", 129),
+        ("- ", "a", "Unary(1, Minus, ", ")", 65),
+        ("a+", "a", "Binary(1, Plus, ", ", Id(1, [97]))", 129),
         (
             "(T)",
             "a",
@@ -223,7 +232,7 @@ fn sixty_four_are_accepted(rt: HostRuntime) -> Result<(), Fail> {
     let behind = format!(in rt.alloc(); "a : {source}")?;
     assert_eq!(rt;
         read(rt.alloc(), behind.as_bytes(), 0)?.as_str(),
-        "refused 22 line 1 word 0"
+        "refused 22 line 1 word None"
     );
     Ok(())
 }
@@ -245,7 +254,7 @@ fn too_many_are_refused(rt: HostRuntime) -> Result<(), Fail> {
         let source = nested(rt.alloc(), front, count, end, "")?;
         let source = source.as_str();
         let source = format!(in rt.alloc(); "\n{source}")?;
-        let want = format!(in rt.alloc(); "refused {kind} line 2 word 0")?;
+        let want = format!(in rt.alloc(); "refused {kind} line 2 word None")?;
         assert_eq!(rt;
             read(rt.alloc(), source.as_bytes(), 0)?.as_str(),
             want.as_str(),

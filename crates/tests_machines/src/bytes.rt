@@ -1,8 +1,8 @@
 //! The byte memory: the bytes of numbers, worked out by hand from their hexadecimal digits, and what calls answer.
 
 ghost use Rattle.std.specs.Prelude.{◌≡◌, ◌↔◌, ◌<◌, IsTrue, IfSome};
-ghost use Rattle.ep_bytes.specs.Shown.{Fits};
-ghost use Rattle.ep_bytes.specs.Held.{count_of};
+ghost use Rattle.ep_bytes.specs.View.{Fits};
+ghost use Rattle.ep_bytes.specs.StoreView.{count_of};
 
 use ep_alarms::AlarmKind;
 use ep_bytes::{Datum, Store, decode, encode};

@@ -60,7 +60,7 @@ fn refused(out: &mut String, halt: Halt) -> Result<(), AllocError> {
             let kind = r.kind.number();
             let line = r.line;
             let word = r.word;
-            write!(out, "refused {kind} line {line} word {word}")
+            write!(out, "refused {kind} line {line} word {word:?}")
         }
         Halt::Memory => out.push_str("memory"),
     }

@@ -228,6 +228,9 @@ const TEN: &str =
 
 const HALVES: &str = "int main(void) {\n  uint16_t x;\n  x = ep_in_u16();\n  ep_write(&x, 2);\n}\n";
 
+const EVEN: &str =
+    "int main(void) {\n  uint32_t x, y;\n  x = ep_in_u32();\n  y = (x | 4) & 6;\n  x = 100 / y;\n  ep_out_u32(x);\n}\n";
+
 const UNSET: &str = "4: U4 uninitialised left [0,0] right [0,0]\n1 alarms\n";
 
 /// The words, the source, the status and the text.
@@ -235,7 +238,7 @@ type Asked = (&'static [&'static str], &'static str, Status, &'static str);
 
 #[test]
 fn options_of_a_report(rt: HostRuntime) -> Result<(), Fail> {
-    let table: [Asked; 9] = [
+    let table: [Asked; 11] = [
         (
             &["endport", "check", "file.c"],
             TEN,
@@ -314,6 +317,20 @@ fn options_of_a_report(rt: HostRuntime) -> Result<(), Fail> {
             Status::Alarms,
             DIFFERS,
         ),
+        (
+            &["endport", "check", "file.c"],
+            EVEN,
+            Status::Alarms,
+            "5: U2 division left [0,6] right [0,6]\n1 alarms\n",
+        ),
+        (
+            &[
+                "endport", "check", "--domain", "bits", "--unroll", "7", "file.c",
+            ],
+            EVEN,
+            Status::Done,
+            "portable\n",
+        ),
     ];
     for (words, source, status, text) in table.iter() {
         let case = Case {
@@ -327,7 +344,7 @@ fn options_of_a_report(rt: HostRuntime) -> Result<(), Fail> {
 
 #[test]
 fn words_and_the_usage_text(rt: HostRuntime) -> Result<(), Fail> {
-    let table: [&[&str]; 21] = [
+    let table: [&[&str]; 25] = [
         &[],
         &["endport"],
         &["endport", "--help"],
@@ -356,6 +373,12 @@ fn words_and_the_usage_text(rt: HostRuntime) -> Result<(), Fail> {
         &["endport", "check", "--order", "little", "file.c"],
         &["endport", "check", "--steps", "1", "file.c"],
         &["endport", "layout", "--unroll", "1", "file.c"],
+        &["endport", "layout", "--domain", "bits", "file.c"],
+        &["endport", "check", "--domain", "intervals", "file.c"],
+        &["endport", "check", "--domain", "Bits", "file.c"],
+        &[
+            "endport", "check", "--domain", "bits", "--domain", "bits", "file.c",
+        ],
         &[
             "endport",
             "run",

@@ -153,7 +153,7 @@ fn refusals(rt: HostRuntime) -> Result<(), Fail> {
         ),
         ("int f(int\n, int a\n)\n{ }", 10, 4),
     ] {
-        let want = format!(in rt.alloc(); "refused {kind} line {line} word 0")?;
+        let want = format!(in rt.alloc(); "refused {kind} line {line} word None")?;
         assert_eq!(rt;
             items(rt.alloc(), source.as_bytes())?.as_str(),
             want.as_str(),
@@ -169,27 +169,27 @@ fn trees(rt: HostRuntime) -> Result<(), Fail> {
         (
             "int f(void) { if (a) if (b) c; else d; }",
             "ProgramTree { items: [Function(FunctionTree { line: 1, head: HeadTree { line: 1, specs: [Plain(Word(1, \
-            10))], stars: [], name: [102], params: Some(Void(1)) }, body: BlockTree { line: 1, items: \
+            Int))], stars: [], name: [102], params: Some(Void(1)) }, body: BlockTree { line: 1, items: \
             [Statement(If(1, Id(1, [97]), If(1, Id(1, [98]), Expr(1, Some(Id(1, [99]))), Some(Expr(1, Some(Id(1, \
             [100]))))), None))] } })] }",
         ),
         (
             "static int *const\nf(int a,\nchar *);",
-            "ProgramTree { items: [Prototype(HeadTree { line: 2, specs: [Plain(Word(1, 16)), Plain(Word(1, 10))], \
-            stars: [1], name: [102], params: Some(List(2, [ParamTree { line: 2, specs: [Word(2, 10)], stars: [], \
-            name: Some([97]), bounds: [] }, ParamTree { line: 3, specs: [Word(3, 2)], stars: [0], name: None, bounds: \
-            [] }])) })] }",
+            "ProgramTree { items: [Prototype(HeadTree { line: 2, specs: [Plain(Word(1, Static)), Plain(Word(1, Int))], \
+            stars: [1], name: [102], params: Some(List(2, [ParamTree { line: 2, specs: [Word(2, Int)], stars: [], \
+            name: Some([97]), bounds: [] }, ParamTree { line: 3, specs: [Word(3, Char)], stars: [0], name: None, \
+            bounds: [] }])) })] }",
         ),
         (
             "struct s {\nint a, *b[c];\n};",
-            "ProgramTree { items: [Aggregate(AggregateTree { line: 1, word: 17, tag: Some([115]), members: \
-            [MemberTree { line: 2, specs: [Plain(Word(2, 10))], declarators: [DeclaratorTree { line: 2, stars: [], \
+            "ProgramTree { items: [Aggregate(AggregateTree { line: 1, word: Struct, tag: Some([115]), members: \
+            [MemberTree { line: 2, specs: [Plain(Word(2, Int))], declarators: [DeclaratorTree { line: 2, stars: [], \
             name: [97], bounds: [] }, DeclaratorTree { line: 2, stars: [0], name: [98], bounds: [Some(Id(2, [99]))] \
             }] }] })] }",
         ),
         (
             "int x = { a, };",
-            "ProgramTree { items: [Declaration(DeclarationTree { line: 1, specs: [Plain(Word(1, 10))], inits: \
+            "ProgramTree { items: [Declaration(DeclarationTree { line: 1, specs: [Plain(Word(1, Int))], inits: \
             [InitTree { line: 1, declarator: DeclaratorTree { line: 1, stars: [], name: [120], bounds: [] }, value: \
             Some(List(1, [Expr(Id(1, [97]))])) }] })] }",
         ),

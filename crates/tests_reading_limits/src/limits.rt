@@ -132,10 +132,10 @@ fn cut_short(rt: HostRuntime) -> Result<(), Fail> {
     for count in 0..70 {
         let want = match count {
             0 => "",
-            1..=19 => "refused 10 line 1 word 0",
-            20..=33 => "refused 10 line 2 word 0",
-            34..=52 => "refused 10 line 3 word 0",
-            53..=67 => "refused 10 line 4 word 0",
+            1..=19 => "refused 10 line 1 word None",
+            20..=33 => "refused 10 line 2 word None",
+            34..=52 => "refused 10 line 3 word None",
+            53..=67 => "refused 10 line 4 word None",
             _ => "function 1;",
         };
         let source = front(SHORT.as_bytes(), count);
@@ -174,7 +174,7 @@ const FUNCTIONS: [(u32, u32); 7] = [
 fn of_first_lines(alloc: Global, count: u32) -> Result<String, AllocError> {
     let mut out = String::new(alloc);
     if 6 <= count && count < 12 {
-        write!(out, "refused 10 line {count} word 0")?;
+        write!(out, "refused 10 line {count} word None")?;
         return Ok(out);
     }
     if 13 <= count && count < 23 {
@@ -183,7 +183,7 @@ fn of_first_lines(alloc: Global, count: u32) -> Result<String, AllocError> {
     }
     for (first, last) in FUNCTIONS {
         if first <= count && count < last {
-            write!(out, "refused 10 line {count} word 0")?;
+            write!(out, "refused 10 line {count} word None")?;
             return Ok(out);
         }
     }
@@ -241,14 +241,14 @@ fn limits(rt: HostRuntime) -> Result<(), Fail> {
             "while (a)\n",
             64,
             ";}",
-            "refused 22 line 2 word 0",
+            "refused 22 line 2 word None",
         ),
         (
             "int f(void) {\n",
             "if (a)\n",
             20000,
             ";}",
-            "refused 22 line 2 word 0",
+            "refused 22 line 2 word None",
         ),
         (
             "int f(void) {\n",
@@ -262,46 +262,58 @@ fn limits(rt: HostRuntime) -> Result<(), Fail> {
             "if (a) ; else\n",
             64,
             ";}",
-            "refused 22 line 2 word 0",
+            "refused 22 line 2 word None",
         ),
         (
             "int f(void) {\n",
             "if (a) ; else\n",
             20000,
             ";}",
-            "refused 22 line 2 word 0",
+            "refused 22 line 2 word None",
         ),
-        ("int f(void)\n", "{\n", 65, "", "refused 22 line 66 word 0"),
-        ("int f(void)\n", "{", 64, "", "refused 10 line 2 word 0"),
-        ("int ;\n", "(\n", 65, "", "refused 22 line 66 word 0"),
+        (
+            "int f(void)\n",
+            "{\n",
+            65,
+            "",
+            "refused 22 line 66 word None",
+        ),
+        ("int f(void)\n", "{", 64, "", "refused 10 line 2 word None"),
+        ("int ;\n", "(\n", 65, "", "refused 22 line 66 word None"),
         ("int x =\n", "- ", 64, "a;", "declaration 1;"),
-        ("int\nx\n= ", "- ", 65, "a;", "refused 22 line 2 word 0"),
+        ("int\nx\n= ", "- ", 65, "a;", "refused 22 line 2 word None"),
         (
             "int x =\n",
             "- ",
             65,
             "a;\nint ;",
-            "refused 10 line 3 word 0",
+            "refused 10 line 3 word None",
         ),
         ("int\n", "*", 64, "x;", "declaration 1;"),
-        ("int\n", "*", 65, "x;", "refused 22 line 2 word 0"),
-        ("int ", "*", 65, "\nf(void);", "refused 22 line 2 word 0"),
-        ("int x", "[1]", 65, ";", "refused 22 line 1 word 0"),
+        ("int\n", "*", 65, "x;", "refused 22 line 2 word None"),
+        ("int ", "*", 65, "\nf(void);", "refused 22 line 2 word None"),
+        ("int x", "[1]", 65, ";", "refused 22 line 1 word None"),
         (
             "typedef int\n",
             "*",
             65,
             "T;\nT x;",
-            "refused 22 line 2 word 0",
+            "refused 22 line 2 word None",
         ),
         (
             "struct s { int\n",
             "*",
             65,
             "x; };",
-            "refused 22 line 2 word 0",
+            "refused 22 line 2 word None",
         ),
-        ("int f(int\n", "*", 65, "x) { }", "refused 22 line 2 word 0"),
+        (
+            "int f(int\n",
+            "*",
+            65,
+            "x) { }",
+            "refused 22 line 2 word None",
+        ),
     ] {
         let source = nested(rt.alloc(), front, middle, count, end)?;
         assert_eq!(rt;
@@ -320,7 +332,7 @@ fn limits(rt: HostRuntime) -> Result<(), Fail> {
     let source = nested(rt.alloc(), source.as_str(), "- ", 65, "a); }")?;
     assert_eq!(rt;
         items(rt.alloc(), source.as_bytes())?.as_str(),
-        "refused 22 line 2 word 0"
+        "refused 22 line 2 word None"
     );
     let source = nested(rt.alloc(), "int x = ", "(", 64, "a")?;
     let source = nested(rt.alloc(), source.as_str(), ")", 64, ";")?;

@@ -1,4 +1,4 @@
-use ep_ast::{Halt, Refusal, RefusalKind, refusal_text};
+use ep_ast::{Halt, Refusal, RefusalKind, ReservedWord, refusal_text};
 use ep_int::Memory;
 use std::alloc::AllocError;
 use std::test::Fail;
@@ -9,26 +9,26 @@ fn writes_a_refusal(rt: HostRuntime) -> Result<(), Fail> {
         (
             RefusalKind::ReservedWord,
             3,
-            8,
+            Some(ReservedWord::Goto),
             "3: refused 8 reserved-word goto\n",
         ),
         (
             RefusalKind::ReservedWord,
             1,
-            22,
+            Some(ReservedWord::ThreadLocal),
             "1: refused 8 reserved-word _Thread_local\n",
         ),
-        (RefusalKind::Recursion, 2, 0, "2: refused 35 recursion\n"),
+        (RefusalKind::Recursion, 2, None, "2: refused 35 recursion\n"),
         (
             RefusalKind::PointerToInteger,
             1,
-            0,
+            None,
             "1: refused 34 pointer-to-integer\n",
         ),
         (
             RefusalKind::Nesting,
             1048577,
-            0,
+            None,
             "1048577: refused 22 nesting\n",
         ),
     ] {

@@ -7,7 +7,7 @@ use std::test::Fail;
 fn show(alloc: Global, out: &mut String, token: &Token) -> Result<(), AllocError> {
     let line = token.line;
     match &token.what {
-        TokenKind::Word(n) => write!(out, "{line}:word{n} ")?,
+        TokenKind::Word(word) => write!(out, "{line}:{word:?} ")?,
         TokenKind::Name(text) => {
             write!(out, "{line}:")?;
             for b in text {
@@ -22,7 +22,7 @@ fn show(alloc: Global, out: &mut String, token: &Token) -> Result<(), AllocError
             let sign = if n.unsigned { "u" } else { "" };
             write!(out, "{line}:{value}{base}{sign}{longs} ")?;
         }
-        TokenKind::Mark(n) => write!(out, "{line}:mark{n} ")?,
+        TokenKind::Mark(mark) => write!(out, "{line}:{mark:?} ")?,
         TokenKind::IfLittle => write!(out, "{line}:little ")?,
         TokenKind::IfBig => write!(out, "{line}:big ")?,
         TokenKind::Other => write!(out, "{line}:else ")?,
@@ -46,7 +46,7 @@ fn read(alloc: Global, source: &[u8]) -> Result<String, AllocError> {
             let kind = r.kind.number();
             let line = r.line;
             let word = r.word;
-            write!(out, "refused {kind} line {line} word {word}")?;
+            write!(out, "refused {kind} line {line} word {word:?}")?;
         }
         Err(Halt::Memory) => out.push_str("memory")?,
     }
@@ -56,14 +56,14 @@ fn read(alloc: Global, source: &[u8]) -> Result<String, AllocError> {
 #[test]
 fn tokens(rt: HostRuntime) -> Result<(), Fail> {
     for (source, want) in [
-        ("a - b - c", "1:a 1:mark32 1:b 1:mark32 1:c "),
+        ("a - b - c", "1:a 1:Minus 1:b 1:Minus 1:c "),
         (
             "int\twhile_1;\r\nx<<=1",
-            "1:word10 1:while_1 1:mark43 2:x 2:mark1 2:1d0 ",
+            "1:Int 1:while_1 1:Semicolon 2:x 2:LeftShiftEqual 2:1d0 ",
         ),
         (
             "a+++b->c.d",
-            "1:a 1:mark4 1:mark31 1:b 1:mark3 1:c 1:mark28 1:d ",
+            "1:a 1:PlusPlus 1:Plus 1:b 1:Arrow 1:c 1:Dot 1:d ",
         ),
         ("2147483648", "1:2147483648d0 "),
         ("18446744073709551615u", "1:18446744073709551615du0 "),
@@ -81,7 +81,7 @@ fn tokens(rt: HostRuntime) -> Result<(), Fail> {
         ),
         ("a // b \\\nc /* d\n*/ e", "1:a 2:c 3:e "),
         ("/**/a/*/ b */c", "1:a 1:c "),
-        ("#define N 4\nN + M", "2:4d0 2:mark31 2:M "),
+        ("#define N 4\nN + M", "2:4d0 2:Plus 2:M "),
         ("#define A 16\n# /**/ define B A // c\nB", "3:16d0 "),
         ("#define C /* a\n b */ 'x'\nC", "3:120d0 "),
         ("/*\n*/ #define A 1\nA", "3:1d0 "),
@@ -111,55 +111,55 @@ fn tokens(rt: HostRuntime) -> Result<(), Fail> {
 #[test]
 fn refusals(rt: HostRuntime) -> Result<(), Fail> {
     for (source, want) in [
-        ("a\n$", "refused 1 line 2 word 0"),
-        ("a # b", "refused 1 line 1 word 0"),
-        ("int x; /*\n*/ #define A 1", "refused 1 line 2 word 0"),
-        ("#define A $", "refused 1 line 1 word 0"),
-        ("#include <stdint.h> $", "refused 1 line 1 word 0"),
-        ("int x;\n/* a\nb", "refused 2 line 2 word 0"),
-        ("0xE+1", "refused 3 line 1 word 0"),
-        ("08", "refused 3 line 1 word 0"),
-        ("0x", "refused 3 line 1 word 0"),
-        ("1lul", "refused 3 line 1 word 0"),
-        ("1Ll", "refused 3 line 1 word 0"),
-        ("1.5", "refused 3 line 1 word 0"),
-        ("9223372036854775808", "refused 3 line 1 word 0"),
-        ("18446744073709551616u", "refused 3 line 1 word 0"),
-        ("'ab'", "refused 3 line 1 word 0"),
-        ("'\\01'", "refused 3 line 1 word 0"),
-        ("#define A 08", "refused 3 line 1 word 0"),
-        ("\"x\"", "refused 4 line 1 word 0"),
-        ("#define A /*\n*/ \"x\"", "refused 4 line 2 word 0"),
-        ("#pragma \"x\"", "refused 5 line 1 word 0"),
-        ("#define A goto", "refused 5 line 1 word 0"),
-        ("#define N 4\n#define N 5", "refused 5 line 2 word 0"),
-        ("#define int 4", "refused 5 line 1 word 0"),
-        ("#define /*\n*/ A 1 2", "refused 5 line 1 word 0"),
-        ("\n#\n", "refused 5 line 2 word 0"),
-        ("#include <stdio.h>", "refused 6 line 1 word 0"),
-        ("#include < stdint.h>", "refused 6 line 1 word 0"),
-        ("#include \"ep.h\" \"", "refused 6 line 1 word 0"),
-        ("#if __BYTE_ORDER__ == 1", "refused 7 line 1 word 0"),
+        ("a\n$", "refused 1 line 2 word None"),
+        ("a # b", "refused 1 line 1 word None"),
+        ("int x; /*\n*/ #define A 1", "refused 1 line 2 word None"),
+        ("#define A $", "refused 1 line 1 word None"),
+        ("#include <stdint.h> $", "refused 1 line 1 word None"),
+        ("int x;\n/* a\nb", "refused 2 line 2 word None"),
+        ("0xE+1", "refused 3 line 1 word None"),
+        ("08", "refused 3 line 1 word None"),
+        ("0x", "refused 3 line 1 word None"),
+        ("1lul", "refused 3 line 1 word None"),
+        ("1Ll", "refused 3 line 1 word None"),
+        ("1.5", "refused 3 line 1 word None"),
+        ("9223372036854775808", "refused 3 line 1 word None"),
+        ("18446744073709551616u", "refused 3 line 1 word None"),
+        ("'ab'", "refused 3 line 1 word None"),
+        ("'\\01'", "refused 3 line 1 word None"),
+        ("#define A 08", "refused 3 line 1 word None"),
+        ("\"x\"", "refused 4 line 1 word None"),
+        ("#define A /*\n*/ \"x\"", "refused 4 line 2 word None"),
+        ("#pragma \"x\"", "refused 5 line 1 word None"),
+        ("#define A goto", "refused 5 line 1 word None"),
+        ("#define N 4\n#define N 5", "refused 5 line 2 word None"),
+        ("#define int 4", "refused 5 line 1 word None"),
+        ("#define /*\n*/ A 1 2", "refused 5 line 1 word None"),
+        ("\n#\n", "refused 5 line 2 word None"),
+        ("#include <stdio.h>", "refused 6 line 1 word None"),
+        ("#include < stdint.h>", "refused 6 line 1 word None"),
+        ("#include \"ep.h\" \"", "refused 6 line 1 word None"),
+        ("#if __BYTE_ORDER__ == 1", "refused 7 line 1 word None"),
         (
             "#define __BYTE_ORDER__ 1\n#if __BYTE_ORDER__ == __ORDER_BIG_ENDIAN__",
-            "refused 7 line 2 word 0",
+            "refused 7 line 2 word None",
         ),
-        ("a\n#elif", "refused 7 line 2 word 0"),
-        ("#else", "refused 7 line 1 word 0"),
+        ("a\n#elif", "refused 7 line 2 word None"),
+        ("#else", "refused 7 line 1 word None"),
         (
             "#if __BYTE_ORDER__ == __ORDER_BIG_ENDIAN__\n#else\n#else\n#endif",
-            "refused 7 line 3 word 0",
+            "refused 7 line 3 word None",
         ),
         (
             "#if __BYTE_ORDER__ == __ORDER_BIG_ENDIAN__\n#include <stdint.h>\n#endif",
-            "refused 7 line 2 word 0",
+            "refused 7 line 2 word None",
         ),
         (
             "a\n#if __BYTE_ORDER__ == __ORDER_BIG_ENDIAN__\nb\n",
-            "refused 7 line 2 word 0",
+            "refused 7 line 2 word None",
         ),
-        ("goto", "refused 8 line 1 word 8"),
-        ("a\nauto _Thread_local", "refused 8 line 2 word 1"),
+        ("goto", "refused 8 line 1 word Some(Goto)"),
+        ("a\nauto _Thread_local", "refused 8 line 2 word Some(Auto)"),
     ] {
         assert_eq!(rt;
             read(rt.alloc(), source.as_bytes())?.as_str(),
@@ -174,11 +174,11 @@ fn refusals(rt: HostRuntime) -> Result<(), Fail> {
 fn other_bytes(rt: HostRuntime) -> Result<(), Fail> {
     assert_eq!(rt;
         read(rt.alloc(), &[b'a', 200])?.as_str(),
-        "refused 1 line 1 word 0"
+        "refused 1 line 1 word None"
     );
     assert_eq!(rt;
         read(rt.alloc(), &[b'\'', 200, b'\''])?.as_str(),
-        "refused 3 line 1 word 0"
+        "refused 3 line 1 word None"
     );
     assert_eq!(rt;
         read(rt.alloc(), &[b'/', b'/', 200, b'\n', b'a'])?.as_str(),
