@@ -1,6 +1,7 @@
 -- What the code of known bits needs.
 use Rattle.std.proofs.Common.{◌≡◌, ℕ, suc, ◌+◌, ◌-◌, ◌*◌, ◌%◌, ◌^◌, ◌<◌, ◌≤◌, ℤ, pos, negsuc, ◌+ℤ◌, ◌≤ℤ◌, ◌⊎◌, inl}
-use Rattle.ep_int.proofs.Arithmetic.{le_fact}
+use Rattle.ep_domain.specs.Laws.Shared.{from_eq}
+use Rattle.std.proofs.lemmas.Bool.{false_from_ne_true}
 use Rattle.std.proofs.Common.{inr, Bool, true, false, cond, Option, Some, None, FitsSigned, of_z, bit_or, refl, sym}
 use Rattle.std.proofs.Common.{ap, ◌∙◌, subst, arith}
 use Rattle.std.specs.Prelude.{IfSome, unsigned_abs, int_le}
@@ -10,7 +11,6 @@ use Rattle.std.proofs.Math.Nat.{mul-le-mul_right}
 use Rattle.std.proofs.Math.Pow.{pow_mono}
 use Rattle.std.proofs.lemmas.Int.{ints}
 use Rattle.std.proofs.lemmas.Nat.{and_mask}
-use Rattle.std.proofs.lemmas.Bool.{and_parts}
 use Rattle.ep_int.specs.declared.types.IntType.{IntType}
 use Rattle.ep_int.specs.declared.types.BinOp.{BinOp}
 use Rattle.ep_int.specs.declared.types.BinOp.TheVariants.{Add, Sub, Mul}
@@ -18,7 +18,7 @@ use Rattle.ep_int.specs.Types.{is_signed, bits_of, residue, wrapped}
 use Rattle.ep_int.specs.Arith.{IsOfSomeType, int_eq}
 use Rattle.ep_int.proofs.Wrapping.{masked}
 use Rattle.ep_range_laws.specs.Ranges.{IsRange}
-use Rattle.ep_range_laws.proofs.Comparisons.{from_le_false, le_antisym}
+use Rattle.ep_range_laws.proofs.Comparisons.{from_le_false}
 use Rattle.ep_bit_laws.specs.Bits.{bit}
 use Rattle.ep_bit_laws.specs.Patterns.{Pattern, pattern, is_pattern, closed, sign_bits, low_part, type_pattern}
 use Rattle.ep_bit_laws.specs.Edges.{with_bit, first_at, first_negative, least_positive, or_positive, first_from}
@@ -153,17 +153,11 @@ pub edges_number : (c : KnownBits) (lo hi : ℤ) (e : ℤ × ℤ) → edges_of c
 edges_number c lo hi e f = (subst (λ o. IfSome o (AreEnds (pattern_of c) lo hi)) f
     (edges_are_ends (pattern_of c) (is_pattern_of c) lo hi)).first.number
 
-pub int_unequal : (a b : ℤ) → (a ≡ b → ⊥) → int_eq a b ≡ false
-int_unequal a b n = at (int_eq a b) refl
-  where
-    at : (t : Bool) → int_eq a b ≡ t → t ≡ false
-    at false e = refl
-    at true e = let p = and_parts (int_le a b) (int_le b a) e in absurd
-        (n (le_antisym a b (le_fact a b p.0) (le_fact b a p.1)))
-
 pub cut_itself : (c : KnownBits) (lo hi f l : ℤ) → edges_of c lo hi ≡ Some (f, l) → (f ≡ l → ⊥)
     → Some c ≡ cut_of c lo hi
-cut_itself c lo hi f l e n = sym (ap (cut_at c) e ∙ ap (λ b. Some (cond b (single_of f) c)) (int_unequal f l n))
+cut_itself c lo hi f l e n =
+    let apart = false_from_ne_true (int_eq f l) (λ q. n (from_eq f l q)) in
+    sym (ap (cut_at c) e ∙ ap (λ b. Some (cond b (single_of f) c)) apart)
 
 pub range_given : (r : ℤ × ℤ) (c : KnownBits) → r ≡ range_of c → IsRange r.0 r.1
 range_given r c e = subst (λ (s : ℤ × ℤ). IsRange s.0 s.1) (sym e) (range_ends c)

@@ -3,7 +3,6 @@ use Rattle.std.proofs.Common.{◌≡◌, ℕ, ◌*◌, ◌^◌, ◌<◌, ◌≤�
 use Rattle.ep_congruence_laws.proofs.Multiples.{eq_zero}
 use Rattle.ep_int.proofs.Arithmetic.{le_fact}
 use Rattle.ep_int.proofs.Basics.{of_z-injective}
-use Rattle.ep_domain.proofs.Basics.{int_eq-true}
 use Rattle.std.proofs.lemmas.Bool.{le-leb, leb-true}
 use Rattle.std.proofs.Common.{◌&&◌, ◌⊎◌, inl, inr, Option, Some, None, FitsSigned, of_z, nat_eq, nat_le, refl}
 use Rattle.std.proofs.Common.{sym, ap, ◌∙◌, subst, arith}

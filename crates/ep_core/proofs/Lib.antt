@@ -15,3 +15,4 @@ pub mod Typing
 pub mod Operands
 pub mod Fitting
 pub mod Basics
+pub mod Tables

@@ -1,2 +1,1 @@
 pub mod FaultCode
-pub mod Basics

@@ -1,5 +1,6 @@
 -- Operands that are evaluated later, where the first is of a truth.
 use Rattle.std.proofs.Common.{◌≡◌, pos, Bool, true, false, ◌||◌, List, [], Option, Some, None, refl, sym, ◌∙◌, subst}
+use Rattle.ep_int.proofs.Basics.{or-false}
 use Rattle.ep_int.proofs.Basics.{or-true}
 use Rattle.ep_int.specs.declared.types.Order.{Order}
 use Rattle.ep_int.specs.declared.types.Scalar.{Scalar}
@@ -31,10 +32,6 @@ pub record IsOf (x : Found) (t : Bool) : Type 0 where
   pub u : Datum
   pub finds : x ≡ has u
   pub truth : is_true u ≡ t
-
-or_same : (b : Bool) → (b || false) ≡ true → b ≡ true
-or_same true e = refl
-or_same false e = e
 
 module _ {N : Type 0} (D : Ops N) (law : Lawful D) (p : Program) (ord : Side → Order) where
   pub may_be_of : (w : Scalar) (o : Option (Value N)) (u : Datum) (t : Bool) → Allows D w o false (Some u)
@@ -212,7 +209,7 @@ module _ {N : Type 0} (D : Ops N) (law : Lawful D) (p : Program) (ord : Side →
     later_is Both x h rel s r c =
         by_both (may x left) (may x right) (same D x || false) x refl refl
         (λ i q. takes_may Both x h rel i (runs_both Both i refl) q)
-        (λ e i j q. takes_all x h rel (or_same (same D x) e) i j q) s c
+        (λ e i j q. takes_all x h rel (sym (or-false (same D x)) ∙ e) i j q) s c
     later_is Left x h rel left r c =
         by_left (may x left) (same D x || true) x refl (or-true (same D x)) (λ q. takes_may Left x h rel left refl q) c
     later_is Left x h rel right r c = absurd (let z : false ≡ true = r in cc)

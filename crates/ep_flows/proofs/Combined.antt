@@ -1,5 +1,6 @@
 -- Where statements were gone through, piece by piece, as a pass says.
 use Rattle.std.proofs.Common.{◌≡◌, ℕ, ◌+◌, List, [], fold, refl, sym, ap, ◌∙◌, subst, arith, Option, Some, None}
+use Rattle.std.proofs.lemmas.List.{append-nil}
 use Rattle.std.proofs.Common.{Result, Ok, Err, IfOk}
 use Rattle.ep_int.specs.declared.types.Memory.{Memory}
 use Rattle.ep_alarms.specs.declared.types.Alarm.{Alarm}
@@ -10,7 +11,7 @@ use Rattle.ep_pass.specs.Pass.{Ways, Log, logged, both_logs, Pass, passed, after
 use Rattle.ep_pass.specs.Pass.{join_on, join_ways, either_pass, go_on}
 use Rattle.ep_flows.specs.View.{Told, Tells, HasPassed, Passes, CountsUpTo, ways_view, flow_view, capped, more_heads}
 use Rattle.ep_flows.specs.declared.flow.Flow.{Flow}
-use Rattle.ep_flows.proofs.Telling.{nil_right, tells_both, tells_nothing}
+use Rattle.ep_flows.proofs.Telling.{tells_both, tells_nothing}
 
 -- alarms alone
 pub tells_alarms : {S : Type 0} (fs : List Alarm) (old new : Told S) → new.alarms ≡ fold added old.alarms fs
@@ -51,9 +52,9 @@ put_nothing g old new t = record {
 pub drop_last : {S : Type 0} (g : Log S) (old new : Told S) → Tells (both_logs g (logged [] 0 [])) old new
     → Tells g old new
 drop_last g old new t = record {
-  alarms = t.alarms ∙ ap (fold added old.alarms) (nil_right g.faults);
+  alarms = t.alarms ∙ ap (fold added old.alarms) (append-nil g.faults);
   count = t.count ∙ ap capped (less old.count g.count);
-  heads = t.heads ∙ ap (more_heads old.heads) (nil_right g.heads);
+  heads = t.heads ∙ ap (more_heads old.heads) (append-nil g.heads);
 }
   where
     less : (a b : ℕ) → a + (b + 0) ≡ a + b

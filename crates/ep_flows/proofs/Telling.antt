@@ -1,14 +1,11 @@
 -- What comes to a log, one after the other.
-use Rattle.std.proofs.Common.{◌≡◌, ℕ, ◌+◌, List, [], ◌∷◌, ◌++◌, fold, refl, sym, ap, ◌∙◌, arith, Option, Some, None}
+use Rattle.std.proofs.Common.{◌≡◌, ℕ, ◌+◌, List, [], ◌++◌, fold, refl, sym, ap, ◌∙◌, arith, Option, Some, None}
+use Rattle.std.proofs.lemmas.List.{append-nil}
 use Rattle.ep_int.proofs.Basics.{append-assoc}
 use Rattle.std.proofs.lemmas.List.Sums.{fold-append}
 use Rattle.ep_alarms.specs.Report.{added}
 use Rattle.ep_pass.specs.Pass.{Log, logged, both_logs}
 use Rattle.ep_flows.specs.View.{Told, Tells, capped, more_heads}
-
-pub nil_right : {A : Type 0} (l : List A) → l ++ [] ≡ l
-nil_right [] = refl
-nil_right (x ∷ l) = ap (λ m. x ∷ m) (nil_right l)
 
 heads_again : {S : Type 0} (h : Option (List S)) (a b : List S) → more_heads (more_heads h a) b ≡ more_heads h (a ++ b)
 heads_again None a b = refl
@@ -16,7 +13,7 @@ heads_again (Some gs) a b = ap (λ l. Some l) (append-assoc gs a b)
 
 heads_none : {S : Type 0} (h : Option (List S)) → h ≡ more_heads h []
 heads_none None = refl
-heads_none (Some gs) = ap (λ l. Some l) (sym (nil_right gs))
+heads_none (Some gs) = ap (λ l. Some l) (sym (append-nil gs))
 
 capped_again : (a b c d e : ℕ) → capped b ≡ capped (a + d) → capped c ≡ capped (b + e) → capped c ≡ capped (a + (d + e))
 capped_again a b c d e h i = omega (arith, h, i)

@@ -1,7 +1,8 @@
 -- The laws of comparisons.
 use Rattle.std.specs.Prelude.{◌≡◌, ℤ, pos, ◌+ℤ◌, ◌-ℤ◌, ◌≤ℤ◌, ◌<ℤ◌, ◌⊎◌, Bool, true, false, cond, Option, Some, None}
+use Rattle.ep_domain.specs.Laws.Shared.{eq_true}
+use Rattle.ep_domain.specs.Laws.Shared.{from_eq}
 use Rattle.ep_int.proofs.Arithmetic.{le_fact}
-use Rattle.ep_domain.proofs.Basics.{int_eq-true}
 use Rattle.std.specs.Prelude.{IsSomeAnd, refl, int_le}
 use Rattle.std.specs.Option.{option_zip}
 use Rattle.std.proofs.Common.{arith, ap, sym, ◌∙◌, subst, inl, inr}
@@ -12,15 +13,12 @@ use Rattle.ep_int.specs.declared.types.Cmp.{Cmp}
 use Rattle.ep_int.specs.declared.types.Cmp.TheVariants.{Eq, Ne, Lt, Le, Gt, Ge}
 use Rattle.ep_int.specs.Types.{least_of, greatest_of}
 use Rattle.ep_int.specs.Arith.{int_eq, compares}
-use Rattle.ep_range_laws.proofs.Comparisons.{from_between, from_between_false}
+use Rattle.ep_range_laws.proofs.Comparisons.{from_between_false}
 use Rattle.ep_range_laws.proofs.Comparisons.{from_le_false, from_lt_true, from_lt_false, le_antisym}
 use Rattle.ep_interval_laws.specs.Interval.{Interval, HasNumber, ends_of, between, apart_from, filter_of}
 use Rattle.ep_interval_laws.proofs.Between.{between_none, between_holds}
 use Rattle.ep_interval_laws.proofs.Simple.{has_low, has_high, overlap_holds, cut_single_away, first_of_pair}
 use Rattle.ep_interval_laws.proofs.Simple.{second_of_pair}
-
-equal : (x y : ℤ) → int_eq x y ≡ true → x ≡ y
-equal x y e = let p = from_between x y y x e in le_antisym x y p.0 p.1
 
 different : (x y : ℤ) → int_eq x y ≡ false → (x ≡ y → ⊥)
 different x y e f = by_order (from_between_false x y y x e)
@@ -43,7 +41,7 @@ apart_holds : (a b : Interval) (x y : ℤ) → (x ≡ y → ⊥) → HasNumber a
 apart_holds a b x y n h k = by_test (int_eq b.lo b.hi) refl
   where
     low_of : (t : Bool) → int_eq a.lo b.lo ≡ t → b.lo ≡ b.hi → cond t (a.lo +ℤ pos 1) a.lo ≤ℤ x
-    low_of true e f = let p = has_low a x h in let q = has_low b y k in let r = has_high b y k in let g = equal a.lo b.lo e in above a.lo x b.lo y p (n) g (le_antisym b.lo y q (subst (λ z. y ≤ℤ z) (sym f) r))
+    low_of true e f = let p = has_low a x h in let q = has_low b y k in let r = has_high b y k in let g = from_eq a.lo b.lo e in above a.lo x b.lo y p (n) g (le_antisym b.lo y q (subst (λ z. y ≤ℤ z) (sym f) r))
       where
         above : (l x m y : ℤ) → l ≤ℤ x → (x ≡ y → ⊥) → l ≡ m → m ≡ y → (l +ℤ pos 1) ≤ℤ x
         above l x m y p n e f = by_test (int_le (l +ℤ pos 1) x) refl
@@ -54,7 +52,7 @@ apart_holds a b x y n h k = by_test (int_eq b.lo b.hi) refl
     low_of false e f = has_low a x h
 
     high_of : (t : Bool) → int_eq a.hi b.lo ≡ t → b.lo ≡ b.hi → x ≤ℤ cond t (a.hi -ℤ pos 1) a.hi
-    high_of true e f = let p = has_high a x h in let q = has_low b y k in let r = has_high b y k in let g = equal a.hi b.lo e in below a.hi x b.lo y p (n) g (le_antisym b.lo y q (subst (λ z. y ≤ℤ z) (sym f) r))
+    high_of true e f = let p = has_high a x h in let q = has_low b y k in let r = has_high b y k in let g = from_eq a.hi b.lo e in below a.hi x b.lo y p (n) g (le_antisym b.lo y q (subst (λ z. y ≤ℤ z) (sym f) r))
       where
         below : (u x m y : ℤ) → x ≤ℤ u → (x ≡ y → ⊥) → u ≡ m → m ≡ y → x ≤ℤ (u -ℤ pos 1)
         below u x m y p n e f = by_test (int_le x (u -ℤ pos 1)) refl
@@ -74,13 +72,13 @@ apart_holds a b x y n h k = by_test (int_eq b.lo b.hi) refl
 
     by_test : (t : Bool) → int_eq b.lo b.hi ≡ t → IsSomeAnd (cond t (between (cond (int_eq a.lo b.lo) (a.lo +ℤ pos 1) a.lo) (cond (int_eq a.hi b.lo) (a.hi -ℤ pos 1) a.hi)) (Some a)) (λ c. HasNumber c x)
     by_test true e =
-        let f = equal b.lo b.hi e in
+        let f = from_eq b.lo b.hi e in
         between_holds (cond (int_eq a.lo b.lo) (a.lo +ℤ pos 1) a.lo) (cond (int_eq a.hi b.lo) (a.hi -ℤ pos 1) a.hi) x (least_stays (int_eq a.lo b.lo)) (greatest_stays (int_eq a.hi b.lo)) (low_of (int_eq a.lo b.lo) refl f) (high_of (int_eq a.hi b.lo) refl f)
     by_test false e = h
 
 pub filter_holds : (c : Cmp) (a b : Interval) (x y : ℤ) → compares c x y ≡ true → HasNumber a x → HasNumber b y → IsSomeAnd (filter_of c a b) (λ p. HasNumber p.0 x × HasNumber p.1 y)
 filter_holds Eq a b x y e h k =
-    let f = equal x y e in let p = has_low b y k in let q = has_high b y k in let r = has_low a x h in let s = has_high a x h in
+    let f = from_eq x y e in let p = has_low b y k in let q = has_high b y k in let r = has_low a x h in let s = has_high a x h in
     both_hold a b x y _ _ (overlap_holds a b.lo b.hi x h (omega (arith, ints)) (omega (arith, ints))) (overlap_holds b a.lo a.hi y k (omega (arith, ints)) (omega (arith, ints)))
 filter_holds Ne a b x y e h k =
     let n = different x y (not-true _ e) in
@@ -110,10 +108,10 @@ filter_single Eq a b x y e f g =
     by_order l h p q (inl o) = inr (omega (arith, ints))
     by_order l h p q (inr o) = inl (omega (arith, ints))
 filter_single Ne a b x y e f g =
-    let same = equal x y (not-false _ e) in
+    let same = from_eq x y (not-false _ e) in
     let p = first_of_pair b.lo b.hi y y g in let q = second_of_pair b.lo b.hi y y g in
     let r = first_of_pair a.lo a.hi x x f in let s = second_of_pair a.lo a.hi x x f in
-    both_none _ _ (none_of (int_eq b.lo b.hi) (int_eq a.lo b.lo) (int_eq a.hi b.lo) (int_eq-true b.lo b.hi (p ∙ sym q)) (int_eq-true a.lo b.lo (r ∙ same ∙ sym p)) (int_eq-true a.hi b.lo (s ∙ same ∙ sym p)) (above a.lo a.hi r s))
+    both_none _ _ (none_of (int_eq b.lo b.hi) (int_eq a.lo b.lo) (int_eq a.hi b.lo) (eq_true b.lo b.hi (p ∙ sym q)) (eq_true a.lo b.lo (r ∙ same ∙ sym p)) (eq_true a.hi b.lo (s ∙ same ∙ sym p)) (above a.lo a.hi r s))
   where
     above : (l h : ℤ) → l ≡ x → h ≡ x → (h -ℤ pos 1) <ℤ (l +ℤ pos 1)
     above l h p q = omega (arith, ints)

@@ -1,10 +1,10 @@
 -- What the code of intervals needs.
 use Rattle.std.proofs.Common.{◌≡◌, ℕ, ◌-◌, ◌^◌, ◌<◌, ◌≤◌, ◌*ℤ◌, ℤ, pos, negsuc, neg_ℤ, ◌+ℤ◌, ◌-ℤ◌, ◌≤ℤ◌, Bool, true}
+use Rattle.ep_domain.specs.Laws.Shared.{eq_true}
 use Rattle.ep_int.proofs.Arithmetic.{difference_fits, in_range_some_type, sum_fits}
 use Rattle.ep_int.proofs.Basics.{of_z-injective}
 use Rattle.ep_domain.proofs.FaultCode.{pair_same}
 use Rattle.ep_interval_laws.proofs.Operators.{four_above}
-use Rattle.ep_domain.proofs.Basics.{int_eq-true}
 use Rattle.std.proofs.Common.{false, cond, Option, Some, None, FitsSigned, refl, sym, ap, ◌∙◌, subst, arith}
 use Rattle.std.proofs.Common.{of_z}
 use mir.Syntax.{w128}
@@ -77,7 +77,7 @@ whole_ends t l h a b n e f = pair_same a b _ _ (e ∙ ap (λ s. cond s (wrapped 
 -- ---- comparisons
 
 pub apart_is : (a b : Interval) (l h : ℤ) (r : Option Interval) → b.lo ≡ b.hi → l ≡ low_apart a.lo b.lo → h ≡ high_apart a.hi b.lo → r ≡ between l h → r ≡ apart_from a b
-apart_is a b l h r e f g i = rw (int_eq-true b.lo b.hi e) (i ∙ ap (λ z. between z h) f ∙ ap (between (low_apart a.lo b.lo)) g)
+apart_is a b l h r e f g i = rw (eq_true b.lo b.hi e) (i ∙ ap (λ z. between z h) f ∙ ap (between (low_apart a.lo b.lo)) g)
 
 pub zipped : (a b : Interval) (c d : Cmp) (r : Option (Interval × Interval)) (o p l h : Option Interval) → c ≡ d → filter_of d a b ≡ option_zip l h → o ≡ l → p ≡ h → r ≡ option_zip o p → r ≡ filter_of c a b
 zipped a b c d r o p l h e f g i k = k ∙ ap (λ z. option_zip z p) g ∙ ap (option_zip l) i ∙ sym f ∙ ap (λ z. filter_of z a b) (sym e)

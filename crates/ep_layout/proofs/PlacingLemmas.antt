@@ -1,5 +1,6 @@
 -- Members that are placed one by one lie where the rule says.
 use Rattle.std.proofs.Common.{◌≡◌, ℕ, ◌+◌, ◌<◌, ◌≤◌, max, Bool, true, false, List, [], ◌∷◌, ◌++◌, map, Option, Some}
+use Rattle.std.proofs.lemmas.Bool.{and_parts}
 use Rattle.std.proofs.Common.{None, option_map, option_and_then, unwrap_or, is_some, refl, sym, ◌∙◌, ap, inl, inr}
 use Rattle.std.proofs.Common.{arith, ◌&&◌, true≢false, if◌then◌else◌, nat_lt}
 use Rattle.std.specs.List.{list_all}
@@ -81,14 +82,10 @@ one_known : (o : Option Layout) → is_some o ≡ true → o ≡ Some (unwrap_or
 one_known None h = absurd (true≢false (sym h))
 one_known (Some l) h = refl
 
-both : (a b : Bool) → a && b ≡ true → (a ≡ true) × (b ≡ true)
-both true b h = (refl, h)
-both false b h = absurd (true≢false (sym h))
-
 each_known : (t : Table) (ms : List Named) → list_all (λ m. is_some (layout_of t m.1)) ms ≡ true → at_each (layout_of t) (map (λ m. m.1) ms) ≡ Some (layouts_of t ms)
 each_known t [] h = refl
 each_known t (m ∷ ms) h =
-    let s = both (is_some (layout_of t m.1)) (list_all (λ n. is_some (layout_of t n.1)) ms) h in
+    let s = and_parts (is_some (layout_of t m.1)) (list_all (λ n. is_some (layout_of t n.1)) ms) h in
     rw (one_known (layout_of t m.1) s.0, each_known t ms s.1) refl
 
 abbrev pub rule_of : Bool → List Layout → Layout
@@ -153,8 +150,8 @@ stop_early t u ms rest p m x e placed same sized (inr q) =
 
 -- in a list of which each element passes, one in the middle does
 pub in_all : {X : Type 0} (p : X → Bool) (front : List X) (x : X) (rest : List X) → list_all p (front ++ x ∷ rest) ≡ true → p x ≡ true
-in_all p [] x rest h = (both (p x) (list_all p rest) h).0
-in_all p (y ∷ ys) x rest h = in_all p ys x rest (both (p y) (list_all p (ys ++ x ∷ rest)) h).1
+in_all p [] x rest h = (and_parts (p x) (list_all p rest) h).0
+in_all p (y ∷ ys) x rest h = in_all p ys x rest (and_parts (p y) (list_all p (ys ++ x ∷ rest)) h).1
 
 -- a test of each type is one of each named type
 pub all_named : (p : ℕ → Bool) (ms : List (Vec ℕ × ℕ)) → list_all (λ m. p m.1) (named_view ms) ≡ list_all (λ m. p m.1) ms

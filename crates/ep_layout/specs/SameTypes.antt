@@ -1,5 +1,6 @@
 -- Equal types.
 use Rattle.std.specs.Prelude.{◌≡◌, ℕ, Bool, true, false, not, ◌&&◌, ◌==◌, ◌++◌, refl}
+use Rattle.std.proofs.lemmas.Bool.{and_parts}
 use Rattle.std.specs.Cmp.{IsPartialEquivalence, IsEquivalence, equiv, both_ways}
 use Rattle.std.specs.Hash as fed
 use Rattle.std.specs.Hash.{HashWrites}
@@ -53,10 +54,6 @@ int_itself U32 = refl
 int_itself I64 = refl
 int_itself U64 = refl
 
-both : (a b : Bool) → a && b ≡ true → (a ≡ true) × (b ≡ true)
-both true b h = (refl, h)
-both false b h = absurd (true≢false (sym h))
-
 join : (a b : Bool) → a ≡ true → b ≡ true → a && b ≡ true
 join true b p q = q
 join false b p q = absurd (true≢false (sym p))
@@ -68,7 +65,7 @@ pub same_types : (s t : Ty) → is_same_type s t ≡ true → s ≡ t
 same_types Void Void h = refl
 same_types (Int i) (Int j) h = ap Int (same_int i j h)
 same_types (Ptr d) (Ptr e) h = ap Ptr (eqb-true d e h)
-same_types (Array d m) (Array e n) h = let p = both (d == e) (m == n) h in same_array d m e n p.0 p.1
+same_types (Array d m) (Array e n) h = let p = and_parts (d == e) (m == n) h in same_array d m e n p.0 p.1
 same_types (Aggregate a) (Aggregate b) h = ap Aggregate (eqb-true a b h)
 same_types s t h = absurd (true≢false (sym h))
 

@@ -1,5 +1,6 @@
 -- A pass has no state for a way out that the text doesn't have.
-use Rattle.std.proofs.Common.{◌≡◌, ◌⊎◌, inl, inr, ℕ, zero, suc, ◌-◌, ◌&&◌, ◌||◌, List, [], refl, sym, subst, Option}
+use Rattle.std.proofs.Common.{◌≡◌, ◌⊎◌, inl, inr, ℕ, zero, suc, ◌-◌, ◌&&◌, List, [], refl, sym, subst, Option}
+use Rattle.std.proofs.lemmas.Bool.{or_parts}
 use Rattle.ep_int.proofs.Basics.{or_false-right}
 use Rattle.std.proofs.lemmas.Bool.{and_cases}
 use Rattle.std.proofs.Common.{Some, None, Bool, true, false, if◌then◌else◌, slice_get}
@@ -20,10 +21,6 @@ use Rattle.ep_pass.specs.Pass.{by_order_pass, unrolled, in_body, one_turn, cut_t
 use Rattle.ep_pass.specs.Pass.{joint_turn, is_stable, next_head, dropped, settled, from_head, last_turns}
 use Rattle.ep_pass.specs.Pass.{joint_rounds, loop_pass, pass, pass_all}
 use Rattle.ep_pass.proofs.Reaching.{way, at}
-
-or_left : (a b : Bool) → (a || b) ≡ false → a ≡ false
-or_left true b e = cc
-or_left false b e = refl
 
 -- ---- states that no way comes to
 
@@ -174,10 +171,10 @@ module _ {S : Type 0} (o : StateOps S) where
 
 either_has : (k : Way) (x y : TextWays) → has_way (either_way x y) k ≡ false
     → (has_way x k ≡ false) × (has_way y k ≡ false)
-either_has on x y e = (or_left x.at_end y.at_end e, or_false-right x.at_end y.at_end e)
-either_has broken x y e = (or_left x.by_break y.by_break e, or_false-right x.by_break y.by_break e)
-either_has continued x y e = (or_left x.by_continue y.by_continue e, or_false-right x.by_continue y.by_continue e)
-either_has returned x y e = (or_left x.by_return y.by_return e, or_false-right x.by_return y.by_return e)
+either_has on x y e = or_parts x.at_end y.at_end e
+either_has broken x y e = or_parts x.by_break y.by_break e
+either_has continued x y e = or_parts x.by_continue y.by_continue e
+either_has returned x y e = or_parts x.by_return y.by_return e
 
 -- of a row: none of the first's other ways, and it has no end or the rest has no such way
 then_has : (k : Way) (x y : TextWays) → has_way (then_ways x y) k ≡ false → (x.at_end ≡ false) ⊎ (has_way y k ≡ false)
@@ -196,9 +193,9 @@ module _ {S : Type 0} (o : StateOps S) where
   first_ways : (k : Way) (x y : TextWays) (p : Pass S) → Only x p → has_way (then_ways x y) k ≡ false
       → way k p.ways ≡ None
   first_ways on x y p h e = refl
-  first_ways broken x y p h e = h broken (or_left x.by_break (x.at_end && y.by_break) e)
-  first_ways continued x y p h e = h continued (or_left x.by_continue (x.at_end && y.by_continue) e)
-  first_ways returned x y p h e = h returned (or_left x.by_return (x.at_end && y.by_return) e)
+  first_ways broken x y p h e = h broken (or_parts x.by_break (x.at_end && y.by_break) e).0
+  first_ways continued x y p h e = h continued (or_parts x.by_continue (x.at_end && y.by_continue) e).0
+  first_ways returned x y p h e = h returned (or_parts x.by_return (x.at_end && y.by_return) e).0
 
   row_only : (k : Way) (x y : TextWays) (p : Pass S) (w : Ways S) (go : S → Ways S → Pass S) → Only x p → OnlyRow y go
       → has_way (then_ways x y) k ≡ false → way k w ≡ None → at k (then_pass o p w go) ≡ None

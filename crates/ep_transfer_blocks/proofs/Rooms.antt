@@ -1,14 +1,12 @@
 -- Where the leaves of a program's blocks lie.
-use Rattle.std.proofs.Common.{◌≡◌, ℕ, ◌+◌, ◌≤◌, true, List, [], ◌∷◌, length, ltb, get_or, map, slice_get}
-use Rattle.ep_layout.proofs.Basics.{at_depth-none}
-use Rattle.std.proofs.Common.{Option, Some, None, unwrap_or, sym, ap, ◌∙◌, subst}
+use Rattle.std.proofs.Common.{◌≡◌, ℕ, ◌≤◌, true, List, [], length, ltb, get_or, map, slice_get}
+use Rattle.std.proofs.Common.{Some, None, sym, ap, ◌∙◌, subst}
 use Rattle.std.specs.Option.{option_map}
 use Rattle.std.proofs.lemmas.Option.{slice_get-get_or, slice_get-map, slice_get_past}
 use Rattle.std.proofs.lemmas.Bool.{ltb-true}
 use Rattle.ep_int.specs.declared.types.Model.{Model}
 use Rattle.ep_layout.specs.declared.types.Leaf.{Leaf}
-use Rattle.ep_layout.specs.Layout.{Layout}
-use Rattle.ep_layout.specs.Table.{Table, layout_of, layout_rules, leaves, size}
+use Rattle.ep_layout.specs.Table.{leaves, size}
 use Rattle.ep_cells.specs.Kill.{AreLeavesIn}
 use Rattle.ep_bitslice.specs.declared.cell.Side.{Side}
 use Rattle.ep_cells.specs.Kill.{killed_cells}
@@ -24,16 +22,6 @@ use Rattle.ep_core.proofs.Operands.{sizes}
 use Rattle.ep_int.specs.declared.types.Order.TheVariants.{Little}
 use Rattle.ep_domain.specs.Domain.{Ops}
 use Rattle.ep_transfers.proofs.Kills.{room}
-
-no_layout : (t : Table) (n : ℕ) → length t.types ≤ n → layout_of t n ≡ None
-no_layout t n h = at_depth-none (layout_rules t.model) t (length t.types + length t.completed) n (slice_get_past t.types n h)
-
--- what the table lacks has no leaves and no bytes
-pub no_leaves : (t : Table) (n : ℕ) → length t.types ≤ n → leaves t n ≡ []
-no_leaves t n h = ap (λ (l : Option Layout). unwrap_or (option_map (λ (l : Layout). l.leaves) l) []) (no_layout t n h)
-
-pub no_size : (t : Table) (n : ℕ) → length t.types ≤ n → unwrap_or (size t n) 0 ≡ 0
-no_size t n h = ap (λ (l : Option Layout). unwrap_or (option_map (λ (l : Layout). l.size) l) 0) (no_layout t n h)
 
 pub block_room : {N : Type 0} (D : Ops N) (p : Program) → is_well_formed p ≡ true → (b : ℕ) (x : Block)
     → slice_get p.blocks b ≡ Some x → (m : Model) → m ≡ p.types.model → AreLeavesIn m 0 x.size (leaves p.types x.ty)

@@ -1,5 +1,6 @@
 -- Cells that lie one behind the other and mention no cell: to write one after the other is to write all at once.
 use Rattle.std.proofs.Common.{◌≡◌, ℕ, ◌+◌, ◌-◌, ◌≤◌, Bool, true, false, ◌&&◌, nat_eq, nat_lt, nat_le, List, [], ◌∷◌}
+use Rattle.ep_cell_ranges.proofs.Basics.{inside_by}
 use Rattle.ep_transfers.proofs.Patches.{self_le}
 use Rattle.std.proofs.Common.{◌++◌, map, Option, Some, None, IfSome, refl, sym, ap, ◌∙◌, subst, arith}
 use Rattle.std.specs.Option.{option_map_or}
@@ -74,9 +75,6 @@ module _ {N : Type 0} (D : Ops N) (f : Form) (stays : Stays f) where
 miss_by : (t : Bool) (b r k q l : ℕ) → r + k ≤ q
     → (t && (nat_eq b b && (nat_lt r (q + l) && nat_lt q (r + k)))) ≡ false
 miss_by t b r k q l h = grind (arith, nat_tests)
-
-inside_by : (a t q l : ℕ) → a ≤ q → q + l ≤ a + t → (nat_le a q && nat_le (q + l) (a + t)) ≡ true
-inside_by a t q l h i = grind (arith, nat_tests)
 
 no_more : (t m : ℕ) → m ≤ t → t - m ≡ 0 → t ≡ m
 no_more t m h i = omega (arith, h, i)

@@ -1,27 +1,16 @@
 -- The blocks of a well-formed program have types of its table, and are few.
-use Rattle.std.proofs.Common.{◌≡◌, ℕ, zero, suc, ◌+◌, ◌<◌, ◌≤◌, Bool, true, false, ltb, nat_le, List, [], ◌∷◌, length}
+use Rattle.std.proofs.Common.{◌≡◌, ℕ, zero, suc, ◌<◌, ◌≤◌, Bool, true, false, ltb, nat_le, List, [], ◌∷◌, length}
+use Rattle.ep_core.proofs.Tables.{no_size}
 use Rattle.ep_core.proofs.Basics.{is_number-size}
-use Rattle.ep_layout.proofs.Basics.{at_depth-none}
-use Rattle.std.proofs.Common.{sum_by, slice_get, Option, Some, None, unwrap_or, refl, ap, subst, arith}
+use Rattle.std.proofs.Common.{sum_by, slice_get, Some, refl, subst, arith}
 use Rattle.std.specs.List.{list_all}
-use Rattle.std.specs.Option.{option_map}
 use Rattle.std.proofs.lemmas.Bool.{and_parts, leb-true, ltb-true, ltb-false}
-use Rattle.std.proofs.lemmas.Option.{slice_get_past}
 use Rattle.std.proofs.lemmas.List.Sums.{sum_by-cons}
-use Rattle.ep_layout.specs.Layout.{Layout}
 use Rattle.ep_layout.specs.Table as table
-use Rattle.ep_layout.specs.Table.{Table, layout_of, layout_rules}
+use Rattle.ep_layout.specs.Table.{Table}
 use Rattle.ep_core.specs.Program.{Block, Program}
 use Rattle.ep_core.specs.WellFormed.{is_number, block_fits, is_well_formed}
 use Rattle.ep_core.proofs.Operands.{sizes}
-
-no_layout : (t : Table) (n : ℕ) → length t.types ≤ n → layout_of t n ≡ None
-no_layout t n h =
-    at_depth-none (layout_rules t.model) t (length t.types + length t.completed) n (slice_get_past t.types n h)
-
-no_size : (t : Table) (n : ℕ) → length t.types ≤ n → unwrap_or (table.size t n) 0 ≡ 0
-no_size t n h =
-    ap (λ (l : Option Layout). unwrap_or (option_map (λ (l : Layout). l.size) l) 0) (no_layout t n h)
 
 -- each has a byte at least
 all_by : (t : table.Table) (bs : List Block) (i : ℕ) (x : Block) → list_all (block_fits t) bs ≡ true

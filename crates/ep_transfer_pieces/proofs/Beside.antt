@@ -1,6 +1,8 @@
 -- Cells of a row that are written one after the other are one write of all of them, where no cell lies partly in their
 -- bytes.
-use Rattle.std.proofs.Common.{◌≡◌, ℕ, ◌+◌, ◌<◌, ◌≤◌, Bool, true, false, ◌&&◌, nat_eq, nat_lt, nat_le, List, [], ◌∷◌}
+use Rattle.std.proofs.Common.{◌≡◌, ℕ, ◌+◌, ◌<◌, ◌≤◌, Bool, true, false, ◌&&◌, nat_eq, nat_lt, List, [], ◌∷◌}
+use Rattle.ep_transfers.proofs.PieceReads.{no_further}
+use Rattle.ep_cell_ranges.proofs.Basics.{inside_by}
 use Rattle.std.proofs.Common.{◌++◌, map, None, IfSome, refl, sym, ap, ◌∙◌, subst, arith}
 use Rattle.std.proofs.lemmas.Bool.Decides.{nat_tests}
 use Rattle.ep_int.specs.declared.types.Model.{Model}
@@ -12,7 +14,7 @@ use Rattle.ep_cells.specs.Cells.{on_left, on_right, place_of, share_memory, IsIn
 use Rattle.ep_cells.specs.Forms.{form_after}
 use Rattle.ep_cells.specs.Look.{is_some_partly_in}
 use Rattle.ep_cells.specs.Write.{fate_by_write}
-use Rattle.ep_cells.specs.States.{Known, IsCell, HasForm, IsFormOf, EachPair, AreCells}
+use Rattle.ep_cells.specs.States.{Known, IsCell, IsFormOf, EachPair, AreCells}
 use Rattle.ep_cell_ranges.specs.Ranges.{Form, with_form, replaced, form_by_replace}
 use Rattle.ep_reads.specs.SplitLaws.{SplitLaws}
 use Rattle.ep_cell_ranges.specs.Sound.{AreNew, IsInside, Misses}
@@ -29,12 +31,6 @@ miss_by : (t : Bool) (b c a z q w : ℕ) → a + z ≤ q
     → (t && (nat_eq b c && (nat_lt a (q + w) && nat_lt q (a + z)))) ≡ false
 miss_by t b c a z q w h = grind (arith, nat_tests)
 
-inside_by : (a n q z : ℕ) → a ≤ q → q + z ≤ a + n → (nat_le a q && nat_le (q + z) (a + n)) ≡ true
-inside_by a n q z h i = grind (arith, nat_tests)
-
-pub and_none : (z : ℕ) → z + 0 ≡ z
-and_none z = omega arith
-
 -- ---- one more
 
 module _ {N : Type 0} (D : Ops N) (d : Model) where
@@ -49,7 +45,7 @@ module _ {N : Type 0} (D : Ops N) (d : Model) where
 
   pub row_more : (s : Side) (b a e : ℕ) (cs : List (Cell N)) (c : Cell N) → IsRow d s b a cs
       → e ≡ a + row_bytes d cs → StandsAt d s b e c → IsRow d s b a (cs ++ c ∷ [])
-  row_more s b a e [] c r h f = (subst (λ q. StandsAt d s b q c) (h ∙ and_none a) f, tt)
+  row_more s b a e [] c r h f = (subst (λ q. StandsAt d s b q c) (h ∙ no_further a) f, tt)
   row_more s b a e (x ∷ cs) c r h f =
       (r.0, row_more s b (a + size_of d x.what) e cs c r.1 (omega (arith, h)) f)
 
@@ -147,7 +143,7 @@ module _ {N : Type 0} (D : Ops N) (split : SplitLaws D) (more : MoreSplitLaws D)
   row_is [] k a n c m cells r e none =
       ap (λ p. replaced D p (c ∷ []) k)
       (place_is d s b a (size_of d c.what) c (fills d s b a c r.0)
-      ∙ ap (at s b a) (sym (e ∙ and_none (size_of d c.what))))
+      ∙ ap (at s b a) (sym (e ∙ no_further (size_of d c.what))))
   row_is (y ∷ cs) k a n c m cells r e none =
       let z = size_of d c.what in
       let rest = row_bytes d (y ∷ cs) in
@@ -157,7 +153,7 @@ module _ {N : Type 0} (D : Ops N) (split : SplitLaws D) (more : MoreSplitLaws D)
       let full : Fills k.model s b a z c = subst (λ w. Fills w s b a z c) (sym m) (fills d s b a c r.0) in
       let one : AreNew k.model p k.cells (c ∷ []) =
       subst (λ w. AreNew w p k.cells (c ∷ [])) (sym m)
-      (new_row d s b a z k.cells (c ∷ []) (sym (and_none z)) (r.0, tt)) in
+      (new_row d s b a z k.cells (c ∷ []) (sym (no_further z)) (r.0, tt)) in
       let both : AreNew k.model (at s b a n) k.cells (c ∷ y ∷ cs) =
       subst (λ w. AreNew w (at s b a n) k.cells (c ∷ y ∷ cs)) (sym m) (new_row d s b a n k.cells (c ∷ y ∷ cs) e r) in
       let same = formed_row d s b (form_by_replace D p k) (none_none a z k) (a + z) (y ∷ cs) r.1 in

@@ -1,9 +1,11 @@
 -- What waits to be written, and what it comes to.
-use Rattle.std.proofs.Common.{◌≡◌, ℕ, ◌+◌, ◌^◌, ◌≤◌, Bool, true, false, ◌&&◌, ◌||◌, List, [], ◌∷◌, ◌++◌, None}
-use Rattle.std.proofs.Common.{nat_eq, if◌then◌else◌, refl, sym, ap, ◌∙◌, subst, arith}
-use Rattle.std.proofs.lemmas.Bool.{and_parts, eqb-true, eq-eqb, and_from}
+use Rattle.std.proofs.Common.{◌≡◌, ℕ, ◌+◌, ◌^◌, ◌≤◌, Bool, true, false, ◌&&◌, List, [], ◌∷◌, ◌++◌, None}
+use Rattle.ep_transfers.proofs.PieceReads.{no_further}
+use Rattle.ep_transfers.proofs.Loosened.{same_itself}
+use Rattle.ep_reads.proofs.Sides.{side_same}
+use Rattle.std.proofs.Common.{nat_eq, if◌then◌else◌, refl, sym, ap, ◌∙◌, subst}
+use Rattle.std.proofs.lemmas.Bool.{and_parts, eqb-true}
 use Rattle.ep_int.specs.declared.types.Model.{Model}
-use Rattle.ep_int.specs.declared.types.Scalar.{Scalar}
 use Rattle.ep_int.specs.Types.{size_of}
 use Rattle.ep_bitslice.specs.declared.cell.Side.{Side}
 use Rattle.ep_bitslice.specs.declared.cell.Side.TheVariants as cell_side
@@ -12,9 +14,9 @@ use Rattle.ep_cells.specs.declared.cell.Cell.{Cell}
 use Rattle.ep_cells.specs.declared.place.ByteRange.{ByteRange}
 use Rattle.ep_cells.specs.Cells.{place_of, is_same_side}
 use Rattle.ep_cells.specs.Forms.{common_form}
-use Rattle.ep_cells.specs.States.{Known, IsCell, AreCells, Each}
+use Rattle.ep_cells.specs.States.{Known, Each}
 use Rattle.ep_cell_ranges.specs.Ranges.{Form, replaced}
-use Rattle.ep_cell_ranges.specs.Spots.{Spot, is_same_spot, all_spots}
+use Rattle.ep_cell_ranges.specs.Spots.{Spot, all_spots}
 use Rattle.ep_cell_ranges.specs.Sound.{AreNew}
 use Rattle.ep_cell_ranges.specs.Follow.{FormFits}
 use Rattle.ep_cell_ranges.specs.Laws.{ReplaceLaws}
@@ -22,7 +24,7 @@ use Rattle.ep_core.specs.Runs.{left, right}
 use Rattle.ep_equalities.specs.declared.pair.Mode.{Mode}
 use Rattle.ep_equalities.specs.declared.pair.Mode.TheVariants.{Both, Left, Right}
 use Rattle.ep_transfers.specs.Places.{Places, moved_spots, moved_places}
-use Rattle.ep_transfers.specs.Writes.{Item, underway, lacks, form_unless, write, write_now, write_side, write_both}
+use Rattle.ep_transfers.specs.Writes.{Item, underway, lacks, form_unless, write_now, write_side, write_both}
 use Rattle.ep_transfers.specs.Writes.{write_same, write_shared, write_shared_each}
 use Rattle.ep_transfer_places.specs.Room.{HaveRoom, BothHaveRoom}
 use Rattle.ep_transfer_writes.specs.Running.{RunsAt, item_cell}
@@ -32,20 +34,7 @@ use Rattle.ep_transfer_pieces.specs.declared.rows.Pending.{Pending}
 use Rattle.ep_transfer_pieces.specs.Puts.{after_put, FitsPut}
 use Rattle.ep_transfer_pieces.specs.Rows.{StandsAt, IsRow, row_bytes, each_written, CanGo, reached, IsReady, Goes}
 use Rattle.ep_transfer_pieces.specs.Rows.{Follows, goes_on}
-use Rattle.ep_transfer_pieces.proofs.Beside.{one_more, more_bytes, row_more, row_model, and_none, new_row}
-
--- ---- sides
-
-same_side : (s r : Side) → is_same_side s r ≡ true → s ≡ r
-same_side cell_side.Left cell_side.Left h = refl
-same_side cell_side.Left cell_side.Right h = absurd (let e : false ≡ true = h in cc)
-same_side cell_side.Left cell_side.Shared h = absurd (let e : false ≡ true = h in cc)
-same_side cell_side.Right cell_side.Left h = absurd (let e : false ≡ true = h in cc)
-same_side cell_side.Right cell_side.Right h = refl
-same_side cell_side.Right cell_side.Shared h = absurd (let e : false ≡ true = h in cc)
-same_side cell_side.Shared cell_side.Left h = absurd (let e : false ≡ true = h in cc)
-same_side cell_side.Shared cell_side.Right h = absurd (let e : false ≡ true = h in cc)
-same_side cell_side.Shared cell_side.Shared h = refl
+use Rattle.ep_transfer_pieces.proofs.Beside.{one_more, more_bytes, row_more, row_model, new_row}
 
 -- ---- one cell
 
@@ -65,7 +54,7 @@ module _ {N : Type 0} where
   one_new d e c p zs new m f g h =
       subst (AreNew d p zs) (sym g)
       (subst (λ q. AreNew d q zs (c ∷ [])) (sym (f ∙ ap (λ w. place_of w c) m))
-      (new_row d c.side c.block c.offset (size_of d c.what) zs (c ∷ []) (sym (and_none (size_of d c.what)))
+      (new_row d c.side c.block c.offset (size_of d c.what) zs (c ∷ []) (sym (no_further (size_of d c.what)))
       (alone d c h, tt)))
 
   pub one_row : (d : Model) (c : Cell N) (cs : List (Cell N)) → cs ≡ c ∷ [] → CanGo d c
@@ -74,7 +63,7 @@ module _ {N : Type 0} where
 
   pub one_bytes : (d : Model) (c : Cell N) (cs : List (Cell N)) (n : ℕ) → cs ≡ c ∷ [] → n ≡ size_of d c.what
       → n ≡ row_bytes d cs
-  one_bytes d c cs n e f = f ∙ sym (and_none (size_of d c.what)) ∙ sym (ap (row_bytes d) e)
+  one_bytes d c cs n e f = f ∙ sym (no_further (size_of d c.what)) ∙ sym (ap (row_bytes d) e)
 
   pub none_row : (d : Model) (s : Side) (b a : ℕ) (cs : List (Cell N)) → cs ≡ [] → IsRow d s b a cs
   none_row d s b a cs e = subst (IsRow d s b a) (sym e) tt
@@ -93,7 +82,7 @@ module _ {N : Type 0} where
       let v = and_parts (nat_eq p.block q.0) (nat_eq (p.start + p.bytes) q.1) u.1 in
       record {
         cell = h.cell;
-        side = h.side ∙ sym (same_side p.side s u.0);
+        side = h.side ∙ sym (side_same p.side s u.0);
         block = h.block ∙ sym (eqb-true p.block q.0 v.0);
         offset = h.offset ∙ sym (eqb-true (p.start + p.bytes) q.1 v.1);
         form = h.form;
@@ -178,9 +167,6 @@ module _ {N : Type 0} (D : Ops N) where
 
 -- ---- what is written of a list
 
-spot_itself : (q : Spot) → is_same_spot q q ≡ true
-spot_itself q = and_from (nat_eq q.0 q.0) (nat_eq q.1 q.1) (eq-eqb q.0 q.0 refl) (eq-eqb q.1 q.1 refl)
-
 module _ {N : Type 0} (D : Ops N) where
   abbrev pub put_cell : Side → Spot → Put N → Cell N
   put_cell s q p = item_cell D s p.what (item_view p.item) (q.0, q.1 + p.offset)
@@ -209,7 +195,7 @@ module _ {N : Type 0} (D : Ops N) where
       ∙ ap (λ qs. (write_same D p.what (r ∷ []) (moved_spots p.offset qs) u).known) er
       ∙ ap (λ t. (if t then write_shared D p.what r u else write_shared_each D p.what (all_spots (r ∷ [])
       (r ∷ [])) u).known)
-      (spot_itself r)
+      (same_itself r)
 
   by_mode : (m : Mode) (joint : Bool) (to : Places) (s : Side) (q : Spot) (p : Put N) (j : Known N)
       → RunsAt m joint to (item_view p.item) (s, q)

@@ -27,7 +27,7 @@ not_both b (x ∷ xs) ys h i j =
     (subst (λ c. contains c (xs ++ ys) ≡ true) (eqb-true b x e) (contains-right b xs ys j))))
     (λ e. not_both b xs ys d.1 e j) (or_cases (nat_eq b x) (contains b xs) i)
 
-different_first : (xs ys : List ℕ) → are_different (xs ++ ys) ≡ true → are_different xs ≡ true
+pub different_first : (xs ys : List ℕ) → are_different (xs ++ ys) ≡ true → are_different xs ≡ true
 different_first [] ys h = refl
 different_first (x ∷ xs) ys h =
     let d = and_parts (not (contains x (xs ++ ys))) (are_different (xs ++ ys)) h in
@@ -35,7 +35,7 @@ different_first (x ∷ xs) ys h =
     (contains x (xs ++ ys)) (not-true (contains x (xs ++ ys)) d.0) (contains-left x xs ys e))) in
     rw (off, different_first xs ys d.1) refl
 
-different_second : (xs ys : List ℕ) → are_different (xs ++ ys) ≡ true → are_different ys ≡ true
+pub different_second : (xs ys : List ℕ) → are_different (xs ++ ys) ≡ true → are_different ys ≡ true
 different_second [] ys h = h
 different_second (x ∷ xs) ys h =
     different_second xs ys (and_parts (not (contains x (xs ++ ys))) (are_different (xs ++ ys)) h).1
@@ -49,7 +49,7 @@ tested_in test b (x ∷ xs) h i =
 
 -- ---- blocks of functions
 
-owned : (fs : List Function) (k : ℕ) (f : Function) → slice_get fs k ≡ Some f → (b : ℕ)
+pub owned : (fs : List Function) (k : ℕ) (f : Function) → slice_get fs k ≡ Some f → (b : ℕ)
     → contains b (own_blocks f) ≡ true → contains b (flat_map own_blocks fs) ≡ true
 owned [] k f at b h = absurd (let q : None ≡ Some f = at in cc)
 owned (g ∷ fs) zero f at b h =
@@ -58,7 +58,7 @@ owned (g ∷ fs) zero f at b h =
 owned (g ∷ fs) (suc k) f at b h =
     contains-right b (own_blocks g) (flat_map own_blocks fs) (owned fs k f at b h)
 
-different_at : (fs : List Function) (k : ℕ) (f : Function) → slice_get fs k ≡ Some f
+pub different_at : (fs : List Function) (k : ℕ) (f : Function) → slice_get fs k ≡ Some f
     → are_different (flat_map own_blocks fs) ≡ true → are_different (own_blocks f) ≡ true
 different_at [] k f at h = absurd (let q : None ≡ Some f = at in cc)
 different_at (g ∷ fs) zero f at h =

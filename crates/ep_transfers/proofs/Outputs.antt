@@ -22,7 +22,7 @@ use Rattle.ep_evaluation.proofs.General.{reliable_none}
 use Rattle.ep_transfers.specs.Places.{has_values}
 use Rattle.ep_transfers.specs.Transfers.{if_goes_on, differ_faults, differs_if, put_out}
 
-none_left : {A : Type 0} (xs ys : List A) → xs ++ ys ≡ [] → (xs ≡ []) × (ys ≡ [])
+pub none_left : {A : Type 0} (xs ys : List A) → xs ++ ys ≡ [] → (xs ≡ []) × (ys ≡ [])
 none_left [] ys e = (refl, e)
 none_left (x ∷ xs) ys e = absurd (cc)
 

@@ -1,5 +1,6 @@
 -- Main, and the report on a program.
 use Rattle.std.proofs.Common.{◌≡◌, ℕ, ◌+◌, ◌≤◌, Bool, true, false, List, [], ◌++◌, fold, slice_get, refl, sym, ap}
+use Rattle.std.proofs.lemmas.List.{append-nil}
 use Rattle.std.proofs.Common.{◌∙◌, subst, arith, Option, Some, None, Result, Ok, Err, OnOk, OnErr, if◌then◌else◌}
 use Rattle.ep_int.specs.declared.types.Order.{Order}
 use Rattle.ep_alarms.specs.declared.types.Alarm.{Alarm}
@@ -12,7 +13,7 @@ use Rattle.ep_pass.specs.Pass.{turns_of, heads_of}
 use Rattle.ep_flows.specs.View.{Told, Tells, HasPassed, CountsUpTo, ways_view, Plan, capped, more_heads}
 use Rattle.ep_walk_parts.specs.Pieces.{o, function}
 use Rattle.ep_flows.specs.declared.flow.Flow.{Flow}
-use Rattle.ep_flows.proofs.Telling.{nil_right, tells_both}
+use Rattle.ep_flows.proofs.Telling.{tells_both}
 use Rattle.ep_flows.proofs.Combined.{tells_at}
 use Rattle.ep_flows.proofs.Counting.{told_count}
 
@@ -89,7 +90,7 @@ module _ {S : Type 0} (ops : Program → (Side → Order) → StateOps S) (c : P
 
       listed : (keeps : Bool) (hs : List S) → more_heads (if keeps then Some [] else None)
           (hs ++ []) ≡ (if keeps then Some hs else None)
-      listed true hs = ap (λ l. Some l) (nil_right hs)
+      listed true hs = ap (λ l. Some l) (append-nil hs)
       listed false hs = refl
 
 -- passes that are added to those before

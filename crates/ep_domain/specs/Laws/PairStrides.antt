@@ -1,5 +1,6 @@
 -- Strides of pairs. A part whose domain keeps them keeps the same in a pair, and of the other part nothing is asked.
 use Rattle.std.specs.Prelude.{◌≡◌, ℕ, ◌+◌, ◌*◌, ◌%◌, ◌<◌, ◌≤◌, ℤ, pos, ◌-ℤ◌, Bool, true, false, cond, ◌||◌, Option}
+use Rattle.ep_int.proofs.Basics.{if_some-map}
 use Rattle.std.specs.Prelude.{Some, None, IsTrue, IfSome, IsSomeAnd, refl}
 use Rattle.std.proofs.Common.{arith, ap, sym, subst}
 use Rattle.std.proofs.lemmas.Bool.{and_parts}
@@ -172,10 +173,6 @@ module _ {A B : Type 0} (f : Ghosts A) (g : Ghosts B) (law : Lawful f.ops) (too 
       single_cut q v None h = tt
       single_cut q v (Some e) h = to_if (BothSingle f g law too v) (cut_to {f = f} {g = g} q.left q.right e) h
 
-map_if : {X : Type 0} (P Q : X → Type 0) (o : Option X) → ((x : X) → P x → Q x) → IfSome o P → IfSome o Q
-map_if P Q None go h = tt
-map_if P Q (Some x) go h = go x h
-
 -- two facts that come to the same
 keeps_same : {N : Type 0} (d : Ops N) (S T : ℕ → ℕ → N → Type 0) → ((r s : ℕ) (a : N) → S r s a → T r s a) →
     ((r s : ℕ) (a : N) → T r s a → S r s a) → KeepsAs d S → KeepsAs d T
@@ -183,12 +180,12 @@ keeps_same d S T to from k = record {
   single = λ v s h p q. to _ s _ (k.single v s h p q);
   join = λ a b r s i h l. to r s _ (k.join a b r s i (from r s a h) (from r s b l));
   widen = λ a b r s i h l. to r s _ (k.widen a b r s i (from r s a h) (from r s b l));
-  cut = λ a lo hi r s i h. map_if (S r s) (T r s) (d.cut a lo hi) (to r s) (k.cut a lo hi r s i (from r s a h));
-  add = λ a b r q s i j h l. map_if (S ((r + q) % s) s) (T ((r + q) % s) s) (d.op Add I64 a b).value
+  cut = λ a lo hi r s i h. if_some-map (S r s) (T r s) (d.cut a lo hi) (to r s) (k.cut a lo hi r s i (from r s a h));
+  add = λ a b r q s i j h l. if_some-map (S ((r + q) % s) s) (T ((r + q) % s) s) (d.op Add I64 a b).value
       (to ((r + q) % s) s) (k.add a b r q s i j (from r s a h) (from q s b l));
-  sub = λ a b r q s i j h l. map_if (S (residue s (pos r -ℤ pos q)) s) (T (residue s (pos r -ℤ pos q)) s)
+  sub = λ a b r q s i j h l. if_some-map (S (residue s (pos r -ℤ pos q)) s) (T (residue s (pos r -ℤ pos q)) s)
       (d.op Sub I64 a b).value (to (residue s (pos r -ℤ pos q)) s) (k.sub a b r q s i j (from r s a h) (from q s b l));
-  mul = λ a b s n i h. map_if (S 0 s) (T 0 s) (d.op Mul I64 a b).value (to 0 s) (k.mul a b s n i h);
+  mul = λ a b s n i h. if_some-map (S 0 s) (T 0 s) (d.op Mul I64 a b).value (to 0 s) (k.mul a b s n i h);
 }
 
 module _ {A B : Type 0} (f : Ghosts A) (g : Ghosts B) (law : Lawful f.ops) (too : Lawful g.ops) where

@@ -1,5 +1,6 @@
 -- Narrowing keeps the ranges of types and single numbers.
 use Rattle.std.specs.Prelude.{◌≡◌, ℤ, pos, Option, Some, IsSomeAnd}
+use Rattle.ep_int.proofs.Arithmetic.{zero_in_range}
 use Rattle.std.proofs.Common.{sym, subst}
 use Rattle.ep_int.specs.declared.types.IntType.{IntType}
 use Rattle.ep_int.specs.Arith.{IsOfSomeType}
@@ -8,15 +9,15 @@ use Rattle.ep_domain.specs.Domain.{Lawful}
 use Rattle.ep_domain.specs.declared.num.Num.{Ghosts}
 use Rattle.ep_domain.specs.declared.pair.Pair.{Pair}
 use Rattle.ep_domain.specs.Pairs.{narrowed, singles, single_of}
-use Rattle.ep_domain.specs.Laws.Shared.{zero_of, nearest_of_some_type, nearest_same}
+use Rattle.ep_domain.specs.Laws.Shared.{nearest_of_some_type, nearest_same}
 use Rattle.ep_range_laws.proofs.Options.{unwrapped}
 use Rattle.ep_domain.specs.Laws.Narrowed.{HoldsPair, BothSingle, narrowed_holds, singles_narrowed}
 
 module _ {A B : Type 0} (f : Ghosts A) (g : Ghosts B) (law : Lawful f.ops) (too : Lawful g.ops) where
   pub top_is_there : (t : IntType) →
       IsSomeAnd (narrowed {f = f} {g = g} (f.ops.top t) (g.ops.top t)) (HoldsPair f g law too (pos 0))
-  top_is_there t = narrowed_holds f g law too _ _ (pos 0) (law.top_holds t (pos 0) (zero_of t))
-      (too.top_holds t (pos 0) (zero_of t))
+  top_is_there t = narrowed_holds f g law too _ _ (pos 0) (law.top_holds t (pos 0) (zero_in_range t))
+      (too.top_holds t (pos 0) (zero_in_range t))
 
   pub single_is_there : (v : ℤ) → IsOfSomeType v →
       IsSomeAnd (narrowed {f = f} {g = g} (f.ops.single v) (g.ops.single v)) (BothSingle f g law too v)

@@ -1,7 +1,7 @@
 -- The laws of ranges, inclusion and widening of pairs.
 use Rattle.std.specs.Prelude.{◌≡◌, ◌≢◌, ℕ, ◌+◌, ◌<◌, ◌≤◌, ℤ, ◌⊎◌, Bool, true, false, ◌&&◌, IsTrue, nat_lt, min, refl}
+use Rattle.std.proofs.lemmas.Bool.{ltb-true, ltb-false}
 use Rattle.std.proofs.Common.{arith, ap, subst, inl, inr}
-use Rattle.std.proofs.lemmas.Bool.Decides.{nat_tests}
 use Rattle.std.proofs.lemmas.Bool.{and_parts, and_from}
 use Rattle.ep_range_laws.specs.Ranges.{Encloses}
 use Rattle.ep_domain.specs.Domain.{Ops, Lawful}
@@ -12,18 +12,12 @@ use Rattle.ep_domain.specs.Pairs.{holds_of, range_of, is_within, widening_of, ra
 use Rattle.ep_domain.specs.Laws.Shared.{common_encloses}
 use Rattle.ep_domain.specs.Laws.Narrowed.{shared_prop}
 
-from_lt : (x y : ℕ) → nat_lt x y ≡ true → x < y
-from_lt x y e = grind (arith, nat_tests)
-
-from_not_lt : (x y : ℕ) → nat_lt x y ≡ false → y ≤ x
-from_not_lt x y e = grind (arith, nat_tests)
-
-le_or : (x y : ℕ) → (x ≤ y) ⊎ (y < x)
+pub le_or : (x y : ℕ) → (x ≤ y) ⊎ (y < x)
 le_or x y = at (nat_lt y x) refl
   where
     at : (t : Bool) → nat_lt y x ≡ t → (x ≤ y) ⊎ (y < x)
-    at true e = inr (from_lt y x e)
-    at false e = inl (from_not_lt y x e)
+    at true e = inr (ltb-true y x e)
+    at false e = inl (ltb-false y x e)
 
 -- ---- ranks of one domain
 
@@ -32,8 +26,8 @@ module _ {N : Type 0} (d : Ops N) (law : Lawful d) (small : d.height < 429496729
   by_rank {P} a b falls stays = at (nat_lt (d.rank (d.widen a b)) (d.rank a)) refl
     where
       at : (t : Bool) → nat_lt (d.rank (d.widen a b)) (d.rank a) ≡ t → P
-      at true e = falls (from_lt (d.rank (d.widen a b)) (d.rank a) e)
-      at false e = stays (from_not_lt (d.rank (d.widen a b)) (d.rank a) e)
+      at true e = falls (ltb-true (d.rank (d.widen a b)) (d.rank a) e)
+      at false e = stays (ltb-false (d.rank (d.widen a b)) (d.rank a) e)
 
   -- a rank that does not fall stays
   stays_equal : (a b : N) → d.rank a ≤ d.rank (d.widen a b) → (d.widen a b ≢ a → ⊥)

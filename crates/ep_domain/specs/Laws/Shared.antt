@@ -1,17 +1,16 @@
 -- What two values of lawful domains have in common.
 use Rattle.std.specs.Prelude.{◌≡◌, ℤ, pos, ◌≤ℤ◌, ◌<ℤ◌, ◌⊎◌, Bool, true, false, ◌&&◌, int_lt, refl}
+use Rattle.ep_int.proofs.Arithmetic.{zero_in_range}
 use Rattle.std.proofs.Common.{arith, ap, ◌∙◌, subst, inl, inr}
 use Rattle.std.proofs.lemmas.Int.{ints, clamps}
 use Rattle.std.proofs.lemmas.Bool.{and_parts, and_from, or_cases, or_left, or_right}
 use Rattle.ep_int.specs.declared.types.IntType.{IntType}
-use Rattle.ep_int.specs.Types.{InRange}
 use Rattle.ep_int.specs.Arith.{int_eq, IsOfSomeType}
 use Rattle.ep_range_laws.specs.Ranges.{IsRange, LiesIn, Encloses, nearest_number}
 use Rattle.ep_domain.specs.Domain.{Ops, Holds, Lawful}
 use Rattle.ep_domain.specs.Common.{common_part, common_range, is_shared, may_pair}
 use Rattle.ep_range_laws.proofs.Comparisons.{le_self, le_antisym, le_trans, from_lt_true, from_lt_false, between_true}
 use Rattle.ep_range_laws.proofs.Comparisons.{from_between}
-use Rattle.ep_range_laws.proofs.Types.{least_negative, greatest_positive}
 
 abbrev pub pair : ℤ → ℤ → ℤ × ℤ
 pair a b = (a, b)
@@ -46,9 +45,6 @@ common_encloses r s x y h k =
     let a = h.low in let b = h.high in let c = k.low in let d = k.high in
     record { low = omega (arith, ints, clamps); high = omega (arith, ints, clamps) }
 
-pub zero_of : (t : IntType) → InRange t (pos 0)
-zero_of t = let p = greatest_positive t in record { low = least_negative t; high = omega (arith, ints) }
-
 pub nearest_of_some_type : (v : ℤ) → IsOfSomeType (nearest_number v)
 nearest_of_some_type v = record { low = omega (arith, ints, clamps); high = omega (arith, ints, clamps) }
 
@@ -75,7 +71,7 @@ module _ {A B : Type 0} (d : Ops A) (e : Ops B) (law : Lawful d) (too : Lawful e
   held_shared a b z p q = shared_by a b _ z (common_holds a b z p q) p q
 
   pub tops_shared : (t : IntType) → may_pair d e (d.top t) (e.top t) ≡ true
-  tops_shared t = held_shared _ _ (pos 0) (law.top_holds t (pos 0) (zero_of t)) (too.top_holds t (pos 0) (zero_of t))
+  tops_shared t = held_shared _ _ (pos 0) (law.top_holds t (pos 0) (zero_in_range t)) (too.top_holds t (pos 0) (zero_in_range t))
 
   pub singles_shared : (v : ℤ) → IsOfSomeType v → may_pair d e (d.single v) (e.single v) ≡ true
   singles_shared v h = held_shared _ _ v (law.single_holds v h) (too.single_holds v h)

@@ -1,5 +1,5 @@
 use Rattle.std.proofs.Common.{◌≤◌, ◌∙◌, sym, subst}
-use Rattle.ep_transfer_blocks.proofs.Rooms.{no_leaves}
+use Rattle.ep_core.proofs.Tables.{no_leaves}
 use Rattle.ep_transfer_blocks.proofs.blocks.leaves_of.Goals as goal
 
 pub returns-then-block-type_count : goal.returns-then-block-type_count
