@@ -1,3 +1,4 @@
+pub mod Firsts
 pub mod Values
 pub mod Skips
 pub mod Numbered

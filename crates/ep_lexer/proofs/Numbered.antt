@@ -10,7 +10,7 @@ found : (p : List ℕ → Bool) (k n : ℕ) (ws : List (List ℕ)) → n < lengt
     → position_from p k (drop n ws) ≡ Some k
 found p k n ws h e = rw (drop-cons ws n [], e) refl
 
-passed : (p : List ℕ → Bool) (k n : ℕ) (ws : List (List ℕ)) → n < length ws → p (slice_index_or ws n []) ≡ false
+pub passed : (p : List ℕ → Bool) (k n : ℕ) (ws : List (List ℕ)) → n < length ws → p (slice_index_or ws n []) ≡ false
     → position_from p k (drop n ws) ≡ position_from p (k + 1) (drop (n + 1) ws)
 passed p k n ws h e = rw (drop-cons ws n [], e, add-one n) refl
 

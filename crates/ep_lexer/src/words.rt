@@ -167,6 +167,9 @@ pub fn reserved(text: &[u8]) -> Option<ReservedWord>
     None
 }
 
+// The first byte of each mark, in their order.
+const FIRST_BYTES: [u8; 45] = *b"<>-+-<><>=!&|+-*/%&|^()[]{}.&*+-~!/%<>^|?:;=,";
+
 /// The mark that stands there, and its length.
 #[tactic(auto, using(crate::proofs::Numbered::numbered))]
 pub fn mark_at(bytes: &[u8]) -> Option<(Mark, usize)>
@@ -174,11 +177,17 @@ pub fn mark_at(bytes: &[u8]) -> Option<(Mark, usize)>
     ensures len { IfSome result (λ p. p.1 ≡ mark_len (mark_number p.0)) }
     ensures within { IfSome result (λ p. (0 < p.1) × (p.1 ≤ length bytes.now)) }
 {
+    if bytes.is_empty() {
+        return None;
+    }
+    let first = bytes[0];
     for at in 0..45u8 {
-        let mark = mark_of(at);
-        let text = mark.text();
-        if bytes.starts_with(text) {
-            return Some((mark, text.len()));
+        if FIRST_BYTES[usize::from(at)] == first {
+            let mark = mark_of(at);
+            let text = mark.text();
+            if bytes.starts_with(text) {
+                return Some((mark, text.len()));
+            }
         }
     }
     None
