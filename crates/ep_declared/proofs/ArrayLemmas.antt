@@ -1,5 +1,6 @@
 -- Types of arrays come into a table.
 use Rattle.std.proofs.Common.{◌≡◌, ℕ, zero, suc, ◌<◌, ◌≤◌, true, List, [], ◌∷◌, length, drop}
+use Rattle.ep_core.proofs.Tables.{more_types}
 use Rattle.ep_typing.proofs.Order.{at_ok}
 use Rattle.std.proofs.Common.{drop-cons, get_or, unwrap_or, Option, Some, None, Result, Ok, Err, inl, inr, refl, sym}
 use Rattle.std.proofs.Common.{ap, ◌∙◌, subst, arith}
@@ -27,7 +28,7 @@ use Rattle.ep_elaboration.specs.Declarators.{array_of, arrays_of, made}
 use Rattle.ep_operands.specs.Refinement.{Stops}
 use Rattle.ep_scopes.specs.Known.{IsKnown, IsKnownBase}
 use Rattle.ep_declared.specs.Stopped.{halted}
-use Rattle.ep_declared.proofs.Growth.{IsMore, more_added, more_on, more_types, pointers_more, type_known, type_more}
+use Rattle.ep_declared.proofs.Growth.{IsMore, more_added, more_on, pointers_more, type_known, type_more}
 
 -- ---- numbers of types lie in the table
 

@@ -1,5 +1,6 @@
 -- Words before bodies, and the members of bodies, one after another.
 use Rattle.std.proofs.Common.{◌≡◌, ℕ, suc, ◌+◌, ◌<◌, ◌≤◌, nat_eq, Bool, true, false, ◌||◌, List, [], ◌∷◌, ◌++◌, length}
+use Rattle.ep_core.proofs.Tables.{more_aggregates}
 use Rattle.ep_layout.proofs.Basics.{grows-trans, is_union-stays}
 use Rattle.std.proofs.Common.{map, drop, drop-cons, get_or, true≢false, Option, Result, Ok, Err}
 use Rattle.std.proofs.Common.{refl, sym, ap, ◌∙◌, subst, arith}
@@ -32,7 +33,6 @@ use Rattle.ep_elaboration.specs.Aggregates.{specs_declared, words_declared}
 use Rattle.ep_operands.specs.Refinement.{Stops}
 use Rattle.ep_scopes.specs.Known.{IsKnownEnv}
 use Rattle.ep_declared.specs.Open.{Follows, IsAfter, IsOpened, OthersStayOpen, StaysOpen}
-use Rattle.ep_declared.proofs.Growth.{more_aggregates}
 
 -- ---- the words before a body
 

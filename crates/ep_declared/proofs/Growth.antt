@@ -1,10 +1,9 @@
 -- Tables grow, and what was known stays known.
-use Rattle.std.proofs.Common.{◌≡◌, ℕ, zero, suc, ◌≤◌, nat_eq, Bool, false, List, [], ◌∷◌, ◌++◌, length}
-use Rattle.ep_int.proofs.Basics.{length-by_rows}
+use Rattle.std.proofs.Common.{◌≡◌, ℕ, zero, suc, nat_eq, Bool, false, List, [], ◌∷◌, ◌++◌}
+use Rattle.ep_core.proofs.Tables.{more_types, more_aggregates}
 use Rattle.ep_layout.proofs.Basics.{grows-trans}
-use Rattle.std.proofs.lemmas.Result.{on_ok_weaker}
 use Rattle.std.proofs.Common.{slice_get, is_some, option_and_then, Option, Some, None, Result, Ok, Err, refl}
-use Rattle.std.proofs.Common.{ap, ◌∙◌, subst, arith}
+use Rattle.std.proofs.Common.{ap, subst, arith}
 use Rattle.std.specs.Prelude.{OnOk}
 use Rattle.ep_ast.specs.declared.refusals.Refusal.{Refusal}
 use Rattle.ep_ast.specs.Expression as source
@@ -27,12 +26,6 @@ use Rattle.ep_scopes.proofs.KnownLemmas.{IsGreater, scopes_stay}
 use Rattle.ep_declared.specs.Open.{Follows, StaysOpen}
 
 -- ---- growing, one step after another
-
-pub more_types : (t u : Table) → Grows t u → length t.types ≤ length u.types
-more_types t u g = length-by_rows t.types u.types (λ n ty e. (ty, g.types n ty e))
-
-pub more_aggregates : (t u : Table) → Grows t u → length t.aggregates ≤ length u.aggregates
-more_aggregates t u g = length-by_rows t.aggregates u.aggregates (λ a x e. let p = g.aggregates a x e in (p.0, p.1))
 
 pub greater : (t u : Table) → Grows t u → IsGreater t u
 greater t u g = record { types = more_types t u g; aggregates = more_aggregates t u g }

@@ -17,4 +17,4 @@ pub use counts::{bound, bounds};
 pub use naming::{declare_name, is_taken};
 pub use objects::{Object, object_declared};
 pub use typedefs::types_declared;
-pub use words::words_declared;
+pub use words::{copy_word, words_declared};

@@ -15,7 +15,7 @@ use ep_typing::CType;
 use std::alloc::{AllocError, Global};
 
 /// The same word once more.
-pub(crate) fn copy_word(alloc: Global, word: &TypeWordTree) -> Result<TypeWordTree, AllocError>
+pub fn copy_word(alloc: Global, word: &TypeWordTree) -> Result<TypeWordTree, AllocError>
     ensures { IfOk result (λ w. type_word w ≡ type_word word.now) }
 {
     match word {

@@ -10,25 +10,31 @@ use Rattle.ep_elaboration.specs.Aggregates.{Named, all_members, body_declared, c
 use Rattle.ep_elaboration.specs.Aggregates.{members_declared, opened, specs_declared, with_member, words_declared}
 use Rattle.ep_elaboration.specs.Declarators.{Object, bound, bounds, counted, declared_object, declared_type}
 use Rattle.ep_elaboration.specs.Declarators.{object_bounds, object_declared, type_declared, types_declared}
-use Rattle.ep_elaboration.specs.DeclaratorRules.{BodyOffends, BoundOffends, BoundsOffend, MeansBody, MeansBound}
+use Rattle.ep_elaboration.specs.DeclaratorRules.{MeansBody, MeansBound}
+use Rattle.ep_elaboration.specs.DeclaratorOffences.{BodyOffends, BoundOffends, BoundsOffend}
 use Rattle.ep_elaboration.specs.DeclaratorRules.{MeansBounds, MeansMemberName, MeansMemberNames, MeansMembers}
 use Rattle.ep_elaboration.specs.DeclaratorRules.{MeansObject, MeansObjectBounds, MeansSpecs, MeansTypedef}
-use Rattle.ep_elaboration.specs.DeclaratorRules.{MeansTypedefs, MeansWords, MemberNameOffends, MemberNamesOffend}
-use Rattle.ep_elaboration.specs.DeclaratorRules.{MembersOffend, ObjectBoundsOffend, ObjectOffends, SpecsOffend}
-use Rattle.ep_elaboration.specs.DeclaratorRules.{TypedefOffends, TypedefsOffend, WordsOffend, bad_bound}
-use Rattle.ep_elaboration.specs.DeclaratorRules.{bad_member_name, bad_object, bad_size, bad_tag, bad_typedef}
-use Rattle.ep_elaboration.specs.DeclaratorRules.{bad_words, from_list, has_body, in_bound, in_bound_behind}
-use Rattle.ep_elaboration.specs.DeclaratorRules.{in_bounds, in_bounds_of_list, in_first_bound}
-use Rattle.ep_elaboration.specs.DeclaratorRules.{in_first_member_name, in_first_typedef, in_later_bound}
-use Rattle.ep_elaboration.specs.DeclaratorRules.{in_later_member_name, in_later_members, in_later_specs}
-use Rattle.ep_elaboration.specs.DeclaratorRules.{in_later_typedef, in_member_bounds, in_member_names}
-use Rattle.ep_elaboration.specs.DeclaratorRules.{in_member_specs, in_members, in_no_bounds, in_object_bounds}
-use Rattle.ep_elaboration.specs.DeclaratorRules.{in_spec_body, in_typedef_bounds, in_words, is_body, is_bound}
+use Rattle.ep_elaboration.specs.DeclaratorRules.{MeansTypedefs, MeansWords}
+use Rattle.ep_elaboration.specs.DeclaratorOffences.{MemberNameOffends, MemberNamesOffend}
+use Rattle.ep_elaboration.specs.DeclaratorOffences.{MembersOffend, ObjectBoundsOffend, ObjectOffends, SpecsOffend}
+use Rattle.ep_elaboration.specs.DeclaratorOffences.{TypedefOffends, TypedefsOffend, WordsOffend, bad_bound}
+use Rattle.ep_elaboration.specs.DeclaratorOffences.{bad_member_name, bad_object, bad_size, bad_tag, bad_typedef}
+use Rattle.ep_elaboration.specs.DeclaratorRules.{from_list, has_body}
+use Rattle.ep_elaboration.specs.DeclaratorOffences.{bad_words, in_bound, in_bound_behind}
+use Rattle.ep_elaboration.specs.DeclaratorOffences.{in_bounds, in_bounds_of_list, in_first_bound}
+use Rattle.ep_elaboration.specs.DeclaratorOffences.{in_first_member_name, in_first_typedef, in_later_bound}
+use Rattle.ep_elaboration.specs.DeclaratorOffences.{in_later_member_name, in_later_members, in_later_specs}
+use Rattle.ep_elaboration.specs.DeclaratorOffences.{in_later_typedef, in_member_bounds, in_member_names}
+use Rattle.ep_elaboration.specs.DeclaratorOffences.{in_member_specs, in_members, in_no_bounds, in_object_bounds}
+use Rattle.ep_elaboration.specs.DeclaratorRules.{is_body, is_bound}
+use Rattle.ep_elaboration.specs.DeclaratorOffences.{in_spec_body, in_typedef_bounds, in_words}
 use Rattle.ep_elaboration.specs.DeclaratorRules.{is_member_name, is_object, is_plain, is_typedef, is_words}
-use Rattle.ep_elaboration.specs.DeclaratorRules.{listed_with_bound, listed_without_bounds, missing_bound}
+use Rattle.ep_elaboration.specs.DeclaratorRules.{listed_with_bound, listed_without_bounds}
+use Rattle.ep_elaboration.specs.DeclaratorOffences.{missing_bound}
 use Rattle.ep_elaboration.specs.DeclaratorRules.{more_bounds, more_member_names, more_typedefs, no_bounds}
 use Rattle.ep_elaboration.specs.DeclaratorRules.{no_member_names, no_more_members, no_typedefs, one_member_more}
-use Rattle.ep_elaboration.specs.DeclaratorRules.{one_word_more, too_many_values, without_list}
+use Rattle.ep_elaboration.specs.DeclaratorRules.{one_word_more, without_list}
+use Rattle.ep_elaboration.specs.DeclaratorOffences.{too_many_values}
 use Rattle.ep_layout.specs.Table.{members_stop}
 use Rattle.ep_typing.specs.Constant.{count_in}
 use Rattle.ep_typing.specs.Env.{Env}
@@ -38,7 +44,7 @@ use Rattle.ep_typing.specs.Results.{at, needed}
 use Rattle.ep_typing.specs.Types.{with_stars}
 use Rattle.ep_typing.specs.Typing.{typed}
 use Rattle.ep_typing.specs.declared.types.CType.{CType}
-use Rattle.ep_typing.specs.Rules.{refusal}
+use Rattle.ep_typing.specs.Offences.{refusal}
 use Rattle.ep_typing.proofs.Order.{bind_ok, bind_err, at_ok, at_err, means, meant, refused, first, ok_is}
 
 pub meant_bound : {G : Env} {l : ℕ} {b : Option Expr} {out : (ℕ × Env)} → MeansBound G l b out → bound G l b ≡ Ok out

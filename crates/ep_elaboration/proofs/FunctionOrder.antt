@@ -18,24 +18,30 @@ use Rattle.ep_elaboration.specs.Functions.{function_defined, function_typed, fun
 use Rattle.ep_elaboration.specs.Functions.{others_typed, param_bounds, param_declared, params_declared, params_of}
 use Rattle.ep_elaboration.specs.Functions.{prototype, rest_of, results, signature_of, with_param}
 use Rattle.ep_elaboration.specs.Statements.{entered, innermost, left, parts}
-use Rattle.ep_elaboration.specs.FunctionRules.{ArmsAgree, ArmsOffend, DefinitionOffends, DefinitionsOffend}
-use Rattle.ep_elaboration.specs.FunctionRules.{FunctionOffends, HeadsAgree, StandsAlone, is_alone, more_arms, no_arms}
-use Rattle.ep_elaboration.specs.FunctionRules.{HeadOffends, MeansArms, MeansDefinition, MeansDefinitions}
+use Rattle.ep_elaboration.specs.FunctionRules.{ArmsAgree}
+use Rattle.ep_elaboration.specs.FunctionOffences.{ArmsOffend, DefinitionOffends, DefinitionsOffend}
+use Rattle.ep_elaboration.specs.FunctionRules.{HeadsAgree, StandsAlone, is_alone, more_arms, no_arms}
+use Rattle.ep_elaboration.specs.FunctionOffences.{FunctionOffends}
+use Rattle.ep_elaboration.specs.FunctionRules.{MeansArms, MeansDefinition, MeansDefinitions}
+use Rattle.ep_elaboration.specs.FunctionOffences.{HeadOffends}
 use Rattle.ep_elaboration.specs.FunctionRules.{MeansFunction, MeansHead, MeansOthers, MeansParam}
-use Rattle.ep_elaboration.specs.FunctionRules.{MeansParamBounds, MeansParams, MeansPrototype, OthersOffend}
-use Rattle.ep_elaboration.specs.FunctionRules.{ParamBoundsOffend, ParamOffends, ParamsOffend, PrototypeOffends}
-use Rattle.ep_elaboration.specs.FunctionRules.{bad_arms, bad_function, bad_param, bad_prototype, bad_result}
-use Rattle.ep_elaboration.specs.FunctionRules.{bound_array, in_arm_named, in_array_bound, in_body}
-use Rattle.ep_elaboration.specs.FunctionRules.{in_element_bounds, in_first_definition, in_first_other}
-use Rattle.ep_elaboration.specs.FunctionRules.{in_first_param, in_function, in_head, in_later_definition}
-use Rattle.ep_elaboration.specs.FunctionRules.{in_later_other, in_later_param, in_open_array, in_other_arm}
-use Rattle.ep_elaboration.specs.FunctionRules.{in_param_bounds, in_param_words, in_params, in_prototype}
-use Rattle.ep_elaboration.specs.FunctionRules.{in_result, is_arms, is_definition, is_function, is_head, is_param}
+use Rattle.ep_elaboration.specs.FunctionRules.{MeansParamBounds, MeansParams, MeansPrototype}
+use Rattle.ep_elaboration.specs.FunctionOffences.{OthersOffend}
+use Rattle.ep_elaboration.specs.FunctionOffences.{ParamBoundsOffend, ParamOffends, ParamsOffend, PrototypeOffends}
+use Rattle.ep_elaboration.specs.FunctionOffences.{bad_arms, bad_function, bad_param, bad_prototype, bad_result}
+use Rattle.ep_elaboration.specs.FunctionRules.{bound_array}
+use Rattle.ep_elaboration.specs.FunctionOffences.{in_arm_named, in_array_bound, in_body}
+use Rattle.ep_elaboration.specs.FunctionOffences.{in_element_bounds, in_first_definition, in_first_other}
+use Rattle.ep_elaboration.specs.FunctionOffences.{in_first_param, in_function, in_head, in_later_definition}
+use Rattle.ep_elaboration.specs.FunctionOffences.{in_later_other, in_later_param, in_open_array, in_other_arm}
+use Rattle.ep_elaboration.specs.FunctionOffences.{in_param_bounds, in_param_words, in_params, in_prototype}
+use Rattle.ep_elaboration.specs.FunctionRules.{is_arms, is_definition, is_function, is_head, is_param}
+use Rattle.ep_elaboration.specs.FunctionOffences.{in_result}
 use Rattle.ep_elaboration.specs.FunctionRules.{is_prototype, more_definitions, more_others, more_params}
 use Rattle.ep_elaboration.specs.FunctionRules.{no_array, no_definitions, no_others, no_params, open_array}
 use Rattle.ep_typing.specs.Env.{Env}
 use Rattle.ep_typing.specs.Results.{at, ◌>>=◌}
-use Rattle.ep_typing.specs.Rules.{refusal}
+use Rattle.ep_typing.specs.Offences.{refusal}
 use Rattle.ep_typing.specs.Types.{with_c_type, with_stars}
 use Rattle.ep_typing.specs.declared.types.CType.{CType}
 use Rattle.ep_typing.proofs.Order.{bind_ok, bind_err, at_ok, at_err, ok_is}

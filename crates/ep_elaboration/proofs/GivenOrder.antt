@@ -10,24 +10,28 @@ use Rattle.ep_elaboration.specs.Declarations.{Made, declaration, initialised, va
 use Rattle.ep_elaboration.specs.Declarators.{Object, object_declared}
 use Rattle.ep_elaboration.specs.Given.{Given, all_given, count_listed, expression_given, first_values, line_of_value}
 use Rattle.ep_elaboration.specs.Given.{object_operand, part_at, value_given, with_parts}
-use Rattle.ep_elaboration.specs.GivenRules.{AllGivenOffend, DeclarationOffends, FirstValueOffends}
-use Rattle.ep_elaboration.specs.GivenRules.{GivenExpressionOffends, GivenOffends, MeansAllGiven}
+use Rattle.ep_elaboration.specs.GivenOffences.{AllGivenOffend, DeclarationOffends, FirstValueOffends}
+use Rattle.ep_elaboration.specs.GivenRules.{MeansAllGiven}
+use Rattle.ep_elaboration.specs.GivenOffences.{GivenExpressionOffends, GivenOffends}
 use Rattle.ep_elaboration.specs.GivenRules.{MeansDeclaration, MeansFirstValue, MeansGiven, MeansGivenExpression}
-use Rattle.ep_elaboration.specs.GivenRules.{MeansVariable, MeansVariables, VariableOffends, VariablesOffend}
-use Rattle.ep_elaboration.specs.GivenRules.{bad_given_expression, bad_list, in_declarator, in_declared_type}
-use Rattle.ep_elaboration.specs.GivenRules.{in_expression_too_many, in_first_value, in_first_values}
-use Rattle.ep_elaboration.specs.GivenRules.{in_first_variable, in_given_expression, in_initialiser}
-use Rattle.ep_elaboration.specs.GivenRules.{in_later_value, in_later_variable, in_listed, in_single}
-use Rattle.ep_elaboration.specs.GivenRules.{in_variables, is_declaration, is_first_value, is_given_expression}
+use Rattle.ep_elaboration.specs.GivenRules.{MeansVariable, MeansVariables}
+use Rattle.ep_elaboration.specs.GivenOffences.{VariableOffends, VariablesOffend}
+use Rattle.ep_elaboration.specs.GivenOffences.{bad_given_expression, bad_list, in_declarator, in_declared_type}
+use Rattle.ep_elaboration.specs.GivenOffences.{in_expression_too_many, in_first_value, in_first_values}
+use Rattle.ep_elaboration.specs.GivenOffences.{in_first_variable, in_given_expression, in_initialiser}
+use Rattle.ep_elaboration.specs.GivenOffences.{in_later_value, in_later_variable, in_listed, in_single}
+use Rattle.ep_elaboration.specs.GivenRules.{is_declaration, is_first_value, is_given_expression}
+use Rattle.ep_elaboration.specs.GivenOffences.{in_variables}
 use Rattle.ep_elaboration.specs.GivenRules.{is_listed, is_single, is_variable, more_values_given, more_variables}
-use Rattle.ep_elaboration.specs.GivenRules.{no_constant, no_first_value, no_values_given, no_variables}
-use Rattle.ep_elaboration.specs.GivenRules.{one_expression_too_many}
+use Rattle.ep_elaboration.specs.GivenRules.{no_first_value, no_values_given, no_variables}
+use Rattle.ep_elaboration.specs.GivenOffences.{no_constant}
+use Rattle.ep_elaboration.specs.GivenOffences.{one_expression_too_many}
 use Rattle.ep_typing.specs.Env.{Env}
 use Rattle.ep_typing.specs.Names.{mentioned}
 use Rattle.ep_typing.specs.Results.{at}
 use Rattle.ep_typing.specs.Typing.{assigned_from, right_side, typed}
 use Rattle.ep_typing.specs.declared.types.CType.{CType}
-use Rattle.ep_typing.specs.Rules.{refusal}
+use Rattle.ep_typing.specs.Offences.{refusal}
 use Rattle.ep_typing.proofs.Order.{bind_ok, bind_err, at_ok, at_err, means, meant, refused, first, ok_is}
 use Rattle.ep_elaboration.proofs.WholeOrder.{meant_right_side, means_right_side, offended_right_side}
 use Rattle.ep_elaboration.proofs.WholeOrder.{refused_right_side}

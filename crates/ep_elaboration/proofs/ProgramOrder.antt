@@ -13,14 +13,18 @@ use Rattle.ep_elaboration.specs.Declarators.{types_declared}
 use Rattle.ep_elaboration.specs.Functions.{Defined, arms_defined, function_defined, numbers_of, prototype}
 use Rattle.ep_elaboration.specs.Programs.{Sofar, all_fit, all_have_bodies, begun, checked, elaborated, functions_in}
 use Rattle.ep_elaboration.specs.Programs.{item, items, main_of, none_recurs, not_too_deep, call_sites_of}
-use Rattle.ep_elaboration.specs.ProgramRules.{IsSound, ItemOffends, ItemsOffend, MeansItem, MeansItems}
-use Rattle.ep_elaboration.specs.ProgramRules.{MeansProgram, ProgramOffends, UnsoundBy, in_aggregate, in_arms}
-use Rattle.ep_elaboration.specs.ProgramRules.{in_checks, in_definition, in_first_item, in_global_declaration}
-use Rattle.ep_elaboration.specs.ProgramRules.{in_item_prototype, in_later_item, in_text, in_typedef_specs}
-use Rattle.ep_elaboration.specs.ProgramRules.{in_typedefs, is_program, is_sound, item_arms, item_completes}
+use Rattle.ep_elaboration.specs.ProgramRules.{IsSound, MeansItem, MeansItems}
+use Rattle.ep_elaboration.specs.ProgramOffences.{ItemOffends, ItemsOffend}
+use Rattle.ep_elaboration.specs.ProgramRules.{MeansProgram}
+use Rattle.ep_elaboration.specs.ProgramOffences.{ProgramOffends, UnsoundBy, in_aggregate, in_arms}
+use Rattle.ep_elaboration.specs.ProgramOffences.{in_checks, in_definition, in_first_item, in_global_declaration}
+use Rattle.ep_elaboration.specs.ProgramOffences.{in_item_prototype, in_later_item, in_text, in_typedef_specs}
+use Rattle.ep_elaboration.specs.ProgramRules.{is_program, is_sound, item_arms, item_completes}
+use Rattle.ep_elaboration.specs.ProgramOffences.{in_typedefs}
 use Rattle.ep_elaboration.specs.ProgramRules.{item_declares, item_defines, item_prototype, item_typedefs}
-use Rattle.ep_elaboration.specs.ProgramRules.{more_items, no_body, no_items, no_main, recursion, too_deep}
-use Rattle.ep_elaboration.specs.ProgramRules.{too_large}
+use Rattle.ep_elaboration.specs.ProgramRules.{more_items, no_items}
+use Rattle.ep_elaboration.specs.ProgramOffences.{no_body, no_main, recursion, too_deep}
+use Rattle.ep_elaboration.specs.ProgramOffences.{too_large}
 use Rattle.ep_int.specs.declared.types.Model.{Model}
 use Rattle.ep_typing.specs.Results.{at, needed}
 use Rattle.ep_typing.proofs.Order.{bind_ok, bind_err, at_ok, at_err, ok_is}

@@ -10,20 +10,24 @@ use Rattle.ep_elaboration.specs.Declarations.{Line, declaration}
 use Rattle.ep_elaboration.specs.Statements.{entered, evaluated_if, evaluated_in, first_part, jump, left}
 use Rattle.ep_elaboration.specs.Statements.{nothing_returned, operand_returned, part, parts, statement, statements}
 use Rattle.ep_elaboration.specs.Statements.{tested_if, tested_in}
-use Rattle.ep_elaboration.specs.StatementRules.{EvaluationIfOffends, EvaluationOffends, FirstOffends}
+use Rattle.ep_elaboration.specs.StatementOffences.{EvaluationIfOffends, EvaluationOffends, FirstOffends}
 use Rattle.ep_elaboration.specs.StatementRules.{MeansEvaluation, MeansEvaluationIf, MeansFirst, MeansPart}
 use Rattle.ep_elaboration.specs.StatementRules.{MeansParts, MeansStatement, MeansStatements, MeansTestIf}
-use Rattle.ep_elaboration.specs.StatementRules.{MeansTestIn, PartOffends, PartsOffend, StatementOffends}
-use Rattle.ep_elaboration.specs.StatementRules.{StatementsOffend, TestIfOffends, TestInOffends, bad_break}
-use Rattle.ep_elaboration.specs.StatementRules.{bad_continue, bad_return, bad_returned, first_declares}
-use Rattle.ep_elaboration.specs.StatementRules.{first_evaluates, in_arm, in_block, in_declaration, in_do}
-use Rattle.ep_elaboration.specs.StatementRules.{in_do_test, in_else, in_evaluated, in_evaluation, in_first_arm}
-use Rattle.ep_elaboration.specs.StatementRules.{in_first_declaration, in_first_evaluation, in_first_part}
-use Rattle.ep_elaboration.specs.StatementRules.{in_first_statement, in_for, in_for_first, in_for_next}
-use Rattle.ep_elaboration.specs.StatementRules.{in_for_test, in_if, in_if_else_test, in_if_test, in_later_part}
-use Rattle.ep_elaboration.specs.StatementRules.{in_later_statement, in_returned, in_second_arm}
-use Rattle.ep_elaboration.specs.StatementRules.{in_some_evaluation, in_some_test, in_statement, in_test_in}
-use Rattle.ep_elaboration.specs.StatementRules.{in_then, in_while, in_while_test, is_arm, is_block, is_break}
+use Rattle.ep_elaboration.specs.StatementRules.{MeansTestIn}
+use Rattle.ep_elaboration.specs.StatementOffences.{PartOffends, PartsOffend, StatementOffends}
+use Rattle.ep_elaboration.specs.StatementOffences.{StatementsOffend, TestIfOffends, TestInOffends, bad_break}
+use Rattle.ep_elaboration.specs.StatementRules.{first_declares}
+use Rattle.ep_elaboration.specs.StatementOffences.{bad_continue, bad_return, bad_returned}
+use Rattle.ep_elaboration.specs.StatementRules.{first_evaluates}
+use Rattle.ep_elaboration.specs.StatementOffences.{in_arm, in_block, in_declaration, in_do}
+use Rattle.ep_elaboration.specs.StatementOffences.{in_do_test, in_else, in_evaluated, in_evaluation, in_first_arm}
+use Rattle.ep_elaboration.specs.StatementOffences.{in_first_declaration, in_first_evaluation, in_first_part}
+use Rattle.ep_elaboration.specs.StatementOffences.{in_first_statement, in_for, in_for_first, in_for_next}
+use Rattle.ep_elaboration.specs.StatementOffences.{in_for_test, in_if, in_if_else_test, in_if_test, in_later_part}
+use Rattle.ep_elaboration.specs.StatementOffences.{in_later_statement, in_returned, in_second_arm}
+use Rattle.ep_elaboration.specs.StatementOffences.{in_some_evaluation, in_some_test, in_statement, in_test_in}
+use Rattle.ep_elaboration.specs.StatementRules.{is_arm, is_block, is_break}
+use Rattle.ep_elaboration.specs.StatementOffences.{in_then, in_while, in_while_test}
 use Rattle.ep_elaboration.specs.StatementRules.{is_continue, is_do, is_evaluated, is_evaluation, is_for, is_if}
 use Rattle.ep_elaboration.specs.StatementRules.{is_if_else, is_nothing, is_test_in, is_two_arms, is_while}
 use Rattle.ep_elaboration.specs.StatementRules.{more_statements, no_evaluation, no_parts_left, no_statements}

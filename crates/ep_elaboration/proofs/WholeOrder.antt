@@ -8,13 +8,16 @@ use Rattle.ep_ast.specs.Expression.{member, number, post_decrement, post_increme
 use Rattle.ep_ast.specs.Expression.{unary}
 use Rattle.ep_ast.specs.Mark.{equal}
 use Rattle.ep_ast.specs.declared.refusals.Refusal.{Refusal}
-use Rattle.ep_elaboration.specs.WholeRules.{AssignmentOffends, CallOffends, MeansAssignment, MeansCall}
-use Rattle.ep_elaboration.specs.WholeRules.{MeansRight, MeansStep, MeansTest, MeansWhole, RightOffends}
-use Rattle.ep_elaboration.specs.WholeRules.{StepOffends, TestOffends, WholeOffends, bad_assignment, bad_call}
-use Rattle.ep_elaboration.specs.WholeRules.{bad_left_value, bad_step, bad_stepped_value, bad_test}
-use Rattle.ep_elaboration.specs.WholeRules.{bad_test_value, in_arguments, in_assignment, in_call, in_callee}
-use Rattle.ep_elaboration.specs.WholeRules.{in_decrement, in_increment, in_left_side, in_right, in_right_call}
-use Rattle.ep_elaboration.specs.WholeRules.{in_right_side, in_step, in_stepped, in_test, in_value, is_assignment}
+use Rattle.ep_elaboration.specs.WholeRules.{MeansAssignment, MeansCall}
+use Rattle.ep_elaboration.specs.WholeOffences.{AssignmentOffends, CallOffends}
+use Rattle.ep_elaboration.specs.WholeRules.{MeansRight, MeansStep, MeansTest, MeansWhole}
+use Rattle.ep_elaboration.specs.WholeOffences.{RightOffends}
+use Rattle.ep_elaboration.specs.WholeOffences.{StepOffends, TestOffends, WholeOffends, bad_assignment, bad_call}
+use Rattle.ep_elaboration.specs.WholeOffences.{bad_left_value, bad_step, bad_stepped_value, bad_test}
+use Rattle.ep_elaboration.specs.WholeOffences.{bad_test_value, in_arguments, in_assignment, in_call, in_callee}
+use Rattle.ep_elaboration.specs.WholeOffences.{in_decrement, in_increment, in_left_side, in_right, in_right_call}
+use Rattle.ep_elaboration.specs.WholeRules.{is_assignment}
+use Rattle.ep_elaboration.specs.WholeOffences.{in_right_side, in_step, in_stepped, in_test, in_value}
 use Rattle.ep_elaboration.specs.WholeRules.{is_call, is_decrement, is_increment, is_no_call, is_only_value}
 use Rattle.ep_elaboration.specs.WholeRules.{is_operand, is_result, is_step, is_test, is_value}
 use Rattle.ep_elaboration.specs.WholeRules.{is_whole_assignment, is_whole_call, is_whole_step}

@@ -1,12 +1,10 @@
--- Declarators, type words, structs and unions, by rules without an order, and the first offence in each. C11 6.7.2
--- and 6.7.6.
-use Rattle.std.specs.Prelude.{◌≡◌, [], ◌∷◌, ◌++◌, ◌==◌, ℕ, Bool, List, Option, Some, None, Ok, Err, pos, length}
+-- Declarators, type words, structs and unions, by rules without an order. C11 6.7.2 and 6.7.6.
+use Rattle.std.specs.Prelude.{◌≡◌, [], ◌∷◌, ◌++◌, ◌==◌, ℕ, Bool, List, Option, Some, None, Ok, pos, length}
 use Rattle.ep_ast.specs.Kind as kinds
 use Rattle.ep_ast.specs.Declaration.{Aggregate, Declarator, Members, Specs, aggregate, body, member, more_members}
 use Rattle.ep_ast.specs.Declaration.{more_specs, no_members, no_specs, plain}
 use Rattle.ep_ast.specs.Expression.{Expr, TypeWord}
 use Rattle.ep_ast.specs.Mark.{union_word}
-use Rattle.ep_ast.specs.declared.refusals.Refusal.{Refusal}
 use Rattle.ep_elaboration.specs.Aggregates.{Named, closed, opened, with_member}
 use Rattle.ep_elaboration.specs.Declarators.{Object, counted, declared_object, declared_type}
 use Rattle.ep_layout.specs.Table.{members_stop}
@@ -17,32 +15,18 @@ use Rattle.ep_typing.specs.Operand.{Operand, value_of}
 use Rattle.ep_typing.specs.Results.{needed}
 use Rattle.ep_typing.specs.Types.{with_stars}
 use Rattle.ep_typing.specs.declared.types.CType.{CType}
-use Rattle.ep_typing.specs.Rules.{Means, Offends, refusal}
+use Rattle.ep_typing.specs.Rules.{Means}
 
 -- a bound, on the line of the declared name (C11 6.7.6.2)
 pub data MeansBound : Env → ℕ → Option Expr → (ℕ × Env) → Type 0 where
   is_bound : {G : Env} {l : ℕ} {e : Expr} (x : Operand) (n : ℕ) → Means (mentioned G e) e x
       → counted (value_of (mentioned G e).types x) ≡ Ok n → MeansBound G l (Some e) (n, mentioned G e)
 
--- where what stands before means something, the first offence
-pub data BoundOffends : Env → ℕ → Option Expr → Refusal → Type 0 where
-  in_bound : {G : Env} {l : ℕ} {e : Expr} {r : Refusal} → Offends (mentioned G e) e r → BoundOffends G l (Some e) r
-  bad_bound : {G : Env} {l : ℕ} {e : Expr} {kind : ℕ} (x : Operand) → Means (mentioned G e) e x
-      → counted (value_of (mentioned G e).types x) ≡ Err kind → BoundOffends G l (Some e) (refusal kind l)
-  missing_bound : {G : Env} {l : ℕ} → BoundOffends G l None (refusal kinds.array_bound l)
-
 -- bounds, from left to right
 pub data MeansBounds : Env → ℕ → List (Option Expr) → (List ℕ × Env) → Type 0 where
   no_bounds : {G : Env} {l : ℕ} → MeansBounds G l [] ([], G)
   more_bounds : {G : Env} {l : ℕ} {b : Option Expr} {bs : List (Option Expr)} (x : ℕ × Env) (y : List ℕ × Env)
       → MeansBound G l b x → MeansBounds x.1 l bs y → MeansBounds G l (b ∷ bs) (x.0 ∷ y.0, y.1)
-
--- where what stands before means something, the first offence
-pub data BoundsOffend : Env → ℕ → List (Option Expr) → Refusal → Type 0 where
-  in_first_bound : {G : Env} {l : ℕ} {b : Option Expr} {bs : List (Option Expr)} {r : Refusal} → BoundOffends G l b r
-      → BoundsOffend G l (b ∷ bs) r
-  in_later_bound : {G : Env} {l : ℕ} {b : Option Expr} {bs : List (Option Expr)} {r : Refusal} (x : ℕ × Env)
-      → MeansBound G l b x → BoundsOffend x.1 l bs r → BoundsOffend G l (b ∷ bs) r
 
 -- the bounds of an object, of which a list may give the first (C11 6.7.9p22)
 pub data MeansObjectBounds : Env → ℕ → Option ℕ → List (Option Expr) → (List ℕ × Env) → Type 0 where
@@ -56,20 +40,6 @@ pub data MeansObjectBounds : Env → ℕ → Option ℕ → List (Option Expr) �
   listed_with_bound : {G : Env} {l n : ℕ} {e : Expr} {bs : List (Option Expr)} (y : List ℕ × Env)
       → MeansBounds G l (Some e ∷ bs) y → MeansObjectBounds G l (Some n) (Some e ∷ bs) y
 
--- where what stands before means something, the first offence
-pub data ObjectBoundsOffend : Env → ℕ → Option ℕ → List (Option Expr) → Refusal → Type 0 where
-  too_many_values : {G : Env} {l n : ℕ} {bs : List (Option Expr)} {kind : ℕ}
-      → needed kinds.array_bound (count_in (pos n)) ≡ Err kind
-      → ObjectBoundsOffend G l (Some n) (None ∷ bs) (refusal kind l)
-  in_bound_behind : {G : Env} {l n : ℕ} {bs : List (Option Expr)} {r : Refusal} (c : ℕ)
-      → needed kinds.array_bound (count_in (pos n)) ≡ Ok c → BoundsOffend G l bs r
-      → ObjectBoundsOffend G l (Some n) (None ∷ bs) r
-  in_bounds : {G : Env} {l : ℕ} {bs : List (Option Expr)} {r : Refusal} → BoundsOffend G l bs r
-      → ObjectBoundsOffend G l None bs r
-  in_no_bounds : {G : Env} {l n : ℕ} {r : Refusal} → BoundsOffend G l [] r → ObjectBoundsOffend G l (Some n) [] r
-  in_bounds_of_list : {G : Env} {l n : ℕ} {e : Expr} {bs : List (Option Expr)} {r : Refusal}
-      → BoundsOffend G l (Some e ∷ bs) r → ObjectBoundsOffend G l (Some n) (Some e ∷ bs) r
-
 -- an object by its declarator
 pub data MeansObject : Env → Bool → Option ℕ → CType → Declarator → (Object × Env) → Type 0 where
   is_object : {G : Env} {global : Bool} {listed : Option ℕ} {c : CType} {d : Declarator} (ns : List ℕ × Env)
@@ -78,28 +48,10 @@ pub data MeansObject : Env → Bool → Option ℕ → CType → Declarator → 
       → declared_object ns.1 global d.name (with_stars c (length d.stars)) ns.0 ≡ Ok o
       → MeansObject G global listed c d o
 
--- where what stands before means something, the first offence
-pub data ObjectOffends : Env → Bool → Option ℕ → CType → Declarator → Refusal → Type 0 where
-  in_object_bounds : {G : Env} {global : Bool} {listed : Option ℕ} {c : CType} {d : Declarator} {r : Refusal}
-      → ObjectBoundsOffend G d.line listed d.bounds r → ObjectOffends G global listed c d r
-  bad_object : {G : Env} {global : Bool} {listed : Option ℕ} {c : CType} {d : Declarator} {kind : ℕ}
-      (ns : List ℕ × Env)
-      → MeansObjectBounds G d.line listed d.bounds ns
-      → declared_object ns.1 global d.name (with_stars c (length d.stars)) ns.0 ≡ Err kind
-      → ObjectOffends G global listed c d (refusal kind d.line)
-
 -- a typedef by its declarator (C11 6.7.8)
 pub data MeansTypedef : Env → CType → Declarator → Env → Type 0 where
   is_typedef : {G : Env} {c : CType} {d : Declarator} (ns : List ℕ × Env) (H : Env) → MeansBounds G d.line d.bounds ns
       → declared_type ns.1 d.name (with_stars c (length d.stars)) ns.0 ≡ Ok H → MeansTypedef G c d H
-
--- where what stands before means something, the first offence
-pub data TypedefOffends : Env → CType → Declarator → Refusal → Type 0 where
-  in_typedef_bounds : {G : Env} {c : CType} {d : Declarator} {r : Refusal} → BoundsOffend G d.line d.bounds r
-      → TypedefOffends G c d r
-  bad_typedef : {G : Env} {c : CType} {d : Declarator} {kind : ℕ} (ns : List ℕ × Env)
-      → MeansBounds G d.line d.bounds ns → declared_type ns.1 d.name (with_stars c (length d.stars)) ns.0 ≡ Err kind
-      → TypedefOffends G c d (refusal kind d.line)
 
 -- typedefs, one after the other
 pub data MeansTypedefs : Env → CType → List Declarator → Env → Type 0 where
@@ -107,26 +59,11 @@ pub data MeansTypedefs : Env → CType → List Declarator → Env → Type 0 wh
   more_typedefs : {G : Env} {c : CType} {d : Declarator} {ds : List Declarator} (H K : Env) → MeansTypedef G c d H
       → MeansTypedefs H c ds K → MeansTypedefs G c (d ∷ ds) K
 
--- where what stands before means something, the first offence
-pub data TypedefsOffend : Env → CType → List Declarator → Refusal → Type 0 where
-  in_first_typedef : {G : Env} {c : CType} {d : Declarator} {ds : List Declarator} {r : Refusal}
-      → TypedefOffends G c d r → TypedefsOffend G c (d ∷ ds) r
-  in_later_typedef : {G : Env} {c : CType} {d : Declarator} {ds : List Declarator} {r : Refusal} (H : Env)
-      → MeansTypedef G c d H → TypedefsOffend H c ds r → TypedefsOffend G c (d ∷ ds) r
-
 -- a member by its declarator (C11 6.7.2.1)
 pub data MeansMemberName : Env → Named → CType → Declarator → (Named × Env) → Type 0 where
   is_member_name : {G : Env} {ms : Named} {c : CType} {d : Declarator} (ns : List ℕ × Env) (x : Named × Env)
       → MeansBounds G d.line d.bounds ns → with_member ns.1 ms d.name (with_stars c (length d.stars)) ns.0 ≡ Ok x
       → MeansMemberName G ms c d x
-
--- where what stands before means something, the first offence
-pub data MemberNameOffends : Env → Named → CType → Declarator → Refusal → Type 0 where
-  in_member_bounds : {G : Env} {ms : Named} {c : CType} {d : Declarator} {r : Refusal}
-      → BoundsOffend G d.line d.bounds r → MemberNameOffends G ms c d r
-  bad_member_name : {G : Env} {ms : Named} {c : CType} {d : Declarator} {kind : ℕ} (ns : List ℕ × Env)
-      → MeansBounds G d.line d.bounds ns → with_member ns.1 ms d.name (with_stars c (length d.stars)) ns.0 ≡ Err kind
-      → MemberNameOffends G ms c d (refusal kind d.line)
 
 -- members of one type
 pub data MeansMemberNames : Env → Named → CType → List Declarator → (Named × Env) → Type 0 where
@@ -134,23 +71,10 @@ pub data MeansMemberNames : Env → Named → CType → List Declarator → (Nam
   more_member_names : {G : Env} {ms : Named} {c : CType} {d : Declarator} {ds : List Declarator} (x y : Named × Env)
       → MeansMemberName G ms c d x → MeansMemberNames x.1 x.0 c ds y → MeansMemberNames G ms c (d ∷ ds) y
 
--- where what stands before means something, the first offence
-pub data MemberNamesOffend : Env → Named → CType → List Declarator → Refusal → Type 0 where
-  in_first_member_name : {G : Env} {ms : Named} {c : CType} {d : Declarator} {ds : List Declarator} {r : Refusal}
-      → MemberNameOffends G ms c d r → MemberNamesOffend G ms c (d ∷ ds) r
-  in_later_member_name : {G : Env} {ms : Named} {c : CType} {d : Declarator} {ds : List Declarator} {r : Refusal}
-      (x : Named × Env)
-      → MeansMemberName G ms c d x → MemberNamesOffend x.1 x.0 c ds r → MemberNamesOffend G ms c (d ∷ ds) r
-
 -- type words without members, after the tags that they mention (C11 6.7.2)
 pub data MeansWords : Env → List TypeWord → (CType × Env) → Type 0 where
   is_words : {G : Env} {ws : List TypeWord} (c : CType) → words_type (mentioned_words G ws) ws ≡ Ok c
       → MeansWords G ws (c, with_type_of (mentioned_words G ws) (Ok c))
-
--- where what stands before means something, the first offence
-pub data WordsOffend : Env → List TypeWord → Refusal → Type 0 where
-  bad_words : {G : Env} {ws : List TypeWord} {r : Refusal} → words_type (mentioned_words G ws) ws ≡ Err r
-      → WordsOffend G ws r
 
 mutual
   -- type words with or without a struct or union body; the bodies round it are not closed yet
@@ -177,42 +101,3 @@ mutual
         Members} (c : CType × Env) (x y : Named × Env)
         → MeansSpecs G round [] ss c → MeansMemberNames c.1 ms c.0 ds x → MeansMembers x.1 round x.0 rest y
         → MeansMembers G round ms (more_members (member l ss ds) rest) y
-
-mutual
-  -- where what stands before means something, the first offence
-  pub data SpecsOffend : Env → List ℕ → List TypeWord → Specs → Refusal → Type 0 where
-    in_words : {G : Env} {round : List ℕ} {ws : List TypeWord} {r : Refusal} → WordsOffend G ws r
-        → SpecsOffend G round ws no_specs r
-    in_later_specs : {G : Env} {round : List ℕ} {ws : List TypeWord} {w : TypeWord} {ss : Specs} {r : Refusal}
-        → SpecsOffend G round (ws ++ w ∷ []) ss r → SpecsOffend G round ws (more_specs (plain w) ss) r
-    in_spec_body : {G : Env} {round : List ℕ} {ws : List TypeWord} {a : Aggregate} {ss : Specs} {r : Refusal}
-        → BodyOffends G round a r → SpecsOffend G round ws (more_specs (body a) ss) r
-
-  -- where what stands before means something, the first offence
-  pub data BodyOffends : Env → List ℕ → Aggregate → Refusal → Type 0 where
-    bad_tag : {G : Env} {round : List ℕ} {l w : ℕ} {tag : Option (List ℕ)} {ms : Members} {kind : ℕ}
-        → opened G round (w == union_word) tag ≡ Err kind → BodyOffends G round (aggregate l w tag ms)
-        (refusal kind l)
-    in_members : {G : Env} {round : List ℕ} {l w : ℕ} {tag : Option (List ℕ)} {ms : Members} {r : Refusal}
-        (o : ℕ × Env)
-        → opened G round (w == union_word) tag ≡ Ok o → MembersOffend o.1 (o.0 ∷ round) [] ms r
-        → BodyOffends G round (aggregate l w tag ms) r
-    bad_size : {G : Env} {round : List ℕ} {l w : ℕ} {tag : Option (List ℕ)} {ms : Members} {kind : ℕ} (o : ℕ × Env)
-        (x : Named × Env)
-        → opened G round (w == union_word) tag ≡ Ok o → MeansMembers o.1 (o.0 ∷ round) [] ms x
-        → closed x.1 o.0 x.0 (members_stop x.1.types (w == union_word) x.0) ≡ Err kind
-        → BodyOffends G round (aggregate l w tag ms) (refusal kind l)
-
-  -- where what stands before means something, the first offence
-  pub data MembersOffend : Env → List ℕ → Named → Members → Refusal → Type 0 where
-    in_member_specs : {G : Env} {round : List ℕ} {ms : Named} {l : ℕ} {ss : Specs} {ds : List Declarator} {rest :
-        Members} {r : Refusal}
-        → SpecsOffend G round [] ss r → MembersOffend G round ms (more_members (member l ss ds) rest) r
-    in_member_names : {G : Env} {round : List ℕ} {ms : Named} {l : ℕ} {ss : Specs} {ds : List Declarator} {rest :
-        Members} {r : Refusal} (c : CType × Env)
-        → MeansSpecs G round [] ss c → MemberNamesOffend c.1 ms c.0 ds r
-        → MembersOffend G round ms (more_members (member l ss ds) rest) r
-    in_later_members : {G : Env} {round : List ℕ} {ms : Named} {l : ℕ} {ss : Specs} {ds : List Declarator} {rest :
-        Members} {r : Refusal} (c : CType × Env) (x : Named × Env)
-        → MeansSpecs G round [] ss c → MeansMemberNames c.1 ms c.0 ds x → MembersOffend x.1 round x.0 rest r
-        → MembersOffend G round ms (more_members (member l ss ds) rest) r

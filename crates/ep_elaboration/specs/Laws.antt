@@ -16,10 +16,14 @@ use Rattle.ep_typing.specs.Typing.{whole_statement}
 use Rattle.ep_elaboration.specs.Declarations.{declaration}
 use Rattle.ep_elaboration.specs.Statements.{statement}
 use Rattle.ep_elaboration.specs.Programs.{elaborated}
-use Rattle.ep_elaboration.specs.WholeRules.{MeansWhole, WholeOffends}
-use Rattle.ep_elaboration.specs.GivenRules.{MeansDeclaration, DeclarationOffends}
-use Rattle.ep_elaboration.specs.StatementRules.{MeansStatement, StatementOffends}
-use Rattle.ep_elaboration.specs.ProgramRules.{MeansProgram, ProgramOffends}
+use Rattle.ep_elaboration.specs.WholeRules.{MeansWhole}
+use Rattle.ep_elaboration.specs.WholeOffences.{WholeOffends}
+use Rattle.ep_elaboration.specs.GivenRules.{MeansDeclaration}
+use Rattle.ep_elaboration.specs.GivenOffences.{DeclarationOffends}
+use Rattle.ep_elaboration.specs.StatementRules.{MeansStatement}
+use Rattle.ep_elaboration.specs.StatementOffences.{StatementOffends}
+use Rattle.ep_elaboration.specs.ProgramRules.{MeansProgram}
+use Rattle.ep_elaboration.specs.ProgramOffences.{ProgramOffends}
 
 -- a function's answer is what the rules give a meaning, and its refusal what they name as the first offence
 pub record SaysAs {B : Type 0} (answer : Result B Refusal) (Means : B → Type 0) (Offends : Refusal → Type 0)

@@ -7,11 +7,17 @@ pub mod Functions
 pub mod Calls
 pub mod Programs
 pub mod WholeRules
+pub mod WholeOffences
 pub mod DeclaratorRules
+pub mod DeclaratorOffences
 pub mod GivenRules
+pub mod GivenOffences
 pub mod StatementRules
+pub mod StatementOffences
 pub mod FunctionRules
+pub mod FunctionOffences
 pub mod ProgramRules
+pub mod ProgramOffences
 pub mod Laws
 pub mod Leads
 pub mod CallLaws

@@ -9,7 +9,8 @@ use Rattle.ep_ast.specs.Statement.{Item}
 use Rattle.ep_core.specs.Program.{Program}
 use Rattle.ep_core.specs.WellFormed.{is_well_formed}
 use Rattle.ep_elaboration.specs.Programs.{elaborated}
-use Rattle.ep_elaboration.specs.ProgramRules.{MeansProgram, ProgramOffends}
+use Rattle.ep_elaboration.specs.ProgramRules.{MeansProgram}
+use Rattle.ep_elaboration.specs.ProgramOffences.{ProgramOffends}
 use Rattle.ep_elaboration.proofs.ProgramOrder.{means_elaborated, refused_elaborated}
 use Rattle.ep_elaboration.proofs.Meanings.{one_meaning, not_both}
 use Rattle.ep_operands.specs.Refinement.{Stops}

@@ -6,7 +6,8 @@ ghost use Rattle.ep_ast.specs.Statement.{program_of as items};
 ghost use Rattle.ep_ast.specs.declared.refusals.Refusal.{Refusal};
 ghost use Rattle.ep_core.specs.Program.{Program};
 ghost use Rattle.ep_core.specs.ProgramView.{program_view};
-ghost use Rattle.ep_elaboration.specs.ProgramRules.{MeansProgram, ProgramOffends};
+ghost use Rattle.ep_elaboration.specs.ProgramRules.{MeansProgram};
+ghost use Rattle.ep_elaboration.specs.ProgramOffences.{ProgramOffends};
 
 use crate::whole::parts_of_program;
 use ep_ast::{Halt, ProgramTree};

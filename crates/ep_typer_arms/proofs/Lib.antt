@@ -4,3 +4,6 @@ pub mod Alone
 pub mod Grown
 pub mod Gathering
 pub mod WholeArms
+pub mod Spellings
+pub mod SpelledTypes
+pub mod SpelledHeads

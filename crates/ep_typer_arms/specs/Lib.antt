@@ -1,1 +1,2 @@
 pub mod FileEnvironments
+pub mod Spelled

@@ -13,6 +13,7 @@ ghost use Rattle.ep_typer_arms.specs.FileEnvironments.{IsFileEnv};
 ghost use Rattle.ep_typer_functions.specs.View.{AreDone, headed as headed_view};
 
 use crate::heads::are_named_alike;
+use crate::spelled::heads_spell_alike;
 use ep_ast::{FunctionTree, Halt, HeadTree};
 use ep_int::Memory;
 use ep_layout::Types;
@@ -70,6 +71,9 @@ fn are_alike(env: &Env, done: &Done, first: &HeadTree, second: &HeadTree) -> Res
     ensures { (ds : List ℕ) → AreDone done.now ds
         → IfOk result (λ b. b ≡ rule.are_alike (env_view env.now) ds (head_of first.now) (head_of second.now)) }
 {
+    if heads_spell_alike(env, first, second) {
+        return Ok(true);
+    }
     let mut tried = env.copy()?;
     match stands_alone(&mut tried, done, first) {
         Ok(ty) => {

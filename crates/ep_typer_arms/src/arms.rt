@@ -48,9 +48,9 @@ fn first_defined(env: &mut Env, done: &Done, list: &[FunctionTree]) -> Result<Ve
         (first_arm (env_view env.old) ds (map function_of list.now)) (env_view env.new) result }
     ensures known { OnOk result (IsKnownEnv (env_view env.new)) }
 {
-    let before = env.scopes.copy()?;
+    let mark = env.scopes.mark();
     let all = functions_defined(env, done, list)?;
-    env.scopes = before;
+    env.scopes.rewind(mark)?;
     Ok(all)
 }
 

@@ -5,5 +5,6 @@ mod alike;
 mod arms;
 mod heads;
 mod joining;
+mod spelled;
 
 pub use arms::arms_defined;

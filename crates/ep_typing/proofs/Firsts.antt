@@ -1,7 +1,7 @@
 -- The first in a list that breaks a rule.
 use Rattle.std.proofs.Common.{◌≡◌, List, [], ◌∷◌, ◌++◌}
 use Rattle.ep_ast.specs.declared.refusals.Refusal.{Refusal}
-use Rattle.ep_typing.specs.Rules.{First, here, later}
+use Rattle.ep_typing.specs.Offences.{First, here, later}
 
 -- none of these breaks a rule
 abbrev pub Clean : {X : Type 0} → (X → Refusal → Type 0) → List X → Type 0

@@ -14,14 +14,18 @@ use Rattle.ep_typing.specs.Parts.{an_operand, indexable, named, named_uncalled, 
 use Rattle.ep_typing.specs.Parts.{unary_typed, uncalled}
 use Rattle.ep_typing.specs.Typing.{callee, typed, typed_all, read_first, joined, chosen_from, cast_to, indexed_by}
 use Rattle.ep_typing.specs.Typing.{selected_behind}
-use Rattle.ep_typing.specs.Rules.{Means, MeansCallee, HaveValues, Point, node, type_named, name_called}
-use Rattle.ep_typing.specs.Rules.{is_called_name, is_called_value, bad_callee, callee_order, value_asked, update_asked}
-use Rattle.ep_typing.specs.Rules.{index_asked, Breaks, First, here, order, order_all, refusal, no_values}
+use Rattle.ep_typing.specs.Rules.{Means, MeansCallee, HaveValues}
+use Rattle.ep_typing.specs.Offences.{Point, node, type_named, name_called}
+use Rattle.ep_typing.specs.Rules.{is_called_name, is_called_value}
+use Rattle.ep_typing.specs.Offences.{bad_callee, callee_order, value_asked, update_asked}
+use Rattle.ep_typing.specs.Rules.{no_values}
+use Rattle.ep_typing.specs.Offences.{index_asked, Breaks, First, here, order, order_all, refusal}
 use Rattle.ep_typing.specs.Rules.{more_values, is_number, is_name, is_choice, is_binary, is_cast, is_unary}
-use Rattle.ep_typing.specs.Rules.{is_size, is_type_size, is_element, is_member, is_member_behind, bad_type_name}
-use Rattle.ep_typing.specs.Rules.{bad_value, bad_update, bad_array, bad_name, bad_choice, bad_binary, bad_cast}
-use Rattle.ep_typing.specs.Rules.{bad_unary, bad_size, bad_type_size, bad_element, bad_member, bad_member_behind}
-use Rattle.ep_typing.specs.Rules.{assigns, steps, steps_up, steps_down, calls}
+use Rattle.ep_typing.specs.Rules.{is_size, is_type_size, is_element, is_member, is_member_behind}
+use Rattle.ep_typing.specs.Offences.{bad_type_name}
+use Rattle.ep_typing.specs.Offences.{bad_value, bad_update, bad_array, bad_name, bad_choice, bad_binary, bad_cast}
+use Rattle.ep_typing.specs.Offences.{bad_unary, bad_size, bad_type_size, bad_element, bad_member, bad_member_behind}
+use Rattle.ep_typing.specs.Offences.{assigns, steps, steps_up, steps_down, calls}
 use Rattle.ep_typing.proofs.Firsts.{Clean, both, in_front, past, none_first, only_first}
 
 -- ---- results

@@ -42,8 +42,8 @@ passed (of_type c) v = fitted c v
 passed any_pointer v = as_any_pointer v
 passed a_length v = as_length v
 
--- an argument without a parameter: arity (C11 6.5.2.2p2); type_mismatch where it is an aggregate, which is none anywhere
--- (this project's rule)
+-- an argument without a parameter: arity (C11 6.5.2.2p2); type_mismatch where it is an aggregate, which no argument may
+-- be (this project's rule)
 abbrev pub surplus : Value → Result core.Expr ℕ
 surplus v = if is_aggregate v.ty then Err kinds.type_mismatch else Err kinds.arity
 

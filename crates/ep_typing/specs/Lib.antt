@@ -10,3 +10,4 @@ pub mod Parts
 pub mod Calls
 pub mod Typing
 pub mod Rules
+pub mod Offences

@@ -5,7 +5,8 @@ ghost use Rattle.ep_ast.specs.Expression.{Expr};
 ghost use Rattle.ep_ast.specs.declared.refusals.Refusal.{Refusal as Fault};
 ghost use Rattle.ep_typing.specs.Env.{Env};
 ghost use Rattle.ep_typing.specs.Operand.{Operand};
-ghost use Rattle.ep_typing.specs.Rules.{Means, Offends};
+ghost use Rattle.ep_typing.specs.Rules.{Means};
+ghost use Rattle.ep_typing.specs.Offences.{Offends};
 ghost use Rattle.ep_typing.specs.Typing.{typed};
 
 /// What an expression means is what the rules without an order say; and for what it is refused is the first point in

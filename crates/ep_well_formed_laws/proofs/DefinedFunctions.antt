@@ -1,5 +1,6 @@
 -- Functions that are defined fit, and leave an environment in which all that is named is there.
 use Rattle.std.proofs.Common.{◌≡◌, ℕ, zero, suc, ◌+◌, ◌<◌, nat_eq, Bool, true, false, true≢false, if◌then◌else◌, List}
+use Rattle.ep_core.proofs.Tables.{more_types}
 use Rattle.ep_int.proofs.Basics.{append-assoc, slice_get-append, append-nil}
 use Rattle.std.proofs.lemmas.Bool.{or_cases}
 use Rattle.std.proofs.lemmas.Bool.{and_from, or_left, or_right}
@@ -39,7 +40,7 @@ use Rattle.ep_well_formed_laws.specs.Statements.{IsDefined, IsResultOf, StmtsFit
 use Rattle.ep_well_formed_laws.proofs.Additions.{c_number_is, type_number_stays}
 use Rattle.ep_well_formed_laws.proofs.Heads.{HeadComes, IsParamName, head_comes}
 use Rattle.ep_well_formed_laws.proofs.Lines.{parts_fit}
-use Rattle.ep_well_formed_laws.proofs.Mentions.{env_declares, more_types}
+use Rattle.ep_well_formed_laws.proofs.Mentions.{env_declares}
 use Rattle.ep_well_formed_laws.proofs.Objects.{block_of_type, env_named, name_comes, placed_front}
 use Rattle.ep_well_formed_laws.proofs.Scopes.{HaveNames, each_same, meaning_more, name_more}
 use Rattle.ep_well_formed_laws.proofs.Steps.{NamesGrow, env_left, own_names}

@@ -1,5 +1,7 @@
 -- The first values of globals: each of a leaf of its block, behind one another.
 use Rattle.std.proofs.Common.{◌≡◌, ℕ, zero, suc, ◌+◌, ◌<◌, ◌≤◌, nat_eq, Bool, true, false, true≢false, not, ◌&&◌}
+use Rattle.ep_typing.specs.SameTypes.{int_itself}
+use Rattle.ep_typing.specs.SameTypes.{same_types}
 use Rattle.ep_layout.proofs.Basics.{grows-trans}
 use Rattle.ep_int.proofs.Basics.{slice_get-append}
 use Rattle.ep_well_formed_laws.proofs.Leaves.{some_object}
@@ -17,7 +19,7 @@ use Rattle.ep_int.specs.Arith.{is_in_range}
 use Rattle.ep_ast.specs.Expression as source
 use Rattle.ep_ast.specs.Mark as mark
 use Rattle.ep_ast.specs.Declaration as tree
-use Rattle.ep_ast.specs.Declaration.{Values, single, listed, no_values, more_values}
+use Rattle.ep_ast.specs.Declaration.{Values, single, listed}
 use Rattle.ep_layout.specs.declared.types.Leaf.{Leaf}
 use Rattle.ep_layout.specs.Layout.{Layout, scalar_layout}
 use Rattle.ep_layout.specs.Table.{Grows, Table, layout_of, leaves, size}
@@ -51,10 +53,9 @@ use Rattle.ep_well_formed_laws.proofs.Mentions.{expression_mentioned}
 use Rattle.ep_well_formed_laws.proofs.Operators.{wrapped_fits}
 use Rattle.ep_well_formed_laws.proofs.Parts.{integer_row}
 use Rattle.ep_well_formed_laws.proofs.Steps.{nothing_more}
-use Rattle.ep_well_formed_laws.proofs.Tests.{after, either_way, given, needed_is, same_self}
+use Rattle.ep_well_formed_laws.proofs.Tests.{after, either_way, given, needed_is}
 use Rattle.ep_well_formed_laws.proofs.Tests.{unless}
 use Rattle.ep_well_formed_laws.proofs.Values.{scalar_is}
-use Rattle.ep_well_formed_laws.proofs.FunctionNames.{same_c}
 use Rattle.ep_well_formed_laws.proofs.Leaves.{InBlock, Spread, has_leaf, in_block_later, spread}
 
 -- ---- first values stay
@@ -179,7 +180,7 @@ unfolding put value_of
 put_scalar t p c (place q d) v w n u e k = elim (either_way (moves_aggregate c d) _ _ (Ok w) e) [
   | inl m ↦
       let s = and_parts (is_aggregate c) (is_same c d) m.0 in
-      let same : c ≡ d = same_c c d s.1 in
+      let same : c ≡ d = same_types c d s.1 in
       let g : is_aggregate d ≡ true = subst (λ (z : CType). is_aggregate z ≡ true) same s.0 in
       let r = unless (is_void d) 33 (Ok (loaded t q d)) v u in
       let is : loaded t q d ≡ v = (let z = r.1 in cc) in
@@ -231,7 +232,7 @@ int_init t bs x l n h q i =
     let own : has_leaf l.leaves 0 (scalars.Int (int_of x.ty)) ≡ true =
     subst (λ (z : Layout). has_leaf z.leaves 0 (scalars.Int (int_of x.ty)) ≡ true) same
     (or_left (is_leaf_at 0 (scalars.Int (int_of x.ty)) (record { offset = 0; what = scalars.Int (int_of x.ty) }))
-    false (same_self (int_of x.ty))) in
+    false (int_itself (int_of x.ty))) in
     let e : x.offset + 0 ≡ x.offset = omega arith in
     let there : has_leaf q.whole.leaves x.offset (scalars.Int (int_of x.ty)) ≡ true =
     subst (λ (j : ℕ). has_leaf q.whole.leaves j (scalars.Int (int_of x.ty)) ≡ true) e

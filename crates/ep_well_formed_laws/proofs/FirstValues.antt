@@ -1,5 +1,6 @@
 -- First values of objects, and declarations of variables, come to statements that fit.
 use Rattle.std.proofs.Common.{◌≡◌, ℕ, zero, suc, ◌+◌, ◌*◌, ◌<◌, ◌≤◌, nat_lt, nat_le, Bool, true, false, true≢false}
+use Rattle.ep_core.proofs.Tables.{more_types}
 use Rattle.std.proofs.lemmas.Bool.{or_cases}
 use Rattle.std.proofs.lemmas.Bool.{and_from}
 use Rattle.std.proofs.Common.{◌||◌, if◌then◌else◌, List, [], ◌∷◌, ◌++◌, length, map, slice_get, Option, Some, None}
@@ -13,7 +14,7 @@ use Rattle.ep_int.specs.Arith.{is_in_range}
 use Rattle.ep_ast.specs.Mark as mark
 use Rattle.ep_ast.specs.Expression as source
 use Rattle.ep_ast.specs.Declaration as tree
-use Rattle.ep_ast.specs.Declaration.{Declaration, Init, Values, listed, more_values, no_values, single, to_specs}
+use Rattle.ep_ast.specs.Declaration.{Declaration, Init, Values, listed, single, to_specs}
 use Rattle.ep_layout.specs.Layout.{Layout}
 use Rattle.ep_layout.specs.Table.{MemberRow, Table, is_union, members_of, size}
 use Rattle.ep_layout.proofs.Sizes.{element_laid}
@@ -40,7 +41,7 @@ use Rattle.ep_well_formed_laws.specs.Statements.{StmtsFit, WhatFits}
 use Rattle.ep_well_formed_laws.proofs.Extents.{same_size}
 use Rattle.ep_well_formed_laws.proofs.Additions.{c_number_is, has_number_stays, type_number_stays}
 use Rattle.ep_well_formed_laws.proofs.Mentions.{AreThere, Mentions, covers_mentioned, expression_mentioned}
-use Rattle.ep_well_formed_laws.proofs.Mentions.{mentions_none, mentions_on, more_types}
+use Rattle.ep_well_formed_laws.proofs.Mentions.{mentions_none, mentions_on}
 use Rattle.ep_well_formed_laws.proofs.Objects.{object_declared_is, scope_stays}
 use Rattle.ep_well_formed_laws.proofs.Parts.{IsAmong, array_is_of, element_fits, got_among, member_fits}
 use Rattle.ep_well_formed_laws.proofs.Parts.{place_of_number, member_number}

@@ -1,22 +1,22 @@
 -- Functions by their names: what is declared has its name's number, and keeps its type.
-use Rattle.std.proofs.Common.{◌≡◌, ℕ, ◌<◌, ◌≤◌, ◌==◌, Bool, true, false, true≢false, not, ◌&&◌, ◌||◌, if◌then◌else◌}
+use Rattle.std.proofs.Common.{◌≡◌, ℕ, ◌<◌, ◌≤◌, Bool, true, false, true≢false, not, ◌&&◌, if◌then◌else◌}
+use Rattle.ep_typing.specs.SameTypes.{same_types}
 use Rattle.ep_well_formed_laws.proofs.Scopes.{entry_front}
 use Rattle.ep_int.proofs.Basics.{bytes_eq-equal, and_false-right}
 use Rattle.std.proofs.lemmas.Bool.{not-false}
 use Rattle.std.proofs.lemmas.Bool.{or_parts}
 use Rattle.std.proofs.Common.{List, [], ◌∷◌, ◌++◌, length, slice_get, Option, Some, None, is_some, unwrap_or}
 use Rattle.std.proofs.Common.{bytes_eq, Ok, refl, sym, ap, ◌∙◌, subst, ◌⊎◌, inl, inr, arith}
-use Rattle.std.proofs.lemmas.Bool.{and_parts, eqb-true}
+use Rattle.std.proofs.lemmas.Bool.{and_parts}
 use Rattle.ep_int.specs.Memory.{contains}
 use Rattle.ep_layout.proofs.Options.{get_last, get_push}
 use Rattle.ep_layout.proofs.Positions.{position_push}
-use Rattle.ep_core.proofs.Sorts.{never, same_type}
-use Rattle.ep_typing.specs.declared.types.Base.{Base}
+use Rattle.ep_core.proofs.Sorts.{never}
 use Rattle.ep_typing.specs.declared.types.Base.TheVariants as bases
 use Rattle.ep_typing.specs.declared.types.CType.{CType}
 use Rattle.ep_typing.specs.Calls.{signature}
 use Rattle.ep_typing.specs.Parts.{built_in}
-use Rattle.ep_typing.specs.Types.{is_same, is_same_base}
+use Rattle.ep_typing.specs.Types.{is_same}
 use Rattle.ep_typing.specs.Env as env
 use Rattle.ep_typing.specs.Env.{Env, Meaning, Scope, Signature, entry}
 use Rattle.ep_elaboration.specs.Declarators.{name_in, with_name}
@@ -27,38 +27,11 @@ use Rattle.ep_elaboration.specs.Statements.{innermost}
 use Rattle.ep_well_formed_laws.specs.Environments.{HasScope}
 use Rattle.ep_well_formed_laws.proofs.Scopes.{HaveNames}
 use Rattle.ep_well_formed_laws.proofs.Steps.{nothing_more}
-use Rattle.ep_well_formed_laws.proofs.Tests.{either_way, given, unless}
+use Rattle.ep_well_formed_laws.proofs.Tests.{given, unless}
 use Rattle.ep_well_formed_laws.proofs.CallNames.{NameFits, NamesFit, ScopesFit, bytes_same, entry_name_fits}
 use Rattle.ep_well_formed_laws.proofs.Places.{place_front, place_is}
 
 -- ---- types that are the same
-
-pub same_base : (b c : Base) → is_same_base b c ≡ true → b ≡ c
-same_base bases.Void bases.Void h = refl
-same_base bases.Void (bases.Int i) h = never h
-same_base bases.Void (bases.Array n) h = never h
-same_base bases.Void (bases.Aggregate a) h = never h
-same_base (bases.Int i) bases.Void h = never h
-same_base (bases.Int i) (bases.Int j) h = ap (λ k. bases.Int k) (same_type i j h)
-same_base (bases.Int i) (bases.Array n) h = never h
-same_base (bases.Int i) (bases.Aggregate a) h = never h
-same_base (bases.Array m) bases.Void h = never h
-same_base (bases.Array m) (bases.Int i) h = never h
-same_base (bases.Array m) (bases.Array n) h = ap (λ (k : ℕ). bases.Array k) (eqb-true m n h)
-same_base (bases.Array m) (bases.Aggregate a) h = never h
-same_base (bases.Aggregate a) bases.Void h = never h
-same_base (bases.Aggregate a) (bases.Int i) h = never h
-same_base (bases.Aggregate a) (bases.Array n) h = never h
-same_base (bases.Aggregate a) (bases.Aggregate b) h = ap (λ (k : ℕ). bases.Aggregate k) (eqb-true a b h)
-
-pub same_c : (c d : CType) → is_same c d ≡ true → c ≡ d
-same_c c d h = elim (either_way (c.stars == d.stars) (is_same_base c.base d.base) false true h) [
-  | inl p ↦
-      let s : c.stars ≡ d.stars = eqb-true c.stars d.stars p.0 in
-      ap (λ (b : Base). record { base = b; stars = c.stars }) (same_base c.base d.base p.1)
-      ∙ ap (λ (k : ℕ). record { base = d.base; stars = k }) s
-  | inr p ↦ never p.1
-]
 
 pub same_all : (cs ds : List CType) → are_same cs ds ≡ true → cs ≡ ds
 same_all [] [] h = refl
@@ -66,7 +39,7 @@ same_all [] (d ∷ ds) h = never h
 same_all (c ∷ cs) [] h = never h
 same_all (c ∷ cs) (d ∷ ds) h =
     let p = and_parts (is_same c d) (are_same cs ds) h in
-    ap (λ (x : CType). x ∷ cs) (same_c c d p.0) ∙ ap (λ (xs : List CType). d ∷ xs) (same_all cs ds p.1)
+    ap (λ (x : CType). x ∷ cs) (same_types c d p.0) ∙ ap (λ (xs : List CType). d ∷ xs) (same_all cs ds p.1)
 
 pub record SameTypes (s u : Signature) : Type 0 where
   pub params : s.params ≡ u.params
@@ -75,7 +48,7 @@ pub record SameTypes (s u : Signature) : Type 0 where
 pub same_signature : (s u : Signature) → is_same_signature s u ≡ true → SameTypes s u
 same_signature s u h =
     let p = and_parts (is_same s.result u.result) (are_same s.params u.params) h in
-    record { params = same_all s.params u.params p.1; result = same_c s.result u.result p.0 }
+    record { params = same_all s.params u.params p.1; result = same_types s.result u.result p.0 }
 
 -- ---- numbers of functions
 

@@ -1,5 +1,6 @@
 -- Functions: their heads, their blocks and their bodies.
 use Rattle.std.proofs.Common.{◌≡◌, ℕ, suc, ◌+◌, ◌<◌, Bool, true, false, List, [], ◌∷◌, ◌++◌, length, map, slice_get}
+use Rattle.ep_core.proofs.Tables.{more_types}
 use Rattle.std.proofs.lemmas.Bool.{or_cases}
 use Rattle.std.proofs.lemmas.Bool.{or_left, or_right}
 use Rattle.std.proofs.Common.{option_to_list, Option, Ok, refl, sym, ap, ◌∙◌, subst, ◌⊎◌, inl, inr, arith}
@@ -27,7 +28,6 @@ use Rattle.ep_well_formed_laws.proofs.DefinedFunctions.{behind_head, frame_cover
 use Rattle.ep_well_formed_laws.proofs.DefinedFunctions.{locals_are}
 use Rattle.ep_well_formed_laws.proofs.Heads.{HeadComes, IsParamName}
 use Rattle.ep_well_formed_laws.proofs.Lines.{parts_fit}
-use Rattle.ep_well_formed_laws.proofs.Mentions.{more_types}
 use Rattle.ep_well_formed_laws.proofs.Scopes.{HaveNames, each_same, meaning_more}
 use Rattle.ep_well_formed_laws.proofs.Steps.{env_left}
 use Rattle.ep_well_formed_laws.proofs.Counts.{Lists, below, count, lists_one}

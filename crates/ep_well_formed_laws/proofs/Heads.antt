@@ -42,14 +42,14 @@ use Rattle.ep_layout.proofs.Options.{get_last}
 
 -- ---- bounds of parameters
 
-record HasParamBounds (G H : Env) (o : Option (List ℕ)) : Type 0 where
-  mentions : Mentions G H
-  lengths : (ns : List ℕ) → o ≡ Some ns → AreLengths ns
+pub record HasParamBounds (G H : Env) (o : Option (List ℕ)) : Type 0 where
+  pub mentions : Mentions G H
+  pub lengths : (ns : List ℕ) → o ≡ Some ns → AreLengths ns
 
 some_list : (xs ys : List ℕ) → Some xs ≡ Some ys → xs ≡ ys
 some_list xs ys e = cc
 
-param_bounds_are : (G : Env) (l : ℕ) (bs : List (Option source.Expr)) (x : Option (List ℕ) × Env) → IsDeclared G
+pub param_bounds_are : (G : Env) (l : ℕ) (bs : List (Option source.Expr)) (x : Option (List ℕ) × Env) → IsDeclared G
     → MeansParamBounds G l bs x → HasParamBounds G x.1 x.0
 param_bounds_are G l bs x h no_array = record { mentions = mentions_none G h; lengths = λ ns e. absurd cc }
 param_bounds_are G l bs x h (open_array {bs = cs} ns m) =
@@ -239,7 +239,7 @@ with_param_comes G o b c ns d h k l e =
     (named_comes H o b r.0.0 d m.declared (scalar_left r.0.0 x.0 y.0 p.whole, p.comes.number)
     (ap (named_param o b) same ∙ named))
 
-param_comes : (G : Env) (b : ℕ) (p : Param) (d : CType × Env) → IsDeclared G → MeansParam G b p d → ParamComes G d.1 b (d.0 ∷ [])
+pub param_comes : (G : Env) (b : ℕ) (p : Param) (d : CType × Env) → IsDeclared G → MeansParam G b p d → ParamComes G d.1 b (d.0 ∷ [])
 param_comes G b p d h (is_param c ns x m n e) =
     let s = words_specified G [] p.words c h m in
     let H = c.1 in
@@ -315,7 +315,7 @@ void_is c h =
     by (bases.Array n) q = never q
     by (bases.Aggregate a) q = never q
 
-given_back_is : (c t : CType) → given_back c ≡ Ok t → (c ≡ t) × (is_aggregate t ≡ false) × (is_array t ≡ false)
+pub given_back_is : (c t : CType) → given_back c ≡ Ok t → (c ≡ t) × (is_aggregate t ≡ false) × (is_array t ≡ false)
 given_back_is c t e =
     let x = unless (is_aggregate c || is_array c) 43 (Ok c) t e in
     let same : c ≡ t = (let q = x.1 in cc) in
@@ -330,7 +330,7 @@ head_scopes : (ss us : List Scope) → NamesGrow (no_names ∷ ss) us → (u : S
 head_scopes ss [] n = absurd n
 head_scopes ss (u ∷ us) n = (u, us, refl, n.1)
 
-declared_entered : (G : Env) → IsDeclared G → IsDeclared (entered G)
+pub declared_entered : (G : Env) → IsDeclared G → IsDeclared (entered G)
 declared_entered G h =
     record { table = h.table; names = (tt, h.names); tags = (tt, h.tags); functions = h.functions }
 

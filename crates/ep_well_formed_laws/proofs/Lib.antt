@@ -6,6 +6,7 @@ pub mod Values
 pub mod Operators
 pub mod Parts
 pub mod Scopes
+pub mod FileScopes
 pub mod Mentions
 pub mod TypedExpressions
 pub mod Stores

@@ -1,5 +1,6 @@
 -- Statements of a function come to lines that fit.
 use Rattle.std.proofs.Common.{◌≡◌, ℕ, ◌<◌, Bool, true, false, true≢false, List, [], ◌∷◌, ◌++◌, length, Option, Some}
+use Rattle.ep_core.proofs.Tables.{more_types}
 use Rattle.std.proofs.lemmas.Bool.{and_from}
 use Rattle.std.proofs.Common.{None, Ok, refl, sym, ◌∙◌, subst, arith, pos}
 use Rattle.ep_int.specs.declared.types.IntType.TheVariants.{I32}
@@ -31,7 +32,7 @@ use Rattle.ep_elaboration.specs.WholeRules.{is_test}
 use Rattle.ep_well_formed_laws.specs.Environments.{Covers, HasScope, IsEnv}
 use Rattle.ep_well_formed_laws.specs.Statements.{IsResultOf, StmtsFit, WhatFits, a_result, no_result}
 use Rattle.ep_well_formed_laws.proofs.Additions.{type_number_stays}
-use Rattle.ep_well_formed_laws.proofs.Mentions.{expression_mentioned, more_types}
+use Rattle.ep_well_formed_laws.proofs.Mentions.{expression_mentioned}
 use Rattle.ep_well_formed_laws.proofs.Objects.{scope_stays}
 use Rattle.ep_well_formed_laws.proofs.FirstValues.{LinesFit, declaration_fits, no_lines, stmts_both}
 use Rattle.ep_well_formed_laws.proofs.Parts.{scalar_not_void, value_fits}

@@ -1,12 +1,12 @@
 -- Expressions with what they mention.
 use Rattle.std.proofs.Common.{◌<◌, false, length, arith}
+use Rattle.ep_core.proofs.Tables.{more_types}
 use Rattle.ep_typing.specs.Env.{Env}
 use Rattle.ep_typing.specs.Names.{mentioned}
 use Rattle.ep_elaboration.proofs.WholeOrder.{means_whole_statement}
 use Rattle.ep_well_formed_laws.specs.Laws.{BlocksFit, DeclarationsFit, DefinitionsFit, ExpressionsFit, MentionsKeep}
 use Rattle.ep_well_formed_laws.specs.Laws.{WholeStatementsFit}
 use Rattle.ep_well_formed_laws.proofs.Mentions.{Mentions, covers_mentioned, env_mentioned, expression_mentioned}
-use Rattle.ep_well_formed_laws.proofs.Mentions.{more_types}
 use Rattle.ep_well_formed_laws.proofs.TypedExpressions.{typed_fits}
 use Rattle.ep_elaboration.proofs.GivenOrder.{means_declaration}
 use Rattle.ep_elaboration.proofs.StatementOrder.{means_parts}

@@ -1,6 +1,6 @@
 -- Environments stay what they are while expressions declare tags and types, and the types of type names are there.
-use Rattle.std.proofs.Common.{◌≡◌, ℕ, zero, suc, ◌<◌, ◌≤◌, ◌==◌, Bool, true, false, cond, if◌then◌else◌, List, []}
-use Rattle.ep_int.proofs.Basics.{length-by_rows}
+use Rattle.std.proofs.Common.{◌≡◌, ℕ, zero, suc, ◌<◌, ◌==◌, Bool, true, false, cond, if◌then◌else◌, List, []}
+use Rattle.ep_core.proofs.Tables.{more_aggregates}
 use Rattle.ep_layout.proofs.Basics.{grows-trans, is_union-stays}
 use Rattle.ep_typing.proofs.Order.{at_ok}
 use Rattle.std.proofs.lemmas.Bool.{and_from}
@@ -78,12 +78,6 @@ module _ (t u : Table) (g : Grows t u) (b : IsBuilt u) where
 
   pub block_stays : (x : Block) → block_fits t x ≡ true → block_fits u x ≡ true
   block_stays x h = let p = and_parts _ _ h in and_from _ _ (size_on t u g x.ty x.size p.0) p.1
-
-pub more_types : (t u : Table) → Grows t u → length t.types ≤ length u.types
-more_types t u g = length-by_rows t.types u.types (λ n ty e. (ty, g.types n ty e))
-
-pub more_aggregates : (t u : Table) → Grows t u → length t.aggregates ≤ length u.aggregates
-more_aggregates t u g = length-by_rows t.aggregates u.aggregates (λ a x e. let p = g.aggregates a x e in (p.0, p.1))
 
 -- an environment in a table that has grown
 pub with_table : (G : Env) (u : Table) → IsDeclared G → Grows G.types u → IsTable u → IsDeclared (record G { types = u })

@@ -1,10 +1,11 @@
 -- What operators on two values come to computes what its type says.
 use Rattle.std.proofs.Common.{◌≡◌, ℕ, ◌<◌, ◌==◌, Bool, true, false, ◌&&◌, not, if◌then◌else◌, List, length, Option}
+use Rattle.ep_typing.specs.SameTypes.{int_itself}
 use Rattle.ep_int.proofs.Arithmetic.{le_test}
 use Rattle.ep_int.proofs.Basics.{zero_in_range}
 use Rattle.std.proofs.lemmas.Bool.{not-false}
 use Rattle.std.proofs.lemmas.Bool.{and_from}
-use Rattle.std.proofs.Common.{Some, Ok, refl, sym, ap, ◌∙◌, subst, inl, inr, ℤ, pos, negsuc, ◌≤ℤ◌}
+use Rattle.std.proofs.Common.{Some, Ok, refl, sym, ap, ◌∙◌, subst, inl, inr, ℤ, pos, negsuc}
 use Rattle.std.proofs.lemmas.Bool.{and_parts}
 use Rattle.ep_int.specs.declared.types.IntType.{IntType}
 use Rattle.ep_int.specs.declared.types.IntType.TheVariants.{I32}
@@ -20,7 +21,7 @@ use Rattle.ep_layout.specs.Table.{Table, size}
 use Rattle.ep_core.specs.Program as core
 use Rattle.ep_core.specs.Program.{Block, Expr}
 use Rattle.ep_core.specs.WellFormed as formed
-use Rattle.ep_core.specs.WellFormed.{has_sort, integer, is_same_type, pointer_to as pointing, int_type_of, is_number}
+use Rattle.ep_core.specs.WellFormed.{has_sort, integer, pointer_to as pointing, int_type_of, is_number}
 use Rattle.ep_core.specs.WellFormed.{is_length}
 use Rattle.ep_typing.specs.declared.types.CType.{CType}
 use Rattle.ep_typing.specs.Results.{needed}
@@ -36,7 +37,7 @@ use Rattle.ep_well_formed_laws.specs.Numbers.{IsMade, IsTable, may_be, type_numb
 use Rattle.ep_well_formed_laws.specs.Operands.{ValueFits}
 use Rattle.ep_well_formed_laws.proofs.Extents.{same_size, size_is_length}
 use Rattle.ep_well_formed_laws.proofs.Tests.{after, both_not, either_way, given, if_not, if_so, int_is}
-use Rattle.ep_well_formed_laws.proofs.Tests.{needed_is, right_operand_is, same_self, unless}
+use Rattle.ep_well_formed_laws.proofs.Tests.{needed_is, right_operand_is, unless}
 use Rattle.ep_well_formed_laws.proofs.Values.{IsAddress, as_pointer_is, bare_is, converted_is, int_fits, pointer_fits}
 use Rattle.ep_well_formed_laws.proofs.Values.{same_number, scalar_is, scalar_tested, self_may_be, unmixed_address}
 
@@ -56,7 +57,7 @@ module _ (t : Table) (bs : List Block) (seen : List ℕ) (table : IsTable t) (so
 
   pub binary_is : (op : BinOp) (i : IntType) (a b : Expr) → S a (integer i) ≡ true → S b (integer i) ≡ true
       → S (core.binary op i a b) (integer i) ≡ true
-  binary_is op i a b h k = and_from _ _ (and_from _ _ (same_self i) h) (right_operand_is t bs seen op b i k)
+  binary_is op i a b h k = and_from _ _ (and_from _ _ (int_itself i) h) (right_operand_is t bs seen op b i k)
 
   computed_fits : (op : BinOp) (a b : Value) → F a → F b → is_integer a.ty ≡ true → is_integer b.ty ≡ true
       → F (computed op a b)
@@ -77,11 +78,11 @@ module _ (t : Table) (bs : List Block) (seen : List ℕ) (table : IsTable t) (so
 
   shifted_left_is : (i j : IntType) (a b : Expr) → S a (integer i) ≡ true → S b (integer j) ≡ true
       → S (core.binary Shl i a b) (integer i) ≡ true
-  shifted_left_is i j a b h k = and_from _ _ (and_from _ _ (same_self i) h) (int_is t bs seen b j k)
+  shifted_left_is i j a b h k = and_from _ _ (and_from _ _ (int_itself i) h) (int_is t bs seen b j k)
 
   shifted_right_is : (i j : IntType) (a b : Expr) → S a (integer i) ≡ true → S b (integer j) ≡ true
       → S (core.binary Shr i a b) (integer i) ≡ true
-  shifted_right_is i j a b h k = and_from _ _ (and_from _ _ (same_self i) h) (int_is t bs seen b j k)
+  shifted_right_is i j a b h k = and_from _ _ (and_from _ _ (int_itself i) h) (int_is t bs seen b j k)
 
   shifted_fits : (op : BinOp)
       → ((i j : IntType) (a b : Expr) → S a (integer i) ≡ true → S b (integer j) ≡ true
@@ -285,7 +286,7 @@ module _ (t : Table) (bs : List Block) (seen : List ℕ) (table : IsTable t) (so
       let g = given (is_integer a.ty) (opposite a) v 32 e in
       let i = promoted_type a in
       subst F g.1 (int_fits t bs seen some _ i (binary_is Sub i (core.const i (pos 0)) (promoted_value a)
-      (and_from _ _ (same_self i) (zero_in_range i)) (promoted_is a h g.0)))
+      (and_from _ _ (int_itself i) (zero_in_range i)) (promoted_is a h g.0)))
 
   complemented_fits : (a v : Value) → F a → complemented a ≡ Ok v → F v
   unfolding complemented
@@ -294,7 +295,7 @@ module _ (t : Table) (bs : List Block) (seen : List ℕ) (table : IsTable t) (so
       let i = promoted_type a in
       subst F g.1 (int_fits t bs seen some _ i
       (binary_is Xor i (promoted_value a) (core.const i (wrapped i (negsuc 0))) (promoted_is a h g.0)
-      (and_from _ _ (same_self i) (wrapped_fits i (negsuc 0)))))
+      (and_from _ _ (int_itself i) (wrapped_fits i (negsuc 0)))))
 
   denied_fits : (a v : Value) → F a → denied a ≡ Ok v → F v
   unfolding denied

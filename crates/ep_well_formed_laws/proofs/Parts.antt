@@ -1,5 +1,6 @@
 -- Names, numbers, parts of objects, addresses, casts and sizes are what their types say.
 use Rattle.std.proofs.Common.{◌≡◌, ℕ, zero, suc, ◌<◌, ◌≤◌, ◌==◌, nat_eq, Bool, true, false, true≢false, cond, ◌&&◌}
+use Rattle.ep_typing.specs.SameTypes.{int_itself}
 use Rattle.ep_int.proofs.Basics.{nat_eq-self}
 use Rattle.std.proofs.lemmas.Bool.{not-false}
 use Rattle.std.proofs.lemmas.Bool.{and_from, or_left, or_right}
@@ -32,9 +33,9 @@ use Rattle.ep_layout.proofs.Sizes.{known, layout_fits, small}
 use Rattle.ep_core.specs.Program as core
 use Rattle.ep_core.specs.Program.{Block, Expr, Place}
 use Rattle.ep_core.specs.WellFormed as formed
-use Rattle.ep_core.specs.WellFormed.{has_sort, has_member, integer, is_array_of, has_bound, is_same_type}
+use Rattle.ep_core.specs.WellFormed.{has_sort, has_member, integer, is_array_of, has_bound}
 use Rattle.ep_core.specs.WellFormed.{is_same_scalar, pointer_to as pointing, int_type_of, is_number, is_length}
-use Rattle.ep_core.specs.WellFormed.{place_has, has_scalar, is_sort, sort_of, some_type, is_int, block_has, is_named}
+use Rattle.ep_core.specs.WellFormed.{place_has, has_scalar, is_sort, sort_of, some_type, is_int}
 use Rattle.ep_core.proofs.Sorts.{never}
 use Rattle.ep_typing.specs.declared.types.Base.{Base}
 use Rattle.ep_typing.specs.declared.types.Base.TheVariants as bases
@@ -59,7 +60,7 @@ use Rattle.ep_well_formed_laws.specs.Operands.{IsCallee, OperandFits, PlaceFits,
 use Rattle.ep_well_formed_laws.proofs.Tables.{base_again, row_at, target_number, type_of_number}
 use Rattle.ep_well_formed_laws.proofs.Extents.{array_is, same_size, size_is_length}
 use Rattle.ep_well_formed_laws.proofs.Tests.{after, both_not, either_way, given, if_not, if_so, int_is}
-use Rattle.ep_well_formed_laws.proofs.Tests.{needed_is, same_self, some_type_is, type_below}
+use Rattle.ep_well_formed_laws.proofs.Tests.{needed_is, some_type_is, type_below}
 use Rattle.ep_well_formed_laws.proofs.Tests.{unless}
 use Rattle.ep_well_formed_laws.proofs.Values.{as_type_fits, int_fits, null_fits, number_fits, pointer_fits}
 use Rattle.ep_well_formed_laws.proofs.Values.{same_number, scalar_is, self_may_be, target_made, to_type_fits}
@@ -400,7 +401,7 @@ module _ (t : Table) (bs : List Block) (fs : List Signature) (seen : List ℕ) (
       ≡ true
   integer_row_is c q =
       let what : scalar_of c ≡ scalars.Int (int_of c) = if_not (is_pointer c) scalars.Pointer (scalars.Int (int_of c)) q in
-      and_from _ _ (ap (is_same_scalar (scalars.Int (int_of c))) what ∙ same_self (int_of c)) (same_self (int_of c))
+      and_from _ _ (ap (is_same_scalar (scalars.Int (int_of c))) what ∙ int_itself (int_of c)) (int_itself (int_of c))
 
   pointer_loaded : (p : Place) (c : CType) → PlaceFits t bs seen p c → is_pointer c ≡ true
       → F (plain_value (core.load (scalar_of c) p) c)
@@ -587,7 +588,7 @@ module _ (t : Table) (bs : List Block) (fs : List Signature) (seen : List ℕ) (
       let i = size_type t.model in
       let same : int_value (core.const i (pos n.0)) i ≡ w = (let q = n.2 in cc) in
       subst F same (int_fits t bs seen some (core.const i (pos n.0)) i
-      (and_from _ _ (same_self i) (small_in_range t.model n.0 (size_at_most t table c n.0 (needed_is 33 _ n.0 n.1)))))
+      (and_from _ _ (int_itself i) (small_in_range t.model n.0 (size_at_most t table c n.0 (needed_is 33 _ n.0 n.1)))))
 
   pub sized_fits : (x : Operand) (w : Value) → sized t x ≡ Ok w → F w
   unfolding sized
@@ -601,7 +602,7 @@ module _ (t : Table) (bs : List Block) (fs : List Signature) (seen : List ℕ) (
   numbered_fits m n =
       let i = number_type m n in
       int_fits t bs seen some (core.const i (wrapped i (pos n.value))) i
-      (and_from _ _ (same_self i) (wrapped_fits i (pos n.value)))
+      (and_from _ _ (int_itself i) (wrapped_fits i (pos n.value)))
 
   abbrev Each : List (List ℕ × Operand) → Type 0
   Each [] = Unit {0}

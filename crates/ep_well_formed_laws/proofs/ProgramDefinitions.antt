@@ -31,6 +31,7 @@ use Rattle.ep_well_formed_laws.proofs.Scopes.{HaveNames, meaning_more}
 use Rattle.ep_well_formed_laws.proofs.Counts.{below, count, count_both}
 use Rattle.ep_well_formed_laws.proofs.CallNames.{CallsTo, EachCall, ScopesFit, scopes_fit_same}
 use Rattle.ep_well_formed_laws.proofs.DefinedFits.{DefinedFits, IsTypedBlock, ParamsAre, ResultIs, a_block, no_block}
+use Rattle.ep_well_formed_laws.proofs.FileScopes.{FileComes, file_comes_on, file_declared, file_of_names}
 use Rattle.ep_well_formed_laws.proofs.FunctionNames.{AreNumbered, StayNamed, declared_as, same_file_names}
 use Rattle.ep_well_formed_laws.proofs.FunctionParts.{AtFile, BodyStands, body_stands, body_walks, one_scope, own_lists}
 use Rattle.ep_well_formed_laws.proofs.FunctionParts.{own_local}
@@ -58,6 +59,7 @@ pub record Started (G K : Env) (ds : List ℕ) (b : ℕ) (name : List ℕ) (h : 
   pub named : entry name (file_names K) ≡ Some (env.function number)
   pub fresh : (entry name (file_names G) ≡ None → number_of_function G.functions name ≡ None)
       → ((k : ℕ) → contains k ds ≡ true → k < length G.functions) → contains number ds ≡ false
+  pub comes : FileComes G K
 
 same_names_in : (G H : Env) → HaveNames G.scopes H.scopes → (innermost G).names ≡ (innermost H).names
 same_names_in G H n = by G.scopes H.scopes n
@@ -108,6 +110,8 @@ started G b ds f x n h m e =
           (λ w. subst (λ (fs : List Signature). number_of_function fs f.head.name ≡ None) (sym k.functions)
           (none (ap (entry f.head.name) same ∙ w)))
           (λ j w. subst (λ (fs : List Signature). j < length fs) (sym k.functions) (below_all j w));
+      comes = file_comes_on G L n.1 (file_of_names G L names)
+          (file_declared L ds true (signature_of f.head x.0) n e);
     }
 
 -- ---- places of parameters and results
@@ -158,6 +162,7 @@ pub record DefinitionWalks (G H : Env) (ds : List ℕ) (round : ℕ) (f : Functi
   pub named : entry f.head.name (file_names H) ≡ Some (env.function d.number)
   pub fresh : (entry f.head.name (file_names G) ≡ None → number_of_function G.functions f.head.name ≡ None)
       → ((k : ℕ) → contains k ds ≡ true → k < length G.functions) → contains d.number ds ≡ false
+  pub comes : FileComes G H
   pub fits : DefinedFits H.types H.blocks H.functions d
   pub name : d.function.name ≡ f.head.name
   pub lists : (c : ℕ) → count c (own_blocks d.function) + below (length G.blocks) c ≡ below (length H.blocks) c
@@ -230,6 +235,7 @@ definition_walks G ds round f d h (is_definition y (is_function x n a m e p)) =
       stays = λ t z q. same_file_names K H w.names_stay t z (s.stays t z q);
       named = same_file_names K H w.names_stay f.head.name (env.function n.0) s.named;
       fresh = s.fresh;
+      comes = file_comes_on G K H s.comes (file_of_names K H w.names_stay);
       fits = record {
         signature = s.is;
         is = subst (λ (fs : List Signature). slice_get fs n.0 ≡ Some s.is) (sym w.functions) s.here;

@@ -1,6 +1,6 @@
 -- Names and tags in scopes: what is found, and what stays when a tag comes.
 use Rattle.std.proofs.Common.{◌≡◌, ℕ, Bool, true, false, cond, List, [], ◌∷◌, ◌++◌, Option, Some, None, bytes_eq}
-use Rattle.ep_int.proofs.Basics.{bytes_eq-equal}
+use Rattle.ep_int.proofs.Basics.{append-assoc, bytes_eq-equal}
 use Rattle.std.proofs.Common.{refl, sym, ap, ◌∙◌, subst, ◌⊎◌, inl, inr}
 use Rattle.std.proofs.lemmas.Slice.Eq.{bytes_eq-Decides}
 use Rattle.ep_typing.specs.Env.{Meaning, Scope, entry, first_of, look_up, look_up_tag, tag_in}
@@ -144,28 +144,40 @@ tag_looked_up P t (s ∷ ss) a h e = by (entry t s.tags) refl e (tag_looked_up P
     by None q e f = f e
     by (Some x) q e f = let same : x ≡ a = cc in subst P same (tag_entry_is P t s.tags x h.0 q)
 
--- ---- scopes with the same names
+-- ---- scopes with the same names, to which tags may have come
+
+no_tag_more : (xs : List (List ℕ × ℕ)) → xs ++ [] ≡ xs
+no_tag_more [] = refl
+no_tag_more (x ∷ xs) = ap (λ (ys : List (List ℕ × ℕ)). x ∷ ys) (no_tag_more xs)
 
 abbrev pub HaveNames : List Scope → List Scope → Type 0
 HaveNames [] [] = Unit {0}
 HaveNames [] (u ∷ us) = ⊥
 HaveNames (s ∷ ss) [] = ⊥
-HaveNames (s ∷ ss) (u ∷ us) = (s.names ≡ u.names) × HaveNames ss us
+HaveNames (s ∷ ss) (u ∷ us) =
+    (s.names ≡ u.names) × HaveNames ss us × ((ts : List (List ℕ × ℕ)) × (s.tags ++ ts ≡ u.tags))
 
 pub same_names : (ss : List Scope) → HaveNames ss ss
 same_names [] = tt
-same_names (s ∷ ss) = (refl, same_names ss)
+same_names (s ∷ ss) = (refl, same_names ss, ([], no_tag_more s.tags))
 
 pub names_on : (ss us vs : List Scope) → HaveNames ss us → HaveNames us vs → HaveNames ss vs
 names_on [] [] vs h k = k
 names_on [] (u ∷ us) vs h k = absurd h
 names_on (s ∷ ss) [] vs h k = absurd h
 names_on (s ∷ ss) (u ∷ us) [] h k = absurd k
-names_on (s ∷ ss) (u ∷ us) (v ∷ vs) h k = (h.0 ∙ k.0, names_on ss us vs h.1 k.1)
+names_on (s ∷ ss) (u ∷ us) (v ∷ vs) h k = (
+  h.0 ∙ k.0,
+  names_on ss us vs h.1 k.1,
+  (
+    h.2.0 ++ k.2.0,
+    sym (append-assoc s.tags h.2.0 k.2.0) ∙ ap (λ (ts : List (List ℕ × ℕ)). ts ++ k.2.0) h.2.1 ∙ k.2.1,
+  ),
+)
 
 pub names_tagged : (ss : List Scope) (t : List ℕ) (a : ℕ) → HaveNames ss (tag_in ss t a)
 names_tagged [] t a = tt
-names_tagged (s ∷ ss) t a = (refl, same_names ss)
+names_tagged (s ∷ ss) t a = (refl, same_names ss, ((t, a) ∷ [], refl))
 
 pub same_meaning : (ss us : List Scope) → HaveNames ss us → (t : List ℕ) → look_up t ss ≡ look_up t us
 same_meaning [] [] h t = refl

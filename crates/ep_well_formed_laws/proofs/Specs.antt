@@ -1,5 +1,6 @@
 -- Type words and the bodies of structs and unions leave an environment in which all that is named is there.
-use Rattle.std.proofs.Common.{◌≡◌, ℕ, zero, suc, ◌<◌, ◌≤◌, ◌==◌, nat_eq, Bool, true, false, true≢false, ◌||◌, not}
+use Rattle.std.proofs.Common.{◌≡◌, ℕ, ◌<◌, ◌≤◌, ◌==◌, nat_eq, Bool, true, false, true≢false, ◌||◌, not}
+use Rattle.ep_core.proofs.Tables.{more_types, more_aggregates}
 use Rattle.ep_int.proofs.Basics.{nat_eq-self}
 use Rattle.std.proofs.lemmas.Bool.{not-false}
 use Rattle.std.proofs.lemmas.Option.{slice_get_within}
@@ -43,7 +44,7 @@ use Rattle.ep_well_formed_laws.proofs.Additions.{IsKnownBase, c_number_is, type_
 use Rattle.ep_well_formed_laws.proofs.Objects.{AreLengths, arrays_come, bounds_are}
 use Rattle.ep_well_formed_laws.proofs.Scopes.{each_same, names_tagged, same_names, tag_entry_is, tag_push}
 use Rattle.ep_well_formed_laws.proofs.Mentions.{Declares, IsOpen, declares_mentions, declares_on, known_base}
-use Rattle.ep_well_formed_laws.proofs.Mentions.{mentions_on, more_aggregates, more_types, same_rows_open}
+use Rattle.ep_well_formed_laws.proofs.Mentions.{mentions_on, same_rows_open}
 use Rattle.ep_well_formed_laws.proofs.Mentions.{table_declared, table_mentioned, type_mentioned, with_table}
 use Rattle.ep_well_formed_laws.proofs.Mentions.{words_known, words_mentioned, below_aggregate}
 use Rattle.ep_well_formed_laws.proofs.Tests.{after, unless}

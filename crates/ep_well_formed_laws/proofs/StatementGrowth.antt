@@ -1,5 +1,6 @@
 -- Statements fit where the table grows, and blocks and functions come.
 use Rattle.std.proofs.Common.{◌≡◌, ℕ, ◌<◌, Bool, true, false, ◌&&◌, not, List, [], ◌∷◌, ◌++◌, length, slice_get}
+use Rattle.ep_core.proofs.Tables.{more_types}
 use Rattle.std.proofs.lemmas.Bool.{or_cases}
 use Rattle.std.proofs.lemmas.Bool.{and_from, or_left, or_right}
 use Rattle.std.proofs.Common.{Option, Some, None, is_some, nat_eq, refl, sym, ◌∙◌, inl, inr, arith}
@@ -14,15 +15,14 @@ use Rattle.ep_core.specs.Program as core
 use Rattle.ep_core.specs.Program.{Block, Expr, Place}
 use Rattle.ep_core.specs.WellFormed as formed
 use Rattle.ep_core.specs.WellFormed.{Sort, can_take, has_scalar, has_sort, has_type, int_type_of, integer, is_address}
-use Rattle.ep_core.specs.WellFormed.{is_int, is_test, is_tested, numbers_below, place_has, pointer_to as pointing}
-use Rattle.ep_core.specs.WellFormed.{result_fits, simple_fits, some_type, sort_of, takes_input, takes_result}
+use Rattle.ep_core.specs.WellFormed.{is_int, is_tested, place_has, pointer_to as pointing}
+use Rattle.ep_core.specs.WellFormed.{result_fits, some_type, takes_input, takes_result}
 use Rattle.ep_core.proofs.Sorts.{never}
 use Rattle.ep_typing.specs.declared.types.CType.{CType}
 use Rattle.ep_typing.specs.Env.{Signature}
 use Rattle.ep_elaboration.proofs.Growing.{place_on, size_is, sort_on}
 use Rattle.ep_well_formed_laws.specs.Statements.{ArgumentsFit, CallFits, SimpleFits, StmtsFit, TakesResult, WhatFits}
 use Rattle.ep_well_formed_laws.proofs.Additions.{type_number_stays}
-use Rattle.ep_well_formed_laws.proofs.Mentions.{more_types}
 use Rattle.ep_well_formed_laws.proofs.Tests.{pointer_below, pointer_is, some_type_is}
 use Rattle.ep_well_formed_laws.proofs.Tests.{type_below}
 

@@ -1,6 +1,7 @@
 -- Stores, copies and calls are as their types say.
 use Rattle.std.proofs.Common.{◌≡◌, ℕ, ◌<◌, nat_le, nat_eq, Bool, true, false, cond, ◌&&◌, ◌||◌, not, List, [], ◌∷◌}
-use Rattle.ep_well_formed_laws.proofs.FunctionNames.{same_c}
+use Rattle.ep_typing.specs.SameTypes.{int_itself}
+use Rattle.ep_typing.specs.SameTypes.{same_types}
 use Rattle.std.proofs.lemmas.Bool.{not-false}
 use Rattle.std.proofs.lemmas.Bool.{and_from, or_left, or_right}
 use Rattle.std.proofs.Common.{length, map, slice_get, Option, Some, None, option_map, option_and_then, unwrap_or}
@@ -16,8 +17,8 @@ use Rattle.ep_core.specs.Program as core
 use Rattle.ep_core.specs.Program.{Block, Expr, Place}
 use Rattle.ep_core.specs.WellFormed as formed
 use Rattle.ep_core.specs.WellFormed.{can_take, has_scalar, has_sort, has_type, integer, is_address, is_length}
-use Rattle.ep_core.specs.WellFormed.{is_return, is_same_scalar, is_same_type, place_has, pointer_to as pointing}
-use Rattle.ep_core.specs.WellFormed.{some_type, sort_of, takes_input, takes_result}
+use Rattle.ep_core.specs.WellFormed.{is_return, is_same_scalar, place_has, pointer_to as pointing}
+use Rattle.ep_core.specs.WellFormed.{sort_of, takes_input}
 use Rattle.ep_core.proofs.Sorts.{never}
 use Rattle.ep_typing.specs.declared.types.CType.{CType}
 use Rattle.ep_typing.specs.Results.{lowest, needed}
@@ -39,7 +40,7 @@ use Rattle.ep_well_formed_laws.specs.Statements.{ArgumentsFit, SimpleFits, Takes
 use Rattle.ep_well_formed_laws.proofs.Tables.{number_at, target_number}
 use Rattle.ep_well_formed_laws.proofs.Extents.{same_size}
 use Rattle.ep_well_formed_laws.proofs.Tests.{after, both_not, either_way, given, if_not, if_so}
-use Rattle.ep_well_formed_laws.proofs.Tests.{needed_is, same_self, some_type_is, unless}
+use Rattle.ep_well_formed_laws.proofs.Tests.{needed_is, some_type_is, unless}
 use Rattle.ep_well_formed_laws.proofs.Values.{bare_is, fitted_fits, null_is, number_below, scalar_is}
 use Rattle.ep_well_formed_laws.proofs.Values.{self_may_be, target_made}
 use Rattle.ep_well_formed_laws.proofs.Operators.{operated_fits}
@@ -78,7 +79,7 @@ module _ (t : Table) (bs : List Block) (seen : List ℕ) (table : IsTable t) (so
         rw r.2 (ap (is_same_scalar scalars.Pointer) what)
     | inr p ↦
         let what : scalar_of c ≡ scalars.Int (int_of c) = if_not (is_pointer c) scalars.Pointer (scalars.Int (int_of c)) p.0 in
-        rw (integer_row t c n p.1 h) (ap (is_same_scalar (scalars.Int (int_of c))) what ∙ same_self (int_of c))
+        rw (integer_row t c n p.1 h) (ap (is_same_scalar (scalars.Int (int_of c))) what ∙ int_itself (int_of c))
   ]
 
   pub has_type_is : (c : CType) (n : ℕ) (e : Expr) → is_scalar c ≡ true → type_number t c ≡ Some n → Computes t bs seen e c
@@ -166,7 +167,7 @@ module _ (t : Table) (bs : List Block) (seen : List ℕ) (table : IsTable t) (so
         by : (b : Bool) → moves_aggregate c d ≡ b → cond b (copied t c p q) (stored (place p c) v) ≡ Ok w → IsDone w
         by true m r =
             let s = and_parts (is_aggregate c) (is_same c d) m in
-            let same = sym (same_c c d s.1) in
+            let same = sym (same_types c d s.1) in
             copied_fits c p q w h (subst (PlaceFits t bs seen q) same k) s.0 r
         by false m r = stored_place p c v w h f r
     put_fits (place p c) (value u) v w h k f e = stored_place p c v w h f e
@@ -251,7 +252,7 @@ module _ (t : Table) (bs : List Block) (seen : List ℕ) (table : IsTable t) (so
       where
         by : (b : Bool) → is_same c r ≡ b → is_pointer c ≡ true → ((is_pointer c && not b) || nat_eq m n) ≡ true
         by true q p =
-            let same : type_number t c ≡ Some m = subst (λ (d : CType). type_number t d ≡ Some m) (sym (same_c c r q)) k in
+            let same : type_number t c ≡ Some m = subst (λ (d : CType). type_number t d ≡ Some m) (sym (same_types c r q)) k in
             let both : m ≡ n = (let z = sym h ∙ same in cc) in or_right (is_pointer c && not true) (nat_eq m n) (same_eq m n both)
         by false q p = or_left _ _ (and_from _ _ p refl)
 

@@ -1,14 +1,14 @@
 -- How the tests of well-formed programs are passed.
-use Rattle.std.proofs.Common.{◌≡◌, ℕ, zero, suc, ◌-◌, ◌<◌, nat_eq, Bool, true, false, true≢false, cond, ◌&&◌, ◌||◌}
+use Rattle.std.proofs.Common.{◌≡◌, ℕ, zero, suc, ◌-◌, ◌<◌, nat_eq, Bool, true, false, true≢false, cond, ◌&&◌}
 use Rattle.ep_int.proofs.Basics.{nat_eq-self}
-use Rattle.std.proofs.lemmas.Bool.{not-false, or_cases}
-use Rattle.std.proofs.lemmas.Bool.{and_from, or_left, or_right}
+use Rattle.std.proofs.lemmas.Bool.{or_cases}
+use Rattle.std.proofs.lemmas.Bool.{or_left, or_right}
 use Rattle.std.proofs.Common.{if◌then◌else◌, List, [], ◌∷◌, ◌++◌, length, slice_get, Option, Some, None, Result}
 use Rattle.std.proofs.Common.{Ok, Err, refl, sym, ap, ◌∙◌, subst, ◌⊎◌, inl, inr, arith, eq-zero-or-pos}
 use Rattle.std.specs.List.{list_any, filter}
 use Rattle.std.proofs.lemmas.Bool.{and_parts, eqb-true}
 use Rattle.ep_int.specs.declared.types.IntType.{IntType}
-use Rattle.ep_int.specs.declared.types.IntType.TheVariants.{I8, U8, I16, U16, I32, U32, I64, U64}
+use Rattle.ep_int.specs.declared.types.IntType.TheVariants.{I32}
 use Rattle.ep_int.specs.declared.types.BinOp.{BinOp}
 use Rattle.ep_int.specs.declared.types.BinOp.TheVariants.{Add, Sub, Mul, Div, Rem, And, Or, Xor, Shl, Shr}
 use Rattle.ep_int.specs.declared.types.Scalar.{Scalar}
@@ -18,7 +18,7 @@ use Rattle.ep_layout.specs.Table.{Table}
 use Rattle.ep_core.specs.Program.{Block, Expr, const, null_value, load, addr_of, binary, convert, compare}
 use Rattle.ep_core.specs.Program.{ptr_compare, logical_and, logical_or, logical_not, conditional, ptr_add, cast}
 use Rattle.ep_core.specs.WellFormed.{Sort, integer, pointer_to, has_scalar, has_sort, int_type_of, is_int, is_pointer}
-use Rattle.ep_core.specs.WellFormed.{is_same_type, is_sort, is_test, numbers_below, place_has, right_type, some_type}
+use Rattle.ep_core.specs.WellFormed.{is_sort, is_test, numbers_below, place_has, right_type, some_type}
 use Rattle.ep_core.specs.WellFormed.{sort_of}
 use Rattle.ep_typing.specs.Results.{◌>>=◌, needed}
 use Rattle.ep_core.proofs.Sorts.{loaded_scalar, never, same_type, type_where}
@@ -27,16 +27,6 @@ use Rattle.ep_core.proofs.Sorts.{loaded_scalar, never, same_type, type_where}
 
 pub both_not : {A : Type 0} (b : Bool) → b ≡ true → b ≡ false → A
 both_not b p q = absurd (true≢false (sym p ∙ q))
-
-pub same_self : (i : IntType) → is_same_type i i ≡ true
-same_self I8 = refl
-same_self U8 = refl
-same_self I16 = refl
-same_self U16 = refl
-same_self I32 = refl
-same_self U32 = refl
-same_self I64 = refl
-same_self U64 = refl
 
 -- ---- answers
 

@@ -1,11 +1,13 @@
 -- Values as operands of operators: numbers, addresses, conversions.
-use Rattle.std.proofs.Common.{◌≡◌, ℕ, zero, suc, ◌+◌, ◌-◌, ◌<◌, nat_lt, ◌==◌, Bool, true, false, ◌&&◌, not}
-use Rattle.ep_well_formed_laws.proofs.FunctionNames.{same_base, same_c}
+use Rattle.std.proofs.Common.{◌≡◌, ℕ, zero, suc, ◌+◌, ◌-◌, ◌<◌, nat_lt, Bool, true, false, ◌&&◌, not}
+use Rattle.ep_operands.proofs.Sound.{not_pointer}
+use Rattle.ep_typing.specs.SameTypes.{int_itself}
+use Rattle.ep_typing.specs.SameTypes.{same_types}
 use Rattle.std.proofs.lemmas.Bool.{not-false}
 use Rattle.std.proofs.lemmas.Bool.{and_from}
 use Rattle.std.proofs.lemmas.Option.{slice_get_within}
 use Rattle.std.proofs.Common.{if◌then◌else◌, List, length, option_and_then, Option, Some, None, Ok, refl, sym, ap}
-use Rattle.std.proofs.Common.{◌∙◌, subst, ◌⊎◌, inl, inr, arith}
+use Rattle.std.proofs.Common.{subst, ◌⊎◌, inl, inr, arith}
 use Rattle.std.proofs.lemmas.Bool.Decides.{nat_tests}
 use Rattle.std.proofs.lemmas.Bool.{and_parts, eqb-true}
 use Rattle.ep_int.specs.declared.types.IntType.{IntType}
@@ -15,8 +17,7 @@ use Rattle.ep_core.specs.Program as core
 use Rattle.ep_core.specs.Program.{Block, Expr}
 use Rattle.ep_core.specs.WellFormed as formed
 use Rattle.ep_core.specs.WellFormed.{has_sort, integer, is_same_type, pointer_to as pointing, int_type_of, is_test}
-use Rattle.ep_core.specs.WellFormed.{place_has, is_int}
-use Rattle.ep_core.proofs.Sorts.{never, same_type}
+use Rattle.ep_core.proofs.Sorts.{same_type}
 use Rattle.ep_typing.specs.declared.types.Base.TheVariants as bases
 use Rattle.ep_typing.specs.declared.types.CType.{CType}
 use Rattle.ep_typing.specs.Types.{int_of, int_type, is_int_base, is_integer, is_pointer, is_same}
@@ -29,16 +30,9 @@ use Rattle.ep_well_formed_laws.specs.Operands.{Computes, ValueFits}
 use Rattle.ep_well_formed_laws.proofs.Tables.{row_at, target_number}
 use Rattle.ep_well_formed_laws.proofs.Additions.{base_below}
 use Rattle.ep_well_formed_laws.proofs.Tests.{both_not, given, int_is, number_tested}
-use Rattle.ep_well_formed_laws.proofs.Tests.{pointer_is, pointer_tested, same_self, unless}
+use Rattle.ep_well_formed_laws.proofs.Tests.{pointer_is, pointer_tested, unless}
 
 -- ---- types
-
-pub no_pointer : (c : CType) → is_integer c ≡ true → is_pointer c ≡ false
-no_pointer c h = by (is_pointer c) (is_int_base c.base) h
-  where
-    by : (p q : Bool) → (if p then false else q) ≡ true → p ≡ false
-    by true q k = never k
-    by false q k = refl
 
 pub scalar_is : (c : CType) → is_scalar c ≡ true → (is_pointer c ≡ true) ⊎ ((is_pointer c ≡ false) × (is_integer c ≡ true))
 scalar_is c h = by (is_pointer c) refl
@@ -94,8 +88,8 @@ module _ (t : Table) (bs : List Block) (seen : List ℕ) (some : 0 < length t.ty
       → Computes t bs seen e c
   number_fits e c p h = record {
     number = λ q. h;
-    made = λ q. both_not (is_pointer c) q (no_pointer c p);
-    points = λ q ty m. both_not (is_pointer c) q (no_pointer c p);
+    made = λ q. both_not (is_pointer c) q (not_pointer c p);
+    points = λ q ty m. both_not (is_pointer c) q (not_pointer c p);
   }
 
   pub int_fits : (e : Expr) (i : IntType) → S e (integer i) ≡ true → Computes t bs seen e (int_type i)
@@ -104,7 +98,7 @@ module _ (t : Table) (bs : List Block) (seen : List ℕ) (some : 0 < length t.ty
   pub pointer_fits : (e : Expr) (c : CType) → is_pointer c ≡ true → IsMade t (target c)
       → ((ty : ℕ) → may_be (type_number t (target c)) ty ≡ true → S e (pointing ty) ≡ true) → Computes t bs seen e c
   pointer_fits e c p m h = record {
-    number = λ q. both_not (is_pointer c) p (no_pointer c q);
+    number = λ q. both_not (is_pointer c) p (not_pointer c q);
     made = λ q. m;
     points = λ q. h;
   }
@@ -150,7 +144,7 @@ module _ (t : Table) (bs : List Block) (seen : List ℕ) (some : 0 < length t.ty
     where
       by_type : (b : Bool) → is_same c v.ty ≡ b → is_pointer v.ty ≡ true
           → S (if b then v.expr else core.cast v.expr) (pointing ty) ≡ true
-      by_type true q r = h.points r ty (subst (λ (d : CType). may_be (type_number t (target d)) ty ≡ true) (same_c c v.ty q) m)
+      by_type true q r = h.points r ty (subst (λ (d : CType). may_be (type_number t (target d)) ty ≡ true) (same_types c v.ty q) m)
       by_type false q r = address_is v.expr v.ty h r
 
       by : (b : Bool) → v.is_null ≡ b → S (as_pointer c v) (pointing ty) ≡ true
@@ -169,7 +163,7 @@ module _ (t : Table) (bs : List Block) (seen : List ℕ) (some : 0 < length t.ty
       by : (b : Bool) → is_same_type i (int_of v.ty) ≡ b
           → S (if b then v.expr else core.convert i v.expr) (integer i) ≡ true
       by true q = subst (λ (j : IntType). S v.expr (integer j) ≡ true) (sym (same_type i (int_of v.ty) q)) (h.number p)
-      by false q = and_from _ _ (same_self i) (int_is t bs seen v.expr (int_of v.ty) (h.number p))
+      by false q = and_from _ _ (int_itself i) (int_is t bs seen v.expr (int_of v.ty) (h.number p))
 
   pub scalar_tested : (v : Value) → ValueFits t bs seen v → is_scalar v.ty ≡ true
       → is_test t bs seen (int_type_of v.expr) (S v.expr) ≡ true

@@ -9,7 +9,7 @@ use Rattle.ep_core.specs.Program.{Program}
 use Rattle.ep_core.specs.WellFormed.{is_well_formed}
 use Rattle.ep_typing.specs.Env.{Env, entry}
 use Rattle.ep_typing.specs.Results.{◌>>=◌}
-use Rattle.ep_typing.specs.Rules.{refusal}
+use Rattle.ep_typing.specs.Offences.{refusal}
 use Rattle.ep_elaboration.specs.Functions.{Defined, arms_agree, file_names, functions_defined, number_of_function}
 use Rattle.ep_elaboration.specs.Functions.{numbers_of}
 use Rattle.ep_elaboration.specs.Programs.{Sofar, begun, elaborated, items}

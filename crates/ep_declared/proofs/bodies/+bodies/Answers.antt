@@ -1,4 +1,5 @@
 use Rattle.std.proofs.Common.{◌≡◌, List, Result, ◌∷◌, ◌∙◌, ap, map, refl, sym, subst}
+use Rattle.ep_core.proofs.Tables.{more_types}
 use Rattle.std.specs.Prelude.{OnOk}
 use Rattle.std.proofs.lemmas.List.{map_push}
 use Rattle.std.proofs.lemmas.Result.{err_from_is_err_and}
@@ -19,7 +20,6 @@ use Rattle.ep_declared.proofs.BodyLemmas.{after_itself, after_ok, after_on, body
 use Rattle.ep_declared.proofs.BodyLemmas.{follows_on, members_stop_all, members_stopped, members_went, no_more_members}
 use Rattle.ep_declared.proofs.BodyLemmas.{only_words, same_word, specs_stop, still_open, still_there, then_closed}
 use Rattle.ep_declared.proofs.BodyLemmas.{word_more}
-use Rattle.ep_declared.proofs.Growth.{more_types}
 use Rattle.ep_declared.proofs.MemberLemmas.{types_stay}
 use Rattle.ep_declared.proofs.bodies.+bodies.Goals as goal
 

@@ -1,8 +1,9 @@
 use Rattle.std.proofs.Common.{subst, sym}
+use Rattle.ep_core.proofs.Tables.{more_types}
 use Rattle.ep_scopes.specs.Known.{IsKnown}
 use Rattle.ep_scopes.specs.View.{env}
 use Rattle.ep_declared.specs.View as view
-use Rattle.ep_declared.proofs.Growth.{follows_more, more_types, type_known}
+use Rattle.ep_declared.proofs.Growth.{follows_more, type_known}
 use Rattle.ep_declared.proofs.MemberLemmas.{types_stay}
 use Rattle.ep_declared.proofs.members.member_declared.Goals as goal
 

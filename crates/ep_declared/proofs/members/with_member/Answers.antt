@@ -1,10 +1,11 @@
 use Rattle.std.proofs.Common.{◌∙◌, sym, subst}
+use Rattle.ep_core.proofs.Tables.{more_types}
 use Rattle.std.proofs.lemmas.Result.{err_from_is_err_and}
 use Rattle.ep_typing.specs.Types.{c_type_number}
 use Rattle.ep_scopes.specs.View.{env}
 use Rattle.ep_declared.specs.Open.{AreTypes}
 use Rattle.ep_declared.specs.View as view
-use Rattle.ep_declared.proofs.Growth.{follows_table, more_types}
+use Rattle.ep_declared.proofs.Growth.{follows_table}
 use Rattle.ep_declared.proofs.MemberLemmas.{is_new, sized_stops, then_member, type_put, types_stay}
 use Rattle.ep_declared.proofs.members.with_member.Goals as goal
 

@@ -7,7 +7,13 @@ use Rattle.ep_typer_functions.proofs.Outside.{all_done}
 use Rattle.ep_typer_functions.specs.View.{headed}
 use Rattle.ep_typer_arms.proofs.Alone.{compared, first_refused, in_copy}
 use Rattle.ep_typer_arms.proofs.Grown.{alone_known}
+use Rattle.ep_typer_arms.proofs.SpelledHeads.{spelled_alike}
 use Rattle.ep_typer_arms.proofs.alike.are_alike.Goals as goal
+
+pub returns-then-heads_spell_alike : goal.returns-then-heads_spell_alike
+returns-then-heads_spell_alike c ds done =
+    spelled_alike (env c.args.env.now) ds (head_of c.args.first.now) (head_of c.args.second.now) c.requires.file
+    (c.heads_spell_alike.ensures c.if-heads_spell_alike.true)
 
 pub is_alike-requires : goal.is_alike-requires
 is_alike-requires c =
