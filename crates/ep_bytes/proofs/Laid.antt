@@ -1,5 +1,5 @@
 -- Blocks that are laid one after another.
-use Rattle.std.proofs.Common.{◌≡◌, ℕ, ◌+◌, ◌≤◌, ⊎_elim, List, [], ◌∷◌, ◌++◌, length, sym, subst, arith, length-append}
+use Rattle.std.proofs.Common.{◌≡◌, ℕ, ◌+◌, ◌≤◌, ⊎_elim, false, List, [], ◌∷◌, ◌++◌, length, refl, sym, subst, arith, length-append}
 use Rattle.std.proofs.lemmas.Bool.{cases_lt}
 use Rattle.std.proofs.lemmas.List.{get_or_append_left, get_or_past}
 use Rattle.std.proofs.Math.Seq.{get_or-append_seam}
@@ -44,3 +44,8 @@ laid_more blocks x n m laid start fits = record {
       (rw (get_or-append_seam blocks x [] no_block) before))))
       (cases_lt c (length blocks)));
 }
+
+-- a block that is no more than undefined, behind such
+pub plain_more : (blocks : List Block) (x : Block) → ((b : ℕ) → (block_of blocks b).is_zeroed ≡ false) → x.is_zeroed ≡ false
+    → (b : ℕ) → (block_of (blocks ++ x ∷ []) b).is_zeroed ≡ false
+plain_more blocks x old new b = each_block (λ k. k.is_zeroed ≡ false) blocks x b (old b) new refl

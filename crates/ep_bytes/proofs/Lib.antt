@@ -1,9 +1,10 @@
 pub mod Sums
 pub mod Written
-pub mod Spanned
+pub mod Noted
+pub mod Cleared
 pub mod Breaks
 pub mod Readings
 pub mod Stores
 pub mod Laid
 pub mod Places
-pub mod Pages
+pub mod Sweeps

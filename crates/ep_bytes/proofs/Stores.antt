@@ -1,6 +1,6 @@
 -- The memory of a store after a change of its bytes.
 use Rattle.std.proofs.Common.{◌≡◌, ℕ, ◌+◌, ◌-◌, ◌<◌, ◌≤◌, ◌≢◌, ◌⊎◌, ⊎_elim, inl, inr, Bool, true, false, ◌&&◌, ◌||◌}
-use Rattle.ep_bytes.proofs.Spanned.{same_or_not}
+use Rattle.ep_bytes.proofs.Noted.{same_or_not}
 use Rattle.ep_int.proofs.Basics.{or-false}
 use Rattle.std.proofs.Common.{nat_eq, nat_lt, nat_le, if◌then◌else◌, List, [], ◌∷◌, length, slice_set, take, drop}
 use Rattle.std.proofs.Common.{map, refl, sym, ◌∙◌, ap, subst, arith, get_or-set_same, get_or-set_other}

@@ -77,6 +77,12 @@ pub record IsForgotten (block from to : ℕ) (old new : List Byte) : Type 0 wher
   pub inside : (i : ℕ) → from ≤ i → i < to → cell_at new i ≡ without block (cell_at old i)
   pub outside : (i : ℕ) → (i < from) ⊎ (to ≤ i) → cell_at new i ≡ cell_at old i
 
+-- the cells from one place on and before another are undefined, and all others are as they were
+pub record IsCleared (from to : ℕ) (old new : List Byte) : Type 0 where
+  pub same_length : length new ≡ length old
+  pub inside : (i : ℕ) → from ≤ i → i < to → cell_at new i ≡ Undefined
+  pub outside : (i : ℕ) → (i < from) ⊎ (to ≤ i) → cell_at new i ≡ cell_at old i
+
 -- ---- where pointers may be
 
 -- A place lies on a page of 1024, and pages are marked by their number modulo 64.
@@ -89,7 +95,15 @@ nowhere = record { from = 0; to = 0; pages = 0 }
 abbrev pub span_of : List Span → ℕ → Span
 span_of spans b = slice_index_or spans b nowhere
 
--- The cells hold parts of at most 8 bytes, and each pointer to a block lies in the block's span.
-pub record AreSpanned (cells : List Byte) (spans : List Span) : Type 0 where
+-- ---- which pages were written
+
+-- whether a byte of the place's page may be other than undefined; where nothing is noted of a page, it may
+abbrev pub is_used : List Bool → ℕ → Bool
+is_used used i = slice_index_or used (i / 1024) true
+
+-- The cells hold parts of at most 8 bytes, each pointer to a block lies in the block's span, and what isn't undefined
+-- lies on used pages.
+pub record AreNoted (cells : List Byte) (spans : List Span) (used : List Bool) : Type 0 where
   pub parts : (i : ℕ) → part_of (cell_at cells i) < 8
   pub spanned : (b i : ℕ) → b < length spans → points_to b (cell_at cells i) ≡ true → IsIn (span_of spans b) i
+  pub unused : (i : ℕ) → is_used used i ≡ false → cell_at cells i ≡ Undefined

@@ -1,13 +1,14 @@
 //! A flat buffer of bytes, which knows where pointers to a block may be.
 
 ghost use Rattle.std.specs.Prelude.{◌≡◌, ℕ, ◌+◌, ◌-◌, ◌<◌, ◌≤◌, ◌⊎◌, ◌^◌, [], ◌∷◌, ◌++◌, length, take, drop};
-ghost use Rattle.std.specs.Prelude.{slice_set, OnOk, IfOk, ◌&&◌, nat_lt};
+ghost use Rattle.std.specs.Prelude.{◌*◌, false, slice_set, OnOk, IfOk, ◌&&◌, nat_lt};
 ghost use Rattle.ep_int.specs.Memory.{lies_partly};
 ghost use Rattle.ep_bytes.specs.declared.types.Byte.TheVariants.{Undefined};
 ghost use Rattle.ep_bytes.specs.View.{byte_in};
 ghost use Rattle.ep_bytes.specs.Cells.{cell_at, part_of, without, unbroken, content_at, taken_from, cut_by};
-ghost use Rattle.ep_bytes.specs.Cells.{IsWritten, IsBroken, IsReplaced};
+ghost use Rattle.ep_bytes.specs.Cells.{IsWritten, IsBroken, IsCleared, IsReplaced};
 
+use crate::pages::{PAGE, begin, forget_page, may_hold, note};
 use crate::spans::{Span, cover, forget_in, forget_run};
 use crate::types::Byte;
 use ep_int::{Model as DataModel, pointer_bytes};
@@ -20,6 +21,8 @@ pub(crate) struct Cells {
     bytes: Vec<Byte>,
     // for each block, where parts of pointers to it may be
     spans: Vec<Span>,
+    // for each page, whether a byte of it may be other than undefined; where there is none for a page, it may
+    used: Vec<bool>,
 }
 
 impl Model for Cells {
@@ -28,11 +31,11 @@ impl Model for Cells {
 
     ghost Value = { List Byte };
 
-    ghost use Rattle.ep_bytes.specs.Cells.{AreSpanned};
+    ghost use Rattle.ep_bytes.specs.Cells.{AreNoted};
 
     ghost view = { λ s. s.bytes.items };
 
-    ghost invariant = { λ s. AreSpanned s.bytes.items s.spans.items };
+    ghost invariant = { λ s. AreNoted s.bytes.items s.spans.items s.used.items };
 }
 
 /// What is written into some bytes.
@@ -132,6 +135,7 @@ impl Cells {
         Ok(Cells {
             bytes: Vec::new(alloc),
             spans,
+            used: Vec::new(alloc),
         })
     }
 
@@ -139,6 +143,7 @@ impl Cells {
     pub(crate) fn push(&mut self) -> Result<(), AllocError>
         ensures { OnOk result (self.new ≡ self.old ++ Undefined ∷ []) }
     {
+        begin(&mut self.used, self.bytes.len())?;
         self.bytes.push(Byte::Undefined)?;
         Ok(())
     }
@@ -166,6 +171,7 @@ impl Cells {
         ensures { self.new ≡ slice_set self.old at byte }
     {
         cover(&mut self.spans, at, byte);
+        note(&mut self.used, at, byte);
         self.bytes[at] = byte;
     }
 
@@ -188,6 +194,54 @@ impl Cells {
         for k in 0..count {
             let byte = content.byte(k);
             self.put(at + k, byte);
+        }
+    }
+
+    // Notes that each byte of a page is undefined.
+    fn forget_page(&mut self, page: usize)
+        requires { (i : ℕ) → page * 1024 ≤ i → i < page * 1024 + 1024 → cell_at self.old i ≡ Undefined }
+        ensures { self.new ≡ self.old }
+    {
+        forget_page(&mut self.used, page);
+    }
+
+    fn is_page_used(&self, page: usize) -> bool
+        ensures { result ≡ false → (i : ℕ) → page * 1024 ≤ i → i < page * 1024 + 1024 → cell_at self.now i ≡ Undefined }
+    {
+        may_hold(&self.used, page)
+    }
+
+    // On a page, makes undefined the bytes from one place on and before another.
+    fn clear_on(&mut self, page: usize, from: usize, to: usize)
+        requires inside { to ≤ length self.old }
+        requires on { (page * 1024 ≤ from) × (to ≤ page * 1024 + 1024) }
+        ensures { IsCleared from to self.old self.new }
+    {
+        let _total = self.len();
+        if from >= to {
+            return;
+        }
+        if !self.is_page_used(page) {
+            return;
+        }
+        self.write(from, to - from, &Content::Undefined);
+        if to - from != PAGE {
+            return;
+        }
+        self.forget_page(page);
+    }
+
+    /// Makes so many bytes from a place on undefined, and leaves all others. It takes the time of the pages in which
+    /// bytes were written, and of a look at each other page.
+    pub(crate) fn undefine(&mut self, at: usize, count: usize)
+        requires { at + count ≤ length self.old }
+        ensures { IsWritten self.old self.new at count (λ k. Undefined) }
+    {
+        let _total = self.len();
+        let end = at + count;
+        for page in at / PAGE..end.div_ceil(PAGE) {
+            let start = page * PAGE;
+            self.clear_on(page, at.max(start), end.min(start + PAGE));
         }
     }
 

@@ -3,6 +3,7 @@
 
 mod cells;
 mod numbers;
+mod pages;
 mod reads;
 mod spans;
 mod store;

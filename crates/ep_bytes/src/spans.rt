@@ -4,10 +4,8 @@ ghost use Rattle.std.specs.Prelude.{◌≡◌, ℕ, ◌<◌, ◌%◌, ◌^◌, �
 ghost use Rattle.std.specs.Int.{bit_at};
 ghost use Rattle.ep_bytes.specs.Cells.{cell_at, points_to, without, span_of, IsForgotten, IsIn};
 
+use crate::pages::PAGE;
 use crate::types::Byte;
-
-// Places are noted by pages of so many.
-const PAGE: usize = 1024;
 
 /// The places from one on and before another that lie on marked pages. Bit k marks each page whose number is k modulo
 /// 64.

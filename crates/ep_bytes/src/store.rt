@@ -221,8 +221,7 @@ impl Store {
     {
         let whole = block_at(&self.blocks, block);
         self.cells.forget(block);
-        self.cells
-            .write(whole.start, whole.size as usize, &Content::Undefined);
+        self.cells.undefine(whole.start, whole.size as usize);
         self.blocks[block as usize] = Block {
             is_zeroed: false,
             ..whole

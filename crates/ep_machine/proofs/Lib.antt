@@ -2,4 +2,3 @@ pub mod Answers
 pub mod Kills
 pub mod Parts
 pub mod Writes
-pub mod Tables

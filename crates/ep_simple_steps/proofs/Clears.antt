@@ -3,9 +3,8 @@ use Rattle.std.proofs.Common.{◌≡◌, ℕ, zero, suc, ◌+◌, ◌-◌, ◌<�
 use Rattle.ep_int.proofs.Basics.{take-all}
 use Rattle.std.proofs.Common.{nat_lt, nat_le}
 use Rattle.std.proofs.Common.{if◌then◌else◌, List, [], ◌∷◌, get_or, length, take, refl, sym, ap, ◌∙◌, subst, arith}
-use Rattle.std.specs.Prelude.{⊤, Option, unwrap_or, Result}
+use Rattle.std.specs.Prelude.{⊤, Result}
 use Rattle.std.specs.List.{list_any}
-use Rattle.std.specs.Option.{option_map}
 use Rattle.std.proofs.lemmas.Bool.Decides.{nat_tests}
 use Rattle.std.proofs.lemmas.List.Folds.{list_any_more}
 use mathlib.Core.Path.{fun_ext}
@@ -13,14 +12,13 @@ use Rattle.ep_int.specs.declared.types.Model.{Model}
 use Rattle.ep_int.specs.Types.{pointer_bytes, size_of}
 use Rattle.ep_int.specs.Memory.{Byte, undefined, number, fragment, Memory, filled, lies_partly, replaced}
 use Rattle.ep_layout.specs.declared.types.Leaf.{Leaf}
-use Rattle.ep_layout.specs.Layout.{AreLeavesFrom, Layout}
-use Rattle.ep_layout.specs.Table.{Table, leaves}
+use Rattle.ep_layout.specs.Layout.{AreLeavesFrom}
+use Rattle.ep_layout.specs.Table.{leaves}
 use Rattle.ep_core.specs.Exec.{State, bytes_in, cleared, is_in_leaf, model, remembers}
 use Rattle.ep_machine.specs.declared.fault.Fault.{Fault}
 use Rattle.ep_machine.specs.declared.setting.Setting.{Setting}
 use Rattle.ep_machine.specs.Settings.{program_in, size_on}
 use Rattle.ep_machine.specs.Machines.{IsPart, ArePartsOf, Changes}
-use Rattle.ep_machine.proofs.Tables.{no_layout}
 use Rattle.ep_simple_steps.specs.Zeros.{zeros_in}
 use Rattle.ep_frames.proofs.Bytewise.{range_changed}
 
@@ -111,9 +109,6 @@ leaf_inside d e n (x ∷ fs) zero f g a h k =
     subst (λ (y : Leaf). y.offset + size_of d y.what ≤ n) (sym k) (from_below d (x.offset + size_of d x.what) n fs a.2)
 leaf_inside d e n (x ∷ fs) (suc i) f g a h k =
     leaf_inside d (x.offset + size_of d x.what) n fs i f g a.2 (omega arith) k
-
-pub no_leaves : (t : Table) (n : ℕ) → length t.types ≤ n → leaves t n ≡ []
-no_leaves t n h = ap (λ (l : Option Layout). unwrap_or (option_map (λ (l : Layout). l.leaves) l) []) (no_layout t n h)
 
 both : (x y : Bool) → (if y then number 0 else (if x then number 0 else undefined)) ≡ (if x || y then number 0 else undefined)
 both true true = refl

@@ -1,5 +1,5 @@
 use Rattle.std.proofs.Common.{◌+◌, sym, subst}
-use Rattle.ep_bytes.proofs.Pages.{IsSwept, swept_more, swept_skip}
+use Rattle.ep_bytes.proofs.Sweeps.{IsSwept, swept_more, swept_skip}
 use Rattle.ep_bytes.proofs.spans.forget_in.Goals as goal
 use Rattle.ep_bytes.proofs.spans.forget_in.Goals.{then-marks, else-marks}
 

@@ -1,4 +1,4 @@
-use Rattle.ep_bytes.proofs.Pages.{IsSwept}
+use Rattle.ep_bytes.proofs.Sweeps.{IsSwept}
 use Rattle.ep_bytes.proofs.spans.forget_in.Given as goal
 
 abbrev pub invariant-loop-page : goal.invariant-loop-page

@@ -1,5 +1,5 @@
 use Rattle.std.proofs.Common.{sym, rules}
-use Rattle.ep_machine.proofs.Tables.{no_size}
+use Rattle.ep_core.proofs.Tables.{no_size}
 use Rattle.ep_machine.specs.Settings.{program_in}
 use Rattle.ep_machine.proofs.machine.bytes_in.Goals as goal
 

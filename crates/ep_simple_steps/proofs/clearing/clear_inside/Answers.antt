@@ -1,11 +1,12 @@
 use Rattle.std.proofs.Common.{◌≡◌, ◌+◌, ◌≤◌, [], sym, ap, ◌∙◌, subst}
+use Rattle.ep_core.proofs.Tables.{no_leaves}
 use Rattle.ep_int.specs.Memory.{replaced, undefined}
 use Rattle.ep_bytes.specs.StoreView.{memory_in}
 use Rattle.ep_core.specs.Exec.{State, model, remembers}
 use Rattle.ep_machine.specs.Settings.{program_in, size_on}
 use Rattle.ep_machine.specs.Machines.{state_in}
 use Rattle.ep_simple_steps.specs.Zeros.{zeros_in}
-use Rattle.ep_simple_steps.proofs.Clears.{cleared_is, no_leaves, undefined_is}
+use Rattle.ep_simple_steps.proofs.Clears.{cleared_is, undefined_is}
 use Rattle.ep_simple_steps.proofs.clearing.clear_inside.Goals as goal
 
 pub returns-then-ty-type_count-clause-clears : goal.returns-then-ty-type_count-clause-clears

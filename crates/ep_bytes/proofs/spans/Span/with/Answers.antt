@@ -1,5 +1,5 @@
 use Rattle.std.proofs.Common.{◌/◌, ◌%◌, arith}
-use Rattle.ep_bytes.proofs.Pages.{page_marked, page_kept}
+use Rattle.ep_bytes.proofs.Sweeps.{page_marked, page_kept}
 use Rattle.ep_bytes.proofs.spans.Span.with.Goals as goal
 
 pub returns-then-self-clause-own : goal.returns-then-self-clause-own

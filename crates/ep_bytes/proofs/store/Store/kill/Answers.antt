@@ -13,11 +13,11 @@ returns-clause-killed c =
     let blocks = c.self.inside.blocks.items in
     let old = c.self.inside.cells in
     let mid = c.forget.new.self in
-    let new = c.write.new.self in
+    let new = c.undefine.new.self in
     let there : b < length blocks = subst (λ s. b < count_of s) (sym c.self.view_is) c.requires in
     let whole : c.block_at-whole.result ≡ block_of blocks b =
     c.block_at-whole.ensures ∙ ap (λ xs. block_of xs b) c.deref.ensures.value in
-    let w = subst (λ (x : Block). IsWritten mid new x.start x.size (λ k. Undefined)) whole c.write.ensures in
+    let w = subst (λ (x : Block). IsWritten mid new x.start x.size (λ k. Undefined)) whole c.undefine.ensures in
     subst (λ (x : Block). memory_of (slice_set blocks b (marked x false)) new
     ≡ killed (b ∷ []) (memory_of blocks old)) (sym whole)
     (killed_in blocks old mid new b c.self.invariant there c.forget.ensures.len c.forget.ensures.forgotten w)
