@@ -2,6 +2,8 @@
 use Rattle.std.specs.Prelude.{◌≡◌, ℕ, ◌<◌, Bool, true, false, ◌&&◌, ◌||◌, not, nat_eq, nat_le, nat_lt, List, length}
 use Rattle.std.specs.Prelude.{get_or}
 use Rattle.ep_int.specs.declared.types.Model.{Model}
+use Rattle.ep_bitslice.specs.declared.segment.Segment.{Segment}
+use Rattle.ep_bitslice.specs.declared.segment.Segment.TheVariants.{Bits, Fixed}
 use Rattle.ep_cells.specs.declared.cell.Cell.{Cell}
 use Rattle.ep_cells.specs.Cells.{place_of, touches, is_same_cell}
 use Rattle.ep_cells.specs.Kill.{has_target}
@@ -20,9 +22,14 @@ passes d (Kill s b) x = not (nat_eq x.block b || has_target b x.value)
 passes d (Blur p) x = not (touches p (place_of d x))
 passes d (Split s y) x = not (is_same_cell x y)
 passes d (Cross y) x = not (is_same_cell x y)
-passes d (Unshare y) x = not (is_same_cell x y)
+passes d (Unshare p) x = not (touches p (place_of d x))
 passes d (Lack y) x = not (is_same_cell x y)
 passes d (Reshare l r) x = not (nat_eq x.block l.block && nat_eq x.offset l.offset)
+
+-- a number's bits
+abbrev pub is_number : Segment → Bool
+is_number (Bits c from to) = false
+is_number (Fixed v w) = true
 
 -- a part at one of the places from `first` up to `end` that isn't edited
 abbrev pub is_spanned : {X : Type 0} → (first end : ℕ) → List (Edit X) → ℕ → Bool

@@ -5,15 +5,17 @@ use Rattle.ep_int.specs.declared.types.Model.{Model}
 use Rattle.ep_bitslice.specs.declared.cell.Side.{Side}
 use Rattle.ep_domain.specs.Domain.{Ops}
 use Rattle.ep_cells.specs.declared.cell.Cell.{Cell}
-use Rattle.ep_cells.specs.Cells.{place_of, is_same_cell, parts_of, put_all, each_becomes}
+use Rattle.ep_cells.specs.declared.place.ByteRange.{ByteRange}
+use Rattle.ep_cells.specs.Cells.{place_of, touches, parts_of, put_all, each_becomes}
 use Rattle.ep_cells.specs.Forms.{Fate, reformed}
 use Rattle.ep_cells.specs.Write.{left_by_write, fate_by_write}
-use Rattle.ep_cells.specs.Weaken.{first_part, left_by_weak_write, fate_by_weak_write}
+use Rattle.ep_cells.specs.Weaken.{left_by_weak_write, fate_by_weak_write}
 use Rattle.ep_cells.specs.Kill.{left_by_kill, fate_by_kill}
 use Rattle.ep_cells.specs.Reshare.{left_by_reshare, fate_by_reshare}
 use Rattle.ep_reads.specs.Split.{is_name_of, left_by_split, fate_by_split}
 use Rattle.ep_reads.specs.Unify.{left_by_crossing, fate_by_crossing}
 use Rattle.ep_cell_ranges.specs.Ranges.{left_by_blur}
+use Rattle.ep_cell_rows.specs.Parts.{fate_by_unsharing}
 use Rattle.ep_shared_parts.specs.declared.parts.Part.{Part}
 use Rattle.ep_shared_parts.specs.declared.parts.Edit.{Edit}
 use Rattle.ep_shared_parts.specs.declared.uses.Use.{Use}
@@ -29,9 +31,9 @@ use Rattle.ep_shared_parts.specs.Plans.{AreEdits, Covers}
 abbrev pub fate_to : {N : Type 0} → Option Side → Cell N → Fate
 fate_to o x n = if is_name_of n x then option_map (λ r. record n { side = r }) o else Some n
 
--- the cell comes apart, if it is a Shared one
-abbrev pub left_by_parting : {N : Type 0} → Cell N → Cell N → List (Cell N)
-left_by_parting x y = if is_same_cell y x then parts_of y else y ∷ []
+-- a Shared cell that is met comes apart
+abbrev pub left_by_unsharing : {N : Type 0} → Model → ByteRange → Cell N → List (Cell N)
+left_by_unsharing d p x = if touches p (place_of d x) then parts_of x else x ∷ []
 
 -- ---- steps
 
@@ -43,7 +45,7 @@ left_by_step D d (Kill s b) = left_by_kill s b
 left_by_step D d (Blur p) = left_by_blur D d p
 left_by_step D d (Split s x) = left_by_split s x
 left_by_step D d (Cross x) = left_by_crossing x
-left_by_step D d (Unshare x) = left_by_parting x
+left_by_step D d (Unshare p) = left_by_unsharing d p
 left_by_step D d (Lack x) = left_by_crossing x
 left_by_step D d (Reshare l r) = left_by_reshare l
 
@@ -55,7 +57,7 @@ fate_of_step d (Kill s b) = fate_by_kill s b
 fate_of_step d (Blur p) = fate_by_weak_write p
 fate_of_step d (Split s x) = fate_by_split s x
 fate_of_step d (Cross x) = fate_by_crossing x
-fate_of_step d (Unshare x) = fate_to (Some (first_part x.side)) x
+fate_of_step d (Unshare p) = fate_by_unsharing p
 fate_of_step d (Lack x) = fate_to None x
 fate_of_step d (Reshare l r) = fate_by_reshare l r
 

@@ -3,12 +3,12 @@
 ghost use Rattle.std.specs.Prelude.{◌≡◌, ◌++◌, map, if◌then◌else◌, IfOk, None, Some};
 ghost use Rattle.ep_bitslice.specs.Bits.{mentions};
 ghost use Rattle.ep_bitslice.specs.Segments.{bits, normal};
-ghost use Rattle.ep_cells.specs.Cells.{each_becomes, parts_of, with_side};
+ghost use Rattle.ep_cells.specs.Cells.{each_becomes, with_side};
 ghost use Rattle.ep_cells.specs.Forms.{form_after, reformed};
 ghost use Rattle.ep_cells.specs.Weaken.{first_part as the_first_part};
 ghost use Rattle.ep_reads.specs.Split.{left_by_split, fate_by_split};
 ghost use Rattle.ep_reads.specs.Unify.{is_byte, left_by_crossing, fate_by_crossing};
-ghost use Rattle.ep_bicells.specs.Steps.{fate_to, left_by_parting};
+ghost use Rattle.ep_bicells.specs.Steps.{fate_to};
 
 use ep_bitslice::{BoxedForm, CellName, Form, Side};
 use ep_cell_rows::places::{first_part, is_same_cell, side_without};
@@ -111,7 +111,7 @@ pub fn all_reformed<N: Num>(
 ) -> Result<Vec<Cell<N>>, Memory>
     ensures { IfOk result (λ v. v.items ≡ map (reformed (fate_to to x.now)) cells.now) }
 {
-    let mut out = Vec::new(alloc);
+    let mut out = Vec::with_capacity(alloc, cells.len()).map_err(|_| Memory)?;
     for y in cells {
         push(&mut out, reformed_on(x, to, y, y.side)?)?;
     }
@@ -131,46 +131,6 @@ fn push_on<N: Num>(
     match side {
         None => Ok(()),
         Some(side) => push(out, reformed_on(x, to, y, side)?),
-    }
-}
-
-fn push_both<N: Num>(
-    out: &mut Vec<Cell<N>>,
-    x: &Cell<N>,
-    to: Option<Side>,
-    y: &Cell<N>,
-) -> Result<(), Memory>
-    ensures { IfOk result (λ _. out.new.items
-        ≡ (out.old.items ++ map (reformed (fate_to to x.now)) (with_side y.now (Some Side.Left)))
-        ++ map (reformed (fate_to to x.now)) (with_side y.now (Some Side.Right))) }
-{
-    push_on(out, x, to, y, Some(Side::Left))?;
-    push_on(out, x, to, y, Some(Side::Right))?;
-    Ok(())
-}
-
-fn push_parts<N: Num>(
-    out: &mut Vec<Cell<N>>,
-    x: &Cell<N>,
-    to: Option<Side>,
-    y: &Cell<N>,
-) -> Result<(), Memory>
-    ensures { IfOk result (λ _. out.new.items
-        ≡ out.old.items ++ map (reformed (fate_to to x.now)) (parts_of y.now)) }
-{
-    match y.side {
-        Side::Left => {
-            push_on(out, x, to, y, Some(y.side))?;
-            Ok(())
-        }
-        Side::Right => {
-            push_on(out, x, to, y, Some(y.side))?;
-            Ok(())
-        }
-        Side::Shared => {
-            push_both(out, x, to, y)?;
-            Ok(())
-        }
     }
 }
 
@@ -203,43 +163,9 @@ pub fn left_by_split<N: Num>(
     ensures { IfOk result (λ v. v.items
         ≡ map (reformed (fate_by_split side x.now)) (each_becomes (left_by_split side x.now) cells.now)) }
 {
-    let mut out = Vec::new(alloc);
+    let mut out = Vec::with_capacity(alloc, cells.len()).map_err(|_| Memory)?;
     for y in cells {
         push_left_by_split(&mut out, side, x, y)?;
-    }
-    Ok(out)
-}
-
-// ---- a Shared cell comes apart
-
-fn push_left_by_parting<N: Num>(
-    out: &mut Vec<Cell<N>>,
-    x: &Cell<N>,
-    y: &Cell<N>,
-) -> Result<(), Memory>
-    ensures { IfOk result (λ _. out.new.items ≡ out.old.items
-        ++ map (reformed (fate_to (Some (the_first_part x.now.side)) x.now)) (left_by_parting x.now y.now)) }
-{
-    let to = Some(first_part(x.side));
-    if is_same_cell(y, x) {
-        push_parts(out, x, to, y)
-    } else {
-        push_on(out, x, to, y, Some(y.side))
-    }
-}
-
-/// What is left of cells where one comes apart.
-pub fn left_by_parting<N: Num>(
-    alloc: Global,
-    x: &Cell<N>,
-    cells: &[Cell<N>],
-) -> Result<Vec<Cell<N>>, Memory>
-    ensures { IfOk result (λ v. v.items ≡ map (reformed (fate_to (Some (the_first_part x.now.side)) x.now))
-        (each_becomes (left_by_parting x.now) cells.now)) }
-{
-    let mut out = Vec::new(alloc);
-    for y in cells {
-        push_left_by_parting(&mut out, x, y)?;
     }
     Ok(out)
 }
@@ -272,7 +198,7 @@ pub fn left_without<N: Num>(
     ensures { IfOk result (λ v. v.items
         ≡ map (reformed (fate_to to x.now)) (each_becomes (left_by_crossing x.now) cells.now)) }
 {
-    let mut out = Vec::new(alloc);
+    let mut out = Vec::with_capacity(alloc, cells.len()).map_err(|_| Memory)?;
     for y in cells {
         push_left(&mut out, x, to, y)?;
     }

@@ -130,7 +130,7 @@ pub fn left_by_blur<N: Num>(
     ensures { IfOk result (λ v. v.items ≡ map (reformed (fate_of (Change.WeakWrite place)))
         (each_becomes (left_by_blur N.ops model place) cells.now)) }
 {
-    let mut out = Vec::new(alloc);
+    let mut out = Vec::with_capacity(alloc, cells.len()).map_err(|_| Memory)?;
     for x in cells {
         push_left(&mut out, model, place, x)?;
     }

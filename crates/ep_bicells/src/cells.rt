@@ -107,6 +107,7 @@ pub fn copied<N: Num>(alloc: Global, parts: &[Part<Cell<N>>]) -> Result<Vec<Cell
 fn push_all<'a, N: Num>(out: &mut Vec<&'a Cell<N>>, cells: &'a [Cell<N>]) -> Result<(), Memory>
     ensures { OnOk result (map (λ r. r.now) out.new.items ≡ map (λ r. r.now) out.old.items ++ cells.now) }
 {
+    out.reserve(cells.len()).map_err(|_| Memory)?;
     for c in cells {
         out.push(c).map_err(|_| Memory)?;
     }

@@ -11,12 +11,13 @@ ghost use Rattle.ep_bicells.specs.Steps.{fate_of_step, after_step, IsPlan};
 
 use crate::alone;
 use crate::blur::left_by_blur;
+use crate::unsharing::left_by_unsharing;
 use ep_bitslice::Side;
 use ep_cell_changes::kill::left_by_kill;
 use ep_cell_changes::reshare::{change_by_reshare, left_by_reshare};
 use ep_cell_changes::weak::left_by_weak_write;
 use ep_cell_rows::change::Change;
-use ep_cell_rows::places::{first_part, place_of, side_without};
+use ep_cell_rows::places::{place_of, side_without};
 use ep_cell_rows::rows;
 use ep_cells::{ByteRange, Cell};
 use ep_domain::Num;
@@ -42,8 +43,9 @@ pub enum Step<N> {
     Split(Side, Cell<N>),
     /// A cell is crossed: it is gone. Mentions of a byte go on as mentions of it, or of its Left part.
     Cross(Cell<N>),
-    /// A Shared cell comes apart, and mentions of it become mentions of its Left part.
-    Unshare(Cell<N>),
+    /// Shared cells that meet a place, of whatever side, come apart, and mentions of them become mentions of their
+    /// Left parts.
+    Unshare(ByteRange),
     /// A cell goes, and so do forms that mention it.
     Lack(Cell<N>),
     /// A Left and a Right cell go, and mentions of them become mentions of the Shared one, or go where it may be
@@ -68,7 +70,7 @@ impl<N: Num> Step<N> {
             Step::Blur(p) => left_by_blur(alloc, model, *p, cells),
             Step::Split(side, x) => alone::left_by_split(alloc, *side, x, cells),
             Step::Cross(x) => alone::left_by_crossing(alloc, x, cells),
-            Step::Unshare(x) => alone::left_by_parting(alloc, x, cells),
+            Step::Unshare(p) => left_by_unsharing(alloc, model, *p, cells),
             Step::Lack(x) => alone::left_without(alloc, x, None, cells),
             Step::Reshare(l, r) => left_by_reshare(alloc, change_by_reshare(l, r), l, cells),
         }
@@ -103,7 +105,7 @@ impl<N: Num> Step<N> {
                 cells,
             ),
             Step::Cross(x) => alone::all_reformed_by_crossing(alloc, x, cells),
-            Step::Unshare(x) => alone::all_reformed(alloc, x, Some(first_part(x.side)), cells),
+            Step::Unshare(p) => rows::all_reformed(alloc, Change::Unshare(*p), cells),
             Step::Lack(x) => alone::all_reformed(alloc, x, None, cells),
             Step::Reshare(l, r) => rows::all_reformed(alloc, change_by_reshare(l, r), cells),
         }

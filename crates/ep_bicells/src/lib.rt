@@ -6,3 +6,4 @@ mod blur;
 pub mod cells;
 pub mod changes;
 pub mod owned;
+mod unsharing;

@@ -1,15 +1,17 @@
 //! Steps of cells where they stand, as far as no other state shares them.
 
-ghost use Rattle.std.specs.Prelude.{◌≡◌, ◌<◌, ◌≤◌, ◌++◌, ◌∷◌, [], true, not, ◌||◌, ◌&&◌, nat_eq, length, IfOk, OnOk};
-ghost use Rattle.std.specs.Prelude.{IsTrue};
+ghost use Rattle.std.specs.Prelude.{◌≡◌, ◌<◌, ◌≤◌, ◌++◌, ◌∷◌, [], true, not, ◌||◌, ◌&&◌, nat_eq, length, take, drop, IfOk};
+ghost use Rattle.std.specs.Prelude.{OnOk, IsTrue, Some};
+ghost use Rattle.std.specs.List.{list_all};
+ghost use Rattle.ep_bitslice.specs.Segments.{bits, normal};
 ghost use Rattle.ep_cells.specs.Cells.{place_of as the_place, touches};
 ghost use Rattle.ep_cells.specs.Kill.{has_target};
 ghost use Rattle.ep_bicells.specs.Steps.{after_step};
-ghost use Rattle.ep_bicells.specs.Standing.{passes, AreSpanned};
+ghost use Rattle.ep_bicells.specs.Standing.{passes, is_number, AreSpanned};
 
 use crate::changes::{Step, is_edited};
+use ep_bitslice::{Form, Segment};
 use ep_cell_rows::places::{is_same_cell, place_of, touches};
-use ep_cell_rows::rows::push;
 use ep_cell_rows::values::has_target;
 use ep_cells::{ByteRange, Cell};
 use ep_domain::Num;
@@ -37,21 +39,42 @@ fn begins_apart<N: Num>(x: &Cell<N>, y: &Cell<N>) -> bool
     !((x.block == y.block) & (x.offset == y.offset))
 }
 
-fn alone<N: Num>(alloc: Global, x: Cell<N>) -> Result<Vec<Cell<N>>, Memory>
-    ensures { IfOk result (λ v. v.items ≡ x ∷ []) }
+fn is_number(s: &Segment) -> bool
+    ensures { result ≡ is_number s.now }
 {
-    let mut out = Vec::with_capacity(alloc, 1).map_err(|_| Memory)?;
-    push(&mut out, x)?;
-    Ok(out)
+    match s {
+        Segment::Bits(_, _, _) => false,
+        Segment::Fixed(_, _) => true,
+    }
+}
+
+fn are_numbers(segments: &[Segment]) -> bool
+    ensures { result ≡ list_all is_number segments.now }
+{
+    segments.iter().all(|s| is_number(s))
+}
+
+fn names_none(form: &Form) -> bool
+    ensures none { IsTrue result → list_all is_number form.now ≡ true }
+    ensures normal { normal (bits form.now) ≡ form.now }
+{
+    are_numbers(form.segments())
+}
+
+// The first cells stay, and the others come out.
+fn cut<N: Num>(cells: &mut Vec<Cell<N>>, at: usize) -> Result<Vec<Cell<N>>, Memory>
+    requires { at ≤ length cells.old.items }
+    ensures kept { OnOk result (cells.new.items ≡ take at cells.old.items) }
+    ensures rest { IfOk result (λ v. v.items ≡ drop at cells.old.items) }
+{
+    cells.split_off(at).map_err(|_| Memory)
 }
 
 fn append<N: Num>(out: &mut Vec<Cell<N>>, more: Vec<Cell<N>>) -> Result<(), Memory>
     ensures { OnOk result (out.new.items ≡ out.old.items ++ more.items) }
 {
-    for x in more {
-        push(out, x)?;
-    }
-    Ok(())
+    let mut more = more;
+    out.append(&mut more).map_err(|_| Memory)
 }
 
 impl<N: Num> Step<N> {
@@ -65,34 +88,60 @@ impl<N: Num> Step<N> {
             Step::Blur(p) => is_apart(model, p, x),
             Step::Split(_, y) => !is_same_cell(x, y),
             Step::Cross(y) => !is_same_cell(x, y),
-            Step::Unshare(y) => !is_same_cell(x, y),
+            Step::Unshare(p) => is_apart(model, p, x),
             Step::Lack(y) => !is_same_cell(x, y),
             Step::Reshare(l, _) => begins_apart(x, l),
         }
     }
 
-    // Whether a cell stays as it is. A cell with a form is said not to.
+    // A form that mentions no cell stays.
+    fn leaves_formed(&self, model: Model, x: &Cell<N>, form: &Form) -> bool
+        requires { x.now.form ≡ Some form.now }
+        ensures { IsTrue result → after_step N.ops model self.now (x.now ∷ []) ≡ x.now ∷ [] }
+    {
+        if names_none(form) {
+            return self.passes(model, x);
+        }
+        false
+    }
+
+    // Whether a cell stays as it is. A cell whose form mentions some is said not to.
     fn leaves(&self, model: Model, x: &Cell<N>) -> bool
         ensures { IsTrue result → after_step N.ops model self.now (x.now ∷ []) ≡ x.now ∷ [] }
     {
         match &x.form {
             None => self.passes(model, x),
-            Some(_) => false,
+            Some(form) => self.leaves_formed(model, x, form.form()),
         }
     }
 
-    fn push_after(&self, out: &mut Vec<Cell<N>>, model: Model, x: Cell<N>) -> Result<(), Memory>
-        ensures { OnOk result (out.new.items ≡ out.old.items ++ after_step N.ops model self.now (x ∷ [])) }
+    // How many cells at the front stay as they are.
+    fn front(&self, model: Model, cells: &[Cell<N>]) -> usize
+        ensures within { result ≤ length cells.now }
+        ensures stays { after_step N.ops model self.now (take result cells.now) ≡ take result cells.now }
     {
-        if self.leaves(model, &x) {
-            return push(out, x);
+        for i in 0..cells.len() {
+            if !self.leaves(model, &cells[i]) {
+                return i;
+            }
         }
-        let alloc = *out.allocator();
-        let one = alone(alloc, x)?;
-        let after = self.after(alloc, model, &one)?;
-        append(out, after)
+        cells.len()
     }
 
+    // Behind how many cells all stay as they are.
+    fn back(&self, model: Model, cells: &[Cell<N>]) -> usize
+        ensures within { result ≤ length cells.now }
+        ensures stays { after_step N.ops model self.now (drop result cells.now) ≡ drop result cells.now }
+    {
+        for i in (0..cells.len()).rev() {
+            if !self.leaves(model, &cells[i]) {
+                return i + 1;
+            }
+        }
+        0
+    }
+
+    // Cells before the first and behind the last one that the step changes are moved as a whole.
     fn all_after(
         &self,
         alloc: Global,
@@ -101,10 +150,14 @@ impl<N: Num> Step<N> {
     ) -> Result<Vec<Cell<N>>, Memory>
         ensures { IfOk result (λ v. v.items ≡ after_step N.ops model self.now cells.items) }
     {
-        let mut out = Vec::with_capacity(alloc, cells.len()).map_err(|_| Memory)?;
-        for x in cells {
-            self.push_after(&mut out, model, x)?;
-        }
+        let mut out = cells;
+        let first = self.front(model, &out);
+        let mut rest = cut(&mut out, first)?;
+        let end = self.back(model, &rest);
+        let behind = cut(&mut rest, end)?;
+        let after = self.after(alloc, model, &rest)?;
+        append(&mut out, after)?;
+        append(&mut out, behind)?;
         Ok(out)
     }
 

@@ -84,7 +84,7 @@ pub fn left_by_reshare<N: Num>(
     ensures { IfOk result (λ v. v.items
         ≡ map (reformed (fate_of change)) (each_becomes (left_by_reshare l.now) cells.now)) }
 {
-    let mut out = Vec::new(alloc);
+    let mut out = Vec::with_capacity(alloc, cells.len()).map_err(|_| Memory)?;
     for x in cells {
         push_left_by_reshare(&mut out, change, l, x)?;
     }

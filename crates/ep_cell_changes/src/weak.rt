@@ -175,7 +175,7 @@ pub fn left_by_weak_write<N: Num>(
     ensures { IfOk result (λ v. v.items ≡ map (reformed (fate_of (Change.WeakWrite (the_place model c.now))))
         (each_becomes (left_by_weak_write N.ops model c.now stays) cells.now)) }
 {
-    let mut out = Vec::new(alloc);
+    let mut out = Vec::with_capacity(alloc, cells.len()).map_err(|_| Memory)?;
     for x in cells {
         push_left(&mut out, model, c, stays, x)?;
     }

@@ -1,5 +1,6 @@
 -- Left and Right cells that stay, and the cell that begins at a place, part by part.
 use Rattle.std.proofs.Common.{◌≡◌, ℕ, suc, ◌+◌, ◌<◌, ◌≤◌, Bool, true, false, cond, ◌&&◌, not, nat_eq, List, [], ◌∷◌}
+use Rattle.std.proofs.lemmas.List.{append-nil}
 use Rattle.std.proofs.lemmas.Bool.{not-true}
 use Rattle.std.proofs.Common.{◌++◌, map, length, drop, get_or, Option, Some, None, refl, sym, ◌∙◌, ap, subst, arith}
 use Rattle.std.proofs.Common.{append_assoc}
@@ -20,7 +21,6 @@ use Rattle.ep_shared_parts.specs.Mentions.{number_at, number_of}
 use Rattle.ep_bicells.proofs.Looking.{split_items}
 use Rattle.ep_shared_parts.proofs.Steps.{items_at}
 use Rattle.ep_cell_parts.specs.Alike.{is_same_pair, is_same_at, are_different}
-use Rattle.ep_cell_steps.proofs.Making.{none_behind}
 
 abbrev begins : {N : Type 0} → Side → (b q : ℕ) → Cell N → Bool
 begins s b q c = is_same_side c.side s && (nat_eq c.block b && nat_eq c.offset q)
@@ -112,7 +112,7 @@ places_step ps i p out new more whole b e m n h =
 pub places_end : {N : Type 0} (ps : List (Part (Cell N))) (i : ℕ) (out whole : List (ℕ × ℕ)) → length ps ≤ i
     → out ++ places (all_items (drop i ps)) ≡ whole → out ≡ whole
 places_end ps i out whole le h =
-    sym (none_behind out) ∙ sym (ap (λ zs. out ++ places (all_items zs)) (drop_of_length-le ps le)) ∙ h
+    sym (append-nil out) ∙ sym (ap (λ zs. out ++ places (all_items zs)) (drop_of_length-le ps le)) ∙ h
 
 pub place_more : {N : Type 0} (out new whole : List (ℕ × ℕ)) (x : Cell N) (xs ys : List (Cell N))
     → new ≡ out ++ places (x ∷ []) → xs ≡ x ∷ ys → out ++ places xs ≡ whole → new ++ places ys ≡ whole

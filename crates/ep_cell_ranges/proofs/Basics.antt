@@ -1,5 +1,6 @@
 -- Lemmas that several crates cite.
-use Rattle.std.proofs.Common.{◌≡◌, true, refl, ℕ, ap, ◌∙◌}
+use Rattle.std.proofs.Common.{◌≡◌, ◌≤◌, ◌+◌, ◌&&◌, nat_le, true, refl, ℕ, ap, ◌∙◌, arith}
+use Rattle.std.proofs.lemmas.Bool.Decides.{nat_tests}
 use Rattle.ep_int.specs.declared.types.Model.{Model}
 use Rattle.ep_int.specs.declared.types.Model.TheVariants.{Ilp32, Lp64}
 use Rattle.ep_cell_ranges.specs.Tests.{is_model}
@@ -22,3 +23,6 @@ is_same_spot-equal q r e =
 pub is_model-self : (a : Model) → is_model a a ≡ true
 is_model-self Ilp32 = refl
 is_model-self Lp64 = refl
+
+pub inside_by : (a n q z : ℕ) → a ≤ q → q + z ≤ a + n → (nat_le a q && nat_le (q + z) (a + n)) ≡ true
+inside_by a n q z h i = grind (arith, nat_tests)

@@ -1,5 +1,6 @@
 -- What lies partly in a place is split, on its side or on both.
 use Rattle.std.proofs.Common.{◌≡◌, ℕ, Bool, true, false, ◌||◌, List, [], ◌∷◌, Option, Some, None, refl, ap, ◌∙◌}
+use Rattle.std.proofs.Common.{cond}
 use Rattle.ep_int.specs.declared.types.Model.{Model}
 use Rattle.ep_int.specs.declared.types.Scalar.{Scalar}
 use Rattle.ep_int.specs.Types.{size_of}
@@ -21,6 +22,19 @@ use Rattle.ep_reads.specs.Split.{cut_cells, fate_by_split, split_like, split}
 use Rattle.ep_cell_ranges.specs.Ranges.{Form, form_by_splits, form_by_split, split_at, cut, form_by_cut}
 use Rattle.ep_cell_ranges.specs.Follow.{FormFits, FormHas}
 use Rattle.ep_cell_ranges.specs.Laws.{MoreSplitLaws}
+
+-- ---- where no cell lies partly in the place
+
+pub none_cut : {N : Type 0} (d : Model) (p : ByteRange) (cs : List (Cell N)) → is_some_partly_in d p cs ≡ false
+    → cut_cells d p cs ≡ []
+none_cut d p [] e = refl
+none_cut d p (c ∷ cs) e = by (is_partly_in p (place_of d c)) e (none_cut d p cs)
+  where
+    by : (b : Bool) → (b || is_some_partly_in d p cs) ≡ false
+        → (is_some_partly_in d p cs ≡ false → cut_cells d p cs ≡ [])
+        → cond b (c ∷ cut_cells d p cs) (cut_cells d p cs) ≡ []
+    by true e h = absurd (cc)
+    by false e h = h e
 
 -- ---- the memory with what is broken on the sides of a place
 

@@ -10,7 +10,7 @@ use Rattle.ep_cells.specs.Cells.{side_without, share_memory, touches, place_of_n
 use Rattle.ep_cells.specs.Weaken.{first_part}
 use Rattle.ep_cells.specs.Reshare.{fate_by_side}
 use Rattle.ep_cell_rows.specs.declared.change.Change.{Change}
-use Rattle.ep_cell_rows.specs.declared.change.Change.TheVariants.{Write, WeakWrite, Kill, Reshare}
+use Rattle.ep_cell_rows.specs.declared.change.Change.TheVariants.{Write, WeakWrite, Kill, Reshare, Unshare}
 use Rattle.ep_cell_rows.specs.Parts.{fate_of}
 use Rattle.ep_cell_rows.proofs.Renaming.{IsSettled}
 
@@ -121,6 +121,20 @@ reshare_settled b q maybe c e false f h =
     subst (λ x. cond (nat_eq x.block b && nat_eq x.offset q) (fate_by_side maybe x x.side) (Some x) ≡ Some x) i
     (ap (λ t. cond t (fate_by_side maybe c c.side) (Some c)) f)
 
+unshare_settled : (p : ByteRange) (c e : CellName) (b : Bool) → touches p (place_of_name c) ≡ b
+    → cond b (Some (record c { side = first_part c.side })) (Some c) ≡ Some e
+    → cond (touches p (place_of_name e)) (Some (record e { side = first_part e.side })) (Some e) ≡ Some e
+unshare_settled p c e true f h =
+    let d = record c { side = first_part c.side } in
+    let i : d ≡ e = cc in
+    subst (λ x. cond (touches p (place_of_name x)) (Some (record x { side = first_part x.side })) (Some x) ≡ Some x) i
+    (ap (λ b. cond b (Some (record d { side = first_part (first_part c.side) })) (Some d)) f
+    ∙ ap (λ (s : Side). Some (record c { side = s })) (first_stays c.side))
+unshare_settled p c e false f h =
+    let i : c ≡ e = cc in
+    subst (λ x. cond (touches p (place_of_name x)) (Some (record x { side = first_part x.side })) (Some x) ≡ Some x) i
+    (ap (λ b. cond b (Some (record c { side = first_part c.side })) (Some c)) f)
+
 pub settled : (ch : Change) → IsSettled (fate_of ch)
 settled (Write p) = record {
   settled = λ c e h. rest_settled p.side (λ x. touches p (place_of_name x)) (λ x s. refl)
@@ -134,4 +148,7 @@ settled (Kill s b) = record {
 settled (Reshare b q maybe) = record {
   settled = λ c e h. reshare_settled b q maybe c e (nat_eq c.block b && nat_eq
       c.offset q) refl h;
+}
+settled (Unshare p) = record {
+  settled = λ c e h. unshare_settled p c e (touches p (place_of_name c)) refl h;
 }

@@ -11,7 +11,7 @@ ghost use Rattle.ep_cells.specs.Write.{fate_by_write};
 ghost use Rattle.ep_cells.specs.Weaken.{fate_by_weak_write, first_part as first_of};
 ghost use Rattle.ep_cells.specs.Kill.{fate_by_kill};
 ghost use Rattle.ep_cells.specs.Reshare.{fate_by_side};
-ghost use Rattle.ep_cell_rows.specs.Parts.{fate_of, goes_on, name_after, bits_with, bits_with_all};
+ghost use Rattle.ep_cell_rows.specs.Parts.{fate_of, fate_by_unsharing, goes_on, name_after, bits_with, bits_with_all};
 
 use crate::places::{first_part, place_of_name, share_memory, side_without, touches};
 use crate::values::boxed_like;
@@ -28,6 +28,8 @@ pub enum Change {
     Kill(Side, u32),
     /// A block and an offset, and whether the Shared cell there may be undefined.
     Reshare(u32, u32, bool),
+    /// Shared cells that are met come apart.
+    Unshare(ByteRange),
 }
 
 // The name on another side, if there is one.
@@ -118,6 +120,16 @@ fn fate_by_reshare(block: u32, offset: u32, maybe: bool, n: &CellName) -> Option
     }
 }
 
+fn fate_by_unsharing(p: &ByteRange, n: &CellName) -> Option<CellName>
+    ensures { result ≡ fate_by_unsharing p.now n.now }
+{
+    if touches(p, &place_of_name(n)) {
+        on_side(n, Some(first_part(n.side)))
+    } else {
+        Some(*n)
+    }
+}
+
 impl Change {
     /// The name by which a mention of a cell goes on, if it does.
     pub fn fate(self, n: &CellName) -> Option<CellName>
@@ -128,6 +140,7 @@ impl Change {
             Change::WeakWrite(p) => fate_by_weak_write(&p, n),
             Change::Kill(side, block) => fate_by_kill(side, block, n),
             Change::Reshare(block, offset, maybe) => fate_by_reshare(block, offset, maybe, n),
+            Change::Unshare(p) => fate_by_unsharing(&p, n),
         }
     }
 

@@ -224,7 +224,7 @@ pub fn left_by_write<N: Num>(
     ensures { IfOk result (λ v. v.items
         ≡ map (reformed (fate_of (Change.Write p))) (each_becomes (left_by_write model p) cells.now)) }
 {
-    let mut out = Vec::new(alloc);
+    let mut out = Vec::with_capacity(alloc, cells.len()).map_err(|_| Memory)?;
     for x in cells {
         push_left_by_write(&mut out, model, p, x)?;
     }

@@ -11,6 +11,7 @@ use Rattle.ep_bitslice.specs.declared.cell.Side.{Side}
 use Rattle.ep_bitslice.specs.declared.cell.Side.TheVariants.{Left, Right, Shared}
 use Rattle.ep_domain.specs.Domain.{Ops}
 use Rattle.ep_cells.specs.declared.cell.Cell.{Cell}
+use Rattle.ep_cells.specs.declared.place.ByteRange.{ByteRange}
 use Rattle.ep_cells.specs.Cells.{IsIn, first, later, place_of, place_of_name, touches, share_memory, side_without}
 use Rattle.ep_cells.specs.Cells.{with_side, parts_of, is_same_cell, is_same_side, is_same_scalar, is_same_place, put}
 use Rattle.ep_cells.specs.Cells.{put_all, each_becomes}
@@ -24,6 +25,7 @@ use Rattle.ep_cells.proofs.Lists.{in_each, in_put_all}
 use Rattle.ep_reads.specs.Split.{is_name_of, left_by_split, fate_by_split}
 use Rattle.ep_reads.specs.Unify.{is_of_one_side, is_byte, left_by_crossing, fate_by_crossing}
 use Rattle.ep_cell_ranges.specs.Ranges.{left_by_blur}
+use Rattle.ep_cell_rows.specs.Parts.{fate_by_unsharing}
 use Rattle.ep_cell_rows.proofs.Order.{put_reformed}
 use Rattle.ep_shared_parts.specs.declared.parts.Part.{Part}
 use Rattle.ep_shared_parts.specs.declared.parts.Edit.{Edit}
@@ -33,13 +35,16 @@ use Rattle.ep_bicells.specs.declared.changes.Step.TheVariants.{Write, WeakWrite,
 use Rattle.ep_bicells.specs.declared.changes.Step.TheVariants.{Lack, Reshare}
 use Rattle.ep_shared_parts.specs.Spread.{outlines, all_items, AreSpread, installed, AreWithin}
 use Rattle.ep_shared_parts.specs.Mentions.{number_at, number_of, number_of_name, number_of_use, IsNoted, AreIndexed}
-use Rattle.ep_bicells.specs.Steps.{fate_to, left_by_parting, left_by_step, fate_of_step, after_step, changed_by, IsPlan}
+use Rattle.ep_bicells.specs.Steps.{fate_to, left_by_unsharing, left_by_step, fate_of_step, after_step, changed_by}
+use Rattle.ep_bicells.specs.Steps.{IsPlan}
+use Rattle.ep_bicells.proofs.Looking.{Reaches}
 use Rattle.ep_shared_parts.proofs.Planning.{Becomes, edits_within}
 use Rattle.ep_cell_steps.specs.PartsInvariant.{AreKept}
 use Rattle.ep_cell_steps.specs.Planned.{IsAlone, AreReached, FindsTargets}
 use Rattle.ep_cell_steps.proofs.Making.{indexed_more}
 use Rattle.ep_cell_steps.proofs.Local.{changed, IsLocal, indexed_reformed, indexed_each}
-use Rattle.ep_cell_steps.proofs.Writing.{IsConfined, planned, write_confined, write_local, write_name}
+use Rattle.ep_cell_steps.proofs.Writing.{IsConfined, planned, apart_in, apart_name, write_confined, write_local}
+use Rattle.ep_cell_steps.proofs.Writing.{write_name}
 use Rattle.ep_cell_steps.proofs.Weakening.{weak_confined, weak_name}
 use Rattle.ep_cell_steps.proofs.Killing.{kill_local, kill_becomes}
 use Rattle.ep_cell_steps.proofs.Blurring.{Made, made_self, blurred_made, IsPart, parts_are, blur_local, blur_confined}
@@ -127,6 +132,11 @@ reshared_name : (n m : CellName) (a b : Bool) → cond a (fate_by_side b n n.sid
 reshared_name n m true b h = shared_name n m b n.side h
 reshared_name n m false b h = let e : m ≡ n = cc in ap number_of_name e
 
+unshared_name : (n m : CellName) (b : Bool) → cond b (Some (record n { side = first_part n.side })) (Some n) ≡ Some m
+    → number_of_name m ≡ number_of_name n
+unshared_name n m true h = let e : m ≡ record n { side = first_part n.side } = cc in ap number_of_name e
+unshared_name n m false h = let e : m ≡ n = cc in ap number_of_name e
+
 pub step_local : {N : Type 0} (D : Ops N) (d : Model) (step : Step N)
     → IsLocal (left_by_step D d step) (fate_of_step d step)
 step_local D d (Write p) = write_local d p
@@ -143,10 +153,9 @@ step_local D d (Split s x) =
 step_local D d (Cross x) =
     local_by (left_by_crossing x) (fate_by_crossing x) (λ z y k. gone_made z y (is_same_cell z x) k)
     (λ n m h. byte_name n m (is_name_of n x) (is_byte x.what) (is_of_one_side x) h)
-step_local D d (Unshare x) =
-    local_by (left_by_parting x) (fate_to (Some (first_part x.side)) x)
-    (λ z y k. parted_made z y (is_same_cell z x) k)
-    (λ n m h. write_name n m (is_name_of n x) (Some (first_part x.side)) h)
+step_local D d (Unshare p) =
+    local_by (left_by_unsharing d p) (fate_by_unsharing p) (λ z y k. parted_made z y (touches p (place_of d z)) k)
+    (λ n m h. unshared_name n m (touches p (place_of_name n)) h)
 step_local D d (Lack x) =
     local_by (left_by_crossing x) (fate_to None x) (λ z y k. gone_made z y (is_same_cell z x) k)
     (λ n m h. write_name n m (is_name_of n x) None h)
@@ -206,6 +215,14 @@ crossed_stays x n h =
     ap (λ b. cond b (cond (is_byte x.what) (Some (cond (is_of_one_side x) n (left_name n))) None) (Some n))
     (other_name x n h)
 
+unshared_confined : {N : Type 0} (d : Model) (p : ByteRange) (from last : ℕ) (cs : List (Cell N)) → Reaches p from last
+    → AreCells d cs → IsConfined d from last (left_by_unsharing d p) (fate_by_unsharing p) cs
+unshared_confined d p from last cs r a = record {
+  cells = λ x i h. ap (λ b. cond b (parts_of x) (x ∷ [])) (apart_in d p x from last r i h);
+  names = λ n t h. ap (λ b. cond b (Some (record n { side = first_part n.side })) (Some n))
+      (apart_name d p n cs from last r a t h);
+}
+
 -- ---- what a step leaves
 
 pub step_becomes : {N : Type 0} (D : Ops N) (d : Model) (step : Step N) (from last : ℕ) (us : List (Part Use)) (ps :
@@ -235,10 +252,9 @@ step_becomes D d (Cross x) from last us ps es k r w t =
     planned d (left_by_crossing x) (fate_by_crossing x) from last (all_items us) ps es k.cells k.indexed
     (confined_to d x from last (left_by_crossing x) (fate_by_crossing x) (all_items ps) r
     (λ z h. cell_stays x z [] h) (λ n h. crossed_stays x n h)) w
-step_becomes D d (Unshare x) from last us ps es k r w t =
-    planned d (left_by_parting x) (fate_to (Some (first_part x.side)) x) from last (all_items us) ps es k.cells k.indexed
-    (confined_to d x from last (left_by_parting x) (fate_to (Some (first_part x.side)) x) (all_items ps) r
-    (λ z h. cell_stays x z (parts_of z) h) (λ n h. name_stays (Some (first_part x.side)) x n h)) w
+step_becomes D d (Unshare p) from last us ps es k r w t =
+    planned d (left_by_unsharing d p) (fate_by_unsharing p) from last (all_items us) ps es k.cells k.indexed
+    (unshared_confined d p from last (all_items ps) r k.cells) w
 step_becomes D d (Lack x) from last us ps es k r w t =
     planned d (left_by_crossing x) (fate_to None x) from last (all_items us) ps es k.cells k.indexed
     (confined_to d x from last (left_by_crossing x) (fate_to None x) (all_items ps) r

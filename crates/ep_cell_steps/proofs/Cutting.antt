@@ -1,5 +1,6 @@
 -- Cells in order that are cut into parts.
 use Rattle.std.proofs.Common.{◌≡◌, ℕ, suc, ◌<◌, ◌≤◌, Bool, true, false, nat_lt, List, [], ◌∷◌, ◌++◌, map, refl, sym}
+use Rattle.std.proofs.lemmas.List.{append-nil}
 use Rattle.ep_int.proofs.Basics.{true_and_false}
 use Rattle.std.proofs.Common.{◌∙◌, ap, subst, arith, append_assoc}
 use Rattle.std.proofs.lemmas.Bool.Decides.{nat_tests}
@@ -13,7 +14,6 @@ use Rattle.ep_shared_parts.specs.Mentions.{number_of}
 use Rattle.ep_shared_parts.proofs.Halving.{outlines_append, items_append}
 use Rattle.ep_cell_steps.specs.Opened.{IsOpen}
 use Rattle.ep_cell_steps.proofs.Local.{number_behind, short_cell}
-use Rattle.ep_cell_steps.proofs.Making.{none_behind}
 
 -- ---- numbers
 
@@ -121,12 +121,12 @@ all_closed ps qs p from last cs o e f g = subst AreSpread (sym (closed_outlines 
 closed_items : {N : Type 0} (ps qs : List (Part (Cell N))) (p : Part (Cell N)) (cs : List (Cell N))
     → qs ≡ ps ++ p ∷ [] → p.items.value.items ≡ cs → all_items qs ≡ all_items ps ++ cs
 closed_items ps qs p cs e g =
-    ap all_items e ∙ items_append ps (p ∷ []) ∙ ap (λ xs. all_items ps ++ xs) (none_behind p.items.value.items ∙ g)
+    ap all_items e ∙ items_append ps (p ∷ []) ∙ ap (λ xs. all_items ps ++ xs) (append-nil p.items.value.items ∙ g)
 
 pub next_items : {N : Type 0} (ps qs : List (Part (Cell N))) (p : Part (Cell N)) (cs ds : List (Cell N))
     → qs ≡ ps ++ p ∷ [] → p.items.value.items ≡ cs → ds ≡ [] → all_items qs ++ ds ≡ all_items ps ++ cs
 next_items ps qs p cs ds e g h =
-    ap (λ xs. all_items qs ++ xs) h ∙ none_behind (all_items qs) ∙ closed_items ps qs p cs e g
+    ap (λ xs. all_items qs ++ xs) h ∙ append-nil (all_items qs) ∙ closed_items ps qs p cs e g
 
 pub more_items : {N : Type 0} (before xs cs ds : List (Cell N)) (c : Cell N) → xs ++ cs ≡ before → ds ≡ cs ++ c ∷ []
     → xs ++ ds ≡ before ++ c ∷ []
@@ -198,5 +198,5 @@ starts d ps none xs cs e f g a = (
 pub all_there : {N : Type 0} (ps qs : List (Part (Cell N))) (p : Part (Cell N)) (cs xs all : List (Cell N))
     → qs ≡ ps ++ p ∷ [] → p.items.value.items ≡ cs → xs ≡ [] → (all_items ps ++ cs) ++ xs ≡ all → all_items qs ≡ all
 all_there ps qs p cs xs all e f g h =
-    closed_items ps qs p cs e f ∙ sym (none_behind (all_items ps ++ cs))
+    closed_items ps qs p cs e f ∙ sym (append-nil (all_items ps ++ cs))
     ∙ ap (λ ys. (all_items ps ++ cs) ++ ys) (sym g) ∙ h

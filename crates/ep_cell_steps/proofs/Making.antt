@@ -1,6 +1,6 @@
 -- States made of lists of cells.
-use Rattle.std.proofs.Common.{◌≡◌, ℕ, ◌+◌, ◌<◌, ◌≤◌, ◌⊎◌, inl, inr, ⊎_elim, List, [], ◌∷◌, ◌++◌, length, drop, get_or}
-use Rattle.std.proofs.Common.{Option, Some, None, IfSome, true, refl, sym, ap, subst, arith}
+use Rattle.std.proofs.Common.{◌≡◌, ℕ, ◌+◌, ◌<◌, ◌≤◌, ◌⊎◌, inl, inr, ⊎_elim, List, [], ◌∷◌, length, drop, get_or}
+use Rattle.std.proofs.Common.{Option, Some, None, IfSome, true, refl, sym, subst, arith}
 use Rattle.std.proofs.Math.ListN.{drop_of_length-le}
 use Rattle.ep_int.specs.declared.types.Model.{Model}
 use Rattle.ep_bitslice.specs.declared.cell.CellName.{CellName}
@@ -23,10 +23,6 @@ use Rattle.ep_shared_parts.specs.Mentions.{number_of, number_of_name, number_of_
 use Rattle.ep_shared_parts.proofs.Steps.{rest_at}
 use Rattle.ep_shared_parts.proofs.Mentioning.{note_of}
 use Rattle.ep_cell_steps.specs.PartsInvariant.{IsIndexed, AreKept}
-
-pub none_behind : {X : Type 0} (xs : List X) → xs ++ [] ≡ xs
-none_behind [] = refl
-none_behind (x ∷ xs) = ap (λ ys. x ∷ ys) (none_behind xs)
 
 -- ---- the index
 

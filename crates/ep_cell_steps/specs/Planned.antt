@@ -33,7 +33,7 @@ AreReached d (Kill s b) from last = (from ≡ number_at b 0) × (last ≡ number
 AreReached d (Blur p) from last = IsReached p from last
 AreReached d (Split s x) from last = IsAlone x from last
 AreReached d (Cross x) from last = IsAlone x from last
-AreReached d (Unshare x) from last = IsAlone x from last
+AreReached d (Unshare p) from last = IsReached p from last
 AreReached d (Lack x) from last = IsAlone x from last
 AreReached d (Reshare l r) from last = IsAlone l from last
 
@@ -45,7 +45,7 @@ FindsTargets (Kill s b) ps es = FindsPointers b ps es
 FindsTargets (Blur p) ps es = Unit {0}
 FindsTargets (Split s x) ps es = Unit {0}
 FindsTargets (Cross x) ps es = Unit {0}
-FindsTargets (Unshare x) ps es = Unit {0}
+FindsTargets (Unshare p) ps es = Unit {0}
 FindsTargets (Lack x) ps es = Unit {0}
 FindsTargets (Reshare l r) ps es = Unit {0}
 

@@ -62,7 +62,7 @@ fn range<N: Num>(step: &Step<N>, model: Model) -> (u64, u64)
         Step::Blur(p) => reach(p),
         Step::Split(_, x) => numbers_of_cell(x),
         Step::Cross(x) => numbers_of_cell(x),
-        Step::Unshare(x) => numbers_of_cell(x),
+        Step::Unshare(p) => reach(p),
         Step::Lack(x) => numbers_of_cell(x),
         Step::Reshare(l, _) => numbers_of_cell(l),
     }

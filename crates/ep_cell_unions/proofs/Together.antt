@@ -1,5 +1,6 @@
 -- Cells of two states put together, run by run.
 use Rattle.std.proofs.Common.{◌≡◌, ℕ, zero, suc, ◌+◌, ◌<◌, ◌≤◌, List, [], ◌∷◌, ◌++◌, map, length, drop, get_or, refl}
+use Rattle.std.proofs.lemmas.List.{append-nil}
 use Rattle.std.proofs.Common.{sym, ◌∙◌, ap, arith, append_assoc, length-append}
 use Rattle.ep_cells.specs.declared.cell.Cell.{Cell}
 use Rattle.ep_cells.specs.Both.{cell_of_both, cells_of_both}
@@ -29,10 +30,6 @@ length_drop zero [] h = omega arith
 length_drop zero (y ∷ ys) h = omega arith
 length_drop (suc n) [] h = absurd (omega arith)
 length_drop (suc n) (y ∷ ys) h = let e = length_drop n ys (omega arith) in omega (arith, e)
-
-none_behind : {X : Type 0} (xs : List X) → xs ++ [] ≡ xs
-none_behind [] = refl
-none_behind (x ∷ xs) = ap (λ ys. x ∷ ys) (none_behind xs)
 
 -- ---- cell by cell
 
@@ -112,7 +109,7 @@ both_next f ps out new i p q ys zs whole b e h r g w k =
     let tail = cells_of_both f more zs in
     ap (λ ts. all_items ts ++ tail) w ∙ ap (λ ts. ts ++ tail) (items_append out (q ∷ []))
     ∙ append_assoc (all_items out) (q.items.value.items ++ []) tail
-    ∙ ap (λ ts. all_items out ++ (ts ++ tail)) (none_behind q.items.value.items ∙ g)
+    ∙ ap (λ ts. all_items out ++ (ts ++ tail)) (append-nil q.items.value.items ∙ g)
     ∙ ap (λ ts. all_items out ++ (cells_of_both f xs ys ++ cells_of_both f more ts)) r
     ∙ ap (λ ts. all_items out ++ ts) (sym (both_split f xs more ys (enough ps i p ys b e h)))
     ∙ ap (λ ts. all_items out ++ cells_of_both f ts ys) (sym (items_at ps i p b e)) ∙ k

@@ -1,11 +1,9 @@
 -- Steps, each with one cell, and what they come to together.
-use Rattle.std.proofs.Common.{◌≡◌, Bool, true, false, ◌&&◌, if◌then◌else◌, cond, List, [], ◌∷◌, ◌++◌, Option, Some}
-use Rattle.std.proofs.Common.{None, IfSome, refl, sym, ◌∙◌, ap, subst}
+use Rattle.std.proofs.Common.{◌≡◌, Bool, false, if◌then◌else◌, cond, List, [], ◌∷◌, ◌++◌, Option, Some}
+use Rattle.std.proofs.Common.{None, IfSome, refl, ◌∙◌, ap}
 use Rattle.std.specs.Option.{option_map}
 use Rattle.std.specs.List.{filter}
-use Rattle.std.proofs.lemmas.Bool.{and_parts, and_from}
 use Rattle.ep_int.specs.declared.types.Model.{Model}
-use Rattle.ep_int.specs.declared.types.Scalar.TheVariants.{Int}
 use Rattle.ep_bitslice.specs.declared.cell.CellName.{CellName}
 use Rattle.ep_bitslice.specs.declared.cell.Side.{Side}
 use Rattle.ep_bitslice.specs.declared.cell.Side.TheVariants.{Left, Right, Shared}
@@ -14,19 +12,14 @@ use Rattle.ep_bitslice.specs.Bits.{Bit, fixed, cell_bit}
 use Rattle.ep_bitslice.specs.Segments.{bits, normal}
 use Rattle.ep_bitslice.proofs.NormalForm.{form_is_normal}
 use Rattle.ep_cells.specs.declared.cell.Cell.{Cell}
-use Rattle.ep_cells.specs.Cells.{is_same_side, is_same_cell, IsIn, first, later, parts_of, parts_on}
+use Rattle.ep_cells.specs.Cells.{is_same_cell, IsIn, first, later}
 use Rattle.ep_cells.specs.Forms.{Fate, put_bit, bits_after, form_after, reformed}
 use Rattle.ep_cells.specs.States.{IsFormOf, HasForm, AreCells}
-use Rattle.ep_cells.proofs.Both.{alike_same, only_one}
 use Rattle.ep_reads.specs.Split.{is_name_of}
-use Rattle.ep_reads.proofs.Sides.{same_itself, side_same}
-use Rattle.ep_reads.proofs.Splits.{filter_keeps, filter_tests}
-use Rattle.ep_reads.specs.Single.{changed_cells, Spots, parts_where, left_where, name_where, fate_where}
-use Rattle.ep_reads.specs.Single.{parted_where, facing, begins_as, begins_among, is_shared_where, shared_where}
+use Rattle.ep_reads.specs.Single.{changed_cells, parts_where, left_where, name_where, fate_where}
+use Rattle.ep_reads.specs.Single.{parted_where, facing}
 use Rattle.ep_reads.specs.Single.{without, is_kind_of, is_kind_among}
 use Rattle.ep_reads.proofs.Composed.{same_changes}
-use Rattle.ep_reads.proofs.Parting.{parted_same}
-use Rattle.ep_reads.proofs.Members.{bool_same, any_in, any_from, in_filter}
 
 -- ---- where nothing is to be done
 
@@ -62,7 +55,7 @@ name_none n Right = refl
 name_none n Shared = refl
 
 pub parted_none : {N : Type 0} (d : Model) (cs : List (Cell N)) → AreCells d cs
-    → parted_where (begins_among {N = N} []) cs ≡ cs
+    → parted_where (λ b q w. false) cs ≡ cs
 parted_none {N = N} d cs a =
     same_changes (left_where (λ b q w. false)) (λ x. x ∷ []) (fate_where (λ b q w. false)) (λ n. Some n) cs
     (λ x i. parts_none x x.side) (λ x y i j. ap (λ f. reformed f y) (λ m n. Some (name_none n n.side m)))
@@ -75,59 +68,6 @@ facing_none d e cs a = parted_none d cs a
 pub without_none : {N : Type 0} (d : Model) (cs : List (Cell N)) → AreCells d cs
     → without (is_kind_among {N = N} []) cs ≡ cs
 without_none d cs a = all_stay cs cs a.forms
-
--- ---- a cell that is to be parted
-
-parts_one : {N : Type 0} (z x : Cell N) (s : Side)
-    → cond (is_same_side s Shared && begins_as z x.block x.offset x.what) (parts_on x s) (x ∷ [])
-    ≡ parts_where (begins_as z) x s
-parts_one z x Left = refl
-parts_one z x Right = refl
-parts_one z x Shared = refl
-
-name_one : {N : Type 0} (z : Cell N) (n : CellName) (s : Side)
-    → cond (is_same_side s Shared && begins_as z n.block n.offset (Int n.t)) (record n { side = Left }) n
-    ≡ name_where (begins_as z) n s
-name_one z n Left = refl
-name_one z n Right = refl
-name_one z n Shared = refl
-
-pub one_parted : {N : Type 0} (z : Cell N) (cs : List (Cell N)) → z.side ≡ Shared
-    → changed_cells (λ (x : Cell N). if is_same_cell x z then parts_of x else x ∷ []) (λ n. Some (if is_name_of n z then
-    record n { side = Left } else n)) cs ≡ parted_where (begins_as z) cs
-one_parted {N = N} z cs e =
-    same_changes (λ (x : Cell N). if is_same_cell x z then parts_of x else x ∷ []) (left_where (begins_as z))
-    (λ n. Some (if is_name_of n z then record n { side = Left } else n)) (fate_where (begins_as z)) cs
-    (λ x i. ap (λ (t : Side). cond (is_same_side x.side t && begins_as z x.block x.offset x.what) (parts_of x)
-    (x ∷ [])) e
-    ∙ parts_one z x x.side)
-    (λ x y i j. ap (λ f. reformed f y) (λ m n. (ap (λ (t : Side). Some (cond (is_same_side n.side t && begins_as z
-    n.block n.offset (Int n.t)) (record n { side = Left }) n)) e ∙ ap Some (name_one z n n.side)) m))
-
--- those of which a test holds
-pub parted_among : {N : Type 0} (d : Model) (P : Spots) (cs : List (Cell N)) → AreCells d cs
-    → parted_where (begins_among (shared_where P cs)) cs ≡ parted_where P cs
-parted_among {N = N} d P cs a =
-    parted_same d (begins_among (shared_where P cs)) P cs a
-    (λ x i s.
-    bool_same (begins_among (shared_where P cs) x.block x.offset x.what) (P x.block x.offset x.what)
-    (λ h.
-    let r = any_in (λ (z : Cell N). begins_as z x.block x.offset x.what) (shared_where P cs) h in
-    let t = and_parts (is_same_side r.cell.side Shared) (P r.cell.block r.cell.offset r.cell.what)
-    (filter_tests (is_shared_where P) r.cell cs r.is_in) in
-    let side : x.side ≡ r.cell.side = s ∙ sym (side_same r.cell.side Shared t.0) in
-    let same : is_same_cell x r.cell ≡ true = and_from (is_same_side x.side r.cell.side) (begins_as r.cell x.block
-    x.offset x.what)
-    (subst (λ (q : Side). is_same_side x.side q ≡ true) side
-    (and_parts (is_same_side x.side x.side) (begins_as x x.block x.offset x.what) (same_itself x)).0) r.holds in
-    let is : x ≡ r.cell = only_one d x r.cell cs a.pairs i (in_filter (is_shared_where P) r.cell cs r.is_in)
-    (alike_same x r.cell same) in
-    subst (λ z. P z.block z.offset z.what ≡ true) (sym is) t.1)
-    (λ h.
-    any_from (λ (z : Cell N). begins_as z x.block x.offset x.what) x (shared_where P cs)
-    (filter_keeps (is_shared_where P) x cs i (and_from (is_same_side x.side Shared) (P x.block x.offset x.what)
-    (ap (λ (q : Side). is_same_side q Shared) s) h))
-    (and_parts (is_same_side x.side x.side) (begins_as x x.block x.offset x.what) (same_itself x)).1))
 
 -- ---- a cell that is to go
 

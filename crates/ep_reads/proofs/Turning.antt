@@ -91,7 +91,7 @@ facing_each {N = N} d P b q w (x ∷ xs) =
         ∙ sym (ap G (ap (λ t. is_same_side Shared Shared && t) h))
         ∙ sym (ap (λ (t : Side). G (is_same_side t Shared && P x.block x.offset x.what)) e)
 
-facing_where : {N : Type 0} (d : Model) (P : Spots) (b q : ℕ) (w : Scalar) (xs : List (Cell N))
+pub facing_where : {N : Type 0} (d : Model) (P : Spots) (b q : ℕ) (w : Scalar) (xs : List (Cell N))
     → facing d (parted_where P xs) b q w
     ≡ (facing d xs b q w || facing d (map on_left_alone (shared_where P xs)) b q w)
 facing_where d P b q w xs =

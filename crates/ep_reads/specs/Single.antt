@@ -67,10 +67,6 @@ either P Q b q w = P b q w || Q b q w
 abbrev pub begins_as : {N : Type 0} → Cell N → Spots
 begins_as z b q w = nat_eq b z.block && (nat_eq q z.offset && is_same_scalar w z.what)
 
--- of one of these cells
-abbrev pub begins_among : {N : Type 0} → List (Cell N) → Spots
-begins_among {N = N} zs b q w = list_any (λ (z : Cell N). begins_as z b q w) zs
-
 abbrev pub is_shared_where : {N : Type 0} → Spots → Cell N → Bool
 is_shared_where P x = is_same_side x.side Shared && P x.block x.offset x.what
 

@@ -1,29 +1,26 @@
 -- What is looked for is in a window about its place.
-use Rattle.std.proofs.Common.{◌≡◌, ℕ, ◌+◌, nat_eq, nat_lt, Bool, true, false, ◌&&◌, ◌||◌, not, cond, List, [], ◌∷◌}
+use Rattle.std.proofs.Common.{◌≡◌, Bool, true, false, ◌&&◌, ◌||◌, not, cond, List, [], ◌∷◌}
 use Rattle.std.proofs.Common.{◌++◌, append_assoc, Some, refl, sym, ◌∙◌, ap, subst}
 use Rattle.std.specs.List.{list_any, filter}
-use Rattle.std.proofs.lemmas.Bool.{and_parts, and_from, and_right, eqb-true, eq-eqb, false_from_ne_true, both_ways}
+use Rattle.std.proofs.lemmas.Bool.{and_parts, and_right, false_from_ne_true, both_ways}
 use Rattle.ep_int.specs.declared.types.Model.{Model}
-use Rattle.ep_int.specs.Types.{size_of}
 use Rattle.ep_bitslice.specs.declared.cell.Side.TheVariants.{Shared}
-use Rattle.ep_bitslice.specs.declared.cell.Side.{Side}
 use Rattle.ep_cells.specs.declared.cell.Cell.{Cell}
 use Rattle.ep_cells.specs.declared.place.ByteRange.{ByteRange}
 use Rattle.ep_cells.specs.Cells.{place_of, share_memory, touches, meets, encloses, is_partly_in, is_same_side}
 use Rattle.ep_cells.specs.Cells.{is_same_cell, IsIn, first, later}
 use Rattle.ep_cells.specs.Both.{cell_like}
-use Rattle.ep_cells.proofs.Places.{at}
 use Rattle.ep_cells.proofs.Both.{alike_same}
 use Rattle.ep_reads.specs.Split.{cut_cells}
-use Rattle.ep_reads.specs.Unify.{is_of_one_side, is_crossed}
+use Rattle.ep_reads.specs.Unify.{is_crossed}
 use Rattle.ep_reads.proofs.Splits.{none_any, meets_itself}
 use Rattle.ep_reads.proofs.Sides.{side_same}
 use Rattle.ep_cell_parts.specs.About.{IsAbout}
-use Rattle.ep_reads.specs.Single.{facing, shared_where, is_shared_where, shared_at}
+use Rattle.ep_reads.specs.Single.{shared_where, is_shared_where}
 use Rattle.ep_reads.proofs.Members.{any_append, place_alike}
 use Rattle.ep_reads.proofs.Liked.{shared_place}
 use Rattle.ep_reads.proofs.SingleSteps.{any_window}
-use Rattle.ep_state_looks.specs.Looks.{is_faced}
+use Rattle.ep_state_looks.specs.Looks.{met_by, is_met}
 
 -- the test holds of no cell that doesn't touch the place
 abbrev Finds : {N : Type 0} → Model → ByteRange → (Cell N → Bool) → Type 0
@@ -92,36 +89,13 @@ like_about d p x cs ws e a =
     (a.below y i)))
     ∙ like_before x ws a.behind (λ y i. out y (subst (λ q. touches q (place_of d y) ≡ false) e (a.above y i))))
 
-touches_back : (s t : Side) (b q n c r k : ℕ) → touches (at s b q n) (at t c r k) ≡ true
-    → touches (at t c r k) (at s b q n) ≡ true
-touches_back s t b q n c r k h =
-    let p = and_parts (nat_eq b c) (nat_lt q (r + k) && nat_lt r (q + n)) h in
-    let o = and_parts (nat_lt q (r + k)) (nat_lt r (q + n)) p.1 in
-    and_from (nat_eq c b) (nat_lt r (q + n) && nat_lt q (r + k)) (eq-eqb c b (sym (eqb-true b c p.0)))
-    (and_from (nat_lt r (q + n)) (nat_lt q (r + k)) o.1 o.0)
-
-faced_touches : {N : Type 0} (d : Model) (y x : Cell N) → is_faced d y x ≡ true
-    → touches (place_of d y) (place_of d x) ≡ true
-faced_touches d y x h =
-    let p = and_parts (is_same_side x.side Shared) (is_of_one_side y && meets (place_of d x) (place_of d y)) h in
-    let q = and_parts (is_of_one_side y) (meets (place_of d x) (place_of d y)) p.1 in
-    touches_back x.side y.side x.block x.offset (size_of d x.what) y.block y.offset (size_of d y.what)
-    (and_parts (share_memory x.side y.side) (touches (place_of d x) (place_of d y)) q.1).1
-
-faced_is : {N : Type 0} (d : Model) (y x : Cell N) → is_faced d y x ≡ is_shared_where (facing d (y ∷ [])) x
-faced_is {N = N} d y x = by (is_same_side x.side Shared) refl
+met_is : {N : Type 0} (d : Model) (p : ByteRange) (x : Cell N) → is_met d p x ≡ is_shared_where (met_by d p) x
+met_is d p x = by (is_same_side x.side Shared) refl
   where
-    none : (b : Bool) → b ≡ (b || false)
-    none true = refl
-    none false = refl
-
     by : (t : Bool) → is_same_side x.side Shared ≡ t
-        → (t && (is_of_one_side y && meets (place_of d x) (place_of d y)))
-        ≡ (t && facing d (y ∷ []) x.block x.offset x.what)
+        → (t && touches p (place_of d x)) ≡ (t && met_by d p x.block x.offset x.what)
     by false e = refl
-    by true e =
-        ap (λ p. is_of_one_side y && meets p (place_of d y)) (sym (shared_place d x (side_same x.side Shared e)))
-        ∙ none (is_of_one_side y && meets (shared_at d x.block x.offset x.what) (place_of d y))
+    by true e = ap (touches p) (sym (shared_place d x (side_same x.side Shared e)))
 
 filter_same : {N : Type 0} (P Q : Cell N → Bool) (cs : List (Cell N)) → ((x : Cell N) → P x ≡ Q x)
     → filter P cs ≡ filter Q cs
@@ -130,14 +104,13 @@ filter_same P Q (c ∷ cs) h =
     ap (λ b. cond b (c ∷ filter P cs) (filter P cs)) (h c)
     ∙ ap (λ l. cond (Q c) (c ∷ l) l) (filter_same P Q cs h)
 
-pub faced_about : {N : Type 0} (d : Model) (p : ByteRange) (y : Cell N) (cs ws out : List (Cell N)) → p ≡ place_of d y
-    → IsAbout d p cs ws → out ≡ filter (is_faced d y) ws → out ≡ shared_where (facing d (y ∷ [])) cs
-faced_about d p y cs ws out e a h =
+pub met_about : {N : Type 0} (d : Model) (p : ByteRange) (cs ws out : List (Cell N)) → IsAbout d p cs ws
+    → out ≡ filter (is_met d p) ws → out ≡ shared_where (met_by d p) cs
+met_about d p cs ws out a h =
     h
-    ∙ filter_about d p (is_faced d y) cs ws a (λ x i. subst (λ q. touches q (place_of d x) ≡ true) (sym e)
-    (faced_touches
-    d y x i))
-    ∙ filter_same (is_faced d y) (is_shared_where (facing d (y ∷ []))) cs (λ x. faced_is d y x)
+    ∙ filter_about d p (is_met d p) cs ws a
+    (λ x i. (and_parts (is_same_side x.side Shared) (touches p (place_of d x)) i).1)
+    ∙ filter_same (is_met d p) (is_shared_where (met_by d p)) cs (λ x. met_is d p x)
 
 pub crossed_about : {N : Type 0} (d : Model) (p : ByteRange) (x : Cell N) (cs ws : List (Cell N)) → p ≡ place_of d x
     → IsAbout d p cs ws → is_crossed d ws x ≡ is_crossed d cs x

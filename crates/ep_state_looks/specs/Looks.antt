@@ -4,14 +4,19 @@ use Rattle.ep_int.specs.declared.types.Model.{Model}
 use Rattle.ep_bitslice.specs.declared.cell.Side.TheVariants.{Left, Right, Shared}
 use Rattle.ep_domain.specs.Domain.{Ops}
 use Rattle.ep_cells.specs.declared.cell.Cell.{Cell}
-use Rattle.ep_cells.specs.Cells.{comes_before, is_same_side, is_same_cell, meets, place_of}
+use Rattle.ep_cells.specs.declared.place.ByteRange.{ByteRange}
+use Rattle.ep_cells.specs.Cells.{comes_before, is_same_side, is_same_cell, touches, place_of}
 use Rattle.ep_cells.specs.Reshare.{are_same, cell_from}
-use Rattle.ep_reads.specs.Unify.{is_of_one_side}
+use Rattle.ep_reads.specs.Single.{Spots, shared_at}
 use Rattle.ep_state_looks.specs.declared.twins.Twins.{Twins}
 
--- x is a Shared cell that has a byte of the cell y of one side
-abbrev pub is_faced : {N : Type 0} → Model → Cell N → Cell N → Bool
-is_faced d y x = is_same_side x.side Shared && (is_of_one_side y && meets (place_of d x) (place_of d y))
+-- Shared places with an offset of this one, of whatever side
+abbrev pub met_by : Model → ByteRange → Spots
+met_by d p b q w = touches p (shared_at d b q w)
+
+-- a Shared cell with an offset of the place
+abbrev pub is_met : {N : Type 0} → Model → ByteRange → Cell N → Bool
+is_met d p x = is_same_side x.side Shared && touches p (place_of d x)
 
 -- those that don't come before a cell
 abbrev pub from_cell : {N : Type 0} → Cell N → List (Cell N) → List (Cell N)

@@ -7,12 +7,12 @@ ghost use Rattle.ep_cells.specs.Cells.{is_same_cell as are_one, meets, place_of 
 ghost use Rattle.ep_cells.specs.Both.{cell_like};
 ghost use Rattle.ep_reads.specs.Split.{cut_cells};
 ghost use Rattle.ep_reads.specs.Unify.{is_crossed};
-ghost use Rattle.ep_reads.specs.Single.{facing, shared_where};
-ghost use Rattle.ep_state_looks.specs.Looks.{is_faced};
+ghost use Rattle.ep_reads.specs.Single.{shared_where};
+ghost use Rattle.ep_state_looks.specs.Looks.{met_by, is_met};
 
 use ep_bitslice::Side;
 use ep_cell_rows::cell::copy_cell;
-use ep_cell_rows::places::{is_partly_in, is_same_cell, is_same_side, meets, place_of};
+use ep_cell_rows::places::{is_partly_in, is_same_cell, is_same_side, meets, place_of, touches};
 use ep_cell_rows::rows::push;
 use ep_cells::{ByteRange, Cell};
 use ep_domain::Num;
@@ -52,54 +52,52 @@ pub fn like<N: Num>(state: &State<N>, x: &Cell<N>) -> Result<Option<Cell<N>>, Me
     Ok(y)
 }
 
-// ---- Shared cells that have bytes of a cell of one side
+// ---- Shared cells with bytes in a place
 
-fn is_faced<N: Num>(model: Model, y: &Cell<N>, x: &Cell<N>) -> bool
-    ensures { result ≡ is_faced model y.now x.now }
+fn is_met<N: Num>(model: Model, p: &ByteRange, x: &Cell<N>) -> bool
+    ensures { result ≡ is_met model p.now x.now }
 {
-    is_same_side(x.side, Side::Shared)
-        && (!is_same_side(y.side, Side::Shared) && meets(&place_of(model, x), &place_of(model, y)))
+    is_same_side(x.side, Side::Shared) && touches(p, &place_of(model, x))
 }
 
-fn push_faced<N: Num>(
+fn push_met<N: Num>(
     out: &mut Vec<Cell<N>>,
     model: Model,
-    y: &Cell<N>,
+    p: &ByteRange,
     x: &Cell<N>,
 ) -> Result<(), Memory>
-    ensures { IfOk result (λ _. out.new.items ≡ out.old.items ++ filter (is_faced model y.now) (x.now ∷ [])) }
+    ensures { IfOk result (λ _. out.new.items ≡ out.old.items ++ filter (is_met model p.now) (x.now ∷ [])) }
 {
-    if is_faced(model, y, x) {
+    if is_met(model, p, x) {
         push(out, copy_cell(x)?)
     } else {
         Ok(())
     }
 }
 
-fn faced_among<N: Num>(
+fn met_among<N: Num>(
     alloc: Global,
     model: Model,
-    y: &Cell<N>,
+    p: &ByteRange,
     cells: &[&Cell<N>],
 ) -> Result<Vec<Cell<N>>, Memory>
-    ensures { IfOk result (λ v. v.items ≡ filter (is_faced model y.now) (map (λ r. r.now) cells.now)) }
+    ensures { IfOk result (λ v. v.items ≡ filter (is_met model p.now) (map (λ r. r.now) cells.now)) }
 {
     let mut out = Vec::new(alloc);
     for x in cells {
-        push_faced(&mut out, model, y, *x)?;
+        push_met(&mut out, model, p, *x)?;
     }
     Ok(out)
 }
 
-/// The Shared cells that face this one.
-pub fn faced_by<N: Num>(state: &State<N>, y: &Cell<N>) -> Result<Vec<Cell<N>>, Memory>
-    ensures { IfOk result (λ v. v.items ≡ shared_where (facing state.now.model (y.now ∷ [])) state.now.cells) }
+/// The Shared cells that have an offset of a place, of whatever side.
+pub fn met<N: Num>(state: &State<N>, p: &ByteRange) -> Result<Vec<Cell<N>>, Memory>
+    ensures { IfOk result (λ v. v.items ≡ shared_where (met_by state.now.model p.now) state.now.cells) }
 {
     let model = state.model();
-    let place = place_of(model, y);
-    let about = state.about(&place)?;
-    let faced = faced_among(state.allocator(), model, y, &about)?;
-    Ok(faced)
+    let about = state.about(p)?;
+    let met = met_among(state.allocator(), model, p, &about)?;
+    Ok(met)
 }
 
 // ---- cells that others cross

@@ -1,16 +1,15 @@
 -- Cells that are split on the sides of a place, and forms that go along.
-use Rattle.std.proofs.Common.{◌≡◌, ℕ, ◌+◌, ◌≤◌, Bool, true, false, ◌||◌, cond, List, [], ◌∷◌, length, map, drop, Some}
+use Rattle.std.proofs.Common.{◌≡◌, ℕ, ◌+◌, ◌≤◌, false, List, [], ◌∷◌, length, map, drop, Some}
+use Rattle.ep_cell_ranges.proofs.Cut.{none_cut}
 use Rattle.std.proofs.Common.{None, refl, sym, ◌∙◌, ap, subst}
 use Rattle.std.specs.Option.{option_map_or}
 use Rattle.std.proofs.lemmas.List.{drop_all}
-use Rattle.ep_int.specs.declared.types.Model.{Model}
 use Rattle.ep_bitslice.specs.declared.cell.Side.{Side}
 use Rattle.ep_bitslice.specs.declared.cell.Side.TheVariants.{Left, Right, Shared}
 use Rattle.ep_domain.specs.Domain.{Ops}
 use Rattle.ep_cells.specs.declared.cell.Cell.{Cell}
 use Rattle.ep_cells.specs.declared.place.ByteRange.{ByteRange}
 use Rattle.ep_cells.specs.Both.{cell_like}
-use Rattle.ep_cells.specs.Cells.{is_partly_in, place_of}
 use Rattle.ep_cells.specs.Forms.{form_after}
 use Rattle.ep_cells.specs.Look.{is_some_partly_in}
 use Rattle.ep_cells.specs.States.{Known, AreCells}
@@ -50,17 +49,6 @@ pub like_some : {N : Type 0} (D : Ops N) (s : Side) (x y : Cell N) (cs : List (C
     → form_after (fate_by_split s y) ≡ form_by_like D s x cs
 like_some D s x y cs e =
     ap (λ o. let h : Reform = λ f. option_map_or (λ y. form_after (fate_by_split s y) f) o f in h) e
-
-none_cut : {N : Type 0} (d : Model) (p : ByteRange) (cs : List (Cell N)) → is_some_partly_in d p cs ≡ false
-    → cut_cells d p cs ≡ []
-none_cut d p [] e = refl
-none_cut d p (c ∷ cs) e = by (is_partly_in p (place_of d c)) e (none_cut d p cs)
-  where
-    by : (b : Bool) → (b || is_some_partly_in d p cs) ≡ false
-        → (is_some_partly_in d p cs ≡ false → cut_cells d p cs ≡ [])
-        → cond b (c ∷ cut_cells d p cs) (cut_cells d p cs) ≡ []
-    by true e h = absurd (cc)
-    by false e h = h e
 
 side_of : (p : ByteRange) (s : Side) → p.side ≡ s → (let r : ByteRange = record p { side = s } in r) ≡ p
 side_of p s e = sym (ap (λ z. let r : ByteRange = record p { side = z } in r) e)

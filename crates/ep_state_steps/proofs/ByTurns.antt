@@ -1,29 +1,67 @@
 -- Turns of two states.
-use Rattle.std.proofs.Common.{◌≡◌, ℕ, ◌+◌, ◌-◌, ◌<◌, ◌≤◌, List, [], ◌++◌, map, length, refl, sym, ◌∙◌, ap, subst, arith}
+use Rattle.std.proofs.Common.{◌≡◌, ℕ, ◌+◌, ◌-◌, ◌<◌, ◌≤◌, ◌||◌, List, [], ◌++◌, length, refl, sym, ◌∙◌, ap, subst}
+use Rattle.std.proofs.Common.{arith}
 use Rattle.ep_int.specs.declared.types.Model.{Model}
 use Rattle.ep_domain.specs.Domain.{Ops}
 use Rattle.ep_cells.specs.declared.cell.Cell.{Cell}
+use Rattle.ep_cells.specs.Cells.{IsIn}
 use Rattle.ep_cells.specs.States.{Known, AreCells}
 use Rattle.ep_reads.specs.Unify.{parted, parted_times, parted_both}
-use Rattle.ep_reads.specs.Single.{facing, faced, parted_where, on_left_alone, without_like}
+use Rattle.ep_reads.specs.Single.{Spots, facing, parted_where, without_like}
 use Rattle.ep_reads.proofs.Rounds.{IsSoFar, one_round, rounds_end, times_same}
-use Rattle.ep_reads.specs.StepLaws.{Turning, more_for}
-use Rattle.ep_reads.proofs.Turning.{left_turned, right_turned, turned, left_stays, right_stays, turning}
+use Rattle.ep_reads.specs.StepLaws.{Agree, Turning}
+use Rattle.ep_reads.proofs.Members.{any_append}
+use Rattle.ep_reads.proofs.Parting.{parted_is, parted_same, where_cells}
+use Rattle.ep_reads.proofs.Turning.{was_shared, left_turned, left_stays, right_stays, turning}
 use Rattle.ep_state_steps.specs.Ones.{parted_at}
+use Rattle.ep_state_steps.specs.Rounds.{FacesMore, IsTurned}
+use Rattle.ep_state_steps.proofs.Loops.{faces_at}
 
 -- ---- one turn
 
-pub more_is : {N : Type 0} (d : Model) (xs ts us new parted slice : List (Cell N)) → slice ≡ parted
-    → parted ≡ map on_left_alone (faced d ts xs) → new ≡ us ++ slice → new ≡ more_for d xs ts us
-more_is d xs ts us new parted slice f e h = h ∙ ap (λ l. us ++ l) (f ∙ e)
+pub turned_by : {N : Type 0} (k l kz lz : Known N) (ts first us vs second lefts more ms : List (Cell N)) → first ≡ ts
+    → kz ≡ parted_at (facing k.model first) k → FacesMore k.model k.cells kz.cells lefts → more ≡ lefts
+    → vs ≡ us ++ more → second ≡ vs → lz ≡ parted_at (facing l.model second) l → FacesMore l.model l.cells lz.cells ms
+    → IsTurned k l ts us kz lz ms
+turned_by k l kz lz ts first us vs second lefts more ms e f g h i j m n = record {
+  more = lefts;
+  first = f ∙ ap (λ q. parted_at (facing k.model q) k) e;
+  first_faces = g;
+  second = m ∙ ap (λ q. parted_at (facing l.model q) l) (j ∙ i ∙ ap (λ q. us ++ q) h);
+  second_faces = n;
+}
 
-pub second_is : {N : Type 0} (k after : Known N) (vs slice more : List (Cell N)) → slice ≡ vs → vs ≡ more
-    → after ≡ parted_at (facing k.model slice) k → after ≡ parted_at (facing k.model more) k
-second_is k after vs slice more f e h = h ∙ ap (λ l. parted_at (facing k.model l) k) (f ∙ e)
+-- It is enough to look at what came apart, whatever its order.
+half_turned : {N : Type 0} (d : Model) (xs ys xz ts us more : List (Cell N)) → Turning d xs ys ts us
+    → FacesMore d xs xz more → Agree (facing d xz) (facing d (us ++ more)) ys
+half_turned d xs ys xz ts us more t f = λ y i s.
+    ap (λ (P : Spots). P y.block y.offset y.what) f
+    ∙ ap (λ b. b || facing d more y.block y.offset y.what) (t.for_right y i s)
+    ∙ sym (any_append (faces_at d y.block y.offset y.what) us more)
 
-pub others_are : {N : Type 0} (k : Known N) (vs slice more out : List (Cell N)) → slice ≡ vs → vs ≡ more
-    → out ≡ map on_left_alone (faced k.model slice k.cells) → out ≡ map on_left_alone (faced k.model more k.cells)
-others_are k vs slice more out f e h = h ∙ ap (λ l. map on_left_alone (faced k.model l k.cells)) (f ∙ e)
+right_turned : {N : Type 0} (d : Model) (xs ys xz ts us more : List (Cell N)) → Turning d xs ys ts us
+    → xz ≡ parted_where (facing d ts) xs → FacesMore d xs xz more
+    → parted d (parted d ys xs) ys ≡ parted_where (facing d (us ++ more)) ys
+right_turned d xs ys xz ts us more t e f =
+    ap (λ l. parted d l ys) (left_turned d xs ys ts us t ∙ sym e)
+    ∙ parted_is d xz ys t.right
+    ∙ parted_same d (facing d xz) (facing d (us ++ more)) ys t.right (half_turned d xs ys xz ts us more t f)
+
+next_turning : {N : Type 0} (d : Model) (xs ys xz yz ts us more ms : List (Cell N)) → Turning d xs ys ts us
+    → xz ≡ parted_where (facing d ts) xs → FacesMore d xs xz more → yz ≡ parted_where (facing d (us ++ more)) ys
+    → FacesMore d ys yz ms → Turning d xz yz ms []
+next_turning {N = N} d xs ys xz yz ts us more ms t e f g h = record {
+  left = subst (AreCells d) (sym e) (where_cells d (facing d ts) xs t.left);
+  right = subst (AreCells d) (sym g) (where_cells d (facing d (us ++ more)) ys t.right);
+  for_left = λ x i s.
+      let o = was_shared (facing d ts) xs x (subst (IsIn x) e i) s in
+      ap (λ (P : Spots). P x.block x.offset x.what) h
+      ∙ ap (λ b. b || facing d ms x.block x.offset x.what)
+      (o.same (facing d ys) ∙ t.for_left o.cell o.is_in o.shared ∙ o.unless);
+  for_right = λ y i s.
+      let o = was_shared (facing d (us ++ more)) ys y (subst (IsIn y) g i) s in
+      o.same (facing d xz) ∙ half_turned d xs ys xz ts us more t f o.cell o.is_in o.shared ∙ o.unless;
+}
 
 -- ---- turns so far
 
@@ -66,33 +104,27 @@ still {N = N} a k after cs e h =
     ∙ ap (λ q. record a { cells = q }) (sym (ap (λ (z : Known N). z.cells) h))
 
 pub turns_next : {N : Type 0} (D : Ops N) (n i : ℕ) (a b k l kz lz : Known N) (ts us ms vs : List (Cell N)) → i < n
-    → kz ≡ parted_at (facing k.model ts) k
-    → lz ≡ parted_at (facing l.model (more_for k.model k.cells ts us)) l
-    → ms ≡ map on_left_alone (faced l.model (more_for k.model k.cells ts us) l.cells) → vs ≡ []
-    → AreTurned n i a b k l ts us → AreTurned n (i + 1) a b kz lz ms vs
-turns_next {N = N} D n i a b k l kz lz ts us ms vs lt e f g h t =
+    → IsTurned k l ts us kz lz ms → vs ≡ [] → AreTurned n i a b k l ts us → AreTurned n (i + 1) a b kz lz ms vs
+turns_next {N = N} D n i a b k l kz lz ts us ms vs lt r h t =
     let d = a.model in
     let km : k.model ≡ d = ap (λ (z : Known N). z.model) t.first in
     let lm : l.model ≡ d = ap (λ (z : Known N). z.model) t.second ∙ sym t.model in
-    let more = more_for d k.cells ts us in
-    let mm : more_for k.model k.cells ts us ≡ more = ap (λ q. more_for q k.cells ts us) km in
-    let x : kz.cells ≡ parted_where (facing d ts) k.cells = ap (λ (z : Known N). z.cells) e ∙ ap (λ q. parted_where
-    (facing q ts) k.cells) km in
-    let y : lz.cells ≡ parted_where (facing d more) l.cells = ap (λ (z : Known N). z.cells) f ∙ ap (λ q. parted_where
-    (facing q (more_for k.model k.cells ts us)) l.cells) lm ∙ ap (λ q. parted_where (facing d q) l.cells) mm in
-    let z : ms ≡ map on_left_alone (faced d more l.cells) = g ∙ ap (λ q. map on_left_alone (faced q (more_for k.model
-    k.cells ts us) l.cells)) lm ∙ ap (λ q. map on_left_alone (faced d q l.cells)) mm in
+    let x : kz.cells ≡ parted_where (facing d ts) k.cells = ap (λ (z : Known N). z.cells) r.first
+    ∙ ap (λ q. parted_where (facing q ts) k.cells) km in
+    let y : lz.cells ≡ parted_where (facing d (us ++ r.more)) l.cells = ap (λ (z : Known N). z.cells) r.second
+    ∙ ap (λ q. parted_where (facing q (us ++ r.more)) l.cells) lm in
+    let xf : FacesMore d k.cells kz.cells r.more = subst (λ q. FacesMore q k.cells kz.cells r.more) km r.first_faces in
+    let yf : FacesMore d l.cells lz.cells ms = subst (λ q. FacesMore q l.cells lz.cells ms) lm r.second_faces in
     record {
       model = t.model;
       times = t.times;
-      first = still a k kz (parted_where (facing k.model ts) k.cells) t.first e;
-      second = still b l lz (parted_where (facing l.model (more_for k.model k.cells ts us)) l.cells) t.second f;
+      first = still a k kz (parted_where (facing k.model ts) k.cells) t.first r.first;
+      second = still b l lz (parted_where (facing l.model (us ++ r.more)) l.cells) t.second r.second;
       so_far = one_round D d n i (parted_both d (a.cells, b.cells)) k.cells l.cells kz.cells lz.cells lt
           (x ∙ sym (left_turned d k.cells l.cells ts us t.turning))
-          (y ∙ sym (right_turned d k.cells l.cells ts us t.turning)) t.so_far;
-      turning = turning_at d kz.cells (parted_where (facing d ts) k.cells) lz.cells
-          (parted_where (facing d more) l.cells)
-          ms (map on_left_alone (faced d more l.cells)) vs [] x y z h (turned d k.cells l.cells ts us t.turning);
+          (y ∙ sym (right_turned d k.cells l.cells kz.cells ts us r.more t.turning x xf)) t.so_far;
+      turning = subst (λ q. Turning d kz.cells lz.cells ms q) (sym h)
+          (next_turning d k.cells l.cells kz.cells lz.cells ts us r.more ms t.turning x xf y yf);
     }
 
 -- ---- at the end

@@ -1,99 +1,96 @@
 -- Cells of a list change a state, one after another.
-use Rattle.std.proofs.Common.{◌≡◌, ℕ, ◌+◌, ◌≤◌, List, [], ◌∷◌, ◌++◌, map, length, drop, append_assoc, append-nil}
-use Rattle.ep_cells.proofs.Basics.{map-append}
-use Rattle.std.proofs.Common.{refl, sym, ◌∙◌, ap}
+use Rattle.std.proofs.Common.{◌≡◌, ℕ, ◌+◌, ◌<◌, ◌≤◌, Bool, ◌&&◌, ◌||◌, List, [], ◌∷◌, ◌++◌, map, length, drop, get_or, append-nil}
+use Rattle.std.proofs.Common.{drop-cons, add-one, refl, sym, ◌∙◌, ap}
 use Rattle.std.proofs.lemmas.List.{drop_all}
+use Rattle.ep_int.proofs.Basics.{or-false, or-assoc}
+use Rattle.ep_int.specs.declared.types.Model.{Model}
+use Rattle.ep_int.specs.declared.types.Scalar.{Scalar}
 use Rattle.ep_bitslice.specs.declared.cell.Side.{Side}
 use Rattle.ep_domain.specs.Domain.{Ops}
 use Rattle.ep_cells.specs.declared.cell.Cell.{Cell}
+use Rattle.ep_cells.specs.declared.place.ByteRange.{ByteRange}
+use Rattle.ep_cells.specs.Cells.{place_of, meets}
 use Rattle.ep_cells.specs.States.{Known, AreCells}
 use Rattle.ep_reads.specs.Split.{split_like, split_all}
-use Rattle.ep_reads.specs.Unify.{crossed_like, crossed_all}
-use Rattle.ep_reads.specs.Single.{facing, begins_as, begins_among, parted_where, shared_where, faced}
-use Rattle.ep_reads.specs.Single.{on_left_alone, is_kind_of, is_kind_among}
+use Rattle.ep_reads.specs.Unify.{is_of_one_side, crossed_like, crossed_all}
+use Rattle.ep_reads.specs.Single.{Spots, shared_at, facing, parted_where, shared_where, on_left_alone, is_kind_of}
+use Rattle.ep_reads.specs.Single.{is_kind_among}
+use Rattle.ep_reads.proofs.Members.{any_append}
 use Rattle.ep_reads.proofs.Parting.{parted_twice}
 use Rattle.ep_reads.proofs.Dropping.{without_twice}
-use Rattle.ep_reads.proofs.Turning.{parted_more}
-use Rattle.ep_reads.proofs.SingleSteps.{parted_none, facing_none, without_none}
+use Rattle.ep_reads.proofs.Turning.{facing_where}
+use Rattle.ep_reads.proofs.SingleSteps.{facing_none, without_none}
+use Rattle.ep_state_looks.specs.Looks.{met_by}
+use Rattle.ep_state_steps.specs.Met.{met_by_any}
+use Rattle.ep_state_steps.specs.Rounds.{FacesMore}
 use Rattle.ep_state_steps.specs.Ones.{parted_at, left_at, crossed_at, split_at}
 
 -- ---- any changes
 
-next_one : {N : Type 0} (G : List (Cell N) → Known N → Known N) (step : Cell N → Known N → Known N)
-    → ((x : Cell N) (xs : List (Cell N)) (k : Known N) → G (x ∷ xs) k ≡ G xs (step x k))
-    → (x : Cell N) (xs : List (Cell N)) (i : ℕ) (now after all : Known N) → drop i xs ≡ x ∷ drop (i + 1) xs
-    → after ≡ step x now → G (drop i xs) now ≡ all → G (drop (i + 1) xs) after ≡ all
+next_one : {N X : Type 0} (G : List X → Known N → Known N) (step : X → Known N → Known N)
+    → ((x : X) (xs : List X) (k : Known N) → G (x ∷ xs) k ≡ G xs (step x k)) → (x : X) (xs : List X) (i : ℕ)
+    (now after all : Known N) → drop i xs ≡ x ∷ drop (i + 1) xs → after ≡ step x now → G (drop i xs) now ≡ all → G (drop (i + 1) xs) after ≡ all
 next_one G step more x xs i now after all e f h =
     ap (G (drop (i + 1) xs)) f ∙ sym (more x (drop (i + 1) xs) now) ∙ sym (ap (λ l. G l now) e) ∙ h
 
-last_one : {N : Type 0} (G : List (Cell N) → Known N → Known N) (xs : List (Cell N)) (i : ℕ) (now all : Known N)
+last_one : {N X : Type 0} (G : List X → Known N → Known N) (xs : List X) (i : ℕ) (now all : Known N)
     → length xs ≤ i → G [] now ≡ now → G (drop i xs) now ≡ all → now ≡ all
 last_one G xs i now all l e h = sym e ∙ sym (ap (λ l. G l now) (drop_all i xs l)) ∙ h
 
--- ---- parted
+-- ---- parted where places meet them
 
-abbrev pub part_of : {N : Type 0} → List (Cell N) → Known N → Known N
-part_of zs k = parted_at (begins_among zs) k
+abbrev pub met_of : {N : Type 0} → List ByteRange → Known N → Known N
+met_of ps k = parted_at (met_by_any k.model ps) k
 
-more_parted : {N : Type 0} (z : Cell N) (zs : List (Cell N)) (k : Known N)
-    → part_of (z ∷ zs) k ≡ part_of zs (parted_at (begins_as z) k)
-more_parted z zs k = ap (λ l. record k { cells = l }) (sym (parted_twice (begins_as z) (begins_among zs) k.cells))
+more_met : {N : Type 0} (p : ByteRange) (ps : List ByteRange) (k : Known N)
+    → met_of (p ∷ ps) k ≡ met_of ps (parted_at (met_by k.model p) k)
+more_met p ps k =
+    ap (λ l. record k { cells = l }) (sym (parted_twice (met_by k.model p) (met_by_any k.model ps) k.cells))
 
-pub part_next : {N : Type 0} (z : Cell N) (zs : List (Cell N)) (i : ℕ) (now after all : Known N)
-    → drop i zs ≡ z ∷ drop (i + 1) zs → after ≡ parted_at (begins_as z) now → part_of (drop i zs) now ≡ all
-    → part_of (drop (i + 1) zs) after ≡ all
-part_next z zs i now after all e f h =
-    next_one part_of (λ x k. parted_at (begins_as x) k) more_parted z zs i now after all e f h
+met_next : {N : Type 0} (p : ByteRange) (ps : List ByteRange) (i : ℕ) (now after all : Known N)
+    → drop i ps ≡ p ∷ drop (i + 1) ps → after ≡ parted_at (met_by now.model p) now → met_of (drop i ps) now ≡ all
+    → met_of (drop (i + 1) ps) after ≡ all
+met_next p ps i now after all e f h =
+    next_one met_of (λ q k. parted_at (met_by k.model q) k) more_met p ps i now after all e f h
 
-pub part_last : {N : Type 0} (zs : List (Cell N)) (i : ℕ) (now all : Known N) → length zs ≤ i
-    → AreCells now.model now.cells → part_of (drop i zs) now ≡ all → now ≡ all
-part_last zs i now all l a h =
-    last_one part_of zs i now all l (ap (λ l. record now { cells = l }) (parted_none now.model now.cells a)) h
+pub met_last : {N : Type 0} (ps : List ByteRange) (i : ℕ) (now all : Known N) → length ps ≤ i
+    → AreCells now.model now.cells → met_of (drop i ps) now ≡ all → now ≡ all
+met_last ps i now all l a h =
+    last_one met_of ps i now all l (ap (λ q. record now { cells = q }) (facing_none now.model now.model now.cells a)) h
 
--- ---- parted where they face cells
+-- ---- what faces what is left
 
-abbrev pub faced_of : {N : Type 0} → List (Cell N) → Known N → Known N
-faced_of ys k = parted_at (facing k.model ys) k
+abbrev pub faces_at : {N : Type 0} → Model → (b q : ℕ) → Scalar → Cell N → Bool
+faces_at d b q w y = is_of_one_side y && meets (shared_at d b q w) (place_of d y)
 
-more_faced : {N : Type 0} (y : Cell N) (ys : List (Cell N)) (k : Known N)
-    → faced_of (y ∷ ys) k ≡ faced_of ys (parted_at (facing k.model (y ∷ [])) k)
-more_faced y ys k = ap (λ l. record k { cells = l }) (sym (parted_more k.model y ys k.cells))
+faces_with : {N : Type 0} (d : Model) (P : Spots) (xs cs zs ls ms : List (Cell N)) (b q : ℕ) (w : Scalar)
+    → zs ≡ parted_where P cs → ms ≡ ls ++ map on_left_alone (shared_where P cs) → FacesMore d xs cs ls
+    → facing d zs b q w ≡ (facing d xs b q w || facing d ms b q w)
+faces_with {N = N} d P xs cs zs ls ms b q w e g h =
+    let new : List (Cell N) = map on_left_alone (shared_where P cs) in
+    ap (λ l. facing d l b q w) e
+    ∙ facing_where d P b q w cs
+    ∙ ap (λ (S : Spots). S b q w || facing d new b q w) h
+    ∙ or-assoc (facing d xs b q w) (facing d ls b q w) (facing d new b q w)
+    ∙ ap (λ t. facing d xs b q w || t) (sym (any_append (faces_at d b q w) ls new))
+    ∙ ap (λ l. facing d xs b q w || facing d l b q w) (sym g)
 
-pub faced_next : {N : Type 0} (y : Cell N) (ys : List (Cell N)) (i : ℕ) (now after all : Known N)
-    → drop i ys ≡ y ∷ drop (i + 1) ys → after ≡ parted_at (facing now.model (y ∷ [])) now
-    → faced_of (drop i ys) now ≡ all
-    → faced_of (drop (i + 1) ys) after ≡ all
-faced_next y ys i now after all e f h =
-    next_one faced_of (λ x k. parted_at (facing k.model (x ∷ [])) k) more_faced y ys i now after all e f h
+faces_next : {N : Type 0} (d : Model) (P : Spots) (xs cs zs ls ms : List (Cell N)) → zs ≡ parted_where P cs
+    → ms ≡ ls ++ map on_left_alone (shared_where P cs) → FacesMore d xs cs ls → FacesMore d xs zs ms
+faces_next d P xs cs zs ls ms e g h = λ m b q w. faces_with d P xs cs zs ls ms b q w e g h m
 
-pub faced_last : {N : Type 0} (ys : List (Cell N)) (i : ℕ) (now all : Known N) → length ys ≤ i
-    → AreCells now.model now.cells → faced_of (drop i ys) now ≡ all → now ≡ all
-faced_last ys i now all l a h =
-    last_one faced_of ys i now all l
-    (ap (λ l. record now { cells = l }) (facing_none now.model now.model now.cells a)) h
-
--- those that came apart so far, and those that will
-abbrev pub lefts_of : {N : Type 0} → List (Cell N) → Known N → List (Cell N)
-lefts_of ys k = map on_left_alone (faced k.model ys k.cells)
-
-pub lefts_next : {N : Type 0} (y : Cell N) (ys : List (Cell N)) (i : ℕ) (now after : Known N) (out outs all : List
-    (Cell N)) → drop i ys ≡ y ∷ drop (i + 1) ys → after ≡ parted_at (facing now.model (y ∷ [])) now
-    → outs ≡ out ++ map on_left_alone (shared_where (facing now.model (y ∷ [])) now.cells)
-    → out ++ lefts_of (drop i ys) now ≡ all → outs ++ lefts_of (drop (i + 1) ys) after ≡ all
-lefts_next y ys i now after out outs all e f g h =
-    let s = shared_where (facing now.model (y ∷ [])) now.cells in
-    let r = faced now.model (drop (i + 1) ys) (parted_where (facing now.model (y ∷ [])) now.cells) in
-    ap (λ k. outs ++ lefts_of (drop (i + 1) ys) k) f
-    ∙ ap (λ l. l ++ map on_left_alone r) g
-    ∙ append_assoc out (map on_left_alone s) (map on_left_alone r)
-    ∙ ap (λ l. out ++ l) (sym (map-append on_left_alone s r))
-    ∙ sym (ap (λ l. out ++ lefts_of l now) e)
-    ∙ h
-
-pub lefts_last : {N : Type 0} (ys : List (Cell N)) (i : ℕ) (now : Known N) (out all : List (Cell N)) → length ys ≤ i
-    → out ++ lefts_of (drop i ys) now ≡ all → out ≡ all
-lefts_last ys i now out all l h =
-    sym (append-nil out) ∙ sym (ap (λ l. out ++ lefts_of l now) (drop_all i ys l)) ∙ h
+-- the place at i is next
+pub parts_turn : {N : Type 0} (k : Known N) (ps : List ByteRange) (i : ℕ) (d : ByteRange) (now after : Known N)
+    (ls ms : List (Cell N)) → i < length ps → after ≡ parted_at (met_by now.model (get_or ps i d)) now
+    → ms ≡ ls ++ map on_left_alone (shared_where (met_by now.model (get_or ps i d)) now.cells)
+    → (met_of (drop i ps) now ≡ met_of ps k) × FacesMore k.model k.cells now.cells ls
+    → (met_of (drop (i + 1) ps) after ≡ met_of ps k) × FacesMore k.model k.cells after.cells ms
+parts_turn k ps i d now after ls ms l e f h =
+    let p = get_or ps i d in (
+      met_next p ps i now after (met_of ps k)
+          (drop-cons ps i d l ∙ ap (λ n. p ∷ drop n ps) (sym (add-one i))) e h.0,
+      faces_next k.model (met_by now.model p) k.cells now.cells after.cells ls ms (ap (λ z. z.cells) e) f h.1,
+    )
 
 -- ---- gone
 

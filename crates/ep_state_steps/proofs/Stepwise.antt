@@ -1,70 +1,80 @@
 -- Steps of single cells.
-use Rattle.std.proofs.Common.{◌≡◌, Bool, true, false, if◌then◌else◌, cond, List, [], ◌∷◌, Some, refl, sym, ◌∙◌, ap}
+use Rattle.std.proofs.Common.{◌≡◌, Bool, true, false, cond, List, [], ◌∷◌, Some, refl, sym, ◌∙◌, ap}
 use Rattle.std.proofs.Common.{subst}
 use Rattle.ep_int.specs.declared.types.Model.{Model}
 use Rattle.ep_int.specs.declared.types.Scalar.{Scalar}
 use Rattle.ep_int.specs.declared.types.Scalar.TheVariants.{Int, Pointer}
 use Rattle.ep_bitslice.specs.declared.cell.CellName.{CellName}
 use Rattle.ep_bitslice.specs.declared.cell.Side.{Side}
-use Rattle.ep_bitslice.specs.declared.cell.Side.TheVariants.{Left, Shared}
+use Rattle.ep_bitslice.specs.declared.cell.Side.TheVariants.{Left, Right, Shared}
 use Rattle.ep_domain.specs.Domain.{Ops, Lawful}
 use Rattle.ep_cells.specs.declared.cell.Cell.{Cell}
-use Rattle.ep_cells.specs.Cells.{is_same_side, is_same_cell, share_memory, side_without, IsIn, parts_of}
+use Rattle.ep_cells.specs.declared.place.ByteRange.{ByteRange}
+use Rattle.ep_cells.specs.Cells.{is_same_side, share_memory, side_without, IsIn, parts_on, touches, place_of, place_of_name}
 use Rattle.ep_cells.specs.Forms.{reformed}
 use Rattle.ep_cells.specs.States.{Known, AreCells}
 use Rattle.ep_reads.specs.Bytes.{order_on}
-use Rattle.ep_reads.specs.Split.{is_name_of, form_beside, byte_cells, split_cell}
+use Rattle.ep_reads.specs.Split.{form_beside, byte_cells, split_cell}
 use Rattle.ep_reads.specs.Unify.{crossed_parts, crossed_cell}
 use Rattle.ep_reads.proofs.OneSplit.{split_cell_cells}
 use Rattle.ep_reads.proofs.Crossed.{crossed_keeps}
 use Rattle.ep_scalar_reads.specs.declared.machines.Machines.{Machines}
 use Rattle.ep_synthesis.specs.Parts.{known, IsSized}
 use Rattle.ep_synthesis.proofs.Sized.{one_sized}
-use Rattle.ep_reads.specs.Single.{begins_as, parted_where, is_kind_of}
+use Rattle.ep_reads.specs.Single.{parts_where, left_where, name_where, fate_where, parted_where, is_kind_of}
 use Rattle.ep_reads.proofs.Composed.{same_changes}
 use Rattle.ep_reads.proofs.Parting.{where_cells}
 use Rattle.ep_reads.proofs.Dropping.{without_cells}
-use Rattle.ep_reads.proofs.SingleSteps.{one_parted}
 use Rattle.ep_cells.specs.Weaken.{first_part}
-use Rattle.ep_bicells.specs.Steps.{changed_by, fate_to, left_by_parting}
+use Rattle.ep_cell_rows.specs.Parts.{fate_by_unsharing}
+use Rattle.ep_bicells.specs.Steps.{changed_by, left_by_unsharing}
 use Rattle.ep_bicells.specs.declared.changes.Step.TheVariants.{Split, Cross, Unshare, Lack}
+use Rattle.ep_state_looks.specs.Looks.{met_by}
 use Rattle.ep_state_steps.specs.Ones.{parted_at, left_at, machines_of}
 
--- ---- a Shared cell comes apart
+-- ---- Shared cells come apart
+
+same_either : {X : Type 0} (b : Bool) (x : X) → cond b x x ≡ x
+same_either true x = refl
+same_either false x = refl
+
+part_same : {N : Type 0} (d : Model) (p : ByteRange) (x : Cell N) (s : Side)
+    → cond (touches p (place_of d x)) (parts_on x s) (x ∷ []) ≡ parts_where (met_by d p) x s
+part_same d p x Left = same_either (touches p (place_of d x)) (x ∷ [])
+part_same d p x Right = same_either (touches p (place_of d x)) (x ∷ [])
+part_same d p x Shared = refl
 
 some_cond : (b : Bool) (u v : CellName) → cond b (Some u) (Some v) ≡ Some (cond b u v)
 some_cond true u v = refl
 some_cond false u v = refl
 
-name_apart : {N : Type 0} (z : Cell N) (n : CellName) → z.side ≡ Shared
-    → fate_to (Some (first_part z.side)) z n ≡ Some (if is_name_of n z then record n { side = Left } else n)
-name_apart z n e =
-    ap (λ (s : Side). cond (is_name_of n z) (Some (record n { side = first_part s })) (Some n)) e
-    ∙ some_cond (is_name_of n z) (record n { side = Left }) n
+on_own_side : (b : Bool) (n : CellName) (s : Side) → n.side ≡ s → cond b (Some (record n { side = s })) (Some n) ≡ Some n
+on_own_side true n s e = ap (λ (t : Side). Some (record n { side = t })) (sym e)
+on_own_side false n s e = refl
 
-unshared : {N : Type 0} (D : Ops N) (d : Model) (z : Cell N) (new cs : List (Cell N)) → new ≡ [] → z.side ≡ Shared
-    → changed_by D d (Unshare z) new cs ≡ parted_where (begins_as z) cs
-unshared {N = N} D d z new cs e s =
-    ap (λ l. changed_by D d (Unshare z) l cs) e
-    ∙ same_changes (left_by_parting z) (λ (x : Cell N). if is_same_cell x z then parts_of x else x ∷ [])
-    (fate_to (Some (first_part z.side)) z) (λ n. Some (if is_name_of n z then record n { side = Left } else n)) cs
-    (λ x i. refl) (λ x y i j. ap (λ f. reformed f y) (λ m n. name_apart z n s m))
-    ∙ one_parted z cs s
+name_same : (d : Model) (p : ByteRange) (n : CellName) (s : Side) → n.side ≡ s
+    → cond (touches p (place_of_name n)) (Some (record n { side = first_part s })) (Some n)
+    ≡ Some (name_where (met_by d p) n s)
+name_same d p n Left e = on_own_side (touches p (place_of_name n)) n Left e
+name_same d p n Right e = on_own_side (touches p (place_of_name n)) n Right e
+name_same d p n Shared e = some_cond (touches p (place_of_name n)) (record n { side = Left }) n
 
-pub unshared_cells : {N : Type 0} (D : Ops N) (d : Model) (z y : Cell N) (new cs : List (Cell N)) → AreCells d cs
-    → y ≡ z
-    → new ≡ [] → z.side ≡ Shared → AreCells d (changed_by D d (Unshare y) new cs)
-unshared_cells D d z y new cs a f e s =
-    subst (λ c. AreCells d (changed_by D d (Unshare c) new cs)) (sym f)
-    (subst (AreCells d) (sym (unshared D d z new cs e s)) (where_cells d (begins_as z) cs a))
+unshared : {N : Type 0} (D : Ops N) (d : Model) (p : ByteRange) (new cs : List (Cell N)) → new ≡ []
+    → changed_by D d (Unshare p) new cs ≡ parted_where (met_by d p) cs
+unshared D d p new cs e =
+    ap (λ l. changed_by D d (Unshare p) l cs) e
+    ∙ same_changes (left_by_unsharing d p) (left_where (met_by d p)) (fate_by_unsharing p) (fate_where (met_by d p)) cs
+    (λ x i. part_same d p x x.side)
+    (λ x y i j. ap (λ f. reformed f y) (λ m n. name_same d p n n.side refl m))
 
-pub unshared_is : {N : Type 0} (D : Ops N) (k after : Known N) (z y : Cell N) (new : List (Cell N)) → y ≡ z → new ≡ []
-    → z.side ≡ Shared → after ≡ record k { cells = changed_by D k.model (Unshare y) new k.cells }
-    → after ≡ parted_at (begins_as z) k
-unshared_is D k after z y new f e s h =
-    h
-    ∙ ap (λ c. record k { cells = changed_by D k.model (Unshare c) new k.cells }) f
-    ∙ ap (λ l. record k { cells = l }) (unshared D k.model z new k.cells e s)
+pub unshared_cells : {N : Type 0} (D : Ops N) (d : Model) (p : ByteRange) (new cs : List (Cell N)) → AreCells d cs
+    → new ≡ [] → AreCells d (changed_by D d (Unshare p) new cs)
+unshared_cells D d p new cs a e =
+    subst (AreCells d) (sym (unshared D d p new cs e)) (where_cells d (met_by d p) cs a)
+
+pub unshared_is : {N : Type 0} (D : Ops N) (k after : Known N) (p : ByteRange) (new : List (Cell N)) → new ≡ []
+    → after ≡ record k { cells = changed_by D k.model (Unshare p) new k.cells } → after ≡ parted_at (met_by k.model p) k
+unshared_is D k after p new e h = h ∙ ap (λ l. record k { cells = l }) (unshared D k.model p new k.cells e)
 
 -- ---- a cell goes
 

@@ -1,1 +1,3 @@
 pub mod Ones
+pub mod Met
+pub mod Rounds

@@ -1,7 +1,6 @@
 -- A state after changes of its cells, one after another (this project's rules).
 use Rattle.std.specs.Prelude.{◌≡◌, ℕ, true, List}
 use Rattle.ep_bitslice.specs.declared.cell.Side.{Side}
-use Rattle.ep_bitslice.specs.declared.cell.Side.TheVariants.{Shared}
 use Rattle.ep_domain.specs.Domain.{Ops}
 use Rattle.ep_cells.specs.declared.cell.Cell.{Cell}
 use Rattle.ep_cells.specs.Cells.{share_memory}
@@ -29,9 +28,6 @@ split_at D s xs k = record k { cells = split_all D k s xs k.cells }
 -- cells that are surely the same at these places are one
 abbrev pub reshared_from : {N : Type 0} → Ops N → List (ℕ × ℕ) → Known N → Known N
 reshared_from D ps k = record k { cells = reshared_each D ps k.cells }
-
-abbrev pub IsShared : {N : Type 0} → Cell N → Type 0
-IsShared x = x.side ≡ Shared
 
 -- a side of the cell is this one
 abbrev pub Has : {N : Type 0} → Side → Cell N → Type 0

@@ -8,6 +8,7 @@ mod levelling;
 mod machines;
 mod parting;
 mod resharing;
+mod runs;
 mod splitting;
 mod turns;
 mod two;

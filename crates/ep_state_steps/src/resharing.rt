@@ -49,11 +49,14 @@ fn reshare_each<N: Num>(state: State<N>, places: &[(u32, u32)]) -> Result<State<
 }
 
 /// Left and Right integer cells of one place and type that are surely the same become Shared ones. Costs a look at all
-/// cells, a search for each Left cell, and a step for each pair.
+/// cells, searches for each Left cell, and a step for each pair.
 pub fn reshare_all<N: Num>(state: State<N>) -> Result<State<N>, Memory>
     ensures { IfOk result (λ s. s ≡ record state { cells = reshared N.ops state.cells }) }
 {
     let places = state.left_places()?;
+    if state.is_reshared_at(&places) {
+        return Ok(state);
+    }
     let after = reshare_each(state, &places)?;
     Ok(after)
 }

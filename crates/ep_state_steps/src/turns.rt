@@ -1,10 +1,9 @@
 //! Shared cells of two states that face cells of one side come apart, by turns.
 
-ghost use Rattle.std.specs.Prelude.{◌≡◌, ◌+◌, ◌++◌, [], length, map, IsTrue, IfOk};
+ghost use Rattle.std.specs.Prelude.{◌≡◌, ◌+◌, ◌++◌, [], length, IsTrue, IfOk};
 ghost use Rattle.ep_reads.specs.Unify.{parted_both};
-ghost use Rattle.ep_reads.specs.Single.{facing, faced, on_left_alone};
-ghost use Rattle.ep_reads.specs.StepLaws.{more_for, Turning};
-ghost use Rattle.ep_state_steps.specs.Ones.{parted_at};
+ghost use Rattle.ep_reads.specs.StepLaws.{Turning};
+ghost use Rattle.ep_state_steps.specs.Rounds.{IsTurned};
 
 use crate::parting::part_facing;
 use crate::two::States;
@@ -37,11 +36,8 @@ struct Round<N> {
 // The first state is looked at for its cells, then the second for its own and for those that came apart. Those that
 // came apart then are for the first.
 fn turn<N: Num>(now: Round<N>) -> Result<Round<N>, Memory>
-    ensures first { IfOk result (λ t. t.left ≡ parted_at (facing now.left.model now.for_left.items) now.left) }
-    ensures second { IfOk result (λ t. t.right ≡ parted_at (facing now.right.model
-        (more_for now.left.model now.left.cells now.for_left.items now.for_right.items)) now.right) }
-    ensures faced { IfOk result (λ t. t.for_left.items ≡ map on_left_alone (faced now.right.model
-        (more_for now.left.model now.left.cells now.for_left.items now.for_right.items) now.right.cells)) }
+    ensures turned { IfOk result (λ t. IsTurned now.left now.right now.for_left.items now.for_right.items t.left t.right
+        t.for_left.items) }
     ensures none { IfOk result (λ t. t.for_right.items ≡ []) }
 {
     let alloc = now.left.allocator();
@@ -99,7 +95,7 @@ fn part_by_turns<N: Num>(start: Round<N>, times: usize) -> Result<States<N>, Mem
 }
 
 /// Each Shared cell of both that faces a cell of one side of the other state comes apart, again until none does. Costs
-/// a look at all cells, and a step for each cell that comes apart.
+/// a look at all cells, and a step for each run of such cells of one side that lie next to one another.
 pub fn part_both<N: Num>(a: State<N>, b: State<N>) -> Result<States<N>, Memory>
     requires { a.model ≡ b.model }
     ensures first { IfOk result (λ s. s.left ≡ record a { cells = (parted_both a.model (a.cells, b.cells)).0 }) }

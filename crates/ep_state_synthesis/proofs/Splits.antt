@@ -1,28 +1,16 @@
 -- Splits of a state, and what holds of it then.
-use Rattle.std.proofs.Common.{◌≡◌, Bool, true, false, ◌||◌, cond, List, [], ◌∷◌, refl, sym, ap, subst}
-use Rattle.ep_int.specs.declared.types.Model.{Model}
+use Rattle.std.proofs.Common.{◌≡◌, false, sym, ap, subst}
+use Rattle.ep_cell_ranges.proofs.Cut.{none_cut}
 use Rattle.ep_bitslice.specs.declared.cell.Side.TheVariants.{Shared}
 use Rattle.ep_domain.specs.Domain.{Ops}
-use Rattle.ep_cells.specs.declared.cell.Cell.{Cell}
 use Rattle.ep_cells.specs.declared.place.ByteRange.{ByteRange}
-use Rattle.ep_cells.specs.Cells.{is_partly_in, is_same_side, place_of}
+use Rattle.ep_cells.specs.Cells.{is_same_side}
 use Rattle.ep_cells.specs.Look.{is_some_partly_in}
 use Rattle.ep_cells.specs.States.{Known, AreCells}
-use Rattle.ep_reads.specs.Split.{cut_cells, split_all, split}
+use Rattle.ep_reads.specs.Split.{split_all, split}
 use Rattle.ep_reads.specs.SplitLaws.{SplitLaws, SplitHolds}
 
 -- ---- where no cell lies partly in the place
-
-pub none_cut : {N : Type 0} (d : Model) (p : ByteRange) (cs : List (Cell N)) → is_some_partly_in d p cs ≡ false
-    → cut_cells d p cs ≡ []
-none_cut d p [] e = refl
-none_cut d p (c ∷ cs) e = by (is_partly_in p (place_of d c)) e (none_cut d p cs)
-  where
-    by : (b : Bool) → (b || is_some_partly_in d p cs) ≡ false
-        → (is_some_partly_in d p cs ≡ false → cut_cells d p cs ≡ [])
-        → cond b (c ∷ cut_cells d p cs) (cut_cells d p cs) ≡ []
-    by true e h = absurd (cc)
-    by false e h = h e
 
 pub unsplit : {N : Type 0} (D : Ops N) (k : Known N) (p : ByteRange) → is_some_partly_in k.model p k.cells ≡ false
     → k ≡ record k { cells = split D k p }

@@ -139,6 +139,16 @@ fn mentions(state: &mut State<Numbers>, row: &Row) -> Result<(), Memory> {
     Ok(())
 }
 
+fn part_all(state: &mut State<Numbers>, row: &Row) -> Result<(), Memory> {
+    for i in 0..row.cells {
+        write(
+            state,
+            cell(row.lay, Side::Left, i, Numbers::top(type_of(row.lay))),
+        )?;
+    }
+    Ok(())
+}
+
 fn other(alloc: Global, row: &Row) -> Result<State<Numbers>, Memory> {
     match row.case {
         Case::Copied | Case::Alone => {
@@ -159,6 +169,7 @@ pub(crate) fn states(alloc: Global, row: &Row) -> Result<(State<Numbers>, State<
         Case::Value => write(&mut second, cell(row.lay, Side::Shared, middle, single(3)))?,
         Case::Block => first.kill_block(Side::Shared, OTHER_BLOCK, &[], 4)?,
         Case::Parted => write(&mut second, cell(row.lay, Side::Left, middle, any))?,
+        Case::AllParted => part_all(&mut second, row)?,
         Case::Pairs(n) => pairs(&mut first, row, n)?,
         Case::Mentions => mentions(&mut first, row)?,
         Case::Copied => second = first.copy()?,

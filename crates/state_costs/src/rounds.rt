@@ -13,6 +13,7 @@ use ep_state_steps::reshare_all;
 use ep_state_synthesis::{split, unify};
 use ep_states::State;
 use std::alloc::Global;
+use std::mem;
 
 #[derive(Drop)]
 pub(crate) struct Work {
@@ -84,6 +85,14 @@ fn reshare_copy(state: &State<Numbers>) -> Result<(), Memory> {
     Ok(())
 }
 
+fn reshare_own(work: &mut Work) -> Result<(), Memory> {
+    let alloc = work.first.allocator();
+    let none = State::empty(alloc, (Order::Little, Order::Big), Model::Ilp32);
+    let state = mem::replace(&mut work.first, none);
+    work.first = reshare_all(state)?;
+    Ok(())
+}
+
 fn blur_copy(state: &State<Numbers>, row: &Row) -> Result<(), Memory> {
     let mut copy = state.copy()?;
     copy.blur(ByteRange {
@@ -126,6 +135,7 @@ fn once(work: &mut Work, row: &Row, i: u32) -> Result<(), Memory> {
         Operation::KillBlock => kill_copy(&work.first, 0, row.cells),
         Operation::Split => split_copy(&work.first, row, at),
         Operation::Reshare => reshare_copy(&work.first),
+        Operation::ReshareOwn => reshare_own(work),
         Operation::Join => unite(&work.first, &work.second, false),
         Operation::Widen => unite(&work.first, &work.second, true),
         Operation::UnifyJoin => unify_join(&work.first, &work.second),

@@ -15,6 +15,8 @@ pub(crate) enum Operation {
     KillBlock,
     Split,
     Reshare,
+    /// The same where no copy shares the state: only the first round has pairs.
+    ReshareOwn,
     Join,
     Widen,
     UnifyJoin,
@@ -42,6 +44,8 @@ pub(crate) enum Case {
     Block,
     /// One cell has come apart.
     Parted,
+    /// All cells have come apart.
+    AllParted,
     /// So many Left and Right cells surely hold the same number.
     Pairs(u32),
     /// Cells were written again and again that mention another.
@@ -77,6 +81,7 @@ fn operation_of(word: &str) -> Option<Operation> {
         "kill-block" => Some(Operation::KillBlock),
         "split" => Some(Operation::Split),
         "reshare" => Some(Operation::Reshare),
+        "reshare-own" => Some(Operation::ReshareOwn),
         "join" => Some(Operation::Join),
         "widen" => Some(Operation::Widen),
         "unify-join" => Some(Operation::UnifyJoin),
@@ -103,6 +108,7 @@ fn case_of(word: &str) -> Option<Case> {
         "value" => Some(Case::Value),
         "block" => Some(Case::Block),
         "parted" => Some(Case::Parted),
+        "all-parted" => Some(Case::AllParted),
         "pair" => Some(Case::Pairs(1)),
         "pairs" => Some(Case::Pairs(1000)),
         "mentions" => Some(Case::Mentions),

@@ -1,24 +1,13 @@
-use Rattle.std.proofs.Common.{arith}
-use Rattle.ep_scalar_reads.proofs.Bytes.{drop_at}
-use Rattle.ep_state_steps.proofs.Loops.{faced_next, faced_last, lefts_next, lefts_last}
+use Rattle.std.proofs.Common.{sym, ◌∙◌, ap}
+use Rattle.ep_reads.specs.Single.{facing}
+use Rattle.ep_state_steps.specs.Met.{met_by_any}
+use Rattle.ep_state_steps.specs.Ones.{parted_at}
 use Rattle.ep_state_steps.proofs.parting.part_facing.Goals as goal
-
-pub loop-y-preserved : goal.loop-y-preserved
-loop-y-preserved g c =
-    let e = drop_at c.args.ys.now c.loop-y.y-index c.y-item.result c.y-item.is c.loop-y-test.true in (
-      faced_next c.y-item.result c.args.ys.now c.loop-y.y-index c.loop-y.sofar c.in_ok-next.next _ e
-          c.in_ok-next.ensures.state c.loop-y.invariant.0,
-      lefts_next c.y-item.result c.args.ys.now c.loop-y.y-index c.loop-y.sofar c.in_ok-next.next c.loop-y.lefts.items
-          c.part_for.new.out.items _ e c.in_ok-next.ensures.state c.in_ok-next.ensures.out c.loop-y.invariant.1,
-    )
 
 pub returns-clause-state : goal.returns-clause-state
 returns-clause-state g c =
-    faced_last c.args.ys.now c.loop-y.y-index c.loop-y.sofar _
-    (omega (arith, c.loop-y-test.false)) c.model.ensures.cells
-    c.loop-y.invariant.0
-
-pub returns-clause-faced : goal.returns-clause-faced
-returns-clause-faced g c =
-    lefts_last c.args.ys.now c.loop-y.y-index c.loop-y.sofar c.loop-y.lefts.items _ (omega (arith, c.loop-y-test.false))
-    c.loop-y.invariant.1
+    c.in_ok-parted.ensures.state
+    ∙ ap (λ l. parted_at (met_by_any c.args.state.model l) c.args.state) c.deref.ensures.value
+    ∙ ap (λ P. parted_at P c.args.state)
+    (ap (λ d. met_by_any d c.in_ok-places.places.items) (sym c.model-model.ensures.value) ∙ c.in_ok-places.ensures
+    ∙ ap (λ d. facing d c.args.ys.now) c.model-model.ensures.value)

@@ -27,8 +27,7 @@ loop-preserved g c =
     turns_next g.N.Num.ops c.args.times c.loop.counter c.args.start.left c.args.start.right c.loop.sofar.left
     c.loop.sofar.right c.in_ok-next.next.left c.in_ok-next.next.right c.loop.sofar.for_left.items
     c.loop.sofar.for_right.items c.in_ok-next.next.for_left.items c.in_ok-next.next.for_right.items c.loop-test.true
-    c.in_ok-next.ensures.first c.in_ok-next.ensures.second c.in_ok-next.ensures.faced c.in_ok-next.ensures.none
-    c.loop.invariant
+    c.in_ok-next.ensures.turned c.in_ok-next.ensures.none c.loop.invariant
 
 pub returns-clause-first : goal.returns-clause-first
 returns-clause-first g c =
