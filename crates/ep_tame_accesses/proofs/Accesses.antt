@@ -58,7 +58,27 @@ some_spots P b l n test go (q ∷ qs) h = at (test q) refl (some_spots P b l n t
     at true e rest = (go q e h.0, rest)
     at false e rest = rest
 
-module _ {N : Type 0} (D : Ops N) (p : Program) (laws : PlaceLaws D p) (live : List ℕ) (a : Place) (ty s step : ℕ)
+-- of an access of s bytes at an address: what holds where it ends in the block
+module _ {N : Type 0} (D : Ops N) (p : Program) (live : List ℕ) (a : Place) (ty s step : ℕ) (P : Spot → Type 0)
+    (go : (b q : ℕ) (n : N) (l : LiesAt D p live a ty b n) → D.holds n (pos q) ≡ true → q + s ≤ l.of_block.size
+    → P (b, q)) where
+  held_have : (t : Target N) (o : Option ℕ) → slice_get (map (λ (b : Block). b.size) p.blocks) t.0 ≡ o
+      → LiesAt D p live a ty t.0 t.1 → EachSpot P (held_spots D s step t o)
+  held_have t None e l = tt
+  held_have t (Some z) e l =
+      let same = sized p.blocks t.0 l.of_block z l.there e in
+      some_spots P t.0 z s (λ q. D.holds t.1 (pos q)) (λ q h k. go t.0 q t.1 l h (subst (λ x. q + s ≤ x) same k))
+      (offsets_in z s step) (offsets_end z s step (nat_le s z) refl)
+
+  pub spots_have : (ts : List (Target N)) → EachTarget (LiesAt D p live a ty) ts
+      → EachSpot P (spots D (map (λ (b : Block). b.size) p.blocks) s step ts)
+  spots_have [] h = tt
+  spots_have (t ∷ ts) h =
+      both_spots P (held_spots D s step t (slice_get (map (λ (b : Block). b.size) p.blocks) t.0))
+      (spots D (map (λ (b : Block). b.size) p.blocks) s step ts)
+      (held_have t (slice_get (map (λ (b : Block). b.size) p.blocks) t.0) refl h.0) (spots_have ts h.1)
+
+module _ {N : Type 0} (D : Ops N) (p : Program) (laws : PlaceLaws D p) (live : List ℕ) (a : Place) (ty s : ℕ)
     (sz : size p.types ty ≡ Some s) (some : 0 < s) where
   object_at : (b q : ℕ) (n : N) (l : LiesAt D p live a ty b n) → D.holds n (pos q) ≡ true → q + s ≤ l.of_block.size
       → HasObject p live ty (b, q)
@@ -69,22 +89,6 @@ module _ {N : Type 0} (D : Ops N) (p : Program) (laws : PlaceLaws D p) (live : L
     stands = laws.stands live a ty b s q n l sz some held inside;
   }
 
-  held_objects : (t : Target N) (o : Option ℕ) → slice_get (map (λ (b : Block). b.size) p.blocks) t.0 ≡ o
-      → LiesAt D p live a ty t.0 t.1 → EachSpot (HasObject p live ty) (held_spots D s step t o)
-  held_objects t None e l = tt
-  held_objects t (Some z) e l =
-      let same = sized p.blocks t.0 l.of_block z l.there e in
-      some_spots (HasObject p live ty) t.0 z s (λ q. D.holds t.1 (pos q))
-      (λ q h k. object_at t.0 q t.1 l h (subst (λ x. q + s ≤ x) same k)) (offsets_in z s step)
-      (offsets_end z s step (nat_le s z) refl)
-
-  place_objects : (ts : List (Target N)) → EachTarget (LiesAt D p live a ty) ts
-      → EachSpot (HasObject p live ty) (spots D (map (λ (b : Block). b.size) p.blocks) s step ts)
-  place_objects [] h = tt
-  place_objects (t ∷ ts) h =
-      both_spots (HasObject p live ty) (held_spots D s step t (slice_get (map (λ (b : Block). b.size) p.blocks) t.0))
-      (spots D (map (λ (b : Block). b.size) p.blocks) s step ts)
-      (held_objects t (slice_get (map (λ (b : Block). b.size) p.blocks) t.0) refl h.0) (place_objects ts h.1)
-
 pub accesses_of : {N : Type 0} (D : Ops N) (p : Program) → PlaceLaws D p → AccessesAreOfObjects D p
-accesses_of D p laws live a ty s step ts sz some h = place_objects D p laws live a ty s step sz some ts h
+accesses_of D p laws live a ty s step ts sz some h =
+    spots_have D p live a ty s step (HasObject p live ty) (object_at D p laws live a ty s sz some) ts h

@@ -108,7 +108,7 @@ module _ {N : Type 0} where
           in_right (undefined_cell Shared b r w) (cell_here Shared b q (leaf_at ls q) (is_in_leaf d ls q))
           (cells_from d Shared b ls (q + 1) n) (next (omega (arith, p)))
 
-  put_more : (more cs : List (Cell N)) (y : Cell N) → IsIn y more → IsIn y (put_all more cs)
+  pub put_more : (more cs : List (Cell N)) (y : Cell N) → IsIn y more → IsIn y (put_all more cs)
   put_more [] cs y i = elim i [ ]
   put_more (_ ∷ more) cs y (first _) = put_there y (put_all more cs)
   put_more (c ∷ more) cs y (later _ _ i) = put_keeps c y (put_all more cs) (put_more more cs y i)

@@ -106,11 +106,11 @@ module _ {N : Type 0} where
   shared_in : (cs : List (Cell N)) → AreShared cs → (x : Cell N) → IsIn x cs → x.side ≡ Shared
   shared_in cs s x i = each_at (λ (c : Cell N). c.side ≡ Shared) x cs s i
 
-  found : (k : Known N) (s : Side) (c : Cell N) → AreSharedCells k.model k.cells → IsIn c k.cells
+  pub found : (k : Known N) (s : Side) (c : Cell N) → AreSharedCells k.model k.cells → IsIn c k.cells
       → cell_at k.model s c.block c.offset k.cells ≡ Some c
   found k s c a i = cell_found k.model s c k.cells a.cells.pairs a.shared (shared_in k.cells a.shared c i) i
 
-  exact : (d : Model) (c : Cell N) → is_exact d c.what c.offset c ≡ true
+  pub exact : (d : Model) (c : Cell N) → is_exact d c.what c.offset c ≡ true
   exact d c =
       and_from (nat_eq c.offset c.offset) _ (eq-eqb c.offset c.offset refl)
       (and_from (nat_eq (size_of d c.what) (size_of d c.what)) (is_same_sort c.what c.what)

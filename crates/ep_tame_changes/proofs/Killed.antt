@@ -2,7 +2,7 @@
 use Rattle.std.proofs.Common.{◌≡◌, ℕ, ◌<◌, Bool, true, false, ◌&&◌, ◌||◌, not, cond, ◌⊎◌, inl, inr, ⊎_elim, List, [], ◌∷◌}
 use Rattle.std.proofs.Common.{◌++◌, map, length, slice_get, Option, Some, None, refl, sym, ap, ◌∙◌, subst, nat_eq}
 use Rattle.std.specs.List.{filter, list_any}
-use Rattle.std.proofs.lemmas.Bool.{or_left, or_right, or_cases, eqb-true}
+use Rattle.std.proofs.lemmas.Bool.{or_left, or_right, or_cases, eqb-true, eq-eqb, both_ways, false_from_ne_true}
 use Rattle.ep_int.specs.declared.types.Model.{Model}
 use Rattle.ep_int.specs.declared.types.Order.{Order}
 use Rattle.ep_int.specs.Memory.{contains}
@@ -28,6 +28,7 @@ use Rattle.ep_equalities.specs.declared.pair.Mode.TheVariants.{Both}
 use Rattle.ep_evaluation.specs.Laws.{IsState}
 use Rattle.ep_transfers.specs.Transfers.{leaves_in, bytes_in, killed_block, killed_blocks, entered}
 use Rattle.ep_transfers.proofs.WaitingStays.{blocks_state}
+use Rattle.ep_tame_laws.specs.Tamely.{is_result_of_main, HaveNoResult}
 use Rattle.ep_tame_values.specs.Offsets.{EachTarget}
 use Rattle.ep_tame_places.specs.Places.{PointsTo}
 use Rattle.ep_tame_cells.specs.Shared.{AreHad}
@@ -38,6 +39,7 @@ use Rattle.ep_tame_cells.proofs.Entered.{new_is, one_in, block_laws_of}
 use Rattle.ep_tame_cells.proofs.Over.{same_alike}
 use Rattle.ep_tame_cells.proofs.Shapes.{is_like, like_there, shape_laws_of}
 use Rattle.ep_tame_states.specs.States.{ValueHas, IsInBlock, CellPoints, IsGood}
+use Rattle.ep_tame_states.proofs.Meetings.{form_apart}
 use Rattle.ep_tame_changes.specs.Laws.{BlocksKeepGood}
 
 -- ---- lists of blocks
@@ -122,7 +124,7 @@ module _ {N : Type 0} (D : Ops N) (law : Lawful D) (p : Program) (fit : blocks_f
   blocks = block_laws_of D
 
   -- places of blocks that all are there stay
-  had_covered : (hs xs ys : List (Cell N)) → HasShape p xs → HasShape p ys
+  pub had_covered : (hs xs ys : List (Cell N)) → HasShape p xs → HasShape p ys
       → ((c : ℕ) → IsCovered p xs c → IsCovered p ys c) → AreHad hs xs → AreHad hs ys
   had_covered hs xs ys a b covers had x i =
       let y = is_like x xs (had x i) in
@@ -141,7 +143,7 @@ module _ {N : Type 0} (D : Ops N) (law : Lawful D) (p : Program) (fit : blocks_f
 
   -- ---- one block
 
-  module _ (h : Known N) (b : ℕ) (live less res : List ℕ)
+  module _ (h : Known N) (b : ℕ) (own : is_result_of_main p b ≡ false) (live less res : List ℕ)
       (stays : (c : ℕ) → nat_eq c b ≡ false → Names live c → Names less c)
       (before : (c : ℕ) → Names less c → Names live c) where
     still_points : (ty c : ℕ) (n : N) → nat_eq c b ≡ false → PointsTo D p live ty c n → PointsTo D p less ty c n
@@ -155,12 +157,16 @@ module _ {N : Type 0} (D : Ops N) (law : Lawful D) (p : Program) (fit : blocks_f
     left_points : (x y : Cell N) → IsIn y (left_by_kill Shared b x) → CellPoints D p live x → CellPoints D p less y
     left_points x y i g = by_block (nat_eq x.block b) i
       where
-        lost : CellPoints D p less (without_target b x)
-        lost = record {
+        no_number : (n : N) → x.value ≡ Some (Num n) → has_target b x.value ≡ false
+        no_number n e = ap (has_target b) e
+
+        lost : has_target b x.value ≡ true → CellPoints D p less (without_target b x)
+        lost e = record {
           inside = without_has b (IsInBlock D p) (IsInBlock D p) (λ c n e q. q) x.value g.inside;
           along = λ z there pt ty at target.
               without_has b (PointsTo D p live ty) (PointsTo D p less ty) (still_points ty) x.value
               (g.along z there pt ty at target);
+          sure = λ m. (let s = g.sure m in absurd (both_ways (has_target b x.value) (no_number s.number s.value) e));
         }
 
         kept : has_target b x.value ≡ false → CellPoints D p less x
@@ -169,11 +175,12 @@ module _ {N : Type 0} (D : Ops N) (law : Lawful D) (p : Program) (fit : blocks_f
           along = λ z there pt ty at target.
               still_has b (PointsTo D p live ty) (PointsTo D p less ty) (still_points ty) x.value e
               (g.along z there pt ty at target);
+          sure = g.sure;
         }
 
         by_target : (t : Bool) → has_target b x.value ≡ t → IsIn y (cond t (without_target b x ∷ []) (x ∷ []))
             → CellPoints D p less y
-        by_target true e i = subst (CellPoints D p less) (sym (one_in y (without_target b x) i)) lost
+        by_target true e i = subst (CellPoints D p less) (sym (one_in y (without_target b x) i)) (lost e)
         by_target false e i = subst (CellPoints D p less) (sym (one_in y x i)) (kept e)
 
         by_block : (t : Bool)
@@ -193,7 +200,11 @@ module _ {N : Type 0} (D : Ops N) (law : Lawful D) (p : Program) (fit : blocks_f
         (in_put_all (entry_cells d Shared b ls size) m.origin (each_becomes (left_by_kill Shared b) cs) m.is_in)))
       where
         formed : (y : Cell N) → CellPoints D p less y → CellPoints D p less (reformed (fate_by_kill Shared b) y)
-        formed y k = record { inside = k.inside; along = k.along }
+        formed y k = record {
+          inside = k.inside;
+          along = k.along;
+          sure = λ m. form_apart y (reformed (fate_by_kill Shared b) y) refl refl (k.sure m);
+        }
 
         by_origin : (y : Cell N)
             → IsIn y (entry_cells d Shared b ls size) ⊎ IsIn y (each_becomes (left_by_kill Shared b) cs)
@@ -201,7 +212,11 @@ module _ {N : Type 0} (D : Ops N) (law : Lawful D) (p : Program) (fit : blocks_f
         by_origin y (inl j) =
             let n = new_is d b ls 0 size y j in
             let undefined : CellPoints D p less (undefined_cell Shared b n.offset n.what) =
-            record { inside = tt; along = λ z there pt ty at target. tt } in
+            record {
+              inside = tt;
+              along = λ z there pt ty at target. tt;
+              sure = λ m. absurd (both_ways (is_result_of_main p b) own m);
+            } in
             subst (CellPoints D p less) (sym n.is) undefined
         by_origin y (inr j) =
             let f = in_each (left_by_kill Shared b) y cs j in
@@ -229,6 +244,8 @@ module _ {N : Type 0} (D : Ops N) (law : Lawful D) (p : Program) (fit : blocks_f
             results = λ c n. keeps c (g.results c n);
             points = points;
             over = had_covered h.cells k.cells cs g.shape shape keeps g.over;
+            apart = λ c m. false_from_ne_true (is_named p.types p.blocks less c)
+                (λ n. both_ways (is_named p.types p.blocks live c) (g.apart c m) (before c n));
           };
           covered = covered;
           keeps = keeps;
@@ -276,9 +293,9 @@ module _ {N : Type 0} (D : Ops N) (law : Lawful D) (p : Program) (fit : blocks_f
   -- ---- blocks one after the other
 
   -- more blocks that are all there
-  more_named : (h k : Known N) (bs live res : List ℕ) → IsGood D p ord h live res k
+  more_named : (h k : Known N) (bs live res : List ℕ) → HaveNoResult p bs → IsGood D p ord h live res k
       → ((c : ℕ) → contains c bs ≡ true → IsCovered p k.cells c) → IsGood D p ord h (bs ++ live) res k
-  more_named h k bs live res g covered = record {
+  more_named h k bs live res free g covered = record {
     state = g.state;
     shape = g.shape;
     named = λ c n. by_name c (or_cases (is_global (slice_get p.blocks c)) (contains c (bs ++ live)) n);
@@ -286,8 +303,17 @@ module _ {N : Type 0} (D : Ops N) (law : Lawful D) (p : Program) (fit : blocks_f
     points = λ c i. (let q = g.points c i in record {
       inside = q.inside;
       along = λ z there pt ty at target. still_named ty c.value (q.along z there pt ty at target);
+      sure = q.sure;
     });
     over = g.over;
+    apart = λ c m. false_from_ne_true (is_named p.types p.blocks (bs ++ live) c)
+        (λ n. ⊎_elim
+        (λ e. both_ways (is_named p.types p.blocks live c) (g.apart c m)
+        (or_left (is_global (slice_get p.blocks c)) (contains c live) e))
+        (λ e. ⊎_elim (λ s. both_ways (is_result_of_main p c) (free c s) m)
+        (λ s. both_ways (is_named p.types p.blocks live c) (g.apart c m)
+        (or_right (is_global (slice_get p.blocks c)) (contains c live) s)) (in_append c bs live e))
+        (or_cases (is_global (slice_get p.blocks c)) (contains c (bs ++ live)) n));
   }
     where
       by_name : (c : ℕ) → (is_global (slice_get p.blocks c) ≡ true) ⊎ (contains c (bs ++ live) ≡ true)
@@ -324,12 +350,12 @@ module _ {N : Type 0} (D : Ops N) (law : Lawful D) (p : Program) (fit : blocks_f
     pub covered : (c : ℕ) → contains c bs ≡ true → IsCovered p j.cells c
     pub keeps : (c : ℕ) → IsCovered p k.cells c → IsCovered p j.cells c
 
-  gone : (bs : List ℕ) (h k : Known N) (live res : List ℕ) → IsGood D p ord h live res k
+  gone : (bs : List ℕ) → HaveNoResult p bs → (h k : Known N) (live res : List ℕ) → IsGood D p ord h live res k
       → Gone h live res bs k (killed_blocks D p Shared bs k)
-  gone [] h k live res g = record { good = g; covered = λ c e. absurd cc; keeps = λ c n. n }
-  gone (b ∷ bs) h k live res g =
-      let one = killed_good h b live live res (λ c e n. n) (λ c n. n) k g in
-      let rest = gone bs h (killed_block D p Shared b (slice_get p.blocks b) k) live res one.good in
+  gone [] free h k live res g = record { good = g; covered = λ c e. absurd cc; keeps = λ c n. n }
+  gone (b ∷ bs) free h k live res g =
+      let one = killed_good h b (free b (or_left (nat_eq b b) (contains b bs) (eq-eqb b b refl))) live live res (λ c e n. n) (λ c n. n) k g in
+      let rest = gone bs (λ c e. free c (or_right (nat_eq c b) (contains c bs) e)) h (killed_block D p Shared b (slice_get p.blocks b) k) live res one.good in
       record {
         good = rest.good;
         covered = λ c e.
@@ -338,18 +364,25 @@ module _ {N : Type 0} (D : Ops N) (law : Lawful D) (p : Program) (fit : blocks_f
         keeps = λ c n. rest.keeps c (one.keeps c n);
       }
 
-  enter_good : (bs : List ℕ) (h k : Known N) (live res : List ℕ) → IsGood D p ord h live res k
+  enter_good : (bs : List ℕ) → HaveNoResult p bs → (h k : Known N) (live res : List ℕ) → IsGood D p ord h live res k
       → IsGood D p ord h (bs ++ live) res (entered D p Both bs k)
-  enter_good bs h k live res g =
-      let r = gone bs h k live res g in more_named h (killed_blocks D p Shared bs k) bs live res r.good r.covered
+  enter_good bs free h k live res g =
+      let r = gone bs free h k live res g in
+      more_named h (killed_blocks D p Shared bs k) bs live res free r.good r.covered
 
   leave_good : (bs : List ℕ) (h k : Known N) (live res : List ℕ) → IsGood D p ord h (bs ++ live) res k
       → IsGood D p ord h live res (entered D p Both bs k)
   leave_good [] h k live res g = g
   leave_good (b ∷ bs) h k live res g =
-      let one = killed_good h b (b ∷ (bs ++ live)) (bs ++ live) res off on k g in
+      let one = killed_good h b no_result (b ∷ (bs ++ live)) (bs ++ live) res off on k g in
       leave_good bs h (killed_block D p Shared b (slice_get p.blocks b) k) live res one.good
     where
+      no_result : is_result_of_main p b ≡ false
+      no_result =
+          false_from_ne_true (is_result_of_main p b) (λ m. both_ways (is_named p.types p.blocks (b ∷ (bs ++ live)) b)
+          (g.apart b m) (or_right (is_global (slice_get p.blocks b)) (contains b (b ∷ (bs ++ live)))
+          (or_left (nat_eq b b) (contains b (bs ++ live)) (eq-eqb b b refl))))
+
       off : (c : ℕ) → nat_eq c b ≡ false → Names (b ∷ (bs ++ live)) c → Names (bs ++ live) c
       off c e n =
           sym (ap (λ t. is_global (slice_get p.blocks c) || (t || contains c (bs ++ live))) e) ∙ n
@@ -361,10 +394,10 @@ module _ {N : Type 0} (D : Ops N) (law : Lawful D) (p : Program) (fit : blocks_f
           (or_right (nat_eq c b) (contains c (bs ++ live)) s))
           (or_cases (is_global (slice_get p.blocks c)) (contains c (bs ++ live)) n)
 
-  result_comes : (bs : List ℕ) (h k : Known N) (live res : List ℕ) → IsGood D p ord h live res k
+  result_comes : (bs : List ℕ) → HaveNoResult p bs → (h k : Known N) (live res : List ℕ) → IsGood D p ord h live res k
       → IsGood D p ord h live (bs ++ res) (entered D p Both bs k)
-  result_comes bs h k live res g =
-      let r = gone bs h k live res g in
+  result_comes bs free h k live res g =
+      let r = gone bs free h k live res g in
       record {
         state = r.good.state;
         shape = r.good.shape;
@@ -372,6 +405,7 @@ module _ {N : Type 0} (D : Ops N) (law : Lawful D) (p : Program) (fit : blocks_f
         results = λ c e. ⊎_elim (λ s. r.covered c s) (λ s. r.good.results c s) (in_append c bs res e);
         points = r.good.points;
         over = r.good.over;
+        apart = r.good.apart;
       }
 
   result_goes : (bs : List ℕ) (h k : Known N) (live res : List ℕ) → IsGood D p ord h live (bs ++ res) k
@@ -383,13 +417,14 @@ module _ {N : Type 0} (D : Ops N) (law : Lawful D) (p : Program) (fit : blocks_f
     results = λ c e. g.results c (behind_append c bs res e);
     points = g.points;
     over = g.over;
+    apart = g.apart;
   }
 
 pub blocks_keep_good : {N : Type 0} (D : Ops N) → Lawful D → (p : Program) → blocks_fit p.types p.blocks ≡ true
     → (ord : Side → Order) → BlocksKeepGood D p ord
 blocks_keep_good D law p fit ord = record {
-  enter = λ bs h k live res g. enter_good D law p fit ord bs h k live res g;
+  enter = λ bs free h k live res g. enter_good D law p fit ord bs free h k live res g;
   leave = λ bs h k live res g. leave_good D law p fit ord bs h k live res g;
-  result_comes = λ bs h k live res g. result_comes D law p fit ord bs h k live res g;
+  result_comes = λ bs free h k live res g. result_comes D law p fit ord bs free h k live res g;
   result_goes = λ bs h k live res g. result_goes D law p fit ord bs h k live res g;
 }

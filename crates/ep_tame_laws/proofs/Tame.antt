@@ -1,5 +1,5 @@
 -- Reports on tame programs have no alarm of the kinds E1 to E4: the induction over the pass, of both machines together.
-use Rattle.std.proofs.Common.{◌≡◌, ℕ, zero, suc, ◌-◌, ◌<◌, List, [], ◌∷◌, ◌++◌, refl, sym, subst, Option, Some, None}
+use Rattle.std.proofs.Common.{◌≡◌, ℕ, zero, suc, ◌-◌, ◌≤◌, ◌<◌, List, [], ◌∷◌, ◌++◌, refl, sym, subst, Option, Some, None}
 use Rattle.ep_core.proofs.Operands.{callee_at}
 use Rattle.ep_int.proofs.Basics.{contains-left, contains-right}
 use Rattle.std.proofs.Common.{Bool, true, false, ◌&&◌, ◌||◌, if◌then◌else◌, nat_eq, slice_get, arith}
@@ -13,7 +13,7 @@ use Rattle.ep_core.specs.Program.{Expr, Dest, What, simple, call, if_else, loop,
 use Rattle.ep_core.specs.Program.{scope, Stmts, stop, more, Function, Program}
 use Rattle.ep_core.specs.Exec.{Way, on, broken, continued, returned, result_in, callee_of, frame_of}
 use Rattle.ep_core.specs.Runs.{Side, left, right}
-use Rattle.ep_core.specs.WellFormed.{is_tested, result_type, arguments_fit, takes_result, are_plain, call_fits}
+use Rattle.ep_core.specs.WellFormed.{is_tested, result_type, arguments_fit, takes_result, are_plain, call_fits, scoped_in, scoped}
 use Rattle.ep_core.specs.WellFormed.{what_fits, stmts_fit, is_well_formed}
 use Rattle.ep_core.proofs.Operands.{fits_at}
 use Rattle.ep_pass.specs.States.{Mode, Both, Fault, Transfer, Verdict, stuck, same, differs, StateOps}
@@ -27,7 +27,8 @@ use Rattle.ep_pass.specs.Pass.{faults_at_end, report_of}
 use Rattle.ep_pass.proofs.Placing.{placed_both, gathered_placed}
 use Rattle.ep_kinds.specs.Tame.{is_tame_expr, is_tame_dest, is_tame_what, are_tame, are_tame_types, is_tame}
 use Rattle.ep_tame_laws.specs.Tamely.{is_undefined, IfReached, AreAmong, result_block, IsAlike, TransferIsGood, Tamely}
-use Rattle.ep_tame_laws.specs.Tamely.{IsUndefinedOnly}
+use Rattle.ep_tame_laws.specs.Tamely.{HaveNoResult, IsUndefinedOnly}
+use Rattle.ep_tame_laws.proofs.Listed.{frame_free, scopes_free, result_free, callee_before}
 
 -- ---- alarms
 
@@ -52,6 +53,12 @@ more_among [] seen live h = h
 more_among (c ∷ own) seen live h =
     λ b i. either_true (nat_eq b c) (contains b (own ++ seen)) (contains b (own ++ live))
     (more_among own seen live h b) i
+
+free_left : (p : Program) (xs ys : List ℕ) → HaveNoResult p (xs ++ ys) → HaveNoResult p xs
+free_left p xs ys free b i = free b (contains-left b xs ys i)
+
+free_right : (p : Program) (xs ys : List ℕ) → HaveNoResult p (xs ++ ys) → HaveNoResult p ys
+free_right p xs ys free b i = free b (contains-right b xs ys i)
 
 -- ---- passes of which all states are so
 
@@ -322,22 +329,24 @@ module _ (p : Program) {S : Type 0} (o : StateOps S) (Good : S → (live res : L
       → Holds o (Good h live res) (go s)
 
   -- a call: of what it comes to, the middle part is of other blocks
-  call_holds : (k : ℕ) (f : Function) → slice_get p.functions k ≡ Some f → (es : List Expr) (d : Option Dest)
+  call_holds : (k : ℕ) (f : Function) → slice_get p.functions k ≡ Some f → HaveNoResult p (frame_of f)
+      → HaveNoResult p (result_block f) → (es : List Expr) (d : Option Dest)
       (seen : List ℕ) → arguments_fit p.types p.blocks seen f.params es ≡ true
       → takes_result p.types p.blocks seen (result_type p.blocks f.result) d ≡ true
       → list_all (is_tame_expr p.types) es ≡ true
       → is_tame_dest p.types d ≡ true
       → (l : ℕ) (body : S → Pass S) → KnownBody k body → (h s : S) (live res : List ℕ) → AreAmong seen live
       → Good h live res s → Holds o (Good h live res) (call_pass o (Some f) Both es d l body s)
-  call_holds k f at es d seen fits takes tame tame_d l body known h s live res among good =
-      by_next (o.arguments Both f es s).next (law.arguments k f at es seen fits tame h s live res among good).next
+  call_holds k f at frame own es d seen fits takes tame tame_d l body known h s live res among good =
+      by_next (o.arguments Both f es s).next
+      (law.arguments k f at es seen fits tame frame own h s live res among good).next
     where
       P : S → Type 0
       P = Good h live res
 
       alarms : IsUndefinedOnly (alarms_at l (o.arguments Both f es s).faults)
       alarms = only_at l (o.arguments Both f es s).faults
-          (law.arguments k f at es seen fits tame h s live res among good).faults
+          (law.arguments k f at es seen fits tame frame own h s live res among good).faults
 
       middle : S → Pass S
       middle s = leave_call o (scope_pass o Both (frame_of f) (body s))
@@ -382,7 +391,8 @@ module _ (p : Program) {S : Type 0} (o : StateOps S) (Good : S → (live res : L
           (only_both (alarms_at l (o.arguments Both f es s).faults) (middle t).log.faults alarms r.alarms)
 
   module _ (ord : Side → Order) where
-    module _ (here : ℕ) (f : Function) (at : slice_get p.functions here ≡ Some f) (ps : ℕ → Mode → S → Pass S)
+    module _ (formed : is_well_formed p ≡ true) (here : ℕ) (below : here ≤ p.main) (f : Function)
+        (at : slice_get p.functions here ≡ Some f) (ps : ℕ → Mode → S → Pass S)
         (known : (k : ℕ) → KnownBody k (ps k Both)) where
       abbrev own : Option ℕ
       own = result_type p.blocks f.result
@@ -405,22 +415,24 @@ module _ (p : Program) {S : Type 0} (o : StateOps S) (Good : S → (live res : L
           (takes_result p.types p.blocks seen (result_type p.blocks g.result) d) fits in
           let t = and_parts (list_all (is_tame_expr p.types) es)
           (is_tame_dest p.types d) tame in
-          call_holds k g (callee_at p here k g e) es d seen q.0 q.1 t.0 t.1 l (ps k Both) (known k) h s live res among
+          let to = callee_at p here k g e in
+          let before : k < p.main = (let less = callee_before p here k g e in omega (arith, less, below)) in
+          call_holds k g to (frame_free p formed k g to (omega (arith, before))) (result_free p formed k g to before) es d seen q.0 q.1 t.0 t.1 l (ps k Both) (known k) h s live res among
           good
 
       mutual
-        pass_holds : (w : What) (seen : List ℕ) (i : Bool) → what_fits p here own w seen i ≡ true
-            → is_tame_what p.types w ≡ true
+        pass_holds : (w : What) → HaveNoResult p (scoped_in w) → (seen : List ℕ) (i : Bool)
+            → what_fits p here own w seen i ≡ true → is_tame_what p.types w ≡ true
             → (l : ℕ) (h s : S) (live res : List ℕ) → AreAmong seen live → AreAmong (result_block f) res
             → Good h live res s → Holds o (Good h live res) (pass o u limit ord p here ps w Both l s)
-        pass_holds (simple w) seen i fits tame l h s live res among res_there good =
+        pass_holds (simple w) free seen i fits tame l h s live res among res_there good =
             subst (λ g. Holds o (Good h live res) (simple_pass (way_of w) l (o.simple Both (result_in g) w s)))
             (sym at)
             (simple_holds o (Good h live res) (way_of w) l (o.simple Both f.result w s)
             (law.simple here f at w seen fits tame h s live res among res_there good))
-        pass_holds (call k es d) seen i fits tame l h s live res among res_there good =
+        pass_holds (call k es d) free seen i fits tame l h s live res among res_there good =
             called_holds k es d seen tame l h s live res among good (callee_of p here k) refl fits
-        pass_holds (if_else e a b) seen i fits tame l h s live res among res_there good =
+        pass_holds (if_else e a b) free seen i fits tame l h s live res among res_there good =
             let q = and_parts (is_tested p.types p.blocks seen e && stmts_fit p here own a seen i)
             (stmts_fit p here own b seen i) fits in
             let r = and_parts (is_tested p.types p.blocks seen e) (stmts_fit p here own a seen i) q.0 in
@@ -432,9 +444,9 @@ module _ (p : Program) {S : Type 0} (o : StateOps S) (Good : S → (live res : L
             (record { at_end = tt; ways = (tt, (tt, tt)); alarms = tt }) e l (arm a Both)
             (apart o l (arm a) (arm b)) (apart o l (arm b) (arm a)) (arm b Both) s z.0 z.1
             (λ b. law.assume e seen r.0 t.0 b h s live res among good)
-            (λ s g. all_hold a seen i r.1 v.0 h s none live res among res_there g (tt, (tt, tt)))
-            (λ s g. all_hold b seen i q.1 v.1 h s none live res among res_there g (tt, (tt, tt)))
-        pass_holds (loop first e a b) seen i fits tame l h s live res among res_there good =
+            (λ s g. all_hold a (free_left p (scoped a) (scoped b) free) seen i r.1 v.0 h s none live res among res_there g (tt, (tt, tt)))
+            (λ s g. all_hold b (free_right p (scoped a) (scoped b) free) seen i q.1 v.1 h s none live res among res_there g (tt, (tt, tt)))
+        pass_holds (loop first e a b) free seen i fits tame l h s live res among res_there good =
             let q = and_parts (is_tested p.types p.blocks seen e && stmts_fit p here own a seen true)
             (are_plain b && stmts_fit p here own b seen i) fits in
             let r = and_parts (is_tested p.types p.blocks seen e) (stmts_fit p here own a seen true) q.0 in
@@ -444,31 +456,31 @@ module _ (p : Program) {S : Type 0} (o : StateOps S) (Good : S → (live res : L
             let v = and_parts (are_tame p.types a) (are_tame p.types b) t.1 in
             loop_holds l e seen r.0 t.0 live res among (λ m s. next_pass o (arm a m s) (arm b m))
             (λ h s g. next_holds o (Good h live res) (joins h live res) (arm a Both s) (arm b Both)
-            (all_hold a seen true r.1 v.0 h s none live res among res_there g (tt, (tt, tt)))
-            (λ s g. all_hold b seen i y.1 v.1 h s none live res among res_there g (tt, (tt, tt)))) h first s good
-        pass_holds break_loop seen i fits tame l h s live res among res_there good =
+            (all_hold a (free_left p (scoped a) (scoped b) free) seen true r.1 v.0 h s none live res among res_there g (tt, (tt, tt)))
+            (λ s g. all_hold b (free_right p (scoped a) (scoped b) free) seen i y.1 v.1 h s none live res among res_there g (tt, (tt, tt)))) h first s good
+        pass_holds break_loop free seen i fits tame l h s live res among res_there good =
             record { at_end = tt; ways = (good, (tt, tt)); alarms = tt }
-        pass_holds continue_loop seen i fits tame l h s live res among res_there good =
+        pass_holds continue_loop free seen i fits tame l h s live res among res_there good =
             record { at_end = tt; ways = (tt, (good, tt)); alarms = tt }
-        pass_holds (by_order named a b) seen i fits tame l h s live res among res_there good = absurd cc
-        pass_holds (scope bs a) seen i fits tame l h s live res among res_there good =
+        pass_holds (by_order named a b) free seen i fits tame l h s live res among res_there good = absurd cc
+        pass_holds (scope bs a) free seen i fits tame l h s live res among res_there good =
             scope_holds bs h live res (arm a Both (o.enter Both bs s))
-            (all_hold a (bs ++ seen) i fits tame h (o.enter Both bs s) none (bs ++ live) res
-            (more_among bs seen live among) res_there (law.enter bs h s live res good) (tt, (tt, tt)))
+            (all_hold a (free_right p bs (scoped a) free) (bs ++ seen) i fits tame h (o.enter Both bs s) none (bs ++ live) res
+            (more_among bs seen live among) res_there (law.enter bs (free_left p bs (scoped a) free) h s live res good) (tt, (tt, tt)))
 
-        all_hold : (ss : Stmts) (seen : List ℕ) (i : Bool) → stmts_fit p here own ss seen i ≡ true
-            → are_tame p.types ss ≡ true
+        all_hold : (ss : Stmts) → HaveNoResult p (scoped ss) → (seen : List ℕ) (i : Bool)
+            → stmts_fit p here own ss seen i ≡ true → are_tame p.types ss ≡ true
             → (h s : S) (w : Ways S) (live res : List ℕ) → AreAmong seen live → AreAmong (result_block f) res
             → Good h live res s → WaysAre o (Good h live res) w → Holds o (Good h live res) (rows ss Both s w)
-        all_hold stop seen i fits tame h s w live res among res_there good ways =
+        all_hold stop free seen i fits tame h s w live res among res_there good ways =
             record { at_end = good; ways = ways; alarms = tt }
-        all_hold (more l w rest) seen i fits tame h s v live res among res_there good ways =
+        all_hold (more l w rest) free seen i fits tame h s v live res among res_there good ways =
             let q = and_parts (what_fits p here own w seen i) (stmts_fit p here own rest seen i) fits in
             let t = and_parts (is_tame_what p.types w) (are_tame p.types rest)
             tame in
             then_holds o (Good h live res) (joins h live res) (pass o u limit ord p here ps w Both l s) v
-            (rows rest Both) (pass_holds w seen i q.0 t.0 l h s live res among res_there good) ways
-            (λ s v g z. all_hold rest seen i q.1 t.1 h s v live res among res_there g z)
+            (rows rest Both) (pass_holds w (free_left p (scoped_in w) (scoped rest) free) seen i q.0 t.0 l h s live res among res_there good) ways
+            (λ s v g z. all_hold rest (free_right p (scoped_in w) (scoped rest) free) seen i q.1 t.1 h s v live res among res_there g z)
 
     -- ---- functions and programs
 
@@ -485,11 +497,11 @@ module _ (p : Program) {S : Type 0} (o : StateOps S) (Good : S → (live res : L
       tame_at (g ∷ fs) h (suc k) f e =
           tame_at fs (and_parts (are_tame p.types g.body) _ h).1 k f e
 
-      body_known : (here : ℕ) (ps : ℕ → Mode → S → Pass S) → ((k : ℕ) → KnownBody k (ps k Both))
+      body_known : (here : ℕ) → here ≤ p.main → (ps : ℕ → Mode → S → Pass S) → ((k : ℕ) → KnownBody k (ps k Both))
           → KnownBody here (body_pass o u limit ord p (slice_get p.functions here) here ps Both)
-      body_known here ps known f at h s live res among res_there good =
+      body_known here below ps known f at h s live res among res_there good =
           subst (λ g. Holds o (Good h live res) (body_pass o u limit ord p g here ps Both s)) (sym at)
-          (all_hold here f at ps known f.body (frame_of f) false (fits_at p formed here f at).2
+          (all_hold formed here below f at ps known f.body (scopes_free p formed here f at below) (frame_of f) false (fits_at p formed here f at).2
           (tame_at p.functions tame here f at) h s none live res among res_there good (tt, (tt, tt)))
 
       chosen_known : (k n : ℕ) (a b : Mode → S → Pass S) (t : Bool) → nat_eq k n ≡ t → KnownBody n (a Both)
@@ -497,13 +509,14 @@ module _ (p : Program) {S : Type 0} (o : StateOps S) (Good : S → (live res : L
       chosen_known k n a b true e h i = subst (λ j. KnownBody j (a Both)) (sym (eqb-true k n e)) h
       chosen_known k n a b false e h i = i
 
-      bodies_known : (n k : ℕ) → KnownBody k (bodies_pass o u limit ord p n k Both)
-      bodies_known zero k = λ f at h s live res among res_there good.
+      bodies_known : (n k : ℕ) → n ≤ p.main → KnownBody k (bodies_pass o u limit ord p n k Both)
+      bodies_known zero k below = λ f at h s live res among res_there good.
           record { at_end = good; ways = (tt, (tt, tt)); alarms = tt }
-      bodies_known (suc n) k =
+      bodies_known (suc n) k below =
           chosen_known k n (body_pass o u limit ord p (slice_get p.functions n) n (bodies_pass o u limit ord p n))
           (bodies_pass o u limit ord p n k) (nat_eq k n) refl
-          (body_known n (bodies_pass o u limit ord p n) (bodies_known n)) (bodies_known n k)
+          (body_known n (omega (arith, below)) (bodies_pass o u limit ord p n)
+          (λ j. bodies_known n j (omega (arith, below)))) (bodies_known n k (omega (arith, below)))
 
       main_alarms : (g : Option Function) → slice_get p.functions p.main ≡ g
           → IsUndefinedOnly
@@ -515,7 +528,8 @@ module _ (p : Program) {S : Type 0} (o : StateOps S) (Good : S → (live res : L
       main_alarms None e = tt
       main_alarms (Some f) e =
           let good = law.entry f e in
-          let r = all_hold p.main f e (bodies_pass o u limit ord p p.main) (bodies_known p.main) f.body (frame_of f)
+          let r = all_hold formed p.main (omega arith) f e (bodies_pass o u limit ord p p.main)
+          (λ j. bodies_known p.main j (omega arith)) f.body (scopes_free p formed p.main f e (omega arith)) (frame_of f)
           false (fits_at p formed p.main f e).2 (tame_at p.functions tame p.main f e) o.entry o.entry none (frame_of f)
           (result_block f) (λ b i. i) (λ b i. i) good (tt, (tt, tt)) in
           let q = body_pass o u limit ord p (Some f) p.main (bodies_pass o u limit ord p p.main) Both o.entry in

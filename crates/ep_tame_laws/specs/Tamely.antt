@@ -10,8 +10,8 @@ use Rattle.ep_alarms.specs.declared.types.AlarmKind.TheVariants.{U1, U2, U3, U4,
 use Rattle.ep_alarms.specs.declared.types.AlarmKind.TheVariants.{E4}
 use Rattle.ep_layout.specs.Table.{IsBuilt}
 use Rattle.ep_core.specs.Program.{Expr, Dest, Simple, Function, Program}
-use Rattle.ep_core.specs.Exec.{first_of, frame_of}
-use Rattle.ep_core.specs.Runs.{Side}
+use Rattle.ep_core.specs.Exec.{first_of, frame_of, result_in}
+use Rattle.ep_core.specs.Runs.{Side, is_result}
 use Rattle.ep_core.specs.WellFormed.{result_type, is_tested, simple_fits, arguments_fit, takes_result, is_well_formed}
 use Rattle.ep_pass.specs.States.{Both, Transfer, Verdict, stuck, same, differs, StateOps}
 use Rattle.ep_pass.specs.Laws.{AreOther}
@@ -49,6 +49,14 @@ AreAmong bs cs = (b : ℕ) → contains b bs ≡ true → contains b cs ≡ true
 abbrev pub result_block : Function → List ℕ
 result_block f = first_of (option_to_list f.result)
 
+-- the block of main's result
+abbrev pub is_result_of_main : Program → ℕ → Bool
+is_result_of_main p b = is_result (result_in (slice_get p.functions p.main)) b
+
+-- main's result is in none of these blocks
+abbrev pub HaveNoResult : Program → List ℕ → Type 0
+HaveNoResult p bs = (b : ℕ) → contains b bs ≡ true → is_result_of_main p b ≡ false
+
 -- both truths of a test are equal, where it has any
 abbrev pub IsAlike : Verdict → Type 0
 IsAlike stuck = Unit {0}
@@ -80,10 +88,11 @@ pub record Tamely (p : Program) {S : Type 0} (o : StateOps S) (Good : S → (liv
       → is_tame_expr p.types e ≡ true
       → (t : Bool) (h s : S) (live res : List ℕ) → AreAmong seen live → Good h live res s
       → IfReached (Good h live res) (o.assume e t t s)
-  -- a function's frame and result come
+  -- the frame and result of a function before main come
   pub arguments : (k : ℕ) (f : Function) → slice_get p.functions k ≡ Some f → (es : List Expr) (seen : List ℕ)
       → arguments_fit p.types p.blocks seen f.params es ≡ true
       → list_all (is_tame_expr p.types) es ≡ true
+      → HaveNoResult p (frame_of f) → HaveNoResult p (result_block f)
       → (h s : S) (live res : List ℕ) → AreAmong seen live → Good h live res s
       → TransferIsGood (Good h (frame_of f ++ live) (result_block f ++ res)) (o.arguments Both f es s)
   -- its result goes
@@ -92,7 +101,7 @@ pub record Tamely (p : Program) {S : Type 0} (o : StateOps S) (Good : S → (liv
       → is_tame_dest p.types d ≡ true
       → (h s : S) (live res : List ℕ) → AreAmong seen live → Good h live (result_block f ++ res) s
       → TransferIsGood (Good h live res) (o.result Both f d s)
-  pub enter : (bs : List ℕ) (h s : S) (live res : List ℕ) → Good h live res s
+  pub enter : (bs : List ℕ) → HaveNoResult p bs → (h s : S) (live res : List ℕ) → Good h live res s
       → Good h (bs ++ live) res (o.enter Both bs s)
   pub leave : (bs : List ℕ) (h s : S) (live res : List ℕ) → Good h (bs ++ live) res s
       → Good h live res (o.leave Both bs s)

@@ -41,7 +41,7 @@ use Rattle.ep_alarm_laws.specs.Laws.{ProductsKeepStrides}
 use Rattle.ep_alarm_laws.proofs.Places.{among}
 use Rattle.ep_alarm_laws.proofs.Safe.{plain_honest}
 use Rattle.ep_kinds.specs.Tame.{are_tame_types, is_tame_expr, is_tame_simple}
-use Rattle.ep_tame_laws.specs.Tamely.{is_undefined, IfReached, AreAmong, IsAlike, TransferIsGood}
+use Rattle.ep_tame_laws.specs.Tamely.{is_undefined, IfReached, AreAmong, HaveNoResult, IsAlike, TransferIsGood}
 use Rattle.ep_tame_numbers.specs.Offsets.{KeepsOffsets}
 use Rattle.ep_tame_places.specs.Laws.{PlaceLaws}
 use Rattle.ep_tame_places.proofs.Blocks.{block_at}
@@ -252,11 +252,11 @@ module _ {N : Type 0} (D : Ops N) (law : Lawful D) (keeps : KeepsOffsets D) (pro
 
   -- ---- blocks, joins, heads
 
-  enter_good : (bs : List ℕ) (h s : Known N) (live res : List ℕ) → Good h live res s
+  enter_good : (bs : List ℕ) → HaveNoResult p bs → (h s : Known N) (live res : List ℕ) → Good h live res s
       → Good h (bs ++ live) res ((cell_ops D p ord).enter Both bs s)
-  enter_good bs h s live res g =
+  enter_good bs free h s live res g =
       subst (λ t. Good h (bs ++ live) res (known_or_empty D p ord t (entered D p pair_mode.Both bs s)))
-      (sym (told_pass D law p ord s g.state)) (changes.enter bs h s live res g)
+      (sym (told_pass D law p ord s g.state)) (changes.enter bs free h s live res g)
 
   leave_good : (bs : List ℕ) (h s : Known N) (live res : List ℕ) → Good h (bs ++ live) res s
       → Good h live res ((cell_ops D p ord).leave Both bs s)
@@ -318,7 +318,7 @@ ops_keep_good D law keeps products small p formed built tame ord = record {
       test_good D law keeps products small p formed built tame ord e seen typed own h s live res among g;
   assume = λ e seen typed t h s live res g.
       (states D law keeps products small p formed built tame ord).assumed seen e typed t t h s live res g;
-  enter = λ bs h s live res g. enter_good D law keeps products small p formed built tame ord bs h s live res g;
+  enter = λ bs free h s live res g. enter_good D law keeps products small p formed built tame ord bs free h s live res g;
   leave = λ bs h s live res g. leave_good D law keeps products small p formed built tame ord bs h s live res g;
   joined = λ h s t live res g i. joined_good D law keeps products small p formed built tame ord h s t live res g i;
   reshared = λ h s live res g. reshared_good D law keeps products small p formed built tame ord h s live res g;

@@ -44,11 +44,11 @@ same_kind : (a k : AlarmKind) → is_undefined a ≡ true → is_kind a k ≡ tr
 same_kind a k h e =
     undefined_is k ∙ ap (λ n. nat_lt n 10) (sym (eqb-true (place_of a) (place_of k) e)) ∙ sym (undefined_is a) ∙ h
 
-abbrev AreUndefined : List AlarmKind → Type 0
+abbrev pub AreUndefined : List AlarmKind → Type 0
 AreUndefined [] = Unit {0}
 AreUndefined (a ∷ kinds) = (is_undefined a ≡ true) × AreUndefined kinds
 
-one_of : (kinds : List AlarmKind) → AreUndefined kinds → (k : AlarmKind) → is_one_of kinds k ≡ true
+pub one_of : (kinds : List AlarmKind) → AreUndefined kinds → (k : AlarmKind) → is_one_of kinds k ≡ true
     → is_undefined k ≡ true
 one_of [] h k e = never e
 one_of (a ∷ kinds) h k e =
@@ -95,19 +95,19 @@ both_kinds (x ∷ xs) ys h i = (h.0, both_kinds xs ys h.1 i)
 address : AreUndefined address_kinds
 address = (refl, (refl, tt))
 
-reads : AreUndefined read_kinds
+pub reads : AreUndefined read_kinds
 reads = (refl, (refl, tt))
 
 -- ---- expressions
 
 module _ (strides : Bool) (k : AlarmKind) where
-  accesses : (a : Place) → AreUndefined (access_kinds strides k a)
+  pub accesses : (a : Place) → AreUndefined (access_kinds strides k a)
   accesses a =
       both_kinds (kinds_if (is_through a) (U5 ∷ U6 ∷ U7 ∷ [])) (kinds_if (not strides && is_indexed a) (U7 ∷ []))
       (kinds_where (is_through a) (U5 ∷ U6 ∷ U7 ∷ []) (refl, (refl, (refl, tt))))
       (kinds_where (not strides && is_indexed a) (U7 ∷ []) (refl, tt))
 
-  either : (a b : Bool) → (a ≡ true → is_undefined k ≡ true) → (b ≡ true → is_undefined k ≡ true) → (a || b) ≡ true
+  pub either : (a b : Bool) → (a ≡ true → is_undefined k ≡ true) → (b ≡ true → is_undefined k ≡ true) → (a || b) ≡ true
       → is_undefined k ≡ true
   either a b f g h = ⊎_elim f g (or_cases a b h)
 

@@ -12,7 +12,7 @@ use Rattle.ep_pass.specs.States.{Both, StateOps}
 use Rattle.ep_pass.specs.Turns.{last_head}
 use Rattle.ep_transfers.specs.Cells.{cell_ops}
 use Rattle.ep_kinds.specs.Tame.{is_tame_expr, is_tame_simple}
-use Rattle.ep_tame_laws.specs.Tamely.{is_undefined, IfReached, AreAmong, IsAlike, TransferIsGood}
+use Rattle.ep_tame_laws.specs.Tamely.{is_undefined, IfReached, AreAmong, HaveNoResult, IsAlike, TransferIsGood}
 use Rattle.ep_tame_cells.specs.Rank.{rank}
 use Rattle.ep_tame_states.specs.States.{IsGood}
 
@@ -44,7 +44,7 @@ module _ {N : Type 0} (D : Ops N) (p : Program) (ord : Side → Order) where
         → AreOf is_undefined (ops.test Both e s).faults × IsAlike (ops.test Both e s).verdict
     pub assume : (e : Expr) (seen : List ℕ) → is_tested p.types p.blocks seen e ≡ true → (t : Bool)
         → (h s : Known N) (live res : List ℕ) → Good h live res s → IfReached (Good h live res) (ops.assume e t t s)
-    pub enter : (bs : List ℕ) (h s : Known N) (live res : List ℕ) → Good h live res s
+    pub enter : (bs : List ℕ) → HaveNoResult p bs → (h s : Known N) (live res : List ℕ) → Good h live res s
         → Good h (bs ++ live) res (ops.enter Both bs s)
     pub leave : (bs : List ℕ) (h s : Known N) (live res : List ℕ) → Good h (bs ++ live) res s
         → Good h live res (ops.leave Both bs s)

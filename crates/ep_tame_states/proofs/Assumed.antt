@@ -35,10 +35,10 @@ use Rattle.ep_evaluation.specs.Laws.{IsState, Sound, sizes_of}
 use Rattle.ep_evaluation.proofs.Again.{again_there}
 use Rattle.ep_evaluation.proofs.Gathered.{evaluation_laws}
 use Rattle.ep_kinds.specs.Rows.{HasScalar}
-use Rattle.ep_tame_laws.specs.Tamely.{IfReached}
+use Rattle.ep_tame_laws.specs.Tamely.{IfReached, is_result_of_main}
 use Rattle.ep_tame_places.specs.Places.{PointsTo}
 use Rattle.ep_tame_places.specs.Laws.{PlaceLaws}
-use Rattle.ep_tame_states.specs.States.{ValueHas, IsInBlock, CellPoints, IsGood}
+use Rattle.ep_tame_states.specs.States.{ValueHas, IsInBlock, IsSure, CellPoints, IsGood}
 use Rattle.ep_tame_states.proofs.Meetings.{good_alike, good_joined}
 use Rattle.ep_tame_states.proofs.Narrowed.{StaysNarrowed, IsThere, then_reached, either_reached, sure_reached}
 use Rattle.ep_tame_states.proofs.Narrowed.{numbers_reached, pointers_reached, test_reached}
@@ -53,6 +53,13 @@ module _ {N : Type 0} where
   pointer_sort : (w : Scalar) (q r : Pointers N) → IsOfSort w (Some (Ptr q)) → IsOfSort w (Some (Ptr r))
   pointer_sort (Int t) q r h = absurd h
   pointer_sort Pointer q r h = tt
+
+  record IsNumber (v : Value N) : Type 0 where
+    pub number : N
+    pub is : v ≡ Num number
+
+  no_pointer : (q : Pointers N) (n : N) (v : Value N) → Some (Ptr q) ≡ Some (Num n) → IsNumber v
+  no_pointer q n v e = absurd cc
 
   -- ---- a cell with another value stays in its place
 
@@ -69,21 +76,26 @@ module _ {N : Type 0} (D : Ops N) (law : Lawful D) (p : Program) (places : Place
   abbrev Good : Known N → Type 0
   Good = IsGood D p ord h live res
 
-  set_points : (x c : Cell N) (v : Value N) → AreAlike x c
-      → ((P : ℕ → N → Type 0) → ValueHas P c.value → ValueHas P (Some v)) → CellPoints D p live c
+  set_points : (x c : Cell N) (v : Value N) → (is_result_of_main p x.block ≡ true → IsSure x) → AreAlike x c
+      → ((n : N) → c.value ≡ Some (Num n) → IsNumber v) → ((P : ℕ → N → Type 0) → ValueHas P c.value → ValueHas P (Some v)) → CellPoints D p live c
       → CellPoints D p live (record x { value = Some v })
-  set_points x c v a no_more g = record {
+  set_points x c v old a number no_more g = record {
     inside = no_more (IsInBlock D p) g.inside;
     along = λ b there pt ty at target.
         no_more (PointsTo D p live ty)
         (g.along b (ap (slice_get p.blocks) (sym a.block) ∙ there) pt ty
         (subst (λ q. HasScalar p.types b.ty q pt) a.offset at) target);
+    sure = λ own.
+        (let s = g.sure (ap (is_result_of_main p) (sym a.block) ∙ own) in
+        let n = number s.number s.value in
+        record { number = n.number; value = ap Some n.is; there = (old own).there });
   }
 
   set_good : (k : Known N) (c : Cell N) (v : Value N) → Good k → IsIn c k.cells → IsOfSort c.what (Some v)
-      → HasRisingBlocks (Some v) → ((P : ℕ → N → Type 0) → ValueHas P c.value → ValueHas P (Some v))
+      → HasRisingBlocks (Some v) → ((n : N) → c.value ≡ Some (Num n) → IsNumber v)
+      → ((P : ℕ → N → Type 0) → ValueHas P c.value → ValueHas P (Some v))
       → Good (with_value c v k)
-  set_good k c v g i sort rising no_more =
+  set_good k c v g i sort rising number no_more =
       good_alike D law p places ord h k live res (map (set_in c v) k.cells) g
       (subst (λ d. AreCells d (map (set_in c v) k.cells)) g.state.model
       (set_cells D k.model k.cells c v g.state.cells i sort rising))
@@ -94,7 +106,7 @@ module _ {N : Type 0} (D : Ops N) (law : Lawful D) (p : Program) (places : Place
     where
       one : (x : Cell N) (t : Bool) → is_same_cell x c ≡ t → CellPoints D p live x
           → CellPoints D p live (cond t (record x { value = Some v }) x)
-      one x true e old = set_points x c v (alike_same x c e) no_more (g.points c i)
+      one x true e old = set_points x c v old.sure (alike_same x c e) number no_more (g.points c i)
       one x false e old = old
 
   sort_at : (k : Known N) (c : Cell N) (v : Option (Value N)) → Good k → IsIn c k.cells → c.value ≡ v
@@ -104,14 +116,16 @@ module _ {N : Type 0} (D : Ops N) (law : Lawful D) (p : Program) (places : Place
   narrowed : StaysNarrowed D Good
   narrowed = record {
     number = λ k c m n g i e.
-        set_good k c (Num n) g i (number_sort c.what m n (sort_at k c (Some (Num m)) g i e)) tt (λ P has. tt);
+        set_good k c (Num n) g i (number_sort c.what m n (sort_at k c (Some (Num m)) g i e)) tt
+        (λ o f. record { number = n; is = refl }) (λ P has. tt);
     null = λ k c q g i e.
         set_good k c (Ptr null_alone) g i (pointer_sort c.what q null_alone (sort_at k c (Some (Ptr q)) g i e)) tt
-        (λ P has. tt);
+        (λ n f. no_pointer q n (Ptr null_alone) (sym e ∙ f)) (λ P has. tt);
     no_null = λ k c q g i e.
         set_good k c (Ptr (pointers false q.targets)) g i
         (pointer_sort c.what q (pointers false q.targets) (sort_at k c (Some (Ptr q)) g i e))
-        (subst HasRisingBlocks e (g.state.cells.each c i).rising) (λ P has. subst (ValueHas P) e has);
+        (subst HasRisingBlocks e (g.state.cells.each c i).rising)
+        (λ n f. no_pointer q n (Ptr (pointers false q.targets)) (sym e ∙ f)) (λ P has. subst (ValueHas P) e has);
     met = λ k l g i. good_joined D law p places ord h k l live res g i;
   }
 

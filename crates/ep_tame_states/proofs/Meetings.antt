@@ -1,5 +1,5 @@
 -- Good states that come together, and good states with other values.
-use Rattle.std.proofs.Common.{◌≡◌, ℕ, zero, suc, ◌<◌, Bool, true, false, cond, List, [], ◌∷◌, length, slice_get}
+use Rattle.std.proofs.Common.{◌≡◌, ℕ, zero, suc, ◌<◌, Bool, true, false, ◌||◌, cond, List, [], ◌∷◌, length, slice_get}
 use Rattle.std.proofs.Common.{Option, Some, None, refl, sym, ap, ◌∙◌, subst, arith, nat_eq}
 use Rattle.std.specs.Prelude.{is_some}
 use Rattle.std.proofs.lemmas.Bool.{eqb-true}
@@ -24,6 +24,7 @@ use Rattle.ep_core.specs.WellFormed.{is_named}
 use Rattle.ep_evaluation.specs.Laws.{IsState}
 use Rattle.ep_evaluation.specs.Narrowed.{both}
 use Rattle.ep_kinds.specs.Rows.{HasScalar}
+use Rattle.ep_tame_laws.specs.Tamely.{is_result_of_main}
 use Rattle.ep_tame_values.specs.Offsets.{EachTarget}
 use Rattle.ep_tame_values.proofs.Targets.{together_each}
 use Rattle.ep_tame_places.specs.Places.{PointsTo}
@@ -36,7 +37,7 @@ use Rattle.ep_tame_cells.specs.HeadLaws.{known, together, join, widening, HeadLa
 use Rattle.ep_tame_cells.proofs.Over.{same_alike, both_alike}
 use Rattle.ep_tame_cells.proofs.Shapes.{HasAlike, forth, like_there, is_like, IsKept, kept_there, kept_is, shape_laws_of}
 use Rattle.ep_tame_cells.proofs.Heads.{is_both, alike as alike_both, head_laws_of}
-use Rattle.ep_tame_states.specs.States.{ValueHas, IsInBlock, CellPoints, IsGood}
+use Rattle.ep_tame_states.specs.States.{ValueHas, IsInBlock, IsSure, CellPoints, IsGood}
 use Rattle.ep_tame_states.specs.Laws.{widening_of}
 
 module _ {N : Type 0} where
@@ -50,6 +51,19 @@ module _ {N : Type 0} where
   both_have P f go (Some (Ptr q)) (Some (Ptr r)) h i = together_each P f go q.targets r.targets h i
   both_have P f go (Some (Num a)) (Some (Ptr q)) h i = tt
   both_have P f go (Some (Ptr q)) (Some (Num b)) h i = h
+
+  -- ---- numbers that are there
+
+  -- another form
+  pub form_apart : (x y : Cell N) → y.value ≡ x.value → y.maybe ≡ x.maybe → IsSure x → IsSure y
+  form_apart x y v m s = record { number = s.number; value = v ∙ s.value; there = m ∙ s.there }
+
+  pub both_sure : (f : N → N → N) (x y : Cell N) → IsSure x → IsSure y → IsSure (cell_of_both f x y)
+  both_sure f x y s t = record {
+    number = f s.number t.number;
+    value = ap (λ v. value_of_both f v y.value) s.value ∙ ap (value_of_both f (Some (Num s.number))) t.value;
+    there = ap (λ b. b || y.maybe) s.there ∙ t.there;
+  }
 
   alike_both_ways : (x y z : Cell N) → AreAlike x z → AreAlike y z → AreAlike x y
   alike_both_ways x y z a b = record {
@@ -81,7 +95,7 @@ module _ {N : Type 0} where
       let b = is_like a.cell ys (more a.cell a.is_in) in
       like_there x ys b.cell b.is_in (same_alike b.cell x (alike_on b.cell a.cell x b.alike a.alike))
 
-  had_itself : (xs : List (Cell N)) → AreHad xs xs
+  pub had_itself : (xs : List (Cell N)) → AreHad xs xs
   had_itself xs x i =
       like_there x xs x i (same_alike x x (record { side = refl; block = refl; offset = refl; what = refl }))
 
@@ -127,6 +141,7 @@ module _ {N : Type 0} (D : Ops N) (law : Lawful D) (p : Program) (places : Place
     results = g.results;
     points = g.points;
     over = had_itself k.cells;
+    apart = g.apart;
   }
 
   pub good_carried : (g h k : Known N) (live res : List ℕ) → IsGood D p ord g live res h → IsGood D p ord h live res k
@@ -138,6 +153,7 @@ module _ {N : Type 0} (D : Ops N) (law : Lawful D) (p : Program) (places : Place
     results = b.results;
     points = b.points;
     over = had_on g.cells h.cells k.cells a.over b.over;
+    apart = b.apart;
   }
 
   pub good_alike : (h k : Known N) (live res : List ℕ) (cs : List (Cell N)) → IsGood D p ord h live res k
@@ -154,6 +170,7 @@ module _ {N : Type 0} (D : Ops N) (law : Lawful D) (p : Program) (places : Place
     results = λ b n. shapes.alike_covers p k.cells cs b same (g.results b n);
     points = points;
     over = had_alike h.cells k.cells cs same g.over;
+    apart = g.apart;
   }
 
   -- ---- two states
@@ -170,6 +187,7 @@ module _ {N : Type 0} (D : Ops N) (law : Lawful D) (p : Program) (places : Place
           both_have (PointsTo D p live ty) f (go ty) x.value y.value (h.along z there pt ty at target)
           (i.along z (ap (slice_get p.blocks) (sym a.block) ∙ there) pt ty
           (subst (λ q. HasScalar p.types z.ty q pt) a.offset at) target);
+      sure = λ own. both_sure f x y (h.sure own) (i.sure (ap (is_result_of_main p) (sym a.block) ∙ own));
     }
 
     old_points : (xs ys : List (Cell N)) → ((c : Cell N) → IsIn c xs → CellPoints D p live c) → (c : Cell N)
@@ -178,7 +196,12 @@ module _ {N : Type 0} (D : Ops N) (law : Lawful D) (p : Program) (places : Place
         let k = kept_is p xs ys c i in
         let old = h k.old k.is_in in
         let new : CellPoints D p live (reformed (fate_by_lack ys) k.old) =
-        record { inside = old.inside; along = old.along } in
+        record {
+          inside = old.inside;
+          along = old.along;
+          sure = λ own. form_apart k.old (reformed (fate_by_lack ys) k.old) refl
+              refl (old.sure own);
+        } in
         subst (CellPoints D p live) (sym k.is) new
 
     module _ (xs ys : List (Cell N)) (a : HasShape p xs) (b : HasShape p ys) where
@@ -225,6 +248,7 @@ module _ {N : Type 0} (D : Ops N) (law : Lawful D) (p : Program) (places : Place
         results = λ c n. covers c (g.results c n) (i.results c n);
         points = made_points g.points i.points;
         over = made_had h.cells g.over i.over;
+        apart = g.apart;
       }
 
   -- ---- joins and widenings

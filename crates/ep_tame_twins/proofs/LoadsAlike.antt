@@ -1,126 +1,49 @@
--- Loads of tame programs, from cells of both memories.
-use Rattle.std.proofs.Common.{◌≡◌, ℕ, ◌<◌, Bool, true, false, ◌&&◌, List, [], ◌∷◌, map, slice_get, Option, Some, None}
-use Rattle.std.proofs.Common.{refl, sym, ap, ◌∙◌, subst}
-use Rattle.std.proofs.lemmas.Bool.{and_from}
-use Rattle.ep_int.specs.declared.types.Model.{Model}
+-- Loads of tame programs in good states.
+use Rattle.std.proofs.Common.{◌≡◌, ℕ, true, List, Some}
 use Rattle.ep_int.specs.declared.types.Order.{Order}
 use Rattle.ep_int.specs.declared.types.Scalar.{Scalar}
-use Rattle.ep_int.specs.Types.{size_of}
-use Rattle.ep_layout.specs.Table.{IsBuilt, size, scalar_of, target_of}
-use Rattle.ep_layout.proofs.Sizes.{size_of_scalar}
-use Rattle.ep_bitslice.specs.declared.cell.Side.{Side as CellSide}
-use Rattle.ep_bitslice.specs.declared.cell.Side.TheVariants as cell_side
+use Rattle.ep_layout.specs.Table.{IsBuilt, scalar_of, target_of}
 use Rattle.ep_domain.specs.Domain.{Ops}
-use Rattle.ep_cells.specs.declared.cell.Value.{Value}
 use Rattle.ep_cells.specs.States.{Known}
-use Rattle.ep_cells.specs.Both.{value_of_both}
-use Rattle.ep_reads.specs.declared.read.ReadValue.{ReadValue}
-use Rattle.ep_reads.specs.Read.{read, whole_read}
-use Rattle.ep_cell_ranges.specs.Spots.{Spot}
-use Rattle.ep_core.specs.Program.{Program, Place, Block}
-use Rattle.ep_core.specs.Runs.{Side, left, right}
+use Rattle.ep_core.specs.Program.{Program, Place}
+use Rattle.ep_core.specs.Runs.{Side}
 use Rattle.ep_core.specs.WellFormed.{blocks_fit}
+use Rattle.ep_cell_ranges.specs.Spots.{Spot}
 use Rattle.ep_equalities.specs.declared.pair.Mode.TheVariants.{Both}
 use Rattle.ep_equalities.specs.declared.pair.SideValue.{SideValue}
 use Rattle.ep_evaluation.specs.Given.{Given}
-use Rattle.ep_evaluation.specs.Accesses.{reads_of, joined_from, form_of_reads, joined_reads}
-use Rattle.ep_evaluation.specs.Evaluation.{pointer, targets_of, places_at, load_side, load_shared, load_given, same}
+use Rattle.ep_evaluation.specs.Evaluation.{places_at, load_given}
 use Rattle.ep_evaluation.specs.Laws.{sizes_of}
-use Rattle.ep_kinds.specs.Rows.{HasScalar}
 use Rattle.ep_kinds.specs.Tame.{are_tame_types}
-use Rattle.ep_tame_laws.proofs.Parts.{scalar_size}
 use Rattle.ep_tame_places.specs.Places.{PointsTo, LiesAt}
 use Rattle.ep_tame_places.specs.Laws.{PlaceLaws}
-use Rattle.ep_tame_places.proofs.Blocks.{block_at}
 use Rattle.ep_tame_accesses.specs.Laws.{HasObject, EachSpot, AccessesAreOfObjects}
-use Rattle.ep_tame_cells.specs.Shared.{AreSharedCells}
 use Rattle.ep_tame_cells.specs.Shape.{HasCellAt}
-use Rattle.ep_tame_cells.specs.ReadLaws.{HaveCells, ReadLaws}
-use Rattle.ep_tame_cells.proofs.Exact.{read_there, read_laws_of}
-use Rattle.ep_tame_cells.proofs.Shapes.{shape_laws_of}
 use Rattle.ep_tame_states.specs.States.{ValueHas, IsGood}
-use Rattle.ep_tame_states.proofs.Meetings.{both_have}
 use Rattle.ep_tame_twins.specs.Twins.{IsTwin}
-use Rattle.ep_tame_twins.proofs.Values.{targets_have, converted_has}
-use Rattle.ep_tame_twins.proofs.Alike.{same_of}
+use Rattle.ep_tame_twins.proofs.LoadsNear.{CanLoad, cell_of as cell_near, spots_of as spots_near, load_twin as twin_near}
+use Rattle.ep_tame_twins.proofs.LoadsNear.{load_points as points_near}
 
 module _ {N : Type 0} (D : Ops N) (p : Program) (ord : Side → Order) (built : IsBuilt p.types)
     (tame : are_tame_types p.types ≡ true) (fit : blocks_fit p.types p.blocks ≡ true) (places : PlaceLaws D p)
     (access : AccessesAreOfObjects D p) (live res : List ℕ) (h k : Known N) (g : IsGood D p ord h live res k)
     (w : Scalar) where
-  shared : AreSharedCells k.model k.cells
-  shared =
-      subst (λ (d : Model). AreSharedCells d k.cells) (sym g.state.model)
-      ((shape_laws_of D).shared p k.cells g.shape)
-
-  -- ---- objects of a type that is this scalar
+  pub can_load : CanLoad D p ord live live k
+  can_load = record { state = g.state; shape = g.shape; named = g.named; points = g.points }
 
   module _ (u : ℕ) (is : scalar_of p.types u ≡ Some w) where
-    cell_of : (q : Spot) → HasObject p live u q → HasCellAt p k.cells q.0 q.1 w
-    cell_of q o =
-        (read_laws_of D).stands p k.cells q.0 o.of_block q.1 u w built tame o.there
-        (block_at p fit q.0 o.of_block o.there).sized (g.named q.0 o.named) o.stands is
+    pub cell_of : (q : Spot) → HasObject p live u q → HasCellAt p k.cells q.0 q.1 w
+    cell_of q o = cell_near D p ord built tame fit places access live live k can_load w u is q o
 
-    have_cells : (qs : List Spot) → EachSpot (HasObject p live u) qs → HaveCells p k.cells w qs
-    have_cells [] o = tt
-    have_cells (q ∷ qs) o = (cell_of q o.0, have_cells qs o.1)
-
-    spots_of : (a : Place) (v : SideValue N) → ValueHas (LiesAt D p live a u) v.value
+    pub spots_of : (a : Place) (v : SideValue N) → ValueHas (LiesAt D p live a u) v.value
         → EachSpot (HasObject p live u) (places_at D (sizes_of p.blocks) w k v)
-    spots_of a v l =
-        access live a u (size_of k.model w) (size_of k.model w) (targets_of D (sizes_of p.blocks) (pointer D v))
-        (scalar_size p.types built u w is ∙ ap (λ (d : Model). Some (size_of d w)) (sym g.state.model))
-        (size_of_scalar k.model w).0
-        (targets_have D (sizes_of p.blocks) (LiesAt D p live a u) v.value l)
-
-    -- ---- pointers that are read
-
-    module _ (ty : ℕ) (target : target_of p.types u ≡ Some ty) where
-      spot_points : (s : CellSide) (q : Spot) → HasObject p live u q
-          → ValueHas (PointsTo D p live ty) (read D k s q.0 q.1 w).value
-      spot_points s q o =
-          let c = cell_of q o in
-          let own = (g.points c.cell c.is_in).along o.of_block (ap (slice_get p.blocks) c.block ∙ o.there) u ty
-          (subst (λ x. HasScalar p.types o.of_block.ty x u) (sym c.offset) o.stands) target in
-          subst (λ (r : ReadValue N). ValueHas (PointsTo D p live ty) r.value)
-          (sym (read_there D p k s q.0 q.1 w shared c))
-          (converted_has D (PointsTo D p live ty) w c.cell.value own)
-
-      reads_point : (s : CellSide) (v : Option (Value N)) → ValueHas (PointsTo D p live ty) v → (qs : List Spot)
-          → EachSpot (HasObject p live u) qs → ValueHas (PointsTo D p live ty) (joined_from D v (reads_of D k s w qs))
-      reads_point s v i [] o = i
-      reads_point s v i (q ∷ qs) o =
-          reads_point s (value_of_both D.join v (read D k s q.0 q.1 w).value)
-          (both_have (PointsTo D p live ty) D.join (λ b n m x y. places.joined live ty b n m x y) v
-          (read D k s q.0 q.1 w).value i (spot_points s q o.0)) qs o.1
-
-  -- ---- what a load gives
+    spots_of a v l = spots_near D p ord built tame fit places access live live k can_load w u is a v l
 
   module _ (u : ℕ) (is : scalar_of p.types u ≡ Some w) (a : Place) (x : Given N) (twin : IsTwin x)
       (l : ValueHas (LiesAt D p live a u) x.pair.left.value) where
-    abbrev qs : List Spot
-    qs = places_at D (sizes_of p.blocks) w k x.pair.left
-
-    cells : HaveCells p k.cells w qs
-    cells = have_cells u is qs (spots_of u is a x.pair.left l)
-
-    abbrev side : List (ReadValue N) → SideValue N
-    side rs = record { value = joined_reads D rs; form = form_of_reads rs }
-
     pub load_twin : IsTwin (load_given D (sizes_of p.blocks) w Both k x)
-    load_twin = record {
-      equal = and_from (same D x) _ (same_of D x twin)
-          (and_from (load_shared D (sizes_of p.blocks) w k x.pair.left left)
-          (load_shared D (sizes_of p.blocks) w k x.pair.right right)
-          ((read_laws_of D).shared p k cell_side.Left w qs shared cells)
-          (subst (λ (v : SideValue N). load_shared D (sizes_of p.blocks) w k v right ≡ true) twin.alike
-          ((read_laws_of D).shared p k cell_side.Right w qs shared cells)));
-      alike =
-          ap side ((read_laws_of D).alike p k w qs shared cells)
-          ∙ ap (λ (v : SideValue N). load_side D (sizes_of p.blocks) w k v right) twin.alike;
-    }
+    load_twin = twin_near D p ord built tame fit places access live live k can_load w u is a x twin l
 
     pub load_points : (ty : ℕ) → target_of p.types u ≡ Some ty
         → ValueHas (PointsTo D p live ty) (load_given D (sizes_of p.blocks) w Both k x).pair.left.value
-    load_points ty target =
-        reads_point u is ty target cell_side.Left None tt qs (spots_of u is a x.pair.left l)
+    load_points ty target = points_near D p ord built tame fit places access live live k can_load w u is a x twin l ty target

@@ -1,12 +1,11 @@
 -- A cell is written over one of its place and type.
-use Rattle.std.proofs.Common.{◌≡◌, ℕ, ◌+◌, Bool, true, false, ◌&&◌, ◌||◌, not, cond, ◌⊎◌, inl, inr, ⊎_elim, List, [], ◌∷◌}
-use Rattle.std.proofs.Common.{map, slice_get, Option, Some, None, refl, sym, ap, ◌∙◌, subst, arith, nat_le}
+use Rattle.std.proofs.Common.{◌≡◌, ℕ, ◌+◌, Bool, true, false, ◌&&◌, not, cond, ⊎_elim, List, [], ◌∷◌}
+use Rattle.std.proofs.Common.{slice_get, Option, Some, None, refl, sym, ap, ◌∙◌, subst, arith, nat_le}
 use Rattle.std.specs.List.{filter}
 use Rattle.std.proofs.lemmas.Bool.{and_parts, and_from, le-leb}
 use Rattle.ep_int.specs.declared.types.Model.{Model}
 use Rattle.ep_int.specs.declared.types.Order.{Order}
 use Rattle.ep_int.specs.declared.types.Scalar.{Scalar}
-use Rattle.ep_int.specs.Types.{size_of}
 use Rattle.ep_bitslice.specs.declared.cell.Side.{Side as CellSide}
 use Rattle.ep_bitslice.specs.declared.cell.Side.TheVariants.{Left, Right, Shared}
 use Rattle.ep_domain.specs.Domain.{Ops, Lawful}
@@ -16,11 +15,12 @@ use Rattle.ep_cells.specs.declared.place.ByteRange.{ByteRange}
 use Rattle.ep_cells.specs.Cells.{IsIn, first, later, parts_of, place_of, touches, meets, encloses, share_memory, is_partly_in, is_same_side}
 use Rattle.ep_cells.specs.Cells.{is_same_place, put, each_becomes}
 use Rattle.ep_cells.specs.Forms.{Fate, reformed}
+use Rattle.ep_cells.specs.Both.{cell_of_both}
 use Rattle.ep_cells.specs.Write.{left_by_write, fate_by_write, written}
 use Rattle.ep_cells.specs.Weaken.{with_join, weak_part, blurred, left_by_weak_write, fate_by_weak_write, weakened}
 use Rattle.ep_cells.specs.States.{Known, AreCells, AreAlike, HaveCellsAlike, Fits}
 use Rattle.ep_cells.proofs.Lists.{in_map, in_each, in_put}
-use Rattle.ep_reads.specs.Split.{cut_cells, split_all, split}
+use Rattle.ep_reads.specs.Split.{cut_cells, split_all}
 use Rattle.ep_cell_ranges.specs.Ranges.{Form, with_form, on_cell_side, split_at, cut, form_by_cut, replaced}
 use Rattle.ep_cell_ranges.specs.Spots.{Spot}
 use Rattle.ep_core.specs.Program.{Program}
@@ -30,21 +30,22 @@ use Rattle.ep_transfers.specs.Laws.{CellLaws}
 use Rattle.ep_transfers.specs.Writes.{lacks, new_cell}
 use Rattle.ep_transfers.proofs.Gathered.{cell_laws}
 use Rattle.ep_transfers.proofs.Strong.{strong_cells}
+use Rattle.ep_tame_laws.specs.Tamely.{is_result_of_main}
 use Rattle.ep_tame_places.specs.Places.{PointsTo}
 use Rattle.ep_tame_places.specs.Laws.{PlaceLaws}
 use Rattle.ep_tame_cells.specs.Shared.{AreSharedCells, IsOverCell}
 use Rattle.ep_tame_cells.proofs.Entered.{one_in}
 use Rattle.ep_tame_cells.proofs.Over.{same_alike, place_alike, touched_alike, written_alike, weakened_alike}
 use Rattle.ep_tame_cells.proofs.Shapes.{shape_laws_of}
-use Rattle.ep_tame_states.specs.States.{ValueHas, IsInBlock, CellPoints, IsGood}
-use Rattle.ep_tame_states.proofs.Meetings.{both_have, good_alike}
+use Rattle.ep_tame_states.specs.States.{IsInBlock, CellPoints, IsGood}
+use Rattle.ep_tame_states.proofs.Meetings.{both_have, form_apart, both_sure, good_alike}
 use Rattle.ep_tame_writes.specs.Laws.{CanStand, WritesKeepGood}
 
-no_more : (b : Bool) → (b && false) ≡ false
+pub no_more : (b : Bool) → (b && false) ≡ false
 no_more true = refl
 no_more false = refl
 
-nothing : (b t : Bool) → ((b && false) && t) ≡ false
+pub nothing : (b t : Bool) → ((b && false) && t) ≡ false
 nothing true t = refl
 nothing false t = refl
 
@@ -54,7 +55,7 @@ module _ {N : Type 0} where
   undefined_if None false e = refl
   undefined_if (Some x) b e = absurd cc
 
-  none_kept : (test : Cell N → Bool) (cs : List (Cell N)) → ((x : Cell N) → IsIn x cs → test x ≡ false)
+  pub none_kept : (test : Cell N → Bool) (cs : List (Cell N)) → ((x : Cell N) → IsIn x cs → test x ≡ false)
       → filter test cs ≡ []
   none_kept test [] h = refl
   none_kept test (x ∷ cs) h =
@@ -121,11 +122,19 @@ module _ {N : Type 0} (D : Ops N) (law : Lawful D) (p : Program) (places : Place
   }
 
   points_formed : CellPoints D p live formed
-  points_formed = record { inside = can.points.inside; along = can.points.along }
+  points_formed = record {
+    inside = can.points.inside;
+    along = can.points.along;
+    sure = λ m. form_apart c formed refl refl (can.points.sure m);
+  }
 
   -- another form
   any_form : (x : Cell N) (fate : Fate) → CellPoints D p live x → CellPoints D p live (reformed fate x)
-  any_form x fate i = record { inside = i.inside; along = i.along }
+  any_form x fate i = record {
+    inside = i.inside;
+    along = i.along;
+    sure = λ m. form_apart x (reformed fate x) refl refl (i.sure m);
+  }
 
   written_points : (y : Cell N) → IsIn y (written k.model formed k.cells) → CellPoints D p live y
   written_points y i =
@@ -168,6 +177,9 @@ module _ {N : Type 0} (D : Ops N) (law : Lawful D) (p : Program) (places : Place
         (i.along z there pt ty at target)
         (can.points.along z (ap (slice_get p.blocks) a.block ∙ there) pt ty
         (subst (λ o. HasScalar p.types z.ty o pt) (sym a.offset) at) target);
+    sure = λ m.
+        (let s = both_sure D.join x c (i.sure m) (can.points.sure (ap (is_result_of_main p) a.block ∙ m)) in
+        form_apart (cell_of_both D.join x c) (with_join D c x) refl refl s);
   }
 
   weak_points : (x z : Cell N) → IsIn x k.cells → IsIn z (left_by_weak_write D k.model c true x)

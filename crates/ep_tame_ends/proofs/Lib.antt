@@ -1,0 +1,5 @@
+pub mod Begun
+pub mod Firsts
+pub mod Entry
+pub mod Ended
+pub mod Gathered

@@ -1,0 +1,3 @@
+pub mod LeafLists
+pub mod Same
+pub mod Scalars

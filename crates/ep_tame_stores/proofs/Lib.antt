@@ -1,0 +1,4 @@
+pub mod StatementKinds
+pub mod Values
+pub mod MainResult
+pub mod Stores
