@@ -22,7 +22,7 @@ use Rattle.ep_lexer.specs.declared.tokens.Token.{Token}
 use Rattle.ep_lexer.specs.Tokens.{view}
 use Rattle.ep_reading.specs.Answer.{Clear, Fails}
 use Rattle.ep_decls.specs.Answer.{defines, prototype, declares, completes, Itemed, InItem, in_words, in_typedef}
-use Rattle.ep_decls.specs.Answer.{in_arms, in_first, in_second, Whole, whole}
+use Rattle.ep_decls.specs.Answer.{in_arms, in_first, in_second, NoneFits, Whole, whole}
 use Rattle.ep_decls.proofs.BeginLemmas.{worded_not, in_specs_not}
 
 -- no item begins where there is no token
@@ -176,6 +176,24 @@ items_offend xs halts.Memory n h = tt
 pub depth_offends : (xs : List Tok) (f : Refusal) (is : List Item) → None ≡ brackets_past 0 xs → Takes Whole xs is []
     → (f.kind ≡ 22) × (f.word ≡ 0) × (too_deep is ≡ Some f.line) → Offends xs f
 depth_offends xs f is n t h = of_kind xs f 22 h.0 h.1 (offences.too_deep_inside (sym n) (whole_derives xs is t) h.2)
+
+-- ---- what is refused for nesting has no tree that isn't too deep
+
+pub brackets_fit_none : (xs : List Tok) (l : ℕ) → Some l ≡ brackets_past 0 xs → NoneFits xs
+brackets_fit_none xs l e is p b d = cc
+
+pub items_not_deep : (xs : List Tok) (e : Halt) → Fails Whole HasBitField xs e
+    → IfRefused e (λ r. r.kind ≡ 22 → NoneFits xs)
+items_not_deep xs (halts.Refused f) h = elim h [
+  | inl p ↦ λ k. absurd (let q = p.2.0 in omega (arith, k, q))
+  | inr p ↦ λ k. absurd (let q = p.1 in omega (arith, k, q))
+]
+items_not_deep xs halts.Memory h = tt
+
+pub depth_fits_none : (xs : List Tok) (is : List Item) (l : ℕ) → Takes Whole xs is [] → too_deep is ≡ Some l
+    → NoneFits xs
+depth_fits_none xs is l t e js p b d =
+    let h = whole_alone xs is js t p in let k : too_deep is ≡ None = rw (← h) d in cc
 
 -- ---- the end of the tokens
 

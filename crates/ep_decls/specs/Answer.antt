@@ -22,7 +22,7 @@ use Rattle.ep_ast.specs.StatementGrammar.{IsIf}
 use Rattle.ep_ast.specs.Reading.{Takes}
 use Rattle.ep_ast.specs.ProgramGrammar.{Typedefs, Defines, Functions, OtherFunctions, OneItem, Programs}
 use Rattle.ep_ast.specs.BitField.{InSpecs, InFunctions, HasBitField}
-use Rattle.ep_ast.specs.Depth.{in_function, in_functions, in_item, too_deep}
+use Rattle.ep_ast.specs.Depth.{brackets_past, in_function, in_functions, in_item, too_deep}
 use Rattle.ep_reading.specs.declared.measured.Measured.{Measured}
 use Rattle.ep_reading.specs.Answer.{Clear, Fails}
 use Rattle.ep_reading.specs.Measured.{Shows, ShowsAll}
@@ -117,6 +117,10 @@ pub data Whole : List Tok → List Tok → List Item → Type 0 where
 abbrev pub ReadsAll : List Tok → Result (Measured (Vec ItemTree)) Halt → Type 0
 ReadsAll xs (Ok k) = (is : List Item) × ShowsItems k is × Takes Whole xs is [] × Clear HasBitField xs
 ReadsAll xs (Err e) = Fails Whole HasBitField xs e
+
+-- whatever tree the tokens are, there is too much in it inside one another, or too many brackets are open
+abbrev pub NoneFits : List Tok → Type 0
+NoneFits ts = (is : List Item) → Programs ts is → brackets_past 0 ts ≡ None → too_deep is ≡ None → ⊥
 
 -- the same refusal, perhaps with another line
 abbrev pub IsMoved : Halt → Halt → Type 0

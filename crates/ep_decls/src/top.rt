@@ -4,11 +4,12 @@ ghost use Rattle.std.specs.Prelude.{◌≡◌, ◌<◌, ◌^◌, length, map, If
 ghost use Rattle.ep_ast.specs.Statement.{Item, program_of};
 ghost use Rattle.ep_ast.specs.ProgramGrammar.{Programs};
 ghost use Rattle.ep_ast.specs.Depth.{brackets_past, too_deep};
+ghost use Rattle.ep_ast.specs.Kind.{nesting};
 ghost use Rattle.ep_ast.specs.Offence.{Offends};
 ghost use Rattle.ep_ast.specs.Refusal.{IfRefused};
 ghost use Rattle.ep_ast.specs.declared.refusals.Refusal.{Refusal};
 ghost use Rattle.ep_lexer.specs.Tokens.{view, all_view};
-ghost use Rattle.ep_decls.specs.Answer.{ReadsAll};
+ghost use Rattle.ep_decls.specs.Answer.{NoneFits, ReadsAll};
 
 use crate::items::item;
 use crate::trees::{too_deep, whole};
@@ -47,6 +48,7 @@ pub fn program(alloc: Global, tokens: &Tokens) -> Result<ProgramTree, Halt>
         × (too_deep (program_of t) ≡ None)) }
     ensures faultless { IfOk result (λ _. (r : Refusal) → Offends (all_view tokens.now) r → ⊥) }
     ensures refused { IfErr result (λ e. IfRefused e (Offends (all_view tokens.now))) }
+    ensures deep { IfErr result (λ e. IfRefused e (λ r. r.kind ≡ nesting → NoneFits (all_view tokens.now))) }
 {
     let all = tokens.list.as_slice();
     if let Some(line) = brackets_past(all) {

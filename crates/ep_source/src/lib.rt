@@ -6,7 +6,7 @@ ghost use Rattle.ep_ast.specs.Refusal.{IfRefused};
 ghost use Rattle.ep_ast.specs.declared.refusals.Refusal as refusals;
 ghost use Rattle.ep_core.specs.Program.{Program};
 ghost use Rattle.ep_core.specs.ProgramView.{program_view};
-ghost use Rattle.ep_source.specs.Source.{Means, MeansNothing, Offends};
+ghost use Rattle.ep_source.specs.Source.{Means, MeansNothing, MeansNothingWithin, Offends};
 
 use ep_ast::Halt;
 use ep_core::program::CoreProgram;
@@ -24,6 +24,7 @@ pub fn read(alloc: Global, source: &[u8], model: Model) -> Result<CoreProgram, H
     ensures faultless { IfOk result (λ _. (r : refusals.Refusal) → Offends model source.now r → ⊥) }
     ensures refused { IfErr result (λ e. IfRefused e (Offends model source.now)) }
     ensures nothing { IfErr result (λ e. IfRefused e (MeansNothing model source.now)) }
+    ensures within { IfErr result (λ e. IfRefused e (λ _. MeansNothingWithin model source.now)) }
 {
     let tokens = lex(alloc, source)?;
     let tree = program(alloc, &tokens)?;

@@ -6,7 +6,7 @@ use Rattle.ep_ast.specs.Statement.{program_of}
 use Rattle.ep_lexer.specs.Tokens.{view, all_view}
 use Rattle.ep_source.proofs.Counts.{few}
 use Rattle.ep_source.proofs.Stages.{cut_nothing, cut_offends, tokens_nothing, tokens_offend, program_nothing}
-use Rattle.ep_source.proofs.Stages.{program_offends, faultless}
+use Rattle.ep_source.proofs.Stages.{program_offends, faultless, cut_within, tokens_within, program_within}
 use Rattle.ep_source.proofs.read.Goals as goal
 
 pub returns-in_err-tokens-clause-refused : goal.returns-in_err-tokens-clause-refused
@@ -55,5 +55,23 @@ returns-in_err-tree-clause-nothing c =
 pub returns-clause-nothing : goal.returns-clause-nothing
 returns-clause-nothing c =
     IfErr-weaker c.elaborate.result _ _ (λ e h. program_nothing c.args.model c.args.source.now
+    (all_view c.in_ok-tokens.tokens) (program_of c.in_ok-tree.tree) e c.in_ok-tokens.ensures.only
+    c.in_ok-tree.ensures.only h) c.elaborate.ensures.means_nothing
+
+pub returns-in_err-tokens-clause-within : goal.returns-in_err-tokens-clause-within
+returns-in_err-tokens-clause-within c =
+    let p = err_from_is_err_and c.from_residual.result c.from_residual.ensures.1 in
+    rw (p.1, p.2) (cut_within c.args.model c.args.source.now c.in_err-tokens.field-0.0
+    c.in_err-tokens.ensures.spells_nothing)
+
+pub returns-in_err-tree-clause-within : goal.returns-in_err-tree-clause-within
+returns-in_err-tree-clause-within c =
+    let p = err_from_is_err_and c.from_residual-in_err-tree.result c.from_residual-in_err-tree.ensures.1 in
+    rw (p.1, p.2) (tokens_within c.args.model c.args.source.now (all_view c.in_ok-tokens.tokens)
+    c.in_err-tree.field-0.0 c.in_ok-tokens.ensures.only c.in_err-tree.ensures.refused c.in_err-tree.ensures.deep)
+
+pub returns-clause-within : goal.returns-clause-within
+returns-clause-within c =
+    IfErr-weaker c.elaborate.result _ _ (λ e h. program_within c.args.model c.args.source.now
     (all_view c.in_ok-tokens.tokens) (program_of c.in_ok-tree.tree) e c.in_ok-tokens.ensures.only
     c.in_ok-tree.ensures.only h) c.elaborate.ensures.means_nothing

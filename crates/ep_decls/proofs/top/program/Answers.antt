@@ -53,3 +53,24 @@ returns-in-Ok-clause-faultless c =
     let w = c.in-Ok.ensures q.0 q.1 in
     let f : too_deep q.0 ≡ None = w.1 in
     programs.faultless (all_view c.args.tokens.now) q.0 n t d f
+
+pub returns-in-Some-clause-deep : goal.returns-in-Some-clause-deep
+returns-in-Some-clause-deep c =
+    let n : Some c.in-Some.line ≡ brackets_past 0 (all_view c.args.tokens.now) =
+    sym c.in-Some.is ∙ c.brackets_past.ensures ∙ ap (λ (ts : List Token). brackets_past 0 (map view ts))
+    c.as_slice-all.ensures.value in
+    λ k. programs.brackets_fit_none (all_view c.args.tokens.now) c.in-Some.line n
+
+pub returns-in_err-found-clause-deep : goal.returns-in_err-found-clause-deep
+returns-in_err-found-clause-deep c =
+    let p = err_from_is_err_and c.from_residual.result c.from_residual.ensures.1 in
+    let f : Fails Whole HasBitField (all_view c.args.tokens.now) c.in_err-found.field-0.0 =
+    rw c.as_slice-all.ensures.value at c.in_err-found.ensures.reads in
+    rw (p.1, p.2) (programs.items_not_deep (all_view c.args.tokens.now) c.in_err-found.field-0.0 f)
+
+pub returns-in-Err-clause-deep : goal.returns-in-Err-clause-deep
+returns-in-Err-clause-deep c =
+    let q = c.in_ok-found.ensures.reads in
+    let t : Takes Whole (all_view c.args.tokens.now) q.0 [] = rw c.as_slice-all.ensures.value at q.2 in
+    let h = c.in-Err.ensures q.0 q.1 in
+    λ k. programs.depth_fits_none (all_view c.args.tokens.now) q.0 c.in-Err.refusal.line t h.2

@@ -1,0 +1,4 @@
+mod Bodies
+mod Checks
+mod Sites
+pub mod Meant

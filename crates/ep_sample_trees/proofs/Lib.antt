@@ -1,0 +1,4 @@
+mod Expressions
+mod Fields
+pub mod Programs
+pub mod Depths
