@@ -2,9 +2,9 @@
 use Rattle.std.proofs.Common.{◌≡◌, sym, subst, ℕ, ◌≤◌, List, length, Option, Some, None, IfSome, IsSome}
 use Rattle.std.proofs.Common.{option_and_then, Result, Ok, Err, IfOk, IfErr, OnOk}
 use Rattle.ep_words.specs.Words.{Command}
-use Rattle.ep_jobs.specs.declared.jobs.Job.{Job}
-use Rattle.ep_jobs.specs.declared.status.Status.{Status}
-use Rattle.ep_jobs.specs.declared.status.Status.TheVariants.{Memory}
+use Rattle.endport.specs.declared.jobs.Job.{Job}
+use Rattle.endport.specs.declared.status.Status.{Status}
+use Rattle.endport.specs.declared.status.Status.TheVariants.{Memory}
 use Rattle.endport.specs.Top.{StopsSo, TextOf, file_of, under}
 
 abbrev Answer : Type 0

@@ -3,11 +3,13 @@ use Rattle.std.proofs.Common.{◌≡◌, refl, sym, subst, arith, ℕ, ◌<◌, 
 use Rattle.std.proofs.Common.{None, IsSome}
 use Rattle.ep_int.specs.declared.types.Model.{Model}
 use Rattle.ep_words.specs.Words.{Command, check, layout, run, sample}
-use Rattle.ep_check.specs.Check.{Asked, IsCheck}
-use Rattle.ep_jobs.specs.Jobs.{IsRefused}
-use Rattle.ep_jobs.specs.declared.status.Status.{Status}
-use Rattle.ep_jobs.specs.declared.status.Status.TheVariants.{Done, Alarms, Refused, Usage, ReadFault, WriteFault}
-use Rattle.ep_jobs.specs.declared.status.Status.TheVariants.{Memory, TooLong, StepsUsedUp, Undefined, InputEnded}
+use Rattle.endport.specs.Check.{Asked, IsCheck, alarms_of}
+use Rattle.endport.specs.Sample.{usual}
+use Rattle.endport.proofs.Reporting.{ended}
+use Rattle.endport.specs.Jobs.{IsRefused}
+use Rattle.endport.specs.declared.status.Status.{Status}
+use Rattle.endport.specs.declared.status.Status.TheVariants.{Done, Alarms, Refused, Usage, ReadFault, WriteFault}
+use Rattle.endport.specs.declared.status.Status.TheVariants.{Memory, TooLong, StepsUsedUp, Undefined, InputEnded}
 use Rattle.ep_source.specs.Source.{Offends}
 use Rattle.ep_io.specs.Bytes.{Appended, FrontAppended}
 use Rattle.ep_io.specs.Faults.{Rose}
@@ -30,18 +32,24 @@ checked a bytes text StepsUsedUp j = absurd j
 checked a bytes text Undefined j = absurd j
 checked a bytes text InputEnded j = absurd j
 
-made : (c : Command) (bytes text : List ℕ) (s : Status) → IsJob c bytes s text → IsWhole c s ⊎ (s ≡ Refused)
+of_check : {A B : Type 0} (file : List ℕ) → A ⊎ B → A ⊎ (IsSome (Some file) × B)
+of_check file (inl a) = inl a
+of_check file (inr b) = inr (refl, b)
+
+-- of a file, what is in it may be refused
+made : (c : Command) (bytes text : List ℕ) (s : Status) → IsJob c bytes s text
+    → IsWhole c s ⊎ (IsSome (file_of c) × (s ≡ Refused))
 made (check unroll orders model known_bits file) bytes text s j =
-    checked (record {
+    of_check file (checked (record {
       model = model;
       left = orders.0;
       right = orders.1;
       unroll = unroll;
       known_bits = known_bits;
-    }) bytes text s j
+    }) bytes text s j)
 made (layout model file) bytes text Done j = inl refl
 made (layout model file) bytes text Alarms j = absurd j
-made (layout model file) bytes text Refused j = inr refl
+made (layout model file) bytes text Refused j = inr (refl, refl)
 made (layout model file) bytes text Usage j = absurd j
 made (layout model file) bytes text ReadFault j = absurd j
 made (layout model file) bytes text WriteFault j = absurd j
@@ -52,7 +60,7 @@ made (layout model file) bytes text Undefined j = absurd j
 made (layout model file) bytes text InputEnded j = absurd j
 made (run order steps model file inputs) bytes text Done j = inl (inl refl)
 made (run order steps model file inputs) bytes text Alarms j = absurd j
-made (run order steps model file inputs) bytes text Refused j = inr refl
+made (run order steps model file inputs) bytes text Refused j = inr (refl, refl)
 made (run order steps model file inputs) bytes text Usage j = absurd j
 made (run order steps model file inputs) bytes text ReadFault j = absurd j
 made (run order steps model file inputs) bytes text WriteFault j = absurd j
@@ -61,7 +69,7 @@ made (run order steps model file inputs) bytes text TooLong j = absurd j
 made (run order steps model file inputs) bytes text StepsUsedUp j = inl (inr (inl refl))
 made (run order steps model file inputs) bytes text Undefined j = inl (inr (inr (inl refl)))
 made (run order steps model file inputs) bytes text InputEnded j = inl (inr (inr (inr refl)))
-made (sample start fields) bytes text s j = checked _ _ j.report s j.is_check
+made (sample start fields) bytes text s j = inl (ended (alarms_of usual j.reports.program) s j.reports.status_is)
 
 -- ---- the statuses of a command
 
@@ -76,9 +84,9 @@ pub usage_ends : (result : Status) (text : List ℕ) (before after : Option (Lis
 usage_ends result text before after was now (inl p) = inl (p.0)
 usage_ends result text before after was now (inr p) = inr (p.0)
 
-whole_or_refused : (c : Command) (s : Status) → IsWhole c s ⊎ (s ≡ Refused) → EndsSo (Some c) s
+whole_or_refused : (c : Command) (s : Status) → IsWhole c s ⊎ (IsSome (file_of c) × (s ≡ Refused)) → EndsSo (Some c) s
 whole_or_refused c s (inl w) = inl w
-whole_or_refused c s (inr e) = inr (inl e)
+whole_or_refused c s (inr e) = inr (inr (inr (e.0, inl e.1)))
 
 -- `of` is the text that was made
 pub put_ends : (c : Command) (told : Option (List ℕ)) (status result : Status) (of text : List ℕ)
@@ -86,7 +94,7 @@ pub put_ends : (c : Command) (told : Option (List ℕ)) (status result : Status)
     → Put status result text before after was now → EndsSo (Some c) result
 put_ends c told status result of text before after was now t (inl p) =
     rw (p.0) (whole_or_refused c status (made c t.bytes of status t.is_job))
-put_ends c told status result of text before after was now t (inr p) = inr (inr (inl (p.0)))
+put_ends c told status result of text before after was now t (inr p) = inr (inl (p.0))
 
 named : (o : Option (List ℕ)) → (o ≡ None → ⊥) → IsSome o
 named None h = absurd (h refl)
@@ -99,11 +107,11 @@ stop_ends c told before after Alarms h m = absurd h
 stop_ends c told before after Refused h m = absurd h
 stop_ends c told before after Usage h m = absurd h
 stop_ends c told before after ReadFault h m =
-    inr (inr (inr (inr (named (file_of c) (λ e. absurd (let f = m e in cc)), inl refl))))
+    inr (inr (inr (named (file_of c) (λ e. absurd (let f = m e in cc)), inr (inl refl))))
 stop_ends c told before after WriteFault h m = absurd h
-stop_ends c told before after Memory h m = inr (inr (inr (inl refl)))
+stop_ends c told before after Memory h m = inr (inr (inl refl))
 stop_ends c told before after TooLong h m =
-    inr (inr (inr (inr (named (file_of c) (λ e. absurd (let f = m e in cc)), inr refl))))
+    inr (inr (inr (named (file_of c) (λ e. absurd (let f = m e in cc)), inr (inr refl))))
 stop_ends c told before after StepsUsedUp h m = absurd h
 stop_ends c told before after Undefined h m = absurd h
 stop_ends c told before after InputEnded h m = absurd h
@@ -119,11 +127,11 @@ abbrev Refuses : Command → Type 0
 Refuses c = (bytes text : List ℕ) → IsJob c bytes Refused text → IsRefused (model_asked c) bytes text
 
 answered : (c : Command) (bytes read text : List ℕ) (status : Status) → Refuses c → bytes ≡ read
-    → IsRight (model_asked c) bytes → IsJob c read status text → IsWhole c status ⊎ (status ≡ Refused)
-    → IsWhole c status
+    → IsRight (model_asked c) bytes → IsJob c read status text
+    → IsWhole c status ⊎ (IsSome (file_of c) × (status ≡ Refused)) → IsWhole c status
 answered c bytes read text status d e r j (inl w) = w
 answered c bytes read text status d e r j (inr k) =
-    absurd (not_refused (model_asked c) bytes read text r e (d read text (subst (λ s. IsJob c read s text) k j)))
+    absurd (not_refused (model_asked c) bytes read text r e (d read text (subst (λ s. IsJob c read s text) k.1 j)))
 
 of_file : (c : Command) (told : Option (List ℕ)) (status result : Status) (of text : List ℕ)
     (before after : Option (List ℕ)) (was now : ℕ) (source_fails : Type 0) → Refuses c → Comes c told status of

@@ -1,3 +1,5 @@
+pub mod Runs
+pub mod Reporting
 mod Asked
 mod Ends
 mod Telling

@@ -1,41 +1,52 @@
 -- From what was read and done to the text and the status.
-use Rattle.std.proofs.Common.{◌≡◌, refl, false, ℕ, ◌⊎◌, inl, inr, List, Option, Some, None, IfSome}
+use Rattle.std.proofs.Common.{◌≡◌, refl, sym, ◌∙◌, subst, false, ℕ, ◌⊎◌, inl, inr, List, Option, Some, None, IfSome}
 use Rattle.ep_int.specs.declared.types.Order.{Order}
 use Rattle.ep_int.specs.declared.types.Order.TheVariants.{Little, Big, SwappedWords}
 use Rattle.ep_core.specs.Exec.{is_order}
+use Rattle.endport.specs.Check.{alarms_of}
+use Rattle.endport.specs.Sample.{usual}
+use Rattle.endport.proofs.Reporting.{ended}
 use Rattle.ep_words.specs.Words.{Command, check, layout, run, sample}
-use Rattle.ep_jobs.specs.declared.status.Status.{Status}
-use Rattle.ep_jobs.specs.declared.status.Status.TheVariants.{Done, Alarms, Refused, Usage, ReadFault, WriteFault}
-use Rattle.ep_jobs.specs.declared.status.Status.TheVariants.{Memory, TooLong, StepsUsedUp, Undefined, InputEnded}
+use Rattle.endport.specs.declared.status.Status.{Status}
+use Rattle.endport.specs.declared.status.Status.TheVariants.{Done, Alarms, Refused, Usage, ReadFault, WriteFault}
+use Rattle.endport.specs.declared.status.Status.TheVariants.{Memory, TooLong, StepsUsedUp, Undefined, InputEnded}
 use Rattle.ep_io.specs.Bytes.{Appended, FrontAppended}
 use Rattle.ep_io.specs.Faults.{Rose}
-use Rattle.endport.specs.Top.{IsJob, TextOf, Written, IsTooLong, StopsSo}
+use Rattle.endport.specs.Top.{IsJob, IsSilent, TextOf, Written, IsTooLong, StopsSo}
 
 -- ---- no job comes to a status without a text
+
+no_report : {A B : Type 0} → A ⊎ B → (A → ⊥) → (B → ⊥) → ⊥
+no_report (inl a) f g = f a
+no_report (inr b) f g = g b
 
 never_read_fault : (c : Command) (bytes text : List ℕ) → IsJob c bytes ReadFault text → ⊥
 never_read_fault (check unroll orders model known_bits file) bytes text j = j
 never_read_fault (layout model file) bytes text j = j
 never_read_fault (run order steps model file inputs) bytes text j = j
-never_read_fault (sample start fields) bytes text j = j.is_check
+never_read_fault (sample start fields) bytes text j =
+    no_report (ended (alarms_of usual j.reports.program) ReadFault j.reports.status_is) (λ e. cc) (λ e. cc)
 
 never_write_fault : (c : Command) (bytes text : List ℕ) → IsJob c bytes WriteFault text → ⊥
 never_write_fault (check unroll orders model known_bits file) bytes text j = j
 never_write_fault (layout model file) bytes text j = j
 never_write_fault (run order steps model file inputs) bytes text j = j
-never_write_fault (sample start fields) bytes text j = j.is_check
+never_write_fault (sample start fields) bytes text j =
+    no_report (ended (alarms_of usual j.reports.program) WriteFault j.reports.status_is) (λ e. cc) (λ e. cc)
 
 never_memory : (c : Command) (bytes text : List ℕ) → IsJob c bytes Memory text → ⊥
 never_memory (check unroll orders model known_bits file) bytes text j = j
 never_memory (layout model file) bytes text j = j
 never_memory (run order steps model file inputs) bytes text j = j
-never_memory (sample start fields) bytes text j = j.is_check
+never_memory (sample start fields) bytes text j =
+    no_report (ended (alarms_of usual j.reports.program) Memory j.reports.status_is) (λ e. cc) (λ e. cc)
 
 never_too_long : (c : Command) (bytes text : List ℕ) → IsJob c bytes TooLong text → ⊥
 never_too_long (check unroll orders model known_bits file) bytes text j = j
 never_too_long (layout model file) bytes text j = j
 never_too_long (run order steps model file inputs) bytes text j = j
-never_too_long (sample start fields) bytes text j = j.is_check
+never_too_long (sample start fields) bytes text j =
+    no_report (ended (alarms_of usual j.reports.program) TooLong j.reports.status_is) (λ e. cc) (λ e. cc)
 
 whole_of : (c : Command) (told : Option (List ℕ)) (status : Status) (text : List ℕ) (before after : Option (List ℕ))
     → TextOf (Some c) told status text → Appended before text after → Written (Some c) told status before after
@@ -65,6 +76,36 @@ pub written : (c : Option Command) (told : Option (List ℕ)) (status result : S
     → Written c told result before after
 written c told status result text before after was now t (inl (e, a)) = rw e (whole c told status text before after t a)
 written c told status result text before after was now t (inr (e, f, r)) = rw e (status, text, t, f)
+
+-- ---- what says nothing
+
+-- the status of a text is none of these
+speaks : (c : Command) (bytes text : List ℕ) (s : Status) → IsJob c bytes s text → IsSilent s → ⊥
+speaks c bytes text Done j k = k
+speaks c bytes text Alarms j k = k
+speaks c bytes text Refused j k = k
+speaks c bytes text Usage j k = k
+speaks c bytes text ReadFault j k = never_read_fault c bytes text j
+speaks c bytes text WriteFault j k = k
+speaks c bytes text Memory j k = never_memory c bytes text j
+speaks c bytes text TooLong j k = never_too_long c bytes text j
+speaks c bytes text StepsUsedUp j k = k
+speaks c bytes text Undefined j k = k
+speaks c bytes text InputEnded j k = k
+
+-- `of` is the text that was made
+module _ (c : Command) (told : Option (List ℕ)) (status result : Status) (of text : List ℕ)
+    (before after : Option (List ℕ)) (was now : ℕ) (t : TextOf (Some c) told status of) where
+  pub never_silent : ((result ≡ status) × Appended before text after)
+      ⊎ ((result ≡ WriteFault) × FrontAppended before text after × Rose was now) → IsSilent result → ⊥
+  never_silent (inl p) k = speaks c t.bytes of status t.is_job (subst (λ s. IsSilent s) p.0 k)
+  never_silent (inr p) k = subst (λ s. IsSilent s) p.0 k
+
+  pub sink_failed : ((result ≡ status) × Appended before text after)
+      ⊎ ((result ≡ WriteFault) × FrontAppended before text after × Rose was now) → result ≡ WriteFault → Rose was now
+  sink_failed (inl p) e =
+      absurd (never_write_fault c t.bytes of (subst (λ s. IsJob c t.bytes s of) (sym p.0 ∙ e) t.is_job))
+  sink_failed (inr p) e = p.2
 
 -- ---- why there is no text
 

@@ -1,1 +1,7 @@
+pub mod Jobs
+pub mod View
+pub mod Numbers
+pub mod Check
+pub mod CheckView
+pub mod Sample
 pub mod Top

@@ -7,12 +7,12 @@ use Rattle.ep_int.specs.declared.types.Model.{Model}
 use Rattle.ep_int.specs.declared.types.Model.TheVariants.{Ilp32}
 use Rattle.ep_source.specs.Source.{Means, Offends}
 use Rattle.ep_words.specs.Words.{Command, check, layout, run, sample}
-use Rattle.ep_check.specs.Check.{IsCheck}
-use Rattle.ep_check.specs.Sample.{IsSample}
-use Rattle.ep_jobs.specs.Jobs.{IsLayout, IsRun}
-use Rattle.ep_jobs.specs.declared.status.Status.{Status}
-use Rattle.ep_jobs.specs.declared.status.Status.TheVariants.{Done, Alarms, Refused, Usage, ReadFault, WriteFault}
-use Rattle.ep_jobs.specs.declared.status.Status.TheVariants.{Memory, TooLong, StepsUsedUp, Undefined, InputEnded}
+use Rattle.endport.specs.Check.{IsCheck}
+use Rattle.endport.specs.Sample.{IsSample}
+use Rattle.endport.specs.Jobs.{IsLayout, IsRun}
+use Rattle.endport.specs.declared.status.Status.{Status}
+use Rattle.endport.specs.declared.status.Status.TheVariants.{Done, Alarms, Refused, Usage, ReadFault, WriteFault}
+use Rattle.endport.specs.declared.status.Status.TheVariants.{Memory, TooLong, StepsUsedUp, Undefined, InputEnded}
 use Rattle.ep_io.specs.Bytes.{Appended, FrontAppended}
 use Rattle.ep_io.specs.Faults.{Rose}
 
@@ -145,12 +145,12 @@ IsWhole (layout model file) s = s ≡ Done
 IsWhole (run order steps model file inputs) s = (s ≡ Done) ⊎ (s ≡ StepsUsedUp) ⊎ (s ≡ Undefined) ⊎ (s ≡ InputEnded)
 IsWhole (sample start fields) s = (s ≡ Done) ⊎ (s ≡ Alarms)
 
--- the statuses that a command has; where the words aren't plain, there is none
+-- the statuses that a command has, of which some are of a file alone; where the words aren't plain, there is none
 abbrev pub EndsSo : Option Command → Status → Type 0
 EndsSo None s = (s ≡ Usage) ⊎ (s ≡ WriteFault)
 EndsSo (Some c) s =
-    IsWhole c s ⊎ (s ≡ Refused) ⊎ (s ≡ WriteFault) ⊎ (s ≡ Memory)
-    ⊎ (IsSome (file_of c) × ((s ≡ ReadFault) ⊎ (s ≡ TooLong)))
+    IsWhole c s ⊎ (s ≡ WriteFault) ⊎ (s ≡ Memory)
+    ⊎ (IsSome (file_of c) × ((s ≡ Refused) ⊎ (s ≡ ReadFault) ⊎ (s ≡ TooLong)))
 
 -- the data model that a command names; that of a sample is the usual one
 abbrev pub model_asked : Command → Model

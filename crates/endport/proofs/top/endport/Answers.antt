@@ -1,10 +1,10 @@
-use Rattle.std.proofs.Common.{refl, Some}
+use Rattle.std.proofs.Common.{◌≡◌, refl, sym, subst, Some}
 use Rattle.ep_words.specs.View as view
-use Rattle.ep_jobs.specs.declared.status.Status.TheVariants.{Usage}
-use Rattle.endport.specs.Top.{usage_text}
+use Rattle.endport.specs.declared.status.Status.TheVariants.{Usage, ReadFault}
+use Rattle.endport.specs.Top.{IsSilent, usage_text}
 use Rattle.endport.proofs.Asked.{no_some}
 use Rattle.endport.proofs.Ends.{usage_ends, put_ends, stop_ends, put_completes, stop_completes}
-use Rattle.endport.proofs.Telling.{written, too_long}
+use Rattle.endport.proofs.Telling.{written, never_silent, sink_failed, too_long}
 use Rattle.endport.proofs.top.endport.Goals as goal
 
 pub returns-in_default-clause-written : goal.returns-in_default-clause-written
@@ -40,6 +40,22 @@ returns-in-Ok-clause-complete g c =
     rw (← c.deref.ensures.value, ← c.in-Some.ensures.command) (put_completes (view.command c.in-Some.command) _
     c.in-Ok.job.status c.put-in-Ok.result c.in-Ok.job.text.items c.deref-in-Ok.result.now _ _ _ _ _
     c.in-Ok.ensures.ok c.put-in-Ok.ensures.written)
+
+pub returns-in-Ok-clause-silent : goal.returns-in-Ok-clause-silent
+returns-in-Ok-clause-silent g c = λ s.
+    absurd (never_silent (view.command c.in-Some.command) _ c.in-Ok.job.status c.put-in-Ok.result
+    c.in-Ok.job.text.items c.deref-in-Ok.result.now _ _ _ _ c.in-Ok.ensures.ok c.put-in-Ok.ensures.written s)
+
+pub returns-in-Ok-clause-read_fault : goal.returns-in-Ok-clause-read_fault
+returns-in-Ok-clause-read_fault g c = λ e.
+    absurd (never_silent (view.command c.in-Some.command) _ c.in-Ok.job.status c.put-in-Ok.result
+    c.in-Ok.job.text.items c.deref-in-Ok.result.now _ _ _ _ c.in-Ok.ensures.ok c.put-in-Ok.ensures.written
+    (subst (λ s. IsSilent s) (sym e) tt))
+
+pub returns-in-Ok-clause-write_fault : goal.returns-in-Ok-clause-write_fault
+returns-in-Ok-clause-write_fault g c =
+    sink_failed (view.command c.in-Some.command) _ c.in-Ok.job.status c.put-in-Ok.result
+    c.in-Ok.job.text.items c.deref-in-Ok.result.now _ _ _ _ c.in-Ok.ensures.ok c.put-in-Ok.ensures.written
 
 pub returns-in-Ok-clause-unread : goal.returns-in-Ok-clause-unread
 returns-in-Ok-clause-unread g c =

@@ -1,4 +1,0 @@
-pub mod Numbers
-pub mod Check
-pub mod View
-pub mod Sample
