@@ -1,6 +1,7 @@
 -- The laws of operations can be met: two representations keep them, and by the report of the second `int main(void) { }`
 -- is portable.
 use Rattle.std.proofs.Common.{◌≡◌, ℕ, ℤ, Bool, true, false, [], ◌∷◌, ◌++◌, refl, ap, ◌∙◌, sym, subst, slice_get}
+use Rattle.ep_domain.specs.Laws.Shared.{from_eq}
 use Rattle.std.proofs.Common.{Option, Some, None}
 use Rattle.ep_int.specs.declared.types.IntType.TheVariants.{I32}
 use Rattle.ep_int.specs.declared.types.Order.{Order}
@@ -13,7 +14,6 @@ use Rattle.ep_core.specs.Program.{eval, assign, clear, copy_aggregate, copy_byte
 use Rattle.ep_core.specs.Program.{write_bytes, returns, stop, Function, Program}
 use Rattle.ep_core.specs.Exec.{State, on, uncounted, is_true, result_in, does}
 use Rattle.ep_core.specs.Runs.{Side, left, right, initial, result_out, main_ends}
-use Rattle.ep_range_laws.proofs.Comparisons.{from_between, le_antisym}
 use Rattle.ep_pass.specs.States.{Both, One}
 use Rattle.ep_pass.specs.Pass.{way_of, report_of}
 use Rattle.ep_pass.specs.Laws.{ConcretisesTyped, ConcretisesTypedBeside, ReachesBeside, Meets, meet, MeetsAlone, meet_alone, ConcretisesBeside}
@@ -169,9 +169,6 @@ module _ (p : Program) (ord : Side → Order) where
 
 -- ---- main's result is the same number, or nothing is known
 
-equal : (v w : ℤ) → int_eq v w ≡ true → v ≡ w
-equal v w e = let h = from_between v w w v e in le_antisym v w h.0 h.1
-
 all_unsure : (p : Program) (ord : Side → Order) (i : Side) (m k : Memory) → ConcretisesBeside p (ConcretisesUnknown p ord) i unsure m k
 all_unsure p ord left m k = tt
 all_unsure p ord right m k = tt
@@ -189,7 +186,7 @@ module _ (p : Program) (ord : Side → Order) where
         → Concretises (ends_by x y) m k
     by_stands (has (int v)) (has (int w)) e f =
         if_stands (int_eq v w)
-        (λ q. record { number = v; on_left = e; on_right = f ∙ ap (λ z. has (int z)) (sym (equal v w q)) })
+        (λ q. record { number = v; on_left = e; on_right = f ∙ ap (λ z. has (int z)) (sym (from_eq v w q)) })
     by_stands (has (int v)) (has null) e f = tt
     by_stands (has (int v)) (has (pointer b q)) e f = tt
     by_stands (has (int v)) (faults c) e f = tt

@@ -1,12 +1,14 @@
 //! For each source of a file what comes of it: the layouts of its types, or the text of a run, or its refusal. Before
 //! each source stands a line that says what is asked, as `== layout lp64` or `== run ilp32 big 100 1 2`: the data
-//! model, the byte order, the most steps, and the inputs.
+//! model, the byte order, the most steps, and the inputs. `== kinds ilp32` asks whether it is tame, and whether it is
+//! closed.
 #![tactic(auto)]
 
 use bstr::ByteSlice;
 use ep_ast::{Halt, refusal_text};
 use ep_concrete::{run, run_text};
 use ep_core::program::CoreProgram;
+use ep_double::{is_closed, is_tame};
 use ep_int::{Model, Order};
 use ep_io::{FileSource, Source, StdSink, read_all, write_all};
 use ep_source::read;
@@ -57,6 +59,7 @@ fn answer(alloc: Global, head: &str, source: &[u8]) -> Option<Vec<u8>> {
         Ok(program) => match command {
             "layout" => program.types.layout_text().ok(),
             "run" => run_as(alloc, program, words),
+            "kinds" => Vec::from_slice(alloc, kinds_of(program)).ok(),
             _ => None,
         },
         Err(Halt::Refused(refusal)) => refusal_text(alloc, refusal).ok(),
@@ -92,4 +95,14 @@ fn run_as(alloc: Global, program: &CoreProgram, words: &str) -> Option<Vec<u8>> 
     }
     let result = run(alloc, order, program, &inputs, steps).ok()?;
     run_text(alloc, &result).ok()
+}
+
+/// Whether a program is tame, and whether it is closed.
+fn kinds_of(program: &CoreProgram) -> &'static [u8] {
+    match (is_tame(program), is_closed(program)) {
+        (true, true) => b"tame closed\n",
+        (true, false) => b"tame open\n",
+        (false, true) => b"wild closed\n",
+        (false, false) => b"wild open\n",
+    }
 }
