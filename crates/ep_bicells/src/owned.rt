@@ -1,7 +1,7 @@
 //! Steps of cells where they stand, as far as no other state shares them.
 
-ghost use Rattle.std.specs.Prelude.{◌≡◌, ◌<◌, ◌≤◌, ◌++◌, ◌∷◌, [], true, not, ◌||◌, ◌&&◌, nat_eq, length, take, drop, IfOk};
-ghost use Rattle.std.specs.Prelude.{OnOk, IsTrue, Some};
+ghost use Rattle.std.specs.Prelude.{◌≡◌, ◌<◌, ◌≤◌, ◌++◌, ◌∷◌, [], true, not, ◌||◌, ◌&&◌, nat_eq, length};
+ghost use Rattle.std.specs.Prelude.{take, drop, IfOk, OnOk, IsTrue, Some};
 ghost use Rattle.std.specs.List.{list_all};
 ghost use Rattle.ep_bitslice.specs.Segments.{bits, normal};
 ghost use Rattle.ep_cells.specs.Cells.{place_of as the_place, touches};

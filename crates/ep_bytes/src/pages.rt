@@ -36,7 +36,8 @@ pub(crate) fn note(used: &mut Vec<bool>, at: usize, byte: Byte)
 
 fn mark(used: &mut Vec<bool>, page: usize)
     ensures own { slice_index_or used.new.items page true ≡ true }
-    ensures others { (q : ℕ) → slice_index_or used.new.items q true ≡ false → slice_index_or used.old.items q true ≡ false }
+    ensures others { (q : ℕ) →
+        slice_index_or used.new.items q true ≡ false → slice_index_or used.old.items q true ≡ false }
 {
     if page >= used.len() {
         return;

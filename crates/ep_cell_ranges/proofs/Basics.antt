@@ -1,10 +1,10 @@
 -- Lemmas that several crates cite.
-use Rattle.std.proofs.Common.{◌≡◌, ◌≤◌, ◌+◌, ◌&&◌, nat_le, true, refl, ℕ, ap, ◌∙◌, arith}
+use Rattle.std.proofs.Common.{◌≡◌, ◌≤◌, ◌+◌, ◌&&◌, nat_le, nat_eq, true, refl, ℕ, ap, ◌∙◌, arith}
 use Rattle.std.proofs.lemmas.Bool.Decides.{nat_tests}
 use Rattle.ep_int.specs.declared.types.Model.{Model}
 use Rattle.ep_int.specs.declared.types.Model.TheVariants.{Ilp32, Lp64}
 use Rattle.ep_cell_ranges.specs.Tests.{is_model}
-use Rattle.std.proofs.lemmas.Bool.{and_parts, eqb-true}
+use Rattle.std.proofs.lemmas.Bool.{and_parts, and_from, eqb-true, eq-eqb}
 use Rattle.ep_cell_ranges.specs.Spots.{Spot, is_same_spot}
 
 pub is_model-equal : (a b : Model) → is_model a b ≡ true → a ≡ b
@@ -26,3 +26,8 @@ is_model-self Lp64 = refl
 
 pub inside_by : (a n q z : ℕ) → a ≤ q → q + z ≤ a + n → (nat_le a q && nat_le (q + z) (a + n)) ≡ true
 inside_by a n q z h i = grind (arith, nat_tests)
+
+pub same_spot : (q r : Spot) → q ≡ r → is_same_spot q r ≡ true
+same_spot q r e =
+    and_from (nat_eq q.0 r.0) (nat_eq q.1 r.1) (eq-eqb q.0 r.0 (ap (λ (s : Spot). s.0) e))
+    (eq-eqb q.1 r.1 (ap (λ (s : Spot). s.1) e))

@@ -1,5 +1,6 @@
 -- What the parts of an expression of numbers are.
 use Rattle.std.proofs.Common.{◌≡◌, ℕ, zero, suc, ◌+◌, ◌<◌, Bool, true, false, true≢false, ◌&&◌, ◌||◌, Option, Some}
+use Rattle.ep_core.proofs.Sorts.{same_type}
 use Rattle.std.proofs.lemmas.Bool.{and_parts}
 use Rattle.std.proofs.Common.{None, Result, Ok, Err, refl, sym, ap, ◌∙◌, subst, ℤ, pos, arith}
 use Rattle.std.specs.Prelude.{IfSome}
@@ -18,7 +19,6 @@ use Rattle.ep_core.specs.declared.tree.Expr as tree
 use Rattle.ep_core.specs.View.{expr_view}
 use Rattle.ep_core.specs.WellFormed.{is_same_type}
 use Rattle.ep_typing.specs.Constant.{no_fault, truth}
-use Rattle.ep_typing.specs.SameTypes.{same_int}
 use Rattle.ep_operands.specs.Numbers.{some, is_right, is_number, IsNumber, IsSomeNumber}
 use Rattle.ep_operands.proofs.Sound.{some_has, some_is}
 
@@ -84,26 +84,26 @@ each e None f = tt
 pub binary_fits : (op : BinOp) (t : IntType) (a b : Expr) (x y : ℤ) → InRange t x → IfSome (no_fault (arith_of op t x y)) (Fits (core.binary op t a b))
 binary_fits op t a b x y h =
     each (core.binary op t a b) (no_fault (arith_of op t x y))
-    (λ u n. same_fits (InRange t) (no_fault (arith_of op t x y)) t u (same_int t u (and_parts (is_same_type t u) _ n).0)
+    (λ u n. same_fits (InRange t) (no_fault (arith_of op t x y)) t u (same_type t u (and_parts (is_same_type t u) _ n).0)
     (no_fault_fits t (arith_of op t x y) (λ z. arith_in_range op t x y z h)))
 
 pub const_fits : (t : IntType) (v : ℤ) → Fits (core.const t v) v
 const_fits t v u n =
     let p = and_parts (is_same_type t u) (is_in_range t v) n in
-    subst (λ (s : IntType). InRange s v) (same_int t u p.0) (in_range_from_true t v p.1)
+    subst (λ (s : IntType). InRange s v) (same_type t u p.0) (in_range_from_true t v p.1)
 
 pub convert_operand : (t : IntType) (a : Expr) → IsSomeNumber (core.convert t a) → IsSomeNumber a
 convert_operand t a h = parts_of (is_same_type t) _ h
 
 pub convert_fits : (t : IntType) (a : Expr) (z : ℤ) → InRange t z → Fits (core.convert t a) z
-convert_fits t a z h u n = subst (λ (s : IntType). InRange s z) (same_int t u (and_parts (is_same_type t u) _ n).0) h
+convert_fits t a z h u n = subst (λ (s : IntType). InRange s z) (same_type t u (and_parts (is_same_type t u) _ n).0) h
 
 truth_in_range : (b : Bool) → InRange I32 (truth b)
 truth_in_range true = in_range_from_true I32 (pos 1) refl
 truth_in_range false = in_range_from_true I32 (pos 0) refl
 
 truth_fits : (b more : Bool) (u : IntType) → (is_same_type I32 u && more) ≡ true → InRange u (truth b)
-truth_fits b more u n = subst (λ (s : IntType). InRange s (truth b)) (same_int I32 u (and_parts (is_same_type I32 u) more n).0) (truth_in_range b)
+truth_fits b more u n = subst (λ (s : IntType). InRange s (truth b)) (same_type I32 u (and_parts (is_same_type I32 u) more n).0) (truth_in_range b)
 
 module _ (c : Cmp) (t : IntType) (a b : Expr) where
   compare_both : IsSomeNumber (core.compare c t a b) → (IsNumber a t) × (IsNumber b t)

@@ -1,5 +1,6 @@
 -- Values whose numbers are of their types.
 use Rattle.std.proofs.Common.{◌≡◌, ℕ, ◌≤◌, Bool, true, false, true≢false, cond, ◌&&◌, ◌||◌, not, Option, Some, None}
+use Rattle.ep_core.proofs.Sorts.{same_type}
 use Rattle.ep_int.proofs.Basics.{zero_in_range}
 use Rattle.std.proofs.lemmas.Bool.{and_from, and_parts, or_left, or_right}
 use Rattle.std.proofs.Common.{option_map, option_and_then, slice_get, refl, sym, ap, ◌∙◌, subst, arith, ℤ, pos}
@@ -18,7 +19,7 @@ use Rattle.ep_core.specs.WellFormed.{is_same_type}
 use Rattle.ep_typing.specs.declared.types.CType.{CType}
 use Rattle.ep_typing.specs.Types.{int_of, int_type, is_same, is_int_base, is_integer, is_pointer, is_scalar}
 use Rattle.ep_typing.specs.Types.{is_void_pointer, is_void, target, void_pointer}
-use Rattle.ep_typing.specs.SameTypes.{int_itself, same_int, same_types}
+use Rattle.ep_typing.specs.SameTypes.{int_itself, same_types}
 use Rattle.ep_typing.specs.Operand.{Value, as_pointer, as_type, converted, plain_value, promoted_type, is_mixed}
 use Rattle.ep_typing.specs.Operators.{are_integers, are_mixed, chosen_type, opposite, turned}
 use Rattle.ep_operands.specs.Numbers.{all_types, some, is_right, is_number, IsNumber, IsSomeNumber, is_sound, IsSound}
@@ -142,7 +143,7 @@ not_pointer c h = not_pointer_by (is_pointer c) (is_int_base c.base) h
 
 converted_by : (b : Bool) (t : IntType) (v : Value) → is_same_type t (int_of v.ty) ≡ b → IsNumber v.expr (int_of v.ty)
     → IsNumber (cond b v.expr (core.convert t v.expr)) t
-converted_by true t v e h = subst (IsNumber v.expr) (sym (same_int t (int_of v.ty) e)) h
+converted_by true t v e h = subst (IsNumber v.expr) (sym (same_type t (int_of v.ty) e)) h
 converted_by false t v e h = and_from (is_same_type t t) _ (int_itself t) (some_is (is_number v.expr) (int_of v.ty) h)
 
 pub converted_number : (t : IntType) (v : Value) → IsSound v → is_pointer v.ty ≡ false → IsNumber (converted t v) t

@@ -1,5 +1,6 @@
 -- The text of a sample, cut line by line.
-use Rattle.std.proofs.Common.{◌≡◌, ℕ, zero, suc, ◌+◌, ◌*◌, ◌/◌, ◌%◌, ◌<◌, Bool, true, false, List, [], ◌∷◌, ◌++◌, Some}
+use Rattle.std.proofs.Common.{◌≡◌, ℕ, zero, suc, ◌+◌, ◌*◌, ◌/◌, ◌%◌, ◌<◌, Bool, true, false, List, [], ◌∷◌, ◌++◌}
+use Rattle.ep_sample_trees.proofs.Basics.{four}
 use Rattle.std.proofs.Common.{refl, sym, subst, ap, ◌∙◌, codes, decimal, arith, append_assoc}
 use Rattle.std.specs.Prelude.{◌==◌, if◌then◌else◌}
 use Rattle.std.proofs.lemmas.Fmt.{decimal_digit, decimal_step}
@@ -70,13 +71,6 @@ two_digits a b h k g =
 written : (l n : ℕ) (ds : List ℕ) → decimal n ≡ ds → AreCut (byte_with ds) l (byte_tokens l n)
     → AreCut (byte_text n) l (byte_tokens l n)
 written l n ds e c = subst (λ (z : List ℕ). AreCut (byte_with z) l (byte_tokens l n)) (sym e) c
-
-four : (P : ℕ → Type 0) (q : ℕ) → q < 4 → P 0 → P 1 → P 2 → P 3 → P q
-four P zero h a b c d = a
-four P (suc zero) h a b c d = b
-four P (suc (suc zero)) h a b c d = c
-four P (suc (suc (suc zero))) h a b c d = d
-four P (suc (suc (suc (suc n)))) h a b c d = absurd (omega arith)
 
 by_eights : (l q : ℕ) → q < 4 → AreCut (byte_text (8 * q)) l (byte_tokens l (8 * q))
 by_eights l q small =

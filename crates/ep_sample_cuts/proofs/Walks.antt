@@ -1,5 +1,6 @@
 -- Several steps of the reading of a source, computed.
-use Rattle.std.proofs.Common.{◌≡◌, ℕ, zero, suc, List, [], ◌∷◌, ◌++◌, Option, Some, None, Result, Ok, Err, refl, subst}
+use Rattle.std.proofs.Common.{◌≡◌, ℕ, zero, suc, List, [], ◌++◌, Option, Some, None, Result, Ok, Err, refl, subst}
+use Rattle.ep_sample_trees.proofs.Basics.{none_some}
 use Rattle.std.proofs.Common.{append_assoc}
 use Rattle.ep_int.proofs.Basics.{some-injective}
 use Rattle.ep_ast.specs.declared.refusals.Refusal.{Refusal}
@@ -21,9 +22,6 @@ then f (Err r) = None
 unfoldable pub walk : ℕ → Position → List ℕ → Option Went
 walk zero p bs = Some ([], p, bs)
 walk (suc n) p bs = then (walk n) (step p bs)
-
-none_some : {A : Type 0} {w : A} → ◌≡◌ {A = Option A} None (Some w) → ⊥
-none_some e = cc
 
 in_front : (p : Position) (bs : List ℕ) (v w : Went) (us : List Tok) (o : Option Went) → step p bs ≡ Ok (Some v)
     → with_front v.0 o ≡ Some w

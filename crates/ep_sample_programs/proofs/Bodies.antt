@@ -1,5 +1,6 @@
 -- The body of `main` in a sample: its fields change nothing of what is declared.
 use Rattle.std.proofs.Common.{◌≡◌, ℕ, zero, suc, ◌+◌, Bool, true, false, List, [], ◌∷◌, ◌++◌, Option, Some, None}
+use Rattle.ep_sample_trees.proofs.Basics.{four, none_some}
 use Rattle.std.proofs.Common.{Result, Ok, Err, refl, subst, ◌*◌, ◌<◌, ◌/◌, ◌%◌, arith}
 use Rattle.std.specs.Prelude.{◌==◌, if◌then◌else◌}
 use Rattle.std.proofs.Math.Nat.{mod-lt}
@@ -65,9 +66,6 @@ with_objects = env_behind (parts in_main int false (to_parts objects))
 
 -- ---- lists of parts
 
-none_some : {A : Type 0} {x : A} → ◌≡◌ {A = Option A} None (Some x) → ⊥
-none_some e = absurd cc
-
 pub both : (G H K : Env) (c : CType) (i : Bool) (ps qs : List Part) → behind (parts G c i (to_parts ps)) ≡ Some H
     → behind (parts H c i (to_parts qs)) ≡ Some K → behind (parts G c i (to_parts (ps ++ qs))) ≡ Some K
 unfolding parts
@@ -96,13 +94,6 @@ both G H K c i (p ∷ ps) qs e f = on (part G c i p) e (λ F. both F H K c i ps 
 
 abbrev Keeps : List Part → Type 0
 Keeps ps = behind (parts with_objects int false (to_parts ps)) ≡ Some with_objects
-
-four : (P : ℕ → Type 0) (q : ℕ) → q < 4 → P 0 → P 1 → P 2 → P 3 → P q
-four P zero h a b c d = a
-four P (suc zero) h a b c d = b
-four P (suc (suc zero)) h a b c d = c
-four P (suc (suc (suc zero))) h a b c d = d
-four P (suc (suc (suc (suc n)))) h a b c d = absurd (omega arith)
 
 turned : (l : ℕ) → behind (parts with_objects int false (to_parts (turned_parts l))) ≡ Some with_objects
 unfolding program at_depth with_objects

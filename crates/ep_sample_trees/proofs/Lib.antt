@@ -1,3 +1,4 @@
+pub mod Basics
 mod Expressions
 mod Fields
 pub mod Programs

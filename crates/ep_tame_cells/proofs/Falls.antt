@@ -1,9 +1,10 @@
 -- The rank of a widened state is no greater, and falls where the other state isn't within.
-use Rattle.std.proofs.Common.{◌≡◌, ℕ, zero, suc, ◌+◌, ◌*◌, ◌-◌, ◌<◌, ◌≤◌, Bool, true, false, ◌&&◌, ◌||◌, ◌⊎◌, inl}
+use Rattle.std.proofs.Common.{◌≡◌, ℕ, zero, suc, ◌+◌, ◌*◌, ◌-◌, ◌<◌, ◌≤◌, Bool, true, false, ◌&&◌, ◌||◌, inl}
+use Rattle.ep_domain.specs.Laws.PairWidening.{le_or}
 use Rattle.ep_cells.proofs.Lists.{each_from}
 use Rattle.ep_tame_cells.proofs.Exact.{differ}
 use Rattle.std.proofs.Common.{inr, not, if◌then◌else◌, cond, List, [], ◌∷◌, Option, Some, None, refl, sym, ap, ◌∙◌}
-use Rattle.std.proofs.Common.{subst, arith, eq-zero-or-pos, nat_eq}
+use Rattle.std.proofs.Common.{subst, arith, nat_eq}
 use Rattle.std.specs.Prelude.{IsSomeAnd}
 use Rattle.std.specs.Option.{option_map_or}
 use Rattle.std.specs.List.{list_all}
@@ -33,13 +34,6 @@ use Rattle.ep_reads.proofs.Sides.{same_itself}
 use Rattle.ep_tame_cells.specs.Rank.{rank_unless, form_rank, offsets_rank, targets_rank, pointer_rank, value_rank}
 use Rattle.ep_tame_cells.specs.Rank.{cell_rank, rank, HasTargetsBelow, HaveTargetsBelow}
 use Rattle.ep_tame_cells.specs.RankLaws.{RankLaws}
-
--- n isn't below m, or it is
-order : (m n : ℕ) → (m ≤ n) ⊎ (n < m)
-order m n = elim (eq-zero-or-pos (m - n)) [
-  | inl e ↦ inl (omega (arith, e))
-  | inr p ↦ inr (omega (arith, p))
-]
 
 unless_low : (a b : Bool) → rank_unless (a || b) ≤ rank_unless a
 unless_low true b = omega arith
@@ -147,7 +141,7 @@ module _ {N : Type 0} (D : Ops N) (law : Lawful D) (B : ℕ) (some : 0 < B) wher
     -- ---- numbers
 
     number_not : (a b : N) → D.rank (D.widen a b) ≤ D.rank a
-    number_not a b = elim (order (D.rank (D.widen a b)) (D.rank a)) [
+    number_not a b = elim (le_or (D.rank (D.widen a b)) (D.rank a)) [
       | inl l ↦ l
       | inr g ↦
           let falls = law.widen_changes a b small (λ e. (let same = ap D.rank e in omega (arith, same, g))) in
@@ -180,7 +174,7 @@ module _ {N : Type 0} (D : Ops N) (law : Lawful D) (B : ℕ) (some : 0 < B) wher
       targets_fall : (n b : ℕ) → b < n → offsets_rank D B (offset_at rs b) < offsets_rank D B (offset_at ts b)
           → targets_rank D B rs n < targets_rank D B ts n
       targets_fall zero b l h = absurd (omega (arith, l))
-      targets_fall (suc n) b l h = elim (order n b) [
+      targets_fall (suc n) b l h = elim (le_or n b) [
         | inl at ↦
             let e : b ≡ n = omega (arith, at, l) in
             let a = targets_not n in

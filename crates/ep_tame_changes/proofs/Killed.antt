@@ -1,6 +1,8 @@
 -- Good states after blocks came or went.
-use Rattle.std.proofs.Common.{◌≡◌, ℕ, ◌<◌, Bool, true, false, ◌&&◌, ◌||◌, not, cond, ◌⊎◌, inl, inr, ⊎_elim, List, [], ◌∷◌}
-use Rattle.std.proofs.Common.{◌++◌, map, length, slice_get, Option, Some, None, refl, sym, ap, ◌∙◌, subst, nat_eq}
+use Rattle.std.proofs.Common.{◌≡◌, ℕ, Bool, true, false, ◌||◌, not, cond, ◌⊎◌, inl, inr, ⊎_elim, List, [], ◌∷◌}
+use Rattle.std.proofs.lemmas.List.Folds.{list_any-append}
+use Rattle.ep_int.proofs.Basics.{contains-right}
+use Rattle.std.proofs.Common.{◌++◌, map, slice_get, Option, Some, None, refl, sym, ap, ◌∙◌, subst, nat_eq}
 use Rattle.std.specs.List.{filter, list_any}
 use Rattle.std.proofs.lemmas.Bool.{or_left, or_right, or_cases, eqb-true, eq-eqb, both_ways, false_from_ne_true}
 use Rattle.ep_int.specs.declared.types.Model.{Model}
@@ -10,7 +12,7 @@ use Rattle.ep_layout.specs.declared.types.Leaf.{Leaf}
 use Rattle.ep_layout.specs.Table.{leaves}
 use Rattle.ep_bitslice.specs.declared.cell.Side.TheVariants.{Shared}
 use Rattle.ep_domain.specs.Domain.{Ops, Lawful}
-use Rattle.ep_pointers.specs.Value.{Target, Pointers, without}
+use Rattle.ep_pointers.specs.Value.{Target, without}
 use Rattle.ep_cells.specs.declared.cell.Cell.{Cell}
 use Rattle.ep_cells.specs.declared.cell.Value.{Value}
 use Rattle.ep_cells.specs.declared.cell.Value.TheVariants.{Num, Ptr}
@@ -18,7 +20,7 @@ use Rattle.ep_cells.specs.Cells.{IsIn, first, later, put_all, each_becomes}
 use Rattle.ep_cells.specs.Forms.{Fate, reformed}
 use Rattle.ep_cells.specs.Kill.{undefined_cell, entry_cells, has_target, value_without, without_target, left_by_kill}
 use Rattle.ep_cells.specs.Kill.{fate_by_kill, killed_cells}
-use Rattle.ep_cells.specs.States.{Known, AreCells, AreAlike, HaveCellsAlike}
+use Rattle.ep_cells.specs.States.{Known, AreCells, HaveCellsAlike}
 use Rattle.ep_cells.proofs.Gathered.{of_kills}
 use Rattle.ep_cells.proofs.Lists.{in_map, in_each, in_put_all}
 use Rattle.ep_core.specs.Program.{Block, Program}
@@ -26,7 +28,7 @@ use Rattle.ep_core.specs.Runs.{Side, is_global}
 use Rattle.ep_core.specs.WellFormed.{is_named, blocks_fit}
 use Rattle.ep_equalities.specs.declared.pair.Mode.TheVariants.{Both}
 use Rattle.ep_evaluation.specs.Laws.{IsState}
-use Rattle.ep_transfers.specs.Transfers.{leaves_in, bytes_in, killed_block, killed_blocks, entered}
+use Rattle.ep_transfers.specs.Transfers.{killed_block, killed_blocks, entered}
 use Rattle.ep_transfers.proofs.WaitingStays.{blocks_state}
 use Rattle.ep_tame_laws.specs.Tamely.{is_result_of_main, HaveNoResult}
 use Rattle.ep_tame_values.specs.Offsets.{EachTarget}
@@ -34,7 +36,7 @@ use Rattle.ep_tame_places.specs.Places.{PointsTo}
 use Rattle.ep_tame_cells.specs.Shared.{AreHad}
 use Rattle.ep_tame_cells.specs.Shape.{IsCovered, HasShape}
 use Rattle.ep_tame_cells.specs.Laws.{ShapeLaws}
-use Rattle.ep_tame_cells.specs.BlockLaws.{cells_after, BlockLaws}
+use Rattle.ep_tame_cells.specs.BlockLaws.{BlockLaws}
 use Rattle.ep_tame_cells.proofs.Entered.{new_is, one_in, block_laws_of}
 use Rattle.ep_tame_cells.proofs.Over.{same_alike}
 use Rattle.ep_tame_cells.proofs.Shapes.{is_like, like_there, shape_laws_of}
@@ -43,18 +45,6 @@ use Rattle.ep_tame_states.proofs.Meetings.{form_apart}
 use Rattle.ep_tame_changes.specs.Laws.{BlocksKeepGood}
 
 -- ---- lists of blocks
-
-in_append : (c : ℕ) (bs cs : List ℕ) → contains c (bs ++ cs) ≡ true
-    → (contains c bs ≡ true) ⊎ (contains c cs ≡ true)
-in_append c [] cs e = inr e
-in_append c (b ∷ bs) cs e =
-    ⊎_elim (λ s. inl (or_left (nat_eq c b) (contains c bs) s))
-    (λ r. ⊎_elim (λ s. inl (or_right (nat_eq c b) (contains c bs) s)) (λ s. inr s) (in_append c bs cs r))
-    (or_cases (nat_eq c b) (contains c (bs ++ cs)) e)
-
-behind_append : (c : ℕ) (bs cs : List ℕ) → contains c cs ≡ true → contains c (bs ++ cs) ≡ true
-behind_append c [] cs e = e
-behind_append c (b ∷ bs) cs e = or_right (nat_eq c b) (contains c (bs ++ cs)) (behind_append c bs cs e)
 
 module _ {N : Type 0} where
   -- ---- values that lose a block
@@ -312,7 +302,7 @@ module _ {N : Type 0} (D : Ops N) (law : Lawful D) (p : Program) (fit : blocks_f
         (or_left (is_global (slice_get p.blocks c)) (contains c live) e))
         (λ e. ⊎_elim (λ s. both_ways (is_result_of_main p c) (free c s) m)
         (λ s. both_ways (is_named p.types p.blocks live c) (g.apart c m)
-        (or_right (is_global (slice_get p.blocks c)) (contains c live) s)) (in_append c bs live e))
+        (or_right (is_global (slice_get p.blocks c)) (contains c live) s)) (or_cases (contains c bs) (contains c live) (sym (list_any-append (nat_eq c) bs live) ∙ e)))
         (or_cases (is_global (slice_get p.blocks c)) (contains c (bs ++ live)) n));
   }
     where
@@ -321,7 +311,7 @@ module _ {N : Type 0} (D : Ops N) (law : Lawful D) (p : Program) (fit : blocks_f
       by_name c (inl e) = g.named c (or_left (is_global (slice_get p.blocks c)) (contains c live) e)
       by_name c (inr e) =
           ⊎_elim (λ s. covered c s)
-          (λ s. g.named c (or_right (is_global (slice_get p.blocks c)) (contains c live) s)) (in_append c bs live e)
+          (λ s. g.named c (or_right (is_global (slice_get p.blocks c)) (contains c live) s)) (or_cases (contains c bs) (contains c live) (sym (list_any-append (nat_eq c) bs live) ∙ e))
 
       as_named : (ty c : ℕ) (n : N) → PointsTo D p live ty c n → PointsTo D p (bs ++ live) ty c n
       as_named ty c n q = record {
@@ -329,7 +319,7 @@ module _ {N : Type 0} (D : Ops N) (law : Lawful D) (p : Program) (fit : blocks_f
         there = q.there;
         named =
             ⊎_elim (λ e. or_left (is_global (slice_get p.blocks c)) (contains c (bs ++ live)) e)
-            (λ e. or_right (is_global (slice_get p.blocks c)) (contains c (bs ++ live)) (behind_append c bs live e))
+            (λ e. or_right (is_global (slice_get p.blocks c)) (contains c (bs ++ live)) (contains-right c bs live e))
             (or_cases (is_global (slice_get p.blocks c)) (contains c live) q.named);
         point = q.point;
       }
@@ -402,7 +392,7 @@ module _ {N : Type 0} (D : Ops N) (law : Lawful D) (p : Program) (fit : blocks_f
         state = r.good.state;
         shape = r.good.shape;
         named = r.good.named;
-        results = λ c e. ⊎_elim (λ s. r.covered c s) (λ s. r.good.results c s) (in_append c bs res e);
+        results = λ c e. ⊎_elim (λ s. r.covered c s) (λ s. r.good.results c s) (or_cases (contains c bs) (contains c res) (sym (list_any-append (nat_eq c) bs res) ∙ e));
         points = r.good.points;
         over = r.good.over;
         apart = r.good.apart;
@@ -414,7 +404,7 @@ module _ {N : Type 0} (D : Ops N) (law : Lawful D) (p : Program) (fit : blocks_f
     state = g.state;
     shape = g.shape;
     named = g.named;
-    results = λ c e. g.results c (behind_append c bs res e);
+    results = λ c e. g.results c (contains-right c bs res e);
     points = g.points;
     over = g.over;
     apart = g.apart;

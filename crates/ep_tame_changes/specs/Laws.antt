@@ -16,7 +16,7 @@ pub record BlocksKeepGood {N : Type 0} (D : Ops N) (p : Program) (ord : Side →
       → IsGood D p ord h (bs ++ live) res (entered D p Both bs k)
   pub leave : (bs : List ℕ) (h k : Known N) (live res : List ℕ) → IsGood D p ord h (bs ++ live) res k
       → IsGood D p ord h live res (entered D p Both bs k)
-  pub result_comes : (bs : List ℕ) → HaveNoResult p bs → (h k : Known N) (live res : List ℕ) → IsGood D p ord h live res k
-      → IsGood D p ord h live (bs ++ res) (entered D p Both bs k)
+  pub result_comes : (bs : List ℕ) → HaveNoResult p bs → (h k : Known N) (live res : List ℕ)
+      → IsGood D p ord h live res k → IsGood D p ord h live (bs ++ res) (entered D p Both bs k)
   pub result_goes : (bs : List ℕ) (h k : Known N) (live res : List ℕ) → IsGood D p ord h live (bs ++ res) k
       → IsGood D p ord h live res k

@@ -1,10 +1,11 @@
 -- An object without bytes lies at no place inside of a leaf.
 use Rattle.std.proofs.Common.{◌≡◌, ℕ, zero, suc, ◌+◌, ◌-◌, ◌*◌, ◌/◌, ◌%◌, ◌<◌, ◌≤◌, ℤ, pos, ◌≤ℤ◌, true, false, ◌⊎◌}
+use Rattle.std.proofs.lemmas.Bool.{cases_lt}
+use Rattle.ep_tame_values.proofs.Lines.{on_step}
 use Rattle.std.proofs.Common.{inl, inr, ⊎_elim, List, [], ◌∷◌, Some, sym, ap, ◌∙◌, subst}
 use Rattle.std.proofs.Common.{arith, eq-zero-or-pos}
 use Rattle.std.specs.Prelude.{unwrap_or}
-use Rattle.std.proofs.Math.Nat.{mod-eq_of_lt, mul-add, mul-zero, mul-suc, zero-mul, div-add-mod, le_of_mul-le-mul_left}
-use Rattle.std.proofs.Math.Nat.{lt_of_mul-lt-mul_left}
+use Rattle.std.proofs.Math.Nat.{mod-eq_of_lt, mul-add, mul-zero, mul-suc, zero-mul, div-add-mod}
 use Rattle.std.proofs.lemmas.Int.{ints}
 use Rattle.ep_int.proofs.Basics.{some-injective}
 use Rattle.ep_layout.specs.declared.types.Leaf.{Leaf}
@@ -32,22 +33,6 @@ use Rattle.ep_tame_clears.proofs.Empty.{IsUncut}
 abbrev IsEdge : (bytes : ℕ) → Row → ℕ → Type 0
 IsEdge bytes r q = (q ≡ 0) ⊎ ((q ≡ bytes) ⊎ ((j : ℕ) × (j ≤ r.most) × (q ≡ r.first + r.step * j)))
 
--- a number that is at a step from another one
-on_step : (f q s m a b x : ℕ) → 0 < s → f ≤ q → s * a + x ≡ f → s * b + x ≡ q → q < f + s * (m + 1)
-    → (j : ℕ) × (j ≤ m) × (q ≡ f + s * j)
-on_step f q s m a b x p l h k below =
-    let c : s * a ≤ s * b = omega (arith, l, h, k) in
-    let order : a ≤ b = le_of_mul-le-mul_left c p in
-    let sum : b ≡ a + (b - a) = omega (arith, order) in
-    let parts : s * b ≡ s * a + s * (b - a) = ap (λ y. s * y) sum ∙ mul-add s a (b - a) in
-    let at : q ≡ f + s * (b - a) = omega (arith, h, k, parts) in
-    let d : s * (b - a) < s * (m + 1) = later f q (s * (b - a)) (s * (m + 1)) at below in
-    let last : b - a < m + 1 = lt_of_mul-lt-mul_left s d in
-    (b - a, omega (arith, last), at)
-  where
-    later : (f q x y : ℕ) → q ≡ f + x → q < f + y → x < y
-    later f q x y h k = omega (arith, h, k)
-
 -- one before it in the first step is 0
 before_row : (f q s : ℕ) → f ≤ s → q < f → q % s ≡ f % s → q ≡ 0
 before_row f q s l below same =
@@ -60,9 +45,6 @@ before_row f q s l below same =
 
 none_of : (s m : ℕ) → s ≡ 0 → s * m ≡ 0
 none_of s m e = ap (λ x. x * m) e ∙ zero-mul m
-
-order : (q f : ℕ) → (q < f) ⊎ (f ≤ q)
-order q f = ⊎_elim (λ e. inr (omega (arith, e))) (λ l. inl (omega (arith, l))) (eq-zero-or-pos (f - q))
 
 module _ {N : Type 0} (D : Ops N) (law : Lawful D) (t : Table) (bytes : ℕ) (r : Row) (n : N) (q : ℕ)
     (h : LieOn D t bytes r n) (sz : size t r.ty ≡ Some 0) (held : Holds D n (pos q)) (inside : q ≤ bytes) where
@@ -80,7 +62,7 @@ module _ {N : Type 0} (D : Ops N) (law : Lawful D) (t : Table) (bytes : ℕ) (r 
 
   -- where the row has steps
   stepped : 0 < r.step → IsEdge bytes r q
-  stepped p = by_low (order q r.first) h.low
+  stepped p = by_low (cases_lt q r.first) h.low
     where
       same : q % r.step ≡ r.first % r.step
       same = law.stride_holds n (r.first % r.step) r.step (pos q) (is_stride r.first r.step p h.small) (h.stride p) held
@@ -106,7 +88,7 @@ module _ {N : Type 0} (D : Ops N) (law : Lawful D) (t : Table) (bytes : ℕ) (r 
           → ((D.range n).1 ≤ℤ pos (r.first + r.step * r.most)) ⊎ (bytes ≤ r.first + r.step * (r.most + 1))
           → IsEdge bytes r q
       by_high l (inl i) = on_it l (below_last r.first r.step r.most p (ends (r.first + r.step * r.most) i))
-      by_high l (inr e) = by_end l (order q bytes) e
+      by_high l (inr e) = by_end l (cases_lt q bytes) e
 
       by_low : (q < r.first) ⊎ (r.first ≤ q) → EndsInStep t r ⊎ (pos r.first ≤ℤ (D.range n).0) → IsEdge bytes r q
       by_low (inr l) low = by_high l h.high

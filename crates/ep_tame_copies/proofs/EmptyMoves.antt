@@ -1,5 +1,6 @@
 -- An object without bytes is moved: nothing changes but forms.
 use Rattle.std.proofs.Common.{◌≡◌, ℕ, Bool, true, false, ◌&&◌, not, cond, List, [], ◌∷◌, ◌++◌, map, refl, sym, ap, ◌∙◌, subst}
+use Rattle.ep_int.proofs.Basics.{and-false}
 use Rattle.ep_int.specs.declared.types.Order.{Order}
 use Rattle.ep_bitslice.specs.declared.cell.Side.{Side as CellSide}
 use Rattle.ep_bitslice.specs.declared.cell.Side.TheVariants.{Left, Right, Shared}
@@ -36,10 +37,6 @@ module _ {N : Type 0} where
   none_each f (x ∷ cs) h =
       ap (λ xs. xs ++ each_becomes f cs) (h x (first cs)) ∙ none_each f cs (λ y i. h y (later x cs i))
 
-no_share : (b : Bool) → (b && false) ≡ false
-no_share true = refl
-no_share false = refl
-
 module _ {N : Type 0} (D : Ops N) (law : Lawful D) (p : Program) (places : PlaceLaws D p) (ord : Side → Order)
     (h : Known N) (live res : List ℕ) (k : Known N) (g : IsGood D p ord h live res k) (q r : Spot) (to : IsUncut p q)
     (from : IsUncut p r) where
@@ -66,7 +63,7 @@ module _ {N : Type 0} (D : Ops N) (law : Lawful D) (p : Program) (places : Place
   none_taken s t x i =
       ap (λ b. cond (share_memory s x.side && b) (taken_cell D k (place_at s r 0) t x) [])
       (missed D law p places ord h live res k g s r from x i)
-      ∙ ap (λ b. cond b (taken_cell D k (place_at s r 0) t x) []) (no_share (share_memory s x.side))
+      ∙ ap (λ b. cond b (taken_cell D k (place_at s r 0) t x) []) (and-false (share_memory s x.side))
 
   none_right : (x : Cell N) → IsIn x k.cells → taken_right D k (place_at Right r 0) x ≡ []
   none_right x i = by_whole (is_whole_shared D k (place_at Right r 0) x)

@@ -1,10 +1,12 @@
 -- An object is moved to one place from one place, the same on both sides: its cells take the place of those there.
 use Rattle.std.proofs.Common.{◌≡◌, ℕ, ◌+◌, ◌-◌, ◌<◌, ◌≤◌, Bool, true, false, ◌&&◌, not, cond, ◌⊎◌, inl, inr, ⊎_elim}
+use Rattle.ep_int.proofs.Basics.{and-false}
 use Rattle.std.proofs.Common.{List, [], ◌∷◌, map, Option, Some, None, slice_get, refl, sym, ap, ◌∙◌, subst, arith}
-use Rattle.std.proofs.Common.{nat_eq, nat_le, nat_lt, eq-zero-or-pos}
+use Rattle.std.proofs.Common.{nat_eq, nat_le, nat_lt}
 use Rattle.std.specs.Prelude.{unwrap_or}
 use Rattle.std.specs.List.{filter}
 use Rattle.std.proofs.lemmas.Bool.{and_parts, and_from, both_ways, eq-eqb, eqb-true, ltb-true, lt-ltb, le-leb}
+use Rattle.std.proofs.lemmas.Bool.{cases_lt}
 use Rattle.ep_int.specs.declared.types.IntType.TheVariants.{U8}
 use Rattle.ep_int.specs.declared.types.Model.{Model}
 use Rattle.ep_int.specs.declared.types.Order.{Order}
@@ -55,7 +57,7 @@ use Rattle.ep_tame_cells.proofs.Entered.{one_in, put_more}
 use Rattle.ep_tame_changes.proofs.Killed.{had_covered}
 use Rattle.ep_tame_states.specs.States.{ValueHas, CellPoints, IsGood}
 use Rattle.ep_tame_states.proofs.Meetings.{form_apart}
-use Rattle.ep_tame_writes.proofs.Written.{none_kept, no_more, nothing}
+use Rattle.ep_tame_writes.proofs.Written.{none_kept, nothing}
 use Rattle.ep_tame_clears.proofs.Edges.{object_uncut}
 use Rattle.ep_tame_clears.proofs.Empty.{cell_cuts}
 use Rattle.ep_tame_clears.proofs.Objects.{object_ends, cell_of_part}
@@ -77,9 +79,6 @@ pointer_leaf : (a : Option Scalar) (b : Bool) → or_outside a b ≡ Some Pointe
 pointer_leaf (Some w) b h = h
 pointer_leaf None true h = absurd cc
 pointer_leaf None false h = absurd cc
-
-order : (q f : ℕ) → (q < f) ⊎ (f ≤ q)
-order q f = ⊎_elim (λ e. inr (omega (arith, e))) (λ l. inl (omega (arith, l))) (eq-zero-or-pos (f - q))
 
 -- a cell of an object
 record InObject {N : Type 0} (p : Program) (ty n : ℕ) (q : Spot) (x : Cell N) : Type 0 where
@@ -109,7 +108,7 @@ module _ {N : Type 0} (D : Ops N) (law : Lawful D) (p : Program) (built : IsBuil
         some_is e = cc
 
     begins_in : x.block ≡ q.0 → q.1 < x.offset + size_of p.types.model x.what → q.1 ≤ x.offset
-    begins_in same below = by_order (order x.offset q.1)
+    begins_in same below = by_order (cases_lt x.offset q.1)
       where
         differ : true ≡ false → ⊥
         differ e = cc
@@ -181,7 +180,7 @@ module _ {N : Type 0} (D : Ops N) (law : Lawful D) (p : Program) (built : IsBuil
             → is_partly_in (place_at s q n) (place_of k.model x) ≡ false
         by_touch true e =
             ap (λ t. meets (place_at s q n) (place_of k.model x) && not t) (enclosed s (touched s e))
-            ∙ no_more (meets (place_at s q n) (place_of k.model x))
+            ∙ and-false (meets (place_at s q n) (place_of k.model x))
         by_touch false e =
             ap (λ t. (share_memory s x.side && t) && not (encloses (place_at s q n) (place_of k.model x))) e
             ∙ nothing (share_memory s x.side) (not (encloses (place_at s q n) (place_of k.model x)))

@@ -1,8 +1,10 @@
 -- The statement that assigns a struct.
 use Rattle.std.proofs.Common.{◌≡◌, ℕ, zero, suc, ◌<◌, Bool, true, false, ◌&&◌, ◌||◌, not, cond, List, [], ◌∷◌, map}
-use Rattle.std.proofs.Common.{Option, Some, slice_get, refl, sym, ap, ◌∙◌, subst, arith, nat_eq}
+use Rattle.ep_int.proofs.Basics.{and-false}
+use Rattle.ep_cell_ranges.proofs.Basics.{same_spot}
+use Rattle.std.proofs.Common.{Option, Some, slice_get, refl, sym, ap, ◌∙◌, subst, arith}
 use Rattle.std.specs.Prelude.{is_some, unwrap_or}
-use Rattle.std.proofs.lemmas.Bool.{and_parts, and_from, eq-eqb}
+use Rattle.std.proofs.lemmas.Bool.{and_parts, and_from}
 use Rattle.ep_int.specs.declared.types.Order.{Order}
 use Rattle.ep_int.specs.declared.types.Scalar.{Scalar}
 use Rattle.ep_layout.specs.declared.types.Leaf.{Leaf}
@@ -58,11 +60,6 @@ use Rattle.ep_tame_copies.proofs.EmptyMoves.{empty_moved_good}
 
 -- ---- lists of places
 
-same_spot : (q r : Spot) → q ≡ r → is_same_spot q r ≡ true
-same_spot q r e =
-    and_from (nat_eq q.0 r.0) (nat_eq q.1 r.1) (eq-eqb q.0 r.0 (ap (λ (s : Spot). s.0) e))
-    (eq-eqb q.1 r.1 (ap (λ (s : Spot). s.1) e))
-
 alike_itself : {N : Type 0} (D : Ops N) (qs : List Spot) → write_alike D qs qs ≡ true
 alike_itself D [] = refl
 alike_itself D (q ∷ []) = same_spot q q refl
@@ -71,10 +68,6 @@ alike_itself D (q ∷ r ∷ qs) = refl
 not_one : (a b : Bool) → a ≡ false → (a && b) ≡ false
 not_one true b e = absurd cc
 not_one false b e = refl
-
-one_and_none : (a : Bool) → (a && false) ≡ false
-one_and_none true = refl
-one_and_none false = refl
 
 -- what a struct assignment needs of the places of each size: a move from one place to one, pieces, and no bytes
 module _ {N : Type 0} (D : Ops N) (p : Program) (Good : Known N → Type 0) (k : Known N) (ls : List Leaf) (n : ℕ)
@@ -112,9 +105,9 @@ module _ {N : Type 0} (D : Ops N) (p : Program) (Good : Known N → Type 0) (k :
   by_lists (q ∷ []) [] ps os a e b f = absurd cc
   by_lists (q ∷ []) (r ∷ s ∷ rs) ps os a e b f = absurd cc
   by_lists (q ∷ []) (r ∷ []) [] os a e b f =
-      pieces_by (ap (λ ps. is_one to.left && is_one ps) b ∙ one_and_none (is_one to.left))
+      pieces_by (ap (λ ps. is_one to.left && is_one ps) b ∙ and-false (is_one to.left))
   by_lists (q ∷ []) (r ∷ []) (x ∷ y ∷ ps) os a e b f =
-      pieces_by (ap (λ ps. is_one to.left && is_one ps) b ∙ one_and_none (is_one to.left))
+      pieces_by (ap (λ ps. is_one to.left && is_one ps) b ∙ and-false (is_one to.left))
   by_lists (q ∷ []) (r ∷ []) (x ∷ []) [] a e b f = absurd cc
   by_lists (q ∷ []) (r ∷ []) (x ∷ []) (y ∷ z ∷ os) a e b f = absurd cc
   by_lists (q ∷ []) (r ∷ []) (x ∷ []) (y ∷ []) a e b f =

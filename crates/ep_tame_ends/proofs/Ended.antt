@@ -1,6 +1,7 @@
 -- Main's result is the same on both machines.
-use Rattle.std.proofs.Common.{◌≡◌, ℕ, pos, Bool, true, false, ◌&&◌, ◌||◌, List, [], ◌∷◌, ◌++◌, slice_get, Option, Some, None}
-use Rattle.std.proofs.Common.{is_some, option_map, map, refl, sym, ap, ◌∙◌, subst, nat_eq}
+use Rattle.std.proofs.Common.{◌≡◌, ℕ, true, false, ◌&&◌, List, [], ◌∷◌, ◌++◌, slice_get, Option, Some, None}
+use Rattle.ep_transfers.proofs.Outputs.{none_left}
+use Rattle.std.proofs.Common.{is_some, map, refl, sym, ap, ◌∙◌, subst, nat_eq}
 use Rattle.std.specs.Prelude.{option_to_list}
 use Rattle.std.specs.List.{list_all}
 use Rattle.std.proofs.lemmas.Bool.{and_from, or_left, eq-eqb}
@@ -16,13 +17,9 @@ use Rattle.ep_alarms.specs.declared.types.AlarmKind.TheVariants.{U4, U5, U6, U7,
 use Rattle.ep_bitslice.specs.declared.cell.Side.{Side as CellSide}
 use Rattle.ep_bitslice.specs.declared.cell.Side.TheVariants as cell_side
 use Rattle.ep_domain.specs.Domain.{Ops, Lawful}
-use Rattle.ep_pointers.specs.Value.{one_target}
-use Rattle.ep_cells.specs.declared.cell.Cell.{Cell}
-use Rattle.ep_cells.specs.declared.cell.Value.TheVariants.{Num, Ptr}
 use Rattle.ep_cells.specs.States.{Known}
 use Rattle.ep_reads.specs.declared.read.ReadValue.{ReadValue}
 use Rattle.ep_reads.specs.Read.{whole_read}
-use Rattle.ep_cell_ranges.specs.Spots.{Spot}
 use Rattle.ep_core.specs.Program.{block, Function, Program}
 use Rattle.ep_core.specs.Exec.{first_of}
 use Rattle.ep_core.specs.Runs.{Side, left, right}
@@ -34,10 +31,9 @@ use Rattle.ep_equalities.specs.Same.{is_same}
 use Rattle.ep_evaluation.specs.Given.{Given, cells_of, faults_on, shown_if}
 use Rattle.ep_evaluation.specs.Accesses.{reads_of, joined_reads, is_unset, is_mixed, bounds_of, may_be_odd}
 use Rattle.ep_evaluation.specs.Evaluation.{told, places_at, targets_of, pointer, is_null}
-use Rattle.ep_evaluation.specs.Laws.{sizes_of}
 use Rattle.ep_pass.specs.Honest.{AreOf}
 use Rattle.ep_straight_laws.proofs.Loads.{place_is}
-use Rattle.ep_transfers.specs.Places.{has_values, aligned_faults}
+use Rattle.ep_transfers.specs.Places.{has_values}
 use Rattle.ep_transfers.specs.Transfers.{sizes, to_block, stepped, differ_faults}
 use Rattle.ep_transfers.specs.Calls.{loaded_result}
 use Rattle.ep_transfers.specs.Ends.{is_sure_result, ended_faults}
@@ -62,14 +58,10 @@ use Rattle.ep_tame_laws.proofs.Main.{OwnBlock, own_block, IsMain, main_is, is_it
 
 -- ---- lists of faults
 
-none_of : {A : Type 0} (xs ys : List A) → xs ++ ys ≡ [] → (xs ≡ []) × (ys ≡ [])
-none_of [] ys e = (refl, e)
-none_of (x ∷ xs) ys e = absurd cc
-
 all_none : {A : Type 0} (a b c d e : List A) → (a ++ b) ++ c ≡ [] → d ≡ [] → e ≡ [] → a ++ (b ++ (c ++ (d ++ e))) ≡ []
 all_none a b c d e abc dn en =
-    let x = none_of (a ++ b) c abc in
-    let y = none_of a b x.0 in
+    let x = none_left (a ++ b) c abc in
+    let y = none_left a b x.0 in
     rw (y.0, y.1, x.1, dn, en) refl
 
 module _ {N : Type 0} (D : Ops N) (law : Lawful D) (p : Program) (formed : is_well_formed p ≡ true)

@@ -12,7 +12,7 @@ use Rattle.ep_kinds.specs.Rows.{IsInChain, itself, of_elements, Row, IsRow, of_b
 use Rattle.ep_tame_laws.specs.Laws.{GoesAlong}
 use Rattle.ep_tame_laws.proofs.Found.{array_at, array_size}
 
-chain_at : (t : Table) (whole ty s m : ℕ) → IsInChain t whole ty s m → (z : ℕ) → size t ty ≡ Some z
+pub chain_at : (t : Table) (whole ty s m : ℕ) → IsInChain t whole ty s m → (z : ℕ) → size t ty ≡ Some z
     → IsInChain t whole ty z m
 chain_at t whole ty s m (itself k) z h = itself z
 chain_at t whole ty s m (of_elements a e n u k c el sz some) z h =

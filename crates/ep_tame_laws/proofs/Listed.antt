@@ -1,5 +1,8 @@
 -- Main's result is none of the blocks of frames and scopes, and of no function before it.
-use Rattle.std.proofs.Common.{◌≡◌, ℕ, zero, suc, ◌≤◌, ◌<◌, Bool, true, false, ◌&&◌, ◌||◌, not, nat_eq, nat_lt, List, [], ◌∷◌, ◌++◌}
+use Rattle.std.proofs.Common.{◌≡◌, ℕ, zero, suc, ◌≤◌, ◌<◌, Bool, true, false, ◌&&◌, not, nat_eq, nat_lt, List, [], ◌∷◌, ◌++◌}
+use Rattle.ep_transfers.proofs.Locals.{different_second}
+use Rattle.ep_transfers.proofs.Locals.{owned}
+use Rattle.ep_transfers.proofs.Locals.{different_at}
 use Rattle.std.proofs.Common.{⊎_elim, slice_get, Option, Some, None, is_some, option_to_list, refl, sym, ◌∙◌, subst, arith, if◌then◌else◌}
 use Rattle.std.specs.List.{list_all, flat_map}
 use Rattle.std.proofs.lemmas.Bool.{and_parts, eq-eqb, eqb-true, or_cases, or_left, both_ways, not-true, ltb-true}
@@ -25,18 +28,6 @@ apart_in b (x ∷ xs) ys h i =
     (subst (λ c. contains c (xs ++ ys) ≡ true) (eqb-true b x e) (contains-right b xs ys j))))
     (λ e. apart_in b xs ys d.1 e) (or_cases (nat_eq b x) (contains b xs) i)
 
-first_part : (xs ys : List ℕ) → are_different (xs ++ ys) ≡ true → are_different xs ≡ true
-first_part [] ys h = refl
-first_part (x ∷ xs) ys h =
-    let d = and_parts (not (contains x (xs ++ ys))) (are_different (xs ++ ys)) h in
-    let off : contains x xs ≡ false = false_from_ne_true (contains x xs) (λ e. both_ways (contains x (xs ++ ys))
-    (not-true _ d.0) (contains-left x xs ys e)) in
-    rw (off, first_part xs ys d.1) refl
-
-later_part : (xs ys : List ℕ) → are_different (xs ++ ys) ≡ true → are_different ys ≡ true
-later_part [] ys h = h
-later_part (x ∷ xs) ys h = later_part xs ys (and_parts (not (contains x (xs ++ ys))) (are_different (xs ++ ys)) h).1
-
 -- ---- blocks of functions
 
 no_function : {A : Type 0} (f : Function) → None ≡ Some f → A
@@ -44,23 +35,6 @@ no_function f e = absurd cc
 
 same_function : (g f : Function) → Some g ≡ Some f → g ≡ f
 same_function g f e = cc
-
-owned_by : (fs : List Function) (k : ℕ) (f : Function) → slice_get fs k ≡ Some f → (b : ℕ)
-    → contains b (own_blocks f) ≡ true → contains b (flat_map own_blocks fs) ≡ true
-owned_by [] k f at b h = no_function f at
-owned_by (g ∷ fs) zero f at b h =
-    contains-left b (own_blocks g) (flat_map own_blocks fs)
-    (subst (λ x. contains b (own_blocks x) ≡ true) (sym (same_function g f at)) h)
-owned_by (g ∷ fs) (suc k) f at b h =
-    contains-right b (own_blocks g) (flat_map own_blocks fs) (owned_by fs k f at b h)
-
-own_apart : (fs : List Function) (k : ℕ) (f : Function) → slice_get fs k ≡ Some f
-    → are_different (flat_map own_blocks fs) ≡ true → are_different (own_blocks f) ≡ true
-own_apart [] k f at h = no_function f at
-own_apart (g ∷ fs) zero f at h =
-    subst (λ x. are_different (own_blocks x) ≡ true) (same_function g f at)
-    (first_part (own_blocks g) (flat_map own_blocks fs) h)
-own_apart (g ∷ fs) (suc k) f at h = own_apart fs k f at (later_part (own_blocks g) (flat_map own_blocks fs) h)
 
 -- two functions have no block of both
 functions_apart : (fs : List Function) (k n : ℕ) (f g : Function) → slice_get fs k ≡ Some f → slice_get fs n ≡ Some g
@@ -72,9 +46,9 @@ functions_apart (x ∷ fs) zero (suc n) f g at to less h b i =
     false_from_ne_true (contains b (own_blocks g)) (λ j. both_ways (contains b (flat_map own_blocks fs))
     (apart_in b (own_blocks x) (flat_map own_blocks fs) h
     (subst (λ y. contains b (own_blocks y) ≡ true) (sym (same_function x f at)) i))
-    (owned_by fs n g to b j))
+    (owned fs n g to b j))
 functions_apart (x ∷ fs) (suc k) (suc n) f g at to less h b i =
-    functions_apart fs k n f g at to (omega (arith, less)) (later_part (own_blocks x) (flat_map own_blocks fs) h) b i
+    functions_apart fs k n f g at to (omega (arith, less)) (different_second (own_blocks x) (flat_map own_blocks fs) h) b i
 
 module _ (p : Program) (formed : is_well_formed p ≡ true) where
   listed : are_listed p.blocks (flat_map own_blocks p.functions) ≡ true
@@ -109,7 +83,7 @@ module _ (p : Program) (formed : is_well_formed p ≡ true) where
   -- main's result isn't global
   pub result_local : (b : ℕ) → is_result_of_main p b ≡ true → is_global (slice_get p.blocks b) ≡ false
   result_local b e = main_has b e (is_global (slice_get p.blocks b) ≡ false) (λ m to i. not_global b
-      (owned_by p.functions p.main m to b (owned_result m b i)))
+      (owned p.functions p.main m to b (owned_result m b i)))
     where
       each_in : (test : ℕ → Bool) (c : ℕ) (xs : List ℕ) → list_all test xs ≡ true → contains c xs ≡ true
           → test c ≡ true
@@ -157,7 +131,7 @@ module _ (p : Program) (formed : is_well_formed p ≡ true) where
         not_main b (contains-left b (frame_of f) (result_block f ++ scoped f.body) i)
         (λ s. false_from_ne_true (contains b (result_block f)) (λ j. both_ways
         (contains b (result_block f ++ scoped f.body))
-        (apart_in b (frame_of f) (result_block f ++ scoped f.body) (own_apart p.functions k f at different) i)
+        (apart_in b (frame_of f) (result_block f ++ scoped f.body) (different_at p.functions k f at different) i)
         (contains-left b (result_block f) (scoped f.body) j))) below
 
     pub scopes_free : k ≤ p.main → HaveNoResult p (scoped f.body)
@@ -166,7 +140,7 @@ module _ (p : Program) (formed : is_well_formed p ≡ true) where
         (contains-right b (result_block f) (scoped f.body) i))
         (λ s. false_from_ne_true (contains b (result_block f)) (λ j. both_ways (contains b (scoped f.body))
         (apart_in b (result_block f) (scoped f.body)
-        (later_part (frame_of f) (result_block f ++ scoped f.body) (own_apart p.functions k f at different)) j) i)) below
+        (different_second (frame_of f) (result_block f ++ scoped f.body) (different_at p.functions k f at different)) j) i)) below
 
     pub result_free : k < p.main → HaveNoResult p (result_block f)
     result_free less b i =

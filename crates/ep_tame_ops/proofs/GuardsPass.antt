@@ -1,8 +1,7 @@
 -- What operations look at first holds of good states.
-use Rattle.std.proofs.Common.{◌≡◌, ℕ, Bool, true, false, ◌&&◌, List, sym, ap, ◌∙◌, subst, refl}
+use Rattle.std.proofs.Common.{◌≡◌, Bool, true, false, ◌&&◌, List, sym, ap, ◌∙◌, subst, refl}
+use Rattle.ep_cell_ranges.proofs.Basics.{is_model-self}
 use Rattle.std.proofs.lemmas.Bool.{and_from}
-use Rattle.ep_int.specs.declared.types.Model.{Model}
-use Rattle.ep_int.specs.declared.types.Model.TheVariants.{Ilp32, Lp64}
 use Rattle.ep_int.specs.declared.types.Order.{Order}
 use Rattle.ep_int.specs.declared.types.Order.TheVariants.{Little, Big, SwappedWords}
 use Rattle.ep_domain.specs.Domain.{Ops, Lawful}
@@ -28,13 +27,9 @@ order_itself Little = refl
 order_itself Big = refl
 order_itself SwappedWords = refl
 
-model_itself : (d : Model) → is_model d d ≡ true
-model_itself Ilp32 = refl
-model_itself Lp64 = refl
-
 module _ {N : Type 0} (D : Ops N) (law : Lawful D) (p : Program) (ord : Side → Order) where
   pub told_pass : (k : Known N) → IsState D p ord k → is_told_so D p ord k ≡ true
-  told_pass k s = ap (λ d. is_model d p.types.model) s.model ∙ model_itself p.types.model
+  told_pass k s = ap (λ d. is_model d p.types.model) s.model ∙ is_model-self p.types.model
 
   pub state_pass : (k : Known N) → IsState D p ord k → is_state p ord k ≡ true
   state_pass k s =

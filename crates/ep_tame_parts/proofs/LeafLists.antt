@@ -1,6 +1,7 @@
 -- Leaves of lists that are put together.
 use Rattle.std.proofs.Common.{◌≡◌, zero, suc, ◌+◌, ◌*◌, ◌<◌, ◌≤◌, Bool, true, false, ◌&&◌, ◌||◌, cond, List, [], ◌∷◌, ℕ}
-use Rattle.std.proofs.Common.{◌++◌, Some, None, nat_eq, nat_le, nat_lt, refl, sym, ap, ◌∙◌, subst, arith}
+use Rattle.ep_reads.proofs.Members.{bool_same}
+use Rattle.std.proofs.Common.{◌++◌, Some, None, nat_eq, nat_le, nat_lt, refl, ap, ◌∙◌, subst, arith}
 use Rattle.std.specs.List.{list_any}
 use Rattle.std.proofs.Math.Nat.{mul-suc, mul-zero}
 use Rattle.std.proofs.lemmas.Bool.{and_parts, eqb-true, eq-eqb, leb-true, le-leb, ltb-true, lt-ltb}
@@ -13,27 +14,21 @@ use Rattle.ep_layout.proofs.Sizes.{size_of_scalar}
 use Rattle.ep_cells.specs.Kill.{leaf_at, is_in_leaf}
 use Rattle.ep_tame_parts.specs.Laws.{cuts_leaf, HasLeavesAt}
 
-pub same_test : (a b : Bool) → (a ≡ true → b ≡ true) → (b ≡ true → a ≡ true) → a ≡ b
-same_test true true f g = refl
-same_test true false f g = sym (f refl)
-same_test false true f g = g refl
-same_test false false f g = refl
-
 pub same_eq : (k a b : ℕ) → nat_eq (k + a) (k + b) ≡ nat_eq a b
 same_eq k a b =
-    same_test (nat_eq (k + a) (k + b)) (nat_eq a b)
+    bool_same (nat_eq (k + a) (k + b)) (nat_eq a b)
     (λ h. (let e = eqb-true (k + a) (k + b) h in eq-eqb a b (omega (arith, e))))
     (λ h. (let e = eqb-true a b h in eq-eqb (k + a) (k + b) (omega (arith, e))))
 
 pub same_le : (k a b : ℕ) → nat_le (k + a) (k + b) ≡ nat_le a b
 same_le k a b =
-    same_test (nat_le (k + a) (k + b)) (nat_le a b)
+    bool_same (nat_le (k + a) (k + b)) (nat_le a b)
     (λ h. (let e = leb-true (k + a) (k + b) h in le-leb a b (omega (arith, e))))
     (λ h. (let e = leb-true a b h in le-leb (k + a) (k + b) (omega (arith, e))))
 
 pub same_lt : (k a b : ℕ) → nat_lt (k + a) (k + b) ≡ nat_lt a b
 same_lt k a b =
-    same_test (nat_lt (k + a) (k + b)) (nat_lt a b)
+    bool_same (nat_lt (k + a) (k + b)) (nat_lt a b)
     (λ h. (let e = ltb-true (k + a) (k + b) h in lt-ltb a b (omega (arith, e))))
     (λ h. (let e = ltb-true a b h in lt-ltb (k + a) (k + b) (omega (arith, e))))
 

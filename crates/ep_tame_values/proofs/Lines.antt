@@ -57,7 +57,7 @@ alone_last : (f d e x : ℕ) (v w : ℤ) → v ≡ pos f → w ≤ℤ (v +ℤ po
 alone_last f d e x v w h k q = omega (arith, ints, h, q)
 
 -- a number that is at a step from another one
-on_step : (f q s m a b x : ℕ) → 0 < s → f ≤ q → s * a + x ≡ f → s * b + x ≡ q → q < f + s * (m + 1)
+pub on_step : (f q s m a b x : ℕ) → 0 < s → f ≤ q → s * a + x ≡ f → s * b + x ≡ q → q < f + s * (m + 1)
     → (j : ℕ) × (j ≤ m) × (q ≡ f + s * j)
 on_step f q s m a b x p l h k below =
     let c : s * a ≤ s * b = omega (arith, l, h, k) in

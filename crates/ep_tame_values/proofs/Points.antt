@@ -1,5 +1,6 @@
 -- Offsets of pointers stay along their blocks.
 use Rattle.std.proofs.Common.{◌≡◌, ℕ, ◌+◌, ◌-◌, ◌*◌, ◌%◌, ◌<◌, ◌≤◌, pos, Bool, true, false, Some, IsTrue, IfSome}
+use Rattle.ep_tame_laws.proofs.Along.{chain_at}
 use Rattle.ep_tame_numbers.proofs.Pairs.{both_same}
 use Rattle.ep_int.proofs.Basics.{if_some-map, some-injective}
 use Rattle.std.proofs.Common.{refl, sym, ◌∙◌, subst, arith}
@@ -9,17 +10,10 @@ use Rattle.ep_domain.specs.Domain.{Ops, IsStride, Lawful}
 use Rattle.ep_alarm_laws.specs.Laws.{ProductsKeepStrides}
 use Rattle.ep_pointers.specs.Sum.{move, moved_offset}
 use Rattle.ep_kinds.specs.Tame.{holds_array}
-use Rattle.ep_kinds.specs.Rows.{IsInChain, itself, of_elements}
+use Rattle.ep_kinds.specs.Rows.{itself, of_elements}
 use Rattle.ep_tame_numbers.specs.Offsets.{KeepsOffsets}
 use Rattle.ep_tame_values.specs.Offsets.{IsArrayOf, PointAt}
 use Rattle.ep_tame_values.proofs.Alone.{strides, number, zero_stride, single_alone, moved_stride}
-
--- the size of what a chain begins with is that of its last
-chain_at : (t : Table) (whole ty s m : ℕ) → IsInChain t whole ty s m → (z : ℕ) → size t ty ≡ Some z
-    → IsInChain t whole ty z m
-chain_at t whole ty s m (itself k) z h = itself z
-chain_at t whole ty s m (of_elements a e n u k c el sz some) z h =
-    subst (λ x. IsInChain t whole e x (n * k + (n - 1))) (some-injective (sym sz ∙ h)) (of_elements a e n u k c el sz some)
 
 module _ {N : Type 0} (D : Ops N) (law : Lawful D) (keeps : KeepsOffsets D) (products : ProductsKeepStrides D)
     (t : Table) (whole : ℕ) where

@@ -1,5 +1,6 @@
 -- A cell is written over one of its place and type.
 use Rattle.std.proofs.Common.{◌≡◌, ℕ, ◌+◌, Bool, true, false, ◌&&◌, not, cond, ⊎_elim, List, [], ◌∷◌}
+use Rattle.ep_int.proofs.Basics.{and-false}
 use Rattle.std.proofs.Common.{slice_get, Option, Some, None, refl, sym, ap, ◌∙◌, subst, arith, nat_le}
 use Rattle.std.specs.List.{filter}
 use Rattle.std.proofs.lemmas.Bool.{and_parts, and_from, le-leb}
@@ -41,10 +42,6 @@ use Rattle.ep_tame_states.specs.States.{IsInBlock, CellPoints, IsGood}
 use Rattle.ep_tame_states.proofs.Meetings.{both_have, form_apart, both_sure, good_alike}
 use Rattle.ep_tame_writes.specs.Laws.{CanStand, WritesKeepGood}
 
-pub no_more : (b : Bool) → (b && false) ≡ false
-no_more true = refl
-no_more false = refl
-
 pub nothing : (b t : Bool) → ((b && false) && t) ≡ false
 nothing true t = refl
 nothing false t = refl
@@ -79,7 +76,7 @@ module _ {N : Type 0} where
             let same = place_alike d c x (touched_alike d c cs a over x i e) in
             ap (λ t. meets (on_cell_side s (place_of d c)) (place_of d x) && not t)
             (sym (ap (encloses (place_of d c)) same) ∙ whole (place_of d c))
-            ∙ no_more (meets (on_cell_side s (place_of d c)) (place_of d x))
+            ∙ and-false (meets (on_cell_side s (place_of d c)) (place_of d x))
         at false e =
             ap (λ t. (share_memory s x.side && t) && not (encloses (place_of d c) (place_of d x))) e
             ∙ nothing (share_memory s x.side) (not (encloses (place_of d c) (place_of d x)))

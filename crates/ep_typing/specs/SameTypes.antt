@@ -1,5 +1,6 @@
 -- Equal types are one type.
 use Rattle.std.specs.Prelude.{◌≡◌, ℕ, Bool, true, false, cond, ◌==◌, refl}
+use Rattle.ep_core.proofs.Sorts.{same_type}
 use Rattle.std.specs.Cmp.{IsPartialEquivalence, IsEquivalence, equiv, both_ways}
 use Rattle.std.proofs.Common.{◌∙◌, sym, ap, subst, true≢false}
 use borrow.Author.Tests.{eqb-true, eq-eqb}
@@ -10,17 +11,6 @@ use Rattle.ep_typing.specs.declared.types.Base.{Base}
 use Rattle.ep_typing.specs.declared.types.Base.TheVariants as bases
 use Rattle.ep_typing.specs.declared.types.CType.{CType}
 use Rattle.ep_typing.specs.Types.{is_same_base, is_same}
-
-pub same_int : (t u : IntType) → is_same_type t u ≡ true → t ≡ u
-same_int I8 I8 h = refl
-same_int U8 U8 h = refl
-same_int I16 I16 h = refl
-same_int U16 U16 h = refl
-same_int I32 I32 h = refl
-same_int U32 U32 h = refl
-same_int I64 I64 h = refl
-same_int U64 U64 h = refl
-same_int t u h = absurd (true≢false (sym h))
 
 pub int_itself : (t : IntType) → is_same_type t t ≡ true
 int_itself I8 = refl
@@ -34,7 +24,7 @@ int_itself U64 = refl
 
 pub same_bases : (b c : Base) → is_same_base b c ≡ true → b ≡ c
 same_bases bases.Void bases.Void h = refl
-same_bases (bases.Int t) (bases.Int u) h = ap bases.Int (same_int t u h)
+same_bases (bases.Int t) (bases.Int u) h = ap bases.Int (same_type t u h)
 same_bases (bases.Array m) (bases.Array n) h = ap (λ (k : ℕ). bases.Array k) (eqb-true m n h)
 same_bases (bases.Aggregate a) (bases.Aggregate b) h = ap (λ (k : ℕ). bases.Aggregate k) (eqb-true a b h)
 same_bases b c h = absurd (true≢false (sym h))

@@ -71,7 +71,8 @@ module _ {A B : Type 0} (d : Ops A) (e : Ops B) (law : Lawful d) (too : Lawful e
   held_shared a b z p q = shared_by a b _ z (common_holds a b z p q) p q
 
   pub tops_shared : (t : IntType) → may_pair d e (d.top t) (e.top t) ≡ true
-  tops_shared t = held_shared _ _ (pos 0) (law.top_holds t (pos 0) (zero_in_range t)) (too.top_holds t (pos 0) (zero_in_range t))
+  tops_shared t =
+      held_shared _ _ (pos 0) (law.top_holds t (pos 0) (zero_in_range t)) (too.top_holds t (pos 0) (zero_in_range t))
 
   pub singles_shared : (v : ℤ) → IsOfSomeType v → may_pair d e (d.single v) (e.single v) ≡ true
   singles_shared v h = held_shared _ _ v (law.single_holds v h) (too.single_holds v h)
