@@ -2,6 +2,5 @@
 #![tactic(auto)]
 
 mod program;
-mod statements;
 
 pub use program::walk;

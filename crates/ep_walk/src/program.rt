@@ -6,12 +6,12 @@ ghost use Rattle.ep_pass.specs.Pass.{join_on, logged};
 ghost use Rattle.ep_walk.specs.Reported.{end_of, heads_in, report_on, told_in, turns_in};
 ghost use Rattle.ep_walk_parts.specs.Pieces.{o};
 
-use crate::statements::pass_function;
 use ep_flows::flow::{Flow, join_reached};
 use ep_flows::log::Log;
 use ep_flows::setting::{Running, Setting};
 use ep_flows::states::AbstractStates;
 use ep_int::Memory;
+use ep_statement_walk::pass_function;
 use ep_walk_parts::follow::function_at;
 
 /// Goes through main once, and tells the alarms and, where they are wanted, the heads that are kept. To `turns` come

@@ -14,7 +14,7 @@ use Rattle.ep_walk_parts.proofs.Rows.{turns_all, turns_end, turns_more}
 use Rattle.ep_walk_parts.proofs.Turning.{last_alone, last_both, lone_none, lone_ok, loop_alone, loop_both, loop_tests}
 use Rattle.ep_walk_parts.proofs.Turning.{turn_ok}
 use Rattle.ep_walk_parts.proofs.TypedParts.{call_typed, callee_is, callee_less, callee_none}
-use Rattle.ep_walk.proofs.statements.+walk.Goals as goal
+use Rattle.ep_statement_walk.proofs.statements.+walk.Goals as goal
 
 pub pass_body-pass_list-requires : goal.pass_body-pass_list-requires
 pass_body-pass_list-requires g t c κs within = (omega arith, (within, c.requires.body))

@@ -18,7 +18,7 @@ use Rattle.ep_walk_parts.proofs.Stopping.{four_stop_three, four_stop_two, heads_
 use Rattle.ep_walk_parts.proofs.Stopping.{lone_stops, next_stops, next_way, rows_stop, still_count, tests_stop}
 use Rattle.ep_walk_parts.proofs.Stopping.{turn_stops, turns_stop, turns_stop_last, two_stop}
 use Rattle.ep_walk_parts.proofs.TypedParts.{callee_is, callee_less}
-use Rattle.ep_walk.proofs.statements.+walk.Goals as goal
+use Rattle.ep_statement_walk.proofs.statements.+walk.Goals as goal
 
 same_turns : {S : Type 0} (a b : Told S) → a ≡ b → a.count ≡ b.count
 same_turns {S = S} a b e = ap (λ (z : Told S). z.count) e

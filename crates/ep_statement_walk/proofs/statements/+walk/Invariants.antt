@@ -6,7 +6,7 @@ use Rattle.ep_flows.proofs.Combined.{Leads}
 use Rattle.ep_walk_parts.proofs.Deeper.{before, depth, depth_two, depth_parts, depth_follow, lone_rank, mode_rank}
 use Rattle.ep_walk_parts.proofs.Heading.{GoesIn}
 use Rattle.ep_core.specs.declared.tree.What.TheViews.{size-Stmt}
-use Rattle.ep_walk.proofs.statements.+walk.Given as goal
+use Rattle.ep_statement_walk.proofs.statements.+walk.Given as goal
 
 abbrev pub decreases-pass_stmt : goal.decreases-pass_stmt
 decreases-pass_stmt g l = before l.c.now.program.now.functions.items l.here + (64 * size-Stmt l.s.now)

@@ -139,9 +139,10 @@ fn pass_branch<K: AbstractStates>(
     }
 }
 
-// The body of the function of this number, where a state is reached.
+/// Goes through the body of the function of this number, and all that it calls, from a state where one is reached;
+/// where there is no such function, the state stays. An error says that memory ran out.
 #[cycle(walk)]
-pub(crate) fn pass_function<K: AbstractStates>(
+pub fn pass_function<K: AbstractStates>(
     c: &Setting<'_>,
     k: u32,
     mode: Running,

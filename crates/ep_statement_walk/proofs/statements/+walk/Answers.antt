@@ -17,9 +17,9 @@ use Rattle.ep_walk_parts.proofs.Rows.{rows_all, rows_end, rows_more}
 use Rattle.ep_walk_parts.proofs.Turning.{begun_goes, begun_stops, branch_ok, entered_goes, entered_none, follow_ok}
 use Rattle.ep_walk_parts.proofs.TypedParts.{arm_typed, function_typed, if_typed, is_at, is_none, item_typed}
 use Rattle.ep_walk_parts.proofs.TypedParts.{loop_typed, order_typed, scope_typed, stmt_typed}
-use Rattle.ep_walk.proofs.statements.+walk.Goals as goal
-use Rattle.ep_walk.proofs.statements.+walk.Answers.Errors as errors
-use Rattle.ep_walk.proofs.statements.+walk.Answers.Loops as loops
+use Rattle.ep_statement_walk.proofs.statements.+walk.Goals as goal
+use Rattle.ep_statement_walk.proofs.statements.+walk.Answers.Errors as errors
+use Rattle.ep_statement_walk.proofs.statements.+walk.Answers.Loops as loops
 mod Errors
 mod Loops
 
