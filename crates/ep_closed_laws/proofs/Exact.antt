@@ -29,7 +29,7 @@ use Rattle.ep_kinds.specs.Closed.{is_closed_what, are_closed}
 use Rattle.ep_kinds.specs.Steady.{are_quiet_arms, is_quiet_what, are_quiet}
 use Rattle.ep_closed_laws.specs.Bounded.{visit, exec_in, all_in, body_in, bodies_in}
 use Rattle.ep_pass.proofs.Outcomes.{body_end, with_next, loop_left}
-use Rattle.ep_closed_laws.specs.Exactly.{SeenFrom, Exactly}
+use Rattle.ep_closed_laws.specs.Exactly.{SeenFrom, AreOverAlike, Exactly}
 use Rattle.ep_pass.proofs.Outcomes.{IsCall, next_grows}
 use Rattle.ep_closed_laws.proofs.WaysIn.{body_turn, all_among_in, plain_in, bodies_call_in}
 use Rattle.ep_closed_laws.proofs.GrowsIn.{all_grow_in, bodies_grow_in, puts_out, does_adds}
@@ -376,13 +376,13 @@ module _ (p : Program) (ord : Side → Order) {S : Type 0} (o : StateOps S) (K :
         abbrev faults_of : Function → Pass S → List Alarm
         faults_of f q = q.log.faults ++ faults_at_end o u limit ord p (Some f) (join_on o q.ways.returned q.on)
 
-        -- the outputs at main's end
-        abbrev OutputsAreEqual : Function → State → State → Type 0
-        OutputsAreEqual f x y =
-            (main_ends (ord left) p f.result f.line x).outputs ≡ (main_ends (ord right) p f.result f.line y).outputs
+        -- both machines are over alike at main's end
+        abbrev EndAlike : Function → State → State → Type 0
+        EndAlike f x y =
+            AreOverAlike (main_ends (ord left) p f.result f.line x) (main_ends (ord right) p f.result f.line y)
 
         end_faults : (f : Function) → slice_get p.functions p.main ≡ Some f → (k : Way) → (k ≡ on) ⊎ (k ≡ returned)
-            → (x y : State) (q : Pass S) → Leaves (λ s. K s x y) k q → OutputsAreEqual f x y → faults_of f q ≡ []
+            → (x y : State) (q : Pass S) → Leaves (λ s. K s x y) k q → EndAlike f x y → faults_of f q ≡ []
         end_faults f at on d x y q h e =
             ap (faults_of f) h.is
             ∙ (ap (λ gs. gs ++ alarms_at f.line (o.ended f h.in_state)) h.quiet
@@ -417,14 +417,17 @@ module _ (p : Program) (ord : Side → Order) {S : Type 0} (o : StateOps S) (K :
 
         main_leaves : (f : Function) → slice_get p.functions p.main ≡ Some f → (q : Pass S) (k j : Way) (n m : ℕ)
             (x y : State) → IsCall (leaves k n x) → BothOf o K rule os q (leaves k n x) (leaves j m y)
+            → (main_ends (ord left) p f.result f.line x).ending ≡ ended
+            → (main_ends (ord right) p f.result f.line y).ending ≡ ended
             → (main_ends (ord left) p f.result f.line x).outputs ≡ os
             → (main_ends (ord right) p f.result f.line y).outputs ≡ os
             → Tests rule x → Tests rule y → faults_of f q ≡ []
-        main_leaves f at q k j n m x y its_way h e d t v =
+        main_leaves f at q k j n m x y its_way h l w e d t v =
             let b = (main_begins (ord left) f.result f.line x).0 in
             let c = (main_begins (ord right) f.result f.line y).0 in
             let r = h ((subst (Begins x.outputs) e b, t), (subst (Begins y.outputs) d c, v)) in
-            end_faults f at k (call_way k n x its_way) x y q r.1.1 (e ∙ sym d)
+            end_faults f at k (call_way k n x its_way) x y q r.1.1
+            (record { left_over = l; right_over = w; outputs = e ∙ sym d })
 
         -- what the run of a machine that is over tells
         abbrev pub RunTests : Rule → List ℕ → Type 0
@@ -450,6 +453,7 @@ module _ (p : Program) (ord : Side → Order) {S : Type 0} (o : StateOps S) (K :
             let v = main_end (ord left) f at k n x in
             let w = main_end (ord right) f at j m y in
             main_leaves f at q k j n m x y its_way h
+            (subst (λ (r : Run). r.ending ≡ ended) v e) (subst (λ (r : Run). r.ending ≡ ended) w e')
             (subst (λ (r : Run). r.outputs ≡ os) v b) (subst (λ (r : Run). r.outputs ≡ os) w b')
             (to_tests rule x (finished (ord left) p (leaves k n x)).joint_tests
             (ap (λ (r : Run). r.joint_tests) v ∙ (main_begins (ord left) f.result f.line x).1) t)

@@ -1,5 +1,5 @@
 -- What was put out and tested stays also where loops make at most so many turns; and what statements list and put out.
-use Rattle.std.proofs.Common.{◌≡◌, ℕ, zero, suc, ◌+◌, ◌%◌, ℤ, pos, List, [], ◌∷◌, ◌++◌, length, refl, ap, ◌∙◌, Option}
+use Rattle.std.proofs.Common.{◌≡◌, ℕ, zero, suc, ◌+◌, ◌%◌, ℤ, pos, List, [], ◌∷◌, length, refl, ap, ◌∙◌, Option}
 use Rattle.std.proofs.lemmas.List.{length_push}
 use Rattle.std.proofs.Common.{Some, None, option_to_list, arith, nat_eq, ◌&&◌, slice_get, Bool, true, false}
 use Rattle.ep_int.specs.declared.types.IntType.TheVariants.{U8}

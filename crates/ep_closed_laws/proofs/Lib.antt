@@ -2,6 +2,7 @@ pub mod WaysIn
 pub mod GrowsIn
 pub mod Steps
 pub mod Silent
+pub mod Inside
 pub mod Lift
 pub mod Alone
 pub mod Rules

@@ -19,6 +19,10 @@ use Rattle.ep_closed_laws.specs.Exactly.{IsThere, IfLeft, IfBothLeft, TransferIs
 use Rattle.ep_closed_laws.specs.Closely.{ConcretisesOneTyped, ConcretisesOneBeside, Closely}
 use Rattle.ep_closed_laws.proofs.GrowsIn.{AddsIfLeft, does_adds, passes_adds, received_adds}
 use Rattle.ep_closed_laws.proofs.Silent.{silent, stays_out, passes_grow}
+use Rattle.ep_closed_laws.proofs.Inside.{Inside, typed_in, seen_in, beside_in, truth_in, over_in, beside_out, alone_out}
+use Rattle.ep_closed_laws.proofs.Inside.{both_out, killed_out, killed_both}
+use Rattle.ep_single_restricted.specs.Restricted.{restricted, restricted_state}
+use Rattle.ep_single_restricted.proofs.Runs.{is_restricted}
 
 module _ (p : Program) {S : Type 0} (ConcretisesOne : S → Memory → Memory → Type 0) where
   abbrev K : S → State → State → Type 0
@@ -85,8 +89,8 @@ module _ (p : Program) {S : Type 0} (ConcretisesOne : S → Memory → Memory �
   beside_of right s x y h = h.memories
 
 pub exactly : (p : Program) → is_well_formed p ≡ true → (ord : Side → Order) {S : Type 0} (o : StateOps S)
-    (ConcretisesOne : S → Memory → Memory → Type 0) → Closely p ord o ConcretisesOne → Exactly p ord o (ConcretisesOneTyped p ConcretisesOne)
-exactly p formed ord o ConcretisesOne law = record {
+    (C : S → Memory → Memory → Type 0) → Closely p ord o C → Exactly p ord o (ConcretisesOneTyped p (Inside p C))
+exactly p formed ord o C law = record {
   entry = λ inputs. record {
     memories = law.entry;
     outputs = refl;
@@ -100,74 +104,105 @@ exactly p formed ord o ConcretisesOne law = record {
     left_fits = record { memory = h.left_fits.memory; outputs = h.left_fits.outputs };
     right_fits = record { memory = h.right_fits.memory; outputs = h.right_fits.outputs };
   };
-  simple_alone = λ i here f at w seen fits talks l n s x y h. alone_lift p ConcretisesOne i (way_of w)
+  simple_alone = λ i here f at w seen fits talks l n s x y h. alone_lift p (Inside p C) i (way_of w)
       (o.simple (One i) f.result w s) s x y n (does (ord i) p uncounted f.result w l n x) h
       (subst (λ k. AddsIfLeft k x (does (ord i) p uncounted f.result w l n x)) (silent w talks)
       (does_adds (ord i) p f.result w l n x)) (does_grows (ord i) p uncounted f.result w l n x)
-      (does_fits p (ord i) formed here f at w seen fits l n x (own_fits p ConcretisesOne i s x y h))
-      (law.simple_alone i here f at w seen fits talks l n s x y h);
-  test_alone = law.test_alone;
-  assume_alone = λ i e seen typed t s x y h a. (let z = law.assume_alone i e seen typed t s x y h a in (
-    there_more p ConcretisesOne
-        (λ r. ConcretisesOneBeside ConcretisesOne i r x.memory y.memory) (λ r. SeenFrom (ConcretisesOneTyped p ConcretisesOne) i r x y)
-        (λ r m. same_alone p ConcretisesOne i s r x y h m)
-        (o.assume_one i e t s) z.0,
-    z.1,
-  ));
-  arguments_alone = λ i k f at es seen fits l n s x y h. alone_lift p ConcretisesOne i on (o.arguments (One i) f es s) s x y n
-      (passes (ord i) p f es l n x) h (passes_adds (ord i) p f es l n x) (passes_grow p (ord i) f es l n x)
-      (passes_fit p (ord i) formed k f at es seen fits l n x (own_fits p ConcretisesOne i s x y h))
-      (law.arguments_alone i k f at es seen fits l n s x y h);
-  result_alone = λ i k f at d seen takes l n s x y h. alone_lift p ConcretisesOne i on (o.result (One i) f d s) s x y n
+      (does_fits p (ord i) formed here f at w seen fits l n x (own_fits p (Inside p C) i s x y h))
+      (alone_out p C i (way_of w) (o.simple (One i) f.result w s) y (does (ord i) p uncounted f.result w l n x)
+      (does (ord i) p uncounted f.result w l n (restricted_state p x))
+      ((is_restricted (ord i) p).statements uncounted f.result w l n x)
+      (law.simple_alone i here f at w seen fits talks l n s (restricted_state p x) (restricted_state p y) (seen_in p C i s x y h)));
+  test_alone = λ i e seen typed t s x y h a. law.test_alone i e seen typed t s (restricted_state p x) (restricted_state p y)
+      (seen_in p C i s x y h) (truth_in p C (ord i) e x.memory t a);
+  assume_alone = λ i e seen typed t s x y h a. (let z = law.assume_alone i e seen typed t s (restricted_state p x) (restricted_state p y)
+      (seen_in p C i s x y h) (truth_in p C (ord i) e x.memory t a) in (
+        there_more p (Inside p C) (λ r. ConcretisesOneBeside (Inside p C) i r x.memory y.memory)
+            (λ r. SeenFrom (ConcretisesOneTyped p (Inside p C)) i r x y)
+            (λ r m. same_alone p (Inside p C) i s r x y h m) (o.assume_one i e t s)
+            (beside_out p C i x.memory y.memory (o.assume_one i e t s) z.0),
+        z.1,
+      ));
+  arguments_alone = λ i k f at es seen fits l n s x y h. alone_lift p (Inside p C) i on (o.arguments (One i) f es s) s x
+      y n (passes (ord i) p f es l n x) h (passes_adds (ord i) p f es l n x) (passes_grow p (ord i) f es l n x)
+      (passes_fit p (ord i) formed k f at es seen fits l n x (own_fits p (Inside p C) i s x y h))
+      (alone_out p C i on (o.arguments (One i) f es s) y (passes (ord i) p f es l n x)
+      (passes (ord i) p f es l n (restricted_state p x)) ((is_restricted (ord i) p).arguments f es l n x)
+      (law.arguments_alone i k f at es seen fits l n s (restricted_state p x) (restricted_state p y) (seen_in p C i s x y h)));
+  result_alone = λ i k f at d seen takes l n s x y h. alone_lift p (Inside p C) i on (o.result (One i) f d s) s x y n
       (received (ord i) p f.result d l n x) h (received_adds (ord i) p f.result d l n x)
       (received_grows (ord i) p f.result d l n x)
-      (result_fits p (ord i) formed k f at d seen takes l n x (own_fits p ConcretisesOne i s x y h))
-      (law.result_alone i k f at d seen takes l n s x y h);
-  enter_alone = λ i bs s x y h. moved_alone p ConcretisesOne i s (o.enter (One i) bs s) x (without bs x) y h refl
-      (without_fits p bs x (own_fits p ConcretisesOne i s x y h))
-      (law.enter_alone i bs s x.memory y.memory (beside_of p ConcretisesOne i s x y h));
-  leave_alone = λ i bs s x y h. moved_alone p ConcretisesOne i s (o.leave (One i) bs s) x (without bs x) y h refl
-      (without_fits p bs x (own_fits p ConcretisesOne i s x y h))
-      (law.leave_alone i bs s x.memory y.memory (beside_of p ConcretisesOne i s x y h));
-  simple_both = λ here f at w seen fits talks l n m s x y h. both_lift p ConcretisesOne (way_of w) (o.simple Both f.result w s)
-      (does (ord left) p uncounted f.result w l n x) (does (ord right) p uncounted f.result w l m y)
+      (result_fits p (ord i) formed k f at d seen takes l n x (own_fits p (Inside p C) i s x y h))
+      (alone_out p C i on (o.result (One i) f d s) y (received (ord i) p f.result d l n x)
+      (received (ord i) p f.result d l n (restricted_state p x)) ((is_restricted (ord i) p).results f.result d l n x)
+      (law.result_alone i k f at d seen takes l n s (restricted_state p x) (restricted_state p y) (seen_in p C i s x y h)));
+  enter_alone = λ i bs s x y h. moved_alone p (Inside p C) i s (o.enter (One i) bs s) x (without bs x) y h refl
+      (without_fits p bs x (own_fits p (Inside p C) i s x y h))
+      (killed_out p C (ord i) i (o.enter (One i) bs s) bs x.memory y.memory
+      (law.enter_alone i bs s (restricted p x.memory) (restricted p y.memory)
+      (beside_in p C i s x.memory y.memory (beside_of p (Inside p C) i s x y h))));
+  leave_alone = λ i bs s x y h. moved_alone p (Inside p C) i s (o.leave (One i) bs s) x (without bs x) y h refl
+      (without_fits p bs x (own_fits p (Inside p C) i s x y h))
+      (killed_out p C (ord i) i (o.leave (One i) bs s) bs x.memory y.memory
+      (law.leave_alone i bs s (restricted p x.memory) (restricted p y.memory)
+      (beside_in p C i s x.memory y.memory (beside_of p (Inside p C) i s x y h))));
+  simple_both = λ here f at w seen fits talks l n m s x y h. both_lift p (Inside p C) (way_of w)
+      (o.simple Both f.result w s) (does (ord left) p uncounted f.result w l n x)
+      (does (ord right) p uncounted f.result w l m y)
       (does_fits p (ord left) formed here f at w seen fits l n x h.left_fits)
       (does_fits p (ord right) formed here f at w seen fits l m y h.right_fits)
-      (law.simple_both here f at w seen fits talks l n m s x y h);
-  test_both = law.test_both;
-  assume_both = λ e seen typed t v s x y h a b. (let z = law.assume_both e seen typed t v s x y h a b in (
-    there_more p ConcretisesOne
-        (λ r. ConcretisesOne r x.memory y.memory) (λ r. ConcretisesOneTyped p ConcretisesOne r x y) (λ r m. same_alone p ConcretisesOne left s r x y h m)
-        (o.assume e t v s) z.0,
-    z.1,
-  ));
-  arguments_both = λ k f at es seen fits l n m s x y h. both_lift p ConcretisesOne on (o.arguments Both f es s)
+      (both_out p C (way_of w) (o.simple Both f.result w s) (does (ord left) p uncounted f.result w l n x)
+      (does (ord right) p uncounted f.result w l m y) (does (ord left) p uncounted f.result w l n (restricted_state p x))
+      (does (ord right) p uncounted f.result w l m (restricted_state p y))
+      ((is_restricted (ord left) p).statements uncounted f.result w l n x)
+      ((is_restricted (ord right) p).statements uncounted f.result w l m y)
+      (law.simple_both here f at w seen fits talks l n m s (restricted_state p x) (restricted_state p y) (typed_in p C s x y h)));
+  test_both = λ e seen typed t v s x y h a b. law.test_both e seen typed t v s (restricted_state p x) (restricted_state p y)
+      (typed_in p C s x y h) (truth_in p C (ord left) e x.memory t a) (truth_in p C (ord right) e y.memory v b);
+  assume_both = λ e seen typed t v s x y h a b. (let z = law.assume_both e seen typed t v s (restricted_state p x) (restricted_state p y)
+      (typed_in p C s x y h) (truth_in p C (ord left) e x.memory t a) (truth_in p C (ord right) e y.memory v b) in (
+        there_more p (Inside p C) (λ r. Inside p C r x.memory y.memory)
+            (λ r. ConcretisesOneTyped p (Inside p C) r x y) (λ r m. same_alone p (Inside p C) left s r x y h m)
+            (o.assume e t v s) z.0,
+        z.1,
+      ));
+  arguments_both = λ k f at es seen fits l n m s x y h. both_lift p (Inside p C) on (o.arguments Both f es s)
       (passes (ord left) p f es l n x) (passes (ord right) p f es l m y)
       (passes_fit p (ord left) formed k f at es seen fits l n x h.left_fits)
       (passes_fit p (ord right) formed k f at es seen fits l m y h.right_fits)
-      (law.arguments_both k f at es seen fits l n m s x y h);
-  result_both = λ k f at d seen takes l n m s x y h. both_lift p ConcretisesOne on (o.result Both f d s)
+      (both_out p C on (o.arguments Both f es s) (passes (ord left) p f es l n x) (passes (ord right) p f es l m y)
+      (passes (ord left) p f es l n (restricted_state p x)) (passes (ord right) p f es l m (restricted_state p y))
+      ((is_restricted (ord left) p).arguments f es l n x) ((is_restricted (ord right) p).arguments f es l m y)
+      (law.arguments_both k f at es seen fits l n m s (restricted_state p x) (restricted_state p y) (typed_in p C s x y h)));
+  result_both = λ k f at d seen takes l n m s x y h. both_lift p (Inside p C) on (o.result Both f d s)
       (received (ord left) p f.result d l n x) (received (ord right) p f.result d l m y)
       (result_fits p (ord left) formed k f at d seen takes l n x h.left_fits)
       (result_fits p (ord right) formed k f at d seen takes l m y h.right_fits)
-      (law.result_both k f at d seen takes l n m s x y h);
+      (both_out p C on (o.result Both f d s) (received (ord left) p f.result d l n x)
+      (received (ord right) p f.result d l m y) (received (ord left) p f.result d l n (restricted_state p x))
+      (received (ord right) p f.result d l m (restricted_state p y)) ((is_restricted (ord left) p).results f.result d l n x)
+      ((is_restricted (ord right) p).results f.result d l m y)
+      (law.result_both k f at d seen takes l n m s (restricted_state p x) (restricted_state p y) (typed_in p C s x y h)));
   enter_both = λ bs s x y h. record {
-    memories = law.enter_both bs s x.memory y.memory h.memories;
+    memories = killed_both p C (ord left) (o.enter Both bs s) bs x.memory y.memory
+        (law.enter_both bs s (restricted p x.memory) (restricted p y.memory) h.memories);
     outputs = h.outputs;
     left_fits = without_fits p bs x h.left_fits;
     right_fits = without_fits p bs y h.right_fits;
   };
   leave_both = λ bs s x y h. record {
-    memories = law.leave_both bs s x.memory y.memory h.memories;
+    memories = killed_both p C (ord left) (o.leave Both bs s) bs x.memory y.memory
+        (law.leave_both bs s (restricted p x.memory) (restricted p y.memory) h.memories);
     outputs = h.outputs;
     left_fits = without_fits p bs x h.left_fits;
     right_fits = without_fits p bs y h.right_fits;
   };
   reshared = λ s x y h. record {
-    memories = law.reshared s x.memory y.memory h.memories;
+    memories = law.reshared s (restricted p x.memory) (restricted p y.memory) h.memories;
     outputs = h.outputs;
     left_fits = h.left_fits;
     right_fits = h.right_fits;
   };
-  ended = law.ended;
+  ended = λ f at s x y h z. law.ended f at s (restricted_state p x) (restricted_state p y) (typed_in p C s x y h)
+      (over_in p C (ord left) (ord right) f.result f.line x y z);
 }

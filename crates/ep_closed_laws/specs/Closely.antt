@@ -12,7 +12,8 @@ use Rattle.ep_kinds.specs.InOut.{is_input, is_talk}
 use Rattle.ep_int.specs.Memory.{Memory, killed}
 use Rattle.ep_core.specs.Runs.{initial}
 use Rattle.ep_core.specs.Typed.{StateFits}
-use Rattle.ep_closed_laws.specs.Exactly.{IsThere, IfLeft, IfBothLeft, TransferIsExact, SeenFrom}
+use Rattle.ep_closed_laws.specs.Exactly.{IsThere, IfLeft, IfBothLeft, TransferIsExact, SeenFrom, AreOverAlike}
+use Rattle.ep_single_restricted.specs.Restricted.{restricted}
 
 -- two machines with the memories that a state stands for, with equal outputs, and as the types of the program say
 pub record ConcretisesOneTyped (p : Program) {S : Type 0} (ConcretisesOne : S → Memory → Memory → Type 0) (s : S)
@@ -27,11 +28,12 @@ abbrev pub ConcretisesOneBeside : {S : Type 0} → (S → Memory → Memory → 
 ConcretisesOneBeside ConcretisesOne left s m k = ConcretisesOne s m k
 ConcretisesOneBeside ConcretisesOne right s m k = ConcretisesOne s k m
 
--- where `Is s m k` says that a state stands for these two memories alone
+-- Where `ConcretisesOne s m k` says that a state stands for these two memories alone. A program begins with memories in
+-- which what lies outside of all blocks counts as undefined: no access goes there.
 pub record Closely (p : Program) (ord : Side → Order) {S : Type 0} (o : StateOps S)
     (ConcretisesOne : S → Memory → Memory → Type 0)
     : Type 0 where
-  pub entry : ConcretisesOne o.entry (initial (ord left) p) (initial (ord right) p)
+  pub entry : ConcretisesOne o.entry (restricted p (initial (ord left) p)) (restricted p (initial (ord right) p))
   -- one machine alone
   pub simple_alone : (m : Side) (here : ℕ) (f : Function) → slice_get p.functions here ≡ Some f
       → (w : Simple) (seen : List ℕ) → simple_fits p here (result_type p.blocks f.result) w seen ≡ true
@@ -102,5 +104,5 @@ pub record Closely (p : Program) (ord : Side → Order) {S : Type 0} (o : StateO
   pub reshared : (s : S) (m k : Memory) → ConcretisesOne s m k → ConcretisesOne (o.reshared s) m k
   pub ended : (f : Function) → slice_get p.functions p.main ≡ Some f → (s : S) (x y : State) →
       ConcretisesOneTyped p ConcretisesOne s x y
-      → (main_ends (ord left) p f.result f.line x).outputs ≡ (main_ends (ord right) p f.result f.line y).outputs
+      → AreOverAlike (main_ends (ord left) p f.result f.line x) (main_ends (ord right) p f.result f.line y)
       → o.ended f s ≡ []

@@ -4,7 +4,7 @@ use Rattle.ep_int.specs.declared.types.Order.{Order}
 use Rattle.ep_core.specs.Program.{Expr, Dest, Simple, Function, Program}
 use Rattle.ep_core.specs.Exec.{State, Way, on, Outcome, leaves, running, no_input, undefined_at, uncounted, without}
 use Rattle.ep_core.specs.Exec.{does, received}
-use Rattle.ep_core.specs.Runs.{Side, left, right, start, main_ends}
+use Rattle.ep_core.specs.Runs.{Side, left, right, start, Run, ended as over, main_ends}
 use Rattle.ep_core.specs.WellFormed.{result_type, is_tested, simple_fits, arguments_fit, takes_result}
 use Rattle.ep_pass.specs.States.{Both, One, Transfer, StateOps}
 use Rattle.ep_pass.specs.Laws.{passes, IsTruth, Fits, GoesOn}
@@ -40,6 +40,12 @@ SeenFrom K right s x y = K s y x
 -- the same machine with other tests listed
 abbrev pub retold : (tests joint_tests : List ℕ) → State → State
 retold t j x = record x { tests = t; joint_tests = j }
+
+-- two runs that are over, with equal outputs
+pub record AreOverAlike (a b : Run) : Type 0 where
+  pub left_over : a.ending ≡ over
+  pub right_over : b.ending ≡ over
+  pub outputs : a.outputs ≡ b.outputs
 
 -- where `K s x y` says that a state stands for these two machines alone
 pub record Exactly (p : Program) (ord : Side → Order) {S : Type 0} (o : StateOps S) (K : S → State → State → Type 0)
@@ -103,5 +109,5 @@ pub record Exactly (p : Program) (ord : Side → Order) {S : Type 0} (o : StateO
   pub leave_both : (bs : List ℕ) (s : S) (x y : State) → K s x y → K (o.leave Both bs s) (without bs x) (without bs y)
   pub reshared : (s : S) (x y : State) → K s x y → K (o.reshared s) x y
   pub ended : (f : Function) → slice_get p.functions p.main ≡ Some f → (s : S) (x y : State) → K s x y
-      → (main_ends (ord left) p f.result f.line x).outputs ≡ (main_ends (ord right) p f.result f.line y).outputs
+      → AreOverAlike (main_ends (ord left) p f.result f.line x) (main_ends (ord right) p f.result f.line y)
       → o.ended f s ≡ []

@@ -69,7 +69,7 @@ is_load o d size m w b q v e =
     }
 
 -- a block that has bytes is there
-block_there : (o : Order) (p : Program) (c : Option Block) (q n : ℕ) → q + n ≤ block_size o p c → 0 < n
+pub block_there : (o : Order) (p : Program) (c : Option Block) (q n : ℕ) → q + n ≤ block_size o p c → 0 < n
     → option_map (λ (x : Block). x.size) c ≡ Some (block_size o p c)
 block_there o p None q n h i = absurd (let z : ⊥ = omega (arith, h, i) in z)
 block_there o p (Some x) q n h i = refl

@@ -1,8 +1,9 @@
 -- Where a pair of values is written, each at one place, a state stands for one pair of memories still.
 use Rattle.std.proofs.Common.{◌≡◌, ℤ, Bool, true, false, ◌&&◌, nat_eq, cond, [], ◌∷◌, Option, Some, None, IfSome}
+use Rattle.ep_cell_ranges.proofs.Basics.{same_spot}
 use Rattle.std.proofs.Common.{refl, sym, ap, subst}
 use Rattle.std.specs.Option.{option_map_or}
-use Rattle.std.proofs.lemmas.Bool.{and_parts, and_from, eq-eqb}
+use Rattle.std.proofs.lemmas.Bool.{and_parts}
 use Rattle.ep_int.specs.declared.types.Scalar.{Scalar}
 use Rattle.ep_int.specs.declared.types.Scalar.TheVariants.{Int, Pointer}
 use Rattle.ep_int.specs.Memory.{Value as Datum, int, null, pointer}
@@ -37,11 +38,6 @@ use Rattle.ep_singles.specs.Cells.{IsOneValue, one_number, IsOne}
 use Rattle.ep_singles.proofs.Bytes.{held_single}
 use Rattle.ep_single_stores.specs.Laws.{IsStoredAt, IsOneToStore}
 use Rattle.ep_single_stores.proofs.Stores.{stores_keep_one}
-
-same_spot : (q r : Spot) → q ≡ r → is_same_spot q r ≡ true
-same_spot q r e =
-    and_from (nat_eq q.0 r.0) (nat_eq q.1 r.1) (eq-eqb q.0 r.0 (ap (λ (s : Spot). s.0) e))
-    (eq-eqb q.1 r.1 (ap (λ (s : Spot). s.1) e))
 
 either_form : (P : Form → Type 0) (f : Form) (t : Bool) → P f → P None → P (cond t f None)
 either_form P f true h i = h

@@ -1,0 +1,6 @@
+pub mod Machines
+pub mod Kept
+pub mod Bound
+pub mod Arguments
+pub mod Received
+pub mod Results

@@ -1,0 +1,4 @@
+pub mod Running
+pub mod Undefined
+pub mod Cleared
+pub mod Statements

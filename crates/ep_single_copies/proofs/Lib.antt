@@ -1,0 +1,4 @@
+pub mod Apart
+pub mod Copied
+pub mod Copies
+pub mod Statements

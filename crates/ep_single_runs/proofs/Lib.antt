@@ -1,0 +1,4 @@
+pub mod Steps
+pub mod Modes
+pub mod Places
+pub mod Located
