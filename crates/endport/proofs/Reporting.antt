@@ -1,18 +1,23 @@
 -- From what was reported to the text and the status.
-use Rattle.std.proofs.Common.{◌≡◌, refl, true, false, IsTrue, ℕ, ◌⊎◌, inl, inr, List, [], ◌∷◌, Result, Ok, Err, IfOk}
+use Rattle.std.proofs.Common.{◌≡◌, refl, ◌∙◌, ap, if◌then◌else◌, true, false, IsTrue, ℕ, ◌⊎◌, inl, inr, List, [], ◌∷◌, Result, Ok, Err, IfOk}
 use Rattle.ep_alarms.specs.declared.types.Alarm.{Alarm}
 use Rattle.ep_alarms.specs.Text.{report_text_of}
 use Rattle.endport.specs.Check.{Asked, alarms_of, report_status, Reports, IsCheck}
 use Rattle.ep_core.specs.Program.{Program}
+use Rattle.ep_iterator.specs.Reports as reports
 use Rattle.ep_iterator.specs.Reports.{AllMayStand}
 use Rattle.endport.specs.Jobs.{MeansOnly}
+use Rattle.endport.specs.Numbers.{numbers, bit_numbers}
 use Rattle.endport.specs.declared.jobs.Job.{Job}
 use Rattle.endport.specs.declared.status.Status.{Status}
 use Rattle.endport.specs.declared.status.Status.TheVariants.{Done, Alarms, Refused, Usage, ReadFault, WriteFault}
 use Rattle.endport.specs.declared.status.Status.TheVariants.{Memory, TooLong, StepsUsedUp, Undefined, InputEnded}
+use Rattle.ep_closed_laws.specs.Laws.{TypesHaveBytes}
+use Rattle.ep_kinds.specs.Steady.{IsClosed, IsSteady}
 use Rattle.ep_kinds.specs.Tame.{is_tame}
 use Rattle.ep_pass.specs.Agreement.{AgreeInTheEnd}
 use Rattle.ep_sample.specs.Sample.{source_of}
+use Rattle.ep_sized_types.specs.Laws.{ProgramsHaveBytes}
 use Rattle.ep_sample_laws.proofs.Whole.{means_within}
 use Rattle.ep_tame_laws.specs.Tamely.{IsUndefinedOnly}
 use Rattle.endport.specs.Sample.{usual}
@@ -22,19 +27,34 @@ pub none_is_done : (alarms : List Alarm) → report_status alarms ≡ Done → a
 none_is_done [] e = refl
 none_is_done (a ∷ more) e = absurd cc
 
+-- what holds whatever the answer is
+pub if_any : {A E P : Type 0} (r : Result A E) → P → IfOk r (λ _. P)
+if_any (Ok x) p = p
+if_any (Err e) p = tt
+
+-- without known bits it is the report by intervals with their congruences
+pub none_without : (a : Asked) (p : Program) → a.known_bits ≡ false
+    → reports.alarms_of numbers p a.left a.right a.unroll ≡ [] → alarms_of a p ≡ []
+none_without a p e h =
+    ap (λ t. if t then reports.alarms_of bit_numbers p a.left a.right a.unroll
+    else reports.alarms_of numbers p a.left a.right a.unroll) e ∙ h
+
 checked : (a : Asked) (source : List ℕ) (alarms : List Alarm) (status : Status) (text : List ℕ)
     → status ≡ report_status alarms → Reports a source status text → IsCheck a source status text
 checked a source [] status text e r = rw e (rw e at r)
 checked a source (b ∷ more) status text e r = rw e (rw e at r)
 
-pub reported : {E : Type 0} (a : Asked) (source : List ℕ) (p : Program) (r : Result Job E) → MeansOnly a.model source p
+pub reported : {E : Type 0} (a : Asked) (source : List ℕ) (p : Program) (r : Result Job E) → ProgramsHaveBytes
+    → MeansOnly a.model source p
     → IfOk r (λ j. j.status ≡ report_status (alarms_of a p))
     → IfOk r (λ j. j.text.items ≡ report_text_of (alarms_of a p))
     → IfOk r (λ j. j.status ≡ Done → AgreeInTheEnd p a.left a.right)
     → IfOk r (λ j. AllMayStand true p (alarms_of a p))
     → IfOk r (λ j. a.known_bits ≡ false → IsTrue (is_tame p) → IsUndefinedOnly (alarms_of a p))
+    → IfOk r (λ j. a.known_bits ≡ false → TypesHaveBytes p.types → IsClosed p a.left a.right a.unroll
+    → IsSteady p a.left a.right → alarms_of a p ≡ [])
     → IfOk r (λ j. IsCheck a source j.status j.text.items)
-reported a source p (Ok j) means status text portable stand tame =
+reported a source p (Ok j) sized means status text portable stand tame closed =
     checked a source (alarms_of a p) j.status j.text.items status (record {
       program = p;
       means = means;
@@ -43,8 +63,10 @@ reported a source p (Ok j) means status text portable stand tame =
       portable = portable;
       stand = stand;
       tame = tame;
+      closed = λ k c s. status
+          ∙ ap report_status (closed k (sized a.model means.means.tree p means.means.means) c s);
     })
-reported a source p (Err e) means status text portable stand tame = tt
+reported a source p (Err e) sized means status text portable stand tame closed = tt
 
 -- ---- samples
 

@@ -12,6 +12,7 @@ use Rattle.endport.specs.declared.status.Status.{Status}
 use Rattle.endport.specs.declared.status.Status.TheVariants.{Done, Alarms, Refused, Usage, ReadFault, WriteFault}
 use Rattle.endport.specs.declared.status.Status.TheVariants.{Memory, TooLong, StepsUsedUp, Undefined, InputEnded}
 use Rattle.ep_pass.specs.Agreement.{AgreeInTheEnd}
+use Rattle.ep_kinds.specs.Steady.{IsClosed, IsSteady}
 use Rattle.ep_kinds.specs.Tame.{is_tame}
 use Rattle.ep_tame_laws.specs.Tamely.{IsUndefinedOnly}
 use Rattle.endport.specs.Numbers.{numbers, bit_numbers}
@@ -39,7 +40,8 @@ report_status (a ∷ more) = Alarms
 
 -- The text and the status of the report on the one program that the source means. Where it has no alarms, the two
 -- machines agree on that program: at all numbers of steps, along every interleaving, and in the end. Each alarm is of a
--- kind that the text on its line may have. Without known bits none on a tame program is of the kinds E1 to E4.
+-- kind that the text on its line may have. Without known bits none on a tame program is of the kinds E1 to E4, and there
+-- is none at all on a steady program that is closed at this number of turns.
 pub record Reports (a : Asked) (source : List ℕ) (status : Status) (text : List ℕ) : Type 0 where
   pub program : Program
   pub means : MeansOnly a.model source program
@@ -48,6 +50,8 @@ pub record Reports (a : Asked) (source : List ℕ) (status : Status) (text : Lis
   pub portable : status ≡ Done → AgreeInTheEnd program a.left a.right
   pub stand : AllMayStand true program (alarms_of a program)
   pub tame : a.known_bits ≡ false → IsTrue (is_tame program) → IsUndefinedOnly (alarms_of a program)
+  pub closed : a.known_bits ≡ false → IsClosed program a.left a.right a.unroll → IsSteady program a.left a.right
+      → status ≡ Done
 
 -- what `check` comes to
 abbrev pub IsCheck : Asked → (source : List ℕ) → Status → (text : List ℕ) → Type 0

@@ -1,6 +1,6 @@
 //! The report on a source, or its refusal.
 
-ghost use Rattle.std.specs.Prelude.{◌≡◌, ◌≤◌, false, true, length, IfOk, IsTrue};
+ghost use Rattle.std.specs.Prelude.{◌≡◌, ◌≤◌, false, true, [], length, IfOk, IsTrue};
 ghost use Rattle.ep_alarms.specs.Text.{report_text_of};
 ghost use Rattle.endport.specs.Check.{IsCheck, alarms_of, report_status};
 ghost use Rattle.endport.specs.CheckView.{asked_for};
@@ -10,6 +10,8 @@ ghost use Rattle.ep_core.specs.ProgramView as core;
 ghost use Rattle.ep_alarm_laws.specs.Laws.{ProductsKeepStrides};
 ghost use Rattle.ep_iterator.specs.Reports as reports;
 ghost use Rattle.ep_iterator.specs.Reports.{AllMayStand};
+ghost use Rattle.ep_closed_laws.specs.Laws.{TypesHaveBytes};
+ghost use Rattle.ep_kinds.specs.Steady.{IsClosed, IsSteady};
 ghost use Rattle.ep_kinds.specs.Tame.{is_tame};
 ghost use Rattle.ep_pass.specs.Agreement.{AgreeInTheEnd};
 ghost use Rattle.ep_tame_laws.specs.Tamely.{IsUndefinedOnly};
@@ -19,6 +21,7 @@ use crate::status::Status;
 use ep_alarms::{Alarms, report_text};
 use ep_ast::Halt;
 use ep_bits::KnownBits;
+use ep_closed_numbers::closed_number_reports;
 use ep_congruence::Congruence;
 use ep_core::program::CoreProgram;
 use ep_domain::{Num, Pair};
@@ -26,6 +29,7 @@ use ep_even_laws::{even_bit_laws, even_laws};
 use ep_int::{Memory, Model, Order};
 use ep_intervals::Interval;
 use ep_iterator::analyse;
+use ep_sized_types::sized_types;
 use ep_source::read;
 use ep_tame_reports::number_reports;
 use std::alloc::Global;
@@ -48,7 +52,10 @@ pub fn check_job(alloc: Global, source: &[u8], asked: CheckAsked) -> Result<Job,
     ensures { IfOk result (λ j. IsCheck (asked_for asked) source.now j.status j.text.items) }
 {
     match &read(alloc, source, asked.model) {
-        Ok(program) => report_on(alloc, program, asked),
+        Ok(program) => {
+            sized_types();
+            report_on(alloc, program, asked)
+        }
         Err(Halt::Refused(refusal)) => refusal_job(alloc, refusal),
         Err(Halt::Memory) => Err(Memory),
     }
@@ -66,7 +73,13 @@ fn report_on(alloc: Global, program: &CoreProgram, asked: CheckAsked) -> Result<
         (alarms_of (asked_for asked) (core.program_view program.now))) }
     ensures tame { IfOk result (λ _. asked.known_bits ≡ false → IsTrue (is_tame (core.program_view program.now))
         → IsUndefinedOnly (alarms_of (asked_for asked) (core.program_view program.now))) }
+    ensures closed { IfOk result (λ _. asked.known_bits ≡ false
+        → TypesHaveBytes (core.program_view program.now).types
+        → IsClosed (core.program_view program.now) asked.orders.0 asked.orders.1 asked.unroll
+        → IsSteady (core.program_view program.now) asked.orders.0 asked.orders.1
+        → alarms_of (asked_for asked) (core.program_view program.now) ≡ []) }
 {
+    closed_alarms(program, &asked);
     if asked.known_bits {
         even_bit_laws::<Interval>();
         return report_by::<Pair<Pair<Interval, Congruence>, KnownBits>>(alloc, program, asked);
@@ -84,6 +97,17 @@ fn tame_alarms(program: &CoreProgram, asked: &CheckAsked)
 {
     number_reports();
     let _model = program.types.model();
+}
+
+// On a closed and steady program there is no alarm by intervals with their congruences. Does nothing.
+fn closed_alarms(program: &CoreProgram, asked: &CheckAsked)
+    requires { is_order asked.now.orders.0 asked.now.orders.1 ≡ false }
+    ensures { asked.now.known_bits ≡ false → TypesHaveBytes (core.program_view program.now).types
+        → IsClosed (core.program_view program.now) asked.now.orders.0 asked.now.orders.1 asked.now.unroll
+        → IsSteady (core.program_view program.now) asked.now.orders.0 asked.now.orders.1
+        → alarms_of (asked_for asked.now) (core.program_view program.now) ≡ [] }
+{
+    closed_number_reports();
 }
 
 // The report over a domain of numbers that keep strides.
