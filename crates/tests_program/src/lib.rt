@@ -7,7 +7,3 @@ mod calls;
 mod commands;
 #[cfg(test)]
 mod failing;
-#[cfg(test)]
-mod idioms;
-#[cfg(test)]
-mod limits;

@@ -1,6 +1,6 @@
 //! Common C that is refused, and what to write instead.
 
-use crate::calls::expect;
+use crate::tells::expect;
 use std::alloc::Global;
 use std::process::Abort;
 use std::test::Fail;

@@ -1,6 +1,6 @@
 //! The limits of sources, each at its edge and one past it.
 
-use crate::calls::expect;
+use crate::tells::expect;
 use std::alloc::{AllocError, Global};
 use std::process::Abort;
 use std::test::Fail;
