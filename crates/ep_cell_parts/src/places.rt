@@ -90,7 +90,8 @@ fn cell_in<N: Num>(side: Side, block: u32, offset: u32, parts: &[Part<Cell<N>>])
     None
 }
 
-fn cell_from<N: Num>(
+/// The cell of a side that begins at an offset. Takes no memory.
+pub fn cell_from<N: Num>(
     side: Side,
     block: u32,
     offset: u32,

@@ -14,7 +14,7 @@ use crate::change::Change;
 use crate::places::{
     comes_before, covers, is_partly_in, is_same_cell, place_of, side_without, touches,
 };
-use crate::values::{Union, common_form, is_form_kept, is_value_within};
+use crate::values::{Union, common_form, copy_value, is_form_kept, is_value_within};
 use ep_bitslice::Side;
 use ep_cells::{ByteRange, Cell};
 use ep_domain::Num;
@@ -194,7 +194,20 @@ pub fn push_side<N: Num>(
 {
     match side {
         None => Ok(()),
-        Some(side) => push(out, reformed_on(change, x, side)?),
+        Some(side) => {
+            let value = copy_value(&x.value)?;
+            let form = change.form(&x.form)?;
+            let c = Cell {
+                side,
+                block: x.block,
+                offset: x.offset,
+                what: x.what,
+                value,
+                maybe: x.maybe,
+                form,
+            };
+            out.push(c).map_err(|_| Memory)
+        }
     }
 }
 

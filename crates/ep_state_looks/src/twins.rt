@@ -2,14 +2,12 @@
 
 ghost use Rattle.std.specs.Prelude.{◌≡◌, Some, map, IfOk};
 ghost use Rattle.std.specs.Option.{option_map};
-ghost use Rattle.ep_cells.specs.Reshare.{cell_from};
 ghost use Rattle.ep_state_looks.specs.Looks.{same_twins as twins_of, twins_at};
 
 use ep_bitslice::Side;
 use ep_cell_changes::reshare::are_same;
 use ep_cell_rows::cell::copy_cell;
-use ep_cell_rows::places::is_same_side;
-use ep_cells::{ByteRange, Cell};
+use ep_cells::Cell;
 use ep_domain::Num;
 use ep_int::Memory;
 use ep_states::State;
@@ -19,22 +17,6 @@ use ep_states::State;
 pub struct Twins<N> {
     pub left: Cell<N>,
     pub right: Cell<N>,
-}
-
-fn from_among<'a, N: Num>(
-    side: Side,
-    block: u32,
-    offset: u32,
-    cells: &[&'a Cell<N>],
-) -> Option<&'a Cell<N>>
-    ensures { option_map (λ c. c.now) result ≡ cell_from side block offset (map (λ r. r.now) cells.now) }
-{
-    for c in cells {
-        if is_same_side(c.side, side) && c.block == block && c.offset == offset {
-            return Some(*c);
-        }
-    }
-    None
 }
 
 fn both_same<N: Num>(l: &Cell<N>, r: &Cell<N>) -> Result<Option<Twins<N>>, Memory>
@@ -69,8 +51,8 @@ fn same_twins<N: Num>(l: Option<&Cell<N>>, r: Option<&Cell<N>>) -> Result<Option
     }
 }
 
-/// The Left and the Right cell that begin at an offset, if both are there and surely the same. Costs a look at the
-/// cells by the offset.
+/// The Left and the Right cell that begin at an offset, if both are there and surely the same. Costs a search for
+/// each.
 pub fn twins_at<N: Num>(
     state: &State<N>,
     block: u32,
@@ -78,15 +60,8 @@ pub fn twins_at<N: Num>(
 ) -> Result<Option<Twins<N>>, Memory>
     ensures { IfOk result (λ o. o ≡ twins_at N.ops block offset state.now.cells) }
 {
-    let place = ByteRange {
-        side: Side::Shared,
-        block,
-        offset,
-        bytes: 1,
-    };
-    let about = state.about(&place)?;
-    let l = from_among(Side::Left, block, offset, &about);
-    let r = from_among(Side::Right, block, offset, &about);
+    let l = state.cell_from(Side::Left, block, offset);
+    let r = state.cell_from(Side::Right, block, offset);
     let twins = same_twins(l, r)?;
     Ok(twins)
 }

@@ -9,7 +9,7 @@ ghost use Rattle.ep_cells.specs.Write.{written};
 ghost use Rattle.ep_cells.specs.Weaken.{weakened};
 ghost use Rattle.ep_cells.specs.Both.{cells_of_both, joined, widened, are_within};
 ghost use Rattle.ep_cells.specs.Kill.{AreLeavesIn, undefined_cell, killed_cells};
-ghost use Rattle.ep_cells.specs.Reshare.{places, reshared};
+ghost use Rattle.ep_cells.specs.Reshare.{cell_from, places, reshared};
 ghost use Rattle.ep_cell_ranges.specs.Narrow.{with_value};
 ghost use Rattle.ep_cell_ranges.specs.Ranges.{overwritten, blurred_at};
 ghost use Rattle.ep_cell_rows.specs.Parts.{united as of_union};
@@ -27,7 +27,7 @@ use ep_cell_parts::about::about;
 use ep_cell_parts::conditions::can_write;
 use ep_cell_parts::equals::{are_equal, is_model, is_order};
 use ep_cell_parts::kills::killed;
-use ep_cell_parts::places::{are_different, places, places_alike};
+use ep_cell_parts::places::{are_different, cell_from, places, places_alike};
 use ep_cell_parts::unions::united;
 use ep_cell_parts::values::set_value_at;
 use ep_cell_rows::values::Union;
@@ -167,6 +167,13 @@ impl<N: Num> State<N> {
         ensures { option_map (λ c. c.now) result ≡ cell_at self.now.model side block byte self.now.cells }
     {
         cells::cell_at(self.model, side, block, byte, &self.parts.cells)
+    }
+
+    /// The cell of that side that begins at an offset. Takes no memory.
+    pub fn cell_from(&self, side: Side, block: u32, offset: u32) -> Option<&Cell<N>>
+        ensures { option_map (λ c. c.now) result ≡ cell_from side block offset self.now.cells }
+    {
+        cell_from(side, block, offset, &self.parts.cells)
     }
 
     /// All cells where they stand, in order. Takes memory for the list alone.
