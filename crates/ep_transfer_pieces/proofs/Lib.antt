@@ -4,3 +4,5 @@ pub mod Planning
 pub mod Turns
 pub mod Beside
 pub mod Holding
+pub mod AtEach
+pub mod Looking

@@ -1,5 +1,5 @@
 -- Writes that are added to a list, and what they do.
-use Rattle.std.proofs.Common.{◌≡◌, ℕ, ◌+◌, ◌≤◌, Bool, true, false, cond, List, [], ◌∷◌, ◌++◌, None, refl, sym, ap}
+use Rattle.std.proofs.Common.{◌≡◌, ℕ, ◌+◌, ◌≤◌, Bool, true, false, ◌&&◌, cond, List, [], ◌∷◌, ◌++◌, None, refl, sym, ap}
 use Rattle.std.proofs.Common.{◌∙◌, subst}
 use Rattle.ep_int.specs.declared.types.Model.{Model}
 use Rattle.ep_int.specs.declared.types.Scalar.{Scalar}
@@ -16,11 +16,12 @@ use Rattle.ep_transfers.specs.Places.{Places, at_side, moved_places, moved_spots
 use Rattle.ep_transfers.specs.Writes.{Item, write_now}
 use Rattle.ep_transfer_writes.specs.Waiting.{item_view}
 use Rattle.ep_transfer_pieces.specs.declared.puts.Put.{Put}
+use Rattle.ep_transfer_pieces.specs.declared.sources.Sources.{Sources}
 use Rattle.ep_transfer_pieces.specs.declared.walk.Piece.{Piece}
 use Rattle.ep_transfer_pieces.specs.declared.walk.Piece.TheVariants.{Nothing, Whole, Byte}
 use Rattle.ep_transfer_pieces.specs.Pieces.{piece_view, CanPut}
 use Rattle.ep_transfer_pieces.specs.Puts.{after_put, after_puts, FitsPut, FitPuts, IsPut, alone_item, together_item}
-use Rattle.ep_transfer_pieces.specs.Puts.{is_nothing, are_alike, Adds}
+use Rattle.ep_transfer_pieces.specs.Puts.{is_nothing, are_alike, Adds, AreSources}
 
 module _ {N : Type 0} (D : Ops N) (joint : Bool) where
   one_more : (to : Places) (ps : List (Put N)) (p : Put N) (j : Known N)
@@ -112,6 +113,26 @@ module _ {N : Type 0} (D : Ops N) (joint : Bool) where
 
     abbrev CanBoth : ℕ → spec.Piece D → spec.Piece D → ℕ → Type 0
     CanBoth o c e n = CanAt left o c n × CanAt right o e n
+
+    -- what was read on both sides makes the item of both
+    pub put_of_both : (o : ℕ) (c : Piece) (l r : Sources N) (p : Put N) → is_nothing c ≡ false
+        → AreSources D k (cells_of left) c (moved_spots o from.left) l
+        → AreSources D k (cells_of right) c (moved_spots o from.right) r
+        → IsPut Both o (spec.scalar_of_piece D (piece_view D c))
+        (spec.piece_item D joint l.reads.items r.reads.items (l.shared && r.shared)) p
+        → IsPut Both o (spec.scalar_of_piece D (piece_view D c)) (together_item D joint k from o (piece_view D c)) p
+    put_of_both o c l r p e f g h =
+        subst
+        (λ (i : Item N). IsPut Both o (spec.scalar_of_piece D (piece_view D c)) i p)
+        (ap (λ xs. spec.piece_item D joint xs r.reads.items (l.shared && r.shared)) f.reads
+        ∙ ap (λ xs. spec.piece_item D joint (spec.sources_on D joint k from from [] left o (piece_view D c)) xs
+        (l.shared && r.shared)) g.reads
+        ∙ ap (λ b. spec.piece_item D joint (spec.sources_on D joint k from from [] left o (piece_view D c))
+        (spec.sources_on D joint k from from [] right o (piece_view D c)) (b && r.shared)) (f.shared e)
+        ∙ ap (λ b. spec.piece_item D joint (spec.sources_on D joint k from from [] left o (piece_view D c))
+        (spec.sources_on D joint k from from [] right o (piece_view D c))
+        (spec.shared_on D joint k from from [] left o (piece_view D c) && b)) (g.shared e))
+        h
 
     abbrev pub AddsTogether : (old new : List (Put N)) → ℕ → spec.Piece D → Type 0
     AddsTogether old new o c =

@@ -3,9 +3,11 @@ use Rattle.std.specs.Prelude.{◌≡◌, ℕ, ◌+◌, ◌≤◌, Bool, true, fa
 use Rattle.ep_int.specs.declared.types.Model.{Model}
 use Rattle.ep_int.specs.declared.types.Scalar.{Scalar}
 use Rattle.ep_int.specs.Types.{size_of}
+use Rattle.ep_bitslice.specs.declared.cell.Side.{Side as CellSide}
 use Rattle.ep_domain.specs.Domain.{Ops}
 use Rattle.ep_cells.specs.States.{Known, IsOfSort}
 use Rattle.ep_cells.specs.Cells.{is_same_scalar}
+use Rattle.ep_cell_ranges.specs.Spots.{Spot}
 use Rattle.ep_core.specs.Runs.{Side, left, right}
 use Rattle.ep_equalities.specs.declared.pair.Mode.{Mode}
 use Rattle.ep_reads.specs.declared.read.ReadValue.{ReadValue}
@@ -13,8 +15,10 @@ use Rattle.ep_transfers.specs.Copies as spec
 use Rattle.ep_transfers.specs.Places.{Places, moved_places}
 use Rattle.ep_transfers.specs.Writes.{Item, write_now}
 use Rattle.ep_transfer_pieces.specs.declared.puts.Put.{Put}
+use Rattle.ep_transfer_pieces.specs.declared.sources.Sources.{Sources}
 use Rattle.ep_transfer_pieces.specs.declared.walk.Piece.{Piece}
 use Rattle.ep_transfer_pieces.specs.declared.walk.Piece.TheVariants.{Nothing, Whole, Byte}
+use Rattle.ep_transfer_pieces.specs.Pieces.{piece_view}
 use Rattle.ep_transfer_writes.specs.Waiting.{item_view}
 
 module _ {N : Type 0} (D : Ops N) (joint : Bool) (to : Places) where
@@ -39,6 +43,21 @@ FitPuts d n (p ∷ ps) = FitsPut d n p × FitPuts d n ps
 
 -- ---- how they are made
 
+-- there is nothing to be written
+abbrev pub is_nothing : Piece → Bool
+is_nothing Nothing = true
+is_nothing (Whole w) = false
+is_nothing Byte = false
+
+-- This is read for a piece at these places, and, if it is something, this is whether a Shared cell has it whole at each
+-- of them.
+pub record AreSources {N : Type 0} (D : Ops N) (k : Known N) (s : CellSide) (c : Piece) (qs : List Spot)
+    (r : Sources N)
+    : Type 0 where
+  pub reads : r.reads.items ≡ spec.sources_of D k s (piece_view D c) qs
+  pub shared : is_nothing c ≡ false
+      → r.shared ≡ spec.are_shared_whole D k s (spec.scalar_of_piece D (piece_view D c)) qs
+
 -- is this write
 pub record IsPut {N : Type 0} (m : Mode) (o : ℕ) (w : Scalar) (i : Item N) (p : Put N) : Type 0 where
   pub mode : p.mode ≡ m
@@ -58,12 +77,6 @@ together_item D joint k from o c =
     spec.piece_item D joint (spec.sources_on D joint k from from [] left o c)
     (spec.sources_on D joint k from from [] right o c)
     (spec.shared_on D joint k from from [] left o c && spec.shared_on D joint k from from [] right o c)
-
--- there is nothing to be written
-abbrev pub is_nothing : Piece → Bool
-is_nothing Nothing = true
-is_nothing (Whole w) = false
-is_nothing Byte = false
 
 -- both sides have the same piece
 abbrev pub are_alike : Piece → Piece → Bool

@@ -6,6 +6,7 @@ mod on;
 mod pieces;
 mod puts;
 mod rows;
+mod several;
 mod sources;
 mod walk;
 

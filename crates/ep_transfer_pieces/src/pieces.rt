@@ -14,7 +14,8 @@ ghost use Rattle.ep_transfer_pieces.specs.Puts.{after_puts, FitPuts};
 use crate::on::On;
 use crate::puts::{Put, push_alone, push_both};
 use crate::rows::{put_next, settled, written};
-use crate::walk::{Walk, next_piece};
+use crate::several::{places_apart, put_at_each};
+use crate::walk::{Walk, next_part};
 use ep_bitslice::Side;
 use ep_domain::Num;
 use ep_equalities::Mode;
@@ -46,9 +47,9 @@ fn puts_alone<N: Num>(
     let spots = on.places(from);
     let mut walk = Walk::first();
     for o in 0..bytes {
-        let next = next_piece(state, side, spots, leaves, walk, o)?;
-        push_alone(&mut puts, on, state, from, o, next.piece)?;
-        walk = next.walk;
+        let part = next_part(state, side, spots, leaves, walk, o)?;
+        push_alone(&mut puts, on, state, from, o, &part)?;
+        walk = part.next.walk;
     }
     Ok(puts)
 }
@@ -74,19 +75,11 @@ fn puts_both<N: Num>(
     let mut left = Walk::first();
     let mut right = Walk::first();
     for o in 0..bytes {
-        let on_left = next_piece(state, Side::Left, &from.left, leaves, left, o)?;
-        let on_right = next_piece(state, Side::Right, &from.right, leaves, right, o)?;
-        push_both(
-            &mut puts,
-            joint,
-            state,
-            from,
-            o,
-            on_left.piece,
-            on_right.piece,
-        )?;
-        left = on_left.walk;
-        right = on_right.walk;
+        let on_left = next_part(state, Side::Left, &from.left, leaves, left, o)?;
+        let on_right = next_part(state, Side::Right, &from.right, leaves, right, o)?;
+        push_both(&mut puts, joint, state, from, o, &on_left, &on_right)?;
+        left = on_left.next.walk;
+        right = on_right.next.walk;
     }
     Ok(puts)
 }
@@ -113,9 +106,29 @@ fn all_puts<N: Num>(
     }
 }
 
+// One write after the other.
+fn put_all<N: Num>(
+    puts: Vec<Put<N>>,
+    joint: bool,
+    to: &Places,
+    state: State<N>,
+) -> Result<State<N>, Memory>
+    requires fits { (n : ℕ) × (FitPuts state.model n puts.items × BothHaveRoom n (view to.now)) }
+    ensures value { IfOk result (λ s. s ≡ after_puts N.ops joint (view to.now) puts.items state) }
+    ensures model { IfOk result (λ s. s.model ≡ state.model) }
+{
+    let mut now = settled(state);
+    for p in puts {
+        let next = put_next(now, joint, to, p)?;
+        now = next;
+    }
+    written(now)
+}
+
 /// An aggregate goes from the places of an address to those of another by its leaves and bytes. Costs in proportion to
 /// the bytes and to the places: what goes to one place, on one side or to one cell of both, is written at once where it
-/// lies next to each other and nothing lies partly there; what goes to several, a write for each of them.
+/// lies next to each other and nothing lies partly there; so is, at each of them, what goes to several places of both
+/// sides that lie apart, where just such cells stand there. Else it is a write for each.
 pub fn copied_by_pieces<N: Num>(
     mode: Mode,
     joint: bool,
@@ -133,10 +146,8 @@ pub fn copied_by_pieces<N: Num>(
     ensures model { IfOk result (λ s. s.model ≡ state.model) }
 {
     let puts = all_puts(mode, joint, &state, leaves, from, bytes)?;
-    let mut now = settled(state);
-    for p in puts {
-        let next = put_next(now, joint, to, p)?;
-        now = next;
+    match places_apart(state.allocator(), joint, to, bytes)? {
+        None => put_all(puts, joint, to, state),
+        Some(spots) => put_at_each(puts, joint, to, bytes, &spots, state),
     }
-    written(now)
 }

@@ -1,19 +1,19 @@
 //! What is to be written at offsets of the aggregate.
 
-ghost use Rattle.std.specs.Prelude.{◌≡◌, ◌++◌, ◌∷◌, [], ◌+◌, Bool, IfOk};
+ghost use Rattle.std.specs.Prelude.{◌≡◌, ◌++◌, ◌∷◌, [], Bool, false, ◌&&◌, IfOk};
 ghost use Rattle.ep_equalities.specs.declared.pair.Mode.TheVariants.{Both};
 ghost use Rattle.ep_evaluation.specs.Given.{alone, cells_of};
 ghost use Rattle.ep_transfers.specs.Copies as spec;
 ghost use Rattle.ep_transfers.specs.Places.{at_side, moved_spots};
-ghost use Rattle.ep_transfer_places.specs.Room.{HaveRoom, BothHaveRoom, view};
+ghost use Rattle.ep_transfer_places.specs.Room.{view};
 ghost use Rattle.ep_transfer_writes.specs.Waiting.{item_view};
 ghost use Rattle.ep_transfer_pieces.specs.Pieces.{piece_view, side_of, CanPut};
-ghost use Rattle.ep_transfer_pieces.specs.Puts.{alone_item, together_item, is_nothing, are_alike, Adds, IsPut};
+ghost use Rattle.ep_transfer_pieces.specs.Puts.{alone_item, is_nothing, are_alike, Adds, IsPut, AreSources};
 
 use crate::items::piece_item;
 use crate::on::On;
-use crate::sources::{are_shared, sources};
-use crate::walk::Piece;
+use crate::sources::Sources;
+use crate::walk::{Part, Piece};
 use ep_bitslice::Side;
 use ep_cell_rows::places::is_same_scalar;
 use ep_domain::Num;
@@ -22,7 +22,6 @@ use ep_int::{IntType, Memory, Scalar};
 use ep_reads::ReadValue;
 use ep_states::State;
 use ep_transfer_places::Places;
-use ep_transfer_places::places::moved_spots;
 use ep_transfer_writes::Item;
 use std::alloc::Global;
 
@@ -64,21 +63,16 @@ fn alone_item<N: Num>(alloc: Global, on: On, reads: &[ReadValue<N>]) -> Result<I
 }
 
 fn alone_put<N: Num>(
+    alloc: Global,
     on: On,
-    state: &State<N>,
-    from: &Places,
     offset: u32,
     piece: Piece,
+    reads: &[ReadValue<N>],
 ) -> Result<Put<N>, Memory>
-    requires { HaveRoom (offset + 1) (at_side (view from.now) (side_of on)) }
     ensures { IfOk result (λ p. IsPut (alone (side_of on)) offset (spec.scalar_of_piece N.ops (piece_view N.ops piece))
-        (alone_item N.ops (side_of on) (spec.sources_of N.ops state.now (cells_of (side_of on))
-        (piece_view N.ops piece) (moved_spots offset (at_side (view from.now) (side_of on))))) p) }
+        (alone_item N.ops (side_of on) reads.now) p) }
 {
-    let alloc = state.allocator();
-    let moved = moved_spots(alloc, offset, on.places(from))?;
-    let reads = sources(state, on.cells(), piece, &moved)?;
-    let item = alone_item(alloc, on, &reads)?;
+    let item = alone_item(alloc, on, reads)?;
     Ok(Put {
         mode: on.mode(),
         offset,
@@ -104,19 +98,26 @@ pub(crate) fn push_alone<N: Num>(
     state: &State<N>,
     from: &Places,
     offset: u32,
-    piece: Piece,
+    part: &Part<N>,
 ) -> Result<(), Memory>
-    requires { HaveRoom (offset + 1) (at_side (view from.now) (side_of on)) }
+    requires { AreSources N.ops state.now (cells_of (side_of on)) part.now.next.piece
+        (moved_spots offset (at_side (view from.now) (side_of on))) part.now.sources }
     ensures { IfOk result (λ _. (joint : Bool) → Adds N.ops joint state.now.model puts.old.items puts.new.items
         (λ to. spec.write_alone N.ops joint state.now to (view from.now) [] (side_of on) offset
-        (piece_view N.ops piece))
+        (piece_view N.ops part.now.next.piece))
         (λ n. CanPut N.ops state.now (cells_of (side_of on)) (at_side (view from.now) (side_of on)) n offset
-        (piece_view N.ops piece))) }
+        (piece_view N.ops part.now.next.piece))) }
 {
-    if is_nothing(piece) {
+    if is_nothing(part.next.piece) {
         return Ok(());
     }
-    let put = alone_put(on, state, from, offset, piece)?;
+    let put = alone_put(
+        state.allocator(),
+        on,
+        offset,
+        part.next.piece,
+        &part.sources.reads,
+    )?;
     push(puts, put)
 }
 
@@ -124,28 +125,21 @@ pub(crate) fn push_alone<N: Num>(
 
 fn together_put<N: Num>(
     joint: bool,
-    state: &State<N>,
-    from: &Places,
     offset: u32,
     piece: Piece,
+    left: &Sources<N>,
+    right: &Sources<N>,
 ) -> Result<Put<N>, Memory>
-    requires { BothHaveRoom (offset + 1) (view from.now) }
     ensures { IfOk result (λ p. IsPut Both offset (spec.scalar_of_piece N.ops (piece_view N.ops piece))
-        (together_item N.ops joint state.now (view from.now) offset (piece_view N.ops piece)) p) }
+        (spec.piece_item N.ops joint left.now.reads.items right.now.reads.items
+        (left.now.shared && right.now.shared)) p) }
 {
-    let alloc = state.allocator();
-    let what = scalar_of::<N>(piece);
-    let left = moved_spots(alloc, offset, &from.left)?;
-    let right = moved_spots(alloc, offset, &from.right)?;
-    let left_reads = sources(state, Side::Left, piece, &left)?;
-    let right_reads = sources(state, Side::Right, piece, &right)?;
-    let shared = are_shared(state, Side::Left, what, &left)
-        && are_shared(state, Side::Right, what, &right);
-    let item = piece_item(joint, &left_reads, &right_reads, shared)?;
+    let shared = left.shared & right.shared;
+    let item = piece_item(joint, &left.reads, &right.reads, shared)?;
     Ok(Put {
         mode: Mode::Both,
         offset,
-        what,
+        what: scalar_of::<N>(piece),
         item,
     })
 }
@@ -157,14 +151,18 @@ fn push_together<N: Num>(
     from: &Places,
     offset: u32,
     piece: Piece,
+    left: &Sources<N>,
+    right: &Sources<N>,
 ) -> Result<(), Memory>
-    requires { BothHaveRoom (offset + 1) (view from.now) }
+    requires some { is_nothing piece ≡ false }
+    requires left { AreSources N.ops state.now Side.Left piece (moved_spots offset (view from.now).left) left.now }
+    requires right { AreSources N.ops state.now Side.Right piece (moved_spots offset (view from.now).right) right.now }
     ensures { IfOk result (λ _. Adds N.ops joint state.now.model puts.old.items puts.new.items
         (λ to. spec.write_together N.ops joint state.now to (view from.now) [] offset (piece_view N.ops piece))
         (λ n. CanPut N.ops state.now Side.Left (view from.now).left n offset (piece_view N.ops piece)
         × CanPut N.ops state.now Side.Right (view from.now).right n offset (piece_view N.ops piece))) }
 {
-    let put = together_put(joint, state, from, offset, piece)?;
+    let put = together_put(joint, offset, piece, left, right)?;
     push(puts, put)
 }
 
@@ -193,18 +191,32 @@ pub(crate) fn push_both<N: Num>(
     state: &State<N>,
     from: &Places,
     offset: u32,
-    left: Piece,
-    right: Piece,
+    left: &Part<N>,
+    right: &Part<N>,
 ) -> Result<(), Memory>
-    requires { BothHaveRoom (offset + 1) (view from.now) }
+    requires left { AreSources N.ops state.now Side.Left left.now.next.piece
+        (moved_spots offset (view from.now).left) left.now.sources }
+    requires right { AreSources N.ops state.now Side.Right right.now.next.piece
+        (moved_spots offset (view from.now).right) right.now.sources }
     ensures { IfOk result (λ _. Adds N.ops joint state.now.model puts.old.items puts.new.items
-        (λ to. spec.write_pieces N.ops joint state.now to (view from.now) [] offset (piece_view N.ops left)
-        (piece_view N.ops right))
-        (λ n. CanPut N.ops state.now Side.Left (view from.now).left n offset (piece_view N.ops left)
-        × CanPut N.ops state.now Side.Right (view from.now).right n offset (piece_view N.ops right))) }
+        (λ to. spec.write_pieces N.ops joint state.now to (view from.now) [] offset
+        (piece_view N.ops left.now.next.piece) (piece_view N.ops right.now.next.piece))
+        (λ n. CanPut N.ops state.now Side.Left (view from.now).left n offset
+        (piece_view N.ops left.now.next.piece)
+        × CanPut N.ops state.now Side.Right (view from.now).right n offset
+        (piece_view N.ops right.now.next.piece))) }
 {
-    if are_alike(left, right) {
-        return push_together(puts, joint, state, from, offset, left);
+    if are_alike(left.next.piece, right.next.piece) {
+        return push_together(
+            puts,
+            joint,
+            state,
+            from,
+            offset,
+            left.next.piece,
+            &left.sources,
+            &right.sources,
+        );
     }
     push_alone(puts, On::Left, state, from, offset, left)?;
     push_alone(puts, On::Right, state, from, offset, right)

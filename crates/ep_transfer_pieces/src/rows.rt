@@ -191,7 +191,8 @@ fn with_next<N: Num>(
     }
 }
 
-fn put_at<N: Num>(
+/// A write at its places.
+pub(crate) fn put_at<N: Num>(
     joint: bool,
     to: &Places,
     put: Put<N>,

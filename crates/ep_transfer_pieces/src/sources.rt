@@ -1,14 +1,13 @@
 //! What is read for a piece of an aggregate, at each place.
 
-ghost use Rattle.std.specs.Prelude.{◌≡◌, ◌++◌, ◌∷◌, [], IfOk, Some, is_some};
-ghost use Rattle.std.specs.Option.{option_map, option_map_or};
-ghost use Rattle.ep_cells.specs.Look.{cell_at};
+ghost use Rattle.std.specs.Prelude.{◌≡◌, ◌++◌, ◌∷◌, [], IfOk, IfSome, Some, is_some};
+ghost use Rattle.std.specs.Option.{option_map};
 ghost use Rattle.ep_reads.specs.Bytes.{has_targets};
 ghost use Rattle.ep_transfers.specs.Copies as spec;
-ghost use Rattle.ep_transfer_pieces.specs.Pieces.{piece_view};
+ghost use Rattle.ep_transfer_pieces.specs.Puts.{AreSources};
 ghost use Rattle.ep_transfer_pieces.specs.Walked.{all_exact};
+ghost use Rattle.ep_transfer_pieces.specs.declared.walk.Piece.TheVariants.{Nothing, Whole, Byte};
 
-use crate::walk::Piece;
 use ep_bitslice::Side;
 use ep_cell_rows::places::{is_same_scalar, is_same_side};
 use ep_cell_rows::values::copy_value;
@@ -21,6 +20,14 @@ use ep_scalar_reads::byte::form_of_cell;
 use ep_scalar_reads::read::is_exact;
 use ep_state_synthesis::read;
 use ep_states::State;
+use std::alloc::Global;
+
+/// What is read for a piece at each place, and whether a Shared cell has it whole at each of them.
+#[derive(Drop)]
+pub(crate) struct Sources<N> {
+    pub reads: Vec<ReadValue<N>>,
+    pub shared: bool,
+}
 
 // ---- a cell that begins there, of the type
 
@@ -37,35 +44,6 @@ fn exact_cell<N: Num>(what: Scalar, offset: u32, x: Option<&Cell<N>>) -> Option<
             None
         }
     }
-}
-
-fn exact_at<N: Num>(
-    state: &State<N>,
-    side: Side,
-    what: Scalar,
-    spot: (u32, u32),
-) -> Option<&Cell<N>>
-    ensures { option_map (λ c. c.now) result ≡ spec.exact_at N.ops state.now side what spot }
-{
-    exact_cell(what, spot.1, state.cell_at(side, spot.0, spot.1))
-}
-
-fn is_exact_at<N: Num>(state: &State<N>, side: Side, what: Scalar, spot: (u32, u32)) -> bool
-    ensures { result ≡ is_some (spec.exact_at N.ops state.now side what spot) }
-{
-    exact_at(state, side, what, spot).is_some()
-}
-
-/// Whether each place has a cell of the type.
-pub(crate) fn are_exact<N: Num>(
-    state: &State<N>,
-    side: Side,
-    what: Scalar,
-    spots: &[(u32, u32)],
-) -> bool
-    ensures { result ≡ all_exact N.ops state.now side what spots.now }
-{
-    spots.iter().all(|q| is_exact_at(state, side, what, *q))
 }
 
 // ---- one place
@@ -90,21 +68,6 @@ fn fragment_source<N: Num>() -> ReadValue<N>
         maybe: true,
         mixed: false,
         form: None,
-    }
-}
-
-fn leaf_source<N: Num>(
-    state: &State<N>,
-    side: Side,
-    what: Scalar,
-    spot: (u32, u32),
-) -> Result<ReadValue<N>, Memory>
-    ensures { IfOk result (λ r. r ≡ option_map_or (spec.whole_source N.ops)
-        (spec.exact_at N.ops state.now side what spot) (spec.fragment_source N.ops)) }
-{
-    match exact_at(state, side, what, spot) {
-        None => Ok(fragment_source()),
-        Some(x) => whole_source(x),
     }
 }
 
@@ -151,15 +114,14 @@ fn byte_of<N: Num>(
     }
 }
 
-fn byte_source<N: Num>(
-    state: &State<N>,
-    side: Side,
-    spot: (u32, u32),
-) -> Result<ReadValue<N>, Memory>
-    ensures { IfOk result (λ r. r ≡ spec.byte_source N.ops state.now side spot
-        (cell_at state.now.model side spot.0 spot.1 state.now.cells)) }
+// A Shared cell has it whole.
+fn is_shared<N: Num>(state: &State<N>, what: Scalar, spot: (u32, u32), x: Option<&Cell<N>>) -> bool
+    ensures { result ≡ spec.is_shared_whole N.ops state.now what spot (option_map (λ c. c.now) x.entry) }
 {
-    byte_of(state, side, spot, state.cell_at(side, spot.0, spot.1))
+    match x {
+        None => false,
+        Some(x) => is_exact(state.model(), what, spot.1, x) && is_same_side(x.side, Side::Shared),
+    }
 }
 
 // ---- all places
@@ -170,78 +132,57 @@ fn push<N: Num>(out: &mut Vec<ReadValue<N>>, r: ReadValue<N>) -> Result<(), Memo
     out.push(r).map_err(|_| Memory)
 }
 
-fn leaf_sources<N: Num>(
+/// Nothing is read for what lies inside of a leaf.
+pub(crate) fn no_sources<N: Num>(alloc: Global) -> Sources<N>
+    ensures { result.reads.items ≡ [] }
+{
+    Sources {
+        reads: Vec::new(alloc),
+        shared: false,
+    }
+}
+
+/// What is read for a leaf, if each place has a cell of its type. Looks once at each place.
+pub(crate) fn whole_sources<N: Num>(
     state: &State<N>,
     side: Side,
     what: Scalar,
     spots: &[(u32, u32)],
-) -> Result<Vec<ReadValue<N>>, Memory>
-    ensures { IfOk result (λ v. v.items ≡ spec.leaf_sources N.ops state.now side what spots.now) }
+) -> Result<Option<Sources<N>>, Memory>
+    ensures exact { IfOk result (λ o. is_some o ≡ all_exact N.ops state.now side what spots.now) }
+    ensures sources { IfOk result (λ o. IfSome o (λ r. AreSources N.ops state.now side (Whole what) spots.now r)) }
 {
-    let mut out = Vec::new(state.allocator());
+    let mut reads = Vec::new(state.allocator());
+    let mut shared = true;
     for q in spots {
-        push(&mut out, leaf_source(state, side, what, *q)?)?;
+        let x = state.cell_at(side, q.0, q.1);
+        match exact_cell(what, q.1, x) {
+            None => return Ok(None),
+            Some(c) => {
+                let here = is_shared(state, what, *q, x);
+                shared = shared & here;
+                push(&mut reads, whole_source(c)?)?;
+            }
+        }
     }
-    Ok(out)
+    Ok(Some(Sources { reads, shared }))
 }
 
-fn byte_sources<N: Num>(
+/// What is read for a byte. Looks once at each place, and once more where a value that points nowhere is there.
+pub(crate) fn byte_sources<N: Num>(
     state: &State<N>,
     side: Side,
     spots: &[(u32, u32)],
-) -> Result<Vec<ReadValue<N>>, Memory>
-    ensures { IfOk result (λ v. v.items ≡ spec.byte_sources N.ops state.now side spots.now) }
+) -> Result<Sources<N>, Memory>
+    ensures { IfOk result (λ r. AreSources N.ops state.now side Byte spots.now r) }
 {
-    let mut out = Vec::new(state.allocator());
+    let mut reads = Vec::new(state.allocator());
+    let mut shared = true;
     for q in spots {
-        push(&mut out, byte_source(state, side, *q)?)?;
+        let x = state.cell_at(side, q.0, q.1);
+        let here = is_shared(state, Scalar::Int(IntType::U8), *q, x);
+        shared = shared & here;
+        push(&mut reads, byte_of(state, side, *q, x)?)?;
     }
-    Ok(out)
-}
-
-/// What is read for a piece.
-pub(crate) fn sources<N: Num>(
-    state: &State<N>,
-    side: Side,
-    piece: Piece,
-    spots: &[(u32, u32)],
-) -> Result<Vec<ReadValue<N>>, Memory>
-    ensures { IfOk result (λ v. v.items
-        ≡ spec.sources_of N.ops state.now side (piece_view N.ops piece) spots.now) }
-{
-    match piece {
-        Piece::Nothing => Ok(Vec::new(state.allocator())),
-        Piece::Whole(what) => leaf_sources(state, side, what, spots),
-        Piece::Byte => byte_sources(state, side, spots),
-    }
-}
-
-// ---- Shared cells
-
-fn is_shared<N: Num>(state: &State<N>, what: Scalar, spot: (u32, u32), x: Option<&Cell<N>>) -> bool
-    ensures { result ≡ spec.is_shared_whole N.ops state.now what spot (option_map (λ c. c.now) x.entry) }
-{
-    match x {
-        None => false,
-        Some(x) => is_exact(state.model(), what, spot.1, x) && is_same_side(x.side, Side::Shared),
-    }
-}
-
-fn is_shared_at<N: Num>(state: &State<N>, side: Side, what: Scalar, spot: (u32, u32)) -> bool
-    ensures { result ≡ spec.is_shared_whole N.ops state.now what spot
-        (cell_at state.now.model side spot.0 spot.1 state.now.cells) }
-{
-    is_shared(state, what, spot, state.cell_at(side, spot.0, spot.1))
-}
-
-/// Whether a Shared cell has it whole at each place.
-pub(crate) fn are_shared<N: Num>(
-    state: &State<N>,
-    side: Side,
-    what: Scalar,
-    spots: &[(u32, u32)],
-) -> bool
-    ensures { result ≡ spec.are_shared_whole N.ops state.now side what spots.now }
-{
-    spots.iter().all(|q| is_shared_at(state, side, what, *q))
+    Ok(Sources { reads, shared })
 }

@@ -4,9 +4,10 @@ ghost use Rattle.std.specs.Prelude.{◌≡◌, ◌<◌, ◌+◌, ◌^◌, IfOk, 
 ghost use Rattle.ep_int.specs.Types.{size_of};
 ghost use Rattle.ep_transfers.specs.Places.{moved_spots};
 ghost use Rattle.ep_transfer_places.specs.Room.{HaveRoom};
+ghost use Rattle.ep_transfer_pieces.specs.Puts.{AreSources};
 ghost use Rattle.ep_transfer_pieces.specs.Walked as spec;
 
-use crate::sources::are_exact;
+use crate::sources::{Sources, byte_sources, no_sources, whole_sources};
 use ep_bitslice::Side;
 use ep_domain::Num;
 use ep_int::{Memory, Scalar};
@@ -36,6 +37,13 @@ pub(crate) struct Next {
     pub walk: Walk,
 }
 
+/// A piece, where the next one begins, and what is read for it.
+#[derive(Drop)]
+pub(crate) struct Part<N> {
+    pub next: Next,
+    pub sources: Sources<N>,
+}
+
 impl Walk {
     /// No leaf has begun.
     pub(crate) fn first() -> Self
@@ -62,19 +70,34 @@ fn first_leaf(leaves: &[Leaf], begun: usize, offset: u32) -> Option<Scalar>
     }
 }
 
-fn next_byte(walk: Walk, offset: u32) -> Next
-    ensures { result ≡ spec.next_byte walk offset }
+// No leaf begins.
+fn between_leaves<N: Num>(
+    state: &State<N>,
+    side: Side,
+    spots: &[(u32, u32)],
+    walk: Walk,
+    offset: u32,
+) -> Result<Part<N>, Memory>
+    requires { HaveRoom (offset + 1) spots.now }
+    ensures next { IfOk result (λ r. r.next ≡ spec.next_byte walk offset) }
+    ensures sources { IfOk result (λ r. AreSources N.ops state.now side r.next.piece
+        (moved_spots offset spots.now) r.sources) }
 {
     if u64::from(offset) < walk.until {
-        return Next {
-            piece: Piece::Nothing,
-            walk,
-        };
+        let sources = no_sources(state.allocator());
+        let piece = Piece::Nothing;
+        return Ok(Part {
+            next: Next { piece, walk },
+            sources,
+        });
     }
-    Next {
-        piece: Piece::Byte,
-        walk,
-    }
+    let moved = moved_spots(state.allocator(), offset, spots)?;
+    let sources = byte_sources(state, side, &moved)?;
+    let piece = Piece::Byte;
+    Ok(Part {
+        next: Next { piece, walk },
+        sources,
+    })
 }
 
 fn next_leaf(exact: bool, walk: Walk, offset: u32, what: Scalar, size: u32) -> Next
@@ -105,33 +128,47 @@ fn begun_leaf<N: Num>(
     walk: Walk,
     offset: u32,
     what: Scalar,
-) -> Result<Next, Memory>
+) -> Result<Part<N>, Memory>
     requires room { HaveRoom (offset + 1) spots.now }
     requires within { walk.begun + 1 < 2 ^ 64 }
-    ensures { IfOk result (λ r. r ≡ spec.next_leaf
+    ensures next { IfOk result (λ r. r.next ≡ spec.next_leaf
         (spec.all_exact N.ops state.now side what (moved_spots offset spots.now)) walk offset what
         (size_of state.now.model what)) }
+    ensures sources { IfOk result (λ r. AreSources N.ops state.now side r.next.piece
+        (moved_spots offset spots.now) r.sources) }
 {
-    let moved = moved_spots(state.allocator(), offset, spots)?;
-    let exact = are_exact(state, side, what, &moved);
     let size = ep_int::size(state.model(), what);
-    Ok(next_leaf(exact, walk, offset, what, size))
+    let moved = moved_spots(state.allocator(), offset, spots)?;
+    match whole_sources(state, side, what, &moved)? {
+        None => {
+            let next = next_leaf(false, walk, offset, what, size);
+            let sources = byte_sources(state, side, &moved)?;
+            Ok(Part { next, sources })
+        }
+        Some(sources) => {
+            let next = next_leaf(true, walk, offset, what, size);
+            Ok(Part { next, sources })
+        }
+    }
 }
 
-/// The piece at an offset, and where the next one begins.
-pub(crate) fn next_piece<N: Num>(
+/// The piece at an offset, where the next one begins, and what is read for it.
+pub(crate) fn next_part<N: Num>(
     state: &State<N>,
     side: Side,
     spots: &[(u32, u32)],
     leaves: &[Leaf],
     walk: Walk,
     offset: u32,
-) -> Result<Next, Memory>
+) -> Result<Part<N>, Memory>
     requires { HaveRoom (offset + 1) spots.now }
-    ensures { IfOk result (λ r. r ≡ spec.next_piece N.ops state.now side spots.now leaves.now walk offset) }
+    ensures next { IfOk result (λ r. r.next
+        ≡ spec.next_piece N.ops state.now side spots.now leaves.now walk offset) }
+    ensures sources { IfOk result (λ r. AreSources N.ops state.now side r.next.piece
+        (moved_spots offset spots.now) r.sources) }
 {
     match first_leaf(leaves, walk.begun, offset) {
-        None => Ok(next_byte(walk, offset)),
+        None => between_leaves(state, side, spots, walk, offset),
         Some(what) => begun_leaf(state, side, spots, walk, offset, what),
     }
 }
