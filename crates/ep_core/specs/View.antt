@@ -33,7 +33,7 @@ abbrev mutual
   expr_view (Or' p a q b) = plain.logical_or (expr_view a) (expr_view b)
   expr_view (Not' p a) = plain.logical_not (expr_view a)
   expr_view (Cond' p t q a r b) = plain.conditional (expr_view t) (expr_view a) (expr_view b)
-  expr_view (PtrAdd' p e unit q n back) = plain.ptr_add (expr_view e) unit (expr_view n) back
+  expr_view (PtrAdd' unit back p e q n) = plain.ptr_add (expr_view e) unit (expr_view n) back
   expr_view (Cast' p e) = plain.cast (expr_view e)
 
   pub place_view : part.Place → plain.Place

@@ -30,8 +30,8 @@ pub enum Expr {
     Not(Box<Expr>),
     /// `? :`: the second operand where the first is true, else the third.
     Cond(Box<Expr>, Box<Expr>, Box<Expr>),
-    /// A pointer moved by so many units of so many bytes; true moves it back.
-    PtrAdd(Box<Expr>, u32, Box<Expr>, bool),
+    /// A pointer moved by units of so many bytes, back where that is true: the pointer, and how many units.
+    PtrAdd(u32, bool, Box<Expr>, Box<Expr>),
     /// The same pointer, to another type.
     Cast(Box<Expr>),
 }

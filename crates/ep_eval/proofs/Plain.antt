@@ -29,7 +29,7 @@ strictly (form.And' p x q y) a o c = absurd (a _ _ refl)
 strictly (form.Or' p x q y) a o c = absurd (o _ _ refl)
 strictly (form.Not' p x) a o c = refl
 strictly (form.Cond' p x q y r z) a o c = absurd (c _ _ _ refl)
-strictly (form.PtrAdd' p x unit q y back) a o c = refl
+strictly (form.PtrAdd' unit back p x q y) a o c = refl
 strictly (form.Cast' p x) a o c = refl
 
 pub of_two : (e : Expr) → is_branching (expr_view e) ≡ false → ((t : IntType) (v : ℤ) → e ≡ Const t v → ⊥)
@@ -48,7 +48,7 @@ of_two (form.And' p x q y) j k n l a c o u = absurd (true≢false j)
 of_two (form.Or' p x q y) j k n l a c o u = absurd (true≢false j)
 of_two (form.Not' p x) j k n l a c o u = absurd (o _ refl)
 of_two (form.Cond' p x q y r z) j k n l a c o u = absurd (true≢false j)
-of_two (form.PtrAdd' p x unit q y back) j k n l a c o u = refl
+of_two (form.PtrAdd' unit back p x q y) j k n l a c o u = refl
 of_two (form.Cast' p x) j k n l a c o u = absurd (u _ refl)
 
 pub single : (e : Expr) → ((x y : Box Expr) → e ≡ And x y → ⊥) → ((x y : Box Expr) → e ≡ Or x y → ⊥)
@@ -65,7 +65,7 @@ single (form.And' p x q y) a o n = absurd (a _ _ refl)
 single (form.Or' p x q y) a o n = absurd (o _ _ refl)
 single (form.Not' p x) a o n = absurd (n _ refl)
 single (form.Cond' p x q y r z) a o n = refl
-single (form.PtrAdd' p x unit q y back) a o n = refl
+single (form.PtrAdd' unit back p x q y) a o n = refl
 single (form.Cast' p x) a o n = refl
 
 module _ {N : Type 0} (D : Ops N) (sizes : List ℕ) (s : Side) (k : Known N) where
@@ -87,7 +87,7 @@ module _ {N : Type 0} (D : Ops N) (sizes : List ℕ) (s : Side) (k : Known N) wh
   plain_left t (form.Or' p x q y) j n m = absurd (true≢false j)
   plain_left t (form.Not' p x) j n m = absurd (true≢false j)
   plain_left t (form.Cond' p x q y r z) j n m = refl
-  plain_left t (form.PtrAdd' p x unit q y back) j n m = refl
+  plain_left t (form.PtrAdd' unit back p x q y) j n m = refl
   plain_left t (form.Cast' p x) j n m = refl
 
   -- only loads and conversions are of a cell
@@ -105,5 +105,5 @@ module _ {N : Type 0} (D : Ops N) (sizes : List ℕ) (s : Side) (k : Known N) wh
   cell_nowhere (form.Or' p x q y) l c = refl
   cell_nowhere (form.Not' p x) l c = refl
   cell_nowhere (form.Cond' p x q y r z) l c = refl
-  cell_nowhere (form.PtrAdd' p x unit q y back) l c = refl
+  cell_nowhere (form.PtrAdd' unit back p x q y) l c = refl
   cell_nowhere (form.Cast' p x) l c = refl

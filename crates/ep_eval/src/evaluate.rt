@@ -149,7 +149,7 @@ fn eval_two<N: Num>(
             let y = eval(b, sizes, state, mode, faults)?;
             pointer_comparison(mode, *c, &x, &y, faults)
         }
-        Expr::PtrAdd(a, unit, n, back) => {
+        Expr::PtrAdd(unit, back, a, n) => {
             let x = eval(a, sizes, state, mode, faults)?;
             let y = eval(n, sizes, state, mode, faults)?;
             sum(mode, sizes, *unit, *back, &x, &y, faults)

@@ -66,7 +66,7 @@ pub fn value(on: &Setting, store: &Store, e: &Expr) -> Result<Datum, Fault>
             }
             value(on, store, b)
         }
-        Expr::PtrAdd(a, unit, n, backwards) => {
+        Expr::PtrAdd(unit, backwards, a, n) => {
             let v = value(on, store, a)?;
             let k = number(on, store, n)?;
             moved_from(on, v, distance(*unit, k, *backwards))

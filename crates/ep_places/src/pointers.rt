@@ -30,7 +30,7 @@ fn steps(
     let ty = pointer.ty;
     let expr = Box::new(alloc, pointer.expr)?;
     let count = Box::new(alloc, count.expr)?;
-    Ok(Value::unknown(Expr::PtrAdd(expr, unit, count, backwards), ty))
+    Ok(Value::unknown(Expr::PtrAdd(unit, backwards, expr, count), ty))
 }
 
 /// A pointer that is moved by a number of what it points to.

@@ -151,7 +151,7 @@ fn address_of(alloc: Global, place: Place) -> Result<Expr, AllocError>
         }
         Place::Element(array, _, unit, index) => {
             let start = Box::new(alloc, Expr::AddrOf(array))?;
-            Ok(Expr::PtrAdd(start, unit, index, false))
+            Ok(Expr::PtrAdd(unit, false, start, index))
         }
     }
 }

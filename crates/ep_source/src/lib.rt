@@ -28,5 +28,7 @@ pub fn read(alloc: Global, source: &[u8], model: Model) -> Result<CoreProgram, H
 {
     let tokens = lex(alloc, source)?;
     let tree = program(alloc, &tokens)?;
+    // It stands without them, and what it means takes much memory.
+    drop(tokens);
     elaborate(alloc, &tree, model)
 }

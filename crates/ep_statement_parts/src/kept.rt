@@ -1,6 +1,6 @@
 //! Statements and parts of blocks that are kept while nothing in them is too deep.
 
-ghost use Rattle.std.specs.Prelude.{IfOk, List, ℕ, suc, Option, None, Some};
+ghost use Rattle.std.specs.Prelude.{◌≡◌, IfOk, List, ℕ, suc, Option, None, Some};
 ghost use Rattle.ep_ast.specs.Expression.{Expr};
 ghost use Rattle.ep_ast.specs.Declaration.{Declaration};
 ghost use Rattle.ep_ast.specs.Statement as shape;
@@ -161,6 +161,15 @@ pub fn evaluate(line: u32, value: Measured<Option<ExprTree>>) -> Counted<StmtTre
     Counted { tree, height: 1 }
 }
 
+// The same list, with room for no more than it holds.
+fn trimmed(items: Vec<BlockItemTree>) -> Vec<BlockItemTree>
+    ensures { result.items ≡ items.items }
+{
+    let mut items = items;
+    items.shrink_to_fit();
+    items
+}
+
 fn block_tree(line: u32, height: u32, parts: Measured<Vec<BlockItemTree>>) -> Measured<StmtTree>
     ensures { (ps : List Part) → Counts height (suc (height_of_parts (shape.to_parts ps)))
         → measured.ShowsAll part_of in_part parts ps
@@ -170,7 +179,7 @@ fn block_tree(line: u32, height: u32, parts: Measured<Vec<BlockItemTree>>) -> Me
         return Measured::TooDeep(line);
     }
     match parts {
-        Measured::Fits(items) => Measured::Fits(StmtTree::new_block(line, items)),
+        Measured::Fits(items) => Measured::Fits(StmtTree::new_block(line, trimmed(items))),
         Measured::TooDeep(line) => Measured::TooDeep(line),
     }
 }
@@ -272,7 +281,10 @@ fn body_of(line: u32, parts: Measured<Vec<BlockItemTree>>) -> Measured<BlockTree
     ensures { (ps : List Part) → measured.ShowsAll part_of in_part parts ps → ShowsBlock result (body line ps) }
 {
     match parts {
-        Measured::Fits(items) => Measured::Fits(BlockTree { line, items }),
+        Measured::Fits(items) => {
+            let items = trimmed(items);
+            Measured::Fits(BlockTree { line, items })
+        }
         Measured::TooDeep(line) => Measured::TooDeep(line),
     }
 }

@@ -8,7 +8,8 @@ use Rattle.ep_typing.specs.Results.{at}
 use Rattle.ep_operands.specs.Refinement.{Stops}
 use Rattle.ep_elaboration.specs.Calls.{CallSite, calls_of, function_depth, is_recursive}
 use Rattle.ep_elaboration.specs.Functions.{Defined, numbers_of}
-use Rattle.ep_elaboration.specs.Programs.{Sofar, all_fit, all_have_bodies, checked, main_of, none_breaks, none_recurs}
+use Rattle.ep_elaboration.specs.Programs.{Sofar, all_fit, all_have_bodies, main_of, none_breaks, none_recurs}
+use Rattle.ep_elaboration.specs.ProgramSteps.{checked}
 use Rattle.ep_elaboration.specs.Programs.{not_too_deep}
 use Rattle.ep_core.specs.Program.{Block}
 use Rattle.ep_call_graph.specs.View.{AreBelow, AreWithin}

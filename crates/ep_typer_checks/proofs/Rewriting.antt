@@ -1,5 +1,6 @@
 -- Statements whose calls go by other numbers.
-use Rattle.std.proofs.Common.{◌≡◌, ℕ, Bool, List, [], ◌∷◌, ◌++◌, refl, sym, ap, ◌∙◌}
+use Rattle.std.proofs.Common.{◌≡◌, ℕ, zero, suc, ◌+◌, ◌<◌, ◌≤◌, Bool, List, [], ◌∷◌, length, get_or, set, refl, sym, ap}
+use Rattle.std.proofs.Common.{◌∙◌, arith}
 use Rattle.std.specs.Global.{Vec}
 use Rattle.ep_int.specs.declared.types.Order.{Order}
 use Rattle.ep_core.specs.declared.tree.Expr as tree
@@ -13,35 +14,35 @@ use Rattle.ep_elaboration.specs.Programs.{renumbered, renumbered_what}
 
 -- ---- lists of statements
 
-abbrev pub before : List Stmt → core.Stmts → core.Stmts
-before [] rest = rest
-before (s ∷ ss) rest = core.more s.line (what_view s.what) (before ss rest)
-
-pub before_none : (ss : List Stmt) → before ss core.stop ≡ stmts_view ss
-before_none [] = refl
-before_none (s ∷ ss) = ap (core.more s.line (what_view s.what)) (before_none ss)
-
-before_last : (ss : List Stmt) (s : Stmt) (rest : core.Stmts) → before (ss ++ s ∷ []) rest ≡ before ss (core.more s.line (what_view s.what) rest)
-before_last [] s rest = refl
-before_last (x ∷ ss) s rest = ap (core.more x.line (what_view x.what)) (before_last ss s rest)
-
 module _ (to : ℕ → ℕ) where
-  pub one_more : (done new left rest : List Stmt) (x y : Stmt) (all : core.Stmts) → left ≡ x ∷ rest → new ≡ done ++ y ∷ []
-      → y.line ≡ x.line → what_view y.what ≡ renumbered_what to (what_view x.what)
-      → before done (renumbered to (stmts_view left)) ≡ all → before new (renumbered to (stmts_view rest)) ≡ all
-  unfolding renumbered
-  one_more done new left rest x y all l n e w h =
-      ap (λ (ss : List Stmt). before ss (renumbered to (stmts_view rest))) n
-      ∙ before_last done y (renumbered to (stmts_view rest))
-      ∙ ap (λ (k : ℕ). before done (core.more k (what_view y.what) (renumbered to (stmts_view rest)))) e
-      ∙ ap (λ (v : core.What). before done (core.more x.line v (renumbered to (stmts_view rest)))) w
-      ∙ sym (ap (λ (ss : List Stmt). before done (renumbered to (stmts_view ss))) l) ∙ h
+  -- the first of them as they stand, and all others with their calls by these numbers
+  abbrev pub mixed : (i : ℕ) → List Stmt → core.Stmts
+  mixed zero ss = renumbered to (stmts_view ss)
+  mixed (suc i) [] = core.stop
+  mixed (suc i) (s ∷ ss) = core.more s.line (what_view s.what) (mixed i ss)
 
-  pub all_done : (done left : List Stmt) (all : core.Stmts) → left ≡ [] → before done (renumbered to (stmts_view left)) ≡ all
-      → stmts_view done ≡ all
+  more_mixed : (i : ℕ) (ss : List Stmt) (y d : Stmt) → i < length ss → y.line ≡ (get_or ss i d).line
+      → what_view y.what ≡ renumbered_what to (what_view (get_or ss i d).what) → mixed (suc i) (set ss i y) ≡ mixed i ss
   unfolding renumbered
-  all_done done left all l h =
-      sym (before_none done) ∙ sym (ap (λ (ss : List Stmt). before done (renumbered to (stmts_view ss))) l) ∙ h
+  more_mixed i [] y d l e w = absurd (omega arith)
+  more_mixed zero (s ∷ ss) y d l e w =
+      ap (λ (n : ℕ). core.more n (what_view y.what) (renumbered to (stmts_view ss))) e
+      ∙ ap (λ (v : core.What). core.more s.line v (renumbered to (stmts_view ss))) w
+  more_mixed (suc i) (s ∷ ss) y d l e w = ap (core.more s.line (what_view s.what)) (more_mixed i ss y d (omega arith) e w)
+
+  pub one_more : (i : ℕ) (ss : List Stmt) (y d : Stmt) (all : core.Stmts) → i < length ss → y.line ≡ (get_or ss i d).line
+      → what_view y.what ≡ renumbered_what to (what_view (get_or ss i d).what) → mixed i ss ≡ all
+      → mixed (i + 1) (set ss i y) ≡ all
+  one_more i ss y d all l e w h =
+      let n : i + 1 ≡ suc i = omega arith in
+      ap (λ (k : ℕ). mixed k (set ss i y)) n ∙ more_mixed i ss y d l e w ∙ h
+
+  pub all_done : (i : ℕ) (ss : List Stmt) → length ss ≤ i → mixed i ss ≡ stmts_view ss
+  unfolding renumbered
+  all_done zero [] l = refl
+  all_done zero (s ∷ ss) l = absurd (omega arith)
+  all_done (suc i) [] l = refl
+  all_done (suc i) (s ∷ ss) l = ap (core.more s.line (what_view s.what)) (all_done i ss (omega arith))
 
   -- ---- statements with statements in them
 

@@ -12,7 +12,8 @@ use Rattle.ep_typing.specs.Results.{◌>>=◌, at, needed}
 use Rattle.ep_operands.specs.Refinement.{Stops}
 use Rattle.ep_elaboration.specs.Calls.{CallSite, calls_of, function_depth}
 use Rattle.ep_elaboration.specs.Functions.{Defined, is_main, numbers_of}
-use Rattle.ep_elaboration.specs.Programs.{Sofar, all_fit, all_have_bodies, checked, main_of, none_recurs, not_too_deep}
+use Rattle.ep_elaboration.specs.Programs.{Sofar, all_fit, all_have_bodies, main_of, none_recurs, not_too_deep}
+use Rattle.ep_elaboration.specs.ProgramSteps.{checked}
 use Rattle.ep_call_graph.specs.View.{AreBelow}
 use Rattle.ep_typer_checks.specs.Checks.{main_in, number_in}
 

@@ -7,6 +7,7 @@ ghost use Rattle.ep_defined.specs.View as defined_view;
 ghost use Rattle.ep_elaboration.specs.Calls as calls;
 ghost use Rattle.ep_elaboration.specs.Functions as functions;
 ghost use Rattle.ep_elaboration.specs.Programs as rule;
+ghost use Rattle.ep_elaboration.specs.ProgramSteps as steps;
 ghost use Rattle.ep_operands.specs.Refinement.{Refines};
 ghost use Rattle.ep_scopes.specs.View.{env as env_view};
 ghost use Rattle.ep_typing.specs.Results.{at};
@@ -57,7 +58,7 @@ pub fn checked(alloc: Global, sofar: &Sofar, places: &[CallSite]) -> Result<Call
     requires numbers { view.AreBelow (length (defined_view.sofar sofar.now).env.functions)
         (functions.numbers_of (defined_view.sofar sofar.now).defined) }
     ensures means { Refines checks.main_number
-        (checks.number_in (rule.checked (defined_view.sofar sofar.now) (view.call_sites
+        (checks.number_in (steps.checked (defined_view.sofar sofar.now) (view.call_sites
         places.now))) result }
     ensures order { IfOk result (λ c. c.order.items ≡ rule.order_of (defined_view.sofar sofar.now) (calls.calls_of
         (view.call_sites places.now))) }

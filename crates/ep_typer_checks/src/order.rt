@@ -91,7 +91,6 @@ fn slots_of(
 }
 
 fn add(
-    alloc: Global,
     places: &[u32],
     all: &mut Vec<Function>,
     slots: &mut Vec<Option<Function>>,
@@ -106,8 +105,7 @@ fn add(
     match slots[f as usize].take() {
         None => Ok(()),
         Some(function) => {
-            let function = renumbered_function(alloc, places, function)?;
-            all.push(function)?;
+            all.push(renumbered_function(places, function))?;
             Ok(())
         }
     }
@@ -132,7 +130,7 @@ pub fn ordered(
     let mut slots = slots_of(alloc, count, defined)?;
     let mut functions = Vec::new(alloc);
     for f in order {
-        add(alloc, &places, &mut functions, &mut slots, *f)?;
+        add(&places, &mut functions, &mut slots, *f)?;
     }
     let main = place(&places, main);
     Ok(OrderedFunctions { functions, main })

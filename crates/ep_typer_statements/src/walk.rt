@@ -1,6 +1,6 @@
 //! Statements and the parts of blocks.
 
-ghost use Rattle.std.specs.Prelude.{◌≡◌, Bool, map, false, OnOk};
+ghost use Rattle.std.specs.Prelude.{◌≡◌, ◌++◌, Bool, map, false, OnOk};
 ghost use Rattle.std.specs.Option.{option_map};
 ghost use Rattle.ep_ast.specs.Expression as source;
 ghost use Rattle.ep_ast.specs.Statement as shape;
@@ -22,6 +22,7 @@ use ep_typer_lines::{
     looped, one_line, returned, scoped, tested_if, tested_in, tested_inside,
 };
 use ep_typing::CType;
+use std::alloc::AllocError;
 
 // A statement that had two scopes, one inside the other.
 fn closed(env: &mut Env, line: u32, what: What) -> Result<Vec<Stmt>, Halt>
@@ -33,6 +34,32 @@ fn closed(env: &mut Env, line: u32, what: What) -> Result<Vec<Stmt>, Halt>
     leave(env);
     let lines = one_line(env.alloc, line, what)?;
     Ok(lines)
+}
+
+// Room for these behind others. A short list that is full grows by an eighth: of twice the room much would stay empty.
+fn make_room(lines: &mut Vec<Stmt>, more: &[Stmt]) -> Result<(), AllocError>
+    ensures { OnOk result (lines.new.items ≡ lines.old.items) }
+{
+    let count = lines.len();
+    if count > 511 || count + more.len() <= lines.capacity() {
+        return Ok(());
+    }
+    lines.reserve_exact(more.len() + count / 8)?;
+    Ok(())
+}
+
+// Statements behind others. The first ones' list is taken as it is: mostly it has room for what it holds alone.
+fn add(lines: &mut Vec<Stmt>, more: Vec<Stmt>) -> Result<(), AllocError>
+    ensures { OnOk result (lines.new.items ≡ lines.old.items ++ more.items) }
+{
+    if lines.is_empty() {
+        *lines = more;
+        return Ok(());
+    }
+    let mut more = more;
+    make_room(lines, &more)?;
+    lines.append(&mut more)?;
+    Ok(())
 }
 
 /// A statement in a scope of its own, which stays open.
@@ -205,8 +232,8 @@ fn statements(
 {
     let mut lines = Vec::new(env.alloc);
     for tree in list {
-        let mut more = statement(env, result_type, in_loop, tree)?;
-        lines.append(&mut more)?;
+        let more = statement(env, result_type, in_loop, tree)?;
+        add(&mut lines, more)?;
     }
     Ok(lines)
 }
@@ -286,8 +313,8 @@ fn part_list(
 {
     let mut lines = Vec::new(env.alloc);
     for tree in list {
-        let mut more = part(env, result_type, in_loop, tree)?;
-        lines.append(&mut more)?;
+        let more = part(env, result_type, in_loop, tree)?;
+        add(&mut lines, more)?;
     }
     Ok(lines)
 }

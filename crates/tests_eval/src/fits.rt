@@ -59,7 +59,7 @@ pub(crate) fn expr_fits(e: &Expr) -> bool
         Expr::Or(a, b) => expr_fits(a) && expr_fits(b),
         Expr::Not(a) => expr_fits(a),
         Expr::Cond(c, a, b) => expr_fits(c) && expr_fits(a) && expr_fits(b),
-        Expr::PtrAdd(a, unit, n, _) => expr_fits(a) && expr_fits(n) && *unit >= 1,
+        Expr::PtrAdd(unit, _, a, n) => expr_fits(a) && expr_fits(n) && *unit >= 1,
         Expr::Cast(a) => expr_fits(a),
     }
 }

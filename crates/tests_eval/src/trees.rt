@@ -83,7 +83,7 @@ fn element(alloc: Global, items: &mut Vec<Item>, argument: &str) -> Option<Place
 fn moved(alloc: Global, items: &mut Vec<Item>, argument: &str, back: bool) -> Option<Expr> {
     let n = boxed(alloc, items)?;
     let a = boxed(alloc, items)?;
-    Some(Expr::PtrAdd(a, argument.parse().ok()?, n, back))
+    Some(Expr::PtrAdd(argument.parse().ok()?, back, a, n))
 }
 
 fn compared(alloc: Global, items: &mut Vec<Item>, c: Cmp, argument: &str) -> Option<Expr> {
