@@ -1,6 +1,5 @@
 -- Places that are cleared, leaf by leaf.
-use Rattle.std.proofs.Common.{◌≡◌, ℕ, zero, suc, ◌+◌, ◌-◌, ◌<◌, ◌≤◌, Bool, true, false, ◌&&◌, ◌||◌, not, nat_eq}
-use Rattle.ep_int.proofs.Basics.{take-all}
+use Rattle.std.proofs.Common.{◌≡◌, ℕ, ◌+◌, ◌-◌, ◌<◌, ◌≤◌, Bool, true, false, ◌&&◌, ◌||◌, not, nat_eq}
 use Rattle.std.proofs.Common.{nat_lt, nat_le}
 use Rattle.std.proofs.Common.{if◌then◌else◌, List, [], ◌∷◌, get_or, length, take, refl, sym, ap, ◌∙◌, subst, arith}
 use Rattle.std.specs.Prelude.{⊤, Result}
@@ -89,7 +88,7 @@ module _ (d : Model) (m : Memory) (parts : ArePartsOf d m) (b q n : ℕ) (f : �
   at c p false e = rw e refl
 
   -- a part of a place that was filled is filled in it
-  fill_part : filled d (replaced d m b q n f) b (q + off) w v ≡ replaced d m b q n (filled_in f off w v)
+  pub fill_part : filled d (replaced d m b q n f) b (q + off) w v ≡ replaced d m b q n (filled_in f off w v)
   fill_part = fun_ext (λ c. fun_ext (λ p. at c p (nat_eq b c) refl))
 
 -- ---- leaves
@@ -101,30 +100,18 @@ from_below d e n (f ∷ fs) h =
     let a = h.0 in
     omega (arith, a, k)
 
--- a leaf ends inside
-pub leaf_inside : (d : Model) (e n : ℕ) (fs : List Leaf) (i : ℕ) (f g : Leaf) → AreLeavesFrom d e n fs → i < length fs
-    → f ≡ get_or fs i g → f.offset + size_of d f.what ≤ n
-leaf_inside d e n [] i f g a h k = absurd (omega arith)
-leaf_inside d e n (x ∷ fs) zero f g a h k =
-    subst (λ (y : Leaf). y.offset + size_of d y.what ≤ n) (sym k) (from_below d (x.offset + size_of d x.what) n fs a.2)
-leaf_inside d e n (x ∷ fs) (suc i) f g a h k =
-    leaf_inside d (x.offset + size_of d x.what) n fs i f g a.2 (omega arith) k
-
 both : (x y : Bool) → (if y then number 0 else (if x then number 0 else undefined)) ≡ (if x || y then number 0 else undefined)
 both true true = refl
 both true false = refl
 both false true = refl
 both false false = refl
 
-plain_choice : (t : Bool) → IsPlain (if t then number 0 else undefined)
+pub plain_choice : (t : Bool) → IsPlain (if t then number 0 else undefined)
 plain_choice true = tt
 plain_choice false = tt
 
 module _ (m : Setting) where
-  zeros_plain : (fs : List Leaf) (k : ℕ) → IsPlain (zeros_in m fs k)
-  zeros_plain fs k = plain_choice (list_any (is_in_leaf m.order (program_in m) k) fs)
-
-  zeros_more : (fs : List Leaf) (i : ℕ) (f g : Leaf) → i < length fs → f ≡ get_or fs i g
+  pub zeros_more : (fs : List Leaf) (i : ℕ) (f g : Leaf) → i < length fs → f ≡ get_or fs i g
       → filled_in (zeros_in m (take i fs)) f.offset (size_of (model m.order (program_in m)) f.what) 0
       ≡ zeros_in m (take (i + 1) fs)
   zeros_more fs i f g h e = fun_ext step
@@ -136,33 +123,6 @@ module _ (m : Setting) where
           both (list_any test (take i fs)) (test f)
           ∙ ap (λ t. if t then number 0 else undefined)
           (sym (list_any_more test fs i g h ∙ ap (λ x. list_any test (take i fs) || test x) (sym e)))
-
-  -- one leaf more becomes zero bytes
-  pub zeros_next : (x : Memory) → ArePartsOf (model m.order (program_in m)) x → (b q n : ℕ) (fs : List Leaf) (i : ℕ)
-      (f g : Leaf) → i < length fs → f ≡ get_or fs i g
-      → f.offset + size_of (model m.order (program_in m)) f.what ≤ n → q + n ≤ size_on m b → (w : ℕ)
-      → w ≡ size_of (model m.order (program_in m)) f.what → (d : Model) → d ≡ model m.order (program_in m)
-      → (old r s : State) (a : Result ⊤ Fault)
-      → Changes m old a r b (q + f.offset) w (filled d old.memory b (q + f.offset) w 0)
-      → old ≡ remembers (replaced (model m.order (program_in m)) x b q n (zeros_in m (take i fs))) s
-      → r ≡ remembers (replaced (model m.order (program_in m)) x b q n (zeros_in m (take (i + 1) fs))) s
-  zeros_next x parts b q n fs i f g h e ends inside w ew d ed old r s a c eo =
-      let t = model m.order (program_in m) in
-      let u = size_of t f.what in
-      let f_in : q + f.offset + w ≤ size_on m b = omega (arith, ends, inside, ew) in
-      range_changed m b (q + f.offset) w (filled d old.memory b (q + f.offset) w 0) old r a f_in c
-      ∙ ap (λ d. remembers (filled d old.memory b (q + f.offset) w 0) old) ed
-      ∙ ap (λ w. remembers (filled t old.memory b (q + f.offset) w 0) old) ew
-      ∙ ap (λ (y : State). remembers (filled t y.memory b (q + f.offset) u 0) y) eo
-      ∙ ap (λ z. remembers z s)
-      (fill_part t x parts b q n (zeros_in m (take i fs)) (zeros_plain (take i fs)) f.offset u 0 ends)
-      ∙ ap (λ z. remembers (replaced t x b q n z) s) (zeros_more fs i f g h e)
-
-  pub zeros_done : (x : Memory) (b q n : ℕ) (fs : List Leaf) (i : ℕ) (r s : State) → length fs ≤ i
-      → r ≡ remembers (replaced (model m.order (program_in m)) x b q n (zeros_in m (take i fs))) s
-      → r ≡ remembers (replaced (model m.order (program_in m)) x b q n (zeros_in m fs)) s
-  zeros_done x b q n fs i r s h e =
-      e ∙ ap (λ gs. remembers (replaced (model m.order (program_in m)) x b q n (zeros_in m gs)) s) (take-all i fs h)
 
   -- a place with all its leaves is cleared
   pub cleared_is : (x : Memory) (ty b q n : ℕ) (fs : List Leaf) (s : State) → fs ≡ leaves (program_in m).types ty

@@ -1,2 +1,4 @@
 pub mod Inputs
 pub mod Clears
+pub mod Waiting
+pub mod Solid

@@ -7,7 +7,18 @@ use Rattle.ep_machine.specs.Settings.{program_in, size_on}
 use Rattle.ep_machine.specs.Machines.{state_in}
 use Rattle.ep_simple_steps.specs.Zeros.{zeros_in}
 use Rattle.ep_simple_steps.proofs.Clears.{cleared_is, undefined_is}
+use Rattle.ep_simple_steps.proofs.Solid.{full_cleared}
 use Rattle.ep_simple_steps.proofs.clearing.clear_inside.Goals as goal
+
+pub returns-then-is_solid-clause-clears : goal.returns-then-is_solid-clause-clears
+returns-then-is_solid-clause-clears c =
+    let m = c.args.on.now in
+    let n = c.bytes_in-n.result in
+    let inside : c.args.here + n ≤ size_on m c.args.block
+    = subst (λ k. c.args.here + k ≤ size_on m c.args.block) (sym c.bytes_in-n.ensures) c.requires.inside in
+    full_cleared m c.args.ty (c.is_solid.ensures c.if-is_solid.true) (memory_in c.args.machine.now.store) c.args.block
+    c.args.here n c.args.machine.now.store.model (state_in c.args.machine.now) (state_in c.fill-filled.new.self)
+    c.fill-filled.result c.requires.runs.laid.model c.bytes_in-n.ensures inside c.fill-filled.ensures.fills
 
 pub returns-then-ty-type_count-clause-clears : goal.returns-then-ty-type_count-clause-clears
 returns-then-ty-type_count-clause-clears c =
