@@ -11,9 +11,12 @@ use Rattle.ep_typing.specs.Env.{Env}
 use Rattle.ep_typing.specs.Results.{◌>>=◌, at}
 use Rattle.ep_operands.specs.Refinement.{Stops}
 use Rattle.ep_elaboration.specs.Declarators.{with_types}
-use Rattle.ep_elaboration.specs.Functions.{Headed, are_alike, are_typed_alike}
-use Rattle.ep_elaboration.specs.Functions.{function_declared, headed, is_alike}
-use Rattle.ep_elaboration.specs.Functions.{signature_of, stands_alone}
+use Rattle.ep_elaboration.specs.Functions.{Headed}
+use Rattle.ep_elaboration.specs.FunctionSteps.{are_alike, are_typed_alike}
+use Rattle.ep_elaboration.specs.Functions.{function_declared, headed}
+use Rattle.ep_elaboration.specs.FunctionSteps.{is_alike}
+use Rattle.ep_elaboration.specs.Functions.{signature_of}
+use Rattle.ep_elaboration.specs.FunctionSteps.{stands_alone}
 use Rattle.ep_elaboration.specs.Statements.{left}
 use Rattle.ep_typing.proofs.Order.{at_ok}
 

@@ -13,8 +13,10 @@ use Rattle.ep_typing.specs.Env.{Env}
 use Rattle.ep_typing.specs.Results.{◌>>=◌}
 use Rattle.ep_operands.specs.Refinement.{Stops}
 use Rattle.ep_elaboration.specs.Functions as rule
-use Rattle.ep_elaboration.specs.Functions.{first_block, function_defined, function_typed, functions_defined}
-use Rattle.ep_elaboration.specs.Functions.{others_typed, rest_of}
+use Rattle.ep_elaboration.specs.Functions.{first_block}
+use Rattle.ep_elaboration.specs.FunctionSteps.{function_defined, function_typed, functions_defined}
+use Rattle.ep_elaboration.specs.Functions.{rest_of}
+use Rattle.ep_elaboration.specs.FunctionSteps.{others_typed}
 use Rattle.ep_defined.specs.declared.sofar.Defined.{Defined}
 use Rattle.ep_defined.specs.View.{defined}
 use Rattle.ep_typer_functions.specs.declared.done.Done.{Done}

@@ -10,8 +10,9 @@ use Rattle.ep_typing.specs.Env.{Env, Meaning, Scope}
 use Rattle.ep_typing.specs.Results.{◌>>=◌, at}
 use Rattle.ep_typing.proofs.Order.{bind_ok, ok_is}
 use Rattle.ep_elaboration.specs.Declarators.{with_types}
-use Rattle.ep_elaboration.specs.Functions.{Defined, Headed, function_declared, functions_defined, headed, signature_of}
-use Rattle.ep_elaboration.specs.Functions.{stands_alone}
+use Rattle.ep_elaboration.specs.Functions.{Defined, Headed, function_declared, headed, signature_of}
+use Rattle.ep_elaboration.specs.FunctionSteps.{functions_defined}
+use Rattle.ep_elaboration.specs.FunctionSteps.{stands_alone}
 use Rattle.ep_elaboration.specs.Statements.{left}
 use Rattle.ep_elaboration.specs.FunctionRules.{MeansDefinitions, more_definitions, no_definitions}
 use Rattle.ep_elaboration.proofs.FunctionOrder.{means_functions_defined, means_headed}

@@ -5,5 +5,6 @@ pub mod Grown
 pub mod Gathering
 pub mod WholeArms
 pub mod Spellings
+pub mod ParameterTypes
 pub mod SpelledTypes
 pub mod SpelledHeads

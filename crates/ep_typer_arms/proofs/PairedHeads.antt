@@ -4,7 +4,8 @@ use Rattle.ep_ast.specs.declared.statements.FunctionTree.{FunctionTree}
 use Rattle.ep_ast.specs.Declaration.{head_of}
 use Rattle.ep_ast.specs.Statement.{function_of}
 use Rattle.ep_typing.specs.Env.{Env}
-use Rattle.ep_elaboration.specs.Functions.{are_alike, are_named_alike, arms_agree}
+use Rattle.ep_elaboration.specs.Functions.{are_named_alike}
+use Rattle.ep_elaboration.specs.FunctionSteps.{are_alike, arms_agree}
 
 module _ (G : Env) (ds : List ℕ) where
   abbrev pub agree : FunctionTree → FunctionTree → Bool

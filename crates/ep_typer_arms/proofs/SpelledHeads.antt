@@ -7,30 +7,36 @@ use Rattle.ep_typing.specs.declared.types.CType.{CType}
 use Rattle.ep_typing.specs.Env.{Env}
 use Rattle.ep_typing.specs.Results.{at}
 use Rattle.ep_typing.specs.SameTypes.{same_itself}
+use Rattle.ep_typing.specs.Types.{is_same}
 use Rattle.ep_typing.proofs.Order.{bind_ok, ok_is}
 use Rattle.ep_elaboration.specs.Declarators.{with_types}
-use Rattle.ep_elaboration.specs.Functions.{Headed, are_alike, are_same, are_typed_alike, function_declared, headed}
-use Rattle.ep_elaboration.specs.Functions.{is_alike, is_same_signature, signature_of, stands_alone}
+use Rattle.ep_elaboration.specs.Functions.{Headed, are_same, function_declared, headed}
+use Rattle.ep_elaboration.specs.FunctionSteps.{are_alike, are_typed_alike}
+use Rattle.ep_elaboration.specs.Functions.{is_same_signature, signature_of}
+use Rattle.ep_elaboration.specs.FunctionSteps.{is_alike, stands_alone}
 use Rattle.ep_elaboration.specs.Statements.{left}
 use Rattle.ep_elaboration.specs.FunctionRules.{MeansHead}
 use Rattle.ep_elaboration.proofs.FunctionOrder.{means_headed}
 use Rattle.ep_well_formed_laws.specs.Environments.{IsDeclared}
+use Rattle.ep_well_formed_laws.proofs.FunctionParts.{AtFile}
 use Rattle.ep_well_formed_laws.proofs.Heads.{head_comes}
 use Rattle.ep_well_formed_laws.proofs.Mentions.{with_table}
 use Rattle.ep_layout.proofs.Recursion.{kept_by_itself}
 use Rattle.ep_typer_arms.specs.FileEnvironments.{IsFileEnv}
 use Rattle.ep_typer_arms.specs.Spelled.{HeadsSpellAlike}
 use Rattle.ep_typer_arms.proofs.Grown.{at_file}
-use Rattle.ep_typer_arms.proofs.SpelledTypes.{head_is, inside_table}
+use Rattle.ep_typer_arms.proofs.ParameterTypes.{all_made_same}
+use Rattle.ep_typer_arms.proofs.SpelledTypes.{head_made, inside_table}
 
 all_themselves : (cs : List CType) → are_same cs cs ≡ true
 all_themselves [] = refl
 all_themselves (c ∷ cs) = and_from _ _ (same_itself c) (all_themselves cs)
 
-one_type : (h k : Head) (r q : Headed) → r ≡ q → is_same_signature (signature_of h r) (signature_of k q) ≡ true
-one_type h k r q e =
-    subst (λ (x : Headed). is_same_signature (signature_of h r) (signature_of k x) ≡ true) e
-    (and_from _ _ (same_itself r.result) (all_themselves r.params))
+one_type : (h k : Head) (r q : Headed) → r.result ≡ q.result → r.params ≡ q.params
+    → is_same_signature (signature_of h r) (signature_of k q) ≡ true
+one_type h k r q e f =
+    and_from _ _ (subst (λ (c : CType). is_same r.result c ≡ true) e (same_itself r.result))
+    (subst (λ (cs : List CType). are_same r.params cs ≡ true) f (all_themselves r.params))
 
 -- a head that stands alone has a meaning
 record Stands (G : Env) (h : Head) (r : Headed × Env) : Type 0 where
@@ -49,11 +55,11 @@ pub spelled_alike : (G : Env) (ds : List ℕ) (h k : Head) → IsFileEnv G → H
 unfolding are_alike
 spelled_alike G ds h k f s = by (stands_alone G ds h) refl
   where
-    d : IsDeclared G
-    d = (at_file G f).env.declared
+    file : AtFile G
+    file = at_file G f
 
-    spells : Headed
-    spells = record { result = s.result.0; params = s.params.0 }
+    d : IsDeclared G
+    d = file.env.declared
 
     second : (r : Headed × Env) → Stands G h r → (o : Result (Headed × Env) Refusal) → stands_alone r.1 ds k ≡ o
         → true ≡ is_alike h r k o
@@ -65,13 +71,17 @@ spelled_alike G ds h k f s = by (stands_alone G ds h) refl
         let j = inside_table G x.of.1.types (with_table G x.of.1.types d c.grows c.declared.table) c.grows in
         let y = stood H ds k z
         (subst (λ (E : Env). stands_alone E ds k ≡ Ok z) (ap (λ (p : Headed × Env). p.1) x.is) q) in
-        let one : r.0 ≡ spells =
-        ap (λ (p : Headed × Env). p.0) x.is
-        ∙ head_is G G (length G.blocks) h x.of s.result.0 s.params.0 i x.means s.result.1 s.params.1 in
-        let other : z.0 ≡ spells =
-        ap (λ (p : Headed × Env). p.0) y.is
-        ∙ head_is G H (length H.blocks) k y.of s.result.0 s.params.0 j y.means s.result.2 s.params.2 in
-        sym (one_type h k r.0 z.0 (one ∙ sym other))
+        let one = head_made G G file.scope (length G.blocks) h x.of s.result.0 s.params.0 i file.file refl x.means s.result.1
+        s.params.1 in
+        let other = head_made G H file.scope (length H.blocks) k y.of s.result.0 s.params.0 j file.file refl y.means s.result.2
+        s.params.2 in
+        let params = all_made_same G.types x.of.1.types H.types y.of.1.types s.params.0 x.of.0.params y.of.0.params one.params
+        other.params (kept_by_itself H.types) in
+        let here : r.0 ≡ x.of.0 = ap (λ (p : Headed × Env). p.0) x.is in
+        let there : z.0 ≡ y.of.0 = ap (λ (p : Headed × Env). p.0) y.is in
+        sym (one_type h k r.0 z.0
+        (ap (λ (p : Headed). p.result) here ∙ one.result ∙ sym (ap (λ (p : Headed). p.result) there ∙ other.result))
+        (ap (λ (p : Headed). p.params) here ∙ params ∙ sym (ap (λ (p : Headed). p.params) there)))
 
     by : (o : Result (Headed × Env) Refusal) → stands_alone G ds h ≡ o → true ≡ are_typed_alike G ds h o k
     by (Err z) q = refl

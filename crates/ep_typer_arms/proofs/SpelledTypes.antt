@@ -1,41 +1,53 @@
 -- What a head spells is what it means, wherever what it names is seen.
 use Rattle.std.proofs.Common.{◌≡◌, ◌==◌, ℕ, ◌+◌, Bool, true, false, cond, if◌then◌else◌, List, [], ◌∷◌, ◌++◌, length}
 use Rattle.std.proofs.Common.{map, find, Option, Some, None, Ok, Err, refl, sym, ap, ◌∙◌, subst, ◌⊎◌, inl, inr}
-use Rattle.std.proofs.Common.{bytes_eq, arith}
+use Rattle.std.proofs.Common.{bytes_eq}
 use Rattle.ep_ast.specs.Expression as source
 use Rattle.ep_ast.specs.Expression.{TypeWord}
-use Rattle.ep_ast.specs.Declaration.{Head, Param, Spec, plain, to_specs}
+use Rattle.ep_ast.specs.Declaration.{Aggregate, Head, Members, Param, Spec, aggregate, body, plain, to_specs}
 use Rattle.ep_ast.specs.Mark.{union_word}
 use Rattle.ep_int.specs.declared.types.Model.{Model}
-use Rattle.ep_layout.specs.Table.{Grows, Table, is_union}
+use Rattle.ep_layout.specs.declared.types.LayoutStop.{LayoutStop}
+use Rattle.ep_layout.specs.Table.{Grows, Table, completed_with, is_union}
 use Rattle.ep_layout.specs.SameTypes.{is_same_sign}
 use Rattle.ep_layout.proofs.Basics.{grows-trans}
+use Rattle.ep_layout.proofs.Recursion.{kept_by_itself}
+use Rattle.ep_scopes.specs.View.{innermost}
 use Rattle.ep_typing.specs.declared.types.Base.TheVariants as bases
 use Rattle.ep_typing.specs.declared.types.CType.{CType}
+use Rattle.ep_typing.specs.Constant.{count_of}
 use Rattle.ep_typing.specs.Env.{Env, Meaning, Scope, entry, first_of, look_up, look_up_tag, variable}
-use Rattle.ep_typing.specs.Names.{built_in_types, integer_of, is_whole, meant_tag, meant_type, mentioned_words}
-use Rattle.ep_typing.specs.Names.{of_whole, words_type}
-use Rattle.ep_typing.specs.Results.{at, needed}
-use Rattle.ep_typing.specs.Types.{int_type, is_aggregate, is_array, is_void, pointer_to, size_of_type, whole}
-use Rattle.ep_typing.specs.Types.{with_c_type, with_stars, element_of}
-use Rattle.ep_elaboration.specs.Declarators.{arrays_of, name_in, with_types}
-use Rattle.ep_elaboration.specs.DeclaratorRules.{MeansBounds, MeansSpecs, MeansWords, is_plain, is_words, more_bounds}
-use Rattle.ep_elaboration.specs.DeclaratorRules.{no_bounds, one_word_more}
+use Rattle.ep_typing.specs.Names.{built_in_types, integer_of, is_whole, meant_tag, meant_type, mentioned}
+use Rattle.ep_typing.specs.Names.{mentioned_words, of_whole, words_type}
+use Rattle.ep_typing.specs.Operand.{Operand, value, value_of}
+use Rattle.ep_typing.specs.Parts.{numbered}
+use Rattle.ep_typing.specs.Results.{at}
+use Rattle.ep_typing.specs.Rules.{Means, is_number}
+use Rattle.ep_typing.specs.Types.{int_type, is_aggregate, is_void, whole, with_c_type, with_stars}
+use Rattle.ep_elaboration.specs.Aggregates.{Named, body_of, closed, opened, tags_here}
+use Rattle.ep_elaboration.specs.Aggregates as aggregates
+use Rattle.ep_elaboration.specs.Declarators.{counted, name_in, with_types}
+use Rattle.ep_elaboration.specs.DeclaratorRules.{MeansBody, MeansBound, MeansBounds, MeansSpecs, MeansWords, has_body}
+use Rattle.ep_elaboration.specs.DeclaratorRules.{is_body, is_bound, is_plain, is_words, more_bounds, no_bounds}
+use Rattle.ep_elaboration.specs.DeclaratorRules.{one_word_more}
 use Rattle.ep_elaboration.specs.FunctionRules.{MeansHead, MeansParam, MeansParamBounds, MeansParams, bound_array}
 use Rattle.ep_elaboration.specs.FunctionRules.{is_head, is_param, more_params, no_array, no_params, open_array}
 use Rattle.ep_elaboration.specs.Functions.{Headed, behind_result, is_name_taken, named_param, param_type, params_of}
 use Rattle.ep_elaboration.specs.Functions.{passable, with_param}
 use Rattle.ep_elaboration.specs.Statements.{entered}
 use Rattle.ep_well_formed_laws.specs.Environments.{IsDeclared}
-use Rattle.ep_well_formed_laws.proofs.Additions.{IsKnownBase}
+use Rattle.ep_well_formed_laws.specs.Numbers.{HasNumber}
+use Rattle.ep_well_formed_laws.proofs.Additions.{IsKnownBase, has_number_stays}
 use Rattle.ep_well_formed_laws.proofs.Heads.{ParamComes, declared_entered, given_back_is, param_bounds_are, param_comes}
-use Rattle.ep_well_formed_laws.proofs.Mentions.{Mentions, known_base, mentions_on, type_mentioned, words_known}
-use Rattle.ep_well_formed_laws.proofs.Mentions.{words_mentioned}
-use Rattle.ep_well_formed_laws.proofs.Scopes.{entry_behind, entry_front, same_meaning}
-use Rattle.ep_well_formed_laws.proofs.Specs.{fine_is}
-use Rattle.ep_well_formed_laws.proofs.Tests.{after, unless}
-use Rattle.ep_typer_arms.specs.Spelled.{AreSpelled, IsSpelled, IsSpelledParam, IsSpelledResult, IsBounded, no_bound}
-use Rattle.ep_typer_arms.specs.Spelled.{one_bound}
+use Rattle.ep_well_formed_laws.proofs.Mentions.{Mentions, expression_mentioned, known_base, mentions_on, type_mentioned}
+use Rattle.ep_well_formed_laws.proofs.Mentions.{words_known, words_mentioned}
+use Rattle.ep_well_formed_laws.proofs.Objects.{bound_is}
+use Rattle.ep_well_formed_laws.proofs.Scopes.{HaveNames, entry_behind, entry_front, same_meaning}
+use Rattle.ep_well_formed_laws.proofs.Specs.{fine_is, specified, words_specified}
+use Rattle.ep_well_formed_laws.proofs.Tests.{after, needed_is, unless}
+use Rattle.ep_typer_arms.specs.Spelled.{AreBounds, AreCounts, AreSpelled, HasTag, IsBodyOf, IsBoundOf, IsCount, IsSpelled}
+use Rattle.ep_typer_arms.specs.Spelled.{IsSpelledParam, IsSpelledResult, Spelling, by_body, by_words, first_body, is_count}
+use Rattle.ep_typer_arms.proofs.ParameterTypes.{AreMadeAt, IsMadeAt, all_made_before, made_later}
 
 -- ---- what a parameter's name hides
 
@@ -66,11 +78,32 @@ by_name u t m (s ∷ ss) = by (entry u s.names) refl
     by (Some x) q =
         inl (ap (λ (o : Option Meaning). first_of o (look_up u ss)) (entry_front u s.names ((t, m) ∷ []) x q ∙ sym q))
 
+-- tags that come to a scope alone stand behind those that it has
+tags_behind : (t : List ℕ) (a : ℕ) (u : Scope) (ss us : List Scope) → ss ≡ u ∷ [] → HaveNames ss us
+    → look_up_tag t ss ≡ Some a → look_up_tag t us ≡ Some a
+tags_behind t a u [] us e n h = absurd cc
+tags_behind t a u (x ∷ y ∷ ss) us e n h = absurd cc
+tags_behind t a u (x ∷ []) [] e n h = absurd n
+tags_behind t a u (x ∷ []) (v ∷ w ∷ us) e n h = absurd n.1
+tags_behind t a u (x ∷ []) (v ∷ []) e n h =
+    let here : entry t x.tags ≡ Some a = by (entry t x.tags) h in
+    ap (λ (o : Option ℕ). first_of o None)
+    (subst (λ (ts : List (List ℕ × ℕ)). entry t ts ≡ Some a) n.2.1 (entry_front t x.tags n.2.0 a here))
+  where
+    by : (o : Option ℕ) → first_of o None ≡ Some a → o ≡ Some a
+    by None q = absurd cc
+    by (Some b) q = q
+
 -- ---- answers
 
 picked : (b : Bool) (l k : ℕ) (x c : CType) → at l (if b then Ok x else Err k) ≡ Ok c → x ≡ c
 picked true l k x c e = cc
 picked false l k x c e = absurd cc
+
+-- what a head in the scope of the file comes to
+pub record IsHeadMade (t v : Table) (r : CType) (ss : List Spelling) (x : Headed) : Type 0 where
+  pub result : x.result ≡ r
+  pub params : AreMadeAt t v ss x.params
 
 module _ (G : Env) where
   -- ---- what scopes see of these
@@ -107,6 +140,17 @@ module _ (G : Env) where
       by t (inr e) p = inr (k, d, e)
       by t (inl e) (inl p) = inl (e ∙ p)
       by t (inl e) (inr p) = inr (p.0, p.1, e ∙ p.2)
+
+  -- in the scope of the file no tag hides another
+  sees_declared : (u : Scope) (H I : Env) → H.scopes ≡ u ∷ [] → Sees H.scopes → HaveNames H.scopes I.scopes → Sees I.scopes
+  sees_declared u H I e s n = record {
+    names = λ t. by t (s.names t);
+    tags = λ t a k. tags_behind t a u H.scopes I.scopes e n (s.tags t a k);
+  }
+    where
+      by : (t : List ℕ) → SeesAs H.scopes t → SeesAs I.scopes t
+      by t (inl q) = inl (sym (same_meaning H.scopes I.scopes n t) ∙ q)
+      by t (inr p) = inr (p.0, p.1, sym (same_meaning H.scopes I.scopes n t) ∙ p.2)
 
   -- an environment that sees them over a table that has grown
   pub record Inside (H : Env) : Type 0 where
@@ -193,45 +237,48 @@ module _ (G : Env) where
 
   -- ---- bounds
 
-  none_bound : (H : Env) (l : ℕ) (bs : List (Option source.Expr)) (x : List ℕ × Env) → MeansBounds H l bs x
-      → length bs ≡ 0 → x.0 ≡ []
-  none_bound H l bs x no_bounds e = refl
-  none_bound H l bs x (more_bounds y z m k) e = absurd (omega (arith, e))
+  counts_are : (K : Env) (e : source.Expr) (n k : ℕ) (x : Operand) → Inside K → IsCount G.types.model e k → Means K e x
+      → counted (value_of K.types x) ≡ Ok n → n ≡ k
+  unfolding value_of
+  counts_are K e n k x i (is_count {n = d} w) is_number q =
+      let same : numbered K.types.model d ≡ value w.0 = ap (λ (m : Model). numbered m d) i.grows.model ∙ w.1 in
+      let read : counted (value_of K.types (value w.0)) ≡ Ok n =
+      subst (λ (y : Operand). counted (value_of K.types y) ≡ Ok n) same q in
+      let both : Some n ≡ Some k = sym (needed_is 17 (count_of w.0) n read) ∙ w.2 in cc
 
-  no_param_bound : (H : Env) (l : ℕ) (bs : List (Option source.Expr)) (x : Option (List ℕ) × Env)
-      → MeansParamBounds H l bs x → length bs ≡ 0 → x.0 ≡ None
-  no_param_bound H l bs x no_array e = refl
-  no_param_bound H l bs x (open_array ns m) e = absurd (omega (arith, e))
-  no_param_bound H l bs x (bound_array n ns m k) e = absurd (omega (arith, e))
+  bound_as : (H : Env) (l : ℕ) (b : Option source.Expr) (x : ℕ × Env) (k : ℕ) → Inside H → MeansBound H l b x
+      → IsBoundOf G.types.model b k → x.0 ≡ k
+  bound_as H l b x k i (is_bound {e = e} y n m q) c =
+      counts_are (mentioned H e) e n k y (inside_mentioned H (mentioned H e) i (expression_mentioned H e i.declared).mentions) c m q
 
-  one_param_bound : (H : Env) (l : ℕ) (bs : List (Option source.Expr)) (x : Option (List ℕ) × Env)
-      → MeansParamBounds H l bs x → length bs ≡ 1 → x.0 ≡ Some []
-  one_param_bound H l bs x no_array e = absurd (omega (arith, e))
-  one_param_bound H l bs x (open_array {bs = cs} ns m) e =
-      ap (λ (ks : List ℕ). Some ks) (none_bound H l cs ns m (omega (arith, e)))
-  one_param_bound H l bs x (bound_array {bs = cs} n ns m k) e =
-      ap (λ (ks : List ℕ). Some ks) (none_bound n.1 l cs ns k (omega (arith, e)))
+  bounds_are : (H : Env) (l : ℕ) (bs : List (Option source.Expr)) (x : List ℕ × Env) (ns : List ℕ) → Inside H
+      → MeansBounds H l bs x → AreCounts G.types.model bs ns → x.0 ≡ ns
+  bounds_are H l bs x [] i no_bounds c = refl
+  bounds_are H l bs x (n ∷ ns) i no_bounds c = absurd c
+  bounds_are H l bs x [] i (more_bounds y z m k) c = absurd c
+  bounds_are H l bs x (n ∷ ns) i (more_bounds {b = b} {bs = cs} y z m k) c =
+      let J = inside_mentioned H y.1 i (bound_is H l b y i.declared m).0 in
+      ap (λ (j : ℕ). j ∷ z.0) (bound_as H l b y n i m c.0)
+      ∙ ap (λ (ks : List ℕ). n ∷ ks) (bounds_are y.1 l cs z ns J k c.1)
+
+  param_bounds_are_spelled : (H : Env) (l : ℕ) (bs : List (Option source.Expr)) (x : Option (List ℕ) × Env)
+      (o : Option (List ℕ)) → Inside H → MeansParamBounds H l bs x → AreBounds G.types.model bs o → x.0 ≡ o
+  param_bounds_are_spelled H l bs x None i no_array s = refl
+  param_bounds_are_spelled H l bs x (Some ns) i no_array s = absurd s
+  param_bounds_are_spelled H l bs x None i (open_array y m) s = absurd s
+  param_bounds_are_spelled H l bs x (Some ns) i (open_array {bs = cs} y m) s =
+      ap (λ (ks : List ℕ). Some ks) (bounds_are H l cs y ns i m s)
+  param_bounds_are_spelled H l bs x None i (bound_array n y m k) s = absurd s
+  param_bounds_are_spelled H l bs x (Some ns) i (bound_array {e = e} {bs = cs} n y m k) s =
+      let J = inside_mentioned H n.1 i (bound_is H l (Some e) n i.declared m).0 in
+      ap (λ (ks : List ℕ). Some ks) (bounds_are n.1 l cs y ns J k s)
 
   -- ---- parameters
-
-  by_itself : (t : Table) (c : CType) (r : CType × Table) → is_array c ≡ false → param_type t c None ≡ Ok r → r.0 ≡ c
-  unfolding param_type
-  by_itself t c r a e =
-      let d : CType = if is_array c then pointer_to (element_of t c) else c in
-      let same = fine_is {A = CType × Table} (d, with_c_type t d) r e in
-      sym (ap (λ (x : CType × Table). x.0) same)
-      ∙ ap (λ (b : Bool). if b then pointer_to (element_of t c) else c) a
-
-  by_one : (t : Table) (c : CType) (r : CType × Table) → param_type t c (Some []) ≡ Ok r → r.0 ≡ pointer_to c
-  unfolding param_type arrays_of
-  by_one t c r e =
-      let sized = after (needed 33 (size_of_type (with_c_type t c) c)) _ r e in
-      let same = fine_is {A = CType × Table} (pointer_to c, with_c_type (with_c_type t c) (pointer_to c)) r sized.2 in
-      sym (ap (λ (x : CType × Table). x.0) same)
 
   -- what a parameter's declarator makes of its type, and of the scopes
   record WithParam (H : Env) (c : CType) (ns : Option (List ℕ)) (d : CType × Env) : Type 0 where
     type : (u : Table) × (param_type H.types c ns ≡ Ok (d.0, u))
+    made : d.1.types ≡ type.0
     sees : Sees H.scopes → Sees d.1.scopes
 
   with_param_is : (H : Env) (o : Option (List ℕ)) (b : ℕ) (c : CType) (ns : Option (List ℕ)) (d : CType × Env)
@@ -250,8 +297,8 @@ module _ (G : Env) where
     where
       by : (o : Option (List ℕ)) (r : CType × Table) → param_type H.types c ns ≡ Ok r
           → WithParam H c ns (named_param o b (r.0, with_types H r.1))
-      by None r k = record { type = (r.1, k); sees = λ s. s }
-      by (Some t) r k = record { type = (r.1, k); sees = λ s. sees_named H.scopes t b r.0 s }
+      by None r k = record { type = (r.1, k); made = refl; sees = λ s. s }
+      by (Some t) r k = record { type = (r.1, k); made = refl; sees = λ s. sees_named H.scopes t b r.0 s }
 
   pub param_inside : (H : Env) (b : ℕ) (p : Param) (x : CType × Env) → Inside H → MeansParam H b p x → Inside x.1
   param_inside H b p x i m = by (param_comes H b p x i.declared m) m
@@ -268,36 +315,49 @@ module _ (G : Env) where
             sees = (with_param_is ns.1 p.name b (with_stars c.0 (length p.stars)) ns.0 x e).sees L.sees;
           }
 
-  pub param_is : (H : Env) (b : ℕ) (p : Param) (x : CType × Env) (c : CType) → Inside H → MeansParam H b p x
-      → IsSpelledParam G p c → x.0 ≡ c
-  param_is H b p x c i (is_param a ns d q n e) s = by (length p.bounds) refl c s.2
-    where
-      z : WithParam ns.1 (with_stars a.0 (length p.stars)) ns.0 x
-      z = with_param_is ns.1 p.name b (with_stars a.0 (length p.stars)) ns.0 x e
+  param_made : (H : Env) (b : ℕ) (p : Param) (x : CType × Env) (s : Spelling) → Inside H → MeansParam H b p x
+      → IsSpelledParam G p s → IsMadeAt H.types x.1.types s x.0
+  param_made H b p x s i (is_param a ns d q n e) k =
+      let w = words_specified H [] p.words a i.declared q in
+      let J = inside_mentioned H a.1 i (words_mention H p.words a i.declared q) in
+      let l = param_bounds_are a.1 p.line p.bounds ns J.declared n in
+      let L = inside_mentioned a.1 ns.1 J l.mentions in
+      let c : CType = with_stars a.0 (length p.stars) in
+      let spelled : c ≡ s.0 = spelled_is H p.words a (length p.stars) s.0 i q k.0 in
+      let counted = param_bounds_are_spelled a.1 p.line p.bounds ns s.1 J n k.1 in
+      let z = with_param_is ns.1 p.name b c ns.0 x e in
+      let number : HasNumber ns.1.types a.0 =
+      has_number_stays a.1.types ns.1.types l.mentions.grows L.declared.table.built a.0 w.number in
+      record {
+        here = ns.1.types;
+        made = z.type.0;
+        type = sym (ap (λ (g : CType). param_type ns.1.types g s.1) spelled) ∙ sym (ap (param_type ns.1.types c) counted) ∙ z.type.1;
+        early = grows-trans H.types a.1.types ns.1.types w.declares.grows l.mentions.grows;
+        late = subst (Grows z.type.0) (sym z.made) (kept_by_itself z.type.0);
+        table = L.declared.table;
+        base = subst (λ (g : CType). IsKnownBase ns.1.types g.base) spelled (known_base ns.1.types a.0 number L.declared.table);
+        lengths = λ ms f. l.lengths ms (counted ∙ f);
+      }
 
-      spelled : with_stars a.0 (length p.stars) ≡ s.0
-      spelled = spelled_is H p.words a (length p.stars) s.0 i q s.1
+  params_grow : (H : Env) (b : ℕ) (ps : List Param) (x : List CType × Env) → IsDeclared H → MeansParams H b ps x
+      → Grows H.types x.1.types
+  params_grow H b ps x d no_params = kept_by_itself H.types
+  params_grow H b ps x d (more_params {p = p} {ps = qs} y z m n) =
+      let k = param_comes H b p y d m in
+      grows-trans H.types y.1.types z.1.types k.grows (params_grow y.1 (b + 1) qs z k.declared n)
 
-      typed : (o : Option (List ℕ)) → ns.0 ≡ o → param_type ns.1.types s.0 o ≡ Ok (x.0, z.type.0)
-      typed o l =
-          sym (ap (λ (g : CType). param_type ns.1.types g o) spelled)
-          ∙ sym (ap (param_type ns.1.types (with_stars a.0 (length p.stars))) l) ∙ z.type.1
-
-      by : (m : ℕ) → m ≡ length p.bounds → (c : CType) → IsBounded s.0 m c → x.0 ≡ c
-      by m l c (no_bound w) =
-          by_itself ns.1.types c (x.0, z.type.0) w (typed None (no_param_bound a.1 p.line p.bounds ns n (sym l)))
-      by m l c one_bound =
-          by_one ns.1.types s.0 (x.0, z.type.0) (typed (Some []) (one_param_bound a.1 p.line p.bounds ns n (sym l)))
-
-  params_are : (H : Env) (b : ℕ) (ps : List Param) (x : List CType × Env) (cs : List CType) → Inside H
-      → MeansParams H b ps x → AreSpelled G ps cs → x.0 ≡ cs
-  params_are H b ps x [] i no_params s = refl
-  params_are H b ps x (c ∷ cs) i no_params s = absurd s
-  params_are H b ps x [] i (more_params y z m n) s = absurd s
-  params_are H b ps x (c ∷ cs) i (more_params {p = p} {ps = qs} y z m n) s =
-      let first = param_is H b p y c i m s.0 in
-      let rest = params_are y.1 (b + 1) qs z cs (param_inside H b p y i m) n s.1 in
-      ap (λ (d : CType). d ∷ z.0) first ∙ ap (λ (ds : List CType). c ∷ ds) rest
+  params_made : (H : Env) (b : ℕ) (ps : List Param) (x : List CType × Env) (ss : List Spelling) → Inside H
+      → MeansParams H b ps x → AreSpelled G ps ss → AreMadeAt H.types x.1.types ss x.0
+  params_made H b ps x [] i no_params s = tt
+  params_made H b ps x (k ∷ ss) i no_params s = absurd s
+  params_made H b ps x [] i (more_params y z m n) s = absurd s
+  params_made H b ps x (k ∷ ss) i (more_params {p = p} {ps = qs} y z m n) s =
+      let first = param_made H b p y k i m s.0 in
+      let J = param_inside H b p y i m in
+      let rest = params_made y.1 (b + 1) qs z ss J n s.1 in
+      let grows = (param_comes H b p y i.declared m).grows in
+      let later = params_grow y.1 (b + 1) qs z J.declared n in
+      (made_later H.types y.1.types z.1.types k y.0 first later, all_made_before H.types y.1.types z.1.types ss z.0 rest grows)
 
   -- ---- heads
 
@@ -315,31 +375,84 @@ module _ (G : Env) where
   plain_words H round ws (u ∷ us) x (one_word_more c m) =
       subst (λ (vs : List TypeWord). MeansWords H vs x) (one_more ws us u) (plain_words H round (ws ++ u ∷ []) us x m)
 
-  pub head_is : (H : Env) (b : ℕ) (h : Head) (x : Headed × Env) (r : CType) (cs : List CType) → Inside H
-      → MeansHead H b h x → IsSpelledResult G h r → AreSpelled G (params_of h.params) cs
-      → x.0 ≡ record { result = r; params = cs }
-  head_is H b h x r cs i (is_head c t ps m e n) s a =
-      let w : MeansWords H s.0 c =
-      plain_words H [] [] s.0 c (subst (λ (ss : List Spec). MeansSpecs H [] [] (to_specs ss) c) s.1 m) in
-      let k = spelled_is H s.0 c (length h.stars) r i w s.2 in
-      let g = given_back_is (with_stars c.0 (length h.stars)) t e in
-      let same : t ≡ r = sym g.0 ∙ k in
-      let mc = words_mention H s.0 c i.declared w in
-      let J = inside_mentioned H c.1 i mc in
-      let base : IsKnownBase c.1.types t.base =
-      subst (λ (d : CType). IsKnownBase c.1.types d.base) g.0 (base_of H s.0 c i.declared w) in
-      let y = type_mentioned c.1 t J.declared base in
-      let L = inside_entered (with_types c.1 (with_c_type c.1.types t))
-      (inside_mentioned c.1 (with_types c.1 (with_c_type c.1.types t)) J y.0) in
-      let p = params_are (entered (with_types c.1 (with_c_type c.1.types t))) (behind_result b t) (params_of h.params) ps cs L n
-      a in
-      ap (λ (d : CType). record { result = d; params = ps.0 }) same
-      ∙ ap (λ (ds : List CType). record { result = r; params = ds }) p
+  bodied : (H : Env) (ws : List TypeWord) (ss : List Spec) (a : Aggregate) (x : CType × Env)
+      → MeansSpecs H [] ws (to_specs ss) x → first_body ss ≡ Some a → MeansBody H [] a x
+  bodied H ws [] a x m e = absurd cc
+  bodied H ws (plain w ∷ ss) a x (one_word_more c m) e = bodied H (ws ++ w ∷ []) ss a x m e
+  bodied H ws (body b ∷ ss) a x (has_body c m) e =
+      let same : b ≡ a = cc in subst (λ (y : Aggregate). MeansBody H [] y x) same m
+
+  closed_as : (H : Env) (a : ℕ) (ms : Named) (o : Option LayoutStop) (c : CType × Env) → closed H a ms o ≡ Ok c
+      → c.0 ≡ whole (bases.Aggregate a)
+  closed_as H a [] o c e = absurd cc
+  closed_as H a (m ∷ ms) (Some s) c e = absurd cc
+  closed_as H a (m ∷ ms) None c e =
+      let K : Env = record H { types = completed_with H.types a (m ∷ ms) } in
+      let d : CType = whole (bases.Aggregate a) in
+      sym (ap (λ (y : CType × Env). y.0) (fine_is {A = CType × Env} (d, record K { types = with_c_type K.types d }) c e))
+
+  opened_as : (H : Env) (u : Bool) (t : List ℕ) (a : ℕ) (o : ℕ × Env) → entry t (innermost H.scopes).tags ≡ Some a
+      → opened H [] u (Some t) ≡ Ok o → o.0 ≡ a
+  unfolding opened
+  opened_as H u t a o h e = by H.scopes h e
     where
-      base_of : (H : Env) (ws : List TypeWord) (c : CType × Env) → IsDeclared H → MeansWords H ws c
-          → IsKnownBase c.1.types c.0.base
-      base_of H ws c h (is_words d e) =
-          let K = mentioned_words H ws in
-          let m = (words_mentioned H ws h).0 in
-          let t = type_mentioned K d m.declared (words_known K ws d m.declared e) in
-          known_base (with_c_type K.types d) d t.1 t.0.declared.table
+      found : (p : Option ℕ) → p ≡ Some a → body_of H [] u t p ≡ Ok o → o.0 ≡ a
+      found None p q = absurd cc
+      found (Some b) p q =
+          let r = unless (aggregates.has_body H [] u b) 31 _ o q in
+          let same = fine_is {A = ℕ × Env} (b, H) o r.1 in
+          let is : b ≡ a = cc in sym (ap (λ (y : ℕ × Env). y.0) same) ∙ is
+
+      by : (ss : List Scope) → entry t (innermost ss).tags ≡ Some a → body_of H [] u t (entry t (tags_here ss)) ≡ Ok o
+          → o.0 ≡ a
+      by [] p q = absurd cc
+      by (s ∷ ss) p q = found (entry t s.tags) p q
+
+  tagged_body : (H : Env) (l w : ℕ) (t : List ℕ) (ms : Members) (a : ℕ) (x : CType × Env) → H.scopes ≡ G.scopes
+      → MeansBody H [] (aggregate l w (Some t) ms) x → entry t (innermost G.scopes).tags ≡ Some a
+      → x.0 ≡ whole (bases.Aggregate a)
+  tagged_body H l w t ms a x e (is_body o y c p q r) n =
+      let here = subst (λ (us : List Scope). entry t (innermost us).tags ≡ Some a) (sym e) n in
+      closed_as y.1 o.0 y.0 _ x r ∙ ap (λ (j : ℕ). whole (bases.Aggregate j)) (opened_as H _ t a o here p)
+
+  body_is : (H : Env) (ss : List Spec) (a : ℕ) (x : CType × Env) → H.scopes ≡ G.scopes → MeansSpecs H [] [] (to_specs ss) x
+      → IsBodyOf G ss a → x.0 ≡ whole (bases.Aggregate a)
+  body_is H ss a x e m b = by (first_body ss) refl b
+    where
+      by : (o : Option Aggregate) → first_body ss ≡ o → HasTag G o a → x.0 ≡ whole (bases.Aggregate a)
+      by None q n = absurd n
+      by (Some (aggregate l w None ms)) q n = absurd n
+      by (Some (aggregate l w (Some t) ms)) q n =
+          tagged_body H l w t ms a x e (bodied H [] ss (aggregate l w (Some t) ms) x m q) n
+
+  result_is : (H : Env) (h : Head) (x : CType × Env) (r : CType) → Inside H → H.scopes ≡ G.scopes
+      → MeansSpecs H [] [] (to_specs h.specs) x → IsSpelledResult G h r → with_stars x.0 (length h.stars) ≡ r
+  result_is H h x r i e m (by_words ws q s) =
+      let w : MeansWords H ws x = plain_words H [] [] ws x (subst (λ (ss : List Spec). MeansSpecs H [] [] (to_specs ss) x) q m) in
+      spelled_is H ws x (length h.stars) r i w s
+  result_is H h x r i e m (by_body a b q) =
+      ap (λ (c : CType). with_stars c (length h.stars)) (body_is H h.specs a x e m b) ∙ q
+
+  pub head_made : (H : Env) (u : Scope) (b : ℕ) (h : Head) (x : Headed × Env) (r : CType) (ss : List Spelling) → Inside H
+      → H.scopes ≡ u ∷ [] → H.scopes ≡ G.scopes → MeansHead H b h x → IsSpelledResult G h r
+      → AreSpelled G (params_of h.params) ss → IsHeadMade H.types x.1.types r ss x.0
+  head_made H u b h x r ss i one same (is_head c t ps m e n) s a =
+      let w = specified H [] [] (to_specs h.specs) c i.declared m in
+      let k = result_is H h c r i same m s in
+      let g = given_back_is (with_stars c.0 (length h.stars)) t e in
+      let J : Inside c.1 = record {
+        declared = w.declares.declared;
+        grows = grows-trans G.types H.types c.1.types i.grows w.declares.grows;
+        sees = sees_declared u H c.1 one i.sees w.declares.names;
+      } in
+      let base : IsKnownBase c.1.types t.base =
+      subst (λ (d : CType). IsKnownBase c.1.types d.base) g.0 (known_base c.1.types c.0 w.number J.declared.table) in
+      let y = type_mentioned c.1 t J.declared base in
+      let K : Env = with_types c.1 (with_c_type c.1.types t) in
+      let L = inside_entered K (inside_mentioned c.1 K J y.0) in
+      let p = params_made (entered K) (behind_result b t) (params_of h.params) ps ss L n a in
+      record {
+        result = sym g.0 ∙ k;
+        params = all_made_before H.types K.types ps.1.types ss ps.0 p
+            (grows-trans H.types c.1.types K.types w.declares.grows y.0.grows);
+      }

@@ -1,46 +1,126 @@
 -- Parameters and results that are read off their trees.
-use Rattle.std.proofs.Common.{◌≡◌, ℕ, suc, ◌+◌, ◌<◌, ◌≤◌, true, false, List, [], ◌∷◌, ◌++◌, length, map, drop, get_or}
-use Rattle.std.proofs.Common.{Option, refl, sym, ap, ◌∙◌, subst}
+use Rattle.std.proofs.Common.{◌≡◌, ℕ, ◌+◌, ◌<◌, ◌≤◌, true, List, [], ◌∷◌, ◌++◌, length, map, drop, get_or}
+use Rattle.std.proofs.Common.{Option, Some, None, IfSome, option_map, refl, sym, ap, ◌∙◌, subst, arith}
 use Rattle.std.proofs.lemmas.List.{drop_all}
 use Rattle.ep_int.proofs.Basics.{append-assoc, drop-here}
+use Rattle.ep_int.specs.declared.types.Model.{Model}
+use Rattle.ep_ast.specs.declared.declarations.HeadTree.{HeadTree}
 use Rattle.ep_ast.specs.declared.declarations.ParamTree.{ParamTree}
 use Rattle.ep_ast.specs.declared.declarations.SpecTree.{SpecTree}
 use Rattle.ep_ast.specs.declared.declarations.SpecTree.TheVariants.{Plain}
 use Rattle.ep_ast.specs.declared.expressions.ExprTree.{ExprTree}
+use Rattle.ep_ast.specs.declared.expressions.Literal.{Literal}
 use Rattle.ep_ast.specs.declared.expressions.TypeWordTree.{TypeWordTree}
-use Rattle.ep_ast.specs.Declaration.{Param, Spec, param_of, plain, spec_of}
-use Rattle.ep_ast.specs.Expression.{type_word}
+use Rattle.ep_ast.specs.Declaration.{Members, Spec, aggregate, body, head_of, param_of, plain}
+use Rattle.ep_ast.specs.Declaration.{spec_of}
+use Rattle.ep_ast.specs.Expression.{expr, type_word}
+use Rattle.ep_operands.specs.declared.operand.Operand as code
+use Rattle.ep_operands.specs.declared.operand.Operand.TheVariants as operands
+use Rattle.ep_operands.specs.declared.value.Value.{Value}
+use Rattle.ep_operands.specs.View.{operand, value as value_view}
+use Rattle.ep_typing.specs.declared.types.Base.TheVariants as bases
 use Rattle.ep_typing.specs.declared.types.CType.{CType}
+use Rattle.ep_typing.specs.Constant.{count_of}
 use Rattle.ep_typing.specs.Env.{Env}
-use Rattle.ep_typing.specs.Types.{is_array, is_same, pointer_to}
+use Rattle.ep_typing.specs.Parts.{numbered}
+use Rattle.ep_typing.specs.Types.{is_same, whole, with_stars}
 use Rattle.ep_typing.specs.SameTypes.{same_types}
-use Rattle.ep_typer_arms.specs.Spelled.{IsSpelled, IsSpelledParam, SpellAlike, IsBounded, no_bound, one_bound}
+use Rattle.ep_typer_arms.specs.Spelled.{AreBounds, AreCounts, HasTag, IsBodyOf, IsBoundOf, IsSpelled, IsSpelledParam}
+use Rattle.ep_typer_arms.specs.SpelledView.{bounds_of}
+use Rattle.ep_typer_arms.specs.Spelled.{IsTagOf, IsWritten, SpellAlike, SpellOne, Spelling, by_body}
+use Rattle.ep_typer_arms.specs.Spelled.{IsSpelledResult, by_words, first_body}
+
+-- ---- bounds
+
+-- counts of the bounds that are left make counts of all
+abbrev pub RestCounts : Model → ℕ → List (Option ExprTree) → List ℕ → Type 0
+RestCounts m i bs done =
+    (ns : List ℕ) → AreCounts m (map (option_map expr) (drop i bs)) ns → AreCounts m (map (option_map expr) bs) (done ++ ns)
+
+pub one_count : (m : Model) (bs : List (Option ExprTree)) (i n : ℕ) (b : Option ExprTree) (old new : List ℕ)
+    → RestCounts m i bs old → i < length bs → b ≡ get_or bs i b → IsBoundOf m (option_map expr b) n → new ≡ old ++ n ∷ []
+    → RestCounts m (i + 1) bs new
+one_count m bs i n b old new rest l here is pushed ns counts =
+    let all = rest (n ∷ ns)
+    (subst (λ (us : List (Option ExprTree)). AreCounts m (map (option_map expr) us) (n ∷ ns)) (sym (drop-here i bs b b l here))
+    (is, counts)) in
+    subst (AreCounts m (map (option_map expr) bs))
+    (sym (append-assoc old (n ∷ []) ns) ∙ sym (ap (λ (ks : List ℕ). ks ++ ns) pushed)) all
+
+pub all_counts : (m : Model) (bs : List (Option ExprTree)) (i : ℕ) (done : List ℕ) → RestCounts m i bs done → length bs ≤ i
+    → AreCounts m (map (option_map expr) bs) done
+all_counts m bs i done rest l =
+    subst (AreCounts m (map (option_map expr) bs)) (no_more done)
+    (rest [] (subst (λ (us : List (Option ExprTree)). AreCounts m (map (option_map expr) us) []) (sym (drop_all i bs l)) tt))
+  where
+    no_more : (ns : List ℕ) → ns ++ [] ≡ ns
+    no_more [] = refl
+    no_more (n ∷ ns) = ap (λ (ks : List ℕ). n ∷ ks) (no_more ns)
+
+pub no_bound : (m : Model) (bs : List (Option ExprTree)) → length bs ≡ 0 → AreBounds m (map (option_map expr) bs) None
+no_bound m [] e = tt
+no_bound m (b ∷ bs) e = absurd (omega (arith, e))
+
+pub some_bounds : (m : Model) (bs rest : List (Option ExprTree)) (ns : List ℕ) → (length bs ≡ 0 → ⊥) → rest ≡ drop 1 bs
+    → AreCounts m (map (option_map expr) rest) ns
+    → AreBounds m (map (option_map expr) bs) (bounds_of (length bs) ns)
+some_bounds m [] rest ns e same c = absurd (e refl)
+some_bounds m (b ∷ bs) rest ns e same c =
+    subst (λ (us : List (Option ExprTree)). AreCounts m (map (option_map expr) us) ns) same c
+
+-- a number as it is written
+pub written_is : (m k : Model) (n : Literal) (x : code.Operand) (v : Value) (r : Option ℕ) → k ≡ m
+    → operand x ≡ numbered k n → x ≡ operands.Value v → r ≡ count_of (value_view v) → IfSome r (IsWritten m n)
+written_is m k n x v None same e f c = tt
+written_is m k n x v (Some j) same e f c =
+    (value_view v, sym (ap (λ (a : Model). numbered a n) same) ∙ sym e ∙ ap operand f, sym c)
 
 -- ---- parameters
 
-many : {X Y : Type 0} (f : X → Y) (xs : List X) → length (map f xs) ≡ length xs
-many f [] = refl
-many f (x ∷ xs) = ap suc (many f xs)
-
-pub none_bounded : (c : CType) (n : ℕ) → n ≡ 0 → is_array c ≡ false → IsBounded c n c
-none_bounded c n e a = subst (λ (k : ℕ). IsBounded c k c) (sym e) (no_bound a)
-
-pub one_bounded : (c d : CType) (n : ℕ) → n ≡ 1 → d ≡ pointer_to c → IsBounded c n d
-one_bounded c d n e p = subst (IsBounded c n) (sym p) (subst (λ (k : ℕ). IsBounded c k (pointer_to c)) (sym e) one_bound)
-
 pub spelled_tree : (G : Env) (t : ParamTree) (vs : List TypeWordTree) (ns : List ℕ) (bs : List (Option ExprTree))
-    → vs ≡ t.specs.items → ns ≡ t.stars.items → bs ≡ t.bounds.items → (c d : CType)
-    → IsSpelled G (map type_word vs) (length ns) c → IsBounded c (length bs) d → IsSpelledParam G (param_of t) d
-spelled_tree G t vs ns bs words stars bounds c d spelled bounded = (
-  c,
-  subst (λ (ks : List ℕ). IsSpelled G (map type_word t.specs.items) (length ks) c) stars
-      (subst (λ (us : List TypeWordTree). IsSpelled G (map type_word us) (length ns) c) words spelled),
-  subst (λ (n : ℕ). IsBounded c n d) (ap length bounds ∙ sym (many _ t.bounds.items)) bounded,
+    → vs ≡ t.specs.items → ns ≡ t.stars.items → bs ≡ t.bounds.items → (c : CType) (s : Spelling)
+    → IsSpelled G (map type_word vs) (length ns) c → s.0 ≡ c
+    → AreBounds G.types.model (map (option_map expr) bs) s.1 → IsSpelledParam G (param_of t) s
+spelled_tree G t vs ns bs words stars bounds c s spelled same counts = (
+  subst (λ (ks : List ℕ). IsSpelled G (map type_word t.specs.items) (length ks) s.0) stars
+      (subst (λ (us : List TypeWordTree). IsSpelled G (map type_word us) (length ns) s.0) words
+      (subst (IsSpelled G (map type_word vs) (length ns)) (sym same) spelled)),
+  subst (λ (xs : List (Option ExprTree)). AreBounds G.types.model (map (option_map expr) xs) s.1) bounds counts,
 )
 
 -- what is read off twice as one type
 pub same_spelling : (P Q : CType → Type 0) (c d : CType) → P c → Q d → is_same c d ≡ true → (e : CType) × P e × Q e
 same_spelling P Q c d p q e = (d, subst P (same_types c d e) p, q)
+
+pub same_reading : (P Q : Spelling → Type 0) (s t : Spelling) → P s → Q t → s ≡ t → (u : Spelling) × P u × Q u
+same_reading P Q s t p q e = (t, subst P e p, q)
+
+pub same_parts : (c d : CType) (i j : ℕ) (xs ys : List ℕ) → i ≡ j → xs ≡ ys → is_same c d ≡ true
+    → ◌≡◌ {A = Spelling} (c, bounds_of i xs) (d, bounds_of j ys)
+same_parts c d i j xs ys e f g =
+    ap (λ (x : CType). (x, bounds_of i xs)) (same_types c d g) ∙ ap (λ (k : ℕ). (d, bounds_of k xs)) e
+    ∙ ap (λ (ns : List ℕ). (d, bounds_of j ns)) f
+
+-- ---- bodies
+
+-- what is found behind words is found from the first one on
+abbrev pub SameBody : Env → ℕ → List SpecTree → Type 0
+SameBody G i ss = (a : ℕ) → IsBodyOf G (map spec_of (drop i ss)) a → IsBodyOf G (map spec_of ss) a
+
+pub behind_word : (G : Env) (ss : List SpecTree) (i : ℕ) (s : SpecTree) (w : TypeWordTree) → SameBody G i ss → i < length ss
+    → s ≡ get_or ss i s → s ≡ Plain w → SameBody G (i + 1) ss
+behind_word G ss i s w same l here is a found =
+    let at : drop i ss ≡ Plain w ∷ drop (i + 1) ss =
+    drop-here i ss s s l here ∙ ap (λ (x : SpecTree). x ∷ drop (i + 1) ss) is in
+    same a (subst (λ (us : List SpecTree). IsBodyOf G (map spec_of us) a) (sym at) found)
+
+pub at_body : (G : Env) (ss : List SpecTree) (i : ℕ) (s : SpecTree) (l w : ℕ) (t : Option (List ℕ)) (ms : Members) (a : ℕ)
+    → SameBody G i ss → i < length ss → s ≡ get_or ss i s → spec_of s ≡ body (aggregate l w t ms) → IsTagOf G t a
+    → IsBodyOf G (map spec_of ss) a
+at_body G ss i s l w t ms a same m here is found =
+    let at : map spec_of (drop i ss) ≡ body (aggregate l w t ms) ∷ map spec_of (drop (i + 1) ss) =
+    ap (map spec_of) (drop-here i ss s s m here) ∙ ap (λ (x : Spec). x ∷ map spec_of (drop (i + 1) ss)) is in
+    same a (subst (λ (us : List Spec). HasTag G (first_body us) a) (sym at) found)
 
 -- ---- the words of a result
 
@@ -74,17 +154,32 @@ pub all_plain : (specs : List SpecTree) (i : ℕ) (ws : List TypeWordTree)
 all_plain specs i ws h l =
     sym h ∙ ap (λ (ss : List SpecTree). plains ws ++ map spec_of ss) (drop_all i specs l) ∙ none_behind (plains ws)
 
--- ---- parameters side by side
+-- ---- results
 
-abbrev pub OneSpelling : Env → Param → Param → Type 0
-OneSpelling G p q = (c : CType) × IsSpelledParam G p c × IsSpelledParam G q c
+pub result_by_words : (G : Env) (t : HeadTree) (ss : List SpecTree) (ns : List ℕ) (ws vs : List TypeWordTree)
+    (r : Option CType) → ss ≡ t.specs.items → ns ≡ t.stars.items → vs ≡ ws → map spec_of ss ≡ plains ws
+    → IfSome r (IsSpelled G (map type_word vs) (length ns)) → IfSome r (IsSpelledResult G (head_of t))
+result_by_words G t ss ns ws vs None specs stars same words s = tt
+result_by_words G t ss ns ws vs (Some c) specs stars same words s =
+    by_words (map type_word vs) (sym (ap (map spec_of) specs) ∙ words ∙ sym (ap plains same))
+    (subst (λ (ks : List ℕ). IsSpelled G (map type_word vs) (length ks) c) stars s)
+
+pub result_by_body : (G : Env) (t : HeadTree) (ss : List SpecTree) (ns : List ℕ) (a : ℕ) (r : Option CType) → ss ≡ t.specs.items
+    → ns ≡ t.stars.items → IsBodyOf G (map spec_of ss) a
+    → IfSome r (λ (c : CType). with_stars (whole (bases.Aggregate a)) (length ns) ≡ c) → IfSome r (IsSpelledResult G (head_of t))
+result_by_body G t ss ns a None specs stars found s = tt
+result_by_body G t ss ns a (Some c) specs stars found s =
+    by_body a (subst (λ (us : List SpecTree). IsBodyOf G (map spec_of us) a) specs found)
+    (subst (λ (ks : List ℕ). with_stars (whole (bases.Aggregate a)) (length ks) ≡ c) stars s)
+
+-- ---- parameters side by side
 
 abbrev pub Left : Env → ℕ → List ParamTree → List ParamTree → Type 0
 Left G i ps qs =
     SpellAlike G (map param_of (drop i ps)) (map param_of (drop i qs)) → SpellAlike G (map param_of ps) (map param_of qs)
 
 pub one_alike : (G : Env) (ps qs : List ParamTree) (i : ℕ) (p q d : ParamTree) → i < length ps → i < length qs
-    → p ≡ get_or ps i p → q ≡ get_or qs i d → OneSpelling G (param_of p) (param_of q) → Left G i ps qs
+    → p ≡ get_or ps i p → q ≡ get_or qs i d → SpellOne G (param_of p) (param_of q) → Left G i ps qs
     → Left G (i + 1) ps qs
 one_alike G ps qs i p q d l m here there one left rest =
     left (subst (λ (us : List ParamTree). SpellAlike G (map param_of us) (map param_of (drop i qs)))

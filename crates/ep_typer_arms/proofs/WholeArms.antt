@@ -8,8 +8,9 @@ use Rattle.ep_ast.specs.Statement.{Function}
 use Rattle.ep_typing.specs.Env.{Env}
 use Rattle.ep_typing.specs.Results.{◌>>=◌, at}
 use Rattle.ep_operands.specs.Refinement.{Stops}
-use Rattle.ep_elaboration.specs.Functions.{Body, Defined, agreeing, all_joined, arms_agree, arms_defined}
-use Rattle.ep_elaboration.specs.Functions.{functions_defined, others_typed}
+use Rattle.ep_elaboration.specs.Functions.{Body, Defined, all_joined}
+use Rattle.ep_elaboration.specs.FunctionSteps.{agreeing, arms_agree, arms_defined}
+use Rattle.ep_elaboration.specs.FunctionSteps.{functions_defined, others_typed}
 use Rattle.ep_typer_arms.specs.FileEnvironments.{first_arm}
 
 module _ (G : Env) (ds : List ℕ) (l : ℕ) (o : NamedOrder) (fs gs : List Function) where

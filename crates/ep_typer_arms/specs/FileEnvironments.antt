@@ -5,8 +5,10 @@ use Rattle.ep_ast.specs.declared.refusals.Refusal.{Refusal}
 use Rattle.ep_ast.specs.Statement.{Function, Item}
 use Rattle.ep_typing.specs.Env.{Env}
 use Rattle.ep_typing.specs.Results.{◌>>=◌}
-use Rattle.ep_elaboration.specs.Functions.{Defined, functions_defined}
-use Rattle.ep_elaboration.specs.Programs.{Sofar, begun, items}
+use Rattle.ep_elaboration.specs.Functions.{Defined}
+use Rattle.ep_elaboration.specs.FunctionSteps.{functions_defined}
+use Rattle.ep_elaboration.specs.Programs.{Sofar, begun}
+use Rattle.ep_elaboration.specs.ProgramSteps.{items}
 
 -- some items of a text come to this
 abbrev pub IsBehind : Sofar → Type 0

@@ -1,2 +1,3 @@
 pub mod FileEnvironments
 pub mod Spelled
+pub mod SpelledView

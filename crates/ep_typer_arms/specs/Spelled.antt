@@ -1,40 +1,95 @@
 -- Types that heads spell out: read off their words where those declare nothing, without a change of the table.
-use Rattle.std.specs.Prelude.{◌≡◌, ℕ, List, [], ◌∷◌, length, map, false, Ok}
-use Rattle.ep_ast.specs.Expression.{TypeWord}
-use Rattle.ep_ast.specs.Declaration.{Head, Param, plain}
+use Rattle.std.specs.Prelude.{◌≡◌, ℕ, List, [], ◌∷◌, length, map, Option, Some, None, Ok}
+use Rattle.ep_ast.specs.declared.expressions.Literal.{Literal}
+use Rattle.ep_ast.specs.Expression.{Expr, TypeWord, number}
+use Rattle.ep_ast.specs.Declaration.{Aggregate, Head, Param, Spec, aggregate, body, plain}
+use Rattle.ep_int.specs.declared.types.Model.{Model}
+use Rattle.ep_scopes.specs.View.{innermost}
+use Rattle.ep_typing.specs.declared.types.Base.TheVariants as bases
 use Rattle.ep_typing.specs.declared.types.CType.{CType}
-use Rattle.ep_typing.specs.Env.{Env}
+use Rattle.ep_typing.specs.Constant.{count_of}
+use Rattle.ep_typing.specs.Env.{Env, entry}
 use Rattle.ep_typing.specs.Names.{words_type}
-use Rattle.ep_typing.specs.Types.{is_array, pointer_to, with_stars}
+use Rattle.ep_typing.specs.Operand.{Value, value}
+use Rattle.ep_typing.specs.Parts.{numbered}
+use Rattle.ep_typing.specs.Types.{whole, with_stars}
 use Rattle.ep_elaboration.specs.Functions.{params_of}
 
 -- words that mean a type as they stand, with so many stars
 abbrev pub IsSpelled : Env → List TypeWord → (stars : ℕ) → CType → Type 0
 IsSpelled G ws n c = (d : CType) × (words_type G ws ≡ Ok d) × (with_stars d n ≡ c)
 
--- A parameter without a bound is of the type that is spelled, unless that is an array; with one it is a pointer to what
--- is spelled (C11 6.7.6.3p7).
-pub data IsBounded : CType → (bounds : ℕ) → CType → Type 0 where
-  no_bound : {c : CType} → is_array c ≡ false → IsBounded c 0 c
-  one_bound : {c : CType} → IsBounded c 1 (pointer_to c)
+-- ---- parameters
 
-abbrev pub IsSpelledParam : Env → Param → CType → Type 0
-IsSpelledParam G p d =
-    (c : CType) × IsSpelled G p.words (length p.stars) c × IsBounded c (length p.bounds) d
+-- a number as it is written is a bound of so many
+abbrev pub IsWritten : Model → Literal → ℕ → Type 0
+IsWritten m n k = (v : Value) × (numbered m n ≡ value v) × (count_of v ≡ Some k)
 
-abbrev pub AreSpelled : Env → List Param → List CType → Type 0
+pub data IsCount (m : Model) : Expr → ℕ → Type 0 where
+  is_count : {l : ℕ} {n : Literal} {k : ℕ} → IsWritten m n k → IsCount m (number l n) k
+
+abbrev pub IsBoundOf : Model → Option Expr → ℕ → Type 0
+IsBoundOf m None k = ⊥
+IsBoundOf m (Some e) k = IsCount m e k
+
+abbrev pub AreCounts : Model → List (Option Expr) → List ℕ → Type 0
+AreCounts m [] [] = Unit {0}
+AreCounts m [] (n ∷ ns) = ⊥
+AreCounts m (b ∷ bs) [] = ⊥
+AreCounts m (b ∷ bs) (n ∷ ns) = IsBoundOf m b n × AreCounts m bs ns
+
+-- What a parameter spells: a type; and where it is a pointer to that or to arrays of it, the bounds of these.
+abbrev pub Spelling : Type 0
+Spelling = CType × Option (List ℕ)
+
+-- the first bound doesn't count (C11 6.7.6.3p7)
+abbrev pub AreBounds : Model → List (Option Expr) → Option (List ℕ) → Type 0
+AreBounds m [] None = Unit {0}
+AreBounds m [] (Some ns) = ⊥
+AreBounds m (b ∷ bs) None = ⊥
+AreBounds m (b ∷ bs) (Some ns) = AreCounts m bs ns
+
+abbrev pub IsSpelledParam : Env → Param → Spelling → Type 0
+IsSpelledParam G p s = IsSpelled G p.words (length p.stars) s.0 × AreBounds G.types.model p.bounds s.1
+
+abbrev pub AreSpelled : Env → List Param → List Spelling → Type 0
 AreSpelled G [] [] = Unit {0}
-AreSpelled G [] (c ∷ cs) = ⊥
+AreSpelled G [] (s ∷ ss) = ⊥
 AreSpelled G (p ∷ ps) [] = ⊥
-AreSpelled G (p ∷ ps) (c ∷ cs) = IsSpelledParam G p c × AreSpelled G ps cs
+AreSpelled G (p ∷ ps) (s ∷ ss) = IsSpelledParam G p s × AreSpelled G ps ss
 
--- the words of a result are no body
-abbrev pub IsSpelledResult : Env → Head → CType → Type 0
-IsSpelledResult G h c = (ws : List TypeWord) × (h.specs ≡ map plain ws) × IsSpelled G ws (length h.stars) c
+abbrev pub SpellOne : Env → Param → Param → Type 0
+SpellOne G p q = (s : Spelling) × IsSpelledParam G p s × IsSpelledParam G q s
 
 -- parameters that spell the same types
 abbrev pub SpellAlike : Env → List Param → List Param → Type 0
-SpellAlike G ps qs = (cs : List CType) × AreSpelled G ps cs × AreSpelled G qs cs
+SpellAlike G ps qs = (ss : List Spelling) × AreSpelled G ps ss × AreSpelled G qs ss
+
+-- ---- results
+
+abbrev pub first_body : List Spec → Option Aggregate
+first_body [] = None
+first_body (plain w ∷ ss) = first_body ss
+first_body (body a ∷ ss) = Some a
+
+-- a tag of the innermost scope
+abbrev pub IsTagOf : Env → Option (List ℕ) → (aggregate : ℕ) → Type 0
+IsTagOf G None a = ⊥
+IsTagOf G (Some t) a = entry t (innermost G.scopes).tags ≡ Some a
+
+abbrev pub HasTag : Env → Option Aggregate → (aggregate : ℕ) → Type 0
+HasTag G None a = ⊥
+HasTag G (Some (aggregate l w t ms)) a = IsTagOf G t a
+
+-- the words have a body, whose tag is that of an aggregate of the innermost scope
+abbrev pub IsBodyOf : Env → List Spec → (aggregate : ℕ) → Type 0
+IsBodyOf G ss a = HasTag G (first_body ss) a
+
+-- the words of a result are no body, or they are one of an aggregate that was mentioned before
+pub data IsSpelledResult (G : Env) (h : Head) (c : CType) : Type 0 where
+  by_words : (ws : List TypeWord) → h.specs ≡ map plain ws → IsSpelled G ws (length h.stars) c → IsSpelledResult G h c
+  by_body : (a : ℕ) → IsBodyOf G h.specs a → with_stars (whole (bases.Aggregate a)) (length h.stars) ≡ c
+      → IsSpelledResult G h c
 
 -- heads that spell one type
 pub record HeadsSpellAlike (G : Env) (h k : Head) : Type 0 where

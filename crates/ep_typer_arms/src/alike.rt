@@ -7,6 +7,7 @@ ghost use Rattle.ep_typing.specs.Env.{Env as Around};
 ghost use Rattle.ep_declared.specs.Refinement.{RefinesIn};
 ghost use Rattle.ep_elaboration.specs.Declarators.{with_types};
 ghost use Rattle.ep_elaboration.specs.Functions as rule;
+ghost use Rattle.ep_elaboration.specs.FunctionSteps as steps;
 ghost use Rattle.ep_scopes.specs.Known.{IsKnownEnv};
 ghost use Rattle.ep_scopes.specs.View.{env as env_view};
 ghost use Rattle.ep_typer_arms.specs.FileEnvironments.{IsFileEnv};
@@ -24,7 +25,7 @@ use ep_typer_functions::{Done, function_declared, headed, is_same_signature, nex
 fn stands_alone(env: &mut Env, done: &Done, head: &HeadTree) -> Result<FunctionType, Halt>
     requires { IsKnownEnv (env_view env.old) }
     ensures { (ds : List ℕ) → AreDone done.now ds
-        → RefinesIn headed_view (rule.stands_alone (env_view env.old) ds (head_of head.now))
+        → RefinesIn headed_view (steps.stands_alone (env_view env.old) ds (head_of head.now))
         (with_types (env_view env.old) (env_view env.new).types) result }
 {
     let block = next_block(env)?;
@@ -52,8 +53,8 @@ fn is_alike(
 ) -> Result<bool, Memory>
     requires { IsKnownEnv (env_view env.old) }
     ensures { (ds : List ℕ) → AreDone done.now ds → (h : Head) → (G : Around)
-        → IfOk result (λ b. b ≡ rule.is_alike h (headed_view ty.now, G) (head_of second.now)
-        (rule.stands_alone (env_view env.old) ds (head_of second.now))) }
+        → IfOk result (λ b. b ≡ steps.is_alike h (headed_view ty.now, G) (head_of second.now)
+        (steps.stands_alone (env_view env.old) ds (head_of second.now))) }
 {
     match stands_alone(env, done, second) {
         Ok(other) => Ok(is_same_signature(ty, &other)),
@@ -69,7 +70,7 @@ fn are_alike(env: &Env, done: &Done, first: &HeadTree, second: &HeadTree) -> Res
     requires known { IsKnownEnv (env_view env.now) }
     requires file { IsFileEnv (env_view env.now) }
     ensures { (ds : List ℕ) → AreDone done.now ds
-        → IfOk result (λ b. b ≡ rule.are_alike (env_view env.now) ds (head_of first.now) (head_of second.now)) }
+        → IfOk result (λ b. b ≡ steps.are_alike (env_view env.now) ds (head_of first.now) (head_of second.now)) }
 {
     if heads_spell_alike(env, first, second) {
         return Ok(true);
@@ -92,7 +93,7 @@ fn heads_agree(env: &Env, done: &Done, first: &HeadTree, second: &HeadTree) -> R
     requires file { IsFileEnv (env_view env.now) }
     ensures { (ds : List ℕ) → AreDone done.now ds
         → IfOk result (λ b. b ≡ (rule.are_named_alike (head_of first.now) (head_of second.now)
-        && rule.are_alike (env_view env.now) ds (head_of first.now) (head_of second.now))) }
+        && steps.are_alike (env_view env.now) ds (head_of first.now) (head_of second.now))) }
 {
     if !are_named_alike(first, second) {
         return Ok(false);
@@ -110,7 +111,7 @@ pub(crate) fn arms_agree(
     requires known { IsKnownEnv (env_view env.now) }
     requires file { IsFileEnv (env_view env.now) }
     ensures { (ds : List ℕ) → AreDone done.now ds → IfOk result (λ b. b
-        ≡ rule.arms_agree (env_view env.now) ds (map function_of first.now) (map function_of second.now)) }
+        ≡ steps.arms_agree (env_view env.now) ds (map function_of first.now) (map function_of second.now)) }
 {
     if first.len() != second.len() {
         return Ok(false);

@@ -5,6 +5,7 @@ ghost use Rattle.ep_ast.specs.Statement.{function_of};
 ghost use Rattle.ep_declared.specs.Refinement.{RefinesIn};
 ghost use Rattle.ep_defined.specs.View.{defined as defined_view};
 ghost use Rattle.ep_elaboration.specs.Functions as rule;
+ghost use Rattle.ep_elaboration.specs.FunctionSteps as steps;
 ghost use Rattle.ep_scopes.specs.Known.{IsKnownEnv};
 ghost use Rattle.ep_scopes.specs.View.{env as env_view};
 ghost use Rattle.ep_typer_arms.specs.FileEnvironments.{IsFileEnv, first_arm};
@@ -27,7 +28,7 @@ fn functions_defined(
 ) -> Result<Vec<Defined>, Halt>
     requires { IsKnownEnv (env_view env.old) }
     ensures means { (ds : List ℕ) → AreDone done.now ds → RefinesIn (λ v. map defined_view v.items)
-        (rule.functions_defined (env_view env.old) ds (map function_of list.now)) (env_view env.new) result }
+        (steps.functions_defined (env_view env.old) ds (map function_of list.now)) (env_view env.new) result }
     ensures known { OnOk result (IsKnownEnv (env_view env.new)) }
 {
     let mut marked = done.copy(env.alloc)?;
@@ -73,7 +74,7 @@ fn others_typed(
 ) -> Result<Vec<Body>, Halt>
     requires { IsKnownEnv (env_view env.old) }
     ensures means { (ds : List ℕ) → AreDone done.now ds → RefinesIn (λ v. map bodies.body v.items)
-        (rule.others_typed (env_view env.old) ds (map defined_view defined.now) (map function_of list.now))
+        (steps.others_typed (env_view env.old) ds (map defined_view defined.now) (map function_of list.now))
         (env_view env.new) result }
     ensures known { OnOk result (IsKnownEnv (env_view env.new)) }
 {
@@ -100,7 +101,7 @@ pub fn arms_defined(
     requires known { IsKnownEnv (env_view env.old) }
     requires file { IsFileEnv (env_view env.old) }
     ensures means { (ds : List ℕ) → AreDone done.now ds
-        → RefinesIn (λ v. map defined_view v.items) (rule.arms_defined (env_view env.old) ds line order
+        → RefinesIn (λ v. map defined_view v.items) (steps.arms_defined (env_view env.old) ds line order
         (map function_of first.now) (map function_of second.now)) (env_view env.new) result }
     ensures known { OnOk result (IsKnownEnv (env_view env.new)) }
 {

@@ -1,6 +1,6 @@
 use Rattle.std.proofs.Common.{◌≡◌, ℕ, List, drop, map}
 use Rattle.ep_ast.specs.Statement.{function_of}
-use Rattle.ep_elaboration.specs.Functions.{arms_agree}
+use Rattle.ep_elaboration.specs.FunctionSteps.{arms_agree}
 use Rattle.ep_scopes.specs.View.{env}
 use Rattle.ep_typer_functions.specs.View.{AreDone}
 use Rattle.ep_typer_arms.proofs.alike.arms_agree.Given as goal

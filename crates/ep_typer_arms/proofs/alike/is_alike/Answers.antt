@@ -1,6 +1,6 @@
 use Rattle.std.proofs.Common.{sym, ap, ◌∙◌}
 use Rattle.ep_ast.specs.Declaration.{head_of}
-use Rattle.ep_elaboration.specs.Functions.{is_alike}
+use Rattle.ep_elaboration.specs.FunctionSteps.{is_alike}
 use Rattle.ep_typer_functions.specs.View.{headed}
 use Rattle.ep_typer_arms.proofs.alike.is_alike.Goals as goal
 

@@ -3,7 +3,7 @@ use Rattle.std.proofs.lemmas.Result.{err_from_is_err_and}
 use Rattle.ep_ast.specs.Statement.{function_of}
 use Rattle.ep_defined.specs.declared.sofar.Defined.{Defined}
 use Rattle.ep_defined.specs.View.{defined}
-use Rattle.ep_elaboration.specs.Functions.{others_typed}
+use Rattle.ep_elaboration.specs.FunctionSteps.{others_typed}
 use Rattle.ep_operands.specs.Refinement.{Stops}
 use Rattle.ep_scopes.specs.View.{env}
 use Rattle.ep_typer_functions.specs.BodyView.{body}
