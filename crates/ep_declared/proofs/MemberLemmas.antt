@@ -18,7 +18,8 @@ use Rattle.ep_typing.specs.declared.types.CType.{CType}
 use Rattle.ep_typing.specs.Env.{Env, entry}
 use Rattle.ep_typing.specs.Results.{◌>>=◌, at}
 use Rattle.ep_elaboration.specs.Aggregates.{Named, member_declared, members_declared, sized_member, with_member}
-use Rattle.ep_elaboration.specs.Declarators.{arrays_of, type_declared, types_declared}
+use Rattle.ep_elaboration.specs.Declarators.{arrays_of}
+use Rattle.ep_elaboration.specs.ProgramSteps.{type_declared, types_declared}
 use Rattle.ep_operands.specs.Refinement.{Stops}
 use Rattle.ep_declared.specs.Open.{AreTypes}
 

@@ -29,6 +29,7 @@ pub(crate) struct Named {
 }
 
 impl Named {
+    /// No members yet.
     pub fn new(alloc: Global) -> Named
         ensures { view.named result ≡ [] }
     {
@@ -52,12 +53,14 @@ impl Named {
         Ok(())
     }
 
+    /// Whether there are no members.
     pub fn is_empty(&self) -> bool
         ensures { IsTrue result ↔ (view.named self.now ≡ []) }
     {
         self.types.is_empty()
     }
 
+    /// The members' names and types, in their order.
     pub fn into_list(self, alloc: Global) -> Result<Vec<(Vec<u8>, u32)>, AllocError>
         ensures { IfOk result (λ v. named_view v.items ≡ view.named self) }
     {

@@ -5,6 +5,7 @@ ghost use Rattle.ep_ast.specs.Declaration.{declarator};
 ghost use Rattle.ep_layout.specs.Table.{Grows};
 ghost use Rattle.ep_typing.specs.Results.{at};
 ghost use Rattle.ep_elaboration.specs.Declarators as rule;
+ghost use Rattle.ep_elaboration.specs.ProgramSteps as steps;
 ghost use Rattle.ep_declared.specs.Refinement.{Adds};
 ghost use Rattle.ep_declared.specs.Open.{Follows};
 ghost use Rattle.ep_scopes.specs.Known.{IsKnown, IsKnownEnv};
@@ -40,11 +41,11 @@ fn declared_type(
     Ok(())
 }
 
-#[tactic(auto, unfolding(ep_elaboration::specs::Declarators::type_declared))]
+#[tactic(auto, unfolding(ep_elaboration::specs::ProgramSteps::type_declared))]
 fn type_declared(env: &mut Env, c: CType, d: &DeclaratorTree) -> Result<(), Halt>
     requires known { IsKnownEnv (env_view env.old) }
     requires inside { IsKnown (env_view env.old).types c }
-    ensures means { Adds (rule.type_declared (env_view env.old) c (declarator d.now)) (env_view env.new) result }
+    ensures means { Adds (steps.type_declared (env_view env.old) c (declarator d.now)) (env_view env.new) result }
     ensures after { OnOk result (Follows (env_view env.old) (env_view env.new)) }
 {
     let counts = bounds(env, d.line, &d.bounds)?;
@@ -57,7 +58,7 @@ fn type_declared(env: &mut Env, c: CType, d: &DeclaratorTree) -> Result<(), Halt
 pub fn types_declared(env: &mut Env, c: CType, list: &[DeclaratorTree]) -> Result<(), Halt>
     requires known { IsKnownEnv (env_view env.old) }
     requires inside { IsKnown (env_view env.old).types c }
-    ensures means { Adds (rule.types_declared (env_view env.old) c (map declarator list.now))
+    ensures means { Adds (steps.types_declared (env_view env.old) c (map declarator list.now))
         (env_view env.new) result }
     ensures known { OnOk result (IsKnownEnv (env_view env.new)) }
     ensures grown { OnOk result (Grows (env_view env.old).types (env_view env.new).types) }

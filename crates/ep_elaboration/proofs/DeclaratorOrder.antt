@@ -9,7 +9,8 @@ use Rattle.ep_ast.specs.declared.refusals.Refusal.{Refusal}
 use Rattle.ep_elaboration.specs.Aggregates.{Named, all_members, body_declared, closed, member_declared}
 use Rattle.ep_elaboration.specs.Aggregates.{members_declared, opened, specs_declared, with_member, words_declared}
 use Rattle.ep_elaboration.specs.Declarators.{Object, bound, bounds, counted, declared_object, declared_type}
-use Rattle.ep_elaboration.specs.Declarators.{object_bounds, object_declared, type_declared, types_declared}
+use Rattle.ep_elaboration.specs.Declarators.{object_bounds, object_declared}
+use Rattle.ep_elaboration.specs.ProgramSteps.{type_declared, types_declared}
 use Rattle.ep_elaboration.specs.DeclaratorRules.{MeansBody, MeansBound}
 use Rattle.ep_elaboration.specs.DeclaratorOffences.{BodyOffends, BoundOffends, BoundsOffend}
 use Rattle.ep_elaboration.specs.DeclaratorRules.{MeansBounds, MeansMemberName, MeansMemberNames, MeansMembers}

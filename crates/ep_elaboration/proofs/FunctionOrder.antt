@@ -10,12 +10,16 @@ use Rattle.ep_ast.specs.declared.orders.NamedOrder.{NamedOrder}
 use Rattle.ep_ast.specs.declared.refusals.Refusal.{Refusal}
 use Rattle.ep_elaboration.specs.Aggregates.{specs_declared, words_declared}
 use Rattle.ep_elaboration.specs.Declarators.{bound, bounds, with_types}
-use Rattle.ep_elaboration.specs.Functions.{Body, Defined, Headed, Typed, agreeing, are_alike, are_named_alike}
-use Rattle.ep_elaboration.specs.Functions.{are_typed_alike, arms_agree, arms_defined, is_alike, is_same_signature}
-use Rattle.ep_elaboration.specs.Functions.{stands_alone}
+use Rattle.ep_elaboration.specs.Functions.{Body, Defined, Headed, Typed, are_named_alike}
+use Rattle.ep_elaboration.specs.FunctionSteps.{agreeing, are_alike}
+use Rattle.ep_elaboration.specs.Functions.{is_same_signature}
+use Rattle.ep_elaboration.specs.FunctionSteps.{are_typed_alike, arms_agree, arms_defined, is_alike}
+use Rattle.ep_elaboration.specs.FunctionSteps.{stands_alone}
 use Rattle.ep_elaboration.specs.Functions.{behind_result, blocks_if, body_env, first_block, function_declared}
-use Rattle.ep_elaboration.specs.Functions.{function_defined, function_typed, functions_defined, given_back, headed}
-use Rattle.ep_elaboration.specs.Functions.{others_typed, param_bounds, param_declared, params_declared, params_of}
+use Rattle.ep_elaboration.specs.Functions.{given_back, headed}
+use Rattle.ep_elaboration.specs.FunctionSteps.{function_defined, function_typed, functions_defined}
+use Rattle.ep_elaboration.specs.Functions.{param_bounds, param_declared, params_declared, params_of}
+use Rattle.ep_elaboration.specs.FunctionSteps.{others_typed}
 use Rattle.ep_elaboration.specs.Functions.{prototype, rest_of, results, signature_of, with_param}
 use Rattle.ep_elaboration.specs.Statements.{entered, innermost, left, parts}
 use Rattle.ep_elaboration.specs.FunctionRules.{ArmsAgree}

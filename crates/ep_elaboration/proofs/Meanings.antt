@@ -4,7 +4,7 @@ use Rattle.ep_int.specs.declared.types.Model.{Model}
 use Rattle.ep_ast.specs.declared.refusals.Refusal.{Refusal}
 use Rattle.ep_ast.specs.Statement.{Item}
 use Rattle.ep_core.specs.Program.{Program}
-use Rattle.ep_elaboration.specs.Programs.{elaborated}
+use Rattle.ep_elaboration.specs.ProgramSteps.{elaborated}
 use Rattle.ep_elaboration.specs.ProgramRules.{MeansProgram}
 use Rattle.ep_elaboration.specs.ProgramOffences.{ProgramOffends}
 use Rattle.ep_elaboration.proofs.ProgramOrder.{means_elaborated, meant_elaborated, refused_elaborated}

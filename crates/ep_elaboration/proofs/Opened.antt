@@ -27,8 +27,9 @@ use Rattle.ep_typing.specs.Typing.{read_first, joined, chosen_from, cast_to, ind
 use Rattle.ep_typing.specs.Typing.{typed_all, test, assignable, not_stored, stored, copied, put, assigned, updated}
 use Rattle.ep_typing.specs.Typing.{taken, call_typed, right_side, assignment, stepped, whole_statement}
 use Rattle.ep_elaboration.specs.Declarators.{bound, bounds, object_bounds, array_of, arrays_of, sized_object}
-use Rattle.ep_elaboration.specs.Declarators.{declared_object, object_declared, declared_type, type_declared}
-use Rattle.ep_elaboration.specs.Declarators.{types_declared}
+use Rattle.ep_elaboration.specs.Declarators.{declared_object, object_declared, declared_type}
+use Rattle.ep_elaboration.specs.ProgramSteps.{type_declared}
+use Rattle.ep_elaboration.specs.ProgramSteps.{types_declared}
 use Rattle.ep_elaboration.specs.Aggregates.{opened, with_member, member_declared, members_declared, words_declared}
 use Rattle.ep_elaboration.specs.Aggregates.{specs_declared, body_declared, all_members}
 use Rattle.ep_elaboration.specs.Given.{first_values, expression_given, value_given, all_given}
@@ -36,10 +37,12 @@ use Rattle.ep_elaboration.specs.Declarations.{initialised, variable_declared, va
 use Rattle.ep_elaboration.specs.Statements.{tested_in, tested_if, evaluated_in, evaluated_if, first_part}
 use Rattle.ep_elaboration.specs.Statements.{nothing_returned, operand_returned, statement, statements, part, parts}
 use Rattle.ep_elaboration.specs.Functions.{param_bounds, param_type, with_param, param_declared, params_declared}
-use Rattle.ep_elaboration.specs.Functions.{headed, function_declared, prototype, function_typed, function_defined}
-use Rattle.ep_elaboration.specs.Functions.{functions_defined, others_typed, are_alike, arms_agree, arms_defined}
+use Rattle.ep_elaboration.specs.Functions.{headed, function_declared, prototype}
+use Rattle.ep_elaboration.specs.FunctionSteps.{function_typed, function_defined}
+use Rattle.ep_elaboration.specs.FunctionSteps.{functions_defined, others_typed, are_alike, arms_agree, arms_defined}
 use Rattle.ep_elaboration.specs.Calls.{reaches, with_function, function_depth}
-use Rattle.ep_elaboration.specs.Programs.{item, items, checked, renumbered_what, renumbered, elaborated}
+use Rattle.ep_elaboration.specs.Programs.{renumbered_what, renumbered}
+use Rattle.ep_elaboration.specs.ProgramSteps.{item, items, checked, elaborated}
 
 -- the kind of a refusal and its line, and 0 for both where nothing is refused
 abbrev pub refused : {A : Type 0} → Result A Refusal → ℕ × ℕ

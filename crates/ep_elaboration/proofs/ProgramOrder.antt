@@ -9,10 +9,13 @@ use Rattle.ep_ast.specs.declared.refusals.Refusal.{Refusal}
 use Rattle.ep_elaboration.specs.Aggregates.{body_declared, specs_declared}
 use Rattle.ep_elaboration.specs.Calls.{CallSite, calls_of, function_depth}
 use Rattle.ep_elaboration.specs.Declarations.{declaration}
-use Rattle.ep_elaboration.specs.Declarators.{types_declared}
-use Rattle.ep_elaboration.specs.Functions.{Defined, arms_defined, function_defined, numbers_of, prototype}
-use Rattle.ep_elaboration.specs.Programs.{Sofar, all_fit, all_have_bodies, begun, checked, elaborated, functions_in}
-use Rattle.ep_elaboration.specs.Programs.{item, items, main_of, none_recurs, not_too_deep, call_sites_of}
+use Rattle.ep_elaboration.specs.ProgramSteps.{types_declared}
+use Rattle.ep_elaboration.specs.Functions.{Defined, numbers_of, prototype}
+use Rattle.ep_elaboration.specs.FunctionSteps.{arms_defined, function_defined}
+use Rattle.ep_elaboration.specs.Programs.{Sofar, all_fit, all_have_bodies, begun, functions_in}
+use Rattle.ep_elaboration.specs.ProgramSteps.{checked, elaborated}
+use Rattle.ep_elaboration.specs.Programs.{main_of, none_recurs, not_too_deep, call_sites_of}
+use Rattle.ep_elaboration.specs.ProgramSteps.{item, items}
 use Rattle.ep_elaboration.specs.ProgramRules.{IsSound, MeansItem, MeansItems}
 use Rattle.ep_elaboration.specs.ProgramOffences.{ItemOffends, ItemsOffend}
 use Rattle.ep_elaboration.specs.ProgramRules.{MeansProgram}

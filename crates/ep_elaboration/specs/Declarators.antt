@@ -139,15 +139,3 @@ named_type_of G t r = Ok (with_name (with_types G r.1) t (type_name r.0))
 unfoldable pub declared_type : Env → List ℕ → CType → List ℕ → Result Env ℕ
 declared_type G t c ns =
     if is_taken t G.scopes then Err kinds.redeclared else arrays_of G.types c ns >>= named_type_of G t
-
--- a typedef, by its declarator and the type of the words before it
-unfoldable pub type_declared : Env → CType → Declarator → Result Env Refusal
-type_declared G c d = do
-  r ← bounds G d.line d.bounds
-  at d.line (declared_type r.1 d.name (with_stars c (length d.stars)) r.0)
-
-unfoldable pub types_declared : Env → CType → List Declarator → Result Env Refusal
-types_declared G c [] = Ok G
-types_declared G c (d ∷ ds) = do
-  H ← type_declared G c d
-  types_declared H c ds

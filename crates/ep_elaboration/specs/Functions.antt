@@ -9,7 +9,7 @@ use Rattle.ep_ast.specs.declared.orders.NamedOrder.{NamedOrder}
 use Rattle.ep_ast.specs.declared.refusals.Refusal.{Refusal}
 use Rattle.ep_ast.specs.Expression as source
 use Rattle.ep_ast.specs.Declaration.{Param, Params, void, some_params, Head, to_specs}
-use Rattle.ep_ast.specs.Statement.{Function, to_parts}
+use Rattle.ep_ast.specs.Statement.{Function}
 use Rattle.ep_layout.specs.Table.{Table}
 use Rattle.ep_core.specs.Program as core
 use Rattle.ep_typing.specs.declared.types.CType.{CType}
@@ -17,12 +17,12 @@ use Rattle.ep_typing.specs.Results.{◌>>=◌, at, needed}
 use Rattle.ep_typing.specs.Types.{c_type_number, element_of, int_type, is_aggregate, is_array, is_same, is_void}
 use Rattle.ep_typing.specs.Types.{pointer_to, scalar_of, size_of_type, with_c_type, with_stars}
 use Rattle.ep_typing.specs.Env as env
-use Rattle.ep_typing.specs.Env.{Env, Meaning, Scope, Signature, entry, no_names}
+use Rattle.ep_typing.specs.Env.{Env, Meaning, Scope, Signature, entry}
 use Rattle.ep_typing.specs.Parts.{built_in}
 use Rattle.ep_typing.specs.Calls.{signature}
 use Rattle.ep_elaboration.specs.Declarators.{arrays_of, bound, bounds, is_taken, with_name, with_types}
 use Rattle.ep_elaboration.specs.Aggregates.{specs_declared, words_declared}
-use Rattle.ep_elaboration.specs.Statements.{blocks_behind, entered, innermost, left, order_of, parts, to_core}
+use Rattle.ep_elaboration.specs.Statements.{entered, innermost, left, order_of}
 
 -- ---- parameters
 
@@ -226,28 +226,6 @@ pub record Typed : Type 0 where
   pub head : Headed
   pub body : Body
 
--- A function's name is known in its body. The blocks of result and parameters come before those of the body, where they
--- are its own.
-unfoldable pub function_typed : Env → (block : ℕ) → (own : Bool) → (defined : List ℕ) → Function
-    → Result (Typed × Env) Refusal
-function_typed G b own defined f = do
-  r ← headed G b f.head
-  n ← at f.head.line (function_declared (left r.1) defined true (signature_of f.head r.0))
-  a ← parts (body_env (blocks_if own n.1 (results r.0 ++ r.0.params)) (innermost r.1)) r.0.result false
-      (to_parts f.body.parts)
-  Ok (
-    record {
-      number = n.0;
-      head = r.0;
-      body = record {
-        line = f.body.line;
-        locals = blocks_behind (length (innermost r.1).names) a.1;
-        stmts = to_core a.0;
-      };
-    },
-    left a.1,
-  )
-
 abbrev pub defined_of : Function → (block : ℕ) → Typed → Defined
 defined_of f b r = record {
   number = r.number;
@@ -262,23 +240,10 @@ defined_of f b r = record {
   };
 }
 
-unfoldable pub function_defined : Env → (defined : List ℕ) → Function → Result (Defined × Env) Refusal
-function_defined G defined f = do
-  r ← function_typed G (length G.blocks) true defined f
-  Ok (defined_of f (length G.blocks) r.0, r.1)
-
 abbrev pub numbers_of : List Defined → List ℕ
 numbers_of ds = map (λ (d : Defined). d.number) ds
 
 -- ---- functions by byte order
-
--- the functions of the first arm
-unfoldable pub functions_defined : Env → (defined : List ℕ) → List Function → Result (List Defined × Env) Refusal
-functions_defined G defined [] = Ok ([], G)
-functions_defined G defined (f ∷ fs) = do
-  r ← function_defined G defined f
-  q ← functions_defined r.1 (r.0.number ∷ defined) fs
-  Ok (r.0 ∷ q.0, q.1)
 
 abbrev pub first_block : List Defined → ℕ
 first_block [] = 0
@@ -287,14 +252,6 @@ first_block (d ∷ ds) = d.first
 abbrev pub rest_of : List Defined → List Defined
 rest_of [] = []
 rest_of (d ∷ ds) = ds
-
--- those of the second arm, each over the blocks of the one that it stands for
-unfoldable pub others_typed : Env → (defined : List ℕ) → List Defined → List Function → Result (List Body × Env) Refusal
-others_typed G defined ds [] = Ok ([], G)
-others_typed G defined ds (g ∷ gs) = do
-  r ← function_typed G (first_block ds) false defined g
-  q ← others_typed r.1 (r.0.number ∷ defined) (rest_of ds) gs
-  Ok (r.0.body ∷ q.0, q.1)
 
 abbrev pub scoped : (line : ℕ) → List ℕ → core.Stmts → core.Stmts
 scoped l bs ss = core.more l (core.scope bs ss) core.stop
@@ -327,41 +284,3 @@ have_same_names ps qs = false
 
 abbrev pub are_named_alike : Head → Head → Bool
 are_named_alike h k = bytes_eq h.name k.name && have_same_names (params_of h.params) (params_of k.params)
-
--- types are compared where both heads can stand there by themselves
-abbrev pub is_alike : Head → Headed × Env → Head → Result (Headed × Env) Refusal → Bool
-is_alike h r k (Err s) = true
-is_alike h r k (Ok q) = is_same_signature (signature_of h r.0) (signature_of k q.0)
-
-abbrev pub stands_alone : Env → (defined : List ℕ) → Head → Result (Headed × Env) Refusal
-stands_alone G defined h = do
-  r ← headed G (length G.blocks) h
-  n ← at h.line (function_declared (left r.1) defined true (signature_of h r.0))
-  Ok (r.0, with_types G r.1.types)
-
-abbrev pub are_typed_alike : Env → (defined : List ℕ) → (h : Head) → Result (Headed × Env) Refusal → Head → Bool
-are_typed_alike G defined h (Err s) k = true
-are_typed_alike G defined h (Ok r) k = is_alike h r k (stands_alone r.1 defined k)
-
-unfoldable pub are_alike : Env → (defined : List ℕ) → Head → Head → Bool
-are_alike G defined h k = are_typed_alike G defined h (stands_alone G defined h) k
-
--- the same names, in the same order, with the same names of parameters, and of the same types
-unfoldable pub arms_agree : Env → (defined : List ℕ) → List Function → List Function → Bool
-arms_agree G defined [] [] = true
-arms_agree G defined (f ∷ fs) (g ∷ gs) =
-    are_named_alike f.head g.head && are_alike G defined f.head g.head && arms_agree G defined fs gs
-arms_agree G defined fs gs = false
-
--- conditional_arms: two arms that don't agree
-abbrev pub agreeing : Bool → Result Bool ℕ
-agreeing b = if b then Ok true else Err kinds.conditional_arms
-
--- The second arm sees what stood before the first one, for on its machine the first isn't there.
-unfoldable pub arms_defined : Env → (defined : List ℕ) → ℕ → NamedOrder → List Function → List Function
-    → Result (List Defined × Env) Refusal
-arms_defined G defined l o fs gs = do
-  agree ← at l (agreeing (arms_agree G defined fs gs))
-  a ← functions_defined G defined fs
-  b ← others_typed (record a.1 { scopes = G.scopes }) defined a.0 gs
-  Ok (all_joined l o fs a.0 b.0, b.1)

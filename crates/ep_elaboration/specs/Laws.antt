@@ -15,7 +15,7 @@ use Rattle.ep_typing.specs.Env.{Env}
 use Rattle.ep_typing.specs.Typing.{whole_statement}
 use Rattle.ep_elaboration.specs.Declarations.{declaration}
 use Rattle.ep_elaboration.specs.Statements.{statement}
-use Rattle.ep_elaboration.specs.Programs.{elaborated}
+use Rattle.ep_elaboration.specs.ProgramSteps.{elaborated}
 use Rattle.ep_elaboration.specs.WholeRules.{MeansWhole}
 use Rattle.ep_elaboration.specs.WholeOffences.{WholeOffends}
 use Rattle.ep_elaboration.specs.GivenRules.{MeansDeclaration}

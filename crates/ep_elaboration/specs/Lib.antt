@@ -4,8 +4,10 @@ pub mod Given
 pub mod Declarations
 pub mod Statements
 pub mod Functions
+pub mod FunctionSteps
 pub mod Calls
 pub mod Programs
+pub mod ProgramSteps
 pub mod WholeRules
 pub mod WholeOffences
 pub mod DeclaratorRules

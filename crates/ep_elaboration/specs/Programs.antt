@@ -5,18 +5,14 @@ use Rattle.ep_ast.specs.Kind as kinds
 use Rattle.ep_int.specs.Memory.{contains}
 use Rattle.ep_int.specs.declared.types.Model.{Model}
 use Rattle.ep_ast.specs.declared.refusals.Refusal.{Refusal}
-use Rattle.ep_ast.specs.Declaration.{to_specs}
 use Rattle.ep_ast.specs.Statement as tree
-use Rattle.ep_ast.specs.Statement.{Item, typedefs, defines, declares_all, completes, functions_by_order}
+use Rattle.ep_ast.specs.Statement.{Item}
 use Rattle.ep_core.specs.Program as core
-use Rattle.ep_typing.specs.Results.{◌>>=◌, at, needed}
+use Rattle.ep_typing.specs.Results.{at}
 use Rattle.ep_typing.specs.Env.{Env, Signature, start}
-use Rattle.ep_elaboration.specs.Declarators.{types_declared}
-use Rattle.ep_elaboration.specs.Aggregates.{body_declared, specs_declared}
-use Rattle.ep_elaboration.specs.Declarations.{declaration}
-use Rattle.ep_elaboration.specs.Functions.{Defined, arms_defined, function_defined, is_main, number_of_function}
-use Rattle.ep_elaboration.specs.Functions.{numbers_of, prototype}
-use Rattle.ep_elaboration.specs.Calls.{Call, CallSite, Placed, calls_of, function_depth, in_items, is_recursive}
+use Rattle.ep_elaboration.specs.Functions.{Defined, is_main, number_of_function}
+use Rattle.ep_elaboration.specs.Functions.{numbers_of}
+use Rattle.ep_elaboration.specs.Calls.{Call, CallSite, Placed, in_items, is_recursive}
 use Rattle.ep_elaboration.specs.Calls.{one_after_another, with_function}
 
 -- ---- the text
@@ -40,33 +36,6 @@ with_defined s r = record s { env = r.1; defined = s.defined ++ r.0 }
 abbrev pub functions_in : Option (List tree.Function) → List tree.Function
 functions_in None = []
 functions_in (Some fs) = fs
-
-unfoldable pub item : Sofar → Item → Result Sofar Refusal
-item s (typedefs t) = do
-  c ← specs_declared s.env [] [] (to_specs t.specs)
-  G ← types_declared c.1 c.0 t.declarators
-  Ok (with_env s G)
-item s (defines f) = do
-  r ← function_defined s.env (numbers_of s.defined) f
-  Ok (with_defined s (r.0 ∷ [], r.1))
-item s (tree.prototype h) = do
-  G ← prototype s.env (numbers_of s.defined) h
-  Ok (with_env s G)
-item s (declares_all d) = do
-  m ← declaration s.env true true d
-  Ok (record s { env = m.1; values = s.values ++ m.0.values })
-item s (completes a) = do
-  c ← body_declared s.env [] a
-  Ok (with_env s c.1)
-item s (functions_by_order l o fs gs) = do
-  r ← arms_defined s.env (numbers_of s.defined) l o fs (functions_in gs)
-  Ok (with_defined s r)
-
-unfoldable pub items : Sofar → List Item → Result Sofar Refusal
-items s [] = Ok s
-items s (i ∷ is) = do
-  u ← item s i
-  items u is
 
 -- ---- the checks of the whole program
 
@@ -108,16 +77,6 @@ not_too_deep n = if nat_lt 256 n then Err kinds.call_depth else Ok true
 -- too_large: all objects together of more than 65,536 bytes
 abbrev pub all_fit : List core.Block → Result Bool ℕ
 all_fit bs = if nat_lt 65536 (sum_by (λ (b : core.Block). b.size) bs) then Err kinds.too_large else Ok true
-
--- no_main: no body of main. The checks stand in this order: no_main, no_definition, recursion, call_depth, too_large.
-unfoldable pub checked : Sofar → List CallSite → Result Defined Refusal
-checked s ps = do
-  m ← at 1 (needed kinds.no_main (main_of s.defined))
-  bodies ← all_have_bodies s.defined (calls_of ps)
-  acyclic ← none_recurs s m.number (calls_of ps)
-  shallow ← at m.function.line (not_too_deep (function_depth ps (length s.env.functions) m.number))
-  small ← at 1 (all_fit s.env.blocks)
-  Ok m
 
 -- ---- the program
 
@@ -164,10 +123,3 @@ program_of s main order = record {
   functions = all_in_order order s.defined order;
   main = place_in order main;
 }
-
--- What a program means in a data model, or the first offence: in the order of the text, then of the checks.
-unfoldable pub elaborated : Model → List Item → Result core.Program Refusal
-elaborated m is = do
-  s ← items (begun m) is
-  d ← checked s (call_sites_of s is)
-  Ok (program_of s d.number (order_of s (calls_of (call_sites_of s is))))

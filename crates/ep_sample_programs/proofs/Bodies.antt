@@ -16,7 +16,8 @@ use Rattle.ep_typing.specs.Types.{int_type}
 use Rattle.ep_elaboration.specs.Declarations.{Line}
 use Rattle.ep_elaboration.specs.Statements.{part, parts, innermost, left}
 use Rattle.ep_elaboration.specs.Functions.{headed, function_declared, signature_of, body_env, blocks_if, results}
-use Rattle.ep_elaboration.specs.Programs.{Sofar, begun, item}
+use Rattle.ep_elaboration.specs.Programs.{Sofar, begun}
+use Rattle.ep_elaboration.specs.ProgramSteps.{item}
 use Rattle.ep_elaboration.proofs.Opened.{program}
 use Rattle.ep_sample.specs.Sample.{next_of, kind_of, shift_of}
 use Rattle.ep_sample_trees.specs.Tree.{swaps, main_head, objects, turned_parts, swapped_parts, byte_parts, field_parts}

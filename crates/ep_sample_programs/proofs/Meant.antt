@@ -14,7 +14,8 @@ use Rattle.ep_elaboration.specs.Declarations.{Line}
 use Rattle.ep_elaboration.specs.Statements.{parts, left, to_core, blocks_behind}
 use Rattle.ep_elaboration.specs.Functions.{Defined, Typed, defined_of}
 use Rattle.ep_elaboration.specs.Calls.{CallSite, calls_of}
-use Rattle.ep_elaboration.specs.Programs.{Sofar, begun, item, items, with_defined, program_of, order_of, call_sites_of}
+use Rattle.ep_elaboration.specs.Programs.{Sofar, begun, with_defined, program_of, order_of, call_sites_of}
+use Rattle.ep_elaboration.specs.ProgramSteps.{item, items}
 use Rattle.ep_elaboration.specs.Programs.{none_breaks}
 use Rattle.ep_elaboration.specs.ProgramRules.{MeansProgram, is_program, IsSound, is_sound}
 use Rattle.ep_elaboration.proofs.Opened.{program}

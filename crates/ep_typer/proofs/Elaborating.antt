@@ -11,7 +11,8 @@ use Rattle.ep_typing.specs.Results.{◌>>=◌}
 use Rattle.ep_operands.specs.Refinement.{Stops}
 use Rattle.ep_elaboration.specs.Calls.{calls_of}
 use Rattle.ep_elaboration.specs.Functions.{Defined}
-use Rattle.ep_elaboration.specs.Programs.{Sofar, begun, checked, elaborated, items, order_of, call_sites_of, program_of}
+use Rattle.ep_elaboration.specs.Programs.{Sofar, begun, order_of, call_sites_of, program_of}
+use Rattle.ep_elaboration.specs.ProgramSteps.{checked, elaborated, items}
 use Rattle.ep_typer_checks.specs.Checks.{number_in}
 
 -- with a number alone, in the place of main

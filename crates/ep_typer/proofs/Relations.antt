@@ -8,7 +8,7 @@ use Rattle.ep_ast.specs.Refusal.{IfRefused}
 use Rattle.ep_ast.specs.Statement.{Item}
 use Rattle.ep_core.specs.Program.{Program}
 use Rattle.ep_core.specs.WellFormed.{is_well_formed}
-use Rattle.ep_elaboration.specs.Programs.{elaborated}
+use Rattle.ep_elaboration.specs.ProgramSteps.{elaborated}
 use Rattle.ep_elaboration.specs.ProgramRules.{MeansProgram}
 use Rattle.ep_elaboration.specs.ProgramOffences.{ProgramOffends}
 use Rattle.ep_elaboration.proofs.ProgramOrder.{means_elaborated, refused_elaborated}

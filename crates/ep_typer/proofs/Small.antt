@@ -5,7 +5,8 @@ use Rattle.ep_int.specs.declared.types.Model.{Model}
 use Rattle.ep_ast.specs.Statement.{Item}
 use Rattle.ep_call_graph.specs.View.{AreBelow}
 use Rattle.ep_elaboration.specs.Functions.{numbers_of}
-use Rattle.ep_elaboration.specs.Programs.{Sofar, begun, items}
+use Rattle.ep_elaboration.specs.Programs.{Sofar, begun}
+use Rattle.ep_elaboration.specs.ProgramSteps.{items}
 use Rattle.ep_elaboration.proofs.ProgramOrder.{means_items}
 use Rattle.ep_well_formed_laws.proofs.Counts.{count}
 use Rattle.ep_well_formed_laws.proofs.Items.{text_holds}

@@ -4,7 +4,8 @@ use Rattle.ep_int.specs.declared.types.Model.{Model}
 use Rattle.ep_ast.specs.declared.refusals.Refusal.{Refusal}
 use Rattle.ep_ast.specs.Statement.{Item}
 use Rattle.ep_typing.specs.Results.{◌>>=◌}
-use Rattle.ep_elaboration.specs.Programs.{Sofar, begun, item, items}
+use Rattle.ep_elaboration.specs.Programs.{Sofar, begun}
+use Rattle.ep_elaboration.specs.ProgramSteps.{item, items}
 use Rattle.ep_typer_arms.specs.FileEnvironments.{IsBehind}
 
 ok_same : (s t : Sofar) → ◌≡◌ {A = Result Sofar Refusal} (Ok s) (Ok t) → s ≡ t

@@ -7,6 +7,7 @@ ghost use Rattle.ep_declared.specs.Refinement.{Adds};
 ghost use Rattle.ep_defined.specs.View as view;
 ghost use Rattle.ep_elaboration.specs.Functions.{numbers_of};
 ghost use Rattle.ep_elaboration.specs.Programs as rule;
+ghost use Rattle.ep_elaboration.specs.ProgramSteps as steps;
 ghost use Rattle.ep_scopes.specs.Known.{IsKnownEnv};
 ghost use Rattle.ep_typer_arms.specs.FileEnvironments.{IsBehind};
 ghost use Rattle.ep_typer_functions.specs.View.{AreDone};
@@ -21,10 +22,10 @@ use ep_typer_arms::arms_defined;
 use ep_typer_declarations::declaration;
 use ep_typer_functions::{Done, function_defined, prototype};
 
-#[tactic(auto, unfolding(ep_elaboration::specs::Programs::item))]
+#[tactic(auto, unfolding(ep_elaboration::specs::ProgramSteps::item))]
 fn typedefs(sofar: &mut Sofar, tree: &TypedefTree) -> Result<(), Halt>
     requires { IsKnownEnv (view.sofar sofar.old).env }
-    ensures means { Adds (rule.item (view.sofar sofar.old) (tree_of.typedefs (typedef_of tree.now)))
+    ensures means { Adds (steps.item (view.sofar sofar.old) (tree_of.typedefs (typedef_of tree.now)))
         (view.sofar sofar.new) result }
     ensures known { OnOk result (IsKnownEnv (view.sofar sofar.new).env) }
     ensures same { OnOk result (sofar.new.defined ≡ sofar.old.defined) }
@@ -34,11 +35,11 @@ fn typedefs(sofar: &mut Sofar, tree: &TypedefTree) -> Result<(), Halt>
     Ok(())
 }
 
-#[tactic(auto, unfolding(ep_elaboration::specs::Programs::item))]
+#[tactic(auto, unfolding(ep_elaboration::specs::ProgramSteps::item))]
 fn declares(sofar: &mut Sofar, done: &Done, head: &HeadTree) -> Result<(), Halt>
     requires known { IsKnownEnv (view.sofar sofar.old).env }
     requires done { AreDone done.now (numbers_of (view.sofar sofar.old).defined) }
-    ensures means { Adds (rule.item (view.sofar sofar.old) (tree_of.prototype (head_of head.now)))
+    ensures means { Adds (steps.item (view.sofar sofar.old) (tree_of.prototype (head_of head.now)))
         (view.sofar sofar.new) result }
     ensures known { OnOk result (IsKnownEnv (view.sofar sofar.new).env) }
     ensures same { OnOk result (sofar.new.defined ≡ sofar.old.defined) }
@@ -47,10 +48,10 @@ fn declares(sofar: &mut Sofar, done: &Done, head: &HeadTree) -> Result<(), Halt>
     Ok(())
 }
 
-#[tactic(auto, unfolding(ep_elaboration::specs::Programs::item))]
+#[tactic(auto, unfolding(ep_elaboration::specs::ProgramSteps::item))]
 fn declares_all(sofar: &mut Sofar, tree: &DeclarationTree) -> Result<(), Halt>
     requires { IsKnownEnv (view.sofar sofar.old).env }
-    ensures means { Adds (rule.item (view.sofar sofar.old) (tree_of.declares_all (declaration_of tree.now)))
+    ensures means { Adds (steps.item (view.sofar sofar.old) (tree_of.declares_all (declaration_of tree.now)))
         (view.sofar sofar.new) result }
     ensures known { OnOk result (IsKnownEnv (view.sofar sofar.new).env) }
     ensures same { OnOk result (sofar.new.defined ≡ sofar.old.defined) }
@@ -60,10 +61,10 @@ fn declares_all(sofar: &mut Sofar, tree: &DeclarationTree) -> Result<(), Halt>
     Ok(())
 }
 
-#[tactic(auto, unfolding(ep_elaboration::specs::Programs::item))]
+#[tactic(auto, unfolding(ep_elaboration::specs::ProgramSteps::item))]
 fn completes(sofar: &mut Sofar, tree: &AggregateTree) -> Result<(), Halt>
     requires { IsKnownEnv (view.sofar sofar.old).env }
-    ensures means { Adds (rule.item (view.sofar sofar.old) (tree_of.completes (aggregate_of tree.now)))
+    ensures means { Adds (steps.item (view.sofar sofar.old) (tree_of.completes (aggregate_of tree.now)))
         (view.sofar sofar.new) result }
     ensures known { OnOk result (IsKnownEnv (view.sofar sofar.new).env) }
     ensures same { OnOk result (sofar.new.defined ≡ sofar.old.defined) }
@@ -72,11 +73,11 @@ fn completes(sofar: &mut Sofar, tree: &AggregateTree) -> Result<(), Halt>
     Ok(())
 }
 
-#[tactic(auto, unfolding(ep_elaboration::specs::Programs::item))]
+#[tactic(auto, unfolding(ep_elaboration::specs::ProgramSteps::item))]
 fn defines(sofar: &mut Sofar, done: &mut Done, tree: &FunctionTree) -> Result<(), Halt>
     requires known { IsKnownEnv (view.sofar sofar.old).env }
     requires done { AreDone done.old (numbers_of (view.sofar sofar.old).defined) }
-    ensures means { Adds (rule.item (view.sofar sofar.old) (tree_of.defines (tree_of.function_of tree.now)))
+    ensures means { Adds (steps.item (view.sofar sofar.old) (tree_of.defines (tree_of.function_of tree.now)))
         (view.sofar sofar.new) result }
     ensures known { OnOk result (IsKnownEnv (view.sofar sofar.new).env) }
     ensures done { OnOk result (AreDone done.new (numbers_of (view.sofar sofar.new).defined)) }
@@ -86,7 +87,7 @@ fn defines(sofar: &mut Sofar, done: &mut Done, tree: &FunctionTree) -> Result<()
     Ok(())
 }
 
-#[tactic(auto, unfolding(ep_elaboration::specs::Programs::item))]
+#[tactic(auto, unfolding(ep_elaboration::specs::ProgramSteps::item))]
 fn defines_by_order(
     sofar: &mut Sofar,
     done: &mut Done,
@@ -100,7 +101,7 @@ fn defines_by_order(
     requires done { AreDone done.old (numbers_of (view.sofar sofar.old).defined) }
     ensures means { (arm : Option (List tree_of.Function))
         → rule.functions_in arm ≡ map tree_of.function_of otherwise.now
-        → Adds (rule.item (view.sofar sofar.old)
+        → Adds (steps.item (view.sofar sofar.old)
         (tree_of.functions_by_order line order (map tree_of.function_of then.now) arm))
         (view.sofar sofar.new) result }
     ensures known { OnOk result (IsKnownEnv (view.sofar sofar.new).env) }
@@ -116,7 +117,7 @@ pub fn item(sofar: &mut Sofar, done: &mut Done, tree: &ItemTree) -> Result<(), H
     requires behind { IsBehind (view.sofar sofar.old) }
     requires known { IsKnownEnv (view.sofar sofar.old).env }
     requires done { AreDone done.old (numbers_of (view.sofar sofar.old).defined) }
-    ensures means { Adds (rule.item (view.sofar sofar.old) (tree_of.item_of tree.now)) (view.sofar sofar.new) result }
+    ensures means { Adds (steps.item (view.sofar sofar.old) (tree_of.item_of tree.now)) (view.sofar sofar.new) result }
     ensures known { OnOk result (IsKnownEnv (view.sofar sofar.new).env) }
     ensures done { OnOk result (AreDone done.new (numbers_of (view.sofar sofar.new).defined)) }
 {
@@ -150,12 +151,12 @@ pub fn item(sofar: &mut Sofar, done: &mut Done, tree: &ItemTree) -> Result<(), H
 }
 
 /// Items one after another, behind those of their text before them.
-#[tactic(auto, unfolding(ep_elaboration::specs::Programs::items))]
+#[tactic(auto, unfolding(ep_elaboration::specs::ProgramSteps::items))]
 pub fn items(sofar: &mut Sofar, done: &mut Done, list: &[ItemTree]) -> Result<(), Halt>
     requires behind { IsBehind (view.sofar sofar.old) }
     requires known { IsKnownEnv (view.sofar sofar.old).env }
     requires done { AreDone done.old (numbers_of (view.sofar sofar.old).defined) }
-    ensures means { Adds (rule.items (view.sofar sofar.old) (map tree_of.item_of list.now)) (view.sofar sofar.new)
+    ensures means { Adds (steps.items (view.sofar sofar.old) (map tree_of.item_of list.now)) (view.sofar sofar.new)
         result }
     ensures behind { OnOk result (IsBehind (view.sofar sofar.new)) }
     ensures known { OnOk result (IsKnownEnv (view.sofar sofar.new).env) }

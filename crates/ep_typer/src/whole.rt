@@ -7,6 +7,7 @@ ghost use Rattle.ep_defined.specs.View as defined_view;
 ghost use Rattle.ep_elaboration.specs.Calls.{calls_of};
 ghost use Rattle.ep_elaboration.specs.Functions.{numbers_of};
 ghost use Rattle.ep_elaboration.specs.Programs as rule;
+ghost use Rattle.ep_elaboration.specs.ProgramSteps as steps;
 ghost use Rattle.ep_operands.specs.Refinement.{Refines};
 ghost use Rattle.ep_scopes.specs.View.{env as env_view};
 ghost use Rattle.ep_typer_checks.specs.Checks as checks;
@@ -36,7 +37,7 @@ pub struct Parts {
 
 // What the items of a text declare and define.
 fn declared(alloc: Global, list: &[ItemTree], model: Model) -> Result<Sofar, Halt>
-    ensures { Refines defined_view.sofar (rule.items (rule.begun model) (map item_of list.now)) result }
+    ensures { Refines defined_view.sofar (steps.items (rule.begun model) (map item_of list.now)) result }
 {
     let mut sofar = Sofar::new(alloc, model)?;
     let mut done = Done::new(alloc);
@@ -48,7 +49,7 @@ fn declared(alloc: Global, list: &[ItemTree], model: Model) -> Result<Sofar, Hal
 fn order_of(alloc: Global, sofar: &Sofar, list: &[ItemTree]) -> Result<CallOrder, Halt>
     requires { AreBelow (length (defined_view.sofar sofar.now).env.functions)
         (numbers_of (defined_view.sofar sofar.now).defined) }
-    ensures means { Refines checks.main_number (checks.number_in (rule.checked (defined_view.sofar sofar.now)
+    ensures means { Refines checks.main_number (checks.number_in (steps.checked (defined_view.sofar sofar.now)
         (rule.call_sites_of (defined_view.sofar sofar.now) (map item_of list.now)))) result }
     ensures order { IfOk result (λ c. c.order.items ≡ rule.order_of (defined_view.sofar sofar.now)
         (calls_of (rule.call_sites_of (defined_view.sofar sofar.now) (map item_of list.now)))) }
@@ -88,7 +89,7 @@ fn made(alloc: Global, sofar: Sofar, order: &CallOrder) -> Result<Parts, AllocEr
 
 /// What a program means in a data model, or for what it is refused.
 pub fn parts_of_program(alloc: Global, tree: &ProgramTree, model: Model) -> Result<Parts, Halt>
-    ensures { Refines view.program (rule.elaborated model (map item_of tree.now.items.items)) result }
+    ensures { Refines view.program (steps.elaborated model (map item_of tree.now.items.items)) result }
 {
     let sofar = declared(alloc, &tree.items, model)?;
     let order = order_of(alloc, &sofar, &tree.items)?;

@@ -7,7 +7,8 @@ use Rattle.ep_core.specs.Program as core
 use Rattle.ep_typing.specs.Env.{Env, Meaning, Scope, variable, function, type_name}
 use Rattle.ep_typing.specs.Results.{◌>>=◌, at}
 use Rattle.ep_elaboration.specs.Declarations.{Line}
-use Rattle.ep_elaboration.specs.Functions.{Headed, Typed, blocks_if, body_env, function_declared, function_typed}
+use Rattle.ep_elaboration.specs.Functions.{Headed, Typed, blocks_if, body_env, function_declared}
+use Rattle.ep_elaboration.specs.FunctionSteps.{function_typed}
 use Rattle.ep_elaboration.specs.Functions.{headed, results, signature_of}
 use Rattle.ep_elaboration.specs.Statements.{block_of, blocks_behind, blocks_of, innermost, left, parts, to_core}
 use Rattle.ep_scopes.specs.View as view

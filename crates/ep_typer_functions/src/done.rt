@@ -32,6 +32,7 @@ impl Done {
         }
     }
 
+    /// Whether the function of this number has its body.
     pub fn has(&self, number: u32) -> bool
         ensures { result ≡ has_body self.now number }
     {

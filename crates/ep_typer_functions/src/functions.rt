@@ -8,6 +8,7 @@ ghost use Rattle.ep_core.specs.View.{block_view};
 ghost use Rattle.ep_declared.specs.Refinement.{Adds, RefinesIn};
 ghost use Rattle.ep_defined.specs.View.{defined as defined_view};
 ghost use Rattle.ep_elaboration.specs.Functions as rule;
+ghost use Rattle.ep_elaboration.specs.FunctionSteps as steps;
 ghost use Rattle.ep_scopes.specs.Known.{IsKnownEnv};
 ghost use Rattle.ep_scopes.specs.View.{env as env_view};
 ghost use Rattle.ep_typer_functions.specs.View.{AreDone, headed as headed_view};
@@ -162,7 +163,7 @@ pub struct Typed {
 }
 
 /// A function over blocks from this one on, which come with it or are there.
-#[tactic(auto, unfolding(ep_elaboration::specs::Functions::function_typed))]
+#[tactic(auto, unfolding(ep_elaboration::specs::FunctionSteps::function_typed))]
 pub fn function_typed(
     env: &mut Env,
     first: u32,
@@ -172,7 +173,7 @@ pub fn function_typed(
 ) -> Result<Typed, Halt>
     requires { IsKnownEnv (env_view env.old) }
     ensures means { (ds : List ℕ) → AreDone done.now ds
-        → RefinesIn view.typed (rule.function_typed (env_view env.old) first own ds (function_of tree.now))
+        → RefinesIn view.typed (steps.function_typed (env_view env.old) first own ds (function_of tree.now))
         (env_view env.new) result }
     ensures known { OnOk result (IsKnownEnv (env_view env.new)) }
 {
@@ -244,11 +245,11 @@ fn defined_of(alloc: Global, tree: &FunctionTree, first: u32, typed: Typed) -> R
 }
 
 /// A function with its body.
-#[tactic(auto, unfolding(ep_elaboration::specs::Functions::function_defined))]
+#[tactic(auto, unfolding(ep_elaboration::specs::FunctionSteps::function_defined))]
 pub fn function_defined(env: &mut Env, done: &Done, tree: &FunctionTree) -> Result<Defined, Halt>
     requires { IsKnownEnv (env_view env.old) }
     ensures means { (ds : List ℕ) → AreDone done.now ds
-        → RefinesIn defined_view (rule.function_defined (env_view env.old) ds (function_of tree.now))
+        → RefinesIn defined_view (steps.function_defined (env_view env.old) ds (function_of tree.now))
         (env_view env.new) result }
     ensures known { OnOk result (IsKnownEnv (env_view env.new)) }
 {

@@ -10,7 +10,8 @@ use Rattle.ep_typing.specs.Names.{mentioned}
 use Rattle.ep_typing.specs.Operand.{Operand}
 use Rattle.ep_typing.specs.Typing.{meaning, whole_statement}
 use Rattle.ep_elaboration.specs.Declarations.{Line, Made, declaration}
-use Rattle.ep_elaboration.specs.Functions.{Defined, function_defined}
+use Rattle.ep_elaboration.specs.Functions.{Defined}
+use Rattle.ep_elaboration.specs.FunctionSteps.{function_defined}
 use Rattle.ep_elaboration.specs.Statements.{parts, to_core}
 use Rattle.ep_well_formed_laws.specs.Environments.{Covers, HasScope, IsEnv}
 use Rattle.ep_well_formed_laws.specs.Operands.{OperandFits}

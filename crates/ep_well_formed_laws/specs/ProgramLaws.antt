@@ -10,9 +10,11 @@ use Rattle.ep_core.specs.WellFormed.{is_well_formed}
 use Rattle.ep_typing.specs.Env.{Env, entry}
 use Rattle.ep_typing.specs.Results.{◌>>=◌}
 use Rattle.ep_typing.specs.Offences.{refusal}
-use Rattle.ep_elaboration.specs.Functions.{Defined, arms_agree, file_names, functions_defined, number_of_function}
+use Rattle.ep_elaboration.specs.Functions.{Defined, file_names, number_of_function}
+use Rattle.ep_elaboration.specs.FunctionSteps.{arms_agree, functions_defined}
 use Rattle.ep_elaboration.specs.Functions.{numbers_of}
-use Rattle.ep_elaboration.specs.Programs.{Sofar, begun, elaborated, items}
+use Rattle.ep_elaboration.specs.Programs.{Sofar, begun}
+use Rattle.ep_elaboration.specs.ProgramSteps.{elaborated, items}
 
 -- What a source means in a data model is a well-formed program.
 abbrev pub ProgramsFit : Type 0

@@ -1,6 +1,6 @@
 use Rattle.std.proofs.Common.{◌≡◌, drop, map}
 use Rattle.ep_ast.specs.Declaration.{declarator}
-use Rattle.ep_elaboration.specs.Declarators.{types_declared}
+use Rattle.ep_elaboration.specs.ProgramSteps.{types_declared}
 use Rattle.ep_scopes.specs.View.{env}
 use Rattle.ep_declared.specs.Open.{Follows}
 use Rattle.ep_declared.proofs.typedefs.types_declared.Given as goal

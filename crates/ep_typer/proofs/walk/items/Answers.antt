@@ -2,7 +2,7 @@ use Rattle.std.proofs.Common.{arith}
 use Rattle.std.proofs.lemmas.Grind.{common_steps}
 use Rattle.ep_ast.specs.Statement.{item_of}
 use Rattle.ep_defined.specs.View.{sofar}
-use Rattle.ep_elaboration.specs.Programs.{items}
+use Rattle.ep_elaboration.specs.ProgramSteps.{items}
 use Rattle.ep_typer.proofs.TextItems.{one_more}
 use Rattle.ep_typer.proofs.walk.items.Goals as goal
 

@@ -2,7 +2,7 @@ use Rattle.std.proofs.Common.{◌≡◌, drop, map}
 use Rattle.ep_ast.specs.Statement.{item_of}
 use Rattle.ep_defined.specs.View.{sofar}
 use Rattle.ep_elaboration.specs.Functions.{numbers_of}
-use Rattle.ep_elaboration.specs.Programs.{items}
+use Rattle.ep_elaboration.specs.ProgramSteps.{items}
 use Rattle.ep_scopes.specs.Known.{IsKnownEnv}
 use Rattle.ep_typer_arms.specs.FileEnvironments.{IsBehind}
 use Rattle.ep_typer_functions.specs.View.{AreDone}
