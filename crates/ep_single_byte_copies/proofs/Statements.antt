@@ -37,6 +37,7 @@ use Rattle.ep_transfers.specs.Laws.{memories, CellLaws}
 use Rattle.ep_transfers.proofs.Assigned.{on_all_by}
 use Rattle.ep_transfers.proofs.Changes.{here}
 use Rattle.ep_transfers.proofs.Evaluated.{pair_of, Evaluated}
+use Rattle.ep_transfers.proofs.Fills.{some_length}
 use Rattle.ep_transfers.proofs.Gathered.{cell_laws}
 use Rattle.ep_transfers.proofs.Located.{any_apart}
 use Rattle.ep_transfers.proofs.RunSteps.{spot_on}
@@ -53,7 +54,7 @@ use Rattle.ep_single_values.specs.Laws.{ValuesAreOne}
 use Rattle.ep_single_values.specs.Statements.{StatementIsExact, StatementsAreExact}
 use Rattle.ep_single_runs.proofs.Steps.{if_given, if_place, if_unless, kept_one, kept_beside, StepIsExact}
 use Rattle.ep_single_runs.proofs.Steps.{exact_both, exact_beside}
-use Rattle.ep_single_runs.proofs.Modes.{some_bytes, of_both, beside, one_spot}
+use Rattle.ep_single_runs.proofs.Modes.{of_both, beside, one_spot}
 use Rattle.ep_single_runs.proofs.Located.{IsRunAt, run_places, into, place_is, ends, quiet}
 use Rattle.ep_single_byte_copies.specs.Laws.{IsByteCopy, is_byte_copy}
 use Rattle.ep_single_byte_copies.proofs.Apart.{none_told, are_free}
@@ -128,7 +129,7 @@ module _ {N : Type 0} (D : Ops N) (law : Lawful D) (laws : CellLaws D) (keeps : 
     parts = three (is_length n) (is_address p.types p.blocks seen a) (is_address p.types p.blocks seen b) typed
 
     some : 0 < n
-    some = some_bytes n parts.0
+    some = some_length n parts.0
 
     abbrev xs : Given N
     xs = (expression D (sizes_of p.blocks) a).gives mode k

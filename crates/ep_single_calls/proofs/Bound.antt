@@ -1,14 +1,12 @@
 -- The parameters of a call are set, one after another: a state that stands for one pair of memories stays one.
-use Rattle.std.proofs.Common.{◌≡◌, ℕ, ◌+◌, pos, Bool, true, false, nat_eq, List, [], ◌∷◌, ◌++◌, slice_get, Option}
+use Rattle.std.proofs.Common.{◌≡◌, ℕ, pos, true, nat_eq, List, [], ◌∷◌, slice_get, Option, ◌++◌}
 use Rattle.std.proofs.Common.{Some, None, option_and_then, refl, sym, ap, ◌∙◌, subst, arith}
 use Rattle.std.specs.Option.{option_map_or}
 use Rattle.std.specs.List.{list_all}
-use Rattle.std.proofs.lemmas.Bool.{and_parts, eqb-true, eq-eqb, both_ways, or_left, or_right}
+use Rattle.std.proofs.lemmas.Bool.{and_parts, or_right, or_left, eq-eqb}
 use Rattle.ep_int.specs.declared.types.Order.{Order}
-use Rattle.ep_int.specs.declared.types.Model.{Model}
 use Rattle.ep_int.specs.declared.types.Scalar.{Scalar}
-use Rattle.ep_int.specs.Memory.{Memory, Value as Datum, pointer, has, contains, stored, store_fault, number_in}
-use Rattle.ep_int.proofs.Encodings.{decoded_same}
+use Rattle.ep_int.specs.Memory.{Memory, pointer, has, contains, stored, store_fault}
 use Rattle.ep_bitslice.specs.declared.cell.Side.{Side as CellSide}
 use Rattle.ep_bitslice.specs.declared.cell.Side.TheVariants as cell_side
 use Rattle.ep_bitslice.specs.declared.cell.CellName.{CellName}
@@ -19,7 +17,7 @@ use Rattle.ep_cells.specs.Forms.{form_after}
 use Rattle.ep_cells.specs.States.{Known}
 use Rattle.ep_cells.specs.Meaning.{Memories, number_at, number_on}
 use Rattle.ep_core.specs.Program.{Expr, Program}
-use Rattle.ep_core.specs.Exec.{first_of, value, size_at}
+use Rattle.ep_core.specs.Exec.{value, size_at, first_of}
 use Rattle.ep_core.specs.Runs.{Side, left, right}
 use Rattle.ep_core.specs.Typed.{ValueFits, IfHas}
 use Rattle.ep_core.specs.WellFormed.{has_scalar, ty_at, has_type, block_type, holds_scalar, arguments_fit}
@@ -38,7 +36,7 @@ use Rattle.ep_evaluation.proofs.Gathered.{evaluation_laws}
 use Rattle.ep_transfers.specs.Writes.{formed_pair}
 use Rattle.ep_transfers.specs.Transfers.{stepped, fate_off_blocks, to_block, gives, assigned}
 use Rattle.ep_transfers.specs.Calls.{given_all, faults_of_all, waiting, bound}
-use Rattle.ep_transfers.proofs.Bound.{changed, fits_changed, unchanged}
+use Rattle.ep_transfers.proofs.Bound.{changed, fits_changed, unchanged, not_one, beside_stored}
 use Rattle.ep_transfers.proofs.Evaluated.{Evaluated}
 use Rattle.ep_transfers.proofs.Gathered.{cell_laws}
 use Rattle.ep_transfers.proofs.Stored.{block_is, typed_is}
@@ -56,18 +54,6 @@ use Rattle.ep_single_calls.proofs.Machines.{datum, AllHave, AllStore, sets}
 use Rattle.ep_single_calls.proofs.Kept.{at_running, at_other, changed_then}
 
 -- ---- names of other blocks keep their numbers
-
-not_there : (b c : ℕ) (frame : List ℕ) (t : Bool) → nat_eq b c ≡ t → contains b frame ≡ true → contains c frame ≡ false
-    → nat_eq b c ≡ false
-not_there b c frame true e i o =
-    absurd (both_ways (contains c frame) o (subst (λ x. contains x frame ≡ true) (eqb-true b c e) i))
-not_there b c frame false e i o = e
-
-stored_beside : (o q : Order) (d : Model) (z : Memory) (w : Scalar) (b : ℕ) (v : Datum) (c : CellName)
-    → nat_eq b c.block ≡ false → number_at o (stored q d z w b 0 v) c ≡ number_at o z c
-stored_beside o q d z w b v c e =
-    decoded_same o c.t (λ j. number_in (stored q d z w b 0 v c.block (c.offset + j)))
-    (λ j. number_in (z c.block (c.offset + j))) (λ j l. rw e refl)
 
 module _ (f : Side → Memory → Memory) (m : Memories) (c : CellName)
     (h : (o : Order) (s : Side) (z : Memory) → number_at o (f s z) c ≡ number_at o z c) where
@@ -233,8 +219,8 @@ module _ {N : Type 0} (D : Ops N) (law : Lawful D) (keeps : KeepsSingles D) (p :
               there = λ c off t. (each_waits D law p ord formed).set frame mode b.1 b.0 (waits e).pair k l h.inside
                   kept.kept.state.cells (to_put.fits left) q c off (others.there c off t);
               numbers = λ c off. name_stays (puts b e) m c
-                  (λ o s y. stored_beside o (ord s) p.types.model y b.1 b.0 (datum (ord s) p (memory_of s before) e) c
-                  (not_there b.0 c.block frame (nat_eq b.0 c.block) refl h.inside off)) mode c.side j.orders
+                  (λ o s y. beside_stored o (ord s) p.types.model y b.1 b.0 (datum (ord s) p (memory_of s before) e) c
+                  (not_one b.0 c.block frame (nat_eq b.0 c.block) refl h.inside off)) mode c.side j.orders
                   ∙ others.numbers c off;
             };
           }

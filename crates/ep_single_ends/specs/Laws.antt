@@ -1,5 +1,5 @@
--- Main's result is compared at its end, where a state stands for one pair of memories alone: nothing is wrong where both
--- machines put out the same (this project's rule, after Delmas, Ouadjaout and Miné 2021).
+-- Main's result is compared at its end, where a state stands for one pair of memories alone: nothing is wrong where
+-- both machines put out the same (this project's rule, after Delmas, Ouadjaout and Miné 2021).
 use Rattle.std.specs.Prelude.{◌≡◌, [], Some, slice_get, IsTrue}
 use Rattle.ep_int.specs.declared.types.Order.{Order}
 use Rattle.ep_domain.specs.Domain.{Ops}

@@ -3,11 +3,10 @@ use Rattle.std.proofs.Common.{◌≡◌, ℕ, ◌+◌, ◌<◌, ◌≤◌, ℤ, 
 use Rattle.std.proofs.Common.{Option, refl, sym, ap, ◌∙◌, subst}
 use Rattle.std.proofs.lemmas.Bool.{and_from, and_parts}
 use Rattle.ep_int.specs.declared.types.IntType.TheVariants.{U8}
-use Rattle.ep_int.specs.declared.types.Model.{Model}
 use Rattle.ep_int.specs.declared.types.Order.{Order}
 use Rattle.ep_int.specs.declared.types.Scalar.{Scalar}
 use Rattle.ep_int.specs.declared.types.Scalar.TheVariants.{Int, Pointer}
-use Rattle.ep_int.specs.Memory.{Memory, Value as Datum, int, pointer, has, range_fault}
+use Rattle.ep_int.specs.Memory.{Value as Datum, int, pointer, has, range_fault}
 use Rattle.ep_domain.specs.Domain.{Ops, Lawful}
 use Rattle.ep_cells.specs.States.{Known}
 use Rattle.ep_cells.specs.Meaning.{Memories}
@@ -34,6 +33,7 @@ use Rattle.ep_transfers.specs.Writes.{Underway, underway, item_of, write_run}
 use Rattle.ep_transfers.specs.Transfers.{if_goes_on, fill_places, fill_sides, simple_step}
 use Rattle.ep_transfers.specs.Laws.{memories, CellLaws}
 use Rattle.ep_transfers.proofs.Evaluated.{pair_of, Evaluated}
+use Rattle.ep_transfers.proofs.Fills.{fill_beside, some_length}
 use Rattle.ep_transfers.proofs.Filled.{fill_of, filled_on}
 use Rattle.ep_transfers.proofs.Gathered.{cell_laws}
 use Rattle.ep_transfers.proofs.RunSteps.{spot_on}
@@ -50,7 +50,7 @@ use Rattle.ep_single_values.specs.Laws.{ValuesAreOne}
 use Rattle.ep_single_values.specs.Statements.{StatementIsExact, StatementsAreExact}
 use Rattle.ep_single_runs.proofs.Steps.{if_given, if_int, if_place, if_unless, kept_one, kept_beside, StepIsExact}
 use Rattle.ep_single_runs.proofs.Steps.{exact_both, exact_beside, values_there}
-use Rattle.ep_single_runs.proofs.Modes.{some_bytes, of_both, beside, one_spot}
+use Rattle.ep_single_runs.proofs.Modes.{of_both, beside, one_spot}
 use Rattle.ep_single_runs.proofs.Located.{in_range, IsRunAt, run_places, place_is, ends, quiet, there, all_one}
 use Rattle.ep_single_fills.specs.Laws.{IsFill, is_fill}
 use Rattle.ep_single_fills.proofs.Runs.{Begins, filled_one}
@@ -58,11 +58,6 @@ use Rattle.ep_single_fills.proofs.Runs.{Begins, filled_one}
 abbrev number_on : (left right : ℤ) → Side → ℤ
 number_on l r left = l
 number_on l r right = r
-
-filled_beside : (os : Order × Order) (d : Model) (q : Spot) (n : ℕ) (z : ℤ) (i : Side) (m o : Memory)
-    → filled_on os d (λ s. q) n (λ s. z) (alone i) (pair_of i m o) ≡ pair_of i (fill_of d q n z m) o
-filled_beside os d q n z left m o = refl
-filled_beside os d q n z right m o = refl
 
 module _ {N : Type 0} (D : Ops N) (law : Lawful D) (laws : CellLaws D) (keeps : KeepsSingles D) (p : Program)
     (ord : Side → Order) (fit : blocks_fit p.types p.blocks ≡ true) (exprs : ExpressionsHold D p ord)
@@ -99,7 +94,7 @@ module _ {N : Type 0} (D : Ops N) (law : Lawful D) (laws : CellLaws D) (keeps : 
     first = and_parts (is_length n) (is_address p.types p.blocks seen a) parts.0
 
     some : 0 < n
-    some = some_bytes n first.0
+    some = some_length n first.0
 
     ty : (t : ℕ) × (has_sort p.types p.blocks seen a (pointer_to t) ≡ true)
     ty = pointer_where p.types p.blocks seen (has_sort p.types p.blocks seen a) first.1
@@ -238,7 +233,7 @@ module _ {N : Type 0} (D : Ops N) (law : Lawful D) (laws : CellLaws D) (keeps : 
         exact_beside D p ord i s (simple_step D p (alone i) h.result (fill a e n) s)
         (fill_of p.types.model q n z x.memory) y.memory kept.kept.state
         (subst (λ (m : Memories). StepIsExact D p ord (simple_step D p (alone i) h.result (fill a e n) s) m)
-        (filled_beside (ord left, ord right) p.types.model q n z i x.memory y.memory)
+        (fill_beside (ord left, ord right) p.types.model q n z i x.memory y.memory)
         (fill_exact seen typed s (pair_of i x.memory y.memory) kept (alone i) (λ s. q) (λ s. z)
         (beside i f x.memory y.memory (pointer q.0 q.1) ea) (beside i g x.memory y.memory (int z) ee)
         (λ s r. subst (λ j. q.1 + n ≤ size_at (ord j) p q.0) (only_runs i s r) inside) h.result))));

@@ -41,6 +41,7 @@ use Rattle.ep_transfers.specs.Transfers.{byte_faults}
 use Rattle.ep_transfers.specs.Transfers.{bytes_out, written_out, simple_step}
 use Rattle.ep_transfers.specs.Cells.{told_of, when_known, is_told_so}
 use Rattle.ep_transfers.specs.Laws.{memories}
+use Rattle.ep_transfers.proofs.Fills.{some_length}
 use Rattle.ep_transfers.proofs.RunPlaces.{rest_is}
 use Rattle.ep_transfers.proofs.RunSteps.{spot_on}
 use Rattle.ep_cell_ranges.specs.Spots.{Spot}
@@ -58,7 +59,6 @@ use Rattle.ep_single_values.specs.Laws.{ValuesAreOne}
 use Rattle.ep_single_values.specs.Statements.{StatementIsExact}
 use Rattle.ep_single_runs.proofs.Steps.{if_more, if_given, if_place, if_unless, find_both, kept_one, StepIsExact}
 use Rattle.ep_single_runs.proofs.Steps.{after_exact, exact_both, value_there}
-use Rattle.ep_single_runs.proofs.Modes.{some_bytes}
 use Rattle.ep_single_runs.proofs.Located.{in_range, IsRunAt, run_places, place_is, quiet, there}
 use Rattle.ep_single_outputs.proofs.Values.{last_is, one_output, given_is}
 
@@ -260,7 +260,7 @@ module _ {N : Type 0} (D : Ops N) (law : Lawful D) (keeps : KeepsSingles D) (p :
     holds : Holds D p ord Pointer (λ s. f s (memory_of s m)) k m Both to
     holds = (exprs fit seen e (pointer_to ty.0) ty.1).gives k m kept.kept Both
 
-    runs_there : (s : Side) → IsRunAt D law p ord k m Both f to holds one n (some_bytes n parts.0) s (at s)
+    runs_there : (s : Side) → IsRunAt D law p ord k m Both f to holds one n (some_length n parts.0) s (at s)
     runs_there left = record { address = a; inside = inside left }
     runs_there right = record { address = b; inside = inside right }
 
@@ -269,7 +269,7 @@ module _ {N : Type 0} (D : Ops N) (law : Lawful D) (keeps : KeepsSingles D) (p :
         → StepIsExact D p ord (simple_step D p Both r (write_bytes e n) k) m
     written_exact r z w px py o =
         let zs = sizes_of p.blocks in
-        let some = some_bytes n parts.0 in
+        let some = some_length n parts.0 in
         let pl = run_places D law p ord k m Both f to holds one n some in
         let q = quiet D law p ord k m Both f to holds one n some at (λ s z. runs_there s) in
         let h = there D law p ord k m Both f to holds one n some at (λ s z. runs_there s) in

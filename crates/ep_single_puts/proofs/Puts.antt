@@ -38,6 +38,7 @@ use Rattle.ep_transfers.proofs.Changes.{Blocks, IsKnown, Goes}
 use Rattle.ep_transfers.proofs.Gathered.{cell_laws}
 use Rattle.ep_transfers.proofs.Puts.{order_on}
 use Rattle.ep_transfers.proofs.Rooms.{small}
+use Rattle.ep_transfers.proofs.RunPlaces.{places_alike}
 use Rattle.ep_closed_laws.specs.Exactly.{IsThere}
 use Rattle.ep_singles.specs.Numbers.{KeepsSingles}
 use Rattle.ep_singles.specs.Cells.{IsOne}
@@ -50,12 +51,6 @@ use Rattle.ep_single_puts.proofs.Written.{place_for, IsSideOne, both_written, le
 
 one_spot : (ps : List Spot) (q : Spot) → ps ≡ q ∷ [] → is_some_place ps ≡ true
 one_spot ps q e = ap is_some_place e
-
-same_spot : (b q c r : ℕ) → pointer b q ≡ pointer c r → ◌≡◌ {A = Spot} (b, q) (c, r)
-same_spot b q c r e =
-    let f : b ≡ c = cc in
-    let g : q ≡ r = cc in
-    ap (λ (x : ℕ). (x, q)) f ∙ ap (λ (x : ℕ). (c, x)) g
 
 module _ {N : Type 0} (D : Ops N) (law : Lawful D) (keeps : KeepsSingles D) (p : Program) (ord : Side → Order)
     (fit : blocks_fit p.types p.blocks ≡ true) (k : Known N) (m n : Memories) (kept : IsKeptOne D p ord k m)
@@ -180,7 +175,7 @@ module _ {N : Type 0} (D : Ops N) (law : Lawful D) (keeps : KeepsSingles D) (p :
 
     same_place : is_same D to.pair ≡ true → ◌≡◌ {A = Spot} (l.block, l.offset) (r.block, r.offset)
     same_place e =
-        same_spot l.block l.offset r.block r.offset
+        places_alike l.block l.offset r.block r.offset
         (same_values D law to.pair e (numbers_of k.orders m) Pointer (pointer l.block l.offset) (pointer r.block r.offset)
         (record {
           left = λ z. h.address_holds.held (reliable_none Both to.faults h.one_address.quiet) left refl _ l.at;

@@ -1,6 +1,5 @@
 -- What holds of each running machine, from what holds of one, or of both.
-use Rattle.std.proofs.Common.{◌≡◌, ℕ, ◌<◌, true, false, nat_le, [], arith}
-use Rattle.std.proofs.lemmas.Bool.{and_parts, leb-true}
+use Rattle.std.proofs.Common.{◌≡◌, true, false, []}
 use Rattle.ep_int.specs.declared.types.Order.{Order}
 use Rattle.ep_int.specs.declared.types.Scalar.TheVariants.{Pointer}
 use Rattle.ep_int.specs.Memory.{Memory, Value as Datum, pointer, has}
@@ -10,7 +9,6 @@ use Rattle.ep_cells.specs.Meaning.{Memories}
 use Rattle.ep_cell_ranges.specs.Spots.{Spot}
 use Rattle.ep_core.specs.Program.{Program}
 use Rattle.ep_core.specs.Runs.{Side, left, right}
-use Rattle.ep_core.specs.WellFormed.{is_length}
 use Rattle.ep_equalities.specs.declared.pair.Mode.{Mode}
 use Rattle.ep_equalities.specs.declared.pair.Mode.TheVariants.{Both, Left, Right}
 use Rattle.ep_equalities.specs.Same.{is_same}
@@ -18,11 +16,6 @@ use Rattle.ep_evaluation.specs.Given.{Given, alone, runs}
 use Rattle.ep_evaluation.specs.Laws.{Machine, memory_of}
 use Rattle.ep_transfers.proofs.Evaluated.{pair_of, Evaluated}
 use Rattle.ep_transfers.proofs.RunPlaces.{one_place}
-
--- lengths are positive
-pub some_bytes : (n : ℕ) → is_length n ≡ true → 0 < n
-some_bytes n h =
-    let l = leb-true 1 n (and_parts (nat_le 1 n) (nat_le n 65536) h).0 in omega (arith, l)
 
 pub of_both : (P : Side → Type 0) → P left → P right → (s : Side) → runs Both s ≡ true → P s
 of_both P a b left r = a

@@ -111,7 +111,7 @@ module _ (mode : Mode) (f : Side → Memory → Memory) (m : Memories) (c : Cell
   number_stays cell_side.Right os = right_number mode os.1
   number_stays cell_side.Shared os = left_number mode os.0
 
-beside_stored : (o q : Order) (d : Model) (z : Memory) (w : Scalar) (b : ℕ) (v : Datum) (c : CellName)
+pub beside_stored : (o q : Order) (d : Model) (z : Memory) (w : Scalar) (b : ℕ) (v : Datum) (c : CellName)
     → nat_eq b c.block ≡ false → number_at o (stored q d z w b 0 v) c ≡ number_at o z c
 beside_stored o q d z w b v c e =
     decoded_same o c.t (λ j. number_in (stored q d z w b 0 v c.block (c.offset + j)))
@@ -119,7 +119,7 @@ beside_stored o q d z w b v c e =
 
 -- ---- blocks of a frame
 
-not_one : (b c : ℕ) (frame : List ℕ) (t : Bool) → nat_eq b c ≡ t → contains b frame ≡ true → contains c frame ≡ false
+pub not_one : (b c : ℕ) (frame : List ℕ) (t : Bool) → nat_eq b c ≡ t → contains b frame ≡ true → contains c frame ≡ false
     → nat_eq b c ≡ false
 not_one b c frame true e i o =
     absurd (both_ways (contains c frame) o (subst (λ x. contains x frame ≡ true) (eqb-true b c e) i))

@@ -51,7 +51,7 @@ does_fill : (o : Order) (p : Program) (r : Option (ℕ × Scalar)) (a e : Expr) 
     → does o p uncounted r (fill a e n) l c s ≡ leaves on c (remembers (fill_of p.types.model (b, q) n z s.memory) s)
 does_fill o p r a e n l c s b q z f g h = rw (f, g, h) refl
 
-some_length : (n : ℕ) → is_length n ≡ true → 0 < n
+pub some_length : (n : ℕ) → is_length n ≡ true → 0 < n
 some_length n h =
     let l = leb-true 1 n (and_parts (nat_le 1 n) (nat_le n 65536) h).0 in omega (arith, l)
 
@@ -64,7 +64,7 @@ pub own : (i : Side) (f : Side → Machine) (m n : Memory) (x : Found) → f i (
 own left f m n x e = e
 own right f m n x e = e
 
-fill_beside : (os : Order × Order) (d : Model) (q : Spot) (n : ℕ) (z : ℤ) (i : Side) (m o : Memory)
+pub fill_beside : (os : Order × Order) (d : Model) (q : Spot) (n : ℕ) (z : ℤ) (i : Side) (m o : Memory)
     → filled_on os d (λ s. q) n (λ s. z) (alone i) (pair_of i m o) ≡ pair_of i (fill_of d q n z m) o
 fill_beside os d q n z left m o = refl
 fill_beside os d q n z right m o = refl

@@ -38,7 +38,7 @@ use Rattle.ep_transfers.proofs.Bound.{puts_all, all_bound}
 
 -- ---- the parameters are in the frame
 
-AllIn : List ℕ → List (ℕ × Scalar) → Type 0
+pub AllIn : List ℕ → List (ℕ × Scalar) → Type 0
 AllIn frame [] = Unit {0}
 AllIn frame (b ∷ bs) = (contains b.0 frame ≡ true) × AllIn frame bs
 
@@ -47,7 +47,7 @@ unfolding AllIn
 more_in c frame [] h = tt
 more_in c frame (b ∷ bs) h = (or_right (nat_eq b.0 c) (contains b.0 frame) h.0, more_in c frame bs h.1)
 
-all_in : (bs : List (ℕ × Scalar)) (more : List ℕ) → AllIn (first_of bs ++ more) bs
+pub all_in : (bs : List (ℕ × Scalar)) (more : List ℕ) → AllIn (first_of bs ++ more) bs
 unfolding AllIn
 all_in [] more = tt
 all_in (b ∷ bs) more = (
@@ -57,7 +57,7 @@ all_in (b ∷ bs) more = (
 
 -- ---- blocks come, on the running sides
 
-kills_are : (mode : Mode) (bs : List ℕ) (m : Memories)
+pub kills_are : (mode : Mode) (bs : List ℕ) (m : Memories)
     → AreAllKilled (cells_of_mode mode) bs m (changed mode (λ s. killed bs) m)
 kills_are Both bs m = record {
   left = record { gone = λ e b q. refl; alive = λ e. absurd (cc) };

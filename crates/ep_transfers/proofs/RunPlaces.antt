@@ -223,7 +223,7 @@ module _ {N : Type 0} (D : Ops N) (laws : CellLaws D) (p : Program) (ord : Side 
       some_place (a.block, a.offset) (at_side run_places s)
       (is_one (a.block, a.offset) (at_side run_places s) a.among))
 
-places_alike : (b q c r : ℕ) → pointer b q ≡ pointer c r → ◌≡◌ {A = Spot} (b, q) (c, r)
+pub places_alike : (b q c r : ℕ) → pointer b q ≡ pointer c r → ◌≡◌ {A = Spot} (b, q) (c, r)
 places_alike b q c r e =
     let f : b ≡ c = cc in
     let g : q ≡ r = cc in
