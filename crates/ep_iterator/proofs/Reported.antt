@@ -19,6 +19,14 @@ use Rattle.ep_transfers.specs.Cells.{cell_ops}
 use Rattle.ep_walk.specs.Reported.{report_on, turns_in, heads_in}
 use Rattle.ep_iterator.specs.Reports.{AllMayStand, alarms_of, heads_of, most_turns, turns_of}
 
+-- there are no more than the bound
+pub few : {N : Type 0} (D : Ops N) (p : Program) (a b : Order) (u : ℕ) → TurnsAreBounded (Known N)
+    → turns_of D p a b u ≤ most_turns D p a b u
+few D p a b u law =
+    let last : ℕ = bounds.last_head p D.height in
+    let some : 1 ≤ last = omega arith in
+    law (cell_ops D p (orders a b)) u last some (orders a b) p
+
 -- the heads, where they were asked for
 pub heads_kept : {S : Type 0} (b : Bool) (hs : List S) (o : Option (List S)) → o ≡ (if b then Some hs else None)
     → unwrap_or o [] ≡ (if b then hs else [])
@@ -44,15 +52,16 @@ module _ {N : Type 0} (D : Ops N) (p : Program) (a b : Order) (u : ℕ) where
         → new ≡ capped (old + turns_of D p a b u)
     turns_are old new e = e ∙ ap (λ n. capped (old + turns_in (cell_ops D) (plan n))) last_is
 
+    -- no more than there are, also where memory runs out
+    pub turns_within : (old new : ℕ) → new ≤ old + turns_in (cell_ops D) (plan limit)
+        → new ≤ old + turns_of D p a b u
+    turns_within old new h = subst (λ n. new ≤ old + turns_in (cell_ops D) (plan n)) last_is h
+
     -- passes are no more than the bound
     pub turns_few : TurnsAreBounded (Known N) → (old new : ℕ) → new ≤ old + turns_in (cell_ops D) (plan limit)
         → new ≤ old + most_turns D p a b u
     turns_few law old new h =
-        let some : 1 ≤ own = omega arith in
-        let few : turns_of D p a b u ≤ most_turns D p a b u = law (cell_ops D p (orders a b)) u own some
-        (orders a b) p in
-        let h' = subst (λ n. new ≤ old + turns_in (cell_ops D) (plan n)) last_is h in
-        less (turns_of D p a b u) (most_turns D p a b u) old new h' few
+        less (turns_of D p a b u) (most_turns D p a b u) old new (turns_within old new h) (few D p a b u law)
       where
         less : (n m old new : ℕ) → new ≤ old + n → n ≤ m → new ≤ old + m
         less n m old new h i = omega (arith, h, i)

@@ -67,6 +67,10 @@ pub fn analyse<N: Num>(
         ≡ capped (turns.old + turns_of N.ops (program_view program.now) orders.0 orders.1 unroll)) }
     ensures bound { turns.new ≤ turns.old + most_turns N.ops (program_view program.now) orders.0 orders.1 unroll }
     ensures counted { turns.old ≤ turns.new }
+    // Where memory runs out too, no more are counted than there are, and there are no more than the bound.
+    ensures within { turns.new ≤ turns.old + turns_of N.ops (program_view program.now) orders.0 orders.1 unroll }
+    ensures few { turns_of N.ops (program_view program.now) orders.0 orders.1 unroll
+        ≤ most_turns N.ops (program_view program.now) orders.0 orders.1 unroll }
     ensures heads { IfOk result (λ r. r.heads.items
         ≡ (if keeps_heads then heads_of N.ops (program_view program.now) orders.0 orders.1 unroll else [])) }
     // Where no alarm is raised, two machines of different byte orders agree.

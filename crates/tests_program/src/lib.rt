@@ -7,3 +7,5 @@ mod calls;
 mod commands;
 #[cfg(test)]
 mod failing;
+#[cfg(test)]
+mod passes;

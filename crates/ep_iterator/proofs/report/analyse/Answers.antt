@@ -1,6 +1,7 @@
 use Rattle.std.proofs.Common.{◌∙◌, sym}
 use Rattle.ep_core.specs.ProgramView.{program_view}
-use Rattle.ep_iterator.proofs.Reported.{alarms_are, turns_are, turns_few, heads_are, agreed, stand, even}
+use Rattle.ep_iterator.proofs.Reported.{alarms_are, turns_are, turns_within, turns_few, few}
+use Rattle.ep_iterator.proofs.Reported.{heads_are, agreed, stand, even}
 use Rattle.ep_iterator.proofs.report.analyse.Goals as goal
 
 pub returns-clause-alarms : goal.returns-clause-alarms
@@ -26,6 +27,33 @@ returns-in_err-log-clause-bound g c =
     turns_few g.N.Num.ops (program_view c.args.program.now) c.args.orders.0 c.args.orders.1 c.args.unroll
     c.last_head.result _ c.last_head.ensures (g.met.N.Num.height_is ∙ sym c.HEIGHT.ensures)
     c.reports.ensures.turns c.args.turns.now c.walk.new.turns c.walk.ensures.bound
+
+pub returns-clause-within : goal.returns-clause-within
+returns-clause-within g c =
+    turns_within g.N.Num.ops (program_view c.args.program.now) c.args.orders.0 c.args.orders.1 c.args.unroll
+    c.last_head.result _ c.last_head.ensures (g.met.N.Num.height_is ∙ sym c.HEIGHT.ensures)
+    c.args.turns.now c.walk.new.turns c.walk.ensures.bound
+
+pub returns-in_err-log-clause-within : goal.returns-in_err-log-clause-within
+returns-in_err-log-clause-within g c =
+    turns_within g.N.Num.ops (program_view c.args.program.now) c.args.orders.0 c.args.orders.1 c.args.unroll
+    c.last_head.result _ c.last_head.ensures (g.met.N.Num.height_is ∙ sym c.HEIGHT.ensures)
+    c.args.turns.now c.walk.new.turns c.walk.ensures.bound
+
+pub returns-clause-few : goal.returns-clause-few
+returns-clause-few g c =
+    few g.N.Num.ops (program_view c.args.program.now) c.args.orders.0 c.args.orders.1 c.args.unroll
+    c.reports.ensures.turns
+
+pub returns-in_err-log-clause-few : goal.returns-in_err-log-clause-few
+returns-in_err-log-clause-few g c =
+    few g.N.Num.ops (program_view c.args.program.now) c.args.orders.0 c.args.orders.1 c.args.unroll
+    c.reports.ensures.turns
+
+pub returns-in_err-sizes-clause-few : goal.returns-in_err-sizes-clause-few
+returns-in_err-sizes-clause-few g c =
+    few g.N.Num.ops (program_view c.args.program.now) c.args.orders.0 c.args.orders.1 c.args.unroll
+    c.reports.ensures.turns
 
 pub returns-clause-heads : goal.returns-clause-heads
 returns-clause-heads g c =
