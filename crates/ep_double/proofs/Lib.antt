@@ -6,3 +6,9 @@ pub mod Deeper
 pub mod Called
 pub mod Formed
 pub mod Kept
+pub mod ByteLaws
+pub mod ByteSteps
+pub mod BlockSteps
+pub mod Followed
+pub mod Offsets
+pub mod Moves

@@ -2,7 +2,9 @@
 #![tactic(auto)]
 
 mod closed;
+mod mover;
 mod tame;
 
 pub use closed::is_closed;
+pub use mover::is_mover;
 pub use tame::is_tame;

@@ -122,7 +122,7 @@ fn is_tame_expr(types: &Types, e: &Expr) -> bool
         Expr::Cond(e, a, b) => {
             is_tame_expr(types, e) && (is_tame_expr(types, a) && is_tame_expr(types, b))
         }
-        Expr::PtrAdd(e, unit, n, _) => {
+        Expr::PtrAdd(unit, _, e, n) => {
             !is_size_of_holder(types, *unit) && (is_tame_expr(types, e) && is_tame_expr(types, n))
         }
         Expr::Cast(_) => false,

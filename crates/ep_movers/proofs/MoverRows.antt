@@ -10,7 +10,8 @@ use Rattle.ep_layout.specs.declared.types.Ty.TheVariants.{Int, Array}
 use Rattle.ep_core.specs.Program.{Place, block, element, Expr, const, load, addr_of, binary, convert}
 use Rattle.ep_core.specs.Program.{Simple, assign, input, output, read_bytes, write_bytes, simple, by_order, Stmts}
 use Rattle.ep_core.specs.Program.{stop, more, Block, Program}
-use Rattle.ep_movers.specs.Symbols.{Symbol, fixed_byte, input_byte, faulty}
+use Rattle.ep_movers.specs.declared.Stop.TheVariants.{Faulty}
+use Rattle.ep_movers.specs.Symbols.{Symbol, fixed_byte, input_byte}
 use Rattle.ep_movers.specs.Movers.{is_mover_text, moves_on, outputs_on}
 use Rattle.ep_movers.specs.Forms.{has_moving_form}
 
@@ -193,7 +194,7 @@ byte_tables = (refl, refl, refl, refl, refl)
 -- the same on both machines
 tables_put_out : (outputs_on Little (tables 0 8 3) ≡ Ok (alone (bytes_of_input 0 (0 ∷ 1 ∷ 2 ∷ 3 ∷ []))))
     × (outputs_on Big (tables 0 8 3) ≡ outputs_on Little (tables 0 8 3))
-    × (outputs_on Big (tables 0 8 4) ≡ Err faulty)
+    × (outputs_on Big (tables 0 8 4) ≡ Err Faulty)
 tables_put_out = (refl, refl, refl)
 
 -- ---- 64 bits in two halves

@@ -18,7 +18,9 @@ use Rattle.ep_core.specs.Program.{What, simple, call, if_else, loop, break_loop,
 use Rattle.ep_core.specs.Program.{Stmts, stop, more, Block, Init, Function, Program}
 use Rattle.ep_core.specs.Exec.{is_order, result_in}
 use Rattle.ep_core.specs.Runs.{is_result}
-use Rattle.ep_movers.specs.Symbols.{Symbol, unset, fixed_byte, input_byte, Stop, foreign, faulty, goes_on, fixed_bytes}
+use Rattle.ep_movers.specs.declared.Stop.{Stop}
+use Rattle.ep_movers.specs.declared.Stop.TheVariants.{Foreign, Faulty}
+use Rattle.ep_movers.specs.Symbols.{Symbol, unset, fixed_byte, input_byte, goes_on, fixed_bytes}
 use Rattle.ep_movers.specs.Symbols.{is_set, operated, resized}
 use Rattle.ep_movers.specs.Forms.{constant, block_of, has_moving_form}
 
@@ -47,17 +49,17 @@ bytes_in m b = get_or m b []
 
 -- a byte, which may lie outside of its block
 abbrev pub byte_at : List Held → ℕ → Result Symbol Stop
-byte_at hs q = if nat_lt q (length hs) then Ok (get_or hs q (held unset false)).symbol else Err faulty
+byte_at hs q = if nat_lt q (length hs) then Ok (get_or hs q (held unset false)).symbol else Err Faulty
 
 -- it has to be defined
 abbrev pub defined : Symbol → Result Symbol Stop
-defined x = if is_set x then Ok x else Err faulty
+defined x = if is_set x then Ok x else Err Faulty
 
 -- A byte is written once alone.
 abbrev pub byte_written : List Held → ℕ → Symbol → Result (List Held) Stop
 byte_written hs q x =
-    if not (nat_lt q (length hs)) then Err faulty
-    else if (get_or hs q (held unset false)).written then Err foreign else Ok (slice_set hs q (held x true))
+    if not (nat_lt q (length hs)) then Err Faulty
+    else if (get_or hs q (held unset false)).written then Err Foreign else Ok (slice_set hs q (held x true))
 
 -- of so many zero bytes, or undefined ones
 abbrev pub blank_bytes : (is_zero : Bool) → (count : ℕ) → List Held
@@ -73,48 +75,48 @@ blank_blocks r n (b ∷ bs) = blank_bytes (b.global || is_result r n) b.size ∷
 
 -- where an element lies in its block (C11 6.5.6p8)
 abbrev pub offset_of : (bound unit : ℕ) → Option ℤ → Result ℕ Stop
-offset_of bound unit None = Err foreign
+offset_of bound unit None = Err Foreign
 offset_of bound unit (Some v) =
-    if is_in_range U32 v && nat_lt (residue (2 ^ 32) v) bound then Ok (unit * residue (2 ^ 32) v) else Err faulty
+    if is_in_range U32 v && nat_lt (residue (2 ^ 32) v) bound then Ok (unit * residue (2 ^ 32) v) else Err Faulty
 
 -- so many units from the begin of a block of so many bytes; one past the end is in place too (C11 6.5.6p8)
 abbrev pub offset_to : (bytes unit : ℕ) → Option ℤ → Result ℕ Stop
-offset_to n unit None = Err foreign
+offset_to n unit None = Err Foreign
 offset_to n unit (Some v) =
-    if is_in_range U32 v && nat_le (unit * residue (2 ^ 32) v) n then Ok (unit * residue (2 ^ 32) v) else Err faulty
+    if is_in_range U32 v && nat_le (unit * residue (2 ^ 32) v) n then Ok (unit * residue (2 ^ 32) v) else Err Faulty
 
 -- the block that a place lies in, and where
 abbrev pub place_of : Place → Result (ℕ × ℕ) Stop
 place_of (block b) = Ok (b, 0)
-place_of (deref e) = Err foreign
-place_of (member a offset) = Err foreign
+place_of (deref e) = Err Foreign
+place_of (member a offset) = Err Foreign
 place_of (element (block b) bound unit i) = goes_on (offset_of bound unit (constant i)) (λ q. Ok (b, q))
-place_of (element (deref e) bound unit i) = Err foreign
-place_of (element (member a offset) bound unit i) = Err foreign
-place_of (element (element a n u j) bound unit i) = Err foreign
+place_of (element (deref e) bound unit i) = Err Foreign
+place_of (element (member a offset) bound unit i) = Err Foreign
+place_of (element (element a n u j) bound unit i) = Err Foreign
 
 abbrev pub block_at : Option ℕ → Result ℕ Stop
-block_at None = Err foreign
+block_at None = Err Foreign
 block_at (Some b) = Ok b
 
 -- where a pointer points: to a block, or to an element of it
 abbrev pub target_of : Symbols → Expr → Result (ℕ × ℕ) Stop
-target_of m (const t v) = Err foreign
-target_of m null_value = Err foreign
-target_of m (load what a) = Err foreign
+target_of m (const t v) = Err Foreign
+target_of m null_value = Err Foreign
+target_of m (load what a) = Err Foreign
 target_of m (addr_of a) = goes_on (block_at (block_of (addr_of a))) (λ b. Ok (b, 0))
-target_of m (binary op t a b) = Err foreign
-target_of m (convert t e) = Err foreign
-target_of m (compare c t a b) = Err foreign
-target_of m (ptr_compare c a b) = Err foreign
-target_of m (logical_and a b) = Err foreign
-target_of m (logical_or a b) = Err foreign
-target_of m (logical_not e) = Err foreign
-target_of m (conditional e a b) = Err foreign
+target_of m (binary op t a b) = Err Foreign
+target_of m (convert t e) = Err Foreign
+target_of m (compare c t a b) = Err Foreign
+target_of m (ptr_compare c a b) = Err Foreign
+target_of m (logical_and a b) = Err Foreign
+target_of m (logical_or a b) = Err Foreign
+target_of m (logical_not e) = Err Foreign
+target_of m (conditional e a b) = Err Foreign
 target_of m (ptr_add e unit n back) =
     goes_on (block_at (block_of e))
     (λ b. goes_on (offset_to (length (bytes_in m b)) unit (constant n)) (λ q. Ok (b, q)))
-target_of m (cast e) = Err foreign
+target_of m (cast e) = Err Foreign
 
 abbrev pub remembers : Machine → (block : ℕ) → List Held → Machine
 remembers s b hs = record s { memory = slice_set s.memory b hs }
@@ -176,62 +178,69 @@ module _ (o : Order) where
   abbrev pub loaded_from : Symbols → Scalar → Place → Result (List Symbol) Stop
   loaded_from m (Number t) a =
       goes_on (place_of a) (λ w. loaded_bytes (bytes_in m w.0) w.1 (bytes_of t) 0 (bytes_of t))
-  loaded_from m Pointer a = Err foreign
+  loaded_from m Pointer a = Err Foreign
 
   -- the bytes of an expression, the lowest first
   abbrev pub symbols : Symbols → Expr → Result (List Symbol) Stop
   symbols m (const t v) = Ok (fixed_bytes v 0 (bytes_of t))
-  symbols m null_value = Err foreign
+  symbols m null_value = Err Foreign
   symbols m (load what a) = loaded_from m what a
-  symbols m (addr_of a) = Err foreign
+  symbols m (addr_of a) = Err Foreign
   symbols m (binary op t a b) =
       goes_on (symbols m a) (λ xs. goes_on (symbols m b) (operated op (constant a) (constant b) xs))
   symbols m (convert t e) = goes_on (symbols m e) (λ xs. Ok (resized t xs))
-  symbols m (compare c t a b) = Err foreign
-  symbols m (ptr_compare c a b) = Err foreign
-  symbols m (logical_and a b) = Err foreign
-  symbols m (logical_or a b) = Err foreign
-  symbols m (logical_not e) = Err foreign
-  symbols m (conditional e a b) = Err foreign
-  symbols m (ptr_add e unit n back) = Err foreign
-  symbols m (cast e) = Err foreign
+  symbols m (compare c t a b) = Err Foreign
+  symbols m (ptr_compare c a b) = Err Foreign
+  symbols m (logical_and a b) = Err Foreign
+  symbols m (logical_or a b) = Err Foreign
+  symbols m (logical_not e) = Err Foreign
+  symbols m (conditional e a b) = Err Foreign
+  symbols m (ptr_add e unit n back) = Err Foreign
+  symbols m (cast e) = Err Foreign
 
   -- ---- statements
 
-  abbrev pub writes : Machine → ℕ × ℕ → List Symbol → Result Machine Stop
-  writes s w xs =
-      goes_on (bytes_written w.1 (length xs) 0 xs (bytes_in s.memory w.0)) (λ hs. Ok (remembers s w.0 hs))
+  -- the bytes of a number of a type at a place
+  abbrev pub writes : IntType → Machine → ℕ × ℕ → List Symbol → Result Machine Stop
+  writes t s w xs =
+      goes_on (bytes_written w.1 (bytes_of t) 0 xs (bytes_in s.memory w.0)) (λ hs. Ok (remembers s w.0 hs))
 
   abbrev pub takes : IntType → Option Dest → Machine → Result Machine Stop
-  takes t None s = Err foreign
+  takes t None s = Err Foreign
   takes t (Some d) s =
-      goes_on (place_of d.place) (λ w. writes (taken s 1) w (input_bytes s.inputs 0 (bytes_of t)))
+      goes_on (place_of d.place) (λ w. writes t (taken s 1) w (input_bytes s.inputs 0 (bytes_of t)))
+
+  -- a number, converted to the type of the place (C11 6.5.16.1p2)
+  abbrev pub assigns : Scalar → Place → Expr → Machine → Result Machine Stop
+  assigns (Number t) a e s =
+      goes_on (place_of a) (λ w. goes_on (symbols s.memory e) (λ xs. writes t s w (resized t xs)))
+  assigns Pointer a e s = Err Foreign
 
   abbrev pub does : Simple → Machine → Result Machine Stop
   does nothing s = Ok s
-  does (eval e) s = Err foreign
-  does (assign what a e) s = goes_on (place_of a) (λ w. goes_on (symbols s.memory e) (writes s w))
-  does (clear a ty) s = Err foreign
-  does (copy_aggregate a b ty) s = Err foreign
-  does (copy_bytes a b n) s = Err foreign
-  does (fill a e n) s = Err foreign
+  does (eval e) s = Err Foreign
+  does (assign what a e) s = assigns what a e s
+  does (clear a ty) s = Err Foreign
+  does (copy_aggregate a b ty) s = Err Foreign
+  does (copy_bytes a b n) s = Err Foreign
+  does (fill a e n) s = Err Foreign
   does (input t d) s = takes t d s
   does (output t e) s = goes_on (symbols s.memory e) (λ xs. Ok (puts_out s xs))
   does (read_bytes e n) s = goes_on (block_at (block_of e)) (λ b. bytes_taken b 0 n s)
   does (write_bytes e n) s =
       goes_on (target_of s.memory e) (λ w. bytes_put_out (bytes_in s.memory w.0) w.1 n s)
-  does (returns e) s = Err foreign
+  does (returns e) s = Err Foreign
 
   abbrev mutual
     pub moves_what : What → Machine → Result Machine Stop
     moves_what (simple w) s = does w s
-    moves_what (call k es d) s = Err foreign
-    moves_what (if_else e a b) s = Err foreign
-    moves_what (loop first e a b) s = Err foreign
-    moves_what break_loop s = Err foreign
-    moves_what continue_loop s = Err foreign
+    moves_what (call k es d) s = Err Foreign
+    moves_what (if_else e a b) s = Err Foreign
+    moves_what (loop first e a b) s = Err Foreign
+    moves_what break_loop s = Err Foreign
+    moves_what continue_loop s = Err Foreign
     moves_what (by_order named a b) s = if is_order o named then moves a s else moves b s
-    moves_what (scope bs a) s = Err foreign
+    moves_what (scope bs a) s = Err Foreign
 
     pub moves : Stmts → Machine → Result Machine Stop
     moves stop s = Ok s
@@ -243,7 +252,7 @@ module _ (o : Order) where
   first_machine p r = record { memory = first_memory p r; inputs = 0; outputs = [] }
 
   abbrev pub main_moves : Program → Option Function → Result Machine Stop
-  main_moves p None = Err foreign
+  main_moves p None = Err Foreign
   main_moves p (Some f) = moves f.body (first_machine p (result_in (Some f)))
 
 -- what it put out
@@ -258,8 +267,8 @@ outputs_on o p = outputs_of (main_moves o p (slice_get p.functions p.main))
 -- Whether it isn't foreign to movers. Where its behaviour is undefined, nothing is asked of what would come after that.
 abbrev pub is_moved : Result Machine Stop → Bool
 is_moved (Ok s) = true
-is_moved (Err foreign) = false
-is_moved (Err faulty) = true
+is_moved (Err Foreign) = false
+is_moved (Err Faulty) = true
 
 -- on a machine of this order no byte is written twice, and operators put bytes together of which one is always 0
 abbrev pub moves_on : Order → Program → Bool

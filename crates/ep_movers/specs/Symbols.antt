@@ -7,17 +7,14 @@ use Rattle.ep_int.specs.declared.types.BinOp.{BinOp}
 use Rattle.ep_int.specs.declared.types.BinOp.TheVariants.{Add, Sub, Mul, Div, Rem, And, Or, Xor, Shl, Shr}
 use Rattle.ep_int.specs.Types.{bytes_of, residue}
 use Rattle.ep_int.specs.Encoding.{byte_of}
+use Rattle.ep_movers.specs.declared.Stop.{Stop}
+use Rattle.ep_movers.specs.declared.Stop.TheVariants.{Foreign}
 
 -- A byte is undefined, a number, or one byte of the input before which so many were taken.
 pub data Symbol : Type 0 where
   unset : Symbol
   fixed_byte : ℕ → Symbol
   input_byte : (input byte : ℕ) → Symbol
-
--- Why a machine goes no further: no mover does this, or its behaviour is undefined.
-pub data Stop : Type 0 where
-  foreign : Stop
-  faulty : Stop
 
 abbrev pub goes_on : {A B : Type 0} → Result A Stop → (A → Result B Stop) → Result B Stop
 goes_on (Ok x) f = f x
@@ -51,7 +48,7 @@ is_set (input_byte i k) = true
 
 -- a sum, or a bitwise or, of two bytes of which one is 0
 abbrev pub merged_byte : Symbol → Symbol → Result Symbol Stop
-merged_byte x y = if is_zero x then Ok y else if is_zero y then Ok x else Err foreign
+merged_byte x y = if is_zero x then Ok y else if is_zero y then Ok x else Err Foreign
 
 abbrev pub merged : List Symbol → List Symbol → Result (List Symbol) Stop
 merged [] ys = Ok []
@@ -67,7 +64,7 @@ abbrev pub moved_up : (bytes : ℕ) → List Symbol → List Symbol
 moved_up n xs = take (length xs) (zeros n ++ xs)
 
 abbrev pub moved_down : (bytes : ℕ) → List Symbol → List Symbol
-moved_down n xs = drop n xs ++ zeros n
+moved_down n xs = take (length xs) (drop n xs ++ zeros n)
 
 -- the whole bytes that an amount of bits is
 abbrev pub bytes_moved : ℤ → ℕ
@@ -79,7 +76,7 @@ resized t xs = take (bytes_of t) (xs ++ zeros 8)
 
 -- what a shift by a constant gives
 abbrev pub shifted : (ℕ → List Symbol → List Symbol) → (amount : Option ℤ) → List Symbol → Result (List Symbol) Stop
-shifted move None xs = Err foreign
+shifted move None xs = Err Foreign
 shifted move (Some v) xs = Ok (move (bytes_moved v) xs)
 
 -- so many bytes of a number, from byte k on, are 0 or 255
@@ -93,7 +90,7 @@ is_mask None = false
 is_mask (Some v) = are_whole v 0 8
 
 abbrev pub masked_by : Option ℤ → List Symbol → Result (List Symbol) Stop
-masked_by None xs = Err foreign
+masked_by None xs = Err Foreign
 masked_by (Some v) xs = Ok (masked v 0 xs)
 
 -- What an operator gives, of operands with these bytes. As constants, the left is `u`, as a mask alone, and the right
@@ -105,7 +102,7 @@ operated Xor u v xs ys = merged xs ys
 operated And u v xs ys = if is_mask v then masked_by v xs else masked_by u ys
 operated Shl u v xs ys = shifted moved_up v xs
 operated Shr u v xs ys = shifted moved_down v xs
-operated Sub u v xs ys = Err foreign
-operated Mul u v xs ys = Err foreign
-operated Div u v xs ys = Err foreign
-operated Rem u v xs ys = Err foreign
+operated Sub u v xs ys = Err Foreign
+operated Mul u v xs ys = Err Foreign
+operated Div u v xs ys = Err Foreign
+operated Rem u v xs ys = Err Foreign

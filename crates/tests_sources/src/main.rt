@@ -1,14 +1,14 @@
 //! For each source of a file what comes of it: the layouts of its types, or the text of a run, or its refusal. Before
 //! each source stands a line that says what is asked, as `== layout lp64` or `== run ilp32 big 100 1 2`: the data
-//! model, the byte order, the most steps, and the inputs. `== kinds ilp32` asks whether it is tame, and whether it is
-//! closed.
+//! model, the byte order, the most steps, and the inputs. `== kinds ilp32` asks whether it is tame, whether it is
+//! closed, and whether it is a byte mover on little- and big-endian machines.
 #![tactic(auto)]
 
 use bstr::ByteSlice;
 use ep_ast::{Halt, refusal_text};
 use ep_concrete::{run, run_text};
 use ep_core::program::CoreProgram;
-use ep_double::{is_closed, is_tame};
+use ep_double::{is_closed, is_mover, is_tame};
 use ep_int::{Model, Order};
 use ep_io::{FileSource, Source, StdSink, read_all, write_all};
 use ep_source::read;
@@ -59,7 +59,7 @@ fn answer(alloc: Global, head: &str, source: &[u8]) -> Option<Vec<u8>> {
         Ok(program) => match command {
             "layout" => program.types.layout_text().ok(),
             "run" => run_as(alloc, program, words),
-            "kinds" => Vec::from_slice(alloc, kinds_of(program)).ok(),
+            "kinds" => kinds_of(alloc, program),
             _ => None,
         },
         Err(Halt::Refused(refusal)) => refusal_text(alloc, refusal).ok(),
@@ -97,12 +97,17 @@ fn run_as(alloc: Global, program: &CoreProgram, words: &str) -> Option<Vec<u8>> 
     run_text(alloc, &result).ok()
 }
 
-/// Whether a program is tame, and whether it is closed.
-fn kinds_of(program: &CoreProgram) -> &'static [u8] {
-    match (is_tame(program), is_closed(program)) {
-        (true, true) => b"tame closed\n",
-        (true, false) => b"tame open\n",
-        (false, true) => b"wild closed\n",
-        (false, false) => b"wild open\n",
-    }
+/// Whether a program is tame, whether it is closed, and whether it is a byte mover.
+fn kinds_of(alloc: Global, program: &CoreProgram) -> Option<Vec<u8>> {
+    let moves = is_mover(alloc, program, Order::Little, Order::Big).ok()?;
+    let mut text = Vec::new(alloc);
+    add_word(&mut text, is_tame(program), "tame ", "wild ")?;
+    add_word(&mut text, is_closed(program), "closed ", "open ")?;
+    add_word(&mut text, moves, "mover\n", "none\n")?;
+    Some(text)
+}
+
+fn add_word(text: &mut Vec<u8>, is_so: bool, yes: &str, no: &str) -> Option<()> {
+    let word = if is_so { yes } else { no };
+    text.extend_from_slice(word.as_bytes()).ok()
 }

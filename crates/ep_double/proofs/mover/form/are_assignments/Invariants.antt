@@ -1,0 +1,7 @@
+use Rattle.std.proofs.Common.{◌≡◌, drop}
+use Rattle.ep_core.specs.View.{stmts_view}
+use Rattle.ep_movers.specs.Forms.{are_assignments}
+use Rattle.ep_double.proofs.mover.form.are_assignments.Given as goal
+
+abbrev pub invariant-loop-s : goal.invariant-loop-s
+invariant-loop-s l = are_assignments (stmts_view (drop l.s-index l.body)) ≡ are_assignments (stmts_view l.body)
