@@ -1,0 +1,5 @@
+//! Tests of calls that find little memory.
+#![tactic(auto)]
+
+#[cfg(test)]
+mod little_memory;
