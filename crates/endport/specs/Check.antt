@@ -40,8 +40,8 @@ report_status (a ∷ more) = Alarms
 
 -- The text and the status of the report on the one program that the source means. Where it has no alarms, the two
 -- machines agree on that program: at all numbers of steps, along every interleaving, and in the end. Each alarm is of a
--- kind that the text on its line may have. Without known bits none on a tame program is of the kinds E1 to E4, and there
--- is none at all on a steady program that is closed at this number of turns.
+-- kind that the text on its line may have. Without known bits none on a tame program is of the kinds E1 to E4, and
+-- there is none at all on a steady program that is closed at this number of turns.
 pub record Reports (a : Asked) (source : List ℕ) (status : Status) (text : List ℕ) : Type 0 where
   pub program : Program
   pub means : MeansOnly a.model source program

@@ -1,3 +1,5 @@
+//! Trees of expressions.
+
 ghost use Rattle.std.specs.Prelude.{◌≡◌, map};
 ghost use Rattle.ep_ast.specs.Expression as shape;
 
@@ -61,6 +63,7 @@ impl ExprTree {
         ExprTree::Call(line, callee, arguments)
     }
 
+    /// The line that the expression is on, as its refusals name it.
     pub fn line(&self) -> u32
         ensures { result ≡ shape.line_of (shape.expr self.now) }
     {

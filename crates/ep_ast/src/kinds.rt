@@ -1,3 +1,5 @@
+//! Kinds of refusals.
+
 ghost use Rattle.std.specs.Prelude.{◌≡◌};
 ghost use Rattle.ep_ast.specs.Kind.{number_of};
 ghost use Rattle.ep_ast.specs.Refusal as spec;

@@ -1,3 +1,5 @@
+//! Punctuators.
+
 ghost use Rattle.std.specs.Prelude.{◌≡◌, ◌<◌, length};
 ghost use Rattle.ep_ast.specs.Mark.{mark_text};
 
@@ -97,6 +99,7 @@ pub enum Mark {
 }
 
 impl Mark {
+    /// The bytes that spell it.
     pub fn text(self) -> &'static [u8]
         ensures value { result.now ≡ mark_text self }
         ensures some { 0 < length result.now }

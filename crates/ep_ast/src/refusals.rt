@@ -1,3 +1,5 @@
+//! Refusals: what is wrong, and where.
+
 ghost use Rattle.std.specs.Prelude.{◌≡◌, ◌++◌, IfOk, OnOk};
 ghost use Rattle.ep_ast.specs.Kind.{number_of};
 ghost use Rattle.ep_ast.specs.Refusal as spec;
@@ -49,6 +51,7 @@ impl Refusal {
         }
     }
 
+    /// What is wrong.
     pub fn kind(&self) -> RefusalKind
         ensures { number_of result ≡ self.now.kind }
     {

@@ -1,3 +1,5 @@
+//! Trees of statements.
+
 ghost use Rattle.std.specs.Prelude.{◌≡◌, map};
 ghost use Rattle.std.specs.Option.{option_map};
 ghost use Rattle.ep_ast.specs.Expression.{expr};

@@ -1,3 +1,5 @@
+//! Words that the language has, and words that are reserved.
+
 ghost use Rattle.std.specs.Prelude.{◌≡◌, ◌==◌, Some};
 ghost use Rattle.ep_ast.specs.Mark.{union_word, word_number, word_text};
 ghost use Rattle.ep_ast.specs.Reserved.{reserved_number, reserved_word};
@@ -30,12 +32,14 @@ pub enum Word {
 }
 
 impl Word {
+    /// Whether it is `union`.
     pub fn is_union(self) -> bool
         ensures { result ≡ (word_number self == union_word) }
     {
         self == Word::Union
     }
 
+    /// The bytes that spell it.
     pub fn text(self) -> &'static [u8]
         ensures { result.now ≡ word_text self }
     {
@@ -94,6 +98,7 @@ pub enum ReservedWord {
 }
 
 impl ReservedWord {
+    /// The bytes that spell it.
     pub fn text(self) -> &'static [u8]
         ensures { result.now ≡ reserved_word (reserved_number (Some self)) }
     {

@@ -19,8 +19,8 @@ use ep_single_states::{single_numbers, single_reshares, single_states};
 use ep_single_tests::single_tests;
 use ep_single_values::single_values;
 
-/// States that the operations on cells keep what reports on closed and steady programs need, over each domain that keeps
-/// single numbers, and does nothing.
+/// States that the operations on cells keep what reports on closed and steady programs need, over each domain that
+/// keeps single numbers, and does nothing.
 pub fn closed_states<N: Num>()
     ensures { CellsAreExact N.ops }
 {

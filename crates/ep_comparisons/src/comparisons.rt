@@ -36,6 +36,7 @@ fn pointers_compared(alloc: Global, how: Cmp, a: Value, b: Value) -> Result<Valu
 }
 
 // `<`, `>`, `<=` and `>=`: two integers, or two pointers of one type, of which null is none.
+/// `<`, `>`, `<=` and `>=` of two operands (C11 6.5.8).
 #[tactic(auto, unfolding(ep_typing::specs::Operators::ordered))]
 pub fn ordered(alloc: Global, line: u32, how: Cmp, a: Value, b: Value) -> Result<Value, Halt>
     ensures { Refines view.value (at line (rule.ordered how (view.value a) (view.value b))) result }
@@ -61,6 +62,7 @@ pub fn ordered(alloc: Global, line: u32, how: Cmp, a: Value, b: Value) -> Result
 }
 
 // `==` and `!=`: two integers, or two pointers of one type, or one of them null or to void.
+/// `==` and `!=` of two operands (C11 6.5.9).
 #[tactic(auto, unfolding(ep_typing::specs::Operators::equated))]
 pub fn equated(alloc: Global, line: u32, how: Cmp, a: Value, b: Value) -> Result<Value, Halt>
     ensures { Refines view.value (at line (rule.equated how (view.value a) (view.value b))) result }

@@ -13,6 +13,7 @@ use ep_operands::pairs::are_scalars;
 use ep_operands::{Value, refused};
 use std::alloc::Global;
 
+/// `&&` of two scalars (C11 6.5.13).
 #[tactic(auto, unfolding(ep_typing::specs::Operators::both))]
 pub fn both(alloc: Global, line: u32, a: Value, b: Value) -> Result<Value, Halt>
     ensures { Refines view.value (at line (rule.both (view.value a) (view.value b))) result }
@@ -25,6 +26,7 @@ pub fn both(alloc: Global, line: u32, a: Value, b: Value) -> Result<Value, Halt>
     Err(refused(RefusalKind::TypeMismatch, line))
 }
 
+/// `||` of two scalars (C11 6.5.14).
 #[tactic(auto, unfolding(ep_typing::specs::Operators::either))]
 pub fn either(alloc: Global, line: u32, a: Value, b: Value) -> Result<Value, Halt>
     ensures { Refines view.value (at line (rule.either (view.value a) (view.value b))) result }

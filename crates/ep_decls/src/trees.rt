@@ -34,6 +34,7 @@ pub fn function_of(head: Measured<HeadTree>, body: Measured<BlockTree>) -> Measu
     }
 }
 
+/// An item that defines a function.
 pub fn defined(function: Measured<FunctionTree>) -> Measured<ItemTree>
     ensures { (f : tree.Function) → ShowsFunction function f → ShowsItem result (tree.defines f) }
 {
@@ -43,6 +44,7 @@ pub fn defined(function: Measured<FunctionTree>) -> Measured<ItemTree>
     }
 }
 
+/// An item that declares a function.
 pub fn prototype(head: Measured<HeadTree>) -> Measured<ItemTree>
     ensures { (h : shape.Head) → Shows head_of in_head head h → ShowsItem result (tree.prototype h) }
 {
@@ -52,6 +54,7 @@ pub fn prototype(head: Measured<HeadTree>) -> Measured<ItemTree>
     }
 }
 
+/// An item that declares variables or names of types.
 pub fn declared(declaration: Measured<DeclarationTree>) -> Measured<ItemTree>
     ensures { (d : shape.Declaration) → ShowsDeclaration declaration d → ShowsItem result (tree.declares_all d) }
 {
@@ -61,6 +64,7 @@ pub fn declared(declaration: Measured<DeclarationTree>) -> Measured<ItemTree>
     }
 }
 
+/// An item that is a structure or union alone.
 pub fn completed(aggregate: Measured<AggregateTree>) -> Measured<ItemTree>
     ensures { (a : shape.Aggregate) → Shows aggregate_of in_aggregate aggregate a
         → ShowsItem result (tree.completes a) }

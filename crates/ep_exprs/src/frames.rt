@@ -27,6 +27,7 @@ pub enum Before<'a> {
     Nothing,
 }
 
+/// What stands first before an operand.
 pub fn prefix_at<'a>(names: &TypeNames, tokens: &'a [Token]) -> Before<'a>
     ensures value { IsBefore (is_type names.now) result (map view tokens.now) }
     ensures shorter { IsShorter result (length tokens.now) }

@@ -90,6 +90,7 @@ pub fn at_assignment<'a>(tokens: &'a [Token]) -> Option<(u32, Mark, &'a [Token])
     }
 }
 
+/// Whether it is an operator that stands before its operand (C11 6.5.3).
 pub fn is_prefix(mark: Mark) -> bool
     ensures { result ≡ grammar.is_prefix (mark_number mark) }
 {
@@ -99,6 +100,7 @@ pub fn is_prefix(mark: Mark) -> bool
     )
 }
 
+/// Whether it is `++` or `--`.
 pub fn is_step(mark: Mark) -> bool
     ensures { result ≡ grammar.is_step (mark_number mark) }
 {

@@ -28,6 +28,7 @@ pub struct Flow<K> {
 }
 
 impl<K> Ways<K> {
+    /// No way out is reached.
     pub fn none() -> Ways<K>
         ensures { ways_view result ≡ none }
     {
@@ -62,6 +63,7 @@ impl<K> Flow<K> {
         }
     }
 
+    /// A pass that is left by `break` alone, or not at all.
     pub fn broken(way: Option<K>) -> Flow<K>
         ensures on { result.on ≡ None }
         ensures ways { ways_view result.ways ≡ record { broken = way; continued = None; returned = None } }
@@ -76,6 +78,7 @@ impl<K> Flow<K> {
         }
     }
 
+    /// A pass that is left by `continue` alone, or not at all.
     pub fn continued(way: Option<K>) -> Flow<K>
         ensures on { result.on ≡ None }
         ensures ways { ways_view result.ways ≡ record { broken = None; continued = way; returned = None } }
@@ -90,6 +93,7 @@ impl<K> Flow<K> {
         }
     }
 
+    /// A pass that is left by `return` alone, or not at all.
     pub fn returned(way: Option<K>) -> Flow<K>
         ensures on { result.on ≡ None }
         ensures ways { ways_view result.ways ≡ record { broken = None; continued = None; returned = way } }
@@ -123,6 +127,7 @@ pub fn join_reached<K: AbstractStates>(
     }
 }
 
+/// The join of what two passes leave, by each way out.
 pub fn join_all<K: AbstractStates>(
     c: &Setting<'_>,
     a: Ways<K>,
@@ -282,6 +287,7 @@ pub fn keep_on<K: Drop>(line: u32, flow: Flow<K>, log: &mut Log<K>) -> Result<Fl
     Ok(Flow::on(on))
 }
 
+/// Keeps what leaves by `break`; each other way out that is reached is an alarm at this line.
 pub fn keep_broken<K: Drop>(line: u32, flow: Flow<K>, log: &mut Log<K>) -> Result<Flow<K>, Memory>
     ensures { Passes (only_broken line (flow_view flow)) result log.old log.new }
 {
@@ -297,6 +303,7 @@ pub fn keep_broken<K: Drop>(line: u32, flow: Flow<K>, log: &mut Log<K>) -> Resul
     Ok(Flow::broken(broken))
 }
 
+/// Keeps what leaves by `continue`; each other way out that is reached is an alarm at this line.
 pub fn keep_continued<K: Drop>(
     line: u32,
     flow: Flow<K>,
@@ -316,6 +323,7 @@ pub fn keep_continued<K: Drop>(
     Ok(Flow::continued(continued))
 }
 
+/// Keeps what leaves by `return`; each other way out that is reached is an alarm at this line.
 pub fn keep_returned<K: Drop>(line: u32, flow: Flow<K>, log: &mut Log<K>) -> Result<Flow<K>, Memory>
     ensures { Passes (only_returned line (flow_view flow)) result log.old log.new }
 {

@@ -1,3 +1,5 @@
+//! Classes of bytes.
+
 ghost use Rattle.std.specs.Prelude.{◌≡◌, ◌≢◌, ◌+◌, ◌-◌, ◌<◌, ◌≤◌, ◌^◌, length, drop, slice_index, IsTrue, IfOk, IfSome};
 ghost use Rattle.std.specs.List.{prefix_len};
 ghost use Rattle.std.specs.Option.{option_map};
@@ -26,18 +28,21 @@ fn is_blank(b: u8) -> bool
     b == b' ' || b == b'\t' || b == b'\r'
 }
 
+/// Whether the byte is a decimal digit (C11 6.4.2.1).
 pub fn is_digit(b: u8) -> bool
     ensures { result ≡ spec.is_digit b }
 {
     b'0' <= b && b <= b'9'
 }
 
+/// Whether the byte is a letter or `_` (C11 6.4.2.1).
 pub fn is_letter(b: u8) -> bool
     ensures { result ≡ spec.is_letter b }
 {
     (b'a' <= b && b <= b'z') || (b'A' <= b && b <= b'Z') || b == b'_'
 }
 
+/// Whether the byte may stand inside of a name (C11 6.4.2.1).
 pub fn is_word(b: u8) -> bool
     ensures { result ≡ spec.is_word b }
 {

@@ -1,3 +1,5 @@
+//! Macros that stand for numbers.
+
 ghost use Rattle.std.specs.Prelude.{◌≡◌, [], ◌∷◌, ◌++◌, None, OnOk};
 ghost use Rattle.ep_ast.specs.Cut.{constant};
 ghost use Rattle.ep_lexer.specs.Step.{constants};
@@ -13,6 +15,7 @@ pub struct Definitions {
 }
 
 impl Definitions {
+    /// Nothing is defined yet.
     pub fn new(alloc: Global) -> Definitions
         ensures { constants result ≡ [] }
     {
@@ -21,12 +24,14 @@ impl Definitions {
         }
     }
 
+    /// The number that a macro stands for, if it is defined.
     pub fn get(&self, name: &[u8]) -> Option<Literal>
         ensures { result ≡ constant (constants self.now) name.now }
     {
         self.table.get(name).copied()
     }
 
+    /// Defines one macro more; an error leaves all as it was.
     pub fn add(&mut self, alloc: Global, name: &[u8], value: Literal) -> Result<(), AllocError>
         requires { constant (constants self.old) name.now ≡ None }
         ensures { OnOk result (constants self.new ≡ constants self.old ++ (name.now, value) ∷ []) }

@@ -1,3 +1,5 @@
+//! The tokens of a source.
+
 ghost use Rattle.std.specs.Prelude.{◌≡◌, ◌+◌, ◌-◌, ◌<◌, ◌≤◌, ◌^◌, [], ◌∷◌, ◌++◌, List, map, length, IfOk, IfErr};
 ghost use Rattle.std.specs.Prelude.{IfSome, OnOk, ℕ, false};
 ghost use Rattle.ep_ast.specs.Cut as cut;

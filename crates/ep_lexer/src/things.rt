@@ -1,3 +1,5 @@
+//! What comes next in a source.
+
 ghost use Rattle.std.specs.Prelude.{◌≡◌, ◌+◌, ◌-◌, ◌<◌, ◌≤◌, ◌^◌, IsTrue, length, drop, slice_index, IfOk};
 ghost use Rattle.ep_ast.specs.Lexeme as spec;
 ghost use Rattle.ep_ast.specs.Cut.{at_line};
@@ -102,6 +104,7 @@ fn sign_at<'a>(line: u32, bytes: &'a [u8]) -> Result<Next<'a>, Refusal>
     }
 }
 
+/// What comes next in these bytes.
 #[tactic(auto, unfolding(crate::specs::Step::thing_at))]
 pub fn thing_at<'a>(line: u32, bytes: &'a [u8]) -> Result<Next<'a>, Refusal>
     ensures value { step.shown step.next_view result ≡ step.thing_at line bytes.now }

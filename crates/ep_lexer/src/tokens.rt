@@ -1,3 +1,5 @@
+//! Tokens with their lines.
+
 use ep_ast::{Literal, Mark, Word};
 
 /// A token. The last four are directives: an `#if` of little or of big byte order, `#else` and `#endif`.

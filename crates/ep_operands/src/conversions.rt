@@ -66,12 +66,14 @@ pub fn converted(alloc: Global, t: IntType, v: Value) -> Result<Expr, AllocError
     Ok(Expr::Convert(t, expr))
 }
 
+/// The type of an integer after its promotion (C11 6.3.1.1).
 pub fn promoted_type(v: &Value) -> IntType
     ensures { result ≡ rule.promoted_type (view.value v.now) }
 {
     promote(int_of(v.ty))
 }
 
+/// The integer, converted to its promoted type (C11 6.3.1.1).
 pub fn promoted_value(alloc: Global, v: Value) -> Result<Expr, AllocError>
     ensures { IfOk result (λ e. expr_view e ≡ rule.promoted_value (view.value v)) }
 {
@@ -121,6 +123,7 @@ pub fn is_mixed(c: CType, v: &Value) -> bool
     }
 }
 
+/// Whether both types are scalar.
 pub fn are_scalars(c: CType, d: CType) -> bool
     ensures { result ≡ rule.are_scalars c d }
 {

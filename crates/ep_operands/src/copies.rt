@@ -46,10 +46,10 @@ pub fn copy_expr(alloc: Global, expr: &Expr) -> Result<Expr, AllocError>
             let no = boxed_expr(alloc, no)?;
             Ok(Expr::Cond(test, yes, no))
         }
-        Expr::PtrAdd(pointer, unit, count, backwards) => {
+        Expr::PtrAdd(unit, backwards, pointer, count) => {
             let pointer = boxed_expr(alloc, pointer)?;
             let count = boxed_expr(alloc, count)?;
-            Ok(Expr::PtrAdd(pointer, *unit, count, *backwards))
+            Ok(Expr::PtrAdd(*unit, *backwards, pointer, count))
         }
         Expr::Cast(operand) => Ok(Expr::Cast(boxed_expr(alloc, operand)?)),
     }

@@ -10,18 +10,21 @@ use crate::types::{int_of, is_integer, is_pointer, is_scalar};
 use crate::value::Value;
 use ep_int::{IntType, common};
 
+/// Whether both operands are integers.
 pub fn are_integers(a: &Value, b: &Value) -> bool
     ensures { result ≡ rule.are_integers (view.value a.now) (view.value b.now) }
 {
     is_integer(a.ty) & is_integer(b.ty)
 }
 
+/// Whether both operands are scalars.
 pub fn are_scalars(a: &Value, b: &Value) -> bool
     ensures { result ≡ is_scalar (view.value a.now).ty && is_scalar (view.value b.now).ty }
 {
     is_scalar(a.ty) & is_scalar(b.ty)
 }
 
+/// Whether one of them is a null pointer constant (C11 6.3.2.3p3).
 pub fn is_null_either(a: &Value, b: &Value) -> bool
     ensures { result ≡ rule.is_null_either (view.value a.now) (view.value b.now) }
 {
@@ -29,12 +32,14 @@ pub fn is_null_either(a: &Value, b: &Value) -> bool
 }
 
 // The type of the usual arithmetic conversions.
+/// The type of the usual arithmetic conversions (C11 6.3.1.8).
 pub fn common_type(a: &Value, b: &Value) -> IntType
     ensures { result ≡ rule.common_type (view.value a.now) (view.value b.now) }
 {
     common(int_of(a.ty), int_of(b.ty))
 }
 
+/// Whether one is a pointer and the other a number that isn't null.
 pub fn are_mixed(a: &Value, b: &Value) -> bool
     ensures { result ≡ rule.are_mixed (view.value a.now) (view.value b.now) }
 {
@@ -47,6 +52,7 @@ pub fn are_mixed(a: &Value, b: &Value) -> bool
     false
 }
 
+/// Whether both are pointers, to types that don't go together.
 pub fn are_foreign(a: &Value, b: &Value) -> bool
     ensures { result ≡ rule.are_foreign (view.value a.now) (view.value b.now) }
 {

@@ -11,6 +11,7 @@ use ep_layout::{Ty, Types};
 use ep_typing::{Base, CType};
 use std::alloc::AllocError;
 
+/// A type without stars.
 pub fn whole(base: Base) -> CType
     ensures { result ≡ rule.whole base }
 {
@@ -24,12 +25,14 @@ pub fn int_type(t: IntType) -> CType
     whole(Base::Int(t))
 }
 
+/// `void`.
 pub fn void_type() -> CType
     ensures { result ≡ rule.void_type }
 {
     whole(Base::Void)
 }
 
+/// `void *`.
 pub fn void_pointer() -> CType
     ensures { result ≡ rule.void_pointer }
 {
@@ -80,6 +83,7 @@ pub fn target(c: CType) -> CType
     }
 }
 
+/// Whether it is a pointer.
 pub fn is_pointer(c: CType) -> bool
     ensures { result ≡ rule.is_pointer c }
 {
@@ -130,6 +134,7 @@ fn is_aggregate_base(base: Base) -> bool
     }
 }
 
+/// Whether it is `void`.
 pub fn is_void(c: CType) -> bool
     ensures { result ≡ rule.is_void c }
 {
@@ -140,6 +145,7 @@ pub fn is_void(c: CType) -> bool
     }
 }
 
+/// Whether it is an integer type.
 pub fn is_integer(c: CType) -> bool
     ensures { result ≡ rule.is_integer c }
 {
@@ -150,6 +156,7 @@ pub fn is_integer(c: CType) -> bool
     }
 }
 
+/// Whether it is an array.
 pub fn is_array(c: CType) -> bool
     ensures { result ≡ rule.is_array c }
 {
@@ -160,6 +167,7 @@ pub fn is_array(c: CType) -> bool
     }
 }
 
+/// Whether it is a structure or a union.
 pub fn is_aggregate(c: CType) -> bool
     ensures { result ≡ rule.is_aggregate c }
 {
@@ -181,6 +189,7 @@ pub fn is_scalar(c: CType) -> bool
     }
 }
 
+/// Whether it is `void *`.
 pub fn is_void_pointer(c: CType) -> bool
     ensures { result ≡ rule.is_void_pointer c }
 {
@@ -221,6 +230,7 @@ pub fn number_of(c: CType) -> u32
     number_in(c.base)
 }
 
+/// The scalar that a value of this type is in memory.
 pub fn scalar_of(c: CType) -> Scalar
     ensures { result ≡ rule.scalar_of c }
 {
@@ -302,6 +312,7 @@ pub fn type_of(types: &Types, number: u32) -> CType
     }
 }
 
+/// The type of an array's elements, or of what a pointer points to.
 pub fn element_of(types: &Types, c: CType) -> CType
     ensures { result ≡ rule.element_of types.now c }
 {
@@ -311,6 +322,7 @@ pub fn element_of(types: &Types, c: CType) -> CType
     }
 }
 
+/// How many elements an array has.
 pub fn bound_of(types: &Types, c: CType) -> u32
     ensures { result ≡ rule.bound_of types.now c }
 {

@@ -22,6 +22,7 @@ pub enum Head<'a> {
     Other,
 }
 
+/// The first token and those behind it, if there is one.
 pub fn first_of<'a>(tokens: &'a [Token]) -> Head<'a>
     ensures { IsHead result (map view tokens.now) }
 {

@@ -80,6 +80,7 @@ impl TypeNames {
         }
     }
 
+    /// Whether the name is one of a type, here.
     pub fn has(&self, name: &[u8]) -> bool
         ensures { result ≡ is_type self.now name.now }
     {

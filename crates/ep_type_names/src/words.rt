@@ -32,6 +32,7 @@ pub struct TypeBag {
 }
 
 impl TypeBag {
+    /// No words yet.
     pub fn new() -> TypeBag
         ensures { bag result ≡ spec.no_bag }
     {
@@ -51,6 +52,7 @@ impl TypeBag {
         self.chars == 0 && self.shorts == 0 && self.ints == 0 && self.longs == 0 && self.signs == 0
     }
 
+    /// Whether there are no words.
     pub fn is_empty(&self) -> bool
         ensures { result ≡ spec.is_no_bag (bag self.now) }
     {

@@ -11,6 +11,7 @@ use ep_core::tree::{Expr, Stmt, What};
 use ep_int::{Memory, Order};
 use std::alloc::Global;
 
+/// A list of one statement.
 pub fn one_line(alloc: Global, line: u32, what: What) -> Result<Vec<Stmt>, Memory>
     ensures { IfOk result (λ v. lines_view v ≡ rule.one_line line (what_view what)) }
 {
@@ -23,6 +24,7 @@ pub fn one_line(alloc: Global, line: u32, what: What) -> Result<Vec<Stmt>, Memor
     }
 }
 
+/// An `if`.
 pub fn branched(test: Expr, then: Vec<Stmt>, otherwise: Vec<Stmt>) -> What
     ensures { what_view result
         ≡ core.if_else (expr_view test) (rule.to_core (lines_view then)) (rule.to_core (lines_view otherwise)) }
@@ -30,6 +32,7 @@ pub fn branched(test: Expr, then: Vec<Stmt>, otherwise: Vec<Stmt>) -> What
     What::If(test, then, otherwise)
 }
 
+/// A loop, of which the test may come after the first turn.
 pub fn looped(tests_first: bool, test: Expr, turn: Vec<Stmt>, next: Vec<Stmt>) -> What
     ensures { what_view result
         ≡ core.loop tests_first (expr_view test) (rule.to_core (lines_view turn)) (rule.to_core (lines_view next)) }
@@ -37,6 +40,7 @@ pub fn looped(tests_first: bool, test: Expr, turn: Vec<Stmt>, next: Vec<Stmt>) -
     What::Loop(tests_first, test, turn, next)
 }
 
+/// Blocks that are there while statements run.
 pub fn scoped(blocks: Vec<u32>, body: Vec<Stmt>) -> What
     ensures { what_view result ≡ core.scope blocks.items (rule.to_core (lines_view body)) }
 {
@@ -53,6 +57,7 @@ pub fn order_of(order: NamedOrder) -> Order
     }
 }
 
+/// A byte-order conditional.
 pub fn by_order(order: NamedOrder, then: Vec<Stmt>, otherwise: Vec<Stmt>) -> What
     ensures { what_view result
         ≡ core.by_order (rule.order_of order) (rule.to_core (lines_view then)) (rule.to_core (lines_view otherwise)) }

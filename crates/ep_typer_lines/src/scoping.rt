@@ -8,6 +8,7 @@ ghost use Rattle.ep_scopes.specs.View.{env as env_view};
 use ep_int::Memory;
 use ep_scopes::Env;
 
+/// A scope is entered; an error leaves the environment as it was.
 pub fn enter(env: &mut Env) -> Result<(), Memory>
     requires { IsKnownEnv (env_view env.old) }
     ensures means { OnOk result (env_view env.new ≡ rule.entered (env_view env.old)) }
@@ -19,6 +20,7 @@ pub fn enter(env: &mut Env) -> Result<(), Memory>
     }
 }
 
+/// The innermost scope is left.
 pub fn leave(env: &mut Env)
     requires { IsKnownEnv (env_view env.old) }
     ensures means { env_view env.new ≡ rule.left (env_view env.old) }

@@ -1,3 +1,5 @@
+//! Types of C.
+
 use ep_int::{IntType, bytes, is_signed};
 
 /// What is left of a type without its outermost stars. Arrays are named by their numbers among the types of a

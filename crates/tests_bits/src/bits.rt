@@ -1,4 +1,5 @@
-// What becomes of known bits. A value is written as its bits, of which the first stands for all up to bit 64.
+//! What becomes of known bits. A value is written as its bits, of which the first stands for all up to bit 64.
+
 use crate::Numbers;
 use ep_bits::KnownBits;
 use ep_domain::Num;

@@ -71,6 +71,7 @@ pub struct Prepared {
 }
 
 impl Prepared {
+    /// The case, ready to be called.
     pub fn new(alloc: Global, case: &Case) -> Result<Prepared, AllocError> {
         let mut words = Vec::new(alloc);
         for word in case.words.iter() {
@@ -91,10 +92,12 @@ impl Prepared {
         })
     }
 
+    /// Makes the call.
     pub fn make(&mut self, alloc: Global) -> Status {
         endport(alloc, &self.words, &mut self.source, &mut self.sink)
     }
 
+    /// What the call has written.
     pub fn written(&self) -> &[u8] {
         self.sink.bytes()
     }

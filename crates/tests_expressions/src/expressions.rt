@@ -1,3 +1,5 @@
+//! Expressions, read and shown as trees.
+
 use ep_ast::Halt;
 use ep_exprs::{TypeNames, expression};
 use ep_lexer::lex;

@@ -1,3 +1,5 @@
+//! Programs, read and shown by their outlines.
+
 use ep_ast::{Halt, ItemTree, ProgramTree};
 use ep_decls::program;
 use ep_lexer::lex;

@@ -1,3 +1,5 @@
+//! Programs, read and shown.
+
 use std::test::Fail;
 use tests_outlines::{items, tree};
 

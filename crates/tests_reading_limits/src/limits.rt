@@ -1,3 +1,5 @@
+//! Sources at the limits of depth, and past them.
+
 use std::alloc::{AllocError, Global};
 use std::fmt::Write;
 use std::test::Fail;

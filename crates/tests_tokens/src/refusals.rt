@@ -1,3 +1,5 @@
+//! Sources that aren't cut into tokens.
+
 use ep_ast::{Halt, Refusal, RefusalKind, ReservedWord, refusal_text};
 use ep_int::Memory;
 use std::alloc::AllocError;

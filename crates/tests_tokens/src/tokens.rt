@@ -1,3 +1,5 @@
+//! Sources and their tokens.
+
 use ep_ast::Halt;
 use ep_lexer::{Token, TokenKind, lex};
 use std::alloc::{AllocError, Global};
