@@ -31,45 +31,51 @@ MAIN = "int main(void) {"
 BACK = "int main(void) { }"
 X = MAIN + " int x = 1; "
 
-# name, source
+# name, and what its source is filled from: one source at a time, since a child counts what its parent has
 TABLE = [
-    ("`;`", filled(MAIN, ";", "}")),
-    ("`{}`", filled(MAIN, "{}", "}")),
-    ("`{;}`", filled(MAIN, "{;}", "}")),
-    ("`{{..}}`, 60 blocks in one another", filled(MAIN, "{" * 60 + "}" * 60, "}")),
-    ("`x;`", filled(X, "x;", "}")),
-    ("`1;`", filled(MAIN, "1;", "}")),
-    ("`x=1;`", filled(X, "x=1;", "}")),
-    ("`x++;`", filled(X, "x++;", "}")),
-    ("`x=-x;`", filled(X, "x=-x;", "}")),
-    ("`x=x+1;`", filled(X, "x=x+1;", "}")),
-    ("`x=1+1+..`, 63 operators", filled(X, "x=1" + "+1" * 63 + ";", "}")),
-    ("`x=- - ..1`, 63 operators", filled(X, "x=" + "- " * 63 + "1;", "}")),
-    ("`if(x);`", filled(X, "if(x);", "}")),
-    ("`if(x);else;`", filled(X, "if(x);else;", "}")),
-    ("`while(0);`", filled(MAIN, "while(0);", "}")),
-    ("`for(;0;);`", filled(MAIN, "for(;0;);", "}")),
-    ("`f();`", filled("void f(void){}" + MAIN, "f();", "}")),
-    ("`ep_out_u8(1);`", filled(MAIN, "ep_out_u8(1);", "}")),
-    ("`a[0]=1;`", filled(MAIN + "int a[1];", "a[0]=1;", "}")),
-    ("`*p=1;`", filled(MAIN + "int x;int*p=&x;", "*p=1;", "}")),
-    ("`s.a=1;`", filled("struct s{int a;}s;" + MAIN, "s.a=1;", "}")),
-    ("`break;` in a loop", filled(MAIN + "do{", "break;", "}while(0);}")),
-    ("`return;`", filled("void f(void){", "return;", "}" + BACK)),
-    ("`char v@;` in a block", filled(MAIN, "char v@;", "}")),
-    ("`int v@=1;` in a block", filled(MAIN, "int v@=1;", "}")),
-    ("`char v@;` at file scope", filled("", "char v@;", BACK)),
-    ("`,v@` of one declaration", filled("char v", ",v@", ";" + BACK)),
-    ("`typedef int t@;`", filled("", "typedef int t@;", BACK)),
-    ("`void f@();`", filled("", "void f@();", BACK)),
-    ("`void f@(){}`", filled("", "void f@(){}", BACK)),
-    ("`struct s@{int a;};`", filled("", "struct s@{int a;};", BACK)),
-    ("`int m@;` of one structure", filled("struct s{", "int m@;", "};" + BACK)),
-    ("`1,` of a list", filled("char a[]={", "1,", "1};" + BACK)),
-    ("a `#if` round `;`", filled(MAIN + "\n", "#if __BYTE_ORDER__==__ORDER_BIG_ENDIAN__\n;\n#endif\n", "}")),
-    ("blanks", filled(MAIN, " ", "}")),
-    ("one name", filled("", "a", "")),
-    ("`a `", filled("", "a ", "")),
+    ("`;`", (MAIN, ";", "}")),
+    ("`{}`", (MAIN, "{}", "}")),
+    ("`{;}`", (MAIN, "{;}", "}")),
+    ("blocks of 2 `;`", (MAIN, "{" + ";" * 2 + "}", "}")),
+    ("blocks of 12 `;`", (MAIN, "{" + ";" * 12 + "}", "}")),
+    ("blocks of 33 `;`", (MAIN, "{" + ";" * 33 + "}", "}")),
+    ("blocks of 65 `;`", (MAIN, "{" + ";" * 65 + "}", "}")),
+    ("blocks of 257 `;`", (MAIN, "{" + ";" * 257 + "}", "}")),
+    ("functions of 65 `;`", ("", "void f@(){" + ";" * 65 + "}", BACK)),
+    ("`{{..}}`, 60 blocks in one another", (MAIN, "{" * 60 + "}" * 60, "}")),
+    ("`x;`", (X, "x;", "}")),
+    ("`1;`", (MAIN, "1;", "}")),
+    ("`x=1;`", (X, "x=1;", "}")),
+    ("`x++;`", (X, "x++;", "}")),
+    ("`x=-x;`", (X, "x=-x;", "}")),
+    ("`x=x+1;`", (X, "x=x+1;", "}")),
+    ("`x=1+1+..`, 63 operators", (X, "x=1" + "+1" * 63 + ";", "}")),
+    ("`x=- - ..1`, 63 operators", (X, "x=" + "- " * 63 + "1;", "}")),
+    ("`if(x);`", (X, "if(x);", "}")),
+    ("`if(x);else;`", (X, "if(x);else;", "}")),
+    ("`while(0);`", (MAIN, "while(0);", "}")),
+    ("`for(;0;);`", (MAIN, "for(;0;);", "}")),
+    ("`f();`", ("void f(void){}" + MAIN, "f();", "}")),
+    ("`ep_out_u8(1);`", (MAIN, "ep_out_u8(1);", "}")),
+    ("`a[0]=1;`", (MAIN + "int a[1];", "a[0]=1;", "}")),
+    ("`*p=1;`", (MAIN + "int x;int*p=&x;", "*p=1;", "}")),
+    ("`s.a=1;`", ("struct s{int a;}s;" + MAIN, "s.a=1;", "}")),
+    ("`break;` in a loop", (MAIN + "do{", "break;", "}while(0);}")),
+    ("`return;`", ("void f(void){", "return;", "}" + BACK)),
+    ("`char v@;` in a block", (MAIN, "char v@;", "}")),
+    ("`int v@=1;` in a block", (MAIN, "int v@=1;", "}")),
+    ("`char v@;` at file scope", ("", "char v@;", BACK)),
+    ("`,v@` of one declaration", ("char v", ",v@", ";" + BACK)),
+    ("`typedef int t@;`", ("", "typedef int t@;", BACK)),
+    ("`void f@();`", ("", "void f@();", BACK)),
+    ("`void f@(){}`", ("", "void f@(){}", BACK)),
+    ("`struct s@{int a;};`", ("", "struct s@{int a;};", BACK)),
+    ("`int m@;` of one structure", ("struct s{", "int m@;", "};" + BACK)),
+    ("`1,` of a list", ("char a[]={", "1,", "1};" + BACK)),
+    ("a `#if` round `;`", (MAIN + "\n", "#if __BYTE_ORDER__==__ORDER_BIG_ENDIAN__\n;\n#endif\n", "}")),
+    ("blanks", (MAIN, " ", "}")),
+    ("one name", ("", "a", "")),
+    ("`a `", ("", "a ", "")),
 ]
 
 
@@ -92,10 +98,10 @@ def main():
     with tempfile.TemporaryDirectory() as folder:
         program = measure.named_or_built(folder, sys.argv[1:])
         print("| | `check` | `run` | `layout` | status | time |\n|---|---|---|---|---|---|")
-        for name, source in TABLE:
+        for name, pieces in TABLE:
             path = os.path.join(folder, "full.c")
             with open(path, "w") as f:
-                f.write(source)
+                f.write(filled(*pieces))
             row, told = [], ("", "")
             for words in (["check", path], ["run", "--order", "big", "--steps", "1", path], ["layout", path]):
                 found = measured(program, words)
