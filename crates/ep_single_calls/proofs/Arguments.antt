@@ -23,7 +23,7 @@ use Rattle.ep_transfers.specs.Calls.{given_all, faults_of_all, waiting, bound, a
 use Rattle.ep_transfers.specs.Laws.{memories}
 use Rattle.ep_transfers.proofs.Bound.{changed}
 use Rattle.ep_transfers.proofs.Gathered.{cell_laws}
-use Rattle.ep_transfers.proofs.Passing.{kills_are}
+use Rattle.ep_transfers.proofs.Passing.{kills_are, all_in}
 use Rattle.ep_transfers.proofs.Waiting.{killed_others}
 use Rattle.ep_closed_laws.specs.Exactly.{IsThere, IfLeft, IfBothLeft, TransferIsExact, SeenFrom}
 use Rattle.ep_closed_laws.specs.Closely.{ConcretisesOneTyped, ConcretisesOneBeside}
@@ -34,7 +34,7 @@ use Rattle.ep_single_states.specs.Laws.{ConcretisesOne}
 use Rattle.ep_single_values.specs.Laws.{ValuesAreOne}
 use Rattle.ep_single_calls.proofs.Machines.{AllHave, AllStore, sets, own, HavePassed, passes_as}
 use Rattle.ep_single_calls.proofs.Kept.{both_left, one_left, kept_both, kept_seen, told_exact, entered_one}
-use Rattle.ep_single_calls.proofs.Bound.{fit, in_frame, none_faults, puts_all, all_bound, all_ready}
+use Rattle.ep_single_calls.proofs.Bound.{fit, none_faults, puts_all, all_bound, all_ready}
 
 module _ {N : Type 0} (D : Ops N) (law : Lawful D) (keeps : KeepsSingles D) (p : Program) (ord : Side → Order)
     (formed : is_well_formed p ≡ true) (vals : ValuesAreOne D p ord) where
@@ -78,7 +78,7 @@ module _ {N : Type 0} (D : Ops N) (law : Lawful D) (keeps : KeepsSingles D) (p :
           (cells_of_mode mode) (frame_of f) j before framed at_j.kept.state at_j.kept.holds
           (kills_are mode (frame_of f) before) in
           let ready = all_ready D law keeps p ord formed mode (frame_of f) j before vals at_j seen f.params es holds typed
-          (in_frame f.params f.locals) have store in
+          (all_in f.params f.locals) have store in
           let b = all_bound D law keeps p ord formed mode (frame_of f) j before f.params es i framed at_i others ready in
           record {
             quiet = no_faults (faults_of_all D p (given_all D p es mode j))

@@ -1,9 +1,9 @@
 -- The parameters of a call are set, one after another: a state that stands for one pair of memories stays one.
-use Rattle.std.proofs.Common.{◌≡◌, ℕ, pos, true, nat_eq, List, [], ◌∷◌, slice_get, Option, ◌++◌}
+use Rattle.std.proofs.Common.{◌≡◌, ℕ, pos, true, nat_eq, List, [], ◌∷◌, slice_get, Option}
 use Rattle.std.proofs.Common.{Some, None, option_and_then, refl, sym, ap, ◌∙◌, subst, arith}
 use Rattle.std.specs.Option.{option_map_or}
 use Rattle.std.specs.List.{list_all}
-use Rattle.std.proofs.lemmas.Bool.{and_parts, or_right, or_left, eq-eqb}
+use Rattle.std.proofs.lemmas.Bool.{and_parts}
 use Rattle.ep_int.specs.declared.types.Order.{Order}
 use Rattle.ep_int.specs.declared.types.Scalar.{Scalar}
 use Rattle.ep_int.specs.Memory.{Memory, pointer, has, contains, stored, store_fault}
@@ -17,7 +17,7 @@ use Rattle.ep_cells.specs.Forms.{form_after}
 use Rattle.ep_cells.specs.States.{Known}
 use Rattle.ep_cells.specs.Meaning.{Memories, number_at, number_on}
 use Rattle.ep_core.specs.Program.{Expr, Program}
-use Rattle.ep_core.specs.Exec.{value, size_at, first_of}
+use Rattle.ep_core.specs.Exec.{value, size_at}
 use Rattle.ep_core.specs.Runs.{Side, left, right}
 use Rattle.ep_core.specs.Typed.{ValueFits, IfHas}
 use Rattle.ep_core.specs.WellFormed.{has_scalar, ty_at, has_type, block_type, holds_scalar, arguments_fit}
@@ -39,6 +39,7 @@ use Rattle.ep_transfers.specs.Calls.{given_all, faults_of_all, waiting, bound}
 use Rattle.ep_transfers.proofs.Bound.{changed, fits_changed, unchanged, not_one, beside_stored}
 use Rattle.ep_transfers.proofs.Evaluated.{Evaluated}
 use Rattle.ep_transfers.proofs.Gathered.{cell_laws}
+use Rattle.ep_transfers.proofs.Passing.{AllIn}
 use Rattle.ep_transfers.proofs.Stored.{block_is, typed_is}
 use Rattle.ep_transfers.proofs.Waiting.{OthersStay, still_evaluated}
 use Rattle.ep_transfers.proofs.WaitingStays.{each_waits}
@@ -72,25 +73,6 @@ module _ (f : Side → Memory → Memory) (m : Memories) (c : CellName)
   name_stays mode cell_side.Left os = left_name mode os.0
   name_stays mode cell_side.Right os = right_name mode os.1
   name_stays mode cell_side.Shared os = left_name mode os.0
-
--- ---- parameters are blocks of the frame
-
-pub AreInFrame : List ℕ → List (ℕ × Scalar) → Type 0
-AreInFrame frame [] = Unit {0}
-AreInFrame frame (b ∷ bs) = (contains b.0 frame ≡ true) × AreInFrame frame bs
-
-one_more : (c : ℕ) (frame : List ℕ) (bs : List (ℕ × Scalar)) → AreInFrame frame bs → AreInFrame (c ∷ frame) bs
-unfolding AreInFrame
-one_more c frame [] h = tt
-one_more c frame (b ∷ bs) h = (or_right (nat_eq b.0 c) (contains b.0 frame) h.0, one_more c frame bs h.1)
-
-pub in_frame : (bs : List (ℕ × Scalar)) (more : List ℕ) → AreInFrame (first_of bs ++ more) bs
-unfolding AreInFrame
-in_frame [] more = tt
-in_frame (b ∷ bs) more = (
-  or_left (nat_eq b.0 b.0) (contains b.0 (first_of bs ++ more)) (eq-eqb b.0 b.0 refl),
-  one_more b.0 (first_of bs ++ more) bs (in_frame bs more),
-)
 
 module _ {N : Type 0} (D : Ops N) (law : Lawful D) (keeps : KeepsSingles D) (p : Program) (ord : Side → Order)
     (formed : is_well_formed p ≡ true) where
@@ -292,10 +274,10 @@ module _ {N : Type 0} (D : Ops N) (law : Lawful D) (keeps : KeepsSingles D) (p :
           }
 
       pub all_ready : (bs : List (ℕ × Scalar)) (es : List Expr) → list_all (holds_scalar p.types p.blocks) bs ≡ true
-          → arguments_fit p.types p.blocks seen bs es ≡ true → AreInFrame frame bs
+          → arguments_fit p.types p.blocks seen bs es ≡ true → AllIn frame bs
           → ((s : Side) → runs mode s ≡ true → AllHave (ord s) p es (memory_of s before))
           → ((s : Side) → runs mode s ≡ true → AllStore (ord s) p bs es) → AllReady bs es
-      unfolding AreInFrame
+      unfolding AllIn
       all_ready [] [] holds fits inside have store = tt
       all_ready [] (e ∷ es) holds fits inside have store = absurd (cc)
       all_ready (b ∷ bs) [] holds fits inside have store = absurd (cc)

@@ -1,11 +1,10 @@
 -- What waits to be written at each of several places, and what it comes to.
-use Rattle.std.proofs.Common.{◌≡◌, ℕ, ◌+◌, ◌^◌, ◌<◌, ◌≤◌, Bool, true, false, ◌&&◌, ◌||◌, nat_eq, nat_lt, cond, List}
+use Rattle.std.proofs.Common.{◌≡◌, ℕ, ◌+◌, ◌≤◌, Bool, true, false, ◌&&◌, ◌||◌, nat_eq, nat_lt, cond, List}
 use Rattle.std.proofs.Common.{[], ◌∷◌, ◌++◌, None, refl, sym, ap, ◌∙◌, subst, arith}
 use Rattle.std.proofs.lemmas.Bool.Decides.{nat_tests}
 use Rattle.ep_int.specs.declared.types.Model.{Model}
 use Rattle.ep_int.specs.declared.types.Scalar.{Scalar}
 use Rattle.ep_int.specs.Types.{size_of}
-use Rattle.ep_int.proofs.Basics.{size_positive}
 use Rattle.ep_bitslice.specs.declared.cell.Side.TheVariants.{Shared}
 use Rattle.ep_domain.specs.Domain.{Ops}
 use Rattle.ep_cells.specs.declared.cell.Cell.{Cell}
@@ -19,7 +18,7 @@ use Rattle.ep_equalities.specs.declared.pair.Mode.TheVariants.{Both, Left, Right
 use Rattle.ep_state_rows.specs.Rows.{further, each_weakened, IsRow, row_bytes, FitAt, AreSpaced}
 use Rattle.ep_state_rows.proofs.Beyond.{spaced_less}
 use Rattle.ep_transfers.specs.Places.{Places, moved_spots, moved_spot, moved_places}
-use Rattle.ep_transfers.specs.Writes.{Item, Underway, underway, shared_cell, weakly, weakly_each, write, write_now}
+use Rattle.ep_transfers.specs.Writes.{Item, Underway, underway, shared_cell, weakly, weakly_each, write_now}
 use Rattle.ep_transfers.specs.Writes.{write_both, write_same, write_shared_each}
 use Rattle.ep_transfer_places.specs.Room.{HaveRoom, BothHaveRoom}
 use Rattle.ep_transfer_writes.proofs.Placing.{all_room}

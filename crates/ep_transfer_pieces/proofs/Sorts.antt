@@ -1,6 +1,6 @@
 -- What is read for a piece is of its type, and a piece ends in the aggregate.
 use Rattle.std.proofs.Common.{◌≡◌, ℕ, ◌+◌, ◌<◌, ◌≤◌, Bool, true, false, ◌&&◌, nat_eq, cond, List, [], ◌∷◌, Option}
-use Rattle.ep_cells.proofs.Entry.{leaf_inside, leaves_end}
+use Rattle.ep_cells.proofs.Entry.{leaf_inside}
 use Rattle.std.proofs.Common.{Some, None, refl, subst, arith}
 use Rattle.std.proofs.lemmas.Bool.{and_parts, eqb-true}
 use Rattle.std.specs.Prelude.{is_some}

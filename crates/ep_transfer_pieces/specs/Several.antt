@@ -6,7 +6,7 @@ use Rattle.ep_int.specs.Types.{size_of}
 use Rattle.ep_bitslice.specs.declared.cell.Side.TheVariants.{Shared}
 use Rattle.ep_domain.specs.Domain.{Ops}
 use Rattle.ep_cells.specs.declared.cell.Cell.{Cell}
-use Rattle.ep_cells.specs.States.{Known, IsCell}
+use Rattle.ep_cells.specs.States.{Known}
 use Rattle.ep_cell_ranges.specs.Moves.{weakened_each}
 use Rattle.ep_cell_ranges.specs.Spots.{Spot, all_spots}
 use Rattle.ep_equalities.specs.declared.pair.Mode.{Mode}

@@ -38,7 +38,7 @@ use Rattle.ep_transfers.proofs.Bound.{puts_all, all_bound}
 
 -- ---- the parameters are in the frame
 
-pub AllIn : List ℕ → List (ℕ × Scalar) → Type 0
+unfoldable pub AllIn : List ℕ → List (ℕ × Scalar) → Type 0
 AllIn frame [] = Unit {0}
 AllIn frame (b ∷ bs) = (contains b.0 frame ≡ true) × AllIn frame bs
 

@@ -1,6 +1,5 @@
-use Rattle.std.proofs.Common.{◌+◌, ◌^◌, ◌≤◌, refl, sym, ◌∙◌, subst, arith}
+use Rattle.std.proofs.Common.{◌+◌, refl, arith}
 use Rattle.std.proofs.lemmas.Result.{IfOk-weaker}
-use Rattle.ep_int.specs.Types.{size_of}
 use Rattle.ep_int.proofs.Basics.{size_positive}
 use Rattle.ep_transfer_places.specs.Room.{view}
 use Rattle.ep_transfer_writes.specs.Waiting.{item_view}

@@ -1,4 +1,4 @@
-use Rattle.std.proofs.Common.{◌≡◌, ◌∙◌, ap, sym, subst}
+use Rattle.std.proofs.Common.{◌∙◌, ap, sym, subst}
 use Rattle.ep_cell_ranges.specs.Spots.{all_spots}
 use Rattle.ep_state_rows.specs.Rows.{AreSpaced}
 use Rattle.ep_transfer_places.specs.Room.{view}
