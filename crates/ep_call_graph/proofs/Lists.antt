@@ -1,11 +1,11 @@
 -- Lists of marks, groups and numbers.
-use Rattle.std.proofs.Common.{◌≡◌, ℕ, zero, suc, ◌+◌, ◌<◌, ◌≤◌, nat_eq, Bool, true, false, cond, ◌⊎◌, inl, inr, List}
+use Rattle.std.proofs.Common.{◌≡◌, ℕ, zero, suc, ◌+◌, ◌<◌, nat_eq, Bool, true, false, cond, inl, inr, List}
 use Rattle.ep_core.proofs.Sorts.{never}
 use Rattle.ep_int.proofs.Basics.{nat_eq-self, slice_get-here}
-use Rattle.std.proofs.lemmas.Bool.{cases_lt, eqb-true}
+use Rattle.std.proofs.lemmas.Bool.{eqb-true}
 use Rattle.std.proofs.lemmas.Bool.{or_cases, or_left, or_right}
 use Rattle.std.proofs.Common.{[], ◌∷◌, ◌++◌, length, get_or, set, Option, Some, None, refl, sym, ap, ◌∙◌, subst}
-use Rattle.std.proofs.Common.{arith, ◌-◌, append-nil, eq-eqb, ne_eqb, nat_lt, ltb-true, ltb-false}
+use Rattle.std.proofs.Common.{arith, append-nil, eq-eqb, ne_eqb, nat_lt, ltb-true, ltb-false}
 use Rattle.std.proofs.Common.{◌==◌, map, drop, take, drop-cons, append_assoc, Result, Ok, Err, OnOk}
 use Rattle.std.specs.Prelude.{slice_get, vec_len}
 use Rattle.std.specs.List.{filter}
@@ -150,20 +150,6 @@ step_calls ps rest p f old new all e n h =
     ∙ append_assoc old (rule.callees (rule.call_at p p.callee) f) (rule.callees (rule.calls_of rest) f)
     ∙ ap (λ (xs : List ℕ). old ++ xs) (sym (callees_more p p.callee (rule.calls_of rest) f))
     ∙ ap (λ (xs : List rule.CallSite). old ++ rule.callees (rule.calls_of xs) f) (sym e) ∙ h
-
-pub step_places : (ps rest : List rule.CallSite) (p : rule.CallSite) (f : ℕ) (old new all : List rule.CallSite) → ps ≡ p ∷ rest
-    → new ≡ old ++ cond (nat_eq p.caller f) (p ∷ []) [] → old ++ rule.call_sites_in ps f ≡ all
-    → new ++ rule.call_sites_in rest f ≡ all
-step_places ps rest p f old new all e n h = at_f (nat_eq p.caller f) refl
-  where
-    at_f : (b : Bool) → nat_eq p.caller f ≡ b → new ++ rule.call_sites_in rest f ≡ all
-    at_f true q =
-        ap (λ (xs : List rule.CallSite). xs ++ rule.call_sites_in rest f) (n ∙ ap (λ (b : Bool). old ++ cond b (p ∷ []) []) q)
-        ∙ append_assoc old (p ∷ []) (rule.call_sites_in rest f)
-        ∙ sym (ap (λ (xs : List rule.CallSite). old ++ rule.call_sites_in xs f) e ∙ ap (λ (b : Bool). old ++ cond b (p ∷ rule.call_sites_in rest f) (rule.call_sites_in rest f)) q) ∙ h
-    at_f false q =
-        ap (λ (xs : List rule.CallSite). xs ++ rule.call_sites_in rest f) (n ∙ ap (λ (b : Bool). old ++ cond b (p ∷ []) []) q ∙ append-nil old)
-        ∙ sym (ap (λ (xs : List rule.CallSite). old ++ rule.call_sites_in xs f) e ∙ ap (λ (b : Bool). old ++ cond b (p ∷ rule.call_sites_in rest f) (rule.call_sites_in rest f)) q) ∙ h
 
 pub front_at : {A : Type 0} (i : ℕ) (xs : List A) (d : A) → i < length xs → drop i xs ≡ get_or xs i d ∷ drop (i + 1) xs
 front_at {A = A} i xs d l =

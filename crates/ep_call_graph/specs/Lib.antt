@@ -1,3 +1,4 @@
 pub mod View
+pub mod ByCaller
 pub mod Search
 pub mod Visit

@@ -1,6 +1,6 @@
 //! Calls of functions by their places in the program.
 
-ghost use Rattle.std.specs.Prelude.{◌≡◌, map, slice_index};
+ghost use Rattle.std.specs.Prelude.{◌≡◌, ℕ, false, map, slice_index};
 ghost use Rattle.ep_core.specs.View.{function_view, stmts_view, what_view};
 ghost use Rattle.ep_elaboration.specs.Programs as rule;
 ghost use Rattle.ep_typer_checks.specs.Placed as placed;
@@ -61,12 +61,43 @@ fn renumbered_what(places: &[u32], what: What) -> What
     }
 }
 
+// Whether a call may stand in it.
+#[tactic(auto, unfolding(ep_elaboration::specs::Programs::renumbered_what))]
+fn may_call(what: &What) -> bool
+    ensures { result ≡ false → (to : ℕ → ℕ) → rule.renumbered_what to (what_view what.now) ≡ what_view what.now }
+{
+    match what {
+        What::Nothing => false,
+        What::Eval(_) => false,
+        What::Assign(_, _, _) => false,
+        What::Clear(_, _) => false,
+        What::CopyAggregate(_, _, _) => false,
+        What::CopyBytes(_, _, _) => false,
+        What::Fill(_, _, _) => false,
+        What::Call(_, _, _) => true,
+        What::Input(_, _) => false,
+        What::Output(_, _) => false,
+        What::ReadBytes(_, _) => false,
+        What::WriteBytes(_, _) => false,
+        What::If(_, _, _) => true,
+        What::Loop(_, _, _, _) => true,
+        What::Break => false,
+        What::Continue => false,
+        What::Return(_) => false,
+        What::ByOrder(_, _, _) => true,
+        What::Scope(_, _) => true,
+    }
+}
+
 #[cycle(renumbering)]
 fn renumber_statement(places: &[u32], statement: &mut Stmt)
     ensures line { statement.new.line ≡ statement.old.line }
     ensures what { what_view statement.new.what
         ≡ rule.renumbered_what (placed.place places.now) (what_view statement.old.what) }
 {
+    if !may_call(&statement.what) {
+        return;
+    }
     let what = replace(&mut statement.what, What::Nothing);
     statement.what = renumbered_what(places, what);
 }

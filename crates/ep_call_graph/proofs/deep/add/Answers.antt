@@ -1,8 +1,6 @@
-use Rattle.std.proofs.Common.{◌<◌, length, arith}
-use Rattle.ep_call_graph.proofs.Lists.{added_to}
+use Rattle.ep_call_graph.proofs.DepthLemmas.{calling_more}
 use Rattle.ep_call_graph.proofs.deep.add.Goals as goal
 
-pub returns-clause-added : goal.returns-clause-added
-returns-clause-added c =
-    let l : c.args.place.caller < length c.args.groups.now.items = omega (arith, c.requires) in
-    λ f. added_to c.args.groups.now.items c.args.place.caller f c.args.place c.index_mut-list.result.now c.push.new.self l c.index_mut-list.ensures.value c.in_ok-push.ensures.items
+pub returns-in-Some-clause-deeper : goal.returns-in-Some-clause-deeper
+returns-in-Some-clause-deeper c =
+    calling_more c.list.result c.args.place c.args.groups.now.deepest.items c.args.groups.now.calling.items c.list.new.calling.items c.list.ensures.added

@@ -1,9 +1,7 @@
 use Rattle.std.proofs.Common.{◌≡◌, ℕ, ◌<◌, List, refl, ap, ◌∙◌, arith, length, get_or}
 use Rattle.std.specs.Prelude.{slice_index, vec_len}
-use Rattle.std.specs.Global.{Vec}
-use Rattle.ep_elaboration.specs.Calls as rule
-use Rattle.ep_call_graph.specs.declared.places.CallSite.{CallSite}
-use Rattle.ep_call_graph.specs.View.{listed, call_sites}
+use Rattle.ep_call_graph.specs.ByCaller.{deepest_kept}
+use Rattle.ep_call_graph.specs.View.{call_sites}
 use Rattle.ep_call_graph.proofs.Lists.{len_is}
 use Rattle.ep_call_graph.proofs.DepthLemmas.{below_on, in_order_at, right_on}
 use Rattle.ep_call_graph.proofs.deep.depths.Goals as goal
@@ -25,8 +23,7 @@ loop-f-preserved c =
       right = right_on ps c.args.count c.requires.ranked.0 c.requires.ranked.1 fs c.loop-f.depths.items _ i 0 c.in_ok-depth.depth
           c.loop-f-test.true c.loop-f.invariant.in_order inside c.loop-f.invariant.right
           (c.in_ok-depth.ensures
-          ∙ ap (λ (ds : List ℕ). rule.deepest (λ g. slice_index ds g) (call_sites (listed c.deref.result.now f))) c.deref-in-loop-f.ensures.value
-          ∙ ap (λ (gs : List (Vec CallSite)). rule.deepest (λ g. slice_index c.loop-f.depths.items g) (call_sites (listed gs f))) c.deref.ensures.value
-          ∙ ap (rule.deepest (λ g. slice_index c.loop-f.depths.items g)) (c.in_ok-groups.ensures f))
+          ∙ ap (λ (ds : List ℕ). deepest_kept (λ g. slice_index ds g) c.in_ok-groups.groups f) c.deref.ensures.value
+          ∙ c.in_ok-groups.ensures (λ g. slice_index c.loop-f.depths.items g) f)
           refl;
     }

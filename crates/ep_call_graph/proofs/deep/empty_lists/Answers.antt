@@ -1,6 +1,6 @@
 use Rattle.std.proofs.Common.{rules}
 use Rattle.ep_call_graph.proofs.Lists.{listed_more}
-use Rattle.ep_call_graph.proofs.deep.empty_groups.Goals as goal
+use Rattle.ep_call_graph.proofs.deep.empty_lists.Goals as goal
 
 pub loop-i-preserved : goal.loop-i-preserved
 loop-i-preserved c = record {
