@@ -2,6 +2,7 @@ pub mod Firsts
 pub mod Values
 pub mod Skips
 pub mod Numbered
+pub mod ShortLemmas
 pub mod Tables
 pub mod Cases
 pub mod Classes

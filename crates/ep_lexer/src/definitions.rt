@@ -28,6 +28,9 @@ impl Definitions {
     pub fn get(&self, name: &[u8]) -> Option<Literal>
         ensures { result ≡ constant (constants self.now) name.now }
     {
+        if self.table.is_empty() {
+            return None;
+        }
         self.table.get(name).copied()
     }
 

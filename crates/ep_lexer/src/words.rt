@@ -6,7 +6,9 @@ ghost use Rattle.ep_ast.specs.Lexeme.{mark_at, mark_len};
 ghost use Rattle.ep_ast.specs.Mark.{mark_number, word_number};
 ghost use Rattle.ep_ast.specs.Reserved.{reserved_number};
 ghost use Rattle.ep_ast.specs.Cut as cut;
+ghost use Rattle.ep_lexer.specs.Shorts as shorts;
 
+use crate::bytes::byte;
 use ep_ast::{Mark, ReservedWord, Word};
 
 fn accepted_word(at: u8) -> Word
@@ -146,6 +148,9 @@ fn mark_of(at: u8) -> Mark
 pub fn accepted(text: &[u8]) -> Option<Word>
     ensures { option_map word_number result ≡ cut.accepted text.now }
 {
+    if text.len() < 2 {
+        return None;
+    }
     for at in 0..22u8 {
         let word = accepted_word(at);
         if text == word.text() {
@@ -160,6 +165,9 @@ pub fn accepted(text: &[u8]) -> Option<Word>
 pub fn reserved(text: &[u8]) -> Option<ReservedWord>
     ensures { option_map (λ w. reserved_number (Some w)) result ≡ cut.reserved text.now }
 {
+    if text.len() < 2 {
+        return None;
+    }
     for at in 0..22u8 {
         let word = reserved_word(at);
         if text == word.text() {
@@ -172,9 +180,9 @@ pub fn reserved(text: &[u8]) -> Option<ReservedWord>
 // The first byte of each mark, in their order.
 const FIRST_BYTES: [u8; 45] = *b"<>-+-<><>=!&|+-*/%&|^()[]{}.&*+-~!/%<>^|?:;=,";
 
-/// The mark that stands there, and its length.
+// The same as `mark_at`, looked for among all marks.
 #[tactic(auto, using(crate::proofs::Numbered::numbered))]
-pub fn mark_at(bytes: &[u8]) -> Option<(Mark, usize)>
+fn longest_at(bytes: &[u8]) -> Option<(Mark, usize)>
     ensures value { option_map (λ p. mark_number p.0) result ≡ mark_at bytes.now }
     ensures len { IfSome result (λ p. p.1 ≡ mark_len (mark_number p.0)) }
     ensures within { IfSome result (λ p. (0 < p.1) × (p.1 ≤ length bytes.now)) }
@@ -193,4 +201,81 @@ pub fn mark_at(bytes: &[u8]) -> Option<(Mark, usize)>
         }
     }
     None
+}
+
+// Whether a byte stands second in a mark of several.
+fn is_second(b: u8) -> bool
+    ensures { result ≡ shorts.is_second b }
+{
+    matches!(b, b'+' | b'-' | b'<' | b'=' | b'>' | b'&' | b'|')
+}
+
+fn separator(b: u8) -> Option<Mark>
+    ensures value { option_map mark_number result ≡ shorts.separator b }
+    ensures one { IfSome result (λ m. mark_len (mark_number m) ≡ 1) }
+{
+    match b {
+        b'>' => Some(Mark::Greater),
+        b'^' => Some(Mark::Caret),
+        b'|' => Some(Mark::Bar),
+        b'?' => Some(Mark::Question),
+        b':' => Some(Mark::Colon),
+        b';' => Some(Mark::Semicolon),
+        b'=' => Some(Mark::Equal),
+        b',' => Some(Mark::Comma),
+        _ => None,
+    }
+}
+
+fn sign(b: u8) -> Option<Mark>
+    ensures value { option_map mark_number result ≡ shorts.sign b }
+    ensures one { IfSome result (λ m. mark_len (mark_number m) ≡ 1) }
+{
+    match b {
+        b'*' => Some(Mark::Star),
+        b'+' => Some(Mark::Plus),
+        b'-' => Some(Mark::Minus),
+        b'~' => Some(Mark::Tilde),
+        b'!' => Some(Mark::Exclamation),
+        b'/' => Some(Mark::Slash),
+        b'%' => Some(Mark::Percent),
+        b'<' => Some(Mark::Less),
+        _ => separator(b),
+    }
+}
+
+// The mark of one byte that a byte is.
+fn short(b: u8) -> Option<Mark>
+    ensures value { option_map mark_number result ≡ shorts.short b }
+    ensures one { IfSome result (λ m. mark_len (mark_number m) ≡ 1) }
+{
+    match b {
+        b'(' => Some(Mark::LeftParen),
+        b')' => Some(Mark::RightParen),
+        b'[' => Some(Mark::LeftBracket),
+        b']' => Some(Mark::RightBracket),
+        b'{' => Some(Mark::LeftBrace),
+        b'}' => Some(Mark::RightBrace),
+        b'.' => Some(Mark::Dot),
+        b'&' => Some(Mark::Ampersand),
+        _ => sign(b),
+    }
+}
+
+/// The mark that stands there, and its length.
+pub fn mark_at(bytes: &[u8]) -> Option<(Mark, usize)>
+    ensures value { option_map (λ p. mark_number p.0) result ≡ mark_at bytes.now }
+    ensures len { IfSome result (λ p. p.1 ≡ mark_len (mark_number p.0)) }
+    ensures within { IfSome result (λ p. (0 < p.1) × (p.1 ≤ length bytes.now)) }
+{
+    if bytes.is_empty() {
+        return None;
+    }
+    if is_second(byte(bytes, 1)) {
+        return longest_at(bytes);
+    }
+    match short(bytes[0]) {
+        Some(mark) => Some((mark, 1)),
+        None => None,
+    }
 }
