@@ -1,11 +1,10 @@
 -- Passes of one side follow its machine's run exactly: they have no fault, and one way out alone.
 use Rattle.std.proofs.Common.{◌≡◌, ℕ, zero, suc, List, [], ◌∷◌, ◌++◌, refl, sym, subst, ap, ◌∙◌, Option, Some, None}
 use Rattle.ep_core.proofs.Operands.{callee_at}
-use Rattle.std.proofs.Common.{Bool, true, false, ◌&&◌, ◌||◌, nat_eq, slice_get}
+use Rattle.std.proofs.Common.{◌≤◌, Bool, true, false, ◌&&◌, ◌||◌, nat_eq, slice_get, arith}
 use Rattle.std.proofs.lemmas.Bool.{eqb-true, and_parts}
 use Rattle.ep_int.specs.declared.types.Order.{Order}
 use Rattle.ep_int.specs.Memory.{Memory, Found, has, faults}
-use Rattle.ep_alarms.specs.declared.types.Alarm.{Alarm}
 use Rattle.ep_core.specs.Program.{Expr, Dest, What, simple, call, if_else, loop, break_loop, continue_loop, by_order}
 use Rattle.ep_core.specs.Program.{scope, Stmts, stop, more, Function, Program}
 use Rattle.ep_core.specs.Exec.{State, Way, on, broken, continued, returned, Outcome, leaves, running, no_input}
@@ -19,7 +18,8 @@ use Rattle.ep_core.specs.WellFormed.{what_fits, stmts_fit, is_well_formed}
 use Rattle.ep_core.proofs.Operands.{fits_at}
 use Rattle.ep_pass.specs.States.{Mode, One, Transfer, Verdict, stuck, same, differs, StateOps}
 use Rattle.ep_pass.specs.Laws.{passes, IsTruth, GoesOn}
-use Rattle.ep_pass.specs.Pass.{Ways, none, Log, logged, Pass, passed, after, ends, branch, alarms_at, left_by, jumps}
+use Rattle.ep_pass.specs.Pass.{Ways, none, Log, logged, Pass, passed, after, ends, branch, found_at, left_by, jumps}
+use Rattle.ep_pass.specs.Pass.{Event, Heads, past, agreed}
 use Rattle.ep_pass.specs.Pass.{way_of, simple_pass, too_long, then_pass, rowed, either_pass, leave_call, scope_pass}
 use Rattle.ep_pass.specs.Pass.{call_pass, next_pass, body_ends, leave_loop, decided, tested, apart, arm_of, last_pass}
 use Rattle.ep_pass.specs.Pass.{turn_then, unrolled, in_body, one_turn, cut_turn, one_rounds, entered, loop_pass, pass}
@@ -75,7 +75,7 @@ module _ {S : Type 0} (o : StateOps S) where
     good = f h.in_state h.good;
   }
 
-  no_faults : (fs gs : List Alarm) → fs ≡ [] → gs ≡ [] → fs ++ gs ≡ []
+  no_faults : (fs gs : List Event) → fs ≡ [] → gs ≡ [] → fs ++ gs ≡ []
   no_faults fs gs refl' e = ap (λ h. h ++ gs) refl' ∙ e
 
   pub after_left : (P : S → Type 0) (k : Way) (g : Log S) → g.faults ≡ [] → (p : Pass S) → Leaves P k p
@@ -171,10 +171,10 @@ module _ {S : Type 0} (o : StateOps S) where
   pub simple_left : (P : S → Type 0) (k : Way) (l : ℕ) (g : Transfer S) → TransferIsExact P g → Leaves P k (simple_pass k l g)
   simple_left P k l g h = by_next g.next h.next
     where
-      quiet : alarms_at l g.faults ≡ []
-      quiet = ap (alarms_at l) h.faults
+      quiet : found_at l g.faults ≡ []
+      quiet = ap (found_at l) h.faults
 
-      by_next : (v : Option S) → IsThere P v → Leaves P k (left_by k v (logged (alarms_at l g.faults) 0 []))
+      by_next : (v : Option S) → IsThere P v → Leaves P k (left_by k v (logged (found_at l g.faults) 0 []))
       by_next None i = absurd i
       by_next (Some s) i = as_left P k s _ quiet i
 
@@ -420,8 +420,8 @@ module _ (p : Program) (ord : Side → Order) {S : Type 0} (o : StateOps S) (K :
             let a = law.assume_alone m e seen typed true s x y i h in
             let P : S → Type 0 = λ s. SeenFrom K m s x y in
             lifted o K m P sure (tested o (ends []) (One m) e l sure q r other s)
-            (λ Q k f. after_left o Q k (logged (alarms_at l (o.test (One m) e s).faults) 0 [])
-            (ap (alarms_at l) t.0) (decided o (ends []) (One m) (o.test (One m) e s).verdict e sure q r other s)
+            (λ Q k f. after_left o Q k (logged (found_at l (o.test (One m) e s).faults) 0 [])
+            (ap (found_at l) t.0) (decided o (ends []) (One m) (o.test (One m) e s).verdict e sure q r other s)
             (decided_yes (o.test (One m) e s).verdict t.1 P Q k a.0 a.1 f)) y (f n (listed (code_of_test true) x))
             (λ s j. hf s (listed (code_of_test true) x) (other_listed m s x y _ _ j))
         by_truth false h =
@@ -429,8 +429,8 @@ module _ (p : Program) (ord : Side → Order) {S : Type 0} (o : StateOps S) (K :
             let a = law.assume_alone m e seen typed false s x y i h in
             let P : S → Type 0 = λ s. SeenFrom K m s x y in
             lifted o K m P other (tested o (ends []) (One m) e l sure q r other s)
-            (λ Q k f. after_left o Q k (logged (alarms_at l (o.test (One m) e s).faults) 0 [])
-            (ap (alarms_at l) t.0) (decided o (ends []) (One m) (o.test (One m) e s).verdict e sure q r other s)
+            (λ Q k f. after_left o Q k (logged (found_at l (o.test (One m) e s).faults) 0 [])
+            (ap (found_at l) t.0) (decided o (ends []) (One m) (o.test (One m) e s).verdict e sure q r other s)
             (decided_no (o.test (One m) e s).verdict t.1 P Q k a.0 a.1 f)) y (g n (listed (code_of_test false) x))
             (λ s j. hg s (listed (code_of_test false) x) (other_listed m s x y _ _ j))
 
@@ -442,13 +442,13 @@ module _ (p : Program) (ord : Side → Order) {S : Type 0} (o : StateOps S) (K :
 
     -- ---- loops
 
-    module _ (u limit : ℕ) (body : Mode → S → Pass S) (f : Going) (r : Bool)
+    module _ (u : ℕ) (body : Mode → S → Pass S) (f : Going) (r : Bool)
         (is_turn : (n : ℕ) (x : State) → IsTurnOf r (f n x))
         (known : (n : ℕ) (s : S) (x y : State) → SeenFrom K m s x y → Of (body (One m) s) y (f n x)) where
       abbrev test : Memory → Found
       test = value (ord m) p e
 
-      inside : (n : ℕ) (s : S) (x y : State) → SeenFrom K m s x y → Of (in_body o u limit l e body (One m) s) y (f n x)
+      inside : (n : ℕ) (s : S) (x y : State) → SeenFrom K m s x y → Of (in_body o u l e body (One m) s) y (f n x)
       inside n s x y i = after_alone o K m (logged [] 1 []) refl (body (One m) s) y (f n x) (known n s x y i)
 
       jumps_out : (n : ℕ) (s : S) (x y : State) → SeenFrom K m s x y → Of (jumps broken s) y (leaves broken n x)
@@ -474,39 +474,72 @@ module _ (p : Program) (ord : Side → Order) {S : Type 0} (o : StateOps S) (K :
           by_truth true = refl
           by_truth false = refl
 
-      rounds_alone : (k n : ℕ) (s : S) (x y : State) → SeenFrom K m s x y
-          → Of (one_rounds o u limit l e body m k s none) y (tests_from test l f k n x)
-      rounds_alone zero n s x y i =
-          last_alone o K m (cut_turn o u limit l e body m none s) y (tests_from test l f zero n x)
+      stopped_then : (v : Found) (g : Going) (n : ℕ) (x : State)
+          → given v l x (λ v. either (is_true v) (turns_from test l f zero) (leaves broken) n x)
+          ≡ and_then (given v l x (λ v. either (is_true v) (turns_from test l f zero) (leaves broken) n x)) g
+      stopped_then (faults k) g n x = refl
+      stopped_then (has v) g n x = by_truth (is_true v)
+        where
+          by_truth : (t : Bool)
+              → either t (turns_from test l f zero) (leaves broken) n x
+              ≡ and_then (either t (turns_from test l f zero) (leaves broken) n x) g
+          by_truth true = refl
+          by_truth false = refl
+
+      -- of the turns that are unrolled, the machine makes no more than k
+      rounds_alone : (j k : ℕ) → k ≤ j → (n : ℕ) (s : S) (x y : State) → SeenFrom K m s x y
+          → Of (one_rounds o u l e body m j s none) y (tests_from test l f k n x)
+      rounds_alone zero (suc k) le n s x y i = absurd (omega (arith, le))
+      rounds_alone zero zero le n s x y i =
+          last_alone o K m (cut_turn o u l e body m none s) y (tests_from test l f zero n x)
           (turn_left _ (visit_is test l f r is_turn true zero n x))
           (tested_alone (λ s. ends (too_long l)) (λ s. ends []) (λ s. ends []) (jumps broken)
           (turns_from test l f zero)
           (leaves broken) n s x y i (λ s x j. tt) (λ s x j. jumps_out n s x y j))
-      rounds_alone (suc k) n s x y i =
-          subst (Of (one_rounds o u limit l e body m (suc k) s none) y)
+      rounds_alone (suc j) zero le n s x y i =
+          subst (Of (one_rounds o u l e body m (suc j) s none) y)
+          (sym (stopped_then (test x.memory) (tests_from test l f zero) n x))
+          (turn_alone o K m (one_turn o u l e body m none s) y (tests_from test l f zero n x)
+          (unrolled o (one_turn o u l e body m) (cut_turn o u l e body m) j) (tests_from test l f zero)
+          (tested_alone (in_body o u l e body (One m)) (λ s. ends []) (λ s. ends []) (jumps broken)
+          (turns_from test l f zero) (leaves broken) n s x y i (λ s x j. tt) (λ s x j. jumps_out n s x y j))
+          (λ n s x i. rounds_alone j zero (omega arith) n s x y i))
+      rounds_alone (suc j) (suc k) le n s x y i =
+          subst (Of (one_rounds o u l e body m (suc j) s none) y)
           (sym (tests_then (test x.memory) (tests_from test l f k) n x))
-          (turn_alone o K m (one_turn o u limit l e body m none s) y
+          (turn_alone o K m (one_turn o u l e body m none s) y
           (given (test x.memory) l x (λ v. either (is_true v) f (leaves broken) n x))
-          (unrolled o (one_turn o u limit l e body m) (cut_turn o u limit l e body m) k) (tests_from test l f k)
-          (tested_alone (in_body o u limit l e body (One m)) (λ s. ends []) (λ s. ends []) (jumps broken) f
+          (unrolled o (one_turn o u l e body m) (cut_turn o u l e body m) j) (tests_from test l f k)
+          (tested_alone (in_body o u l e body (One m)) (λ s. ends []) (λ s. ends []) (jumps broken) f
           (leaves broken) n s x y i (λ s x j. inside n s x y j) (λ s x j. jumps_out n s x y j))
-          (λ n s x j. rounds_alone k n s x y j))
+          (λ n s x i. rounds_alone j k (omega (arith, le)) n s x y i))
 
-      pub entered_alone : (k n : ℕ) (s : S) (x y : State) → SeenFrom K m s x y
-          → Of (entered o u limit l e body m k s) y (turns_from test l f k n x)
-      entered_alone zero n s x y i = tt
-      entered_alone (suc k) n s x y i =
-          then_alone o K m (in_body o u limit l e body (One m) s) y (f n x) (one_rounds o u limit l e body m k)
-          (tests_from test l f k) (inside n s x y i) (λ n s x j. rounds_alone k n s x y j)
+      pub entered_alone : (j k : ℕ) → k ≤ j → (n : ℕ) (s : S) (x y : State) → SeenFrom K m s x y
+          → Of (entered o u l e body m j s) y (turns_from test l f k n x)
+      entered_alone j zero le n s x y i = tt
+      entered_alone zero (suc k) le n s x y i = absurd (omega (arith, le))
+      entered_alone (suc j) (suc k) le n s x y i =
+          then_alone o K m (in_body o u l e body (One m) s) y (f n x) (one_rounds o u l e body m j)
+          (tests_from test l f k) (inside n s x y i) (λ n s x i. rounds_alone j k (omega (arith, le)) n s x y i)
+
+    module _ (u : ℕ) (heads : Heads S) (body : (before : ℕ) → Mode → S → Pass S) (before : ℕ) (f : Going) (r : Bool)
+        (is_turn : (n : ℕ) (x : State) → IsTurnOf r (f n x))
+        (known : (n : ℕ) (s : S) (x y : State) → SeenFrom K m s x y → Of (body before (One m) s) y (f n x))
+        (most : ℕ) (le : most ≤ u) where
+      abbrev its_test : Memory → Found
+      its_test = value (ord m) p e
 
       loop_alone : (first : Bool) (n : ℕ) (s : S) (x y : State) → SeenFrom K m s x y
-          → Of (loop_pass o u limit l e body (One m) first s) y (loop_left (visit test l f first u n x))
+          → Of (loop_pass o u heads l e body before (One m) first s) y
+          (loop_left (visit its_test l f first most n x))
       loop_alone true n s x y i =
-          loop_left_alone o K m (one_rounds o u limit l e body m u s none) y (tests_from test l f u n x)
-          (turn_left _ (visit_is test l f r is_turn true u n x)) (rounds_alone u n s x y i)
+          loop_left_alone o K m (one_rounds o u l e (body before) m u s none) y (tests_from its_test l f most n x)
+          (turn_left u (body before) f r is_turn known _ (visit_is its_test l f r is_turn true most n x))
+          (rounds_alone u (body before) f r is_turn known u most le n s x y i)
       loop_alone false n s x y i =
-          loop_left_alone o K m (entered o u limit l e body m u s) y (turns_from test l f u n x)
-          (turn_left _ (visit_is test l f r is_turn false u n x)) (entered_alone u n s x y i)
+          loop_left_alone o K m (entered o u l e (body before) m u s) y (turns_from its_test l f most n x)
+          (turn_left u (body before) f r is_turn known _ (visit_is its_test l f r is_turn false most n x))
+          (entered_alone u (body before) f r is_turn known u most le n s x y i)
 
   -- ---- statements
 
@@ -551,30 +584,37 @@ module _ (p : Program) (ord : Side → Order) {S : Type 0} (o : StateOps S) (K :
           (scope_call (frame_of f) (body n x) (calls n x))
           (scope_alone (frame_of f) (go s) y (body n x) (known n s x y i))
 
-  module _ (u limit : ℕ) where
-    module _ (here : ℕ) (f : Function) (at : slice_get p.functions here ≡ Some f) (ps : ℕ → Mode → S → Pass S)
+  -- so many turns are unrolled, and the machine makes no more than `most` of them
+  module _ (u : ℕ) (heads : Heads S) (most : ℕ) (le : most ≤ u) where
+    module _ (here : ℕ) (f : Function) (at : slice_get p.functions here ≡ Some f) (ps : ℕ → (before : ℕ) → Mode → S → Pass S)
         (fs : ℕ → Going) (ts : ℕ → Bool) (calls : (k n : ℕ) (x : State) → IsCall (fs k n x))
-        (known : (k : ℕ) → ts k ≡ false → (g : Function) → slice_get p.functions k ≡ Some g → (n : ℕ) (s : S)
-        (x y : State) → SeenFrom K m s x y → Of (ps k (One m) s) y (fs k n x)) where
+        (known : (k : ℕ) → ts k ≡ false → (g : Function) → slice_get p.functions k ≡ Some g
+        → (before n : ℕ) (s : S) (x y : State) → SeenFrom K m s x y → Of (ps k before (One m) s) y (fs k n x)) where
       abbrev own : Option ℕ
       own = result_type p.blocks f.result
 
-      abbrev arm : Stmts → Mode → S → Pass S
-      arm a m s = pass_all o u limit ord p here ps a m s none
+      abbrev arm : Stmts → (before : ℕ) → Mode → S → Pass S
+      arm a before m s = pass_all o u heads ord p here ps a before m s none
+
+      abbrev past_arm : Stmts → (before : ℕ) → Mode → S → ℕ
+      past_arm a before m s = past heads before (arm a before m s)
+
+      abbrev turn_body : Stmts → Stmts → (before : ℕ) → Mode → S → Pass S
+      turn_body a b before m s = next_pass o (arm a before m s) (arm b (past_arm a before m s) m)
 
       abbrev run : Stmts → Going
-      run a = all_in (ord m) p u here fs a
+      run a = all_in (ord m) p most here fs a
 
-      called_alone : (k : ℕ) (es : List Expr) (d : Option Dest) (seen : List ℕ) → ts k ≡ false → (l n : ℕ) (s : S)
-          (x y : State) → SeenFrom K m s x y → (g : Option Function) → callee_of p here k ≡ g
+      called_alone : (k : ℕ) (es : List Expr) (d : Option Dest) (seen : List ℕ) → ts k ≡ false
+          → (before l n : ℕ) (s : S) (x y : State) → SeenFrom K m s x y → (g : Option Function) → callee_of p here k ≡ g
           → call_fits p here own g es d seen ≡ true
-          → Of (call_pass o g (One m) es d l (ps k (One m)) s) y (call_of (ord m) p g (fs k) es d l n x)
-      called_alone k es d seen quiet l n s x y i None e fits = tt
-      called_alone k es d seen quiet l n s x y i (Some g) e fits =
+          → Of (call_pass o g (One m) es d l (ps k before (One m)) s) y (call_of (ord m) p g (fs k) es d l n x)
+      called_alone k es d seen quiet before l n s x y i None e fits = tt
+      called_alone k es d seen quiet before l n s x y i (Some g) e fits =
           let q = and_parts (arguments_fit p.types p.blocks seen g.params es)
           (takes_result p.types p.blocks seen (result_type p.blocks g.result) d) fits in
-          call_alone k g (callee_at p here k g e) es d seen q.0 q.1 l (ps k (One m)) (fs k)
-          (known k quiet g (callee_at p here k g e)) (calls k) n s x y i
+          call_alone k g (callee_at p here k g e) es d seen q.0 q.1 l (ps k before (One m)) (fs k)
+          (known k quiet g (callee_at p here k g e) before) (calls k) n s x y i
 
       arm_of_alone : (t : Bool) (a b : Mode → S → Pass S) (h g : Going) (n : ℕ) (s : S) (x y : State)
           → Of (a (One m) s) y (h n x) → Of (b (One m) s) y (g n x)
@@ -584,104 +624,109 @@ module _ (p : Program) (ord : Side → Order) {S : Type 0} (o : StateOps S) (K :
 
       mutual
         pass_alone : (w : What) (seen : List ℕ) (i : Bool) → what_fits p here own w seen i ≡ true
-            → comes_to is_talk ts w ≡ false → (l n : ℕ) (s : S) (x y : State) → SeenFrom K m s x y
-            → Of (pass o u limit ord p here ps w (One m) l s) y (exec_in (ord m) p u here fs w l n x)
-        pass_alone (simple w) seen i fits quiet l n s x y h =
+            → comes_to is_talk ts w ≡ false → (before l n : ℕ) (s : S) (x y : State) → SeenFrom K m s x y
+            → Of (pass o u heads ord p here ps w before (One m) l s) y (exec_in (ord m) p most here fs w l n x)
+        pass_alone (simple w) seen i fits quiet before l n s x y h =
             subst (λ g. Of (simple_pass (way_of w) l (o.simple (One m) (result_in g) w s)) y
             (does (ord m) p uncounted (result_in g) w l n x)) (sym at)
             (gives_alone o K m (way_of w) l (o.simple (One m) f.result w s) y
             (does (ord m) p uncounted f.result w l n x)
             (law.simple_alone m here f at w seen fits quiet l n s x y h))
-        pass_alone (call k es d) seen i fits quiet l n s x y h =
-            called_alone k es d seen quiet l n s x y h (callee_of p here k) refl fits
-        pass_alone (if_else e a b) seen i fits quiet l n s x y h =
+        pass_alone (call k es d) seen i fits quiet before l n s x y h =
+            called_alone k es d seen quiet before l n s x y h (callee_of p here k) refl fits
+        pass_alone (if_else e a b) seen i fits quiet before l n s x y h =
             let q = and_parts (is_tested p.types p.blocks seen e && stmts_fit p here own a seen i)
             (stmts_fit p here own b seen i) fits in
             let r = and_parts (is_tested p.types p.blocks seen e) (stmts_fit p here own a seen i) q.0 in
             let z = or_false (some_comes_to is_talk ts a) (some_comes_to is_talk ts b) quiet in
-            tested_alone l e seen r.0 (arm a (One m)) (apart o l (arm a) (arm b)) (apart o l (arm b) (arm a))
-            (arm b (One m)) (run a) (run b) n s x y h
-            (λ s x h. all_alone a seen i r.1 z.0 n s x y h) (λ s x h. all_alone b seen i q.1 z.1 n s x y h)
-        pass_alone (loop first e a b) seen i fits quiet l n s x y h =
+            let later = past heads before (branch (agreed o (One m) e true s) (arm a before (One m))) in
+            tested_alone l e seen r.0 (arm a before (One m)) (apart o l (arm a before) (arm b before))
+            (apart o l (arm b before) (arm a before)) (arm b later (One m)) (run a) (run b) n s x y h
+            (λ s x h. all_alone a seen i r.1 z.0 before n s x y h)
+            (λ s x h. all_alone b seen i q.1 z.1 later n s x y h)
+        pass_alone (loop first e a b) seen i fits quiet before l n s x y h =
             let q = and_parts (is_tested p.types p.blocks seen e && stmts_fit p here own a seen true)
             (are_plain b && stmts_fit p here own b seen i) fits in
             let r = and_parts (is_tested p.types p.blocks seen e) (stmts_fit p here own a seen true) q.0 in
             let v = and_parts (are_plain b) (stmts_fit p here own b seen i) q.1 in
             let z = or_false (some_comes_to is_talk ts a) (some_comes_to is_talk ts b) quiet in
-            let plain = plain_in (ord m) p u here fs own b seen i v.0 v.1 in
-            loop_alone l e seen r.0 u limit (λ m s. next_pass o (arm a m s) (arm b m)) (with_next (run a) (run b))
+            let plain = plain_in (ord m) p most here fs own b seen i v.0 v.1 in
+            loop_alone l e seen r.0 u heads (turn_body a b) before (with_next (run a) (run b))
             (ways_of_all a).by_return
             (λ n x. body_turn (ways_of_all a) (run a n x) (run b)
-            (all_among_in (ord m) p u here fs own a seen true r.1 n x) plain)
-            (λ n s x y h. then_alone o K m (body_ends o (arm a (One m) s)) y (body_end (run a n x))
-            (rowed o (arm b (One m))) (run b)
-            (body_ends_alone o K m (arm a (One m) s) y (run a n x) (all_alone a seen true r.1 z.0 n s x y h))
-            (λ n s x h. rowed_alone o K m (arm b (One m)) s y (run b n x) (plain n x)
-            (all_alone b seen i v.1 z.1 n s x y h))) first n s x y h
-        pass_alone break_loop seen i fits quiet l n s x y h =
+            (all_among_in (ord m) p most here fs own a seen true r.1 n x) plain)
+            (λ n s x y h. then_alone o K m (body_ends o (arm a before (One m) s)) y (body_end (run a n x))
+            (rowed o (arm b (past_arm a before (One m) s) (One m))) (run b)
+            (body_ends_alone o K m (arm a before (One m) s) y (run a n x)
+            (all_alone a seen true r.1 z.0 before n s x y h))
+            (λ n t x h. rowed_alone o K m (arm b (past_arm a before (One m) s) (One m)) t y (run b n x) (plain n x)
+            (all_alone b seen i v.1 z.1 (past_arm a before (One m) s) n t x y h))) most le first n s x y h
+        pass_alone break_loop seen i fits quiet before l n s x y h =
             as_left o (λ s. SeenFrom K m s x y) broken s (logged [] 0 []) refl h
-        pass_alone continue_loop seen i fits quiet l n s x y h =
+        pass_alone continue_loop seen i fits quiet before l n s x y h =
             as_left o (λ s. SeenFrom K m s x y) continued s (logged [] 0 []) refl h
-        pass_alone (by_order named a b) seen i fits quiet l n s x y h =
+        pass_alone (by_order named a b) seen i fits quiet before l n s x y h =
             let q = and_parts (stmts_fit p here own a seen i) (stmts_fit p here own b seen i) fits in
             let z = or_false (some_comes_to is_talk ts a) (some_comes_to is_talk ts b) quiet in
-            arm_alone (arm_of o (is_order (ord m) named) (arm a) (arm b) (One m) s) y x.joint_tests
+            arm_alone (arm_of o (is_order (ord m) named) (arm a before) (arm b before) (One m) s) y x.joint_tests
             (chosen (is_order (ord m) named) (run a) (run b) n x)
-            (arm_of_alone (is_order (ord m) named) (arm a) (arm b) (run a) (run b) n s x y
-            (all_alone a seen i q.0 z.0 n s x y h) (all_alone b seen i q.1 z.1 n s x y h))
-        pass_alone (scope bs a) seen i fits quiet l n s x y h =
-            scope_alone bs (arm a (One m) (o.enter (One m) bs s)) y (run a n (without bs x))
-            (all_alone a (bs ++ seen) i fits quiet n (o.enter (One m) bs s) (without bs x) y
+            (arm_of_alone (is_order (ord m) named) (arm a before) (arm b before) (run a) (run b) n s x y
+            (all_alone a seen i q.0 z.0 before n s x y h) (all_alone b seen i q.1 z.1 before n s x y h))
+        pass_alone (scope bs a) seen i fits quiet before l n s x y h =
+            scope_alone bs (arm a before (One m) (o.enter (One m) bs s)) y (run a n (without bs x))
+            (all_alone a (bs ++ seen) i fits quiet before n (o.enter (One m) bs s) (without bs x) y
             (law.enter_alone m bs s x y h))
 
         pub all_alone : (ss : Stmts) (seen : List ℕ) (i : Bool) → stmts_fit p here own ss seen i ≡ true
-            → some_comes_to is_talk ts ss ≡ false → (n : ℕ) (s : S) (x y : State) → SeenFrom K m s x y
-            → Of (arm ss (One m) s) y (run ss n x)
-        all_alone stop seen i fits quiet n s x y h =
+            → some_comes_to is_talk ts ss ≡ false → (before n : ℕ) (s : S) (x y : State) → SeenFrom K m s x y
+            → Of (arm ss before (One m) s) y (run ss n x)
+        all_alone stop seen i fits quiet before n s x y h =
             as_left o (λ s. SeenFrom K m s x y) on s (logged [] 0 []) refl h
-        all_alone (more l w rest) seen i fits quiet n s x y h =
+        all_alone (more l w rest) seen i fits quiet before n s x y h =
             let q = and_parts (what_fits p here own w seen i) (stmts_fit p here own rest seen i) fits in
             let z = or_false (comes_to is_talk ts w) (some_comes_to is_talk ts rest) quiet in
-            then_alone o K m (pass o u limit ord p here ps w (One m) l s) y (exec_in (ord m) p u here fs w l n x)
-            (pass_all o u limit ord p here ps rest (One m)) (run rest) (pass_alone w seen i q.0 z.0 l n s x y h)
-            (λ n s x h. all_alone rest seen i q.1 z.1 n s x y h)
+            let first = pass o u heads ord p here ps w before (One m) l s in
+            then_alone o K m first y (exec_in (ord m) p most here fs w l n x)
+            (pass_all o u heads ord p here ps rest (past heads before first) (One m)) (run rest)
+            (pass_alone w seen i q.0 z.0 before l n s x y h)
+            (λ n s x h. all_alone rest seen i q.1 z.1 (past heads before first) n s x y h)
 
     -- ---- functions
 
     module _ (formed : is_well_formed p ≡ true) where
-      abbrev KnownAlone : ℕ → (Mode → S → Pass S) → Going → Bool → Type 0
+      abbrev KnownAlone : ℕ → ((before : ℕ) → Mode → S → Pass S) → Going → Bool → Type 0
       KnownAlone k go run talks =
-          talks ≡ false → (g : Function) → slice_get p.functions k ≡ Some g → (n : ℕ) (s : S) (x y : State)
-          → SeenFrom K m s x y → Of (go (One m) s) y (run n x)
+          talks ≡ false → (g : Function) → slice_get p.functions k ≡ Some g → (before n : ℕ) (s : S) (x y : State)
+          → SeenFrom K m s x y → Of (go before (One m) s) y (run n x)
 
-      chosen_alone : (k n : ℕ) (a b : Mode → S → Pass S) (f g : Going) (t v : Bool) (eq : Bool) → nat_eq k n ≡ eq
-          → KnownAlone n a f t → KnownAlone k b g v
-          → KnownAlone k (arm_of o eq a b) (chosen eq f g) (answer_if eq t v)
+      chosen_alone : (k n : ℕ) (a b : (before : ℕ) → Mode → S → Pass S) (f g : Going) (t v : Bool) (eq : Bool)
+          → nat_eq k n ≡ eq → KnownAlone n a f t → KnownAlone k b g v
+          → KnownAlone k (λ before. arm_of o eq (a before) (b before)) (chosen eq f g) (answer_if eq t v)
       chosen_alone k n a b f g t v true e h i = subst (λ j. KnownAlone j a f t) (sym (eqb-true k n e)) h
       chosen_alone k n a b f g t v false e h i = i
 
       pub bodies_alone : (n k : ℕ)
-          → KnownAlone k (bodies_pass o u limit ord p n k) (bodies_in (ord m) p u n k)
+          → KnownAlone k (bodies_pass o u heads ord p n k) (bodies_in (ord m) p most n k)
           (bodies_come_to is_talk p n k)
-      bodies_alone zero k = λ quiet g at n s x y h. as_left o (λ s. SeenFrom K m s x y) on s (logged [] 0 []) refl h
+      bodies_alone zero k = λ quiet g at before n s x y h. as_left o (λ s. SeenFrom K m s x y) on s (logged [] 0 []) refl h
       bodies_alone (suc n) k =
-          chosen_alone k n (body_pass o u limit ord p (slice_get p.functions n) n (bodies_pass o u limit ord p n))
-          (bodies_pass o u limit ord p n k) (body_in (ord m) p u (slice_get p.functions n) n (bodies_in (ord m) p u n))
-          (bodies_in (ord m) p u n k) (body_comes_to is_talk (slice_get p.functions n) (bodies_come_to is_talk p n))
+          chosen_alone k n (body_pass o u heads ord p (slice_get p.functions n) n (bodies_pass o u heads ord p n))
+          (bodies_pass o u heads ord p n k) (body_in (ord m) p most (slice_get p.functions n) n (bodies_in (ord m) p most n))
+          (bodies_in (ord m) p most n k) (body_comes_to is_talk (slice_get p.functions n) (bodies_come_to is_talk p n))
           (bodies_come_to is_talk p n k) (nat_eq k n) refl
-          (λ quiet g at j s x y h. body_alone n g at quiet j s x y h (bodies_alone n)) (bodies_alone n k)
+          (λ quiet g at before j s x y h. body_alone n g at quiet before j s x y h (bodies_alone n)) (bodies_alone n k)
         where
           body_alone : (n : ℕ) (g : Function) → slice_get p.functions n ≡ Some g
               → body_comes_to is_talk (slice_get p.functions n) (bodies_come_to is_talk p n) ≡ false
-              → (j : ℕ) (s : S) (x y : State) → SeenFrom K m s x y
-              → ((k : ℕ) → KnownAlone k (bodies_pass o u limit ord p n k) (bodies_in (ord m) p u n k)
+              → (before j : ℕ) (s : S) (x y : State) → SeenFrom K m s x y
+              → ((k : ℕ) → KnownAlone k (bodies_pass o u heads ord p n k) (bodies_in (ord m) p most n k)
               (bodies_come_to is_talk p n k))
-              → Of (body_pass o u limit ord p (slice_get p.functions n) n (bodies_pass o u limit ord p n) (One m) s) y
-              (body_in (ord m) p u (slice_get p.functions n) n (bodies_in (ord m) p u n) j x)
-          body_alone n g at quiet j s x y h known =
+              → Of (body_pass o u heads ord p (slice_get p.functions n) n (bodies_pass o u heads ord p n) before (One m) s) y
+              (body_in (ord m) p most (slice_get p.functions n) n (bodies_in (ord m) p most n) j x)
+          body_alone n g at quiet before j s x y h known =
               subst (λ z. body_comes_to is_talk z (bodies_come_to is_talk p n) ≡ false
-              → Of (body_pass o u limit ord p z n (bodies_pass o u limit ord p n) (One m) s) y
-              (body_in (ord m) p u z n (bodies_in (ord m) p u n) j x)) (sym at)
-              (λ quiet. all_alone n g at (bodies_pass o u limit ord p n) (bodies_in (ord m) p u n)
-              (bodies_come_to is_talk p n) (bodies_call_in (ord m) p u formed n) known g.body (frame_of g) false
-              (fits_at p formed n g at).2 quiet j s x y h) quiet
+              → Of (body_pass o u heads ord p z n (bodies_pass o u heads ord p n) before (One m) s) y
+              (body_in (ord m) p most z n (bodies_in (ord m) p most n) j x)) (sym at)
+              (λ quiet. all_alone n g at (bodies_pass o u heads ord p n) (bodies_in (ord m) p most n)
+              (bodies_come_to is_talk p n) (bodies_call_in (ord m) p most formed n) known g.body (frame_of g) false
+              (fits_at p formed n g at).2 quiet before j s x y h) quiet

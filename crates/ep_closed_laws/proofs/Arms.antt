@@ -1,6 +1,6 @@
 -- Tests, arms and loops: the passes of both sides follow both runs exactly.
 use Rattle.std.proofs.Common.{◌≡◌, ◌⊎◌, inl, inr, ℕ, zero, suc, ◌-◌, ◌≤◌, List, [], ◌∷◌, ◌++◌, refl, sym, subst, ap}
-use Rattle.std.proofs.Common.{◌∙◌, Option, Some, None, Bool, true, false, not, if◌then◌else◌, slice_get, arith}
+use Rattle.std.proofs.Common.{◌∙◌, Option, Some, None, Bool, true, false, not, slice_get, arith}
 use Rattle.ep_int.specs.declared.types.Order.{Order}
 use Rattle.ep_int.specs.Memory.{Memory, Found, has, faults}
 use Rattle.ep_core.specs.Program.{Expr, Dest, Stmts, Function, Program}
@@ -14,10 +14,11 @@ use Rattle.ep_core.proofs.Grows.{later_refl, Grows, Growing, received_grows}
 use Rattle.ep_pass.specs.States.{Mode, Both, One, Verdict, stuck, same, differs, StateOps}
 use Rattle.ep_pass.specs.Laws.{passes, IsTruth, Fits}
 use Rattle.ep_pass.specs.Places.{may_differ}
-use Rattle.ep_pass.specs.Pass.{Ways, none, Log, logged, Pass, ends, branch, alarms_at, left_by, jumps, simple_pass}
+use Rattle.ep_pass.specs.Pass.{Ways, none, Log, logged, Pass, ends, branch, found_at, left_by, jumps, simple_pass}
 use Rattle.ep_pass.specs.Pass.{then_pass, rowed, either_pass, leave_call, scope_pass, call_pass, comes_after, decided}
-use Rattle.ep_pass.specs.Pass.{tested, apart, last_pass, turn_then, in_body, lone, entered, joint_turn, is_stable}
-use Rattle.ep_pass.specs.Pass.{next_head, dropped, from_head, settled, last_turns, joint_rounds, loop_pass}
+use Rattle.ep_pass.specs.Pass.{tested, apart, last_pass, turn_then, in_body, lone, entered, joint_turn, Heads, past}
+use Rattle.ep_pass.specs.Pass.{turn_at, last_turns, joint_rounds, loop_pass}
+use Rattle.ep_closed_laws.proofs.Enough.{IsKept, AreEnough, enough_most, enough_less, enough_after}
 use Rattle.ep_closed_laws.specs.Bounded.{turns_from, tests_from, visit}
 use Rattle.ep_pass.proofs.Outcomes.{loop_left}
 use Rattle.ep_closed_laws.specs.Exactly.{IsThere, SeenFrom, retold, Exactly}
@@ -220,7 +221,7 @@ module _ (p : Program) (ord : Side → Order) {S : Type 0} (o : StateOps S) (K :
       tested_there Q k f =
           let z = law.test_both e seen typed t v s x y h on_left on_right in
           let a = law.assume_both e seen typed t v s x y h on_left on_right in
-          after_left o Q k (logged (alarms_at l (o.test Both e s).faults) 0 []) (ap (alarms_at l) z.0)
+          after_left o Q k (logged (found_at l (o.test Both e s).faults) 0 []) (ap (found_at l) z.0)
           (decided o (ends []) Both (o.test Both e s).verdict e f1 f2 f3 f4 s)
           (decided_there (o.test Both e s).verdict t v z.1 f1 f2 f3 f4 s (λ s. K s x y) Q k a.0 a.1 f)
 
@@ -283,12 +284,13 @@ module _ (p : Program) (ord : Side → Order) {S : Type 0} (o : StateOps S) (K :
 
     -- ---- loops
 
-    module _ (u limit : ℕ) (some : 2 ≤ limit) (body : Mode → S → Pass S) (f : Side → Going) (r : Bool)
+    module _ (u : ℕ) (heads : Heads S) (most : ℕ) (enough : AreEnough o heads most u)
+        (body : (before : ℕ) → Mode → S → Pass S) (f : Side → Going) (r : Bool)
         (is_turn : (i : Side) (n : ℕ) (x : State) → IsTurnOf r (f i n x)) (grows : (i : Side) → Growing (f i))
-        (known : (n m : ℕ) (s : S) (x y : State) → K s x y → Same rule x y
-        → Of (body Both s) (f left n x) (f right m y))
-        (alone : IsQuietRule rule → (i : Side) (n : ℕ) (s : S) (x y : State) → SeenFrom K i s x y
-        → AloneOf o K i (body (One i) s) y (f i n x))
+        (known : (before n m : ℕ) (s : S) (x y : State) → K s x y → Same rule x y
+        → Of (body before Both s) (f left n x) (f right m y))
+        (alone : IsQuietRule rule → (before : ℕ) (i : Side) (n : ℕ) (s : S) (x y : State) → SeenFrom K i s x y
+        → AloneOf o K i (body before (One i) s) y (f i n x))
         (stays : IsQuietRule rule → r ≡ false) where
       abbrev test : Side → Memory → Found
       test i = value (ord i) p e
@@ -363,161 +365,180 @@ module _ (p : Program) (ord : Side → Order) {S : Type 0} (o : StateOps S) (K :
       fewer_right q c (no_input x) d' e h = starved_right q c x
       fewer_right q c (undefined_at l' k x) d' e h = stopped_right q c l' k x
 
-      lone_left : (k : ℕ) → k ≤ u → IsQuietRule rule → (n m : ℕ) (s : S) (x y : State) → K s x y
-          → Of (lone o u limit l e body left s) (turns left k n x) (leaves broken m y)
-      lone_left k le z n m s x y h =
-          fewer_left (lone o u limit l e body left s) (leaves broken m y) (turns left k n x) (turns left u n x)
-          (turns_more (test left) l (f left) k u le n x)
-          (out_left (entered o u limit l e body left u s) n m y (turns left u n x) z
-          (visit_is (test left) l (f left) r (is_turn left) false u n x)
-          (entered_alone p ord o K law left l e seen typed u limit body (f left) r (is_turn left)
-          (alone z left) u n s x
-          y h))
+      lone_left : (before k : ℕ) → k ≤ most → IsQuietRule rule → (n m : ℕ) (s : S) (x y : State) → K s x y
+          → Of (lone o u l e (body before) left s) (turns left k n x) (leaves broken m y)
+      lone_left before k le z n m s x y h =
+          fewer_left (lone o u l e (body before) left s) (leaves broken m y) (turns left k n x) (turns left most n x)
+          (turns_more (test left) l (f left) k most le n x)
+          (out_left (entered o u l e (body before) left u s) n m y (turns left most n x) z
+          (visit_is (test left) l (f left) r (is_turn left) false most n x)
+          (entered_alone p ord o K law left l e seen typed u (body before) (f left) r (is_turn left)
+          (alone z before left) u most (enough_most o heads most u enough) n s x y h))
 
-      lone_right : (k : ℕ) → k ≤ u → IsQuietRule rule → (n m : ℕ) (s : S) (x y : State) → K s x y
-          → Of (lone o u limit l e body right s) (leaves broken n x) (turns right k m y)
-      lone_right k le z n m s x y h =
-          fewer_right (lone o u limit l e body right s) (leaves broken n x) (turns right k m y) (turns right u m y)
-          (turns_more (test right) l (f right) k u le m y)
-          (out_right (entered o u limit l e body right u s) n m x (turns right u m y) z
-          (visit_is (test right) l (f right) r (is_turn right) false u m y)
-          (entered_alone p ord o K law right l e seen typed u limit body (f right) r (is_turn right)
-          (alone z right) u m
-          s y x h))
+      lone_right : (before k : ℕ) → k ≤ most → IsQuietRule rule → (n m : ℕ) (s : S) (x y : State) → K s x y
+          → Of (lone o u l e (body before) right s) (leaves broken n x) (turns right k m y)
+      lone_right before k le z n m s x y h =
+          fewer_right (lone o u l e (body before) right s) (leaves broken n x) (turns right k m y) (turns right most m y)
+          (turns_more (test right) l (f right) k most le m y)
+          (out_right (entered o u l e (body before) right u s) n m x (turns right most m y) z
+          (visit_is (test right) l (f right) r (is_turn right) false most m y)
+          (entered_alone p ord o K law right l e seen typed u (body before) (f right) r (is_turn right)
+          (alone z before right) u most (enough_most o heads most u enough) m s y x h))
 
-      inside : (n m : ℕ) (s : S) (x y : State) → K s x y → Same rule x y
-          → Of (in_body o u limit l e body Both s) (f left n x) (f right m y)
-      inside n m s x y h z =
-          after_both o K rule os (logged [] 1 []) refl (body Both s) (f left n x) (f right m y) (known n m s x y h z)
+      inside : (before n m : ℕ) (s : S) (x y : State) → K s x y → Same rule x y
+          → Of (in_body o u l e (body before) Both s) (f left n x) (f right m y)
+      inside before n m s x y h z =
+          after_both o K rule os (logged [] 1 []) refl (body before Both s) (f left n x) (f right m y)
+          (known before n m s x y h z)
 
       jumps_out : (n m : ℕ) (s : S) (x y : State) → K s x y → Same rule x y
           → Of (jumps broken s) (leaves broken n x) (leaves broken m y)
       jumps_out n m s x y h z = λ a. (refl, (z, as_left o (λ s. K s x y) broken s (logged [] 0 []) refl h))
 
-      -- a head whose turn comes to the false test is kept
-      kept : (P : S → Type 0) (k : ℕ) → 1 ≤ k → (turn : S → Pass S) (h : S) → Leaves P broken (turn h)
-          → Leaves P broken (settled o u limit l e body turn k h)
-      kept P zero le turn h z = absurd (omega (arith, le))
-      kept P (suc k) le turn h z = by_round (turn h).on (ap (λ (q : Pass S). q.on) z.is)
-        where
-          by_round : (v : Option S) → v ≡ None
-              → Leaves P broken
-              (if is_stable o u limit l e body h v then from_head h (turn h)
-              else dropped (turn h) (settled o u limit l e body turn k (next_head o u limit l e body h v)))
-          by_round None d = after_left o P broken (logged [] 0 (h ∷ [])) refl (turn h) z
-          by_round (Some s) d = absurd cc
-
-      last_there : (s : S) (x y : State) → K s x y → IsTruth p (ord left) e x.memory false
-          → IsTruth p (ord right) e y.memory false
-          → Leaves (λ s. K s (listed 0 x) (listed 0 y)) broken (last_pass o (last_turns o u limit l e body none s))
-      last_there s x y h i j =
+      -- where the last turn comes to the false test
+      last_there : IsKept o heads → (before : ℕ) (s : S) (x y : State) → K s x y
+          → IsTruth p (ord left) e x.memory false → IsTruth p (ord right) e y.memory false
+          → Leaves (λ s. K s (listed 0 x) (listed 0 y)) broken
+          (last_pass o (last_turns o u heads l e body before none s))
+      last_there keeps before s x y h i j =
           let P : S → Type 0 = λ s. K s (listed 0 x) (listed 0 y) in
-          let t = tested_there (in_body o u limit l e body Both) (lone o u limit l e body left)
-          (lone o u limit l e body right) (jumps broken) (o.reshared s) x y (law.reshared s x y h) false false i j P
-          broken
-          (λ s k. as_left o P broken s (logged [] 0 []) refl (listed_both s x y 0 0 k)) in
-          mapped o P broken broken (last_pass o) (λ s g e i. as_left o P broken s g e i)
-          (last_turns o u limit l e body none s)
-          (kept P (limit - 1) (omega (arith, some)) (joint_turn o u limit l e body none) (o.reshared s) t)
+          let out : (n : ℕ) → Leaves P broken (joint_turn o u l e (body n) none (o.reshared s))
+          = λ n. tested_there (in_body o u l e (body n) Both) (lone o u l e (body n) left)
+          (lone o u l e (body n) right) (jumps broken) (o.reshared s) x y (law.reshared s x y h) false false i j P
+          broken (λ s k. as_left o P broken s (logged [] 0 []) refl (listed_both s x y 0 0 k)) in
+          let last = last_turns o u heads l e body before none s in
+          let z = keeps before l (turn_at o u heads l e body none) s (λ n. ap (λ (q : Pass S). q.on) (out n).is) in
+          mapped o P broken broken (last_pass o) (λ s g e i. as_left o P broken s g e i) last
+          (subst (Leaves P broken) (sym z.is)
+          (after_left o P broken z.log z.quiet (joint_turn o u l e (body z.number) none (o.reshared s)) (out z.number)))
 
-      rounds_both : (k : ℕ) → k ≤ u → (n m : ℕ) (s : S) (x y : State) → K s x y → Same rule x y
-          → Of (joint_rounds o u limit l e body k s none) (tests left k n x) (tests right k m y)
-      rounds_both zero le n m s x y h z =
-          by_tests (joint_rounds o u limit l e body zero s none) (turns left zero) (leaves broken) (turns right zero)
-          (leaves broken) n m x y (λ t v i j. by_truths t v i j)
+      -- both tests are false, or a machine may make no more turns
+      turn_ends : (before n m : ℕ) (s : S) (x y : State) → K s x y → Same rule x y → (go : S → Ways S → Pass S)
+          → (t v : Bool) → IsTruth p (ord left) e x.memory t → IsTruth p (ord right) e y.memory v
+          → Of (turn_then o (joint_turn o u l e (body before) none s) go)
+          (either t (turns left zero) (leaves broken) n x) (either v (turns right zero) (leaves broken) m y)
+      turn_ends before n m s x y h z go true v i j = tt
+      turn_ends before n m s x y h z go false true i j = tt
+      turn_ends before n m s x y h z go false false i j =
+          let x1 = listed 0 x in
+          let y1 = listed 0 y in
+          turn_stays o K rule os go (joint_turn o u l e (body before) none s) (leaves broken n x1) (leaves broken m y1)
+          tt tt
+          (test_of (in_body o u l e (body before) Both) (lone o u l e (body before) left)
+          (lone o u l e (body before) right) (jumps broken) s x y h false false i j (leaves broken n x1)
+          (leaves broken m y1)
+          (λ s q. jumps_out n m s x1 y1 (listed_both s x y 0 0 q) (same_listed rule x y 0 z)))
+
+      rounds_both : (j k : ℕ) → k ≤ most → AreEnough o heads k j → (before n m : ℕ) (s : S) (x y : State) → K s x y
+          → Same rule x y → Of (joint_rounds o u heads l e body j before s none) (tests left k n x) (tests right k m y)
+      rounds_both zero k le (inl lt) before n m s x y h z = absurd (omega (arith, lt))
+      rounds_both zero (suc k) le (inr d) before n m s x y h z = (let c = d.0 in absurd (omega (arith, c)))
+      rounds_both zero zero le (inr d) before n m s x y h z =
+          by_tests (joint_rounds o u heads l e body zero before s none) (turns left zero) (leaves broken)
+          (turns right zero) (leaves broken) n m x y (λ t v i j. by_truths t v i j)
         where
           by_truths : (t v : Bool) → IsTruth p (ord left) e x.memory t → IsTruth p (ord right) e y.memory v
-              → Of (joint_rounds o u limit l e body zero s none) (either t (turns left zero) (leaves broken) n x)
+              → Of (joint_rounds o u heads l e body zero before s none) (either t (turns left zero) (leaves broken) n x)
               (either v (turns right zero) (leaves broken) m y)
           by_truths true v i j = tt
           by_truths false true i j = tt
-          by_truths false false i j = λ a. (refl, (same_listed rule x y 0 z, last_there s x y h i j))
-      rounds_both (suc k) le n m s x y h z =
-          by_tests (joint_rounds o u limit l e body (suc k) s none) (turns left (suc k)) (leaves broken)
+          by_truths false false i j = λ a. (refl, (same_listed rule x y 0 z, last_there d.1 before s x y h i j))
+      rounds_both (suc j) zero le more before n m s x y h z =
+          by_tests (joint_rounds o u heads l e body (suc j) before s none) (turns left zero) (leaves broken)
+          (turns right zero) (leaves broken) n m x y
+          (turn_ends before n m s x y h z
+          (joint_rounds o u heads l e body j (past heads before (joint_turn o u l e (body before) none s))))
+      rounds_both (suc j) (suc k) le more before n m s x y h z =
+          by_tests (joint_rounds o u heads l e body (suc j) before s none) (turns left (suc k)) (leaves broken)
           (turns right (suc k)) (leaves broken) n m x y
-          (λ t v i j. by_truths (λ n m s x y h z. rounds_both k (omega (arith, le)) n m s x y h z) t v i j)
+          (λ t v i j'. by_truths
+          (λ n m s x y h z. rounds_both j k (omega (arith, le)) (enough_less o heads k j more)
+          (past heads before turn) n m s x y h z) t v i j')
         where
-          turn : S → Pass S
-          turn s = joint_turn o u limit l e body none s
+          turn : Pass S
+          turn = joint_turn o u l e (body before) none s
 
           go : S → Ways S → Pass S
-          go = joint_rounds o u limit l e body k
+          go = joint_rounds o u heads l e body j (past heads before turn)
 
           of_turn : (t v : Bool) → IsTruth p (ord left) e x.memory t → IsTruth p (ord right) e y.memory v
               → (c d : Outcome)
               → ((s : S) → K s x y
               → Of
-              (pick t v (in_body o u limit l e body Both) (lone o u limit l e body left)
-              (lone o u limit l e body right)
-              (jumps broken) s) c d)
-              → Of (turn s) c d
+              (pick t v (in_body o u l e (body before) Both) (lone o u l e (body before) left)
+              (lone o u l e (body before) right) (jumps broken) s) c d)
+              → Of turn c d
           of_turn t v i j c d q =
-              test_of (in_body o u limit l e body Both) (lone o u limit l e body left)
-              (lone o u limit l e body right) (jumps broken) s x y h t v i j c d q
+              test_of (in_body o u l e (body before) Both) (lone o u l e (body before) left)
+              (lone o u l e (body before) right) (jumps broken) s x y h t v i j c d q
 
           by_truths : ((n m : ℕ) (s : S) (x y : State) → K s x y → Same rule x y
               → Of (go s none) (tests left k n x) (tests right k m y))
               → (t v : Bool) → IsTruth p (ord left) e x.memory t → IsTruth p (ord right) e y.memory v
-              → Of (turn_then o (turn s) go) (either t (turns left (suc k)) (leaves broken) n x)
+              → Of (turn_then o turn go) (either t (turns left (suc k)) (leaves broken) n x)
               (either v (turns right (suc k)) (leaves broken) m y)
           by_truths again true true i j =
               let x1 = listed 1 x in
               let y1 = listed 1 y in
-              turn_both o K rule os (turn s) (f left n x1) (f right m y1) go (tests left k) (tests right k)
+              turn_both o K rule os turn (f left n x1) (f right m y1) go (tests left k) (tests right k)
               (tests_grow (test left) l (f left) (grows left) k) (tests_grow (test right) l (f right) (grows right) k)
               (of_turn true true i j (f left n x1) (f right m y1)
-              (λ s q. inside n m s x1 y1 (listed_both s x y 1 1 q) (same_listed rule x y 1 z))) again
+              (λ s q. inside before n m s x1 y1 (listed_both s x y 1 1 q) (same_listed rule x y 1 z))) again
           by_truths again true false i j =
               let x1 = listed 1 x in
               let y1 = listed 0 y in
-              turn_stays o K rule os go (turn s) (turns left (suc k) n x1) (leaves broken m y1)
+              turn_stays o K rule os go turn (turns left (suc k) n x1) (leaves broken m y1)
               (turns_left left (suc k) n x1) tt
-              (cross (turn s) (turns left (suc k) n x1) (leaves broken m y1) x y n m 1 0 (λ e. absurd cc) z
+              (cross turn (turns left (suc k) n x1) (leaves broken m y1) x y n m 1 0 (λ e. absurd cc) z
               (turns_grow (test left) l (f left) (grows left) (suc k) n x1) (later_refl y1, omega arith)
               (λ w. of_turn true false i j (turns left (suc k) n x1) (leaves broken m y1)
-              (λ s q. lone_left (suc k) le w n m s x1 y1 (listed_both s x y 1 0 q))))
+              (λ s q. lone_left before (suc k) le w n m s x1 y1 (listed_both s x y 1 0 q))))
           by_truths again false true i j =
               let x1 = listed 0 x in
               let y1 = listed 1 y in
-              turn_stays o K rule os go (turn s) (leaves broken n x1) (turns right (suc k) m y1) tt
+              turn_stays o K rule os go turn (leaves broken n x1) (turns right (suc k) m y1) tt
               (turns_left right (suc k) m y1)
-              (cross (turn s) (leaves broken n x1) (turns right (suc k) m y1) x y n m 0 1 (λ e. absurd cc) z
+              (cross turn (leaves broken n x1) (turns right (suc k) m y1) x y n m 0 1 (λ e. absurd cc) z
               (later_refl x1, omega arith) (turns_grow (test right) l (f right) (grows right) (suc k) m y1)
               (λ w. of_turn false true i j (leaves broken n x1) (turns right (suc k) m y1)
-              (λ s q. lone_right (suc k) le w n m s x1 y1 (listed_both s x y 0 1 q))))
+              (λ s q. lone_right before (suc k) le w n m s x1 y1 (listed_both s x y 0 1 q))))
           by_truths again false false i j =
               let x1 = listed 0 x in
               let y1 = listed 0 y in
-              turn_stays o K rule os go (turn s) (leaves broken n x1) (leaves broken m y1) tt tt
+              turn_stays o K rule os go turn (leaves broken n x1) (leaves broken m y1) tt tt
               (of_turn false false i j (leaves broken n x1) (leaves broken m y1)
               (λ s q. jumps_out n m s x1 y1 (listed_both s x y 0 0 q) (same_listed rule x y 0 z)))
 
-      do_both : (k : ℕ) → k ≤ u → (n m : ℕ) (s : S) (x y : State) → K s x y → Same rule x y
-          → Of (then_pass o (in_body o u limit l e body Both s) none (joint_rounds o u limit l e body (k - 1)))
+      do_both : (k : ℕ) → k ≤ most → AreEnough o heads k u → (before n m : ℕ) (s : S) (x y : State) → K s x y
+          → Same rule x y
+          → Of
+          (then_pass o (in_body o u l e (body before) Both s) none
+          (joint_rounds o u heads l e body (u - 1) (past heads before (in_body o u l e (body before) Both s))))
           (turns left k n x) (turns right k m y)
-      do_both zero le n m s x y h z = tt
-      do_both (suc k) le n m s x y h z =
-          let d : k ≡ suc k - 1 = omega arith in
-          subst
-          (λ j. Of (then_pass o (in_body o u limit l e body Both s) none (joint_rounds o u limit l e body j))
-          (turns left (suc k) n x) (turns right (suc k) m y)) d
-          (then_both o K rule os (in_body o u limit l e body Both s) (f left n x) (f right m y)
-          (joint_rounds o u limit l e body k) (tests left k) (tests right k)
+      do_both zero le more before n m s x y h z = tt
+      do_both (suc k) le more before n m s x y h z =
+          let first = in_body o u l e (body before) Both s in
+          then_both o K rule os first (f left n x) (f right m y)
+          (joint_rounds o u heads l e body (u - 1) (past heads before first)) (tests left k) (tests right k)
           (tests_grow (test left) l (f left) (grows left) k) (tests_grow (test right) l (f right) (grows right) k)
-          (inside n m s x y h z)
-          (λ n m s x y h z. rounds_both k (omega (arith, le)) n m s x y h z))
+          (inside before n m s x y h z)
+          (λ n m s x y h z. rounds_both (u - 1) k (omega (arith, le)) (enough_after o heads k u more)
+          (past heads before first) n m s x y h z)
 
-      pub loop_both : (first : Bool) (n m : ℕ) (s : S) (x y : State) → K s x y → Same rule x y
-          → Of (loop_pass o u limit l e body Both first s) (loop_left (visit (test left) l (f left) first u n x))
-          (loop_left (visit (test right) l (f right) first u m y))
-      loop_both true n m s x y h z =
-          loop_left_both o K rule os (joint_rounds o u limit l e body u s none) (tests left u n x) (tests right u m y)
-          (tests_left left u n x) (tests_left right u m y) (rounds_both u (omega arith) n m s x y h z)
-      loop_both false n m s x y h z =
+      pub loop_both : (before : ℕ) (first : Bool) (n m : ℕ) (s : S) (x y : State) → K s x y → Same rule x y
+          → Of (loop_pass o u heads l e body before Both first s)
+          (loop_left (visit (test left) l (f left) first most n x))
+          (loop_left (visit (test right) l (f right) first most m y))
+      loop_both before true n m s x y h z =
+          loop_left_both o K rule os (joint_rounds o u heads l e body u before s none) (tests left most n x)
+          (tests right most m y) (tests_left left most n x) (tests_left right most m y)
+          (rounds_both u most (omega arith) enough before n m s x y h z)
+      loop_both before false n m s x y h z =
+          let first = in_body o u l e (body before) Both s in
           loop_left_both o K rule os
-          (then_pass o (in_body o u limit l e body Both s) none (joint_rounds o u limit l e body (u - 1)))
-          (turns left u n x) (turns right u m y)
-          (turns_left left u n x) (turns_left right u m y) (do_both u (omega arith) n m s x y h z)
+          (then_pass o first none (joint_rounds o u heads l e body (u - 1) (past heads before first)))
+          (turns left most n x) (turns right most m y) (turns_left left most n x) (turns_left right most m y)
+          (do_both most (omega arith) enough before n m s x y h z)
 
   -- ---- statements
 

@@ -1,10 +1,9 @@
 -- Passes of both sides that operations give, and of the sides one after the other.
 use Rattle.std.proofs.Common.{◌≡◌, ℕ, ◌+◌, List, [], ◌++◌, length, sym, subst, ap, ◌∙◌, Option, Some, None}
-use Rattle.ep_alarms.specs.declared.types.Alarm.{Alarm}
 use Rattle.ep_core.specs.Exec.{Output, State, Way, on, broken, continued, returned, Outcome, leaves, running}
 use Rattle.ep_core.specs.Exec.{no_input, undefined_at}
 use Rattle.ep_pass.specs.States.{Transfer, StateOps}
-use Rattle.ep_pass.specs.Pass.{none, Log, Pass, after, ends, left_by, simple_pass, rowed, either_pass, parted}
+use Rattle.ep_pass.specs.Pass.{none, Event, Log, Pass, after, ends, left_by, simple_pass, rowed, either_pass, parted}
 use Rattle.ep_pass.specs.Pass.{only_on, only_broken, only_continued, only_returned}
 use Rattle.ep_closed_laws.specs.Exactly.{IsThere, IfBothLeft, TransferIsExact}
 use Rattle.ep_closed_laws.proofs.GrowsIn.{Adds, AddsIfLeft}
@@ -19,7 +18,7 @@ only_of broken l q = only_broken l q
 only_of continued l q = only_continued l q
 only_of returned l q = only_returned l q
 
-quiet_both : (fs : List Alarm) → fs ≡ [] → fs ++ [] ≡ []
+quiet_both : (fs : List Event) → fs ≡ [] → fs ++ [] ≡ []
 quiet_both fs e = ap (λ gs. gs ++ []) e
 
 module _ {S : Type 0} (o : StateOps S) (K : S → State → State → Type 0) (rule : Rule) (os : List Output) where

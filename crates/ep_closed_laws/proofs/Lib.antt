@@ -9,5 +9,6 @@ pub mod Rules
 pub mod Both
 pub mod BothGiven
 pub mod Codes
+pub mod Enough
 pub mod Arms
 pub mod Exact

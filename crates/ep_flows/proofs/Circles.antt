@@ -1,13 +1,12 @@
 -- Heads, one after another, and circles of them.
 use Rattle.std.proofs.Common.{◌≡◌, ◌^◌, ℕ, zero, suc, ◌+◌, ◌-◌, ◌*◌, ◌<◌, ◌≤◌, ◌⊎◌, inl, inr, Bool, true, false, List}
-use Rattle.std.proofs.Common.{[], ◌∷◌, fold, refl, sym, ap, ◌∙◌, subst, arith, Option, Some, None, if◌then◌else◌}
+use Rattle.std.proofs.Common.{[], ◌∷◌, fold, map, refl, sym, ap, ◌∙◌, subst, arith, Option, Some, None, if◌then◌else◌}
 use Rattle.std.specs.Option.{option_map}
 use Rattle.std.proofs.Math.Nat.{suc-mul, zero-mul}
 use Rattle.ep_alarms.specs.declared.types.Alarm.{Alarm}
 use Rattle.ep_alarms.specs.Report.{added}
-use Rattle.ep_core.specs.Program.{Expr}
-use Rattle.ep_pass.specs.States.{Mode, StateOps}
-use Rattle.ep_pass.specs.Pass.{Log, logged, both_logs, Pass, from_head, dropped, settled, is_stable, next_head}
+use Rattle.ep_pass.specs.States.{StateOps}
+use Rattle.ep_pass.specs.Pass.{alarm_of, Log, logged, both_logs, Pass, from_head, dropped, settled, is_stable, next_head}
 use Rattle.ep_pass.specs.Heads.{more_turns, IsTriedAgain, next_of, head_after, turns_at, NoneKept}
 use Rattle.ep_pass.specs.ReportLaws.{HeadsGoRound}
 use Rattle.ep_flows.specs.View.{Told, Tells, HasPassed, capped, more_heads, kept_heads, wider_of}
@@ -38,8 +37,8 @@ module _ {S : Type 0} where
       → new.heads ≡ kept_heads now.heads h done.heads
       → Tells (both_logs (logged [] 0 (h ∷ [])) g) now new
   head_tells g h now found done new fr t a c hs = record {
-    alarms = a ∙ ap (fold added now.alarms) (t.alarms ∙ ap (λ l. fold added l g.faults) fr.alarms)
-        ∙ gathered_apart now.alarms g.faults;
+    alarms = a ∙ ap (fold added now.alarms) (t.alarms ∙ ap (λ l. fold added l (map alarm_of g.faults)) fr.alarms)
+        ∙ gathered_apart now.alarms (map alarm_of g.faults);
     count = counts now.count found.count done.count new.count g.count fr.count t.count c;
     heads = hs ∙ ap (kept_heads now.heads h) (t.heads ∙ ap (λ l. more_heads l g.heads) fr.heads)
         ∙ kept_all now.heads h g.heads;
@@ -83,14 +82,14 @@ capped_times (suc k) a b e = split (either a b e)
 
 -- ---- heads
 
-module _ {S : Type 0} (o : StateOps S) (u limit l : ℕ) (e : Expr) (body : Mode → S → Pass S) (turn : S → Pass S) where
+module _ {S : Type 0} (o : StateOps S) (turn : S → Pass S) where
   abbrev tries : ℕ → S → Pass S
-  tries k h = settled o u limit l e body turn k h
+  tries k h = settled o turn k h
 
   abbrev wider : S → Option S → Option S
   wider = wider_of o
 
-  stays : (h : S) (v : Option S) → wider h v ≡ None → is_stable o u limit l e body h v ≡ true
+  stays : (h : S) (v : Option S) → wider h v ≡ None → is_stable o h v ≡ true
   stays h None k = refl
   stays h (Some s) k = by_test (o.leq (o.unified h s).1 h) k
     where
@@ -100,8 +99,8 @@ module _ {S : Type 0} (o : StateOps S) (u limit l : ℕ) (e : Expr) (body : Mode
       by_test false k = absurd cc
 
   pub record Widens (h : S) (v : Option S) (n : S) : Type 0 where
-    pub tried : is_stable o u limit l e body h v ≡ false
-    pub next : next_head o u limit l e body h v ≡ n
+    pub tried : is_stable o h v ≡ false
+    pub next : next_head o h v ≡ n
 
   pub widens : (h : S) (v : Option S) (n : S) → wider h v ≡ Some n → Widens h v n
   widens h None n k = absurd cc
@@ -113,15 +112,15 @@ module _ {S : Type 0} (o : StateOps S) (u limit l : ℕ) (e : Expr) (body : Mode
       by_test true k = absurd cc
       by_test false k = (refl, cc)
 
-  kept_now : (k : ℕ) (h : S) → is_stable o u limit l e body h (turn h).on ≡ true → tries (suc k) h ≡ from_head h
+  kept_now : (k : ℕ) (h : S) → is_stable o h (turn h).on ≡ true → tries (suc k) h ≡ from_head h
       (turn h)
   kept_now k h s = ap (λ b. if b then from_head h (turn h) else dropped (turn h) (tries k
-      (next_head o u limit l e body h (turn h).on))) s
+      (next_head o h (turn h).on))) s
 
-  not_now : (k : ℕ) (h : S) → is_stable o u limit l e body h (turn h).on ≡ false → tries (suc k) h ≡ dropped (turn h)
-      (tries k (next_head o u limit l e body h (turn h).on))
+  not_now : (k : ℕ) (h : S) → is_stable o h (turn h).on ≡ false → tries (suc k) h ≡ dropped (turn h)
+      (tries k (next_head o h (turn h).on))
   not_now k h s = ap (λ b. if b then from_head h (turn h) else dropped (turn h) (tries k
-      (next_head o u limit l e body h (turn h).on))) s
+      (next_head o h (turn h).on))) s
 
   -- what came of a turn from a head
   module _ (h : S) (f : Flow S) (now found done new start : Told S) (whole : Pass S) (fr : Fresh now found)
@@ -141,7 +140,7 @@ module _ {S : Type 0} (o : StateOps S) (u limit l : ℕ) (e : Expr) (body : Mode
         → new.heads ≡ kept_heads now.heads h done.heads → HasPassed whole f start new
     head_kept left w lt lead ew en a c hs =
         let n : left ≡ suc (left - 1) = omega arith in
-        let s : is_stable o u limit l e body h (turn h).on ≡ true = stays h (turn h).on (ap (wider h) (sym t.on)
+        let s : is_stable o h (turn h).on ≡ true = stays h (turn h).on (ap (wider h) (sym t.on)
         ∙ sym ew ∙ en) in
         lead f new (subst (λ k. HasPassed (tries k h) f now new) (sym n) (subst (λ p. HasPassed p f now new)
         (sym (kept_now (left - 1) h s)) (from_kept a c hs)))
@@ -154,7 +153,7 @@ module _ {S : Type 0} (o : StateOps S) (u limit l : ℕ) (e : Expr) (body : Mode
         let n : left ≡ suc (left - 1) = omega arith in
         let d = widens h (turn h).on next (ap (wider h) (sym t.on) ∙ sym ew ∙ en) in
         let k' = subst (λ z. HasPassed (tries (left - 1) z) g new end) (sym d.next) k in
-        let q = tries (left - 1) (next_head o u limit l e body h (turn h).on) in
+        let q = tries (left - 1) (next_head o h (turn h).on) in
         let step : HasPassed (dropped (turn h) q) g now end = after_passed (logged [] (turn h).log.count []) q g now
         new end (drop_tells (turn h).log now found done new fr t.log a c hs) k' in
         lead g end (subst (λ k. HasPassed (tries k h) g now end) (sym n) (subst (λ p. HasPassed p g now end)
@@ -174,32 +173,32 @@ module _ {S : Type 0} (o : StateOps S) (u limit l : ℕ) (e : Expr) (body : Mode
   -- ---- circles
 
   abbrev after_some : ℕ → S → S
-  after_some = head_after o u limit l e body turn
+  after_some = head_after o turn
 
   abbrev turns_of_some : ℕ → S → ℕ
-  turns_of_some = turns_at o u limit l e body turn
+  turns_of_some = turns_at o turn
 
   -- the head is the one after so many from a marked one, none of which is kept
   pub record Since (mark head : S) (since counted : ℕ) : Type 0 where
-    pub tried : NoneKept o u limit l e body turn since mark
+    pub tried : NoneKept o turn since mark
     pub at : after_some since mark ≡ head
     pub count : capped counted ≡ capped (turns_of_some since mark)
 
   pub since_none : (h : S) (n m : ℕ) → n ≡ 0 → m ≡ 0 → Since h h n m
   since_none h n m e d = subst (λ n. Since h h n m) (sym e) (record { tried = tt; at = refl; count = ap capped d })
 
-  tried_more : (d : ℕ) (h : S) → NoneKept o u limit l e body turn d h → IsTriedAgain o u limit l e body turn
-      (after_some d h) → NoneKept o u limit l e body turn (suc d) h
+  tried_more : (d : ℕ) (h : S) → NoneKept o turn d h → IsTriedAgain o turn
+      (after_some d h) → NoneKept o turn (suc d) h
   tried_more zero h a b = (b, tt)
-  tried_more (suc d) h a b = (a.0, tried_more d (next_of o u limit l e body turn h) a.1 b)
+  tried_more (suc d) h a b = (a.0, tried_more d (next_of o turn h) a.1 b)
 
-  after_more : (d : ℕ) (h : S) → after_some (suc d) h ≡ next_of o u limit l e body turn (after_some d h)
+  after_more : (d : ℕ) (h : S) → after_some (suc d) h ≡ next_of o turn (after_some d h)
   after_more zero h = refl
-  after_more (suc d) h = after_more d (next_of o u limit l e body turn h)
+  after_more (suc d) h = after_more d (next_of o turn h)
 
   turns_more : (d : ℕ) (h : S) → turns_of_some (suc d) h ≡ turns_of_some d h + (turn (after_some d h)).log.count
   turns_more zero h = omega arith
-  turns_more (suc d) h = let i = turns_more d (next_of o u limit l e body turn h) in omega (arith, i)
+  turns_more (suc d) h = let i = turns_more d (next_of o turn h) in omega (arith, i)
 
   pub since_more : (mark h next : S) (since since' counted counted' : ℕ) (f : Flow S) (w : Option S)
       (found done : Told S) → Since mark h since counted → HasPassed (turn h) f found done → found.count ≡ 0
@@ -210,11 +209,11 @@ module _ {S : Type 0} (o : StateOps S) (u limit l : ℕ) (e : Expr) (body : Mode
       let n : since' ≡ suc since = omega (arith, es) in
       let m = turns_more since mark in
       let k : (turn (after_some since mark)).log.count ≡ (turn h).log.count = ap (λ z. (turn z).log.count) s.at in
-      let tried : IsTriedAgain o u limit l e body turn (after_some since mark) = subst
-      (λ z. IsTriedAgain o u limit l e body turn z) (sym s.at) d.tried in
+      let tried : IsTriedAgain o turn (after_some since mark) = subst
+      (λ z. IsTriedAgain o turn z) (sym s.at) d.tried in
       subst (λ n. Since mark next n counted') (sym n) (record {
         tried = tried_more since mark s.tried tried;
-        at = after_more since mark ∙ ap (next_of o u limit l e body turn) s.at ∙ d.next;
+        at = after_more since mark ∙ ap (next_of o turn) s.at ∙ d.next;
         count = counts counted counted' done.count found.count (turn h).log.count (turn
             (after_some since mark)).log.count (turns_of_some since mark) (turns_of_some
             (suc since) mark) z ec t.log.count s.count k m;
@@ -241,7 +240,7 @@ module _ {S : Type 0} (o : StateOps S) (u limit l : ℕ) (e : Expr) (body : Mode
       let k' = subst (λ z. HasPassed (tries rest z) g new end) eh k in
       let step : HasPassed (more_turns (rounds * t) (tries rest mark)) g now end = after_passed (logged []
       (rounds * t) []) (tries rest mark) g now new end tells k' in
-      let known : tries left mark ≡ more_turns (rounds * t) (tries rest mark) = law o u limit l e body turn since mark
+      let known : tries left mark ≡ more_turns (rounds * t) (tries rest mark) = law o turn since mark
       s.tried (s.at ∙ eh) rounds rest left el in
       lead g end (subst (λ z. HasPassed (tries left z) g now end) (sym eh) (subst (λ p. HasPassed p g now end)
       (sym known) step))

@@ -1,27 +1,27 @@
 -- Where statements were gone through, piece by piece, as a pass says.
-use Rattle.std.proofs.Common.{◌≡◌, ℕ, ◌+◌, List, [], fold, refl, sym, ap, ◌∙◌, subst, arith, Option, Some, None}
+use Rattle.std.proofs.Common.{◌≡◌, ℕ, ◌+◌, List, [], fold, map, refl, sym, ap, ◌∙◌, subst, arith, Option, Some, None}
 use Rattle.std.proofs.lemmas.List.{append-nil}
 use Rattle.std.proofs.Common.{Result, Ok, Err, IfOk}
 use Rattle.ep_int.specs.declared.types.Memory.{Memory}
-use Rattle.ep_alarms.specs.declared.types.Alarm.{Alarm}
 use Rattle.ep_alarms.specs.Report.{added}
 use Rattle.ep_core.specs.Exec.{Way, on, broken, continued, returned}
 use Rattle.ep_pass.specs.States.{StateOps}
-use Rattle.ep_pass.specs.Pass.{Ways, Log, logged, both_logs, Pass, passed, after, branch, left_by, leave_loop}
+use Rattle.ep_pass.specs.Pass.{Ways, Event, alarm_of, Log, logged, both_logs, Pass, passed, after, branch, left_by, leave_loop}
 use Rattle.ep_pass.specs.Pass.{join_on, join_ways, either_pass, go_on}
 use Rattle.ep_flows.specs.View.{Told, Tells, HasPassed, Passes, CountsUpTo, ways_view, flow_view, capped, more_heads}
 use Rattle.ep_flows.specs.declared.flow.Flow.{Flow}
 use Rattle.ep_flows.proofs.Telling.{tells_both, tells_nothing}
 
 -- alarms alone
-pub tells_alarms : {S : Type 0} (fs : List Alarm) (old new : Told S) → new.alarms ≡ fold added old.alarms fs
+pub tells_alarms : {S : Type 0} (fs : List Event) (old new : Told S)
+    → new.alarms ≡ fold added old.alarms (map alarm_of fs)
     → new.count ≡ old.count → new.heads ≡ old.heads → Tells (logged fs 0 []) old new
 tells_alarms fs old new a c h =
     let n = tells_nothing old in
     record { alarms = a; count = ap capped c ∙ n.count; heads = h ∙ n.heads }
 
-pub tells_at : {S : Type 0} (fs : List Alarm) (old seen new : Told S) → old ≡ seen
-    → new.alarms ≡ fold added seen.alarms fs → new.count ≡ seen.count → new.heads ≡ seen.heads
+pub tells_at : {S : Type 0} (fs : List Event) (old seen new : Told S) → old ≡ seen
+    → new.alarms ≡ fold added seen.alarms (map alarm_of fs) → new.count ≡ seen.count → new.heads ≡ seen.heads
     → Tells (logged fs 0 []) old new
 tells_at fs old seen new e a c h = subst (λ z. Tells (logged fs 0 []) z new) (sym e) (tells_alarms fs seen new a c h)
 
@@ -52,7 +52,7 @@ put_nothing g old new t = record {
 pub drop_last : {S : Type 0} (g : Log S) (old new : Told S) → Tells (both_logs g (logged [] 0 [])) old new
     → Tells g old new
 drop_last g old new t = record {
-  alarms = t.alarms ∙ ap (fold added old.alarms) (append-nil g.faults);
+  alarms = t.alarms ∙ ap (λ es. fold added old.alarms (map alarm_of es)) (append-nil g.faults);
   count = t.count ∙ ap capped (less old.count g.count);
   heads = t.heads ∙ ap (more_heads old.heads) (append-nil g.heads);
 }
@@ -76,7 +76,7 @@ module _ {S : Type 0} where
 
   -- ---- one way out of a pass is kept, and of the others comes something
 
-  module _ (k : Way) (pick : Option S → Ways S → Option S) (others : Option S → Ways S → List Alarm) where
+  module _ (k : Way) (pick : Option S → Ways S → Option S) (others : Option S → Ways S → List Event) where
     abbrev keeps : Pass S → Pass S
     keeps p = left_by k (pick p.on p.ways) (both_logs p.log (logged (others p.on p.ways) 0 []))
 

@@ -1,8 +1,8 @@
 -- How far a count may have gone where memory runs out.
-use Rattle.std.proofs.Common.{◌≡◌, ℕ, ◌+◌, ◌≤◌, refl, arith, Result, Ok, Err, fold}
+use Rattle.std.proofs.Common.{◌≡◌, ℕ, ◌+◌, ◌≤◌, refl, arith, Result, Ok, Err, fold, map}
 use Rattle.ep_int.specs.declared.types.Memory.{Memory}
 use Rattle.ep_alarms.specs.Report.{added}
-use Rattle.ep_pass.specs.Pass.{Log, Pass, after}
+use Rattle.ep_pass.specs.Pass.{alarm_of, Log, Pass, after}
 use Rattle.ep_flows.specs.View.{Told, Tells, HasPassed, Passes, CountsUpTo, capped, more_heads}
 use Rattle.ep_flows.specs.declared.flow.Flow.{Flow}
 use Rattle.ep_flows.proofs.Combined.{Leads, after_passed}
@@ -27,7 +27,7 @@ module _ {S : Type 0} where
 
   abbrev pub told_by : Told S → Log S → Told S
   told_by t g = record {
-    alarms = fold added t.alarms g.faults;
+    alarms = fold added t.alarms (map alarm_of g.faults);
     count = t.count + g.count;
     heads = more_heads t.heads g.heads;
   }

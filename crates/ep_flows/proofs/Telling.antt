@@ -1,10 +1,10 @@
 -- What comes to a log, one after the other.
-use Rattle.std.proofs.Common.{◌≡◌, ℕ, ◌+◌, List, [], ◌++◌, fold, refl, sym, ap, ◌∙◌, arith, Option, Some, None}
-use Rattle.std.proofs.lemmas.List.{append-nil}
+use Rattle.std.proofs.Common.{◌≡◌, ℕ, ◌+◌, List, [], ◌++◌, fold, map, refl, sym, ap, ◌∙◌, arith, Option, Some, None}
+use Rattle.std.proofs.lemmas.List.{append-nil, map-append}
 use Rattle.ep_int.proofs.Basics.{append-assoc}
 use Rattle.std.proofs.lemmas.List.Sums.{fold-append}
 use Rattle.ep_alarms.specs.Report.{added}
-use Rattle.ep_pass.specs.Pass.{Log, logged, both_logs}
+use Rattle.ep_pass.specs.Pass.{alarm_of, Log, logged, both_logs}
 use Rattle.ep_flows.specs.View.{Told, Tells, capped, more_heads}
 
 heads_again : {S : Type 0} (h : Option (List S)) (a b : List S) → more_heads (more_heads h a) b ≡ more_heads h (a ++ b)
@@ -28,7 +28,9 @@ module _ {S : Type 0} where
   pub tells_both : (g h : Log S) (old mid new : Told S) → Tells g old mid → Tells h mid new
       → Tells (both_logs g h) old new
   tells_both g h old mid new a b = record {
-    alarms = b.alarms ∙ ap (λ l. fold added l h.faults) a.alarms ∙ sym (fold-append added old.alarms g.faults h.faults);
+    alarms = b.alarms ∙ ap (λ l. fold added l (map alarm_of h.faults)) a.alarms
+        ∙ sym (fold-append added old.alarms (map alarm_of g.faults) (map alarm_of h.faults))
+        ∙ ap (fold added old.alarms) (sym (map-append alarm_of g.faults h.faults));
     count = capped_again old.count mid.count new.count g.count h.count a.count b.count;
     heads = b.heads ∙ ap (λ l. more_heads l h.heads) a.heads ∙ heads_again old.heads g.heads h.heads;
   }

@@ -1,6 +1,6 @@
 -- What the code has done where it went through statements as a pass says. This project's words.
-use Rattle.std.specs.Prelude.{◌≡◌, ℕ, ◌+◌, ◌≤◌, List, [], ◌∷◌, ◌++◌, fold, Option, Some, None, Result, Ok, Err, Bool}
-use Rattle.std.specs.Prelude.{true, false, if◌then◌else◌}
+use Rattle.std.specs.Prelude.{◌≡◌, ℕ, ◌+◌, ◌≤◌, List, [], ◌∷◌, ◌++◌, fold, map, Option, Some, None, Result, Ok, Err}
+use Rattle.std.specs.Prelude.{Bool, true, false, if◌then◌else◌}
 use Prim.Native.Nat.{min}
 use Rattle.ep_int.specs.declared.types.Memory.{Memory}
 use Rattle.ep_int.specs.declared.types.Order.{Order}
@@ -11,7 +11,7 @@ use Rattle.ep_core.specs.Program.{by_order, scope, Program}
 use Rattle.ep_core.specs.Runs.{Side, left, right}
 use Rattle.ep_core.specs.ProgramView.{program_view}
 use Rattle.ep_pass.specs.States.{Mode, Both, One, Verdict, stuck, same, differs, StateOps}
-use Rattle.ep_pass.specs.Pass.{Log, logged, Pass, passed, Ways}
+use Rattle.ep_pass.specs.Pass.{alarm_of, Log, logged, Pass, passed, Ways}
 use Rattle.ep_flows.specs.declared.setting.Machine.{Machine}
 use Rattle.ep_flows.specs.declared.setting.Machine.TheVariants.{Left, Right}
 use Rattle.ep_flows.specs.declared.setting.Running.{Running}
@@ -117,7 +117,7 @@ kept_heads (Some gs) h (Some hs) = Some (gs ++ h ∷ hs)
 
 -- what comes to the log
 pub record Tells {S : Type 0} (g : Log S) (old new : Told S) : Type 0 where
-  pub alarms : new.alarms ≡ fold added old.alarms g.faults
+  pub alarms : new.alarms ≡ fold added old.alarms (map alarm_of g.faults)
   pub count : capped new.count ≡ capped (old.count + g.count)
   pub heads : new.heads ≡ more_heads old.heads g.heads
 

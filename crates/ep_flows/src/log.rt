@@ -3,7 +3,7 @@
 ghost use Rattle.std.specs.Prelude.{◌≡◌, ◌+◌, ◌*◌, OnOk, [], ◌∷◌, ◌++◌, None, Some, fold, if◌then◌else◌};
 ghost use Rattle.std.specs.Option.{option_map};
 ghost use Rattle.ep_alarms.specs.Report.{added};
-ghost use Rattle.ep_pass.specs.Pass.{differ, logged, plain_alarm};
+ghost use Rattle.ep_pass.specs.Pass.{alarm, differ, logged, plain_alarm};
 ghost use Rattle.ep_flows.specs.View.{Tells, Told, capped, kept_heads};
 
 use ep_alarms::{Alarm, AlarmKind, Alarms};
@@ -64,7 +64,7 @@ impl<K: Drop> Log<K> {
 
     /// An alarm that shows no number.
     pub fn alarm(&mut self, kind: AlarmKind, line: u32) -> Result<(), Memory>
-        ensures told { OnOk result (Tells (logged (plain_alarm kind line ∷ []) 0 []) self.old self.new) }
+        ensures told { OnOk result (Tells (logged (alarm (plain_alarm kind line) ∷ []) 0 []) self.old self.new) }
         ensures count { self.new.count ≡ self.old.count }
     {
         self.alarms.add(plain(kind, line))

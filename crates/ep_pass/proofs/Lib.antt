@@ -4,6 +4,7 @@ pub mod Cuts
 pub mod Reaching
 pub mod Turns
 pub mod Lone
+pub mod Settling
 pub mod Rounds
 pub mod Text
 pub mod Statements
@@ -14,6 +15,7 @@ pub mod Passing
 pub mod Runs
 pub mod Sound
 pub mod Circle
+pub mod Tried
 pub mod Counts
 pub mod Parting
 pub mod Differing

@@ -63,20 +63,20 @@ module _ (prog : Program) (ord : Side → Order) {S : Type 0} (o : StateOps S) (
   same_beside left (Some s) x y i = law.same_outputs s x y i
   same_beside right (Some s) x y i = sym (law.same_outputs s y x i)
 
-  module _ (u limit l : ℕ) (e : Expr) (typed : IsTest prog e) (body : Mode → S → Pass S) (m : Side) (f : Going)
+  module _ (u l : ℕ) (e : Expr) (typed : IsTest prog e) (body : Mode → S → Pass S) (m : Side) (f : Going)
       (grows : Growing f) (is_turn : (n : ℕ) (x : State) → IsTurn (f n x)) (sound : Sound1 In b m (body (One m)) f)
     where
       abbrev turns : ℕ → Going
       turns k = rounds k (value (ord m) prog e) l f
 
       abbrev inside : S → Pass S
-      inside s = entered o u limit l e body m u s
+      inside s = entered o u l e body m u s
 
       comes_out : (s : S) (y : State) (c : Outcome) → IsQuiet (comes_after l (inside s)) → IsTurn c
           → Alone In b m (inside s) y c → Outs m (inside s).ways.broken y c
       comes_out s y c q h (alone on {x} i) =
           absurd (beside_none In m x y (subst (λ w. Beside In m w x y)
-          (entered_none prog ord o In law b u limit l e typed body m f sound u s) i))
+          (entered_none prog ord o In law b u l e typed body m f sound u s) i))
       comes_out s y c q h (alone broken {x} i) = outs i
       comes_out s y c q h (alone continued {x} i) = absurd h
       comes_out s y c q h (alone returned {x} i) =
@@ -98,16 +98,16 @@ module _ (prog : Program) (ord : Side → Order) {S : Type 0} (o : StateOps S) (
 
       -- the machine that is not stopped has turns enough
       pub lone_outs : (k : ℕ) → (m ≡ slow) ⊎ (u ≤ k) → (s : S) (x y : State) → Seen In m s x y
-          → IsQuiet (lone o u limit l e body m s)
-          → Outs m (lone o u limit l e body m s).ways.broken y (and_then (f (b m) x) (turns k))
+          → IsQuiet (lone o u l e body m s)
+          → Outs m (lone o u l e body m s).ways.broken y (and_then (f (b m) x) (turns k))
       lone_outs k (inr le) s x y i q =
           comes_out s y _ q (all_turns k (b m) x)
-          (entered_alone prog ord o In law b u limit l e typed body m f sound u k le s x y i
+          (entered_alone prog ord o In law b u l e typed body m f sound u k le s x y i
           (front_empty (inside s).log.faults _ q))
       lone_outs k (inl is) s x y i q =
           may_stop s y (and_then (f (b m) x) (turns k)) (and_then (f (b m) x) (turns (k + u))) is
           (until_then (f (b m) x) (turns k) (turns (k + u))
           (until_rounds k (k + u) (omega arith) (value (ord m) prog e) l f grows))
           (comes_out s y _ q (all_turns (k + u) (b m) x)
-          (entered_alone prog ord o In law b u limit l e typed body m f sound u (k + u) (omega arith) s x y i
+          (entered_alone prog ord o In law b u l e typed body m f sound u (k + u) (omega arith) s x y i
           (front_empty (inside s).log.faults _ q)))

@@ -1,5 +1,5 @@
 -- A pass has no state for a way out that the text doesn't have.
-use Rattle.std.proofs.Common.{◌≡◌, ◌⊎◌, inl, inr, ℕ, zero, suc, ◌-◌, ◌&&◌, List, [], refl, sym, subst, Option}
+use Rattle.std.proofs.Common.{◌≡◌, ◌⊎◌, inl, inr, ℕ, zero, suc, ◌+◌, ◌-◌, ◌&&◌, List, [], refl, sym, subst, Option}
 use Rattle.std.proofs.lemmas.Bool.{or_parts}
 use Rattle.ep_int.proofs.Basics.{or_false-right}
 use Rattle.std.proofs.lemmas.Bool.{and_cases}
@@ -18,9 +18,10 @@ use Rattle.ep_pass.specs.Pass.{way_of, simple_pass, only_on, only_broken, only_c
 use Rattle.ep_pass.specs.Pass.{go_on, join_ways, then_pass, rowed, either_pass, leave_call, call_pass, next_pass}
 use Rattle.ep_pass.specs.Pass.{body_ends, leave_on, scope_pass, agreed, decided, tested, parted, apart, arm_of}
 use Rattle.ep_pass.specs.Pass.{by_order_pass, unrolled, in_body, one_turn, cut_turn, one_rounds, entered, lone}
-use Rattle.ep_pass.specs.Pass.{joint_turn, is_stable, next_head, dropped, settled, from_head, last_turns}
+use Rattle.ep_pass.specs.Pass.{joint_turn, is_stable, next_head, dropped, settled, from_head, tried}
 use Rattle.ep_pass.specs.Pass.{joint_rounds, loop_pass, pass, pass_all}
 use Rattle.ep_pass.proofs.Reaching.{way, at}
+use Rattle.ep_pass.proofs.Tried.{tries, rounds}
 
 -- ---- states that no way comes to
 
@@ -293,70 +294,71 @@ module _ {S : Type 0} (o : StateOps S) where
 
   module _ (u limit : ℕ) where
     -- a loop is left by `return` only where its turns are
-    module _ (l : ℕ) (e : Expr) (body : Mode → S → Pass S)
-        (never : (m : Mode) (s : S) → at returned (body m s) ≡ None) where
-      one_far : (m : Side) → Turned o returned (one_turn o u limit l e body m)
+    module _ (l : ℕ) (e : Expr) (body : (before : ℕ) → Mode → S → Pass S)
+        (never : (m : Mode) (s : S) → at returned (body 0 m s) ≡ None) where
+      one_far : (m : Side) → Turned o returned (one_turn o u l e (body 0) m)
       one_far m w s n =
-          tested_never o returned (so_far w) n (One m) e l (in_body o u limit l e body (One m)) (λ s. ends [])
+          tested_never o returned (so_far w) n (One m) e l (in_body o u l e (body 0) (One m)) (λ s. ends [])
           (λ s. ends []) (jumps broken) s (never (One m)) (λ s. refl) (λ s. refl) (λ s. refl)
 
-      cut_far : (m : Side) → Turned o returned (cut_turn o u limit l e body m)
+      cut_far : (m : Side) → Turned o returned (cut_turn o u l e (body 0) m)
       cut_far m w s n =
           tested_never o returned (so_far w) n (One m) e l (λ s. ends (too_long l)) (λ s. ends []) (λ s. ends [])
           (jumps broken) s (λ s. refl) (λ s. refl) (λ s. refl) (λ s. refl)
 
       rounds_far : (m : Side) (j : ℕ) (s : S) (w : Ways S) → w.returned ≡ None
-          → at returned (one_rounds o u limit l e body m j s w) ≡ None
+          → at returned (one_rounds o u l e (body 0) m j s w) ≡ None
       rounds_far m j =
-          unrolled_never o returned (one_turn o u limit l e body m) (cut_turn o u limit l e body m) (one_far m)
+          unrolled_never o returned (one_turn o u l e (body 0) m) (cut_turn o u l e (body 0) m) (one_far m)
           (cut_far m) j
 
-      pub entered_far : (m : Side) (j : ℕ) (s : S) → at returned (entered o u limit l e body m j s) ≡ None
+      pub entered_far : (m : Side) (j : ℕ) (s : S) → at returned (entered o u l e (body 0) m j s) ≡ None
       entered_far m zero s = refl
       entered_far m (suc j) s =
-          then_never o returned (in_body o u limit l e body (One m) s) none (one_rounds o u limit l e body m j) refl
+          then_never o returned (in_body o u l e (body 0) (One m) s) none (one_rounds o u l e (body 0) m j) refl
           (never (One m) s) (rounds_far m j)
 
-      joint_far : Turned o returned (joint_turn o u limit l e body)
+      joint_far : Turned o returned (joint_turn o u l e (body 0))
       joint_far w s n =
-          tested_never o returned (so_far w) n Both e l (in_body o u limit l e body Both)
-          (lone o u limit l e body left) (lone o u limit l e body right) (jumps broken) s (never Both) (λ s. refl)
+          tested_never o returned (so_far w) n Both e l (in_body o u l e (body 0) Both)
+          (lone o u l e (body 0) left) (lone o u l e (body 0) right) (jumps broken) s (never Both) (λ s. refl)
           (λ s. refl) (λ s. refl)
 
       settled_far : (w : Ways S) → w.returned ≡ None → (n : ℕ) (h : S)
-          → at returned (settled o u limit l e body (joint_turn o u limit l e body w) n h) ≡ None
+          → at returned (settled o (joint_turn o u l e (body 0) w) n h) ≡ None
       settled_far w g zero h = joint_far w o.empty g
       settled_far w g (suc n) h =
-          let t = joint_turn o u limit l e body w in
-          by_stable (is_stable o u limit l e body h (t h).on)
-          (settled o u limit l e body t n (next_head o u limit l e body h (t h).on))
-          (settled_far w g n (next_head o u limit l e body h (t h).on))
+          let t = joint_turn o u l e (body 0) w in
+          by_stable (is_stable o h (t h).on)
+          (settled o t n (next_head o h (t h).on))
+          (settled_far w g n (next_head o h (t h).on))
         where
           by_stable : (y : Bool) (q : Pass S) → at returned q ≡ None
               → at returned
-              (if y then from_head h (joint_turn o u limit l e body w h)
-              else dropped (joint_turn o u limit l e body w h) q) ≡ None
+              (if y then from_head h (joint_turn o u l e (body 0) w h)
+              else dropped (joint_turn o u l e (body 0) w h) q) ≡ None
           by_stable true q r = joint_far w h g
           by_stable false q r = r
 
       both_far : (j : ℕ) (s : S) (w : Ways S) → w.returned ≡ None
-          → at returned (joint_rounds o u limit l e body j s w) ≡ None
-      both_far j =
-          unrolled_never o returned (joint_turn o u limit l e body) (last_turns o u limit l e body) joint_far
-          (λ w s n. settled_far w n (limit - 1) (o.reshared s)) j
+          → at returned (joint_rounds o u (tried o limit) l e body j 0 s w) ≡ None
+      both_far j s w n =
+          subst (λ p. at returned p ≡ None) (sym (rounds o u limit l e body j s w))
+          (unrolled_never o returned (joint_turn o u l e (body 0)) (tries o u limit l e body) joint_far
+          (λ w s n. settled_far w n (limit - 1) (o.reshared s)) j s w n)
 
       pub loop_returns : (m : Mode) (first : Bool) (s : S)
-          → at returned (loop_pass o u limit l e body m first s) ≡ None
+          → at returned (loop_pass o u (tried o limit) l e body 0 m first s) ≡ None
       loop_returns Both true s = both_far u s none refl
       loop_returns Both false s =
-          then_never o returned (in_body o u limit l e body Both s) none (joint_rounds o u limit l e body (u - 1)) refl
+          then_never o returned (in_body o u l e (body 0) Both s) none (joint_rounds o u (tried o limit) l e body (u - 1) 0) refl
           (never Both s) (both_far (u - 1))
       loop_returns (One m) true s = rounds_far m u s none refl
       loop_returns (One m) false s = entered_far m u s
 
-    loop_only : (l : ℕ) (e : Expr) (body : Mode → S → Pass S) (r : Bool)
-        → (r ≡ false → (m : Mode) (s : S) → at returned (body m s) ≡ None) → (m : Mode) (first : Bool) (s : S)
-        → Only (one_way true false false r) (loop_pass o u limit l e body m first s)
+    loop_only : (l : ℕ) (e : Expr) (body : (before : ℕ) → Mode → S → Pass S) (r : Bool)
+        → (r ≡ false → (m : Mode) (s : S) → at returned (body 0 m s) ≡ None) → (m : Mode) (first : Bool) (s : S)
+        → Only (one_way true false false r) (loop_pass o u (tried o limit) l e body 0 m first s)
     loop_only l e body r h m first s on z = absurd cc
     loop_only l e body r h Both true s broken z = refl
     loop_only l e body r h Both false s broken z = refl
@@ -368,12 +370,17 @@ module _ {S : Type 0} (o : StateOps S) where
     loop_only l e body r h (One m) false s continued z = refl
     loop_only l e body r h m first s returned z = loop_returns l e body (h z) m first s
 
-    module _ (ord : Side → Order) (p : Program) (here : ℕ) (ps : ℕ → Mode → S → Pass S) where
+    module _ (ord : Side → Order) (p : Program) (here : ℕ) (ps : ℕ → (before : ℕ) → Mode → S → Pass S) where
       abbrev rows : Stmts → Mode → S → Ways S → Pass S
-      rows a n s w = pass_all o u limit ord p here ps a n s w
+      rows a n s w = pass_all o u (tried o limit) ord p here ps a 0 n s w
 
       abbrev arm : Stmts → Mode → S → Pass S
       arm a n s = rows a n s none
+
+      abbrev pub turn_body : Stmts → Stmts → (before : ℕ) → Mode → S → Pass S
+      turn_body a b n m s =
+          next_pass o (pass_all o u (tried o limit) ord p here ps a n m s none)
+          (λ t. pass_all o u (tried o limit) ord p here ps b (n + 0) m t none)
 
       pub none_at : (k : Way) → way k (none {S = S}) ≡ None
       none_at on = refl
@@ -398,9 +405,9 @@ module _ {S : Type 0} (o : StateOps S) where
 
       mutual
         pub pass_only : (w : What) (m : Mode) (l : ℕ) (s : S)
-            → Only (ways_of w) (pass o u limit ord p here ps w m l s)
+            → Only (ways_of w) (pass o u (tried o limit) ord p here ps w 0 m l s)
         pass_only (simple w) m l s k z = simple_only w l (o.simple m (result_in (slice_get p.functions here)) w s) k z
-        pass_only (call f es d) m l s k z = call_only (callee_of p here f) m es d l (ps f m) s k z
+        pass_only (call f es d) m l s k z = call_only (callee_of p here f) m es d l (ps f 0 m) s k z
         pass_only (if_else e a b) m l s k z =
             let y = either_has k (ways_of_all a) (ways_of_all b) z in
             tested_never o k (ends []) (ended_never o k none (logged [] 0 []) (none_at k)) m e l (arm a m)
@@ -411,7 +418,7 @@ module _ {S : Type 0} (o : StateOps S) where
             (λ s. parted_never o k l (arm b (One left) s) (arm a (One right))
             (λ s. all_only a (One right) k y.0 s none (none_at k))) (λ s. all_only b m k y.1 s none (none_at k))
         pass_only (loop first e a b) m l s k z =
-            loop_only l e (λ n s. next_pass o (arm a n s) (arm b n)) (ways_of_all a).by_return
+            loop_only l e (turn_body a b) (ways_of_all a).by_return
             (λ z m s. next_returns (arm a m s) (arm b m) (all_only a m returned z s none refl)) m first s k z
         pass_only break_loop m l s k z = jump_only (one_way false true false false) broken s refl k z
         pass_only continue_loop m l s k z = jump_only (one_way false false true false) continued s refl k z
@@ -433,5 +440,5 @@ module _ {S : Type 0} (o : StateOps S) where
             stop_only continued z n = n
             stop_only returned z n = n
         all_only (more l a rest) m k z s w n =
-            row_only k (ways_of a) (ways_of_all rest) (pass o u limit ord p here ps a m l s) w (rows rest m)
+            row_only k (ways_of a) (ways_of_all rest) (pass o u (tried o limit) ord p here ps a 0 m l s) w (rows rest m)
             (pass_only a m l s) (all_only rest m) z n

@@ -1,5 +1,5 @@
 -- Alarms stand where the text allows their kind.
-use Rattle.std.proofs.Common.{◌≡◌, ◌⊎◌, inl, inr, sym, subst, ℕ, zero, suc, ◌-◌, List, [], ◌∷◌, ◌++◌, refl, fold}
+use Rattle.std.proofs.Common.{◌≡◌, ◌⊎◌, inl, inr, sym, subst, ℕ, zero, suc, ◌-◌, List, [], ◌∷◌, ◌++◌, refl, fold, map}
 use Rattle.ep_core.proofs.Operands.{callee_at}
 use Rattle.std.proofs.Common.{Option, Some, None, Bool, true, false, ◌&&◌, ◌||◌, if◌then◌else◌, nat_eq, slice_get}
 use Rattle.std.proofs.Common.{arith}
@@ -23,58 +23,68 @@ use Rattle.ep_core.proofs.Operands.{fits_at}
 use Rattle.ep_core.proofs.Sorts.{three as three_parts}
 use Rattle.ep_core.specs.Ways.{Ways as TextWays}
 use Rattle.ep_pass.specs.States.{Mode, Both, One, Fault, Transfer, Verdict, stuck, same, differs, StateOps}
-use Rattle.ep_pass.specs.Pass.{Ways, none, Log, Pass, ends, so_far, branch, alarms_at, differ, too_long, jumps}
+use Rattle.ep_pass.specs.Pass.{Ways, none, Event, Log, Pass, ends, so_far, branch, found_at, alarm_of, differ}
+use Rattle.ep_pass.specs.Pass.{too_long, jumps}
 use Rattle.ep_pass.specs.Pass.{way_of, simple_pass, only_on, only_broken, only_continued, only_returned, join_on}
 use Rattle.ep_pass.specs.Pass.{go_on, join_ways, then_pass, rowed, either_pass, leave_call, scope_pass, call_pass}
-use Rattle.ep_pass.specs.Pass.{next_pass, body_ends, agreed, decided, tested, parted, apart, arm_of, by_order_pass}
+use Rattle.ep_pass.specs.Pass.{body_ends, agreed, decided, tested, parted, apart, arm_of, by_order_pass}
 use Rattle.ep_pass.specs.Pass.{unrolled, in_body, one_turn, cut_turn, one_rounds, entered, lone, joint_turn}
-use Rattle.ep_pass.specs.Pass.{is_stable, next_head, dropped, settled, from_head, last_turns, joint_rounds, loop_pass}
+use Rattle.ep_pass.specs.Pass.{is_stable, next_head, dropped, settled, from_head, tried, joint_rounds, loop_pass}
 use Rattle.ep_pass.specs.Pass.{pass, pass_all, body_pass, bodies_pass, main_pass, faults_at_end, all_faults}
 use Rattle.ep_pass.specs.Pass.{report_of}
 use Rattle.ep_pass.specs.Places.{is_one_of, kinds_if, is_kind, expr_may, exprs_may, dest_may, simple_may, result_may}
 use Rattle.ep_pass.specs.Places.{may_differ, what_may, stmts_may, body_may, answer_if, bodies_may, end_may, may_stand}
 use Rattle.ep_pass.specs.Honest.{is_alone, AreOf, Honest}
 use Rattle.ep_pass.proofs.Reaching.{at}
-use Rattle.ep_pass.proofs.Parting.{branch_never, Only, next_returns, entered_far, all_only, none_at}
+use Rattle.ep_pass.proofs.Parting.{branch_never, Only, next_returns, entered_far, turn_body, all_only, none_at}
+use Rattle.ep_pass.proofs.Tried.{tries, rounds}
 use Rattle.ep_pass.proofs.Differing.{Differ, differ_back as back, differ_true, twice_differ, twice_differ_back}
 
--- ---- lists of alarms
+-- ---- what is found, and reports
 
 module _ (P : ℕ → AlarmKind → Type 0) where
-  abbrev pub Placed : List Alarm → Type 0
-  Placed = AllByRecursion (λ (a : Alarm). P a.line a.kind)
+  abbrev pub Placed : List Event → Type 0
+  Placed = AllByRecursion (λ (x : Event). P (alarm_of x).line (alarm_of x).kind)
 
-  pub placed_both : (fs gs : List Alarm) → Placed fs → Placed gs → Placed (fs ++ gs)
+  abbrev pub PlacedAlarms : List Alarm → Type 0
+  PlacedAlarms = AllByRecursion (λ (a : Alarm). P a.line a.kind)
+
+  pub placed_both : (fs gs : List Event) → Placed fs → Placed gs → Placed (fs ++ gs)
   placed_both [] gs h i = i
   placed_both (a ∷ fs) gs h i = (h.0, placed_both fs gs h.1 i)
 
   placed_at : (l : ℕ) (test : AlarmKind → Bool) (fs : List Fault) → AreOf test fs
-      → ((k : AlarmKind) → test k ≡ true → P l k) → Placed (alarms_at l fs)
+      → ((k : AlarmKind) → test k ≡ true → P l k) → Placed (found_at l fs)
   placed_at l test [] h i = tt
   placed_at l test (f ∷ fs) h i = (i f.kind h.0, placed_at l test fs h.1 i)
 
-  placed_if : (t : Bool) (fs gs : List Alarm) → Placed fs → Placed gs → Placed (if t then fs else gs)
+  placed_if : (t : Bool) (fs gs : List Alarm) → PlacedAlarms fs → PlacedAlarms gs
+      → PlacedAlarms (if t then fs else gs)
   placed_if true fs gs h i = h
   placed_if false fs gs h i = i
 
-  added_placed : (fs : List Alarm) (a : Alarm) → Placed fs → P a.line a.kind → Placed (added fs a)
+  added_placed : (fs : List Alarm) (a : Alarm) → PlacedAlarms fs → P a.line a.kind → PlacedAlarms (added fs a)
   added_placed [] a h i = (i, tt)
   added_placed (b ∷ bs) a h i =
       placed_if (before b a) (b ∷ added bs a) (if before a b then a ∷ b ∷ bs else joined b a ∷ bs)
       (h.0, added_placed bs a h.1 i)
       (placed_if (before a b) (a ∷ b ∷ bs) (joined b a ∷ bs) (i, h) (h.0, h.1))
 
-  fold_placed : (fs gs : List Alarm) → Placed fs → Placed gs → Placed (fold added gs fs)
+  fold_placed : (fs gs : List Alarm) → PlacedAlarms fs → PlacedAlarms gs → PlacedAlarms (fold added gs fs)
   fold_placed [] gs h i = i
   fold_placed (f ∷ fs) gs h i = fold_placed fs (added gs f) h.1 (added_placed gs f i h.0)
 
-  pub gathered_placed : (fs : List Alarm) → Placed fs → Placed (gathered fs)
-  gathered_placed fs h = fold_placed fs [] h tt
+  shown_placed : (es : List Event) → Placed es → PlacedAlarms (map alarm_of es)
+  shown_placed [] h = tt
+  shown_placed (e ∷ es) h = (h.0, shown_placed es h.1)
 
-placed_more : (P Q : ℕ → AlarmKind → Type 0) → ((l : ℕ) (k : AlarmKind) → P l k → Q l k) → (fs : List Alarm)
+  pub gathered_placed : (es : List Event) → Placed es → PlacedAlarms (gathered (map alarm_of es))
+  gathered_placed es h = fold_placed (map alarm_of es) [] (shown_placed es h) tt
+
+placed_more : (P Q : ℕ → AlarmKind → Type 0) → ((l : ℕ) (k : AlarmKind) → P l k → Q l k) → (fs : List Event)
     → Placed P fs → Placed Q fs
 placed_more P Q h [] i = tt
-placed_more P Q h (a ∷ fs) i = (h a.line a.kind i.0, placed_more P Q h fs i.1)
+placed_more P Q h (a ∷ fs) i = (h (alarm_of a).line (alarm_of a).kind i.0, placed_more P Q h fs i.1)
 
 -- ---- passes
 
@@ -82,7 +92,7 @@ module _ (P : ℕ → AlarmKind → Type 0) {S : Type 0} (o : StateOps S) where
   abbrev pub Tells : Pass S → Type 0
   Tells p = Placed P p.log.faults
 
-  simple_tells : (k : Way) (l : ℕ) (g : Transfer S) → Placed P (alarms_at l g.faults) → Tells (simple_pass k l g)
+  simple_tells : (k : Way) (l : ℕ) (g : Transfer S) → Placed P (found_at l g.faults) → Tells (simple_pass k l g)
   simple_tells on l g h = h
   simple_tells broken l g h = h
   simple_tells continued l g h = h
@@ -201,74 +211,75 @@ module _ (P : ℕ → AlarmKind → Type 0) {S : Type 0} (o : StateOps S) where
         → ((s : S) → Tells (q s)) → ((s : S) → Tells (r s)) → ((s : S) → Tells (t s))
         → Tells (tested o a m e l p q r t s)
     tested_tells a n m p q r t s hp hq hr ht =
-        placed_both P (alarms_at l (o.test m e s).faults) _
+        placed_both P (found_at l (o.test m e s).faults) _
         (placed_at P l (λ k. expr_may strides k e) (o.test m e s).faults (tests m s) of_test)
         (decided_tells a n m (o.test m e s).verdict e p q r t s hp hq hr ht)
 
-    module _ (u limit : ℕ) (body : Mode → S → Pass S) (returns : Bool)
-        (never : returns ≡ false → (m : Mode) (s : S) → at returned (body m s) ≡ None) (of_e4 : P l E4)
-        (of_e3 : returns ≡ true → P l E3) (h : (m : Mode) (s : S) → Tells (body m s)) where
-      one_tells : (m : Side) (w : Ways S) (s : S) → Tells (one_turn o u limit l e body m w s)
+    module _ (u limit : ℕ) (body : (before : ℕ) → Mode → S → Pass S) (returns : Bool)
+        (never : returns ≡ false → (m : Mode) (s : S) → at returned (body 0 m s) ≡ None) (of_e4 : P l E4)
+        (of_e3 : returns ≡ true → P l E3) (h : (m : Mode) (s : S) → Tells (body 0 m s)) where
+      one_tells : (m : Side) (w : Ways S) (s : S) → Tells (one_turn o u l e (body 0) m w s)
       one_tells m w s =
-          tested_tells (so_far w) tt (One m) (in_body o u limit l e body (One m)) (λ s. ends []) (λ s. ends [])
+          tested_tells (so_far w) tt (One m) (in_body o u l e (body 0) (One m)) (λ s. ends []) (λ s. ends [])
           (jumps broken) s (h (One m)) (λ s. tt) (λ s. tt) (λ s. tt)
 
-      cut_tells : (m : Side) (w : Ways S) (s : S) → Tells (cut_turn o u limit l e body m w s)
+      cut_tells : (m : Side) (w : Ways S) (s : S) → Tells (cut_turn o u l e (body 0) m w s)
       cut_tells m w s =
           tested_tells (so_far w) tt (One m) (λ s. ends (too_long l)) (λ s. ends []) (λ s. ends []) (jumps broken) s
           (λ s. (of_e4, tt)) (λ s. tt) (λ s. tt) (λ s. tt)
 
-      rounds_tells : (m : Side) (j : ℕ) (s : S) (w : Ways S) → Tells (one_rounds o u limit l e body m j s w)
+      rounds_tells : (m : Side) (j : ℕ) (s : S) (w : Ways S) → Tells (one_rounds o u l e (body 0) m j s w)
       rounds_tells m j s w =
-          unrolled_tells (one_turn o u limit l e body m) (cut_turn o u limit l e body m) (one_tells m)
+          unrolled_tells (one_turn o u l e (body 0) m) (cut_turn o u l e (body 0) m) (one_tells m)
           (cut_tells m) j s w
 
-      entered_tells : (m : Side) (j : ℕ) (s : S) → Tells (entered o u limit l e body m j s)
+      entered_tells : (m : Side) (j : ℕ) (s : S) → Tells (entered o u l e (body 0) m j s)
       entered_tells m zero s = (of_e4, tt)
       entered_tells m (suc j) s =
-          then_tells (in_body o u limit l e body (One m) s) none (one_rounds o u limit l e body m j) (h (One m) s)
+          then_tells (in_body o u l e (body 0) (One m) s) none (one_rounds o u l e (body 0) m j) (h (One m) s)
           (rounds_tells m j)
 
       far : (m : Side) (s : S) (t : Bool) → returns ≡ t
-          → (at returned (entered o u limit l e body m u s) ≡ None) ⊎ P l E3
+          → (at returned (entered o u l e (body 0) m u s) ≡ None) ⊎ P l E3
       far m s true z = inr (of_e3 z)
       far m s false z = inl (entered_far o u limit l e body (never z) m u s)
 
-      lone_tells : (m : Side) (s : S) → Tells (lone o u limit l e body m s)
+      lone_tells : (m : Side) (s : S) → Tells (lone o u l e (body 0) m s)
       lone_tells m s =
-          placed_both P (entered o u limit l e body m u s).log.faults _ (entered_tells m u s)
-          (differ_placed l (entered o u limit l e body m u s).ways.returned (far m s returns refl))
+          placed_both P (entered o u l e (body 0) m u s).log.faults _ (entered_tells m u s)
+          (differ_placed l (entered o u l e (body 0) m u s).ways.returned (far m s returns refl))
 
-      turn_tells : (w : Ways S) (s : S) → Tells (joint_turn o u limit l e body w s)
+      turn_tells : (w : Ways S) (s : S) → Tells (joint_turn o u l e (body 0) w s)
       turn_tells w s =
-          tested_tells (so_far w) tt Both (in_body o u limit l e body Both) (lone o u limit l e body left)
-          (lone o u limit l e body right) (jumps broken) s (h Both) (lone_tells left) (lone_tells right) (λ s. tt)
+          tested_tells (so_far w) tt Both (in_body o u l e (body 0) Both) (lone o u l e (body 0) left)
+          (lone o u l e (body 0) right) (jumps broken) s (h Both) (lone_tells left) (lone_tells right) (λ s. tt)
 
       settled_tells : (w : Ways S) (n : ℕ) (g : S)
-          → Tells (settled o u limit l e body (joint_turn o u limit l e body w) n g)
+          → Tells (settled o (joint_turn o u l e (body 0) w) n g)
       settled_tells w zero g = turn_tells w o.empty
       settled_tells w (suc n) g =
-          let t = joint_turn o u limit l e body w in
-          let next = next_head o u limit l e body g (t g).on in
-          by_stable (is_stable o u limit l e body g (t g).on) (settled o u limit l e body t n next)
+          let t = joint_turn o u l e (body 0) w in
+          let next = next_head o g (t g).on in
+          by_stable (is_stable o g (t g).on) (settled o t n next)
           (settled_tells w n next)
         where
           by_stable : (y : Bool) (q : Pass S) → Tells q
               → Tells
-              (if y then from_head g (joint_turn o u limit l e body w g)
-              else dropped (joint_turn o u limit l e body w g) q)
+              (if y then from_head g (joint_turn o u l e (body 0) w g)
+              else dropped (joint_turn o u l e (body 0) w g) q)
           by_stable true q r = turn_tells w g
           by_stable false q r = r
 
-      both_tells : (j : ℕ) (s : S) (w : Ways S) → Tells (joint_rounds o u limit l e body j s w)
+      both_tells : (j : ℕ) (s : S) (w : Ways S) → Tells (joint_rounds o u (tried o limit) l e body j 0 s w)
       both_tells j s w =
-          unrolled_tells (joint_turn o u limit l e body) (last_turns o u limit l e body) turn_tells
-          (λ w s. settled_tells w (limit - 1) (o.reshared s)) j s w
+          subst Tells (sym (rounds o u limit l e body j s w))
+          (unrolled_tells (joint_turn o u l e (body 0)) (tries o u limit l e body) turn_tells
+          (λ w s. settled_tells w (limit - 1) (o.reshared s)) j s w)
 
-      loop_tells : (m : Mode) (first : Bool) (s : S) → Tells (loop_pass o u limit l e body m first s)
+      loop_tells : (m : Mode) (first : Bool) (s : S) → Tells (loop_pass o u (tried o limit) l e body 0 m first s)
       loop_tells Both true s = both_tells u s none
       loop_tells Both false s =
-          then_tells (in_body o u limit l e body Both s) none (joint_rounds o u limit l e body (u - 1)) (h Both s)
+          then_tells (in_body o u l e (body 0) Both s) none (joint_rounds o u (tried o limit) l e body (u - 1) 0) (h Both s)
           (both_tells (u - 1))
       loop_tells (One m) true s = rounds_tells m u s none
       loop_tells (One m) false s = entered_tells m u s
@@ -326,10 +337,10 @@ module _ (strides : Bool) (k : AlarmKind) where
 
 module _ (p : Program) (strides : Bool) (formed : is_well_formed p ≡ true) {S : Type 0} (o : StateOps S)
     (honest : Honest p strides o) (u limit : ℕ) (ord : Side → Order) where
-  module _ (here : ℕ) (fn : Function) (at_here : slice_get p.functions here ≡ Some fn) (ps : ℕ → Mode → S → Pass S)
+  module _ (here : ℕ) (fn : Function) (at_here : slice_get p.functions here ≡ Some fn) (ps : ℕ → (before : ℕ) → Mode → S → Pass S)
       (bo : AlarmKind → ℕ → Bool → ℕ → Bool)
       (known : (m : Mode) (alone : Bool) → Allowed m alone → (i : ℕ) (s : S)
-      → Tells (λ l k. bo k l alone i ≡ true) o (ps i m s)) where
+      → Tells (λ l k. bo k l alone i ≡ true) o (ps i 0 m s)) where
     abbrev own : Option ℕ
     own = result_type p.blocks fn.result
 
@@ -341,7 +352,7 @@ module _ (p : Program) (strides : Bool) (formed : is_well_formed p ≡ true) {S 
     A alone ss l k = stmts_may strides k l p here (bo k l) alone ss ≡ true
 
     abbrev arm : Stmts → Mode → S → Pass S
-    arm a n s = pass_all o u limit ord p here ps a n s none
+    arm a n s = pass_all o u (tried o limit) ord p here ps a 0 n s none
 
     only : (a : Stmts) (m : Mode) (s : S) → Only o (ways_of_all a) (arm a m s)
     only a m s k z = all_only o u limit ord p here ps a m k z s none (none_at o u limit ord p here ps k)
@@ -396,7 +407,7 @@ module _ (p : Program) (strides : Bool) (formed : is_well_formed p ≡ true) {S 
 
     simple_told : (w : Simple) (m : Mode) (alone : Bool) → Allowed m alone → (seen : List ℕ)
         → simple_fits p here own w seen ≡ true → (l : ℕ) (s : S)
-        → Tells (W alone (simple w) l) o (pass o u limit ord p here ps (simple w) m l s)
+        → Tells (W alone (simple w) l) o (pass o u (tried o limit) ord p here ps (simple w) 0 m l s)
     simple_told w m alone ok seen fits l s =
         subst
         (λ g. Tells (W alone (simple w) l) o (simple_pass (way_of w) l (o.simple m (result_in g) w s)))
@@ -416,13 +427,13 @@ module _ (p : Program) (strides : Bool) (formed : is_well_formed p ≡ true) {S 
     mutual
       pub pass_tells : (w : What) (m : Mode) (alone : Bool) → Allowed m alone → (seen : List ℕ) (j : Bool)
           → what_fits p here own w seen j ≡ true → (l : ℕ) (s : S)
-          → Tells (W alone w l) o (pass o u limit ord p here ps w m l s)
+          → Tells (W alone w l) o (pass o u (tried o limit) ord p here ps w 0 m l s)
       pass_tells (simple w) m alone ok seen j fits l s = simple_told w m alone ok seen fits l s
       pass_tells (call f es d) m alone ok seen j fits l s =
-          call_tells (W alone (call f es d) l) f (callee_of p here f) refl m es d seen fits l (ps f m) s
+          call_tells (W alone (call f es d) l) f (callee_of p here f) refl m es d seen fits l (ps f 0 m) s
           (λ k e. or_left _ (bo k l alone f) (at_line l (exprs_may strides k es || result_may strides k d) e))
           (λ s. placed_more (λ l k. bo k l alone f ≡ true) (W alone (call f es d) l)
-          (λ i k e. or_right (nat_eq l i && (exprs_may strides k es || result_may strides k d)) _ e) (ps f m s).log.faults
+          (λ i k e. or_right (nat_eq l i && (exprs_may strides k es || result_may strides k d)) _ e) (ps f 0 m s).log.faults
           (known m alone ok f s))
       pass_tells (if_else e a b) m alone ok seen j fits l s =
           let t = three_parts (is_tested p.types p.blocks seen e) (stmts_fit p here own a seen j)
@@ -459,7 +470,7 @@ module _ (p : Program) (strides : Bool) (formed : is_well_formed p ≡ true) {S 
           (λ k z. or_left _ _
           (at_line l (expr_may strides k e || (is_kind E4 k || is_kind E3 k && (ways_of_all a).by_return)) (or_left _ _ z))) u
           limit
-          (λ n s. next_pass o (arm a n s) (arm b n)) (ways_of_all a).by_return
+          (turn_body o u limit ord p here ps a b) (ways_of_all a).by_return
           (λ z m s. next_returns o (arm a m s) (arm b m)
           (all_only o u limit ord p here ps a m returned z s none refl))
           (or_left _ _
@@ -486,13 +497,13 @@ module _ (p : Program) (strides : Bool) (formed : is_well_formed p ≡ true) {S 
 
       pub all_tells : (ss : Stmts) (m : Mode) (alone : Bool) → Allowed m alone → (seen : List ℕ) (j : Bool)
           → stmts_fit p here own ss seen j ≡ true → (s : S) (w : Ways S)
-          → Tells (A alone ss) o (pass_all o u limit ord p here ps ss m s w)
+          → Tells (A alone ss) o (pass_all o u (tried o limit) ord p here ps ss 0 m s w)
       all_tells stop m alone ok seen j fits s w = tt
       all_tells (more l a rest) m alone ok seen j fits s w =
           let t = and_parts (what_fits p here own a seen j) (stmts_fit p here own rest seen j) fits in
           let P = A alone (more l a rest) in
-          let q = pass o u limit ord p here ps a m l s in
-          let go = pass_all o u limit ord p here ps rest m in
+          let q = pass o u (tried o limit) ord p here ps a 0 m l s in
+          let go = pass_all o u (tried o limit) ord p here ps rest 0 m in
           then_tells P o q w go
           (placed_more (W alone a l) P (λ i k z. or_left _ _ z) q.log.faults (pass_tells a m alone ok seen j t.0 l s))
           (λ s w. placed_more (A alone rest) P (λ i k z. or_right _ _ z) (go s w).log.faults
@@ -503,11 +514,11 @@ module _ (p : Program) (strides : Bool) (formed : is_well_formed p ≡ true) {S 
   abbrev B : ℕ → AlarmKind → ℕ → Bool → ℕ → Bool
   B n k l alone i = bodies_may strides k l p n alone i
 
-  body_tells : (f : Option Function) (here : ℕ) → slice_get p.functions here ≡ f → (ps : ℕ → Mode → S → Pass S) (bo : AlarmKind → ℕ → Bool → ℕ → Bool)
+  body_tells : (f : Option Function) (here : ℕ) → slice_get p.functions here ≡ f → (ps : ℕ → (before : ℕ) → Mode → S → Pass S) (bo : AlarmKind → ℕ → Bool → ℕ → Bool)
       → ((m : Mode) (alone : Bool) → Allowed m alone → (i : ℕ) (s : S)
-      → Tells (λ l k. bo k l alone i ≡ true) o (ps i m s))
+      → Tells (λ l k. bo k l alone i ≡ true) o (ps i 0 m s))
       → (m : Mode) (alone : Bool) → Allowed m alone → (s : S)
-      → Tells (λ l k. body_may strides k l p f here (bo k l) alone ≡ true) o (body_pass o u limit ord p f here ps m s)
+      → Tells (λ l k. body_may strides k l p f here (bo k l) alone ≡ true) o (body_pass o u (tried o limit) ord p f here ps 0 m s)
   body_tells None here e ps bo known m alone ok s = tt
   body_tells (Some f) here e ps bo known m alone ok s =
       all_tells here f e ps bo known f.body m alone ok (frame_of f) false (fits_at p formed here f e).2 s none
@@ -519,33 +530,34 @@ module _ (p : Program) (strides : Bool) (formed : is_well_formed p ≡ true) {S 
   chosen_tells false x y a b m s h i = i
 
   bodies_tell : (n : ℕ) (m : Mode) (alone : Bool) → Allowed m alone → (i : ℕ) (s : S)
-      → Tells (λ l k. B n k l alone i ≡ true) o (bodies_pass o u limit ord p n i m s)
+      → Tells (λ l k. B n k l alone i ≡ true) o (bodies_pass o u (tried o limit) ord p n i 0 m s)
   bodies_tell zero m alone ok i s = tt
   bodies_tell (suc n) m alone ok i s =
       let f = slice_get p.functions n in
       chosen_tells (nat_eq i n) (λ l k. body_may strides k l p f n (B n k l) alone) (λ l k. B n k l alone i)
-      (body_pass o u limit ord p f n (bodies_pass o u limit ord p n)) (bodies_pass o u limit ord p n i) m s
-      (body_tells f n refl (bodies_pass o u limit ord p n) (B n) (bodies_tell n) m alone ok s)
+      (body_pass o u (tried o limit) ord p f n (bodies_pass o u (tried o limit) ord p n) 0)
+      (bodies_pass o u (tried o limit) ord p n i 0) m s
+      (body_tells f n refl (bodies_pass o u (tried o limit) ord p n) (B n) (bodies_tell n) m alone ok s)
       (bodies_tell n m alone ok i s)
 
   end_tells : (f : Option Function) → slice_get p.functions p.main ≡ f → (v : Option S)
-      → Placed (λ l k. end_may strides k l p f ≡ true) (faults_at_end o u limit ord p f v)
+      → Placed (λ l k. end_may strides k l p f ≡ true) (faults_at_end o f v)
   end_tells None e v = tt
   end_tells (Some f) e None = tt
   end_tells (Some f) e (Some s) =
       placed_at (λ l k. end_may strides k l p (Some f) ≡ true) f.line (is_kind E1) (o.ended f s) (honest.ended f e s)
       (λ k e. at_line f.line (is_kind E1 k) e)
 
-  pub alarms_stand : Placed (λ l k. may_stand strides k l p ≡ true) (report_of o u limit ord p)
+  pub alarms_stand : PlacedAlarms (λ l k. may_stand strides k l p ≡ true) (report_of o u limit ord p)
   alarms_stand =
       let f = slice_get p.functions p.main in
-      let main = main_pass o u limit ord p in
+      let main = main_pass o u (tried o limit) ord p in
       let last = join_on o main.ways.returned main.on in
       let P : ℕ → AlarmKind → Type 0 = λ l k. may_stand strides k l p ≡ true in
-      gathered_placed P (all_faults o u limit ord p)
+      gathered_placed P (all_faults o u (tried o limit) ord p)
       (placed_both P main.log.faults _
       (placed_more (λ l k. body_may strides k l p f p.main (B p.main k l) false ≡ true) P (λ l k e. or_left _ _ e)
       main.log.faults
-      (body_tells f p.main refl (bodies_pass o u limit ord p p.main) (B p.main) (bodies_tell p.main) Both false tt o.entry))
+      (body_tells f p.main refl (bodies_pass o u (tried o limit) ord p p.main) (B p.main) (bodies_tell p.main) Both false tt o.entry))
       (placed_more (λ l k. end_may strides k l p f ≡ true) P (λ l k e. or_right _ _ e)
-      (faults_at_end o u limit ord p f last) (end_tells f refl last)))
+      (faults_at_end o f last) (end_tells f refl last)))

@@ -7,7 +7,7 @@ use Rattle.ep_core.specs.Exec.{given, and_then, listed, either, scope_left, with
 use Rattle.ep_core.specs.Runs.{Side, left, right}
 use Rattle.ep_core.proofs.Grows.{Growing}
 use Rattle.ep_pass.specs.States.{Mode, Both, One, Fault, Verdict, stuck, same, differs, StateOps}
-use Rattle.ep_pass.specs.Pass.{Ways, none, Log, logged, Pass, passed, after, so_far, branch, alarms_at, differ}
+use Rattle.ep_pass.specs.Pass.{Ways, none, Log, logged, Pass, passed, after, so_far, branch, found_at, differ}
 use Rattle.ep_pass.specs.Pass.{only_on, only_broken, only_continued, only_returned, leave_loop, join_on, join_ways}
 use Rattle.ep_pass.specs.Pass.{go_on, then_pass, either_pass, leave_call, body_ends, next_pass, rowed, leave_on}
 use Rattle.ep_pass.specs.Pass.{scope_pass, agreed, two_ways, decided, tested, parted, apart}
@@ -30,7 +30,7 @@ at broken p = p.ways.broken
 at continued p = p.ways.continued
 at returned p = p.ways.returned
 
-pub no_alarms : (l : ℕ) (fs : List Fault) → alarms_at l fs ≡ [] → fs ≡ []
+pub no_alarms : (l : ℕ) (fs : List Fault) → found_at l fs ≡ [] → fs ≡ []
 no_alarms l [] e = refl
 no_alarms l (f ∷ fs) e = absurd cc
 
@@ -333,7 +333,7 @@ module _ (prog : Program) (ord : Side → Order) {S : Type 0} (o : StateOps S) (
         → Sound1 In b m (tested o a (One m) e l p q r t)
         (λ n x. given (value (ord m) prog e x.memory) l x (λ v. either (is_true v) f f' n x))
     tested_alone a m e typed l p q r t f f' h k s x y i quiet =
-        let fs = alarms_at l (o.test (One m) e s).faults in
+        let fs = found_at l (o.test (One m) e s).faults in
         let d = (o.test (One m) e s).verdict in
         let v = law.test_alone m e typed s x y i (no_alarms l (o.test (One m) e s).faults (front_empty fs _ quiet)) in
         with_truth (Alone In b m (tested o a (One m) e l p q r t s) y) (value (ord m) prog e x.memory) v.is.found
@@ -586,7 +586,7 @@ module _ (prog : Program) (ord : Side → Order) {S : Type 0} (o : StateOps S) (
           (λ m y. given (value (ord right) prog e y.memory) l y (λ v. either (is_true v) g g' m y))
       tested_together a e typed l p q r t f f' g g' hp hq hr ht s x y i quiet =
           let v = (o.test Both e s).verdict in
-          let fs = alarms_at l (o.test Both e s).faults in
+          let fs = found_at l (o.test Both e s).faults in
           test_cases (tested o a Both e l p q r t s) e typed l s x y (λ z. either z f f' (b left) x)
           (λ z. either z g g' (b right) y) i (no_alarms l (o.test Both e s).faults (front_empty fs _ quiet))
           (λ z z' fits j. after_together (logged fs 0 []) (decided o a Both v e p q r t s) _ _

@@ -1,12 +1,9 @@
 -- A report that is empty means that the machines agree.
-use Rattle.std.proofs.Common.{◌≡◌, ℕ, suc, ◌≤◌, ◌<◌, List, [], ◌∷◌, refl, sym, subst, Option, Some, None, Bool, true}
+use Rattle.std.proofs.Common.{◌≡◌, ℕ, suc, ◌≤◌, ◌<◌, List, [], ◌∷◌, refl, sym, subst, Option, Some, None}
 use Rattle.ep_alarms.proofs.Gathered.{no_faults}
-use Rattle.std.proofs.Common.{false, slice_get, fold, arith, if◌then◌else◌}
+use Rattle.std.proofs.Common.{true, slice_get, map, arith}
 use Rattle.ep_int.specs.declared.types.Order.{Order}
 use Rattle.ep_int.specs.Memory.{Memory}
-use Rattle.ep_alarms.specs.declared.types.Alarm.{Alarm}
-use Rattle.ep_alarms.specs.Alarm.{before, joined}
-use Rattle.ep_alarms.specs.Report.{added}
 use Rattle.ep_core.specs.Program.{Function, Program}
 use Rattle.ep_core.specs.Exec.{State, on, broken, continued, returned, Outcome, uncounted, result_in, frame_of}
 use Rattle.ep_core.specs.Exec.{body_of, bodies}
@@ -17,7 +14,8 @@ use Rattle.ep_core.proofs.Prefixes.{begins_refl, begins_trans}
 use Rattle.ep_core.proofs.Grows.{state_in}
 use Rattle.ep_core.proofs.Operands.{fits_at}
 use Rattle.ep_pass.specs.States.{StateOps}
-use Rattle.ep_pass.specs.Pass.{Pass, join_on, main_pass, faults_at_end, all_faults, report_of}
+use Rattle.ep_pass.specs.Pass.{Event, alarm_of, Pass, Heads, join_on, tried, main_pass, faults_at_end}
+use Rattle.ep_pass.specs.Pass.{all_faults, report_of}
 use Rattle.ep_pass.specs.Laws.{ConcretisesTyped, EndAlike, Lawful}
 use Rattle.ep_pass.specs.Agreement.{AgreeInTheEnd}
 use Rattle.ep_pass.proofs.Outcomes.{IsCall}
@@ -25,33 +23,20 @@ use Rattle.ep_pass.proofs.Text.{call_part}
 use Rattle.ep_pass.proofs.Sure.{Reaches, Sure}
 use Rattle.ep_pass.proofs.Cuts.{front_empty, back_empty, Cut, left_cut, right_cut}
 use Rattle.ep_pass.proofs.Reaching.{no_alarms, Together, both_leave, both_starved, one_cut, less_left, less_right}
+use Rattle.ep_pass.proofs.Settling.{AreSound, tried_sound}
 use Rattle.ep_pass.proofs.Rounds.{Ahead}
 use Rattle.ep_pass.proofs.Statements.{main_together}
 use Rattle.ep_pass.proofs.Keeping.{sure, start_in}
 use Rattle.ep_pass.proofs.Runs.{finished_begins, Covered, IsCovered, agree_in_the_end}
 
--- ---- an empty report has no faults
+-- ---- an empty report has no events
 
-abbrev IsSome : List Alarm → Type 0
-IsSome [] = ⊥
-IsSome (a ∷ bs) = Unit {0}
-
-chosen_some : (t : Bool) (xs ys : List Alarm) → IsSome xs → IsSome ys → IsSome (if t then xs else ys)
-chosen_some true xs ys h i = h
-chosen_some false xs ys h i = i
-
-added_some : (bs : List Alarm) (a : Alarm) → IsSome (added bs a)
-added_some [] a = tt
-added_some (b ∷ bs) a =
-    chosen_some (before b a) (b ∷ added bs a) (if before a b then a ∷ b ∷ bs else joined b a ∷ bs) tt
-    (chosen_some (before a b) (a ∷ b ∷ bs) (joined b a ∷ bs) tt tt)
-
-all_some : (fs bs : List Alarm) → IsSome bs → IsSome (fold added bs fs)
-all_some [] bs h = h
-all_some (f ∷ fs) bs h = all_some fs (added bs f) (added_some bs f)
+none_shown : (es : List Event) → map alarm_of es ≡ [] → es ≡ []
+none_shown [] e = refl
+none_shown (x ∷ es) e = absurd cc
 
 module _ (prog : Program) (formed : is_well_formed prog ≡ true) (ord : Side → Order) {S : Type 0} (o : StateOps S)
-    (In : S → Memory → Memory → Type 0) (law : Lawful prog ord o In) (u limit : ℕ) where
+    (In : S → Memory → Memory → Type 0) (law : Lawful prog ord o In) (u : ℕ) (heads : Heads S) where
   abbrev K : S → State → State → Type 0
   K = ConcretisesTyped prog In
 
@@ -59,7 +44,7 @@ module _ (prog : Program) (formed : is_well_formed prog ≡ true) (ord : Side �
   laws = sure prog formed ord o In law
 
   abbrev whole : Pass S
-  whole = main_pass o u limit ord prog
+  whole = main_pass o u heads ord prog
 
   abbrev last : Option S
   last = join_on o whole.ways.returned whole.on
@@ -71,7 +56,7 @@ module _ (prog : Program) (formed : is_well_formed prog ≡ true) (ord : Side �
   outputs_at (Some s) x y i = i.stands.outputs
 
   ends_alike : (g : Option Function) → slice_get prog.functions prog.main ≡ g → (v : Option S) (x y : State)
-      → Reaches K v x y → faults_at_end o u limit ord prog g v ≡ []
+      → Reaches K v x y → faults_at_end o g v ≡ []
       → EndAlike (main_ends (ord left) prog (result_in g) (line_of (ord left) prog g) x)
       (main_ends (ord right) prog (result_in g) (line_of (ord right) prog g) y)
   ends_alike None e v x y i q = record { defined = tt; ending = refl; outputs = outputs_at v x y i }
@@ -108,7 +93,7 @@ module _ (prog : Program) (formed : is_well_formed prog ≡ true) (ord : Side �
   -- ---- runs by turns
 
   abbrev quiet_end : Type 0
-  quiet_end = faults_at_end o u limit ord prog (slice_get prog.functions prog.main) last ≡ []
+  quiet_end = faults_at_end o (slice_get prog.functions prog.main) last ≡ []
 
   both_end : quiet_end → (v : Option S) (x y : State) → ((x y : State) → Reaches K v x y → Reaches K last x y)
       → Reaches K v x y
@@ -169,13 +154,13 @@ module _ (prog : Program) (formed : is_well_formed prog ≡ true) (ord : Side �
   more_than n m h k left = omega arith
   more_than n m h k right = omega arith
 
-  module _ (empty : all_faults o u limit ord prog ≡ []) where
+  module _ (headed : AreSound K heads) (empty : all_faults o u heads ord prog ≡ []) where
     together : (b : Side → ℕ) (slow : Side) → Ahead u slow (suc (b left)) (suc (b right)) → ((m : Side) → u ≤ b m)
         → (inputs : List ℕ)
         → Together K b slow whole (main_from (ord left) prog uncounted inputs (b left))
         (main_from (ord right) prog uncounted inputs (b right))
     together b slow ahead le inputs =
-        main_together prog formed ord o K laws u limit b slow ahead le inputs (start_in prog formed ord o In law inputs)
+        main_together prog formed ord o K laws u heads b slow headed ahead le inputs (start_in prog formed ord o In law inputs)
         (front_empty whole.log.faults _ empty)
 
     left_runs : IsCovered prog u (ord left) (ord right)
@@ -191,7 +176,17 @@ module _ (prog : Program) (formed : is_well_formed prog ≡ true) (ord : Side �
         (together (bounds m n) right (omega arith) (more_than m n (omega arith) h) inputs)
 
   -- by steps, along each interleaving, and in the end
-  pub sound : report_of o u limit ord prog ≡ [] → AgreeInTheEnd prog (ord left) (ord right)
-  sound e =
-      let empty = no_faults (all_faults o u limit ord prog) e in
-      agree_in_the_end prog u (ord left) (ord right) (left_runs empty) (right_runs empty)
+  pub nothing_found : AreSound K heads → all_faults o u heads ord prog ≡ []
+      → AgreeInTheEnd prog (ord left) (ord right)
+  nothing_found headed e =
+      agree_in_the_end prog u (ord left) (ord right) (left_runs headed e) (right_runs headed e)
+
+-- of the analysis
+pub sound : (prog : Program) → is_well_formed prog ≡ true → (ord : Side → Order) → {S : Type 0} → (o : StateOps S)
+    → (In : S → Memory → Memory → Type 0) → Lawful prog ord o In → (u limit : ℕ) → report_of o u limit ord prog ≡ []
+    → AgreeInTheEnd prog (ord left) (ord right)
+sound prog formed ord o In law u limit e =
+    let found = all_faults o u (tried o limit) ord prog in
+    nothing_found prog formed ord o In law u (tried o limit)
+    (tried_sound prog ord o (ConcretisesTyped prog In) (sure prog formed ord o In law) limit)
+    (none_shown found (no_faults (map alarm_of found) e))

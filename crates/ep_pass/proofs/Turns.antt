@@ -7,9 +7,9 @@ use Rattle.ep_core.specs.Program.{Expr, Program}
 use Rattle.ep_core.specs.Exec.{State, broken, leaves, Going, given, and_then, is_true, either, value}
 use Rattle.ep_core.specs.Runs.{Side}
 use Rattle.ep_pass.specs.States.{Mode, One, Verdict, stuck, same, differs, StateOps}
-use Rattle.ep_pass.specs.Pass.{Ways, none, Log, logged, Pass, ends, so_far, branch, too_long, jumps, join_on}
-use Rattle.ep_pass.specs.Pass.{join_ways, go_on, last_pass, turn_then, unrolled, in_body, one_turn, cut_turn}
-use Rattle.ep_pass.specs.Pass.{one_rounds, entered, loop_pass, two_ways, decided}
+use Rattle.ep_pass.specs.Pass.{Ways, none, Log, logged, Pass, ends, so_far, branch, too_long, jumps, Heads, past}
+use Rattle.ep_pass.specs.Pass.{join_on, join_ways, go_on, last_pass, turn_then, unrolled, in_body, one_turn, cut_turn}
+use Rattle.ep_pass.specs.Pass.{one_rounds, entered, joint_turn, last_turns, joint_rounds, loop_pass, two_ways, decided}
 use Rattle.ep_pass.proofs.Outcomes.{rounds, first_rounds, loop_left, IsTurn, rounds_turn, first_turns}
 use Rattle.ep_pass.proofs.Sure.{IsTest, Seen, Beside, Sure}
 use Rattle.ep_pass.proofs.Reaching.{IsQuiet, WaysLess, Keeps, seen_some, beside_none, Alone, alone, Sound1}
@@ -62,6 +62,25 @@ module _ (prog : Program) (ord : Side → Order) {S : Type 0} (o : StateOps S) (
   unrolled_none turn last (suc k) s w = go_on_none (turn w s).on (turn w s).ways (turn w s).log (unrolled o turn last k)
       (unrolled_none turn last k)
 
+  -- turns of both, whose numbers grow
+  module _ (u : ℕ) (heads : Heads S) (l : ℕ) (e : Expr) (body : (before : ℕ) → Mode → S → Pass S) where
+    pub joint_keeps : ((n : ℕ) → TurnKeeps (joint_turn o u l e (body n)))
+        → ((n : ℕ) → TurnKeeps (last_turns o u heads l e body n)) → (k n : ℕ)
+        → Keeps In (joint_rounds o u heads l e body k n)
+    joint_keeps h i zero n s w j x y r = i n w s j x y r
+    joint_keeps h i (suc k) n s w j x y r =
+        let p = joint_turn o u l e (body n) w s in
+        let m = past heads n p in
+        go_on_keeps prog ord o In law p.on p.ways p.log (joint_rounds o u heads l e body k m) (joint_keeps h i k m) j x y
+        (h n w s j x y r)
+
+    pub joint_none : (k n : ℕ) (s : S) (w : Ways S) → (joint_rounds o u heads l e body k n s w).on ≡ None
+    joint_none zero n s w = refl
+    joint_none (suc k) n s w =
+        let p = joint_turn o u l e (body n) w s in
+        let m = past heads n p in
+        go_on_none p.on p.ways p.log (joint_rounds o u heads l e body k m) (joint_none k m)
+
   branch_none : (u : Option S) (go : S → Pass S) → ((s : S) → (go s).on ≡ None) → (branch u go).on ≡ None
   branch_none None go h = refl
   branch_none (Some s) go h = h s
@@ -82,7 +101,7 @@ module _ (prog : Program) (ord : Side → Order) {S : Type 0} (o : StateOps S) (
   decided_none w m same e p q r t s h k = two_none w m e p t s h k
   decided_none w m differs e p q r t s h k = two_none w m e p t s h k
 
-  module _ (b : Side → ℕ) (u limit l : ℕ) (e : Expr) (typed : IsTest prog e) (body : Mode → S → Pass S) where
+  module _ (b : Side → ℕ) (u l : ℕ) (e : Expr) (typed : IsTest prog e) (body : Mode → S → Pass S) where
     -- ---- one side
 
     module _ (m : Side) (f : Going) (sound : Sound1 In b m (body (One m)) f) where
@@ -90,13 +109,13 @@ module _ (prog : Program) (ord : Side → Order) {S : Type 0} (o : StateOps S) (
       test = value (ord m) prog e
 
       abbrev turn : Ways S → S → Pass S
-      turn w s = one_turn o u limit l e body m w s
+      turn w s = one_turn o u l e body m w s
 
       abbrev cut : Ways S → S → Pass S
-      cut w s = cut_turn o u limit l e body m w s
+      cut w s = cut_turn o u l e body m w s
 
       turn_sound : (w : Ways S) → Sound1 In b m (turn w) (once test l f)
-      turn_sound w = tested_alone prog ord o In law b (so_far w) m e typed l (in_body o u limit l e body (One m))
+      turn_sound w = tested_alone prog ord o In law b (so_far w) m e typed l (in_body o u l e body (One m))
           (λ s. ends []) (λ s. ends []) (jumps broken) f (leaves broken)
           (λ s x y i q. after_alone prog ord o In law b m (logged [] 1 []) (body (One m) s) y _ (sound s x y i q))
           (λ s x y i q. alone broken (seen_some In m s x y i))
@@ -109,7 +128,7 @@ module _ (prog : Program) (ord : Side → Order) {S : Type 0} (o : StateOps S) (
           (λ s. ends []) (jumps broken) f (leaves broken) never (λ s x y i q. alone broken (seen_some In m s x y i))
 
       turn_keeps : TurnKeeps turn
-      turn_keeps w s = tested_keeps prog ord o In law w (One m) e l (in_body o u limit l e body (One m)) (λ s. ends [])
+      turn_keeps w s = tested_keeps prog ord o In law w (One m) e l (in_body o u l e body (One m)) (λ s. ends [])
           (λ s. ends []) (jumps broken) s
 
       cut_keeps : TurnKeeps cut
@@ -122,7 +141,7 @@ module _ (prog : Program) (ord : Side → Order) {S : Type 0} (o : StateOps S) (
           (decided_none w m (o.test (One m) e s).verdict e (λ s. ends (too_long l)) (λ s. ends []) (λ s. ends [])
           (jumps broken) s (λ s. refl) (λ s. refl)) i)
 
-      pub rounds_alone : (j k : ℕ) → j < k → After1 In b m (one_rounds o u limit l e body m j) (rounds k test l f)
+      pub rounds_alone : (j k : ℕ) → j < k → After1 In b m (one_rounds o u l e body m j) (rounds k test l f)
       rounds_alone j zero lt s w x y i q = absurd (omega arith)
       rounds_alone zero (suc k) lt s w x y i q =
           subst (Alone In b m (last_pass o (cut w s)) y) (sym (rounds_once k test l f (b m) x))
@@ -130,7 +149,7 @@ module _ (prog : Program) (ord : Side → Order) {S : Type 0} (o : StateOps S) (
           (rounds k test l f) (λ x' i. absurd (cut_none w s x' y i)) (λ k x y i. i) (cut_sound w s x y i q))
       rounds_alone (suc j) (suc k) lt s w x y i q =
           let t = turn w s in
-          let go = one_rounds o u limit l e body m j in
+          let go = one_rounds o u l e body m j in
           subst (Alone In b m (turn_then o t go) y) (sym (rounds_once k test l f (b m) x))
           (goes_on_alone prog ord o In law b m t (turn_then o t go) y (once test l f (b m) x) (rounds k test l f)
           (λ x i. go_on_alone prog ord o In law b m t.on t.ways t.log go (rounds k test l f) x y
@@ -140,33 +159,42 @@ module _ (prog : Program) (ord : Side → Order) {S : Type 0} (o : StateOps S) (
 
       -- from the body on
       pub entered_alone : (j k : ℕ) → j ≤ k → (s : S) (x y : State) → Seen In m s x y
-          → IsQuiet (entered o u limit l e body m j s) → Alone In b m (entered o u limit l e body m j s) y
+          → IsQuiet (entered o u l e body m j s) → Alone In b m (entered o u l e body m j s) y
           (and_then (f (b m) x) (rounds k test l f))
       entered_alone zero k le s x y i q = absurd cc
       entered_alone (suc j) k le s x y i q =
-          let t = in_body o u limit l e body (One m) s in
-          let go = one_rounds o u limit l e body m j in
+          let t = in_body o u l e body (One m) s in
+          let go = one_rounds o u l e body m j in
           then_alone prog ord o In law b m t none go y (f (b m) x) (rounds k test l f) (rounds_alone j k (omega arith))
           (unrolled_keeps turn cut turn_keeps cut_keeps j) q
           (after_alone prog ord o In law b m (logged [] 1 []) (body (One m) s) y _
           (sound s x y i (then_front prog ord o In law t none go q)))
 
-      pub entered_none : (j : ℕ) (s : S) → (entered o u limit l e body m j s).on ≡ None
+      pub entered_none : (j : ℕ) (s : S) → (entered o u l e body m j s).on ≡ None
       entered_none zero s = refl
       entered_none (suc j) s =
-          let t = in_body o u limit l e body (One m) s in
-          go_on_none t.on (join_ways o none t.ways) t.log (one_rounds o u limit l e body m j) (unrolled_none turn cut j)
+          let t = in_body o u l e body (One m) s in
+          go_on_none t.on (join_ways o none t.ways) t.log (one_rounds o u l e body m j) (unrolled_none turn cut j)
 
-      -- a one-sided loop
-      pub one_loop : ((n : ℕ) (x : State) → IsTurn (f n x)) → (first : Bool) → u ≤ b m → (s : S) (x y : State)
-          → Seen In m s x y → IsQuiet (loop_pass o u limit l e body (One m) first s)
-          → Alone In b m (loop_pass o u limit l e body (One m) first s) y
-          (loop_left (first_rounds first f (rounds (suc (b m)) test l f) (b m) x))
-      one_loop turns true le s x y i q =
-          leave_loop_alone prog ord o In law b m (one_rounds o u limit l e body m u s none) y _
-          (unrolled_none turn cut u s none) (rounds_turn (suc (b m)) test l f turns (b m) x)
-          (rounds_alone u (suc (b m)) (omega arith) s none x y i q)
-      one_loop turns false le s x y i q =
-          leave_loop_alone prog ord o In law b m (entered o u limit l e body m u s) y _ (entered_none u s)
-          (first_turns false f (rounds (suc (b m)) test l f) turns (rounds_turn (suc (b m)) test l f turns) (b m) x)
-          (entered_alone u (suc (b m)) (omega arith) s x y i q)
+  -- a one-sided loop
+  module _ (b : Side → ℕ) (u : ℕ) (heads : Heads S) (l : ℕ) (e : Expr) (typed : IsTest prog e)
+      (body : (before : ℕ) → Mode → S → Pass S) (before : ℕ) (m : Side) (f : Going)
+      (sound : Sound1 In b m (body before (One m)) f) where
+    abbrev of_rounds : ℕ → Going
+    of_rounds k = rounds k (value (ord m) prog e) l f
+
+    pub one_loop : ((n : ℕ) (x : State) → IsTurn (f n x)) → (first : Bool) → u ≤ b m → (s : S) (x y : State)
+        → Seen In m s x y → IsQuiet (loop_pass o u heads l e body before (One m) first s)
+        → Alone In b m (loop_pass o u heads l e body before (One m) first s) y
+        (loop_left (first_rounds first f (of_rounds (suc (b m))) (b m) x))
+    one_loop turns true le s x y i q =
+        leave_loop_alone prog ord o In law b m (one_rounds o u l e (body before) m u s none) y _
+        (unrolled_none (one_turn o u l e (body before) m) (cut_turn o u l e (body before) m) u s none)
+        (rounds_turn (suc (b m)) (value (ord m) prog e) l f turns (b m) x)
+        (rounds_alone b u l e typed (body before) m f sound u (suc (b m)) (omega arith) s none x y i q)
+    one_loop turns false le s x y i q =
+        leave_loop_alone prog ord o In law b m (entered o u l e (body before) m u s) y _
+        (entered_none b u l e typed (body before) m f sound u s)
+        (first_turns false f (of_rounds (suc (b m))) turns
+        (rounds_turn (suc (b m)) (value (ord m) prog e) l f turns) (b m) x)
+        (entered_alone b u l e typed (body before) m f sound u (suc (b m)) (omega arith) s x y i q)

@@ -1,7 +1,6 @@
 -- Heads of a loop, one after another.
 use Rattle.std.specs.Prelude.{◌≡◌, ℕ, zero, suc, ◌+◌, false, []}
-use Rattle.ep_core.specs.Program.{Expr}
-use Rattle.ep_pass.specs.States.{Mode, StateOps}
+use Rattle.ep_pass.specs.States.{StateOps}
 use Rattle.ep_pass.specs.Pass.{logged, Pass, after, is_stable, next_head}
 
 -- more turns that are counted, and that is all
@@ -9,14 +8,14 @@ abbrev pub more_turns : {S : Type 0} → ℕ → Pass S → Pass S
 more_turns n p = after (logged [] n []) p
 
 -- where a turn from a head gives such a pass
-module _ {S : Type 0} (o : StateOps S) (u limit l : ℕ) (e : Expr) (body : Mode → S → Pass S) (turn : S → Pass S) where
+module _ {S : Type 0} (o : StateOps S) (turn : S → Pass S) where
   -- what comes round is more than the head, so another is tried
   abbrev pub IsTriedAgain : S → Type 0
-  IsTriedAgain h = is_stable o u limit l e body h (turn h).on ≡ false
+  IsTriedAgain h = is_stable o h (turn h).on ≡ false
 
   -- this one
   abbrev pub next_of : S → S
-  next_of h = next_head o u limit l e body h (turn h).on
+  next_of h = next_head o h (turn h).on
 
   -- the head after so many, and the turns made at these
   abbrev pub head_after : ℕ → S → S

@@ -1,7 +1,8 @@
--- What the analysis reports of a program: a pass through its statements, with one case for each kind. The rules are
--- this project's.
+-- What is found in a program: a pass through its statements, with one case for each kind. What happens at a loop of
+-- both machines that goes on is left open: an analysis tries heads, a checker is given them. The rules are this
+-- project's.
 use Rattle.std.specs.Prelude.{ℕ, zero, suc, ◌+◌, ◌-◌, pos, Bool, true, false, if◌then◌else◌, nat_eq, List, [], ◌∷◌}
-use Rattle.std.specs.Prelude.{◌++◌, slice_get, Option, Some, None}
+use Rattle.std.specs.Prelude.{◌++◌, map, slice_get, Option, Some, None}
 use Rattle.ep_int.specs.declared.types.Order.{Order}
 use Rattle.ep_alarms.specs.declared.types.Alarm.{Alarm}
 use Rattle.ep_alarms.specs.declared.types.AlarmKind.{AlarmKind}
@@ -23,14 +24,21 @@ pub record Ways (S : Type 0) : Type 0 where
 abbrev pub none : {S : Type 0} → Ways S
 none = record { broken = None; continued = None; returned = None }
 
--- The faults in the order of their coming, how often the body of a loop was gone through, and the heads from which the
--- last turns of loops went, each before those inside its turn.
+-- What is found: an alarm, or of heads that are given that a state is outside the head of this number, whose cell of
+-- this number is the first that it fails, or that none is left for the loop on this line.
+pub data Event : Type 0 where
+  alarm : Alarm → Event
+  outside : (line head cell : ℕ) → Event
+  missing : (line : ℕ) → Event
+
+-- What is found, in the order of its coming, how often the body of a loop was gone through, and the heads from which
+-- the last turns of loops went, each before those inside its turn.
 pub record Log (S : Type 0) : Type 0 where
-  pub faults : List Alarm
+  pub faults : List Event
   pub count : ℕ
   pub heads : List S
 
-abbrev pub logged : {S : Type 0} → List Alarm → ℕ → List S → Log S
+abbrev pub logged : {S : Type 0} → List Event → ℕ → List S → Log S
 logged fs n hs = record { faults = fs; count = n; heads = hs }
 
 abbrev pub both_logs : {S : Type 0} → Log S → Log S → Log S
@@ -48,7 +56,7 @@ abbrev pub after : {S : Type 0} → Log S → Pass S → Pass S
 after g p = passed p.on p.ways (both_logs g p.log)
 
 -- nothing is reached
-abbrev pub ends : {S : Type 0} → List Alarm → Pass S
+abbrev pub ends : {S : Type 0} → List Event → Pass S
 ends fs = passed None none (logged fs 0 [])
 
 -- the ways out so far
@@ -66,22 +74,32 @@ branch (Some s) go = go s
 abbrev pub alarm_at : (line : ℕ) → Fault → Alarm
 alarm_at l f = record { line = l; kind = f.kind; left = f.left; right = f.right }
 
-abbrev pub alarms_at : (line : ℕ) → List Fault → List Alarm
-alarms_at l [] = []
-alarms_at l (f ∷ fs) = alarm_at l f ∷ alarms_at l fs
+abbrev pub found_at : (line : ℕ) → List Fault → List Event
+found_at l [] = []
+found_at l (f ∷ fs) = alarm (alarm_at l f) ∷ found_at l fs
 
 -- an alarm that shows no number
 abbrev pub plain_alarm : AlarmKind → (line : ℕ) → Alarm
 plain_alarm k l = record { line = l; kind = k; left = (pos 0, pos 0); right = (pos 0, pos 0) }
 
 -- the sides are left by different ways, where this state is reached
-abbrev pub differ : {S : Type 0} → (line : ℕ) → Option S → List Alarm
+abbrev pub differ : {S : Type 0} → (line : ℕ) → Option S → List Event
 differ l None = []
-differ l (Some s) = plain_alarm E3 l ∷ []
+differ l (Some s) = alarm (plain_alarm E3 l) ∷ []
 
 -- the turns of one side's loop may go on
-abbrev pub too_long : (line : ℕ) → List Alarm
-too_long l = plain_alarm E4 l ∷ []
+abbrev pub too_long : (line : ℕ) → List Event
+too_long l = alarm (plain_alarm E4 l) ∷ []
+
+-- Each event is shown as an alarm: where a head doesn't hold, the sides may part.
+abbrev pub alarm_of : Event → Alarm
+alarm_of (alarm a) = a
+alarm_of (outside l n k) = plain_alarm E3 l
+alarm_of (missing l) = plain_alarm E3 l
+
+-- the alarms of a statement
+abbrev pub alarms_at : (line : ℕ) → List Fault → List Alarm
+alarms_at l fs = map alarm_of (found_at l fs)
 
 -- ---- statements without statements in them
 
@@ -104,7 +122,7 @@ abbrev pub way_of : Simple → Way
 way_of w = way_if (is_return w)
 
 abbrev pub simple_pass : {S : Type 0} → Way → (line : ℕ) → Transfer S → Pass S
-simple_pass k l g = left_by k g.next (logged (alarms_at l g.faults) 0 [])
+simple_pass k l g = left_by k g.next (logged (found_at l g.faults) 0 [])
 
 -- ---- Where the sides go different ways, the right's arm is gone through from each way out of the left's. Equal ways
 -- go on; each other one that is reached is an alarm, and ends.
@@ -151,6 +169,19 @@ from_head h p = after (logged [] 0 (h ∷ [])) p
 -- the turn from a head that is not kept is counted, and that is all
 abbrev pub dropped : {S : Type 0} → Pass S → Pass S → Pass S
 dropped p q = after (logged [] p.log.count []) q
+
+-- ---- heads
+
+-- What happens at a loop of both machines that goes on after its unrolled turns.
+pub record Heads (S : Type 0) : Type 0 where
+  -- how many numbers were taken for these heads of a log
+  pub taken : List S → ℕ
+  -- from a state on, where so many numbers were taken before: the last turn, and what led to it
+  pub settle : (before line : ℕ) → (turn : (before : ℕ) → S → Pass S) → S → Pass S
+
+-- the numbers taken before what comes next
+abbrev pub past : {S : Type 0} → Heads S → ℕ → Pass S → ℕ
+past heads n p = n + heads.taken p.log.heads
 
 module _ {S : Type 0} (o : StateOps S) where
   -- ---- joins
@@ -262,7 +293,7 @@ module _ {S : Type 0} (o : StateOps S) where
   abbrev pub tested : Pass S → Mode → Expr → (line : ℕ) → (both left_alone right_alone neither : S → Pass S) → S
       → Pass S
   tested a m e l p q r t s =
-      after (logged (alarms_at l (o.test m e s).faults) 0 []) (decided a m (o.test m e s).verdict e p q r t s)
+      after (logged (found_at l (o.test m e s).faults) 0 []) (decided a m (o.test m e s).verdict e p q r t s)
 
   -- ---- the sides go different ways: first the left, to its end, then the right from each way out
 
@@ -301,7 +332,33 @@ module _ {S : Type 0} (o : StateOps S) where
   unrolled turn last zero s w = last_pass (last w s)
   unrolled turn last (suc u) s w = turn_then (turn w s) (unrolled turn last u)
 
-  module _ (u limit : ℕ) where
+  -- ---- heads that are tried
+
+  -- what comes round stays within the head from which it came
+  abbrev pub is_stable : S → Option S → Bool
+  is_stable h None = true
+  is_stable h (Some s) = o.leq (o.unified h s).1 h
+
+  abbrev pub widen_two : S × S → S
+  widen_two q = o.reshared (o.widened q.0 q.1)
+
+  abbrev pub next_head : S → Option S → S
+  next_head h None = h
+  next_head h (Some s) = widen_two (o.unified h s)
+
+  -- So many heads may be tried; the one after them is the empty state, and its turn is the last.
+  abbrev pub settled : (turn : S → Pass S) → ℕ → S → Pass S
+  settled turn zero h = from_head o.empty (turn o.empty)
+  settled turn (suc k) h =
+      if is_stable h (turn h).on then from_head h (turn h)
+      else dropped (turn h) (settled turn k (next_head h (turn h).on))
+
+  -- The head of number `limit` is the empty one, and these heads take no numbers.
+  abbrev pub tried : (limit : ℕ) → Heads S
+  tried limit =
+      record { taken = λ hs. 0; settle = λ n l turn s. settled (turn 0) (limit - 1) (o.reshared s) }
+
+  module _ (u : ℕ) where
     -- the tests and turns of one loop
     module _ (l : ℕ) (e : Expr) (body : Mode → S → Pass S) where
       abbrev pub in_body : Mode → S → Pass S
@@ -336,100 +393,99 @@ module _ {S : Type 0} (o : StateOps S) where
       abbrev pub joint_turn : Ways S → S → Pass S
       joint_turn w s = tested (so_far w) Both e l (in_body Both) (lone left) (lone right) (jumps broken) s
 
-      -- what comes round stays within the head from which it came
-      abbrev pub is_stable : S → Option S → Bool
-      is_stable h None = true
-      is_stable h (Some s) = o.leq (o.unified h s).1 h
+  -- at the end of main, where one is reached, its result is compared
+  abbrev pub faults_at_end : Option Function → Option S → List Event
+  faults_at_end None u = []
+  faults_at_end (Some f) None = []
+  faults_at_end (Some f) (Some s) = found_at f.line (o.ended f s)
 
-      abbrev pub widen_two : S × S → S
-      widen_two q = o.reshared (o.widened q.0 q.1)
+  module _ (u : ℕ) (heads : Heads S) where
+    -- ---- a loop, whose body is gone through so where so many numbers were taken before
 
-      abbrev pub next_head : S → Option S → S
-      next_head h None = h
-      next_head h (Some s) = widen_two (o.unified h s)
+    module _ (l : ℕ) (e : Expr) (body : (before : ℕ) → Mode → S → Pass S) where
+      abbrev pub turn_at : Ways S → (before : ℕ) → S → Pass S
+      turn_at w n s = joint_turn u l e (body n) w s
 
-      -- So many heads may be tried; the one after them is the empty state, and its turn is the last.
-      abbrev pub settled : (turn : S → Pass S) → ℕ → S → Pass S
-      settled turn zero h = from_head o.empty (turn o.empty)
-      settled turn (suc k) h =
-          if is_stable h (turn h).on then from_head h (turn h)
-          else dropped (turn h) (settled turn k (next_head h (turn h).on))
+      abbrev pub last_turns : (before : ℕ) → Ways S → S → Pass S
+      last_turns n w s = heads.settle n l (turn_at w) s
 
-      -- the head of number `limit` is the empty one
-      abbrev pub last_turns : Ways S → S → Pass S
-      last_turns w s = settled (joint_turn w) (limit - 1) (o.reshared s)
-
-      abbrev pub joint_rounds : ℕ → S → Ways S → Pass S
-      joint_rounds k s w = unrolled joint_turn last_turns k s w
+      -- turns one by one, and then the last
+      abbrev pub joint_rounds : ℕ → (before : ℕ) → S → Ways S → Pass S
+      joint_rounds zero n s w = last_pass (last_turns n w s)
+      joint_rounds (suc k) n s w = turn_then (turn_at w n s) (joint_rounds k (past heads n (turn_at w n s)))
 
       -- The first turn of a `do` loop is one of those one by one, and a joint loop makes it in any case.
-      abbrev pub loop_pass : Mode → (tests_first : Bool) → S → Pass S
-      loop_pass Both true s = leave_loop (joint_rounds u s none)
-      loop_pass Both false s = leave_loop (then_pass (in_body Both s) none (joint_rounds (u - 1)))
-      loop_pass (One m) true s = leave_loop (one_rounds m u s none)
-      loop_pass (One m) false s = leave_loop (entered m u s)
+      abbrev pub loop_pass : (before : ℕ) → Mode → (tests_first : Bool) → S → Pass S
+      loop_pass n Both true s = leave_loop (joint_rounds u n s none)
+      loop_pass n Both false s =
+          leave_loop
+          (then_pass (in_body u l e (body n) Both s) none
+          (joint_rounds (u - 1) (past heads n (in_body u l e (body n) Both s))))
+      loop_pass n (One m) true s = leave_loop (one_rounds u l e (body n) m u s none)
+      loop_pass n (One m) false s = leave_loop (entered u l e (body n) m u s)
 
     module _ (ord : Side → Order) (p : Program) where
       -- ---- statements, in the function of number `here`, where the bodies of the functions before it are gone through
       -- so
-      module _ (here : ℕ) (bodies : ℕ → Mode → S → Pass S) where
+      module _ (here : ℕ) (bodies : ℕ → (before : ℕ) → Mode → S → Pass S) where
         abbrev mutual
-          pub pass : What → Mode → (line : ℕ) → S → Pass S
-          pass (simple w) m l s =
+          pub pass : What → (before : ℕ) → Mode → (line : ℕ) → S → Pass S
+          pass (simple w) n m l s =
               simple_pass (way_of w) l (o.simple m (result_in (slice_get p.functions here)) w s)
-          pass (call k es d) m l s = call_pass (callee_of p here k) m es d l (bodies k m) s
-          pass (if_else e a b) m l s =
-              tested (ends []) m e l (λ s. pass_all a m s none)
-              (apart l (λ m s. pass_all a m s none) (λ m s. pass_all b m s none))
-              (apart l (λ m s. pass_all b m s none) (λ m s. pass_all a m s none))
-              (λ s. pass_all b m s none) s
-          pass (loop first e a b) m l s =
-              loop_pass l e (λ m s. next_pass (pass_all a m s none) (λ s. pass_all b m s none)) m first s
-          pass break_loop m l s = jumps broken s
-          pass continue_loop m l s = jumps continued s
-          pass (by_order named a b) m l s =
-              by_order_pass ord m l named (λ m s. pass_all a m s none) (λ m s. pass_all b m s none) s
-          pass (scope bs a) m l s = scope_pass m bs (pass_all a m (o.enter m bs s) none)
+          pass (call k es d) n m l s = call_pass (callee_of p here k) m es d l (bodies k n m) s
+          pass (if_else e a b) n m l s =
+              tested (ends []) m e l (λ t. pass_all a n m t none)
+              (apart l (λ m s. pass_all a n m s none) (λ m s. pass_all b n m s none))
+              (apart l (λ m s. pass_all b n m s none) (λ m s. pass_all a n m s none))
+              (λ t. pass_all b (past heads n (branch (agreed m e true s) (λ t. pass_all a n m t none))) m t none) s
+          pass (loop first e a b) n m l s =
+              loop_pass l e
+              (λ n m s.
+              next_pass (pass_all a n m s none) (λ t. pass_all b (past heads n (pass_all a n m s none)) m t none))
+              n m first s
+          pass break_loop n m l s = jumps broken s
+          pass continue_loop n m l s = jumps continued s
+          pass (by_order named a b) n m l s =
+              by_order_pass ord m l named (λ m s. pass_all a n m s none) (λ m s. pass_all b n m s none) s
+          pass (scope bs a) n m l s = scope_pass m bs (pass_all a n m (o.enter m bs s) none)
 
           -- after statements that were left so
-          pub pass_all : Stmts → Mode → S → Ways S → Pass S
-          pass_all stop m s w = passed (Some s) w (logged [] 0 [])
-          pass_all (more l a rest) m s w = then_pass (pass a m l s) w (pass_all rest m)
+          pub pass_all : Stmts → (before : ℕ) → Mode → S → Ways S → Pass S
+          pass_all stop n m s w = passed (Some s) w (logged [] 0 [])
+          pass_all (more l a rest) n m s w =
+              then_pass (pass a n m l s) w (pass_all rest (past heads n (pass a n m l s)) m)
 
       -- the body of function `here`
-      abbrev pub body_pass : Option Function → (here : ℕ) → (bodies : ℕ → Mode → S → Pass S) → Mode → S → Pass S
-      body_pass None here bodies m s = jumps on s
-      body_pass (Some f) here bodies m s = pass_all here bodies f.body m s none
+      abbrev pub body_pass : Option Function → (here : ℕ) → (bodies : ℕ → (before : ℕ) → Mode → S → Pass S)
+          → (before : ℕ) → Mode → S → Pass S
+      body_pass None here bodies n m s = jumps on s
+      body_pass (Some f) here bodies n m s = pass_all here bodies f.body n m s none
 
-      -- the bodies of the functions before number n
-      abbrev pub bodies_pass : (n : ℕ) → ℕ → Mode → S → Pass S
-      bodies_pass zero k = λ m s. jumps on s
-      bodies_pass (suc n) k =
-          arm_of (nat_eq k n) (body_pass (slice_get p.functions n) n (bodies_pass n)) (bodies_pass n k)
+      -- the bodies of the functions before number f
+      abbrev pub bodies_pass : (f : ℕ) → ℕ → (before : ℕ) → Mode → S → Pass S
+      bodies_pass zero k n = λ m s. jumps on s
+      bodies_pass (suc f) k n =
+          arm_of (nat_eq k f) (body_pass (slice_get p.functions f) f (bodies_pass f) n) (bodies_pass f k n)
 
-      -- ---- the report
+      -- ---- main
 
       abbrev pub main_pass : Pass S
-      main_pass = body_pass (slice_get p.functions p.main) p.main (bodies_pass p.main) Both o.entry
-
-      -- at the end of main, where one is reached, its result is compared
-      abbrev pub faults_at_end : Option Function → Option S → List Alarm
-      faults_at_end None u = []
-      faults_at_end (Some f) None = []
-      faults_at_end (Some f) (Some s) = alarms_at f.line (o.ended f s)
+      main_pass = body_pass (slice_get p.functions p.main) p.main (bodies_pass p.main) 0 Both o.entry
 
       -- main is left by `return`, then at its end
-      abbrev pub all_faults : List Alarm
+      abbrev pub all_faults : List Event
       all_faults =
           main_pass.log.faults
           ++ faults_at_end (slice_get p.functions p.main) (join_on main_pass.ways.returned main_pass.on)
 
-      -- the report on a program, how often bodies of loops are gone through, and the heads that are kept
-      abbrev pub report_of : List Alarm
-      report_of = gathered all_faults
+  -- ---- what the analysis reports of a program, how often it goes through bodies of loops, and the heads that it keeps
 
-      abbrev pub turns_of : ℕ
-      turns_of = main_pass.log.count
+  module _ (u limit : ℕ) (ord : Side → Order) (p : Program) where
+    abbrev pub report_of : List Alarm
+    report_of = gathered (map alarm_of (all_faults u (tried limit) ord p))
 
-      abbrev pub heads_of : List S
-      heads_of = main_pass.log.heads
+    abbrev pub turns_of : ℕ
+    turns_of = (main_pass u (tried limit) ord p).log.count
+
+    abbrev pub heads_of : List S
+    heads_of = (main_pass u (tried limit) ord p).log.heads

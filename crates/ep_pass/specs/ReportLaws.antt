@@ -4,13 +4,13 @@ use Rattle.std.specs.List.{AllByRecursion}
 use Rattle.ep_int.specs.declared.types.Order.{Order}
 use Rattle.ep_alarms.specs.declared.types.Alarm.{Alarm}
 use Rattle.ep_layout.specs.Table.{IsBuilt}
-use Rattle.ep_core.specs.Program.{Expr, Program}
+use Rattle.ep_core.specs.Program.{Program}
 use Rattle.ep_int.specs.Memory.{Memory}
 use Rattle.ep_core.specs.Runs.{Side, left, right}
 use Rattle.ep_core.specs.WellFormed.{is_well_formed}
 use Rattle.ep_pass.specs.Laws.{AreOther, Lawful}
 use Rattle.ep_pass.specs.Agreement.{AgreeInTheEnd}
-use Rattle.ep_pass.specs.States.{Mode, StateOps}
+use Rattle.ep_pass.specs.States.{StateOps}
 use Rattle.ep_pass.specs.Pass.{Pass, from_head, settled, report_of, turns_of}
 use Rattle.ep_pass.specs.Turns.{most_turns}
 use Rattle.ep_pass.specs.Places.{may_stand}
@@ -61,16 +61,13 @@ module _ (S : Type 0) where
   -- state.
   abbrev pub HeadsRepeat : Type 0
   HeadsRepeat =
-      (o : StateOps S) (u limit l : ℕ) (e : Expr) (body : Mode → S → Pass S) (turn : S → Pass S) (h : S)
-      → IsTriedAgain o u limit l e body turn h → next_of o u limit l e body turn h ≡ h → (k : ℕ)
-      → settled o u limit l e body turn k h
+      (o : StateOps S) (turn : S → Pass S) (h : S) → IsTriedAgain o turn h → next_of o turn h ≡ h → (k : ℕ)
+      → settled o turn k h
       ≡ more_turns (k * (turn h).log.count) (from_head o.empty (turn o.empty))
 
   -- Where a head comes again after d heads, the turns of q rounds count, and what is left comes from that head.
   abbrev pub HeadsGoRound : Type 0
   HeadsGoRound =
-      (o : StateOps S) (u limit l : ℕ) (e : Expr) (body : Mode → S → Pass S) (turn : S → Pass S) (d : ℕ) (h : S)
-      → NoneKept o u limit l e body turn d h → head_after o u limit l e body turn d h ≡ h → (q k n : ℕ)
-      → n ≡ q * d + k
-      → settled o u limit l e body turn n h
-      ≡ more_turns (q * turns_at o u limit l e body turn d h) (settled o u limit l e body turn k h)
+      (o : StateOps S) (turn : S → Pass S) (d : ℕ) (h : S) → NoneKept o turn d h → head_after o turn d h ≡ h
+      → (q k n : ℕ) → n ≡ q * d + k
+      → settled o turn n h ≡ more_turns (q * turns_at o turn d h) (settled o turn k h)

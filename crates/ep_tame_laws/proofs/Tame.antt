@@ -1,5 +1,5 @@
 -- Reports on tame programs have no alarm of the kinds E1 to E4: the induction over the pass, of both machines together.
-use Rattle.std.proofs.Common.{◌≡◌, ℕ, zero, suc, ◌-◌, ◌≤◌, ◌<◌, List, [], ◌∷◌, ◌++◌, refl, sym, subst, Option, Some, None}
+use Rattle.std.proofs.Common.{◌≡◌, ℕ, zero, suc, ◌+◌, ◌-◌, ◌≤◌, ◌<◌, List, [], ◌∷◌, ◌++◌, refl, sym, subst, Option, Some, None}
 use Rattle.ep_core.proofs.Operands.{callee_at}
 use Rattle.ep_int.proofs.Basics.{contains-left, contains-right}
 use Rattle.std.proofs.Common.{Bool, true, false, ◌&&◌, ◌||◌, if◌then◌else◌, nat_eq, slice_get, arith}
@@ -7,7 +7,6 @@ use Rattle.std.specs.List.{list_all}
 use Rattle.std.proofs.lemmas.Bool.{eqb-true, and_parts}
 use Rattle.ep_int.specs.declared.types.Order.{Order}
 use Rattle.ep_int.specs.Memory.{contains}
-use Rattle.ep_alarms.specs.declared.types.Alarm.{Alarm}
 use Rattle.ep_alarms.specs.declared.types.AlarmKind.{AlarmKind}
 use Rattle.ep_core.specs.Program.{Expr, Dest, What, simple, call, if_else, loop, break_loop, continue_loop, by_order}
 use Rattle.ep_core.specs.Program.{scope, Stmts, stop, more, Function, Program}
@@ -18,27 +17,31 @@ use Rattle.ep_core.specs.WellFormed.{what_fits, stmts_fit, is_well_formed}
 use Rattle.ep_core.proofs.Operands.{fits_at}
 use Rattle.ep_pass.specs.States.{Mode, Both, Fault, Transfer, Verdict, stuck, same, differs, StateOps}
 use Rattle.ep_pass.specs.Honest.{AreOf}
-use Rattle.ep_pass.specs.Pass.{Ways, none, Log, Pass, ends, so_far, branch, alarms_at, jumps, way_of, simple_pass}
+use Rattle.ep_pass.specs.Pass.{Ways, none, Event, Log, Pass, ends, so_far, branch, found_at, jumps, way_of, simple_pass}
 use Rattle.ep_pass.specs.Pass.{join_on, go_on, join_ways, then_pass, rowed, either_pass, leave_on, leave_call}
 use Rattle.ep_pass.specs.Pass.{scope_pass, call_pass, next_pass, body_ends, leave_loop, decided, tested, apart}
 use Rattle.ep_pass.specs.Pass.{arm_of, unrolled, in_body, lone, joint_turn, is_stable, next_head, dropped, settled}
-use Rattle.ep_pass.specs.Pass.{from_head, last_turns, joint_rounds, loop_pass, pass, pass_all, body_pass, bodies_pass}
+use Rattle.ep_pass.specs.Pass.{from_head, tried, joint_rounds, loop_pass, pass, pass_all, body_pass, bodies_pass}
 use Rattle.ep_pass.specs.Pass.{faults_at_end, report_of}
-use Rattle.ep_pass.proofs.Placing.{placed_both, gathered_placed}
+use Rattle.ep_pass.proofs.Placing.{Placed, placed_both, gathered_placed}
+use Rattle.ep_pass.proofs.Tried.{tries, rounds}
 use Rattle.ep_kinds.specs.Tame.{is_tame_expr, is_tame_dest, is_tame_what, are_tame, are_tame_types, is_tame}
 use Rattle.ep_tame_laws.specs.Tamely.{is_undefined, IfReached, AreAmong, result_block, IsAlike, TransferIsGood, Tamely}
 use Rattle.ep_tame_laws.specs.Tamely.{HaveNoResult, IsUndefinedOnly}
 use Rattle.ep_tame_laws.proofs.Listed.{frame_free, scopes_free, result_free, callee_before}
 
--- ---- alarms
+-- ---- what is found
 
 abbrev IsU : ℕ → AlarmKind → Type 0
 IsU l k = is_undefined k ≡ true
 
-only_both : (fs gs : List Alarm) → IsUndefinedOnly fs → IsUndefinedOnly gs → IsUndefinedOnly (fs ++ gs)
+abbrev OnlyUndefined : List Event → Type 0
+OnlyUndefined = Placed IsU
+
+only_both : (fs gs : List Event) → OnlyUndefined fs → OnlyUndefined gs → OnlyUndefined (fs ++ gs)
 only_both fs gs h i = placed_both IsU fs gs h i
 
-only_at : (l : ℕ) (fs : List Fault) → AreOf is_undefined fs → IsUndefinedOnly (alarms_at l fs)
+only_at : (l : ℕ) (fs : List Fault) → AreOf is_undefined fs → OnlyUndefined (found_at l fs)
 only_at l [] h = tt
 only_at l (f ∷ fs) h = (h.0, only_at l fs h.1)
 
@@ -70,7 +73,7 @@ module _ {S : Type 0} (o : StateOps S) where
   pub record Holds (P : S → Type 0) (p : Pass S) : Type 0 where
     pub at_end : IfReached P p.on
     pub ways : WaysAre P p.ways
-    pub alarms : IsUndefinedOnly p.log.faults
+    pub alarms : OnlyUndefined p.log.faults
 
   if_more : (P Q : S → Type 0) → ((s : S) → P s → Q s) → (u : Option S) → IfReached P u → IfReached Q u
   if_more P Q f None h = tt
@@ -105,7 +108,7 @@ module _ {S : Type 0} (o : StateOps S) where
     GoesHold go = (s : S) (w : Ways S) → P s → WaysAre P w → Holds P (go s w)
 
     go_on_holds : (u : Option S) (w : Ways S) (g : Log S) (go : S → Ways S → Pass S) → IfReached P u → WaysAre P w
-        → IsUndefinedOnly g.faults → GoesHold go → Holds P (go_on o u w g go)
+        → OnlyUndefined g.faults → GoesHold go → Holds P (go_on o u w g go)
     go_on_holds None w g go h i a f = record { at_end = tt; ways = i; alarms = a }
     go_on_holds (Some s) w g go h i a f =
         let r = f s w h i in
@@ -167,7 +170,7 @@ module _ {S : Type 0} (o : StateOps S) where
           at_end = z.at_end;
           ways = z.ways;
           alarms =
-              only_both (alarms_at l (o.test Both e s).faults) _ (only_at l (o.test Both e s).faults faults) z.alarms;
+              only_both (found_at l (o.test Both e s).faults) _ (only_at l (o.test Both e s).faults faults) z.alarms;
         }
       where
         by_verdict : (v : Verdict) → IsAlike v → Holds P (decided o a Both v e p q r t s)
@@ -220,84 +223,85 @@ module _ (p : Program) {S : Type 0} (o : StateOps S) (Good : S → (live res : L
 
   module _ (l : ℕ) (e : Expr) (seen : List ℕ) (typed : is_tested p.types p.blocks seen e ≡ true)
       (tame : is_tame_expr p.types e ≡ true) (live res : List ℕ) (among : AreAmong seen live)
-      (body : Mode → S → Pass S)
-      (known : (h s : S) → Good h live res s → Holds o (Good h live res) (body Both s)) where
+      (body : (before : ℕ) → Mode → S → Pass S)
+      (known : (h s : S) → Good h live res s → Holds o (Good h live res) (body 0 Both s)) where
     abbrev G : S → S → Type 0
     G h = Good h live res
 
     turn_holds : (h : S) (w : Ways S) (s : S) → WaysAre o (G h) w → G h s
-        → Holds o (G h) (joint_turn o u limit l e body w s)
+        → Holds o (G h) (joint_turn o u l e (body 0) w s)
     turn_holds h w s i g =
         let t = law.test e seen typed tame h s live res among g in
         tested_holds o (G h) (joins h live res) (so_far w) (record { at_end = tt; ways = i; alarms = tt }) e l
-        (in_body o u limit l e body Both) (lone o u limit l e body left) (lone o u limit l e body right) (jumps broken)
+        (in_body o u l e (body 0) Both) (lone o u l e (body 0) left) (lone o u l e (body 0) right) (jumps broken)
         s t.0 t.1
         (λ b. law.assume e seen typed tame b h s live res among g)
         (λ s g. let r = known h s g in record { at_end = r.at_end; ways = r.ways; alarms = r.alarms })
         (λ s g. record { at_end = tt; ways = (g, (tt, tt)); alarms = tt })
 
     -- what comes round from a head has all that the head has
-    round_good : (w : Ways S) (h g : S) → G g h → IfReached (G h) (joint_turn o u limit l e body w h).on
+    round_good : (w : Ways S) (h g : S) → G g h → IfReached (G h) (joint_turn o u l e (body 0) w h).on
     round_good w h g i =
         let own = law.again g h live res i in
         let t = law.test e seen typed tame h h live res among own in
-        turn_end o (G h) w e l (in_body o u limit l e body Both) (lone o u limit l e body left)
-        (lone o u limit l e body right) h t.1
-        (branch_holds o (G h) (joins h live res) (o.assume e true true h) (in_body o u limit l e body Both)
+        turn_end o (G h) w e l (in_body o u l e (body 0) Both) (lone o u l e (body 0) left)
+        (lone o u l e (body 0) right) h t.1
+        (branch_holds o (G h) (joins h live res) (o.assume e true true h) (in_body o u l e (body 0) Both)
         (law.assume e seen typed tame true h h live res among own)
         (λ s g. let r = known h s g in record { at_end = r.at_end; ways = r.ways; alarms = r.alarms })).at_end
 
     settled_holds : (g : S) (w : Ways S) → WaysAre o (G g) w → (k : ℕ) (h : S) → G g h → rank h < k
-        → Holds o (G g) (settled o u limit l e body (joint_turn o u limit l e body w) k h)
+        → Holds o (G g) (settled o (joint_turn o u l e (body 0) w) k h)
     settled_holds g w i zero h good r = absurd (omega (arith, r))
     settled_holds g w i (suc k) h good r =
-        by_round (joint_turn o u limit l e body w h).on (round_good w h g good)
-        (is_stable o u limit l e body h (joint_turn o u limit l e body w h).on) refl refl
+        by_round (joint_turn o u l e (body 0) w h).on (round_good w h g good)
+        (is_stable o h (joint_turn o u l e (body 0) w h).on) refl refl
         (λ h good r. settled_holds g w i k h good r)
       where
-        kept : Holds o (G g) (from_head h (joint_turn o u limit l e body w h))
+        kept : Holds o (G g) (from_head h (joint_turn o u l e (body 0) w h))
         kept = let t =
             turn_holds g w h i good in record { at_end = t.at_end; ways = t.ways; alarms = t.alarms }
 
         by_round : (v : Option S) → IfReached (G h) v → (b : Bool)
-            → v ≡ (joint_turn o u limit l e body w h).on
-            → is_stable o u limit l e body h v ≡ b
+            → v ≡ (joint_turn o u l e (body 0) w h).on
+            → is_stable o h v ≡ b
             → ((h : S) → G g h → rank h < k
-            → Holds o (G g) (settled o u limit l e body (joint_turn o u limit l e body w) k h))
+            → Holds o (G g) (settled o (joint_turn o u l e (body 0) w) k h))
             → Holds o (G g)
-            (if b then from_head h (joint_turn o u limit l e body w h)
-            else dropped (joint_turn o u limit l e body w h)
-            (settled o u limit l e body (joint_turn o u limit l e body w) k
-            (next_head o u limit l e body h v)))
+            (if b then from_head h (joint_turn o u l e (body 0) w h)
+            else dropped (joint_turn o u l e (body 0) w h)
+            (settled o (joint_turn o u l e (body 0) w) k
+            (next_head o h v)))
         by_round v z true d e again = kept
         by_round None z false d e again = absurd cc
         by_round (Some t) z false d x again =
             let n = law.next g h t live res good z x in
-            let q = again (next_head o u limit l e body h (Some t)) n.0 (omega (arith, r, n.1)) in
+            let q = again (next_head o h (Some t)) n.0 (omega (arith, r, n.1)) in
             record { at_end = q.at_end; ways = q.ways; alarms = q.alarms }
 
     last_holds : (g : S) (w : Ways S) (s : S) → WaysAre o (G g) w → G g s
-        → Holds o (G g) (last_turns o u limit l e body w s)
+        → Holds o (G g) (tries o u limit l e body w s)
     last_holds g w s i good =
         let q = law.reshared g s live res good in
         settled_holds g w i (limit - 1) (o.reshared s) q (law.below g (o.reshared s) live res q)
 
     rounds_hold : (g : S) (j : ℕ) (s : S) (w : Ways S) → G g s → WaysAre o (G g) w
-        → Holds o (G g) (joint_rounds o u limit l e body j s w)
+        → Holds o (G g) (joint_rounds o u (tried o limit) l e body j 0 s w)
     rounds_hold g j s w good i =
-        unrolled_holds o (G g) (joins g live res) (joint_turn o u limit l e body) (last_turns o u limit l e body)
-        (turn_holds g) (last_holds g) j s w good i
+        subst (Holds o (G g)) (sym (rounds o u limit l e body j s w))
+        (unrolled_holds o (G g) (joins g live res) (joint_turn o u l e (body 0)) (tries o u limit l e body)
+        (turn_holds g) (last_holds g) j s w good i)
 
     loop_holds : (g : S) (first : Bool) (s : S) → G g s
-        → Holds o (G g) (loop_pass o u limit l e body Both first s)
+        → Holds o (G g) (loop_pass o u (tried o limit) l e body 0 Both first s)
     loop_holds g true s good =
-        loop_left_holds o (G g) (joins g live res) (joint_rounds o u limit l e body u s none)
+        loop_left_holds o (G g) (joins g live res) (joint_rounds o u (tried o limit) l e body u 0 s none)
         (rounds_hold g u s none good (tt, (tt, tt)))
     loop_holds g false s good =
-        let b = in_body o u limit l e body Both s in
+        let b = in_body o u l e (body 0) Both s in
         let r = known g s good in
-        loop_left_holds o (G g) (joins g live res) (then_pass o b none (joint_rounds o u limit l e body (u - 1)))
-        (then_holds o (G g) (joins g live res) b none (joint_rounds o u limit l e body (u - 1))
+        loop_left_holds o (G g) (joins g live res) (then_pass o b none (joint_rounds o u (tried o limit) l e body (u - 1) 0))
+        (then_holds o (G g) (joins g live res) b none (joint_rounds o u (tried o limit) l e body (u - 1) 0)
         (record { at_end = r.at_end; ways = r.ways; alarms = r.alarms }) (tt, (tt, tt))
         (rounds_hold g (u - 1)))
 
@@ -344,7 +348,7 @@ module _ (p : Program) {S : Type 0} (o : StateOps S) (Good : S → (live res : L
       P : S → Type 0
       P = Good h live res
 
-      alarms : IsUndefinedOnly (alarms_at l (o.arguments Both f es s).faults)
+      alarms : OnlyUndefined (found_at l (o.arguments Both f es s).faults)
       alarms = only_at l (o.arguments Both f es s).faults
           (law.arguments k f at es seen fits tame frame own h s live res among good).faults
 
@@ -369,7 +373,7 @@ module _ (p : Program) {S : Type 0} (o : StateOps S) (Good : S → (live res : L
 
       -- from the end of the middle part on
       by_middle : (v : Option S) (g : Log S) → IfReached (Good h live (result_block f ++ res)) v
-          → IsUndefinedOnly g.faults → Holds o P (go_on o v none g (rowed o last))
+          → OnlyUndefined g.faults → Holds o P (go_on o v none g (rowed o last))
       by_middle None g i a = record { at_end = tt; ways = (tt, (tt, tt)); alarms = a }
       by_middle (Some s) g i a =
           let r = last_holds s i in
@@ -388,26 +392,31 @@ module _ (p : Program) {S : Type 0} (o : StateOps S) (Good : S → (live res : L
       by_next (Some t) i =
           let r = middle_holds t i in
           by_middle (middle t).on _ r.at_end
-          (only_both (alarms_at l (o.arguments Both f es s).faults) (middle t).log.faults alarms r.alarms)
+          (only_both (found_at l (o.arguments Both f es s).faults) (middle t).log.faults alarms r.alarms)
 
   module _ (ord : Side → Order) where
     module _ (formed : is_well_formed p ≡ true) (here : ℕ) (below : here ≤ p.main) (f : Function)
-        (at : slice_get p.functions here ≡ Some f) (ps : ℕ → Mode → S → Pass S)
-        (known : (k : ℕ) → KnownBody k (ps k Both)) where
+        (at : slice_get p.functions here ≡ Some f) (ps : ℕ → (before : ℕ) → Mode → S → Pass S)
+        (known : (k : ℕ) → KnownBody k (ps k 0 Both)) where
       abbrev own : Option ℕ
       own = result_type p.blocks f.result
 
       abbrev rows : Stmts → Mode → S → Ways S → Pass S
-      rows a m s w = pass_all o u limit ord p here ps a m s w
+      rows a m s w = pass_all o u (tried o limit) ord p here ps a 0 m s w
 
       abbrev arm : Stmts → Mode → S → Pass S
       arm a m s = rows a m s none
+
+      abbrev turn_body : Stmts → Stmts → (before : ℕ) → Mode → S → Pass S
+      turn_body a b n m s =
+          next_pass o (pass_all o u (tried o limit) ord p here ps a n m s none)
+          (λ t. pass_all o u (tried o limit) ord p here ps b (n + 0) m t none)
 
       called_holds : (k : ℕ) (es : List Expr) (d : Option Dest) (seen : List ℕ)
           → is_tame_what p.types (call k es d) ≡ true
           → (l : ℕ) (h s : S) (live res : List ℕ) → AreAmong seen live → Good h live res s
           → (g : Option Function) → callee_of p here k ≡ g → call_fits p here own g es d seen ≡ true
-          → Holds o (Good h live res) (call_pass o g Both es d l (ps k Both) s)
+          → Holds o (Good h live res) (call_pass o g Both es d l (ps k 0 Both) s)
       called_holds k es d seen tame l h s live res among good None e fits =
           record { at_end = tt; ways = (tt, (tt, tt)); alarms = tt }
       called_holds k es d seen tame l h s live res among good (Some g) e fits =
@@ -417,14 +426,14 @@ module _ (p : Program) {S : Type 0} (o : StateOps S) (Good : S → (live res : L
           (is_tame_dest p.types d) tame in
           let to = callee_at p here k g e in
           let before : k < p.main = (let less = callee_before p here k g e in omega (arith, less, below)) in
-          call_holds k g to (frame_free p formed k g to (omega (arith, before))) (result_free p formed k g to before) es d seen q.0 q.1 t.0 t.1 l (ps k Both) (known k) h s live res among
+          call_holds k g to (frame_free p formed k g to (omega (arith, before))) (result_free p formed k g to before) es d seen q.0 q.1 t.0 t.1 l (ps k 0 Both) (known k) h s live res among
           good
 
       mutual
         pass_holds : (w : What) → HaveNoResult p (scoped_in w) → (seen : List ℕ) (i : Bool)
             → what_fits p here own w seen i ≡ true → is_tame_what p.types w ≡ true
             → (l : ℕ) (h s : S) (live res : List ℕ) → AreAmong seen live → AreAmong (result_block f) res
-            → Good h live res s → Holds o (Good h live res) (pass o u limit ord p here ps w Both l s)
+            → Good h live res s → Holds o (Good h live res) (pass o u (tried o limit) ord p here ps w 0 Both l s)
         pass_holds (simple w) free seen i fits tame l h s live res among res_there good =
             subst (λ g. Holds o (Good h live res) (simple_pass (way_of w) l (o.simple Both (result_in g) w s)))
             (sym at)
@@ -454,7 +463,7 @@ module _ (p : Program) {S : Type 0} (o : StateOps S) (Good : S → (live res : L
             let t = and_parts (is_tame_expr p.types e)
             (are_tame p.types a && are_tame p.types b) tame in
             let v = and_parts (are_tame p.types a) (are_tame p.types b) t.1 in
-            loop_holds l e seen r.0 t.0 live res among (λ m s. next_pass o (arm a m s) (arm b m))
+            loop_holds l e seen r.0 t.0 live res among (turn_body a b)
             (λ h s g. next_holds o (Good h live res) (joins h live res) (arm a Both s) (arm b Both)
             (all_hold a (free_left p (scoped a) (scoped b) free) seen true r.1 v.0 h s none live res among res_there g (tt, (tt, tt)))
             (λ s g. all_hold b (free_right p (scoped a) (scoped b) free) seen i y.1 v.1 h s none live res among res_there g (tt, (tt, tt)))) h first s good
@@ -478,7 +487,7 @@ module _ (p : Program) {S : Type 0} (o : StateOps S) (Good : S → (live res : L
             let q = and_parts (what_fits p here own w seen i) (stmts_fit p here own rest seen i) fits in
             let t = and_parts (is_tame_what p.types w) (are_tame p.types rest)
             tame in
-            then_holds o (Good h live res) (joins h live res) (pass o u limit ord p here ps w Both l s) v
+            then_holds o (Good h live res) (joins h live res) (pass o u (tried o limit) ord p here ps w 0 Both l s) v
             (rows rest Both) (pass_holds w (free_left p (scoped_in w) (scoped rest) free) seen i q.0 t.0 l h s live res among res_there good) ways
             (λ s v g z. all_hold rest (free_right p (scoped_in w) (scoped rest) free) seen i q.1 t.1 h s v live res among res_there g z)
 
@@ -497,10 +506,10 @@ module _ (p : Program) {S : Type 0} (o : StateOps S) (Good : S → (live res : L
       tame_at (g ∷ fs) h (suc k) f e =
           tame_at fs (and_parts (are_tame p.types g.body) _ h).1 k f e
 
-      body_known : (here : ℕ) → here ≤ p.main → (ps : ℕ → Mode → S → Pass S) → ((k : ℕ) → KnownBody k (ps k Both))
-          → KnownBody here (body_pass o u limit ord p (slice_get p.functions here) here ps Both)
+      body_known : (here : ℕ) → here ≤ p.main → (ps : ℕ → (before : ℕ) → Mode → S → Pass S) → ((k : ℕ) → KnownBody k (ps k 0 Both))
+          → KnownBody here (body_pass o u (tried o limit) ord p (slice_get p.functions here) here ps 0 Both)
       body_known here below ps known f at h s live res among res_there good =
-          subst (λ g. Holds o (Good h live res) (body_pass o u limit ord p g here ps Both s)) (sym at)
+          subst (λ g. Holds o (Good h live res) (body_pass o u (tried o limit) ord p g here ps 0 Both s)) (sym at)
           (all_hold formed here below f at ps known f.body (scopes_free p formed here f at below) (frame_of f) false (fits_at p formed here f at).2
           (tame_at p.functions tame here f at) h s none live res among res_there good (tt, (tt, tt)))
 
@@ -509,37 +518,38 @@ module _ (p : Program) {S : Type 0} (o : StateOps S) (Good : S → (live res : L
       chosen_known k n a b true e h i = subst (λ j. KnownBody j (a Both)) (sym (eqb-true k n e)) h
       chosen_known k n a b false e h i = i
 
-      bodies_known : (n k : ℕ) → n ≤ p.main → KnownBody k (bodies_pass o u limit ord p n k Both)
+      bodies_known : (n k : ℕ) → n ≤ p.main → KnownBody k (bodies_pass o u (tried o limit) ord p n k 0 Both)
       bodies_known zero k below = λ f at h s live res among res_there good.
           record { at_end = good; ways = (tt, (tt, tt)); alarms = tt }
       bodies_known (suc n) k below =
-          chosen_known k n (body_pass o u limit ord p (slice_get p.functions n) n (bodies_pass o u limit ord p n))
-          (bodies_pass o u limit ord p n k) (nat_eq k n) refl
-          (body_known n (omega (arith, below)) (bodies_pass o u limit ord p n)
+          chosen_known k n (body_pass o u (tried o limit) ord p (slice_get p.functions n) n
+          (bodies_pass o u (tried o limit) ord p n) 0)
+          (bodies_pass o u (tried o limit) ord p n k 0) (nat_eq k n) refl
+          (body_known n (omega (arith, below)) (bodies_pass o u (tried o limit) ord p n)
           (λ j. bodies_known n j (omega (arith, below)))) (bodies_known n k (omega (arith, below)))
 
       main_alarms : (g : Option Function) → slice_get p.functions p.main ≡ g
-          → IsUndefinedOnly
-          ((body_pass o u limit ord p g p.main (bodies_pass o u limit ord p p.main) Both o.entry).log.faults
-          ++ faults_at_end o u limit ord p g
+          → OnlyUndefined
+          ((body_pass o u (tried o limit) ord p g p.main (bodies_pass o u (tried o limit) ord p p.main) 0 Both o.entry).log.faults
+          ++ faults_at_end o g
           (join_on o
-          (body_pass o u limit ord p g p.main (bodies_pass o u limit ord p p.main) Both o.entry).ways.returned
-          (body_pass o u limit ord p g p.main (bodies_pass o u limit ord p p.main) Both o.entry).on))
+          (body_pass o u (tried o limit) ord p g p.main (bodies_pass o u (tried o limit) ord p p.main) 0 Both o.entry).ways.returned
+          (body_pass o u (tried o limit) ord p g p.main (bodies_pass o u (tried o limit) ord p p.main) 0 Both o.entry).on))
       main_alarms None e = tt
       main_alarms (Some f) e =
           let good = law.entry f e in
-          let r = all_hold formed p.main (omega arith) f e (bodies_pass o u limit ord p p.main)
+          let r = all_hold formed p.main (omega arith) f e (bodies_pass o u (tried o limit) ord p p.main)
           (λ j. bodies_known p.main j (omega arith)) f.body (scopes_free p formed p.main f e (omega arith)) (frame_of f)
           false (fits_at p formed p.main f e).2 (tame_at p.functions tame p.main f e) o.entry o.entry none (frame_of f)
           (result_block f) (λ b i. i) (λ b i. i) good (tt, (tt, tt)) in
-          let q = body_pass o u limit ord p (Some f) p.main (bodies_pass o u limit ord p p.main) Both o.entry in
+          let q = body_pass o u (tried o limit) ord p (Some f) p.main (bodies_pass o u (tried o limit) ord p p.main) 0 Both o.entry in
           only_both q.log.faults _ r.alarms
           (at_end (join_on o q.ways.returned q.on)
           (join_holds o (Good o.entry (frame_of f) (result_block f)) (joins o.entry (frame_of f) (result_block f))
           q.ways.returned q.on r.ways.1.1 r.at_end))
         where
           at_end : (v : Option S) → IfReached (Good o.entry (frame_of f) (result_block f)) v
-              → IsUndefinedOnly (faults_at_end o u limit ord p (Some f) v)
+              → OnlyUndefined (faults_at_end o (Some f) v)
           at_end None i = tt
           at_end (Some s) i = only_at f.line (o.ended f s)
               (law.ended f e o.entry s (frame_of f) (result_block f) (λ b i. i) i)

@@ -20,11 +20,10 @@ use Rattle.ep_core.specs.Exec.{on, broken, continued, returned, callee_of, frame
 use Rattle.ep_core.specs.View.{expr_view, dest_view, what_view, stmts_view}
 use Rattle.ep_core.proofs.Views.{if_is, loop_is, by_order_is, scope_is}
 use Rattle.ep_pass.specs.States.{Mode, Both, One, StateOps, Verdict, stuck, same, differs}
-use Rattle.ep_pass.specs.Pass.{Ways, none, Log, logged, both_logs, Pass, passed, after, so_far, branch, alarms_at}
+use Rattle.ep_pass.specs.Pass.{Ways, none, Log, logged, both_logs, Pass, passed, after, so_far, branch, found_at}
 use Rattle.ep_pass.specs.Pass.{simple_pass, join_on, join_ways, either_pass, go_on, then_pass, rowed, leave_on}
 use Rattle.ep_pass.specs.Pass.{scope_pass, leave_call, call_pass, next_pass, decided, two_ways, four_ways, parted}
 use Rattle.ep_pass.specs.Pass.{differ, only_on, only_broken, only_continued, only_returned, arm_of, body_pass}
-use Rattle.ep_pass.specs.Pass.{bodies_pass}
 use Rattle.ep_flows.specs.View.{Told, Tells, HasPassed, Passes, CountsUpTo, ways_view, flow_view, Plan, mode_of}
 use Rattle.ep_flows.specs.View.{side_of, verdict_of}
 use Rattle.ep_flows.specs.declared.setting.Machine.{Machine}
@@ -32,7 +31,7 @@ use Rattle.ep_flows.specs.declared.setting.Running.{Running}
 use Rattle.ep_flows.specs.declared.setting.Running.TheVariants.{Together, Alone}
 use Rattle.ep_flows.specs.declared.setting.Truths.{Truths}
 use Rattle.ep_flows.specs.declared.setting.Truths.TheVariants.{Stuck, Same, Differs}
-use Rattle.ep_walk_parts.specs.Pieces.{Followed, arms, o, one, row, function, tested_of, followed}
+use Rattle.ep_walk_parts.specs.Pieces.{Followed, arms, o, one, row, heads, bodies, function, tested_of, followed}
 use Rattle.ep_flows.specs.declared.flow.Flow.{Flow}
 use Rattle.ep_flows.proofs.Telling.{tells_both, tells_nothing}
 use Rattle.ep_flows.proofs.Combined.{drop_last, after_passed, both_passed, keeps_passed}
@@ -132,7 +131,7 @@ module _ {S : Type 0} (ops : Program → (Side → Order) → StateOps S) (c : P
 
   -- the body of a function that is called
   pub function_is : (n k : ℕ) → k < n → (m : Mode) (s : S)
-      → bodies_pass (o ops c) c.unroll c.limit c.order c.program n k m s ≡ function ops c k m s
+      → bodies ops c n k 0 m s ≡ function ops c k m s
   function_is zero k lt m s = absurd (omega arith)
   function_is (suc n) k lt m s = by_test (nat_eq k n) refl (λ l. function_is n k l m s)
     where
@@ -142,16 +141,14 @@ module _ {S : Type 0} (ops : Program → (Side → Order) → StateOps S) (c : P
       less : (k n : ℕ) → k < suc n → nat_eq k n ≡ false → k < n
       less k n h e = grind (arith, nat_tests)
 
-      by_test : (t : Bool) → nat_eq k n ≡ t → (k < n → bodies_pass (o ops c) c.unroll c.limit c.order c.program n k m
-          s ≡ function ops c k m s) → arm_of (o ops c) t (body_pass (o ops c) c.unroll c.limit c.order c.program
-          (slice_get c.program.functions n) n (bodies_pass (o ops c) c.unroll c.limit c.order c.program n))
-          (bodies_pass (o ops c) c.unroll c.limit c.order c.program n k) m s ≡ function ops c k m s
+      by_test : (t : Bool) → nat_eq k n ≡ t → (k < n → bodies ops c n k 0 m s ≡ function ops c k m s) → arm_of (o ops c) t (body_pass (o ops c) c.unroll (heads ops c)
+          c.order c.program (slice_get c.program.functions n) n (bodies ops c n) 0) (bodies ops c n k 0) m s ≡ function ops c k m s
       by_test true e i = ap (λ z. function ops c z m s) (sym (same k n e))
       by_test false e i = i (less k n lt e)
 
   -- ---- tests
   module _ (mode : Running) (fw : Followed) (e : plain.Expr) (l : ℕ) (before : Ways S) (flow : Flow S) (s : S)
-      (truths : Truths) (old mid new : Told S) (tl : Tells (logged (alarms_at l ((o ops c).test
+      (truths : Truths) (old mid new : Told S) (tl : Tells (logged (found_at l ((o ops c).test
       (mode_of mode) e s).faults) 0 []) old mid) (ev : verdict_of truths ≡ ((o ops c).test
       (mode_of mode) e s).verdict) (en : flow.on ≡ None) (ew : ways_view flow.ways ≡ before) where
     abbrev goes : Mode → Verdict → Pass S → Pass S
@@ -171,7 +168,7 @@ module _ {S : Type 0} (ops : Program → (Side → Order) → StateOps S) (c : P
         let h2 : Passes (goes (mode_of mode) ((o ops c).test (mode_of mode) e s).verdict
         (so_far before)) x mid new = subst (λ z. Passes (goes (mode_of mode) z (so_far before)) x mid new) d h1
         in
-        after_passes (logged (alarms_at l ((o ops c).test (mode_of mode) e s).faults) 0 []) (goes (mode_of mode)
+        after_passes (logged (found_at l ((o ops c).test (mode_of mode) e s).faults) 0 []) (goes (mode_of mode)
         ((o ops c).test (mode_of mode) e s).verdict (so_far before)) x old mid new tl h2
 
     same_is : (m : Mode) (a : Pass S) → goes m same a ≡ two_ways (o ops c) a m e (followed ops c here fw m true true)
@@ -373,7 +370,7 @@ module _ {S : Type 0} (o : StateOps S) (m : Mode) (l : ℕ) (f : Function) (es :
         (C s).log old two new told h.log;
   }
 
-  module _ (q : Flow S) (t : Tells (logged (alarms_at l (o.arguments m f es s).faults) 0 []) old one) where
+  module _ (q : Flow S) (t : Tells (logged (found_at l (o.arguments m f es s).faults) 0 []) old one) where
     abbrev left_by_body : Option S
     left_by_body = (leave_call o (scope_pass o m (frame_of f) (flow_view q))).on
 
@@ -421,7 +418,7 @@ module _ {S : Type 0} (o : StateOps S) (m : Mode) (l : ℕ) (f : Function) (es :
 -- memory runs out in the body
 pub call_stops : {S : Type 0} (o : StateOps S) (m : Mode) (l : ℕ) (f : Function) (es : List plain.Expr)
     (d : Option plain.Dest) (body : S → Pass S) (s : S) (old one new : Told S)
-    → Tells (logged (alarms_at l (o.arguments m f es s).faults) 0 []) old one → (u : Option S)
+    → Tells (logged (found_at l (o.arguments m f es s).faults) 0 []) old one → (u : Option S)
     → u ≡ (o.arguments m f es s).next → CountsUpTo (branch u body).log.count one.count new.count
     → CountsUpTo (call_pass o (Some f) m es d l body s).log.count old.count new.count
 call_stops o m l f es d body s old one new t u e h =
@@ -438,8 +435,7 @@ module _ {S : Type 0} (ops : Program → (Side → Order) → StateOps S) (c : P
   pub calls_none : (f : Flow S) (t : Told S) → callee_of c.program here k ≡ None → f.on ≡ None
       → ways_view f.ways ≡ none → HasPassed (one ops c here (call k es d) m l s) f t t
   calls_none f t e a b =
-      subst (λ z. HasPassed (call_pass (o ops c) z m es d l (bodies_pass (o ops c) c.unroll c.limit c.order c.program
-      here k m) s) f t t) (sym e)
+      subst (λ z. HasPassed (call_pass (o ops c) z m es d l (bodies ops c here k 0 m) s) f t t) (sym e)
       (record { on = a; ways = b; log = tells_nothing t })
 
   pub calls_some : (f : Function) (x : Result (Flow S) Memory) (old new : Told S)
@@ -447,10 +443,9 @@ module _ {S : Type 0} (ops : Program → (Side → Order) → StateOps S) (c : P
       (function ops c k m) s) x old new
       → Passes (one ops c here (call k es d) m l s) x old new
   calls_some f x old new e lt h =
-      let same : function ops c k m ≡ bodies_pass (o ops c) c.unroll c.limit c.order c.program here k m = sym (fun_ext
+      let same : function ops c k m ≡ bodies ops c here k 0 m = sym (fun_ext
       (λ s. function_is ops c here here k lt m s)) in
-      subst (λ z. Passes (call_pass (o ops c) z m es d l (bodies_pass
-      (o ops c) c.unroll c.limit c.order c.program here k m) s) x old new) (sym e)
+      subst (λ z. Passes (call_pass (o ops c) z m es d l (bodies ops c here k 0 m) s) x old new) (sym e)
       (subst (λ b. Passes (call_pass (o ops c) (Some f) m es d l b s) x old new) same h)
 
 -- ---- statements that jump, and the body of a function
@@ -464,8 +459,7 @@ module _ {S : Type 0} (ops : Program → (Side → Order) → StateOps S) (c : P
       → HasPassed (branch u (function ops c k m)) f t t
   function_none k m u s f t e d a b =
       subst (λ z. HasPassed (branch z (function ops c k m)) f t t) (sym d)
-      (subst (λ z. HasPassed (body_pass (o ops c) c.unroll c.limit c.order c.program z k (bodies_pass
-      (o ops c) c.unroll c.limit c.order c.program k) m s) f t t) (sym e)
+      (subst (λ z. HasPassed (body_pass (o ops c) c.unroll (heads ops c) c.order c.program z k (bodies ops c k) 0 m s) f t t) (sym e)
       (record { on = a; ways = b; log = tells_nothing t }))
 
   pub function_some : (k : ℕ) (m : Mode) (u : Option S) (s : S) (g : Function) (x : Result (Flow S) Memory)
@@ -474,5 +468,4 @@ module _ {S : Type 0} (ops : Program → (Side → Order) → StateOps S) (c : P
       → Passes (branch u (function ops c k m)) x old new
   function_some k m u s g x old new e d h =
       subst (λ z. Passes (branch z (function ops c k m)) x old new) (sym d)
-      (subst (λ z. Passes (body_pass (o ops c) c.unroll c.limit c.order c.program z k (bodies_pass
-      (o ops c) c.unroll c.limit c.order c.program k) m s) x old new) (sym e) h)
+      (subst (λ z. Passes (body_pass (o ops c) c.unroll (heads ops c) c.order c.program z k (bodies ops c k) 0 m s) x old new) (sym e) h)

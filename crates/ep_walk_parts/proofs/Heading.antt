@@ -13,7 +13,7 @@ use Rattle.ep_flows.specs.Rounds.{ComesRound}
 use Rattle.ep_flows.specs.declared.flow.Flow.{Flow}
 use Rattle.ep_flows.specs.declared.heads.Rounds.{Rounds}
 use Rattle.ep_flows.proofs.Circles.{Fresh, Goes, goes_first, goes_next, goes_round, head_kept, head_last}
-use Rattle.ep_walk_parts.specs.Pieces.{Loop, o, body_of, settled_of, turn_of}
+use Rattle.ep_walk_parts.specs.Pieces.{Loop, o, settled_of, turn_of}
 
 -- ---- a turn that is kept, whose passes were counted before
 module _ {S : Type 0} (now one new seen done : Told S) (ed : seen ≡ done) where
@@ -43,13 +43,12 @@ round_left r s h a b (inr (inr k)) = let e = k.left in omega (arith, e)
 
 module _ {S : Type 0} (ops : Program → (Side → Order) → StateOps S) (c : Plan) (here : ℕ) (l : Loop) (w : Ways S) where
   abbrev pub GoesIn : Rounds S → S → (now start : Told S) → Pass S → Type 0
-  GoesIn r h now start whole = Goes (o ops c) c.unroll c.limit l.line l.test (body_of ops c here l)
-      (turn_of ops c here l Both w) r h now start whole
+  GoesIn r h now start whole = Goes (o ops c) (turn_of ops c here l Both w) r h now start whole
 
   pub heads_begin : (r : Rounds S) (h : S) (n : ℕ) (t : Told S) → n ≤ 2 ^ 128 - 1 → n ≡ c.limit - 1 → r.mark ≡ h
       → r.left ≡ n → r.since ≡ 0 → r.counted ≡ 0 → GoesIn r h t t (settled_of ops c here l w (c.limit - 1) h)
   heads_begin r h n t b d em el es ec =
-      goes_first (o ops c) c.unroll c.limit l.line l.test (body_of ops c here l) (turn_of ops c here l Both w) r h
+      goes_first (o ops c) (turn_of ops c here l Both w) r h
       (c.limit - 1) t (subst (λ z. z ≤ 2 ^ 128 - 1) d b) em (el ∙ d) es ec
 
   turn_from : (v : Ways S) (s h : S) (f : Flow S) (found done : Told S) → v ≡ w → s ≡ h
@@ -66,7 +65,7 @@ module _ {S : Type 0} (ops : Program → (Side → Order) → StateOps S) (c : P
         → new.alarms ≡ fold added one.alarms seen.alarms → new.count ≡ one.count
         → new.heads ≡ kept_heads one.heads h seen.heads → HasPassed whole f start new
     heads_kept one new seen en ed a n hs ka kn kh =
-        head_kept (o ops c) c.unroll c.limit l.line l.test (body_of ops c here l) (turn_of ops c here l Both w) h f
+        head_kept (o ops c) (turn_of ops c here l Both w) h f
         now found done new start whole fr (turn_from v s h f found done d e t) r.left u lt g.leads k en
         (kept_alarms now one new seen done ed a ka) (kept_count now one new seen done ed n kn)
         (kept_told now one new seen done ed h hs kh)
@@ -83,10 +82,9 @@ module _ {S : Type 0} (ops : Program → (Side → Order) → StateOps S) (c : P
         ∙ ap (λ (z : Told S). capped (now.count + 1 * z.count)) ed in
         let ec' : capped r1.counted ≡ capped (r.counted + done.count) = ec
         ∙ ap (λ (z : Told S). capped (r.counted + z.count)) ed in
-        let first = goes_next (o ops c) c.unroll c.limit l.line l.test (body_of ops c here l)
-        (turn_of ops c here l Both w) r r1 h next f u now found done one start whole g lt fr
+        let first = goes_next (o ops c) (turn_of ops c here l Both w) r r1 h next f u now found done one start whole g lt fr
         (turn_from v s h f found done d e t) k en a n' hs em el es ec' in
-        goes_round (o ops c) c.unroll c.limit l.line l.test (body_of ops c here l) (turn_of ops c here l Both w) law
+        goes_round (o ops c) (turn_of ops c here l Both w) law
         r1 r2 next one two start whole first round a2 hs2
 
   pub heads_last : (r : Rounds S) (at h s : S) (f : Flow S) (now found done one new seen start : Told S)
@@ -96,7 +94,7 @@ module _ {S : Type 0} (ops : Program → (Side → Order) → StateOps S) (c : P
       → new.alarms ≡ fold added one.alarms seen.alarms → new.count ≡ one.count
       → new.heads ≡ kept_heads one.heads h seen.heads → HasPassed whole f start new
   heads_last r at h s f now found done one new seen start whole v g en fr d e t eh ed a n hs ka kn kh =
-      head_last (o ops c) c.unroll c.limit l.line l.test (body_of ops c here l) (turn_of ops c here l Both w) r.left
+      head_last (o ops c) (turn_of ops c here l Both w) r.left
       at h f now found done new start whole fr (turn_from v s h f found done d e t) en eh g.leads
       (kept_alarms now one new seen done ed a ka) (kept_count now one new seen done ed n kn)
       (kept_told now one new seen done ed h hs kh)

@@ -1,15 +1,14 @@
 -- Main, and the report on a program.
-use Rattle.std.proofs.Common.{◌≡◌, ℕ, ◌+◌, ◌≤◌, Bool, true, false, List, [], ◌++◌, fold, slice_get, refl, sym, ap}
+use Rattle.std.proofs.Common.{◌≡◌, ℕ, ◌+◌, ◌≤◌, Bool, true, false, List, [], ◌++◌, fold, map, slice_get, refl, sym, ap}
 use Rattle.std.proofs.lemmas.List.{append-nil}
 use Rattle.std.proofs.Common.{◌∙◌, subst, arith, Option, Some, None, Result, Ok, Err, OnOk, OnErr, if◌then◌else◌}
 use Rattle.ep_int.specs.declared.types.Order.{Order}
-use Rattle.ep_alarms.specs.declared.types.Alarm.{Alarm}
 use Rattle.ep_alarms.specs.Report.{added}
 use Rattle.ep_core.specs.Program.{Function, Program}
 use Rattle.ep_core.specs.Runs.{Side}
 use Rattle.ep_pass.specs.States.{Both, StateOps}
-use Rattle.ep_pass.specs.Pass.{Ways, logged, both_logs, Pass, alarms_at, join_on, main_pass, faults_at_end, report_of}
-use Rattle.ep_pass.specs.Pass.{turns_of, heads_of}
+use Rattle.ep_pass.specs.Pass.{Ways, Event, alarm_of, logged, both_logs, Pass, found_at, alarms_at, join_on, tried}
+use Rattle.ep_pass.specs.Pass.{main_pass, faults_at_end, report_of, turns_of, heads_of}
 use Rattle.ep_flows.specs.View.{Told, Tells, HasPassed, CountsUpTo, ways_view, Plan, capped, more_heads}
 use Rattle.ep_walk_parts.specs.Pieces.{o, function}
 use Rattle.ep_flows.specs.declared.flow.Flow.{Flow}
@@ -19,10 +18,10 @@ use Rattle.ep_flows.proofs.Counting.{told_count}
 
 module _ {S : Type 0} (ops : Program → (Side → Order) → StateOps S) (c : Plan) where
   abbrev main : Pass S
-  main = main_pass (o ops c) c.unroll c.limit c.order c.program
+  main = main_pass (o ops c) c.unroll (tried (o ops c) c.limit) c.order c.program
 
-  abbrev ends : Option S → List Alarm
-  ends v = faults_at_end (o ops c) c.unroll c.limit c.order c.program (slice_get c.program.functions c.program.main) v
+  abbrev ends : Option S → List Event
+  ends v = faults_at_end (o ops c) (slice_get c.program.functions c.program.main) v
 
   -- main is left, and its result compared
   pub end_some : {T E : Type 0} (x : Result T E) (f : Function) (u v : Option S) (s : S) (old seen new : Told S)
@@ -31,9 +30,9 @@ module _ {S : Type 0} (ops : Program → (Side → Order) → StateOps S) (c : P
       → new.heads ≡ seen.heads → OnOk x (Tells (logged (ends v) 0 []) old new)
   end_some (Err y) f u v s old seen new e d i j a n h = tt
   end_some (Ok y) f u v s old seen new e d i j a n h =
-      let is : alarms_at f.line ((o ops c).ended f s) ≡ ends v =
-      ap (λ z. faults_at_end (o ops c) c.unroll c.limit c.order c.program z (Some s)) (sym e) ∙ ap ends (sym i ∙ d) in
-      subst (λ z. Tells (logged z 0 []) old new) is (tells_at (alarms_at f.line ((o ops c).ended f s)) old seen new j
+      let is : found_at f.line ((o ops c).ended f s) ≡ ends v =
+      ap (λ z. faults_at_end (o ops c) z (Some s)) (sym e) ∙ ap ends (sym i ∙ d) in
+      subst (λ z. Tells (logged z 0 []) old new) is (tells_at (found_at f.line ((o ops c).ended f s)) old seen new j
       a n h)
 
   pub record Reported (keeps : Bool) (new : Told S) : Type 0 where
@@ -79,8 +78,8 @@ module _ {S : Type 0} (ops : Program → (Side → Order) → StateOps S) (c : P
       → Tells (both_logs main.log (logged (ends (join_on (o ops c) main.ways.returned main.on)) 0 [])) old new
       → Reported keeps new
   reported keeps old new ea ec eh all = record {
-    report = all.alarms ∙ ap (λ z. fold added z (main.log.faults ++ ends (join_on
-        (o ops c) main.ways.returned main.on))) ea;
+    report = all.alarms ∙ ap (λ z. fold added z (map alarm_of (main.log.faults ++ ends (join_on
+        (o ops c) main.ways.returned main.on)))) ea;
     turns = counts new.count old.count main.log.count all.count ec;
     heads = all.heads ∙ ap (λ z. more_heads z (main.log.heads ++ [])) eh ∙ listed keeps main.log.heads;
   }

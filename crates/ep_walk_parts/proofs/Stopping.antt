@@ -13,12 +13,13 @@ use Rattle.ep_pass.specs.States.{Mode, Both, One, StateOps}
 use Rattle.ep_pass.specs.Pass.{Ways, none, Log, Pass, branch, join_on, join_ways, either_pass, go_on, then_pass}
 use Rattle.ep_pass.specs.Pass.{turn_then, rowed, next_pass, parted, unrolled, from_head, dropped, is_stable}
 use Rattle.ep_pass.specs.Pass.{next_head}
+use Rattle.ep_pass.proofs.Tried.{whiles, dos}
 use Rattle.ep_flows.specs.View.{Told, HasPassed, Passes, CountsUpTo, capped, ways_view, flow_view, Plan}
 use Rattle.ep_flows.specs.declared.flow.Flow.{Flow}
 use Rattle.ep_flows.specs.declared.heads.Rounds.{Rounds}
 use Rattle.ep_flows.proofs.Combined.{Leads}
 use Rattle.ep_flows.proofs.Counting.{both_count, leads_count, more_count, same_count, told_count}
-use Rattle.ep_walk_parts.specs.Pieces.{Loop, o, all, one, alone_of, begun_of, body_of, entered_of, loop_pass_of}
+use Rattle.ep_walk_parts.specs.Pieces.{Loop, o, all, one, alone_of, begun_of, body_at, entered_of, loop_pass_of}
 use Rattle.ep_walk_parts.specs.Pieces.{rounds_of, settled_of, turn_of, turned}
 use Rattle.ep_walk_parts.proofs.Heading.{GoesIn}
 use Rattle.ep_walk_parts.proofs.Rows.{drop_next}
@@ -256,7 +257,9 @@ module _ {S : Type 0} (ops : Program → (Side → Order) → StateOps S) (c : P
         where
           each : (m : Mode) → CountsUpTo (rounds_of ops c here l m c.unroll s none).log.count x n
               → CountsUpTo (loop_pass_of ops c here l m true s).log.count x n
-          each Both k = k
+          each Both k =
+              subst (λ p. CountsUpTo p.log.count x n)
+              (sym (whiles (o ops c) c.unroll c.limit l.line l.test (body_at ops c here l) s)) k
           each (One j) k = k
 
       pub begun_stop : (u : ℕ) → first ≡ false → m ≡ Both → u ≡ c.unroll - 1
@@ -268,7 +271,9 @@ module _ {S : Type 0} (ops : Program → (Side → Order) → StateOps S) (c : P
         where
           each : (m : Mode) → m ≡ Both → CountsUpTo (begun_of ops c here l m (c.unroll - 1) s).log.count x n
               → CountsUpTo (loop_pass_of ops c here l m false s).log.count x n
-          each Both d k = k
+          each Both d k =
+              subst (λ p. CountsUpTo p.log.count x n)
+              (sym (dos (o ops c) c.unroll c.limit l.line l.test (body_at ops c here l) s)) k
           each (One j) d k = absurd cc
 
       pub entered_stop : (j : Side) → first ≡ false → m ≡ One j
@@ -286,9 +291,8 @@ module _ {S : Type 0} (ops : Program → (Side → Order) → StateOps S) (c : P
 
       tried_less : (k : ℕ) (h : S) → (turn h).log.count ≤ (settled_of ops c here l w (suc k) h).log.count
       tried_less k h =
-          by_test (is_stable (o ops c) c.unroll c.limit l.line l.test (body_of ops c here l) h (turn h).on)
-          (turn h) (settled_of ops c here l w k (next_head (o ops c) c.unroll c.limit l.line l.test
-          (body_of ops c here l) h (turn h).on))
+          by_test (is_stable (o ops c) h (turn h).on) (turn h)
+          (settled_of ops c here l w k (next_head (o ops c) h (turn h).on))
         where
           by_test : (b : Bool) (p q : Pass S) → p.log.count ≤ (if b then from_head h p else dropped p q).log.count
           by_test true p q = omega arith

@@ -8,14 +8,15 @@ use Rattle.ep_core.specs.Exec.{broken}
 use Rattle.ep_core.specs.Program.{Program}
 use Rattle.ep_core.specs.Runs.{Side}
 use Rattle.ep_pass.specs.States.{Mode, Both, One, StateOps}
-use Rattle.ep_pass.specs.Pass.{Ways, none, logged, Pass, ends, branch, differ, plain_alarm, comes_after, leave_loop}
+use Rattle.ep_pass.specs.Pass.{Ways, none, alarm, logged, Pass, ends, branch, differ, plain_alarm, comes_after, leave_loop}
 use Rattle.ep_pass.specs.Pass.{join_ways, then_pass}
+use Rattle.ep_pass.proofs.Tried.{whiles, dos}
 use Rattle.ep_flows.specs.View.{Told, Tells, HasPassed, Passes, ways_view, flow_view, Plan}
 use Rattle.ep_flows.specs.declared.flow.Flow.{Flow}
 use Rattle.ep_flows.proofs.Telling.{tells_nothing}
 use Rattle.ep_flows.proofs.Combined.{goes_on, stops_there, leave_loop_passed, keeps_passed}
 use Rattle.ep_flows.proofs.Counting.{both_count, leads_passes, told_count}
-use Rattle.ep_walk_parts.specs.Pieces.{Loop, Followed, turns, cut, o, alone_of, begun_of, entered_of, followed}
+use Rattle.ep_walk_parts.specs.Pieces.{Loop, Followed, turns, cut, o, alone_of, begun_of, body_at, entered_of, followed}
 use Rattle.ep_walk_parts.specs.Pieces.{last_of, loop_pass_of, rounds_of, settled_of, tested_of, turn_of}
 
 module _ {S : Type 0} where
@@ -79,7 +80,7 @@ module _ {S : Type 0} (ops : Program → (Side → Order) → StateOps S) (c : P
     -- ---- one side's loop from its body on
 
     pub entered_none : (m : Side) (n : ℕ) (s : S) (f : Flow S) (old new : Told S) → n ≡ 0
-        → Tells (logged (plain_alarm E4 l.line ∷ []) 0 []) old new → f.on ≡ None → ways_view f.ways ≡ none
+        → Tells (logged (alarm (plain_alarm E4 l.line) ∷ []) 0 []) old new → f.on ≡ None → ways_view f.ways ≡ none
         → HasPassed (entered_of ops c here l m n s) f old new
     entered_none m n s f old new e t a b = subst (λ z. HasPassed (entered_of ops c here l m z s) f old new) (sym e)
         (record { on = a; ways = b; log = t })
@@ -120,7 +121,9 @@ module _ {S : Type 0} (ops : Program → (Side → Order) → StateOps S) (c : P
         where
           each : (m : Mode) → HasPassed (leave_loop (rounds_of ops c here l m c.unroll s none)) g old new
               → HasPassed (loop_pass_of ops c here l m true s) g old new
-          each Both k = k
+          each Both k =
+              subst (λ p. HasPassed p g old new)
+              (sym (whiles (o ops c) c.unroll c.limit l.line l.test (body_at ops c here l) s)) k
           each (One j) k = k
 
       pub loop_both : (n : ℕ) → first ≡ false → m ≡ Both → n ≡ c.unroll - 1
@@ -134,7 +137,9 @@ module _ {S : Type 0} (ops : Program → (Side → Order) → StateOps S) (c : P
         where
           each : (m : Mode) → m ≡ Both → HasPassed (leave_loop (begun_of ops c here l m (c.unroll - 1) s)) g old new
               → HasPassed (loop_pass_of ops c here l m false s) g old new
-          each Both d k = k
+          each Both d k =
+              subst (λ p. HasPassed p g old new)
+              (sym (dos (o ops c) c.unroll c.limit l.line l.test (body_at ops c here l) s)) k
           each (One j) d k = absurd cc
 
       pub loop_alone : (j : Side) → first ≡ false → m ≡ One j

@@ -11,8 +11,7 @@ returns-clause-places g c ops strides honest p ord formed built u limit =
     alarms_stand p strides formed (ops p ord) (honest p ord formed built) u limit ord
 
 pub returns-clause-heads : goal.returns-clause-heads
-returns-clause-heads g c o u limit l e body turn h again same k = circle o u limit l e body turn h again same k
+returns-clause-heads g c o turn h again same k = circle o turn h again same k
 
 pub returns-clause-rounds : goal.returns-clause-rounds
-returns-clause-rounds g c o u limit l e body turn d h none same q k n sum =
-    circles o u limit l e body turn d h none same q k n sum
+returns-clause-rounds g c o turn d h none same q k n sum = circles o turn d h none same q k n sum

@@ -1,0 +1,4 @@
+pub mod Least
+pub mod Given
+pub mod Yes
+pub mod Headless
