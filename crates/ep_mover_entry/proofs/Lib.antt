@@ -1,0 +1,4 @@
+pub mod Symbols
+pub mod Grids
+pub mod Cells
+pub mod Begins

@@ -1,0 +1,4 @@
+pub mod Sides
+pub mod Along
+pub mod Passes
+pub mod Reports

@@ -1,0 +1,5 @@
+pub mod Constants
+pub mod Places
+pub mod Loads
+pub mod Bits
+pub mod Values

@@ -1,0 +1,5 @@
+pub mod Written
+pub mod Kept
+pub mod Uncut
+pub mod Writes
+pub mod Others
