@@ -1,0 +1,4 @@
+pub mod Ends
+pub mod NormalForms
+pub mod Readers
+pub mod Rising
