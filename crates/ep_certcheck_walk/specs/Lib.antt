@@ -1,0 +1,4 @@
+pub mod Found
+pub mod Stops
+pub mod Leaving
+pub mod Pieces
