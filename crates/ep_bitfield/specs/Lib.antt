@@ -1,0 +1,4 @@
+pub mod Bits
+pub mod Units
+pub mod Accesses
+pub mod Laws
