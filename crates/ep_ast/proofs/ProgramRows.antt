@@ -1,5 +1,5 @@
 -- Worked cases of the grammar of declarations, statements and programs.
-use Rattle.std.proofs.Common.{◌≡◌, ℕ, suc, zero, ◌+◌, false, List, [], ◌∷◌, Some, None, refl, arith}
+use Rattle.std.proofs.Common.{◌≡◌, ℕ, suc, zero, ◌+◌, true, false, List, [], ◌∷◌, Some, None, refl, arith}
 use Rattle.std.specs.Prelude.{codes}
 use Rattle.ep_ast.specs.declared.expressions.Literal.{Literal}
 use Rattle.ep_ast.specs.Token.{Tok, name, number, mark, word, if_big, end_if}
@@ -15,16 +15,15 @@ use Rattle.ep_ast.specs.TypeWords.{plain_word, type_name, no_stars, is_built_in_
 use Rattle.ep_ast.specs.Grammar.{Derives, expr, bin, operand, tighter, casts_not, unary_not, suffixed_not, names}
 use Rattle.ep_ast.specs.Grammar.{numbers, assigns_not, chooses_not}
 use Rattle.ep_ast.specs.DeclarationGrammar.{declares, Declared, no_bounds, type_word, more_specs, no_specs, specified}
-use Rattle.ep_ast.specs.DeclarationGrammar.{Specified, in_aggregate, members, last_member, last_declarator, tagged}
+use Rattle.ep_ast.specs.DeclarationGrammar.{Specified, in_aggregate, members, last_member, tagged, whole_field}
+use Rattle.ep_ast.specs.DeclarationGrammar.{named_field, unnamed_field, last_field, next_field, Fields}
 use Rattle.ep_ast.specs.DeclarationGrammar.{Given, single, listed, last_with_comma, without, last_init, variables}
 use Rattle.ep_ast.specs.DeclarationGrammar.{void_alone, head}
 use Rattle.ep_ast.specs.StatementGrammar.{in_parens, nothing, something, InParens, States, evaluate, choose, no_else}
 use Rattle.ep_ast.specs.StatementGrammar.{else_too, give_back, statement, no_parts, more_parts, braces}
 use Rattle.ep_ast.specs.ProgramGrammar as program
 use Rattle.ep_ast.specs.ProgramGrammar.{Programs, OneItem, Items, with_name}
-use Rattle.ep_ast.specs.BitField.{HasBitField, in_tagged, in_names, here}
-use Rattle.ep_ast.specs.BitField as bits
-use Rattle.ep_ast.specs.Depth.{in_stmt, brackets_past}
+use Rattle.ep_ast.specs.Depth.{in_field, in_stmt, brackets_past}
 
 abbrev x : List ℕ
 x = codes "x"
@@ -44,6 +43,13 @@ number_at : (v : Literal) (n k : ℕ) (ts : List Tok) → n + k ≡ 11
 number_at v zero k ts e = operand (omega arith) (casts_not (unary_not (suffixed_not numbers)))
 number_at v (suc n) k ts e = tighter (omega arith) (number_at v n (k + 1) ts (omega arith))
 
+abbrev nought : Literal
+nought = record { value = 0; decimal = false; unsigned = false; longs = 0 }
+
+number_as_expr : (v : Literal) (ts : List Tok)
+    → Derives is_built_in_type expr (number 1 v ∷ ts) ts (expressions.number 1 v)
+number_as_expr v ts = assigns_not (chooses_not (number_at v 10 1 ts refl))
+
 abbrev x_declared : Declarator
 x_declared = record { line = 1; stars = []; name = x; bounds = [] }
 
@@ -54,10 +60,6 @@ x_before_semicolon : (ts : List Tok) → Declared is_built_in_type (name 1 x ∷
     (mark 1 semicolon ∷ ts) x_declared
 x_before_semicolon ts = declares refl (no_star (mark 1 semicolon ∷ ts)) (no_bounds (λ e. omega (arith, e)))
 
-x_before_colon : (ts : List Tok) → Declared is_built_in_type (name 1 x ∷ mark 1 colon ∷ ts) (mark 1 colon ∷ ts)
-    x_declared
-x_before_colon ts = declares refl (no_star (mark 1 colon ∷ ts)) (no_bounds (λ e. omega (arith, e)))
-
 abbrev int_spec : declarations.Spec
 int_spec = declarations.plain (expressions.word 1 int_word)
 
@@ -67,7 +69,7 @@ int_in ts = specified refl (more_specs (type_word (plain_word refl) tt) (no_spec
 
 -- `struct x { int x; };`
 abbrev int_member : Member
-int_member = declarations.member 1 (to_specs (int_spec ∷ [])) (x_declared ∷ [])
+int_member = declarations.member 1 (to_specs (int_spec ∷ [])) (declarations.whole x_declared ∷ [])
 
 structure : Programs (word 1 struct_word ∷ name 1 x ∷ mark 1 left_brace ∷ word 1 int_word ∷ name 1 x ∷
     mark 1 semicolon ∷ mark 1 right_brace ∷ mark 1 semicolon ∷ [])
@@ -75,13 +77,21 @@ structure : Programs (word 1 struct_word ∷ name 1 x ∷ mark 1 left_brace ∷ 
 structure =
     program.more_items (program.completes refl (tagged refl refl
     (last_member refl (members (int_in (mark 1 semicolon ∷ mark 1 right_brace ∷ mark 1 semicolon ∷ []))
-    (last_declarator refl (x_before_semicolon (mark 1 right_brace ∷ mark 1 semicolon ∷ []))))))) program.no_items
+    (last_field refl (whole_field (x_before_semicolon (mark 1 right_brace ∷ mark 1 semicolon ∷ []))
+    (λ e. omega (arith, e)))))))) program.no_items
 
--- `struct x { int x : ..`
-bit_field : (ts : List Tok) → HasBitField (word 1 struct_word ∷ name 1 x ∷ mark 1 left_brace ∷ word 1 int_word ∷
-    name 1 x ∷ mark 1 colon ∷ ts) 1
-bit_field ts = bits.in_words (in_tagged refl refl refl refl
-    (in_names (int_in (mark 1 colon ∷ ts)) (here refl (x_before_colon ts))))
+-- `x : 3, : 0;`
+abbrev three : Literal
+three = record { value = 3; decimal = true; unsigned = false; longs = 0 }
+
+bit_fields : (ts : List Tok) → Fields is_built_in_type
+    (name 1 x ∷ mark 1 colon ∷ number 1 three ∷ mark 1 comma ∷ mark 2 colon ∷ number 1 nought ∷ mark 1 semicolon ∷ ts)
+    ts (declarations.bits 1 (Some x) (expressions.number 1 three) ∷
+    declarations.bits 2 None (expressions.number 1 nought) ∷ [])
+bit_fields ts =
+    next_field refl (named_field refl refl (number_as_expr three
+    (mark 1 comma ∷ mark 2 colon ∷ number 1 nought ∷ mark 1 semicolon ∷ ts)))
+    (last_field refl (unnamed_field refl (number_as_expr nought (mark 1 semicolon ∷ ts))))
 
 -- `{x,}`
 trailing_comma : Given is_built_in_type (mark 1 left_brace ∷ name 1 x ∷ mark 1 comma ∷ mark 1 right_brace ∷ []) []
@@ -135,9 +145,6 @@ typedef_name =
     program.no_items)
 
 -- `int x(void) { return 0; }`
-abbrev nought : Literal
-nought = record { value = 0; decimal = false; unsigned = false; longs = 0 }
-
 function : Programs (word 1 int_word ∷ name 1 x ∷ mark 1 left_paren ∷ word 1 void_word ∷ mark 1 right_paren ∷
     mark 1 left_brace ∷ word 1 return_word ∷ number 1 nought ∷ mark 1 semicolon ∷ mark 1 right_brace ∷ [])
     (tree.defines (record {
@@ -152,7 +159,7 @@ function =
     number 1 nought ∷ mark 1 semicolon ∷ mark 1 right_brace ∷ [])) (void_alone refl refl))
     (braces refl
     (more_parts (statement (give_back refl (something refl
-    (assigns_not (chooses_not (number_at nought 10 1 (mark 1 semicolon ∷ mark 1 right_brace ∷ []) refl))))))
+    (number_as_expr nought (mark 1 semicolon ∷ mark 1 right_brace ∷ [])))))
     (no_parts refl)))))
     program.no_items
 
@@ -176,6 +183,10 @@ over (suc n) = expressions.unary 1 32 (over n)
 
 abbrev deep_statement : Stmt
 deep_statement = tree.evaluate 4 (Some (over 65))
+
+-- the width of a bit-field, by the line of its name
+width_line : in_field (declarations.bits 4 (Some x) (over 65)) ≡ Some 4
+width_line = refl
 
 -- a loop begins before its body, whose line counts where the loop's own test is not too deep
 do_first_line : in_stmt (tree.do_loop 3 deep_statement (over 65)) ≡ Some 3

@@ -33,7 +33,7 @@ use Rattle.ep_ast.specs.declared.statements.BlockItemTree.TheBlock.{hidden-the_r
 use Rattle.ep_ast.specs.declared.statements.BlockItemTree.TheBlock.{back-BlockItemTree-Arms-3}
 use Rattle.ep_ast.specs.Expression.{Exprs, expr, exprs, to_exprs, more_exprs}
 use Rattle.ep_ast.specs.Declaration.{Specs, Members, Values, spec_of, specs_of, to_specs, more_specs, member_of}
-use Rattle.ep_ast.specs.Declaration.{members_of, to_members, more_members, member, declarator, value_of, values_of}
+use Rattle.ep_ast.specs.Declaration.{members_of, to_members, more_members, member, member_field, value_of, values_of}
 use Rattle.ep_ast.specs.Declaration.{to_values, more_values}
 use Rattle.ep_ast.specs.Statement.{Stmts, Parts, stmt_of, stmts_of, to_stmts, more_stmts, part_of, parts_of, to_parts}
 use Rattle.ep_ast.specs.Statement.{more_parts, statements, held_stmts}
@@ -62,9 +62,9 @@ specs-row n (more_of-SpecTree e rest) = ap (λ (es : Specs). more_specs (spec_of
 members-row : (n : Count) (row : Row_of-MemberTree n) → members_of row ≡ to_members
     (map member_of (items-the_row-MemberTree n row))
 members-row n end_of-MemberTree = refl
-members-row n (more_of-MemberTree l shape ss ds rest) =
-    let m : MemberTree = record { line = l; specs = shown-the_row-SpecTree-0 shape ss; declarators = ds } in
-    ap (λ (xs : Specs). more_members (member l xs (map declarator ds.items)) (members_of rest))
+members-row n (more_of-MemberTree l shape ss fs rest) =
+    let m : MemberTree = record { line = l; specs = shown-the_row-SpecTree-0 shape ss; fields = fs } in
+    ap (λ (xs : Specs). more_members (member l xs (map member_field fs.items)) (members_of rest))
     (specs-row _ ss ∙ ap (λ (xs : List SpecTree). to_specs (map spec_of xs))
     (sym (items_shown-the_row-SpecTree-0 shape ss)))
     ∙ ap (λ (ms : Members). more_members (member_of m) ms) (members-row _ rest)

@@ -3,6 +3,8 @@ use Rattle.std.specs.Prelude.{ℕ, List, [], ◌∷◌, map, Option}
 use Rattle.std.specs.Global.{Vec}
 use Rattle.std.specs.Option.{option_map}
 use Rattle.ep_ast.specs.declared.declarations.DeclaratorTree.{DeclaratorTree}
+use Rattle.ep_ast.specs.declared.declarations.MemberFieldTree.{MemberFieldTree}
+use Rattle.ep_ast.specs.declared.declarations.MemberFieldTree.TheVariants as fields
 use Rattle.ep_ast.specs.declared.declarations.SpecTree.{SpecTree, Plain, Body', Row_of-MemberTree, end_of-MemberTree}
 use Rattle.ep_ast.specs.declared.declarations.SpecTree.{more_of-MemberTree}
 use Rattle.ep_ast.specs.declared.declarations.AggregateTree.{AggregateTree}
@@ -39,6 +41,15 @@ declarator d = record {
 abbrev pub text_of : Vec ℕ → List ℕ
 text_of v = v.items
 
+-- a member's name with its derivations, or a bit-field: perhaps a name, and its width (C11 6.7.2.1)
+pub data MemberField : Type 0 where
+  whole : Declarator → MemberField
+  bits : (line : ℕ) (name : Option (List ℕ)) (width : expressions.Expr) → MemberField
+
+abbrev pub member_field : MemberFieldTree → MemberField
+member_field (fields.Whole d) = whole (declarator d)
+member_field (fields.Bits l n e) = bits l (option_map text_of n) (expr e)
+
 mutual
   -- a type word, or a `struct` or `union` with its members
   pub data Spec : Type 0 where
@@ -53,7 +64,7 @@ mutual
     aggregate : (line code : ℕ) (tag : Option (List ℕ)) (members : Members) → Aggregate
 
   pub data Member : Type 0 where
-    member : (line : ℕ) (specs : Specs) (declarators : List Declarator) → Member
+    member : (line : ℕ) (specs : Specs) (fields : List MemberField) → Member
 
   pub data Members : Type 0 where
     no_members : Members
@@ -78,11 +89,11 @@ abbrev mutual
 
   pub members_of : {m : _} → Row_of-MemberTree m → Members
   members_of end_of-MemberTree = no_members
-  members_of (more_of-MemberTree l shape ss ds rest) =
-      more_members (member l (specs_of ss) (map declarator ds.items)) (members_of rest)
+  members_of (more_of-MemberTree l shape ss fs rest) =
+      more_members (member l (specs_of ss) (map member_field fs.items)) (members_of rest)
 
 abbrev pub member_of : MemberTree → Member
-member_of m = member m.line (to_specs (map spec_of m.specs.items)) (map declarator m.declarators.items)
+member_of m = member m.line (to_specs (map spec_of m.specs.items)) (map member_field m.fields.items)
 
 abbrev pub aggregate_of : AggregateTree → Aggregate
 aggregate_of a = aggregate a.line (word_number a.word) (option_map text_of a.tag)

@@ -7,10 +7,10 @@ use Rattle.ep_ast.specs.Token.{Tok, word, name, mark}
 use Rattle.ep_ast.specs.Expression as expressions
 use Rattle.ep_ast.specs.Expression.{TypeWord}
 use Rattle.ep_ast.specs.Declaration as tree
-use Rattle.ep_ast.specs.Declaration.{Declarator, Spec, Aggregate, Member, to_members, Value, to_values, Init}
-use Rattle.ep_ast.specs.Declaration.{Declaration, Param, Params, Head}
+use Rattle.ep_ast.specs.Declaration.{Declarator, MemberField, Spec, Aggregate, Member, to_members, Value, to_values}
+use Rattle.ep_ast.specs.Declaration.{Init, Declaration, Param, Params, Head}
 use Rattle.ep_ast.specs.Mark.{void_word, inline_word, static_word, left_paren, right_paren, left_bracket, right_bracket}
-use Rattle.ep_ast.specs.Mark.{left_brace, right_brace, comma, semicolon, equal}
+use Rattle.ep_ast.specs.Mark.{left_brace, right_brace, colon, comma, semicolon, equal}
 use Rattle.ep_ast.specs.TypeWords.{Bag, no_bag, with_whole, joined, fits, is_no_bag, is_tag_word, OneWord, begins_type}
 use Rattle.ep_ast.specs.TypeWords.{AreType, AreStars, words_line}
 use Rattle.ep_ast.specs.Grammar.{expr, Derives}
@@ -35,6 +35,26 @@ pub data Declared (is_type : List ℕ → Bool) : List Tok → List Tok → Decl
       → is_type text ≡ false
       → AreStars xs (name l text ∷ ys) ns → Bounds is_type ys zs bs
       → Declared is_type xs zs (record { line = l; stars = ns; name = text; bounds = bs })
+
+-- ---- what members declare
+
+-- A declarator, or a bit-field: perhaps a name that is no type's, and its width behind the `:`. The line of a bit-field
+-- without a name is that of the `:`.
+pub data OneField (is_type : List ℕ → Bool) : List Tok → List Tok → MemberField → Type 0 where
+  whole_field : {xs ys : List Tok} {d : Declarator} → Declared is_type xs ys d → Lacks colon ys
+      → OneField is_type xs ys (tree.whole d)
+  named_field : {l m c : ℕ} {text : List ℕ} {xs ys : List Tok} {e : expressions.Expr} → is_type text ≡ false
+      → c ≡ colon → Derives is_type expr xs ys e
+      → OneField is_type (name l text ∷ mark m c ∷ xs) ys (tree.bits l (Some text) e)
+  unnamed_field : {l c : ℕ} {xs ys : List Tok} {e : expressions.Expr} → c ≡ colon → Derives is_type expr xs ys e
+      → OneField is_type (mark l c ∷ xs) ys (tree.bits l None e)
+
+-- one or more, with commas between them, up to and with the semicolon
+pub data Fields (is_type : List ℕ → Bool) : List Tok → List Tok → List MemberField → Type 0 where
+  last_field : {l c : ℕ} {xs ys : List Tok} {f : MemberField} → c ≡ semicolon → OneField is_type xs (mark l c ∷ ys) f
+      → Fields is_type xs ys (f ∷ [])
+  next_field : {l c : ℕ} {xs ys zs : List Tok} {f : MemberField} {fs : List MemberField} → c ≡ comma
+      → OneField is_type xs (mark l c ∷ ys) f → Fields is_type ys zs fs → Fields is_type xs zs (f ∷ fs)
 
 -- ---- the words that begin a declaration
 
@@ -125,16 +145,9 @@ mutual
         → Members is_type ys zs ms → Members is_type xs zs (m ∷ ms)
 
   pub data OneMember (is_type : List ℕ → Bool) : List Tok → List Tok → Member → Type 0 where
-    members : {xs ys zs : List Tok} {ss : List Spec} {ds : List Declarator}
-        → Specified is_type in_aggregate xs ys ss → Declarators is_type ys zs ds
-        → OneMember is_type xs zs (tree.member (specs_line ss) (tree.to_specs ss) ds)
-
-  -- one or more, with commas between them, up to and with the semicolon
-  pub data Declarators (is_type : List ℕ → Bool) : List Tok → List Tok → List Declarator → Type 0 where
-    last_declarator : {l c : ℕ} {xs ys : List Tok} {d : Declarator} → c ≡ semicolon
-        → Declared is_type xs (mark l c ∷ ys) d → Declarators is_type xs ys (d ∷ [])
-    next_declarator : {l c : ℕ} {xs ys zs : List Tok} {d : Declarator} {ds : List Declarator} → c ≡ comma
-        → Declared is_type xs (mark l c ∷ ys) d → Declarators is_type ys zs ds → Declarators is_type xs zs (d ∷ ds)
+    members : {xs ys zs : List Tok} {ss : List Spec} {fs : List MemberField}
+        → Specified is_type in_aggregate xs ys ss → Fields is_type ys zs fs
+        → OneMember is_type xs zs (tree.member (specs_line ss) (tree.to_specs ss) fs)
 
 -- ---- initialisers
 

@@ -6,9 +6,9 @@ use Rattle.std.specs.List.{list_any}
 use Rattle.ep_ast.specs.Token.{Tok, mark, if_little, if_big, end_if, line_of}
 use Rattle.ep_ast.specs.Expression as expressions
 use Rattle.ep_ast.specs.Declaration as declarations
-use Rattle.ep_ast.specs.Declaration.{Declarator, Spec, Specs, no_specs, more_specs, Aggregate, Member, Members}
-use Rattle.ep_ast.specs.Declaration.{no_members, more_members, Value, Values, no_values, more_values, Init, Declaration}
-use Rattle.ep_ast.specs.Declaration.{Typedef, Param, Params, Head}
+use Rattle.ep_ast.specs.Declaration.{Declarator, MemberField, Spec, Specs, no_specs, more_specs, Aggregate, Member}
+use Rattle.ep_ast.specs.Declaration.{Members, no_members, more_members, Value, Values, no_values, more_values, Init}
+use Rattle.ep_ast.specs.Declaration.{Declaration, Typedef, Param, Params, Head}
 use Rattle.ep_ast.specs.Statement as tree
 use Rattle.ep_ast.specs.Statement.{First, Stmt, Stmts, no_stmts, more_stmts, Part, Parts, no_parts, more_parts}
 use Rattle.ep_ast.specs.Statement.{to_parts, Block, Function, Item}
@@ -55,6 +55,10 @@ are_deep ns bs = nat_lt 64 (length ns + length bs) || list_any is_deep_if bs
 abbrev pub in_declarator : Declarator → Option ℕ
 in_declarator d = line_if (are_deep d.stars d.bounds) d.line
 
+abbrev pub in_field : MemberField → Option ℕ
+in_field (declarations.whole d) = in_declarator d
+in_field (declarations.bits l n e) = line_if (is_too_deep e) l
+
 abbrev mutual
   pub in_spec : Spec → Option ℕ
   in_spec (declarations.plain w) = None
@@ -68,7 +72,7 @@ abbrev mutual
   in_aggregate (declarations.aggregate l c tag ms) = in_members ms
 
   pub in_member : Member → Option ℕ
-  in_member (declarations.member l ss ds) = or_else (in_specs ss) (first_of in_declarator ds)
+  in_member (declarations.member l ss fs) = or_else (in_specs ss) (first_of in_field fs)
 
   pub in_members : Members → Option ℕ
   in_members no_members = None

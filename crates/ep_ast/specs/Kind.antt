@@ -102,6 +102,9 @@ stray_jump = 47
 abbrev pub call_depth : ℕ
 call_depth = 48
 
+abbrev pub bit_field_place : ℕ
+bit_field_place = 51
+
 abbrev pub number_of : RefusalKind → ℕ
 number_of variants.Byte = byte
 number_of variants.Comment = comment
@@ -136,6 +139,7 @@ number_of variants.NotConstant = not_constant
 number_of variants.NoDefinition = no_definition
 number_of variants.StrayJump = stray_jump
 number_of variants.CallDepth = call_depth
+number_of variants.BitFieldPlace = bit_field_place
 
 -- the kind of a number; of any other number the last one
 abbrev pub kind_of : ℕ → RefusalKind
@@ -172,7 +176,8 @@ kind_of n =
     else if n == not_constant then variants.NotConstant
     else if n == no_definition then variants.NoDefinition
     else if n == stray_jump then variants.StrayJump
-    else variants.CallDepth
+    else if n == call_depth then variants.CallDepth
+    else variants.BitFieldPlace
 
 pub kind_of_number : (k : RefusalKind) → kind_of (number_of k) ≡ k
 kind_of_number variants.Byte = refl
@@ -208,6 +213,7 @@ kind_of_number variants.NotConstant = refl
 kind_of_number variants.NoDefinition = refl
 kind_of_number variants.StrayJump = refl
 kind_of_number variants.CallDepth = refl
+kind_of_number variants.BitFieldPlace = refl
 
 -- A refusal: its kind, its line, and for a reserved word the number of the word, else 0.
 pub record Refused : Type 0 where

@@ -15,6 +15,5 @@ pub mod Reading
 pub mod DeclarationGrammar
 pub mod StatementGrammar
 pub mod ProgramGrammar
-pub mod BitField
 pub mod Depth
 pub mod Offence

@@ -5,18 +5,16 @@ use Rattle.ep_ast.specs.declared.refusals.Refusal.{Refusal}
 use Rattle.ep_ast.specs.Token.{Tok}
 use Rattle.ep_ast.specs.Statement.{Item}
 use Rattle.ep_ast.specs.ProgramGrammar.{Programs}
-use Rattle.ep_ast.specs.BitField.{HasBitField}
 use Rattle.ep_ast.specs.Depth.{brackets_past, too_deep}
 
 abbrev pub refusal : (kind line : ℕ) → Refusal
 refusal k l = record { kind = k; line = l; word = 0 }
 
--- The tokens offend so. Brackets come first, then bit-fields and what is no program at all, then what is too deep in a
--- program. Of what is no program no line is said here.
+-- The tokens offend so. Brackets come first, then what is no program at all, then what is too deep in a program. Of
+-- what is no program no line is said here.
 pub data Offends (ts : List Tok) : Refusal → Type 0 where
   too_many_brackets : {l : ℕ} → brackets_past 0 ts ≡ Some l → Offends ts (refusal kinds.nesting l)
-  bit_field : {l : ℕ} → brackets_past 0 ts ≡ None → HasBitField ts l → Offends ts (refusal kinds.bit_field l)
-  no_program : {l : ℕ} → brackets_past 0 ts ≡ None → ((k : ℕ) → HasBitField ts k → ⊥)
-      → ((is : List Item) → Programs ts is → ⊥) → Offends ts (refusal kinds.syntax l)
+  no_program : {l : ℕ} → brackets_past 0 ts ≡ None → ((is : List Item) → Programs ts is → ⊥)
+      → Offends ts (refusal kinds.syntax l)
   too_deep_inside : {l : ℕ} {is : List Item} → brackets_past 0 ts ≡ None → Programs ts is → too_deep is ≡ Some l
       → Offends ts (refusal kinds.nesting l)

@@ -42,6 +42,7 @@ kind_name k =
     else if k == kinds.no_definition then codes "no-definition"
     else if k == kinds.stray_jump then codes "stray-jump"
     else if k == kinds.call_depth then codes "call-depth"
+    else if k == kinds.bit_field_place then codes "bit-field-place"
     else []
 
 abbrev pub word_part : Refusal → List ℕ

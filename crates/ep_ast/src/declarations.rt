@@ -35,13 +35,21 @@ pub struct AggregateTree {
     pub members: Vec<MemberTree>,
 }
 
+/// What a member declares: a name with its derivations, or a bit-field, perhaps with a name, and its width. The line of
+/// a bit-field is that of its name, or of its `:` where it has none.
+#[derive(Debug, Drop)]
+pub enum MemberFieldTree {
+    Whole(DeclaratorTree),
+    Bits(u32, Option<Vec<u8>>, ExprTree),
+}
+
 /// One or more members of a `struct` or `union`.
 #[derive(Debug, Drop)]
 #[cycle(specs)]
 pub struct MemberTree {
     pub line: u32,
     pub specs: Vec<SpecTree>,
-    pub declarators: Vec<DeclaratorTree>,
+    pub fields: Vec<MemberFieldTree>,
 }
 
 /// What an initialiser gives: an expression, or a list in braces.

@@ -52,6 +52,8 @@ pub enum RefusalKind {
     StrayJump,
     /// More than 256 statements inside one another along calls.
     CallDepth,
+    /// A bit-field that is neither a whole right side nor a whole left one.
+    BitFieldPlace,
 }
 
 impl RefusalKind {
@@ -93,6 +95,7 @@ impl RefusalKind {
             RefusalKind::NoDefinition => 46,
             RefusalKind::StrayJump => 47,
             RefusalKind::CallDepth => 48,
+            RefusalKind::BitFieldPlace => 51,
         }
     }
 
@@ -134,6 +137,7 @@ impl RefusalKind {
             RefusalKind::NoDefinition => b"no-definition",
             RefusalKind::StrayJump => b"stray-jump",
             RefusalKind::CallDepth => b"call-depth",
+            RefusalKind::BitFieldPlace => b"bit-field-place",
         }
     }
 }

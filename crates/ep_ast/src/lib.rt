@@ -11,8 +11,8 @@ mod statements;
 mod words;
 
 pub use declarations::{
-    AggregateTree, DeclarationTree, DeclaratorTree, HeadTree, InitTree, MemberTree, ParamTree,
-    ParamsTree, SpecTree, TypedefTree, ValueTree,
+    AggregateTree, DeclarationTree, DeclaratorTree, HeadTree, InitTree, MemberFieldTree,
+    MemberTree, ParamTree, ParamsTree, SpecTree, TypedefTree, ValueTree,
 };
 pub use expressions::{ExprTree, Literal, TypeNameTree, TypeWordTree};
 pub use kinds::RefusalKind;

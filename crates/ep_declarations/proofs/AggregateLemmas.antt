@@ -1,6 +1,6 @@
 -- The next word, by how it begins: a `struct` or `union` with its members, `static` or `inline`, or a word of a type.
 use Rattle.std.proofs.Common.{◌≡◌, ℕ, Bool, true, false, List, ◌∷◌, Option, Some, None, refl, sym, ap, subst, ◌∙◌}
-use Rattle.std.proofs.Common.{arith, inl}
+use Rattle.std.proofs.Common.{arith}
 use Rattle.std.specs.Prelude.{◌==◌, ◌&&◌, Err}
 use Rattle.std.proofs.lemmas.Bool.Decides.{nat_tests}
 use Rattle.ep_ast.specs.Token.{Tok, word, name, mark}
@@ -12,15 +12,12 @@ use Rattle.ep_ast.specs.TypeWords.{Bag, with_word, with_whole, joined, fits, is_
 use Rattle.ep_ast.specs.TypeWords.{plain_word, tag as tag_name, begins_type}
 use Rattle.ep_ast.specs.DeclarationGrammar.{Context, has_bodies, has_storage, is_storage_word, begins_spec, type_word}
 use Rattle.ep_ast.specs.DeclarationGrammar.{storage, with_members, Aggregated, tagged, untagged, Members}
-use Rattle.ep_ast.specs.BitField.{InMembers}
-use Rattle.ep_ast.specs.Reading.{Takes, TakesNone, Lacks, AtMark}
+use Rattle.ep_ast.specs.Reading.{Takes, TakesNone, Stops, Lacks, AtMark}
 use Rattle.ep_ast.specs.declared.refusals.Halt.{Halt}
 use Rattle.ep_ast.specs.declared.refusals.Halt.TheVariants as halts
 use Rattle.ep_type_names.specs.Words.{OneRead}
 use Rattle.ep_type_names.proofs.TypeWordLemmas.{apart, one_begins}
-use Rattle.ep_reading.specs.Answer.{Clear, Fails}
 use Rattle.ep_declarations.specs.SpecAhead.{Ahead, over, fitting, begins_storage, begins_body, Opens}
-use Rattle.ep_declarations.specs.SpecAhead.{InAggregate, in_tagged, in_untagged, InBody}
 use Rattle.ep_declarations.proofs.SpecLemmas.{tag_begins, type_begins, begins_neither, one_spec_begins}
 
 -- ---- words of different kinds
@@ -52,23 +49,6 @@ module _ (N : List ℕ → Bool) where
       → Members N us zs ms → Aggregated N ts zs (aggregate l c tag (to_members ms))
   opens_aggregated l c None us ts zs ms o d = rw o.4 (untagged o.3 o.2 d)
   opens_aggregated l c (Some text) us ts zs ms o d = rw o.5 (tagged o.4 o.3 d)
-
-  opens_in : (l c : ℕ) (tag : Option (List ℕ)) (us ts : List Tok) (m : ℕ) → Opens l c tag us ts → InMembers N us m
-      → InAggregate N ts m
-  opens_in l c None us ts m o i = rw o.4 (in_untagged o.3 o.2 i)
-  opens_in l c (Some text) us ts m o i = rw o.5 (in_tagged o.4 o.3 i)
-
-  untagged_in : {l c p d m : ℕ} {us : List Tok} → InAggregate N (word l c ∷ mark p d ∷ us) m → InMembers N us m
-  untagged_in (in_untagged t e i) = i
-
-  tagged_in : {l c n p d m : ℕ} {text : List ℕ} {us : List Tok}
-      → InAggregate N (word l c ∷ name n text ∷ mark p d ∷ us) m → InMembers N us m
-  tagged_in (in_tagged t e i) = i
-
-  in_opens : (l c : ℕ) (tag : Option (List ℕ)) (us ts : List Tok) (m : ℕ) → Opens l c tag us ts → InAggregate N ts m
-      → InMembers N us m
-  in_opens l c None us ts m o i = untagged_in (rw o.4 at i)
-  in_opens l c (Some text) us ts m o i = tagged_in (rw o.5 at i)
 
   -- what reads such a beginning
   pub record Within (k : Context) (b : Bag) (l c : ℕ) (tag : Option (List ℕ)) (us zs : List Tok) (o : Option Spec) : Type
@@ -107,56 +87,34 @@ module _ (N : List ℕ → Bool) where
   body_is l c tag ms ns e = ap (λ (xs : List Member). Some (body (aggregate l c tag (to_members xs)))) e
 
   pub body_taken : (k : Context) (b : Bag) (l c : ℕ) (tag : Option (List ℕ)) (us ts zs : List Tok) (ms : List Member)
-      → Opens l c tag us ts → has_bodies k ≡ true → fits (with_whole b) ≡ true
-      → Takes (Members N) us ms zs → Clear (InMembers N) us
-      → Takes (Ahead N k b) ts (Some (body (aggregate l c tag (to_members ms)))) zs × Clear (InBody N k b) ts
-  body_taken k b l c tag us ts zs ms o h f t n = (
-    record {
-      holds = fitting (with_members h (opens_aggregated l c tag us ts zs ms o t.holds)) f;
-      only = λ u vs d. let w = within k b l c tag us ts vs u o d in let q = t.only w.all vs w.inside in
-          (w.is ∙ body_is l c tag ms w.all q.0, q.1);
-    },
-    λ m i. n m (in_opens l c tag us ts m o i.2),
-  )
+      → Opens l c tag us ts → has_bodies k ≡ true → fits (with_whole b) ≡ true → Takes (Members N) us ms zs
+      → Takes (Ahead N k b) ts (Some (body (aggregate l c tag (to_members ms)))) zs
+  body_taken k b l c tag us ts zs ms o h f t = record {
+    holds = fitting (with_members h (opens_aggregated l c tag us ts zs ms o t.holds)) f;
+    only = λ u vs d. let w = within k b l c tag us ts vs u o d in let q = t.only w.all vs w.inside in
+        (w.is ∙ body_is l c tag ms w.all q.0, q.1);
+  }
 
   pub body_none : (k : Context) (b : Bag) (l c : ℕ) (tag : Option (List ℕ)) (us ts : List Tok) → Opens l c tag us ts
-      → TakesNone (Members N) us → Clear (InMembers N) us
-      → TakesNone (Ahead N k b) ts × Clear (InBody N k b) ts
-  body_none k b l c tag us ts o t n = (
-    record { never = λ u vs d. let w = within k b l c tag us ts vs u o d in t.never w.all vs w.inside },
-    λ m i. n m (in_opens l c tag us ts m o i.2),
-  )
-
-  pub body_in : (k : Context) (b : Bag) (l c : ℕ) (tag : Option (List ℕ)) (us ts : List Tok) → Opens l c tag us ts
-      → has_bodies k ≡ true → fits (with_whole b) ≡ true → (m : ℕ) → InMembers N us m → InBody N k b ts m
-  body_in k b l c tag us ts o h f m i = (h, f, opens_in l c tag us ts m o i)
+      → TakesNone (Members N) us → TakesNone (Ahead N k b) ts
+  body_none k b l c tag us ts o t =
+      record { never = λ u vs d. let w = within k b l c tag us ts vs u o d in t.never w.all vs w.inside }
 
   pub no_bodies : (k : Context) (b : Bag) (l c : ℕ) (tag : Option (List ℕ)) (us ts : List Tok) → Opens l c tag us ts
-      → has_bodies k ≡ false → TakesNone (Ahead N k b) ts × Clear (InBody N k b) ts
-  no_bodies k b l c tag us ts o h = (
-    record { never = λ u vs d. let w = within k b l c tag us ts vs u o d in let g = w.may in cc },
-    λ m i. let g = i.0 in cc,
-  )
+      → has_bodies k ≡ false → TakesNone (Ahead N k b) ts
+  no_bodies k b l c tag us ts o h =
+      record { never = λ u vs d. let w = within k b l c tag us ts vs u o d in let g = w.may in cc }
 
   pub unfit_body : (k : Context) (b : Bag) (l c : ℕ) (tag : Option (List ℕ)) (us ts : List Tok) → Opens l c tag us ts
-      → fits (with_whole b) ≡ false → TakesNone (Ahead N k b) ts × Clear (InBody N k b) ts
-  unfit_body k b l c tag us ts o h = (
-    record { never = λ u vs d. let w = within k b l c tag us ts vs u o d in let g = w.fit in cc },
-    λ m i. let g = i.1 in cc,
-  )
+      → fits (with_whole b) ≡ false → TakesNone (Ahead N k b) ts
+  unfit_body k b l c tag us ts o h =
+      record { never = λ u vs d. let w = within k b l c tag us ts vs u o d in let g = w.fit in cc }
 
   -- ---- where no such beginning stands
 
   aggregated_begins : {ts zs : List Tok} {a : Aggregate} → Aggregated N ts zs a → begins_body ts ≡ true
   aggregated_begins (tagged {c = c} {d = d} t e m) = body_test c d t e
   aggregated_begins (untagged {c = c} {d = d} t e m) = body_test c d t e
-
-  in_begins : {ts : List Tok} {m : ℕ} → InAggregate N ts m → begins_body ts ≡ true
-  in_begins (in_tagged {c = c} {d = d} t e i) = body_test c d t e
-  in_begins (in_untagged {c = c} {d = d} t e i) = body_test c d t e
-
-  pub plain_clear : (k : Context) (b : Bag) (ts : List Tok) → begins_body ts ≡ false → Clear (InBody N k b) ts
-  plain_clear k b ts h m i = let g = in_begins i.2 in cc
 
   storage_only : {k : Context} {b : Bag} {l c : ℕ} {us zs : List Tok} {o : Option Spec}
       → begins_body (word l c ∷ us) ≡ false → has_storage k ≡ true → is_storage_word c ≡ true
@@ -169,8 +127,8 @@ module _ (N : List ℕ → Bool) where
   storage_only p h i (fitting (storage j e) f) = (refl, refl)
   storage_only p h i (fitting (with_members j a) f) = let g = aggregated_begins a in absurd cc
 
-  pub storage_taken : (k : Context) (b : Bag) (l c : ℕ) (us ts : List Tok) → begins_body ts ≡ false → has_storage k ≡ true
-      → is_storage_word c ≡ true → ts ≡ word l c ∷ us → fits b ≡ true
+  pub storage_taken : (k : Context) (b : Bag) (l c : ℕ) (us ts : List Tok) → begins_body ts ≡ false
+      → has_storage k ≡ true → is_storage_word c ≡ true → ts ≡ word l c ∷ us → fits b ≡ true
       → Takes (Ahead N k b) ts (Some (plain (expressions.word l c))) us
   storage_taken k b l c us ts p h i e f =
       let g : fits (with_word b c) ≡ true = rw (storage_joins c b i) f in
@@ -238,7 +196,6 @@ module _ (N : List ℕ → Bool) where
   word_stuck k b ts p s n h = record { never = λ u zs d. let a = alone p s h d in n.never a.one zs a.reads }
 
   pub word_halts : (k : Context) (b : Bag) (ts : List Tok) (e : Halt) → begins_body ts ≡ false
-      → begins_storage k ts ≡ false → OneRead N ts (Err e)
-      → Fails (Ahead N k b) (InBody N k b) ts e
-  word_halts k b ts (halts.Refused f) p s h = inl (word_stuck k b ts p s h.0 h.1, plain_clear k b ts p, h.2)
+      → begins_storage k ts ≡ false → OneRead N ts (Err e) → Stops (Ahead N k b) ts e
+  word_halts k b ts (halts.Refused f) p s h = (word_stuck k b ts p s h.0 h.1, h.2)
   word_halts k b ts halts.Memory p s h = tt

@@ -4,6 +4,7 @@ pub mod DeclaratorLemmas
 pub mod TypedefLemmas
 pub mod ValueLemmas
 pub mod InitLemmas
+pub mod FieldLemmas
 pub mod ParameterLemmas
 pub mod VariableLemmas
 pub mod HeadLemmas

@@ -1,8 +1,8 @@
 -- The first that is too deep in a member, and a body alone.
 use Rattle.std.proofs.Common.{◌≡◌, ℕ, true, false, List, [], ◌∷◌, ◌++◌, Option, Some, None, refl, ap}
 use Rattle.std.specs.Prelude.{◌&&◌}
-use Rattle.ep_ast.specs.Declaration.{Spec, plain, body, Aggregate, Member, member, to_specs, to_members, Declarator}
-use Rattle.ep_ast.specs.Depth.{or_else, first_of, in_spec, in_specs, in_member, in_members, in_declarator}
+use Rattle.ep_ast.specs.Declaration.{Spec, plain, body, Aggregate, Member, member, to_specs, to_members, MemberField}
+use Rattle.ep_ast.specs.Depth.{or_else, first_of, in_spec, in_specs, in_member, in_members, in_field}
 use Rattle.ep_declarations.specs.Answer.{is_body, is_one_body}
 use Rattle.ep_declarations.specs.SpecAhead.{are_none}
 
@@ -16,19 +16,19 @@ in_specs_is (s ∷ ss) = ap (λ (o : Option ℕ). or_else (in_spec s) o) (in_spe
 
 -- ---- one member
 
-pub member_fits : (us ss : List Spec) (vs ds : List Declarator) (l : ℕ) (line : List Spec → ℕ) → l ≡ line us
-    → (us ≡ ss) × (first_of in_spec ss ≡ None) → (vs ≡ ds) × (first_of in_declarator ds ≡ None)
-    → (member l (to_specs us) vs ≡ member (line ss) (to_specs ss) ds)
-    × (or_else (in_specs (to_specs ss)) (first_of in_declarator ds) ≡ None)
-member_fits us ss vs ds l line e h k = (rw (e, h.0, k.0) refl, rw (in_specs_is ss, h.1, k.1) refl)
+pub member_fits : (us ss : List Spec) (vs fs : List MemberField) (l : ℕ) (line : List Spec → ℕ) → l ≡ line us
+    → (us ≡ ss) × (first_of in_spec ss ≡ None) → (vs ≡ fs) × (first_of in_field fs ≡ None)
+    → (member l (to_specs us) vs ≡ member (line ss) (to_specs ss) fs)
+    × (or_else (in_specs (to_specs ss)) (first_of in_field fs) ≡ None)
+member_fits us ss vs fs l line e h k = (rw (e, h.0, k.0) refl, rw (in_specs_is ss, h.1, k.1) refl)
 
-pub names_deep : (ss : List Spec) (ds : List Declarator) (l : ℕ) → first_of in_spec ss ≡ None
-    → first_of in_declarator ds ≡ Some l → or_else (in_specs (to_specs ss)) (first_of in_declarator ds) ≡ Some l
-names_deep ss ds l h k = rw (in_specs_is ss, h, k) refl
+pub fields_deep : (ss : List Spec) (fs : List MemberField) (l : ℕ) → first_of in_spec ss ≡ None
+    → first_of in_field fs ≡ Some l → or_else (in_specs (to_specs ss)) (first_of in_field fs) ≡ Some l
+fields_deep ss fs l h k = rw (in_specs_is ss, h, k) refl
 
-pub words_deep : (ss : List Spec) (ds : List Declarator) (l : ℕ) → first_of in_spec ss ≡ Some l
-    → or_else (in_specs (to_specs ss)) (first_of in_declarator ds) ≡ Some l
-words_deep ss ds l h = rw (in_specs_is ss, h) refl
+pub words_deep : (ss : List Spec) (fs : List MemberField) (l : ℕ) → first_of in_spec ss ≡ Some l
+    → or_else (in_specs (to_specs ss)) (first_of in_field fs) ≡ Some l
+words_deep ss fs l h = rw (in_specs_is ss, h) refl
 
 -- ---- a body alone
 

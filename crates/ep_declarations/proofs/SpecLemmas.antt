@@ -3,33 +3,19 @@ use Rattle.std.proofs.Common.{◌≡◌, ℕ, Bool, true, false, List, [], ◌�
 use Rattle.ep_type_names.proofs.TypeWordLemmas.{are_type, is_not}
 use Rattle.ep_int.proofs.Basics.{some-injective}
 use Rattle.std.proofs.lemmas.Bool.{and_parts, or_from, or_left, or_right}
-use Rattle.std.proofs.Common.{append_assoc, inl, inr}
+use Rattle.std.proofs.Common.{append_assoc}
 use Rattle.std.specs.Prelude.{◌&&◌, ◌||◌, not}
 use Rattle.std.proofs.lemmas.List.{append-nil}
 use Rattle.ep_ast.specs.Token.{Tok, word, name, number, mark, if_little, if_big, other, end_if}
 use Rattle.ep_ast.specs.Declaration.{Spec, plain, body}
-use Rattle.ep_ast.specs.TypeWords.{Bag, no_bag, with_whole, fits, is_no_bag, is_type_word, is_tag_word, begins_type}
-use Rattle.ep_ast.specs.DeclarationGrammar.{Context, has_bodies, has_storage, is_storage_word, spec_joined, specs_joined}
+use Rattle.ep_ast.specs.TypeWords.{Bag, no_bag, fits, is_no_bag, is_type_word, is_tag_word, begins_type}
+use Rattle.ep_ast.specs.DeclarationGrammar.{Context, has_storage, is_storage_word, spec_joined, specs_joined}
 use Rattle.ep_ast.specs.DeclarationGrammar.{name_type, begins_spec, OneSpec, type_word, storage, with_members, Specs}
 use Rattle.ep_ast.specs.DeclarationGrammar.{no_specs, more_specs, Specified, specified, tagged, untagged}
-use Rattle.ep_ast.specs.BitField as bits
-use Rattle.ep_ast.specs.BitField.{InSpecs, after_word}
 use Rattle.ep_ast.specs.Reading.{Takes, TakesNone}
-use Rattle.ep_ast.specs.declared.refusals.Halt.{Halt}
-use Rattle.ep_ast.specs.declared.refusals.Halt.TheVariants as halts
-use Rattle.ep_reading.specs.Answer.{Clear, Fails}
 use Rattle.ep_type_names.proofs.TypeWordLemmas.{less_joined, less_whole, one_begins}
 use Rattle.ep_declarations.specs.SpecAhead as ahead
-use Rattle.ep_declarations.specs.SpecAhead.{Ahead, over, fitting, InBody}
-
--- what fails in a part fails in the whole
-pub passes : {S T : Type 0} (P : List Tok → List Tok → S → Type 0) (B : List Tok → ℕ → Type 0)
-    (Q : List Tok → List Tok → T → Type 0) (C : List Tok → ℕ → Type 0) (ys xs : List Tok) (e : Halt)
-    → (TakesNone P ys → Clear B ys → TakesNone Q xs × Clear C xs) → ((l : ℕ) → B ys l → C xs l) → Fails P B ys e
-    → Fails Q C xs e
-passes P B Q C ys xs (halts.Refused f) g h q =
-    elim q [ inl r ↦ (let s = g r.0 r.1 in inl (s.0, s.1, r.2)) | inr r ↦ inr (h f.line r.0, r.1, r.2) ]
-passes P B Q C ys xs halts.Memory g h q = tt
+use Rattle.ep_declarations.specs.SpecAhead.{Ahead, over, fitting}
 
 -- ---- bags
 
@@ -111,13 +97,6 @@ module _ (N : List ℕ → Bool) where
   one_spec_begins (with_members {k = k} h (untagged {c = c} t d m)) =
       tag_begins c (has_storage k && is_storage_word c) t
 
-  pub not_in_specs : {k : Context} {b : Bag} {xs : List Tok} {l : ℕ} → begins_spec N k xs ≡ false → InSpecs N k b xs l → ⊥
-  not_in_specs n (after_word d f i) = let h = one_spec_begins d in cc
-  not_in_specs n (bits.in_tagged {k = k} {c = c} h f t d i) =
-      let g = tag_begins c (has_storage k && is_storage_word c) t in cc
-  not_in_specs n (bits.in_untagged {k = k} {c = c} h f t d i) =
-      let g = tag_begins c (has_storage k && is_storage_word c) t in cc
-
   pub not_specified : {k : Context} {xs ys : List Tok} {ss : List Spec} → begins_spec N k xs ≡ false
       → Specified N k xs ys ss → ⊥
   not_specified n (specified h (no_specs m)) = cc
@@ -125,24 +104,15 @@ module _ (N : List ℕ → Bool) where
 
   -- ---- words
 
-  -- these are read, and what comes are words again, with the same bit-fields
+  -- these are read, and what comes are words again
   pub record SpecsSo (k : Context) (xs : List Tok) (front : List Spec) (b : Bag) (ys : List Tok) : Type 0 where
     pub forth : (zs : List Tok) (ss : List Spec) → Specs N k ys zs ss → Specs N k xs zs (front ++ ss)
     pub back : (zs : List Tok) (ss : List Spec) → Specs N k xs zs ss → fits (specs_joined no_bag ss) ≡ true
         → (more : List Spec) × (ss ≡ front ++ more) × Specs N k ys zs more
-    pub within : (l : ℕ) → InSpecs N k b ys l → InSpecs N k no_bag xs l
-    pub clear : (l : ℕ) → InSpecs N k no_bag xs l → InSpecs N k b ys l
     pub joined : b ≡ specs_joined no_bag front
 
   pub specs_begin : (k : Context) (xs : List Tok) → SpecsSo k xs [] no_bag xs
-  specs_begin k xs =
-      record {
-        forth = λ zs ss d. d;
-        back = λ zs ss d h. (ss, refl, d);
-        within = λ l i. i;
-        clear = λ l i. i;
-        joined = refl;
-      }
+  specs_begin k xs = record { forth = λ zs ss d. d; back = λ zs ss d h. (ss, refl, d); joined = refl }
 
   one_more : (front : List Spec) {k : Context} {b : Bag} {ys us zs : List Tok} {s : Spec} {ss rest : List Spec}
       → Takes (Ahead N k b) ys (Some s) us → b ≡ specs_joined no_bag front → ss ≡ front ++ rest → Specs N k ys zs rest
@@ -150,32 +120,22 @@ module _ (N : List ℕ → Bool) where
       → (more : List Spec) × (ss ≡ (front ++ s ∷ []) ++ more) × Specs N k us zs more
   one_more front {ys = ys} t j e (no_specs n) h = let q = t.only None ys (over n) in absurd cc
   one_more front {b = b} {s = s} {ss = ss} t j e (more_specs {ys = ys'} {s = s'} {ss = ss'} d r) h =
-      let q = t.only (Some s') ys' (fitting d (fits_next front ss' ss s' b j e h)) in
-      (ss', e ∙ ap (λ (x : Spec). front ++ x ∷ ss') (some-injective q.0) ∙ sym (append_assoc front (s ∷ []) ss'), rw (← q.1) r)
-
-  one_clear : {k : Context} {b : Bag} {ys us : List Tok} {s : Spec} {l : ℕ} → Takes (Ahead N k b) ys (Some s) us
-      → Clear (InBody N k b) ys → InSpecs N k b ys l → InSpecs N k (spec_joined b s) us l
-  one_clear t n (after_word {ys = ys'} {s = s'} d f i) = let q = t.only (Some s') ys' (fitting d f) in
-      rw (some-injective q.0, q.1) at i
-  one_clear {l = l} t n (bits.in_tagged h f g d i) = absurd (n l (h, f, ahead.in_tagged g d i))
-  one_clear {l = l} t n (bits.in_untagged h f g d i) = absurd (n l (h, f, ahead.in_untagged g d i))
-
-  one_within : {k : Context} {b : Bag} {ys us : List Tok} {s : Spec} {l : ℕ} → Ahead N k b ys us (Some s)
-      → InSpecs N k (spec_joined b s) us l → InSpecs N k b ys l
-  one_within (fitting d f) i = after_word d f i
+      let q = t.only (Some s') ys' (fitting d (fits_next front ss' ss s' b j e h)) in (
+        ss',
+        e ∙ ap (λ (x : Spec). front ++ x ∷ ss') (some-injective q.0) ∙ sym (append_assoc front (s ∷ []) ss'),
+        rw (← q.1) r,
+      )
 
   one_forth : {k : Context} {b : Bag} {ys us zs : List Tok} {s : Spec} {ss : List Spec} → Ahead N k b ys us (Some s)
       → Specs N k us zs ss → Specs N k ys zs (s ∷ ss)
   one_forth (fitting d f) r = more_specs d r
 
   pub specs_step : (k : Context) (xs : List Tok) (front : List Spec) (b : Bag) (ys us : List Tok) (s : Spec)
-      → SpecsSo k xs front b ys → Takes (Ahead N k b) ys (Some s) us → Clear (InBody N k b) ys
+      → SpecsSo k xs front b ys → Takes (Ahead N k b) ys (Some s) us
       → SpecsSo k xs (front ++ s ∷ []) (spec_joined b s) us
-  specs_step k xs front b ys us s o t n = record {
+  specs_step k xs front b ys us s o t = record {
     forth = λ zs ss d. rw append_assoc (o.forth zs (s ∷ ss) (one_forth t.holds d));
     back = λ zs ss d h. let q = o.back zs ss d h in one_more front t o.joined q.1 q.2 h;
-    within = λ l i. o.within l (one_within t.holds i);
-    clear = λ l i. one_clear t n (o.clear l i);
     joined = specs-last b front s o.joined;
   }
 
@@ -194,18 +154,14 @@ module _ (N : List ℕ → Bool) where
       let r = no_more n q.2 in
       (q.1 ∙ ap (λ (us : List Spec). front ++ us) r.0 ∙ append-nil front, r.1)
 
-  over_clear : (k : Context) (xs : List Tok) (front : List Spec) (b : Bag) (ys : List Tok) → SpecsSo k xs front b ys
-      → begins_spec N k ys ≡ false → Clear (InSpecs N k no_bag) xs
-  over_clear k xs front b ys o n = λ l i. not_in_specs n (o.clear l i)
-
   pub specs_taken : (k : Context) (xs : List Tok) (front : List Spec) (b : Bag) (ys us : List Tok)
       → SpecsSo k xs front b ys → Takes (Ahead N k b) ys None us → fits b ≡ true → is_no_bag b ≡ false
-      → Takes (Specified N k) xs front ys × Clear (InSpecs N k no_bag) xs
+      → Takes (Specified N k) xs front ys
   specs_taken k xs front b ys us o t f e =
       let n : begins_spec N k ys ≡ false = words_over t.holds in
       let d : Specs N k xs ys front = rw append-nil at (o.forth ys [] (no_specs n)) in
       let h : name_type front ≡ true = are_type (specs_joined no_bag front) (rw o.joined at f) (rw o.joined at e) in
-      (record { holds = specified h d; only = λ ss zs r. specs_only front o n r }, over_clear k xs front b ys o n)
+      record { holds = specified h d; only = λ ss zs r. specs_only front o n r }
 
   none_never : (front : List Spec) {k : Context} {b : Bag} {xs ys zs : List Tok} {ss : List Spec}
       → SpecsSo k xs front b ys → begins_spec N k ys ≡ false → is_no_bag (specs_joined no_bag front) ≡ true
@@ -216,10 +172,10 @@ module _ (N : List ℕ → Bool) where
   -- no word is there but `const`, `static` and `inline`
   pub specs_none : (k : Context) (xs : List Tok) (front : List Spec) (b : Bag) (ys us : List Tok)
       → SpecsSo k xs front b ys → Takes (Ahead N k b) ys None us → is_no_bag b ≡ true
-      → TakesNone (Specified N k) xs × Clear (InSpecs N k no_bag) xs
+      → TakesNone (Specified N k) xs
   specs_none k xs front b ys us o t e =
       let n : begins_spec N k ys ≡ false = words_over t.holds in
-      (record { never = λ ss zs d. none_never front o n (rw o.joined at e) d }, over_clear k xs front b ys o n)
+      record { never = λ ss zs d. none_never front o n (rw o.joined at e) d }
 
   stuck : (front ss : List Spec) {k : Context} {b : Bag} {rest : List Spec} {ys zs : List Tok}
       → TakesNone (Ahead N k b) ys → b ≡ specs_joined no_bag front → ss ≡ front ++ rest
@@ -233,25 +189,7 @@ module _ (N : List ℕ → Bool) where
   stuck_never front o n (specified {ys = zs} {ss = ss} h d) = let q = o.back zs ss d (type_fits ss h) in
       stuck front ss n o.joined q.1 (type_fits ss h) q.2
 
-  stuck_clear : {k : Context} {b : Bag} {ys : List Tok} {l : ℕ} → TakesNone (Ahead N k b) ys → Clear (InBody N k b) ys
-      → InSpecs N k b ys l → ⊥
-  stuck_clear n c (after_word {ys = ys} {s = s} d f i) = n.never (Some s) ys (fitting d f)
-  stuck_clear {l = l} n c (bits.in_tagged h f g d i) = c l (h, f, ahead.in_tagged g d i)
-  stuck_clear {l = l} n c (bits.in_untagged h f g d i) = c l (h, f, ahead.in_untagged g d i)
-
   -- a word begins here and can't be read
-  pub specs_stuck : (k : Context) (xs : List Tok) (front : List Spec) (b : Bag) (ys : List Tok) → SpecsSo k xs front b ys
-      → TakesNone (Ahead N k b) ys → Clear (InBody N k b) ys
-      → TakesNone (Specified N k) xs × Clear (InSpecs N k no_bag) xs
-  specs_stuck k xs front b ys o n c =
-      (record { never = λ ss zs d. stuck_never front o n d }, λ l i. stuck_clear n c (o.clear l i))
-
-  in_body : {k : Context} {b : Bag} {ys : List Tok} {l : ℕ} → has_bodies k ≡ true → fits (with_whole b) ≡ true
-      → ahead.InAggregate N ys l → InSpecs N k b ys l
-  in_body h f (ahead.in_tagged g d i) = bits.in_tagged h f g d i
-  in_body h f (ahead.in_untagged g d i) = bits.in_untagged h f g d i
-
-  -- a bit-field stands in the members of the next word
-  pub specs_in : (k : Context) (xs : List Tok) (front : List Spec) (b : Bag) (ys : List Tok) → SpecsSo k xs front b ys
-      → (l : ℕ) → InBody N k b ys l → InSpecs N k no_bag xs l
-  specs_in k xs front b ys o l i = o.within l (in_body i.0 i.1 i.2)
+  pub specs_stuck : (k : Context) (xs : List Tok) (front : List Spec) (b : Bag) (ys : List Tok)
+      → SpecsSo k xs front b ys → TakesNone (Ahead N k b) ys → TakesNone (Specified N k) xs
+  specs_stuck k xs front b ys o n = record { never = λ ss zs d. stuck_never front o n d }

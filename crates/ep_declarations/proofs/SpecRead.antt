@@ -9,8 +9,8 @@ use Rattle.ep_ast.specs.Reading.{Takes}
 use Rattle.ep_type_names.specs.Words.{bag}
 use Rattle.ep_reading.specs.Measured.{Shows}
 use Rattle.ep_declarations.specs.declared.words.OneMore.{OneMore}
-use Rattle.ep_reading.specs.Answer.{IsTaken, Clear}
-use Rattle.ep_declarations.specs.SpecAhead.{Ahead, InBody, ShowsAhead, are_none}
+use Rattle.ep_reading.specs.Answer.{IsTaken}
+use Rattle.ep_declarations.specs.SpecAhead.{Ahead, ShowsAhead, are_none}
 use Rattle.ep_declarations.specs.Answer.{is_body}
 use Rattle.ep_declarations.proofs.SpecLemmas.{fits_is, SpecsSo, specs_step}
 
@@ -41,15 +41,15 @@ module _ (N : List ℕ → Bool) where
       }
 
   step_at : (k : Context) (xs : List Tok) (front : List Spec) (b c : Bag) (ys us : List Tok) (s : Spec)
-      → c ≡ spec_joined b s → SpecsSo N k xs front b ys → Takes (Ahead N k b) ys (Some s) us → Clear (InBody N k b) ys
+      → c ≡ spec_joined b s → SpecsSo N k xs front b ys → Takes (Ahead N k b) ys (Some s) us
       → SpecsSo N k xs (front ++ s ∷ []) c us
-  step_at k xs front b c ys us s e o t n = rw e (specs_step N k xs front b ys us s o t n)
+  step_at k xs front b c ys us s e o t = rw e (specs_step N k xs front b ys us s o t)
 
   pub word_step : (k : Context) (xs : List Tok) (front : List Spec) (b : Bag) (ys us : List Tok) (o : OneMore)
-      → SpecsSo N k xs front b ys → (w : Word k b ys us o) → Clear (InBody N k b) ys
+      → SpecsSo N k xs front b ys → (w : Word k b ys us o)
       → SpecsSo N k xs (front ++ w.word ∷ []) (bag o.bag) us × (fits (bag o.bag) ≡ true)
-  word_step k xs front b ys us o s w n = (
-    step_at k xs front b (bag o.bag) ys us w.word w.words s w.takes n,
+  word_step k xs front b ys us o s w = (
+    step_at k xs front b (bag o.bag) ys us w.word w.words s w.takes,
     fits_is (bag o.bag) (spec_joined b w.word) (sym w.words) w.fit,
   )
 

@@ -1,21 +1,11 @@
--- Reading declarations in a block, where no bit-field can stand.
-use Rattle.std.proofs.Common.{◌≡◌, ℕ, Bool, false, List, refl, inl, inr}
-use Rattle.ep_ast.specs.declared.refusals.Halt.{Halt}
-use Rattle.ep_ast.specs.declared.refusals.Halt.TheVariants as halts
+-- Reading declarations.
+use Rattle.std.proofs.Common.{◌≡◌, ℕ, Bool, List, refl}
 use Rattle.ep_ast.specs.Token.{Tok}
 use Rattle.ep_ast.specs.Declaration.{Spec, Init, Declaration}
-use Rattle.ep_ast.specs.TypeWords.{Bag}
-use Rattle.ep_ast.specs.DeclarationGrammar.{Context, has_bodies, specs_line, Specified, Inits, Declares, variables}
-use Rattle.ep_ast.specs.BitField.{InSpecs, after_word, in_tagged, in_untagged}
-use Rattle.ep_ast.specs.Reading.{Takes, TakesNone, Stops}
-use Rattle.ep_reading.specs.Answer.{Fails}
+use Rattle.ep_ast.specs.DeclarationGrammar.{Context, specs_line, Specified, Inits, Declares, variables}
+use Rattle.ep_ast.specs.Reading.{Takes, TakesNone}
 
 module _ (N : List ℕ → Bool) where
-  no_field : {k : Context} {b : Bag} {xs : List Tok} {l : ℕ} → has_bodies k ≡ false → InSpecs N k b xs l → ⊥
-  no_field h (after_word s f d) = no_field h d
-  no_field h (in_tagged g f k m d) = cc
-  no_field h (in_untagged g f k m d) = cc
-
   declares_only : {k : Context} {xs ys zs vs : List Tok} {ss : List Spec} {is : List Init} {u : Declaration}
       → Takes (Specified N k) xs ss ys → Takes (Inits N) ys is zs → Declares N k xs vs u
       → (u ≡ record { line = specs_line ss; specs = ss; inits = is }) × (vs ≡ zs)
@@ -34,11 +24,8 @@ module _ (N : List ℕ → Bool) where
       → ⊥
   words_never n (variables {ys = ys} {ss = ss} d e) = n.never ss ys d
 
-  pub words_halt : (k : Context) (b : Bag) (xs : List Tok) (e : Halt) → has_bodies k ≡ false
-      → Fails (Specified N k) (InSpecs N k b) xs e → Stops (Declares N k) xs e
-  words_halt k b xs (halts.Refused f) h d =
-      elim d [ inl n ↦ (record { never = λ u vs e. words_never n.0 e }, n.2) | inr n ↦ absurd (no_field h n.0) ]
-  words_halt k b xs halts.Memory h d = tt
+  pub words_refused : (k : Context) (xs : List Tok) → TakesNone (Specified N k) xs → TakesNone (Declares N k) xs
+  words_refused k xs n = record { never = λ u vs e. words_never n e }
 
   inits_never : {k : Context} {xs ys vs : List Tok} {ss : List Spec} {u : Declaration} → Takes (Specified N k) xs ss ys
       → TakesNone (Inits N) ys → Declares N k xs vs u → ⊥

@@ -1,20 +1,17 @@
 -- One word more of those that begin a declaration, behind words that may stand together; and one `struct` or `union`
 -- with its members.
-use Rattle.std.specs.Prelude.{◌≡◌, ℕ, Bool, true, false, ◌&&◌, ◌==◌, ◌<◌, ◌⊎◌, List, [], ◌∷◌, length}
+use Rattle.std.specs.Prelude.{◌≡◌, ℕ, Bool, true, false, ◌&&◌, ◌==◌, ◌<◌, List, [], ◌∷◌, length}
 use Rattle.std.specs.Prelude.{map, Option, Some, None, IfSome}
 use Rattle.std.specs.Option.{option_map}
 use Rattle.std.specs.Borrow.{Bor}
 use Rattle.ep_ast.specs.Token.{Tok, word, name, mark}
 use Rattle.ep_ast.specs.declared.words.Word.{Word}
 use Rattle.ep_ast.specs.Mark.{left_brace, word_number}
-use Rattle.ep_ast.specs.TypeWords.{Bag, no_bag, with_whole, fits, is_tag_word}
+use Rattle.ep_ast.specs.TypeWords.{Bag, fits, is_tag_word}
 use Rattle.ep_ast.specs.Declaration.{Spec, Member, spec_of, member_of}
 use Rattle.ep_ast.specs.declared.declarations.MemberTree.{MemberTree}
 use Rattle.ep_lexer.specs.declared.tokens.Token.{Token}
-use Rattle.ep_ast.specs.DeclarationGrammar.{Context, in_aggregate, has_bodies, has_storage, is_storage_word}
-use Rattle.ep_ast.specs.DeclarationGrammar.{spec_joined}
-use Rattle.ep_ast.specs.DeclarationGrammar.{begins_spec, OneSpec, Specified}
-use Rattle.ep_ast.specs.BitField.{InSpecs, InMembers, InDeclarators}
+use Rattle.ep_ast.specs.DeclarationGrammar.{Context, has_storage, is_storage_word, spec_joined, begins_spec, OneSpec}
 use Rattle.ep_ast.specs.Depth.{in_spec, in_member}
 use Rattle.ep_lexer.specs.Tokens.{view}
 use Rattle.ep_type_names.specs.Words.{bag}
@@ -88,21 +85,3 @@ IsOpenPast n o = length o.inside.now < n
 
 abbrev pub ShowsMember : Measured MemberTree → Member → Type 0
 ShowsMember k m = Shows member_of in_member k m
-
--- a bit-field stands in the members of the `struct` or `union` that begins here
-pub data InAggregate (is_type : List ℕ → Bool) : List Tok → (line : ℕ) → Type 0 where
-  in_tagged : {l m c n p d : ℕ} {text : List ℕ} {xs : List Tok} → is_tag_word c ≡ true → d ≡ left_brace
-      → InMembers is_type xs l
-      → InAggregate is_type (word m c ∷ name n text ∷ mark p d ∷ xs) l
-  in_untagged : {l m c p d : ℕ} {xs : List Tok} → is_tag_word c ≡ true → d ≡ left_brace → InMembers is_type xs l
-      → InAggregate is_type (word m c ∷ mark p d ∷ xs) l
-
--- the same, where members may stand behind words that fit
-abbrev pub InBody : (List ℕ → Bool) → Context → Bag → List Tok → (line : ℕ) → Type 0
-InBody is_type k b xs l = (has_bodies k ≡ true) × (fits (with_whole b) ≡ true) × InAggregate is_type xs l
-
--- a bit-field stands in the words or behind a name of the member that begins here
-abbrev pub InMember : (List ℕ → Bool) → List Tok → (line : ℕ) → Type 0
-InMember is_type xs l =
-    InSpecs is_type in_aggregate no_bag xs l
-    ⊎ ((ys : List Tok) × (ss : List Spec) × Specified is_type in_aggregate xs ys ss × InDeclarators is_type ys l)

@@ -3,17 +3,18 @@
 ghost use Rattle.std.specs.Prelude.{◌≡◌, ◌<◌, length, map, IfOk, IfSome, List};
 ghost use Rattle.std.specs.Option.{option_map};
 ghost use Rattle.ep_ast.specs.Declaration as shape;
-ghost use Rattle.ep_ast.specs.Declaration.{Spec, Member, Declarator, spec_of, member_of, text_of, to_specs, to_members};
+ghost use Rattle.ep_ast.specs.Declaration.{Spec, Member, MemberField, spec_of, member_of, text_of, to_specs};
+ghost use Rattle.ep_ast.specs.Declaration.{to_members};
 ghost use Rattle.ep_ast.specs.DeclarationGrammar as grammar;
 ghost use Rattle.ep_ast.specs.Depth.{in_spec, in_member};
 ghost use Rattle.ep_ast.specs.Mark.{word_number};
 ghost use Rattle.ep_lexer.specs.Tokens.{view};
 ghost use Rattle.ep_reading.specs.Measured.{Shows, ShowsAll};
-ghost use Rattle.ep_declarations.specs.DeclaratorAnswer.{ShowsDeclarators};
+ghost use Rattle.ep_declarations.specs.DeclaratorAnswer.{ShowsFields};
 ghost use Rattle.ep_declarations.specs.Answer.{ShowsMembers};
 ghost use Rattle.ep_declarations.specs.SpecAhead.{AtBody, IsOpenPast, tag_text};
 
-use ep_ast::{DeclaratorTree, Mark, MemberTree, SpecTree, TypeWordTree, Word};
+use ep_ast::{Mark, MemberFieldTree, MemberTree, SpecTree, TypeWordTree, Word};
 use ep_lexer::Token;
 use ep_reading::{Head, Measured, at_mark, at_name, first_of};
 use ep_type_names::is_tag_word;
@@ -103,23 +104,22 @@ pub fn specs_line(specs: &[SpecTree]) -> u32
     }
 }
 
-/// Members of these words and names. What is too deep in the words comes first.
+/// Members of these words and fields. What is too deep in the words comes first.
 pub fn make_member(
     specs: Measured<Vec<SpecTree>>,
-    declarators: Measured<Vec<DeclaratorTree>>,
+    fields: Measured<Vec<MemberFieldTree>>,
 ) -> Measured<MemberTree>
-    ensures { (ss : List Spec) → (ds : List Declarator) → ShowsAll spec_of in_spec specs ss
-        → ShowsDeclarators declarators ds
-        → Shows member_of in_member result (shape.member (grammar.specs_line ss) (to_specs ss) ds) }
+    ensures { (ss : List Spec) → (fs : List MemberField) → ShowsAll spec_of in_spec specs ss → ShowsFields fields fs
+        → Shows member_of in_member result (shape.member (grammar.specs_line ss) (to_specs ss) fs) }
 {
     match specs {
-        Measured::Fits(specs) => match declarators {
-            Measured::Fits(declarators) => {
+        Measured::Fits(specs) => match fields {
+            Measured::Fits(fields) => {
                 let line = specs_line(&specs);
                 Measured::Fits(MemberTree {
                     line,
                     specs,
-                    declarators,
+                    fields,
                 })
             }
             Measured::TooDeep(deep) => Measured::TooDeep(deep),

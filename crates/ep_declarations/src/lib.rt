@@ -4,6 +4,7 @@
 mod aggregates;
 mod bracketed;
 mod declarators;
+mod fields;
 mod heads;
 mod initialisers;
 mod parameters;
@@ -12,7 +13,7 @@ mod typedefs;
 mod variables;
 mod words;
 
-pub use declarators::{Named, declarator, member_declarators};
+pub use declarators::{Named, declarator};
 pub use heads::{Headed, head};
 pub use initialisers::inits;
 pub use parameters::{ParameterList, head_parameters};

@@ -2,22 +2,20 @@
 
 ghost use Rattle.std.specs.Prelude.{◌≡◌, ◌<◌, ◌^◌, ◌++◌, ◌∷◌, [], length, map, IfOk, List, true};
 ghost use Rattle.ep_ast.specs.Declaration.{Spec, spec_of, member_of};
-ghost use Rattle.ep_ast.specs.TypeWords.{no_bag, fits};
+ghost use Rattle.ep_ast.specs.TypeWords.{fits};
 ghost use Rattle.ep_ast.specs.DeclarationGrammar.{Specified, Members, OneMember};
-ghost use Rattle.ep_ast.specs.BitField.{InSpecs, InMembers};
 ghost use Rattle.ep_ast.specs.Depth.{in_spec, in_member};
 ghost use Rattle.ep_lexer.specs.Tokens.{view};
 ghost use Rattle.ep_reading.specs.Names.{is_type};
-ghost use Rattle.ep_reading.specs.Answer.{ParsesChecked, IsPast};
+ghost use Rattle.ep_reading.specs.Answer.{Parses, IsPast};
 ghost use Rattle.ep_reading.specs.Measured.{Shows};
 ghost use Rattle.ep_type_names.specs.Words.{bag};
 ghost use Rattle.ep_declarations.specs.Answer as answers;
 ghost use Rattle.ep_declarations.specs.Answer.{ShowsSpecs, ShowsMembers, TakesBody, AsAggregate};
-ghost use Rattle.ep_declarations.specs.SpecAhead.{Ahead, InBody, InMember, ShowsMember, ShowsAhead, IsPastWord};
-ghost use Rattle.ep_declarations.specs.SpecAhead.{are_none};
+ghost use Rattle.ep_declarations.specs.SpecAhead.{Ahead, ShowsMember, ShowsAhead, IsPastWord, are_none};
 
 use crate::aggregates::{at_body, make_body, make_member, owned_tag};
-use crate::declarators::member_declarators;
+use crate::fields::member_fields;
 use crate::words::{OneMore, plain_word};
 use ep_ast::{AggregateTree, Halt, Mark, MemberTree, SpecTree};
 use ep_lexer::Token;
@@ -92,8 +90,8 @@ pub fn spec_list<'a>(
     tokens: &'a [Token],
 ) -> Result<Part<'a, SpecList>, Halt>
     requires { length tokens.now < 2 ^ 24 }
-    ensures reads { ParsesChecked ShowsSpecs (Specified (is_type reader.now.names.now) (answers.context context))
-        (InSpecs (is_type reader.now.names.now) (answers.context context) no_bag) (map view tokens.now) result }
+    ensures reads { Parses ShowsSpecs (Specified (is_type reader.now.names.now) (answers.context context))
+        (map view tokens.now) result }
     ensures shorter { IfOk result (IsPast (length tokens.now)) }
 {
     let mut found = SpecList::new(reader.alloc)?;
@@ -127,9 +125,8 @@ fn next_word<'a>(
 ) -> Result<Part<'a, Option<OneMore>>, Halt>
     requires few { length tokens.now < 2 ^ 24 }
     requires fit { fits (bag words.now) ≡ true }
-    ensures reads { ParsesChecked (ShowsAhead (bag words.now))
-        (Ahead (is_type reader.now.names.now) (answers.context context) (bag words.now))
-        (InBody (is_type reader.now.names.now) (answers.context context) (bag words.now)) (map view tokens.now) result }
+    ensures reads { Parses (ShowsAhead (bag words.now))
+        (Ahead (is_type reader.now.names.now) (answers.context context) (bag words.now)) (map view tokens.now) result }
     ensures shorter { IfOk result (IsPastWord (length tokens.now)) }
 {
     let Some(opening) = at_body(tokens) else {
@@ -161,8 +158,7 @@ fn members<'a>(
     tokens: &'a [Token],
 ) -> Result<Part<'a, Measured<Vec<MemberTree>>>, Halt>
     requires { length tokens.now < 2 ^ 24 }
-    ensures reads { ParsesChecked ShowsMembers (Members (is_type reader.now.names.now))
-        (InMembers (is_type reader.now.names.now)) (map view tokens.now) result }
+    ensures reads { Parses ShowsMembers (Members (is_type reader.now.names.now)) (map view tokens.now) result }
     ensures shorter { IfOk result (IsPast (length tokens.now)) }
 {
     let mut found = Measured::Fits(Vec::with_capacity(reader.alloc, 1)?);
@@ -180,22 +176,21 @@ fn members<'a>(
     }
 }
 
-/// The words and the names of one member, or of several of one type, up to and with the semicolon.
+/// The words and the fields of one member, or of several of one type, up to and with the semicolon.
 #[cycle(specs)]
 fn one_member<'a>(
     reader: &Reader<'_>,
     tokens: &'a [Token],
 ) -> Result<Part<'a, Measured<MemberTree>>, Halt>
     requires { length tokens.now < 2 ^ 24 }
-    ensures reads { ParsesChecked ShowsMember (OneMember (is_type reader.now.names.now))
-        (InMember (is_type reader.now.names.now)) (map view tokens.now) result }
+    ensures reads { Parses ShowsMember (OneMember (is_type reader.now.names.now)) (map view tokens.now) result }
     ensures shorter { IfOk result (IsPast (length tokens.now)) }
 {
     let specs = spec_list(reader, Context::Aggregate, tokens)?;
-    let declarators = member_declarators(reader, specs.rest)?;
+    let fields = member_fields(reader, specs.rest)?;
     Ok(Part {
-        value: make_member(specs.value.tree, declarators.value),
-        rest: declarators.rest,
+        value: make_member(specs.value.tree, fields.value),
+        rest: fields.rest,
     })
 }
 

@@ -7,10 +7,10 @@ ghost use Rattle.ep_ast.specs.TypeWords.{fits};
 ghost use Rattle.ep_ast.specs.DeclarationGrammar as grammar;
 ghost use Rattle.ep_lexer.specs.Tokens.{view};
 ghost use Rattle.ep_reading.specs.Names.{is_type};
-ghost use Rattle.ep_reading.specs.Answer.{ParsesChecked};
+ghost use Rattle.ep_reading.specs.Answer.{Parses};
 ghost use Rattle.ep_type_names.specs.Words.{bag};
 ghost use Rattle.ep_declarations.specs.Answer as answers;
-ghost use Rattle.ep_declarations.specs.SpecAhead.{Ahead, InBody, ShowsAhead, IsPastWord, AtStorage, begins_body};
+ghost use Rattle.ep_declarations.specs.SpecAhead.{Ahead, ShowsAhead, IsPastWord, AtStorage, begins_body};
 ghost use Rattle.ep_declarations.specs.SpecAhead.{seen_storage, IsPastStorage};
 
 use crate::specs::Context;
@@ -80,9 +80,8 @@ pub fn plain_word<'a>(
 ) -> Result<Part<'a, Option<OneMore>>, Halt>
     requires fit { fits (bag words.now) ≡ true }
     requires plain { begins_body (map view tokens.now) ≡ false }
-    ensures reads { ParsesChecked (ShowsAhead (bag words.now))
-        (Ahead (is_type reader.now.names.now) (answers.context context) (bag words.now))
-        (InBody (is_type reader.now.names.now) (answers.context context) (bag words.now)) (map view tokens.now) result }
+    ensures reads { Parses (ShowsAhead (bag words.now))
+        (Ahead (is_type reader.now.names.now) (answers.context context) (bag words.now)) (map view tokens.now) result }
     ensures shorter { IfOk result (IsPastWord (length tokens.now)) }
 {
     if let Some((line, word, rest)) = at_storage(context, tokens) {

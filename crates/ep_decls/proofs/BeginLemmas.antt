@@ -1,5 +1,5 @@
 -- With which tokens the words of a declaration begin.
-use Rattle.std.proofs.Common.{◌≡◌, ℕ, Bool, true, false, List, ◌∷◌, refl}
+use Rattle.std.proofs.Common.{◌≡◌, ℕ, Bool, true, false, List, ◌∷◌}
 use Rattle.std.proofs.lemmas.Bool.{both_ways}
 use Rattle.std.proofs.lemmas.Bool.{and_from, or_left, or_right}
 use Rattle.std.specs.Prelude.{◌||◌, ◌&&◌}
@@ -7,12 +7,11 @@ use Rattle.ep_ast.specs.Token.{Tok, word, name, mark}
 use Rattle.ep_ast.specs.Expression.{TypeWord}
 use Rattle.ep_ast.specs.Declaration.{Spec, Aggregate, Head}
 use Rattle.ep_ast.specs.Statement.{Function, Item}
-use Rattle.ep_ast.specs.TypeWords.{Bag, is_type_word, is_tag_word, OneWord, plain_word, type_name, tag}
+use Rattle.ep_ast.specs.TypeWords.{is_type_word, is_tag_word, OneWord, plain_word, type_name, tag}
 use Rattle.ep_ast.specs.DeclarationGrammar.{Context, at_file_scope, has_storage, is_storage_word, begins_spec, OneSpec}
 use Rattle.ep_ast.specs.DeclarationGrammar.{type_word, storage, with_members, no_specs, more_specs, Specified}
 use Rattle.ep_ast.specs.DeclarationGrammar.{specified, Aggregated, tagged, untagged, variables, Headed, head}
 use Rattle.ep_ast.specs.ProgramGrammar.{Defines, function}
-use Rattle.ep_ast.specs.BitField.{InSpecs, after_word, in_tagged, in_untagged}
 use Rattle.ep_decls.specs.Answer.{Worded, defines, prototype, declares, completes}
 
 module _ (N : List ℕ → Bool) where
@@ -41,14 +40,6 @@ module _ (N : List ℕ → Bool) where
       → Specified N k xs ys ss → ⊥
   specified_not h (specified n (no_specs b)) = absurd cc
   specified_not {k = k} h (specified n (more_specs {xs = xs} d r)) = both_ways (begins_spec N k xs) h (spec_begins k d)
-
-  pub in_specs_not : {k : Context} {b : Bag} {xs : List Tok} {l : ℕ} → begins_spec N k xs ≡ false → InSpecs N k b xs l → ⊥
-  in_specs_not {k = k} {xs = xs} h (after_word d f r) = both_ways (begins_spec N k xs) h (spec_begins k d)
-  in_specs_not {k = k} h (in_tagged {m = m} {c = c} {n = n} {p = p} {d = d} {text = text} {xs = xs} b f t e i) =
-      both_ways (begins_spec N k (word m c ∷ name n text ∷ mark p d ∷ xs)) h
-      (tag_begins k m c (name n text ∷ mark p d ∷ xs) t)
-  in_specs_not {k = k} h (in_untagged {m = m} {c = c} {p = p} {d = d} {xs = xs} b f t e i) =
-      both_ways (begins_spec N k (word m c ∷ mark p d ∷ xs)) h (tag_begins k m c (mark p d ∷ xs) t)
 
   pub headed_not : {xs ys : List Tok} {h : Head} → begins_spec N at_file_scope xs ≡ false → Headed N xs ys h → ⊥
   headed_not b (head p c d s q) = specified_not b d

@@ -12,13 +12,11 @@ use Rattle.ep_ast.specs.DeclarationGrammar.{at_file_scope, begins_spec, are_name
 use Rattle.ep_ast.specs.StatementGrammar.{Blocks}
 use Rattle.ep_ast.specs.ProgramGrammar.{Defines, function, Functions, before_else, before_end, more_functions}
 use Rattle.ep_ast.specs.ProgramGrammar.{OtherFunctions, no_other, another}
-use Rattle.ep_ast.specs.BitField.{InFunctions, after_function, in_head}
 use Rattle.ep_ast.specs.Reading.{Takes, TakesNone}
 use Rattle.ep_reading.proofs.FirstLemmas.{tail_is}
-use Rattle.ep_reading.specs.Answer.{Clear}
 use Rattle.ep_reading.specs.Look.{ends_arm, LacksElse, LacksEndIf}
-use Rattle.ep_decls.specs.Answer.{InWords, InOther, in_other, InArms, in_first, in_second, Arms, arms}
-use Rattle.ep_decls.proofs.BeginLemmas.{defines_not, in_specs_not}
+use Rattle.ep_decls.specs.Answer.{Arms, arms}
+use Rattle.ep_decls.proofs.BeginLemmas.{defines_not}
 
 abbrev made : Head → Block → Function
 made h b = record { line = h.line; head = h; body = b }
@@ -70,13 +68,11 @@ module _ (N : List ℕ → Bool) where
 
   -- ---- the functions of an arm
 
-  -- these are read with no bit-field in them, and what comes are functions again
+  -- these are read, and what comes are functions again
   pub record FunctionsSo (xs : List Tok) (front : List Function) (ys : List Tok) : Type 0 where
     pub forth : (zs : List Tok) (fs : List Function) → Functions N ys zs fs → Functions N xs zs (front ++ fs)
     pub back : (zs : List Tok) (fs : List Function) → Functions N xs zs fs
         → (more : List Function) × (fs ≡ front ++ more) × Functions N ys zs more
-    pub clear : (l : ℕ) → InFunctions N xs l → InFunctions N ys l
-    pub worse : (l : ℕ) → InFunctions N ys l → InFunctions N xs l
 
   one_more : (front : List Function) {ys zs us : List Tok} {f : Function} {fs rest : List Function}
       → Takes (Defines N) ys f zs → fs ≡ front ++ rest → Functions N ys us rest
@@ -87,18 +83,11 @@ module _ (N : List ℕ → Bool) where
       let q = t.only f' ys' d in
       (fs', e ∙ ap (λ (x : Function). front ++ x ∷ fs') q.0 ∙ sym (append_assoc front (f ∷ []) fs'), rw (← q.1) r)
 
-  in_next : {ys zs : List Tok} {f : Function} {l : ℕ} → Takes (Defines N) ys f zs → Clear (InWords N) ys
-      → InFunctions N ys l → InFunctions N zs l
-  in_next t k (after_function {ys = ys'} {f = f'} d e) = let q = t.only f' ys' d in rw q.1 at e
-  in_next t k (in_head {l = l} d) = absurd (k l d)
-
   pub functions_step : (xs : List Tok) (front : List Function) (ys zs : List Tok) (f : Function)
-      → FunctionsSo xs front ys → Takes (Defines N) ys f zs → Clear (InWords N) ys → FunctionsSo xs (front ++ f ∷ []) zs
-  functions_step xs front ys zs f s t k = record {
+      → FunctionsSo xs front ys → Takes (Defines N) ys f zs → FunctionsSo xs (front ++ f ∷ []) zs
+  functions_step xs front ys zs f s t = record {
     forth = λ us fs d. rw append_assoc (s.forth us (f ∷ fs) (more_functions t.holds d));
     back = λ us fs d. let q = s.back us fs d in one_more front t q.1 q.2;
-    clear = λ l d. in_next t k (s.clear l d);
-    worse = λ l d. s.worse l (after_function t.holds d);
   }
 
   not_begun : (ys : List Tok) → ends_arm ys ≡ true → begins_spec N at_file_scope ys ≡ false
@@ -129,10 +118,6 @@ module _ (N : List ℕ → Bool) where
   none_only h before_end = (refl, refl)
   none_only h (more_functions {xs = ys} d r) = absurd (defines_not N (not_begun ys h) d)
 
-  none_in : {ys : List Tok} {l : ℕ} → begins_spec N at_file_scope ys ≡ false → InFunctions N ys l → ⊥
-  none_in b (after_function d e) = defines_not N b d
-  none_in b (in_head d) = in_specs_not N b d
-
   pub functions_done : (xs : List Tok) (front : List Function) (ys : List Tok) → FunctionsSo xs front ys
       → ends_arm ys ≡ true → Takes (Functions N) xs front ys
   functions_done xs front ys s h = record {
@@ -140,10 +125,6 @@ module _ (N : List ℕ → Bool) where
     only = λ fs zs d. let q = s.back zs fs d in let r = none_only h q.2 in
         (q.1 ∙ ap (λ (us : List Function). front ++ us) r.0 ∙ append-nil front, r.1);
   }
-
-  pub functions_clear : (xs : List Tok) (front : List Function) (ys : List Tok) → FunctionsSo xs front ys
-      → ends_arm ys ≡ true → Clear (InFunctions N) xs
-  functions_clear xs front ys s h = λ l d. none_in (not_begun ys h) (s.clear l d)
 
   none_never : {ys zs : List Tok} {fs : List Function} → ends_arm ys ≡ false → TakesNone (Defines N) ys
       → Functions N ys zs fs → ⊥
@@ -155,46 +136,22 @@ module _ (N : List ℕ → Bool) where
       → ends_arm ys ≡ false → TakesNone (Defines N) ys → TakesNone (Functions N) xs
   functions_refused xs front ys s h n = record { never = λ fs zs d. let q = s.back zs fs d in none_never h n q.2 }
 
-  not_here : {ys : List Tok} {l : ℕ} → TakesNone (Defines N) ys → Clear (InWords N) ys → InFunctions N ys l → ⊥
-  not_here n k (after_function {ys = ys} {f = f} d e) = n.never f ys d
-  not_here n k (in_head {l = l} d) = k l d
-
-  pub refused_clear : (xs : List Tok) (front : List Function) (ys : List Tok) → FunctionsSo xs front ys
-      → TakesNone (Defines N) ys → Clear (InWords N) ys → Clear (InFunctions N) xs
-  refused_clear xs front ys s n k = λ l d. not_here n k (s.clear l d)
-
-  pub refused_worse : (xs : List Tok) (front : List Function) (ys : List Tok) → FunctionsSo xs front ys → (l : ℕ)
-      → InWords N ys l → InFunctions N xs l
-  refused_worse xs front ys s l d = s.worse l (in_head d)
-
   -- ---- behind the first arm
 
   no_other_only : {l : ℕ} {ys zs : List Tok} {gs : Option (List Function)} → OtherFunctions N (end_if l ∷ ys) zs gs
       → (gs ≡ None) × (zs ≡ ys)
   no_other_only no_other = (refl, refl)
 
-  no_other_in : {l m : ℕ} {ys : List Tok} → InOther N (end_if m ∷ ys) l → ⊥
-  no_other_in d = elim d [ ]
-
   pub end_taken : (xs ys : List Tok) (l : ℕ) → xs ≡ end_if l ∷ ys → Takes (OtherFunctions N) xs None ys
   end_taken xs ys l e = rw e (record { holds = no_other; only = λ gs zs d. no_other_only d })
-
-  pub end_clear : (xs ys : List Tok) (l : ℕ) → xs ≡ end_if l ∷ ys → Clear (InOther N) xs
-  end_clear xs ys l e = rw e (λ k d. no_other_in d)
 
   neither_never : {xs ys : List Tok} {gs : Option (List Function)} → LacksEndIf xs → LacksElse xs
       → OtherFunctions N xs ys gs → ⊥
   neither_never h k no_other = h
   neither_never h k (another d) = k
 
-  neither_in : {xs : List Tok} {l : ℕ} → LacksElse xs → InOther N xs l → ⊥
-  neither_in k (in_other d) = k
-
   pub neither_refused : (xs : List Tok) → LacksEndIf xs → LacksElse xs → TakesNone (OtherFunctions N) xs
   neither_refused xs h k = record { never = λ gs ys d. neither_never h k d }
-
-  pub neither_clear : (xs : List Tok) → LacksElse xs → Clear (InOther N) xs
-  neither_clear xs k = λ l d. neither_in k d
 
   inside_never : {l : ℕ} {us ys : List Tok} {gs : Option (List Function)} → TakesNone (Functions N) us
       → OtherFunctions N (other l ∷ us) ys gs → ⊥
@@ -203,15 +160,6 @@ module _ (N : List ℕ → Bool) where
   pub inside_refused : (xs us : List Tok) (l : ℕ) → xs ≡ other l ∷ us → TakesNone (Functions N) us
       → TakesNone (OtherFunctions N) xs
   inside_refused xs us l e n = rw e (record { never = λ gs ys d. inside_never n d })
-
-  inside_in : {l m : ℕ} {us : List Tok} → Clear (InFunctions N) us → InOther N (other m ∷ us) l → ⊥
-  inside_in {l = l} k (in_other d) = k l d
-
-  pub inside_clear : (xs us : List Tok) (l : ℕ) → xs ≡ other l ∷ us → Clear (InFunctions N) us → Clear (InOther N) xs
-  inside_clear xs us l e k = rw e (λ m d. inside_in k d)
-
-  pub inside_worse : (xs us : List Tok) (m : ℕ) → xs ≡ other m ∷ us → (l : ℕ) → InFunctions N us l → InOther N xs l
-  inside_worse xs us m e l d = rw e (in_other d)
 
   end_is : (m : ℕ) (ys zs : List Tok) → LacksEndIf ys → ys ≡ end_if m ∷ zs → ⊥
   end_is m ys zs k e = let L : List Tok → Type 0 = λ ts. LacksEndIf ts in subst L e k
@@ -245,16 +193,6 @@ module _ (N : List ℕ → Bool) where
   pub then_refused : (l : ℕ) (o : NamedOrder) (xs : List Tok) → TakesNone (Functions N) xs → TakesNone (Arms N l o) xs
   then_refused l o xs n = record { never = λ i ys d. then_never n d }
 
-  then_in : {xs : List Tok} {l : ℕ} → TakesNone (Functions N) xs → Clear (InFunctions N) xs → InArms N xs l → ⊥
-  then_in {l = l} n k (in_first d) = k l d
-  then_in n k (in_second {m = m} {ys = ys} {fs = fs} d e) = n.never fs (other m ∷ ys) d
-
-  pub then_clear : (xs : List Tok) → TakesNone (Functions N) xs → Clear (InFunctions N) xs → Clear (InArms N) xs
-  then_clear xs n k = λ l d. then_in n k d
-
-  pub then_worse : (xs : List Tok) (l : ℕ) → InFunctions N xs l → InArms N xs l
-  then_worse xs l d = in_first d
-
   otherwise_never : {l : ℕ} {o : NamedOrder} {xs ys zs : List Tok} {fs : List Function} {i : Item}
       → Takes (Functions N) xs fs ys → TakesNone (OtherFunctions N) ys → Arms N l o xs zs i → ⊥
   otherwise_never t n (arms {ys = ys'} {zs = zs} {fs = fs'} {gs = gs} d e) = let q = t.only fs' ys' d in
@@ -263,20 +201,6 @@ module _ (N : List ℕ → Bool) where
   pub otherwise_refused : (l : ℕ) (o : NamedOrder) (xs ys : List Tok) (fs : List Function)
       → Takes (Functions N) xs fs ys → TakesNone (OtherFunctions N) ys → TakesNone (Arms N l o) xs
   otherwise_refused l o xs ys fs t n = record { never = λ i zs d. otherwise_never t n d }
-
-  otherwise_in : {xs ys : List Tok} {fs : List Function} {l : ℕ} → Takes (Functions N) xs fs ys
-      → Clear (InFunctions N) xs → Clear (InOther N) ys → InArms N xs l → ⊥
-  otherwise_in {l = l} t k c (in_first d) = k l d
-  otherwise_in {l = l} t k c (in_second {m = m} {ys = ys'} {fs = fs'} d e) = let q = t.only fs' (other m ∷ ys') d in
-      c l (rw (← q.1) (in_other e))
-
-  pub otherwise_clear : (xs ys : List Tok) (fs : List Function) → Takes (Functions N) xs fs ys
-      → Clear (InFunctions N) xs → Clear (InOther N) ys → Clear (InArms N) xs
-  otherwise_clear xs ys fs t k c = λ l d. otherwise_in t k c d
-
-  pub otherwise_worse : (xs ys : List Tok) (fs : List Function) → Takes (Functions N) xs fs ys → (l : ℕ)
-      → InOther N ys l → InArms N xs l
-  otherwise_worse xs ys fs t l (in_other d) = in_second t.holds d
 
   arms_only : {l : ℕ} {o : NamedOrder} {xs ys zs ws : List Tok} {fs : List Function} {gs : Option (List Function)}
       {i : Item} → Takes (Functions N) xs fs ys → Takes (OtherFunctions N) ys gs zs → Arms N l o xs ws i

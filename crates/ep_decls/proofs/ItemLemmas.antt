@@ -16,20 +16,19 @@ use Rattle.ep_ast.specs.DeclarationGrammar as grammar
 use Rattle.ep_ast.specs.DeclarationGrammar.{at_file_scope, specs_line, Bounds, no_bounds, open_bound, bound, Declared}
 use Rattle.ep_ast.specs.DeclarationGrammar.{Specified, specified, no_specs, more_specs, with_members, type_word}
 use Rattle.ep_ast.specs.DeclarationGrammar.{storage, Aggregated, Initialised, without, with_value, Inits, last_init}
-use Rattle.ep_ast.specs.DeclarationGrammar.{next_init, Declares, variables, Headed, head}
+use Rattle.ep_ast.specs.DeclarationGrammar.{next_init, variables, Headed, head}
 use Rattle.ep_ast.specs.StatementGrammar.{little, big, Blocks, braces}
 use Rattle.ep_ast.specs.ProgramGrammar as programs
 use Rattle.ep_ast.specs.ProgramGrammar.{Defines, function, OneItem}
 use Rattle.ep_ast.specs.Reading.{Takes, TakesNone, Lacks, AtMark, LacksWord}
 use Rattle.ep_reading.proofs.FirstLemmas.{lacks_is, tail_is}
-use Rattle.ep_reading.specs.Answer.{Clear}
 use Rattle.ep_declarations.specs.DeclaratorAnswer.{NamesTypes}
 use Rattle.ep_declarations.specs.Answer.{is_one_body}
 use Rattle.ep_reading.specs.Look.{LacksIf}
 use Rattle.ep_decls.specs.Look.{begins_call, begins_head}
-use Rattle.ep_decls.specs.Answer.{InWords, Worded, defines, prototype, declares, completes, NewTypes, new_types}
-use Rattle.ep_decls.specs.Answer.{InTypedefWords, Itemed, Arms, arms, InArms, InItem, in_words, in_typedef, in_arms}
-use Rattle.ep_decls.proofs.BeginLemmas.{in_specs_not, worded_not}
+use Rattle.ep_decls.specs.Answer.{Worded, defines, prototype, declares, completes, NewTypes, new_types, Itemed, Arms}
+use Rattle.ep_decls.specs.Answer.{arms}
+use Rattle.ep_decls.proofs.BeginLemmas.{worded_not}
 
 -- ---- heads and variables
 
@@ -286,20 +285,6 @@ module _ (N : List ℕ → Bool) where
       → TakesNone (Itemed N) xs
   worded_refused xs h k n = record { never = λ u vs d. n.never u.0 vs (to_worded h k d).1 }
 
-  worded_in : {xs : List Tok} {l : ℕ} → LacksWord typedef_word xs → LacksIf xs → Clear (InWords N) xs → InItem N xs l
-      → ⊥
-  worded_in {l = l} h k c (in_words d) = c l d
-  worded_in h k c (in_typedef e d) = h e
-  worded_in h k c (in_arms little d) = k
-  worded_in h k c (in_arms big d) = k
-
-  pub worded_clear : (xs : List Tok) → LacksWord typedef_word xs → LacksIf xs → Clear (InWords N) xs
-      → Clear (InItem N) xs
-  worded_clear xs h k c = λ l d. worded_in h k c d
-
-  pub worded_worse : (xs : List Tok) (l : ℕ) → InWords N xs l → InItem N xs l
-  worded_worse xs l d = in_words d
-
   -- behind the word `typedef`
 
   to_types : {M : List ℕ → Bool} {l c : ℕ} {us zs : List Tok} {i : Item} → c ≡ typedef_word
@@ -325,20 +310,6 @@ module _ (N : List ℕ → Bool) where
   pub types_refused : (xs us : List Tok) (l c : ℕ) → c ≡ typedef_word → xs ≡ word l c ∷ us → TakesNone (NewTypes N l) us
       → TakesNone (Itemed N) xs
   types_refused xs us l c e f n = rw f (record { never = λ u vs d. n.never u vs (to_types e d) })
-
-  types_in : {l m c : ℕ} {us : List Tok} → c ≡ typedef_word → Clear (InTypedefWords N) us → InItem N (word m c ∷ us) l
-      → ⊥
-  types_in e c (in_words d) = in_specs_not N (rw e refl) d
-  types_in {l = l} e c (in_typedef f d) = c l d
-  types_in e c (in_arms i d) = elim i [ ]
-
-  pub types_clear : (xs us : List Tok) (l c : ℕ) → c ≡ typedef_word → xs ≡ word l c ∷ us → Clear (InTypedefWords N) us
-      → Clear (InItem N) xs
-  types_clear xs us l c e f k = rw f (λ m d. types_in e k d)
-
-  pub types_worse : (xs us : List Tok) (l c : ℕ) → c ≡ typedef_word → xs ≡ word l c ∷ us → (m : ℕ)
-      → InTypedefWords N us m → InItem N xs m
-  types_worse xs us l c e f m d = rw f (in_typedef e d)
 
   new_only : {l : ℕ} {us ys zs ws : List Tok} {ss : List Spec} {v : List Declarator × (List ℕ → Bool)}
       {u : Item × (List ℕ → Bool)} → Takes (Specified N grammar.in_typedef) us ss ys
@@ -403,22 +374,3 @@ module _ (N : List ℕ → Bool) where
   pub arms_refused : (xs us : List Tok) (l : ℕ) (o : NamedOrder) → xs ≡ order_token o l ∷ us → TakesNone (Arms N l o) us
       → TakesNone (Itemed N) xs
   arms_refused xs us l o e n = rw e (record { never = λ u vs d. n.never u.0 vs (to_arms o d).1 })
-
-  arms_in : {l : ℕ} {us : List Tok} (m : ℕ) (o : NamedOrder) → Clear (InArms N) us → InItem N (order_token o m ∷ us) l
-      → ⊥
-  arms_in m Little c (in_words d) = in_specs_not N refl d
-  arms_in {l = l} m Little c (in_arms little d) = c l d
-  arms_in m Big c (in_words d) = in_specs_not N refl d
-  arms_in {l = l} m Big c (in_arms big d) = c l d
-
-  pub arms_clear : (xs us : List Tok) (l : ℕ) (o : NamedOrder) → xs ≡ order_token o l ∷ us → Clear (InArms N) us
-      → Clear (InItem N) xs
-  arms_clear xs us l o e k = rw e (λ m d. arms_in l o k d)
-
-  in_order : (o : NamedOrder) (l m : ℕ) (us : List Tok) → InArms N us m → InItem N (order_token o l ∷ us) m
-  in_order Little l m us d = in_arms little d
-  in_order Big l m us d = in_arms big d
-
-  pub arms_worse : (xs us : List Tok) (l : ℕ) (o : NamedOrder) → xs ≡ order_token o l ∷ us → (m : ℕ) → InArms N us m
-      → InItem N xs m
-  arms_worse xs us l o e m d = rw e (in_order o l m us d)

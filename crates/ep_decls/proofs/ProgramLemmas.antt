@@ -1,6 +1,6 @@
 -- Whole programs: read item by item, with the names that are types before each.
 use Rattle.std.proofs.Common.{◌≡◌, ℕ, Bool, true, false, List, [], ◌∷◌, ◌++◌, Some, None, refl, sym, ap, ◌∙◌}
-use Rattle.std.proofs.Common.{append_assoc, inl, inr, map, length, arith}
+use Rattle.std.proofs.Common.{append_assoc, map, length, arith}
 use Rattle.std.specs.Prelude.{◌==◌}
 use Rattle.std.proofs.lemmas.List.{append-nil}
 use Rattle.std.proofs.lemmas.Bool.{eqb-true}
@@ -12,18 +12,14 @@ use Rattle.ep_ast.specs.Token.{Tok}
 use Rattle.ep_ast.specs.Statement.{Item}
 use Rattle.ep_ast.specs.ProgramGrammar as programs
 use Rattle.ep_ast.specs.ProgramGrammar.{OneItem, Items, no_items, more_items, Programs}
-use Rattle.ep_ast.specs.BitField as bit_fields
-use Rattle.ep_ast.specs.BitField.{InItems, after_item, HasBitField}
 use Rattle.ep_ast.specs.Depth.{brackets_past, too_deep}
 use Rattle.ep_ast.specs.Offence as offences
 use Rattle.ep_ast.specs.Offence.{Offends, refusal}
-use Rattle.ep_ast.specs.Reading.{Takes, TakesNone}
+use Rattle.ep_ast.specs.Reading.{Takes, TakesNone, Stops}
 use Rattle.ep_lexer.specs.declared.tokens.Token.{Token}
 use Rattle.ep_lexer.specs.Tokens.{view}
-use Rattle.ep_reading.specs.Answer.{Clear, Fails}
-use Rattle.ep_decls.specs.Answer.{defines, prototype, declares, completes, Itemed, InItem, in_words, in_typedef}
-use Rattle.ep_decls.specs.Answer.{in_arms, in_first, in_second, NoneFits, Whole, whole}
-use Rattle.ep_decls.proofs.BeginLemmas.{worded_not, in_specs_not}
+use Rattle.ep_decls.specs.Answer.{defines, prototype, declares, completes, Itemed, NoneFits, Whole, whole}
+use Rattle.ep_decls.proofs.BeginLemmas.{worded_not}
 
 -- no item begins where there is no token
 no_item : {N M : List ℕ → Bool} {zs : List Tok} {i : Item} → OneItem N M [] zs i → ⊥
@@ -32,22 +28,10 @@ no_item {N = N} (programs.prototype e d) = worded_not N refl (prototype e d)
 no_item {N = N} (programs.declares d) = worded_not N refl (declares d)
 no_item {N = N} (programs.completes e d) = worded_not N refl (completes e d)
 
-of_item : (N : List ℕ → Bool) (xs : List Tok) (l : ℕ) → InItem N xs l → InItems N xs l
-of_item N xs l (in_words d) = bit_fields.in_words d
-of_item N xs l (in_typedef e d) = bit_fields.in_typedef_words e d
-of_item N xs l (in_arms i (in_first d)) = bit_fields.in_arm i d
-of_item N xs l (in_arms i (in_second d e)) = bit_fields.in_other_arm i d e
-
-in_none : {N : List ℕ → Bool} {l : ℕ} → InItems N [] l → ⊥
-in_none (after_item d e) = no_item d
-in_none {N = N} (bit_fields.in_words d) = in_specs_not N refl d
-
--- these are read with no bit-field in them, and what comes are items again
+-- these are read, and what comes are items again
 pub record ItemsSo (xs : List Tok) (front : List Item) (N : List ℕ → Bool) (ys : List Tok) : Type 0 where
   pub forth : (is : List Item) → Items N ys is → Programs xs (front ++ is)
   pub back : (is : List Item) → Programs xs is → (more : List Item) × (is ≡ front ++ more) × Items N ys more
-  pub clear : (l : ℕ) → HasBitField xs l → InItems N ys l
-  pub worse : (l : ℕ) → InItems N ys l → HasBitField xs l
 
 one_more : (front : List Item) {N M : List ℕ → Bool} {ys zs : List Tok} {i : Item} {is rest : List Item}
     → Takes (Itemed N) ys (i, M) zs → is ≡ front ++ rest → Items N ys rest
@@ -60,28 +44,17 @@ one_more front {i = i} t e (more_items {after = after} {ys = ys'} {i = i'} {is =
       rw (← ap (λ (v : Item × (List ℕ → Bool)). v.1) q.0, ← q.1) r,
     )
 
-in_next : {N M : List ℕ → Bool} {ys zs : List Tok} {i : Item} {l : ℕ} → Takes (Itemed N) ys (i, M) zs
-    → Clear (InItem N) ys → InItems N ys l → InItems M zs l
-in_next t k (after_item {after = after} {ys = ys'} {i = i'} d e) =
-    let q = t.only (i', after) ys' d in rw (← ap (λ (v : Item × (List ℕ → Bool)). v.1) q.0, ← q.1) e
-in_next {l = l} t k (bit_fields.in_words d) = absurd (k l (in_words d))
-in_next {l = l} t k (bit_fields.in_typedef_words e d) = absurd (k l (in_typedef e d))
-in_next {l = l} t k (bit_fields.in_arm i d) = absurd (k l (in_arms i (in_first d)))
-in_next {l = l} t k (bit_fields.in_other_arm i d e) = absurd (k l (in_arms i (in_second d e)))
-
 step : (xs : List Tok) (front : List Item) (N M : List ℕ → Bool) (ys zs : List Tok) (i : Item) → ItemsSo xs front N ys
-    → Takes (Itemed N) ys (i, M) zs → Clear (InItem N) ys → ItemsSo xs (front ++ i ∷ []) M zs
-step xs front N M ys zs i s t k = record {
+    → Takes (Itemed N) ys (i, M) zs → ItemsSo xs (front ++ i ∷ []) M zs
+step xs front N M ys zs i s t = record {
   forth = λ is d. rw append_assoc (s.forth (i ∷ is) (more_items t.holds d));
   back = λ is d. let q = s.back is d in one_more front t q.1 q.2;
-  clear = λ l d. in_next t k (s.clear l d);
-  worse = λ l d. s.worse l (after_item t.holds d);
 }
 
 pub items_step : (xs : List Tok) (front : List Item) (N M : List ℕ → Bool) (ys zs : List Tok)
-    (v : Item × (List ℕ → Bool)) → v.1 ≡ M → ItemsSo xs front N ys → Takes (Itemed N) ys v zs → Clear (InItem N) ys
+    (v : Item × (List ℕ → Bool)) → v.1 ≡ M → ItemsSo xs front N ys → Takes (Itemed N) ys v zs
     → ItemsSo xs (front ++ v.0 ∷ []) M zs
-items_step xs front N M ys zs v e s t k = rw (← e) (step xs front N v.1 ys zs v.0 s t k)
+items_step xs front N M ys zs v e s t = rw (← e) (step xs front N v.1 ys zs v.0 s t)
 
 none_only : {N : List ℕ → Bool} {is : List Item} → Items N [] is → is ≡ []
 none_only no_items = refl
@@ -98,10 +71,6 @@ items_done xs front N ys e s =
     let s' : ItemsSo xs front N [] = rw e at s in
     record { holds = whole (rw append-nil at (s'.forth [] no_items)); only = λ is zs d. whole_only front s' d }
 
-pub items_clear : (xs : List Tok) (front : List Item) (N : List ℕ → Bool) (ys : List Tok) → ys ≡ []
-    → ItemsSo xs front N ys → Clear HasBitField xs
-items_clear xs front N ys e s = let s' : ItemsSo xs front N [] = rw e at s in λ l d. in_none (s'.clear l d)
-
 none_never : {N : List ℕ → Bool} {ys : List Tok} {is : List Item} → (ys ≡ [] → ⊥) → TakesNone (Itemed N) ys
     → Items N ys is → ⊥
 none_never h n no_items = h refl
@@ -114,22 +83,6 @@ whole_never {is = is} h s n (whole d) = none_never h n (s.back is d).2
 pub items_refused : (xs : List Tok) (front : List Item) (N : List ℕ → Bool) (ys : List Tok) → (ys ≡ [] → ⊥)
     → ItemsSo xs front N ys → TakesNone (Itemed N) ys → TakesNone Whole xs
 items_refused xs front N ys h s n = record { never = λ is zs d. whole_never h s n d }
-
-not_here : {N : List ℕ → Bool} {ys : List Tok} {l : ℕ} → TakesNone (Itemed N) ys → Clear (InItem N) ys → InItems N ys l
-    → ⊥
-not_here n k (after_item {after = after} {ys = zs} {i = i} d e) = n.never (i, after) zs d
-not_here {l = l} n k (bit_fields.in_words d) = k l (in_words d)
-not_here {l = l} n k (bit_fields.in_typedef_words e d) = k l (in_typedef e d)
-not_here {l = l} n k (bit_fields.in_arm i d) = k l (in_arms i (in_first d))
-not_here {l = l} n k (bit_fields.in_other_arm i d e) = k l (in_arms i (in_second d e))
-
-pub refused_clear : (xs : List Tok) (front : List Item) (N : List ℕ → Bool) (ys : List Tok) → ItemsSo xs front N ys
-    → TakesNone (Itemed N) ys → Clear (InItem N) ys → Clear HasBitField xs
-refused_clear xs front N ys s n k = λ l d. not_here n k (s.clear l d)
-
-pub refused_worse : (xs : List Tok) (front : List Item) (N : List ℕ → Bool) (ys : List Tok) → ItemsSo xs front N ys
-    → (l : ℕ) → InItem N ys l → HasBitField xs l
-refused_worse xs front N ys s l d = s.worse l (of_item N ys l d)
 
 -- ---- the whole answer
 
@@ -146,12 +99,11 @@ pub whole_alone : (xs : List Tok) (is js : List Item) → Takes Whole xs is [] �
 whole_alone xs is js t d = (t.only js [] (whole d)).0
 
 -- what is whole and not too deep offends in no way
-pub faultless : (xs : List Tok) (is : List Item) → None ≡ brackets_past 0 xs → Takes Whole xs is [] → Clear HasBitField xs
+pub faultless : (xs : List Tok) (is : List Item) → None ≡ brackets_past 0 xs → Takes Whole xs is []
     → too_deep is ≡ None → (r : Refusal) → Offends xs r → ⊥
-faultless xs is n t c d r (offences.too_many_brackets e) = absurd cc
-faultless xs is n t c d r (offences.bit_field {l = l} e h) = c l h
-faultless xs is n t c d r (offences.no_program e f g) = g is (programs_of t.holds)
-faultless xs is n t c d r (offences.too_deep_inside {l = l} {is = js} e p q) =
+faultless xs is n t d r (offences.too_many_brackets e) = absurd cc
+faultless xs is n t d r (offences.no_program e g) = g is (programs_of t.holds)
+faultless xs is n t d r (offences.too_deep_inside {l = l} {is = js} e p q) =
     let h = whole_alone xs is js t p in let k : too_deep is ≡ Some l = rw (← h) q in absurd cc
 
 refusal_is : (f : Refusal) (k : ℕ) → f.kind ≡ k → f.word ≡ 0 → refusal k f.line ≡ f
@@ -165,12 +117,10 @@ pub brackets_offend : (xs : List Tok) (f : Refusal) (l : ℕ) → (f.kind ≡ 22
 brackets_offend xs f l h e = of_kind xs f 22 h.0 h.1 (offences.too_many_brackets
     (sym e ∙ ap (λ (n : ℕ). Some n) (sym h.2)))
 
-pub items_offend : (xs : List Tok) (e : Halt) → None ≡ brackets_past 0 xs → Fails Whole HasBitField xs e
+pub items_offend : (xs : List Tok) (e : Halt) → None ≡ brackets_past 0 xs → Stops Whole xs e
     → IfRefused e (Offends xs)
-items_offend xs (halts.Refused f) n h = elim h [
-  | inl p ↦ of_kind xs f 10 p.2.0 p.2.1 (offences.no_program (sym n) p.1 (λ is d. p.0.never is [] (whole d)))
-  | inr p ↦ of_kind xs f 9 p.1 p.2 (offences.bit_field (sym n) p.0)
-]
+items_offend xs (halts.Refused f) n h =
+    of_kind xs f 10 h.1.0 h.1.1 (offences.no_program (sym n) (λ is d. h.0.never is [] (whole d)))
 items_offend xs halts.Memory n h = tt
 
 pub depth_offends : (xs : List Tok) (f : Refusal) (is : List Item) → None ≡ brackets_past 0 xs → Takes Whole xs is []
@@ -182,12 +132,9 @@ depth_offends xs f is n t h = of_kind xs f 22 h.0 h.1 (offences.too_deep_inside 
 pub brackets_fit_none : (xs : List Tok) (l : ℕ) → Some l ≡ brackets_past 0 xs → NoneFits xs
 brackets_fit_none xs l e is p b d = cc
 
-pub items_not_deep : (xs : List Tok) (e : Halt) → Fails Whole HasBitField xs e
+pub items_not_deep : (xs : List Tok) (e : Halt) → Stops Whole xs e
     → IfRefused e (λ r. r.kind ≡ 22 → NoneFits xs)
-items_not_deep xs (halts.Refused f) h = elim h [
-  | inl p ↦ λ k. absurd (let q = p.2.0 in omega (arith, k, q))
-  | inr p ↦ λ k. absurd (let q = p.1 in omega (arith, k, q))
-]
+items_not_deep xs (halts.Refused f) h = λ k. absurd (let q = h.1.0 in omega (arith, k, q))
 items_not_deep xs halts.Memory h = tt
 
 pub depth_fits_none : (xs : List Tok) (is : List Item) (l : ℕ) → Takes Whole xs is [] → too_deep is ≡ Some l

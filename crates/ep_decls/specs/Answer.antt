@@ -10,21 +10,17 @@ use Rattle.ep_ast.specs.declared.refusals.Halt.TheVariants as halts
 use Rattle.ep_ast.specs.declared.statements.FunctionTree.{FunctionTree}
 use Rattle.ep_ast.specs.declared.statements.ItemTree.{ItemTree}
 use Rattle.ep_ast.specs.declared.statements.ProgramTree.{ProgramTree}
-use Rattle.ep_ast.specs.Token.{Tok, word, mark, other}
+use Rattle.ep_ast.specs.Token.{Tok, mark}
 use Rattle.ep_ast.specs.Declaration.{Declarator, Spec, Aggregate, Declaration, Head}
 use Rattle.ep_ast.specs.Statement as tree
 use Rattle.ep_ast.specs.Statement.{Function, Item, function_of, functions_of, item_of, program_of}
-use Rattle.ep_ast.specs.Mark.{typedef_word, semicolon}
-use Rattle.ep_ast.specs.TypeWords.{no_bag}
+use Rattle.ep_ast.specs.Mark.{semicolon}
 use Rattle.ep_ast.specs.DeclarationGrammar as grammar
 use Rattle.ep_ast.specs.DeclarationGrammar.{at_file_scope, Specified, Aggregated, Declares, Headed}
-use Rattle.ep_ast.specs.StatementGrammar.{IsIf}
-use Rattle.ep_ast.specs.Reading.{Takes}
+use Rattle.ep_ast.specs.Reading.{Takes, Stops}
 use Rattle.ep_ast.specs.ProgramGrammar.{Typedefs, Defines, Functions, OtherFunctions, OneItem, Programs}
-use Rattle.ep_ast.specs.BitField.{InSpecs, InFunctions, HasBitField}
 use Rattle.ep_ast.specs.Depth.{brackets_past, in_function, in_functions, in_item, too_deep}
 use Rattle.ep_reading.specs.declared.measured.Measured.{Measured}
-use Rattle.ep_reading.specs.Answer.{Clear, Fails}
 use Rattle.ep_reading.specs.Measured.{Shows, ShowsAll}
 
 -- ---- trees
@@ -61,16 +57,6 @@ pub data Arms (is_type : List ℕ → Bool) (line : ℕ) (order : NamedOrder) : 
       → OtherFunctions is_type ys zs gs
       → Arms is_type line order xs zs (tree.functions_by_order line order fs gs)
 
--- a bit-field behind an `#else`
-pub data InOther (is_type : List ℕ → Bool) : List Tok → (line : ℕ) → Type 0 where
-  in_other : {l m : ℕ} {xs : List Tok} → InFunctions is_type xs l → InOther is_type (other m ∷ xs) l
-
--- a bit-field in one of two arms
-pub data InArms (is_type : List ℕ → Bool) : List Tok → (line : ℕ) → Type 0 where
-  in_first : {l : ℕ} {xs : List Tok} → InFunctions is_type xs l → InArms is_type xs l
-  in_second : {l m : ℕ} {xs ys : List Tok} {fs : List Function} → Functions is_type xs (other m ∷ ys) fs
-      → InFunctions is_type ys l → InArms is_type xs l
-
 -- ---- items
 
 -- an item that begins with the words of a declaration
@@ -83,29 +69,15 @@ pub data Worded (is_type : List ℕ → Bool) : List Tok → List Tok → Item �
   completes : {l c : ℕ} {xs ys : List Tok} {a : Aggregate} → c ≡ semicolon → Aggregated is_type xs (mark l c ∷ ys) a
       → Worded is_type xs ys (tree.completes a)
 
-abbrev pub InWords : (List ℕ → Bool) → List Tok → (line : ℕ) → Type 0
-InWords is_type xs l = InSpecs is_type at_file_scope no_bag xs l
-
 -- from behind the word `typedef` of this line, with the names that are types after it
 pub data NewTypes (before : List ℕ → Bool) (line : ℕ) : List Tok → List Tok → Item × (List ℕ → Bool) → Type 0 where
   new_types : {after : List ℕ → Bool} {xs ys zs : List Tok} {ss : List Spec} {ds : List Declarator}
       → Specified before grammar.in_typedef xs ys ss → Typedefs before after ys zs ds
       → NewTypes before line xs zs (tree.typedefs (record { line = line; specs = ss; declarators = ds }), after)
 
-abbrev pub InTypedefWords : (List ℕ → Bool) → List Tok → (line : ℕ) → Type 0
-InTypedefWords is_type xs l = InSpecs is_type grammar.in_typedef no_bag xs l
-
 -- an item with the names that are types after it
 abbrev pub Itemed : (before : List ℕ → Bool) → List Tok → List Tok → Item × (List ℕ → Bool) → Type 0
 Itemed before xs ys v = OneItem before v.1 xs ys v.0
-
--- a bit-field in the first item
-pub data InItem (is_type : List ℕ → Bool) : List Tok → (line : ℕ) → Type 0 where
-  in_words : {l : ℕ} {xs : List Tok} → InWords is_type xs l → InItem is_type xs l
-  in_typedef : {l m c : ℕ} {xs : List Tok} → c ≡ typedef_word → InTypedefWords is_type xs l
-      → InItem is_type (word m c ∷ xs) l
-  in_arms : {t : Tok} {o : NamedOrder} {l : ℕ} {xs : List Tok} → IsIf t o → InArms is_type xs l
-      → InItem is_type (t ∷ xs) l
 
 -- ---- programs
 
@@ -113,10 +85,10 @@ pub data InItem (is_type : List ℕ → Bool) : List Tok → (line : ℕ) → Ty
 pub data Whole : List Tok → List Tok → List Item → Type 0 where
   whole : {xs : List Tok} {is : List Item} → Programs xs is → Whole xs [] is
 
--- these items are all, with no bit-field in them, or the tokens are refused
+-- these items are all, or the tokens are refused
 abbrev pub ReadsAll : List Tok → Result (Measured (Vec ItemTree)) Halt → Type 0
-ReadsAll xs (Ok k) = (is : List Item) × ShowsItems k is × Takes Whole xs is [] × Clear HasBitField xs
-ReadsAll xs (Err e) = Fails Whole HasBitField xs e
+ReadsAll xs (Ok k) = (is : List Item) × ShowsItems k is × Takes Whole xs is []
+ReadsAll xs (Err e) = Stops Whole xs e
 
 -- whatever tree the tokens are, there is too much in it inside one another, or too many brackets are open
 abbrev pub NoneFits : List Tok → Type 0

@@ -5,14 +5,12 @@ ghost use Rattle.ep_ast.specs.Token.{Tok};
 ghost use Rattle.ep_ast.specs.Declaration as shape;
 ghost use Rattle.ep_ast.specs.DeclarationGrammar as grammar;
 ghost use Rattle.ep_ast.specs.ProgramGrammar.{Defines, Functions, OtherFunctions};
-ghost use Rattle.ep_ast.specs.BitField.{InFunctions};
 ghost use Rattle.ep_ast.specs.Reading.{Takes};
 ghost use Rattle.ep_lexer.specs.Tokens.{view};
 ghost use Rattle.ep_reading.specs.Names.{is_type};
-ghost use Rattle.ep_reading.specs.Answer.{Parses, ParsesChecked, IsPast, IsWithin};
+ghost use Rattle.ep_reading.specs.Answer.{Parses, IsPast, IsWithin};
 ghost use Rattle.ep_declarations.specs.Answer.{ShowsSpecs, ShowsHead};
-ghost use Rattle.ep_decls.specs.Answer.{ShowsFunction, ShowsFunctions, ShowsOther, ShowsItem, Arms, InOther, InArms};
-ghost use Rattle.ep_decls.specs.Answer.{InWords};
+ghost use Rattle.ep_decls.specs.Answer.{ShowsFunction, ShowsFunctions, ShowsOther, ShowsItem, Arms};
 
 use crate::trees::{behind_else, by_order, function_of};
 use crate::unnamed::{behind_unnamed, no_later};
@@ -67,8 +65,7 @@ fn function<'a>(
     tokens: &'a [Token],
 ) -> Result<Part<'a, Measured<FunctionTree>>, Halt>
     requires { length tokens.now < 2 ^ 24 }
-    ensures reads { ParsesChecked ShowsFunction (Defines (is_type reader.now.names.now))
-        (InWords (is_type reader.now.names.now)) (map view tokens.now) result }
+    ensures reads { Parses ShowsFunction (Defines (is_type reader.now.names.now)) (map view tokens.now) result }
     ensures shorter { IfOk result (IsPast (length tokens.now)) }
 {
     let specs = spec_list(reader, Context::FileScope, tokens)?;
@@ -84,8 +81,7 @@ fn all_functions<'a>(
     tokens: &'a [Token],
 ) -> Result<Part<'a, Measured<Vec<FunctionTree>>>, Halt>
     requires { length tokens.now < 2 ^ 24 }
-    ensures reads { ParsesChecked ShowsFunctions (Functions (is_type reader.now.names.now))
-        (InFunctions (is_type reader.now.names.now)) (map view tokens.now) result }
+    ensures reads { Parses ShowsFunctions (Functions (is_type reader.now.names.now)) (map view tokens.now) result }
     ensures shorter { IfOk result (IsWithin (length tokens.now)) }
 {
     let mut found = Measured::Fits(Vec::new(reader.alloc));
@@ -106,8 +102,7 @@ fn other_functions<'a>(
     tokens: &'a [Token],
 ) -> Result<Part<'a, Measured<Option<Vec<FunctionTree>>>>, Halt>
     requires { length tokens.now < 2 ^ 24 }
-    ensures reads { ParsesChecked ShowsOther (OtherFunctions (is_type reader.now.names.now))
-        (InOther (is_type reader.now.names.now)) (map view tokens.now) result }
+    ensures reads { Parses ShowsOther (OtherFunctions (is_type reader.now.names.now)) (map view tokens.now) result }
     ensures shorter { IfOk result (IsPast (length tokens.now)) }
 {
     if let Some((_, more)) = at_end_if(tokens) {
@@ -137,8 +132,7 @@ pub fn arms<'a>(
     tokens: &'a [Token],
 ) -> Result<Part<'a, Measured<ItemTree>>, Halt>
     requires { length tokens.now < 2 ^ 24 }
-    ensures reads { ParsesChecked ShowsItem (Arms (is_type reader.now.names.now) line order)
-        (InArms (is_type reader.now.names.now)) (map view tokens.now) result }
+    ensures reads { Parses ShowsItem (Arms (is_type reader.now.names.now) line order) (map view tokens.now) result }
     ensures shorter { IfOk result (IsPast (length tokens.now)) }
 {
     let then = all_functions(reader, tokens)?;

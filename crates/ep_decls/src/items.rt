@@ -7,11 +7,10 @@ ghost use Rattle.ep_ast.specs.DeclarationGrammar as grammar;
 ghost use Rattle.ep_ast.specs.Reading.{Takes};
 ghost use Rattle.ep_lexer.specs.Tokens.{view};
 ghost use Rattle.ep_reading.specs.Names.{is_type};
-ghost use Rattle.ep_reading.specs.Answer.{Parses, ParsesChecked, IsPast};
+ghost use Rattle.ep_reading.specs.Answer.{Parses, IsPast};
 ghost use Rattle.ep_declarations.specs.Answer.{ShowsSpecs};
 ghost use Rattle.ep_decls.specs.Look as look;
-ghost use Rattle.ep_decls.specs.Answer.{ShowsItem, MakesTypes, Worded, InWords, NewTypes, InTypedefWords, Itemed};
-ghost use Rattle.ep_decls.specs.Answer.{InItem};
+ghost use Rattle.ep_decls.specs.Answer.{ShowsItem, MakesTypes, Worded, NewTypes, Itemed};
 
 use crate::functions::{arms, body};
 use crate::look::begins_head;
@@ -33,8 +32,8 @@ fn typedef<'a>(
     tokens: &'a [Token],
 ) -> Result<Part<'a, Measured<ItemTree>>, Halt>
     requires { length tokens.now < 2 ^ 24 }
-    ensures reads { ParsesChecked (MakesTypes (is_type names.new)) (NewTypes (is_type names.old) line)
-        (InTypedefWords (is_type names.old)) (map view tokens.now) result }
+    ensures reads { Parses (MakesTypes (is_type names.new)) (NewTypes (is_type names.old) line) (map view tokens.now)
+        result }
     ensures shorter { IfOk result (IsPast (length tokens.now)) }
 {
     let reader = Reader {
@@ -84,8 +83,7 @@ fn worded_item<'a>(
     tokens: &'a [Token],
 ) -> Result<Part<'a, Measured<ItemTree>>, Halt>
     requires { length tokens.now < 2 ^ 24 }
-    ensures reads { ParsesChecked ShowsItem (Worded (is_type reader.now.names.now))
-        (InWords (is_type reader.now.names.now)) (map view tokens.now) result }
+    ensures reads { Parses ShowsItem (Worded (is_type reader.now.names.now)) (map view tokens.now) result }
     ensures shorter { IfOk result (IsPast (length tokens.now)) }
 {
     let specs = spec_list(reader, Context::FileScope, tokens)?;
@@ -116,8 +114,7 @@ pub fn item<'a>(
     tokens: &'a [Token],
 ) -> Result<Part<'a, Measured<ItemTree>>, Halt>
     requires { length tokens.now < 2 ^ 24 }
-    ensures reads { ParsesChecked (MakesTypes (is_type names.new)) (Itemed (is_type names.old))
-        (InItem (is_type names.old)) (map view tokens.now) result }
+    ensures reads { Parses (MakesTypes (is_type names.new)) (Itemed (is_type names.old)) (map view tokens.now) result }
     ensures shorter { IfOk result (IsPast (length tokens.now)) }
 {
     if let Some((line, behind)) = at_word(tokens, Word::Typedef) {

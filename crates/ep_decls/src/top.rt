@@ -37,9 +37,9 @@ fn all_items(alloc: Global, last: u32, tokens: &[Token]) -> Result<Measured<Vec<
 }
 
 /// The tree of a whole program.
-/// A refusal for a bit-field names its line, one for syntax that of the first token with which no
-/// program goes on, or the last token's where the tokens end too soon, and one for nesting that of
-/// the bracket, or of what is too deep the first in the text.
+/// A refusal for syntax names the line of the first token with which no program goes on, or the last
+/// token's where the tokens end too soon, and one for nesting that of the bracket, or of what is too
+/// deep the first in the text.
 pub fn program(alloc: Global, tokens: &Tokens) -> Result<ProgramTree, Halt>
     requires few { length tokens.now.list.items < 2 ^ 24 }
     ensures derives { IfOk result (λ t. Programs (all_view tokens.now) (program_of t)) }

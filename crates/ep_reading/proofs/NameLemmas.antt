@@ -1,7 +1,9 @@
 -- The names that are types after one more.
-use Rattle.std.proofs.Common.{◌≡◌, ℕ, Bool, true, false, cond, List, [], ◌∷◌, ◌++◌, refl, sym, ap, subst, ◌∙◌}
+use Rattle.std.proofs.Common.{◌≡◌, ℕ, ◌<◌, Bool, true, false, cond, List, [], ◌∷◌, ◌++◌, length, arith, refl, sym, ap}
+use Rattle.std.proofs.Common.{subst, ◌∙◌}
+use Rattle.std.proofs.lemmas.Bool.Decides.{nat_tests}
 use Rattle.ep_int.proofs.Basics.{or_false-right, or-assoc, bytes_eq-equal}
-use Rattle.std.specs.Prelude.{◌||◌}
+use Rattle.std.specs.Prelude.{◌||◌, ◌&&◌, nat_le}
 use Rattle.std.specs.Global.{Vec}
 use Rattle.std.specs.List.{list_any}
 use Rattle.std.specs.Str.{bytes_eq}
@@ -86,3 +88,23 @@ has_then N ks t b e h = h ∙ ap (λ (a : Bool). a || has t ks) (sym h ∙ e) �
 pub has_else : (N : List ℕ → Bool) (ks : List (Vec ℕ)) (t : List ℕ) (b c : Bool) → b ≡ N t → b ≡ false → c ≡ has t ks
     → c ≡ with_names N ks t
 has_else N ks t b c e h k = k ∙ ap (λ (a : Bool). a || has t ks) (sym h ∙ e) ∙ sym (is_among N ks t)
+
+-- texts of six bytes or more
+abbrev pub are_long : List (List ℕ) → Bool
+are_long [] = true
+are_long (w ∷ ws) = nat_le 6 (length w) && are_long ws
+
+other : (t w : List ℕ) → length t < 6 → nat_le 6 (length w) ≡ true → (b : Bool) → bytes_eq w t ≡ b → b ≡ false
+other t w lt le false e = refl
+other t w lt le true e =
+    let same : length w ≡ length t = ap length (bytes_eq-equal w t e) in
+    absurd (grind (arith, same, lt, le, nat_tests))
+
+pub none_long : (ws : List (List ℕ)) (t : List ℕ) → are_long ws ≡ true → length t < 6
+    → list_any (λ w. bytes_eq w t) ws ≡ false
+none_long [] t h lt = refl
+none_long (w ∷ ws) t h lt =
+    let long : nat_le 6 (length w) ≡ true = grind (arith, h) in
+    let rest : are_long ws ≡ true = grind (arith, h) in
+    ap (λ (b : Bool). b || list_any (λ v. bytes_eq v t) ws) (other t w lt long (bytes_eq w t) refl)
+    ∙ none_long ws t rest lt

@@ -1,5 +1,5 @@
 -- What an answer says of a caller's answer.
-use Rattle.std.proofs.Common.{◌≡◌, ℕ, Bool, List, inl, inr}
+use Rattle.std.proofs.Common.{ℕ, Bool, List}
 use Rattle.std.specs.Prelude.{Result, Ok, Err}
 use Rattle.ep_ast.specs.declared.refusals.Halt.{Halt}
 use Rattle.ep_ast.specs.declared.refusals.Halt.TheVariants as halts
@@ -7,7 +7,7 @@ use Rattle.ep_ast.specs.Token.{Tok}
 use Rattle.ep_ast.specs.Grammar.{Rule}
 use Rattle.ep_ast.specs.Reading.{Refuses, Takes, TakesNone, Halts, Stops}
 use Rattle.ep_reading.specs.declared.reader.Part.{Part}
-use Rattle.ep_reading.specs.Answer.{after, Parses, Clear, Fails, ParsesChecked}
+use Rattle.ep_reading.specs.Answer.{after, Parses}
 
 pub passes : (N : List ℕ → Bool) (r s : Rule) (ys xs : List Tok) (e : Halt)
     → (Refuses N r ys → Refuses N s xs) → Halts N r ys e → Halts N s xs e
@@ -32,42 +32,12 @@ pub stops_stop : {S T : Type 0} (P : List Tok → List Tok → S → Type 0) (Q 
 stops_stop P Q ys xs (halts.Refused f) g h = (g h.0, h.1)
 stops_stop P Q ys xs halts.Memory g h = tt
 
--- ---- where bit-fields may stand
-
-pub stops_fail : {S T : Type 0} (P : List Tok → List Tok → S → Type 0) (Q : List Tok → List Tok → T → Type 0)
-    (B : List Tok → ℕ → Type 0) (ys xs : List Tok) (e : Halt)
-    → (TakesNone P ys → TakesNone Q xs) → (TakesNone P ys → Clear B xs) → Stops P ys e → Fails Q B xs e
-stops_fail P Q B ys xs (halts.Refused f) g k h = inl (g h.0, k h.0, h.1)
-stops_fail P Q B ys xs halts.Memory g k h = tt
-
-pub fails_fail : {S T : Type 0} (P : List Tok → List Tok → S → Type 0) (B : List Tok → ℕ → Type 0)
-    (Q : List Tok → List Tok → T → Type 0) (C : List Tok → ℕ → Type 0) (ys xs : List Tok) (e : Halt)
-    → (TakesNone P ys → TakesNone Q xs) → (TakesNone P ys → Clear B ys → Clear C xs) → ((l : ℕ) → B ys l → C xs l)
-    → Fails P B ys e → Fails Q C xs e
-fails_fail P B Q C ys xs (halts.Refused f) g k w h = elim h [
-  | inl p ↦ inl (g p.0, k p.0 p.1, p.2)
-  | inr p ↦ inr (w f.line p.0, p.1, p.2)
-]
-fails_fail P B Q C ys xs halts.Memory g k w h = tt
-
--- ---- a whole answer handed on
-
-pub gives_checked : {K T : Type 0} (Shows : K → T → Type 0) (P : List Tok → List Tok → T → Type 0)
-    (B : List Tok → ℕ → Type 0) (xs : List Tok) (r : Result (Part K) Halt)
-    → Clear B xs → Parses Shows P xs r → ParsesChecked Shows P B xs r
-gives_checked Shows P B xs (Ok p) k h = (h, k)
-gives_checked Shows P B xs (Err e) k h = stops_fail P P B xs xs e (λ n. n) (λ n. k) h
-
--- the same, where the value becomes another
-pub checked_checked : {K S T : Type 0} (Shows : K → S → Type 0) (Other : K → T → Type 0)
-    (P : List Tok → List Tok → S → Type 0) (B : List Tok → ℕ → Type 0)
-    (Q : List Tok → List Tok → T → Type 0) (C : List Tok → ℕ → Type 0) (ys xs : List Tok) (f : S → T)
+-- a whole answer handed on, where the value becomes another
+pub parses_parses : {K S T : Type 0} (Shows : K → S → Type 0) (Other : K → T → Type 0)
+    (P : List Tok → List Tok → S → Type 0) (Q : List Tok → List Tok → T → Type 0) (ys xs : List Tok) (f : S → T)
     (r : Result (Part K) Halt)
     → ((k : K) (v : S) → Shows k v → Other k (f v)) → ((v : S) (zs : List Tok) → Takes P ys v zs → Takes Q xs (f v) zs)
-    → (TakesNone P ys → TakesNone Q xs) → (Clear B ys → Clear C xs) → ((l : ℕ) → B ys l → C xs l)
-    → ParsesChecked Shows P B ys r → ParsesChecked Other Q C xs r
-checked_checked Shows Other P B Q C ys xs f (Ok p) s t n c w h = (
-  record { value = f h.0.value; shows = s p.value h.0.value h.0.shows; takes = t h.0.value (after p) h.0.takes },
-  c h.1,
-)
-checked_checked Shows Other P B Q C ys xs f (Err e) s t n c w h = fails_fail P B Q C ys xs e n (λ m. c) w h
+    → (TakesNone P ys → TakesNone Q xs) → Parses Shows P ys r → Parses Other Q xs r
+parses_parses Shows Other P Q ys xs f (Ok p) s t n h =
+    record { value = f h.value; shows = s p.value h.value h.shows; takes = t h.value (after p) h.takes }
+parses_parses Shows Other P Q ys xs f (Err e) s t n h = stops_stop P Q ys xs e n h

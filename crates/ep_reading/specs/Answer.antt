@@ -1,12 +1,10 @@
 -- What readers answer: the part that was read, which no other front of the tokens is, or a refusal.
-use Rattle.std.specs.Prelude.{◌≡◌, ℕ, ◌<◌, ◌≤◌, ◌⊎◌, length, map, List, Result, Ok, Err}
-use Rattle.ep_ast.specs.Kind as kinds
-use Rattle.ep_ast.specs.declared.refusals.Refusal.{Refusal}
+use Rattle.std.specs.Prelude.{◌≡◌, ℕ, ◌<◌, ◌≤◌, length, map, List, Result, Ok, Err}
 use Rattle.ep_ast.specs.declared.refusals.Halt.{Halt}
 use Rattle.ep_ast.specs.declared.refusals.Halt.TheVariants as halts
 use Rattle.ep_ast.specs.Token.{Tok}
 use Rattle.ep_ast.specs.Grammar.{expr}
-use Rattle.ep_ast.specs.Reading.{Ends, Takes, TakesNone, IsSyntax, Stops}
+use Rattle.ep_ast.specs.Reading.{Ends, Takes, IsSyntax, Stops}
 use Rattle.ep_lexer.specs.Tokens.{view}
 use Rattle.ep_reading.specs.declared.reader.Part.{Part}
 
@@ -40,28 +38,6 @@ abbrev pub ParsesAs : {K T : Type 0} → (K → T) → (List Tok → List Tok �
     → Type 0
 ParsesAs shape P xs (Ok p) = Takes P xs (shape p.value) (after p)
 ParsesAs shape P xs (Err e) = Stops P xs e
-
--- ---- where bit-fields may stand, which are refused by themselves
-
--- no bit-field stands there
-abbrev pub Clear : (List Tok → (line : ℕ) → Type 0) → List Tok → Type 0
-Clear B xs = (l : ℕ) → B xs l → ⊥
-
--- a refusal for a bit-field of this line
-abbrev pub IsBitField : (List Tok → (line : ℕ) → Type 0) → List Tok → Refusal → Type 0
-IsBitField B xs f = B xs f.line × (f.kind ≡ kinds.bit_field) × (f.word ≡ 0)
-
--- nothing is to be read and no bit-field stands there, or one does
-abbrev pub Fails : {T : Type 0} → (List Tok → List Tok → T → Type 0) → (List Tok → (line : ℕ) → Type 0) → List Tok
-    → Halt → Type 0
-Fails P B xs (halts.Refused f) = (TakesNone P xs × Clear B xs × IsSyntax f) ⊎ IsBitField B xs f
-Fails P B xs halts.Memory = Unit {0}
-
--- a front is read, and no bit-field stands in it
-abbrev pub ParsesChecked : {K T : Type 0} → (K → T → Type 0) → (List Tok → List Tok → T → Type 0)
-    → (List Tok → (line : ℕ) → Type 0) → List Tok → Result (Part K) Halt → Type 0
-ParsesChecked Shows P B xs (Ok p) = IsTaken Shows P xs p.value (after p) × Clear B xs
-ParsesChecked Shows P B xs (Err e) = Fails P B xs e
 
 -- ---- what ends where no expression goes on: values, and declarators with a value
 

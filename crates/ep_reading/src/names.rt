@@ -27,6 +27,9 @@ fn is_among(words: &[&[u8]], name: &[u8]) -> bool
 fn is_built_in(name: &[u8]) -> bool
     ensures { result ≡ is_built_in_type name.now }
 {
+    if name.len() < 6 {
+        return false;
+    }
     is_among(
         &[
             b"int8_t",
@@ -80,10 +83,19 @@ impl TypeNames {
         }
     }
 
+    fn is_added(&self, name: &[u8]) -> bool
+        ensures { result ≡ list_any (λ k. bytes_eq name.now k.items) self.now.added.keys }
+    {
+        if self.added.is_empty() {
+            return false;
+        }
+        self.added.contains(name)
+    }
+
     /// Whether the name is one of a type, here.
     pub fn has(&self, name: &[u8]) -> bool
         ensures { result ≡ is_type self.now name.now }
     {
-        is_built_in(name) || self.added.contains(name)
+        is_built_in(name) || self.is_added(name)
     }
 }

@@ -2,9 +2,8 @@
 use Rattle.std.proofs.Common.{◌≡◌, refl, ◌∙◌, ap, ℕ, suc, zero, ◌+◌, ◌-◌, ◌≤◌, ◌<◌, ◌⊎◌, inl, inr, Bool, true, false}
 use Rattle.ep_lexer.proofs.Classes.{digit_word, letter_word}
 use Rattle.ep_lexer.proofs.Gaps.{past_shorter}
-use Rattle.ep_int.proofs.Basics.{or-true}
 use Rattle.std.proofs.lemmas.Bool.{cond-true}
-use Rattle.std.proofs.Common.{◌||◌, not, if◌then◌else◌, nat_eq, List, [], ◌∷◌, ◌++◌, length, drop, Option, Some}
+use Rattle.std.proofs.Common.{not, if◌then◌else◌, nat_eq, List, [], ◌∷◌, ◌++◌, length, drop, Option, Some}
 use Rattle.std.proofs.Common.{slice_index_or, arith, cond}
 use Rattle.std.proofs.lemmas.Bool.{and_parts}
 use Rattle.std.specs.List.{prefix_len, position_from, starts_with, list_all}

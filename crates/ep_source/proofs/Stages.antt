@@ -17,7 +17,6 @@ use Rattle.ep_elaboration.specs.ProgramRules.{MeansProgram}
 use Rattle.ep_elaboration.specs.ProgramOffences.{ProgramOffends}
 use Rattle.ep_decls.specs.Answer.{NoneFits}
 use Rattle.ep_source.specs.Source.{MeansNothing, MeansNothingWithin, Offends, in_bytes, in_tokens, in_program}
-use Rattle.ep_source.proofs.Questions.{no_bit_field}
 
 pub cut_offends : (m : Model) (bs : List ℕ) (e : Halt) → IfRefused e (bytes.Offends start bs) → IfRefused e (Offends m bs)
 cut_offends m bs halts.Memory h = tt
@@ -53,8 +52,7 @@ cut_nothing m bs (halts.Refused r) h = λ k q p. h p.spells.tokens p.spells.cut
 
 no_tree : (ts : List Tok) (r : Refusal) → tokens.Offends ts r → (r.kind ≡ 22 → ⊥) → (is : List Item) → Programs ts is → ⊥
 no_tree ts r (tokens.too_many_brackets b) k is p = k refl
-no_tree ts r (tokens.bit_field n b) k is p = no_bit_field p b
-no_tree ts r (tokens.no_program n b never) k is p = never is p
+no_tree ts r (tokens.no_program n never) k is p = never is p
 no_tree ts r (tokens.too_deep_inside n d e) k is p = k refl
 
 pub tokens_nothing : (m : Model) (bs : List ℕ) (ts : List Tok) (e : Halt) → ((us : List Tok) → Spells bs us → us ≡ ts)
@@ -80,8 +78,7 @@ cut_within m bs (halts.Refused r) h = λ q p. h p.spells.tokens p.spells.cut
 
 none_fits : (ts : List Tok) (r : Refusal) → tokens.Offends ts r → (r.kind ≡ 22 → NoneFits ts) → NoneFits ts
 none_fits ts r (tokens.too_many_brackets b) k is p c d = cc
-none_fits ts r (tokens.bit_field n b) k is p c d = no_bit_field p b
-none_fits ts r (tokens.no_program n b never) k is p c d = never is p
+none_fits ts r (tokens.no_program n never) k is p c d = never is p
 none_fits ts r (tokens.too_deep_inside n q e) k is p c d = k refl is p c d
 
 pub tokens_within : (m : Model) (bs : List ℕ) (ts : List Tok) (e : Halt) → ((us : List Tok) → Spells bs us → us ≡ ts)

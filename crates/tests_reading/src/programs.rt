@@ -47,6 +47,23 @@ fn accepted(rt: HostRuntime) -> Result<(), Fail> {
             "aggregate 1;declaration 2;aggregate 3;",
         ),
         (
+            "struct s { uint8_t a : 3, b : 5, c; };\nstruct { int : 3; } x;\nunion u { int a : 1, : 0, *b[2]; };",
+            "aggregate 1;declaration 2;aggregate 3;",
+        ),
+        (
+            "typedef struct { int a\n: 3; } T;\nstruct s { T : 3, a : 1 ? 2 : 3; };",
+            "typedef 1;aggregate 3;",
+        ),
+        (
+            "struct s { int a : b ? 1 : 2, c : 1 ? d ? 3 : 4 : 5, : 0 || 1; };",
+            "aggregate 1;",
+        ),
+        (
+            "#if __BYTE_ORDER__ == __ORDER_LITTLE_ENDIAN__\nint f(void) { }\n#else\nstruct s { int a : 3; } f(void) { \
+            }\n#endif",
+            "arms 1 Little 1 1;",
+        ),
+        (
             "#if __BYTE_ORDER__ == __ORDER_LITTLE_ENDIAN__\nint f(void) { }\nint g(void) { }\n#else\nint f(void) { }\n\
             #endif\nint x;",
             "arms 1 Little 2 1;declaration 7;",
@@ -76,19 +93,25 @@ fn accepted(rt: HostRuntime) -> Result<(), Fail> {
 #[test]
 fn refusals(rt: HostRuntime) -> Result<(), Fail> {
     for (source, kind, line) in [
-        ("struct s { int a : 3; };", 9, 1),
-        ("struct s {\nint a, b[2]\n: 3; };", 9, 3),
-        ("typedef struct { int a\n: 3; } T;", 9, 2),
-        ("struct s { int : 3; };", 10, 1),
-        ("int a : 3;", 10, 1),
-        ("struct s { int a : 3; };\nint ;", 9, 1),
+        ("struct s {\nint a, b[2]\n: 3; };", 10, 3),
+        ("struct s { int *a\n: 3; };", 10, 2),
+        ("struct s { int *\n: 3; };", 10, 2),
+        ("struct s { int a : 3; };\nint ;", 10, 2),
         ("int ;\nstruct s { int a : 3; };", 10, 1),
-        (
-            "#if __BYTE_ORDER__ == __ORDER_LITTLE_ENDIAN__\nint f(void) { }\n#else\nstruct s { int a : 3; } f(void) { \
-            }\n#endif",
-            9,
-            4,
-        ),
+        ("typedef int T;\nstruct s { int\nT : 3; };", 10, 3),
+        ("typedef int T;\nstruct s { int a : 1,\nT : 3; };", 10, 3),
+        ("struct s { int a :\n; };", 10, 2),
+        ("struct s { int :\n, b; };", 10, 2),
+        ("struct s { int a : 1,\n; };", 10, 2),
+        ("struct s { int a : 1\n: 2; };", 10, 2),
+        ("struct s { int a : 1\n};", 10, 2),
+        ("struct s { int a : 1 ? 2\n; };", 10, 2),
+        ("struct s { int a : 3\nb; };", 10, 2),
+        ("struct s {\n: 3; };", 10, 2),
+        ("int a\n: 3;", 10, 2),
+        ("typedef int a\n: 3;", 10, 2),
+        ("int f(int a\n: 3) { }", 10, 2),
+        ("int f(void) {\nint a\n: 3; }", 10, 3),
         ("typedef int T;\nint\nT;", 10, 3),
         ("typedef int T;\nint f(void) {\nint T; }", 10, 3),
         ("typedef int T, T;", 10, 1),
@@ -185,9 +208,16 @@ fn trees(rt: HostRuntime) -> Result<(), Fail> {
         (
             "struct s {\nint a, *b[c];\n};",
             "ProgramTree { items: [Aggregate(AggregateTree { line: 1, word: Struct, tag: Some([115]), members: \
-            [MemberTree { line: 2, specs: [Plain(Word(2, Int))], declarators: [DeclaratorTree { line: 2, stars: [], \
-            name: [97], bounds: [] }, DeclaratorTree { line: 2, stars: [0], name: [98], bounds: [Some(Id(2, [99]))] \
-            }] }] })] }",
+            [MemberTree { line: 2, specs: [Plain(Word(2, Int))], fields: [Whole(DeclaratorTree { line: 2, \
+            stars: [], name: [97], bounds: [] }), Whole(DeclaratorTree { line: 2, stars: [0], name: [98], bounds: \
+            [Some(Id(2, [99]))] })] }] })] }",
+        ),
+        (
+            "struct s {\nint a\n: b, c,\n: d ? e : f;\n};",
+            "ProgramTree { items: [Aggregate(AggregateTree { line: 1, word: Struct, tag: Some([115]), members: \
+            [MemberTree { line: 2, specs: [Plain(Word(2, Int))], fields: [Bits(2, Some([97]), Id(3, [98])), \
+            Whole(DeclaratorTree { line: 3, stars: [], name: [99], bounds: [] }), Bits(4, None, Conditional(4, \
+            Id(4, [100]), Id(4, [101]), Id(4, [102])))] }] })] }",
         ),
         (
             "int x = { a, };",

@@ -1,7 +1,6 @@
-use Rattle.std.proofs.Common.{map, refl}
+use Rattle.std.proofs.Common.{map}
 use Rattle.std.proofs.lemmas.Result.{err_from_is_err_and}
-use Rattle.ep_ast.specs.TypeWords.{no_bag}
-use Rattle.ep_ast.specs.DeclarationGrammar.{in_block, specs_line, Inits, Declares}
+use Rattle.ep_ast.specs.DeclarationGrammar.{in_block, specs_line, Specified, Inits, Declares}
 use Rattle.ep_lexer.specs.Tokens.{view}
 use Rattle.ep_reading.specs.Names.{is_type}
 use Rattle.ep_reading.proofs.PassLemmas.{stops_stop}
@@ -12,13 +11,16 @@ pub returns-in_err-specs-clause-reads : goal.returns-in_err-specs-clause-reads
 returns-in_err-specs-clause-reads c =
     let p = err_from_is_err_and c.from_residual.result c.from_residual.ensures.1 in
     rw (p.1, p.2)
-    (variables.words_halt (is_type c.args.reader.now.names.now) in_block no_bag (map view c.args.tokens.now)
-    c.in_err-specs.field-0.0 refl c.in_err-specs.ensures.reads)
+    (stops_stop (Specified (is_type c.args.reader.now.names.now) in_block)
+    (Declares (is_type c.args.reader.now.names.now) in_block) (map view c.args.tokens.now)
+    (map view c.args.tokens.now) c.in_err-specs.field-0.0
+    (variables.words_refused (is_type c.args.reader.now.names.now) in_block (map view c.args.tokens.now))
+    c.in_err-specs.ensures.reads)
 
 pub returns-in_err-variables-clause-reads : goal.returns-in_err-variables-clause-reads
 returns-in_err-variables-clause-reads c =
     let p = err_from_is_err_and c.from_residual-in_err-variables.result c.from_residual-in_err-variables.ensures.1 in
-    let q = c.in_ok-specs.ensures.reads.0 in
+    let q = c.in_ok-specs.ensures.reads in
     rw (p.1, p.2)
     (stops_stop (Inits (is_type c.args.reader.now.names.now))
     (Declares (is_type c.args.reader.now.names.now) in_block) (map view c.in_ok-specs.specs.rest.now)
@@ -29,7 +31,7 @@ returns-in_err-variables-clause-reads c =
 
 pub returns-clause-reads : goal.returns-clause-reads
 returns-clause-reads c =
-    let q = c.in_ok-specs.ensures.reads.0 in
+    let q = c.in_ok-specs.ensures.reads in
     let r = c.in_ok-variables.ensures.reads in
     record {
       value = record { line = specs_line q.value; specs = q.value; inits = r.value };

@@ -1,12 +1,11 @@
 use Rattle.std.proofs.Common.{◌++◌, ◌∷◌, [], map, arith, sym}
 use Rattle.std.proofs.lemmas.Result.{err_from_is_err_and}
 use Rattle.ep_ast.specs.Statement.{item_of}
-use Rattle.ep_ast.specs.BitField.{HasBitField}
 use Rattle.ep_ast.specs.Depth.{in_item}
 use Rattle.ep_lexer.specs.Tokens.{view}
 use Rattle.ep_reading.specs.Names.{is_type}
-use Rattle.ep_decls.specs.Answer.{Itemed, InItem, Whole}
-use Rattle.ep_reading.proofs.PassLemmas.{fails_fail}
+use Rattle.ep_decls.specs.Answer.{Itemed, Whole}
+use Rattle.ep_reading.proofs.PassLemmas.{stops_stop}
 use Rattle.ep_reading.proofs.MeasuredLemmas.{longer_shows}
 use Rattle.ep_decls.proofs.ProgramLemmas as programs
 use Rattle.ep_decls.proofs.top.all_items.Goals as goal
@@ -20,7 +19,6 @@ returns-then-is_empty c =
         i.0,
         i.1,
         programs.items_done (map view c.args.tokens.now) i.0 (is_type c.items.names) (map view c.items.rest.now) e i.2,
-        programs.items_clear (map view c.args.tokens.now) i.0 (is_type c.items.names) (map view c.items.rest.now) e i.2,
       );
     }
 
@@ -30,13 +28,9 @@ returns-in_err-one c =
     let i = c.items.invariant.0 in
     let e = programs.some_left c.items.rest.now (sym c.if-is_empty.ensures) in
     rw (p.1, p.2) (record {
-      reads = fails_fail (Itemed (is_type c.items.names)) (InItem (is_type c.items.names)) Whole HasBitField
-          (map view c.items.rest.now) (map view c.args.tokens.now) c.in_err-one.field-0.0
+      reads = stops_stop (Itemed (is_type c.items.names)) Whole (map view c.items.rest.now)
+          (map view c.args.tokens.now) c.in_err-one.field-0.0
           (programs.items_refused (map view c.args.tokens.now) i.0 (is_type c.items.names) (map view c.items.rest.now) e
-          i.2)
-          (programs.refused_clear (map view c.args.tokens.now) i.0 (is_type c.items.names) (map view c.items.rest.now)
-          i.2)
-          (programs.refused_worse (map view c.args.tokens.now) i.0 (is_type c.items.names) (map view c.items.rest.now)
           i.2)
           c.in_err-one.ensures.reads;
     })
@@ -46,11 +40,11 @@ items-preserved c =
     let i = c.items.invariant.0 in
     let q = c.in_ok-one.ensures.reads in (
       (
-        i.0 ++ q.0.value.0 ∷ [],
-        longer_shows item_of in_item c.items.found c.in_ok-one.one.value c.in_ok-found.found i.0 q.0.value.0
-            c.in_ok-found.ensures i.1 q.0.shows.0,
+        i.0 ++ q.value.0 ∷ [],
+        longer_shows item_of in_item c.items.found c.in_ok-one.one.value c.in_ok-found.found i.0 q.value.0
+            c.in_ok-found.ensures i.1 q.shows.0,
         programs.items_step (map view c.args.tokens.now) i.0 (is_type c.items.names) (is_type c.item.new.names)
-            (map view c.items.rest.now) (map view c.in_ok-one.one.rest.now) q.0.value q.0.shows.1 i.2 q.0.takes q.1,
+            (map view c.items.rest.now) (map view c.in_ok-one.one.rest.now) q.value q.shows.1 i.2 q.takes,
       ),
       omega (arith, c.in_ok-one.ensures.shorter, c.items.invariant.1),
     )

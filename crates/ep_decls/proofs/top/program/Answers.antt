@@ -1,11 +1,9 @@
 use Rattle.std.proofs.Common.{◌≡◌, List, [], map, Some, None, sym, ap, ◌∙◌}
 use Rattle.std.proofs.lemmas.Result.{err_from_is_err_and}
-use Rattle.ep_ast.specs.BitField.{HasBitField}
 use Rattle.ep_ast.specs.Depth.{brackets_past, too_deep}
-use Rattle.ep_ast.specs.Reading.{Takes}
+use Rattle.ep_ast.specs.Reading.{Takes, Stops}
 use Rattle.ep_lexer.specs.declared.tokens.Token.{Token}
 use Rattle.ep_lexer.specs.Tokens.{view, all_view}
-use Rattle.ep_reading.specs.Answer.{Clear, Fails}
 use Rattle.ep_decls.specs.Answer.{Whole}
 use Rattle.ep_decls.proofs.ProgramLemmas as programs
 use Rattle.ep_decls.proofs.top.program.Goals as goal
@@ -23,7 +21,7 @@ returns-in_err-found-clause-refused c =
     sym c.in_default.is ∙ c.brackets_past.ensures ∙ ap (λ (ts : List Token). brackets_past 0 (map view ts))
     c.as_slice-all.ensures.value in
     let p = err_from_is_err_and c.from_residual.result c.from_residual.ensures.1 in
-    let f : Fails Whole HasBitField (all_view c.args.tokens.now) c.in_err-found.field-0.0 =
+    let f : Stops Whole (all_view c.args.tokens.now) c.in_err-found.field-0.0 =
     rw c.as_slice-all.ensures.value at c.in_err-found.ensures.reads in
     rw (p.1, p.2) (programs.items_offend (all_view c.args.tokens.now) c.in_err-found.field-0.0 n f)
 
@@ -49,10 +47,9 @@ returns-in-Ok-clause-faultless c =
     c.as_slice-all.ensures.value in
     let q = c.in_ok-found.ensures.reads in
     let t : Takes Whole (all_view c.args.tokens.now) q.0 [] = rw c.as_slice-all.ensures.value at q.2 in
-    let d : Clear HasBitField (all_view c.args.tokens.now) = rw c.as_slice-all.ensures.value at q.3 in
     let w = c.in-Ok.ensures q.0 q.1 in
     let f : too_deep q.0 ≡ None = w.1 in
-    programs.faultless (all_view c.args.tokens.now) q.0 n t d f
+    programs.faultless (all_view c.args.tokens.now) q.0 n t f
 
 pub returns-in-Some-clause-deep : goal.returns-in-Some-clause-deep
 returns-in-Some-clause-deep c =
@@ -64,7 +61,7 @@ returns-in-Some-clause-deep c =
 pub returns-in_err-found-clause-deep : goal.returns-in_err-found-clause-deep
 returns-in_err-found-clause-deep c =
     let p = err_from_is_err_and c.from_residual.result c.from_residual.ensures.1 in
-    let f : Fails Whole HasBitField (all_view c.args.tokens.now) c.in_err-found.field-0.0 =
+    let f : Stops Whole (all_view c.args.tokens.now) c.in_err-found.field-0.0 =
     rw c.as_slice-all.ensures.value at c.in_err-found.ensures.reads in
     rw (p.1, p.2) (programs.items_not_deep (all_view c.args.tokens.now) c.in_err-found.field-0.0 f)
 

@@ -8,4 +8,4 @@ returns-then-is_built_in c = has_then is_built_in_type c.args.self.now.added.key
 
 pub returns-else-is_built_in : goal.returns-else-is_built_in
 returns-else-is_built_in c = has_else is_built_in_type c.args.self.now.added.keys c.args.name.now c.is_built_in.result
-    c.contains.result c.is_built_in.ensures c.if-is_built_in.false c.contains.ensures
+    c.is_added.result c.is_built_in.ensures c.if-is_built_in.false c.is_added.ensures
