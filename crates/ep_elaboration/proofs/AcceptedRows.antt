@@ -2,7 +2,7 @@
 use Rattle.std.proofs.Common.{None, Some, [], false, refl, true, ◌∷◌, ◌≡◌}
 use Rattle.std.specs.Prelude.{codes}
 use Rattle.ep_int.specs.declared.types.Model.TheVariants.{Ilp32}
-use Rattle.ep_ast.specs.Declaration.{aggregate, body, member, plain, single, to_members, to_specs}
+use Rattle.ep_ast.specs.Declaration.{aggregate, body, plain, single, to_members}
 use Rattle.ep_ast.specs.Expression.{arrow, assign, binary, cast, conditional, id, index, post_decrement}
 use Rattle.ep_ast.specs.Expression.{post_increment, sizeof_expr, sizeof_type, step, unary, word}
 use Rattle.ep_ast.specs.Mark as mark
@@ -12,6 +12,7 @@ use Rattle.ep_ast.specs.Statement.{while_loop}
 use Rattle.ep_ast.specs.declared.orders.NamedOrder.TheVariants.{Big, Little}
 use Rattle.ep_elaboration.proofs.Opened.{all_sound}
 use Rattle.ep_elaboration.proofs.Shared.{behind_deep_functions, in_main}
+use Rattle.ep_elaboration.proofs.Trees.{members_of}
 use Rattle.ep_elaboration.proofs.Trees.{address_of, array, array_field, call_of, char_word_at, char_words, declarator}
 use Rattle.ep_elaboration.proofs.Trees.{defined, defines_function, does, does_call, field, global, head, ifs}
 use Rattle.ep_elaboration.proofs.Trees.{in_block, init, int_word_at, int_words, literal, local, long_word_at, main_at}
@@ -292,7 +293,7 @@ sound_4 : all_sound Ilp32 (
     (to_members
     (field 1 (typedef_words 1 (codes "int64_t")) (codes "q") ∷ field 1 (char_words 1) (codes "z") ∷ []))) ∷ [])
     (codes "in") ∷
-    member 1 (to_specs (struct_words 1 (codes "a")))
+    members_of 1 (struct_words 1 (codes "a"))
     (declarator 1 (0 ∷ []) (codes "p") (Some (number 1 2) ∷ []) ∷ []) ∷ []))) ∷ [])
     (declarator 1 [] (codes "t") [] ∷ [])) ∷
     plain_main 1 ∷ []) ∷

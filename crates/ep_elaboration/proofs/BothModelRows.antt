@@ -2,11 +2,12 @@
 use Rattle.std.proofs.Common.{List, None, Some, [], false, refl, true, ◌∷◌, ◌≡◌}
 use Rattle.std.specs.Prelude.{codes}
 use Rattle.ep_int.specs.declared.types.Model.TheVariants.{Ilp32, Lp64}
-use Rattle.ep_ast.specs.Declaration.{aggregate, body, member, to_members, to_specs}
+use Rattle.ep_ast.specs.Declaration.{aggregate, body, to_members}
 use Rattle.ep_ast.specs.Expression.{binary, cast, conditional, id, sizeof_expr, sizeof_type, unary, word}
 use Rattle.ep_ast.specs.Mark as mark
 use Rattle.ep_ast.specs.Statement.{Item, completes, typedefs}
 use Rattle.ep_elaboration.proofs.Opened.{all_sound}
+use Rattle.ep_elaboration.proofs.Trees.{members_of}
 use Rattle.ep_elaboration.proofs.Trees.{array, array_field, char_word_at, char_words, declarator, field, global, init}
 use Rattle.ep_elaboration.proofs.Trees.{int_word_at, int_words, literal, long_word_at, number, one_word, plain_main}
 use Rattle.ep_elaboration.proofs.Trees.{pointer_field, struct_of, struct_words, two_words, type_name, typedef}
@@ -176,7 +177,7 @@ programs_2 =
     (struct_of 1 (codes "list")
     (pointer_field 1 (struct_words 1 (codes "list")) (codes "next") ∷
     field 1 (typedef_words 1 (codes "uint16_t")) (codes "key") ∷
-    member 1 (to_specs (struct_words 1 (codes "list"))) (declarator 1 (0 ∷ 0 ∷ []) (codes "up") [] ∷ []) ∷ [])) ∷
+    members_of 1 (struct_words 1 (codes "list")) (declarator 1 (0 ∷ 0 ∷ []) (codes "up") [] ∷ []) ∷ [])) ∷
     plain_main 2 ∷ []) ∷
     -- struct a { uint16_t h; int64_t q; };
     -- struct b { uint8_t c; struct a *p[3]; uint8_t d; };
@@ -188,7 +189,7 @@ programs_2 =
     completes
     (struct_of 2 (codes "b")
     (field 2 (typedef_words 2 (codes "uint8_t")) (codes "c") ∷
-    member 2 (to_specs (struct_words 2 (codes "a"))) (declarator 2 (0 ∷ []) (codes "p") (Some (number 2 3) ∷ []) ∷ []) ∷
+    members_of 2 (struct_words 2 (codes "a")) (declarator 2 (0 ∷ []) (codes "p") (Some (number 2 3) ∷ []) ∷ []) ∷
     field 2 (typedef_words 2 (codes "uint8_t")) (codes "d") ∷ [])) ∷
     plain_main 3 ∷ []) ∷
     -- typedef struct { uint8_t k; const char *name; size_t length; } entry;

@@ -1,52 +1,55 @@
 -- The functions of the definition against the rules: declarators, type words, structs and unions.
 use Rattle.std.proofs.Common.{◌≡◌, [], ◌∷◌, ◌++◌, ℕ, Bool, List, Option, Some, None, Ok, Err, refl, subst, inl, inr}
 use Rattle.std.specs.Prelude.{◌==◌, pos, length}
-use Rattle.ep_ast.specs.Declaration.{Aggregate, Declarator, Members, Specs, aggregate, body, member, more_members}
-use Rattle.ep_ast.specs.Declaration.{more_specs, no_members, no_specs, plain}
+use Rattle.ep_ast.specs.Declaration.{Aggregate, Declarator, MemberField, Members, Specs, aggregate, bits, body, member}
+use Rattle.ep_ast.specs.Declaration.{more_members, more_specs, no_members, no_specs, plain, whole}
 use Rattle.ep_ast.specs.Expression.{Expr, TypeWord}
 use Rattle.ep_ast.specs.Mark.{union_word}
 use Rattle.ep_ast.specs.declared.refusals.Refusal.{Refusal}
-use Rattle.ep_elaboration.specs.Aggregates.{Named, all_members, body_declared, closed, member_declared}
-use Rattle.ep_elaboration.specs.Aggregates.{members_declared, opened, specs_declared, with_member, words_declared}
+use Rattle.ep_elaboration.specs.Aggregates.{Named, all_members, body_declared, closed, entries_declared}
+use Rattle.ep_elaboration.specs.Aggregates.{entry_declared, field_declared, in_union, member_declared, opened}
+use Rattle.ep_elaboration.specs.Aggregates.{specs_declared, with_field, with_member, words_declared}
 use Rattle.ep_elaboration.specs.Declarators.{Object, bound, bounds, counted, declared_object, declared_type}
 use Rattle.ep_elaboration.specs.Declarators.{object_bounds, object_declared}
 use Rattle.ep_elaboration.specs.ProgramSteps.{type_declared, types_declared}
 use Rattle.ep_elaboration.specs.DeclaratorRules.{MeansBody, MeansBound}
 use Rattle.ep_elaboration.specs.DeclaratorOffences.{BodyOffends, BoundOffends, BoundsOffend}
-use Rattle.ep_elaboration.specs.DeclaratorRules.{MeansBounds, MeansMemberName, MeansMemberNames, MeansMembers}
+use Rattle.ep_elaboration.specs.DeclaratorRules.{MeansBounds, MeansEntries, MeansEntry, MeansMemberName, MeansMembers}
+use Rattle.ep_elaboration.specs.DeclaratorRules.{MeansWidth}
 use Rattle.ep_elaboration.specs.DeclaratorRules.{MeansObject, MeansObjectBounds, MeansSpecs, MeansTypedef}
 use Rattle.ep_elaboration.specs.DeclaratorRules.{MeansTypedefs, MeansWords}
-use Rattle.ep_elaboration.specs.DeclaratorOffences.{MemberNameOffends, MemberNamesOffend}
+use Rattle.ep_elaboration.specs.DeclaratorOffences.{EntriesOffend, EntryOffends, MemberNameOffends, WidthOffends}
 use Rattle.ep_elaboration.specs.DeclaratorOffences.{MembersOffend, ObjectBoundsOffend, ObjectOffends, SpecsOffend}
 use Rattle.ep_elaboration.specs.DeclaratorOffences.{TypedefOffends, TypedefsOffend, WordsOffend, bad_bound}
 use Rattle.ep_elaboration.specs.DeclaratorOffences.{bad_member_name, bad_object, bad_size, bad_tag, bad_typedef}
 use Rattle.ep_elaboration.specs.DeclaratorRules.{from_list, has_body}
-use Rattle.ep_elaboration.specs.DeclaratorOffences.{bad_words, in_bound, in_bound_behind}
+use Rattle.ep_elaboration.specs.DeclaratorOffences.{bad_width, bad_words, in_bit_field, in_bound, in_bound_behind}
+use Rattle.ep_elaboration.specs.DeclaratorOffences.{in_entries}
 use Rattle.ep_elaboration.specs.DeclaratorOffences.{in_bounds, in_bounds_of_list, in_first_bound}
-use Rattle.ep_elaboration.specs.DeclaratorOffences.{in_first_member_name, in_first_typedef, in_later_bound}
-use Rattle.ep_elaboration.specs.DeclaratorOffences.{in_later_member_name, in_later_members, in_later_specs}
-use Rattle.ep_elaboration.specs.DeclaratorOffences.{in_later_typedef, in_member_bounds, in_member_names}
+use Rattle.ep_elaboration.specs.DeclaratorOffences.{in_first_entry, in_first_typedef, in_later_bound, in_later_entry}
+use Rattle.ep_elaboration.specs.DeclaratorOffences.{in_later_members, in_later_specs, in_member, in_width}
+use Rattle.ep_elaboration.specs.DeclaratorOffences.{in_later_typedef, in_member_bounds}
 use Rattle.ep_elaboration.specs.DeclaratorOffences.{in_member_specs, in_members, in_no_bounds, in_object_bounds}
-use Rattle.ep_elaboration.specs.DeclaratorRules.{is_body, is_bound}
+use Rattle.ep_elaboration.specs.DeclaratorRules.{is_bit_field, is_body, is_bound, is_member}
 use Rattle.ep_elaboration.specs.DeclaratorOffences.{in_spec_body, in_typedef_bounds, in_words}
-use Rattle.ep_elaboration.specs.DeclaratorRules.{is_member_name, is_object, is_plain, is_typedef, is_words}
+use Rattle.ep_elaboration.specs.DeclaratorRules.{is_member_name, is_object, is_plain, is_typedef, is_width, is_words}
 use Rattle.ep_elaboration.specs.DeclaratorRules.{listed_with_bound, listed_without_bounds}
 use Rattle.ep_elaboration.specs.DeclaratorOffences.{missing_bound}
-use Rattle.ep_elaboration.specs.DeclaratorRules.{more_bounds, more_member_names, more_typedefs, no_bounds}
-use Rattle.ep_elaboration.specs.DeclaratorRules.{no_member_names, no_more_members, no_typedefs, one_member_more}
+use Rattle.ep_elaboration.specs.DeclaratorRules.{more_bounds, more_entries, more_typedefs, no_bounds, no_entries}
+use Rattle.ep_elaboration.specs.DeclaratorRules.{no_more_members, no_typedefs, one_member_more}
 use Rattle.ep_elaboration.specs.DeclaratorRules.{one_word_more, without_list}
 use Rattle.ep_elaboration.specs.DeclaratorOffences.{too_many_values}
-use Rattle.ep_layout.specs.Table.{members_stop}
 use Rattle.ep_typing.specs.Constant.{count_in}
 use Rattle.ep_typing.specs.Env.{Env}
 use Rattle.ep_typing.specs.Names.{mentioned, mentioned_words, words_type}
 use Rattle.ep_typing.specs.Operand.{value_of}
-use Rattle.ep_typing.specs.Results.{at, needed}
+use Rattle.ep_typing.specs.Results.{at, needed, on_statement}
 use Rattle.ep_typing.specs.Types.{with_stars}
 use Rattle.ep_typing.specs.Typing.{typed}
 use Rattle.ep_typing.specs.declared.types.CType.{CType}
 use Rattle.ep_typing.specs.Offences.{refusal}
-use Rattle.ep_typing.proofs.Order.{bind_ok, bind_err, at_ok, at_err, means, meant, refused, first, ok_is}
+use Rattle.ep_typing.proofs.Order.{bind_ok, bind_err, at_ok, at_err, on_ok, on_err, means, meant, refused, first}
+use Rattle.ep_typing.proofs.Order.{ok_is}
 
 pub meant_bound : {G : Env} {l : ℕ} {b : Option Expr} {out : (ℕ × Env)} → MeansBound G l b out → bound G l b ≡ Ok out
 unfolding bound
@@ -55,10 +58,10 @@ meant_bound (is_bound {G = G} {e = e} x n p0 p1) = rw (meant (mentioned G e) e x
 pub means_bound : (G : Env) (l : ℕ) (b : Option Expr) (out : (ℕ × Env)) → bound G l b ≡ Ok out → MeansBound G l b out
 unfolding bound
 means_bound G l (Some e) out hyp =
-    let q0 = bind_ok (typed (mentioned G e) e) _ out hyp in
+    let q0 = bind_ok (on_statement l (typed (mentioned G e) e)) _ out hyp in
     let q1 = bind_ok (at l (counted (value_of (mentioned G e).types q0.0))) _ out q0.2 in
-    subst (MeansBound G l (Some e)) (ok_is _ out q1.2) (is_bound q0.0 q1.0 (means (mentioned G e) e q0.0 q0.1)
-    (at_ok l (counted (value_of (mentioned G e).types q0.0)) q1.0 q1.1))
+    subst (MeansBound G l (Some e)) (ok_is _ out q1.2) (is_bound q0.0 q1.0 (means (mentioned G e) e q0.0
+    (on_ok l (typed (mentioned G e) e) q0.0 q0.1)) (at_ok l (counted (value_of (mentioned G e).types q0.0)) q1.0 q1.1))
 means_bound G l None out hyp = absurd (let bad = hyp in cc)
 
 pub offended_bound : {G : Env} {l : ℕ} {b : Option Expr} {r : Refusal} → BoundOffends G l b r → bound G l b ≡ Err r
@@ -69,11 +72,13 @@ offended_bound missing_bound = refl
 
 pub refused_bound : (G : Env) (l : ℕ) (b : Option Expr) (r : Refusal) → bound G l b ≡ Err r → BoundOffends G l b r
 unfolding bound
-refused_bound G l (Some e) r hyp = elim (bind_err (typed (mentioned G e) e) _ r hyp) [
-  | inl h0 ↦ in_bound (refused (mentioned G e) e r h0)
+refused_bound G l (Some e) r hyp = elim (bind_err (on_statement l (typed (mentioned G e) e)) _ r hyp) [
+  | inl h0 ↦ let c = on_err l (typed (mentioned G e) e) r h0 in subst (BoundOffends G l (Some e)) c.2 (in_bound
+      (refused (mentioned G e) e c.0 c.1))
   | inr w0 ↦ elim (bind_err (at l (counted (value_of (mentioned G e).types w0.0))) _ r w0.2) [
     | inl h1 ↦ let kind = at_err l (counted (value_of (mentioned G e).types w0.0)) r h1 in subst (BoundOffends G l
-        (Some e)) kind.2 (bad_bound w0.0 (means (mentioned G e) e w0.0 w0.1) kind.1)
+        (Some e)) kind.2 (bad_bound w0.0 (means (mentioned G e) e w0.0 (on_ok l (typed (mentioned G e) e) w0.0
+        w0.1)) kind.1)
     | inr w1 ↦ absurd (let bad = w1.2 in cc)
   ]
 ]
@@ -277,35 +282,92 @@ refused_member_declared G ms c d r hyp = elim (bind_err (bounds G d.line d.bound
       (means_bounds G d.line d.bounds w0.0 w0.1) kind.1)
 ]
 
-pub meant_members_declared : {G : Env} {ms : Named} {c : CType} {ds : List Declarator} {out : (Named × Env)}
-    → MeansMemberNames G ms c ds out → members_declared G ms c ds ≡ Ok out
-unfolding members_declared
-meant_members_declared no_member_names = refl
-meant_members_declared (more_member_names x y p0 p1) = rw (meant_member_declared p0, meant_members_declared p1) refl
+pub meant_field_declared : {G : Env} {round : List ℕ} {ms : Named} {c : CType} {l : ℕ} {n : Option (List ℕ)} {e : Expr}
+    {out : (Named × Env)} → MeansWidth G round ms c l n e out → field_declared G round ms c l n e ≡ Ok out
+unfolding field_declared
+meant_field_declared (is_width {G = G} {e = e} x y p0 p1) = rw (meant (mentioned G e) e x p0, p1) refl
 
-pub means_members_declared : (G : Env) (ms : Named) (c : CType) (ds : List Declarator) (out : (Named × Env))
-    → members_declared G ms c ds ≡ Ok out → MeansMemberNames G ms c ds out
-unfolding members_declared
-means_members_declared G ms c [] out hyp = subst (MeansMemberNames G ms c []) (ok_is _ out hyp) (no_member_names)
-means_members_declared G ms c (d ∷ ds) out hyp =
-    let q0 = bind_ok (member_declared G ms c d) _ out hyp in more_member_names q0.0 out
-    (means_member_declared G ms c d q0.0 q0.1) (means_members_declared q0.0.1 q0.0.0 c ds out q0.2)
+pub means_field_declared : (G : Env) (round : List ℕ) (ms : Named) (c : CType) (l : ℕ) (n : Option (List ℕ)) (e : Expr)
+    (out : (Named × Env)) → field_declared G round ms c l n e ≡ Ok out → MeansWidth G round ms c l n e out
+unfolding field_declared
+means_field_declared G round ms c l n e out hyp =
+    let q0 = bind_ok (on_statement l (typed (mentioned G e) e)) _ out hyp in
+    is_width q0.0 out (means (mentioned G e) e q0.0 (on_ok l (typed (mentioned G e) e) q0.0 q0.1)) (at_ok l
+    (with_field (mentioned G e) (in_union G round) ms c n (value_of (mentioned G e).types q0.0)) out q0.2)
 
-pub offended_members_declared : {G : Env} {ms : Named} {c : CType} {ds : List Declarator} {r : Refusal}
-    → MemberNamesOffend G ms c ds r → members_declared G ms c ds ≡ Err r
-unfolding members_declared
-offended_members_declared (in_first_member_name broken) = rw (offended_member_declared broken) refl
-offended_members_declared (in_later_member_name x p0 broken) =
-    rw (meant_member_declared p0, offended_members_declared broken) refl
+pub offended_field_declared : {G : Env} {round : List ℕ} {ms : Named} {c : CType} {l : ℕ} {n : Option (List ℕ)}
+    {e : Expr} {r : Refusal} → WidthOffends G round ms c l n e r → field_declared G round ms c l n e ≡ Err r
+unfolding field_declared
+offended_field_declared (in_width {G = G} {e = e} {r = r} broken) = rw (first (mentioned G e) e r broken) refl
+offended_field_declared (bad_width {G = G} {e = e} x p0 broken) = rw (meant (mentioned G e) e x p0, broken) refl
 
-pub refused_members_declared : (G : Env) (ms : Named) (c : CType) (ds : List Declarator) (r : Refusal)
-    → members_declared G ms c ds ≡ Err r → MemberNamesOffend G ms c ds r
-unfolding members_declared
-refused_members_declared G ms c [] r hyp = absurd (let bad = hyp in cc)
-refused_members_declared G ms c (d ∷ ds) r hyp = elim (bind_err (member_declared G ms c d) _ r hyp) [
-  | inl h0 ↦ in_first_member_name (refused_member_declared G ms c d r h0)
-  | inr w0 ↦ in_later_member_name w0.0 (means_member_declared G ms c d w0.0 w0.1)
-      (refused_members_declared w0.0.1 w0.0.0 c ds r w0.2)
+pub refused_field_declared : (G : Env) (round : List ℕ) (ms : Named) (c : CType) (l : ℕ) (n : Option (List ℕ))
+    (e : Expr) (r : Refusal) → field_declared G round ms c l n e ≡ Err r → WidthOffends G round ms c l n e r
+unfolding field_declared
+refused_field_declared G round ms c l n e r hyp =
+    elim (bind_err (on_statement l (typed (mentioned G e) e)) _ r hyp) [
+      | inl h0 ↦ let d = on_err l (typed (mentioned G e) e) r h0 in subst (WidthOffends G round ms c l n e) d.2
+          (in_width (refused (mentioned G e) e d.0 d.1))
+      | inr w0 ↦ let kind = at_err l (with_field (mentioned G e) (in_union G round) ms c n
+          (value_of (mentioned G e).types w0.0)) r w0.2 in subst (WidthOffends G round ms c l n e) kind.2
+          (bad_width w0.0 (means (mentioned G e) e w0.0 (on_ok l (typed (mentioned G e) e) w0.0 w0.1)) kind.1)
+    ]
+
+pub meant_entry_declared : {G : Env} {round : List ℕ} {ms : Named} {c : CType} {f : MemberField} {out : (Named × Env)}
+    → MeansEntry G round ms c f out → entry_declared G round ms c f ≡ Ok out
+unfolding entry_declared
+meant_entry_declared (is_member x p0) = meant_member_declared p0
+meant_entry_declared (is_bit_field x p0) = meant_field_declared p0
+
+pub means_entry_declared : (G : Env) (round : List ℕ) (ms : Named) (c : CType) (f : MemberField) (out : (Named × Env))
+    → entry_declared G round ms c f ≡ Ok out → MeansEntry G round ms c f out
+unfolding entry_declared
+means_entry_declared G round ms c (whole d) out hyp = is_member out (means_member_declared G ms c d out hyp)
+means_entry_declared G round ms c (bits l n e) out hyp =
+    is_bit_field out (means_field_declared G round ms c l n e out hyp)
+
+pub offended_entry_declared : {G : Env} {round : List ℕ} {ms : Named} {c : CType} {f : MemberField} {r : Refusal}
+    → EntryOffends G round ms c f r → entry_declared G round ms c f ≡ Err r
+unfolding entry_declared
+offended_entry_declared (in_member broken) = offended_member_declared broken
+offended_entry_declared (in_bit_field broken) = offended_field_declared broken
+
+pub refused_entry_declared : (G : Env) (round : List ℕ) (ms : Named) (c : CType) (f : MemberField) (r : Refusal)
+    → entry_declared G round ms c f ≡ Err r → EntryOffends G round ms c f r
+unfolding entry_declared
+refused_entry_declared G round ms c (whole d) r hyp = in_member (refused_member_declared G ms c d r hyp)
+refused_entry_declared G round ms c (bits l n e) r hyp =
+    in_bit_field (refused_field_declared G round ms c l n e r hyp)
+
+pub meant_entries_declared : {G : Env} {round : List ℕ} {ms : Named} {c : CType} {fs : List MemberField} {out :
+    (Named × Env)} → MeansEntries G round ms c fs out → entries_declared G round ms c fs ≡ Ok out
+unfolding entries_declared
+meant_entries_declared no_entries = refl
+meant_entries_declared (more_entries x y p0 p1) = rw (meant_entry_declared p0, meant_entries_declared p1) refl
+
+pub means_entries_declared : (G : Env) (round : List ℕ) (ms : Named) (c : CType) (fs : List MemberField) (out :
+    (Named × Env)) → entries_declared G round ms c fs ≡ Ok out → MeansEntries G round ms c fs out
+unfolding entries_declared
+means_entries_declared G round ms c [] out hyp = subst (MeansEntries G round ms c []) (ok_is _ out hyp) (no_entries)
+means_entries_declared G round ms c (f ∷ fs) out hyp =
+    let q0 = bind_ok (entry_declared G round ms c f) _ out hyp in more_entries q0.0 out
+    (means_entry_declared G round ms c f q0.0 q0.1) (means_entries_declared q0.0.1 round q0.0.0 c fs out q0.2)
+
+pub offended_entries_declared : {G : Env} {round : List ℕ} {ms : Named} {c : CType} {fs : List MemberField} {r :
+    Refusal} → EntriesOffend G round ms c fs r → entries_declared G round ms c fs ≡ Err r
+unfolding entries_declared
+offended_entries_declared (in_first_entry broken) = rw (offended_entry_declared broken) refl
+offended_entries_declared (in_later_entry x p0 broken) =
+    rw (meant_entry_declared p0, offended_entries_declared broken) refl
+
+pub refused_entries_declared : (G : Env) (round : List ℕ) (ms : Named) (c : CType) (fs : List MemberField)
+    (r : Refusal) → entries_declared G round ms c fs ≡ Err r → EntriesOffend G round ms c fs r
+unfolding entries_declared
+refused_entries_declared G round ms c [] r hyp = absurd (let bad = hyp in cc)
+refused_entries_declared G round ms c (f ∷ fs) r hyp = elim (bind_err (entry_declared G round ms c f) _ r hyp) [
+  | inl h0 ↦ in_first_entry (refused_entry_declared G round ms c f r h0)
+  | inr w0 ↦ in_later_entry w0.0 (means_entry_declared G round ms c f w0.0 w0.1)
+      (refused_entries_declared w0.0.1 round w0.0.0 c fs r w0.2)
 ]
 
 pub meant_words_declared : {G : Env} {ws : List TypeWord} {out : (CType × Env)} → MeansWords G ws out
@@ -350,7 +412,7 @@ mutual
       → MeansMembers G round ms ns out → all_members G round ms ns ≡ Ok out
   meant_all_members no_more_members = refl
   meant_all_members (one_member_more c x y p0 p1 p2) =
-      rw (meant_specs_declared p0, meant_members_declared p1, meant_all_members p2) refl
+      rw (meant_specs_declared p0, meant_entries_declared p1, meant_all_members p2) refl
 
 mutual
   unfolding specs_declared body_declared all_members
@@ -369,17 +431,16 @@ mutual
       let q0 = bind_ok (at l (opened G round (w == union_word) tag)) _ out hyp in
       let q1 = bind_ok (all_members q0.0.1 (q0.0.0 ∷ round) [] ms) _ out q0.2 in
       is_body q0.0 q1.0 out (at_ok l (opened G round (w == union_word) tag) q0.0 q0.1) (means_all_members q0.0.1
-      (q0.0.0 ∷ round) [] ms q1.0 q1.1) (at_ok l (closed q1.0.1 q0.0.0 q1.0.0 (members_stop q1.0.1.types
-      (w == union_word) q1.0.0)) out q1.2)
+      (q0.0.0 ∷ round) [] ms q1.0 q1.1) (at_ok l (closed q1.0.1 q0.0.0 (w == union_word) q1.0.0) out q1.2)
 
   pub means_all_members : (G : Env) (round : List ℕ) (ms : Named) (ns : Members) (out : (Named × Env))
       → all_members G round ms ns ≡ Ok out → MeansMembers G round ms ns out
   means_all_members G round ms no_members out hyp =
       subst (MeansMembers G round ms no_members) (ok_is _ out hyp) (no_more_members)
-  means_all_members G round ms (more_members (member l ss ds) rest) out hyp =
+  means_all_members G round ms (more_members (member l ss fs) rest) out hyp =
       let q0 = bind_ok (specs_declared G round [] ss) _ out hyp in
-      let q1 = bind_ok (members_declared q0.0.1 ms q0.0.0 ds) _ out q0.2 in one_member_more q0.0 q1.0 out
-      (means_specs_declared G round [] ss q0.0 q0.1) (means_members_declared q0.0.1 ms q0.0.0 ds q1.0 q1.1)
+      let q1 = bind_ok (entries_declared q0.0.1 round ms q0.0.0 fs) _ out q0.2 in one_member_more q0.0 q1.0 out
+      (means_specs_declared G round [] ss q0.0 q0.1) (means_entries_declared q0.0.1 round ms q0.0.0 fs q1.0 q1.1)
       (means_all_members q1.0.1 round q1.0.0 rest out q1.2)
 
 mutual
@@ -400,10 +461,10 @@ mutual
   pub offended_all_members : {G : Env} {round : List ℕ} {ms : Named} {ns : Members} {r : Refusal}
       → MembersOffend G round ms ns r → all_members G round ms ns ≡ Err r
   offended_all_members (in_member_specs broken) = rw (offended_specs_declared broken) refl
-  offended_all_members (in_member_names c p0 broken) =
-      rw (meant_specs_declared p0, offended_members_declared broken) refl
+  offended_all_members (in_entries c p0 broken) =
+      rw (meant_specs_declared p0, offended_entries_declared broken) refl
   offended_all_members (in_later_members c x p0 p1 broken) =
-      rw (meant_specs_declared p0, meant_members_declared p1, offended_all_members broken) refl
+      rw (meant_specs_declared p0, meant_entries_declared p1, offended_all_members broken) refl
 
 mutual
   unfolding specs_declared body_declared all_members
@@ -425,8 +486,8 @@ mutual
         | inr w0 ↦ elim (bind_err (all_members w0.0.1 (w0.0.0 ∷ round) [] ms) _ r w0.2) [
           | inl h1 ↦ in_members w0.0 (at_ok l (opened G round (w == union_word) tag) w0.0 w0.1)
               (refused_all_members w0.0.1 (w0.0.0 ∷ round) [] ms r h1)
-          | inr w1 ↦ let kind = at_err l (closed w1.0.1 w0.0.0 w1.0.0 (members_stop w1.0.1.types
-              (w == union_word) w1.0.0)) r w1.2 in subst (BodyOffends G round (aggregate l w tag ms)) kind.2
+          | inr w1 ↦ let kind = at_err l (closed w1.0.1 w0.0.0 (w == union_word) w1.0.0) r w1.2 in subst
+              (BodyOffends G round (aggregate l w tag ms)) kind.2
               (bad_size w0.0 w1.0 (at_ok l (opened G round (w == union_word) tag) w0.0 w0.1) (means_all_members w0.0.1
               (w0.0.0 ∷ round) [] ms w1.0 w1.1) kind.1)
         ]
@@ -435,14 +496,14 @@ mutual
   pub refused_all_members : (G : Env) (round : List ℕ) (ms : Named) (ns : Members) (r : Refusal)
       → all_members G round ms ns ≡ Err r → MembersOffend G round ms ns r
   refused_all_members G round ms no_members r hyp = absurd (let bad = hyp in cc)
-  refused_all_members G round ms (more_members (member l ss ds) rest) r hyp =
+  refused_all_members G round ms (more_members (member l ss fs) rest) r hyp =
       elim (bind_err (specs_declared G round [] ss) _ r hyp) [
         | inl h0 ↦ in_member_specs (refused_specs_declared G round [] ss r h0)
-        | inr w0 ↦ elim (bind_err (members_declared w0.0.1 ms w0.0.0 ds) _ r w0.2) [
-          | inl h1 ↦ in_member_names w0.0 (means_specs_declared G round [] ss w0.0 w0.1)
-              (refused_members_declared w0.0.1 ms w0.0.0 ds r h1)
+        | inr w0 ↦ elim (bind_err (entries_declared w0.0.1 round ms w0.0.0 fs) _ r w0.2) [
+          | inl h1 ↦ in_entries w0.0 (means_specs_declared G round [] ss w0.0 w0.1)
+              (refused_entries_declared w0.0.1 round ms w0.0.0 fs r h1)
           | inr w1 ↦ in_later_members w0.0 w1.0 (means_specs_declared G round [] ss w0.0 w0.1)
-              (means_members_declared w0.0.1 ms w0.0.0 ds w1.0 w1.1)
+              (means_entries_declared w0.0.1 round ms w0.0.0 fs w1.0 w1.1)
               (refused_all_members w1.0.1 round w1.0.0 rest r w1.2)
         ]
       ]

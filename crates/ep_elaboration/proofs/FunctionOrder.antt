@@ -24,7 +24,7 @@ use Rattle.ep_elaboration.specs.Functions.{prototype, rest_of, results, signatur
 use Rattle.ep_elaboration.specs.Statements.{entered, innermost, left, parts}
 use Rattle.ep_elaboration.specs.FunctionRules.{ArmsAgree}
 use Rattle.ep_elaboration.specs.FunctionOffences.{ArmsOffend, DefinitionOffends, DefinitionsOffend}
-use Rattle.ep_elaboration.specs.FunctionRules.{HeadsAgree, StandsAlone, is_alone, more_arms, no_arms}
+use Rattle.ep_elaboration.specs.FunctionRules.{StandsAlone, is_alone, more_arms, no_arms}
 use Rattle.ep_elaboration.specs.FunctionOffences.{FunctionOffends}
 use Rattle.ep_elaboration.specs.FunctionRules.{MeansArms, MeansDefinition, MeansDefinitions}
 use Rattle.ep_elaboration.specs.FunctionOffences.{HeadOffends}
@@ -44,7 +44,7 @@ use Rattle.ep_elaboration.specs.FunctionOffences.{in_result}
 use Rattle.ep_elaboration.specs.FunctionRules.{is_prototype, more_definitions, more_others, more_params}
 use Rattle.ep_elaboration.specs.FunctionRules.{no_array, no_definitions, no_others, no_params, open_array}
 use Rattle.ep_typing.specs.Env.{Env}
-use Rattle.ep_typing.specs.Results.{at, ◌>>=◌}
+use Rattle.ep_typing.specs.Results.{at}
 use Rattle.ep_typing.specs.Offences.{refusal}
 use Rattle.ep_typing.specs.Types.{with_c_type, with_stars}
 use Rattle.ep_typing.specs.declared.types.CType.{CType}

@@ -18,7 +18,9 @@ mod ArmRows
 mod LoopRows
 mod OrderRows
 mod RunRows
+mod FieldRows
 pub mod WholeOrder
+pub mod FieldOrder
 pub mod DeclaratorOrder
 pub mod GivenOrder
 pub mod StatementOrder

@@ -2,12 +2,13 @@
 use Rattle.std.proofs.Common.{None, Some, [], refl, ◌∷◌, ◌≡◌}
 use Rattle.std.specs.Prelude.{codes}
 use Rattle.ep_int.specs.declared.types.Model.TheVariants.{Ilp32}
-use Rattle.ep_ast.specs.Declaration.{aggregate, body, listed, member, single, to_members, to_specs, to_values}
+use Rattle.ep_ast.specs.Declaration.{aggregate, body, listed, single, to_members, to_values}
 use Rattle.ep_ast.specs.Expression.{assign, cast, id}
 use Rattle.ep_ast.specs.Mark as mark
 use Rattle.ep_ast.specs.Statement.{block, break_loop, completes, continue_loop, declares, do_loop, evaluate}
 use Rattle.ep_ast.specs.Statement.{evaluates, for_loop, if_then, prototype, states, to_parts, typedefs, while_loop}
 use Rattle.ep_elaboration.proofs.Opened.{answers}
+use Rattle.ep_elaboration.proofs.Trees.{members_of}
 use Rattle.ep_elaboration.proofs.Trees.{address_of, array_field, call_of, declaration, declarator, does_call, field}
 use Rattle.ep_elaboration.proofs.Trees.{global, head, in_block, init, int_words, local, main_at, number, object_of}
 use Rattle.ep_elaboration.proofs.Trees.{param, params, plain_main, pointer, pointer_field, sets, struct_of}
@@ -134,7 +135,7 @@ loop_2 : answers Ilp32 (
     -- int main(void) { return 0; }
     (completes
     (struct_of 1 (codes "s")
-    (member 1 (to_specs (int_words 1))
+    (members_of 1 (int_words 1)
     (declarator 1 [] (codes "a") [] ∷ declarator 1 (0 ∷ []) (codes "a") [] ∷ []) ∷ [])) ∷
     plain_main 2 ∷ []) ∷
     [])
@@ -147,7 +148,7 @@ loop_3 : answers Ilp32 (
     -- struct s { int a[]; };
     -- int main(void) { return 0; }
     (completes
-    (struct_of 1 (codes "s") (member 1 (to_specs (int_words 1)) (declarator 1 [] (codes "a") (None ∷ []) ∷ []) ∷ [])) ∷
+    (struct_of 1 (codes "s") (members_of 1 (int_words 1) (declarator 1 [] (codes "a") (None ∷ []) ∷ []) ∷ [])) ∷
     plain_main 2 ∷ []) ∷
     -- struct s { void a; };
     -- int main(void) { return 0; }
@@ -160,7 +161,7 @@ loop_3 : answers Ilp32 (
     -- int main(void) { return 0; }
     (completes
     (struct_of 1 (codes "s")
-    (member 1 (to_specs (struct_words 1 (codes "s")))
+    (members_of 1 (struct_words 1 (codes "s"))
     (declarator 1 (0 ∷ []) (codes "a") (Some (number 1 2) ∷ []) ∷ []) ∷
     field 1
     (body

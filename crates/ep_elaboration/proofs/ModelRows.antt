@@ -2,12 +2,12 @@
 use Rattle.std.proofs.Common.{List, None, Some, [], false, refl, true, ◌∷◌, ◌≡◌}
 use Rattle.std.specs.Prelude.{codes}
 use Rattle.ep_int.specs.declared.types.Model.TheVariants.{Ilp32, Lp64}
-use Rattle.ep_ast.specs.Declaration.{member, to_specs}
 use Rattle.ep_ast.specs.Expression.{binary, cast, id, sizeof_type, unary}
 use Rattle.ep_ast.specs.Mark as mark
 use Rattle.ep_ast.specs.Statement.{Item, completes, functions_by_order, prototype}
 use Rattle.ep_ast.specs.declared.orders.NamedOrder.TheVariants.{Little}
 use Rattle.ep_elaboration.proofs.Opened.{all_sound, answers}
+use Rattle.ep_elaboration.proofs.Trees.{members_of}
 use Rattle.ep_elaboration.proofs.Trees.{address_of, array, array_field, declarator, defined, defines_function}
 use Rattle.ep_elaboration.proofs.Trees.{does_call, global, head, init, int_word_at, int_words, literal, local}
 use Rattle.ep_elaboration.proofs.Trees.{long_word_at, main_at, no_params, number, one_word, params, plain_main}
@@ -142,7 +142,7 @@ with_long_of_32_bits =
     (completes
     (struct_of 1 (codes "s")
     (array_field 2 (one_word 2 mark.long_word) (codes "a") (number 2 4096) ∷
-    member 3 (to_specs (void_words 3)) (declarator 3 (0 ∷ []) (codes "b") (Some (number 3 4097) ∷ []) ∷ []) ∷ [])) ∷
+    members_of 3 (void_words 3) (declarator 3 (0 ∷ []) (codes "b") (Some (number 3 4097) ∷ []) ∷ []) ∷ [])) ∷
     plain_main 5 ∷ []) ∷
     -- #if __BYTE_ORDER__ == __ORDER_LITTLE_ENDIAN__
     -- long f(void) { return 1; }

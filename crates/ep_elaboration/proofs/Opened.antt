@@ -21,19 +21,23 @@ use Rattle.ep_typing.specs.Operators.{chosen, kept, negated, complemented, denie
 use Rattle.ep_typing.specs.Operators.{operated, unary_operated}
 use Rattle.ep_typing.specs.Parts.{named, named_uncalled, addressed, pointed, unary_typed, indexable}
 use Rattle.ep_typing.specs.Parts.{element_of_array, element_behind}
-use Rattle.ep_typing.specs.Parts.{indexed, member_of, selected, selected_through, casted, type_sized, sized}
+use Rattle.ep_typing.specs.Parts.{indexed, member_of, selected, casted, type_sized, sized}
+use Rattle.ep_typing.specs.Fields.{field_in, selected_behind, selected_in}
 use Rattle.ep_typing.specs.Calls.{passed, all_passed, called}
-use Rattle.ep_typing.specs.Typing.{read_first, joined, chosen_from, cast_to, indexed_by, selected_behind, typed}
+use Rattle.ep_typing.specs.Typing.{read_first, joined, chosen_from, cast_to, indexed_by, field_of, typed}
 use Rattle.ep_typing.specs.Typing.{typed_all, test, assignable, not_stored, stored, copied, put, assigned, updated}
 use Rattle.ep_typing.specs.Typing.{taken, call_typed, right_side, assignment, stepped, whole_statement}
 use Rattle.ep_elaboration.specs.Declarators.{bound, bounds, object_bounds, array_of, arrays_of, sized_object}
 use Rattle.ep_elaboration.specs.Declarators.{declared_object, object_declared, declared_type}
 use Rattle.ep_elaboration.specs.ProgramSteps.{type_declared}
 use Rattle.ep_elaboration.specs.ProgramSteps.{types_declared}
-use Rattle.ep_elaboration.specs.Aggregates.{opened, with_member, member_declared, members_declared, words_declared}
+use Rattle.ep_elaboration.specs.Aggregates.{opened, with_member, member_declared, with_field, field_declared}
+use Rattle.ep_elaboration.specs.Aggregates.{entry_declared, entries_declared, words_declared}
 use Rattle.ep_elaboration.specs.Aggregates.{specs_declared, body_declared, all_members}
-use Rattle.ep_elaboration.specs.Given.{first_values, expression_given, value_given, all_given}
-use Rattle.ep_elaboration.specs.Declarations.{initialised, variable_declared, variables_declared, declaration}
+use Rattle.ep_elaboration.specs.FieldStatements.{field_read, field_written, field_statement, field_given}
+use Rattle.ep_elaboration.specs.Given.{first_values, expression_given, with_list, value_given, all_given}
+use Rattle.ep_elaboration.specs.Declarations.{initialised_by_field, initialised, variable_declared}
+use Rattle.ep_elaboration.specs.Declarations.{variables_declared, declaration}
 use Rattle.ep_elaboration.specs.Statements.{tested_in, tested_if, evaluated_in, evaluated_if, first_part}
 use Rattle.ep_elaboration.specs.Statements.{nothing_returned, operand_returned, statement, statements, part, parts}
 use Rattle.ep_elaboration.specs.Functions.{param_bounds, param_type, with_param, param_declared, params_declared}
@@ -55,12 +59,14 @@ unfolding at_depth type_within with_pointers pointer_number words_type named_typ
     mentioned_all value_of fitted tested number_of count_of arithmetic shifted moved added subtracted ordered
     equated both either chosen kept negated complemented denied operated_on_numbers decided operated
     unary_operated named named_uncalled addressed pointed unary_typed indexable element_of_array element_behind indexed
-    member_of selected selected_through casted type_sized sized passed all_passed called read_first joined
-    chosen_from cast_to indexed_by selected_behind typed typed_all test assignable not_stored stored copied put
+    member_of selected field_in selected_in casted type_sized sized passed all_passed called read_first joined
+    chosen_from cast_to indexed_by selected_behind field_of typed typed_all test assignable not_stored stored copied put
     assigned updated taken call_typed right_side assignment stepped whole_statement bound bounds object_bounds
     array_of arrays_of sized_object declared_object object_declared declared_type type_declared types_declared
-    opened with_member member_declared members_declared words_declared specs_declared body_declared all_members
-    first_values expression_given value_given all_given initialised variable_declared variables_declared
+    opened with_member member_declared with_field field_declared entry_declared entries_declared words_declared
+    specs_declared body_declared all_members
+    field_read field_written field_statement field_given first_values expression_given with_list value_given
+    all_given initialised_by_field initialised variable_declared variables_declared
     declaration tested_in tested_if evaluated_in evaluated_if first_part nothing_returned operand_returned
     statement statements part parts param_bounds param_type with_param param_declared params_declared headed
     function_declared prototype function_typed function_defined functions_defined others_typed are_alike

@@ -1,12 +1,12 @@
 -- Short names for trees.
 use Rattle.std.proofs.Common.{ℕ, zero, suc, List, [], ◌∷◌, true, false, Bool, Option, Some, None}
-use Rattle.std.specs.Prelude.{codes}
+use Rattle.std.specs.Prelude.{codes, map}
 use Rattle.ep_ast.specs.Mark as mark
 use Rattle.ep_ast.specs.Expression as source
 use Rattle.ep_ast.specs.Expression.{Expr, TypeName, TypeWord, to_exprs}
 use Rattle.ep_ast.specs.Declaration as declarations
-use Rattle.ep_ast.specs.Declaration.{Declarator, Spec, Member, Aggregate, Value, Init, Declaration, Typedef, Param}
-use Rattle.ep_ast.specs.Declaration.{Params, Head, to_specs, to_members}
+use Rattle.ep_ast.specs.Declaration.{Declarator, Spec, Member, MemberField, Aggregate, Value, Init, Declaration}
+use Rattle.ep_ast.specs.Declaration.{Typedef, Param, Params, Head, to_specs, to_members}
 use Rattle.ep_ast.specs.Statement as tree
 use Rattle.ep_ast.specs.Statement.{Part, Block, Function, Item, Stmt, to_parts}
 
@@ -97,14 +97,35 @@ union_words l t = declarations.plain (source.tagged l mark.union_word t) ∷ []
 abbrev pub declarator : ℕ → List ℕ → List ℕ → List (Option Expr) → Declarator
 declarator l ns t bs = record { line = l; stars = ns; name = t; bounds = bs }
 
+-- members of one type
+abbrev pub members_of : ℕ → List Spec → List Declarator → Member
+members_of l ss ds = declarations.member l (to_specs ss) (map declarations.whole ds)
+
 abbrev pub field : ℕ → List Spec → List ℕ → Member
-field l ss t = declarations.member l (to_specs ss) (declarator l [] t [] ∷ [])
+field l ss t = members_of l ss (declarator l [] t [] ∷ [])
 
 abbrev pub pointer_field : ℕ → List Spec → List ℕ → Member
-pointer_field l ss t = declarations.member l (to_specs ss) (declarator l (0 ∷ []) t [] ∷ [])
+pointer_field l ss t = members_of l ss (declarator l (0 ∷ []) t [] ∷ [])
 
 abbrev pub array_field : ℕ → List Spec → List ℕ → Expr → Member
-array_field l ss t e = declarations.member l (to_specs ss) (declarator l [] t (Some e ∷ []) ∷ [])
+array_field l ss t e = members_of l ss (declarator l [] t (Some e ∷ []) ∷ [])
+
+-- bit-fields of one type
+abbrev pub bit_fields : ℕ → List Spec → List MemberField → Member
+bit_fields l ss fs = declarations.member l (to_specs ss) fs
+
+-- a bit-field of so many bits, and one without a name
+abbrev pub bits_of : ℕ → List ℕ → Expr → MemberField
+bits_of l t e = declarations.bits l (Some t) e
+
+abbrev pub no_name : ℕ → Expr → MemberField
+no_name l e = declarations.bits l None e
+
+abbrev pub bits_field : ℕ → List Spec → List ℕ → Expr → Member
+bits_field l ss t e = bit_fields l ss (bits_of l t e ∷ [])
+
+abbrev pub unnamed_field : ℕ → List Spec → Expr → Member
+unnamed_field l ss e = bit_fields l ss (no_name l e ∷ [])
 
 abbrev pub struct_of : ℕ → List ℕ → List Member → Aggregate
 struct_of l t ms = declarations.aggregate l mark.struct_word (Some t) (to_members ms)

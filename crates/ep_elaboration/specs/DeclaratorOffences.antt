@@ -2,28 +2,28 @@
 -- something. C11 6.7.
 use Rattle.std.specs.Prelude.{◌≡◌, [], ◌∷◌, ◌++◌, ◌==◌, ℕ, Bool, List, Option, Some, None, Ok, Err, pos, length}
 use Rattle.ep_ast.specs.Kind as kinds
-use Rattle.ep_ast.specs.Declaration.{Aggregate, Declarator, Members, Specs, aggregate, body, member, more_members}
-use Rattle.ep_ast.specs.Declaration.{more_specs, no_specs, plain}
+use Rattle.ep_ast.specs.Declaration.{Aggregate, Declarator, MemberField, Members, Specs, aggregate, bits, body, member}
+use Rattle.ep_ast.specs.Declaration.{more_members, more_specs, no_specs, plain, whole}
 use Rattle.ep_ast.specs.Expression.{Expr, TypeWord}
 use Rattle.ep_ast.specs.Mark.{union_word}
 use Rattle.ep_ast.specs.declared.refusals.Refusal.{Refusal}
-use Rattle.ep_elaboration.specs.Aggregates.{Named, closed, opened, with_member}
+use Rattle.ep_elaboration.specs.Aggregates.{Named, closed, in_union, opened, with_field, with_member}
 use Rattle.ep_elaboration.specs.Declarators.{counted, declared_object, declared_type}
-use Rattle.ep_layout.specs.Table.{members_stop}
 use Rattle.ep_typing.specs.Constant.{count_in}
 use Rattle.ep_typing.specs.Env.{Env}
 use Rattle.ep_typing.specs.Names.{mentioned, mentioned_words, words_type}
 use Rattle.ep_typing.specs.Operand.{Operand, value_of}
-use Rattle.ep_typing.specs.Results.{needed}
+use Rattle.ep_typing.specs.Results.{at_statement, needed}
 use Rattle.ep_typing.specs.Types.{with_stars}
 use Rattle.ep_typing.specs.declared.types.CType.{CType}
 use Rattle.ep_typing.specs.Rules.{Means}
 use Rattle.ep_typing.specs.Offences.{Offends, refusal}
 use Rattle.ep_elaboration.specs.DeclaratorRules.{MeansBound, MeansBounds, MeansObjectBounds, MeansTypedef}
-use Rattle.ep_elaboration.specs.DeclaratorRules.{MeansMemberName, MeansMemberNames, MeansSpecs, MeansMembers}
+use Rattle.ep_elaboration.specs.DeclaratorRules.{MeansEntry, MeansEntries, MeansSpecs, MeansMembers}
 
 pub data BoundOffends : Env → ℕ → Option Expr → Refusal → Type 0 where
-  in_bound : {G : Env} {l : ℕ} {e : Expr} {r : Refusal} → Offends (mentioned G e) e r → BoundOffends G l (Some e) r
+  in_bound : {G : Env} {l : ℕ} {e : Expr} {r : Refusal} → Offends (mentioned G e) e r
+      → BoundOffends G l (Some e) (at_statement l r)
   bad_bound : {G : Env} {l : ℕ} {e : Expr} {kind : ℕ} (x : Operand) → Means (mentioned G e) e x
       → counted (value_of (mentioned G e).types x) ≡ Err kind → BoundOffends G l (Some e) (refusal kind l)
   missing_bound : {G : Env} {l : ℕ} → BoundOffends G l None (refusal kinds.array_bound l)
@@ -76,12 +76,29 @@ pub data MemberNameOffends : Env → Named → CType → Declarator → Refusal 
       → MeansBounds G d.line d.bounds ns → with_member ns.1 ms d.name (with_stars c (length d.stars)) ns.0 ≡ Err kind
       → MemberNameOffends G ms c d (refusal kind d.line)
 
-pub data MemberNamesOffend : Env → Named → CType → List Declarator → Refusal → Type 0 where
-  in_first_member_name : {G : Env} {ms : Named} {c : CType} {d : Declarator} {ds : List Declarator} {r : Refusal}
-      → MemberNameOffends G ms c d r → MemberNamesOffend G ms c (d ∷ ds) r
-  in_later_member_name : {G : Env} {ms : Named} {c : CType} {d : Declarator} {ds : List Declarator} {r : Refusal}
-      (x : Named × Env)
-      → MeansMemberName G ms c d x → MemberNamesOffend x.1 x.0 c ds r → MemberNamesOffend G ms c (d ∷ ds) r
+pub data WidthOffends : Env → List ℕ → Named → CType → ℕ → Option (List ℕ) → Expr → Refusal → Type 0 where
+  in_width : {G : Env} {round : List ℕ} {ms : Named} {c : CType} {l : ℕ} {n : Option (List ℕ)} {e : Expr} {r : Refusal}
+      → Offends (mentioned G e) e r → WidthOffends G round ms c l n e (at_statement l r)
+  bad_width : {G : Env} {round : List ℕ} {ms : Named} {c : CType} {l : ℕ} {n : Option (List ℕ)} {e : Expr} {kind : ℕ}
+      (x : Operand)
+      → Means (mentioned G e) e x
+      → with_field (mentioned G e) (in_union G round) ms c n (value_of (mentioned G e).types x) ≡ Err kind
+      → WidthOffends G round ms c l n e (refusal kind l)
+
+pub data EntryOffends : Env → List ℕ → Named → CType → MemberField → Refusal → Type 0 where
+  in_member : {G : Env} {round : List ℕ} {ms : Named} {c : CType} {d : Declarator} {r : Refusal}
+      → MemberNameOffends G ms c d r → EntryOffends G round ms c (whole d) r
+  in_bit_field : {G : Env} {round : List ℕ} {ms : Named} {c : CType} {l : ℕ} {n : Option (List ℕ)} {e : Expr}
+      {r : Refusal}
+      → WidthOffends G round ms c l n e r → EntryOffends G round ms c (bits l n e) r
+
+pub data EntriesOffend : Env → List ℕ → Named → CType → List MemberField → Refusal → Type 0 where
+  in_first_entry : {G : Env} {round : List ℕ} {ms : Named} {c : CType} {f : MemberField} {fs : List MemberField}
+      {r : Refusal}
+      → EntryOffends G round ms c f r → EntriesOffend G round ms c (f ∷ fs) r
+  in_later_entry : {G : Env} {round : List ℕ} {ms : Named} {c : CType} {f : MemberField} {fs : List MemberField}
+      {r : Refusal} (x : Named × Env)
+      → MeansEntry G round ms c f x → EntriesOffend x.1 round x.0 c fs r → EntriesOffend G round ms c (f ∷ fs) r
 
 pub data WordsOffend : Env → List TypeWord → Refusal → Type 0 where
   bad_words : {G : Env} {ws : List TypeWord} {r : Refusal} → words_type (mentioned_words G ws) ws ≡ Err r
@@ -107,18 +124,18 @@ mutual
     bad_size : {G : Env} {round : List ℕ} {l w : ℕ} {tag : Option (List ℕ)} {ms : Members} {kind : ℕ} (o : ℕ × Env)
         (x : Named × Env)
         → opened G round (w == union_word) tag ≡ Ok o → MeansMembers o.1 (o.0 ∷ round) [] ms x
-        → closed x.1 o.0 x.0 (members_stop x.1.types (w == union_word) x.0) ≡ Err kind
+        → closed x.1 o.0 (w == union_word) x.0 ≡ Err kind
         → BodyOffends G round (aggregate l w tag ms) (refusal kind l)
 
   pub data MembersOffend : Env → List ℕ → Named → Members → Refusal → Type 0 where
-    in_member_specs : {G : Env} {round : List ℕ} {ms : Named} {l : ℕ} {ss : Specs} {ds : List Declarator} {rest :
+    in_member_specs : {G : Env} {round : List ℕ} {ms : Named} {l : ℕ} {ss : Specs} {fs : List MemberField} {rest :
         Members} {r : Refusal}
-        → SpecsOffend G round [] ss r → MembersOffend G round ms (more_members (member l ss ds) rest) r
-    in_member_names : {G : Env} {round : List ℕ} {ms : Named} {l : ℕ} {ss : Specs} {ds : List Declarator} {rest :
+        → SpecsOffend G round [] ss r → MembersOffend G round ms (more_members (member l ss fs) rest) r
+    in_entries : {G : Env} {round : List ℕ} {ms : Named} {l : ℕ} {ss : Specs} {fs : List MemberField} {rest :
         Members} {r : Refusal} (c : CType × Env)
-        → MeansSpecs G round [] ss c → MemberNamesOffend c.1 ms c.0 ds r
-        → MembersOffend G round ms (more_members (member l ss ds) rest) r
-    in_later_members : {G : Env} {round : List ℕ} {ms : Named} {l : ℕ} {ss : Specs} {ds : List Declarator} {rest :
+        → MeansSpecs G round [] ss c → EntriesOffend c.1 round ms c.0 fs r
+        → MembersOffend G round ms (more_members (member l ss fs) rest) r
+    in_later_members : {G : Env} {round : List ℕ} {ms : Named} {l : ℕ} {ss : Specs} {fs : List MemberField} {rest :
         Members} {r : Refusal} (c : CType × Env) (x : Named × Env)
-        → MeansSpecs G round [] ss c → MeansMemberNames c.1 ms c.0 ds x → MembersOffend x.1 round x.0 rest r
-        → MembersOffend G round ms (more_members (member l ss ds) rest) r
+        → MeansSpecs G round [] ss c → MeansEntries c.1 round ms c.0 fs x → MembersOffend x.1 round x.0 rest r
+        → MembersOffend G round ms (more_members (member l ss fs) rest) r

@@ -1,13 +1,12 @@
 -- Declarators, type words, structs and unions, by rules without an order. C11 6.7.2 and 6.7.6.
 use Rattle.std.specs.Prelude.{◌≡◌, [], ◌∷◌, ◌++◌, ◌==◌, ℕ, Bool, List, Option, Some, None, Ok, pos, length}
 use Rattle.ep_ast.specs.Kind as kinds
-use Rattle.ep_ast.specs.Declaration.{Aggregate, Declarator, Members, Specs, aggregate, body, member, more_members}
-use Rattle.ep_ast.specs.Declaration.{more_specs, no_members, no_specs, plain}
+use Rattle.ep_ast.specs.Declaration.{Aggregate, Declarator, MemberField, Members, Specs, aggregate, bits, body, member}
+use Rattle.ep_ast.specs.Declaration.{more_members, more_specs, no_members, no_specs, plain, whole}
 use Rattle.ep_ast.specs.Expression.{Expr, TypeWord}
 use Rattle.ep_ast.specs.Mark.{union_word}
-use Rattle.ep_elaboration.specs.Aggregates.{Named, closed, opened, with_member}
+use Rattle.ep_elaboration.specs.Aggregates.{Named, closed, in_union, opened, with_field, with_member}
 use Rattle.ep_elaboration.specs.Declarators.{Object, counted, declared_object, declared_type}
-use Rattle.ep_layout.specs.Table.{members_stop}
 use Rattle.ep_typing.specs.Constant.{count_in}
 use Rattle.ep_typing.specs.Env.{Env}
 use Rattle.ep_typing.specs.Names.{mentioned, mentioned_words, with_type_of, words_type}
@@ -65,11 +64,28 @@ pub data MeansMemberName : Env → Named → CType → Declarator → (Named × 
       → MeansBounds G d.line d.bounds ns → with_member ns.1 ms d.name (with_stars c (length d.stars)) ns.0 ≡ Ok x
       → MeansMemberName G ms c d x
 
--- members of one type
-pub data MeansMemberNames : Env → Named → CType → List Declarator → (Named × Env) → Type 0 where
-  no_member_names : {G : Env} {ms : Named} {c : CType} → MeansMemberNames G ms c [] (ms, G)
-  more_member_names : {G : Env} {ms : Named} {c : CType} {d : Declarator} {ds : List Declarator} (x y : Named × Env)
-      → MeansMemberName G ms c d x → MeansMemberNames x.1 x.0 c ds y → MeansMemberNames G ms c (d ∷ ds) y
+-- a bit-field by its width, on the line of its name (C11 6.7.2.1p3 to p5)
+pub data MeansWidth : Env → List ℕ → Named → CType → ℕ → Option (List ℕ) → Expr → (Named × Env) → Type 0 where
+  is_width : {G : Env} {round : List ℕ} {ms : Named} {c : CType} {l : ℕ} {n : Option (List ℕ)} {e : Expr} (x : Operand)
+      (y : Named × Env)
+      → Means (mentioned G e) e x
+      → with_field (mentioned G e) (in_union G round) ms c n (value_of (mentioned G e).types x) ≡ Ok y
+      → MeansWidth G round ms c l n e y
+
+-- a member or a bit-field
+pub data MeansEntry : Env → List ℕ → Named → CType → MemberField → (Named × Env) → Type 0 where
+  is_member : {G : Env} {round : List ℕ} {ms : Named} {c : CType} {d : Declarator} (x : Named × Env)
+      → MeansMemberName G ms c d x → MeansEntry G round ms c (whole d) x
+  is_bit_field : {G : Env} {round : List ℕ} {ms : Named} {c : CType} {l : ℕ} {n : Option (List ℕ)} {e : Expr}
+      (x : Named × Env)
+      → MeansWidth G round ms c l n e x → MeansEntry G round ms c (bits l n e) x
+
+-- members and bit-fields of one type
+pub data MeansEntries : Env → List ℕ → Named → CType → List MemberField → (Named × Env) → Type 0 where
+  no_entries : {G : Env} {round : List ℕ} {ms : Named} {c : CType} → MeansEntries G round ms c [] (ms, G)
+  more_entries : {G : Env} {round : List ℕ} {ms : Named} {c : CType} {f : MemberField} {fs : List MemberField}
+      (x y : Named × Env)
+      → MeansEntry G round ms c f x → MeansEntries x.1 round x.0 c fs y → MeansEntries G round ms c (f ∷ fs) y
 
 -- type words without members, after the tags that they mention (C11 6.7.2)
 pub data MeansWords : Env → List TypeWord → (CType × Env) → Type 0 where
@@ -91,13 +107,13 @@ mutual
     is_body : {G : Env} {round : List ℕ} {l w : ℕ} {tag : Option (List ℕ)} {ms : Members} (o : ℕ × Env)
         (x : Named × Env) (c : CType × Env)
         → opened G round (w == union_word) tag ≡ Ok o → MeansMembers o.1 (o.0 ∷ round) [] ms x
-        → closed x.1 o.0 x.0 (members_stop x.1.types (w == union_word) x.0) ≡ Ok c
+        → closed x.1 o.0 (w == union_word) x.0 ≡ Ok c
         → MeansBody G round (aggregate l w tag ms) c
 
   -- members, one after the other
   pub data MeansMembers : Env → List ℕ → Named → Members → (Named × Env) → Type 0 where
     no_more_members : {G : Env} {round : List ℕ} {ms : Named} → MeansMembers G round ms no_members (ms, G)
-    one_member_more : {G : Env} {round : List ℕ} {ms : Named} {l : ℕ} {ss : Specs} {ds : List Declarator} {rest :
+    one_member_more : {G : Env} {round : List ℕ} {ms : Named} {l : ℕ} {ss : Specs} {fs : List MemberField} {rest :
         Members} (c : CType × Env) (x y : Named × Env)
-        → MeansSpecs G round [] ss c → MeansMemberNames c.1 ms c.0 ds x → MeansMembers x.1 round x.0 rest y
-        → MeansMembers G round ms (more_members (member l ss ds) rest) y
+        → MeansSpecs G round [] ss c → MeansEntries c.1 round ms c.0 fs x → MeansMembers x.1 round x.0 rest y
+        → MeansMembers G round ms (more_members (member l ss fs) rest) y

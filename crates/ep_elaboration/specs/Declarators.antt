@@ -13,7 +13,7 @@ use Rattle.ep_layout.specs.Table.{Table, type_added, type_stop}
 use Rattle.ep_core.specs.Program as core
 use Rattle.ep_typing.specs.declared.types.Base.TheVariants as bases
 use Rattle.ep_typing.specs.declared.types.CType.{CType}
-use Rattle.ep_typing.specs.Results.{◌>>=◌, at, needed}
+use Rattle.ep_typing.specs.Results.{◌>>=◌, at, needed, on_statement}
 use Rattle.ep_typing.specs.Types.{c_type_number, known_number, size_of_type, whole, with_c_type, with_stars}
 use Rattle.ep_typing.specs.Env.{Env, Meaning, Scope, variable, type_name, entry}
 use Rattle.ep_typing.specs.Names.{mentioned}
@@ -33,7 +33,7 @@ counted (Err k) = Err kinds.array_bound
 unfoldable pub bound : Env → ℕ → Option source.Expr → Result (ℕ × Env) Refusal
 bound G l None = at l (Err kinds.array_bound)
 bound G l (Some e) = do
-  x ← typed (mentioned G e) e
+  x ← on_statement l (typed (mentioned G e) e)
   n ← at l (counted (value_of (mentioned G e).types x))
   Ok (n, mentioned G e)
 

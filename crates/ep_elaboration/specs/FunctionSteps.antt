@@ -1,6 +1,6 @@
--- Functions one after another, and the two arms of a conditional: the first offence, in the order of the text. The rules
--- are those of C11 6.7 and 6.9, and this project's for conditionals.
-use Rattle.std.specs.Prelude.{ℕ, ◌+◌, Bool, true, false, ◌&&◌, if◌then◌else◌, List, [], ◌∷◌, ◌++◌, length}
+-- Functions one after another, and the two arms of a conditional: the first offence, in the order of the text. The
+-- rules are those of C11 6.7 and 6.9, and this project's for conditionals.
+use Rattle.std.specs.Prelude.{ℕ, Bool, true, false, ◌&&◌, if◌then◌else◌, List, [], ◌∷◌, ◌++◌, length}
 use Rattle.std.specs.Prelude.{Result, Ok, Err}
 use Rattle.ep_ast.specs.declared.orders.NamedOrder.{NamedOrder}
 use Rattle.ep_ast.specs.declared.refusals.Refusal.{Refusal}

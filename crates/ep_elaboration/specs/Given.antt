@@ -1,6 +1,7 @@
 -- First values: an expression, or a list in braces. C11 6.7.9, less lists that leave braces out.
-use Rattle.std.specs.Prelude.{ℕ, zero, suc, ◌+◌, ◌*◌, nat_lt, Bool, true, false, ◌||◌, if◌then◌else◌, List, [], ◌∷◌}
-use Rattle.std.specs.Prelude.{◌++◌, slice_get, Option, Some, None, option_map, unwrap_or, Result, Ok, Err, ℤ, pos}
+use Rattle.std.specs.Prelude.{ℕ, zero, suc, ◌+◌, ◌*◌, ◌==◌, nat_lt, Bool, true, false, ◌&&◌, ◌||◌, not}
+use Rattle.std.specs.Prelude.{if◌then◌else◌, List, [], ◌∷◌, ◌++◌, slice_get, Option, Some, None, option_map, unwrap_or}
+use Rattle.std.specs.Prelude.{is_some, Result, Ok, Err, ℤ, pos}
 use Rattle.ep_ast.specs.Kind as kinds
 use Rattle.ep_int.specs.declared.types.IntType.TheVariants.{I32}
 use Rattle.ep_int.specs.Types.{wrapped}
@@ -14,7 +15,9 @@ use Rattle.ep_core.specs.Program as core
 use Rattle.ep_typing.specs.Results.{◌>>=◌, at, needed}
 use Rattle.ep_typing.specs.Types.{bound_of, c_type_number, element_of, int_of, is_aggregate, is_array, is_pointer}
 use Rattle.ep_typing.specs.Types.{number_in, size_of_type, type_of}
+use Rattle.ep_typing.specs.declared.types.CType.{CType}
 use Rattle.ep_typing.specs.Env.{Env}
+use Rattle.ep_typing.specs.Fields.{fields_of}
 use Rattle.ep_typing.specs.Names.{mentioned}
 use Rattle.ep_typing.specs.Constant.{constant_of}
 use Rattle.ep_typing.specs.Operand as operands
@@ -29,6 +32,9 @@ pub record Given : Type 0 where
 
 abbrev pub nothing_given : Given
 nothing_given = record { statements = []; values = [] }
+
+abbrev pub one_given : core.What → Given
+one_given w = record { statements = w ∷ []; values = [] }
 
 abbrev pub both_given : Given → Given → Given
 both_given a b = record { statements = a.statements ++ b.statements; values = a.values ++ b.values }
@@ -113,6 +119,26 @@ abbrev pub with_parts : Option Object → Result Object ℕ
 with_parts None = Err kinds.type_mismatch
 with_parts (Some x) = if is_array x.ty || is_aggregate x.ty then Ok x else Err kinds.type_mismatch
 
+-- an aggregate with a bit-field
+abbrev pub has_fields : Env → CType → Bool
+has_fields G c = is_aggregate c && is_some (fields_of G.fields (number_in c.base))
+
+-- `{0}`
+abbrev pub is_zero : tree.Value → Bool
+is_zero (single (source.number l n)) = n.value == 0
+is_zero v = false
+
+abbrev pub is_zero_alone : Values → Bool
+is_zero_alone no_values = false
+is_zero_alone (more_values v no_values) = is_zero v
+is_zero_alone (more_values v (more_values u vs)) = false
+
+-- bit_field_place: a list other than `{0}` for an aggregate with a bit-field (this project's rule)
+unfoldable pub with_list : Env → Option Object → Values → Result Object ℕ
+with_list G o vs = do
+  x ← with_parts o
+  if has_fields G x.ty && not (is_zero_alone vs) then Err kinds.bit_field_place else Ok x
+
 abbrev pub line_of_value : tree.Value → ℕ
 line_of_value (single e) = source.line_of e
 line_of_value (listed l vs) = l
@@ -125,7 +151,7 @@ unfoldable mutual
     g ← expression_given (mentioned G e) global may_call l x e
     Ok (g, mentioned G e)
   value_given G global may_call l x (listed k vs) = do
-    y ← at l (with_parts x)
+    y ← at l (with_list G x vs)
     all_given G global y 0 vs
 
   -- values from this number on

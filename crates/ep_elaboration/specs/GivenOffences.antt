@@ -10,17 +10,20 @@ use Rattle.ep_ast.specs.declared.refusals.Refusal.{Refusal}
 use Rattle.ep_elaboration.specs.Declarations.{Made}
 use Rattle.ep_elaboration.specs.Declarators.{Object}
 use Rattle.ep_elaboration.specs.Given.{Given, count_listed, first_values, line_of_value, object_operand, part_at}
-use Rattle.ep_elaboration.specs.Given.{with_parts}
+use Rattle.ep_elaboration.specs.Given.{with_list}
+use Rattle.ep_elaboration.specs.FieldStatements.{field_given}
 use Rattle.ep_elaboration.specs.DeclaratorRules.{MeansObject, MeansSpecs}
 use Rattle.ep_elaboration.specs.DeclaratorOffences.{ObjectOffends, SpecsOffend}
 use Rattle.ep_elaboration.specs.WholeRules.{MeansRight}
 use Rattle.ep_elaboration.specs.WholeOffences.{RightOffends}
+use Rattle.ep_typing.specs.declared.types.FieldRow.{FieldRow}
 use Rattle.ep_typing.specs.Env.{Env}
 use Rattle.ep_typing.specs.Names.{mentioned}
 use Rattle.ep_typing.specs.Operand.{Operand}
 use Rattle.ep_typing.specs.Typing.{Right, assigned_from}
 use Rattle.ep_typing.specs.declared.types.CType.{CType}
-use Rattle.ep_typing.specs.Rules.{Means}
+use Rattle.ep_typing.specs.Results.{at_statement}
+use Rattle.ep_typing.specs.Rules.{Means, MeansField}
 use Rattle.ep_typing.specs.Offences.{Offends, refusal}
 use Rattle.ep_elaboration.specs.GivenRules.{MeansGiven, MeansVariable}
 
@@ -43,10 +46,10 @@ mutual
     in_single : {G : Env} {global c : Bool} {l : ℕ} {o : Option Object} {e : Expr} {r : Refusal}
         → GivenExpressionOffends (mentioned G e) global c l o e r → GivenOffends G global c l o (single e) r
     bad_list : {G : Env} {global c : Bool} {l : ℕ} {o : Option Object} {m : ℕ} {vs : Values} {kind : ℕ}
-        → with_parts o ≡ Err kind → GivenOffends G global c l o (listed m vs) (refusal kind l)
+        → with_list G o vs ≡ Err kind → GivenOffends G global c l o (listed m vs) (refusal kind l)
     in_listed : {G : Env} {global c : Bool} {l : ℕ} {o : Option Object} {m : ℕ} {vs : Values} {r : Refusal}
         (x : Object)
-        → with_parts o ≡ Ok x → AllGivenOffend G global x 0 vs r → GivenOffends G global c l o (listed m vs) r
+        → with_list G o vs ≡ Ok x → AllGivenOffend G global x 0 vs r → GivenOffends G global c l o (listed m vs) r
 
   pub data AllGivenOffend : Env → Bool → Object → ℕ → Values → Refusal → Type 0 where
     in_first_value : {G : Env} {global : Bool} {x : Object} {i : ℕ} {v : Value} {vs : Values} {r : Refusal}
@@ -57,9 +60,18 @@ mutual
         → MeansGiven G global false (line_of_value v) (part_at G.types x i) v a
         → AllGivenOffend a.1 global x (suc i) vs r → AllGivenOffend G global x i (more_values v vs) r
 
+-- a bit-field alone
+pub data NamesFieldAlone : Env → Value → Type 0 where
+  field_alone : {G : Env} {e : Expr} (z : core.Place × FieldRow) → MeansField (mentioned G e) e z
+      → NamesFieldAlone G (single e)
+
 pub data FirstValueOffends : Env → Bool → Bool → ℕ → Object → Option Value → Refusal → Type 0 where
+  bad_bit_field : {G : Env} {global c : Bool} {l : ℕ} {x : Object} {e : Expr} {kind : ℕ} (z : core.Place × FieldRow)
+      → MeansField (mentioned G e) e z → field_given global l z (object_operand x) ≡ Err kind
+      → FirstValueOffends G global c l x (Some (single e)) (refusal kind l)
   in_first_values : {G : Env} {global c : Bool} {l : ℕ} {x : Object} {v : Value} {r : Refusal}
-      → GivenOffends G global c l (Some x) v r → FirstValueOffends G global c l x (Some v) r
+      → (NamesFieldAlone G v → ⊥) → GivenOffends G global c l (Some x) v r
+      → FirstValueOffends G global c l x (Some v) (at_statement l r)
 
 pub data VariableOffends : Env → Bool → Bool → CType → Init → Refusal → Type 0 where
   in_declarator : {G : Env} {global c : Bool} {t : CType} {i : Init} {r : Refusal}

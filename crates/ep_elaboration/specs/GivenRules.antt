@@ -7,11 +7,14 @@ use Rattle.ep_ast.specs.Mark.{equal}
 use Rattle.ep_elaboration.specs.Declarations.{Made, both_made, lined}
 use Rattle.ep_elaboration.specs.Declarators.{Object}
 use Rattle.ep_elaboration.specs.Given.{Given, both_given, cleared, count_listed, first_values, line_of_value}
-use Rattle.ep_elaboration.specs.Given.{nothing_given, object_operand, part_at, with_parts}
+use Rattle.ep_elaboration.specs.Given.{nothing_given, object_operand, one_given, part_at, with_list}
 use Rattle.ep_elaboration.specs.DeclaratorRules.{MeansObject, MeansSpecs}
 use Rattle.ep_elaboration.specs.WholeRules.{MeansRight}
+use Rattle.ep_elaboration.specs.FieldStatements.{field_given}
+use Rattle.ep_typing.specs.declared.types.FieldRow.{FieldRow}
 use Rattle.ep_typing.specs.Env.{Env}
 use Rattle.ep_typing.specs.Names.{mentioned}
+use Rattle.ep_typing.specs.Rules.{MeansField}
 use Rattle.ep_typing.specs.Typing.{Right, assigned_from}
 use Rattle.ep_typing.specs.declared.types.CType.{CType}
 
@@ -31,7 +34,7 @@ mutual
         → MeansGiven G global c l o (single e) (g, mentioned G e)
     is_listed : {G : Env} {global c : Bool} {l : ℕ} {o : Option Object} {m : ℕ} {vs : Values} (x : Object)
         (g : Given × Env)
-        → with_parts o ≡ Ok x → MeansAllGiven G global x 0 vs g → MeansGiven G global c l o (listed m vs) g
+        → with_list G o vs ≡ Ok x → MeansAllGiven G global x 0 vs g → MeansGiven G global c l o (listed m vs) g
 
   -- the values of a list, from this number on
   pub data MeansAllGiven : Env → Bool → Object → ℕ → Values → (Given × Env) → Type 0 where
@@ -46,6 +49,10 @@ mutual
 pub data MeansFirstValue : Env → Bool → Bool → ℕ → Object → Option Value → (Given × Env) → Type 0 where
   no_first_value : {G : Env} {global c : Bool} {l : ℕ} {x : Object}
       → MeansFirstValue G global c l x None (nothing_given, G)
+  is_first_bit_field : {G : Env} {global c : Bool} {l : ℕ} {x : Object} {e : Expr} (z : core.Place × FieldRow)
+      (w : core.What)
+      → MeansField (mentioned G e) e z → field_given global l z (object_operand x) ≡ Ok w
+      → MeansFirstValue G global c l x (Some (single e)) (one_given w, mentioned G e)
   is_first_value : {G : Env} {global c : Bool} {l : ℕ} {x : Object} {v : Value} (g : Given × Env)
       → MeansGiven G global c l (Some x) v g
       → MeansFirstValue G global c l x (Some v) (cleared g.1.types x v g.0, g.1)

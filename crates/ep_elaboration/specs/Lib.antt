@@ -1,5 +1,6 @@
 pub mod Declarators
 pub mod Aggregates
+pub mod FieldStatements
 pub mod Given
 pub mod Declarations
 pub mod Statements
@@ -8,6 +9,7 @@ pub mod FunctionSteps
 pub mod Calls
 pub mod Programs
 pub mod ProgramSteps
+pub mod FieldRules
 pub mod WholeRules
 pub mod WholeOffences
 pub mod DeclaratorRules

@@ -12,10 +12,12 @@ use Rattle.ep_elaboration.specs.Declarations.{Line}
 use Rattle.ep_elaboration.specs.Statements.{entered, jump, left, nothing_returned, operand_returned}
 use Rattle.ep_elaboration.specs.GivenOffences.{DeclarationOffends}
 use Rattle.ep_elaboration.specs.WholeOffences.{TestOffends, WholeOffends}
+use Rattle.ep_elaboration.specs.FieldRules.{FieldStatementOffends, NamesField}
 use Rattle.ep_typing.specs.Env.{Env}
 use Rattle.ep_typing.specs.Names.{mentioned}
 use Rattle.ep_typing.specs.Operand.{Operand}
 use Rattle.ep_typing.specs.declared.types.CType.{CType}
+use Rattle.ep_typing.specs.Results.{at_statement}
 use Rattle.ep_typing.specs.Rules.{Means}
 use Rattle.ep_typing.specs.Offences.{Offends, refusal}
 use Rattle.ep_elaboration.specs.StatementRules.{MeansTestIn, MeansTestIf, MeansEvaluationIf, MeansFirst, MeansStatement}
@@ -28,32 +30,34 @@ pub data TestIfOffends : Env → Option Expr → Refusal → Type 0 where
   in_some_test : {G : Env} {e : Expr} {r : Refusal} → TestInOffends G e r → TestIfOffends G (Some e) r
 
 pub data EvaluationOffends : Env → Bool → ℕ → Expr → Refusal → Type 0 where
-  in_evaluation : {G : Env} {c : Bool} {l : ℕ} {e : Expr} {r : Refusal} → WholeOffends (mentioned G e) c e r
-      → EvaluationOffends G c l e r
+  in_evaluation : {G : Env} {c : Bool} {l : ℕ} {e : Expr} {r : Refusal} → (NamesField (mentioned G e) e → ⊥)
+      → WholeOffends (mentioned G e) c e r → EvaluationOffends G c l e r
+  in_field_statement : {G : Env} {c : Bool} {l : ℕ} {e : Expr} {r : Refusal}
+      → FieldStatementOffends (mentioned G e) l e r → EvaluationOffends G c l e r
 
 pub data EvaluationIfOffends : Env → Option Expr → Refusal → Type 0 where
   in_some_evaluation : {G : Env} {e : Expr} {r : Refusal} → EvaluationOffends G false (line_of e) e r
       → EvaluationIfOffends G (Some e) r
 
-pub data FirstOffends : Env → First → Refusal → Type 0 where
-  in_first_declaration : {G : Env} {d : Declaration} {r : Refusal} → DeclarationOffends G false false d r
-      → FirstOffends G (declares d) r
-  in_first_evaluation : {G : Env} {e : Option Expr} {r : Refusal} → EvaluationIfOffends G e r
-      → FirstOffends G (evaluates e) r
+pub data FirstOffends : Env → (line : ℕ) → First → Refusal → Type 0 where
+  in_first_declaration : {G : Env} {l : ℕ} {d : Declaration} {r : Refusal} → DeclarationOffends G false false d r
+      → FirstOffends G l (declares d) r
+  in_first_evaluation : {G : Env} {l : ℕ} {e : Option Expr} {r : Refusal} → EvaluationIfOffends G e r
+      → FirstOffends G l (evaluates e) (at_statement l r)
 
 mutual
   pub data StatementOffends : Env → CType → Bool → Stmt → Refusal → Type 0 where
     in_block : {G : Env} {c : CType} {i : Bool} {l : ℕ} {ps : Parts} {r : Refusal} → PartsOffend (entered G) c i ps r
         → StatementOffends G c i (block l ps) r
     in_evaluated : {G : Env} {c : CType} {i : Bool} {l : ℕ} {e : Expr} {r : Refusal} → EvaluationOffends G true l e r
-        → StatementOffends G c i (evaluate l (Some e)) r
+        → StatementOffends G c i (evaluate l (Some e)) (at_statement l r)
     in_if_test : {G : Env} {c : CType} {i : Bool} {l : ℕ} {e : Expr} {s : Stmt} {r : Refusal}
-        → TestInOffends (entered G) e r → StatementOffends G c i (if_then l e s) r
+        → TestInOffends (entered G) e r → StatementOffends G c i (if_then l e s) (at_statement l r)
     in_if : {G : Env} {c : CType} {i : Bool} {l : ℕ} {e : Expr} {s : Stmt} {r : Refusal} (t : core.Expr × Env)
         → MeansTestIn (entered G) e t → StatementOffends (entered t.1) c i s r
         → StatementOffends G c i (if_then l e s) r
     in_if_else_test : {G : Env} {c : CType} {i : Bool} {l : ℕ} {e : Expr} {s u : Stmt} {r : Refusal}
-        → TestInOffends (entered G) e r → StatementOffends G c i (if_else l e s u) r
+        → TestInOffends (entered G) e r → StatementOffends G c i (if_else l e s u) (at_statement l r)
     in_then : {G : Env} {c : CType} {i : Bool} {l : ℕ} {e : Expr} {s u : Stmt} {r : Refusal} (t : core.Expr × Env)
         → MeansTestIn (entered G) e t → StatementOffends (entered t.1) c i s r
         → StatementOffends G c i (if_else l e s u) r
@@ -62,7 +66,7 @@ mutual
         → MeansTestIn (entered G) e t → MeansStatement (entered t.1) c i s a
         → StatementOffends (entered (left a.1)) c i u r → StatementOffends G c i (if_else l e s u) r
     in_while_test : {G : Env} {c : CType} {i : Bool} {l : ℕ} {e : Expr} {s : Stmt} {r : Refusal}
-        → TestInOffends (entered G) e r → StatementOffends G c i (while_loop l e s) r
+        → TestInOffends (entered G) e r → StatementOffends G c i (while_loop l e s) (at_statement l r)
     in_while : {G : Env} {c : CType} {i : Bool} {l : ℕ} {e : Expr} {s : Stmt} {r : Refusal} (t : core.Expr × Env)
         → MeansTestIn (entered G) e t → StatementOffends (entered t.1) c true s r
         → StatementOffends G c i (while_loop l e s) r
@@ -70,16 +74,17 @@ mutual
         → StatementOffends (entered (entered G)) c true s r → StatementOffends G c i (do_loop l s e) r
     in_do_test : {G : Env} {c : CType} {i : Bool} {l : ℕ} {s : Stmt} {e : Expr} {r : Refusal} (a : List Line × Env)
         → MeansStatement (entered (entered G)) c true s a → TestInOffends (left a.1) e r
-        → StatementOffends G c i (do_loop l s e) r
+        → StatementOffends G c i (do_loop l s e) (at_statement l r)
     in_for_first : {G : Env} {c : CType} {i : Bool} {l : ℕ} {f : First} {e n : Option Expr} {s : Stmt} {r : Refusal}
-        → FirstOffends (entered G) f r → StatementOffends G c i (for_loop l f e n s) r
+        → FirstOffends (entered G) l f r → StatementOffends G c i (for_loop l f e n s) r
     in_for_test : {G : Env} {c : CType} {i : Bool} {l : ℕ} {f : First} {e n : Option Expr} {s : Stmt} {r : Refusal}
         (p : List Line × Env)
-        → MeansFirst (entered G) f p → TestIfOffends p.1 e r → StatementOffends G c i (for_loop l f e n s) r
+        → MeansFirst (entered G) f p → TestIfOffends p.1 e r
+        → StatementOffends G c i (for_loop l f e n s) (at_statement l r)
     in_for_next : {G : Env} {c : CType} {i : Bool} {l : ℕ} {f : First} {e n : Option Expr} {s : Stmt} {r : Refusal}
         (p : List Line × Env) (t : core.Expr × Env)
         → MeansFirst (entered G) f p → MeansTestIf p.1 e t → EvaluationIfOffends t.1 n r
-        → StatementOffends G c i (for_loop l f e n s) r
+        → StatementOffends G c i (for_loop l f e n s) (at_statement l r)
     in_for : {G : Env} {c : CType} {i : Bool} {l : ℕ} {f : First} {e n : Option Expr} {s : Stmt} {r : Refusal}
         (p : List Line × Env) (t : core.Expr × Env) (q : List Line × Env)
         → MeansFirst (entered G) f p → MeansTestIf p.1 e t → MeansEvaluationIf t.1 n q
@@ -91,7 +96,7 @@ mutual
     bad_return : {G : Env} {c : CType} {i : Bool} {l kind : ℕ} → nothing_returned c ≡ Err kind
         → StatementOffends G c i (return_value l None) (refusal kind l)
     in_returned : {G : Env} {c : CType} {i : Bool} {l : ℕ} {e : Expr} {r : Refusal} → Offends (mentioned G e) e r
-        → StatementOffends G c i (return_value l (Some e)) r
+        → StatementOffends G c i (return_value l (Some e)) (at_statement l r)
     bad_returned : {G : Env} {c : CType} {i : Bool} {l : ℕ} {e : Expr} {kind : ℕ} (x : Operand)
         → Means (mentioned G e) e x → operand_returned (mentioned G e).types c x ≡ Err kind
         → StatementOffends G c i (return_value l (Some e)) (refusal kind l)

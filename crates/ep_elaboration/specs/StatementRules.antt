@@ -12,6 +12,7 @@ use Rattle.ep_elaboration.specs.Statements.{blocks_behind, entered, for_lines, j
 use Rattle.ep_elaboration.specs.Statements.{operand_returned, order_of, to_core}
 use Rattle.ep_elaboration.specs.GivenRules.{MeansDeclaration}
 use Rattle.ep_elaboration.specs.WholeRules.{MeansTest, MeansWhole}
+use Rattle.ep_elaboration.specs.FieldRules.{MeansFieldStatement}
 use Rattle.ep_int.specs.declared.types.IntType.TheVariants.{I32}
 use Rattle.ep_typing.specs.Env.{Env}
 use Rattle.ep_typing.specs.Names.{mentioned}
@@ -33,6 +34,8 @@ pub data MeansTestIf : Env → Option Expr → (core.Expr × Env) → Type 0 whe
 pub data MeansEvaluation : Env → Bool → ℕ → Expr → (List Line × Env) → Type 0 where
   is_evaluation : {G : Env} {c : Bool} {l : ℕ} {e : Expr} (w : core.What) → MeansWhole (mentioned G e) c e w
       → MeansEvaluation G c l e (one_line l w, mentioned G e)
+  is_field_statement : {G : Env} {c : Bool} {l : ℕ} {e : Expr} (w : core.What)
+      → MeansFieldStatement (mentioned G e) l e w → MeansEvaluation G c l e (one_line l w, mentioned G e)
 
 -- an outer part of a `for`
 pub data MeansEvaluationIf : Env → Option Expr → (List Line × Env) → Type 0 where

@@ -1,7 +1,7 @@
 -- What statements mean, or the first offence in the order of the text: C11 6.8, and this project's statements by byte
 -- order.
 use Rattle.std.specs.Prelude.{ℕ, Bool, true, false, if◌then◌else◌, List, [], ◌∷◌, ◌++◌, drop, Option, Some, None}
-use Rattle.std.specs.Prelude.{Result, Ok, Err, pos}
+use Rattle.std.specs.Prelude.{unwrap_or, Result, Ok, Err, pos}
 use Rattle.ep_ast.specs.Kind as kinds
 use Rattle.ep_int.specs.declared.types.IntType.TheVariants.{I32}
 use Rattle.ep_int.specs.declared.types.Order.{Order}
@@ -16,7 +16,7 @@ use Rattle.ep_ast.specs.Statement.{more_stmts, Part, declares_in, states, arm, t
 use Rattle.ep_layout.specs.Table.{Table}
 use Rattle.ep_core.specs.Program as core
 use Rattle.ep_typing.specs.declared.types.CType.{CType}
-use Rattle.ep_typing.specs.Results.{◌>>=◌, at}
+use Rattle.ep_typing.specs.Results.{◌>>=◌, at, on_statement}
 use Rattle.ep_typing.specs.Types.{is_void}
 use Rattle.ep_typing.specs.Env as env
 use Rattle.ep_typing.specs.Env.{Env, Meaning, Scope, no_names}
@@ -24,6 +24,7 @@ use Rattle.ep_typing.specs.Names.{mentioned}
 use Rattle.ep_typing.specs.Operand.{Operand, fitted, value_of}
 use Rattle.ep_typing.specs.Typing.{test, typed, whole_statement}
 use Rattle.ep_elaboration.specs.Declarations.{Line, declaration}
+use Rattle.ep_elaboration.specs.FieldStatements.{field_statement}
 
 -- ---- lists of statements
 
@@ -81,18 +82,19 @@ tested_if G (Some e) = tested_in G e
 -- an expression as a statement; in an outer part of a `for` without a call (this project's rule)
 unfoldable pub evaluated_in : Env → (may_call : Bool) → ℕ → source.Expr → Result (List Line × Env) Refusal
 evaluated_in G may_call l e = do
-  w ← whole_statement (mentioned G e) may_call e
+  w ← unwrap_or (field_statement (mentioned G e) l e) (whole_statement (mentioned G e) may_call e)
   Ok (one_line l w, mentioned G e)
 
 unfoldable pub evaluated_if : Env → Option source.Expr → Result (List Line × Env) Refusal
 evaluated_if G None = Ok ([], G)
 evaluated_if G (Some e) = evaluated_in G false (source.line_of e) e
 
-unfoldable pub first_part : Env → First → Result (List Line × Env) Refusal
-first_part G (declares d) = do
+-- a declaration has lines of its own, an expression is one of the `for`'s on this line
+unfoldable pub first_part : Env → (line : ℕ) → First → Result (List Line × Env) Refusal
+first_part G l (declares d) = do
   m ← declaration G false false d
   Ok (m.0.lines, m.1)
-first_part G (evaluates e) = evaluated_if G e
+first_part G l (evaluates e) = on_statement l (evaluated_if G e)
 
 -- A `for` that declares something has a scope of the core round its parts.
 abbrev pub for_lines : First → ℕ → (first : List Line) → (loop : core.What) → (blocks : List ℕ) → List Line
@@ -139,28 +141,28 @@ unfoldable mutual
     b ← parts (entered G) c i ps
     Ok (one_line l (core.scope (blocks_behind 0 b.1) (to_core b.0)), left b.1)
   statement G c i (evaluate l None) = Ok (one_line l (core.simple core.nothing), G)
-  statement G c i (evaluate l (Some e)) = evaluated_in G true l e
+  statement G c i (evaluate l (Some e)) = on_statement l (evaluated_in G true l e)
   statement G c i (if_then l e s) = do
-    t ← tested_in (entered G) e
+    t ← on_statement l (tested_in (entered G) e)
     a ← statement (entered t.1) c i s
     Ok (one_line l (core.if_else t.0 (to_core a.0) core.stop), left (left a.1))
   statement G c i (if_else l e s u) = do
-    t ← tested_in (entered G) e
+    t ← on_statement l (tested_in (entered G) e)
     a ← statement (entered t.1) c i s
     b ← statement (entered (left a.1)) c i u
     Ok (one_line l (core.if_else t.0 (to_core a.0) (to_core b.0)), left (left b.1))
   statement G c i (while_loop l e s) = do
-    t ← tested_in (entered G) e
+    t ← on_statement l (tested_in (entered G) e)
     a ← statement (entered t.1) c true s
     Ok (one_line l (core.loop true t.0 (to_core a.0) core.stop), left (left a.1))
   statement G c i (do_loop l s e) = do
     a ← statement (entered (entered G)) c true s
-    t ← tested_in (left a.1) e
+    t ← on_statement l (tested_in (left a.1) e)
     Ok (one_line l (core.loop false t.0 (to_core a.0) core.stop), left t.1)
   statement G c i (for_loop l f e n s) = do
-    p ← first_part (entered G) f
-    t ← tested_if p.1 e
-    q ← evaluated_if t.1 n
+    p ← first_part (entered G) l f
+    t ← on_statement l (tested_if p.1 e)
+    q ← on_statement l (evaluated_if t.1 n)
     a ← statement (entered q.1) c true s
     Ok (
       for_lines f l p.0 (core.loop true t.0 (to_core a.0) (to_core q.0)) (blocks_behind 0 (left a.1)),
@@ -176,7 +178,7 @@ unfoldable mutual
     w ← at l (nothing_returned c)
     Ok (one_line l w, G)
   statement G c i (return_value l (Some e)) = do
-    x ← typed (mentioned G e) e
+    x ← on_statement l (typed (mentioned G e) e)
     w ← at l (operand_returned (mentioned G e).types c x)
     Ok (one_line l w, mentioned G e)
 

@@ -68,6 +68,7 @@ around model = record {
     tags = (codes "s", 0) ∷ (codes "u", 1) ∷ (codes "o", 2) ∷ [];
   } ∷ [];
   blocks = [];
+  fields = [];
   functions =
       record { name = codes "f1"; params = int ∷ []; result = int }
       ∷ record { name = codes "f0"; params = []; result = void_type }

@@ -6,3 +6,4 @@ mod MeaningRows
 mod TypeRows
 pub mod Firsts
 pub mod Order
+pub mod FieldOrder

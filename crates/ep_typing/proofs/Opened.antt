@@ -15,10 +15,11 @@ use Rattle.ep_typing.specs.Operators.{chosen, kept, negated, complemented, denie
 use Rattle.ep_typing.specs.Operators.{operated, unary_operated}
 use Rattle.ep_typing.specs.Parts.{named, named_uncalled, addressed, pointed, unary_typed, indexable}
 use Rattle.ep_typing.specs.Parts.{element_of_array, element_behind}
-use Rattle.ep_typing.specs.Parts.{indexed, member_of, selected, selected_through, casted, type_sized, sized}
+use Rattle.ep_typing.specs.Parts.{indexed, member_of, selected, casted, type_sized, sized}
+use Rattle.ep_typing.specs.Fields.{field_in, selected_behind, selected_in}
 use Rattle.ep_typing.specs.Calls.{passed, all_passed, called}
 use Rattle.ep_typing.specs.Typing.{statement_meaning, read_first, joined, chosen_from, cast_to, indexed_by}
-use Rattle.ep_typing.specs.Typing.{selected_behind, test, assignable, not_stored, stored, copied, put, assigned}
+use Rattle.ep_typing.specs.Typing.{test, assignable, not_stored, stored, copied, put, assigned}
 use Rattle.ep_typing.specs.Typing.{updated, taken, call_typed, right_side, assignment, stepped, whole_statement}
 use Rattle.ep_typing.specs.Typing.{typed, typed_all}
 use Rattle.ep_typing.proofs.Around.{around}
@@ -30,7 +31,7 @@ unfolding at_depth type_within with_pointers pointer_number words_type named_typ
     mentioned_all value_of fitted tested number_of count_of arithmetic shifted moved added subtracted ordered equated
     both either chosen kept negated complemented denied operated_on_numbers decided operated unary_operated named
     addressed pointed unary_typed named_uncalled indexable element_of_array element_behind indexed member_of selected
-    selected_through casted type_sized sized passed all_passed called read_first joined chosen_from cast_to indexed_by
+    field_in selected_in casted type_sized sized passed all_passed called read_first joined chosen_from cast_to indexed_by
     selected_behind test assignable not_stored stored copied put assigned updated taken call_typed right_side
     assignment stepped whole_statement typed typed_all
 statement m e = statement_meaning (around m) e

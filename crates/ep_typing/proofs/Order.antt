@@ -6,14 +6,14 @@ use Rattle.ep_ast.specs.Expression.{Expr, Exprs, TypeName, assign, conditional, 
 use Rattle.ep_ast.specs.Expression.{sizeof_expr, sizeof_type, index, call, member, arrow, post_increment}
 use Rattle.ep_ast.specs.Expression.{post_decrement, id, number, no_exprs, more_exprs}
 use Rattle.ep_typing.specs.declared.types.CType.{CType}
-use Rattle.ep_typing.specs.Results.{at, ◌>>=◌}
+use Rattle.ep_typing.specs.Results.{at, ◌>>=◌, at_statement, on_statement}
 use Rattle.ep_typing.specs.Env.{Env}
 use Rattle.ep_typing.specs.Names.{named_type}
 use Rattle.ep_typing.specs.Operand.{Operand, Value, place, value, function, value_of}
-use Rattle.ep_typing.specs.Parts.{an_operand, indexable, named, named_uncalled, selected, sized, type_sized}
+use Rattle.ep_typing.specs.Parts.{an_operand, indexable, named, named_uncalled, sized, type_sized}
 use Rattle.ep_typing.specs.Parts.{unary_typed, uncalled}
 use Rattle.ep_typing.specs.Typing.{callee, typed, typed_all, read_first, joined, chosen_from, cast_to, indexed_by}
-use Rattle.ep_typing.specs.Typing.{selected_behind}
+use Rattle.ep_typing.specs.Fields.{selected_behind, selected_in}
 use Rattle.ep_typing.specs.Rules.{Means, MeansCallee, HaveValues}
 use Rattle.ep_typing.specs.Offences.{Point, node, type_named, name_called}
 use Rattle.ep_typing.specs.Rules.{is_called_name, is_called_value}
@@ -54,6 +54,15 @@ pub at_err : {A : Type 0} (l : ℕ) (r : Result A ℕ) (d : Refusal) → at l r 
     → (k : ℕ) × (r ≡ Err k) × (refusal k l ≡ d)
 at_err l (Ok x) d e = absurd cc
 at_err l (Err k) d e = (k, refl, cc)
+
+pub on_ok : {A : Type 0} (l : ℕ) (r : Result A Refusal) (y : A) → on_statement l r ≡ Ok y → r ≡ Ok y
+on_ok l (Ok x) y e = e
+on_ok l (Err c) y e = absurd cc
+
+pub on_err : {A : Type 0} (l : ℕ) (r : Result A Refusal) (d : Refusal) → on_statement l r ≡ Err d
+    → (c : Refusal) × (r ≡ Err c) × (at_statement l c ≡ d)
+on_err l (Ok x) d e = absurd cc
+on_err l (Err c) d e = (c, refl, cc)
 
 -- ---- from the rules to the function
 
@@ -209,10 +218,10 @@ means G (call l f es) z e =
     let p = bind_ok (callee G f (typed G f)) _ z e in
     let q = bind_ok (typed_all G l es) _ z p.2 in absurd (let c = q.2 in cc)
 means G (member l a n) z e =
-    let p = bind_ok (typed G a) _ z e in is_member p.0 (means G a p.0 p.1) (at_ok l (selected G.types p.0 n) z p.2)
+    let p = bind_ok (typed G a) _ z e in is_member p.0 (means G a p.0 p.1) (at_ok l (selected_in G p.0 n) z p.2)
 means G (arrow l a n) z e =
     let p = bind_ok (typed G a) _ z e in
-    is_member_behind p.0 (means G a p.0 p.1) (at_ok l (selected_behind G.types p.0 n) z p.2)
+    is_member_behind p.0 (means G a p.0 p.1) (at_ok l (selected_behind G p.0 n) z p.2)
 means G (post_increment l a) z e = let p = bind_ok (typed G a) _ z e in absurd (let c = p.2 in cc)
 means G (post_decrement l a) z e = let p = bind_ok (typed G a) _ z e in absurd (let c = p.2 in cc)
 means G (id l t) z e = is_name (at_ok l (named_uncalled G t) z e)
@@ -478,10 +487,10 @@ mutual
       (λ vs hvs e2. breaks_here G l (node (call l f es)) (stopped 18) r e2
       (λ k h. always G l 18 (node (call l f es)) (calls x vs (means_callee G f x hx) (means_all G l es vs hvs)) k h)))
   refused G (member l a n) r e =
-      last_operand G l a (member l a n) (λ x. selected G.types x n) r e (λ h. refused G a r h)
+      last_operand G l a (member l a n) (λ x. selected_in G x n) r e (λ h. refused G a r h)
       (λ x k q h. bad_member x q h)
   refused G (arrow l a n) r e =
-      last_operand G l a (arrow l a n) (λ x. selected_behind G.types x n) r e (λ h. refused G a r h)
+      last_operand G l a (arrow l a n) (λ x. selected_behind G x n) r e (λ h. refused G a r h)
       (λ x k q h. bad_member_behind x q h)
   refused G (post_increment l a) r e =
       last_operand G l a (post_increment l a) (λ x. stopped 19) r e (λ h. refused G a r h)

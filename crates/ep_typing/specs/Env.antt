@@ -4,6 +4,7 @@ use Rattle.ep_int.specs.declared.types.Model.{Model}
 use Rattle.ep_layout.specs.Table.{Table, declared, empty}
 use Rattle.ep_core.specs.Program.{Block}
 use Rattle.ep_typing.specs.declared.types.CType.{CType}
+use Rattle.ep_typing.specs.declared.types.FieldRow.{FieldRow}
 
 -- what a name means that was declared: functions, variables and typedefs share one space of names
 pub data Meaning : Type 0 where
@@ -22,9 +23,15 @@ pub record Signature : Type 0 where
   pub params : List CType
   pub result : CType
 
--- The scopes stand from inside out, and the last is the file's. Blocks and functions are numbered as they come.
+-- the bit-fields of an aggregate that have a name
+abbrev pub NamedFields : Type 0
+NamedFields = List (List ℕ × FieldRow)
+
+-- The scopes stand from inside out, and the last is the file's. Blocks and functions are numbered as they come. Each
+-- aggregate with a bit-field stands among the fields by its number.
 pub record Env : Type 0 where
   pub types : Table
+  pub fields : List (ℕ × NamedFields)
   pub scopes : List Scope
   pub blocks : List Block
   pub functions : List Signature
@@ -33,7 +40,7 @@ abbrev pub no_names : Scope
 no_names = record { names = []; tags = [] }
 
 abbrev pub start : Model → Env
-start m = record { types = empty m; scopes = no_names ∷ []; blocks = []; functions = [] }
+start m = record { types = empty m; fields = []; scopes = no_names ∷ []; blocks = []; functions = [] }
 
 -- ---- looking up
 

@@ -7,6 +7,7 @@ pub mod Operand
 pub mod Constant
 pub mod Operators
 pub mod Parts
+pub mod Fields
 pub mod Calls
 pub mod Typing
 pub mod Rules

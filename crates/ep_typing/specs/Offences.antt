@@ -9,9 +9,10 @@ use Rattle.ep_typing.specs.declared.types.CType.{CType}
 use Rattle.ep_typing.specs.Env.{Env}
 use Rattle.ep_typing.specs.Names.{named_type}
 use Rattle.ep_typing.specs.Operand.{Operand, Value, value_of}
-use Rattle.ep_typing.specs.Parts.{an_operand, indexable, named, named_uncalled, selected, sized, type_sized}
+use Rattle.ep_typing.specs.Parts.{an_operand, indexable, named, named_uncalled, sized, type_sized}
 use Rattle.ep_typing.specs.Parts.{unary_typed}
-use Rattle.ep_typing.specs.Typing.{read_first, joined, chosen_from, cast_to, indexed_by, selected_behind}
+use Rattle.ep_typing.specs.Fields.{selected_behind, selected_in}
+use Rattle.ep_typing.specs.Typing.{read_first, joined, chosen_from, cast_to, indexed_by}
 use Rattle.ep_typing.specs.Rules.{Means, MeansCallee, HaveValues}
 
 abbrev pub refusal : (kind line : ℕ) → Refusal
@@ -57,9 +58,9 @@ pub data Breaks (G : Env) : Point → Refusal → Type 0 where
       → Means G a x → indexable G.types x ≡ Ok u → Means G b y
       → indexed_by G.types u y ≡ Err k → Breaks G (node (index l a b)) (refusal k l)
   bad_member : {l k : ℕ} {a : Expr} {n : List ℕ} (x : Operand)
-      → Means G a x → selected G.types x n ≡ Err k → Breaks G (node (member l a n)) (refusal k l)
+      → Means G a x → selected_in G x n ≡ Err k → Breaks G (node (member l a n)) (refusal k l)
   bad_member_behind : {l k : ℕ} {a : Expr} {n : List ℕ} (x : Operand)
-      → Means G a x → selected_behind G.types x n ≡ Err k → Breaks G (node (arrow l a n)) (refusal k l)
+      → Means G a x → selected_behind G x n ≡ Err k → Breaks G (node (arrow l a n)) (refusal k l)
   assigns : {l m : ℕ} {a b : Expr} (x old y : Operand)
       → Means G a x → read_first G.types m x ≡ Ok old → Means G b y
       → Breaks G (node (assign l m a b)) (refusal kinds.assignment_in_expression l)

@@ -146,12 +146,6 @@ selected t (place p c) n = if is_aggregate c then member_of t p c n else Err kin
 selected t (value v) n = Err kinds.type_mismatch
 selected t (function f) n = Err kinds.type_mismatch
 
--- through a pointer (C11 6.5.2.3p2)
-unfoldable pub selected_through : Table → Value → (name : List ℕ) → Result Operand ℕ
-selected_through t v n = do
-  x ← pointed v
-  selected t x n
-
 -- ---- casts and sizes
 
 -- type_mismatch: not two scalars (C11 6.5.4p2). pointer_to_integer: between a pointer and an integer, by this

@@ -1,7 +1,7 @@
 -- What expressions mean, or the first offence in the order of the text: operands before operators, left before right,
 -- at one node the lowest kind. C11 6.5 and 6.8.3.
-use Rattle.std.specs.Prelude.{ℕ, ◌==◌, Bool, true, ◌&&◌, ◌||◌, not, if◌then◌else◌, List, [], ◌∷◌, Some, None, Result}
-use Rattle.std.specs.Prelude.{Ok, Err, pos}
+use Rattle.std.specs.Prelude.{ℕ, ◌==◌, Bool, true, ◌&&◌, ◌||◌, not, if◌then◌else◌, List, [], ◌∷◌, Option, Some, None}
+use Rattle.std.specs.Prelude.{Result, Ok, Err, pos}
 use Rattle.ep_ast.specs.Kind as kinds
 use Rattle.ep_int.specs.declared.types.IntType.TheVariants.{I32}
 use Rattle.ep_ast.specs.declared.refusals.Refusal.{Refusal}
@@ -14,13 +14,15 @@ use Rattle.ep_typing.specs.declared.types.CType.{CType}
 use Rattle.ep_typing.specs.Results.{◌>>=◌, at, needed}
 use Rattle.ep_typing.specs.Types.{is_aggregate, is_array, is_pointer, is_same, is_void, known_number, number_in}
 use Rattle.ep_typing.specs.Types.{scalar_of, size_of_type}
+use Rattle.ep_typing.specs.declared.types.FieldRow.{FieldRow}
 use Rattle.ep_typing.specs.Env.{Env}
 use Rattle.ep_typing.specs.Names.{mentioned, named_type}
 use Rattle.ep_typing.specs.Operand.{Operand, place, value, function, Value, are_scalars, fitted, int_value, is_mixed}
 use Rattle.ep_typing.specs.Operand.{plain_value, tested, value_of}
 use Rattle.ep_typing.specs.Operators.{chosen, operated}
-use Rattle.ep_typing.specs.Parts.{an_operand, casted, indexable, indexed, named, named_uncalled, numbered, selected}
-use Rattle.ep_typing.specs.Parts.{selected_through, sized, type_sized, unary_typed}
+use Rattle.ep_typing.specs.Parts.{an_operand, casted, indexable, indexed, named, named_uncalled, numbered, sized}
+use Rattle.ep_typing.specs.Parts.{type_sized, unary_typed}
+use Rattle.ep_typing.specs.Fields.{field_in, found_in, pointed_by, selected_behind, selected_in}
 use Rattle.ep_typing.specs.Calls.{Called, called, called_into, result_of}
 
 -- ---- expressions
@@ -50,11 +52,6 @@ unfoldable pub indexed_by : Table → Operand → Operand → Result Operand ℕ
 indexed_by t u y = do
   v ← value_of t y
   indexed t u v
-
-unfoldable pub selected_behind : Table → Operand → (name : List ℕ) → Result Operand ℕ
-selected_behind t x n = do
-  v ← value_of t x
-  selected_through t v n
 
 -- what is called: a function by its name, or what another expression stands for
 abbrev pub callee : Env → source.Expr → (uncalled : Result Operand Refusal) → Result Operand Refusal
@@ -112,10 +109,10 @@ unfoldable mutual
     at l (Err kinds.call_in_expression)
   typed G (source.member l a n) = do
     x ← typed G a
-    at l (selected G.types x n)
+    at l (selected_in G x n)
   typed G (source.arrow l a n) = do
     x ← typed G a
-    at l (selected_behind G.types x n)
+    at l (selected_behind G x n)
   typed G (source.post_increment l a) = do
     x ← typed G a
     at l (Err kinds.assignment_in_expression)
@@ -133,6 +130,12 @@ unfoldable mutual
     v ← at l (value_of G.types x)
     vs ← typed_all G l es
     Ok (v ∷ vs)
+
+-- the bit-field that an expression names, with the place of its unit
+unfoldable pub field_of : Env → source.Expr → Option (core.Place × FieldRow)
+field_of G (source.member l a n) = found_in (typed G a) (λ x. field_in G x n)
+field_of G (source.arrow l a n) = found_in (typed G a >>= (λ x. at l (pointed_by G x))) (λ y. field_in G y n)
+field_of G _ = None
 
 -- the scalar that is tested by an `if`, a loop, or evaluated alone
 unfoldable pub test : Env → source.Expr → Result core.Expr Refusal

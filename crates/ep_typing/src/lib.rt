@@ -4,5 +4,5 @@
 mod laws;
 mod types;
 
-pub use laws::expressions;
-pub use types::{Base, CType};
+pub use laws::{bit_fields, expressions};
+pub use types::{Base, CType, FieldRow};

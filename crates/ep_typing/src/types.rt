@@ -66,3 +66,13 @@ impl Eq for CType {
 
     ghost laws = { equivalence };
 }
+
+/// A bit-field in its unit: the number of the unit among its aggregate's members, the unit's type, how many of its bits
+/// are used before the field, and how many the field has (C11 6.7.2.1p9).
+#[derive(Clone, Copy, Debug)]
+pub struct FieldRow {
+    pub unit: u32,
+    pub t: IntType,
+    pub used: u32,
+    pub width: u32,
+}

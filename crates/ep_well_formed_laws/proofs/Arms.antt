@@ -385,7 +385,13 @@ between_arms G H h k a =
     (later table.built) G.scopes h.env.places in
     record {
       env = record {
-        declared = record { table = table; names = d.names; tags = d.tags; functions = k.env.declared.functions };
+        declared = record {
+          table = table;
+          fields = k.env.declared.fields;
+          names = d.names;
+          tags = d.tags;
+          functions = k.env.declared.functions;
+        };
         places = subst (λ (bs : List Block). EachMeaning (IsPlaced H.types bs H.functions) G.scopes) (sym a.blocks.is)
             (subst (λ (fs : List Signature). EachMeaning (IsPlaced H.types (G.blocks ++ a.blocks.more) fs) G.scopes)
             (sym a.functions) placed);

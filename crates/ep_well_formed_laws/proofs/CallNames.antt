@@ -19,11 +19,13 @@ use Rattle.ep_typing.specs.Operand.{read_bytes, write_bytes, place, value, value
 use Rattle.ep_typing.specs.Operators.{moved, unary_operated}
 use Rattle.ep_typing.specs.Parts.{addressed, an_operand, built_in, element_behind, element_in, element_of_array, ends}
 use Rattle.ep_typing.specs.Parts.{indexed, meant, member_at, member_of, named, named_callee, named_uncalled, pointed}
-use Rattle.ep_typing.specs.Parts.{selected, selected_through, unary_of_value, unary_typed, uncalled}
+use Rattle.ep_typing.specs.Parts.{selected, unary_of_value, unary_typed, uncalled}
+use Rattle.ep_typing.specs.declared.types.FieldRow.{FieldRow}
+use Rattle.ep_typing.specs.Fields.{but_field, field_in, pointed_by, selected_behind, selected_in}
 use Rattle.ep_typing.specs.Calls.{Called, a_call, an_action, an_input, all_passed, called, called_into, done_by}
 use Rattle.ep_typing.specs.Calls.{parameters}
 use Rattle.ep_typing.specs.Typing.{Right, a_result, an_object, assigned, assigned_from, cast_to, chosen_from}
-use Rattle.ep_typing.specs.Typing.{indexed_by, joined, one, operator_of, selected_behind, taken, updated}
+use Rattle.ep_typing.specs.Typing.{indexed_by, joined, one, operator_of, taken, updated}
 use Rattle.ep_typing.specs.Rules.{Means, MeansCallee, is_binary, is_called_name, is_called_value, is_cast}
 use Rattle.ep_typing.specs.Rules.{is_choice, is_element, is_member, is_member_behind, is_name, is_number, is_size, is_type_size, is_unary}
 use Rattle.ep_elaboration.specs.Calls.{Stand, call_in, evaluation, named_call}
@@ -31,6 +33,7 @@ use Rattle.ep_elaboration.specs.Functions.{number_of_function}
 use Rattle.ep_elaboration.specs.WholeRules.{MeansCall, MeansRight, MeansStep, MeansWhole, is_assignment, is_call}
 use Rattle.ep_elaboration.specs.WholeRules.{is_decrement, is_increment, is_operand, is_result, is_step, is_value}
 use Rattle.ep_elaboration.specs.WholeRules.{is_whole_assignment, is_whole_call, is_whole_step}
+use Rattle.ep_well_formed_laws.proofs.FieldAccesses.{IsAccess, a_reading, a_writing}
 use Rattle.ep_well_formed_laws.proofs.Scopes.{HaveNames}
 use Rattle.ep_well_formed_laws.proofs.Tests.{after, either_way, given, needed_is}
 
@@ -220,6 +223,14 @@ no_selected t (place p c) n y e = elim (either_way (is_aggregate c) _ _ (Ok y) e
 no_selected t (value v) n y e = absurd cc
 no_selected t (function f) n y e = absurd cc
 
+no_selected_in : (G : Env) (x : Operand) (n : List ℕ) (y : Operand) → selected_in G x n ≡ Ok y → NoFunction y
+unfolding selected_in
+no_selected_in G x n y e = by (field_in G x n) e
+  where
+    by : (o : Option (core.Place × FieldRow)) → but_field o (selected G.types x n) ≡ Ok y → NoFunction y
+    by None q = no_selected G.types x n y q
+    by (Some z) q = absurd cc
+
 -- an expression that is a function, by its name
 pub record IsNamed (G : Env) (e : source.Expr) (f : Callee) : Type 0 where
   pub line : ℕ
@@ -235,7 +246,7 @@ no_uncalled (Err k) f e = cc
 
 -- what stands by itself is no function
 never_function : (G : Env) (e : source.Expr) (f : Callee) (x : Operand) → Means G e x → x ≡ function f → ⊥
-unfolding chosen_from joined cast_to indexed_by selected_behind selected_through named_uncalled
+unfolding chosen_from joined cast_to indexed_by selected_behind named_uncalled
 never_function G e f x is_number q = cc
 never_function G e f x (is_name {t = t} p) q = no_uncalled (named G t) f (p ∙ ap (λ (y : Operand). Ok y) q)
 never_function G e f x (is_choice w y z r u a b c d g k) q =
@@ -249,10 +260,9 @@ never_function G e f x (is_size y a k) q = subst NoFunction q (no_value _ x k)
 never_function G e f x (is_type_size c a k) q = subst NoFunction q (no_value _ x k)
 never_function G e f x (is_element y u z a b c k) q =
     let v = after (value_of G.types z) _ x k in subst NoFunction q (no_indexed G.types u v.0 x v.2)
-never_function G e f x (is_member {n = n} y a k) q = subst NoFunction q (no_selected G.types y n x k)
+never_function G e f x (is_member {n = n} y a k) q = subst NoFunction q (no_selected_in G y n x k)
 never_function G e f x (is_member_behind {n = n} y a k) q =
-    let v = after (value_of G.types y) _ x k in
-    let z = after (pointed v.0) _ x v.2 in subst NoFunction q (no_selected G.types z.0 n x z.2)
+    let z = after (pointed_by G y) (λ z. selected_in G z n) x k in subst NoFunction q (no_selected_in G z.0 n x z.2)
 
 only_named : (G : Env) (e : source.Expr) (f : Callee) (x : Operand) → MeansCallee G e x → x ≡ function f → IsNamed G e f
 only_named G e f x (is_called_name {l = l} {t = t} p) q =
@@ -301,6 +311,11 @@ mutual
   pub each_call : (P Q : ℕ → Type 0) → ((k : ℕ) → P k → Q k) → (ss : core.Stmts) → EachCall P ss → EachCall Q ss
   each_call P Q f core.stop h = tt
   each_call P Q f (core.more l w rest) h = (each_call_in P Q f w h.0, each_call P Q f rest h.1)
+
+-- what reads or writes a bit-field calls nothing
+pub access_calls : (P : ℕ → Type 0) (w : core.What) → IsAccess w → EachCallIn P w
+access_calls P w (a_reading l unit f d) = ((tt, tt), (tt, tt))
+access_calls P w (a_writing l unit f e) = ((tt, tt), (tt, tt))
 
 pub calls_front : (fs : List Signature) (k : ℕ) (xs ys : List Stand) → CallsTo fs k xs → CallsTo fs k (xs ++ ys)
 calls_front fs k [] ys h = absurd h

@@ -68,6 +68,7 @@ env_with_function : (G : Env) (s : Signature) → IsEnv G → IsSignature G.type
 env_with_function G s h k = record {
   declared = record {
     table = h.declared.table;
+    fields = h.declared.fields;
     names = h.declared.names;
     tags = h.declared.tags;
     functions = λ n r e. elim (get_push G.functions s r n e) [
@@ -210,6 +211,7 @@ behind_head G H b r h k =
     env_declares G (left H) h (record {
       declared = record {
         table = k.declared.table;
+        fields = k.declared.fields;
         names = subst (EachMeaning (IsTyped H.types)) (sym o) (subst (EachMeaning (IsTyped H.types)) k.is k.declared.names).1;
         tags = subst (EachTag (λ a. a < length H.types.aggregates)) (sym o)
             (subst (EachTag (λ a. a < length H.types.aggregates)) k.is k.declared.tags).1;
@@ -241,6 +243,7 @@ body_is K h inner k typed tags named passed result =
     record {
       declared = record {
         table = k.declared.table;
+        fields = k.declared.fields;
         names = (typed, k.declared.names);
         tags = (tags, k.declared.tags);
         functions = k.declared.functions;

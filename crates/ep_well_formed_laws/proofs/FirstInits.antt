@@ -41,14 +41,15 @@ use Rattle.ep_typing.specs.Typing.{Right, a_result, an_object, assignable, assig
 use Rattle.ep_typing.specs.Typing.{put, stored}
 use Rattle.ep_elaboration.specs.Declarators.{Object}
 use Rattle.ep_elaboration.specs.Given.{Given, cleared, constant_given, constant_value, first_values, line_of_value}
-use Rattle.ep_elaboration.specs.Given.{object_operand, part_at, with_parts}
+use Rattle.ep_elaboration.specs.Given.{object_operand, part_at}
 use Rattle.ep_elaboration.specs.GivenRules.{MeansAllGiven, MeansFirstValue, MeansGiven, MeansGivenExpression}
-use Rattle.ep_elaboration.specs.GivenRules.{is_first_value, is_given_expression, is_listed, is_single}
+use Rattle.ep_elaboration.specs.GivenRules.{is_first_bit_field, is_first_value, is_given_expression, is_listed, is_single}
 use Rattle.ep_elaboration.specs.GivenRules.{more_values_given, no_first_value, no_values_given}
 use Rattle.ep_well_formed_laws.specs.Numbers.{IsTable}
 use Rattle.ep_well_formed_laws.specs.Environments.{IsDeclared}
 use Rattle.ep_well_formed_laws.proofs.Extents.{layout_at, size_is_length}
-use Rattle.ep_well_formed_laws.proofs.FirstValues.{all_given_mentions, given_mentions}
+use Rattle.ep_well_formed_laws.proofs.FieldAccesses.{given_is_read}
+use Rattle.ep_well_formed_laws.proofs.FirstValues.{all_given_mentions, given_mentions, parts_are}
 use Rattle.ep_well_formed_laws.proofs.Mentions.{expression_mentioned}
 use Rattle.ep_well_formed_laws.proofs.Operators.{wrapped_fits}
 use Rattle.ep_well_formed_laws.proofs.Parts.{integer_row}
@@ -291,13 +292,6 @@ first_inits t bs x l (an_object y) w vs h q a e = constant_inits t bs x l y w vs
 
 -- ---- values of lists
 
-parts_are : (o : Option Object) (x : Object) → with_parts o ≡ Ok x
-    → (o ≡ Some x) × ((is_array x.ty || is_aggregate x.ty) ≡ true)
-parts_are None x e = absurd cc
-parts_are (Some y) x e =
-    let g = given (is_array y.ty || is_aggregate y.ty) y x 32 e in
-    (ap (λ (z : Object). Some z) g.1, subst (λ (z : Object). (is_array z.ty || is_aggregate z.ty) ≡ true) g.1 g.0)
-
 expression_object : (G : Env) (c : Bool) (l : ℕ) (o : Option Object) (e : source.Expr) (g : Given)
     → MeansGivenExpression G true c l o e g
     → (x : Object) × (o ≡ Some x)
@@ -308,7 +302,7 @@ given_object : (G : Env) (c : Bool) (l : ℕ) (o : Option Object) (v : tree.Valu
     → MeansGiven G true c l o v g
     → (x : Object) × (o ≡ Some x)
 given_object G c l o v g (is_single {e = e} d m) = expression_object (mentioned G e) c l o e d m
-given_object G c l o v g (is_listed {vs = vs} x d p m) = (x, (parts_are o x p).0)
+given_object G c l o v g (is_listed {vs = vs} x d p m) = (x, (parts_are G o vs x p).0)
 
 mutual
   pub given_inits : (G : Env) (bs : List Block) (c : Bool) (l : ℕ) (o : Option Object) (v : tree.Value)
@@ -324,7 +318,7 @@ mutual
       (subst (λ (b : Object). assigned_from H.types mark.equal (object_operand b) (object_operand b) y ≡ Ok w) same a)
       (subst (λ (b : Object). first_values true H.types b y ≡ Ok vs) same f)
   given_inits G bs c l o v g x k h s q (is_listed {vs = vs} z d p m) =
-      let r = parts_are o z p in
+      let r = parts_are G o vs z p in
       let same : z ≡ x = some_object z x (sym r.0 ∙ s) in
       let inside = subst (λ (b : Object). InBlock G.types bs b k) (sym same) q in
       let sp = spread G.types bs z k h.table inside r.1 in
@@ -365,6 +359,8 @@ pub global_inits : (G : Env) (bs : List Block) (c : Bool) (l : ℕ) (x : Object)
     → IsDeclared G → InBlock G.types bs x k → MeansFirstValue G true c l x v g
     → Ascends g.1.types bs x.block x.offset (x.offset + k.size) g.0.values
 global_inits G bs c l x v g k h q no_first_value = no_value G.types bs x k h.table q
+global_inits G bs c l x v g k h q (is_first_bit_field z w m r) =
+    absurd (true≢false (given_is_read true l z (object_operand x) w r).0)
 global_inits G bs c l x v g k h q (is_first_value {v = w} d m) =
     subst (Ascends d.1.types bs x.block x.offset (x.offset + k.size)) (sym (same_values d.1.types w d.0))
     (given_inits G bs c l (Some x) w d x k h refl q m)

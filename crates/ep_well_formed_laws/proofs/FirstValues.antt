@@ -3,7 +3,7 @@ use Rattle.std.proofs.Common.{◌≡◌, ℕ, zero, suc, ◌+◌, ◌*◌, ◌<�
 use Rattle.ep_core.proofs.Tables.{more_types}
 use Rattle.std.proofs.lemmas.Bool.{or_cases}
 use Rattle.std.proofs.lemmas.Bool.{and_from}
-use Rattle.std.proofs.Common.{◌||◌, if◌then◌else◌, List, [], ◌∷◌, ◌++◌, length, map, slice_get, Option, Some, None}
+use Rattle.std.proofs.Common.{◌&&◌, ◌||◌, not, if◌then◌else◌, List, [], ◌∷◌, ◌++◌, length, map, slice_get, Option, Some, None}
 use Rattle.std.proofs.Common.{option_map, unwrap_or, is_some, int_le, Ok, refl, sym, ap, ◌∙◌, subst, inl, inr, arith}
 use Rattle.std.proofs.Common.{pos, negsuc}
 use Rattle.std.proofs.lemmas.Bool.Decides.{nat_tests}
@@ -27,11 +27,12 @@ use Rattle.ep_typing.specs.Names.{mentioned}
 use Rattle.ep_elaboration.specs.Declarators.{Object}
 use Rattle.ep_elaboration.specs.Declarations.{Line, Made}
 use Rattle.ep_elaboration.specs.Given.{Given, cleared, count_listed, element_at, first_member, given_members}
-use Rattle.ep_elaboration.specs.Given.{line_of_value, member_object, object_operand, part_at, with_parts}
+use Rattle.ep_elaboration.specs.Given.{has_fields, is_zero_alone, line_of_value, member_object, object_operand}
+use Rattle.ep_elaboration.specs.Given.{part_at, with_list, with_parts}
 use Rattle.ep_elaboration.specs.Statements.{to_core}
 use Rattle.ep_elaboration.specs.GivenRules.{MeansAllGiven, MeansDeclaration, MeansFirstValue, MeansGiven}
 use Rattle.ep_elaboration.specs.GivenRules.{MeansGivenExpression, MeansVariable, MeansVariables, is_declaration}
-use Rattle.ep_elaboration.specs.GivenRules.{is_first_value, is_given_expression, is_listed, is_single}
+use Rattle.ep_elaboration.specs.GivenRules.{is_first_bit_field, is_first_value, is_given_expression, is_listed, is_single}
 use Rattle.ep_elaboration.specs.GivenRules.{is_variable, more_values_given, more_variables, no_first_value}
 use Rattle.ep_elaboration.specs.GivenRules.{no_values_given, no_variables}
 use Rattle.ep_well_formed_laws.specs.Numbers.{HasNumber, may_be, type_number}
@@ -40,6 +41,7 @@ use Rattle.ep_well_formed_laws.specs.Operands.{PlaceFits}
 use Rattle.ep_well_formed_laws.specs.Statements.{StmtsFit, WhatFits}
 use Rattle.ep_well_formed_laws.proofs.Extents.{same_size}
 use Rattle.ep_well_formed_laws.proofs.Additions.{c_number_is, has_number_stays, type_number_stays}
+use Rattle.ep_well_formed_laws.proofs.FieldUses.{field_given_fits}
 use Rattle.ep_well_formed_laws.proofs.Mentions.{AreThere, Mentions, covers_mentioned, expression_mentioned}
 use Rattle.ep_well_formed_laws.proofs.Mentions.{mentions_none, mentions_on}
 use Rattle.ep_well_formed_laws.proofs.Objects.{object_declared_is, scope_stays}
@@ -51,7 +53,7 @@ use Rattle.ep_well_formed_laws.proofs.StatementGrowth.{place_stays, sized_stays}
 use Rattle.ep_well_formed_laws.proofs.Steps.{Follows, NamesGrow, covers_before, follows_declares, follows_itself}
 use Rattle.ep_well_formed_laws.proofs.Steps.{follows_mentions, follows_on, names_grow_on, names_stay, stmts_later}
 use Rattle.ep_well_formed_laws.proofs.Steps.{what_later}
-use Rattle.ep_well_formed_laws.proofs.Tests.{either_way, given}
+use Rattle.ep_well_formed_laws.proofs.Tests.{after, either_way, given, unless}
 use Rattle.ep_well_formed_laws.proofs.Values.{self_may_be}
 use Rattle.ep_well_formed_laws.proofs.WholeStatements.{from_fits, right_fits}
 
@@ -172,6 +174,24 @@ module _ (G : Env) (seen : List ℕ) (h : IsEnv G) (some : 0 < length G.types.ty
 
 -- ---- values
 
+-- what a list is for has parts
+abbrev pub HasParts : Option Object → Object → Type 0
+HasParts o x = (o ≡ Some x) × ((is_array x.ty || is_aggregate x.ty) ≡ true)
+
+with_parts_is : (o : Option Object) (x : Object) → with_parts o ≡ Ok x → HasParts o x
+with_parts_is None x e = absurd cc
+with_parts_is (Some y) x e =
+    let g = given (is_array y.ty || is_aggregate y.ty) y x 32 e in
+    (ap (λ (z : Object). Some z) g.1, subst (λ (z : Object). (is_array z.ty || is_aggregate z.ty) ≡ true) g.1 g.0)
+
+pub parts_are : (G : Env) (o : Option Object) (vs : Values) (x : Object) → with_list G o vs ≡ Ok x → HasParts o x
+unfolding with_list
+parts_are G o vs x e =
+    let y = after (with_parts o) _ x e in
+    let g = unless (has_fields G y.0.ty && not (is_zero_alone vs)) 51 (Ok y.0) x y.2 in
+    let same : y.0 ≡ x = (let q = g.1 in cc) in
+    subst (HasParts o) same (with_parts_is o y.0 y.1)
+
 module _ (seen : List ℕ) (result : Option ℕ) where
   -- statements that fit, inside of a loop or not
   abbrev pub EachFits : Env → List core.What → Type 0
@@ -189,13 +209,6 @@ module _ (seen : List ℕ) (result : Option ℕ) where
   pub record GivenFits (G H : Env) (g : Given) : Type 0 where
     pub mentions : Mentions G H
     pub fits : EachFits H g.statements
-
-  -- what a list is for has parts
-  parts_are : (o : Option Object) (x : Object) → with_parts o ≡ Ok x → (o ≡ Some x) × ((is_array x.ty || is_aggregate x.ty) ≡ true)
-  parts_are None x e = absurd cc
-  parts_are (Some y) x e =
-      let g = given (is_array y.ty || is_aggregate y.ty) y x 32 e in
-      (ap (λ (z : Object). Some z) g.1, subst (λ (z : Object). (is_array z.ty || is_aggregate z.ty) ≡ true) g.1 g.0)
 
   -- where there is an object, it fits
   abbrev IfObject : Env → Option Object → Type 0
@@ -226,7 +239,7 @@ module _ (seen : List ℕ) (result : Option ℕ) where
               (λ x q. object_later G H seen x f (k x q)) m;
         }
     given_fits G global c l o v g h covers some k (is_listed {vs = vs} x d p m) =
-        let q = parts_are o x p in all_given_fit G global x 0 vs g h covers some (k x q.0) q.1 m
+        let q = parts_are G o vs x p in all_given_fit G global x 0 vs g h covers some (k x q.0) q.1 m
 
     pub all_given_fit : (G : Env) (global : Bool) (x : Object) (i : ℕ) (vs : Values) (g : Given × Env)
         → (h : IsEnv G) → Covers seen G → (some : 0 < length G.types.types) → ObjectFits G seen x
@@ -255,6 +268,20 @@ module _ (seen : List ℕ) (result : Option ℕ) where
       → size_of_type G.types x.ty ≡ Some z → MeansFirstValue G global c l x v g → GivenFits G g.1 g.0
   unfolding object_later
   first_value_fits G global c l x z v g h covers some k e no_first_value = record { mentions = mentions_none G h.declared; fits = tt }
+  first_value_fits G global c l x z v g h covers some k e (is_first_bit_field {e = d} u w m q) =
+      let H = mentioned G d in
+      let p = expression_mentioned G d h.declared in
+      let f = follows_mentions G H h p.mentions in
+      let more : 0 < length H.types.types = omega (arith, some, more_types G.types H.types p.mentions.grows) in
+      let o = object_place H seen f.env more x (object_later G H seen x f k) in
+      record {
+        mentions = p.mentions;
+        fits = (
+          field_given_fits H seen f.env (covers_mentioned seen G H p.mentions covers) more result global l d u
+              (object_operand x) w p.there m o q,
+          tt,
+        );
+      }
   first_value_fits G global c l x z v g h covers some k e (is_first_value {v = w} d m) =
       let p = given_fits G global c l (Some x) w d h covers some
       (λ y q. (let same : x ≡ y = cc in subst (ObjectFits G seen) same k)) m in
@@ -290,6 +317,7 @@ mutual
 pub first_mentions : (G : Env) (global c : Bool) (l : ℕ) (x : Object) (v : Option tree.Value) (g : Given × Env) → IsDeclared G
     → MeansFirstValue G global c l x v g → Mentions G g.1
 first_mentions G global c l x v g h no_first_value = mentions_none G h
+first_mentions G global c l x v g h (is_first_bit_field {e = e} z w m q) = (expression_mentioned G e h).mentions
 first_mentions G global c l x v g h (is_first_value {v = w} d m) = given_mentions G global c l (Some x) w d h m
 
 -- ---- declarations

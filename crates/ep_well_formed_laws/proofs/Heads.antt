@@ -194,6 +194,7 @@ named_comes G None b c d h p e = subst (λ (x : CType × Env). ParamComes G x.1 
 named_comes G (Some t) b c d h p e = subst (λ (x : CType × Env). ParamComes G x.1 b (x.0 ∷ [])) e (record {
   declared = record {
     table = h.table;
+    fields = h.fields;
     names = name_comes (IsTyped G.types) G.scopes t (variable b c) h.names p.1;
     tags = tags_named (λ a. a < length G.types.aggregates) G.scopes t (variable b c) h.tags;
     functions = h.functions;
@@ -332,7 +333,13 @@ head_scopes ss (u ∷ us) n = (u, us, refl, n.1)
 
 pub declared_entered : (G : Env) → IsDeclared G → IsDeclared (entered G)
 declared_entered G h =
-    record { table = h.table; names = (tt, h.names); tags = (tt, h.tags); functions = h.functions }
+    record {
+      table = h.table;
+      fields = h.fields;
+      names = (tt, h.names);
+      tags = (tt, h.tags);
+      functions = h.functions;
+    }
 
 pub head_comes : (G : Env) (b : ℕ) (h : Head) (x : Headed × Env) → IsDeclared G → MeansHead G b h x → HeadComes G x.1 b x.0
 head_comes G b h x k (is_head c t ps m e n) =

@@ -279,6 +279,7 @@ begins m = record {
           arrays = λ n e k q. absurd cc;
           bodies = λ a g ms q r. absurd cc;
         };
+        fields = tt;
         names = (tt, tt);
         tags = (tt, tt);
         functions = λ n s q. absurd cc;

@@ -1,29 +1,32 @@
 -- What expressions, type words, bounds and bodies declare changes neither names nor blocks nor functions.
-use Rattle.std.proofs.Common.{◌≡◌, ℕ, ◌==◌, Bool, List, [], ◌∷◌, ◌++◌, length, Option, Some, None, is_some, Result}
+use Rattle.std.proofs.Common.{◌≡◌, ℕ, ◌==◌, Bool, ◌||◌, not, List, [], ◌∷◌, ◌++◌, length, Option, Some, None, is_some, Result}
 use Rattle.std.proofs.Common.{Ok, Err, refl, ◌∙◌, subst}
 use Rattle.ep_ast.specs.Expression as source
 use Rattle.ep_ast.specs.Expression.{TypeWord, TypeName}
 use Rattle.ep_ast.specs.Mark.{union_word}
-use Rattle.ep_ast.specs.Declaration.{Aggregate, Declarator, Members, Specs}
+use Rattle.ep_ast.specs.Declaration.{Aggregate, Declarator, MemberField, Members, Specs}
 use Rattle.ep_ast.specs.declared.refusals.Refusal.{Refusal}
 use Rattle.ep_layout.specs.declared.types.LayoutStop.{LayoutStop}
 use Rattle.ep_layout.specs.Table.{Table, completed_with, declared, members_stop}
 use Rattle.ep_typing.specs.declared.types.Base.TheVariants as bases
 use Rattle.ep_typing.specs.declared.types.CType.{CType}
-use Rattle.ep_typing.specs.Types.{whole, with_c_type, with_stars, size_of_type, c_type_number}
+use Rattle.ep_typing.specs.Types.{c_type_number, int_of, size_of_type, whole, with_c_type, with_stars}
 use Rattle.ep_typing.specs.Results.{needed}
 use Rattle.ep_typing.specs.Env.{Env, entry, look_up_tag, with_tag}
+use Rattle.ep_typing.specs.Operand.{value_of}
 use Rattle.ep_typing.specs.Names.{mentioned, mentioned_all, mentioned_name, mentioned_tag, mentioned_word}
 use Rattle.ep_typing.specs.Names.{mentioned_words, named_type, with_type_of}
 use Rattle.ep_elaboration.specs.Declarators.{arrays_of, with_types}
-use Rattle.ep_elaboration.specs.Aggregates.{Named, body_of, closed, has_body, opened, tags_here, with_member}
-use Rattle.ep_elaboration.specs.DeclaratorRules.{MeansBody, MeansBound, MeansBounds, MeansMemberName}
-use Rattle.ep_elaboration.specs.DeclaratorRules.{MeansMemberNames, MeansMembers, MeansObjectBounds, MeansSpecs}
-use Rattle.ep_elaboration.specs.DeclaratorRules.{MeansWords, from_list, has_body as is_bodied, is_body, is_bound}
-use Rattle.ep_elaboration.specs.DeclaratorRules.{is_member_name, is_plain, is_words, listed_with_bound}
-use Rattle.ep_elaboration.specs.DeclaratorRules.{listed_without_bounds, more_bounds, more_member_names}
-use Rattle.ep_elaboration.specs.DeclaratorRules.{no_bounds, no_member_names, no_more_members, one_member_more}
-use Rattle.ep_elaboration.specs.DeclaratorRules.{one_word_more, without_list}
+use Rattle.ep_elaboration.specs.Aggregates.{Named, a_field, a_member, body_of, closed_with, has_body, in_union}
+use Rattle.ep_elaboration.specs.Aggregates.{is_declared, is_field_type, is_taken_name, members_in, opened, tags_here}
+use Rattle.ep_elaboration.specs.Aggregates.{width_in, with_field, with_fields, with_member}
+use Rattle.ep_elaboration.specs.DeclaratorRules.{MeansBody, MeansBound, MeansBounds, MeansEntries, MeansEntry}
+use Rattle.ep_elaboration.specs.DeclaratorRules.{MeansMemberName, MeansMembers, MeansObjectBounds, MeansSpecs}
+use Rattle.ep_elaboration.specs.DeclaratorRules.{MeansWidth, MeansWords, from_list, has_body as is_bodied}
+use Rattle.ep_elaboration.specs.DeclaratorRules.{is_bit_field, is_body, is_bound, is_member, is_member_name, is_plain}
+use Rattle.ep_elaboration.specs.DeclaratorRules.{is_width, is_words, listed_with_bound, listed_without_bounds}
+use Rattle.ep_elaboration.specs.DeclaratorRules.{more_bounds, more_entries, no_bounds, no_entries, no_more_members}
+use Rattle.ep_elaboration.specs.DeclaratorRules.{one_member_more, one_word_more, without_list}
 use Rattle.ep_well_formed_laws.proofs.Scopes.{HaveNames, names_on, names_tagged, same_names}
 use Rattle.ep_well_formed_laws.proofs.Specs.{fine_is}
 use Rattle.ep_well_formed_laws.proofs.Tests.{after, unless}
@@ -164,30 +167,48 @@ member_keeps : (G : Env) (ms : Named) (c : CType) (d : Declarator) (x : Named ×
 unfolding with_member
 member_keeps G ms c d x (is_member_name ns y m e) =
     let H = ns.1 in
-    let a = unless (is_some (entry d.name ms)) 31 _ x e in
+    let a = unless (is_declared d.name ms) 31 _ x e in
     let r = after (arrays_of H.types (with_stars c (length d.stars)) ns.0) _ x a.1 in
     let z = after (needed 33 (size_of_type r.0.1 r.0.0)) _ x r.2 in
     let K = with_types H r.0.1 in
-    let same = fine_is {A = Named × Env} (ms ++ (d.name, c_type_number r.0.1 r.0.0) ∷ [], K) x z.2 in
+    let same = fine_is {A = Named × Env} (ms ++ a_member d.name (c_type_number r.0.1 r.0.0) ∷ [], K) x z.2 in
     keeps_on G H x.1 (bounds_keep G d.line d.bounds ns m)
     (subst (λ (y : Named × Env). Keeps H y.1) same (keeps_types H r.0.1))
 
-members_keep : (G : Env) (ms : Named) (c : CType) (ds : List Declarator) (x : Named × Env)
-    → MeansMemberNames G ms c ds x
-    → Keeps G x.1
-members_keep G ms c ds x no_member_names = keeps_itself G
-members_keep G ms c ds x (more_member_names {d = d} {ds = es} y z m n) =
-    keeps_on G y.1 x.1 (member_keeps G ms c d y m) (members_keep y.1 y.0 c es x n)
+width_keeps : (G : Env) (round : List ℕ) (ms : Named) (c : CType) (l : ℕ) (n : Option (List ℕ)) (e : source.Expr)
+    (x : Named × Env) → MeansWidth G round ms c l n e x → Keeps G x.1
+unfolding with_field
+width_keeps G round ms c l n e x (is_width y z m q) =
+    let H = mentioned G e in
+    let a = unless (in_union G round || not (is_field_type c)) 9 _ x q in
+    let w = after (needed 9 (width_in (int_of c) (is_some n) (value_of H.types y))) _ x a.1 in
+    let b = unless (is_taken_name n ms) 31 _ x w.2 in
+    let t = with_c_type H.types c in
+    let same = fine_is {A = Named × Env} (ms ++ a_field n (c_type_number t c) (int_of c) w.0 ∷ [], with_types H t) x b.1 in
+    keeps_on G H x.1 (expression_keeps e G) (subst (λ (y : Named × Env). Keeps H y.1) same (keeps_types H t))
 
-closed_keeps : (G : Env) (a : ℕ) (ms : Named) (s : Option LayoutStop) (c : CType × Env) → closed G a ms s ≡ Ok c
-    → Keeps G c.1
-closed_keeps G a [] s c e = absurd cc
-closed_keeps G a (m ∷ ms) (Some s) c e = absurd cc
-closed_keeps G a (m ∷ ms) None c e =
-    let t = completed_with G.types a (m ∷ ms) in
+entry_keeps : (G : Env) (round : List ℕ) (ms : Named) (c : CType) (f : MemberField) (x : Named × Env)
+    → MeansEntry G round ms c f x → Keeps G x.1
+entry_keeps G round ms c f x (is_member {d = d} y m) = member_keeps G ms c d x m
+entry_keeps G round ms c f x (is_bit_field {l = l} {n = n} {e = e} y m) = width_keeps G round ms c l n e x m
+
+entries_keep : (G : Env) (round : List ℕ) (ms : Named) (c : CType) (fs : List MemberField) (x : Named × Env)
+    → MeansEntries G round ms c fs x → Keeps G x.1
+entries_keep G round ms c fs x no_entries = keeps_itself G
+entries_keep G round ms c fs x (more_entries {f = f} {fs = gs} y z m n) =
+    keeps_on G y.1 x.1 (entry_keeps G round ms c f y m) (entries_keep y.1 round y.0 c gs x n)
+
+closed_keeps : (G : Env) (a : ℕ) (es : Named) (ms : List (List ℕ × ℕ)) (s : Option LayoutStop) (c : CType × Env)
+    → closed_with G a es ms s ≡ Ok c → Keeps G c.1
+closed_keeps G a es [] s c e = absurd cc
+closed_keeps G a es (m ∷ ms) (Some s) c e = absurd cc
+closed_keeps G a es (m ∷ ms) None c e =
     let d = whole (bases.Aggregate a) in
-    let same = fine_is {A = CType × Env} (d, record G { types = with_c_type t d }) c e in
-    subst (λ (x : CType × Env). Keeps G x.1) same (keeps_types G (with_c_type t d))
+    let t = with_c_type (completed_with G.types a (m ∷ ms)) d in
+    let H : Env = record G { types = t; fields = with_fields G.fields a es } in
+    let same = fine_is {A = CType × Env} (d, H) c e in
+    subst (λ (x : CType × Env). Keeps G x.1) same
+    (record { names = same_names G.scopes; blocks = refl; functions = refl })
 
 mutual
   pub specs_keep : (G : Env) (round : List ℕ) (ws : List TypeWord) (ss : Specs) (c : CType × Env)
@@ -201,12 +222,12 @@ mutual
   body_keeps G round a c (is_body {w = w} {tag = tag} {ms = ms} o x d p m q) =
       keeps_on G o.1 c.1 (opened_keeps G round (w == union_word) tag o p)
       (keeps_on o.1 x.1 c.1 (all_members_keep o.1 (o.0 ∷ round) [] ms x m)
-      (closed_keeps x.1 o.0 x.0 (members_stop x.1.types (w == union_word) x.0) c q))
+      (closed_keeps x.1 o.0 x.0 (members_in x.0) (members_stop x.1.types (w == union_word) (members_in x.0)) c q))
 
   all_members_keep : (G : Env) (round : List ℕ) (ns : Named) (ms : Members) (x : Named × Env)
       → MeansMembers G round ns ms x
       → Keeps G x.1
   all_members_keep G round ns ms x no_more_members = keeps_itself G
-  all_members_keep G round ns ms x (one_member_more {ss = ss} {ds = ds} {rest = rest} c y z m n r) =
+  all_members_keep G round ns ms x (one_member_more {ss = ss} {fs = fs} {rest = rest} c y z m n r) =
       keeps_on G c.1 x.1 (specs_keep G round [] ss c m)
-      (keeps_on c.1 y.1 x.1 (members_keep c.1 ns c.0 ds y n) (all_members_keep y.1 round y.0 rest x r))
+      (keeps_on c.1 y.1 x.1 (entries_keep c.1 round ns c.0 fs y n) (all_members_keep y.1 round y.0 rest x r))

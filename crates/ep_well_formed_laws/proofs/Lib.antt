@@ -1,5 +1,7 @@
 pub mod Tables
 pub mod Extents
+pub mod FieldsFit
+pub mod FieldUnits
 pub mod Additions
 pub mod Tests
 pub mod Values
@@ -10,6 +12,8 @@ pub mod FileScopes
 pub mod Mentions
 pub mod TypedExpressions
 pub mod Stores
+pub mod FieldAccesses
+pub mod FieldUses
 pub mod WholeStatements
 pub mod Meanings
 pub mod StatementGrowth

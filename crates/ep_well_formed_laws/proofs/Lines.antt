@@ -23,6 +23,7 @@ use Rattle.ep_elaboration.specs.StatementRules.{MeansEvaluation, MeansEvaluation
 use Rattle.ep_elaboration.specs.StatementRules.{MeansParts, MeansStatement, MeansStatements, MeansTestIf}
 use Rattle.ep_elaboration.specs.StatementRules.{MeansTestIn, first_declares, first_evaluates, is_arm, is_block}
 use Rattle.ep_elaboration.specs.StatementRules.{is_break, is_continue, is_do, is_evaluated, is_evaluation}
+use Rattle.ep_elaboration.specs.StatementRules.{is_field_statement}
 use Rattle.ep_elaboration.specs.StatementRules.{is_for, is_if, is_if_else, is_nothing, is_test_in, is_two_arms}
 use Rattle.ep_elaboration.specs.StatementRules.{is_while, more_statements, no_evaluation, no_parts_left}
 use Rattle.ep_elaboration.specs.StatementRules.{no_statements, no_test, one_part_more, part_declares}
@@ -32,6 +33,8 @@ use Rattle.ep_elaboration.specs.WholeRules.{is_test}
 use Rattle.ep_well_formed_laws.specs.Environments.{Covers, HasScope, IsEnv}
 use Rattle.ep_well_formed_laws.specs.Statements.{IsResultOf, StmtsFit, WhatFits, a_result, no_result}
 use Rattle.ep_well_formed_laws.proofs.Additions.{type_number_stays}
+use Rattle.ep_well_formed_laws.proofs.FieldAccesses.{access_plain, statement_access}
+use Rattle.ep_well_formed_laws.proofs.FieldUses.{field_statement_fits}
 use Rattle.ep_well_formed_laws.proofs.Mentions.{expression_mentioned}
 use Rattle.ep_well_formed_laws.proofs.Objects.{scope_stays}
 use Rattle.ep_well_formed_laws.proofs.FirstValues.{LinesFit, declaration_fits, no_lines, stmts_both}
@@ -143,6 +146,22 @@ evaluation_fits G result c l e w h s (is_evaluation v m) =
           let all = all_blocks H.scopes in
           let k = (whole_fits H all f.env (covers_all H.blocks H.scopes) some result c e v p.there m).plain q in
           and_from (is_plain v) true k refl;
+    }
+evaluation_fits G result c l e w h s (is_field_statement v m) =
+    let H = mentioned G e in
+    let p = expression_mentioned G e h.declared in
+    let f = follows_mentions G H h p.mentions in
+    let some : 0 < length H.types.types = omega (arith, s, more_types G.types H.types p.mentions.grows) in
+    record {
+      keeps = record {
+        lines = record {
+          follows = f;
+          names = names_stay G.scopes H.scopes p.mentions.names;
+          fits = λ seen covers i. (field_statement_fits H seen f.env covers some result l e v p.there m i, tt);
+        };
+        names = p.mentions.names;
+      };
+      plain = λ q. and_from (is_plain v) true (access_plain v (statement_access H l e v m)) refl;
     }
 
 evaluation_if_fits : (G : Env) (result : Option ℕ) (e : Option source.Expr) (w : List Line × Env) → IsEnv G

@@ -41,6 +41,7 @@ use Rattle.ep_well_formed_laws.specs.Environments.{IsPassed, IsPlaced, IsSignatu
 use Rattle.ep_well_formed_laws.proofs.Tables.{behind_none, row_at}
 use Rattle.ep_well_formed_laws.proofs.Extents.{array_is}
 use Rattle.ep_well_formed_laws.proofs.Additions.{IsKnownBase, has_number_stays, type_comes, type_number_stays}
+use Rattle.ep_well_formed_laws.proofs.FieldsFit.{fields_stay}
 use Rattle.ep_well_formed_laws.proofs.Scopes.{HaveNames, each_same, looked_up, meaning_more, names_on, names_tagged}
 use Rattle.ep_well_formed_laws.proofs.Scopes.{same_meaning, same_names, tag_found, tag_looked_up, tag_more, tag_push}
 use Rattle.ep_well_formed_laws.proofs.Scopes.{tag_stays}
@@ -83,6 +84,7 @@ module _ (t u : Table) (g : Grows t u) (b : IsBuilt u) where
 pub with_table : (G : Env) (u : Table) → IsDeclared G → Grows G.types u → IsTable u → IsDeclared (record G { types = u })
 with_table G u h g b = record {
   table = b;
+  fields = fields_stay G.types u g G.fields h.fields;
   names = meaning_more (IsTyped G.types) (IsTyped u) (typed_stays G.types u g b.built) G.scopes h.names;
   tags = tag_more _ _ (λ a k. omega (arith, more_aggregates G.types u g, k)) G.scopes h.tags;
   functions = λ n s e. signature_stays G.types u g b.built s (h.functions n s e);
@@ -171,6 +173,7 @@ tag_mentioned G t u h n =
     record {
       declared = record {
         table = m.declared.table;
+        fields = m.declared.fields;
         names = each_same (IsTyped (declared G.types t u)) G.scopes (tag_in G.scopes t a) (names_tagged G.scopes t a)
             m.declared.names;
         tags = tag_push (λ k. k < length (declared G.types t u).aggregates) G.scopes t a m.declared.tags l;

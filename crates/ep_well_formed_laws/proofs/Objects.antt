@@ -183,6 +183,7 @@ pub env_named : (G : Env) (n : List ℕ) (m : Meaning) → IsEnv G → IsTyped G
 env_named G n m h k p = record {
   declared = record {
     table = h.declared.table;
+    fields = h.declared.fields;
     names = name_comes (IsTyped G.types) G.scopes n m h.declared.names k;
     tags = tags_named (λ a. a < length G.types.aggregates) G.scopes n m h.declared.tags;
     functions = h.declared.functions;
@@ -202,6 +203,7 @@ pub env_with_block : (G : Env) (x : Block) → IsEnv G → block_fits G.types x 
 env_with_block G x h k = record {
   declared = record {
     table = h.declared.table;
+    fields = h.declared.fields;
     names = h.declared.names;
     tags = h.declared.tags;
     functions = h.declared.functions;

@@ -113,6 +113,7 @@ other_walks G ds round g d x h k same (is_function y n a m e p) =
     let inside : IsEnv (body_env K inner) = record {
       declared = record {
         table = table;
+        fields = s.stands.env.declared.fields;
         names = (s.stands.typed, s.stands.env.declared.names);
         tags = (s.stands.tags, s.stands.env.declared.tags);
         functions = s.stands.env.declared.functions;

@@ -52,7 +52,7 @@ use Rattle.ep_typing.specs.Operand.{place, plain_value, value, value_of, input, 
 use Rattle.ep_typing.specs.Operators.{moved, unary_operated}
 use Rattle.ep_typing.specs.Parts.{address_of, addressed, an_operand, built_in, casted, element_behind, element_in}
 use Rattle.ep_typing.specs.Parts.{element_of_array, ends, indexable, indexed, is_array_object, meant, member_at}
-use Rattle.ep_typing.specs.Parts.{member_of, named, named_callee, numbered, pointed, selected, selected_through}
+use Rattle.ep_typing.specs.Parts.{member_of, named, named_callee, numbered, pointed, selected}
 use Rattle.ep_typing.specs.Parts.{sized, type_sized, unary_of_value, unary_typed}
 use Rattle.ep_well_formed_laws.specs.Numbers.{HasNumber, IsMade, IsTable, may_be, type_number, number_of_base}
 use Rattle.ep_well_formed_laws.specs.Environments.{CanName, IsPlaced}
@@ -564,11 +564,6 @@ module _ (t : Table) (bs : List Block) (fs : List Signature) (seen : List ℕ) (
   ]
   selected_fits (value v) n y h e = absurd cc
   selected_fits (function f) n y h e = absurd cc
-
-  pub selected_through_fits : (v : Value) (n : List ℕ) (y : Operand) → F v → selected_through t v n ≡ Ok y → O y
-  unfolding selected_through
-  selected_through_fits v n y h e =
-      let x = after (pointed v) (λ x. selected t x n) y e in selected_fits x.0 n y (pointed_fits v x.0 h x.1) x.2
 
   -- ---- casts and sizes
 

@@ -231,6 +231,7 @@ pub env_entered : (G : Env) → IsEnv G → IsEnv (entered G)
 env_entered G h = record {
   declared = record {
     table = h.declared.table;
+    fields = h.declared.fields;
     names = (tt, h.declared.names);
     tags = (tt, h.declared.tags);
     functions = h.declared.functions;
@@ -245,12 +246,24 @@ env_left G h = by G.scopes h.declared.names h.declared.tags h.places
     by : (ss : List Scope) → EachMeaning (IsTyped G.types) ss → EachTag (λ a. a < length G.types.aggregates) ss
         → EachMeaning (IsPlaced G.types G.blocks G.functions) ss → IsEnv (record G { scopes = outer ss })
     by [] n t p = record {
-      declared = record { table = h.declared.table; names = tt; tags = tt; functions = h.declared.functions };
+      declared = record {
+        table = h.declared.table;
+        fields = h.declared.fields;
+        names = tt;
+        tags = tt;
+        functions = h.declared.functions;
+      };
       places = tt;
       blocks = h.blocks;
     }
     by (s ∷ ss) n t p = record {
-      declared = record { table = h.declared.table; names = n.1; tags = t.1; functions = h.declared.functions };
+      declared = record {
+        table = h.declared.table;
+        fields = h.declared.fields;
+        names = n.1;
+        tags = t.1;
+        functions = h.declared.functions;
+      };
       places = p.1;
       blocks = h.blocks;
     }

@@ -20,6 +20,7 @@ use Rattle.ep_core.specs.WellFormed.{can_take, has_scalar, has_sort, has_type, i
 use Rattle.ep_core.specs.WellFormed.{is_return, is_same_scalar, place_has, pointer_to as pointing}
 use Rattle.ep_core.specs.WellFormed.{sort_of, takes_input}
 use Rattle.ep_core.proofs.Sorts.{never}
+use Rattle.ep_bitfield.specs.Laws.{is_place_of}
 use Rattle.ep_typing.specs.declared.types.CType.{CType}
 use Rattle.ep_typing.specs.Results.{lowest, needed}
 use Rattle.ep_typing.specs.Types.{int_of, int_type, is_aggregate, is_array, is_integer, is_pointer, is_same}
@@ -36,7 +37,7 @@ use Rattle.ep_typing.specs.Typing.{taken, updated}
 use Rattle.ep_well_formed_laws.specs.Numbers.{HasNumber, IsMade, IsTable, type_number}
 use Rattle.ep_well_formed_laws.specs.Environments.{ArePassed, IsPassed}
 use Rattle.ep_well_formed_laws.specs.Operands.{Computes, OperandFits, PlaceFits, ValueFits, ValuesFit}
-use Rattle.ep_well_formed_laws.specs.Statements.{ArgumentsFit, SimpleFits, TakesResult}
+use Rattle.ep_well_formed_laws.specs.Statements.{ArgumentsFit, SimpleFits, TakesResult, around}
 use Rattle.ep_well_formed_laws.proofs.Tables.{number_at, target_number}
 use Rattle.ep_well_formed_laws.proofs.Extents.{same_size}
 use Rattle.ep_well_formed_laws.proofs.Tests.{after, both_not, either_way, given, if_not, if_so}
@@ -293,6 +294,31 @@ module _ (t : Table) (bs : List Block) (seen : List ℕ) (table : IsTable t) (so
         ])
     input_taken (value v) i d h e = absurd (not_stored_is v (plain_value core.null_value (int_type i)) d e)
     input_taken (function f) i d h e = absurd cc
+
+    -- a destination is a number
+    pub record TakesNumber (d : core.Dest) : Type 0 where
+      pub kind : IntType
+      pub what : d.what ≡ scalars.Int kind
+      pub there : is_place_of (around t bs) seen kind d.place ≡ true
+
+    pub number_taken : (x : Operand) (i : IntType) (d : core.Dest) → O x → taken x (int_type i) ≡ Ok d → TakesNumber d
+    unfolding taken
+    number_taken (place p c) i d h e =
+        let x = after (fitted c (plain_value core.null_value (int_type i))) _ d e in
+        let same : dest p c (int_type i) ≡ d = (let q = x.2 in cc) in
+        let k = taken_is p c (int_type i) x.0 x.1 in
+        let n = place_number p c h (scalar_not_void c k.taker) in
+        subst TakesNumber same (elim (scalar_is c k.taker) [
+          | inl q ↦ never (k.pointers q)
+          | inr q ↦ record {
+            kind = int_of c;
+            what = if_not (is_pointer c) scalars.Pointer (scalars.Int (int_of c)) q.0;
+            there = some_type_is t bs seen (λ u. has_scalar u (scalars.Int (int_of c))) (P p) n.0
+                (number_below t c n.0 n.1) (rw (integer_row t c n.0 q.1 n.1) (int_itself (int_of c))) n.2;
+          }
+        ])
+    number_taken (value v) i d h e = absurd (not_stored_is v (plain_value core.null_value (int_type i)) d e)
+    number_taken (function f) i d h e = absurd cc
 
     pub no_void_taken : (x : Operand) (d : core.Dest) → taken x void_type ≡ Ok d → ⊥
     unfolding taken

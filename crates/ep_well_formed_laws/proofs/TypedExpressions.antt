@@ -1,6 +1,7 @@
 -- What expressions mean computes what its type says.
-use Rattle.std.proofs.Common.{◌≡◌, ℕ, ◌<◌, ◌==◌, List, [], ◌∷◌, length, Ok, Err, subst, inl, inr}
+use Rattle.std.proofs.Common.{◌≡◌, ℕ, ◌<◌, ◌==◌, List, [], ◌∷◌, length, Option, Some, None, Ok, Err, subst, inl, inr}
 use Rattle.ep_ast.specs.Expression as source
+use Rattle.ep_core.specs.Program as core
 use Rattle.ep_ast.specs.Mark as mark
 use Rattle.ep_typing.specs.declared.types.CType.{CType}
 use Rattle.ep_typing.specs.Results.{at}
@@ -8,9 +9,11 @@ use Rattle.ep_typing.specs.Env.{Env}
 use Rattle.ep_typing.specs.Names.{named_type}
 use Rattle.ep_typing.specs.Operand.{Operand, Value, value_of}
 use Rattle.ep_typing.specs.Operators.{chosen, operated}
-use Rattle.ep_typing.specs.Parts.{an_operand, casted, indexable, indexed, named, named_uncalled, numbered, selected}
-use Rattle.ep_typing.specs.Parts.{selected_through, sized, type_sized, unary_typed}
-use Rattle.ep_typing.specs.Typing.{callee, cast_to, chosen_from, indexed_by, joined, read_first, selected_behind}
+use Rattle.ep_typing.specs.Parts.{an_operand, casted, indexable, indexed, named, named_uncalled, numbered, pointed}
+use Rattle.ep_typing.specs.Parts.{selected, sized, type_sized, unary_typed}
+use Rattle.ep_typing.specs.declared.types.FieldRow.{FieldRow}
+use Rattle.ep_typing.specs.Fields.{but_field, field_in, pointed_by, selected_behind, selected_in}
+use Rattle.ep_typing.specs.Typing.{callee, cast_to, chosen_from, indexed_by, joined, read_first}
 use Rattle.ep_typing.specs.Typing.{typed, typed_all}
 use Rattle.ep_typing.specs.Rules.{MeansCallee, is_called_name, is_called_value}
 use Rattle.ep_typing.proofs.Order.{at_ok, bind_ok, meant, named_alone}
@@ -22,7 +25,7 @@ use Rattle.ep_well_formed_laws.proofs.Scopes.{looked_up}
 use Rattle.ep_well_formed_laws.proofs.Tests.{after, either_way}
 use Rattle.ep_well_formed_laws.proofs.Operators.{chosen_fits, operated_fits}
 use Rattle.ep_well_formed_laws.proofs.Parts.{casted_fits, indexable_fits, indexable_is, indexed_fits, named_fits}
-use Rattle.ep_well_formed_laws.proofs.Parts.{numbered_fits, operand_fits, selected_fits, selected_through_fits}
+use Rattle.ep_well_formed_laws.proofs.Parts.{numbered_fits, operand_fits, pointed_fits, selected_fits}
 use Rattle.ep_well_formed_laws.proofs.Parts.{sized_fits, type_sized_fits, unary_typed_fits, value_fits, IsIndexed}
 
 module _ (G : Env) (seen : List ℕ) (h : IsEnv G) (covers : Covers seen G) (some : 0 < length G.types.types) where
@@ -76,12 +79,26 @@ module _ (G : Env) (seen : List ℕ) (h : IsEnv G) (covers : Covers seen G) (som
       indexed_fits G.types G.blocks G.functions seen h.declared.table some u v.0 z f i
       (value_fits G.types G.blocks G.functions seen h.declared.table some y v.0 k v.1) v.2
 
-  selected_behind_fits : (x : Operand) (n : List ℕ) (z : Operand) → O x → selected_behind G.types x n ≡ Ok z → O z
+  -- a member that is no bit-field
+  selected_in_fits : (x : Operand) (n : List ℕ) (z : Operand) → O x → selected_in G x n ≡ Ok z → O z
+  unfolding selected_in
+  selected_in_fits x n z f e = by (field_in G x n) e
+    where
+      by : (o : Option (core.Place × FieldRow)) → but_field o (selected G.types x n) ≡ Ok z → O z
+      by None q = selected_fits G.types G.blocks G.functions seen h.declared.table some x n z f q
+      by (Some y) q = absurd cc
+
+  pub pointed_by_fits : (x y : Operand) → O x → pointed_by G x ≡ Ok y → O y
+  pointed_by_fits x y f e =
+      let v = after (value_of G.types x) pointed y e in
+      pointed_fits G.types G.blocks G.functions seen h.declared.table some v.0 y
+      (value_fits G.types G.blocks G.functions seen h.declared.table some x v.0 f v.1) v.2
+
+  selected_behind_fits : (x : Operand) (n : List ℕ) (z : Operand) → O x → selected_behind G x n ≡ Ok z → O z
   unfolding selected_behind
   selected_behind_fits x n z f e =
-      let v = after (value_of G.types x) (λ v. selected_through G.types v n) z e in
-      selected_through_fits G.types G.blocks G.functions seen h.declared.table some v.0 n z
-      (value_fits G.types G.blocks G.functions seen h.declared.table some x v.0 f v.1) v.2
+      let y = after (pointed_by G x) (λ y. selected_in G y n) z e in
+      selected_in_fits y.0 n z (pointed_by_fits x y.0 f y.1) y.2
 
   no_answer : {A : Type 0} (l k : ℕ) (z : Operand) → at l (Err k) ≡ Ok z → A
   no_answer l k z e = absurd cc
@@ -148,11 +165,10 @@ module _ (G : Env) (seen : List ℕ) (h : IsEnv G) (covers : Covers seen G) (som
       let vs = bind_ok (typed_all G l es) _ z x.2 in no_answer l 18 z vs.2
   typed_fits (source.member l a n) z t e =
       let x = bind_ok (typed G a) _ z e in
-      selected_fits G.types G.blocks G.functions seen h.declared.table some x.0 n z (typed_fits a x.0 t x.1)
-      (at_ok l (selected G.types x.0 n) z x.2)
+      selected_in_fits x.0 n z (typed_fits a x.0 t x.1) (at_ok l (selected_in G x.0 n) z x.2)
   typed_fits (source.arrow l a n) z t e =
       let x = bind_ok (typed G a) _ z e in
-      selected_behind_fits x.0 n z (typed_fits a x.0 t x.1) (at_ok l (selected_behind G.types x.0 n) z x.2)
+      selected_behind_fits x.0 n z (typed_fits a x.0 t x.1) (at_ok l (selected_behind G x.0 n) z x.2)
   typed_fits (source.post_increment l a) z t e =
       let x = bind_ok (typed G a) _ z e in no_answer l 19 z x.2
   typed_fits (source.post_decrement l a) z t e =

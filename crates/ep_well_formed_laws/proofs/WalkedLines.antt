@@ -16,7 +16,8 @@ use Rattle.ep_elaboration.specs.Statements.{operand_returned, order_of, returned
 use Rattle.ep_elaboration.specs.StatementRules.{MeansEvaluation, MeansEvaluationIf, MeansPart, MeansParts}
 use Rattle.ep_elaboration.specs.StatementRules.{MeansStatement, MeansStatements, MeansTestIf, MeansTestIn}
 use Rattle.ep_elaboration.specs.StatementRules.{first_declares, first_evaluates, is_arm, is_block, is_break}
-use Rattle.ep_elaboration.specs.StatementRules.{is_continue, is_do, is_evaluated, is_evaluation, is_for, is_if}
+use Rattle.ep_elaboration.specs.StatementRules.{is_continue, is_do, is_evaluated, is_evaluation, is_field_statement}
+use Rattle.ep_elaboration.specs.StatementRules.{is_for, is_if}
 use Rattle.ep_elaboration.specs.StatementRules.{is_if_else, is_nothing, is_test_in, is_two_arms, is_while}
 use Rattle.ep_elaboration.specs.StatementRules.{more_statements, no_evaluation, no_parts_left, no_statements}
 use Rattle.ep_elaboration.specs.StatementRules.{no_test, one_part_more, part_declares, part_states}
@@ -27,7 +28,8 @@ use Rattle.ep_typing.specs.Types.{is_void}
 use Rattle.ep_typing.specs.Operand.{Operand, fitted, value_of}
 use Rattle.ep_well_formed_laws.proofs.Counts.{below, count, count_both}
 use Rattle.ep_well_formed_laws.proofs.CallNames.{CallsTo, EachCall, EachCallIn, ScopesFit, callee_number, each_call}
-use Rattle.ep_well_formed_laws.proofs.CallNames.{each_call_in, no_whole, scopes_fit_same, whole_flat, whole_named}
+use Rattle.ep_well_formed_laws.proofs.FieldAccesses.{access_flat, statement_access}
+use Rattle.ep_well_formed_laws.proofs.CallNames.{access_calls, each_call_in, no_whole, scopes_fit_same, whole_flat, whole_named}
 use Rattle.ep_well_formed_laws.proofs.Keeps.{Keeps, expression_keeps, keeps_itself}
 use Rattle.ep_well_formed_laws.proofs.Walks.{Still, Walk, calls_first, calls_second, closed, count_lines, count_one}
 use Rattle.ep_well_formed_laws.proofs.Walks.{same_blocks, still_as, still_keeps, still_left, still_on, walk_of, walk_on}
@@ -69,6 +71,10 @@ module _ (fs : List Signature) where
       (λ h. each_call_in (λ j. callee_number fs (evaluation d e).callee ≡ Some j) (To (evaluation d e ∷ []))
       (λ j p. inl p) v
       (whole_named fs H d c e v (scopes_fit_same fs G.scopes H.scopes k.names h) m))
+  evaluation_still G c l d e w (is_field_statement v m) =
+      let a = statement_access (mentioned G e) l e v m in
+      one_still G (mentioned G e) l v (evaluation d e ∷ []) (expression_keeps e G) (access_flat v a)
+      (λ h. access_calls (To (evaluation d e ∷ [])) v a)
 
   quiet_still : (G : Env) (l : ℕ) (e : source.Expr) (w : List Line × Env) → MeansEvaluation G false l e w
       → Still fs G w.1 w.0 []
@@ -76,6 +82,9 @@ module _ (fs : List Signature) where
       let H = mentioned G e in
       one_still G H l v [] (expression_keeps e G) (whole_flat H false e v m)
       (λ h. each_call_in (λ j. ⊥) (To []) (λ j p. p) v (no_whole H e v m))
+  quiet_still G l e w (is_field_statement v m) =
+      let a = statement_access (mentioned G e) l e v m in
+      one_still G (mentioned G e) l v [] (expression_keeps e G) (access_flat v a) (λ h. access_calls (To []) v a)
 
   evaluation_if_still : (G : Env) (e : Option source.Expr) (w : List Line × Env) → MeansEvaluationIf G e w
       → Still fs G w.1 w.0 []

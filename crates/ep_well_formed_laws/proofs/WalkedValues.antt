@@ -24,7 +24,7 @@ use Rattle.ep_elaboration.specs.Statements.{to_core}
 use Rattle.ep_elaboration.specs.DeclaratorRules.{MeansObject, is_object}
 use Rattle.ep_elaboration.specs.GivenRules.{MeansAllGiven, MeansDeclaration, MeansFirstValue, MeansGiven}
 use Rattle.ep_elaboration.specs.GivenRules.{MeansGivenExpression, MeansVariable, MeansVariables, is_declaration}
-use Rattle.ep_elaboration.specs.GivenRules.{is_first_value, is_given_expression, is_listed, is_single}
+use Rattle.ep_elaboration.specs.GivenRules.{is_first_bit_field, is_first_value, is_given_expression, is_listed, is_single}
 use Rattle.ep_elaboration.specs.GivenRules.{is_variable, more_values_given, more_variables, no_first_value}
 use Rattle.ep_elaboration.specs.GivenRules.{no_values_given, no_variables}
 use Rattle.ep_well_formed_laws.specs.Environments.{HasScope}
@@ -32,8 +32,9 @@ use Rattle.ep_well_formed_laws.proofs.Scopes.{HaveNames, same_names}
 use Rattle.ep_well_formed_laws.proofs.Specs.{fine_is}
 use Rattle.ep_well_formed_laws.proofs.Tests.{after, unless}
 use Rattle.ep_well_formed_laws.proofs.Counts.{below, count, lists_one}
-use Rattle.ep_well_formed_laws.proofs.CallNames.{CallsTo, EachCall, EachCallIn, ScopesFit, assigned_flat, assigned_named}
-use Rattle.ep_well_formed_laws.proofs.CallNames.{callee_number, each_call_in, no_right, right_named, scopes_fit_same}
+use Rattle.ep_well_formed_laws.proofs.FieldAccesses.{access_flat, given_access}
+use Rattle.ep_well_formed_laws.proofs.CallNames.{CallsTo, EachCall, EachCallIn, ScopesFit, access_calls, assigned_flat}
+use Rattle.ep_well_formed_laws.proofs.CallNames.{assigned_named, callee_number, each_call_in, no_right, right_named, scopes_fit_same}
 use Rattle.ep_well_formed_laws.proofs.Keeps.{Keeps, expression_keeps, keeps_itself, keeps_on, object_bounds_keep}
 use Rattle.ep_well_formed_laws.proofs.Keeps.{specs_keep}
 use Rattle.ep_well_formed_laws.proofs.Walks.{NamesCome, Walk, come_on, none_come, scopes_fit_more, still_keeps, walk_of}
@@ -179,6 +180,8 @@ cleared_flat t x (listed l vs) g h = (refl, h)
 first_flat : (G : Env) (global c : Bool) (l : ℕ) (x : Object) (v : Option tree.Value) (g : Given × Env)
     → MeansFirstValue G global c l x v g → AreFlat g.0.statements
 first_flat G global c l x v g no_first_value = tt
+first_flat G global c l x v g (is_first_bit_field z w m q) =
+    (access_flat w (given_access global l z (object_operand x) w q), tt)
 first_flat G global c l x v g (is_first_value {v = w} d m) = cleared_flat d.1.types x w d.0
     (given_flat G global c l (Some x) w d m)
 
@@ -190,6 +193,7 @@ flat_count b l (w ∷ ws) h =
 pub first_keeps : (G : Env) (global c : Bool) (l : ℕ) (x : Object) (v : Option tree.Value) (g : Given × Env)
     → MeansFirstValue G global c l x v g → Keeps G g.1
 first_keeps G global c l x v g no_first_value = keeps_itself G
+first_keeps G global c l x v g (is_first_bit_field {e = e} z w m q) = expression_keeps e G
 first_keeps G global c l x v g (is_first_value {v = w} d m) = given_keeps G global c l (Some x) w d m
 
 module _ (fs : List Signature) where
@@ -226,6 +230,9 @@ module _ (fs : List Signature) where
       → ScopesFit fs G.scopes → MeansFirstValue G global c l x v g
       → EachFlat (λ k. CallsTo fs k (initialisation d v)) g.0.statements
   first_calls G global c l d x v g h no_first_value = tt
+  first_calls G global c l d x v g h (is_first_bit_field z w m q) =
+      let a = given_access global l z (object_operand x) w q in
+      ((access_calls (λ k. CallsTo fs k (initialisation d v)) w a, access_flat w a), tt)
   first_calls G global c l d x v g h (is_first_value {v = w} i m) =
       cleared_calls (λ k. CallsTo fs k (initialisation d (Some w))) i.1.types x w i.0
       (given_calls G global c l d (Some x) w i h m)

@@ -1,13 +1,17 @@
 -- Environments in which all that they name is there.
 use Rattle.std.specs.Prelude.{◌≡◌, ◌⊎◌, ℕ, ◌<◌, true, ◌||◌, List, [], ◌∷◌, length, slice_get, Some}
 use Rattle.ep_int.specs.Memory.{contains}
-use Rattle.ep_layout.specs.Table.{Table}
+use Rattle.ep_layout.specs.declared.types.Ty.TheVariants as rows
+use Rattle.ep_layout.specs.Table.{Table, MemberRow, members_of}
 use Rattle.ep_core.specs.Program.{Block}
 use Rattle.ep_core.specs.Runs.{is_global}
 use Rattle.ep_core.specs.WellFormed.{block_fits}
+use Rattle.ep_bitfield.specs.Bits.{is_field}
 use Rattle.ep_typing.specs.declared.types.CType.{CType}
+use Rattle.ep_typing.specs.declared.types.FieldRow.{FieldRow}
 use Rattle.ep_typing.specs.Types.{is_scalar, void_type}
-use Rattle.ep_typing.specs.Env.{Env, Meaning, variable, function, type_name, Scope, Signature}
+use Rattle.ep_typing.specs.Env.{Env, Meaning, variable, function, type_name, NamedFields, Scope, Signature}
+use Rattle.ep_elaboration.specs.FieldStatements.{part_of_unit}
 use Rattle.ep_well_formed_laws.specs.Numbers.{HasNumber, IsTable, type_number}
 
 -- ---- of each name and tag in scope
@@ -60,9 +64,25 @@ pub record IsSignature (t : Table) (s : Signature) : Type 0 where
   pub params : ArePassed t s.params
   pub result : (s.result ≡ void_type) ⊎ IsPassed t s.result
 
--- types, tags and functions of an environment
+-- a bit-field's unit is a member of the field's type, which has room for it
+pub record IsFieldOf (t : Table) (aggregate : ℕ) (f : FieldRow) : Type 0 where
+  pub member : MemberRow
+  pub here : slice_get (members_of t aggregate) f.unit ≡ Some member
+  pub integer : slice_get t.types member.ty ≡ Some (rows.Int f.t)
+  pub room : is_field (part_of_unit f) ≡ true
+
+abbrev pub AreFieldsOf : Table → (aggregate : ℕ) → NamedFields → Type 0
+AreFieldsOf t a [] = Unit {0}
+AreFieldsOf t a (x ∷ xs) = IsFieldOf t a x.1 × AreFieldsOf t a xs
+
+abbrev pub AreFields : Table → List (ℕ × NamedFields) → Type 0
+AreFields t [] = Unit {0}
+AreFields t (x ∷ xs) = AreFieldsOf t x.0 x.1 × AreFields t xs
+
+-- types, bit-fields, tags and functions of an environment
 pub record IsDeclared (G : Env) : Type 0 where
   pub table : IsTable G.types
+  pub fields : AreFields G.types G.fields
   pub names : EachMeaning (IsTyped G.types) G.scopes
   pub tags : EachTag (λ a. a < length G.types.aggregates) G.scopes
   pub functions : (n : ℕ) (s : Signature) → slice_get G.functions n ≡ Some s → IsSignature G.types s
