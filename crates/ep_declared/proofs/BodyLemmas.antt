@@ -11,24 +11,24 @@ use Rattle.std.proofs.lemmas.Bool.Decides.{nat_tests}
 use Rattle.std.proofs.lemmas.List.{drop_all}
 use Rattle.ep_int.specs.Memory.{contains}
 use Rattle.ep_ast.specs.declared.declarations.SpecTree.{SpecTree, Plain, Body}
-use Rattle.ep_ast.specs.declared.declarations.DeclaratorTree.{DeclaratorTree}
+use Rattle.ep_ast.specs.declared.declarations.MemberFieldTree.{MemberFieldTree}
 use Rattle.ep_ast.specs.declared.declarations.MemberTree.{MemberTree}
 use Rattle.ep_ast.specs.declared.expressions.TypeWordTree.{TypeWordTree}
 use Rattle.ep_ast.specs.declared.refusals.Refusal.{Refusal}
 use Rattle.ep_ast.specs.declared.refusals.Halt.{Halt}
 use Rattle.ep_ast.specs.declared.refusals.Halt.TheVariants as halts
 use Rattle.ep_ast.specs.Expression.{TypeWord, type_word}
-use Rattle.ep_ast.specs.Declaration.{Spec, Members, aggregate, body, declarator, member_of, more_members, more_specs}
+use Rattle.ep_ast.specs.Declaration.{Spec, Members, aggregate, body, member_field, member_of, more_members, more_specs}
 use Rattle.ep_ast.specs.Declaration.{spec_of, text_of, to_members, to_specs}
 use Rattle.ep_ast.specs.declared.words.Word.{Word}
 use Rattle.ep_ast.specs.Mark.{union_word, word_number}
 use Rattle.ep_ast.proofs.Rows.{members-vec}
-use Rattle.ep_layout.specs.Table.{Grows, is_completed, is_union, members_stop}
+use Rattle.ep_layout.specs.Table.{Grows, is_completed, is_union}
 use Rattle.ep_layout.proofs.Recursion.{kept_by_itself}
 use Rattle.ep_typing.specs.declared.types.CType.{CType}
 use Rattle.ep_typing.specs.Env.{Env}
 use Rattle.ep_typing.specs.Results.{◌>>=◌, at}
-use Rattle.ep_elaboration.specs.Aggregates.{Named, all_members, body_declared, closed, members_declared, opened}
+use Rattle.ep_elaboration.specs.Aggregates.{Named, all_members, body_declared, closed, entries_declared, opened}
 use Rattle.ep_elaboration.specs.Aggregates.{specs_declared, words_declared}
 use Rattle.ep_operands.specs.Refinement.{Stops}
 use Rattle.ep_scopes.specs.Known.{IsKnownEnv}
@@ -109,30 +109,30 @@ module _ (i : ℕ) (ts : List MemberTree) (t : MemberTree) (lt : i < length ts) 
       sym first_members ∙ rw stops refl
 
   module _ (c : CType) (H : Env) (given : specs_declared G us [] (to_specs (map spec_of ss)) ≡ Ok (c, H))
-      (ds : List DeclaratorTree) (declarators : ds ≡ t.declarators.items) where
+      (ds : List MemberFieldTree) (fields : ds ≡ t.fields.items) where
     k : specs_declared G us [] (to_specs (map spec_of t.specs.items)) ≡ Ok (c, H)
     k = sym (ap (λ (xs : List SpecTree). specs_declared G us [] (to_specs (map spec_of xs))) specs) ∙ given
 
-    after_specs : (members_declared H ms c (map declarator t.declarators.items)
+    after_specs : (entries_declared H us ms c (map member_field t.fields.items)
         >>= (λ p. all_members p.1 us p.0 (to_members (map member_of (drop (i + 1) ts))))) ≡ all
     unfolding all_members
     after_specs =
-        sym (ap (λ (r : Result (CType × Env) Refusal). r >>= (λ q. members_declared q.1 ms q.0 (map declarator
-        t.declarators.items)
+        sym (ap (λ (r : Result (CType × Env) Refusal). r >>= (λ q. entries_declared q.1 us ms q.0 (map member_field
+        t.fields.items)
         >>= (λ p. all_members p.1 us p.0 (to_members (map member_of (drop (i + 1) ts)))))) k)
         ∙ first_members
 
-    declared_is : members_declared H ms c (map declarator ds)
-        ≡ members_declared H ms c (map declarator t.declarators.items)
-    declared_is = ap (λ (xs : List DeclaratorTree). members_declared H ms c (map declarator xs)) declarators
+    declared_is : entries_declared H us ms c (map member_field ds)
+        ≡ entries_declared H us ms c (map member_field t.fields.items)
+    declared_is = ap (λ (xs : List MemberFieldTree). entries_declared H us ms c (map member_field xs)) fields
 
-    pub members_stop_all : (e : Halt) → Stops (members_declared H ms c (map declarator ds)) e → Stops all e
+    pub members_stop_all : (e : Halt) → Stops (entries_declared H us ms c (map member_field ds)) e → Stops all e
     members_stop_all halts.Memory j = tt
     members_stop_all (halts.Refused r) j =
-        let stops : members_declared H ms c (map declarator t.declarators.items) ≡ Err r = sym declared_is ∙ j in
+        let stops : entries_declared H us ms c (map member_field t.fields.items) ≡ Err r = sym declared_is ∙ j in
         sym after_specs ∙ rw stops refl
 
-    pub members_went : (ns : Named) (I : Env) → members_declared H ms c (map declarator ds) ≡ Ok (ns, I)
+    pub members_went : (ns : Named) (I : Env) → entries_declared H us ms c (map member_field ds) ≡ Ok (ns, I)
         → all_members I us ns (to_members (map member_of (drop (i + 1) ts))) ≡ all
     members_went ns I j =
         sym (ap (λ (r : Result (Named × Env) Refusal). r >>= (λ p. all_members p.1 us p.0 (to_members (map member_of
@@ -152,8 +152,7 @@ no_more_members i ts G us ms all le h =
 module _ (l n : ℕ) (t : Option (List ℕ)) (ts : List MemberTree) (us vs : List ℕ) (G H : Env) (a : ℕ)
     (gives : at l (opened G us (nat_eq n union_word) t) ≡ Ok (a, H)) (inside : vs ≡ a ∷ us) where
   then_members : body_declared G us (aggregate l n t (to_members (map member_of ts)))
-      ≡ (all_members H vs [] (to_members (map member_of ts)) >>= (λ r. at l (closed r.1 a r.0 (members_stop r.1.types
-      (nat_eq n union_word) r.0))))
+      ≡ (all_members H vs [] (to_members (map member_of ts)) >>= (λ r. at l (closed r.1 a (nat_eq n union_word) r.0)))
   unfolding body_declared
   then_members = rw (inside, gives) refl
 
@@ -165,14 +164,13 @@ module _ (l n : ℕ) (t : Option (List ℕ)) (ts : List MemberTree) (us vs : Lis
   module _ (ms : Named) (I : Env) (k : all_members H vs [] (to_members (map member_of ts)) ≡ Ok (ms, I))
       (u : is_union I.types a ≡ nat_eq n union_word) where
     pub then_closed : body_declared G us (aggregate l n t (to_members (map member_of ts)))
-        ≡ at l (closed I a ms (members_stop I.types (is_union I.types a) ms))
+        ≡ at l (closed I a (is_union I.types a) ms)
     then_closed =
         then_members
-        ∙ ap (λ (r : Result (Named × Env) Refusal). r >>= (λ p. at l (closed p.1 a p.0 (members_stop p.1.types (nat_eq
-        n union_word) p.0)))) k
-        ∙ sym (ap (λ (b : Bool). at l (closed I a ms (members_stop I.types b ms))) u)
+        ∙ ap (λ (r : Result (Named × Env) Refusal). r >>= (λ p. at l (closed p.1 a (nat_eq n union_word) p.0))) k
+        ∙ sym (ap (λ (b : Bool). at l (closed I a b ms)) u)
 
-    pub closed_stopped : (e : Halt) → Stops (at l (closed I a ms (members_stop I.types (is_union I.types a) ms))) e
+    pub closed_stopped : (e : Halt) → Stops (at l (closed I a (is_union I.types a) ms)) e
         → Stops (body_declared G us (aggregate l n t (to_members (map member_of ts)))) e
     closed_stopped halts.Memory h = tt
     closed_stopped (halts.Refused r) h = then_closed ∙ h

@@ -6,3 +6,6 @@ pub mod MemberLemmas
 pub mod TagLemmas
 pub mod BodyLemmas
 pub mod ObjectLemmas
+pub mod EntryLemmas
+pub mod ClosingLemmas
+pub mod FieldLemmas

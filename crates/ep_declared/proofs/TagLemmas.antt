@@ -21,11 +21,11 @@ use Rattle.ep_typing.specs.declared.types.Base.TheVariants as bases
 use Rattle.ep_typing.specs.declared.types.CType.{CType}
 use Rattle.ep_typing.specs.Env.{Env, Scope, entry, with_tag}
 use Rattle.ep_typing.specs.Types.{whole, with_c_type}
-use Rattle.ep_elaboration.specs.Aggregates.{Named, has_body, tags_here}
+use Rattle.ep_elaboration.specs.Aggregates.{has_body, tags_here}
 use Rattle.ep_scopes.specs.Known.{AreKnownScopes, IsKnown, IsKnownEnv}
 use Rattle.ep_scopes.specs.View as view
 use Rattle.ep_scopes.proofs.KnownLemmas.{tag_entry_known, tag_stays}
-use Rattle.ep_declared.specs.Open.{AreTypes, Follows, IsOpened, OthersStayOpen}
+use Rattle.ep_declared.specs.Open.{Follows, IsOpened, OthersStayOpen}
 use Rattle.ep_declared.proofs.Growth.{IsMore, declared_more, follows_table, has_members, table_known}
 use Rattle.ep_declared.proofs.Growth.{type_known, type_more}
 
@@ -115,7 +115,7 @@ no_members o g e h = none (g.members) (sym (ap (λ (p : Option AggregateRow). is
     none None h = refl
     none (Some x) h = absurd cc
 
-pub completed_grows : (t : Table) (a : ℕ) (ms : Named) → a < length t.aggregates → is_completed t a ≡ false
+pub completed_grows : (t : Table) (a : ℕ) (ms : List (List ℕ × ℕ)) → a < length t.aggregates → is_completed t a ≡ false
     → Grows t (completed_with t a ms)
 completed_grows t a ms lt h =
     let d : AggregateRow = record { tag = []; is_union = false; members = None } in
@@ -132,7 +132,7 @@ open_set (x ∷ gs) zero (suc b) g f h = h
 open_set (x ∷ gs) (suc a) zero g f h = h
 open_set (x ∷ gs) (suc a) (suc b) g f h = open_set gs a b g (λ e. f (ap suc e)) h
 
-pub others_open : (t : Table) (a : ℕ) (ms : Named) → OthersStayOpen a t (completed_with t a ms)
+pub others_open : (t : Table) (a : ℕ) (ms : List (List ℕ × ℕ)) → OthersStayOpen a t (completed_with t a ms)
 others_open t a ms b f h = of (slice_get t.aggregates a) (completed_with t a ms) refl refl
   where
     of : (o : Option AggregateRow) (u : Table) → slice_get t.aggregates a ≡ o → completed_with t a ms ≡ u
@@ -143,8 +143,8 @@ others_open t a ms b f h = of (slice_get t.aggregates a) (completed_with t a ms)
         subst (λ (v : Table). is_completed v b ≡ false) same
         (open_set t.aggregates a b (record g { members = Some (laid_out t g.is_union ms) }) f h)
 
-pub listed_types : (t : Table) (ms : List (Vec ℕ × ℕ)) (ns : List (List ℕ × ℕ)) → named_view ms ≡ ns → AreTypes t ns
-    → list_all (λ (m : Vec ℕ × ℕ). is_type t m.1) ms ≡ true
+pub listed_types : (t : Table) (ms : List (Vec ℕ × ℕ)) (ns : List (List ℕ × ℕ)) → named_view ms ≡ ns
+    → list_all (λ (m : List ℕ × ℕ). is_type t m.1) ns ≡ true → list_all (λ (m : Vec ℕ × ℕ). is_type t m.1) ms ≡ true
 listed_types t ms ns e h =
     sym (list_all-map (λ (m : List ℕ × ℕ). is_type t m.1) (λ (m : Vec ℕ × ℕ). (m.0.items, m.1)) ms)
     ∙ ap (list_all (λ (m : List ℕ × ℕ). is_type t m.1)) e ∙ h
@@ -157,14 +157,14 @@ pub record IsClosed (G : Env) (a : ℕ) (c : CType) (u v : Table) : Type 0 where
   pub grown : Grows G.types v
   pub stay : OthersStayOpen a G.types v
 
-pub completed_first : (G : Env) (a : ℕ) (ms : Named) (c : CType) (u : Table) → a < length G.types.aggregates
+pub completed_first : (G : Env) (a : ℕ) (ms : List (List ℕ × ℕ)) (c : CType) (u : Table) → a < length G.types.aggregates
     → is_completed G.types a ≡ false
     → u ≡ completed_with G.types a ms → c ≡ whole (bases.Aggregate a) → IsKnown u c
 completed_first G a ms c u lt o e f =
     let g : Grows G.types u = subst (Grows G.types) (sym e) (completed_grows G.types a ms lt o) in
     subst (IsKnown u) (sym f) (type_known G.types u g (whole (bases.Aggregate a)) lt)
 
-pub is_closed : (G : Env) (a : ℕ) (ms : Named) (c : CType) (u v : Table) → IsKnownEnv G → a < length G.types.aggregates
+pub is_closed : (G : Env) (a : ℕ) (ms : List (List ℕ × ℕ)) (c : CType) (u v : Table) → IsKnownEnv G → a < length G.types.aggregates
     → is_completed G.types a ≡ false → u ≡ completed_with G.types a ms → c ≡ whole (bases.Aggregate a) → v
     ≡ with_c_type u c → IsClosed G a c u v
 is_closed G a ms c u v k lt o e f q =

@@ -3,3 +3,4 @@ pub mod View
 pub mod Open
 pub mod Counts
 pub mod Stopped
+pub mod Entries

@@ -5,6 +5,8 @@ use Rattle.ep_int.specs.Memory.{contains}
 use Rattle.ep_layout.specs.Table.{Grows, Table, is_completed, is_type, is_union}
 use Rattle.ep_typing.specs.Env.{Env}
 use Rattle.ep_scopes.specs.Known.{IsKnownEnv}
+use Rattle.ep_elaboration.specs.Aggregates.{Named}
+use Rattle.ep_declared.specs.Entries.{type_of}
 
 -- no aggregate is completed on the way from one table to the other
 abbrev pub StaysOpen : Table → Table → Type 0
@@ -38,6 +40,6 @@ pub record IsOpened (unclosed : List ℕ) (with_union : Bool) (a : ℕ) (t u : T
   pub word : is_union u a ≡ with_union
   pub other : a < length t.aggregates → contains a unclosed ≡ false
 
--- members whose types the table has
-abbrev pub AreTypes : Table → List (List ℕ × ℕ) → Type 0
-AreTypes t ms = IsTrue (list_all (λ m. is_type t m.1) ms)
+-- members and bit-fields whose types the table has
+abbrev pub AreTypes : Table → Named → Type 0
+AreTypes t es = IsTrue (list_all (λ e. is_type t (type_of e)) es)

@@ -8,12 +8,13 @@ ghost use Rattle.ep_layout.specs.Table.{Grows};
 ghost use Rattle.ep_elaboration.specs.Aggregates as rule;
 ghost use Rattle.ep_declared.specs.Refinement.{RefinesIn};
 ghost use Rattle.ep_declared.specs.Open.{AreTypes, IsAfter};
-ghost use Rattle.ep_declared.specs.View as view;
 ghost use Rattle.ep_scopes.specs.Known.{IsKnown, IsKnownEnv};
 ghost use Rattle.ep_scopes.specs.View.{env as env_view};
 
-use crate::members::{Named, members_declared};
-use crate::tags::{closed, inside, opened};
+use crate::closing::closed;
+use crate::entries::Named;
+use crate::members::entries_declared;
+use crate::tags::{inside, opened};
 use crate::words::{copy_word, words_declared};
 use ep_ast::{AggregateTree, Halt, MemberTree, SpecTree, Word};
 use ep_scopes::Env;
@@ -65,7 +66,7 @@ fn body_inside(
     let number = opened(env, line, unclosed, word.is_union(), tag)?;
     let inner = inside(env.alloc, number, unclosed)?;
     let named = all_members(env, &inner, members)?;
-    let c = closed(env, line, number, named)?;
+    let c = closed(env, line, number, &named)?;
     Ok(c)
 }
 
@@ -73,15 +74,15 @@ fn body_inside(
 #[tactic(auto, unfolding(ep_elaboration::specs::Aggregates::all_members))]
 fn all_members(env: &mut Env, unclosed: &[u32], members: &[MemberTree]) -> Result<Named, Halt>
     requires { IsKnownEnv (env_view env.old) }
-    ensures means { RefinesIn view.named (rule.all_members (env_view env.old) unclosed.now []
+    ensures means { RefinesIn (λ n. n) (rule.all_members (env_view env.old) unclosed.now []
         (to_members (map member_of members.now))) (env_view env.new) result }
     ensures after { OnOk result (IsAfter unclosed.now (env_view env.old) (env_view env.new)) }
-    ensures members { IfOk result (λ n. AreTypes (env_view env.new).types (view.named n)) }
+    ensures members { IfOk result (λ n. AreTypes (env_view env.new).types n) }
 {
     let mut named = Named::new(env.alloc);
     for member in members {
         let c = specs_inside(env, unclosed, &member.specs)?;
-        members_declared(env, &mut named, c, &member.declarators)?;
+        entries_declared(env, unclosed, &mut named, c, &member.fields)?;
     }
     Ok(named)
 }

@@ -3,12 +3,16 @@
 
 mod arrays;
 mod bodies;
+mod closing;
 mod counts;
+mod entries;
+mod fields;
 mod members;
 mod naming;
 mod objects;
 mod tags;
 mod typedefs;
+mod widths;
 mod words;
 
 pub use arrays::arrays_of;

@@ -1,27 +1,22 @@
-//! Structs and unions by their tags, and the ends of their bodies.
+//! Structs and unions by their tags.
 
-ghost use Rattle.std.specs.Prelude.{◌≡◌, ◌<◌, ◌∷◌, None, length, IfOk, IsFalse, OnOk};
+ghost use Rattle.std.specs.Prelude.{◌≡◌, ◌∷◌, None, length, IfOk, OnOk};
 ghost use Rattle.std.specs.Option.{option_map};
 ghost use Rattle.ep_ast.specs.Declaration.{text_of};
 ghost use Rattle.ep_layout.specs.Table as table;
-ghost use Rattle.ep_layout.specs.Table.{Grows};
 ghost use Rattle.ep_typing.specs.Env.{entry, with_tag};
 ghost use Rattle.ep_typing.specs.Results.{at};
 ghost use Rattle.ep_elaboration.specs.Aggregates as rule;
 ghost use Rattle.ep_declared.specs.Refinement.{RefinesIn};
-ghost use Rattle.ep_declared.specs.Open.{AreTypes, Follows, IsOpened, OthersStayOpen};
-ghost use Rattle.ep_declared.specs.View as view;
-ghost use Rattle.ep_scopes.specs.Known.{IsKnown, IsKnownEnv};
+ghost use Rattle.ep_declared.specs.Open.{Follows, IsOpened};
+ghost use Rattle.ep_scopes.specs.Known.{IsKnownEnv};
 ghost use Rattle.ep_scopes.specs.View.{env as env_view};
 
-use crate::arrays::stopped;
-use crate::members::Named;
 use ep_ast::{Halt, RefusalKind};
 use ep_int::Memory;
 use ep_layout::Types;
-use ep_operands::{has_room, refused, whole};
-use ep_scopes::{Env, add_type};
-use ep_typing::{Base, CType};
+use ep_operands::{has_room, refused};
+use ep_scopes::Env;
 use std::alloc::{AllocError, Global};
 
 fn is_completed(types: &Types, aggregate: u32) -> bool
@@ -34,7 +29,8 @@ fn is_completed(types: &Types, aggregate: u32) -> bool
     }
 }
 
-fn is_union(types: &Types, aggregate: u32) -> bool
+/// Whether an aggregate is a union; of a number that is none, no.
+pub(crate) fn is_union(types: &Types, aggregate: u32) -> bool
     ensures { result ≡ table.is_union types.now aggregate }
 {
     if aggregate < types.aggregate_count() {
@@ -139,32 +135,4 @@ pub(crate) fn inside(
     all.push(aggregate)?;
     all.extend_from_slice(unclosed)?;
     Ok(all)
-}
-
-/// A body ends.
-pub(crate) fn closed(env: &mut Env, line: u32, aggregate: u32, named: Named) -> Result<CType, Halt>
-    requires known { IsKnownEnv (env_view env.old) }
-    requires exists { aggregate < length (env_view env.old).types.aggregates }
-    requires empty { IsFalse (table.is_completed (env_view env.old).types aggregate) }
-    requires members { AreTypes (env_view env.old).types (view.named named) }
-    ensures means { RefinesIn (λ c. c) (at line (rule.closed (env_view env.old) aggregate (view.named named)
-        (table.members_stop (env_view env.old).types (table.is_union (env_view env.old).types aggregate)
-        (view.named named)))) (env_view env.new) result }
-    ensures known { OnOk result (IsKnownEnv (env_view env.new)) }
-    ensures inside { IfOk result (λ c. IsKnown (env_view env.new).types c) }
-    ensures grown { OnOk result (Grows (env_view env.old).types (env_view env.new).types) }
-    ensures stay { OnOk result (OthersStayOpen aggregate (env_view env.old).types (env_view env.new).types) }
-{
-    if named.is_empty() {
-        return Err(refused(RefusalKind::IncompleteType, line));
-    }
-    let members = named.into_list(env.alloc)?;
-    match env.types.complete(aggregate, members) {
-        Ok(()) => {
-            let c = whole(Base::Aggregate(aggregate));
-            add_type(&mut env.types, c)?;
-            Ok(c)
-        }
-        Err(stop) => Err(stopped(line, stop)),
-    }
 }

@@ -1,3 +1,5 @@
 pub mod Gathering
 pub mod ListLemmas
 pub mod MemberLemmas
+pub mod FieldLemmas
+pub mod FirstLemmas

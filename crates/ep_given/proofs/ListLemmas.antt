@@ -18,7 +18,7 @@ use Rattle.ep_elaboration.specs.Declarators.{Object}
 use Rattle.ep_ast.specs.Expression.{Expr}
 use Rattle.ep_declared.specs.Refinement.{RefinesIn}
 use Rattle.ep_elaboration.specs.Given.{Given, all_given, both_given, expression_given, line_of_value, nothing_given}
-use Rattle.ep_elaboration.specs.Given.{part_at, value_given, with_parts, cleared, count_listed, count_values}
+use Rattle.ep_elaboration.specs.Given.{part_at, value_given, with_list, cleared, count_listed, count_values}
 use Rattle.ep_elaboration.specs.Given.{object_operand}
 use Rattle.ep_typing.specs.Env.{Env}
 use Rattle.ep_typing.specs.Typing.{Right, assigned_from, right_side}
@@ -130,17 +130,17 @@ module _ (G : Env) (global may_call : Bool) (l : ℕ) (p : Option Object) (done 
       (gathering.stopped_before both_given done (expression_given H global may_call l x e) (λ g. Ok (g, H)) f h))
 
   -- a list
-  pub list_is : (v : source.Value) (k : ℕ) (vs : source.Values) (y : Object) → v ≡ source.listed k vs → at l (with_parts p) ≡ Ok y
+  pub list_is : (v : source.Value) (k : ℕ) (vs : source.Values) (y : Object) → v ≡ source.listed k vs → at l (with_list G p vs) ≡ Ok y
       → all_behind both_given done (value_given G global may_call l p v) ≡ all_behind both_given done (all_given G global y 0 vs)
   unfolding value_given
   list_is v k vs y i h = rw (i, h) refl
 
-  pub list_stops : (v : source.Value) (k : ℕ) (vs : source.Values) (f : Halt) → v ≡ source.listed k vs → Stops (at l (with_parts p)) f
+  pub list_stops : (v : source.Value) (k : ℕ) (vs : source.Values) (f : Halt) → v ≡ source.listed k vs → Stops (at l (with_list G p vs)) f
       → Stops (all_behind both_given done (value_given G global may_call l p v)) f
   unfolding value_given
   list_stops v k vs f i h =
       subst (λ (w : source.Value). Stops (all_behind both_given done (value_given G global may_call l p w)) f) (sym i)
-      (gathering.stopped_before both_given done (at l (with_parts p)) (λ y. all_given G global y 0 vs) f h)
+      (gathering.stopped_before both_given done (at l (with_list G p vs)) (λ y. all_given G global y 0 vs) f h)
 
 pub listed_tree : (k : ℕ) (t : ValueTree) (v : Vec ValueTree) (xs : List ValueTree) → t ≡ List' k v → xs ≡ v.items
     → source.value_of t ≡ source.listed k (source.to_values (map source.value_of xs))

@@ -2,9 +2,10 @@
 #![tactic(auto)]
 
 mod constants;
+mod first;
 mod lists;
 mod parts;
 mod values;
 
+pub use first::first_given;
 pub use lists::{Given, cleared, count_listed};
-pub use values::value_given;

@@ -1,6 +1,6 @@
 //! First values: an expression, or a list in braces.
 
-ghost use Rattle.std.specs.Prelude.{◌≡◌, Bool, false, map, None, Some, OnOk};
+ghost use Rattle.std.specs.Prelude.{◌≡◌, ◌&&◌, Bool, false, map, not, None, Some, OnOk};
 ghost use Rattle.std.specs.Option.{option_map};
 ghost use Rattle.ep_ast.specs.Declaration as shape;
 ghost use Rattle.ep_ast.specs.Expression as source;
@@ -21,14 +21,15 @@ use crate::lists::Given;
 use crate::parts::{copy_object, part_at};
 use ep_ast::{ExprTree, Halt, RefusalKind, ValueTree};
 use ep_declared::Object;
-use ep_operands::{Operand, is_aggregate, is_array, refused};
+use ep_operands::{Operand, is_aggregate, is_array, number_of, refused};
 use ep_scopes::Env;
 use ep_typer_effects::{assigned_from, right_side};
 use ep_typer_exprs::{mention, typed};
+use ep_typing::CType;
 
 // An expression that an object begins as.
 #[tactic(auto, unfolding(ep_elaboration::specs::Given::expression_given))]
-fn expression_given(
+pub(crate) fn expression_given(
     env: &Env,
     global: bool,
     may_call: bool,
@@ -86,7 +87,7 @@ fn single_given(
     }
 }
 
-// An object that a list may give values.
+// An object that has parts.
 fn with_parts(line: u32, x: Option<Object>) -> Result<Object, Halt>
     ensures { Refines objects.object (at line (rule.with_parts (option_map objects.object x))) result }
 {
@@ -99,6 +100,79 @@ fn with_parts(line: u32, x: Option<Object>) -> Result<Object, Halt>
         }
         None => Err(refused(RefusalKind::TypeMismatch, line)),
     }
+}
+
+fn has_fields(env: &Env, c: CType) -> bool
+    ensures { result ≡ rule.has_fields (env_view env.now) c }
+{
+    if is_aggregate(c) {
+        env.fields.has(number_of(c))
+    } else {
+        false
+    }
+}
+
+fn is_number_zero(tree: &ExprTree) -> bool
+    ensures { result ≡ rule.is_zero (shape.single (source.expr tree.now)) }
+{
+    match tree {
+        ExprTree::Number(_, literal) => literal.value == 0,
+        ExprTree::Assign(_, _, _, _)
+        | ExprTree::Conditional(_, _, _, _)
+        | ExprTree::Binary(_, _, _, _)
+        | ExprTree::Cast(_, _, _)
+        | ExprTree::Step(_, _, _)
+        | ExprTree::Unary(_, _, _)
+        | ExprTree::SizeofExpr(_, _)
+        | ExprTree::SizeofType(_, _)
+        | ExprTree::Index(_, _, _)
+        | ExprTree::Call(_, _, _)
+        | ExprTree::Member(_, _, _)
+        | ExprTree::Arrow(_, _, _)
+        | ExprTree::PostIncrement(_, _)
+        | ExprTree::PostDecrement(_, _)
+        | ExprTree::Id(_, _) => false,
+    }
+}
+
+// Whether a value is `0`.
+fn is_zero(value: &ValueTree) -> bool
+    ensures { result ≡ rule.is_zero (shape.value_of value.now) }
+{
+    match value {
+        ValueTree::Expr(tree) => is_number_zero(tree),
+        ValueTree::List(_, _) => false,
+    }
+}
+
+fn is_zero_alone(values: &[ValueTree]) -> bool
+    ensures { result ≡ rule.is_zero_alone (shape.to_values (map shape.value_of values.now)) }
+{
+    if values.len() == 1 {
+        is_zero(&values[0])
+    } else {
+        false
+    }
+}
+
+// Whether this is a list other than `{0}` for an aggregate with a bit-field.
+fn lists_fields(env: &Env, c: CType, values: &[ValueTree]) -> bool
+    ensures { result ≡ (rule.has_fields (env_view env.now) c
+        && not (rule.is_zero_alone (shape.to_values (map shape.value_of values.now)))) }
+{
+    has_fields(env, c) && !is_zero_alone(values)
+}
+
+// An object that a list may give these values.
+fn with_list(env: &Env, line: u32, x: Option<Object>, values: &[ValueTree]) -> Result<Object, Halt>
+    ensures { Refines objects.object (at line (rule.with_list (env_view env.now) (option_map objects.object x)
+        (shape.to_values (map shape.value_of values.now)))) result }
+{
+    let whole = with_parts(line, x)?;
+    if lists_fields(env, whole.ty, values) {
+        return Err(refused(RefusalKind::BitFieldPlace, line));
+    }
+    Ok(whole)
 }
 
 fn line_of_value(value: &ValueTree) -> u32
@@ -133,8 +207,9 @@ fn add_value(
     match value {
         ValueTree::Expr(tree) => single_given(env, global, may_call, line, x, tree, given),
         ValueTree::List(_, values) => {
-            let whole = with_parts(line, x)?;
-            add_values(env, global, &whole, values, given)
+            let list: &[ValueTree] = values;
+            let whole = with_list(env, line, x, list)?;
+            add_values(env, global, &whole, list, given)
         }
     }
 }
@@ -164,9 +239,8 @@ fn add_values(
     Ok(())
 }
 
-/// The first values of an object, whose declarator's name is on the line; of an expression that is a call only where
-/// one may stand.
-pub fn value_given(
+// The first values of an object.
+pub(crate) fn value_given(
     env: &mut Env,
     global: bool,
     may_call: bool,

@@ -20,7 +20,7 @@ pub use conversions::{
 pub use copies::{copy_expr, copy_operand, copy_place};
 pub use names::{built_in, numbered};
 pub use operand::{Callee, Operand};
-pub use refusals::refused;
+pub use refusals::{at_statement, refused};
 pub use room::{as_number, has_room, one_behind};
 pub use types::{
     bound_of, element_of, int_of, int_type, is_aggregate, is_array, is_integer, is_pointer,

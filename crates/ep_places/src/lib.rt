@@ -8,7 +8,7 @@ mod sizes;
 mod unary;
 
 pub use elements::{indexable, indexed};
-pub use members::{selected, selected_through};
-pub use pointers::moved;
+pub use members::selected;
+pub use pointers::{moved, pointed};
 pub use sizes::{casted, sized, type_sized};
 pub use unary::{is_mark, unary_typed};

@@ -10,11 +10,10 @@ ghost use Rattle.ep_typing.specs.Results.{at};
 ghost use Rattle.ep_operands.specs.Refinement.{Refines};
 ghost use Rattle.ep_operands.specs.View as view;
 
-use crate::pointers::pointed;
 use ep_ast::{Halt, RefusalKind};
 use ep_core::tree::Place;
 use ep_layout::{Member, Types};
-use ep_operands::{Operand, Value, is_aggregate, number_of, refused, type_of};
+use ep_operands::{Operand, is_aggregate, number_of, refused, type_of};
 use ep_typing::CType;
 use std::alloc::Global;
 
@@ -70,19 +69,4 @@ pub fn selected(
         Operand::Value(_) => Err(refused(RefusalKind::TypeMismatch, line)),
         Operand::Function(_) => Err(refused(RefusalKind::TypeMismatch, line)),
     }
-}
-
-/// `->`.
-#[tactic(auto, unfolding(ep_typing::specs::Parts::selected_through))]
-pub fn selected_through(
-    alloc: Global,
-    types: &Types,
-    line: u32,
-    v: Value,
-    name: &[u8],
-) -> Result<Operand, Halt>
-    ensures { Refines view.operand (at line (rule.selected_through types.now (view.value v) name.now)) result }
-{
-    let whole = pointed(alloc, line, v)?;
-    selected(alloc, types, line, whole, name)
 }

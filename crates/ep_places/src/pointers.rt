@@ -55,9 +55,9 @@ pub fn moved(
     }
 }
 
-// `*`.
+/// What a pointer points to.
 #[tactic(auto, unfolding(ep_typing::specs::Parts::pointed))]
-pub(crate) fn pointed(alloc: Global, line: u32, v: Value) -> Result<Operand, Halt>
+pub fn pointed(alloc: Global, line: u32, v: Value) -> Result<Operand, Halt>
     ensures { Refines view.operand (at line (pointed (view.value v))) result }
 {
     if is_pointer(v.ty) {

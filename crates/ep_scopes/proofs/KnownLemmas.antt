@@ -19,7 +19,7 @@ use Rattle.ep_typing.specs.declared.types.Base.TheVariants as bases
 use Rattle.ep_typing.specs.declared.types.CType.{CType}
 use Rattle.ep_typing.specs.Env.{Env, Scope, Meaning, variable, function, type_name, entry, first_of, look_up}
 use Rattle.ep_typing.specs.Env.{look_up_tag, tag_in, with_tag}
-use Rattle.ep_typing.specs.Results.{◌>>=◌, at}
+use Rattle.ep_typing.specs.Results.{◌>>=◌}
 use Rattle.ep_typing.specs.Types.{known_number, with_base, with_pointers, with_c_type, base_number, pointer_number}
 use Rattle.ep_typing.specs.Names.{built_in_types, integer_of, is_whole, meant_tag, meant_type, mentioned_name}
 use Rattle.ep_typing.specs.Names.{mentioned_tag, mentioned_word, mentioned_words, named_type, of_whole, with_type_of}

@@ -1,11 +1,11 @@
 -- Maps and the stack of them, as scopes.
-use Rattle.std.proofs.Common.{◌≡◌, ℕ, suc, ◌+◌, ◌<◌, ◌≤◌, ◌-◌, Bor, vec_len, option_to_list, arith, length, drop}
+use Rattle.std.proofs.Common.{◌≡◌, ℕ, suc, ◌+◌, ◌<◌, ◌≤◌, ◌-◌, Bor, vec_len, option_to_list, arith, length, drop, get_or}
 use Rattle.std.proofs.Common.{drop-cons, take, Bool, true, false, cond, List, [], ◌∷◌, ◌++◌, map, Option, Some, None}
 use Rattle.std.proofs.Common.{refl, sym, ap, ◌∙◌}
 use Rattle.std.specs.Option.{option_map}
 use Rattle.std.specs.Str.{bytes_eq}
 use Rattle.std.specs.Global.{Vec}
-use Rattle.std.proofs.lemmas.List.{drop_all, length-map, map_push, nil_from_length, take-map}
+use Rattle.std.proofs.lemmas.List.{drop_all, length-map, map_push, nil_from_length, take-map, take_more}
 use Rattle.std.proofs.lemmas.Option.{get_or_from_slice_get, slice_get-map, slice_get_within}
 use Rattle.std.specs.Prelude.{slice_get, slice_range, is_some, position, nat_lt, not, MatchOption}
 use Rattle.std.specs.List.{position_or_len}
@@ -33,9 +33,13 @@ name_looks t (e ∷ es) =
     name_at_test (bytes_eq t e.0.items) e.1 (lookup (λ k. bytes_eq t k.items) es)
     ∙ ap (λ (r : Option rule.Meaning). cond (bytes_eq t e.0.items) (Some (view.meaning e.1)) r) (name_looks t es)
 
-pub tag_looks : (t : List ℕ) (es : List (Vec ℕ × ℕ)) → lookup (λ k. bytes_eq t k.items) es ≡ rule.entry t (map view.tag es)
-tag_looks t [] = refl
-tag_looks t (e ∷ es) = ap (λ (r : Option ℕ). cond (bytes_eq t e.0.items) (Some e.1) r) (tag_looks t es)
+-- a text, and what it names
+abbrev row : {A : Type 0} → Vec ℕ × A → List ℕ × A
+row e = (e.0.items, e.1)
+
+pub row_looks : {A : Type 0} (t : List ℕ) (es : List (Vec ℕ × A)) → lookup (λ k. bytes_eq t k.items) es ≡ rule.entry t (map row es)
+row_looks t [] = refl
+row_looks {A = A} t (e ∷ es) = ap (λ (r : Option A). cond (bytes_eq t e.0.items) (Some e.1) r) (row_looks t es)
 
 name_step : (b : Bool) (e : Vec ℕ × Meaning) (x : rule.Meaning) (o : Option rule.Meaning) (xs ys : List (Vec ℕ × Meaning)) (zs : List (List ℕ × rule.Meaning))
     → cond b (Some x) o ≡ None → (o ≡ None → map view.entry ys ≡ zs) → map view.entry (cond b xs (e ∷ ys)) ≡ view.entry e ∷ zs
@@ -49,52 +53,58 @@ name_added k v (e ∷ es) h =
     name_step (bytes_eq k.items e.0.items) e (view.meaning e.1) (rule.entry k.items (map view.entry es)) ((e.0, v) ∷ es)
     (insert_entry (λ p q. bytes_eq p.items q.items) es k v) (map view.entry es ++ (k.items, view.meaning v) ∷ []) h (name_added k v es)
 
-tag_step : (b : Bool) (e : Vec ℕ × ℕ) (x : ℕ) (o : Option ℕ) (xs ys : List (Vec ℕ × ℕ)) (zs : List (List ℕ × ℕ))
-    → cond b (Some x) o ≡ None → (o ≡ None → map view.tag ys ≡ zs) → map view.tag (cond b xs (e ∷ ys)) ≡ view.tag e ∷ zs
-tag_step true e x o xs ys zs h f = absurd cc
-tag_step false e x o xs ys zs h f = ap (λ (ws : List (List ℕ × ℕ)). view.tag e ∷ ws) (f h)
+row_step : {A : Type 0} (b : Bool) (e : Vec ℕ × A) (x : A) (o : Option A) (xs ys : List (Vec ℕ × A)) (zs : List (List ℕ × A))
+    → cond b (Some x) o ≡ None → (o ≡ None → map row ys ≡ zs) → map row (cond b xs (e ∷ ys)) ≡ row e ∷ zs
+row_step true e x o xs ys zs h f = absurd cc
+row_step {A = A} false e x o xs ys zs h f = ap (λ (ws : List (List ℕ × A)). row e ∷ ws) (f h)
 
-pub tag_added : (k : Vec ℕ) (v : ℕ) (es : List (Vec ℕ × ℕ)) → rule.entry k.items (map view.tag es) ≡ None
-    → map view.tag (insert_entry (λ p q. bytes_eq p.items q.items) es k v) ≡ map view.tag es ++ (k.items, v) ∷ []
-tag_added k v [] h = refl
-tag_added k v (e ∷ es) h =
-    tag_step (bytes_eq k.items e.0.items) e e.1 (rule.entry k.items (map view.tag es)) ((e.0, v) ∷ es)
-    (insert_entry (λ p q. bytes_eq p.items q.items) es k v) (map view.tag es ++ (k.items, v) ∷ []) h (tag_added k v es)
+pub row_added : {A : Type 0} (k : Vec ℕ) (v : A) (es : List (Vec ℕ × A)) → rule.entry k.items (map row es) ≡ None
+    → map row (insert_entry (λ p q. bytes_eq p.items q.items) es k v) ≡ map row es ++ (k.items, v) ∷ []
+row_added k v [] h = refl
+row_added k v (e ∷ es) h =
+    row_step (bytes_eq k.items e.0.items) e e.1 (rule.entry k.items (map row es)) ((e.0, v) ∷ es)
+    (insert_entry (λ p q. bytes_eq p.items q.items) es k v) (map row es ++ (k.items, v) ∷ []) h (row_added k v es)
 
 -- ---- the stack
-
--- what is found in the end, where o was found before these scopes
-abbrev pub through : List ℕ → List Scope → Option rule.Meaning → Option rule.Meaning
-through t [] o = o
-through t (s ∷ ss) o = through t ss (rule.first_of (rule.entry t (view.scope s).names) o)
-
-abbrev pub tag_through : List ℕ → List Scope → Option ℕ → Option ℕ
-tag_through t [] o = o
-tag_through t (s ∷ ss) o = tag_through t ss (rule.first_of (rule.entry t (view.scope s).tags) o)
 
 pub snoc : (G : List rule.Scope) (ss : List Scope) (s : Scope) → view.stacked G (ss ++ s ∷ []) ≡ view.scope s ∷ view.stacked G ss
 snoc G [] s = refl
 snoc G (n ∷ ss) s = snoc (view.scope n ∷ G) ss s
 
-goes_through : (t : List ℕ) (G : List rule.Scope) (ss : List Scope) → rule.look_up t (view.stacked G ss) ≡ through t ss (rule.look_up t G)
-goes_through t G [] = refl
-goes_through t G (s ∷ ss) = goes_through t (view.scope s ∷ G) ss
+module _ (t : List ℕ) (ss : List Scope) (n : ℕ) (s : Scope) (some : 0 < n) (le : n ≤ length ss)
+    (is : s ≡ get_or ss (n - 1) s) where
+  up_to : view.stacked [] (take n ss) ≡ view.scope s ∷ view.stacked [] (take (n - 1) ss)
+  up_to =
+      let next : n ≡ n - 1 + 1 = omega arith in
+      ap (λ (k : ℕ). view.stacked [] (take k ss)) next ∙ ap (view.stacked []) (take_more ss (n - 1) s (omega arith))
+      ∙ ap (λ (x : Scope). view.stacked [] (take (n - 1) ss ++ x ∷ [])) (sym is) ∙ snoc [] (take (n - 1) ss) s
 
-tag_goes_through : (t : List ℕ) (G : List rule.Scope) (ss : List Scope) → rule.look_up_tag t (view.stacked G ss) ≡ tag_through t ss (rule.look_up_tag t G)
-tag_goes_through t G [] = refl
-tag_goes_through t G (s ∷ ss) = tag_goes_through t (view.scope s ∷ G) ss
+  -- the innermost of the first n has the name
+  pub has_it : (o : Option rule.Meaning) (m : rule.Meaning) → Some m ≡ rule.entry t (view.scope s).names
+      → rule.look_up t (view.stacked [] (take n ss)) ≡ o → Some m ≡ o
+  has_it o m e h =
+      ap (λ (f : Option rule.Meaning). rule.first_of f (rule.look_up t (view.stacked [] (take (n - 1) ss)))) e
+      ∙ sym (ap (rule.look_up t) up_to) ∙ h
 
-pub ends : (t : List ℕ) (ss : List Scope) (i : ℕ) (o : Option rule.Meaning) → length ss ≤ i → through t (drop i ss) o ≡ through t ss None
-    → o ≡ rule.look_up t (view.stacked [] ss)
-ends t ss i o h e =
-    let none : drop i ss ≡ [] = drop_all i ss h in
-    sym (ap (λ (rest : List Scope). through t rest o) none) ∙ e ∙ sym (goes_through t [] ss)
+  -- it has not
+  pub lacks_it : (o : Option rule.Meaning) → None ≡ rule.entry t (view.scope s).names
+      → rule.look_up t (view.stacked [] (take n ss)) ≡ o → rule.look_up t (view.stacked [] (take (n - 1) ss)) ≡ o
+  lacks_it o e h =
+      ap (λ (f : Option rule.Meaning). rule.first_of f (rule.look_up t (view.stacked [] (take (n - 1) ss)))) e
+      ∙ sym (ap (rule.look_up t) up_to) ∙ h
 
-pub tag_ends : (t : List ℕ) (ss : List Scope) (i : ℕ) (o : Option ℕ) → length ss ≤ i → tag_through t (drop i ss) o ≡ tag_through t ss None
-    → o ≡ rule.look_up_tag t (view.stacked [] ss)
-tag_ends t ss i o h e =
-    let none : drop i ss ≡ [] = drop_all i ss h in
-    sym (ap (λ (rest : List Scope). tag_through t rest o) none) ∙ e ∙ sym (tag_goes_through t [] ss)
+  -- the same of tags
+  pub has_tag : (o : Option ℕ) (a : ℕ) → Some a ≡ rule.entry t (view.scope s).tags
+      → rule.look_up_tag t (view.stacked [] (take n ss)) ≡ o → Some a ≡ o
+  has_tag o a e h =
+      ap (λ (f : Option ℕ). rule.first_of f (rule.look_up_tag t (view.stacked [] (take (n - 1) ss)))) e
+      ∙ sym (ap (rule.look_up_tag t) up_to) ∙ h
+
+  pub lacks_tag : (o : Option ℕ) → None ≡ rule.entry t (view.scope s).tags
+      → rule.look_up_tag t (view.stacked [] (take n ss)) ≡ o → rule.look_up_tag t (view.stacked [] (take (n - 1) ss)) ≡ o
+  lacks_tag o e h =
+      ap (λ (f : Option ℕ). rule.first_of f (rule.look_up_tag t (view.stacked [] (take (n - 1) ss)))) e
+      ∙ sym (ap (rule.look_up_tag t) up_to) ∙ h
 
 -- what was pushed last
 pub pushed : (ss ns : List Scope) (s : Scope) → ns ≡ ss ++ s ∷ [] → view.stacked [] ns ≡ view.scope s ∷ view.stacked [] ss

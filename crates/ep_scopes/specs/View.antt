@@ -3,12 +3,15 @@ use Rattle.std.specs.Prelude.{ℕ, List, [], ◌∷◌, ◌++◌, map, take}
 use Rattle.std.specs.Global.{Vec}
 use Rattle.ep_core.specs.View.{block_view}
 use Rattle.ep_typing.specs.declared.types.CType.{CType}
+use Rattle.ep_typing.specs.declared.types.FieldRow.{FieldRow}
 use Rattle.ep_typing.specs.Env as rule
 use Rattle.ep_scopes.specs.declared.scopes.Meaning.{Meaning}
 use Rattle.ep_scopes.specs.declared.scopes.Meaning.TheVariants as meanings
 use Rattle.ep_scopes.specs.declared.scopes.Scope.{Scope}
 use Rattle.ep_scopes.specs.declared.scopes.Scopes.{Scopes}
 use Rattle.ep_scopes.specs.declared.env.FunctionType.{FunctionType}
+use Rattle.ep_scopes.specs.declared.fields.FieldNames.{FieldNames}
+use Rattle.ep_scopes.specs.declared.fields.Fields.{Fields}
 use Rattle.ep_scopes.specs.declared.env.Env.{Env}
 
 abbrev pub meaning : Meaning → rule.Meaning
@@ -43,9 +46,22 @@ function_type t = (t.params.items, t.result)
 abbrev pub type_of : rule.Signature → List CType × CType
 type_of s = (s.params, s.result)
 
+abbrev pub named_field : Vec ℕ × FieldRow → List ℕ × FieldRow
+named_field e = (e.0.items, e.1)
+
+abbrev pub named_fields : FieldNames → rule.NamedFields
+named_fields n = map named_field n.rows.entries
+
+abbrev pub aggregate_fields : ℕ × FieldNames → ℕ × rule.NamedFields
+aggregate_fields e = (e.0, named_fields e.1)
+
+abbrev pub fields : Fields → List (ℕ × rule.NamedFields)
+fields f = map aggregate_fields f.all.entries
+
 abbrev pub env : Env → rule.Env
 env e = record {
   types = e.types;
+  fields = fields e.fields;
   scopes = scopes e.scopes;
   blocks = map block_view e.blocks.items;
   functions = map signature e.functions.entries;

@@ -1,14 +1,17 @@
 //! What stands round an expression.
 
-ghost use Rattle.std.specs.Prelude.{◌≡◌, ◌<◌, IfOk, OnOk, IsTrue, None, bytes_eq, length, map, position, slice_get};
+ghost use Rattle.std.specs.Prelude.{◌≡◌, ◌<◌, IfOk, IfSome, OnOk, IsTrue, None, Some, bytes_eq, length, map, position};
+ghost use Rattle.std.specs.Prelude.{slice_get};
 ghost use Rattle.std.specs.Option.{option_map};
 ghost use Rattle.ep_core.specs.View.{block_view};
+ghost use Rattle.ep_layout.specs.declared.types.Ty.TheVariants as rows;
 ghost use Rattle.ep_layout.specs.Table as table;
 ghost use Rattle.ep_typing.specs.Env as rule;
 ghost use Rattle.ep_typing.specs.Types as types_of;
 ghost use Rattle.ep_scopes.specs.Known.{IsKnown, IsKnownBase};
 ghost use Rattle.ep_scopes.specs.View as view;
 
+use crate::fields::Fields;
 use crate::scopes::Scopes;
 use ep_core::program::BlockInfo;
 use ep_int::{Memory, Model};
@@ -25,10 +28,11 @@ pub struct FunctionType {
     pub result: CType,
 }
 
-/// Names, tags, blocks, functions and types so far. Functions are numbered in their order.
+/// Names, tags, blocks, functions, types and bit-fields so far. Functions are numbered in their order.
 #[derive(Drop)]
 pub struct Env {
     pub types: Types,
+    pub fields: Fields,
     pub scopes: Scopes,
     pub blocks: Vec<BlockInfo>,
     pub functions: IndexMap<Vec<u8>, FunctionType>,
@@ -51,6 +55,7 @@ impl Env {
         let scopes = opened(alloc)?;
         Ok(Env {
             types: Types::new(alloc, model),
+            fields: Fields::new(alloc),
             scopes,
             blocks: Vec::new(alloc),
             functions: IndexMap::new(alloc),
@@ -70,6 +75,50 @@ fn add_row(types: &mut Types, ty: Ty) -> Result<u32, Memory>
     match types.add(ty) {
         Ok(n) => Ok(n),
         Err(_) => Err(Memory),
+    }
+}
+
+// The next number, where the pointer to this type has it: pointers that came one behind the other need no look-up.
+fn next_pointer(types: &Types, number: u32) -> Option<u32>
+    ensures { IfSome result (λ n. slice_get types.now.types n ≡ Some (rows.Ptr number)) }
+{
+    let count = types.type_count();
+    if number >= count {
+        return None;
+    }
+    let next = number + 1;
+    if next >= count {
+        return None;
+    }
+    match types.ty(next) {
+        Ty::Ptr(to) => if *to == number { Some(next) } else { None },
+        _ => None,
+    }
+}
+
+// The number of the pointer to a type, which may have to come into the table.
+fn add_pointer(types: &mut Types, number: u32) -> Result<u32, Memory>
+    requires { IsTrue (table.names_known types.old (rows.Ptr number)) }
+    ensures number { IfOk result (λ n. n ≡ types_of.known_number types.new (rows.Ptr number)) }
+    ensures inside { IfOk result (λ n. n < length types.new.types) }
+    ensures grown { OnOk result (types.new ≡ table.type_added types.old (rows.Ptr number)) }
+{
+    // it has each type once
+    let _model = types.model();
+    match next_pointer(types, number) {
+        Some(next) => Ok(next),
+        None => add_row(types, Ty::Ptr(number)),
+    }
+}
+
+// The number of the pointer to a type, where it is in the table.
+fn known_pointer(types: &Types, number: u32) -> u32
+    ensures { result ≡ types_of.known_number types.now (rows.Ptr number) }
+{
+    let _model = types.model();
+    match next_pointer(types, number) {
+        Some(next) => next,
+        None => known_number(types, Ty::Ptr(number)),
     }
 }
 
@@ -94,7 +143,7 @@ pub fn add_type(types: &mut Types, c: CType) -> Result<(), Memory>
 {
     let mut number = add_base(types, c.base)?;
     for i in 0..c.stars {
-        number = add_row(types, Ty::Ptr(number))?;
+        number = add_pointer(types, number)?;
     }
     Ok(())
 }
@@ -116,7 +165,7 @@ pub fn type_number(types: &Types, c: CType) -> u32
 {
     let mut number = base_number(types, c.base);
     for i in 0..c.stars {
-        number = known_number(types, Ty::Ptr(number));
+        number = known_pointer(types, number);
     }
     number
 }
@@ -173,6 +222,7 @@ impl Env {
     {
         Ok(Env {
             types: copied_types(&self.types)?,
+            fields: self.fields.copy()?,
             scopes: self.scopes.copy()?,
             blocks: copied_blocks(self.alloc, &self.blocks)?,
             functions: self.functions.clone()?,

@@ -2,10 +2,12 @@
 #![tactic(auto)]
 
 mod env;
+mod fields;
 mod names;
 mod scopes;
 mod words;
 
 pub use env::{Env, FunctionType, add_type, type_number};
+pub use fields::{FieldNames, Fields};
 pub use names::{mention_name, mention_words, named, named_type, words_type};
 pub use scopes::{Mark, Meaning, Scope, Scopes};

@@ -60,12 +60,18 @@ impl Scope {
     fn name(&self, name: &[u8]) -> Option<Meaning>
         ensures { option_map view.meaning result ≡ rule.entry name.now (view.scope self.now).names }
     {
+        if self.names.is_empty() {
+            return None;
+        }
         self.names.get(name).copied()
     }
 
     fn tag(&self, tag: &[u8]) -> Option<u32>
         ensures { result ≡ rule.entry tag.now (view.scope self.now).tags }
     {
+        if self.tags.is_empty() {
+            return None;
+        }
         self.tags.get(tag).copied()
     }
 
@@ -143,25 +149,27 @@ fn block_of(meaning: Meaning) -> Option<u32>
 fn look_up(scopes: &[Scope], name: &[u8]) -> Option<Meaning>
     ensures { option_map view.meaning result ≡ rule.look_up name.now (view.stacked [] scopes.now) }
 {
-    let mut found = None;
-    for scope in scopes {
-        if let Some(meaning) = scope.name(name) {
-            found = Some(meaning);
+    let mut left = scopes.len();
+    'outward: while left > 0 {
+        left -= 1;
+        if let Some(meaning) = scopes[left].name(name) {
+            return Some(meaning);
         }
     }
-    found
+    None
 }
 
 fn look_up_tag(scopes: &[Scope], tag: &[u8]) -> Option<u32>
     ensures { result ≡ rule.look_up_tag tag.now (view.stacked [] scopes.now) }
 {
-    let mut found = None;
-    for scope in scopes {
-        if let Some(number) = scope.tag(tag) {
-            found = Some(number);
+    let mut left = scopes.len();
+    'outward: while left > 0 {
+        left -= 1;
+        if let Some(number) = scopes[left].tag(tag) {
+            return Some(number);
         }
     }
-    found
+    None
 }
 
 fn copied_scopes(alloc: Global, scopes: &[Scope]) -> Result<Vec<Scope>, AllocError>

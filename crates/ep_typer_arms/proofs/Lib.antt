@@ -6,5 +6,6 @@ pub mod Gathering
 pub mod WholeArms
 pub mod Spellings
 pub mod ParameterTypes
+pub mod ConstantBounds
 pub mod SpelledTypes
 pub mod SpelledHeads

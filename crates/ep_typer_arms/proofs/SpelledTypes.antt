@@ -3,12 +3,12 @@ use Rattle.std.proofs.Common.{◌≡◌, ◌==◌, ℕ, ◌+◌, Bool, true, fal
 use Rattle.std.proofs.Common.{map, find, Option, Some, None, Ok, Err, refl, sym, ap, ◌∙◌, subst, ◌⊎◌, inl, inr}
 use Rattle.std.proofs.Common.{bytes_eq}
 use Rattle.ep_ast.specs.Expression as source
-use Rattle.ep_ast.specs.Expression.{TypeWord}
+use Rattle.ep_ast.specs.Expression.{TypeName, TypeWord}
 use Rattle.ep_ast.specs.Declaration.{Aggregate, Head, Members, Param, Spec, aggregate, body, plain, to_specs}
 use Rattle.ep_ast.specs.Mark.{union_word}
 use Rattle.ep_int.specs.declared.types.Model.{Model}
 use Rattle.ep_layout.specs.declared.types.LayoutStop.{LayoutStop}
-use Rattle.ep_layout.specs.Table.{Grows, Table, completed_with, is_union}
+use Rattle.ep_layout.specs.Table.{Grows, Table, completed_with, is_union, members_stop}
 use Rattle.ep_layout.specs.SameTypes.{is_same_sign}
 use Rattle.ep_layout.proofs.Basics.{grows-trans}
 use Rattle.ep_layout.proofs.Recursion.{kept_by_itself}
@@ -18,13 +18,14 @@ use Rattle.ep_typing.specs.declared.types.CType.{CType}
 use Rattle.ep_typing.specs.Constant.{count_of}
 use Rattle.ep_typing.specs.Env.{Env, Meaning, Scope, entry, first_of, look_up, look_up_tag, variable}
 use Rattle.ep_typing.specs.Names.{built_in_types, integer_of, is_whole, meant_tag, meant_type, mentioned}
-use Rattle.ep_typing.specs.Names.{mentioned_words, of_whole, words_type}
+use Rattle.ep_typing.specs.Names.{mentioned_words, named_type, of_whole, words_type}
 use Rattle.ep_typing.specs.Operand.{Operand, value, value_of}
-use Rattle.ep_typing.specs.Parts.{numbered}
 use Rattle.ep_typing.specs.Results.{at}
-use Rattle.ep_typing.specs.Rules.{Means, is_number}
+use Rattle.ep_typing.specs.Rules.{Means}
 use Rattle.ep_typing.specs.Types.{int_type, is_aggregate, is_void, whole, with_c_type, with_stars}
-use Rattle.ep_elaboration.specs.Aggregates.{Named, body_of, closed, opened, tags_here}
+use Rattle.ep_typing.proofs.Order.{bind_ok, ok_is}
+use Rattle.ep_elaboration.specs.Aggregates.{Named, body_of, closed, closed_with, members_in, opened, tags_here}
+use Rattle.ep_elaboration.specs.Aggregates.{with_fields}
 use Rattle.ep_elaboration.specs.Aggregates as aggregates
 use Rattle.ep_elaboration.specs.Declarators.{counted, name_in, with_types}
 use Rattle.ep_elaboration.specs.DeclaratorRules.{MeansBody, MeansBound, MeansBounds, MeansSpecs, MeansWords, has_body}
@@ -46,7 +47,8 @@ use Rattle.ep_well_formed_laws.proofs.Scopes.{HaveNames, entry_behind, entry_fro
 use Rattle.ep_well_formed_laws.proofs.Specs.{fine_is, specified, words_specified}
 use Rattle.ep_well_formed_laws.proofs.Tests.{after, needed_is, unless}
 use Rattle.ep_typer_arms.specs.Spelled.{AreBounds, AreCounts, AreSpelled, HasTag, IsBodyOf, IsBoundOf, IsCount, IsSpelled}
-use Rattle.ep_typer_arms.specs.Spelled.{IsSpelledParam, IsSpelledResult, Spelling, by_body, by_words, first_body, is_count}
+use Rattle.ep_typer_arms.specs.Spelled.{IsSpelledParam, IsSpelledResult, Spelling, by_body, by_words, first_body}
+use Rattle.ep_typer_arms.proofs.ConstantBounds.{same_meant}
 use Rattle.ep_typer_arms.proofs.ParameterTypes.{AreMadeAt, IsMadeAt, all_made_before, made_later}
 
 -- ---- what a parameter's name hides
@@ -237,22 +239,33 @@ module _ (G : Env) where
 
   -- ---- bounds
 
-  counts_are : (K : Env) (e : source.Expr) (n k : ℕ) (x : Operand) → Inside K → IsCount G.types.model e k → Means K e x
+  same_named : (H : Env) → Inside H → (n : TypeName) (c d : CType) → named_type G n ≡ Ok c → named_type H n ≡ Ok d → c ≡ d
+  unfolding named_type
+  same_named H i n c d e f =
+      let p = bind_ok (words_type G n.words) _ c e in
+      let q = bind_ok (words_type H n.words) _ d f in
+      sym (ok_is (with_stars p.0 (length n.stars)) c p.2)
+      ∙ ap (λ (x : CType). with_stars x (length n.stars)) (sym (same_words H i n.words q.0 p.0 p.1 q.1))
+      ∙ ok_is (with_stars q.0 (length n.stars)) d q.2
+
+  counts_are : (K : Env) (e : source.Expr) (n k : ℕ) (x : Operand) → Inside K → IsCount G e k → Means K e x
       → counted (value_of K.types x) ≡ Ok n → n ≡ k
   unfolding value_of
-  counts_are K e n k x i (is_count {n = d} w) is_number q =
-      let same : numbered K.types.model d ≡ value w.0 = ap (λ (m : Model). numbered m d) i.grows.model ∙ w.1 in
-      let read : counted (value_of K.types (value w.0)) ≡ Ok n =
+  counts_are K e n k x i c m q =
+      let s = same_meant G K i.grows (same_named K i) e c.operand x c.form c.means m in
+      let v = c.counted in
+      let same : x ≡ value v.0 = s.2 ∙ sym s.1 ∙ v.1 in
+      let read : counted (value_of K.types (value v.0)) ≡ Ok n =
       subst (λ (y : Operand). counted (value_of K.types y) ≡ Ok n) same q in
-      let both : Some n ≡ Some k = sym (needed_is 17 (count_of w.0) n read) ∙ w.2 in cc
+      let both : Some n ≡ Some k = sym (needed_is 17 (count_of v.0) n read) ∙ v.2 in cc
 
   bound_as : (H : Env) (l : ℕ) (b : Option source.Expr) (x : ℕ × Env) (k : ℕ) → Inside H → MeansBound H l b x
-      → IsBoundOf G.types.model b k → x.0 ≡ k
+      → IsBoundOf G b k → x.0 ≡ k
   bound_as H l b x k i (is_bound {e = e} y n m q) c =
       counts_are (mentioned H e) e n k y (inside_mentioned H (mentioned H e) i (expression_mentioned H e i.declared).mentions) c m q
 
   bounds_are : (H : Env) (l : ℕ) (bs : List (Option source.Expr)) (x : List ℕ × Env) (ns : List ℕ) → Inside H
-      → MeansBounds H l bs x → AreCounts G.types.model bs ns → x.0 ≡ ns
+      → MeansBounds H l bs x → AreCounts G bs ns → x.0 ≡ ns
   bounds_are H l bs x [] i no_bounds c = refl
   bounds_are H l bs x (n ∷ ns) i no_bounds c = absurd c
   bounds_are H l bs x [] i (more_bounds y z m k) c = absurd c
@@ -262,7 +275,7 @@ module _ (G : Env) where
       ∙ ap (λ (ks : List ℕ). n ∷ ks) (bounds_are y.1 l cs z ns J k c.1)
 
   param_bounds_are_spelled : (H : Env) (l : ℕ) (bs : List (Option source.Expr)) (x : Option (List ℕ) × Env)
-      (o : Option (List ℕ)) → Inside H → MeansParamBounds H l bs x → AreBounds G.types.model bs o → x.0 ≡ o
+      (o : Option (List ℕ)) → Inside H → MeansParamBounds H l bs x → AreBounds G bs o → x.0 ≡ o
   param_bounds_are_spelled H l bs x None i no_array s = refl
   param_bounds_are_spelled H l bs x (Some ns) i no_array s = absurd s
   param_bounds_are_spelled H l bs x None i (open_array y m) s = absurd s
@@ -382,14 +395,17 @@ module _ (G : Env) where
   bodied H ws (body b ∷ ss) a x (has_body c m) e =
       let same : b ≡ a = cc in subst (λ (y : Aggregate). MeansBody H [] y x) same m
 
-  closed_as : (H : Env) (a : ℕ) (ms : Named) (o : Option LayoutStop) (c : CType × Env) → closed H a ms o ≡ Ok c
+  closed_as : (H : Env) (a : ℕ) (u : Bool) (es : Named) (c : CType × Env) → closed H a u es ≡ Ok c
       → c.0 ≡ whole (bases.Aggregate a)
-  closed_as H a [] o c e = absurd cc
-  closed_as H a (m ∷ ms) (Some s) c e = absurd cc
-  closed_as H a (m ∷ ms) None c e =
-      let K : Env = record H { types = completed_with H.types a (m ∷ ms) } in
-      let d : CType = whole (bases.Aggregate a) in
-      sym (ap (λ (y : CType × Env). y.0) (fine_is {A = CType × Env} (d, record K { types = with_c_type K.types d }) c e))
+  closed_as H a u es c e = by (members_in es) (members_stop H.types u (members_in es)) e
+    where
+      by : (ms : List (List ℕ × ℕ)) (o : Option LayoutStop) → closed_with H a es ms o ≡ Ok c → c.0 ≡ whole (bases.Aggregate a)
+      by [] o q = absurd cc
+      by (m ∷ ms) (Some s) q = absurd cc
+      by (m ∷ ms) None q =
+          let K : Env = record H { types = completed_with H.types a (m ∷ ms); fields = with_fields H.fields a es } in
+          let d : CType = whole (bases.Aggregate a) in
+          sym (ap (λ (y : CType × Env). y.0) (fine_is {A = CType × Env} (d, record K { types = with_c_type K.types d }) c q))
 
   opened_as : (H : Env) (u : Bool) (t : List ℕ) (a : ℕ) (o : ℕ × Env) → entry t (innermost H.scopes).tags ≡ Some a
       → opened H [] u (Some t) ≡ Ok o → o.0 ≡ a
@@ -413,7 +429,7 @@ module _ (G : Env) where
       → x.0 ≡ whole (bases.Aggregate a)
   tagged_body H l w t ms a x e (is_body o y c p q r) n =
       let here = subst (λ (us : List Scope). entry t (innermost us).tags ≡ Some a) (sym e) n in
-      closed_as y.1 o.0 y.0 _ x r ∙ ap (λ (j : ℕ). whole (bases.Aggregate j)) (opened_as H _ t a o here p)
+      closed_as y.1 o.0 (w == union_word) y.0 x r ∙ ap (λ (j : ℕ). whole (bases.Aggregate j)) (opened_as H _ t a o here p)
 
   body_is : (H : Env) (ss : List Spec) (a : ℕ) (x : CType × Env) → H.scopes ≡ G.scopes → MeansSpecs H [] [] (to_specs ss) x
       → IsBodyOf G ss a → x.0 ≡ whole (bases.Aggregate a)

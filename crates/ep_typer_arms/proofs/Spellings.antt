@@ -3,13 +3,11 @@ use Rattle.std.proofs.Common.{◌≡◌, ℕ, ◌+◌, ◌<◌, ◌≤◌, true,
 use Rattle.std.proofs.Common.{Option, Some, None, IfSome, option_map, refl, sym, ap, ◌∙◌, subst, arith}
 use Rattle.std.proofs.lemmas.List.{drop_all}
 use Rattle.ep_int.proofs.Basics.{append-assoc, drop-here}
-use Rattle.ep_int.specs.declared.types.Model.{Model}
 use Rattle.ep_ast.specs.declared.declarations.HeadTree.{HeadTree}
 use Rattle.ep_ast.specs.declared.declarations.ParamTree.{ParamTree}
 use Rattle.ep_ast.specs.declared.declarations.SpecTree.{SpecTree}
 use Rattle.ep_ast.specs.declared.declarations.SpecTree.TheVariants.{Plain}
 use Rattle.ep_ast.specs.declared.expressions.ExprTree.{ExprTree}
-use Rattle.ep_ast.specs.declared.expressions.Literal.{Literal}
 use Rattle.ep_ast.specs.declared.expressions.TypeWordTree.{TypeWordTree}
 use Rattle.ep_ast.specs.Declaration.{Members, Spec, aggregate, body, head_of, param_of, plain}
 use Rattle.ep_ast.specs.Declaration.{spec_of}
@@ -22,70 +20,68 @@ use Rattle.ep_typing.specs.declared.types.Base.TheVariants as bases
 use Rattle.ep_typing.specs.declared.types.CType.{CType}
 use Rattle.ep_typing.specs.Constant.{count_of}
 use Rattle.ep_typing.specs.Env.{Env}
-use Rattle.ep_typing.specs.Parts.{numbered}
 use Rattle.ep_typing.specs.Types.{is_same, whole, with_stars}
 use Rattle.ep_typing.specs.SameTypes.{same_types}
 use Rattle.ep_typer_arms.specs.Spelled.{AreBounds, AreCounts, HasTag, IsBodyOf, IsBoundOf, IsSpelled, IsSpelledParam}
 use Rattle.ep_typer_arms.specs.SpelledView.{bounds_of}
-use Rattle.ep_typer_arms.specs.Spelled.{IsTagOf, IsWritten, SpellAlike, SpellOne, Spelling, by_body}
+use Rattle.ep_typer_arms.specs.Spelled.{IsCounted, IsTagOf, SpellAlike, SpellOne, Spelling, by_body}
 use Rattle.ep_typer_arms.specs.Spelled.{IsSpelledResult, by_words, first_body}
 
 -- ---- bounds
 
 -- counts of the bounds that are left make counts of all
-abbrev pub RestCounts : Model → ℕ → List (Option ExprTree) → List ℕ → Type 0
-RestCounts m i bs done =
-    (ns : List ℕ) → AreCounts m (map (option_map expr) (drop i bs)) ns → AreCounts m (map (option_map expr) bs) (done ++ ns)
+abbrev pub RestCounts : Env → ℕ → List (Option ExprTree) → List ℕ → Type 0
+RestCounts G i bs done =
+    (ns : List ℕ) → AreCounts G (map (option_map expr) (drop i bs)) ns → AreCounts G (map (option_map expr) bs) (done ++ ns)
 
-pub one_count : (m : Model) (bs : List (Option ExprTree)) (i n : ℕ) (b : Option ExprTree) (old new : List ℕ)
-    → RestCounts m i bs old → i < length bs → b ≡ get_or bs i b → IsBoundOf m (option_map expr b) n → new ≡ old ++ n ∷ []
-    → RestCounts m (i + 1) bs new
-one_count m bs i n b old new rest l here is pushed ns counts =
+pub one_count : (G : Env) (bs : List (Option ExprTree)) (i n : ℕ) (b : Option ExprTree) (old new : List ℕ)
+    → RestCounts G i bs old → i < length bs → b ≡ get_or bs i b → IsBoundOf G (option_map expr b) n → new ≡ old ++ n ∷ []
+    → RestCounts G (i + 1) bs new
+one_count G bs i n b old new rest l here is pushed ns counts =
     let all = rest (n ∷ ns)
-    (subst (λ (us : List (Option ExprTree)). AreCounts m (map (option_map expr) us) (n ∷ ns)) (sym (drop-here i bs b b l here))
+    (subst (λ (us : List (Option ExprTree)). AreCounts G (map (option_map expr) us) (n ∷ ns)) (sym (drop-here i bs b b l here))
     (is, counts)) in
-    subst (AreCounts m (map (option_map expr) bs))
+    subst (AreCounts G (map (option_map expr) bs))
     (sym (append-assoc old (n ∷ []) ns) ∙ sym (ap (λ (ks : List ℕ). ks ++ ns) pushed)) all
 
-pub all_counts : (m : Model) (bs : List (Option ExprTree)) (i : ℕ) (done : List ℕ) → RestCounts m i bs done → length bs ≤ i
-    → AreCounts m (map (option_map expr) bs) done
-all_counts m bs i done rest l =
-    subst (AreCounts m (map (option_map expr) bs)) (no_more done)
-    (rest [] (subst (λ (us : List (Option ExprTree)). AreCounts m (map (option_map expr) us) []) (sym (drop_all i bs l)) tt))
+pub all_counts : (G : Env) (bs : List (Option ExprTree)) (i : ℕ) (done : List ℕ) → RestCounts G i bs done → length bs ≤ i
+    → AreCounts G (map (option_map expr) bs) done
+all_counts G bs i done rest l =
+    subst (AreCounts G (map (option_map expr) bs)) (no_more done)
+    (rest [] (subst (λ (us : List (Option ExprTree)). AreCounts G (map (option_map expr) us) []) (sym (drop_all i bs l)) tt))
   where
     no_more : (ns : List ℕ) → ns ++ [] ≡ ns
     no_more [] = refl
     no_more (n ∷ ns) = ap (λ (ks : List ℕ). n ∷ ks) (no_more ns)
 
-pub no_bound : (m : Model) (bs : List (Option ExprTree)) → length bs ≡ 0 → AreBounds m (map (option_map expr) bs) None
-no_bound m [] e = tt
-no_bound m (b ∷ bs) e = absurd (omega (arith, e))
+pub no_bound : (G : Env) (bs : List (Option ExprTree)) → length bs ≡ 0 → AreBounds G (map (option_map expr) bs) None
+no_bound G [] e = tt
+no_bound G (b ∷ bs) e = absurd (omega (arith, e))
 
-pub some_bounds : (m : Model) (bs rest : List (Option ExprTree)) (ns : List ℕ) → (length bs ≡ 0 → ⊥) → rest ≡ drop 1 bs
-    → AreCounts m (map (option_map expr) rest) ns
-    → AreBounds m (map (option_map expr) bs) (bounds_of (length bs) ns)
-some_bounds m [] rest ns e same c = absurd (e refl)
-some_bounds m (b ∷ bs) rest ns e same c =
-    subst (λ (us : List (Option ExprTree)). AreCounts m (map (option_map expr) us) ns) same c
+pub some_bounds : (G : Env) (bs rest : List (Option ExprTree)) (ns : List ℕ) → (length bs ≡ 0 → ⊥) → rest ≡ drop 1 bs
+    → AreCounts G (map (option_map expr) rest) ns
+    → AreBounds G (map (option_map expr) bs) (bounds_of (length bs) ns)
+some_bounds G [] rest ns e same c = absurd (e refl)
+some_bounds G (b ∷ bs) rest ns e same c =
+    subst (λ (us : List (Option ExprTree)). AreCounts G (map (option_map expr) us) ns) same c
 
--- a number as it is written
-pub written_is : (m k : Model) (n : Literal) (x : code.Operand) (v : Value) (r : Option ℕ) → k ≡ m
-    → operand x ≡ numbered k n → x ≡ operands.Value v → r ≡ count_of (value_view v) → IfSome r (IsWritten m n)
-written_is m k n x v None same e f c = tt
-written_is m k n x v (Some j) same e f c =
-    (value_view v, sym (ap (λ (a : Model). numbered a n) same) ∙ sym e ∙ ap operand f, sym c)
+-- a value that is a bound
+pub value_counted : (x : code.Operand) (v : Value) (r : Option ℕ) → x ≡ operands.Value v → r ≡ count_of (value_view v)
+    → IfSome r (IsCounted (operand x))
+value_counted x v None e f = tt
+value_counted x v (Some k) e f = (value_view v, ap operand e, sym f)
 
 -- ---- parameters
 
 pub spelled_tree : (G : Env) (t : ParamTree) (vs : List TypeWordTree) (ns : List ℕ) (bs : List (Option ExprTree))
     → vs ≡ t.specs.items → ns ≡ t.stars.items → bs ≡ t.bounds.items → (c : CType) (s : Spelling)
     → IsSpelled G (map type_word vs) (length ns) c → s.0 ≡ c
-    → AreBounds G.types.model (map (option_map expr) bs) s.1 → IsSpelledParam G (param_of t) s
+    → AreBounds G (map (option_map expr) bs) s.1 → IsSpelledParam G (param_of t) s
 spelled_tree G t vs ns bs words stars bounds c s spelled same counts = (
   subst (λ (ks : List ℕ). IsSpelled G (map type_word t.specs.items) (length ks) s.0) stars
       (subst (λ (us : List TypeWordTree). IsSpelled G (map type_word us) (length ns) s.0) words
       (subst (IsSpelled G (map type_word vs) (length ns)) (sym same) spelled)),
-  subst (λ (xs : List (Option ExprTree)). AreBounds G.types.model (map (option_map expr) xs) s.1) bounds counts,
+  subst (λ (xs : List (Option ExprTree)). AreBounds G (map (option_map expr) xs) s.1) bounds counts,
 )
 
 -- what is read off twice as one type

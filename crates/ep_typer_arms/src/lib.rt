@@ -3,6 +3,7 @@
 
 mod alike;
 mod arms;
+mod constants;
 mod heads;
 mod joining;
 mod spelled;

@@ -10,9 +10,10 @@ ghost use Rattle.ep_typing.specs.Types as types_of;
 ghost use Rattle.ep_typer_arms.specs.Spelled as rule;
 ghost use Rattle.ep_typer_arms.specs.SpelledView.{spelling as spelling_view};
 
-use ep_ast::{ExprTree, HeadTree, Literal, ParamTree, SpecTree, TypeWordTree};
+use crate::constants::counted;
+use ep_ast::{ExprTree, HeadTree, ParamTree, SpecTree, TypeWordTree};
 use ep_declared::copy_word;
-use ep_operands::{Operand, count_of, numbered, whole, with_stars};
+use ep_operands::{whole, with_stars};
 use ep_scopes::{Env, words_type};
 use ep_typer_functions::params_of;
 use ep_typing::{Base, CType};
@@ -39,28 +40,8 @@ fn spelled(env: &Env, words: &[TypeWordTree], stars: &[u32]) -> Option<CType>
     }
 }
 
-// A number as it is written, where it is a bound.
-fn written(env: &Env, n: Literal) -> Option<u32>
-    ensures { IfSome result (λ k. rule.IsWritten (env_view env.now).types.model n k) }
-{
-    match numbered(env.types.model(), n) {
-        Operand::Value(v) => count_of(&v),
-        Operand::Place(_, _) => None,
-        Operand::Function(_) => None,
-    }
-}
-
-fn counted(env: &Env, tree: &ExprTree) -> Option<u32>
-    ensures { IfSome result (λ k. rule.IsCount (env_view env.now).types.model (expr tree.now) k) }
-{
-    match tree {
-        ExprTree::Number(_, n) => written(env, *n),
-        _ => None,
-    }
-}
-
 fn count(env: &Env, bound: &Option<ExprTree>) -> Option<u32>
-    ensures { IfSome result (λ k. rule.IsBoundOf (env_view env.now).types.model (option_map expr bound.now) k) }
+    ensures { IfSome result (λ k. rule.IsBoundOf (env_view env.now) (option_map expr bound.now) k) }
 {
     match bound {
         None => None,
@@ -69,7 +50,7 @@ fn count(env: &Env, bound: &Option<ExprTree>) -> Option<u32>
 }
 
 fn counts(env: &Env, bounds: &[Option<ExprTree>]) -> Option<Vec<u32>>
-    ensures { IfSome result (λ v. rule.AreCounts (env_view env.now).types.model
+    ensures { IfSome result (λ v. rule.AreCounts (env_view env.now)
         (map (option_map expr) bounds.now) v.items) }
 {
     let mut all = Vec::new(env.alloc);
@@ -92,7 +73,7 @@ fn behind_first(bounds: &[Option<ExprTree>]) -> &[Option<ExprTree>]
 // The bounds of a parameter but for the first, if there is one.
 fn with_bounds(env: &Env, ty: CType, bounds: &[Option<ExprTree>]) -> Option<Spelling>
     ensures ty { IfSome result (λ s. s.ty ≡ ty) }
-    ensures bounds { IfSome result (λ s. rule.AreBounds (env_view env.now).types.model
+    ensures bounds { IfSome result (λ s. rule.AreBounds (env_view env.now)
         (map (option_map expr) bounds.now) (spelling_view s).1) }
 {
     if bounds.len() == 0 {

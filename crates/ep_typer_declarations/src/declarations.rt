@@ -15,7 +15,7 @@ ghost use Rattle.ep_typer_declarations.specs.View as view;
 use crate::made::Made;
 use ep_ast::{DeclarationTree, Halt, InitTree, ValueTree};
 use ep_declared::{Object, object_declared, specs_declared};
-use ep_given::{Given, cleared, count_listed, value_given};
+use ep_given::{Given, cleared, count_listed, first_given};
 use ep_scopes::Env;
 use ep_typing::CType;
 
@@ -38,7 +38,7 @@ fn initialised(
     match value {
         None => Ok(Given::new(env.alloc)),
         Some(v) => {
-            let given = value_given(env, global, may_call, line, x, v)?;
+            let given = first_given(env, global, may_call, line, x, v)?;
             let given = cleared(env.alloc, &env.types, x, v, given)?;
             Ok(given)
         }

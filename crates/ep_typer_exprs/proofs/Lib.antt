@@ -1,2 +1,4 @@
 pub mod WalkLemmas
 pub mod MentionLemmas
+pub mod Halts
+pub mod FieldLemmas

@@ -1,6 +1,6 @@
 -- What expressions one after another declare.
-use Rattle.std.proofs.Common.{◌≡◌, ℕ, ◌+◌, ◌<◌, ◌≤◌, length, List, [], ◌∷◌, map, drop, get_or, Result, Ok, Err, OnOk}
-use Rattle.std.proofs.Common.{refl, sym, ap, ◌∙◌}
+use Rattle.std.proofs.Common.{◌≡◌, ℕ, ◌+◌, ◌<◌, ◌≤◌, length, List, map, drop, get_or, Result, Ok, Err, OnOk}
+use Rattle.std.proofs.Common.{sym, ap, ◌∙◌}
 use Rattle.std.specs.Global.{Box, Vec}
 use Rattle.std.proofs.lemmas.List.{drop_all}
 use Rattle.ep_ast.specs.declared.expressions.ExprTree.{ExprTree, Call}

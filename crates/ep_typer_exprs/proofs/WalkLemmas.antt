@@ -20,7 +20,7 @@ use Rattle.ep_typing.specs.Env.{Env}
 use Rattle.ep_typing.specs.Operand.{Operand, Value, value_of}
 use Rattle.ep_typing.specs.Results.{◌>>=◌, at}
 use Rattle.ep_typing.specs.Typing.{callee, typed, typed_all}
-use Rattle.ep_operands.specs.Refinement.{Refines, Stops}
+use Rattle.ep_operands.specs.Refinement.{Stops}
 
 pub call_tree : (l : ℕ) (p : Box ExprTree) (list : Vec ExprTree)
     → source.expr (Call l p list) ≡ source.call l (source.expr p.value) (source.to_exprs (map source.expr list.items))

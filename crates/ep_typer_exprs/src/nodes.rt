@@ -15,7 +15,7 @@ use ep_ast::{Halt, Mark, RefusalKind};
 use ep_comparisons::chosen;
 use ep_operands::{Operand, Value, refused, value_of};
 use ep_operators::operated;
-use ep_places::{casted, indexed, is_mark, selected_through, sized, type_sized};
+use ep_places::{casted, indexed, is_mark, sized, type_sized};
 use ep_scopes::{Env, named};
 use ep_typing::CType;
 
@@ -113,21 +113,6 @@ pub(crate) fn indexed_by(env: &Env, line: u32, x: Operand, index: Operand) -> Re
 {
     let v = valued(env, line, index)?;
     indexed(env.alloc, &env.types, line, x, v)
-}
-
-/// A member through a pointer.
-#[tactic(auto, unfolding(ep_typing::specs::Typing::selected_behind))]
-pub(crate) fn selected_behind(
-    env: &Env,
-    line: u32,
-    x: Operand,
-    name: &[u8],
-) -> Result<Operand, Halt>
-    ensures { Refines view.operand
-        (at line (rule.selected_behind (env_view env.now).types (view.operand x) name.now)) result }
-{
-    let v = valued(env, line, x)?;
-    selected_through(env.alloc, &env.types, line, v, name)
 }
 
 /// `sizeof` of an operand.

@@ -2,21 +2,24 @@
 
 ghost use Rattle.std.specs.Prelude.{◌≡◌, map, OnOk};
 ghost use Rattle.ep_ast.specs.Expression as source;
+ghost use Rattle.ep_ast.specs.Mark.{mark_number};
 ghost use Rattle.ep_typing.specs.Names.{mentioned};
 ghost use Rattle.ep_typing.specs.Typing as rule;
 ghost use Rattle.ep_operands.specs.Refinement.{Refines};
 ghost use Rattle.ep_operands.specs.View as view;
 ghost use Rattle.ep_scopes.specs.Known.{IsKnownEnv};
 ghost use Rattle.ep_scopes.specs.View.{env as env_view};
+ghost use Rattle.ep_typer_exprs.specs.Behind as behind;
 
+use crate::fields::{selected_behind, selected_in};
 use crate::mentions::mention;
 use crate::nodes::{
-    cast_to, chosen_from, indexed_by, joined, named_uncalled, read_first, selected_behind, size_of,
-    size_of_type, valued,
+    cast_to, chosen_from, indexed_by, joined, named_uncalled, read_first, size_of, size_of_type,
+    valued,
 };
-use ep_ast::{ExprTree, Halt, RefusalKind};
+use ep_ast::{ExprTree, Halt, Mark, RefusalKind, TypeNameTree};
 use ep_operands::{Operand, Value, numbered, refused};
-use ep_places::{indexable, selected, unary_typed};
+use ep_places::{indexable, unary_typed};
 use ep_scopes::{Env, named, named_type};
 
 /// What an expression stands for, where the environment has what it mentions.
@@ -26,48 +29,107 @@ pub fn typed(env: &Env, tree: &ExprTree) -> Result<Operand, Halt>
     ensures { Refines view.operand (rule.typed (env_view env.now) (source.expr tree.now)) result }
 {
     match tree {
-        ExprTree::Assign(line, mark, a, b) => {
-            read_first(env, *line, *mark, typed(env, a)?)?;
-            typed(env, b)?;
-            Err(refused(RefusalKind::AssignmentInExpression, *line))
-        }
+        ExprTree::Assign(line, mark, a, b) => assigned(env, *line, *mark, typed(env, a)?, b),
         ExprTree::Conditional(line, test, a, b) => {
             let test = valued(env, *line, typed(env, test)?)?;
-            let yes = valued(env, *line, typed(env, a)?)?;
-            chosen_from(env, *line, test, yes, typed(env, b)?)
+            chosen(env, *line, test, typed(env, a)?, b)
         }
-        ExprTree::Binary(line, mark, a, b) => {
-            let left = valued(env, *line, typed(env, a)?)?;
-            joined(env, *line, *mark, left, typed(env, b)?)
-        }
-        ExprTree::Cast(line, name, a) => {
-            let c = named_type(env, name)?;
-            cast_to(env, *line, c, typed(env, a)?)
-        }
+        ExprTree::Binary(line, mark, a, b) => combined(env, *line, *mark, typed(env, a)?, b),
+        ExprTree::Cast(line, name, a) => cast(env, *line, name, a),
         ExprTree::Step(line, _, a) => stepped(env, *line, a),
-        ExprTree::Unary(line, mark, a) => {
-            unary_typed(env.alloc, &env.types, *line, *mark, typed(env, a)?)
-        }
-        ExprTree::SizeofExpr(line, a) => size_of(env, *line, typed(env, a)?),
+        ExprTree::Unary(line, mark, a) => prefixed(env, *line, *mark, a),
+        ExprTree::SizeofExpr(line, a) => measured(env, *line, a),
         ExprTree::SizeofType(line, name) => size_of_type(env, *line, named_type(env, name)?),
-        ExprTree::Index(line, a, b) => {
-            let x = indexable(env.alloc, &env.types, *line, typed(env, a)?)?;
-            indexed_by(env, *line, x, typed(env, b)?)
-        }
+        ExprTree::Index(line, a, b) => element(env, *line, typed(env, a)?, b),
         ExprTree::Call(line, f, list) => {
             callee(env, f)?;
             typed_all(env, *line, list)?;
             Err(refused(RefusalKind::CallInExpression, *line))
         }
-        ExprTree::Member(line, a, name) => {
-            selected(env.alloc, &env.types, *line, typed(env, a)?, name)
-        }
-        ExprTree::Arrow(line, a, name) => selected_behind(env, *line, typed(env, a)?, name),
+        ExprTree::Member(line, a, name) => selected_in(env, *line, typed(env, a)?, name),
+        ExprTree::Arrow(line, a, name) => pointed(env, *line, a, name),
         ExprTree::PostIncrement(line, a) => stepped(env, *line, a),
         ExprTree::PostDecrement(line, a) => stepped(env, *line, a),
         ExprTree::Id(line, name) => named_uncalled(env, *line, name),
         ExprTree::Number(_, n) => Ok(numbered(env.types.model(), *n)),
     }
+}
+
+// What comes behind the first operand stands in functions of its own: its values would else have room in the frame of
+// each call, and a call clears its frame.
+
+#[cycle(walk)]
+fn assigned(env: &Env, line: u32, mark: Mark, x: Operand, b: &ExprTree) -> Result<Operand, Halt>
+    ensures { Refines view.operand (behind.assigned (env_view env.now) line (mark_number mark) (view.operand x)
+        (source.expr b.now)) result }
+{
+    read_first(env, line, mark, x)?;
+    typed(env, b)?;
+    Err(refused(RefusalKind::AssignmentInExpression, line))
+}
+
+#[cycle(walk)]
+fn chosen(env: &Env, line: u32, test: Value, x: Operand, b: &ExprTree) -> Result<Operand, Halt>
+    ensures { Refines view.operand (behind.chosen (env_view env.now) line (view.value test) (view.operand x)
+        (source.expr b.now)) result }
+{
+    let yes = valued(env, line, x)?;
+    chosen_from(env, line, test, yes, typed(env, b)?)
+}
+
+#[cycle(walk)]
+fn combined(env: &Env, line: u32, mark: Mark, x: Operand, b: &ExprTree) -> Result<Operand, Halt>
+    ensures { Refines view.operand (behind.combined (env_view env.now) line (mark_number mark) (view.operand x)
+        (source.expr b.now)) result }
+{
+    let left = valued(env, line, x)?;
+    joined(env, line, mark, left, typed(env, b)?)
+}
+
+#[cycle(walk)]
+#[tactic(auto, unfolding(ep_typing::specs::Typing::typed))]
+fn cast(env: &Env, line: u32, name: &TypeNameTree, a: &ExprTree) -> Result<Operand, Halt>
+    ensures { Refines view.operand (rule.typed (env_view env.now)
+        (source.cast line (source.type_name name.now) (source.expr a.now))) result }
+{
+    let c = named_type(env, name)?;
+    cast_to(env, line, c, typed(env, a)?)
+}
+
+#[cycle(walk)]
+#[tactic(auto, unfolding(ep_typing::specs::Typing::typed))]
+fn prefixed(env: &Env, line: u32, mark: Mark, a: &ExprTree) -> Result<Operand, Halt>
+    ensures { Refines view.operand (rule.typed (env_view env.now)
+        (source.unary line (mark_number mark) (source.expr a.now))) result }
+{
+    unary_typed(env.alloc, &env.types, line, mark, typed(env, a)?)
+}
+
+#[cycle(walk)]
+#[tactic(auto, unfolding(ep_typing::specs::Typing::typed))]
+fn measured(env: &Env, line: u32, a: &ExprTree) -> Result<Operand, Halt>
+    ensures { Refines view.operand (rule.typed (env_view env.now)
+        (source.sizeof_expr line (source.expr a.now))) result }
+{
+    size_of(env, line, typed(env, a)?)
+}
+
+#[cycle(walk)]
+fn element(env: &Env, line: u32, x: Operand, b: &ExprTree) -> Result<Operand, Halt>
+    ensures { Refines view.operand
+        (behind.element (env_view env.now) line (view.operand x) (source.expr b.now)) result }
+{
+    let x = indexable(env.alloc, &env.types, line, x)?;
+    indexed_by(env, line, x, typed(env, b)?)
+}
+
+#[cycle(walk)]
+#[tactic(auto, unfolding(ep_typing::specs::Typing::typed))]
+fn pointed(env: &Env, line: u32, a: &ExprTree, name: &[u8]) -> Result<Operand, Halt>
+    ensures { Refines view.operand (rule.typed (env_view env.now)
+        (source.arrow line (source.expr a.now) name.now)) result }
+{
+    selected_behind(env, line, typed(env, a)?, name)
 }
 
 /// What is called: a function by its name, or what another expression stands for.

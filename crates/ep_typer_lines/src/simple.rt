@@ -1,12 +1,14 @@
 //! Tests, expressions as statements, jumps and returns.
 
-ghost use Rattle.std.specs.Prelude.{◌≡◌, Bool, OnOk};
+ghost use Rattle.std.specs.Prelude.{◌≡◌, Bool, OnOk, true, false, unwrap_or};
 ghost use Rattle.std.specs.Option.{option_map};
 ghost use Rattle.ep_ast.specs.Expression as source;
 ghost use Rattle.ep_ast.specs.Statement as shape;
 ghost use Rattle.ep_core.specs.View.{expr_view, what_view};
-ghost use Rattle.ep_typing.specs.Results.{at};
+ghost use Rattle.ep_typing.specs.Results.{at, on_statement};
+ghost use Rattle.ep_typing.specs.Typing as typing;
 ghost use Rattle.ep_declared.specs.Refinement.{RefinesIn};
+ghost use Rattle.ep_elaboration.specs.FieldStatements.{field_statement};
 ghost use Rattle.ep_elaboration.specs.Statements as rule;
 ghost use Rattle.ep_operands.specs.Refinement.{Refines};
 ghost use Rattle.ep_operands.specs.View as operands;
@@ -18,18 +20,18 @@ use crate::nodes::one_line;
 use crate::scoping::enter;
 use ep_ast::{ExprTree, Halt, RefusalKind};
 use ep_core::tree::{Expr, Stmt, What};
+use ep_field_statements::field_statement;
 use ep_int::IntType;
 use ep_layout::Types;
-use ep_operands::{Operand, fitted, is_void, refused, value_of};
+use ep_operands::{Operand, at_statement, fitted, is_void, refused, value_of};
 use ep_scopes::Env;
 use ep_typer_effects::{test, whole_statement};
 use ep_typer_exprs::{mention, typed};
 use ep_typing::CType;
 use std::alloc::Global;
 
-/// The test of an `if` or a loop.
 #[tactic(auto, unfolding(ep_elaboration::specs::Statements::tested_in))]
-pub fn tested_in(env: &mut Env, tree: &ExprTree) -> Result<Expr, Halt>
+fn tested(env: &mut Env, tree: &ExprTree) -> Result<Expr, Halt>
     requires { IsKnownEnv (env_view env.old) }
     ensures means { RefinesIn expr_view (rule.tested_in (env_view env.old) (source.expr tree.now))
         (env_view env.new) result }
@@ -40,62 +42,110 @@ pub fn tested_in(env: &mut Env, tree: &ExprTree) -> Result<Expr, Halt>
     Ok(w)
 }
 
-/// The same in a scope of its own, which stays open.
-pub fn tested_inside(env: &mut Env, tree: &ExprTree) -> Result<Expr, Halt>
+/// The test of an `if` or a loop on this line.
+pub fn tested_in(env: &mut Env, line: u32, tree: &ExprTree) -> Result<Expr, Halt>
     requires { IsKnownEnv (env_view env.old) }
-    ensures means { RefinesIn expr_view (rule.tested_in (rule.entered (env_view env.old)) (source.expr tree.now))
+    ensures means { RefinesIn expr_view
+        (on_statement line (rule.tested_in (env_view env.old) (source.expr tree.now))) (env_view env.new) result }
+    ensures known { OnOk result (IsKnownEnv (env_view env.new)) }
+{
+    match tested(env, tree) {
+        Ok(w) => Ok(w),
+        Err(halt) => Err(at_statement(line, halt)),
+    }
+}
+
+/// The same in a scope of its own, which stays open.
+pub fn tested_inside(env: &mut Env, line: u32, tree: &ExprTree) -> Result<Expr, Halt>
+    requires { IsKnownEnv (env_view env.old) }
+    ensures means { RefinesIn expr_view
+        (on_statement line (rule.tested_in (rule.entered (env_view env.old)) (source.expr tree.now)))
         (env_view env.new) result }
     ensures known { OnOk result (IsKnownEnv (env_view env.new)) }
 {
     enter(env)?;
-    let w = tested_in(env, tree)?;
+    let w = tested_in(env, line, tree)?;
     Ok(w)
 }
 
-/// The test of a `for`.
+/// The test of a `for` on this line.
 #[tactic(auto, unfolding(ep_elaboration::specs::Statements::tested_if))]
-pub fn tested_if(env: &mut Env, tree: &Option<ExprTree>) -> Result<Expr, Halt>
+pub fn tested_if(env: &mut Env, line: u32, tree: &Option<ExprTree>) -> Result<Expr, Halt>
     requires { IsKnownEnv (env_view env.old) }
-    ensures means { RefinesIn expr_view (rule.tested_if (env_view env.old) (option_map source.expr tree.now))
+    ensures means { RefinesIn expr_view
+        (on_statement line (rule.tested_if (env_view env.old) (option_map source.expr tree.now)))
         (env_view env.new) result }
     ensures known { OnOk result (IsKnownEnv (env_view env.new)) }
 {
     match tree {
         None => Ok(Expr::Const(IntType::I32, 1)),
-        Some(e) => tested_in(env, e),
+        Some(e) => tested_in(env, line, e),
     }
 }
 
-/// An expression as a statement.
+// An expression as a whole statement: one with a bit-field, or any other.
+fn whole(env: &Env, may_call: bool, line: u32, tree: &ExprTree) -> Result<What, Halt>
+    ensures { Refines what_view (unwrap_or (field_statement (env_view env.now) line (source.expr tree.now))
+        (typing.whole_statement (env_view env.now) may_call (source.expr tree.now))) result }
+{
+    match field_statement(env, line, tree)? {
+        Some(what) => Ok(what),
+        None => whole_statement(env, may_call, tree),
+    }
+}
+
 #[tactic(auto, unfolding(ep_elaboration::specs::Statements::evaluated_in))]
-pub fn evaluated_in(
-    env: &mut Env,
-    may_call: bool,
-    line: u32,
-    tree: &ExprTree,
-) -> Result<Vec<Stmt>, Halt>
+fn evaluated(env: &mut Env, may_call: bool, line: u32, tree: &ExprTree) -> Result<Vec<Stmt>, Halt>
     requires { IsKnownEnv (env_view env.old) }
     ensures means { RefinesIn lines_view (rule.evaluated_in (env_view env.old) may_call line (source.expr tree.now))
         (env_view env.new) result }
     ensures known { OnOk result (IsKnownEnv (env_view env.new)) }
 {
     mention(env, tree)?;
-    let what = whole_statement(env, may_call, tree)?;
+    let what = whole(env, may_call, line, tree)?;
     let lines = one_line(env.alloc, line, what)?;
     Ok(lines)
 }
 
-/// An outer part of a `for`.
-#[tactic(auto, unfolding(ep_elaboration::specs::Statements::evaluated_if))]
-pub fn evaluated_if(env: &mut Env, tree: &Option<ExprTree>) -> Result<Vec<Stmt>, Halt>
+/// An expression as a statement of this line.
+pub fn evaluated_in(env: &mut Env, line: u32, tree: &ExprTree) -> Result<Vec<Stmt>, Halt>
     requires { IsKnownEnv (env_view env.old) }
-    ensures means { RefinesIn lines_view (rule.evaluated_if (env_view env.old) (option_map source.expr tree.now))
+    ensures means { RefinesIn lines_view
+        (on_statement line (rule.evaluated_in (env_view env.old) true line (source.expr tree.now)))
+        (env_view env.new) result }
+    ensures known { OnOk result (IsKnownEnv (env_view env.new)) }
+{
+    match evaluated(env, true, line, tree) {
+        Ok(lines) => Ok(lines),
+        Err(halt) => Err(at_statement(line, halt)),
+    }
+}
+
+fn evaluated_outside(env: &mut Env, line: u32, tree: &ExprTree) -> Result<Vec<Stmt>, Halt>
+    requires { IsKnownEnv (env_view env.old) }
+    ensures means { RefinesIn lines_view
+        (on_statement line (rule.evaluated_in (env_view env.old) false (source.line_of (source.expr tree.now))
+        (source.expr tree.now))) (env_view env.new) result }
+    ensures known { OnOk result (IsKnownEnv (env_view env.new)) }
+{
+    match evaluated(env, false, tree.line(), tree) {
+        Ok(lines) => Ok(lines),
+        Err(halt) => Err(at_statement(line, halt)),
+    }
+}
+
+/// An outer part of a `for` on this line. What it does stands on a line of its own.
+#[tactic(auto, unfolding(ep_elaboration::specs::Statements::evaluated_if))]
+pub fn evaluated_if(env: &mut Env, line: u32, tree: &Option<ExprTree>) -> Result<Vec<Stmt>, Halt>
+    requires { IsKnownEnv (env_view env.old) }
+    ensures means { RefinesIn lines_view
+        (on_statement line (rule.evaluated_if (env_view env.old) (option_map source.expr tree.now)))
         (env_view env.new) result }
     ensures known { OnOk result (IsKnownEnv (env_view env.new)) }
 {
     match tree {
         None => Ok(Vec::new(env.alloc)),
-        Some(e) => evaluated_in(env, false, e.line(), e),
+        Some(e) => evaluated_outside(env, line, e),
     }
 }
 
@@ -150,6 +200,16 @@ fn operand_returned(
     value_returned(alloc, types, line, result_type, x)
 }
 
+fn typed_on(env: &Env, line: u32, tree: &ExprTree) -> Result<Operand, Halt>
+    ensures { Refines operands.operand
+        (on_statement line (typing.typed (env_view env.now) (source.expr tree.now))) result }
+{
+    match typed(env, tree) {
+        Ok(x) => Ok(x),
+        Err(halt) => Err(at_statement(line, halt)),
+    }
+}
+
 /// A return.
 #[tactic(auto, unfolding(ep_elaboration::specs::Statements::statement))]
 pub fn returned(
@@ -171,7 +231,7 @@ pub fn returned(
         }
         Some(tree) => {
             mention(env, tree)?;
-            let x = typed(env, tree)?;
+            let x = typed_on(env, line, tree)?;
             let what = operand_returned(env.alloc, &env.types, line, result_type, x)?;
             let lines = one_line(env.alloc, line, what)?;
             Ok(lines)

@@ -14,11 +14,11 @@ use ep_scopes::Env;
 use ep_typer_declarations::declaration;
 use ep_typer_lines::{enter, evaluated_if};
 
-/// The first part of a `for`.
+/// The first part of a `for` on this line.
 #[tactic(auto, unfolding(ep_elaboration::specs::Statements::first_part))]
-fn first_part(env: &mut Env, first: &ForInitTree) -> Result<Vec<Stmt>, Halt>
+fn first_part(env: &mut Env, line: u32, first: &ForInitTree) -> Result<Vec<Stmt>, Halt>
     requires { IsKnownEnv (env_view env.old) }
-    ensures means { RefinesIn lines_view (rule.first_part (env_view env.old) (first_of first.now))
+    ensures means { RefinesIn lines_view (rule.first_part (env_view env.old) line (first_of first.now))
         (env_view env.new) result }
     ensures known { OnOk result (IsKnownEnv (env_view env.new)) }
 {
@@ -27,18 +27,18 @@ fn first_part(env: &mut Env, first: &ForInitTree) -> Result<Vec<Stmt>, Halt>
             let made = declaration(env, false, false, tree)?;
             Ok(made.lines)
         }
-        ForInitTree::Expr(tree) => evaluated_if(env, tree),
+        ForInitTree::Expr(tree) => evaluated_if(env, line, tree),
     }
 }
 
 /// The same in a scope of its own, which stays open.
-pub(crate) fn first_inside(env: &mut Env, first: &ForInitTree) -> Result<Vec<Stmt>, Halt>
+pub(crate) fn first_inside(env: &mut Env, line: u32, first: &ForInitTree) -> Result<Vec<Stmt>, Halt>
     requires { IsKnownEnv (env_view env.old) }
-    ensures means { RefinesIn lines_view (rule.first_part (rule.entered (env_view env.old)) (first_of first.now))
-        (env_view env.new) result }
+    ensures means { RefinesIn lines_view
+        (rule.first_part (rule.entered (env_view env.old)) line (first_of first.now)) (env_view env.new) result }
     ensures known { OnOk result (IsKnownEnv (env_view env.new)) }
 {
     enter(env)?;
-    let lines = first_part(env, first)?;
+    let lines = first_part(env, line, first)?;
     Ok(lines)
 }

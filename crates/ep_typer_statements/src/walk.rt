@@ -101,10 +101,10 @@ fn statement(
                 let lines = one_line(env.alloc, *line, What::Nothing)?;
                 Ok(lines)
             }
-            Some(e) => evaluated_in(env, true, *line, e),
+            Some(e) => evaluated_in(env, *line, e),
         },
         StmtTree::If(line, e, then, otherwise) => {
-            let test = tested_inside(env, e)?;
+            let test = tested_inside(env, *line, e)?;
             let a = inside(env, result_type, in_loop, then)?;
             match otherwise {
                 None => closed(env, *line, branched(test, a, Vec::new(env.alloc))),
@@ -160,7 +160,7 @@ fn while_loop(
         (shape.while_loop line (source.expr test.now) (shape.stmt_of turn.now))) (env_view env.new) result }
     ensures known { OnOk result (IsKnownEnv (env_view env.new)) }
 {
-    let test = tested_inside(env, test)?;
+    let test = tested_inside(env, line, test)?;
     let a = inside(env, result_type, true, turn)?;
     closed(env, line, looped(true, test, a, Vec::new(env.alloc)))
 }
@@ -182,7 +182,7 @@ fn do_loop(
     enter(env)?;
     let a = inside(env, result_type, true, turn)?;
     leave(env);
-    let test = tested_in(env, test)?;
+    let test = tested_in(env, line, test)?;
     leave(env);
     let what = looped(false, test, a, Vec::new(env.alloc));
     let lines = one_line(env.alloc, line, what)?;
@@ -204,9 +204,9 @@ fn for_loop(
         (option_map source.expr heading.now.next) (shape.stmt_of turn.now))) (env_view env.new) result }
     ensures known { OnOk result (IsKnownEnv (env_view env.new)) }
 {
-    let before = first_inside(env, &heading.first)?;
-    let test = tested_if(env, &heading.test)?;
-    let next = evaluated_if(env, &heading.next)?;
+    let before = first_inside(env, line, &heading.first)?;
+    let test = tested_if(env, line, &heading.test)?;
+    let next = evaluated_if(env, line, &heading.next)?;
     let a = inside(env, result_type, true, turn)?;
     leave(env);
     let blocks = blocks_here(env)?;

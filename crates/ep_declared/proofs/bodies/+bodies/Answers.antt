@@ -15,7 +15,6 @@ use Rattle.ep_elaboration.specs.Aggregates as rule
 use Rattle.ep_scopes.specs.View.{env}
 use Rattle.ep_declared.specs.Refinement.{RefinesIn}
 use Rattle.ep_declared.specs.Open.{AreTypes, IsAfter}
-use Rattle.ep_declared.specs.View as view
 use Rattle.ep_declared.proofs.BodyLemmas.{after_itself, after_ok, after_on, body_after, body_is, closed_stopped}
 use Rattle.ep_declared.proofs.BodyLemmas.{follows_on, members_stop_all, members_stopped, members_went, no_more_members}
 use Rattle.ep_declared.proofs.BodyLemmas.{only_words, same_word, specs_stop, still_open, still_there, then_closed}
@@ -96,13 +95,12 @@ all_members-loop-member-init t c = record {
   members = subst (AreTypes c.args.env.now.types) (sym c.new-named.ensures) refl;
 }
 
-pub all_members-members_declared-requires : goal.all_members-members_declared-requires
-all_members-members_declared-requires t c = record {
+pub all_members-entries_declared-requires : goal.all_members-entries_declared-requires
+all_members-entries_declared-requires t c = record {
   known = c.in_ok-c.ensures.after.known;
   inside = c.in_ok-c.ensures.inside;
   members = types_stay c.loop-member.env.types c.specs_inside.new.env.types
-      (more_types c.loop-member.env.types c.specs_inside.new.env.types c.in_ok-c.ensures.after.grown) (view.named
-      c.loop-member.named)
+      (more_types c.loop-member.env.types c.specs_inside.new.env.types c.in_ok-c.ensures.after.grown) c.loop-member.named
       c.loop-member.invariant.members;
 }
 
@@ -111,46 +109,46 @@ all_members-returns-in_err-c-clause-means t c =
     let p = err_from_is_err_and c.from_residual.result c.from_residual.ensures.1 in
     rw (p.1, p.2) (specs_stop c.loop-member.member-index c.args.members.now c.member-item.result
     c.loop-member-test.true c.member-item.is
-    (env c.loop-member.env) c.args.unclosed.now (view.named c.loop-member.named) _ c.loop-member.invariant.means
+    (env c.loop-member.env) c.args.unclosed.now c.loop-member.named _ c.loop-member.invariant.means
     c.deref.result.now
     c.deref.ensures.value _ c.in_err-c.ensures.means)
 
-pub all_members-returns-in_err-members_declared-clause-means :
-    goal.all_members-returns-in_err-members_declared-clause-means
-all_members-returns-in_err-members_declared-clause-means t c =
-    let p = err_from_is_err_and c.from_residual-in_err-members_declared.result
-    c.from_residual-in_err-members_declared.ensures.1 in
+pub all_members-returns-in_err-entries_declared-clause-means :
+    goal.all_members-returns-in_err-entries_declared-clause-means
+all_members-returns-in_err-entries_declared-clause-means t c =
+    let p = err_from_is_err_and c.from_residual-in_err-entries_declared.result
+    c.from_residual-in_err-entries_declared.ensures.1 in
     rw (p.1, p.2) (members_stop_all c.loop-member.member-index c.args.members.now c.member-item.result
     c.loop-member-test.true c.member-item.is
-    (env c.loop-member.env) c.args.unclosed.now (view.named c.loop-member.named) _ c.loop-member.invariant.means
+    (env c.loop-member.env) c.args.unclosed.now c.loop-member.named _ c.loop-member.invariant.means
     c.deref.result.now
     c.deref.ensures.value c.in_ok-c.c (env c.specs_inside.new.env) c.in_ok-c.ensures.means
     c.deref-in-loop-member.result.now
-    c.deref-in-loop-member.ensures.value _ c.in_err-members_declared.ensures.means)
+    c.deref-in-loop-member.ensures.value _ c.in_err-entries_declared.ensures.means)
 
 pub all_members-loop-member-preserved : goal.all_members-loop-member-preserved
 all_members-loop-member-preserved t c = record {
   means = members_went c.loop-member.member-index c.args.members.now c.member-item.result c.loop-member-test.true
       c.member-item.is
-      (env c.loop-member.env) c.args.unclosed.now (view.named c.loop-member.named) _ c.loop-member.invariant.means
+      (env c.loop-member.env) c.args.unclosed.now c.loop-member.named _ c.loop-member.invariant.means
       c.deref.result.now
       c.deref.ensures.value c.in_ok-c.c (env c.specs_inside.new.env) c.in_ok-c.ensures.means
       c.deref-in-loop-member.result.now
-      c.deref-in-loop-member.ensures.value (view.named c.members_declared.new.named) (env c.members_declared.new.env)
-      c.in_ok-members_declared.ensures.means;
+      c.deref-in-loop-member.ensures.value c.entries_declared.new.named (env c.entries_declared.new.env)
+      c.in_ok-entries_declared.ensures.means;
   after = follows_on c.args.unclosed.now (env c.args.env.now) (env c.specs_inside.new.env) (env
-      c.members_declared.new.env)
+      c.entries_declared.new.env)
       (after_on c.args.unclosed.now (env c.args.env.now) (env c.loop-member.env) (env c.specs_inside.new.env)
       c.loop-member.invariant.after
       c.in_ok-c.ensures.after)
-      c.in_ok-members_declared.ensures.after;
-  members = c.in_ok-members_declared.ensures.members;
+      c.in_ok-entries_declared.ensures.after;
+  members = c.in_ok-entries_declared.ensures.members;
 }
 
 pub all_members-returns-clause-means : goal.all_members-returns-clause-means
 all_members-returns-clause-means t c =
     no_more_members c.loop-member.member-index c.args.members.now (env c.loop-member.env) c.args.unclosed.now
-    (view.named c.loop-member.named) _
+    c.loop-member.named _
     c.loop-member-test.false c.loop-member.invariant.means
 
 -- ---- bodies
@@ -190,7 +188,7 @@ body_inside-returns-in_err-c-clause-means t c =
     c.args.unclosed.now
     c.deref.result.now (env c.args.env.now) (env c.opened.new.env) c.in_ok-number.number
     (rw c.is_union.ensures at c.in_ok-number.ensures.means) vs
-    (view.named c.in_ok-named.named) (env c.all_members.new.env) c.in_ok-named.ensures.means
+    c.in_ok-named.named (env c.all_members.new.env) c.in_ok-named.ensures.means
     (same_word c.args.unclosed.now _ c.in_ok-number.number (env c.args.env.now) (env c.opened.new.env) (env
     c.all_members.new.env)
     c.in_ok-number.ensures.after c.in_ok-number.ensures.opened c.deref.result.now vs c.in_ok-named.ensures.after
@@ -205,7 +203,7 @@ body_inside-returns-clause-means t c =
     (option_map text_of c.args.tag.now) c.args.members.now c.args.unclosed.now
     c.deref.result.now (env c.args.env.now) (env c.opened.new.env) c.in_ok-number.number
     (rw c.is_union.ensures at c.in_ok-number.ensures.means) vs
-    (view.named c.in_ok-named.named) (env c.all_members.new.env) c.in_ok-named.ensures.means
+    c.in_ok-named.named (env c.all_members.new.env) c.in_ok-named.ensures.means
     (same_word c.args.unclosed.now _ c.in_ok-number.number (env c.args.env.now) (env c.opened.new.env) (env
     c.all_members.new.env)
     c.in_ok-number.ensures.after c.in_ok-number.ensures.opened c.deref.result.now vs c.in_ok-named.ensures.after

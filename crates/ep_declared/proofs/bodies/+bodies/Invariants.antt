@@ -5,7 +5,6 @@ use Rattle.ep_elaboration.specs.Aggregates.{all_members, specs_declared}
 use Rattle.ep_scopes.specs.Known.{IsKnownEnv}
 use Rattle.ep_scopes.specs.View.{env}
 use Rattle.ep_declared.specs.Open.{AreTypes, IsAfter}
-use Rattle.ep_declared.specs.View as view
 use Rattle.ep_declared.proofs.bodies.+bodies.Given as goal
 
 abbrev pub invariant-specs_inside-loop-spec : goal.invariant-specs_inside-loop-spec
@@ -19,9 +18,9 @@ invariant-specs_inside-loop-spec l = record {
 
 abbrev pub invariant-all_members-loop-member : goal.invariant-all_members-loop-member
 invariant-all_members-loop-member l = record {
-  means : all_members (env l.env) l.unclosed (view.named l.named) (to_members (map member_of (drop l.member-index
+  means : all_members (env l.env) l.unclosed l.named (to_members (map member_of (drop l.member-index
       l.members)))
       ≡ all_members (env l.fn.env) l.unclosed [] (to_members (map member_of l.members));
   after : IsAfter l.unclosed (env l.fn.env) (env l.env);
-  members : AreTypes (env l.env).types (view.named l.named);
+  members : AreTypes (env l.env).types l.named;
 }

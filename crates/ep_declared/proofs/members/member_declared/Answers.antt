@@ -2,7 +2,6 @@ use Rattle.std.proofs.Common.{subst, sym}
 use Rattle.ep_core.proofs.Tables.{more_types}
 use Rattle.ep_scopes.specs.Known.{IsKnown}
 use Rattle.ep_scopes.specs.View.{env}
-use Rattle.ep_declared.specs.View as view
 use Rattle.ep_declared.proofs.Growth.{follows_more, type_known}
 use Rattle.ep_declared.proofs.MemberLemmas.{types_stay}
 use Rattle.ep_declared.proofs.members.member_declared.Goals as goal
@@ -14,7 +13,7 @@ with_member-requires c = record {
       (type_known c.args.env.now.types c.bounds.new.env.types c.in_ok-counts.ensures.grown c.args.c c.requires.inside);
   members = types_stay c.args.env.now.types c.bounds.new.env.types (more_types c.args.env.now.types
       c.bounds.new.env.types c.in_ok-counts.ensures.grown)
-      (view.named c.args.named.now) c.requires.members;
+      c.args.named.now c.requires.members;
 }
 
 pub returns-clause-after : goal.returns-clause-after

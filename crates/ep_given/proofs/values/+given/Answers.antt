@@ -8,16 +8,16 @@ use Rattle.ep_elaboration.specs.Given.{both_given, value_given}
 use Rattle.ep_scopes.specs.View.{env}
 use Rattle.ep_given.specs.Appended.{all_behind}
 use Rattle.ep_given.specs.View as view
-use Rattle.ep_given.proofs.ListLemmas.{list_is, listed_tree, same_gives_in, stopped_on, went}
+use Rattle.ep_given.proofs.ListLemmas.{list_is, list_stops, listed_tree, same_gives_in, stopped_on, went}
 use Rattle.ep_given.proofs.values.+given.Goals as goal
 
 pub add_value-returns-in_ok-whole-in-List-clause-means : goal.add_value-returns-in_ok-whole-in-List-clause-means
 add_value-returns-in_ok-whole-in-List-clause-means t c =
     same_gives_in _ _ _ _ c.add_values.result
     (list_is (env c.args.env.now) c.args.global c.args.may_call c.args.line (option_map objects.object c.args.x) (view.given c.args.given.now)
-    (source.value_of c.args.value.now) c.in-List.field-0 (source.to_values (map source.value_of c.deref.result.now))
+    (source.value_of c.args.value.now) c.in-List.field-0 (source.to_values (map source.value_of c.deref-list.result.now))
     (objects.object c.in_ok-whole-in-List.whole)
-    (listed_tree c.in-List.field-0 c.args.value.now c.in-List.values c.deref.result.now c.in-List.is c.deref.ensures.value)
+    (listed_tree c.in-List.field-0 c.args.value.now c.in-List.values c.deref-list.result.now c.in-List.is c.deref-list.ensures.value)
     c.in_ok-whole-in-List.ensures)
     c.add_values.ensures.means
 
@@ -45,3 +45,12 @@ add_values-returns-in_err-add_value-clause-means t c =
     c.args.values.now c.index-values-number.result (option_map objects.object c.in_ok-part.part) (view.given c.loop-number.given) _
     c.loop-number-test.true c.index-values-number.is c.in_ok-part.ensures c.loop-number.invariant.means _ _
     c.line_of_value.ensures c.in_err-add_value.ensures.means)
+
+pub add_value-returns-in_err-whole-in-List-clause-means : goal.add_value-returns-in_err-whole-in-List-clause-means
+add_value-returns-in_err-whole-in-List-clause-means t c =
+    let p = err_from_is_err_and c.from_residual.result c.from_residual.ensures.1 in
+    rw (p.1, p.2) (list_stops (env c.args.env.now) c.args.global c.args.may_call c.args.line (option_map objects.object c.args.x)
+    (view.given c.args.given.now) (source.value_of c.args.value.now) c.in-List.field-0
+    (source.to_values (map source.value_of c.deref-list.result.now)) _
+    (listed_tree c.in-List.field-0 c.args.value.now c.in-List.values c.deref-list.result.now c.in-List.is c.deref-list.ensures.value)
+    c.in_err-whole-in-List.ensures)

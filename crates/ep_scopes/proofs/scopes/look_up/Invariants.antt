@@ -1,8 +1,13 @@
-use Rattle.std.proofs.Common.{◌≡◌, drop, None}
-use Rattle.std.specs.Option.{option_map}
-use Rattle.ep_scopes.specs.View.{meaning}
-use Rattle.ep_scopes.proofs.ScopeLemmas.{through}
+use Rattle.std.proofs.Common.{◌≡◌, ◌≤◌, [], length, take}
+use Rattle.ep_typing.specs.Env.{look_up}
+use Rattle.ep_scopes.specs.View.{stacked}
 use Rattle.ep_scopes.proofs.scopes.look_up.Given as goal
 
-abbrev pub invariant-loop-scope : goal.invariant-loop-scope
-invariant-loop-scope l = through l.name (drop l.scope-index l.scopes) (option_map meaning l.found) ≡ through l.name l.scopes None
+abbrev pub invariant-outward : goal.invariant-outward
+invariant-outward l = record {
+  within : l.left ≤ length l.scopes;
+  same : look_up l.name (stacked [] (take l.left l.scopes)) ≡ look_up l.name (stacked [] l.scopes);
+}
+
+abbrev pub decreases-outward : goal.decreases-outward
+decreases-outward l = l.left

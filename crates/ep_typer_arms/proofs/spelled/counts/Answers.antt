@@ -5,5 +5,5 @@ use Rattle.ep_typer_arms.proofs.spelled.counts.Goals as goal
 
 pub returns : goal.returns
 returns c =
-    all_counts (env c.args.env.now).types.model c.args.bounds.now c.loop-bound.bound-index c.loop-bound.all.items
+    all_counts (env c.args.env.now) c.args.bounds.now c.loop-bound.bound-index c.loop-bound.all.items
     c.loop-bound.invariant (omega arith)

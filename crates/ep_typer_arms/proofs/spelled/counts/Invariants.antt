@@ -3,4 +3,4 @@ use Rattle.ep_typer_arms.proofs.Spellings.{RestCounts}
 use Rattle.ep_typer_arms.proofs.spelled.counts.Given as goal
 
 abbrev pub invariant-loop-bound : goal.invariant-loop-bound
-invariant-loop-bound l = RestCounts (env l.env).types.model l.bound-index l.bounds l.all.items
+invariant-loop-bound l = RestCounts (env l.env) l.bound-index l.bounds l.all.items

@@ -16,7 +16,7 @@ typed-returns-in_err-typed_all-in-Call t c =
 
 pub typed-returns-in_ok-typed_all-in-Call : goal.typed-returns-in_ok-typed_all-in-Call
 typed-returns-in_ok-typed_all-in-Call t c =
-    rw c.refused-in-Call.ensures (call_refused (env c.args.env.now) c.in-Call.line c.args.tree.now c.deref-in-Call.result.now c.in-Call.f
+    rw c.refused.ensures (call_refused (env c.args.env.now) c.in-Call.line c.args.tree.now c.deref-in-Call.result.now c.in-Call.f
     c.in-Call.list _ _ _ c.in-Call.is c.deref-in-Call.ensures c.deref-in-Call-2.ensures.value c.in_ok-callee-in-Call.ensures
     c.in_ok-typed_all-in-Call.ensures)
 

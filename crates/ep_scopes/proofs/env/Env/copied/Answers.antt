@@ -19,9 +19,11 @@ returns c =
     c.in_ok-copied_blocks.ensures ∙ ap (map block_view) c.deref.ensures.value in
     let G : rule.Env = view.env c.args.self.now in
     let bs : List Block = map block_view c.in_ok-copied_blocks.field-0.items in
-    let ss : List rule.Scope = view.scopes c.in_ok-copy.field-0 in
+    let ds : List (ℕ × rule.NamedFields) = view.fields c.in_ok-copy.field-0 in
+    let ss : List rule.Scope = view.scopes c.in_ok-copy-2.field-0 in
     let fs : List rule.Signature = map view.signature c.in_ok-clone.field-0.entries in
-    ap (λ (t : Table). record { types = t; scopes = ss; blocks = bs; functions = fs }) c.in_ok-copied_types.ensures
-    ∙ ap (λ (xs : List rule.Scope). record G { scopes = xs; blocks = bs; functions = fs }) c.in_ok-copy.ensures
+    ap (λ (t : Table). record { types = t; fields = ds; scopes = ss; blocks = bs; functions = fs }) c.in_ok-copied_types.ensures
+    ∙ ap (λ (xs : List (ℕ × rule.NamedFields)). record G { fields = xs; scopes = ss; blocks = bs; functions = fs }) c.in_ok-copy.ensures
+    ∙ ap (λ (xs : List rule.Scope). record G { scopes = xs; blocks = bs; functions = fs }) c.in_ok-copy-2.ensures
     ∙ ap (λ (xs : List Block). record G { blocks = xs; functions = fs }) blocks
     ∙ ap (λ (xs : List rule.Signature). record G { functions = xs }) functions
