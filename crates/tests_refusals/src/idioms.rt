@@ -510,14 +510,69 @@ fn types_and_functions(rt: HostRuntime) -> Result<(), Fail> {
         Idiom {
             common: "struct s { uint8_t low : 4, high : 4; };\n\
                 int main(void) {\n\
-                struct s x = { 1, 2 };\n\
+                struct s x = {0};\n\
                 ep_out_u8(x.low);\n\
                 }\n",
-            refusal: "1: refused 9 bit-field\n",
-            instead: "struct s { uint8_t both; };\n\
+            refusal: "4: refused 51 bit-field-place\n",
+            instead: "struct s { uint8_t low : 4, high : 4; };\n\
                 int main(void) {\n\
-                struct s x = { 33 };\n\
-                ep_out_u8(x.both & 15);\n\
+                struct s x = {0};\n\
+                uint8_t n;\n\
+                n = x.low;\n\
+                ep_out_u8(n);\n\
+                }\n",
+        },
+        Idiom {
+            common: "struct s { uint8_t low : 4, high : 4; };\n\
+                int main(void) {\n\
+                struct s x = {0};\n\
+                uint8_t n;\n\
+                x.low += 1;\n\
+                n = x.low;\n\
+                ep_out_u8(n);\n\
+                }\n",
+            refusal: "5: refused 51 bit-field-place\n",
+            instead: "struct s { uint8_t low : 4, high : 4; };\n\
+                int main(void) {\n\
+                struct s x = {0};\n\
+                uint8_t n;\n\
+                n = x.low;\n\
+                x.low = n + 1;\n\
+                n = x.low;\n\
+                ep_out_u8(n);\n\
+                }\n",
+        },
+        Idiom {
+            common: "struct s { uint8_t low : 4, high : 4; };\n\
+                int main(void) {\n\
+                struct s x = { 1, 2 };\n\
+                uint8_t n = x.low;\n\
+                ep_out_u8(n);\n\
+                }\n",
+            refusal: "3: refused 51 bit-field-place\n",
+            instead: "struct s { uint8_t low : 4, high : 4; };\n\
+                int main(void) {\n\
+                struct s x = {0};\n\
+                uint8_t n;\n\
+                x.low = 1;\n\
+                x.high = 2;\n\
+                n = x.low;\n\
+                ep_out_u8(n);\n\
+                }\n",
+        },
+        Idiom {
+            common: "struct s { int low : 4, high : 4; };\n\
+                int main(void) {\n\
+                struct s x = {0};\n\
+                uint8_t n = x.low;\n\
+                ep_out_u8(n);\n\
+                }\n",
+            refusal: "1: refused 9 bit-field\n",
+            instead: "struct s { uint8_t low : 4, high : 4; };\n\
+                int main(void) {\n\
+                struct s x = {0};\n\
+                uint8_t n = x.low;\n\
+                ep_out_u8(n);\n\
                 }\n",
         },
         Idiom {

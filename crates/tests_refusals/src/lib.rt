@@ -1,6 +1,8 @@
-//! Tests of what is refused: common C, with what to write instead, and sources past the limits.
+//! Tests of what is refused: common C, with what to write instead, sources past the limits, and bit-fields.
 #![tactic(auto)]
 
+#[cfg(test)]
+mod fields;
 #[cfg(test)]
 mod idioms;
 #[cfg(test)]
