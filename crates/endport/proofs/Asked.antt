@@ -5,7 +5,7 @@ use Rattle.ep_words.specs.Words.{Command}
 use Rattle.endport.specs.declared.jobs.Job.{Job}
 use Rattle.endport.specs.declared.status.Status.{Status}
 use Rattle.endport.specs.declared.status.Status.TheVariants.{Memory}
-use Rattle.endport.specs.Top.{StopsSo, TextOf, file_of, under}
+use Rattle.endport.specs.Top.{StopsSo, TextOf, file_of, most_of, under}
 
 abbrev Answer : Type 0
 Answer = Result Job Status
@@ -18,15 +18,15 @@ module _ (c : Command) (standing : List ℕ → Option (List ℕ)) (f : List ℕ
   named_ok h =
       subst (λ o. IfOk r (λ j. TextOf (Some c) (option_and_then standing o) j.status j.text.items)) e h
 
-  pub named_within : OnOk r (IfSome (standing f) (λ bytes. length bytes ≤ 1048576))
-      → OnOk r (IfSome (under (Some c) standing) (λ bytes. length bytes ≤ 1048576))
+  pub named_within : OnOk r (IfSome (standing f) (λ bytes. length bytes ≤ most_of c))
+      → OnOk r (IfSome (under (Some c) standing) (λ bytes. length bytes ≤ most_of c))
   named_within h =
-      subst (λ o. OnOk r (IfSome (option_and_then standing o) (λ bytes. length bytes ≤ 1048576))) e h
+      subst (λ o. OnOk r (IfSome (option_and_then standing o) (λ bytes. length bytes ≤ most_of c))) e h
 
-  pub named_stop : (before after : ℕ) → IfErr r (λ s. StopsSo (standing f) before after s)
-      → IfErr r (λ s. StopsSo (under (Some c) standing) before after s)
+  pub named_stop : (before after : ℕ) → IfErr r (λ s. StopsSo (most_of c) (standing f) before after s)
+      → IfErr r (λ s. StopsSo (most_of c) (under (Some c) standing) before after s)
   named_stop before after h =
-      subst (λ o. IfErr r (λ s. StopsSo (option_and_then standing o) before after s)) e h
+      subst (λ o. IfErr r (λ s. StopsSo (most_of c) (option_and_then standing o) before after s)) e h
 
 pub named_end : (r : Answer) (P Q : Type 0) → OnOk r Q → OnOk r (P → Q)
 named_end (Ok j) P Q h = λ p. h
@@ -43,14 +43,14 @@ module _ (c : Command) (standing : List ℕ → Option (List ℕ)) (e : None ≡
   free_ok r h =
       subst (λ o. IfOk r (λ j. TextOf (Some c) (option_and_then standing o) j.status j.text.items)) e h
 
-  pub free_within : (r : Answer) → OnOk r (IfSome (under (Some c) standing) (λ bytes. length bytes ≤ 1048576))
-  free_within (Ok j) = subst (λ o. IfSome (option_and_then standing o) (λ bytes. length bytes ≤ 1048576)) e tt
+  pub free_within : (r : Answer) → OnOk r (IfSome (under (Some c) standing) (λ bytes. length bytes ≤ most_of c))
+  free_within (Ok j) = subst (λ o. IfSome (option_and_then standing o) (λ bytes. length bytes ≤ most_of c)) e tt
   free_within (Err s) = tt
 
   pub free_stop : (r : Answer) (before after : ℕ) → IfErr r (λ s. s ≡ Memory)
-      → IfErr r (λ s. StopsSo (under (Some c) standing) before after s)
+      → IfErr r (λ s. StopsSo (most_of c) (under (Some c) standing) before after s)
   free_stop (Ok j) before after h = tt
-  free_stop (Err s) before after h = subst (λ s. StopsSo (under (Some c) standing) before after s) (sym h) tt
+  free_stop (Err s) before after h = subst (λ s. StopsSo (most_of c) (under (Some c) standing) before after s) (sym h) tt
 
 pub no_some : IsSome {T = List ℕ} None → ⊥
 no_some n = cc

@@ -4,6 +4,7 @@ use Rattle.ep_alarms.specs.declared.types.Alarm.{Alarm}
 use Rattle.ep_alarms.specs.Text.{report_text_of}
 use Rattle.endport.specs.Check.{Asked, alarms_of, report_status, Reports, IsCheck}
 use Rattle.ep_core.specs.Program.{Program}
+use Rattle.ep_core.specs.Runs.{Agree}
 use Rattle.ep_iterator.specs.Reports as reports
 use Rattle.ep_iterator.specs.Reports.{AllMayStand}
 use Rattle.endport.specs.Jobs.{MeansOnly}
@@ -12,13 +13,17 @@ use Rattle.endport.specs.declared.jobs.Job.{Job}
 use Rattle.endport.specs.declared.status.Status.{Status}
 use Rattle.endport.specs.declared.status.Status.TheVariants.{Done, Alarms, Refused, Usage, ReadFault, WriteFault}
 use Rattle.endport.specs.declared.status.Status.TheVariants.{Memory, TooLong, StepsUsedUp, Undefined, InputEnded}
+use Rattle.endport.specs.declared.status.Status.TheVariants.{NotVerified, BadCertificate}
 use Rattle.ep_closed_laws.specs.Laws.{TypesHaveBytes}
 use Rattle.ep_kinds.specs.Steady.{IsClosed, IsSteady}
 use Rattle.ep_kinds.specs.Tame.{is_tame}
+use Rattle.ep_movers.specs.Movers.{is_mover_text}
 use Rattle.ep_pass.specs.Agreement.{AgreeInTheEnd}
 use Rattle.ep_sample.specs.Sample.{source_of}
 use Rattle.ep_sized_types.specs.Laws.{ProgramsHaveBytes}
 use Rattle.ep_sample_laws.proofs.Whole.{means_within}
+use Rattle.ep_straight_laws.specs.Laws.{has_little}
+use Rattle.ep_straight_laws.specs.Straight.{is_straight}
 use Rattle.ep_tame_laws.specs.Tamely.{IsUndefinedOnly}
 use Rattle.endport.specs.Sample.{usual}
 
@@ -53,8 +58,12 @@ pub reported : {E : Type 0} (a : Asked) (source : List ℕ) (p : Program) (r : R
     → IfOk r (λ j. a.known_bits ≡ false → IsTrue (is_tame p) → IsUndefinedOnly (alarms_of a p))
     → IfOk r (λ j. a.known_bits ≡ false → TypesHaveBytes p.types → IsClosed p a.left a.right a.unroll
     → IsSteady p a.left a.right → alarms_of a p ≡ [])
+    → IfOk r (λ j. a.known_bits ≡ false → IsTrue (is_straight p) → has_little a.left a.right ≡ true
+    → Agree p a.left a.right → alarms_of a p ≡ [])
+    → IfOk r (λ j. a.known_bits ≡ false → IsTrue (is_mover_text p a.left a.right) → Agree p a.left a.right
+    → alarms_of a p ≡ [])
     → IfOk r (λ j. IsCheck a source j.status j.text.items)
-reported a source p (Ok j) sized means status text portable stand tame closed =
+reported a source p (Ok j) sized means status text portable stand tame closed straight mover =
     checked a source (alarms_of a p) j.status j.text.items status (record {
       program = p;
       means = means;
@@ -65,8 +74,10 @@ reported a source p (Ok j) sized means status text portable stand tame closed =
       tame = tame;
       closed = λ k c s. status
           ∙ ap report_status (closed k (sized a.model means.means.tree p means.means.means) c s);
+      straight = λ k m l g. status ∙ ap report_status (straight k m l g);
+      mover = λ k m g. status ∙ ap report_status (mover k m g);
     })
-reported a source p (Err e) sized means status text portable stand tame closed = tt
+reported a source p (Err e) sized means status text portable stand tame closed straight mover = tt
 
 -- ---- samples
 
@@ -90,3 +101,5 @@ sampled start fields TooLong text j = absurd j
 sampled start fields StepsUsedUp text j = absurd j
 sampled start fields Undefined text j = absurd j
 sampled start fields InputEnded text j = absurd j
+sampled start fields NotVerified text j = absurd j
+sampled start fields BadCertificate text j = absurd j

@@ -6,10 +6,11 @@ use Rattle.ep_core.specs.Exec.{is_order}
 use Rattle.endport.specs.Check.{alarms_of}
 use Rattle.endport.specs.Sample.{usual}
 use Rattle.endport.proofs.Reporting.{ended}
-use Rattle.ep_words.specs.Words.{Command, check, layout, run, sample}
+use Rattle.ep_words.specs.Words.{Command, check, layout, run, sample, prove, verify}
 use Rattle.endport.specs.declared.status.Status.{Status}
 use Rattle.endport.specs.declared.status.Status.TheVariants.{Done, Alarms, Refused, Usage, ReadFault, WriteFault}
 use Rattle.endport.specs.declared.status.Status.TheVariants.{Memory, TooLong, StepsUsedUp, Undefined, InputEnded}
+use Rattle.endport.specs.declared.status.Status.TheVariants.{NotVerified, BadCertificate}
 use Rattle.ep_io.specs.Bytes.{Appended, FrontAppended}
 use Rattle.ep_io.specs.Faults.{Rose}
 use Rattle.endport.specs.Top.{IsJob, IsSilent, TextOf, Written, IsTooLong, StopsSo}
@@ -24,6 +25,8 @@ never_read_fault : (c : Command) (bytes text : List ℕ) → IsJob c bytes ReadF
 never_read_fault (check unroll orders model known_bits file) bytes text j = j
 never_read_fault (layout model file) bytes text j = j
 never_read_fault (run order steps model file inputs) bytes text j = j
+never_read_fault (prove unroll orders model file) bytes text j = j
+never_read_fault (verify file) bytes text j = j
 never_read_fault (sample start fields) bytes text j =
     no_report (ended (alarms_of usual j.reports.program) ReadFault j.reports.status_is) (λ e. cc) (λ e. cc)
 
@@ -31,6 +34,8 @@ never_write_fault : (c : Command) (bytes text : List ℕ) → IsJob c bytes Writ
 never_write_fault (check unroll orders model known_bits file) bytes text j = j
 never_write_fault (layout model file) bytes text j = j
 never_write_fault (run order steps model file inputs) bytes text j = j
+never_write_fault (prove unroll orders model file) bytes text j = j
+never_write_fault (verify file) bytes text j = j
 never_write_fault (sample start fields) bytes text j =
     no_report (ended (alarms_of usual j.reports.program) WriteFault j.reports.status_is) (λ e. cc) (λ e. cc)
 
@@ -38,6 +43,8 @@ never_memory : (c : Command) (bytes text : List ℕ) → IsJob c bytes Memory te
 never_memory (check unroll orders model known_bits file) bytes text j = j
 never_memory (layout model file) bytes text j = j
 never_memory (run order steps model file inputs) bytes text j = j
+never_memory (prove unroll orders model file) bytes text j = j
+never_memory (verify file) bytes text j = j
 never_memory (sample start fields) bytes text j =
     no_report (ended (alarms_of usual j.reports.program) Memory j.reports.status_is) (λ e. cc) (λ e. cc)
 
@@ -45,6 +52,8 @@ never_too_long : (c : Command) (bytes text : List ℕ) → IsJob c bytes TooLong
 never_too_long (check unroll orders model known_bits file) bytes text j = j
 never_too_long (layout model file) bytes text j = j
 never_too_long (run order steps model file inputs) bytes text j = j
+never_too_long (prove unroll orders model file) bytes text j = j
+never_too_long (verify file) bytes text j = j
 never_too_long (sample start fields) bytes text j =
     no_report (ended (alarms_of usual j.reports.program) TooLong j.reports.status_is) (λ e. cc) (λ e. cc)
 
@@ -61,6 +70,8 @@ whole_of c told TooLong text before after t a = absurd (never_too_long c t.bytes
 whole_of c told StepsUsedUp text before after t a = (text, t, a)
 whole_of c told Undefined text before after t a = (text, t, a)
 whole_of c told InputEnded text before after t a = (text, t, a)
+whole_of c told NotVerified text before after t a = (text, t, a)
+whole_of c told BadCertificate text before after t a = (text, t, a)
 
 whole : (c : Option Command) (told : Option (List ℕ)) (status : Status) (text : List ℕ)
     (before after : Option (List ℕ)) → TextOf c told status text → Appended before text after
@@ -92,6 +103,8 @@ speaks c bytes text TooLong j k = never_too_long c bytes text j
 speaks c bytes text StepsUsedUp j k = k
 speaks c bytes text Undefined j k = k
 speaks c bytes text InputEnded j k = k
+speaks c bytes text NotVerified j k = k
+speaks c bytes text BadCertificate j k = k
 
 -- `of` is the text that was made
 module _ (c : Command) (told : Option (List ℕ)) (status result : Status) (of text : List ℕ)
@@ -109,20 +122,22 @@ module _ (c : Command) (told : Option (List ℕ)) (status result : Status) (of t
 
 -- ---- why there is no text
 
-pub too_long : (told : Option (List ℕ)) (before after : ℕ) (s : Status) → StopsSo told before after s
-    → IfSome told (λ bytes. IsTooLong bytes → (s ≡ TooLong) ⊎ (s ≡ Memory) ⊎ Rose before after)
-too_long None before after s h = tt
-too_long (Some bytes) before after Done h = absurd h
-too_long (Some bytes) before after Alarms h = absurd h
-too_long (Some bytes) before after Refused h = absurd h
-too_long (Some bytes) before after Usage h = absurd h
-too_long (Some bytes) before after ReadFault h = λ l. inr (inr h)
-too_long (Some bytes) before after WriteFault h = absurd h
-too_long (Some bytes) before after Memory h = λ l. inr (inl refl)
-too_long (Some bytes) before after TooLong h = λ l. inl refl
-too_long (Some bytes) before after StepsUsedUp h = absurd h
-too_long (Some bytes) before after Undefined h = absurd h
-too_long (Some bytes) before after InputEnded h = absurd h
+pub too_long : (most : ℕ) (told : Option (List ℕ)) (before after : ℕ) (s : Status) → StopsSo most told before after s
+    → IfSome told (λ bytes. IsTooLong most bytes → (s ≡ TooLong) ⊎ (s ≡ Memory) ⊎ Rose before after)
+too_long most None before after s h = tt
+too_long most (Some bytes) before after Done h = absurd h
+too_long most (Some bytes) before after Alarms h = absurd h
+too_long most (Some bytes) before after Refused h = absurd h
+too_long most (Some bytes) before after Usage h = absurd h
+too_long most (Some bytes) before after ReadFault h = λ l. inr (inr h)
+too_long most (Some bytes) before after WriteFault h = absurd h
+too_long most (Some bytes) before after Memory h = λ l. inr (inl refl)
+too_long most (Some bytes) before after TooLong h = λ l. inl refl
+too_long most (Some bytes) before after StepsUsedUp h = absurd h
+too_long most (Some bytes) before after Undefined h = absurd h
+too_long most (Some bytes) before after InputEnded h = absurd h
+too_long most (Some bytes) before after NotVerified h = absurd h
+too_long most (Some bytes) before after BadCertificate h = absurd h
 
 -- ---- byte orders
 

@@ -5,15 +5,20 @@ use Rattle.ep_int.specs.declared.types.Order.{Order}
 use Rattle.ep_alarms.specs.declared.types.Alarm.{Alarm}
 use Rattle.ep_alarms.specs.Text.{report_text_of}
 use Rattle.ep_core.specs.Program.{Program}
+use Rattle.ep_core.specs.Runs.{Agree}
 use Rattle.ep_iterator.specs.Reports as reports
 use Rattle.ep_iterator.specs.Reports.{AllMayStand}
 use Rattle.endport.specs.Jobs.{IsRefused, MeansOnly}
 use Rattle.endport.specs.declared.status.Status.{Status}
 use Rattle.endport.specs.declared.status.Status.TheVariants.{Done, Alarms, Refused, Usage, ReadFault, WriteFault}
 use Rattle.endport.specs.declared.status.Status.TheVariants.{Memory, TooLong, StepsUsedUp, Undefined, InputEnded}
+use Rattle.endport.specs.declared.status.Status.TheVariants.{NotVerified, BadCertificate}
+use Rattle.ep_movers.specs.Movers.{is_mover_text}
 use Rattle.ep_pass.specs.Agreement.{AgreeInTheEnd}
 use Rattle.ep_kinds.specs.Steady.{IsClosed, IsSteady}
 use Rattle.ep_kinds.specs.Tame.{is_tame}
+use Rattle.ep_straight_laws.specs.Laws.{has_little}
+use Rattle.ep_straight_laws.specs.Straight.{is_straight}
 use Rattle.ep_tame_laws.specs.Tamely.{IsUndefinedOnly}
 use Rattle.endport.specs.Numbers.{numbers, bit_numbers}
 
@@ -41,7 +46,8 @@ report_status (a ∷ more) = Alarms
 -- The text and the status of the report on the one program that the source means. Where it has no alarms, the two
 -- machines agree on that program: at all numbers of steps, along every interleaving, and in the end. Each alarm is of a
 -- kind that the text on its line may have. Without known bits none on a tame program is of the kinds E1 to E4, and
--- there is none at all on a steady program that is closed at this number of turns.
+-- there is none at all on a steady program that is closed at this number of turns, nor where the machines, one of them
+-- little-endian, agree on a program that only moves whole variables, nor where they agree on a byte mover.
 pub record Reports (a : Asked) (source : List ℕ) (status : Status) (text : List ℕ) : Type 0 where
   pub program : Program
   pub means : MeansOnly a.model source program
@@ -52,6 +58,10 @@ pub record Reports (a : Asked) (source : List ℕ) (status : Status) (text : Lis
   pub tame : a.known_bits ≡ false → IsTrue (is_tame program) → IsUndefinedOnly (alarms_of a program)
   pub closed : a.known_bits ≡ false → IsClosed program a.left a.right a.unroll → IsSteady program a.left a.right
       → status ≡ Done
+  pub straight : a.known_bits ≡ false → IsTrue (is_straight program) → has_little a.left a.right ≡ true
+      → Agree program a.left a.right → status ≡ Done
+  pub mover : a.known_bits ≡ false → IsTrue (is_mover_text program a.left a.right)
+      → Agree program a.left a.right → status ≡ Done
 
 -- what `check` comes to
 abbrev pub IsCheck : Asked → (source : List ℕ) → Status → (text : List ℕ) → Type 0
@@ -66,3 +76,5 @@ IsCheck a source TooLong text = ⊥
 IsCheck a source StepsUsedUp text = ⊥
 IsCheck a source Undefined text = ⊥
 IsCheck a source InputEnded text = ⊥
+IsCheck a source NotVerified text = ⊥
+IsCheck a source BadCertificate text = ⊥

@@ -13,6 +13,7 @@ use Rattle.ep_source.specs.Source.{Means, MeansNothingWithin, Offends}
 use Rattle.endport.specs.declared.status.Status.{Status}
 use Rattle.endport.specs.declared.status.Status.TheVariants.{Done, Alarms, Refused, Usage, ReadFault, WriteFault}
 use Rattle.endport.specs.declared.status.Status.TheVariants.{Memory, TooLong, StepsUsedUp, Undefined, InputEnded}
+use Rattle.endport.specs.declared.status.Status.TheVariants.{NotVerified, BadCertificate}
 
 -- the exit code of a status
 abbrev pub code_of : Status → ℕ
@@ -27,6 +28,8 @@ code_of TooLong = 7
 code_of StepsUsedUp = 8
 code_of Undefined = 9
 code_of InputEnded = 10
+code_of NotVerified = 11
+code_of BadCertificate = 12
 
 -- The one line that refuses a source, which means nothing within the limits.
 pub record IsRefused (m : Model) (source text : List ℕ) : Type 0 where
@@ -61,6 +64,8 @@ IsLayout m source TooLong text = ⊥
 IsLayout m source StepsUsedUp text = ⊥
 IsLayout m source Undefined text = ⊥
 IsLayout m source InputEnded text = ⊥
+IsLayout m source NotVerified text = ⊥
+IsLayout m source BadCertificate text = ⊥
 
 -- ---- runs
 
@@ -96,3 +101,5 @@ IsRun a source TooLong text = ⊥
 IsRun a source StepsUsedUp text = Runs a source StepsUsedUp text
 IsRun a source Undefined text = Runs a source Undefined text
 IsRun a source InputEnded text = Runs a source InputEnded text
+IsRun a source NotVerified text = ⊥
+IsRun a source BadCertificate text = ⊥

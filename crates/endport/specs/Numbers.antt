@@ -4,15 +4,11 @@ use Rattle.ep_domain.specs.Domain.{Ops}
 use Rattle.ep_domain.specs.PairDomain.{pair_ops}
 use Rattle.ep_domain.specs.declared.num.Num.{Ghosts}
 use Rattle.ep_domain.specs.declared.pair.Pair.{Pair}
-use Rattle.ep_interval_laws.specs.Interval.{Interval}
+use Rattle.ep_cert_cells.specs.Numbers.{Numbers}
 use Rattle.ep_intervals.specs.contracts.interval.IntervalNum.TheImpl as intervals
-use Rattle.ep_congruence_domain.specs.Congruence.{Congruence}
 use Rattle.ep_congruence.specs.contracts.congruence.CongruenceNum.TheImpl as congruences
 use Rattle.ep_bit_domain.specs.KnownBits.{KnownBits}
 use Rattle.ep_bits.specs.contracts.known_bits.KnownBitsNum.TheImpl as known_bits
-
-abbrev pub Numbers : Type 0
-Numbers = Pair Interval Congruence intervals.ghosts congruences.ghosts
 
 abbrev pub numbers : Ops Numbers
 numbers = pair_ops {f = intervals.ghosts} {g = congruences.ghosts}

@@ -7,13 +7,17 @@ ghost use Rattle.endport.specs.CheckView.{asked_for};
 ghost use Rattle.endport.specs.Numbers.{numbers};
 ghost use Rattle.ep_core.specs.Exec.{is_order};
 ghost use Rattle.ep_core.specs.ProgramView as core;
+ghost use Rattle.ep_core.specs.Runs.{Agree};
 ghost use Rattle.ep_alarm_laws.specs.Laws.{ProductsKeepStrides};
 ghost use Rattle.ep_iterator.specs.Reports as reports;
 ghost use Rattle.ep_iterator.specs.Reports.{AllMayStand};
 ghost use Rattle.ep_closed_laws.specs.Laws.{TypesHaveBytes};
 ghost use Rattle.ep_kinds.specs.Steady.{IsClosed, IsSteady};
 ghost use Rattle.ep_kinds.specs.Tame.{is_tame};
+ghost use Rattle.ep_movers.specs.Movers.{is_mover_text};
 ghost use Rattle.ep_pass.specs.Agreement.{AgreeInTheEnd};
+ghost use Rattle.ep_straight_laws.specs.Laws.{has_little};
+ghost use Rattle.ep_straight_laws.specs.Straight.{is_straight};
 ghost use Rattle.ep_tame_laws.specs.Tamely.{IsUndefinedOnly};
 
 use crate::jobs::{Job, refusal_job};
@@ -29,8 +33,10 @@ use ep_even_laws::{even_bit_laws, even_laws};
 use ep_int::{Memory, Model, Order};
 use ep_intervals::Interval;
 use ep_iterator::analyse;
+use ep_mover_reports::mover_number_reports;
 use ep_sized_types::sized_types;
 use ep_source::read;
+use ep_straight_laws::straight_numbers;
 use ep_tame_reports::number_reports;
 use std::alloc::Global;
 
@@ -78,8 +84,18 @@ fn report_on(alloc: Global, program: &CoreProgram, asked: CheckAsked) -> Result<
         → IsClosed (core.program_view program.now) asked.orders.0 asked.orders.1 asked.unroll
         → IsSteady (core.program_view program.now) asked.orders.0 asked.orders.1
         → alarms_of (asked_for asked) (core.program_view program.now) ≡ []) }
+    ensures straight { IfOk result (λ _. asked.known_bits ≡ false → IsTrue (is_straight (core.program_view program.now))
+        → has_little asked.orders.0 asked.orders.1 ≡ true
+        → Agree (core.program_view program.now) asked.orders.0 asked.orders.1
+        → alarms_of (asked_for asked) (core.program_view program.now) ≡ []) }
+    ensures mover { IfOk result (λ _. asked.known_bits ≡ false
+        → IsTrue (is_mover_text (core.program_view program.now) asked.orders.0 asked.orders.1)
+        → Agree (core.program_view program.now) asked.orders.0 asked.orders.1
+        → alarms_of (asked_for asked) (core.program_view program.now) ≡ []) }
 {
     closed_alarms(program, &asked);
+    straight_alarms(program, &asked);
+    mover_alarms(program, &asked);
     if asked.known_bits {
         even_bit_laws::<Interval>();
         return report_by::<Pair<Pair<Interval, Congruence>, KnownBits>>(alloc, program, asked);
@@ -89,8 +105,8 @@ fn report_on(alloc: Global, program: &CoreProgram, asked: CheckAsked) -> Result<
     report_by::<Pair<Interval, Congruence>>(alloc, program, asked)
 }
 
-// On a tame program no alarm by intervals with their congruences is of the kinds E1 to E4. Does nothing.
-fn tame_alarms(program: &CoreProgram, asked: &CheckAsked)
+/// On a tame program no alarm by intervals with their congruences is of the kinds E1 to E4. Does nothing.
+pub(crate) fn tame_alarms(program: &CoreProgram, asked: &CheckAsked)
     requires { is_order asked.now.orders.0 asked.now.orders.1 ≡ false }
     ensures { IsTrue (is_tame (core.program_view program.now)) → IsUndefinedOnly (reports.alarms_of numbers
         (core.program_view program.now) asked.now.orders.0 asked.now.orders.1 asked.now.unroll) }
@@ -99,8 +115,8 @@ fn tame_alarms(program: &CoreProgram, asked: &CheckAsked)
     let _model = program.types.model();
 }
 
-// On a closed and steady program there is no alarm by intervals with their congruences. Does nothing.
-fn closed_alarms(program: &CoreProgram, asked: &CheckAsked)
+/// On a closed and steady program there is no alarm by intervals with their congruences. Does nothing.
+pub(crate) fn closed_alarms(program: &CoreProgram, asked: &CheckAsked)
     requires { is_order asked.now.orders.0 asked.now.orders.1 ≡ false }
     ensures { asked.now.known_bits ≡ false → TypesHaveBytes (core.program_view program.now).types
         → IsClosed (core.program_view program.now) asked.now.orders.0 asked.now.orders.1 asked.now.unroll
@@ -108,6 +124,29 @@ fn closed_alarms(program: &CoreProgram, asked: &CheckAsked)
         → alarms_of (asked_for asked.now) (core.program_view program.now) ≡ [] }
 {
     closed_number_reports();
+}
+
+/// On a program that only moves whole variables, on which the machines agree, one of them little-endian, there is no
+/// alarm by intervals with their congruences. Does nothing.
+pub(crate) fn straight_alarms(program: &CoreProgram, asked: &CheckAsked)
+    requires { is_order asked.now.orders.0 asked.now.orders.1 ≡ false }
+    ensures { asked.now.known_bits ≡ false → IsTrue (is_straight (core.program_view program.now))
+        → has_little asked.now.orders.0 asked.now.orders.1 ≡ true
+        → Agree (core.program_view program.now) asked.now.orders.0 asked.now.orders.1
+        → alarms_of (asked_for asked.now) (core.program_view program.now) ≡ [] }
+{
+    straight_numbers();
+}
+
+/// On a byte mover on which the machines agree there is no alarm by intervals with their congruences. Does nothing.
+pub(crate) fn mover_alarms(program: &CoreProgram, asked: &CheckAsked)
+    requires { is_order asked.now.orders.0 asked.now.orders.1 ≡ false }
+    ensures { asked.now.known_bits ≡ false
+        → IsTrue (is_mover_text (core.program_view program.now) asked.now.orders.0 asked.now.orders.1)
+        → Agree (core.program_view program.now) asked.now.orders.0 asked.now.orders.1
+        → alarms_of (asked_for asked.now) (core.program_view program.now) ≡ [] }
+{
+    mover_number_reports();
 }
 
 // The report over a domain of numbers that keep strides.

@@ -6,7 +6,8 @@ ghost use Rattle.endport.specs.Jobs.{code_of};
 /// How the program ends, and what was written then.
 #[derive(Clone, Copy, Debug, PartialEq, Eq)]
 pub enum Status {
-    /// The whole text: the report has no alarms, the run ended, or the layouts.
+    /// The whole text: the report has no alarms, its certificate, the run ended, the layouts, or a certificate is
+    /// verified.
     Done,
     /// The whole text: the report has alarms.
     Alarms,
@@ -20,7 +21,7 @@ pub enum Status {
     WriteFault,
     /// Nothing: memory ran out.
     Memory,
-    /// Nothing: the source has more than 1,048,576 bytes.
+    /// Nothing: the file has more bytes than its command takes: 1,048,576 of a source, 16,777,216 of a certificate.
     TooLong,
     /// The run's text: it has not ended after its steps.
     StepsUsedUp,
@@ -28,6 +29,10 @@ pub enum Status {
     Undefined,
     /// The run's text: it wants an input, and there is none.
     InputEnded,
+    /// One line: the heads of a certificate don't show that the machines agree.
+    NotVerified,
+    /// One line: the file is no certificate.
+    BadCertificate,
 }
 
 impl Status {
@@ -47,6 +52,8 @@ impl Status {
             Status::StepsUsedUp => 8,
             Status::Undefined => 9,
             Status::InputEnded => 10,
+            Status::NotVerified => 11,
+            Status::BadCertificate => 12,
         }
     }
 }

@@ -59,7 +59,7 @@ use Rattle.ep_straight_laws.proofs.Loads.{IsSet}
 use Rattle.ep_straight_laws.proofs.Bytes.{IsFine}
 use Rattle.ep_straight_laws.proofs.Outputs.{FineBytes, at}
 use Rattle.ep_straight_laws.proofs.Whole.{AllFine, straight_exact}
-use Rattle.ep_straight_laws.specs.Laws.{orders, MeetsKeepSingles, IsStraightExact}
+use Rattle.ep_straight_laws.specs.Laws.{has_little, MeetsKeepSingles, IsStraightExact}
 use Rattle.ep_straight_laws.proofs.Singles.{part_read, IsRead, read_part}
 
 or_second : (a b c : Bool) → b ≡ true → (a || (b || c)) ≡ true
@@ -100,6 +100,18 @@ places_alike SwappedWords I32 i l w other h = absurd (let e : 1 ≡ 0 = h in cc)
 places_alike SwappedWords U32 i l w other h = absurd (let e : 1 ≡ 0 = h in cc)
 places_alike SwappedWords I64 i l w other h = absurd (let e : 1 ≡ 0 = h in cc)
 places_alike SwappedWords U64 i l w other h = absurd (let e : 1 ≡ 0 = h in cc)
+
+-- the same of two machines of which either is little-endian
+all_alike : (a b : Order) → has_little a b ≡ true → is_order a b ≡ false → (t : IntType) (i : ℕ) → i < bytes_of t
+    → nat_eq (bytes_of t) 1 ≡ false → encoded a t (pos 1) 0 ≡ encoded b t (pos 1) 0
+    → place a (bytes_of t) i ≡ place b (bytes_of t) i
+all_alike Little b one other t i l w e = places_alike b t i l w other e
+all_alike Big Little one other t i l w e = sym (places_alike Big t i l w refl (sym e))
+all_alike SwappedWords Little one other t i l w e = sym (places_alike SwappedWords t i l w refl (sym e))
+all_alike Big Big one other t i l w e = absurd (cc)
+all_alike Big SwappedWords one other t i l w e = absurd (cc)
+all_alike SwappedWords Big one other t i l w e = absurd (cc)
+all_alike SwappedWords SwappedWords one other t i l w e = absurd (cc)
 
 -- ---- forms
 
@@ -367,14 +379,9 @@ module _ {N : Type 0} (D : Ops N) (law : Lawful D) where
       (λ w one. places t i inside w (subst (λ z. encoded (ord left) t z 0 ≡ encoded (ord right) t z 0) one first))
 
   module _ (meets : MeetsKeepSingles D) where
-    little_first : AllFine D law meets (λ o. orders Little o)
-    little_first p formed other h main =
-        fine_bytes p formed (orders Little other) _ _ main.f.result (λ t i l w e. places_alike other t i l w h e)
-
-    little_second : AllFine D law meets (λ o. orders o Little)
-    little_second p formed other h main =
-        fine_bytes p formed (orders other Little) _ _ main.f.result (λ t i l w e. sym (places_alike other t i l w h
-        (sym e)))
+    all_fine : AllFine D law meets
+    all_fine p formed ord little other main =
+        fine_bytes p formed ord _ _ main.f.result (all_alike (ord left) (ord right) little other)
 
     pub straight : IsStraightExact D
-    straight = straight_exact D law meets little_first little_second
+    straight = straight_exact D law meets all_fine

@@ -1,7 +1,7 @@
 -- Rows of straight statements, over what is shown of each statement: they are passed without a fault, and both machines
 -- go on alike, or the machines come apart.
 use Rattle.std.proofs.Common.{◌≡◌, ◌≢◌, ℕ, zero, suc, ◌+◌, ◌≤◌, ◌⊎◌, inl, inr, pos, Bool, true, false, List, [], ◌∷◌}
-use Rattle.std.proofs.Common.{◌++◌, length, slice_get, refl, sym, ap, ◌∙◌, subst, Option, Some, None, arith}
+use Rattle.std.proofs.Common.{◌++◌, length, map, slice_get, refl, sym, ap, ◌∙◌, subst, Option, Some, None, arith}
 use Rattle.std.proofs.lemmas.Bool.{and_parts}
 use Rattle.ep_int.specs.declared.types.Order.{Order}
 use Rattle.ep_int.specs.declared.types.Scalar.{Scalar}
@@ -9,7 +9,6 @@ use Rattle.ep_int.specs.declared.types.IntType.{IntType}
 use Rattle.ep_int.specs.Memory.{Value, int, null, pointer, Kind, Found, has, faults, store_fault, range_fault, Byte}
 use Rattle.ep_int.specs.Memory.{undefined, number, fragment}
 use Rattle.ep_int.specs.Types.{wrapped}
-use Rattle.ep_alarms.specs.declared.types.Alarm.{Alarm}
 use Rattle.ep_alarms.specs.Report.{gathered}
 use Rattle.ep_core.specs.Program.{Dest, Simple, nothing, eval, assign, clear, copy_aggregate, copy_bytes, fill, input}
 use Rattle.ep_core.specs.Program.{output, read_bytes, write_bytes, returns, What, simple, call, if_else, loop}
@@ -23,7 +22,7 @@ use Rattle.ep_core.specs.WellFormed.{result_type, simple_fits, stmts_fit, is_wel
 use Rattle.ep_core.proofs.Grows.{Growing, all_grow, bodies_grow}
 use Rattle.ep_core.proofs.Operands.{fits_at}
 use Rattle.ep_pass.specs.States.{Mode, Both, Fault, Transfer, StateOps}
-use Rattle.ep_pass.specs.Pass.{Ways, none, Pass, alarms_at, way_of, simple_pass, then_pass, join_on, pass_all}
+use Rattle.ep_pass.specs.Pass.{Ways, none, Event, alarm_of, tried, Pass, found_at, way_of, simple_pass, then_pass, join_on, pass_all}
 use Rattle.ep_pass.specs.Pass.{body_pass, bodies_pass, faults_at_end, all_faults, report_of}
 use Rattle.ep_pass.proofs.Sure.{Meets, meet_on, meet_none}
 use Rattle.ep_straight_laws.specs.Straight.{is_straight_step, are_straight}
@@ -189,10 +188,10 @@ module _ (p : Program) (ord : Side → Order) {S : Type 0} (o : StateOps S) (V :
   result = result_in (slice_get p.functions p.main)
 
   abbrev Bodies : Type 0
-  Bodies = ℕ → Mode → S → Pass S
+  Bodies = ℕ → (before : ℕ) → Mode → S → Pass S
 
   abbrev all : Bodies → Stmts → S → Ways S → Pass S
-  all ps ss s w = pass_all o u limit ord p p.main ps ss Both s w
+  all ps ss s w = pass_all o u (tried o limit) ord p p.main ps ss 0 Both s w
 
   abbrev do_all : Side → (ℕ → Going) → Stmts → Going
   do_all i bs ss n s = exec_all (ord i) p uncounted p.main bs ss n s
@@ -243,7 +242,7 @@ module _ (p : Program) (ord : Side → Order) {S : Type 0} (o : StateOps S) (V :
     after_quiet rest j l n m fs None c d e fed (meet_on i) go = absurd i
     after_quiet rest j l n m fs (Some s) c d e fed (meet_on {x} {y} i) go = elim (go s x y i fed) [
       | inl h ↦ inl (record {
-        quiet = ap (λ z. alarms_at l z ++ (all ps rest s none).log.faults) e ∙ h.quiet;
+        quiet = ap (λ z. found_at l z ++ (all ps rest s none).log.faults) e ∙ h.quiet;
         meets = h.meets;
       })
       | inr d ↦ inr d
@@ -334,11 +333,11 @@ module _ (p : Program) (ord : Side → Order) {S : Type 0} (o : StateOps S) (V :
         (ord i) p inputs)) law.here
 
     abbrev whole : Pass S
-    whole = all (bodies_pass o u limit ord p p.main) f.body o.entry none
+    whole = all (bodies_pass o u (tried o limit) ord p p.main) f.body o.entry none
 
     comes : Comes whole 0 0 (run_of left) (run_of right)
     comes =
-        all_come (frame_of f) law.steps (bodies_pass o u limit ord p p.main) (bodies (ord left) p uncounted p.main)
+        all_come (frame_of f) law.steps (bodies_pass o u (tried o limit) ord p p.main) (bodies (ord left) p uncounted p.main)
         (bodies (ord right) p uncounted p.main) (bodies_grow (ord left) p uncounted p.main)
         (bodies_grow (ord right) p uncounted p.main) f.body 0 0 o.entry (start (ord left) p inputs)
         (start (ord right) p inputs) law.straight
@@ -354,32 +353,32 @@ module _ (p : Program) (ord : Side → Order) {S : Type 0} (o : StateOps S) (V :
         (length-ones (needs_all f.body))))
 
     end_quiet : (v : Option S) (x y : Outcome) → Meets V on v 0 0 x y → Fed 0 x
-        → faults_at_end o u limit ord p (Some f) v ≡ []
+        → faults_at_end o (Some f) v ≡ []
     end_quiet None x y (meet_on i) h = refl
-    end_quiet (Some s) c d (meet_on {x} {y} i) h = ap (alarms_at f.line) (law.ends s x y i)
+    end_quiet (Some s) c d (meet_on {x} {y} i) h = ap (found_at f.line) (law.ends s x y i)
     end_quiet v x y (meet_none e) h = absurd h
 
-    abbrev faults_of : Pass S → Option Function → List Alarm
-    faults_of q g = q.log.faults ++ faults_at_end o u limit ord p g (join_on o q.ways.returned q.on)
+    abbrev faults_of : Pass S → Option Function → List Event
+    faults_of q g = q.log.faults ++ faults_at_end o g (join_on o q.ways.returned q.on)
 
     quiet_faults : Quiet whole 0 0 (run_of left) (run_of right) → faults_of whole (Some f) ≡ []
     quiet_faults h =
-        ap (λ z. z ++ faults_at_end o u limit ord p (Some f) (join_on o whole.ways.returned whole.on)) h.quiet
-        ∙ ap (λ (w : Ways S). faults_at_end o u limit ord p (Some f) (join_on o w.returned whole.on))
-        (no_ways (bodies_pass o u limit ord p p.main) f.body o.entry law.straight)
+        ap (λ z. z ++ faults_at_end o (Some f) (join_on o whole.ways.returned whole.on)) h.quiet
+        ∙ ap (λ (w : Ways S). faults_at_end o (Some f) (join_on o w.returned whole.on))
+        (no_ways (bodies_pass o u (tried o limit) ord p p.main) f.body o.entry law.straight)
         ∙ end_quiet whole.on (run_of left) (run_of right) h.meets
         (all_fed left (bodies (ord left) p uncounted p.main) f.body 0 (start (ord left) p inputs) law.straight
         (length-ones (needs_all f.body)))
 
-    all_quiet : faults_of whole (Some f) ≡ [] → all_faults o u limit ord p ≡ []
+    all_quiet : faults_of whole (Some f) ≡ [] → all_faults o u (tried o limit) ord p ≡ []
     all_quiet e =
-        ap (λ g. faults_of (body_pass o u limit ord p g p.main
-        (bodies_pass o u limit ord p p.main) Both o.entry) g) law.here ∙ e
+        ap (λ g. faults_of (body_pass o u (tried o limit) ord p g p.main
+        (bodies_pass o u (tried o limit) ord p p.main) 0 Both o.entry) g) law.here ∙ e
 
     -- the machines agree, so nothing is reported
     pub exact : Agree p (ord left) (ord right) → report_of o u limit ord p ≡ []
     exact agree = elim comes [
-      | inl h ↦ ap gathered (all_quiet (quiet_faults h))
+      | inl h ↦ ap (λ es. gathered (map alarm_of es)) (all_quiet (quiet_faults h))
       | inr d ↦ absurd
           (never_apart p (ord left) (ord right) agree inputs (are_inputs (needs_all f.body)) (stops left)
           (stops right)

@@ -1,5 +1,5 @@
 -- The size and the leaf of a block that is one integer.
-use Rattle.std.proofs.Common.{◌≡◌, ℕ, ◌+◌, true, [], ◌∷◌, length, map, slice_get, Option, Some, None}
+use Rattle.std.proofs.Common.{◌≡◌, ℕ, true, [], ◌∷◌, length, map, slice_get, Option, Some, None}
 use Rattle.ep_alarm_laws.proofs.OwnPlaces.{depth, number_is}
 use Rattle.std.proofs.Common.{option_map, option_and_then, unwrap_or, refl, ap, ◌∙◌}
 use Rattle.std.specs.List.{list_all}

@@ -1,7 +1,6 @@
 -- What a straight value comes to: both machines find the same number, and what is known of it is that number alone, or
 -- it is 1; or a variable without a value is undefined on both.
 use Rattle.std.proofs.Common.{◌≡◌, ℕ, ◌+◌, ◌<◌, Bool, true, false, ◌&&◌, ◌||◌, cond, List, [], ◌∷◌, refl, sym, ap}
-use Rattle.ep_int.proofs.Wrapping.{bytes_of_positive}
 use Rattle.std.proofs.Common.{◌∙◌, subst, Some, arith}
 use Rattle.std.proofs.lemmas.Bool.{eq-eqb, le-leb, lt-ltb}
 use Rattle.ep_int.specs.declared.types.IntType.{IntType}

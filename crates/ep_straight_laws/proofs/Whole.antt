@@ -1,31 +1,24 @@
 -- The law of straight programs, over what is shown of each byte that is put out.
-use Rattle.std.proofs.Common.{◌≡◌, ℕ, inl, inr, true, false, nat_le, slice_get, refl, subst}
+use Rattle.std.proofs.Common.{◌≡◌, ℕ, inl, inr, true, nat_le, slice_get, subst}
 use Rattle.std.proofs.lemmas.Bool.{or_cases}
 use Rattle.std.proofs.lemmas.Bool.{and_parts, leb-true}
 use Rattle.ep_int.specs.declared.types.Order.{Order}
-use Rattle.ep_int.specs.declared.types.Order.TheVariants.{Little, Big, SwappedWords}
 use Rattle.ep_domain.specs.Domain.{Ops, Lawful}
 use Rattle.ep_core.specs.Program.{block, deref, member, element, const, null_value, load, addr_of, binary, convert}
 use Rattle.ep_core.specs.Program.{compare, ptr_compare, logical_and, logical_or, logical_not, conditional, ptr_add}
 use Rattle.ep_core.specs.Program.{cast, Program}
-use Rattle.ep_core.specs.Exec.{is_order}
-use Rattle.ep_core.specs.Runs.{Side}
+use Rattle.ep_core.specs.Runs.{Side, left, right}
 use Rattle.ep_core.specs.WellFormed.{is_length, is_address, is_array_of, some_type, is_named, block_has, place_has}
 use Rattle.ep_core.specs.WellFormed.{has_sort, is_well_formed}
 use Rattle.ep_core.proofs.Sorts.{type_where, pointer_where}
 use Rattle.ep_pass.specs.Laws.{AreOther}
 use Rattle.ep_straight_laws.specs.Straight.{is_straight_body, is_straight}
-use Rattle.ep_straight_laws.specs.Laws.{orders, MeetsKeepSingles, IsExact, IsStraightExact}
+use Rattle.ep_straight_laws.specs.Laws.{has_little, MeetsKeepSingles, IsExact, IsStraightExact}
 use Rattle.ep_straight_laws.proofs.Gathered.{Main, main_is, seen, BytesJudged, exact_by}
 use Rattle.ep_straight_laws.proofs.Bytes.{front_is}
 use Rattle.ep_straight_laws.proofs.Outputs.{FineBytes, judged_front}
 use Rattle.ep_straight_laws.proofs.Starts.{starts}
 use Rattle.ep_straight_laws.proofs.Endings.{end_quiet}
-
-other_way : (o : Order) → is_order Little o ≡ false → is_order o Little ≡ false
-other_way Little h = h
-other_way Big h = refl
-other_way SwappedWords h = refl
 
 module _ {N : Type 0} (D : Ops N) (law : Lawful D) (meets : MeetsKeepSingles D) where
   module _ (p : Program) (formed : is_well_formed p ≡ true) (ord : Side → Order) (main : Main p) where
@@ -77,11 +70,10 @@ module _ {N : Type 0} (D : Ops N) (law : Lawful D) (meets : MeetsKeepSingles D) 
     bytes_judged fine (cast e) c g h l n m k x y v = absurd (cc)
 
   -- what is shown of each byte, where one machine is little-endian
-  abbrev pub AllFine : (Order → Side → Order) → Type 0
-  AllFine ord =
-      (p : Program) (formed : is_well_formed p ≡ true) (other : Order) → is_order Little other ≡ false →
-      (main : Main p)
-      → Fine p formed (ord other) main
+  abbrev pub AllFine : Type 0
+  AllFine =
+      (p : Program) (formed : is_well_formed p ≡ true) (ord : Side → Order) → has_little (ord left) (ord right) ≡ true
+      → AreOther ord → (main : Main p) → Fine p formed ord main
 
   exact_for : (p : Program) (formed : is_well_formed p ≡ true) (ord : Side → Order) → AreOther ord
       → is_straight p ≡ true
@@ -94,10 +86,6 @@ module _ {N : Type 0} (D : Ops N) (law : Lawful D) (meets : MeetsKeepSingles D) 
         ends = end_quiet D law meets p formed ord m;
       })
 
-  pub straight_exact : AllFine (λ o. orders Little o) → AllFine (λ o. orders o Little) → IsStraightExact D
-  straight_exact left right = record {
-    little_first = λ p formed g other h.
-        exact_for p formed (orders Little other) h g (left p formed other h (main_is p formed));
-    little_second = λ p formed g other h.
-        exact_for p formed (orders other Little) (other_way other h) g (right p formed other h (main_is p formed));
-  }
+  pub straight_exact : AllFine → IsStraightExact D
+  straight_exact fine p formed g ord little other =
+      exact_for p formed ord other g (fine p formed ord little other (main_is p formed))

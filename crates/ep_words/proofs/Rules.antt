@@ -96,6 +96,13 @@ reports o (file ∷ []) h =
     (rule.check (rule.unroll_of o) (rule.orders_of o) (rule.model_of o) o.known_bits file) (usual o.orders h)
 reports o (file ∷ w ∷ ws) h = tt
 
+proofs : (o : rule.Options) (ws : List rule.Word) → HasOther o → IfSome (rule.prove_of o ws) IsWithinRules
+proofs o [] h = tt
+proofs o (file ∷ []) h =
+    if_so IsWithinRules (rule.is_no_run o && not o.known_bits && rule.is_file file)
+    (rule.prove (rule.unroll_of o) (rule.orders_of o) (rule.model_of o) file) (usual o.orders h)
+proofs o (file ∷ w ∷ ws) h = tt
+
 layouts : (o : rule.Options) (ws : List rule.Word) → IfSome (rule.layout_of o ws) IsWithinRules
 layouts o [] = tt
 layouts o (file ∷ []) =
@@ -145,12 +152,19 @@ samples (start ∷ fields ∷ []) =
     (within rule.most_fields fields)
 samples (start ∷ fields ∷ w ∷ ws) = tt
 
+certificates : (ws : List rule.Word) → IfSome (rule.verify_of ws) IsWithinRules
+certificates [] = tt
+certificates (file ∷ []) = if_so IsWithinRules (rule.is_file file) (rule.verify file) tt
+certificates (file ∷ w ∷ ws) = tt
+
 commands : (c : rule.Word) (ws : List rule.Word) → IfSome (rule.named c ws) IsWithinRules
 commands c ws =
     either IsWithinRules (bytes_eq c (codes "check")) _ _ (asks rule.check_of ws reports)
     (either IsWithinRules (bytes_eq c (codes "layout")) _ _ (asks rule.layout_of ws (λ o ws h. layouts o ws))
     (either IsWithinRules (bytes_eq c (codes "run")) _ _ (asks rule.run_of ws (λ o ws h. runs o ws))
-    (either IsWithinRules (bytes_eq c (codes "sample")) _ None (samples ws) tt)))
+    (either IsWithinRules (bytes_eq c (codes "sample")) _ _ (samples ws)
+    (either IsWithinRules (bytes_eq c (codes "prove")) _ _ (asks rule.prove_of ws proofs)
+    (either IsWithinRules (bytes_eq c (codes "verify")) _ None (certificates ws) tt)))))
 
 pub within_rules : (r : Option Command) (c : rule.Word) (ws : List rule.Word)
     → option_map view.command r ≡ rule.named c ws → IfSome r (λ c. IsWithinRules (view.command c))

@@ -143,6 +143,8 @@ pub data Command : Type 0 where
   layout : (model : Model) (file : Word) → Command
   run : (order : Order) (steps : ℕ) (model : Model) (file : Word) (inputs : List ℕ) → Command
   sample : (start fields : ℕ) → Command
+  prove : (unroll : ℕ) (orders : Order × Order) (model : Model) (file : Word) → Command
+  verify : (file : Word) → Command
 
 -- the model that is named, else ilp32
 abbrev pub model_of : Options → Model
@@ -170,6 +172,14 @@ check_of o (file ∷ []) =
     if is_no_run o && is_file file then Some (check (unroll_of o) (orders_of o) (model_of o) o.known_bits file)
     else None
 check_of o (file ∷ word ∷ words) = None
+
+-- without known bits
+abbrev pub prove_of : Options → List Word → Option Command
+prove_of o [] = None
+prove_of o (file ∷ []) =
+    if is_no_run o && not o.known_bits && is_file file then Some (prove (unroll_of o) (orders_of o) (model_of o) file)
+    else None
+prove_of o (file ∷ word ∷ words) = None
 
 abbrev pub layout_of : Options → List Word → Option Command
 layout_of o [] = None
@@ -225,6 +235,13 @@ sample_of (start ∷ []) = None
 sample_of (start ∷ fields ∷ []) = sample_with (number most_start start) (number most_fields fields)
 sample_of (start ∷ fields ∷ word ∷ words) = None
 
+-- ---- certificates: their file, and no options
+
+abbrev pub verify_of : List Word → Option Command
+verify_of [] = None
+verify_of (file ∷ []) = if is_file file then Some (verify file) else None
+verify_of (file ∷ word ∷ words) = None
+
 -- ---- words
 
 abbrev pub with_options : (Options → List Word → Option Command) → List Word → Option Command
@@ -236,6 +253,8 @@ named command words =
     else if bytes_eq command (codes "layout") then with_options layout_of words
     else if bytes_eq command (codes "run") then with_options run_of words
     else if bytes_eq command (codes "sample") then sample_of words
+    else if bytes_eq command (codes "prove") then with_options prove_of words
+    else if bytes_eq command (codes "verify") then verify_of words
     else None
 
 -- What plain words ask: the program's name, a command, its options, and its positional words.
@@ -244,13 +263,15 @@ plain [] = None
 plain (name ∷ []) = None
 plain (name ∷ command ∷ words) = named command words
 
--- the two orders of a report are different ones
+-- the two orders of a report, or of a certificate, are different ones
 abbrev pub AreOther : Order × Order → Type 0
 AreOther p = (p.0 ≡ p.1) → ⊥
 
--- a report compares two different orders, and a sample has no more fields than the rules allow
+-- a report and a certificate compare two different orders, and a sample has no more fields than the rules allow
 abbrev pub IsWithinRules : Command → Type 0
 IsWithinRules (check unroll orders model known_bits file) = AreOther orders
 IsWithinRules (layout model file) = Unit {0}
 IsWithinRules (run order steps model file inputs) = Unit {0}
 IsWithinRules (sample start fields) = fields ≤ most_fields
+IsWithinRules (prove unroll orders model file) = AreOther orders
+IsWithinRules (verify file) = Unit {0}

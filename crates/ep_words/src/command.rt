@@ -32,6 +32,16 @@ pub struct CheckWords<'a> {
     pub file: &'a str,
 }
 
+/// A report on a file as for `CheckWords`, or a certificate that it is empty.
+#[derive(Clone, Copy)]
+pub struct ProveWords<'a> {
+    /// So many turns of a loop are gone through by themselves.
+    pub unroll: u32,
+    pub orders: (Order, Order),
+    pub model: Model,
+    pub file: &'a str,
+}
+
 /// A run of a file on one machine. The words of the inputs are numbers.
 #[derive(Clone, Copy)]
 pub struct RunWords<'a> {
@@ -59,6 +69,9 @@ pub enum Command<'a> {
     Layout(Model, &'a str),
     Run(RunWords<'a>),
     Sample(SampleWords),
+    Prove(ProveWords<'a>),
+    /// A look at the certificate in a file.
+    Verify(&'a str),
 }
 
 // A name that isn't empty and doesn't begin as an option does.
@@ -82,6 +95,22 @@ fn check_of(given: Options, words: &[String]) -> Option<Command<'_>>
             known_bits: given.known_bits,
             file: file.as_str(),
         })),
+        _ => None,
+    }
+}
+
+fn prove_of(given: Options, words: &[String]) -> Option<Command<'_>>
+    ensures { option_map view.command result ≡ rule.prove_of (view.options given) (view.words words.now) }
+{
+    match words {
+        [file] if given.is_no_run() && !given.known_bits && is_file(file.as_str()) => {
+            Some(Command::Prove(ProveWords {
+                unroll: given.unroll(),
+                orders: given.orders(),
+                model: given.model(),
+                file: file.as_str(),
+            }))
+        }
         _ => None,
     }
 }
@@ -198,6 +227,24 @@ fn sample_words(words: &[String]) -> Option<Command<'_>>
     }
 }
 
+fn prove_words(words: &[String]) -> Option<Command<'_>>
+    ensures { option_map view.command result ≡ rule.with_options rule.prove_of (view.words words.now) }
+{
+    match leading(Options::none(), words) {
+        Some((given, rest)) => prove_of(given, rest),
+        None => None,
+    }
+}
+
+fn verify_words(words: &[String]) -> Option<Command<'_>>
+    ensures { option_map view.command result ≡ rule.verify_of (view.words words.now) }
+{
+    match words {
+        [file] if is_file(file.as_str()) => Some(Command::Verify(file.as_str())),
+        _ => None,
+    }
+}
+
 // What the words behind a command ask.
 fn named<'a>(command: &str, words: &'a [String]) -> Option<Command<'a>>
     ensures { option_map view.command result ≡ rule.named command.now (view.words words.now) }
@@ -207,6 +254,8 @@ fn named<'a>(command: &str, words: &'a [String]) -> Option<Command<'a>>
         "layout" => layout_words(words),
         "run" => run_words(words),
         "sample" => sample_words(words),
+        "prove" => prove_words(words),
+        "verify" => verify_words(words),
         _ => None,
     }
 }

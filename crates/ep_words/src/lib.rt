@@ -5,4 +5,4 @@ mod command;
 mod numbers;
 mod options;
 
-pub use command::{CheckWords, Command, RunWords, SampleWords, asked, input_numbers};
+pub use command::{CheckWords, Command, ProveWords, RunWords, SampleWords, asked, input_numbers};

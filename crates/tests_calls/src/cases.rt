@@ -14,6 +14,8 @@ pub const USAGE_TEXT: &str = "usage:
   endport run --order little|big|swapped-words --steps N [--model ilp32|lp64] FILE [INPUT..]
   endport layout [--model ilp32|lp64] FILE
   endport sample START FIELDS
+  endport prove [--unroll N] [--orders A,B] [--model ilp32|lp64] FILE
+  endport verify CERT
 ";
 
 /// What a call is given: its words, what stands under `file.c`, and how the source and the sink go about it.

@@ -11,4 +11,4 @@ returns-in-Ok c =
     (only_of c.args.asked.model c.args.source.now c.read.result c.in-Ok.program c.in-Ok.is c.read.ensures.means
     c.read.ensures.only c.read.ensures.faultless)
     c.report_on.ensures.status c.report_on.ensures.text c.report_on.ensures.portable c.report_on.ensures.stand
-    c.report_on.ensures.tame c.report_on.ensures.closed
+    c.report_on.ensures.tame c.report_on.ensures.closed c.report_on.ensures.straight c.report_on.ensures.mover

@@ -67,11 +67,12 @@ returns-in-Ok-clause-to_its_end g c =
 
 pub returns-in-Err-clause-always_too_long : goal.returns-in-Err-clause-always_too_long
 returns-in-Err-clause-always_too_long g c =
-    rw (← c.deref.ensures.value, ← c.in-Some.ensures.command) (too_long _ _ _ c.in-Err.status c.in-Err.ensures.stop)
+    rw (← c.deref.ensures.value, ← c.in-Some.ensures.command) (too_long _ _ _ _ c.in-Err.status
+    c.in-Err.ensures.stop)
 
 pub returns-in-Err-clause-ends : goal.returns-in-Err-clause-ends
 returns-in-Err-clause-ends g c =
-    rw (← c.deref.ensures.value, ← c.in-Some.ensures.command) (stop_ends (view.command c.in-Some.command) _ _ _
+    rw (← c.deref.ensures.value, ← c.in-Some.ensures.command) (stop_ends (view.command c.in-Some.command) _ _ _ _
     c.in-Err.status c.in-Err.ensures.stop c.in-Err.ensures.memory)
 
 pub returns-in-Err-clause-complete : goal.returns-in-Err-clause-complete
