@@ -2,7 +2,8 @@
 # `awk -f words.awk -- file WORD..` which of them is FILE, from 1 on, or 0. What words mean is what
 # crates/ep_words/specs/Words.antt says; this only names the word at fault.
 
-# Each command: its options, those that must be there, and what may stand behind FILE; or, without a file, its numbers.
+# Each command: its options, those that must be there, how its file is called, if not FILE, and what may stand behind it;
+# or, without a file, its numbers.
 # Each option and number: its values, or the least number, if not 0, and the greatest.
 function table() {
     options["check"] = "--unroll --orders --model --domain"
@@ -10,6 +11,9 @@ function table() {
     needs["run"] = "--order --steps"
     more["run"] = "INPUT"
     options["layout"] = "--model"
+    options["prove"] = "--unroll --orders --model"
+    options["verify"] = ""
+    named["verify"] = "CERT"
     options["sample"] = ""
     numbers["sample"] = "START FIELDS"
     values["--order"] = "little big swapped-words"
@@ -66,15 +70,16 @@ function stop_on_options(command, end,   at, name, count, names) {
     for (at = 1; at <= count; at++) if (!(names[at] in given)) stop("missing option " names[at])
 }
 
-function stop_on_rest(command, file,   at) {
-    if (file >= ARGC) stop("missing FILE")
-    if (ARGV[file] == "") stop("FILE is empty")
+function stop_on_rest(command, file,   at, name) {
+    name = command in named ? named[command] : "FILE"
+    if (file >= ARGC) stop("missing " name)
+    if (ARGV[file] == "") stop(name " is empty")
     for (at = file + 1; at < ARGC; at++) {
-        if (has(options[command], ARGV[at])) stop("option behind FILE: " ARGV[at])
+        if (has(options[command], ARGV[at])) stop("option behind " name ": " ARGV[at])
         if (!(command in more)) stop_on_unknown("word", ARGV[at])
         stop_on_value(more[command], ARGV[at])
     }
-    if (ARGC - file - 1 > 65536) stop("more than 65536 words behind FILE")
+    if (ARGC - file - 1 > 65536) stop("more than 65536 words behind " name)
 }
 
 function stop_on_numbers(command,   at, count, names) {
