@@ -1,5 +1,5 @@
 -- What is kept beside the types stays right when the table grows.
-use Rattle.std.proofs.Common.{◌≡◌, ℕ, ◌*◌, ◌<◌, ◌≤◌, true, List, [], length, map, slice_get, Option, Some}
+use Rattle.std.proofs.Common.{◌≡◌, ℕ, ◌*◌, ◌<◌, true, List, [], length, map, slice_get, Option, Some}
 use Rattle.ep_layout.proofs.PlacingLemmas.{within_limit}
 use Rattle.std.proofs.Common.{None, option_map, option_and_then, IfSome, refl, sym, ◌∙◌, ap, subst, arith, nat_lt}
 use Rattle.std.proofs.lemmas.Bool.Decides.{nat_tests}

@@ -13,5 +13,7 @@ pub mod Ordered
 pub mod Rows
 pub mod Steps
 pub mod Copies
+pub mod Chains
+pub mod ChainLists
 pub mod Worked
 pub mod Basics

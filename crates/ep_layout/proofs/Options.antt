@@ -1,7 +1,6 @@
 -- Options and lists of them.
 use Rattle.std.proofs.Common.{◌≡◌, ℕ, zero, suc, List, [], ◌∷◌, ◌++◌, length, slice_get, slice_set, Option}
 use Rattle.std.proofs.Common.{Some, None, option_map, option_and_then, refl, ap, ◌⊎◌, inl, inr}
-use Rattle.std.proofs.Common.{true≢false}
 use Rattle.ep_layout.specs.Table.{at_each}
 
 pub and_then_some : {X Y : Type 0} (f : X → Option Y) (o : Option X) (y : Y) → option_and_then f o ≡ Some y → (x : X) × (o ≡ Some x) × (f x ≡ Some y)

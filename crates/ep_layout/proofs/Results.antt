@@ -1,10 +1,14 @@
 -- What a result says where it is known which one it is.
 use Rattle.std.proofs.Common.{◌≡◌, sym, refl, Bool, true, false, true≢false, Result, Ok, Err, is_ok, is_err, OnOk}
-use Rattle.std.proofs.Common.{IfOk, if◌then◌else◌}
+use Rattle.std.proofs.Common.{IfOk, OnErr, if◌then◌else◌}
 
 pub on_ok : {X E : Type 0} (r : Result X E) (P : Type 0) → is_err r ≡ false → OnOk r P → P
 on_ok (Ok x) P e h = h
 on_ok (Err x) P e h = absurd (true≢false e)
+
+pub on_err : {X E : Type 0} (r : Result X E) (P : Type 0) → is_err r ≡ true → OnErr r P → P
+on_err (Ok x) P e h = absurd (true≢false (sym e))
+on_err (Err x) P e h = h
 
 pub if_ok : {X E : Type 0} (r : Result X E) (P : Type 0) → is_err r ≡ false → IfOk r (λ v. P) → P
 if_ok (Ok x) P e h = h

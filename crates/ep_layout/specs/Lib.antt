@@ -1,6 +1,8 @@
 pub mod SameTypes
 pub mod Layout
 pub mod Table
+pub mod Pointers
+pub mod Chains
 pub mod Views
 pub mod Placed
 pub mod Stops

@@ -9,6 +9,7 @@ ghost use Rattle.ep_layout.specs.declared.table.Body.{Body};
 ghost use Rattle.ep_layout.specs.Layout.{Layout, most_bytes};
 ghost use Rattle.ep_layout.specs.Table as table;
 ghost use Rattle.ep_layout.specs.Table.{IsBuilt};
+ghost use Rattle.ep_layout.specs.Pointers as pointers;
 ghost use Rattle.ep_layout.specs.Extents.{IsExtent, extent_of, kept_extent};
 ghost use Rattle.ep_layout.specs.Views.{member_view, members_view, named_view};
 
@@ -21,7 +22,7 @@ mod text;
 use crate::extent::Extent;
 use crate::list::TypeList;
 use crate::members::MemberList;
-use crate::types::{Member, Ty};
+use crate::types::{Member, PointedRow, Ty};
 use ep_int::Model as DataModel;
 use std::alloc::Global;
 use std::marker::Model;
@@ -208,6 +209,35 @@ impl Types {
             None => None,
             Some(n) => Some(n as u32),
         }
+    }
+
+    /// The row that so many pointers over a row come to, where each in turn is there. In constant time.
+    pub fn pointer_row(&self, row: u32, stars: u32) -> Option<u32>
+        requires { row < length self.now.types }
+        ensures row { result ≡ pointers.pointer_row self.now row stars }
+        ensures inside { IfSome result (λ n. n < length self.now.types) }
+    {
+        self.types.row_over(row, stars)
+    }
+
+    /// How many pointers over a row are there, each to the one before. In constant time.
+    pub fn pointers_over(&self, row: u32) -> u32
+        requires { row < length self.now.types }
+        ensures there { IsSome (pointers.pointer_row self.now row result) }
+        ensures last { pointers.pointer_row self.now row (result + 1) ≡ None }
+    {
+        self.types.stars_over(row) as u32
+    }
+
+    /// The row at the root of a row's pointers, and how many there are. In constant time.
+    pub fn root_of(&self, ty: u32) -> PointedRow
+        requires { ty < length self.now.types }
+        ensures chain { pointers.pointer_row self.now result.row result.stars ≡ Some ty }
+        ensures root { pointers.IsNoPointer self.now.types result.row }
+        ensures inside { result.row < length self.now.types }
+        ensures few { result.stars < length self.now.types }
+    {
+        self.types.root_of(ty)
     }
 
     /// What the address of an object of a type is a multiple of; none where it is void or incomplete.

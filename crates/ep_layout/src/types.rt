@@ -72,6 +72,13 @@ impl Hash for Ty {
     }
 }
 
+/// A row of a table, and how many pointers over it are meant.
+#[derive(Clone, Copy, Debug, PartialEq, Eq)]
+pub struct PointedRow {
+    pub row: u32,
+    pub stars: u32,
+}
+
 /// A member of an aggregate, and where it lies in it, in bytes.
 #[derive(Debug, Drop)]
 pub struct Member {

@@ -1,8 +1,10 @@
 //! Tests on types, and what a table says of them.
 
-ghost use Rattle.std.specs.Prelude.{◌≡◌, ◌+◌, ◌^◌, IfErr, IfOk, Option, Some, None, slice_get, pos, ◌≤◌, IfSome};
+ghost use Rattle.std.specs.Prelude.{◌≡◌, ◌+◌, ◌^◌, IfErr, IfOk, Option, Some, None, slice_get, pos, ◌≤◌, ◌<◌, IfSome};
+ghost use Rattle.std.specs.Prelude.{length};
 ghost use Rattle.ep_typing.specs.Types as rule;
 ghost use Rattle.ep_layout.specs.Table as table;
+ghost use Rattle.ep_layout.specs.Pointers.{IsNoPointer};
 ghost use Rattle.ep_int.specs.Arith.{is_in_range};
 
 use ep_ast::Literal;
@@ -266,49 +268,32 @@ fn elements_of(types: &Types, number: u32) -> Option<(u32, u32)>
     }
 }
 
+// The base that a row which is no pointer has.
+fn base_of(types: &Types, number: u32) -> Base
+    requires inside { number < length types.now.types }
+    requires root { IsNoPointer types.now.types number }
+    ensures { rule.whole result ≡ rule.type_of types.now number }
+{
+    match *types.ty(number) {
+        Ty::Void => Base::Void,
+        Ty::Int(t) => Base::Int(t),
+        Ty::Ptr(_) => Base::Void,
+        Ty::Array(_, _) => Base::Array(number),
+        Ty::Aggregate(a) => Base::Aggregate(a),
+    }
+}
+
 /// The type of a number. A pointer stands behind what it points to.
 pub fn type_of(types: &Types, number: u32) -> CType
     ensures { result ≡ rule.type_of types.now number }
 {
-    let mut n = number;
-    let mut stars: u32 = 0;
-    for i in 0..types.type_count() {
-        match row(types, n) {
-            None => return CType {
-                base: Base::Void,
-                stars,
-            },
-            Some(Ty::Void) => return CType {
-                base: Base::Void,
-                stars,
-            },
-            Some(Ty::Int(t)) => {
-                return CType {
-                    base: Base::Int(t),
-                    stars,
-                };
-            }
-            Some(Ty::Ptr(to)) => {
-                n = to;
-                stars += 1;
-            }
-            Some(Ty::Array(_, _)) => {
-                return CType {
-                    base: Base::Array(n),
-                    stars,
-                };
-            }
-            Some(Ty::Aggregate(a)) => {
-                return CType {
-                    base: Base::Aggregate(a),
-                    stars,
-                };
-            }
-        }
+    if number >= types.type_count() {
+        return void_type();
     }
+    let root = types.root_of(number);
     CType {
-        base: Base::Void,
-        stars,
+        base: base_of(types, root.row),
+        stars: root.stars,
     }
 }
 

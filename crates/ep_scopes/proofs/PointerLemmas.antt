@@ -1,36 +1,47 @@
--- A type of a table that was built stands there once, so its number is where it stands.
-use Rattle.std.proofs.Common.{◌≡◌, ℕ, ◌<◌, length, slice_get, Option, Some, refl, sym, ap, subst, inl, inr}
+-- Pointers that are in a table need no row.
+use Rattle.std.proofs.Common.{◌≡◌, ℕ, zero, suc, ◌+◌, ◌-◌, ◌≤◌, Option, Some, refl, sym, ap, ◌∙◌, arith}
 use Rattle.std.specs.Prelude.{unwrap_or}
-use Rattle.std.proofs.lemmas.Option.{slice_get_within}
-use Rattle.ep_layout.specs.declared.types.Ty.{Ty}
-use Rattle.ep_layout.specs.SameTypes.{is_same_type, same_itself}
-use Rattle.ep_layout.specs.Table.{Table, IsBuilt, laid_out, number_of, type_added, with_type}
-use Rattle.ep_layout.specs.Table.IsBuilt.{start, type_more, aggregate_more, members_more}
-use Rattle.ep_layout.proofs.Options.{get_push}
-use Rattle.ep_layout.proofs.Positions.{position_push, position_stays}
-use Rattle.ep_layout.proofs.Laid.{completed_is, with_members}
-use Rattle.ep_typing.specs.Types.{known_number}
+use Rattle.ep_layout.specs.declared.types.Ty.TheVariants as rows
+use Rattle.ep_layout.specs.Table.{Table, number_of, type_added}
+use Rattle.ep_layout.specs.Pointers.{row_over}
+use Rattle.ep_layout.proofs.Options.{and_then_some}
+use Rattle.ep_typing.specs.Types.{known_number, with_pointers, pointer_number}
+use Rattle.ep_scopes.proofs.KnownLemmas.{no_pointers, one_pointer, no_stars, one_star}
 
-row_number : (t : Table) → IsBuilt t → (n : ℕ) (ty : Ty) → slice_get t.types n ≡ Some ty → number_of t ty ≡ Some n
-row_number t (start m) n ty h = absurd cc
-row_number t (type_more s new b here fresh fits) n ty h = elim (get_push s.types new ty n h) [
-  | inl old ↦ position_stays (is_same_type ty) s.types new n (row_number s b n ty old)
-  | inr p ↦ subst (λ (k : ℕ). number_of (with_type s new) ty ≡ Some k) (sym p.0)
-      (subst (λ (v : Ty). number_of (with_type s new) v ≡ Some (length s.types)) p.1
-      (position_push (is_same_type new) s.types new fresh (same_itself new)))
-]
-row_number t (aggregate_more s tag u b) n ty h = row_number s b n ty h
-row_number t (members_more s a g members b here none_yet within fits) n ty h =
-    let v = with_members s a g (laid_out s g.is_union members) in
-    let e = completed_is s a g members here in
-    let p : slice_get v.types n ≡ Some ty = subst (λ (w : Table). slice_get w.types n ≡ Some ty) e h in
-    subst (λ (w : Table). number_of w ty ≡ Some n) (sym e) (row_number s b n ty p)
+there : (t : Table) (n x : ℕ) → number_of t (rows.Ptr n) ≡ Some x → t ≡ type_added t (rows.Ptr n)
+there t n x q = rw q refl
 
-pub row_known : (t : Table) → IsBuilt t → (n : ℕ) (ty : Ty) → slice_get t.types n ≡ Some ty → n ≡ known_number t ty
-row_known t b n ty h = sym (ap (λ (o : Option ℕ). unwrap_or o 0) (row_number t b n ty h))
+known : (t : Table) (n x : ℕ) → number_of t (rows.Ptr n) ≡ Some x → x ≡ known_number t (rows.Ptr n)
+known t n x q = sym (ap (λ (o : Option ℕ). unwrap_or o 0) q)
 
-pub row_there : (t : Table) → IsBuilt t → (n : ℕ) (ty : Ty) → slice_get t.types n ≡ Some ty → t ≡ type_added t ty
-row_there t b n ty h = let q = row_number t b n ty h in rw q refl
+rows_over : (t : Table) (k n m j : ℕ) → row_over t.types n k ≡ Some m → with_pointers t n (k + j) ≡ with_pointers t m j
+unfolding row_over
+rows_over t zero n m j h =
+    let same : n ≡ m = cc in
+    let less : 0 + j ≡ j = omega arith in
+    ap (with_pointers t n) less ∙ ap (λ (i : ℕ). with_pointers t i j) same
+rows_over t (suc k) n m j h =
+    let s = and_then_some (λ i. row_over t.types i k) (number_of t (rows.Ptr n)) m h in
+    sym (one_pointer t t n s.0 (suc k + j) (k + j) (with_pointers t n (suc k + j)) (omega arith) (there t n s.0 s.1) (known t n s.0 s.1) refl)
+    ∙ rows_over t k s.0 m j s.2
 
-pub row_within : (t : Table) (n : ℕ) (ty : Ty) → slice_get t.types n ≡ Some ty → n < length t.types
-row_within t n ty h = slice_get_within t.types n ty h
+numbers_over : (t : Table) (k n m j : ℕ) → row_over t.types n k ≡ Some m → pointer_number t n (k + j) ≡ pointer_number t m j
+unfolding row_over
+numbers_over t zero n m j h =
+    let same : n ≡ m = cc in
+    let less : 0 + j ≡ j = omega arith in
+    ap (pointer_number t n) less ∙ ap (λ (i : ℕ). pointer_number t i j) same
+numbers_over t (suc k) n m j h =
+    let s = and_then_some (λ i. row_over t.types i k) (number_of t (rows.Ptr n)) m h in
+    sym (one_star t n s.0 (suc k + j) (k + j) (pointer_number t n (suc k + j)) (omega arith) (known t n s.0 s.1) refl)
+    ∙ numbers_over t k s.0 m j s.2
+
+pub grown_from : (t : Table) (n m k all : ℕ) → k ≤ all → row_over t.types n k ≡ Some m → with_pointers t n all ≡ with_pointers t m (all - k)
+grown_from t n m k all l h =
+    let whole : all ≡ k + (all - k) = omega (arith, l) in
+    ap (with_pointers t n) whole ∙ rows_over t k n m (all - k) h
+
+pub numbered_from : (t : Table) (n m k all : ℕ) → k ≤ all → row_over t.types n k ≡ Some m → pointer_number t n all ≡ pointer_number t m (all - k)
+numbered_from t n m k all l h =
+    let whole : all ≡ k + (all - k) = omega (arith, l) in
+    ap (pointer_number t n) whole ∙ numbers_over t k n m (all - k) h

@@ -1,10 +1,9 @@
 //! What stands round an expression.
 
-ghost use Rattle.std.specs.Prelude.{◌≡◌, ◌<◌, IfOk, IfSome, OnOk, IsTrue, None, Some, bytes_eq, length, map, position};
+ghost use Rattle.std.specs.Prelude.{◌≡◌, ◌<◌, IfOk, OnOk, IsTrue, None, Some, bytes_eq, length, map, position};
 ghost use Rattle.std.specs.Prelude.{slice_get};
 ghost use Rattle.std.specs.Option.{option_map};
 ghost use Rattle.ep_core.specs.View.{block_view};
-ghost use Rattle.ep_layout.specs.declared.types.Ty.TheVariants as rows;
 ghost use Rattle.ep_layout.specs.Table as table;
 ghost use Rattle.ep_typing.specs.Env as rule;
 ghost use Rattle.ep_typing.specs.Types as types_of;
@@ -15,7 +14,7 @@ use crate::fields::Fields;
 use crate::scopes::Scopes;
 use ep_core::program::BlockInfo;
 use ep_int::{Memory, Model};
-use ep_layout::{Ty, Types};
+use ep_layout::{PointedRow, Ty, Types};
 use ep_operands::{as_number, has_room, known_number};
 use ep_typing::{Base, CType};
 use indexmap::IndexMap;
@@ -78,50 +77,6 @@ fn add_row(types: &mut Types, ty: Ty) -> Result<u32, Memory>
     }
 }
 
-// The next number, where the pointer to this type has it: pointers that came one behind the other need no look-up.
-fn next_pointer(types: &Types, number: u32) -> Option<u32>
-    ensures { IfSome result (λ n. slice_get types.now.types n ≡ Some (rows.Ptr number)) }
-{
-    let count = types.type_count();
-    if number >= count {
-        return None;
-    }
-    let next = number + 1;
-    if next >= count {
-        return None;
-    }
-    match types.ty(next) {
-        Ty::Ptr(to) => if *to == number { Some(next) } else { None },
-        _ => None,
-    }
-}
-
-// The number of the pointer to a type, which may have to come into the table.
-fn add_pointer(types: &mut Types, number: u32) -> Result<u32, Memory>
-    requires { IsTrue (table.names_known types.old (rows.Ptr number)) }
-    ensures number { IfOk result (λ n. n ≡ types_of.known_number types.new (rows.Ptr number)) }
-    ensures inside { IfOk result (λ n. n < length types.new.types) }
-    ensures grown { OnOk result (types.new ≡ table.type_added types.old (rows.Ptr number)) }
-{
-    // it has each type once
-    let _model = types.model();
-    match next_pointer(types, number) {
-        Some(next) => Ok(next),
-        None => add_row(types, Ty::Ptr(number)),
-    }
-}
-
-// The number of the pointer to a type, where it is in the table.
-fn known_pointer(types: &Types, number: u32) -> u32
-    ensures { result ≡ types_of.known_number types.now (rows.Ptr number) }
-{
-    let _model = types.model();
-    match next_pointer(types, number) {
-        Some(next) => next,
-        None => known_number(types, Ty::Ptr(number)),
-    }
-}
-
 fn add_base(types: &mut Types, base: Base) -> Result<u32, Memory>
     requires { IsKnownBase types.old base }
     ensures number { IfOk result (λ n. n ≡ types_of.base_number types.new base) }
@@ -136,14 +91,37 @@ fn add_base(types: &mut Types, base: Base) -> Result<u32, Memory>
     }
 }
 
-/// A type comes into the table: its base, then each of its pointers.
+// The deepest of so many pointers over a row that is in the table, and how many are behind that.
+fn deepest(types: &Types, row: u32, stars: u32) -> PointedRow
+    ensures inside { row < length types.now.types → result.row < length types.now.types }
+    ensures grown { types_of.with_pointers types.now row stars
+        ≡ types_of.with_pointers types.now result.row result.stars }
+    ensures number { types_of.pointer_number types.now row stars
+        ≡ types_of.pointer_number types.now result.row result.stars }
+{
+    if row >= types.type_count() {
+        return PointedRow { row, stars };
+    }
+    let known = stars.min(types.pointers_over(row));
+    match types.pointer_row(row, known) {
+        None => PointedRow { row, stars },
+        Some(deep) => PointedRow {
+            row: deep,
+            stars: stars - known,
+        },
+    }
+}
+
+/// A type comes into the table: its base, then each of its pointers that isn't there.
 pub fn add_type(types: &mut Types, c: CType) -> Result<(), Memory>
     requires { IsKnown types.old c }
     ensures { OnOk result (types.new ≡ types_of.with_c_type types.old c) }
 {
-    let mut number = add_base(types, c.base)?;
-    for i in 0..c.stars {
-        number = add_pointer(types, number)?;
+    let base = add_base(types, c.base)?;
+    let behind = deepest(types, base, c.stars);
+    let mut number = behind.row;
+    for i in 0..behind.stars {
+        number = add_row(types, Ty::Ptr(number))?;
     }
     Ok(())
 }
@@ -163,9 +141,11 @@ fn base_number(types: &Types, base: Base) -> u32
 pub fn type_number(types: &Types, c: CType) -> u32
     ensures { result ≡ types_of.c_type_number types.now c }
 {
-    let mut number = base_number(types, c.base);
-    for i in 0..c.stars {
-        number = known_pointer(types, number);
+    let base = base_number(types, c.base);
+    let behind = deepest(types, base, c.stars);
+    let mut number = behind.row;
+    for i in 0..behind.stars {
+        number = known_number(types, Ty::Ptr(number));
     }
     number
 }

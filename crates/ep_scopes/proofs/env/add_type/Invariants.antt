@@ -5,5 +5,5 @@ use Rattle.ep_scopes.proofs.env.add_type.Given as goal
 abbrev pub invariant-loop-i : goal.invariant-loop-i
 invariant-loop-i l = record {
   inside : l.number < length l.types.types;
-  means : with_pointers l.types l.number (l.fn.c.stars - l.i) ≡ with_c_type l.fn.types l.fn.c;
+  means : with_pointers l.types l.number (l.i-end - l.i) ≡ with_c_type l.fn.types l.fn.c;
 }

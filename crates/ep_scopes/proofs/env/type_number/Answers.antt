@@ -4,8 +4,8 @@ use Rattle.ep_scopes.proofs.env.type_number.Goals as goal
 
 pub loop-i-preserved : goal.loop-i-preserved
 loop-i-preserved c =
-    one_star c.args.types.now c.loop-i.number c.known_pointer-number.result (c.args.c.stars - c.loop-i.i) (c.args.c.stars - (c.loop-i.i + 1)) _
-    (omega (arith, c.loop-i-test.true)) c.known_pointer-number.ensures c.loop-i.invariant
+    one_star c.args.types.now c.loop-i.number c.known_number-number.result (c.deepest-behind.result.stars - c.loop-i.i) (c.deepest-behind.result.stars - (c.loop-i.i + 1)) _
+    (omega (arith, c.loop-i-test.true)) c.known_number-number.ensures c.loop-i.invariant
 
 pub returns : goal.returns
-returns c = no_stars c.args.types.now c.loop-i.number (c.args.c.stars - c.loop-i.i) _ (omega (arith, c.loop-i-test.false)) c.loop-i.invariant
+returns c = no_stars c.args.types.now c.loop-i.number (c.deepest-behind.result.stars - c.loop-i.i) _ (omega (arith, c.loop-i-test.false)) c.loop-i.invariant

@@ -1,0 +1,24 @@
+use Rattle.std.proofs.Common.{◌≡◌, ◌∙◌, arith, sym, ap, length, [], ◌∷◌, ℕ, ◌++◌}
+use Rattle.ep_layout.specs.Pointers.{lists}
+use Rattle.ep_layout.proofs.Results.{if_ok, chosen, is_ok_there}
+use Rattle.ep_layout.proofs.ChainLists.{other_more, lists_push, keys_pushed}
+use Rattle.ep_layout.proofs.list.TypeList.push_other.Goals as goal
+
+pub invariant_of-self-else-is_err-3 : goal.invariant_of-self-else-is_err-3
+invariant_of-self-else-is_err-3 c =
+    let s = c.self.inside in
+    let keys = if_ok c.insert.result _ (sym c.is_err.ensures.value ∙ c.if-is_err.false) c.insert.ensures.keys in
+    let types = keys_pushed s.types.keys c.args.self.now c.insert.new.self.keys c.args.ty c.self.view_is c.requires.new keys in
+    let places = chosen _ _ _ _ (is_ok_there c.push.result (sym c.is_err-2.ensures.value ∙ c.if-is_err-2.false)) c.push.ensures.items in
+    let pushed = chosen _ _ _ _ (is_ok_there c.push-2.result (sym c.is_err-3.ensures.value ∙ c.if-is_err-3.false)) c.push-2.ensures.items in
+    let chains = lists_push s.chains.items c.push-2.new.self.items c.in_ok-chain.chain c.len-count.result pushed c.in_ok-chain.ensures in
+    let chain : c.len.result ≡ length s.chains.items = omega (arith, c.len.ensures) in
+    let count = c.len-count.ensures.len ∙ ap length c.self.view_is in
+    other_more s c.args.self.now c.insert.new.self.keys c.push.new.self.items (lists c.push-2.new.self.items) c.args.ty c.self.view_is c.self.invariant
+    c.requires.other types (places ∙ ap (λ (n : ℕ). s.places.items ++ (record { chain = n; depth = 0 }) ∷ []) chain)
+    (chains ∙ ap (λ (n : ℕ). lists s.chains.items ++ (n ∷ []) ∷ []) count)
+
+pub returns-clause-ok : goal.returns-clause-ok
+returns-clause-ok c =
+    let keys = if_ok c.insert.result _ (sym c.is_err.ensures.value ∙ c.if-is_err.false) c.insert.ensures.keys in
+    keys_pushed c.self.inside.types.keys c.args.self.now c.insert.new.self.keys c.args.ty c.self.view_is c.requires.new keys
