@@ -27,12 +27,12 @@ pub struct Opening<'a> {
     pub line: u32,
     pub word: Word,
     pub tag: Option<&'a [u8]>,
-    pub brace: &'a [Token],
-    pub inside: &'a [Token],
+    pub brace: &'a [Token<'a>],
+    pub inside: &'a [Token<'a>],
 }
 
 /// The `struct` or `union` that begins here, where its members come.
-pub fn at_body<'a>(tokens: &'a [Token]) -> Option<Opening<'a>>
+pub fn at_body<'a>(tokens: &'a [Token<'a>]) -> Option<Opening<'a>>
     ensures value { AtBody (map view tokens.now) result }
     ensures shorter { IfSome result (IsOpenPast (length tokens.now)) }
 {

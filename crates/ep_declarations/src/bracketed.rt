@@ -30,14 +30,15 @@ fn bound(size: BoundedTree) -> Measured<Option<ExprTree>>
 /// All pairs of `[ ]` that stand here, where no bound is too deep.
 pub fn bounds<'a>(
     reader: &Reader<'_>,
-    tokens: &'a [Token],
+    tokens: &'a [Token<'a>],
 ) -> Result<Part<'a, Measured<Vec<Option<ExprTree>>>>, Halt>
     requires { length tokens.now < 2 ^ 24 }
     ensures reads { Parses ShowsBounds (Bounds (is_type reader.now.names.now)) (map view tokens.now) result }
     ensures shorter { IfOk result (IsWithin (length tokens.now)) }
 {
     let mut found = Measured::Fits(Vec::new(reader.alloc));
-    let mut rest = tokens;
+    // The variable has a lifetime of its own.
+    let mut rest = (tokens,).0;
     'bounds: loop {
         let Some((_, inside)) = at_mark(rest, Mark::LeftBracket) else {
             return Ok(Part { value: found, rest });

@@ -50,7 +50,10 @@ fn make_declarator(
 }
 
 /// The declarator that begins here.
-pub fn declarator<'a>(reader: &Reader<'_>, tokens: &'a [Token]) -> Result<Part<'a, Named<'a>>, Halt>
+pub fn declarator<'a>(
+    reader: &Reader<'_>,
+    tokens: &'a [Token<'a>],
+) -> Result<Part<'a, Named<'a>>, Halt>
     requires { length tokens.now < 2 ^ 24 }
     ensures reads { Parses ShowsNamed (Declared (is_type reader.now.names.now)) (map view tokens.now) result }
     ensures shorter { IfOk result (IsPast (length tokens.now)) }

@@ -25,11 +25,11 @@ use ep_reading::{Measured, Part, Reader, TypeNames, at_mark, at_name};
 pub struct BitsOpening<'a> {
     pub line: u32,
     pub name: Option<&'a [u8]>,
-    pub inside: &'a [Token],
+    pub inside: &'a [Token<'a>],
 }
 
 /// The bit-field that begins here.
-fn at_bits<'a>(names: &TypeNames, tokens: &'a [Token]) -> Option<BitsOpening<'a>>
+fn at_bits<'a>(names: &TypeNames, tokens: &'a [Token<'a>]) -> Option<BitsOpening<'a>>
     ensures value { AtBits (is_type names.now) (map view tokens.now) result }
     ensures shorter { IfSome result (IsBitsPast (length tokens.now)) }
 {
@@ -74,7 +74,7 @@ fn bits(line: u32, name: Option<Vec<u8>>, width: BoundedTree) -> Measured<Member
 /// A declarator, where no bit-field begins. A `:` behind it is refused.
 fn whole_field<'a>(
     reader: &Reader<'_>,
-    tokens: &'a [Token],
+    tokens: &'a [Token<'a>],
 ) -> Result<Part<'a, Measured<MemberFieldTree>>, Halt>
     requires few { length tokens.now < 2 ^ 24 }
     requires whole { begins_bits (is_type reader.now.names.now) (map view tokens.now) ≡ false }
@@ -94,7 +94,7 @@ fn whole_field<'a>(
 /// A declarator or a bit-field.
 fn one_field<'a>(
     reader: &Reader<'_>,
-    tokens: &'a [Token],
+    tokens: &'a [Token<'a>],
 ) -> Result<Part<'a, Measured<MemberFieldTree>>, Halt>
     requires { length tokens.now < 2 ^ 24 }
     ensures reads { ParsesEnded ShowsField (OneField (is_type reader.now.names.now)) (map view tokens.now) result }
@@ -114,14 +114,15 @@ fn one_field<'a>(
 /// What members of one type declare, up to and with the semicolon.
 pub fn member_fields<'a>(
     reader: &Reader<'_>,
-    tokens: &'a [Token],
+    tokens: &'a [Token<'a>],
 ) -> Result<Part<'a, Measured<Vec<MemberFieldTree>>>, Halt>
     requires { length tokens.now < 2 ^ 24 }
     ensures reads { Parses ShowsFields (Fields (is_type reader.now.names.now)) (map view tokens.now) result }
     ensures shorter { IfOk result (IsPast (length tokens.now)) }
 {
     let mut found = Measured::Fits(Vec::with_capacity(reader.alloc, 1)?);
-    let mut rest = tokens;
+    // The variable has a lifetime of its own.
+    let mut rest = (tokens,).0;
     'fields: loop {
         let one = one_field(reader, rest)?;
         found = found.longer(one.value)?;

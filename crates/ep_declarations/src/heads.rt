@@ -75,7 +75,7 @@ fn make_head(
 pub fn head<'a>(
     reader: &Reader<'_>,
     specs: SpecList,
-    tokens: &'a [Token],
+    tokens: &'a [Token<'a>],
 ) -> Result<Part<'a, Headed>, Halt>
     requires { length tokens.now < 2 ^ 24 }
     ensures reads { (xs : List Tok) → (ss : List Spec)

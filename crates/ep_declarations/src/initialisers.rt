@@ -40,7 +40,7 @@ fn braced(line: u32, values: Measured<Vec<ValueTree>>) -> Measured<ValueTree>
 #[cycle(values)]
 fn value<'a>(
     reader: &Reader<'_>,
-    tokens: &'a [Token],
+    tokens: &'a [Token<'a>],
 ) -> Result<Part<'a, Measured<ValueTree>>, Halt>
     requires { length tokens.now < 2 ^ 24 }
     ensures reads { ParsesEnded ShowsValue (Given (is_type reader.now.names.now)) (map view tokens.now) result }
@@ -64,14 +64,15 @@ fn value<'a>(
 #[cycle(values)]
 fn values<'a>(
     reader: &Reader<'_>,
-    tokens: &'a [Token],
+    tokens: &'a [Token<'a>],
 ) -> Result<Part<'a, Measured<Vec<ValueTree>>>, Halt>
     requires { length tokens.now < 2 ^ 24 }
     ensures reads { Parses ShowsValues (Listed (is_type reader.now.names.now)) (map view tokens.now) result }
     ensures shorter { IfOk result (IsPast (length tokens.now)) }
 {
     let mut found = Measured::Fits(Vec::new(reader.alloc));
-    let mut rest = tokens;
+    // The variable has a lifetime of its own.
+    let mut rest = (tokens,).0;
     'values: loop {
         let one = value(reader, rest)?;
         found = found.longer(one.value)?;
@@ -134,7 +135,7 @@ fn with_value(
 /// A declarator with its initialiser, if it has one.
 fn initialised<'a>(
     reader: &Reader<'_>,
-    tokens: &'a [Token],
+    tokens: &'a [Token<'a>],
 ) -> Result<Part<'a, Measured<InitTree>>, Halt>
     requires { length tokens.now < 2 ^ 24 }
     ensures reads { ParsesEnded ShowsInit (Initialised (is_type reader.now.names.now)) (map view tokens.now) result }
@@ -157,14 +158,14 @@ fn initialised<'a>(
 /// The declarators of variables with their initialisers, up to and with the semicolon.
 pub fn inits<'a>(
     reader: &Reader<'_>,
-    tokens: &'a [Token],
+    tokens: &'a [Token<'a>],
 ) -> Result<Part<'a, Measured<Vec<InitTree>>>, Halt>
     requires { length tokens.now < 2 ^ 24 }
     ensures reads { Parses ShowsInits (Inits (is_type reader.now.names.now)) (map view tokens.now) result }
     ensures shorter { IfOk result (IsPast (length tokens.now)) }
 {
     let mut found = Measured::Fits(Vec::with_capacity(reader.alloc, 1)?);
-    let mut rest = tokens;
+    let mut rest = (tokens,).0;
     'inits: loop {
         let one = initialised(reader, rest)?;
         found = found.longer(one.value)?;

@@ -45,7 +45,7 @@ struct MeasuredParameters {
 }
 
 /// The line of the first token.
-fn first_line(tokens: &[Token]) -> u32
+fn first_line(tokens: &[Token<'_>]) -> u32
     ensures { result ≡ first_line (map view tokens.now) }
 {
     match tokens {
@@ -55,7 +55,7 @@ fn first_line(tokens: &[Token]) -> u32
 }
 
 /// The line of `void` alone before the closing parenthesis, and what comes after that.
-fn void_alone<'a>(tokens: &'a [Token]) -> Option<(u32, &'a [Token])>
+fn void_alone<'a>(tokens: &'a [Token<'a>]) -> Option<(u32, &'a [Token<'a>])>
     ensures value { AtVoid (map view tokens.now) (option_map seen result) }
     ensures shorter { IfSome result (IsShorter (length tokens.now)) }
 {
@@ -90,7 +90,7 @@ fn make_parameter(
 
 fn parameter<'a>(
     reader: &Reader<'_>,
-    tokens: &'a [Token],
+    tokens: &'a [Token<'a>],
 ) -> Result<Part<'a, MeasuredParameter>, Halt>
     requires { length tokens.now < 2 ^ 24 }
     ensures reads { Parses ShowsParameter (OneParam (is_type reader.now.names.now)) (map view tokens.now) result }
@@ -164,14 +164,15 @@ impl MeasuredParameters {
 /// One parameter or more, up to and with the closing parenthesis.
 fn parameters<'a>(
     reader: &Reader<'_>,
-    tokens: &'a [Token],
+    tokens: &'a [Token<'a>],
 ) -> Result<Part<'a, MeasuredParameters>, Halt>
     requires { length tokens.now < 2 ^ 24 }
     ensures reads { Parses ShowsSome (SomeParams (is_type reader.now.names.now)) (map view tokens.now) result }
     ensures shorter { IfOk result (IsPast (length tokens.now)) }
 {
     let mut found = MeasuredParameters::new(reader.alloc);
-    let mut rest = tokens;
+    // The variable has a lifetime of its own.
+    let mut rest = (tokens,).0;
     'parameters: loop {
         let one = parameter(reader, rest)?;
         found = found.with(one.value)?;
@@ -191,7 +192,7 @@ fn parameters<'a>(
 /// The parameters of a head, from behind the opening parenthesis to behind the closing one.
 pub fn head_parameters<'a>(
     reader: &Reader<'_>,
-    tokens: &'a [Token],
+    tokens: &'a [Token<'a>],
 ) -> Result<Part<'a, ParameterList>, Halt>
     requires { length tokens.now < 2 ^ 24 }
     ensures reads { Parses ShowsParameters (grammar.Parameters (is_type reader.now.names.now)) (map view tokens.now)

@@ -87,7 +87,7 @@ fn as_aggregate(word: SpecTree) -> Option<AggregateTree>
 pub fn spec_list<'a>(
     reader: &Reader<'_>,
     context: Context,
-    tokens: &'a [Token],
+    tokens: &'a [Token<'a>],
 ) -> Result<Part<'a, SpecList>, Halt>
     requires { length tokens.now < 2 ^ 24 }
     ensures reads { Parses ShowsSpecs (Specified (is_type reader.now.names.now) (answers.context context))
@@ -96,7 +96,8 @@ pub fn spec_list<'a>(
 {
     let mut found = SpecList::new(reader.alloc)?;
     let mut bag = TypeBag::new();
-    let mut rest = tokens;
+    // The variable has a lifetime of its own.
+    let mut rest = (tokens,).0;
     let mut is_first = true;
     'words: loop {
         let next = next_word(reader, context, &bag, rest)?;
@@ -121,7 +122,7 @@ fn next_word<'a>(
     reader: &Reader<'_>,
     context: Context,
     words: &TypeBag,
-    tokens: &'a [Token],
+    tokens: &'a [Token<'a>],
 ) -> Result<Part<'a, Option<OneMore>>, Halt>
     requires few { length tokens.now < 2 ^ 24 }
     requires fit { fits (bag words.now) ≡ true }
@@ -155,14 +156,14 @@ fn next_word<'a>(
 #[cycle(specs)]
 fn members<'a>(
     reader: &Reader<'_>,
-    tokens: &'a [Token],
+    tokens: &'a [Token<'a>],
 ) -> Result<Part<'a, Measured<Vec<MemberTree>>>, Halt>
     requires { length tokens.now < 2 ^ 24 }
     ensures reads { Parses ShowsMembers (Members (is_type reader.now.names.now)) (map view tokens.now) result }
     ensures shorter { IfOk result (IsPast (length tokens.now)) }
 {
     let mut found = Measured::Fits(Vec::with_capacity(reader.alloc, 1)?);
-    let mut rest = tokens;
+    let mut rest = (tokens,).0;
     'members: loop {
         let one = one_member(reader, rest)?;
         found = found.longer(one.value)?;
@@ -180,7 +181,7 @@ fn members<'a>(
 #[cycle(specs)]
 fn one_member<'a>(
     reader: &Reader<'_>,
-    tokens: &'a [Token],
+    tokens: &'a [Token<'a>],
 ) -> Result<Part<'a, Measured<MemberTree>>, Halt>
     requires { length tokens.now < 2 ^ 24 }
     ensures reads { Parses ShowsMember (OneMember (is_type reader.now.names.now)) (map view tokens.now) result }

@@ -18,7 +18,7 @@ pub fn typedef_names<'a>(
     alloc: Global,
     names: &mut TypeNames,
     last: u32,
-    tokens: &'a [Token],
+    tokens: &'a [Token<'a>],
 ) -> Result<Part<'a, Measured<Vec<DeclaratorTree>>>, Halt>
     requires { length tokens.now < 2 ^ 24 }
     ensures reads { Parses (AddsTypes (is_type names.new)) (NamesTypes (is_type names.old)) (map view tokens.now)
@@ -26,7 +26,8 @@ pub fn typedef_names<'a>(
     ensures shorter { IfOk result (IsPast (length tokens.now)) }
 {
     let mut found = Measured::Fits(Vec::with_capacity(alloc, 1)?);
-    let mut rest = tokens;
+    // The variable has a lifetime of its own.
+    let mut rest = (tokens,).0;
     'typedefs: loop {
         let reader = Reader {
             alloc,

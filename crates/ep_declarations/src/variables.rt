@@ -37,7 +37,7 @@ pub fn make_declaration(
 /// A declaration in a block, up to and with its semicolon.
 pub fn declaration<'a>(
     reader: &Reader<'_>,
-    tokens: &'a [Token],
+    tokens: &'a [Token<'a>],
 ) -> Result<Part<'a, Measured<DeclarationTree>>, Halt>
     requires { length tokens.now < 2 ^ 24 }
     ensures reads { Parses ShowsDeclaration (Declares (is_type reader.now.names.now) in_block) (map view tokens.now)

@@ -56,7 +56,7 @@ fn is_storage_word(word: Word) -> bool
 }
 
 /// `static` or `inline`, where it may stand, with its line and what comes after it.
-fn at_storage<'a>(context: Context, tokens: &'a [Token]) -> Option<(u32, Word, &'a [Token])>
+fn at_storage<'a>(context: Context, tokens: &'a [Token<'a>]) -> Option<(u32, Word, &'a [Token<'a>])>
     ensures value { AtStorage (answers.context context) (map view tokens.now) (option_map seen_storage result) }
     ensures shorter { IfSome result (IsPastStorage (length tokens.now)) }
 {
@@ -76,7 +76,7 @@ pub fn plain_word<'a>(
     reader: &Reader<'_>,
     context: Context,
     words: &TypeBag,
-    tokens: &'a [Token],
+    tokens: &'a [Token<'a>],
 ) -> Result<Part<'a, Option<OneMore>>, Halt>
     requires fit { fits (bag words.now) ≡ true }
     requires plain { begins_body (map view tokens.now) ≡ false }

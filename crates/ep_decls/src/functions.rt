@@ -24,7 +24,7 @@ use ep_statements::block;
 pub fn body<'a>(
     reader: &Reader<'_>,
     headed: Headed,
-    tokens: &'a [Token],
+    tokens: &'a [Token<'a>],
 ) -> Result<Part<'a, Measured<FunctionTree>>, Halt>
     requires { length tokens.now < 2 ^ 24 }
     ensures reads { (xs : List Tok) → (h : shape.Head)
@@ -46,7 +46,7 @@ pub fn body<'a>(
 fn definition<'a>(
     reader: &Reader<'_>,
     specs: SpecList,
-    tokens: &'a [Token],
+    tokens: &'a [Token<'a>],
 ) -> Result<Part<'a, Measured<FunctionTree>>, Halt>
     requires { length tokens.now < 2 ^ 24 }
     ensures reads { (xs : List Tok) → (ss : List shape.Spec)
@@ -62,7 +62,7 @@ fn definition<'a>(
 /// A function with its body, where only functions stand: a parameter without a name is refused at the token behind it.
 fn function<'a>(
     reader: &Reader<'_>,
-    tokens: &'a [Token],
+    tokens: &'a [Token<'a>],
 ) -> Result<Part<'a, Measured<FunctionTree>>, Halt>
     requires { length tokens.now < 2 ^ 24 }
     ensures reads { Parses ShowsFunction (Defines (is_type reader.now.names.now)) (map view tokens.now) result }
@@ -78,14 +78,15 @@ fn function<'a>(
 /// The functions of an arm, up to an `#else` or `#endif`.
 fn all_functions<'a>(
     reader: &Reader<'_>,
-    tokens: &'a [Token],
+    tokens: &'a [Token<'a>],
 ) -> Result<Part<'a, Measured<Vec<FunctionTree>>>, Halt>
     requires { length tokens.now < 2 ^ 24 }
     ensures reads { Parses ShowsFunctions (Functions (is_type reader.now.names.now)) (map view tokens.now) result }
     ensures shorter { IfOk result (IsWithin (length tokens.now)) }
 {
     let mut found = Measured::Fits(Vec::new(reader.alloc));
-    let mut rest = tokens;
+    // The variable has a lifetime of its own.
+    let mut rest = (tokens,).0;
     'functions: loop {
         if ends_arm(rest) {
             return Ok(Part { value: found, rest });
@@ -99,7 +100,7 @@ fn all_functions<'a>(
 /// What stands from `#else` on, if there is one, up to and with the `#endif`.
 fn other_functions<'a>(
     reader: &Reader<'_>,
-    tokens: &'a [Token],
+    tokens: &'a [Token<'a>],
 ) -> Result<Part<'a, Measured<Option<Vec<FunctionTree>>>>, Halt>
     requires { length tokens.now < 2 ^ 24 }
     ensures reads { Parses ShowsOther (OtherFunctions (is_type reader.now.names.now)) (map view tokens.now) result }
@@ -129,7 +130,7 @@ pub fn arms<'a>(
     reader: &Reader<'_>,
     line: u32,
     order: NamedOrder,
-    tokens: &'a [Token],
+    tokens: &'a [Token<'a>],
 ) -> Result<Part<'a, Measured<ItemTree>>, Halt>
     requires { length tokens.now < 2 ^ 24 }
     ensures reads { Parses ShowsItem (Arms (is_type reader.now.names.now) line order) (map view tokens.now) result }

@@ -29,7 +29,7 @@ fn typedef<'a>(
     names: &mut TypeNames,
     last: u32,
     line: u32,
-    tokens: &'a [Token],
+    tokens: &'a [Token<'a>],
 ) -> Result<Part<'a, Measured<ItemTree>>, Halt>
     requires { length tokens.now < 2 ^ 24 }
     ensures reads { Parses (MakesTypes (is_type names.new)) (NewTypes (is_type names.old) line) (map view tokens.now)
@@ -53,7 +53,7 @@ fn typedef<'a>(
 fn headed_item<'a>(
     reader: &Reader<'_>,
     specs: SpecList,
-    tokens: &'a [Token],
+    tokens: &'a [Token<'a>],
 ) -> Result<Part<'a, Measured<ItemTree>>, Halt>
     requires { length tokens.now < 2 ^ 24 }
     ensures reads { (xs : List Tok) → (ss : List Spec)
@@ -80,7 +80,7 @@ fn headed_item<'a>(
 /// An item that begins with the words of a declaration.
 fn worded_item<'a>(
     reader: &Reader<'_>,
-    tokens: &'a [Token],
+    tokens: &'a [Token<'a>],
 ) -> Result<Part<'a, Measured<ItemTree>>, Halt>
     requires { length tokens.now < 2 ^ 24 }
     ensures reads { Parses ShowsItem (Worded (is_type reader.now.names.now)) (map view tokens.now) result }
@@ -111,7 +111,7 @@ pub fn item<'a>(
     alloc: Global,
     names: &mut TypeNames,
     last: u32,
-    tokens: &'a [Token],
+    tokens: &'a [Token<'a>],
 ) -> Result<Part<'a, Measured<ItemTree>>, Halt>
     requires { length tokens.now < 2 ^ 24 }
     ensures reads { Parses (MakesTypes (is_type names.new)) (Itemed (is_type names.old)) (map view tokens.now) result }

@@ -10,7 +10,7 @@ use ep_ast::{Mark, Word};
 use ep_lexer::Token;
 use ep_reading::{at_mark, at_name, at_word};
 
-fn begins_call(tokens: &[Token]) -> bool
+fn begins_call(tokens: &[Token<'_>]) -> bool
     ensures { result ≡ look.begins_call (map view tokens.now) }
 {
     match at_name(tokens) {
@@ -20,7 +20,7 @@ fn begins_call(tokens: &[Token]) -> bool
 }
 
 /// What comes behind a star or a `const`.
-fn behind_star(tokens: &[Token]) -> Option<&[Token]>
+fn behind_star<'a>(tokens: &'a [Token<'a>]) -> Option<&'a [Token<'a>]>
     ensures value { IsBehind (map view tokens.now) (option_map tokens_of result) }
     ensures shorter { IfSome result (HasFewer (length tokens.now)) }
 {
@@ -34,10 +34,11 @@ fn behind_star(tokens: &[Token]) -> Option<&[Token]>
 }
 
 /// What comes behind all stars and `const` that stand here.
-pub fn behind_stars(tokens: &[Token]) -> &[Token]
+pub fn behind_stars<'a>(tokens: &'a [Token<'a>]) -> &'a [Token<'a>]
     ensures { look.begins_head (map view tokens.now) ≡ look.begins_call (map view result.now) }
 {
-    let mut rest = tokens;
+    // The variable has a lifetime of its own.
+    let mut rest = (tokens,).0;
     'stars: while let Some(more) = behind_star(rest) {
         rest = more;
     }
@@ -45,7 +46,7 @@ pub fn behind_stars(tokens: &[Token]) -> &[Token]
 }
 
 /// Whether a name and an opening parenthesis stand here, perhaps behind stars.
-pub fn begins_head(tokens: &[Token]) -> bool
+pub fn begins_head(tokens: &[Token<'_>]) -> bool
     ensures { result ≡ look.begins_head (map view tokens.now) }
 {
     begins_call(behind_stars(tokens))

@@ -19,13 +19,18 @@ use ep_reading::{Measured, TypeNames, brackets_past, last_line};
 use std::alloc::Global;
 
 /// All items, up to the end of the tokens, of which the last has this line.
-fn all_items(alloc: Global, last: u32, tokens: &[Token]) -> Result<Measured<Vec<ItemTree>>, Halt>
+fn all_items<'a>(
+    alloc: Global,
+    last: u32,
+    tokens: &'a [Token<'a>],
+) -> Result<Measured<Vec<ItemTree>>, Halt>
     requires { length tokens.now < 2 ^ 24 }
     ensures reads { ReadsAll (map view tokens.now) result }
 {
     let mut names = TypeNames::new(alloc);
     let mut found = Measured::Fits(Vec::new(alloc));
-    let mut rest = tokens;
+    // The variable has a lifetime of its own.
+    let mut rest = (tokens,).0;
     'items: loop {
         if rest.is_empty() {
             return Ok(found);
@@ -40,7 +45,7 @@ fn all_items(alloc: Global, last: u32, tokens: &[Token]) -> Result<Measured<Vec<
 /// A refusal for syntax names the line of the first token with which no program goes on, or the last
 /// token's where the tokens end too soon, and one for nesting that of the bracket, or of what is too
 /// deep the first in the text.
-pub fn program(alloc: Global, tokens: &Tokens) -> Result<ProgramTree, Halt>
+pub fn program(alloc: Global, tokens: &Tokens<'_>) -> Result<ProgramTree, Halt>
     requires few { length tokens.now.list.items < 2 ^ 24 }
     ensures derives { IfOk result (λ t. Programs (all_view tokens.now) (program_of t)) }
     ensures only { IfOk result (λ t. (is : List Item) → Programs (all_view tokens.now) is → is ≡ program_of t) }

@@ -17,7 +17,7 @@ enum Seen {
 }
 
 /// With a token more, where no name has come; None where it can't stand before a name.
-fn before_name(names: &TypeNames, tag: bool, token: &Token) -> Option<Seen> {
+fn before_name(names: &TypeNames, tag: bool, token: &Token<'_>) -> Option<Seen> {
     match &token.what {
         TokenKind::Word(word) => Some(Seen::Type(*word == Word::Struct || *word == Word::Union)),
         TokenKind::Name(text) => if tag || names.has(text) {
@@ -52,7 +52,7 @@ fn behind_name(open: u32, mark: Mark) -> Option<Seen> {
 }
 
 /// Whether no parameter stands behind the opening parenthesis.
-fn has_none(inside: &[Token]) -> bool {
+fn has_none<'a>(inside: &'a [Token<'a>]) -> bool {
     let behind = match at_word(inside, Word::Void) {
         Some((_, rest)) => rest,
         None => inside,
@@ -62,7 +62,7 @@ fn has_none(inside: &[Token]) -> bool {
 
 /// The line of the token behind the first parameter without a name, where these tokens begin behind the words of a
 /// head; where the head itself is to be refused, perhaps that of a token after the one that is refused.
-pub fn behind_unnamed(names: &TypeNames, tokens: &[Token]) -> Option<u32> {
+pub fn behind_unnamed(names: &TypeNames, tokens: &[Token<'_>]) -> Option<u32> {
     let (_, _, behind) = at_name(behind_stars(tokens))?;
     let (_, inside) = at_mark(behind, Mark::LeftParen)?;
     if has_none(inside) {

@@ -96,6 +96,10 @@ module _ (N : List ℕ → Bool) where
   pub level_done : (k : ℕ) (xs ys : List Tok) (a : Expr) → LevelSo k xs a ys → NotAt k ys → Reads N (bin k) xs a ys
   level_done k xs ys a s n = record { derives = s.derives; only = λ u zs d e. no_chain (s.rest u zs d e) n }
 
+  pub level_skipped : (k : ℕ) (xs ys : List Tok) (a : Expr) → k ≤ 10 → NotAt k ys → Reads N (bin (k + 1)) xs a ys
+      → Reads N (bin k) xs a ys
+  level_skipped k xs ys a less n r = level_done k xs ys a (level_begins k xs ys a less r) n
+
   tight_never : {k : ℕ} {xs zs : List Tok} {u : Expr} → k ≤ 10 → Refuses N (bin (k + 1)) xs → Derives N (bin k) xs zs u
       → Ends (bin (k + 1)) zs → ⊥
   tight_never less r (left {k = k} {l = l} {c = c} {ys = ws} h p d d2) e =

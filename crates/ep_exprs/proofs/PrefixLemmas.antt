@@ -1,5 +1,6 @@
 -- Prefixes in a row: what is read after them is read under them.
 use Rattle.std.proofs.Common.{◌≡◌, ℕ, Bool, true, false, List, [], ◌∷◌, ◌++◌, Some, refl, ap}
+use Rattle.std.proofs.Common.{Result, Ok, Err}
 use Rattle.std.proofs.lemmas.Bool.{and_parts, false_from_ne_true}
 use Rattle.std.specs.Prelude.{◌==◌, ◌&&◌}
 use Rattle.std.proofs.lemmas.Bool.{eqb-true}
@@ -9,15 +10,21 @@ use Rattle.ep_ast.specs.declared.expressions.TypeNameTree.{TypeNameTree}
 use Rattle.ep_ast.specs.Expression as tree
 use Rattle.ep_ast.specs.Expression.{Expr, type_name}
 use Rattle.ep_ast.specs.declared.marks.Mark.{Mark}
+use Rattle.ep_ast.specs.declared.refusals.Halt.{Halt}
 use Rattle.ep_ast.specs.Mark.{mark_number, left_paren, sizeof_word}
 use Rattle.ep_ast.specs.TypeWords.{TypeNamed, begins_type}
 use Rattle.ep_ast.specs.Grammar.{is_prefix, is_step, Rule, cast, unary, postfix}
 use Rattle.ep_ast.specs.Reading.{Reads, Refuses, Takes, TakesNone}
+use Rattle.ep_reading.specs.declared.reader.Part.{Part}
+use Rattle.ep_reading.specs.Answer.{after}
+use Rattle.ep_reading.proofs.PassLemmas.{passes}
+use Rattle.ep_expression_trees.specs.declared.kept.BoundedTree.{BoundedTree}
 use Rattle.ep_expression_trees.specs.declared.kept.Prefix.{Prefix}
 use Rattle.ep_expression_trees.specs.declared.kept.Prefix.TheVariants as prefixes
 use Rattle.ep_expression_trees.specs.BoundedTrees.{wrap, wrap_all}
 use Rattle.ep_exprs.specs.Look.{begins_cast, AtCast}
 use Rattle.ep_exprs.specs.Pending.{begins_unary}
+use Rattle.ep_exprs.specs.Parsed.{Keeps}
 use Rattle.ep_exprs.proofs.MarkLemmas.{prefix_not_paren, step_not_paren}
 use Rattle.ep_exprs.proofs.OperandLemmas as operands
 
@@ -136,3 +143,14 @@ module _ (N : List ℕ → Bool) where
   pub under_refused : (xs : List Tok) (front : List Prefix) (bare : Bool) (ys : List Tok) → Under xs front bare ys
       → begins_cast N ys ≡ false → begins_unary ys ≡ false → Refuses N postfix ys → Refuses N cast xs
   under_refused xs front bare ys u b p r = unary_refuses xs front bare ys u b (operands.plain_refused N ys p r)
+
+  -- an operand without prefixes
+  pub plain_keeps : (xs : List Tok) (result : Result (Part BoundedTree) Halt) → begins_cast N xs ≡ false
+      → begins_unary xs ≡ false → Keeps N postfix xs result → Keeps N cast xs result
+  plain_keeps xs (Ok p) b u q = record {
+    tree = q.tree;
+    shows = q.shows;
+    reads = under_read xs [] false xs (after p) q.tree (under_begins xs) b u q.reads;
+  }
+  plain_keeps xs (Err halt) b u q = passes N postfix cast xs xs halt
+      (under_refused xs [] false xs (under_begins xs) b u) q

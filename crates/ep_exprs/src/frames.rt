@@ -19,16 +19,16 @@ use std::alloc::{AllocError, Global};
 /// What stands first before an operand, with its line and what comes after it; for the types what comes after `(`.
 #[derive(Clone, Copy)]
 pub enum Before<'a> {
-    Operator(u32, Mark, &'a [Token]),
-    Step(u32, Mark, &'a [Token]),
-    Sizeof(u32, &'a [Token]),
-    SizeofType(u32, &'a [Token]),
-    Cast(u32, &'a [Token]),
+    Operator(u32, Mark, &'a [Token<'a>]),
+    Step(u32, Mark, &'a [Token<'a>]),
+    Sizeof(u32, &'a [Token<'a>]),
+    SizeofType(u32, &'a [Token<'a>]),
+    Cast(u32, &'a [Token<'a>]),
     Nothing,
 }
 
 /// What stands first before an operand.
-pub fn prefix_at<'a>(names: &TypeNames, tokens: &'a [Token]) -> Before<'a>
+pub fn prefix_at<'a>(names: &TypeNames, tokens: &'a [Token<'a>]) -> Before<'a>
     ensures value { IsBefore (is_type names.now) result (map view tokens.now) }
     ensures shorter { IsShorter result (length tokens.now) }
 {
@@ -76,11 +76,17 @@ pub fn wrapped_before<'a>(
     alloc: Global,
     prefixes: Vec<Prefix>,
     operand: BoundedTree,
-    rest: &'a [Token],
+    rest: &'a [Token<'a>],
 ) -> Result<Part<'a, BoundedTree>, AllocError>
     ensures value { (t : Expr) → Shows operand t → IfOk result (λ p. Shows p.value (wrap_all prefixes.items t)) }
     ensures rest { IfOk result (λ p. p.rest.now ≡ rest.now) }
 {
+    if prefixes.is_empty() {
+        return Ok(Part {
+            value: operand,
+            rest,
+        });
+    }
     let value = wrapped(alloc, prefixes, operand)?;
     Ok(Part { value, rest })
 }

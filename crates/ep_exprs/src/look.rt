@@ -1,6 +1,6 @@
 //! Looks at the marks and words of expressions.
 
-ghost use Rattle.std.specs.Prelude.{◌≡◌, length, map, IfSome};
+ghost use Rattle.std.specs.Prelude.{◌≡◌, length, map, IfSome, false};
 ghost use Rattle.std.specs.Option.{option_map};
 ghost use Rattle.ep_ast.specs.Grammar as grammar;
 ghost use Rattle.ep_ast.specs.Mark.{mark_number};
@@ -8,8 +8,8 @@ ghost use Rattle.ep_ast.specs.Reading.{is_suffix};
 ghost use Rattle.ep_lexer.specs.Tokens.{view};
 ghost use Rattle.ep_reading.specs.Names.{is_type};
 ghost use Rattle.ep_reading.specs.Look.{IsShorter, seen};
-ghost use Rattle.ep_exprs.specs.Look.{AtOperator, AtAssignment, AtCast, IsShorterMark, begins_cast, begins_suffix};
-ghost use Rattle.ep_exprs.specs.Look.{seen_mark, may_follow};
+ghost use Rattle.ep_exprs.specs.Look.{NotAt, AtOperator, AtAssignment, AtCast, IsShorterMark, begins_cast};
+ghost use Rattle.ep_exprs.specs.Look.{begins_suffix, seen_mark, may_follow};
 
 use ep_ast::Mark;
 use ep_lexer::{Token, TokenKind};
@@ -36,7 +36,7 @@ fn level(mark: Mark) -> u8
 }
 
 /// The operator of this level, if one stands first, with its line and what comes after it.
-pub fn at_operator<'a>(tokens: &'a [Token], at: u8) -> Option<(u32, Mark, &'a [Token])>
+pub fn at_operator<'a>(tokens: &'a [Token<'a>], at: u8) -> Option<(u32, Mark, &'a [Token<'a>])>
     ensures value { AtOperator at (map view tokens.now) (option_map seen_mark result) }
     ensures shorter { IfSome result (IsShorterMark (length tokens.now)) }
 {
@@ -50,6 +50,16 @@ pub fn at_operator<'a>(tokens: &'a [Token], at: u8) -> Option<(u32, Mark, &'a [T
             _ => None,
         },
         [] => None,
+    }
+}
+
+/// Whether an operator of this level stands first.
+pub fn begins_operator(tokens: &[Token<'_>], at: u8) -> bool
+    ensures { result ≡ false → NotAt at (map view tokens.now) }
+{
+    match at_operator(tokens, at) {
+        Some(_) => true,
+        None => false,
     }
 }
 
@@ -73,7 +83,7 @@ fn is_assignment(mark: Mark) -> bool
 }
 
 /// The assignment mark that stands first, with its line and what comes after it.
-pub fn at_assignment<'a>(tokens: &'a [Token]) -> Option<(u32, Mark, &'a [Token])>
+pub fn at_assignment<'a>(tokens: &'a [Token<'a>]) -> Option<(u32, Mark, &'a [Token<'a>])>
     ensures value { AtAssignment (map view tokens.now) (option_map seen_mark result) }
     ensures shorter { IfSome result (IsShorterMark (length tokens.now)) }
 {
@@ -122,7 +132,7 @@ fn is_suffix(mark: Mark) -> bool
 }
 
 /// Whether a mark stands first that stands behind an operand.
-pub fn begins_suffix(tokens: &[Token]) -> bool
+pub fn begins_suffix(tokens: &[Token<'_>]) -> bool
     ensures { result ≡ begins_suffix (map view tokens.now) }
 {
     match first_of(tokens) {
@@ -132,7 +142,7 @@ pub fn begins_suffix(tokens: &[Token]) -> bool
 }
 
 /// The line of a parenthesis before a word of a type, and what comes after it.
-pub fn at_cast<'a>(names: &TypeNames, tokens: &'a [Token]) -> Option<(u32, &'a [Token])>
+pub fn at_cast<'a>(names: &TypeNames, tokens: &'a [Token<'a>]) -> Option<(u32, &'a [Token<'a>])>
     ensures value { AtCast (is_type names.now) (map view tokens.now) (option_map seen result) }
     ensures shorter { IfSome result (IsShorter (length tokens.now)) }
 {
@@ -145,7 +155,7 @@ pub fn at_cast<'a>(names: &TypeNames, tokens: &'a [Token]) -> Option<(u32, &'a [
 }
 
 /// Whether the name of a type in parentheses begins here.
-pub fn begins_cast(names: &TypeNames, tokens: &[Token]) -> bool
+pub fn begins_cast(names: &TypeNames, tokens: &[Token<'_>]) -> bool
     ensures { result ≡ begins_cast (is_type names.now) (map view tokens.now) }
 {
     match at_cast(names, tokens) {
@@ -169,7 +179,7 @@ fn may_follow(mark: Mark) -> bool
 }
 
 /// Whether something stands here that may follow an expression.
-pub fn follows(tokens: &[Token]) -> bool
+pub fn follows(tokens: &[Token<'_>]) -> bool
     ensures { result ≡ grammar.follows (map view tokens.now) }
 {
     match tokens {

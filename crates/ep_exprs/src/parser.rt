@@ -14,7 +14,7 @@ ghost use Rattle.ep_expression_trees.specs.BoundedTrees.{ShowsAll, ShowsSuffix};
 ghost use Rattle.ep_exprs.specs.Parsed.{IsRead, Keeps, Assigned};
 
 use crate::frames::{Before, Completed, Frame, complete, prefix_at, wrapped_before};
-use crate::look::{at_assignment, at_operator, begins_cast, begins_suffix};
+use crate::look::{at_assignment, at_operator, begins_cast, begins_operator, begins_suffix};
 use ep_ast::{Halt, Mark};
 use ep_expression_trees::{
     Arguments, BoundedTree, Prefix, Suffix, binary as joined, name, number, size_of, suffixed,
@@ -27,8 +27,8 @@ use ep_type_names::type_name;
 fn assigned<'a>(
     names: &TypeNames,
     third_part: bool,
-    tokens: &[Token],
-    after: &'a [Token],
+    tokens: &[Token<'_>],
+    after: &'a [Token<'a>],
 ) -> Option<Part<'a, Mark>>
     ensures value { Assigned (is_type names.now) third_part (map view tokens.now) (map view after.now) result }
     ensures shorter { IfSome result (IsPast (length after.now)) }
@@ -50,7 +50,7 @@ fn assigned<'a>(
 #[cycle(parser)]
 pub fn read_expression<'a>(
     reader: &Reader<'_>,
-    tokens: &'a [Token],
+    tokens: &'a [Token<'a>],
 ) -> Result<Part<'a, BoundedTree>, Halt>
     requires { length tokens.now < 2 ^ 24 }
     ensures reads { Keeps (is_type reader.now.names.now) rule.expr (map view tokens.now) result }
@@ -58,7 +58,8 @@ pub fn read_expression<'a>(
 {
     let mut frames = Vec::new(reader.alloc);
     let mut third_part = false;
-    let mut rest = tokens;
+    // The variable has a lifetime of its own.
+    let mut rest = (tokens,).0;
     'frames: loop {
         let first = operand(reader, rest)?;
         if let Some(mark) = assigned(reader.names, third_part, rest, first.rest) {
@@ -97,7 +98,7 @@ pub fn read_expression<'a>(
 fn tighter<'a>(
     reader: &Reader<'_>,
     level: u8,
-    tokens: &'a [Token],
+    tokens: &'a [Token<'a>],
 ) -> Result<Part<'a, BoundedTree>, Halt>
     requires few { length tokens.now < 2 ^ 24 }
     requires level { (1 ≤ level) × (level ≤ 11) }
@@ -114,7 +115,7 @@ fn levels<'a>(
     reader: &Reader<'_>,
     least: u8,
     first: BoundedTree,
-    tokens: &'a [Token],
+    tokens: &'a [Token<'a>],
 ) -> Result<Part<'a, BoundedTree>, Halt>
     requires few { length tokens.now < 2 ^ 24 }
     requires level { (1 ≤ least) × (least ≤ 11) }
@@ -123,10 +124,13 @@ fn levels<'a>(
     ensures shorter { IfOk result (IsWithin (length tokens.now)) }
 {
     let mut left = first;
-    let mut rest = tokens;
+    let mut rest = (tokens,).0;
     let mut level = 11;
     while level > least {
         level -= 1;
+        if !begins_operator(rest, level) {
+            continue;
+        }
         let longer = operators(reader, level, left, rest)?;
         left = longer.value;
         rest = longer.rest;
@@ -140,7 +144,7 @@ fn operators<'a>(
     reader: &Reader<'_>,
     level: u8,
     first: BoundedTree,
-    tokens: &'a [Token],
+    tokens: &'a [Token<'a>],
 ) -> Result<Part<'a, BoundedTree>, Halt>
     requires few { length tokens.now < 2 ^ 24 }
     requires level { (1 ≤ level) × (level < 11) }
@@ -150,7 +154,7 @@ fn operators<'a>(
     ensures shorter { IfOk result (IsWithin (length tokens.now)) }
 {
     let mut left = first;
-    let mut rest = tokens;
+    let mut rest = (tokens,).0;
     while let Some((_, mark, more)) = at_operator(rest, level) {
         let right = tighter(reader, level + 1, more)?;
         left = joined(reader.alloc, mark, left, right.value)?;
@@ -161,7 +165,23 @@ fn operators<'a>(
 
 /// An operand of binary operators: prefixes, casts among them, and a postfix expression or a type's `sizeof`.
 #[cycle(parser)]
-fn operand<'a>(reader: &Reader<'_>, tokens: &'a [Token]) -> Result<Part<'a, BoundedTree>, Halt>
+fn operand<'a>(reader: &Reader<'_>, tokens: &'a [Token<'a>]) -> Result<Part<'a, BoundedTree>, Halt>
+    requires { length tokens.now < 2 ^ 24 }
+    ensures reads { Keeps (is_type reader.now.names.now) rule.cast (map view tokens.now) result }
+    ensures shorter { IfOk result (IsPast (length tokens.now)) }
+{
+    match prefix_at(reader.names, tokens) {
+        Before::Nothing => postfix(reader, tokens),
+        _ => prefixed_operand(reader, tokens),
+    }
+}
+
+/// The same, which gathers prefixes first.
+#[cycle(parser)]
+fn prefixed_operand<'a>(
+    reader: &Reader<'_>,
+    tokens: &'a [Token<'a>],
+) -> Result<Part<'a, BoundedTree>, Halt>
     requires { length tokens.now < 2 ^ 24 }
     ensures reads { Keeps (is_type reader.now.names.now) rule.cast (map view tokens.now) result }
     ensures shorter { IfOk result (IsPast (length tokens.now)) }
@@ -169,7 +189,7 @@ fn operand<'a>(reader: &Reader<'_>, tokens: &'a [Token]) -> Result<Part<'a, Boun
     let mut prefixes = Vec::new(reader.alloc);
     // no cast stands behind `++`, `--` and `sizeof`
     let mut bare = false;
-    let mut rest = tokens;
+    let mut rest = (tokens,).0;
     'prefixes: loop {
         match prefix_at(reader.names, rest) {
             Before::Operator(line, mark, more) => {
@@ -209,7 +229,7 @@ fn operand<'a>(reader: &Reader<'_>, tokens: &'a [Token]) -> Result<Part<'a, Boun
 }
 
 #[cycle(parser)]
-fn postfix<'a>(reader: &Reader<'_>, tokens: &'a [Token]) -> Result<Part<'a, BoundedTree>, Halt>
+fn postfix<'a>(reader: &Reader<'_>, tokens: &'a [Token<'a>]) -> Result<Part<'a, BoundedTree>, Halt>
     requires { length tokens.now < 2 ^ 24 }
     ensures reads { Keeps (is_type reader.now.names.now) rule.postfix (map view tokens.now) result }
     ensures shorter { IfOk result (IsPast (length tokens.now)) }
@@ -228,7 +248,7 @@ fn postfix<'a>(reader: &Reader<'_>, tokens: &'a [Token]) -> Result<Part<'a, Boun
 }
 
 /// The member of what stands before a dot.
-fn behind_dot<'a>(reader: &Reader<'_>, tokens: &'a [Token]) -> Result<Part<'a, Suffix>, Halt>
+fn behind_dot<'a>(reader: &Reader<'_>, tokens: &'a [Token<'a>]) -> Result<Part<'a, Suffix>, Halt>
     ensures reads { (l c : ℕ) → c ≡ dot → Parses ShowsSuffix (IsSuffix (is_type reader.now.names.now))
         (mark l c ∷ map view tokens.now) result }
     ensures shorter { IfOk result (IsPast (length tokens.now)) }
@@ -243,7 +263,7 @@ fn behind_dot<'a>(reader: &Reader<'_>, tokens: &'a [Token]) -> Result<Part<'a, S
 }
 
 /// The member of that to which what stands before an arrow points.
-fn behind_arrow<'a>(reader: &Reader<'_>, tokens: &'a [Token]) -> Result<Part<'a, Suffix>, Halt>
+fn behind_arrow<'a>(reader: &Reader<'_>, tokens: &'a [Token<'a>]) -> Result<Part<'a, Suffix>, Halt>
     ensures reads { (l c : ℕ) → c ≡ arrow → Parses ShowsSuffix (IsSuffix (is_type reader.now.names.now))
         (mark l c ∷ map view tokens.now) result }
     ensures shorter { IfOk result (IsPast (length tokens.now)) }
@@ -259,7 +279,7 @@ fn behind_arrow<'a>(reader: &Reader<'_>, tokens: &'a [Token]) -> Result<Part<'a,
 
 /// One mark behind an operand, with all that belongs to it.
 #[cycle(parser)]
-fn suffix<'a>(reader: &Reader<'_>, tokens: &'a [Token]) -> Result<Part<'a, Suffix>, Halt>
+fn suffix<'a>(reader: &Reader<'_>, tokens: &'a [Token<'a>]) -> Result<Part<'a, Suffix>, Halt>
     requires { length tokens.now < 2 ^ 24 }
     ensures reads { Parses ShowsSuffix (IsSuffix (is_type reader.now.names.now)) (map view tokens.now) result }
     ensures shorter { IfOk result (IsPast (length tokens.now)) }
@@ -301,7 +321,7 @@ fn suffix<'a>(reader: &Reader<'_>, tokens: &'a [Token]) -> Result<Part<'a, Suffi
 
 /// From behind the opening parenthesis to behind the closing one.
 #[cycle(parser)]
-fn arguments<'a>(reader: &Reader<'_>, tokens: &'a [Token]) -> Result<Part<'a, Arguments>, Halt>
+fn arguments<'a>(reader: &Reader<'_>, tokens: &'a [Token<'a>]) -> Result<Part<'a, Arguments>, Halt>
     requires { length tokens.now < 2 ^ 24 }
     ensures reads { Parses ShowsAll (Argued (is_type reader.now.names.now)) (map view tokens.now) result }
     ensures shorter { IfOk result (IsPast (length tokens.now)) }
@@ -313,7 +333,7 @@ fn arguments<'a>(reader: &Reader<'_>, tokens: &'a [Token]) -> Result<Part<'a, Ar
             rest: after,
         });
     }
-    let mut rest = tokens;
+    let mut rest = (tokens,).0;
     'items: loop {
         let item = read_expression(reader, rest)?;
         found = found.with(item.value)?;
@@ -331,7 +351,7 @@ fn arguments<'a>(reader: &Reader<'_>, tokens: &'a [Token]) -> Result<Part<'a, Ar
 }
 
 #[cycle(parser)]
-fn primary<'a>(reader: &Reader<'_>, tokens: &'a [Token]) -> Result<Part<'a, BoundedTree>, Halt>
+fn primary<'a>(reader: &Reader<'_>, tokens: &'a [Token<'a>]) -> Result<Part<'a, BoundedTree>, Halt>
     requires { length tokens.now < 2 ^ 24 }
     ensures reads { Keeps (is_type reader.now.names.now) rule.primary (map view tokens.now) result }
     ensures shorter { IfOk result (IsPast (length tokens.now)) }

@@ -44,7 +44,7 @@ fn whole(kept: BoundedTree) -> Result<ExprTree, Refusal>
 /// tokens end too soon; one for nesting that of the bracket, or of the expression.
 pub fn expression(
     alloc: Global,
-    tokens: &Tokens,
+    tokens: &Tokens<'_>,
     from: usize,
     names: &TypeNames,
 ) -> Result<(ExprTree, usize), Halt>

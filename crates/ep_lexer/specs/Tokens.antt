@@ -10,7 +10,7 @@ use Rattle.ep_lexer.specs.declared.tokens.TokenKind.TheVariants as kinds
 
 abbrev pub at_view : ℕ → TokenKind → Tok
 at_view l (kinds.Word n) = token.word l (word_number n)
-at_view l (kinds.Name v) = token.name l v.items
+at_view l (kinds.Name v) = token.name l v.now
 at_view l (kinds.Number n) = token.number l n
 at_view l (kinds.Mark n) = token.mark l (mark_number n)
 at_view l kinds.IfLittle = token.if_little l

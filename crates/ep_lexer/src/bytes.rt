@@ -7,6 +7,7 @@ ghost use Rattle.ep_ast.specs.Lexeme as spec;
 ghost use Rattle.ep_lexer.specs.Step as step;
 
 /// The byte there, or 0 past the end.
+#[inline]
 pub fn byte(bytes: &[u8], at: usize) -> u8
     ensures value { result ≡ slice_index bytes.now at }
     ensures within { result ≢ 0 → at < length bytes.now }
@@ -15,6 +16,7 @@ pub fn byte(bytes: &[u8], at: usize) -> u8
 }
 
 /// What comes after so many bytes.
+#[inline]
 pub fn after(bytes: &[u8], count: usize) -> &[u8]
     requires { count ≤ length bytes.now }
     ensures { result.now ≡ drop count bytes.now }
@@ -22,6 +24,7 @@ pub fn after(bytes: &[u8], count: usize) -> &[u8]
     bytes.split_at(count).1
 }
 
+#[inline]
 fn is_blank(b: u8) -> bool
     ensures { result ≡ spec.is_blank b }
 {
@@ -29,6 +32,7 @@ fn is_blank(b: u8) -> bool
 }
 
 /// Whether the byte is a decimal digit (C11 6.4.2.1).
+#[inline]
 pub fn is_digit(b: u8) -> bool
     ensures { result ≡ spec.is_digit b }
 {
@@ -36,6 +40,7 @@ pub fn is_digit(b: u8) -> bool
 }
 
 /// Whether the byte is a letter or `_` (C11 6.4.2.1).
+#[inline]
 pub fn is_letter(b: u8) -> bool
     ensures { result ≡ spec.is_letter b }
 {
@@ -43,6 +48,7 @@ pub fn is_letter(b: u8) -> bool
 }
 
 /// Whether the byte may stand inside of a name (C11 6.4.2.1).
+#[inline]
 pub fn is_word(b: u8) -> bool
     ensures { result ≡ spec.is_word b }
 {
@@ -61,6 +67,7 @@ pub fn word_len(bytes: &[u8]) -> usize
     end
 }
 
+#[inline]
 fn line_after(line: u32, b: u8) -> u32
     requires { line < 2 ^ 32 - 1 }
     ensures { result ≡ spec.line_after line b }
@@ -102,12 +109,14 @@ fn to_line_end(bytes: &[u8]) -> &[u8]
     rest
 }
 
+#[inline]
 fn opens_remark(bytes: &[u8]) -> bool
     ensures { result ≡ spec.opens_remark bytes.now }
 {
     byte(bytes, 0) == b'/' && byte(bytes, 1) == b'/'
 }
 
+#[inline]
 fn opens_comment(bytes: &[u8]) -> bool
     ensures value { result ≡ spec.opens_comment bytes.now }
     ensures within { IsTrue result → 2 ≤ length bytes.now }

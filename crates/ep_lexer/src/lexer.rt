@@ -29,37 +29,33 @@ pub struct Position {
 /// A piece that was read: its token, where it has one, the position behind it and what comes after it.
 #[derive(Debug, Drop)]
 pub struct Step<'a> {
-    pub token: Option<Token>,
+    pub token: Option<Token<'a>>,
     pub position: Position,
     pub rest: &'a [u8],
 }
 
-fn named(
-    alloc: Global,
-    definitions: &Definitions,
-    line: u32,
-    text: &[u8],
-) -> Result<TokenKind, Halt>
-    ensures { step.Refines (λ k. at_view line k) result (step.token_of line text.now
-        (cut.sense (step.constants definitions.now) text.now)) }
+fn named<'a>(definitions: &Definitions, line: u32, text: &'a [u8]) -> Result<TokenKind<'a>, Refusal>
+    ensures { step.shown (λ k. at_view line k) result ≡ step.token_of line text.now
+        (cut.sense (step.constants definitions.now) text.now) }
 {
     if let Some(word) = accepted(text) {
         return Ok(TokenKind::Word(word));
     }
     if let Some(word) = reserved(text) {
-        return Err(Halt::Refused(Refusal {
+        return Err(Refusal {
             kind: RefusalKind::ReservedWord,
             line,
             word: Some(word),
-        }));
+        });
     }
     if let Some(number) = definitions.get(text) {
         return Ok(TokenKind::Number(number));
     }
-    Ok(TokenKind::Name(Vec::from_slice(alloc, text)?))
+    Ok(TokenKind::Name(text))
 }
 
 /// The position behind something that ends on this line.
+#[inline]
 fn behind(line: u32, arm: Open) -> Position
     ensures { result ≡ record { line = line; fresh = false; arm = arm } }
 {
@@ -71,7 +67,7 @@ fn behind(line: u32, arm: Open) -> Position
 }
 
 /// The token of an `#if` of this order.
-fn opening(order: NamedOrder) -> TokenKind
+fn opening(order: NamedOrder) -> TokenKind<'static>
     ensures { (l : ℕ) → at_view l result ≡ cut.order_token order l }
 {
     match order {
@@ -81,14 +77,14 @@ fn opening(order: NamedOrder) -> TokenKind
 }
 
 /// What a directive leaves that ends on this line and whose `#` stands on line `hash`.
-fn apply(
+fn apply<'a>(
     alloc: Global,
     position: Position,
     definitions: &mut Definitions,
     hash: u32,
-    effect: Effect,
+    effect: Effect<'a>,
     line: u32,
-) -> Result<(Option<Token>, Position), AllocError>
+) -> Result<(Option<Token<'a>>, Position), AllocError>
     requires { step.IsNew (step.constants definitions.old) (step.effect_view effect) }
     ensures value { IfOk result (λ p. (step.token_view p.0, step.position_view p.1 (step.constants definitions.new)) ≡
         step.applied (step.position_view position (step.constants definitions.old)) hash (step.effect_view effect.entry)
@@ -183,7 +179,7 @@ fn read_piece<'a>(
         Thing::Over => return Ok(line_end(position, next.line, next.rest)?),
         Thing::Hash => return directive(alloc, position, definitions, next.line, next.rest),
         Thing::Quote => return Err(Halt::Refused(refusal(RefusalKind::StringLiteral, next.line))),
-        Thing::Name(text) => named(alloc, definitions, next.line, text)?,
+        Thing::Name(text) => named(definitions, next.line, text)?,
         Thing::Number(number) => TokenKind::Number(number),
         Thing::Mark(mark) => TokenKind::Mark(mark),
     };
@@ -197,8 +193,9 @@ fn read_piece<'a>(
     }))
 }
 
-fn keep(list: &mut Vec<Token>, token: Option<Token>) -> Result<(), AllocError>
-    ensures { OnOk result (map view list.new.items ≡ map view list.old.items ++ step.token_view token) }
+#[inline]
+fn keep<'a>(list: &mut Vec<Token<'a>>, token: Option<Token<'a>>) -> Result<(), AllocError>
+    ensures { OnOk result (map view list.new.items ≡ map view list.old.items ++ step.token_view token.entry) }
 {
     match token {
         None => Ok(()),
@@ -209,8 +206,22 @@ fn keep(list: &mut Vec<Token>, token: Option<Token>) -> Result<(), AllocError>
     }
 }
 
+// As many as the greatest source that the program reads may have.
+const MOST_TOKENS: usize = 1_048_576;
+
+// Room for all tokens of any source, else for those of one of so many bytes. What isn't used of it is never touched.
+fn room_for<'a>(alloc: Global, bytes: usize) -> Result<Vec<Token<'a>>, AllocError>
+    ensures { IfOk result (λ v. v.items ≡ []) }
+{
+    if let Ok(list) = Vec::with_capacity(alloc, MOST_TOKENS) {
+        return Ok(list);
+    }
+    let list = Vec::with_capacity(alloc, bytes)?;
+    Ok(list)
+}
+
 /// The tokens of a source, or the first of the refusals 1 to 8.
-pub fn lex(alloc: Global, source: &[u8]) -> Result<Tokens, Halt>
+pub fn lex<'a>(alloc: Global, source: &'a [u8]) -> Result<Tokens<'a>, Halt>
     requires { length source.now < 2 ^ 24 }
     ensures spells { IfOk result (λ tokens. cut.Spells source.now (all_view tokens)) }
     ensures only { IfOk result (λ tokens. (ts : List Tok) → cut.Spells source.now ts → ts ≡ all_view tokens) }
@@ -219,7 +230,7 @@ pub fn lex(alloc: Global, source: &[u8]) -> Result<Tokens, Halt>
     ensures first { IfErr result (λ e. IfRefused e (λ r. (q : Refusal) → cut.Offends cut.start source.now q → q ≡ r)) }
     ensures spells_nothing { IfErr result (λ e. IfRefused e (λ _. (ts : List Tok) → cut.Spells source.now ts → ⊥)) }
 {
-    let mut list = Vec::new(alloc);
+    let mut list = room_for(alloc, source.len())?;
     let mut definitions = Definitions::new(alloc);
     let mut position = Position {
         line: 1,

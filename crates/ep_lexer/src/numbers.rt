@@ -8,6 +8,7 @@ ghost use Rattle.ep_lexer.specs.Step as step;
 use crate::bytes::{after, byte, is_digit, is_word};
 use ep_ast::Literal;
 
+#[inline]
 fn goes_on(a: u8, b: u8) -> bool
     ensures { result ≡ spec.goes_on a b }
 {
@@ -30,6 +31,7 @@ pub fn number_len(first: u8, bytes: &[u8]) -> usize
     end
 }
 
+#[inline]
 fn digit_value(b: u8) -> u8
     ensures value { result ≡ spec.digit_value b }
     ensures small { result ≤ 16 }

@@ -31,6 +31,7 @@ pub struct Next<'a> {
 }
 
 /// A refusal that names no word.
+#[inline]
 pub fn refusal(kind: RefusalKind, line: u32) -> Refusal
     ensures { result ≡ at_line (number_of kind) line }
 {

@@ -2,11 +2,12 @@
 
 use ep_ast::{Literal, Mark, Word};
 
-/// A token. The last four are directives: an `#if` of little or of big byte order, `#else` and `#endif`.
+/// A token; a name is a piece of the source. The last four are directives: an `#if` of little or of big byte order,
+/// `#else` and `#endif`.
 #[derive(Debug, Drop)]
-pub enum TokenKind {
+pub enum TokenKind<'a> {
     Word(Word),
-    Name(Vec<u8>),
+    Name(&'a [u8]),
     Number(Literal),
     Mark(Mark),
     IfLittle,
@@ -17,13 +18,13 @@ pub enum TokenKind {
 
 /// A token with the line on which it begins.
 #[derive(Debug, Drop)]
-pub struct Token {
+pub struct Token<'a> {
     pub line: u32,
-    pub what: TokenKind,
+    pub what: TokenKind<'a>,
 }
 
 /// The tokens of a source, in their order.
 #[derive(Debug, Drop)]
-pub struct Tokens {
-    pub list: Vec<Token>,
+pub struct Tokens<'a> {
+    pub list: Vec<Token<'a>>,
 }

@@ -204,12 +204,14 @@ fn longest_at(bytes: &[u8]) -> Option<(Mark, usize)>
 }
 
 // Whether a byte stands second in a mark of several.
+#[inline]
 fn is_second(b: u8) -> bool
     ensures { result ≡ shorts.is_second b }
 {
     matches!(b, b'+' | b'-' | b'<' | b'=' | b'>' | b'&' | b'|')
 }
 
+#[inline]
 fn separator(b: u8) -> Option<Mark>
     ensures value { option_map mark_number result ≡ shorts.separator b }
     ensures one { IfSome result (λ m. mark_len (mark_number m) ≡ 1) }
@@ -227,6 +229,7 @@ fn separator(b: u8) -> Option<Mark>
     }
 }
 
+#[inline]
 fn sign(b: u8) -> Option<Mark>
     ensures value { option_map mark_number result ≡ shorts.sign b }
     ensures one { IfSome result (λ m. mark_len (mark_number m) ≡ 1) }
@@ -245,6 +248,7 @@ fn sign(b: u8) -> Option<Mark>
 }
 
 // The mark of one byte that a byte is.
+#[inline]
 fn short(b: u8) -> Option<Mark>
     ensures value { option_map mark_number result ≡ shorts.short b }
     ensures one { IfSome result (λ m. mark_len (mark_number m) ≡ 1) }
@@ -263,6 +267,7 @@ fn short(b: u8) -> Option<Mark>
 }
 
 /// The mark that stands there, and its length.
+#[inline]
 pub fn mark_at(bytes: &[u8]) -> Option<(Mark, usize)>
     ensures value { option_map (λ p. mark_number p.0) result ≡ mark_at bytes.now }
     ensures len { IfSome result (λ p. p.1 ≡ mark_len (mark_number p.0)) }

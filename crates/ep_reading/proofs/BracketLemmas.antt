@@ -4,15 +4,21 @@ use Rattle.std.proofs.Common.{refl, sym, ap, ◌∙◌, subst, nat_lt, suc, add-
 use Rattle.std.proofs.lemmas.Bool.{le-ltb}
 use Rattle.ep_ast.specs.Token.{Tok, word, name, number, mark, if_little, if_big, other, end_if}
 use Rattle.ep_ast.specs.Nesting.{opens_past, counted, stops}
+use Rattle.ep_ast.specs.declared.words.Word.TheVariants as words
 use Rattle.ep_lexer.specs.declared.tokens.Token.{Token}
+use Rattle.ep_lexer.specs.declared.tokens.TokenKind.TheVariants as kinds
 use Rattle.ep_lexer.specs.Tokens.{view}
 use Rattle.ep_reading.specs.Look.{code_at}
 
-pub first_view : (ts : List Token) (i : ℕ) (t : Token) → i < length ts → t ≡ get_or ts i t
-    → map view (drop i ts) ≡ view t ∷ map view (drop (i + 1) ts)
-first_view ts i t lt e =
-    ap (λ (l : List Token). map view l) (drop-cons ts i t lt ∙ ap (λ (y : Token). y ∷ drop (suc i) ts) (sym e))
-    ∙ ap (λ (j : ℕ). view t ∷ map view (drop j ts)) (sym (add-one i))
+-- the token beyond the last
+abbrev pub no_token : Token
+no_token = record { line = 0; what = kinds.Word words.Break }
+
+pub first_view : (ts : List Token) (i : ℕ) → i < length ts
+    → map view (drop i ts) ≡ view (get_or ts i no_token) ∷ map view (drop (i + 1) ts)
+first_view ts i lt =
+    ap (λ (l : List Token). map view l) (drop-cons ts i no_token lt)
+    ∙ ap (λ (j : ℕ). view (get_or ts i no_token) ∷ map view (drop j ts)) (sym (add-one i))
 
 on_from : (n l c : ℕ) (ts : List Tok) → counted n c ≤ 64 → stops n c ≡ false
     → opens_past n (mark l c ∷ ts) ≡ opens_past (counted n c) ts

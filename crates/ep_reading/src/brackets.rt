@@ -45,7 +45,7 @@ fn stops(count: u32, mark: Mark) -> bool
     count == 0 && (closes(mark) || mark == Mark::Comma || mark == Mark::Semicolon)
 }
 
-fn mark_of(token: &Token) -> Option<Mark>
+fn mark_of(token: &Token<'_>) -> Option<Mark>
     ensures { option_map mark_number result ≡ code_at (view token.now) }
 {
     match token.what {
@@ -55,7 +55,7 @@ fn mark_of(token: &Token) -> Option<Mark>
 }
 
 /// The line of the first token at which more than 64 brackets are open, as far as an expression may reach.
-pub fn opens_past(tokens: &[Token]) -> Option<u32>
+pub fn opens_past(tokens: &[Token<'_>]) -> Option<u32>
     ensures { result ≡ nesting.opens_past 0 (map view tokens.now) }
 {
     let mut count = 0;
@@ -75,7 +75,7 @@ pub fn opens_past(tokens: &[Token]) -> Option<u32>
 }
 
 /// How many are open behind the token, where so many are before it.
-fn open_after(count: u32, token: &Token) -> u32
+fn open_after(count: u32, token: &Token<'_>) -> u32
     requires { count ≤ 64 }
     ensures { result ≡ depth.open_after count (view token.now) }
 {
@@ -89,7 +89,7 @@ fn open_after(count: u32, token: &Token) -> u32
 }
 
 /// The line of the first token at which more than 64 brackets and conditionals are open.
-pub fn brackets_past(tokens: &[Token]) -> Option<u32>
+pub fn brackets_past(tokens: &[Token<'_>]) -> Option<u32>
     ensures { result ≡ depth.brackets_past 0 (map view tokens.now) }
 {
     let mut count = 0;

@@ -15,15 +15,15 @@ use ep_lexer::{Token, TokenKind};
 /// The first token, and what comes after it. The last is a directive, or no token.
 #[derive(Clone, Copy)]
 pub enum Head<'a> {
-    Word(u32, Word, &'a [Token]),
-    Name(u32, &'a [u8], &'a [Token]),
-    Number(u32, Literal, &'a [Token]),
-    Mark(u32, Mark, &'a [Token]),
+    Word(u32, Word, &'a [Token<'a>]),
+    Name(u32, &'a [u8], &'a [Token<'a>]),
+    Number(u32, Literal, &'a [Token<'a>]),
+    Mark(u32, Mark, &'a [Token<'a>]),
     Other,
 }
 
 /// The first token and those behind it, if there is one.
-pub fn first_of<'a>(tokens: &'a [Token]) -> Head<'a>
+pub fn first_of<'a>(tokens: &'a [Token<'a>]) -> Head<'a>
     ensures { IsHead result (map view tokens.now) }
 {
     match tokens {
@@ -55,7 +55,7 @@ fn is_word(own: Word, word: Word) -> bool
 }
 
 /// The line of this mark, if it stands first, and what comes after it.
-pub fn at_mark<'a>(tokens: &'a [Token], mark: Mark) -> Option<(u32, &'a [Token])>
+pub fn at_mark<'a>(tokens: &'a [Token<'a>], mark: Mark) -> Option<(u32, &'a [Token<'a>])>
     ensures value { AtMark (mark_number mark) (map view tokens.now) (option_map seen result) }
     ensures shorter { IfSome result (IsShorter (length tokens.now)) }
 {
@@ -73,7 +73,7 @@ pub fn at_mark<'a>(tokens: &'a [Token], mark: Mark) -> Option<(u32, &'a [Token])
 }
 
 /// The line of this word, if it stands first, and what comes after it.
-pub fn at_word<'a>(tokens: &'a [Token], word: Word) -> Option<(u32, &'a [Token])>
+pub fn at_word<'a>(tokens: &'a [Token<'a>], word: Word) -> Option<(u32, &'a [Token<'a>])>
     ensures value { AtWord (word_number word) (map view tokens.now) (option_map seen result) }
     ensures shorter { IfSome result (IsShorter (length tokens.now)) }
 {
@@ -91,7 +91,7 @@ pub fn at_word<'a>(tokens: &'a [Token], word: Word) -> Option<(u32, &'a [Token])
 }
 
 /// The name that stands first, with its line and what comes after it.
-pub fn at_name<'a>(tokens: &'a [Token]) -> Option<(u32, &'a [u8], &'a [Token])>
+pub fn at_name<'a>(tokens: &'a [Token<'a>]) -> Option<(u32, &'a [u8], &'a [Token<'a>])>
     ensures value { AtName (map view tokens.now) (option_map seen_text result) }
     ensures shorter { IfSome result (IsShorterText (length tokens.now)) }
 {
@@ -105,7 +105,7 @@ pub fn at_name<'a>(tokens: &'a [Token]) -> Option<(u32, &'a [u8], &'a [Token])>
 }
 
 /// The line and order of an `#if`, if one stands first, and what comes after it.
-pub fn at_if<'a>(tokens: &'a [Token]) -> Option<(u32, NamedOrder, &'a [Token])>
+pub fn at_if<'a>(tokens: &'a [Token<'a>]) -> Option<(u32, NamedOrder, &'a [Token<'a>])>
     ensures value { AtIf (map view tokens.now) (option_map seen_order result) }
     ensures shorter { IfSome result (IsShorterOrder (length tokens.now)) }
 {
@@ -120,7 +120,7 @@ pub fn at_if<'a>(tokens: &'a [Token]) -> Option<(u32, NamedOrder, &'a [Token])>
 }
 
 /// The line of an `#else`, if one stands first, and what comes after it.
-pub fn at_else<'a>(tokens: &'a [Token]) -> Option<(u32, &'a [Token])>
+pub fn at_else<'a>(tokens: &'a [Token<'a>]) -> Option<(u32, &'a [Token<'a>])>
     ensures value { AtElse (map view tokens.now) (option_map seen result) }
     ensures shorter { IfSome result (IsShorter (length tokens.now)) }
 {
@@ -134,7 +134,7 @@ pub fn at_else<'a>(tokens: &'a [Token]) -> Option<(u32, &'a [Token])>
 }
 
 /// The line of an `#endif`, if one stands first, and what comes after it.
-pub fn at_end_if<'a>(tokens: &'a [Token]) -> Option<(u32, &'a [Token])>
+pub fn at_end_if<'a>(tokens: &'a [Token<'a>]) -> Option<(u32, &'a [Token<'a>])>
     ensures value { AtEndIf (map view tokens.now) (option_map seen result) }
     ensures shorter { IfSome result (IsShorter (length tokens.now)) }
 {
@@ -148,7 +148,7 @@ pub fn at_end_if<'a>(tokens: &'a [Token]) -> Option<(u32, &'a [Token])>
 }
 
 /// Whether an `#else` or `#endif` stands first.
-pub fn ends_arm(tokens: &[Token]) -> bool
+pub fn ends_arm(tokens: &[Token<'_>]) -> bool
     ensures { result ≡ look.ends_arm (map view tokens.now) }
 {
     match tokens {
@@ -161,7 +161,7 @@ pub fn ends_arm(tokens: &[Token]) -> bool
 }
 
 /// The line of the last token, 1 where there is none.
-pub fn last_line(tokens: &[Token]) -> u32 {
+pub fn last_line(tokens: &[Token<'_>]) -> u32 {
     match tokens.last() {
         Some(token) => token.line,
         None => 1,

@@ -17,7 +17,7 @@ pub struct Reader<'n> {
 
 impl Reader<'_> {
     /// The refusal of the first token here, or of the last of all where none is left.
-    pub fn stopped(&self, tokens: &[Token]) -> Refusal
+    pub fn stopped(&self, tokens: &[Token<'_>]) -> Refusal
         ensures { IsSyntax result }
     {
         let line = match tokens {
@@ -32,5 +32,5 @@ impl Reader<'_> {
 #[derive(Debug, Drop)]
 pub struct Part<'a, T: Drop> {
     pub value: T,
-    pub rest: &'a [Token],
+    pub rest: &'a [Token<'a>],
 }

@@ -22,7 +22,7 @@ use ep_type_names::begins_type;
 fn expression_then<'a>(
     reader: &Reader<'_>,
     mark: Mark,
-    tokens: &'a [Token],
+    tokens: &'a [Token<'a>],
 ) -> Result<Part<'a, BoundedTree>, Halt>
     requires few { length tokens.now < 2 ^ 24 }
     requires closes { CanClose (mark_number mark) }
@@ -46,7 +46,7 @@ pub fn up_to<'a>(
     reader: &Reader<'_>,
     line: u32,
     mark: Mark,
-    tokens: &'a [Token],
+    tokens: &'a [Token<'a>],
 ) -> Result<Part<'a, Measured<Option<ExprTree>>>, Halt>
     requires few { length tokens.now < 2 ^ 24 }
     requires closes { CanClose (mark_number mark) }
@@ -72,7 +72,7 @@ pub fn up_to<'a>(
 pub fn in_parens<'a>(
     reader: &Reader<'_>,
     line: u32,
-    tokens: &'a [Token],
+    tokens: &'a [Token<'a>],
 ) -> Result<Part<'a, Measured<ExprTree>>, Halt>
     requires { length tokens.now < 2 ^ 24 }
     ensures reads { Parses (ShowsTest line) (grammar.InParens (is_type reader.now.names.now)) (map view tokens.now)
@@ -93,7 +93,7 @@ pub fn in_parens<'a>(
 pub fn do_end<'a>(
     reader: &Reader<'_>,
     line: u32,
-    tokens: &'a [Token],
+    tokens: &'a [Token<'a>],
 ) -> Result<Part<'a, Measured<ExprTree>>, Halt>
     requires { length tokens.now < 2 ^ 24 }
     ensures reads { Parses (ShowsTest line) (DoEnd (is_type reader.now.names.now)) (map view tokens.now) result }
@@ -116,7 +116,7 @@ pub fn do_end<'a>(
 fn first_part<'a>(
     reader: &Reader<'_>,
     line: u32,
-    tokens: &'a [Token],
+    tokens: &'a [Token<'a>],
 ) -> Result<Part<'a, Measured<ForInitTree>>, Halt>
     requires { length tokens.now < 2 ^ 24 }
     ensures reads { Parses (ShowsFirst line) (grammar.Firsts (is_type reader.now.names.now)) (map view tokens.now)
@@ -142,7 +142,7 @@ fn first_part<'a>(
 pub fn for_heading<'a>(
     reader: &Reader<'_>,
     line: u32,
-    tokens: &'a [Token],
+    tokens: &'a [Token<'a>],
 ) -> Result<Part<'a, Measured<HeadingTree>>, Halt>
     requires { length tokens.now < 2 ^ 24 }
     ensures reads { Parses (ShowsHeading line) (Headings (is_type reader.now.names.now)) (map view tokens.now) result }

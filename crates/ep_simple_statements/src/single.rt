@@ -20,7 +20,7 @@ use ep_statement_parts::{Counted, break_loop, continue_loop, evaluate, return_va
 fn break_end<'a>(
     reader: &Reader<'_>,
     line: u32,
-    tokens: &'a [Token],
+    tokens: &'a [Token<'a>],
 ) -> Result<Part<'a, Counted<StmtTree>>, Halt>
     ensures reads { (N : List ℕ → Bool) (c : ℕ) → c ≡ break_word
         → Parses ShowsStmt (States N) (word line c ∷ map view tokens.now) result }
@@ -39,7 +39,7 @@ fn break_end<'a>(
 fn continue_end<'a>(
     reader: &Reader<'_>,
     line: u32,
-    tokens: &'a [Token],
+    tokens: &'a [Token<'a>],
 ) -> Result<Part<'a, Counted<StmtTree>>, Halt>
     ensures reads { (N : List ℕ → Bool) (c : ℕ) → c ≡ continue_word
         → Parses ShowsStmt (States N) (word line c ∷ map view tokens.now) result }
@@ -58,7 +58,7 @@ fn continue_end<'a>(
 fn return_end<'a>(
     reader: &Reader<'_>,
     line: u32,
-    tokens: &'a [Token],
+    tokens: &'a [Token<'a>],
 ) -> Result<Part<'a, Counted<StmtTree>>, Halt>
     requires { length tokens.now < 2 ^ 24 }
     ensures reads { (c : ℕ) → c ≡ return_word → Parses ShowsStmt (States (is_type reader.now.names.now))
@@ -76,7 +76,7 @@ fn return_end<'a>(
 fn evaluation<'a>(
     reader: &Reader<'_>,
     line: u32,
-    tokens: &'a [Token],
+    tokens: &'a [Token<'a>],
 ) -> Result<Part<'a, Counted<StmtTree>>, Halt>
     requires { length tokens.now < 2 ^ 24 }
     ensures reads { (t : Tok) (ts : List Tok) → map view tokens.now ≡ t ∷ ts → line ≡ line_of t
@@ -94,7 +94,7 @@ fn evaluation<'a>(
 /// A statement that begins with no head and no brace.
 pub fn simple<'a>(
     reader: &Reader<'_>,
-    tokens: &'a [Token],
+    tokens: &'a [Token<'a>],
 ) -> Result<Part<'a, Counted<StmtTree>>, Halt>
     requires { length tokens.now < 2 ^ 24 }
     ensures reads { IsSimple (map view tokens.now) → Parses ShowsStmt (States (is_type reader.now.names.now))

@@ -44,7 +44,7 @@ pub enum Completed {
 /// The head that begins here, if one does, and what comes after it.
 pub fn opening<'a>(
     reader: &Reader<'_>,
-    tokens: &'a [Token],
+    tokens: &'a [Token<'a>],
 ) -> Result<Option<Part<'a, Frame>>, Halt>
     requires { length tokens.now < 2 ^ 24 }
     ensures reads { ParsesHead (is_type reader.now.names.now) (map view tokens.now) result }
@@ -93,7 +93,7 @@ fn close_if<'a>(
     line: u32,
     test: Measured<ExprTree>,
     inner: Counted<StmtTree>,
-    tokens: &'a [Token],
+    tokens: &'a [Token<'a>],
 ) -> Result<Part<'a, Closed>, AllocError>
     ensures reads { (is_type : List ℕ → Bool) → (xs : List Tok) → (ks : List Pending)
         → Stands is_type xs (frames.If line test ∷ ks) inner (map view tokens.now)
@@ -123,7 +123,7 @@ fn close<'a>(
     reader: &Reader<'_>,
     frame: Frame,
     inner: Counted<StmtTree>,
-    tokens: &'a [Token],
+    tokens: &'a [Token<'a>],
 ) -> Result<Part<'a, Closed>, Halt>
     requires { length tokens.now < 2 ^ 24 }
     ensures reads { (xs : List Tok) → (ks : List Pending) → Stands (is_type reader.now.names.now) xs (frame ∷ ks) inner
@@ -163,7 +163,7 @@ pub fn complete<'a>(
     reader: &Reader<'_>,
     frames: Vec<Frame>,
     inner: Counted<StmtTree>,
-    tokens: &'a [Token],
+    tokens: &'a [Token<'a>],
 ) -> Result<Part<'a, Completed>, Halt>
     requires { length tokens.now < 2 ^ 24 }
     ensures reads { (xs : List Tok) → Stands (is_type reader.now.names.now) xs (reverse frames.items) inner
@@ -173,7 +173,8 @@ pub fn complete<'a>(
 {
     let mut left = frames;
     let mut found = inner;
-    let mut rest = tokens;
+    // The variable has a lifetime of its own.
+    let mut rest = (tokens,).0;
     'frames: while let Some(frame) = left.pop() {
         let closed = close(reader, frame, found, rest)?;
         let after = closed.rest;

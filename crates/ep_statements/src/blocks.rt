@@ -23,7 +23,7 @@ use ep_type_names::begins_type;
 /// The body of a function, with its braces.
 pub fn block<'a>(
     reader: &Reader<'_>,
-    tokens: &'a [Token],
+    tokens: &'a [Token<'a>],
 ) -> Result<Part<'a, Measured<BlockTree>>, Halt>
     requires { length tokens.now < 2 ^ 24 }
     ensures reads { Parses ShowsBlock (Blocks (is_type reader.now.names.now)) (map view tokens.now) result }
@@ -43,14 +43,15 @@ pub fn block<'a>(
 #[cycle(statements)]
 fn statement<'a>(
     reader: &Reader<'_>,
-    tokens: &'a [Token],
+    tokens: &'a [Token<'a>],
 ) -> Result<Part<'a, Counted<StmtTree>>, Halt>
     requires { length tokens.now < 2 ^ 24 }
     ensures reads { Parses ShowsStmt (grammar.States (is_type reader.now.names.now)) (map view tokens.now) result }
     ensures shorter { IfOk result (IsPast (length tokens.now)) }
 {
     let mut frames = Vec::new(reader.alloc);
-    let mut rest = tokens;
+    // The variable has a lifetime of its own.
+    let mut rest = (tokens,).0;
     'heads: loop {
         match opening(reader, rest)? {
             Some(frame) => {
@@ -82,7 +83,7 @@ fn statement<'a>(
 #[cycle(statements)]
 fn innermost<'a>(
     reader: &Reader<'_>,
-    tokens: &'a [Token],
+    tokens: &'a [Token<'a>],
 ) -> Result<Part<'a, Counted<StmtTree>>, Halt>
     requires { length tokens.now < 2 ^ 24 }
     ensures reads { HasNoHead (map view tokens.now) → Parses ShowsStmt (grammar.States (is_type reader.now.names.now))
@@ -103,14 +104,14 @@ fn innermost<'a>(
 #[cycle(statements)]
 fn parts<'a>(
     reader: &Reader<'_>,
-    tokens: &'a [Token],
+    tokens: &'a [Token<'a>],
 ) -> Result<Part<'a, Counted<Vec<BlockItemTree>>>, Halt>
     requires { length tokens.now < 2 ^ 24 }
     ensures reads { Parses ShowsParts (grammar.Parts (is_type reader.now.names.now)) (map view tokens.now) result }
     ensures shorter { IfOk result (IsPast (length tokens.now)) }
 {
     let mut found = Counted::new(reader.alloc);
-    let mut rest = tokens;
+    let mut rest = (tokens,).0;
     'parts: loop {
         if let Some((_, end)) = at_mark(rest, Mark::RightBrace) {
             return Ok(Part {
@@ -128,7 +129,7 @@ fn parts<'a>(
 #[cycle(statements)]
 fn part<'a>(
     reader: &Reader<'_>,
-    tokens: &'a [Token],
+    tokens: &'a [Token<'a>],
 ) -> Result<Part<'a, Counted<BlockItemTree>>, Halt>
     requires { length tokens.now < 2 ^ 24 }
     ensures reads { Parses ShowsPart (grammar.OnePart (is_type reader.now.names.now)) (map view tokens.now) result }
@@ -167,14 +168,14 @@ fn part<'a>(
 #[cycle(statements)]
 fn arm<'a>(
     reader: &Reader<'_>,
-    tokens: &'a [Token],
+    tokens: &'a [Token<'a>],
 ) -> Result<Part<'a, Counted<Vec<StmtTree>>>, Halt>
     requires { length tokens.now < 2 ^ 24 }
     ensures reads { Parses ShowsStmts (grammar.Statements (is_type reader.now.names.now)) (map view tokens.now) result }
     ensures shorter { IfOk result (IsWithin (length tokens.now)) }
 {
     let mut found = Counted::new(reader.alloc);
-    let mut rest = tokens;
+    let mut rest = (tokens,).0;
     'statements: loop {
         if ends_arm(rest) {
             return Ok(Part { value: found, rest });
@@ -189,7 +190,7 @@ fn arm<'a>(
 #[cycle(statements)]
 fn other_arm<'a>(
     reader: &Reader<'_>,
-    tokens: &'a [Token],
+    tokens: &'a [Token<'a>],
 ) -> Result<Part<'a, Option<Counted<Vec<StmtTree>>>>, Halt>
     requires { length tokens.now < 2 ^ 24 }
     ensures reads { Parses ShowsOther (grammar.OtherArm (is_type reader.now.names.now)) (map view tokens.now) result }

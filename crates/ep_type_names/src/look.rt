@@ -35,7 +35,7 @@ pub fn is_tag_word(word: Word) -> bool
 }
 
 /// Whether a word of a type stands first.
-pub fn begins_type(names: &TypeNames, tokens: &[Token]) -> bool
+pub fn begins_type(names: &TypeNames, tokens: &[Token<'_>]) -> bool
     ensures { result ≡ words.begins_type (is_type names.now) (map view tokens.now) }
 {
     match first_of(tokens) {

@@ -134,7 +134,7 @@ impl TypeBag {
 /// The word of a type that stands first, and what comes after it; None where none begins.
 fn one_word<'a>(
     reader: &Reader<'_>,
-    tokens: &'a [Token],
+    tokens: &'a [Token<'a>],
 ) -> Result<Option<Part<'a, TypeWordTree>>, Halt>
     ensures reads { OneRead (is_type reader.now.names.now) (map view tokens.now) result }
     ensures shorter { IfOk result (IsPastWord (length tokens.now)) }
@@ -173,7 +173,7 @@ fn one_word<'a>(
 }
 
 // A refusal of a first word stands; behind words it is that of the first token here.
-fn stopped_behind(reader: &Reader<'_>, words: &TypeBag, tokens: &[Token], halt: Halt) -> Halt
+fn stopped_behind(reader: &Reader<'_>, words: &TypeBag, tokens: &[Token<'_>], halt: Halt) -> Halt
     ensures { OneRead (is_type reader.now.names.now) (map view tokens.now) (Err halt)
         → OneRead (is_type reader.now.names.now) (map view tokens.now) (Err result) }
 {
@@ -193,7 +193,7 @@ fn stopped_behind(reader: &Reader<'_>, words: &TypeBag, tokens: &[Token], halt: 
 pub fn next_word<'a>(
     reader: &Reader<'_>,
     words: &TypeBag,
-    tokens: &'a [Token],
+    tokens: &'a [Token<'a>],
 ) -> Result<Option<Part<'a, TypeWordTree>>, Halt>
     ensures reads { OneRead (is_type reader.now.names.now) (map view tokens.now) result }
     ensures shorter { IfOk result (IsPastWord (length tokens.now)) }
@@ -207,14 +207,15 @@ pub fn next_word<'a>(
 /// The words of a type without members, all that stand here. The refusal names the first word that can't join.
 pub fn type_words<'a>(
     reader: &Reader<'_>,
-    tokens: &'a [Token],
+    tokens: &'a [Token<'a>],
 ) -> Result<Part<'a, Vec<TypeWordTree>>, Halt>
     ensures reads { ParsesAs words_of (AreType (is_type reader.now.names.now)) (map view tokens.now) result }
     ensures shorter { IfOk result (IsWithin (length tokens.now)) }
 {
     let mut words = Vec::new(reader.alloc);
     let mut bag = TypeBag::new();
-    let mut rest = tokens;
+    // The variable has a lifetime of its own.
+    let mut rest = (tokens,).0;
     'words: loop {
         let Some(word) = next_word(reader, &bag, rest)? else {
             if bag.is_empty() {
@@ -232,13 +233,13 @@ pub fn type_words<'a>(
 }
 
 /// How many `const` stand here, and what comes after them.
-fn consts(tokens: &[Token]) -> Part<'_, u32>
+fn consts<'a>(tokens: &'a [Token<'a>]) -> Part<'a, u32>
     requires { length tokens.now < 2 ^ 24 }
     ensures counts { CountsConsts (map view tokens.now) result.value (after result) }
     ensures shorter { IsWithin (length tokens.now) result }
 {
     let mut count = 0;
-    let mut rest = tokens;
+    let mut rest = (tokens,).0;
     while let Some((_, more)) = at_word(rest, Word::Const) {
         count += 1;
         rest = more;
@@ -247,14 +248,14 @@ fn consts(tokens: &[Token]) -> Part<'_, u32>
 }
 
 /// All stars that stand here, each with the number of `const` after it.
-pub fn stars(alloc: Global, tokens: &[Token]) -> Result<Part<'_, Vec<u32>>, AllocError>
+pub fn stars<'a>(alloc: Global, tokens: &'a [Token<'a>]) -> Result<Part<'a, Vec<u32>>, AllocError>
     requires few { length tokens.now < 2 ^ 24 }
     requires begins { LacksWord const_word (map view tokens.now) }
     ensures reads { IfOk result (ReadsStars (map view tokens.now)) }
     ensures shorter { IfOk result (IsWithin (length tokens.now)) }
 {
     let mut found = Vec::new(alloc);
-    let mut rest = tokens;
+    let mut rest = (tokens,).0;
     'stars: loop {
         let Some((_, more)) = at_mark(rest, Mark::Star) else {
             return Ok(Part { value: found, rest });
@@ -282,7 +283,7 @@ fn line_of(words: &[TypeWordTree]) -> u32
 /// The name of a type, from behind an opening parenthesis to behind the closing one.
 pub fn type_name<'a>(
     reader: &Reader<'_>,
-    tokens: &'a [Token],
+    tokens: &'a [Token<'a>],
 ) -> Result<Part<'a, Box<TypeNameTree>>, Halt>
     requires { length tokens.now < 2 ^ 24 }
     ensures reads { ParsesAs name_of (TypeNamed (is_type reader.now.names.now)) (map view tokens.now) result }

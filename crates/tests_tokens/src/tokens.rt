@@ -6,13 +6,13 @@ use std::alloc::{AllocError, Global};
 use std::fmt::Write;
 use std::test::Fail;
 
-fn show(alloc: Global, out: &mut String, token: &Token) -> Result<(), AllocError> {
+fn show(alloc: Global, out: &mut String, token: &Token<'_>) -> Result<(), AllocError> {
     let line = token.line;
     match &token.what {
         TokenKind::Word(word) => write!(out, "{line}:{word:?} ")?,
         TokenKind::Name(text) => {
             write!(out, "{line}:")?;
-            for b in text {
+            for b in *text {
                 out.push(char::from(*b))?;
             }
             out.push(' ')?;

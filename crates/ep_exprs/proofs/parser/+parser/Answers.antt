@@ -95,8 +95,31 @@ levels-returns-in_err-longer-clause-reads t c = λ xs h. (
     c.in_err-longer.field-0.0 (levels.looser (is_type c.args.reader.now.names.now) c.args.least m xs (omega arith)
     (omega arith)) (c.in_err-longer.ensures.reads xs inside)))
 
-pub operand-prefixes-preserved-in-Operator : goal.operand-prefixes-preserved-in-Operator
-operand-prefixes-preserved-in-Operator t c = (
+pub levels-loop-level-preserved-then-not-begins_operator : goal.levels-loop-level-preserved-then-not-begins_operator
+levels-loop-level-preserved-then-not-begins_operator t c =
+    let m = c.loop-level.level - 1 in
+    let up : m + 1 ≡ c.loop-level.level = omega arith in (
+      λ xs h. (
+          let q : IsRead (is_type c.args.reader.now.names.now) (bin (m + 1)) xs c.loop-level.left
+          (map view c.loop-level.rest.now) = rw up (c.loop-level.invariant.0 xs h) in
+          record {
+            tree = q.tree;
+            shows = q.shows;
+            reads = levels.level_skipped (is_type c.args.reader.now.names.now) m xs (map view c.loop-level.rest.now)
+                q.tree (omega arith) (c.begins_operator.ensures c.if-not-begins_operator.true) q.reads;
+          }),
+      omega arith,
+      omega arith,
+      c.loop-level.invariant.3,
+    )
+
+pub operand-returns-in-Nothing-clause-reads : goal.operand-returns-in-Nothing-clause-reads
+operand-returns-in-Nothing-clause-reads t c =
+    prefixes.plain_keeps (is_type c.args.reader.now.names.now) (map view c.args.tokens.now) c.postfix.result
+    c.in-Nothing.ensures.value.0 c.in-Nothing.ensures.value.1 c.postfix.ensures.reads
+
+pub prefixed_operand-prefixes-preserved-in-Operator : goal.prefixed_operand-prefixes-preserved-in-Operator
+prefixed_operand-prefixes-preserved-in-Operator t c = (
   rw c.in_ok-push-in-Operator.ensures.items
       (prefixes.under_operator (is_type c.args.reader.now.names.now) (map view c.args.tokens.now)
       c.prefixes.prefixes.items c.prefixes.bare (map view c.prefixes.rest.now) (map view c.in-Operator.more.now)
@@ -105,8 +128,8 @@ operand-prefixes-preserved-in-Operator t c = (
   omega (arith, c.in-Operator.ensures.shorter),
 )
 
-pub operand-prefixes-preserved-in-Step : goal.operand-prefixes-preserved-in-Step
-operand-prefixes-preserved-in-Step t c = (
+pub prefixed_operand-prefixes-preserved-in-Step : goal.prefixed_operand-prefixes-preserved-in-Step
+prefixed_operand-prefixes-preserved-in-Step t c = (
   rw c.in_ok-push-in-Step.ensures.items
       (prefixes.under_step (is_type c.args.reader.now.names.now) (map view c.args.tokens.now) c.prefixes.prefixes.items
       c.prefixes.bare (map view c.prefixes.rest.now) (map view c.in-Step.more.now) c.in-Step.line c.in-Step.mark
@@ -114,8 +137,8 @@ operand-prefixes-preserved-in-Step t c = (
   omega (arith, c.in-Step.ensures.shorter),
 )
 
-pub operand-prefixes-preserved-in-Sizeof : goal.operand-prefixes-preserved-in-Sizeof
-operand-prefixes-preserved-in-Sizeof t c = (
+pub prefixed_operand-prefixes-preserved-in-Sizeof : goal.prefixed_operand-prefixes-preserved-in-Sizeof
+prefixed_operand-prefixes-preserved-in-Sizeof t c = (
   rw c.in_ok-push-in-Sizeof.ensures.items
       (prefixes.under_sizeof (is_type c.args.reader.now.names.now) (map view c.args.tokens.now)
       c.prefixes.prefixes.items
@@ -125,16 +148,16 @@ operand-prefixes-preserved-in-Sizeof t c = (
   omega (arith, c.in-Sizeof.ensures.shorter),
 )
 
-pub operand-returns-then-bare-clause-reads : goal.operand-returns-then-bare-clause-reads
-operand-returns-then-bare-clause-reads t c = (
+pub prefixed_operand-returns-then-bare-clause-reads : goal.prefixed_operand-returns-then-bare-clause-reads
+prefixed_operand-returns-then-bare-clause-reads t c = (
   prefixes.bare_refused (is_type c.args.reader.now.names.now)
       (map view c.args.tokens.now) c.prefixes.prefixes.items c.prefixes.bare (map view c.prefixes.rest.now)
       (map view c.in-Cast.inside.now) c.in-Cast.line c.prefixes.invariant.0 c.if-bare.true c.in-Cast.ensures.value,
   c.stopped.ensures,
 )
 
-pub operand-returns-in_err-to-in-Cast-clause-reads : goal.operand-returns-in_err-to-in-Cast-clause-reads
-operand-returns-in_err-to-in-Cast-clause-reads t c =
+pub prefixed_operand-returns-in_err-to-in-Cast-clause-reads : goal.prefixed_operand-returns-in_err-to-in-Cast-clause-reads
+prefixed_operand-returns-in_err-to-in-Cast-clause-reads t c =
     let p = err_from_is_err_and c.from_residual-in_err-to-in-Cast.result c.from_residual-in_err-to-in-Cast.ensures.1 in
     rw (p.1, p.2) (stops_halt (TypeNamed (is_type c.args.reader.now.names.now)) (is_type c.args.reader.now.names.now)
     cast (map view c.in-Cast.inside.now) (map view c.args.tokens.now) c.in_err-to-in-Cast.field-0.0
@@ -143,8 +166,8 @@ operand-returns-in_err-to-in-Cast-clause-reads t c =
     c.in-Cast.line c.prefixes.invariant.0 c.if-bare.false c.in-Cast.ensures.value)
     c.in_err-to-in-Cast.ensures.reads)
 
-pub operand-prefixes-preserved : goal.operand-prefixes-preserved
-operand-prefixes-preserved t c = (
+pub prefixed_operand-prefixes-preserved : goal.prefixed_operand-prefixes-preserved
+prefixed_operand-prefixes-preserved t c = (
   rw (c.in_ok-push-in-Cast.ensures.items, c.if-bare.false)
       (prefixes.under_typed (is_type c.args.reader.now.names.now) (map view c.args.tokens.now) c.prefixes.prefixes.items
       c.prefixes.bare (map view c.prefixes.rest.now) (map view c.in-Cast.inside.now)
@@ -153,8 +176,8 @@ operand-prefixes-preserved t c = (
   omega (arith, c.in-Cast.ensures.shorter, c.in_ok-to-in-Cast.ensures.shorter),
 )
 
-pub operand-returns-in_err-of-in-SizeofType-clause-reads : goal.operand-returns-in_err-of-in-SizeofType-clause-reads
-operand-returns-in_err-of-in-SizeofType-clause-reads t c =
+pub prefixed_operand-returns-in_err-of-in-SizeofType-clause-reads : goal.prefixed_operand-returns-in_err-of-in-SizeofType-clause-reads
+prefixed_operand-returns-in_err-of-in-SizeofType-clause-reads t c =
     let p = err_from_is_err_and c.from_residual-in_err-of-in-SizeofType.result
     c.from_residual-in_err-of-in-SizeofType.ensures.1 in
     rw (p.1, p.2) (stops_halt (TypeNamed (is_type c.args.reader.now.names.now)) (is_type c.args.reader.now.names.now)
@@ -165,8 +188,8 @@ operand-returns-in_err-of-in-SizeofType-clause-reads t c =
     c.in-SizeofType.ensures.value.1 c.prefixes.invariant.0 c.in-SizeofType.ensures.value.4
     c.in-SizeofType.ensures.value.5) c.in_err-of-in-SizeofType.ensures.reads)
 
-pub operand-returns-in-SizeofType-clause-reads : goal.operand-returns-in-SizeofType-clause-reads
-operand-returns-in-SizeofType-clause-reads t c =
+pub prefixed_operand-returns-in-SizeofType-clause-reads : goal.prefixed_operand-returns-in-SizeofType-clause-reads
+prefixed_operand-returns-in-SizeofType-clause-reads t c =
     let size = tree.sizeof_type c.in-SizeofType.line (type_name c.in_ok-of-in-SizeofType.of.value.value) in
     record {
       tree = wrap_all c.prefixes.prefixes.items size;
@@ -180,8 +203,8 @@ operand-returns-in-SizeofType-clause-reads t c =
           c.in-SizeofType.ensures.value.5 c.in_ok-of-in-SizeofType.ensures.reads);
     }
 
-pub operand-returns-in_err-inner-in-Nothing-clause-reads : goal.operand-returns-in_err-inner-in-Nothing-clause-reads
-operand-returns-in_err-inner-in-Nothing-clause-reads t c =
+pub prefixed_operand-returns-in_err-inner-in-Nothing-clause-reads : goal.prefixed_operand-returns-in_err-inner-in-Nothing-clause-reads
+prefixed_operand-returns-in_err-inner-in-Nothing-clause-reads t c =
     let p = err_from_is_err_and c.from_residual-in_err-inner-in-Nothing.result
     c.from_residual-in_err-inner-in-Nothing.ensures.1 in
     rw (p.1, p.2) (passes (is_type c.args.reader.now.names.now) postfix cast (map view c.prefixes.rest.now)
@@ -190,8 +213,8 @@ operand-returns-in_err-inner-in-Nothing-clause-reads t c =
     c.prefixes.prefixes.items c.prefixes.bare (map view c.prefixes.rest.now) c.prefixes.invariant.0
     c.in-Nothing.ensures.value.0 c.in-Nothing.ensures.value.1) c.in_err-inner-in-Nothing.ensures.reads)
 
-pub operand-returns-in-Nothing-clause-reads : goal.operand-returns-in-Nothing-clause-reads
-operand-returns-in-Nothing-clause-reads t c =
+pub prefixed_operand-returns-in-Nothing-clause-reads : goal.prefixed_operand-returns-in-Nothing-clause-reads
+prefixed_operand-returns-in-Nothing-clause-reads t c =
     let q = c.in_ok-inner-in-Nothing.ensures.reads in
     record {
       tree = wrap_all c.prefixes.prefixes.items q.tree;

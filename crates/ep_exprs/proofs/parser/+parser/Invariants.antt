@@ -32,17 +32,20 @@ decreases-levels l = 8 * length l.tokens.now + 1
 abbrev pub decreases-postfix : goal.decreases-postfix
 decreases-postfix l = 8 * length l.tokens.now + 1
 
+abbrev pub decreases-prefixed_operand : goal.decreases-prefixed_operand
+decreases-prefixed_operand l = 8 * length l.tokens.now + 2
+
 abbrev pub decreases-operand : goal.decreases-operand
-decreases-operand l = 8 * length l.tokens.now + 2
+decreases-operand l = 8 * length l.tokens.now + 3
 
 abbrev pub decreases-tighter : goal.decreases-tighter
-decreases-tighter l = 8 * length l.tokens.now + 3
+decreases-tighter l = 8 * length l.tokens.now + 4
 
 abbrev pub decreases-read_expression : goal.decreases-read_expression
-decreases-read_expression l = 8 * length l.tokens.now + 3
+decreases-read_expression l = 8 * length l.tokens.now + 4
 
 abbrev pub decreases-arguments : goal.decreases-arguments
-decreases-arguments l = 8 * length l.tokens.now + 4
+decreases-arguments l = 8 * length l.tokens.now + 5
 
 abbrev pub invariant-read_expression-frames : goal.invariant-read_expression-frames
 invariant-read_expression-frames l =
@@ -70,12 +73,12 @@ invariant-operators-loop-mark l =
 abbrev pub decreases-operators-loop-mark : goal.decreases-operators-loop-mark
 decreases-operators-loop-mark l = length l.rest
 
-abbrev pub invariant-operand-prefixes : goal.invariant-operand-prefixes
-invariant-operand-prefixes l = Under (is_type l.reader.names.now) (map view l.tokens) l.prefixes.items l.bare
+abbrev pub invariant-prefixed_operand-prefixes : goal.invariant-prefixed_operand-prefixes
+invariant-prefixed_operand-prefixes l = Under (is_type l.reader.names.now) (map view l.tokens) l.prefixes.items l.bare
     (map view l.rest) × (length l.rest ≤ length l.tokens)
 
-abbrev pub decreases-operand-prefixes : goal.decreases-operand-prefixes
-decreases-operand-prefixes l = length l.rest
+abbrev pub decreases-prefixed_operand-prefixes : goal.decreases-prefixed_operand-prefixes
+decreases-prefixed_operand-prefixes l = length l.rest
 
 abbrev pub invariant-postfix-marks : goal.invariant-postfix-marks
 invariant-postfix-marks l = ((t : Expr) × Shows l.left t × Longer (is_type l.reader.names.now) (map view l.tokens) t
