@@ -7,8 +7,7 @@ ghost use Rattle.ep_ast.specs.Kind.{array_bound};
 ghost use Rattle.ep_layout.specs.Table.{Grows};
 ghost use Rattle.ep_typing.specs.Constant.{count_in};
 ghost use Rattle.ep_typing.specs.Operand as operand;
-ghost use Rattle.ep_typing.specs.Results.{at, needed, on_statement};
-ghost use Rattle.ep_typing.specs.Typing as typing;
+ghost use Rattle.ep_typing.specs.Results.{at, needed};
 ghost use Rattle.ep_elaboration.specs.Declarators as rule;
 ghost use Rattle.ep_operands.specs.Refinement.{Refines};
 ghost use Rattle.ep_operands.specs.View as operands;
@@ -19,20 +18,9 @@ ghost use Rattle.ep_scopes.specs.Known.{IsKnownEnv};
 ghost use Rattle.ep_scopes.specs.View.{env as env_view};
 
 use ep_ast::{ExprTree, Halt, RefusalKind};
-use ep_operands::{Operand, at_statement, count_of, refused, value_of};
+use ep_operands::{Operand, count_of, refused, value_of};
 use ep_scopes::Env;
-use ep_typer_exprs::{mention, typed};
-
-/// What an expression stands for that is read by itself. A bit-field, which it can't be, is named on this line.
-pub(crate) fn typed_alone(env: &Env, line: u32, tree: &ExprTree) -> Result<Operand, Halt>
-    ensures { Refines operands.operand
-        (on_statement line (typing.typed (env_view env.now) (source.expr tree.now))) result }
-{
-    match typed(env, tree) {
-        Ok(x) => Ok(x),
-        Err(halt) => Err(at_statement(line, halt)),
-    }
-}
+use ep_typer_exprs::{mention, typed_alone};
 
 fn counted(env: &Env, line: u32, x: Operand) -> Result<u32, Halt>
     ensures { Refines (λ n. n)

@@ -15,7 +15,6 @@ ghost use Rattle.ep_declared.specs.Open.{AreTypes, Follows};
 ghost use Rattle.ep_scopes.specs.Known.{IsKnown, IsKnownEnv};
 ghost use Rattle.ep_scopes.specs.View.{env as env_view};
 
-use crate::counts::typed_alone;
 use crate::entries::Named;
 use crate::tags::is_union;
 use crate::widths::width_of;
@@ -23,7 +22,7 @@ use ep_ast::{ExprTree, Halt, RefusalKind};
 use ep_bitfield::is_unit_type;
 use ep_operands::{Operand, int_of, is_integer, refused};
 use ep_scopes::{Env, add_type, type_number};
-use ep_typer_exprs::mention;
+use ep_typer_exprs::{mention, typed_alone};
 use ep_typing::CType;
 
 fn is_field_type(c: CType) -> bool

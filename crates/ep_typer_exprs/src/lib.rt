@@ -8,4 +8,4 @@ mod walk;
 
 pub use fields::{FieldPlace, field_of};
 pub use mentions::{mention, mention_all};
-pub use walk::{callee, meaning, typed, typed_all};
+pub use walk::{callee, meaning, typed, typed_all, typed_alone};

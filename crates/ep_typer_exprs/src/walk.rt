@@ -4,6 +4,7 @@ ghost use Rattle.std.specs.Prelude.{◌≡◌, map, OnOk};
 ghost use Rattle.ep_ast.specs.Expression as source;
 ghost use Rattle.ep_ast.specs.Mark.{mark_number};
 ghost use Rattle.ep_typing.specs.Names.{mentioned};
+ghost use Rattle.ep_typing.specs.Results.{on_statement};
 ghost use Rattle.ep_typing.specs.Typing as rule;
 ghost use Rattle.ep_operands.specs.Refinement.{Refines};
 ghost use Rattle.ep_operands.specs.View as view;
@@ -18,7 +19,7 @@ use crate::nodes::{
     valued,
 };
 use ep_ast::{ExprTree, Halt, Mark, RefusalKind, TypeNameTree};
-use ep_operands::{Operand, Value, numbered, refused};
+use ep_operands::{Operand, Value, at_statement, numbered, refused};
 use ep_places::{indexable, unary_typed};
 use ep_scopes::{Env, named, named_type};
 
@@ -169,6 +170,17 @@ pub fn typed_all(env: &Env, line: u32, list: &[ExprTree]) -> Result<Vec<Value>, 
         all.push(v)?;
     }
     Ok(all)
+}
+
+/// What an expression stands for that is read by itself. A bit-field, which it can't be, is named on this line.
+pub fn typed_alone(env: &Env, line: u32, tree: &ExprTree) -> Result<Operand, Halt>
+    ensures { Refines view.operand
+        (on_statement line (rule.typed (env_view env.now) (source.expr tree.now))) result }
+{
+    match typed(env, tree) {
+        Ok(x) => Ok(x),
+        Err(halt) => Err(at_statement(line, halt)),
+    }
 }
 
 /// What an expression stands for, after the tags and types that it mentions.

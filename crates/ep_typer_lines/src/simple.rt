@@ -26,7 +26,7 @@ use ep_layout::Types;
 use ep_operands::{Operand, at_statement, fitted, is_void, refused, value_of};
 use ep_scopes::Env;
 use ep_typer_effects::{test, whole_statement};
-use ep_typer_exprs::{mention, typed};
+use ep_typer_exprs::{mention, typed_alone};
 use ep_typing::CType;
 use std::alloc::Global;
 
@@ -200,16 +200,6 @@ fn operand_returned(
     value_returned(alloc, types, line, result_type, x)
 }
 
-fn typed_on(env: &Env, line: u32, tree: &ExprTree) -> Result<Operand, Halt>
-    ensures { Refines operands.operand
-        (on_statement line (typing.typed (env_view env.now) (source.expr tree.now))) result }
-{
-    match typed(env, tree) {
-        Ok(x) => Ok(x),
-        Err(halt) => Err(at_statement(line, halt)),
-    }
-}
-
 /// A return.
 #[tactic(auto, unfolding(ep_elaboration::specs::Statements::statement))]
 pub fn returned(
@@ -231,7 +221,7 @@ pub fn returned(
         }
         Some(tree) => {
             mention(env, tree)?;
-            let x = typed_on(env, line, tree)?;
+            let x = typed_alone(env, line, tree)?;
             let what = operand_returned(env.alloc, &env.types, line, result_type, x)?;
             let lines = one_line(env.alloc, line, what)?;
             Ok(lines)

@@ -1,6 +1,6 @@
 //! Statements and the parts of blocks.
 
-ghost use Rattle.std.specs.Prelude.{◌≡◌, ◌++◌, Bool, map, false, OnOk};
+ghost use Rattle.std.specs.Prelude.{◌≡◌, ◌++◌, [], Bool, IfOk, IsTrue, map, false, OnOk};
 ghost use Rattle.std.specs.Option.{option_map};
 ghost use Rattle.ep_ast.specs.Expression as source;
 ghost use Rattle.ep_ast.specs.Statement as shape;
@@ -22,7 +22,7 @@ use ep_typer_lines::{
     looped, one_line, returned, scoped, tested_if, tested_in, tested_inside,
 };
 use ep_typing::CType;
-use std::alloc::AllocError;
+use std::alloc::{AllocError, Global};
 
 // A statement that had two scopes, one inside the other.
 fn closed(env: &mut Env, line: u32, what: What) -> Result<Vec<Stmt>, Halt>
@@ -48,11 +48,33 @@ fn make_room(lines: &mut Vec<Stmt>, more: &[Stmt]) -> Result<(), AllocError>
     Ok(())
 }
 
-// Statements behind others. The first ones' list is taken as it is: mostly it has room for what it holds alone.
+// Room for a statement of each of these items. Of one item the statements' own list will be taken.
+fn room_for(alloc: Global, items: usize) -> Result<Vec<Stmt>, AllocError>
+    ensures { IfOk result (λ v. v.items ≡ []) }
+{
+    if items < 2 {
+        return Ok(Vec::new(alloc));
+    }
+    let lines = Vec::with_capacity(alloc, items)?;
+    Ok(lines)
+}
+
+// Whether a list is empty and has no room for these.
+fn is_bare(lines: &Vec<Stmt>, more: &[Stmt]) -> bool
+    ensures { IsTrue result → lines.now.items ≡ [] }
+{
+    if !lines.is_empty() {
+        return false;
+    }
+    lines.capacity() < more.len()
+}
+
+// Statements behind others. Where there is no room yet, the first ones' list is taken as it is: mostly it has room for
+// what it holds alone.
 fn add(lines: &mut Vec<Stmt>, more: Vec<Stmt>) -> Result<(), AllocError>
     ensures { OnOk result (lines.new.items ≡ lines.old.items ++ more.items) }
 {
-    if lines.is_empty() {
+    if is_bare(lines, &more) {
         *lines = more;
         return Ok(());
     }
@@ -230,7 +252,7 @@ fn statements(
         (env_view env.new) result }
     ensures known { OnOk result (IsKnownEnv (env_view env.new)) }
 {
-    let mut lines = Vec::new(env.alloc);
+    let mut lines = room_for(env.alloc, list.len())?;
     for tree in list {
         let more = statement(env, result_type, in_loop, tree)?;
         add(&mut lines, more)?;
@@ -311,7 +333,7 @@ fn part_list(
         (env_view env.new) result }
     ensures known { OnOk result (IsKnownEnv (env_view env.new)) }
 {
-    let mut lines = Vec::new(env.alloc);
+    let mut lines = room_for(env.alloc, list.len())?;
     for tree in list {
         let more = part(env, result_type, in_loop, tree)?;
         add(&mut lines, more)?;
