@@ -1,9 +1,7 @@
 -- The type of a parameter with the same spelling is the same in a table that has grown.
-use Rattle.std.proofs.Common.{◌≡◌, ℕ, zero, suc, ◌<◌, Bool, true, false, if◌then◌else◌, List, [], ◌∷◌, length, slice_get}
+use Rattle.std.proofs.Common.{◌≡◌, ℕ, Bool, true, false, if◌then◌else◌, List, [], ◌∷◌}
 use Rattle.std.proofs.Common.{Option, Some, None, Ok, unwrap_or, refl, sym, ap, ◌∙◌, subst, arith}
 use Rattle.std.proofs.lemmas.Bool.Decides.{nat_tests}
-use Rattle.ep_core.proofs.Sorts.{never}
-use Rattle.ep_core.proofs.Tables.{more_types}
 use Rattle.ep_core.specs.WellFormed.{is_length}
 use Rattle.ep_layout.specs.declared.types.LayoutStop.{LayoutStop}
 use Rattle.ep_layout.specs.declared.types.Ty.{Ty}
@@ -11,13 +9,11 @@ use Rattle.ep_layout.specs.declared.types.Ty.TheVariants as rows
 use Rattle.ep_layout.specs.Table.{Grows, IsBuilt, Table, names_known, number_of, type_added}
 use Rattle.ep_layout.specs.Table.{type_stop}
 use Rattle.ep_layout.proofs.Basics.{grows-trans}
-use Rattle.ep_layout.proofs.Sizes.{known}
-use Rattle.ep_typing.specs.declared.types.Base.{Base}
 use Rattle.ep_typing.specs.declared.types.Base.TheVariants as bases
 use Rattle.ep_typing.specs.declared.types.CType.{CType}
 use Rattle.ep_typing.specs.Results.{needed}
-use Rattle.ep_typing.specs.Types.{c_type_number, element_of, is_array, is_array_base, known_number, of_row, pointer_to}
-use Rattle.ep_typing.specs.Types.{size_of_type, type_of, type_within, whole, with_c_type}
+use Rattle.ep_typing.specs.Types.{c_type_number, element_of, is_array, known_number, pointer_to}
+use Rattle.ep_typing.specs.Types.{size_of_type, whole, with_c_type}
 use Rattle.ep_elaboration.specs.Declarators.{array_of, arrays_of, made}
 use Rattle.ep_elaboration.specs.Functions.{param_type}
 use Rattle.ep_well_formed_laws.specs.Numbers.{HasNumber, IsTable, type_number}
@@ -25,72 +21,12 @@ use Rattle.ep_well_formed_laws.proofs.Additions.{IsKnownBase, added, c_number_is
 use Rattle.ep_well_formed_laws.proofs.Additions.{type_number_stays}
 use Rattle.ep_well_formed_laws.proofs.Mentions.{known_base}
 use Rattle.ep_well_formed_laws.proofs.Objects.{AreLengths, arrays_come}
-use Rattle.ep_well_formed_laws.proofs.Parts.{array_is_of, of_base}
+use Rattle.ep_well_formed_laws.proofs.Parts.{array_is_of}
 use Rattle.ep_well_formed_laws.proofs.Specs.{fine_is}
-use Rattle.ep_well_formed_laws.proofs.Tables.{base_again, target_before}
 use Rattle.ep_well_formed_laws.proofs.Tests.{after, if_not, if_so}
 use Rattle.ep_well_formed_laws.proofs.Values.{number_below}
 use Rattle.ep_typer_arms.specs.Spelled.{Spelling}
-
--- ---- elements
-
--- what stands at a number is of the same type
-within_stays : (t u : Table) → Grows t u → IsBuilt t → (k j n : ℕ) → n < k → n < j → n < length t.types
-    → type_within t k n ≡ type_within u j n
-unfolding type_within
-within_stays t u g b zero j n l m i = absurd (omega (arith, l))
-within_stays t u g b (suc k) zero n l m i = absurd (omega (arith, m))
-within_stays t u g b (suc k) (suc j) n l m i =
-    by (some_below t.types n i)
-    (λ e p q r. within_stays t u g b k j e p q r)
-  where
-    some_below : (xs : List Ty) (e : ℕ) → e < length xs → (x : Ty) × (slice_get xs e ≡ Some x)
-    some_below [] e l = absurd (omega (arith, l))
-    some_below (x ∷ xs) zero l = (x, refl)
-    some_below (x ∷ xs) (suc e) l = some_below xs e (omega (arith, l))
-
-    row : ((e : ℕ) → e < k → e < j → e < length t.types → type_within t k e ≡ type_within u j e) → (ty : Ty)
-        → slice_get t.types n ≡ Some ty → of_row (type_within t k) n (Some ty) ≡ of_row (type_within u j) n (Some ty)
-    row f rows.Void q = refl
-    row f (rows.Int i) q = refl
-    row f (rows.Ptr e) q =
-        let less = target_before t b n e q in
-        ap pointer_to (f e (omega (arith, less, l)) (omega (arith, less, m)) (omega (arith, less, i)))
-    row f (rows.Array e c) q = refl
-    row f (rows.Aggregate a) q = refl
-
-    by : ((x : Ty) × (slice_get t.types n ≡ Some x))
-        → ((e : ℕ) → e < k → e < j → e < length t.types → type_within t k e ≡ type_within u j e)
-        → of_row (type_within t k) n (slice_get t.types n) ≡ of_row (type_within u j) n (slice_get u.types n)
-    by p f =
-        ap (of_row (type_within t k) n) p.1 ∙ row f p.0 p.1
-        ∙ sym (ap (of_row (type_within u j) n) (g.types n p.0 p.1))
-
-same_element : (x y : ℕ) (k j : ℕ) → Some (rows.Array x k) ≡ Some (rows.Array y j) → x ≡ y
-same_element x y k j e = cc
-
-elements_stay : (t u : Table) → Grows t u → IsTable t → IsTable u → (c : CType) (n : ℕ) → is_array c ≡ true
-    → type_number t c ≡ Some n → element_of t c ≡ element_of u c
-elements_stay t u g h i c n a q =
-    let r = array_is_of t h c n a q in
-    let s = array_is_of u i c n a (type_number_stays t u g i.built c n q) in
-    let same : r.0 ≡ s.0 = same_element r.0 s.0 r.1 s.1 (sym (g.types n (rows.Array r.0 r.1) r.2.row) ∙ s.2.row) in
-    let k = known t h.built n (rows.Array r.0 r.1) r.2.row in
-    let l : r.0 < length t.types = grind (arith, nat_tests) in
-    let m : r.0 < length u.types = omega (arith, l, more_types t u g) in
-    r.2.element ∙ within_stays t u g h.built (length t.types) (length u.types) r.0 l m l ∙ ap (type_of u) same
-    ∙ sym s.2.element
-
-array_number_of : (t : Table) (c : CType) → is_array c ≡ true → IsKnownBase t c.base → HasNumber t c
-array_number_of t c a k =
-    let p = of_base c (is_array_base c.base) a in
-    subst (HasNumber t) (base_again c p.0) (by c.base p.1 k)
-  where
-    by : (b : Base) → is_array_base b ≡ true → IsKnownBase t b → HasNumber t (record { base = b; stars = 0 })
-    by bases.Void q k = never q
-    by (bases.Int i) q k = never q
-    by (bases.Array n) q k = (n, k)
-    by (bases.Aggregate a) q k = never q
+use Rattle.ep_typer_arms.proofs.PartTypes.{array_number_of, elements_stay}
 
 -- ---- arrays
 

@@ -12,7 +12,7 @@ use Rattle.ep_typing.proofs.Order.{bind_ok, ok_is}
 use Rattle.ep_elaboration.specs.Declarators.{with_types}
 use Rattle.ep_elaboration.specs.Functions.{Headed, are_same, function_declared, headed}
 use Rattle.ep_elaboration.specs.FunctionSteps.{are_alike, are_typed_alike}
-use Rattle.ep_elaboration.specs.Functions.{is_same_signature, signature_of}
+use Rattle.ep_elaboration.specs.Functions.{is_same_signature, params_of, signature_of}
 use Rattle.ep_elaboration.specs.FunctionSteps.{is_alike, stands_alone}
 use Rattle.ep_elaboration.specs.Statements.{left}
 use Rattle.ep_elaboration.specs.FunctionRules.{MeansHead}
@@ -67,14 +67,15 @@ spelled_alike G ds h k f s = by (stands_alone G ds h) refl
     second r x (Ok z) q =
         let c = head_comes G (length G.blocks) h x.of d x.means in
         let H = with_types G x.of.1.types in
-        let i = inside_table G G.types d (kept_by_itself G.types) in
-        let j = inside_table G x.of.1.types (with_table G x.of.1.types d c.grows c.declared.table) c.grows in
+        let i = inside_table G (params_of h.params) d G.types d (kept_by_itself G.types) in
+        let j = inside_table G (params_of k.params) d x.of.1.types (with_table G x.of.1.types d c.grows c.declared.table)
+        c.grows in
         let y = stood H ds k z
         (subst (λ (E : Env). stands_alone E ds k ≡ Ok z) (ap (λ (p : Headed × Env). p.1) x.is) q) in
-        let one = head_made G G file.scope (length G.blocks) h x.of s.result.0 s.params.0 i file.file refl x.means s.result.1
-        s.params.1 in
-        let other = head_made G H file.scope (length H.blocks) k y.of s.result.0 s.params.0 j file.file refl y.means s.result.2
-        s.params.2 in
+        let one = head_made G (params_of h.params) d G file.scope (length G.blocks) h x.of s.result.0 s.params.0 i file.file refl
+        x.means s.result.1 refl s.params.1 in
+        let other = head_made G (params_of k.params) d H file.scope (length H.blocks) k y.of s.result.0 s.params.0 j file.file
+        refl y.means s.result.2 refl s.params.2 in
         let params = all_made_same G.types x.of.1.types H.types y.of.1.types s.params.0 x.of.0.params y.of.0.params one.params
         other.params (kept_by_itself H.types) in
         let here : r.0 ≡ x.of.0 = ap (λ (p : Headed × Env). p.0) x.is in

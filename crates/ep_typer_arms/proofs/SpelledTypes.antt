@@ -1,41 +1,41 @@
 -- What a head spells is what it means, wherever what it names is seen.
-use Rattle.std.proofs.Common.{◌≡◌, ◌==◌, ℕ, ◌+◌, Bool, true, false, cond, if◌then◌else◌, List, [], ◌∷◌, ◌++◌, length}
-use Rattle.std.proofs.Common.{map, find, Option, Some, None, Ok, Err, refl, sym, ap, ◌∙◌, subst, ◌⊎◌, inl, inr}
+use Rattle.std.proofs.Common.{◌≡◌, ◌==◌, ℕ, ◌+◌, Bool, true, false, not, ◌&&◌, cond, if◌then◌else◌, List, [], ◌∷◌, ◌++◌}
+use Rattle.std.proofs.Common.{length, map, find, Option, Some, None, Ok, Err, refl, sym, ap, ◌∙◌, subst, ◌⊎◌, inl, inr}
 use Rattle.std.proofs.Common.{bytes_eq}
+use Rattle.std.proofs.lemmas.Bool.{and_parts}
+use Rattle.ep_int.specs.declared.types.Model.{Model}
 use Rattle.ep_ast.specs.Expression as source
 use Rattle.ep_ast.specs.Expression.{TypeName, TypeWord}
 use Rattle.ep_ast.specs.Declaration.{Aggregate, Head, Members, Param, Spec, aggregate, body, plain, to_specs}
 use Rattle.ep_ast.specs.Mark.{union_word}
-use Rattle.ep_int.specs.declared.types.Model.{Model}
 use Rattle.ep_layout.specs.declared.types.LayoutStop.{LayoutStop}
 use Rattle.ep_layout.specs.Table.{Grows, Table, completed_with, is_union, members_stop}
 use Rattle.ep_layout.specs.SameTypes.{is_same_sign}
 use Rattle.ep_layout.proofs.Basics.{grows-trans}
 use Rattle.ep_layout.proofs.Recursion.{kept_by_itself}
-use Rattle.ep_scopes.specs.View.{innermost}
 use Rattle.ep_typing.specs.declared.types.Base.TheVariants as bases
 use Rattle.ep_typing.specs.declared.types.CType.{CType}
 use Rattle.ep_typing.specs.Constant.{count_of}
 use Rattle.ep_typing.specs.Env.{Env, Meaning, Scope, entry, first_of, look_up, look_up_tag, variable}
-use Rattle.ep_typing.specs.Names.{built_in_types, integer_of, is_whole, meant_tag, meant_type, mentioned}
-use Rattle.ep_typing.specs.Names.{mentioned_words, named_type, of_whole, words_type}
+use Rattle.ep_typing.specs.Names.{built_in_types, integer_of, is_whole, meant_tag, meant_type, mentioned, mentioned_words}
+use Rattle.ep_typing.specs.Names.{named_type, of_whole, words_type}
 use Rattle.ep_typing.specs.Operand.{Operand, value, value_of}
 use Rattle.ep_typing.specs.Results.{at}
 use Rattle.ep_typing.specs.Rules.{Means}
 use Rattle.ep_typing.specs.Types.{int_type, is_aggregate, is_void, whole, with_c_type, with_stars}
 use Rattle.ep_typing.proofs.Order.{bind_ok, ok_is}
-use Rattle.ep_elaboration.specs.Aggregates.{Named, body_of, closed, closed_with, members_in, opened, tags_here}
-use Rattle.ep_elaboration.specs.Aggregates.{with_fields}
+use Rattle.ep_elaboration.specs.Aggregates.{Named, body_of, closed, closed_with, members_in, opened, tags_here, with_fields}
 use Rattle.ep_elaboration.specs.Aggregates as aggregates
 use Rattle.ep_elaboration.specs.Declarators.{counted, name_in, with_types}
 use Rattle.ep_elaboration.specs.DeclaratorRules.{MeansBody, MeansBound, MeansBounds, MeansSpecs, MeansWords, has_body}
 use Rattle.ep_elaboration.specs.DeclaratorRules.{is_body, is_bound, is_plain, is_words, more_bounds, no_bounds}
 use Rattle.ep_elaboration.specs.DeclaratorRules.{one_word_more}
-use Rattle.ep_elaboration.specs.FunctionRules.{MeansHead, MeansParam, MeansParamBounds, MeansParams, bound_array}
-use Rattle.ep_elaboration.specs.FunctionRules.{is_head, is_param, more_params, no_array, no_params, open_array}
-use Rattle.ep_elaboration.specs.Functions.{Headed, behind_result, is_name_taken, named_param, param_type, params_of}
-use Rattle.ep_elaboration.specs.Functions.{passable, with_param}
+use Rattle.ep_elaboration.specs.FunctionRules.{MeansHead, MeansParam, MeansParamBounds, MeansParams, bound_array, is_head}
+use Rattle.ep_elaboration.specs.FunctionRules.{is_param, more_params, no_array, no_params, open_array}
+use Rattle.ep_elaboration.specs.Functions.{Headed, behind_result, is_name_taken, is_same_text, named_param, param_type}
+use Rattle.ep_elaboration.specs.Functions.{params_of, passable, with_param}
 use Rattle.ep_elaboration.specs.Statements.{entered}
+use Rattle.ep_scopes.specs.View.{innermost}
 use Rattle.ep_well_formed_laws.specs.Environments.{IsDeclared}
 use Rattle.ep_well_formed_laws.specs.Numbers.{HasNumber}
 use Rattle.ep_well_formed_laws.proofs.Additions.{IsKnownBase, has_number_stays}
@@ -47,8 +47,8 @@ use Rattle.ep_well_formed_laws.proofs.Scopes.{HaveNames, entry_behind, entry_fro
 use Rattle.ep_well_formed_laws.proofs.Specs.{fine_is, specified, words_specified}
 use Rattle.ep_well_formed_laws.proofs.Tests.{after, needed_is, unless}
 use Rattle.ep_typer_arms.specs.Spelled.{AreBounds, AreCounts, AreSpelled, HasTag, IsBodyOf, IsBoundOf, IsCount, IsSpelled}
-use Rattle.ep_typer_arms.specs.Spelled.{IsSpelledParam, IsSpelledResult, Spelling, by_body, by_words, first_body}
-use Rattle.ep_typer_arms.proofs.ConstantBounds.{same_meant}
+use Rattle.ep_typer_arms.specs.Spelled.{IsSpelledParam, IsSpelledResult, Spelling, by_body, by_words, first_body, is_free}
+use Rattle.ep_typer_arms.proofs.FixedBounds.{same_meant}
 use Rattle.ep_typer_arms.proofs.ParameterTypes.{AreMadeAt, IsMadeAt, all_made_before, made_later}
 
 -- ---- what a parameter's name hides
@@ -80,6 +80,24 @@ by_name u t m (s ∷ ss) = by (entry u s.names) refl
     by (Some x) q =
         inl (ap (λ (o : Option Meaning). first_of o (look_up u ss)) (entry_front u s.names ((t, m) ∷ []) x q ∙ sym q))
 
+-- another name means what it did
+by_other_name : (u t : List ℕ) (m : Meaning) (ss : List Scope) → bytes_eq u t ≡ false
+    → look_up u (name_in ss t m) ≡ look_up u ss
+by_other_name u t m [] f = refl
+by_other_name u t m (s ∷ ss) f = by (entry u s.names) refl
+  where
+    by : (o : Option Meaning) → entry u s.names ≡ o
+        → first_of (entry u (s.names ++ (t, m) ∷ [])) (look_up u ss) ≡ first_of (entry u s.names) (look_up u ss)
+    by None q =
+        ap (λ (o : Option Meaning). first_of o (look_up u ss))
+        (entry_behind u s.names ((t, m) ∷ []) q ∙ ap (λ (b : Bool). cond b (Some m) None) f ∙ sym q)
+    by (Some x) q =
+        ap (λ (o : Option Meaning). first_of o (look_up u ss)) (entry_front u s.names ((t, m) ∷ []) x q ∙ sym q)
+
+not_so : (b c : Bool) → (not b && c) ≡ true → b ≡ false
+not_so true c e = absurd cc
+not_so false c e = refl
+
 -- tags that come to a scope alone stand behind those that it has
 tags_behind : (t : List ℕ) (a : ℕ) (u : Scope) (ss us : List Scope) → ss ≡ u ∷ [] → HaveNames ss us
     → look_up_tag t ss ≡ Some a → look_up_tag t us ≡ Some a
@@ -107,7 +125,8 @@ pub record IsHeadMade (t v : Table) (r : CType) (ss : List Spelling) (x : Headed
   pub result : x.result ≡ r
   pub params : AreMadeAt t v ss x.params
 
-module _ (G : Env) where
+-- in a head with these parameters
+module _ (G : Env) (ps : List Param) (home : IsDeclared G) where
   -- ---- what scopes see of these
 
   abbrev pub SeesAs : List Scope → List ℕ → Type 0
@@ -117,11 +136,13 @@ module _ (G : Env) where
   -- names mean the same but where a parameter hides them, and tags that are there mean the same
   pub record Sees (us : List Scope) : Type 0 where
     pub names : (t : List ℕ) → SeesAs us t
+    pub free : (t : List ℕ) → is_free ps t ≡ true → look_up t us ≡ look_up t G.scopes
     pub tags : (t : List ℕ) (a : ℕ) → look_up_tag t G.scopes ≡ Some a → look_up_tag t us ≡ Some a
 
   sees_mentioned : (H I : Env) → Sees H.scopes → Mentions H I → Sees I.scopes
   sees_mentioned H I s m = record {
     names = λ t. by t (s.names t);
+    free = λ t f. sym (same_meaning H.scopes I.scopes m.names t) ∙ s.free t f;
     tags = λ t a e. m.tags t a (s.tags t a e);
   }
     where
@@ -129,9 +150,19 @@ module _ (G : Env) where
       by t (inl e) = inl (sym (same_meaning H.scopes I.scopes m.names t) ∙ e)
       by t (inr p) = inr (p.0, p.1, sym (same_meaning H.scopes I.scopes m.names t) ∙ p.2)
 
-  sees_named : (us : List Scope) (n : List ℕ) (k : ℕ) (d : CType) → Sees us → Sees (name_in us n (variable k d))
-  sees_named us n k d s = record {
+  -- a name of one of the parameters, if it is one at all
+  abbrev IsTaken : Option (List ℕ) → Type 0
+  IsTaken o = (t : List ℕ) → is_free ps t ≡ true → is_same_text (Some t) o ≡ false
+
+  -- some of the parameters
+  abbrev AreOf : List Param → Type 0
+  AreOf qs = (t : List ℕ) → is_free ps t ≡ true → is_free qs t ≡ true
+
+  sees_named : (us : List Scope) (n : List ℕ) (k : ℕ) (d : CType) → IsTaken (Some n) → Sees us
+      → Sees (name_in us n (variable k d))
+  sees_named us n k d taken s = record {
     names = λ t. by t (by_name t n (variable k d) us) (s.names t);
+    free = λ t f. by_other_name t n (variable k d) us (taken t f) ∙ s.free t f;
     tags = λ t a e. tags_by_name t n (variable k d) us ∙ s.tags t a e;
   }
     where
@@ -147,6 +178,7 @@ module _ (G : Env) where
   sees_declared : (u : Scope) (H I : Env) → H.scopes ≡ u ∷ [] → Sees H.scopes → HaveNames H.scopes I.scopes → Sees I.scopes
   sees_declared u H I e s n = record {
     names = λ t. by t (s.names t);
+    free = λ t f. sym (same_meaning H.scopes I.scopes n t) ∙ s.free t f;
     tags = λ t a k. tags_behind t a u H.scopes I.scopes e n (s.tags t a k);
   }
     where
@@ -171,14 +203,14 @@ module _ (G : Env) where
   inside_entered H i = record {
     declared = declared_entered H i.declared;
     grows = i.grows;
-    sees = record { names = i.sees.names; tags = i.sees.tags };
+    sees = record { names = i.sees.names; free = i.sees.free; tags = i.sees.tags };
   }
 
   pub inside_table : (u : Table) → IsDeclared (with_types G u) → Grows G.types u → Inside (with_types G u)
   inside_table u h g = record {
     declared = h;
     grows = g;
-    sees = record { names = λ t. inl refl; tags = λ t a e. e };
+    sees = record { names = λ t. inl refl; free = λ t f. refl; tags = λ t a e. e };
   }
 
   -- ---- words
@@ -248,24 +280,24 @@ module _ (G : Env) where
       ∙ ap (λ (x : CType). with_stars x (length n.stars)) (sym (same_words H i n.words q.0 p.0 p.1 q.1))
       ∙ ok_is (with_stars q.0 (length n.stars)) d q.2
 
-  counts_are : (K : Env) (e : source.Expr) (n k : ℕ) (x : Operand) → Inside K → IsCount G e k → Means K e x
+  counts_are : (K : Env) (e : source.Expr) (n k : ℕ) (x : Operand) → Inside K → IsCount G ps e k → Means K e x
       → counted (value_of K.types x) ≡ Ok n → n ≡ k
   unfolding value_of
   counts_are K e n k x i c m q =
-      let s = same_meant G K i.grows (same_named K i) e c.operand x c.form c.means m in
+      let s = same_meant G K ps home i.declared.table i.grows (same_named K i) i.sees.free e c.operand x c.form c.means m in
       let v = c.counted in
-      let same : x ≡ value v.0 = s.2 ∙ sym s.1 ∙ v.1 in
+      let same : x ≡ value v.0 = sym s.1 ∙ v.1 in
       let read : counted (value_of K.types (value v.0)) ≡ Ok n =
       subst (λ (y : Operand). counted (value_of K.types y) ≡ Ok n) same q in
       let both : Some n ≡ Some k = sym (needed_is 17 (count_of v.0) n read) ∙ v.2 in cc
 
   bound_as : (H : Env) (l : ℕ) (b : Option source.Expr) (x : ℕ × Env) (k : ℕ) → Inside H → MeansBound H l b x
-      → IsBoundOf G b k → x.0 ≡ k
+      → IsBoundOf G ps b k → x.0 ≡ k
   bound_as H l b x k i (is_bound {e = e} y n m q) c =
       counts_are (mentioned H e) e n k y (inside_mentioned H (mentioned H e) i (expression_mentioned H e i.declared).mentions) c m q
 
   bounds_are : (H : Env) (l : ℕ) (bs : List (Option source.Expr)) (x : List ℕ × Env) (ns : List ℕ) → Inside H
-      → MeansBounds H l bs x → AreCounts G bs ns → x.0 ≡ ns
+      → MeansBounds H l bs x → AreCounts G ps bs ns → x.0 ≡ ns
   bounds_are H l bs x [] i no_bounds c = refl
   bounds_are H l bs x (n ∷ ns) i no_bounds c = absurd c
   bounds_are H l bs x [] i (more_bounds y z m k) c = absurd c
@@ -275,7 +307,7 @@ module _ (G : Env) where
       ∙ ap (λ (ks : List ℕ). n ∷ ks) (bounds_are y.1 l cs z ns J k c.1)
 
   param_bounds_are_spelled : (H : Env) (l : ℕ) (bs : List (Option source.Expr)) (x : Option (List ℕ) × Env)
-      (o : Option (List ℕ)) → Inside H → MeansParamBounds H l bs x → AreBounds G bs o → x.0 ≡ o
+      (o : Option (List ℕ)) → Inside H → MeansParamBounds H l bs x → AreBounds G ps bs o → x.0 ≡ o
   param_bounds_are_spelled H l bs x None i no_array s = refl
   param_bounds_are_spelled H l bs x (Some ns) i no_array s = absurd s
   param_bounds_are_spelled H l bs x None i (open_array y m) s = absurd s
@@ -289,13 +321,13 @@ module _ (G : Env) where
   -- ---- parameters
 
   -- what a parameter's declarator makes of its type, and of the scopes
-  record WithParam (H : Env) (c : CType) (ns : Option (List ℕ)) (d : CType × Env) : Type 0 where
+  record WithParam (H : Env) (o : Option (List ℕ)) (c : CType) (ns : Option (List ℕ)) (d : CType × Env) : Type 0 where
     type : (u : Table) × (param_type H.types c ns ≡ Ok (d.0, u))
     made : d.1.types ≡ type.0
-    sees : Sees H.scopes → Sees d.1.scopes
+    sees : IsTaken o → Sees H.scopes → Sees d.1.scopes
 
   with_param_is : (H : Env) (o : Option (List ℕ)) (b : ℕ) (c : CType) (ns : Option (List ℕ)) (d : CType × Env)
-      → with_param H o b c ns ≡ Ok d → WithParam H c ns d
+      → with_param H o b c ns ≡ Ok d → WithParam H o c ns d
   unfolding with_param
   with_param_is H o b c ns d e =
       let a = unless (is_name_taken H o) 31 _ d e in
@@ -306,15 +338,16 @@ module _ (G : Env) where
       let I = with_types H r.0.1 in
       let same = fine_is {A = CType × Env} (r.0.0, I) q.0 y.1 in
       let named : named_param o b q.0 ≡ d = (let z = q.2 in cc) in
-      subst (λ (z : CType × Env). WithParam H c ns z) (ap (named_param o b) same ∙ named) (by o r.0 r.1)
+      subst (λ (z : CType × Env). WithParam H o c ns z) (ap (named_param o b) same ∙ named) (by o r.0 r.1)
     where
       by : (o : Option (List ℕ)) (r : CType × Table) → param_type H.types c ns ≡ Ok r
-          → WithParam H c ns (named_param o b (r.0, with_types H r.1))
-      by None r k = record { type = (r.1, k); made = refl; sees = λ s. s }
-      by (Some t) r k = record { type = (r.1, k); made = refl; sees = λ s. sees_named H.scopes t b r.0 s }
+          → WithParam H o c ns (named_param o b (r.0, with_types H r.1))
+      by None r k = record { type = (r.1, k); made = refl; sees = λ q s. s }
+      by (Some t) r k = record { type = (r.1, k); made = refl; sees = λ q s. sees_named H.scopes t b r.0 q s }
 
-  pub param_inside : (H : Env) (b : ℕ) (p : Param) (x : CType × Env) → Inside H → MeansParam H b p x → Inside x.1
-  param_inside H b p x i m = by (param_comes H b p x i.declared m) m
+  param_inside : (H : Env) (b : ℕ) (p : Param) (x : CType × Env) → IsTaken p.name → Inside H → MeansParam H b p x
+      → Inside x.1
+  param_inside H b p x taken i m = by (param_comes H b p x i.declared m) m
     where
       by : ParamComes H x.1 b (x.0 ∷ []) → MeansParam H b p x → Inside x.1
       by k (is_param c ns d q n e) =
@@ -325,11 +358,11 @@ module _ (G : Env) where
           record {
             declared = k.declared;
             grows = grows-trans G.types H.types x.1.types i.grows k.grows;
-            sees = (with_param_is ns.1 p.name b (with_stars c.0 (length p.stars)) ns.0 x e).sees L.sees;
+            sees = (with_param_is ns.1 p.name b (with_stars c.0 (length p.stars)) ns.0 x e).sees taken L.sees;
           }
 
   param_made : (H : Env) (b : ℕ) (p : Param) (x : CType × Env) (s : Spelling) → Inside H → MeansParam H b p x
-      → IsSpelledParam G p s → IsMadeAt H.types x.1.types s x.0
+      → IsSpelledParam G ps p s → IsMadeAt H.types x.1.types s x.0
   param_made H b p x s i (is_param a ns d q n e) k =
       let w = words_specified H [] p.words a i.declared q in
       let J = inside_mentioned H a.1 i (words_mention H p.words a i.declared q) in
@@ -352,24 +385,24 @@ module _ (G : Env) where
         lengths = λ ms f. l.lengths ms (counted ∙ f);
       }
 
-  params_grow : (H : Env) (b : ℕ) (ps : List Param) (x : List CType × Env) → IsDeclared H → MeansParams H b ps x
+  params_grow : (H : Env) (b : ℕ) (qs : List Param) (x : List CType × Env) → IsDeclared H → MeansParams H b qs x
       → Grows H.types x.1.types
-  params_grow H b ps x d no_params = kept_by_itself H.types
-  params_grow H b ps x d (more_params {p = p} {ps = qs} y z m n) =
+  params_grow H b qs x d no_params = kept_by_itself H.types
+  params_grow H b qs x d (more_params {p = p} {ps = us} y z m n) =
       let k = param_comes H b p y d m in
-      grows-trans H.types y.1.types z.1.types k.grows (params_grow y.1 (b + 1) qs z k.declared n)
+      grows-trans H.types y.1.types z.1.types k.grows (params_grow y.1 (b + 1) us z k.declared n)
 
-  params_made : (H : Env) (b : ℕ) (ps : List Param) (x : List CType × Env) (ss : List Spelling) → Inside H
-      → MeansParams H b ps x → AreSpelled G ps ss → AreMadeAt H.types x.1.types ss x.0
-  params_made H b ps x [] i no_params s = tt
-  params_made H b ps x (k ∷ ss) i no_params s = absurd s
-  params_made H b ps x [] i (more_params y z m n) s = absurd s
-  params_made H b ps x (k ∷ ss) i (more_params {p = p} {ps = qs} y z m n) s =
+  params_made : (H : Env) (b : ℕ) (qs : List Param) (x : List CType × Env) (ss : List Spelling) → AreOf qs → Inside H
+      → MeansParams H b qs x → AreSpelled G ps qs ss → AreMadeAt H.types x.1.types ss x.0
+  params_made H b qs x [] of i no_params s = tt
+  params_made H b qs x (k ∷ ss) of i no_params s = absurd s
+  params_made H b qs x [] of i (more_params y z m n) s = absurd s
+  params_made H b qs x (k ∷ ss) of i (more_params {p = p} {ps = us} y z m n) s =
       let first = param_made H b p y k i m s.0 in
-      let J = param_inside H b p y i m in
-      let rest = params_made y.1 (b + 1) qs z ss J n s.1 in
+      let J = param_inside H b p y (λ t f. not_so (is_same_text (Some t) p.name) (is_free us t) (of t f)) i m in
+      let rest = params_made y.1 (b + 1) us z ss (λ t f. (and_parts _ _ (of t f)).1) J n s.1 in
       let grows = (param_comes H b p y i.declared m).grows in
-      let later = params_grow y.1 (b + 1) qs z J.declared n in
+      let later = params_grow y.1 (b + 1) us z J.declared n in
       (made_later H.types y.1.types z.1.types k y.0 first later, all_made_before H.types y.1.types z.1.types ss z.0 rest grows)
 
   -- ---- heads
@@ -451,8 +484,8 @@ module _ (G : Env) where
 
   pub head_made : (H : Env) (u : Scope) (b : ℕ) (h : Head) (x : Headed × Env) (r : CType) (ss : List Spelling) → Inside H
       → H.scopes ≡ u ∷ [] → H.scopes ≡ G.scopes → MeansHead H b h x → IsSpelledResult G h r
-      → AreSpelled G (params_of h.params) ss → IsHeadMade H.types x.1.types r ss x.0
-  head_made H u b h x r ss i one same (is_head c t ps m e n) s a =
+      → ps ≡ params_of h.params → AreSpelled G ps ps ss → IsHeadMade H.types x.1.types r ss x.0
+  head_made H u b h x r ss i one same (is_head c t qs m e n) s all a =
       let w = specified H [] [] (to_specs h.specs) c i.declared m in
       let k = result_is H h c r i same m s in
       let g = given_back_is (with_stars c.0 (length h.stars)) t e in
@@ -466,9 +499,11 @@ module _ (G : Env) where
       let y = type_mentioned c.1 t J.declared base in
       let K : Env = with_types c.1 (with_c_type c.1.types t) in
       let L = inside_entered K (inside_mentioned c.1 K J y.0) in
-      let p = params_made (entered K) (behind_result b t) (params_of h.params) ps ss L n a in
+      let p = params_made (entered K) (behind_result b t) (params_of h.params) qs ss
+      (λ v f. subst (λ (us : List Param). is_free us v ≡ true) all f) L n
+      (subst (λ (us : List Param). AreSpelled G ps us ss) all a) in
       record {
         result = sym g.0 ∙ k;
-        params = all_made_before H.types K.types ps.1.types ss ps.0 p
+        params = all_made_before H.types K.types qs.1.types ss qs.0 p
             (grows-trans H.types c.1.types K.types w.declares.grows y.0.grows);
       }

@@ -1,6 +1,7 @@
 -- Parameters and results that are read off their trees.
-use Rattle.std.proofs.Common.{◌≡◌, ℕ, ◌+◌, ◌<◌, ◌≤◌, true, List, [], ◌∷◌, ◌++◌, length, map, drop, get_or}
+use Rattle.std.proofs.Common.{◌≡◌, ℕ, ◌+◌, ◌<◌, ◌≤◌, true, false, not, List, [], ◌∷◌, ◌++◌, length, map, drop, get_or}
 use Rattle.std.proofs.Common.{Option, Some, None, IfSome, option_map, refl, sym, ap, ◌∙◌, subst, arith}
+use Rattle.std.proofs.lemmas.Bool.{and_from}
 use Rattle.std.proofs.lemmas.List.{drop_all}
 use Rattle.ep_int.proofs.Basics.{append-assoc, drop-here}
 use Rattle.ep_ast.specs.declared.declarations.HeadTree.{HeadTree}
@@ -9,8 +10,7 @@ use Rattle.ep_ast.specs.declared.declarations.SpecTree.{SpecTree}
 use Rattle.ep_ast.specs.declared.declarations.SpecTree.TheVariants.{Plain}
 use Rattle.ep_ast.specs.declared.expressions.ExprTree.{ExprTree}
 use Rattle.ep_ast.specs.declared.expressions.TypeWordTree.{TypeWordTree}
-use Rattle.ep_ast.specs.Declaration.{Members, Spec, aggregate, body, head_of, param_of, plain}
-use Rattle.ep_ast.specs.Declaration.{spec_of}
+use Rattle.ep_ast.specs.Declaration.{Members, Param, Spec, aggregate, body, head_of, param_of, plain, spec_of}
 use Rattle.ep_ast.specs.Expression.{expr, type_word}
 use Rattle.ep_operands.specs.declared.operand.Operand as code
 use Rattle.ep_operands.specs.declared.operand.Operand.TheVariants as operands
@@ -22,48 +22,50 @@ use Rattle.ep_typing.specs.Constant.{count_of}
 use Rattle.ep_typing.specs.Env.{Env}
 use Rattle.ep_typing.specs.Types.{is_same, whole, with_stars}
 use Rattle.ep_typing.specs.SameTypes.{same_types}
+use Rattle.ep_elaboration.specs.Functions.{is_same_text}
 use Rattle.ep_typer_arms.specs.Spelled.{AreBounds, AreCounts, HasTag, IsBodyOf, IsBoundOf, IsSpelled, IsSpelledParam}
+use Rattle.ep_typer_arms.specs.Spelled.{IsCounted, IsTagOf, SpellAlike, SpellOne, Spelling, by_body, IsSpelledResult}
+use Rattle.ep_typer_arms.specs.Spelled.{by_words, first_body, is_free}
 use Rattle.ep_typer_arms.specs.SpelledView.{bounds_of}
-use Rattle.ep_typer_arms.specs.Spelled.{IsCounted, IsTagOf, SpellAlike, SpellOne, Spelling, by_body}
-use Rattle.ep_typer_arms.specs.Spelled.{IsSpelledResult, by_words, first_body}
 
 -- ---- bounds
 
 -- counts of the bounds that are left make counts of all
-abbrev pub RestCounts : Env → ℕ → List (Option ExprTree) → List ℕ → Type 0
-RestCounts G i bs done =
-    (ns : List ℕ) → AreCounts G (map (option_map expr) (drop i bs)) ns → AreCounts G (map (option_map expr) bs) (done ++ ns)
+abbrev pub RestCounts : Env → List Param → ℕ → List (Option ExprTree) → List ℕ → Type 0
+RestCounts G ps i bs done =
+    (ns : List ℕ) → AreCounts G ps (map (option_map expr) (drop i bs)) ns → AreCounts G ps (map (option_map expr) bs) (done ++ ns)
 
-pub one_count : (G : Env) (bs : List (Option ExprTree)) (i n : ℕ) (b : Option ExprTree) (old new : List ℕ)
-    → RestCounts G i bs old → i < length bs → b ≡ get_or bs i b → IsBoundOf G (option_map expr b) n → new ≡ old ++ n ∷ []
-    → RestCounts G (i + 1) bs new
-one_count G bs i n b old new rest l here is pushed ns counts =
+pub one_count : (G : Env) (ps : List Param) (bs : List (Option ExprTree)) (i n : ℕ) (b : Option ExprTree) (old new : List ℕ)
+    → RestCounts G ps i bs old → i < length bs → b ≡ get_or bs i b → IsBoundOf G ps (option_map expr b) n → new ≡ old ++ n ∷ []
+    → RestCounts G ps (i + 1) bs new
+one_count G ps bs i n b old new rest l here is pushed ns counts =
     let all = rest (n ∷ ns)
-    (subst (λ (us : List (Option ExprTree)). AreCounts G (map (option_map expr) us) (n ∷ ns)) (sym (drop-here i bs b b l here))
+    (subst (λ (us : List (Option ExprTree)). AreCounts G ps (map (option_map expr) us) (n ∷ ns)) (sym (drop-here i bs b b l here))
     (is, counts)) in
-    subst (AreCounts G (map (option_map expr) bs))
+    subst (AreCounts G ps (map (option_map expr) bs))
     (sym (append-assoc old (n ∷ []) ns) ∙ sym (ap (λ (ks : List ℕ). ks ++ ns) pushed)) all
 
-pub all_counts : (G : Env) (bs : List (Option ExprTree)) (i : ℕ) (done : List ℕ) → RestCounts G i bs done → length bs ≤ i
-    → AreCounts G (map (option_map expr) bs) done
-all_counts G bs i done rest l =
-    subst (AreCounts G (map (option_map expr) bs)) (no_more done)
-    (rest [] (subst (λ (us : List (Option ExprTree)). AreCounts G (map (option_map expr) us) []) (sym (drop_all i bs l)) tt))
+pub all_counts : (G : Env) (ps : List Param) (bs : List (Option ExprTree)) (i : ℕ) (done : List ℕ) → RestCounts G ps i bs done
+    → length bs ≤ i → AreCounts G ps (map (option_map expr) bs) done
+all_counts G ps bs i done rest l =
+    subst (AreCounts G ps (map (option_map expr) bs)) (no_more done)
+    (rest [] (subst (λ (us : List (Option ExprTree)). AreCounts G ps (map (option_map expr) us) []) (sym (drop_all i bs l)) tt))
   where
     no_more : (ns : List ℕ) → ns ++ [] ≡ ns
     no_more [] = refl
     no_more (n ∷ ns) = ap (λ (ks : List ℕ). n ∷ ks) (no_more ns)
 
-pub no_bound : (G : Env) (bs : List (Option ExprTree)) → length bs ≡ 0 → AreBounds G (map (option_map expr) bs) None
-no_bound G [] e = tt
-no_bound G (b ∷ bs) e = absurd (omega (arith, e))
+pub no_bound : (G : Env) (ps : List Param) (bs : List (Option ExprTree)) → length bs ≡ 0
+    → AreBounds G ps (map (option_map expr) bs) None
+no_bound G ps [] e = tt
+no_bound G ps (b ∷ bs) e = absurd (omega (arith, e))
 
-pub some_bounds : (G : Env) (bs rest : List (Option ExprTree)) (ns : List ℕ) → (length bs ≡ 0 → ⊥) → rest ≡ drop 1 bs
-    → AreCounts G (map (option_map expr) rest) ns
-    → AreBounds G (map (option_map expr) bs) (bounds_of (length bs) ns)
-some_bounds G [] rest ns e same c = absurd (e refl)
-some_bounds G (b ∷ bs) rest ns e same c =
-    subst (λ (us : List (Option ExprTree)). AreCounts G (map (option_map expr) us) ns) same c
+pub some_bounds : (G : Env) (ps : List Param) (bs rest : List (Option ExprTree)) (ns : List ℕ) → (length bs ≡ 0 → ⊥)
+    → rest ≡ drop 1 bs → AreCounts G ps (map (option_map expr) rest) ns
+    → AreBounds G ps (map (option_map expr) bs) (bounds_of (length bs) ns)
+some_bounds G ps [] rest ns e same c = absurd (e refl)
+some_bounds G ps (b ∷ bs) rest ns e same c =
+    subst (λ (us : List (Option ExprTree)). AreCounts G ps (map (option_map expr) us) ns) same c
 
 -- a value that is a bound
 pub value_counted : (x : code.Operand) (v : Value) (r : Option ℕ) → x ≡ operands.Value v → r ≡ count_of (value_view v)
@@ -73,15 +75,15 @@ value_counted x v (Some k) e f = (value_view v, ap operand e, sym f)
 
 -- ---- parameters
 
-pub spelled_tree : (G : Env) (t : ParamTree) (vs : List TypeWordTree) (ns : List ℕ) (bs : List (Option ExprTree))
-    → vs ≡ t.specs.items → ns ≡ t.stars.items → bs ≡ t.bounds.items → (c : CType) (s : Spelling)
+pub spelled_tree : (G : Env) (ps : List Param) (t : ParamTree) (vs : List TypeWordTree) (ns : List ℕ)
+    (bs : List (Option ExprTree)) → vs ≡ t.specs.items → ns ≡ t.stars.items → bs ≡ t.bounds.items → (c : CType) (s : Spelling)
     → IsSpelled G (map type_word vs) (length ns) c → s.0 ≡ c
-    → AreBounds G (map (option_map expr) bs) s.1 → IsSpelledParam G (param_of t) s
-spelled_tree G t vs ns bs words stars bounds c s spelled same counts = (
+    → AreBounds G ps (map (option_map expr) bs) s.1 → IsSpelledParam G ps (param_of t) s
+spelled_tree G ps t vs ns bs words stars bounds c s spelled same counts = (
   subst (λ (ks : List ℕ). IsSpelled G (map type_word t.specs.items) (length ks) s.0) stars
       (subst (λ (us : List TypeWordTree). IsSpelled G (map type_word us) (length ns) s.0) words
       (subst (IsSpelled G (map type_word vs) (length ns)) (sym same) spelled)),
-  subst (λ (xs : List (Option ExprTree)). AreBounds G (map (option_map expr) xs) s.1) bounds counts,
+  subst (λ (xs : List (Option ExprTree)). AreBounds G ps (map (option_map expr) xs) s.1) bounds counts,
 )
 
 -- what is read off twice as one type
@@ -170,23 +172,41 @@ result_by_body G t ss ns a (Some c) specs stars found s =
 
 -- ---- parameters side by side
 
+-- some parameters of two heads
+abbrev pub Alike : Env → (first second : List ParamTree) → List ParamTree → List ParamTree → Type 0
+Alike G ps qs us vs = SpellAlike G (map param_of ps) (map param_of qs) (map param_of us) (map param_of vs)
+
+-- all where those that are left are alike
 abbrev pub Left : Env → ℕ → List ParamTree → List ParamTree → Type 0
-Left G i ps qs =
-    SpellAlike G (map param_of (drop i ps)) (map param_of (drop i qs)) → SpellAlike G (map param_of ps) (map param_of qs)
+Left G i ps qs = Alike G ps qs (drop i ps) (drop i qs) → Alike G ps qs ps qs
 
 pub one_alike : (G : Env) (ps qs : List ParamTree) (i : ℕ) (p q d : ParamTree) → i < length ps → i < length qs
-    → p ≡ get_or ps i p → q ≡ get_or qs i d → SpellOne G (param_of p) (param_of q) → Left G i ps qs
-    → Left G (i + 1) ps qs
+    → p ≡ get_or ps i p → q ≡ get_or qs i d
+    → SpellOne G (map param_of ps) (map param_of qs) (param_of p) (param_of q) → Left G i ps qs → Left G (i + 1) ps qs
 one_alike G ps qs i p q d l m here there one left rest =
-    left (subst (λ (us : List ParamTree). SpellAlike G (map param_of us) (map param_of (drop i qs)))
-    (sym (drop-here i ps p p l here))
-    (subst (λ (vs : List ParamTree). SpellAlike G (map param_of (p ∷ drop (i + 1) ps)) (map param_of vs))
-    (sym (drop-here i qs q d m there))
+    left (subst (λ (us : List ParamTree). Alike G ps qs us (drop i qs)) (sym (drop-here i ps p p l here))
+    (subst (λ (vs : List ParamTree). Alike G ps qs (p ∷ drop (i + 1) ps) vs) (sym (drop-here i qs q d m there))
     (one.0 ∷ rest.0, (one.1, rest.1), (one.2, rest.2))))
 
 pub all_alike : (G : Env) (ps qs : List ParamTree) (i : ℕ) → length ps ≤ i → length qs ≤ i → Left G i ps qs
-    → SpellAlike G (map param_of ps) (map param_of qs)
+    → Alike G ps qs ps qs
 all_alike G ps qs i l m left =
-    left (subst (λ (us : List ParamTree). SpellAlike G (map param_of us) (map param_of (drop i qs)))
-    (sym (drop_all i ps l))
-    (subst (λ (vs : List ParamTree). SpellAlike G [] (map param_of vs)) (sym (drop_all i qs m)) ([], tt, tt)))
+    left (subst (λ (us : List ParamTree). Alike G ps qs us (drop i qs)) (sym (drop_all i ps l))
+    (subst (λ (vs : List ParamTree). Alike G ps qs [] vs) (sym (drop_all i qs m)) ([], tt, tt)))
+
+-- ---- names of parameters
+
+-- a name that the parameters that are left don't have is no name of any
+abbrev pub FreeBehind : ℕ → List ParamTree → (name : List ℕ) → Type 0
+FreeBehind i ps t = is_free (map param_of (drop i ps)) t ≡ true → is_free (map param_of ps) t ≡ true
+
+pub not_its_name : (ps : List ParamTree) (i : ℕ) (p : ParamTree) (t : List ℕ) → FreeBehind i ps t → i < length ps
+    → p ≡ get_or ps i p → is_same_text (Some t) (param_of p).name ≡ false → FreeBehind (i + 1) ps t
+not_its_name ps i p t behind l here other free =
+    behind (subst (λ (us : List ParamTree). is_free (map param_of us) t ≡ true) (sym (drop-here i ps p p l here))
+    (and_from _ _ (ap not other) free))
+
+pub free_of_all : (ps : List ParamTree) (i : ℕ) (t : List ℕ) → FreeBehind i ps t → length ps ≤ i
+    → is_free (map param_of ps) t ≡ true
+free_of_all ps i t behind l =
+    behind (subst (λ (us : List ParamTree). is_free (map param_of us) t ≡ true) (sym (drop_all i ps l)) refl)

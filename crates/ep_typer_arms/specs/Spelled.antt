@@ -1,11 +1,10 @@
 -- Types that heads spell out: read off their words where those declare nothing, without a change of the table.
-use Rattle.std.specs.Prelude.{◌≡◌, ℕ, ◌==◌, Bool, true, false, not, ◌&&◌, List, [], ◌∷◌, length, map, Option, Some}
+use Rattle.std.specs.Prelude.{◌≡◌, ℕ, Bool, true, false, not, ◌&&◌, List, [], ◌∷◌, length, map, Option, Some}
 use Rattle.std.specs.Prelude.{None, Ok}
 use Rattle.ep_ast.specs.Expression.{Expr, TypeWord, assign, conditional, binary, cast, step, unary, sizeof_expr}
 use Rattle.ep_ast.specs.Expression.{sizeof_type, index, call, member, arrow, post_increment, post_decrement, id}
 use Rattle.ep_ast.specs.Expression.{number}
 use Rattle.ep_ast.specs.Declaration.{Aggregate, Head, Param, Spec, aggregate, body, plain}
-use Rattle.ep_ast.specs.Mark as mark
 use Rattle.ep_scopes.specs.View.{innermost}
 use Rattle.ep_typing.specs.declared.types.Base.TheVariants as bases
 use Rattle.ep_typing.specs.declared.types.CType.{CType}
@@ -15,7 +14,7 @@ use Rattle.ep_typing.specs.Names.{words_type}
 use Rattle.ep_typing.specs.Operand.{Operand, Value, value}
 use Rattle.ep_typing.specs.Rules.{Means}
 use Rattle.ep_typing.specs.Types.{whole, with_stars}
-use Rattle.ep_elaboration.specs.Functions.{params_of}
+use Rattle.ep_elaboration.specs.Functions.{is_same_text, params_of}
 
 -- words that mean a type as they stand, with so many stars
 abbrev pub IsSpelled : Env → List TypeWord → (stars : ℕ) → CType → Type 0
@@ -23,73 +22,82 @@ IsSpelled G ws n c = (d : CType) × (words_type G ws ≡ Ok d) × (with_stars d 
 
 -- ---- parameters
 
--- Numbers, sizes, casts and operators of values, without a name: what an integer constant expression is made of (C11
--- 6.6p6). It means the same wherever its type names do.
-abbrev pub has_constant_form : Expr → Bool
-has_constant_form (assign l m a b) = false
-has_constant_form (conditional l e a b) = has_constant_form e && (has_constant_form a && has_constant_form b)
-has_constant_form (binary l m a b) = has_constant_form a && has_constant_form b
-has_constant_form (cast l n a) = has_constant_form a
-has_constant_form (step l m a) = false
-has_constant_form (unary l m a) = not (m == mark.star) && has_constant_form a
-has_constant_form (sizeof_expr l a) = has_constant_form a
-has_constant_form (sizeof_type l n) = true
-has_constant_form (index l a b) = false
-has_constant_form (call l f es) = false
-has_constant_form (member l a n) = false
-has_constant_form (arrow l a n) = false
-has_constant_form (post_increment l a) = false
-has_constant_form (post_decrement l a) = false
-has_constant_form (id l t) = false
-has_constant_form (number l n) = true
+-- a name that none of these parameters has
+abbrev pub is_free : List Param → List ℕ → Bool
+is_free [] t = true
+is_free (p ∷ ps) t = not (is_same_text (Some t) p.name) && is_free ps t
+
+-- Numbers, sizes, casts, operators, parts of objects, and names that no parameter of the head has (C11 6.5.1 to
+-- 6.5.15). It means the same in the scope of the head's parameters as outside, wherever its type names do.
+abbrev pub has_fixed_form : List Param → Expr → Bool
+has_fixed_form ps (assign l m a b) = false
+has_fixed_form ps (conditional l e a b) =
+    has_fixed_form ps e && (has_fixed_form ps a && has_fixed_form ps b)
+has_fixed_form ps (binary l m a b) = has_fixed_form ps a && has_fixed_form ps b
+has_fixed_form ps (cast l n a) = has_fixed_form ps a
+has_fixed_form ps (step l m a) = false
+has_fixed_form ps (unary l m a) = has_fixed_form ps a
+has_fixed_form ps (sizeof_expr l a) = has_fixed_form ps a
+has_fixed_form ps (sizeof_type l n) = true
+has_fixed_form ps (index l a b) = has_fixed_form ps a && has_fixed_form ps b
+has_fixed_form ps (call l f es) = false
+has_fixed_form ps (member l a n) = has_fixed_form ps a
+has_fixed_form ps (arrow l a n) = has_fixed_form ps a
+has_fixed_form ps (post_increment l a) = false
+has_fixed_form ps (post_decrement l a) = false
+has_fixed_form ps (id l t) = is_free ps t
+has_fixed_form ps (number l n) = true
 
 -- a value that is a bound of so many
 abbrev pub IsCounted : Operand → ℕ → Type 0
 IsCounted x k = (v : Value) × (x ≡ value v) × (count_of v ≡ Some k)
 
--- an expression that is a bound of so many as it stands
-pub record IsCount (G : Env) (e : Expr) (k : ℕ) : Type 0 where
-  pub form : has_constant_form e ≡ true
+-- an expression that is a bound of so many as it stands, in a head with these parameters
+pub record IsCount (G : Env) (ps : List Param) (e : Expr) (k : ℕ) : Type 0 where
+  pub form : has_fixed_form ps e ≡ true
   pub operand : Operand
   pub means : Means G e operand
   pub counted : IsCounted operand k
 
-abbrev pub IsBoundOf : Env → Option Expr → ℕ → Type 0
-IsBoundOf G None k = ⊥
-IsBoundOf G (Some e) k = IsCount G e k
+abbrev pub IsBoundOf : Env → List Param → Option Expr → ℕ → Type 0
+IsBoundOf G ps None k = ⊥
+IsBoundOf G ps (Some e) k = IsCount G ps e k
 
-abbrev pub AreCounts : Env → List (Option Expr) → List ℕ → Type 0
-AreCounts G [] [] = Unit {0}
-AreCounts G [] (n ∷ ns) = ⊥
-AreCounts G (b ∷ bs) [] = ⊥
-AreCounts G (b ∷ bs) (n ∷ ns) = IsBoundOf G b n × AreCounts G bs ns
+abbrev pub AreCounts : Env → List Param → List (Option Expr) → List ℕ → Type 0
+AreCounts G ps [] [] = Unit {0}
+AreCounts G ps [] (n ∷ ns) = ⊥
+AreCounts G ps (b ∷ bs) [] = ⊥
+AreCounts G ps (b ∷ bs) (n ∷ ns) = IsBoundOf G ps b n × AreCounts G ps bs ns
 
 -- What a parameter spells: a type; and where it is a pointer to that or to arrays of it, the bounds of these.
 abbrev pub Spelling : Type 0
 Spelling = CType × Option (List ℕ)
 
 -- the first bound doesn't count (C11 6.7.6.3p7)
-abbrev pub AreBounds : Env → List (Option Expr) → Option (List ℕ) → Type 0
-AreBounds G [] None = Unit {0}
-AreBounds G [] (Some ns) = ⊥
-AreBounds G (b ∷ bs) None = ⊥
-AreBounds G (b ∷ bs) (Some ns) = AreCounts G bs ns
+abbrev pub AreBounds : Env → List Param → List (Option Expr) → Option (List ℕ) → Type 0
+AreBounds G ps [] None = Unit {0}
+AreBounds G ps [] (Some ns) = ⊥
+AreBounds G ps (b ∷ bs) None = ⊥
+AreBounds G ps (b ∷ bs) (Some ns) = AreCounts G ps bs ns
 
-abbrev pub IsSpelledParam : Env → Param → Spelling → Type 0
-IsSpelledParam G p s = IsSpelled G p.words (length p.stars) s.0 × AreBounds G p.bounds s.1
+-- one of a head's parameters
+abbrev pub IsSpelledParam : Env → List Param → Param → Spelling → Type 0
+IsSpelledParam G ps p s = IsSpelled G p.words (length p.stars) s.0 × AreBounds G ps p.bounds s.1
 
-abbrev pub AreSpelled : Env → List Param → List Spelling → Type 0
-AreSpelled G [] [] = Unit {0}
-AreSpelled G [] (s ∷ ss) = ⊥
-AreSpelled G (p ∷ ps) [] = ⊥
-AreSpelled G (p ∷ ps) (s ∷ ss) = IsSpelledParam G p s × AreSpelled G ps ss
+-- some of them
+abbrev pub AreSpelled : Env → List Param → List Param → List Spelling → Type 0
+AreSpelled G ps [] [] = Unit {0}
+AreSpelled G ps [] (s ∷ ss) = ⊥
+AreSpelled G ps (p ∷ qs) [] = ⊥
+AreSpelled G ps (p ∷ qs) (s ∷ ss) = IsSpelledParam G ps p s × AreSpelled G ps qs ss
 
-abbrev pub SpellOne : Env → Param → Param → Type 0
-SpellOne G p q = (s : Spelling) × IsSpelledParam G p s × IsSpelledParam G q s
+-- parameters of two heads that spell the same types
+abbrev pub SpellOne : Env → (first second : List Param) → Param → Param → Type 0
+SpellOne G ps qs p q = (s : Spelling) × IsSpelledParam G ps p s × IsSpelledParam G qs q s
 
--- parameters that spell the same types
-abbrev pub SpellAlike : Env → List Param → List Param → Type 0
-SpellAlike G ps qs = (ss : List Spelling) × AreSpelled G ps ss × AreSpelled G qs ss
+-- some of the first head's and some of the second's
+abbrev pub SpellAlike : Env → (first second : List Param) → List Param → List Param → Type 0
+SpellAlike G ps qs us vs = (ss : List Spelling) × AreSpelled G ps us ss × AreSpelled G qs vs ss
 
 -- ---- results
 
@@ -120,4 +128,4 @@ pub data IsSpelledResult (G : Env) (h : Head) (c : CType) : Type 0 where
 -- heads that spell one type
 pub record HeadsSpellAlike (G : Env) (h k : Head) : Type 0 where
   pub result : (c : CType) × IsSpelledResult G h c × IsSpelledResult G k c
-  pub params : SpellAlike G (params_of h.params) (params_of k.params)
+  pub params : SpellAlike G (params_of h.params) (params_of k.params) (params_of h.params) (params_of k.params)

@@ -3,7 +3,7 @@
 
 mod alike;
 mod arms;
-mod constants;
+mod bounds;
 mod heads;
 mod joining;
 mod spelled;

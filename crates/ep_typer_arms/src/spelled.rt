@@ -10,7 +10,7 @@ ghost use Rattle.ep_typing.specs.Types as types_of;
 ghost use Rattle.ep_typer_arms.specs.Spelled as rule;
 ghost use Rattle.ep_typer_arms.specs.SpelledView.{spelling as spelling_view};
 
-use crate::constants::counted;
+use crate::bounds::counted;
 use ep_ast::{ExprTree, HeadTree, ParamTree, SpecTree, TypeWordTree};
 use ep_declared::copy_word;
 use ep_operands::{whole, with_stars};
@@ -40,22 +40,23 @@ fn spelled(env: &Env, words: &[TypeWordTree], stars: &[u32]) -> Option<CType>
     }
 }
 
-fn count(env: &Env, bound: &Option<ExprTree>) -> Option<u32>
-    ensures { IfSome result (λ k. rule.IsBoundOf (env_view env.now) (option_map expr bound.now) k) }
+fn count(env: &Env, params: &[ParamTree], bound: &Option<ExprTree>) -> Option<u32>
+    ensures { IfSome result (λ k. rule.IsBoundOf (env_view env.now)
+        (map shape.param_of params.now) (option_map expr bound.now) k) }
 {
     match bound {
         None => None,
-        Some(tree) => counted(env, tree),
+        Some(tree) => counted(env, params, tree),
     }
 }
 
-fn counts(env: &Env, bounds: &[Option<ExprTree>]) -> Option<Vec<u32>>
+fn counts(env: &Env, params: &[ParamTree], bounds: &[Option<ExprTree>]) -> Option<Vec<u32>>
     ensures { IfSome result (λ v. rule.AreCounts (env_view env.now)
-        (map (option_map expr) bounds.now) v.items) }
+        (map shape.param_of params.now) (map (option_map expr) bounds.now) v.items) }
 {
     let mut all = Vec::new(env.alloc);
     for bound in bounds {
-        let n = count(env, bound)?;
+        let n = count(env, params, bound)?;
         if all.push(n).is_err() {
             return None;
         }
@@ -70,11 +71,16 @@ fn behind_first(bounds: &[Option<ExprTree>]) -> &[Option<ExprTree>]
     bounds.split_at(1).1
 }
 
-// The bounds of a parameter but for the first, if there is one.
-fn with_bounds(env: &Env, ty: CType, bounds: &[Option<ExprTree>]) -> Option<Spelling>
+// The bounds of one of these parameters but for the first, if there is one.
+fn with_bounds(
+    env: &Env,
+    params: &[ParamTree],
+    ty: CType,
+    bounds: &[Option<ExprTree>],
+) -> Option<Spelling>
     ensures ty { IfSome result (λ s. s.ty ≡ ty) }
     ensures bounds { IfSome result (λ s. rule.AreBounds (env_view env.now)
-        (map (option_map expr) bounds.now) (spelling_view s).1) }
+        (map shape.param_of params.now) (map (option_map expr) bounds.now) (spelling_view s).1) }
 {
     if bounds.len() == 0 {
         return Some(Spelling {
@@ -83,7 +89,7 @@ fn with_bounds(env: &Env, ty: CType, bounds: &[Option<ExprTree>]) -> Option<Spel
             bounds: Vec::new(env.alloc),
         });
     }
-    let counts = counts(env, behind_first(bounds))?;
+    let counts = counts(env, params, behind_first(bounds))?;
     Some(Spelling {
         ty,
         depth: bounds.len(),
@@ -91,12 +97,13 @@ fn with_bounds(env: &Env, ty: CType, bounds: &[Option<ExprTree>]) -> Option<Spel
     })
 }
 
-fn spelled_param(env: &Env, tree: &ParamTree) -> Option<Spelling>
-    ensures { IfSome result (λ s.
-        rule.IsSpelledParam (env_view env.now) (shape.param_of tree.now) (spelling_view s)) }
+// One of these parameters.
+fn spelled_param(env: &Env, params: &[ParamTree], tree: &ParamTree) -> Option<Spelling>
+    ensures { IfSome result (λ s. rule.IsSpelledParam (env_view env.now)
+        (map shape.param_of params.now) (shape.param_of tree.now) (spelling_view s)) }
 {
     let c = spelled(env, &tree.specs, &tree.stars)?;
-    let s = with_bounds(env, c, &tree.bounds)?;
+    let s = with_bounds(env, params, c, &tree.bounds)?;
     Some(s)
 }
 
@@ -190,21 +197,34 @@ fn results_spell_alike(env: &Env, first: &HeadTree, second: &HeadTree) -> bool
     }
 }
 
-// Whether two parameters spell one type, where both spell any.
-fn spelled_both(env: &Env, a: &ParamTree, b: &ParamTree) -> Option<bool>
-    ensures { IfSome result (λ same. IsTrue same
-        → rule.SpellOne (env_view env.now) (shape.param_of a.now) (shape.param_of b.now)) }
+// Whether two parameters, each of one of these heads, spell one type, where both spell any.
+fn spelled_both(
+    env: &Env,
+    first: &[ParamTree],
+    second: &[ParamTree],
+    a: &ParamTree,
+    b: &ParamTree,
+) -> Option<bool>
+    ensures { IfSome result (λ same. IsTrue same → rule.SpellOne (env_view env.now)
+        (map shape.param_of first.now) (map shape.param_of second.now) (shape.param_of a.now) (shape.param_of b.now)) }
 {
-    let s = spelled_param(env, a)?;
-    let t = spelled_param(env, b)?;
+    let s = spelled_param(env, first, a)?;
+    let t = spelled_param(env, second, b)?;
     let same = is_same_spelling(&s, &t);
     Some(same)
 }
 
-fn spell_one(env: &Env, a: &ParamTree, b: &ParamTree) -> bool
-    ensures { IsTrue result → rule.SpellOne (env_view env.now) (shape.param_of a.now) (shape.param_of b.now) }
+fn spell_one(
+    env: &Env,
+    first: &[ParamTree],
+    second: &[ParamTree],
+    a: &ParamTree,
+    b: &ParamTree,
+) -> bool
+    ensures { IsTrue result → rule.SpellOne (env_view env.now)
+        (map shape.param_of first.now) (map shape.param_of second.now) (shape.param_of a.now) (shape.param_of b.now) }
 {
-    match spelled_both(env, a, b) {
+    match spelled_both(env, first, second, a, b) {
         None => false,
         Some(same) => same,
     }
@@ -212,13 +232,14 @@ fn spell_one(env: &Env, a: &ParamTree, b: &ParamTree) -> bool
 
 fn spell_alike(env: &Env, a: &[ParamTree], b: &[ParamTree]) -> bool
     ensures { IsTrue result
-        → rule.SpellAlike (env_view env.now) (map shape.param_of a.now) (map shape.param_of b.now) }
+        → rule.SpellAlike (env_view env.now) (map shape.param_of a.now) (map shape.param_of b.now)
+        (map shape.param_of a.now) (map shape.param_of b.now) }
 {
     if a.len() != b.len() {
         return false;
     }
     for (place, param) in a.iter().enumerate() {
-        if !spell_one(env, param, &b[place]) {
+        if !spell_one(env, a, b, param, &b[place]) {
             return false;
         }
     }
