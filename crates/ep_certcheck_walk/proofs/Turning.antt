@@ -169,40 +169,40 @@ module _ {S : Type 0} (k : Course S) where
       abbrev go : S → Pass S
       go = row k here rs 0 (One right)
 
-      abbrev R1 : Pass S
-      R1 = only on l (branch p.on go)
+      abbrev from_on : Pass S
+      from_on = only on l (branch p.on go)
 
-      abbrev R2 : Pass S
-      R2 = only broken l (branch p.ways.broken go)
+      abbrev from_broken : Pass S
+      from_broken = only broken l (branch p.ways.broken go)
 
-      abbrev R3 : Pass S
-      R3 = only continued l (branch p.ways.continued go)
+      abbrev from_continued : Pass S
+      from_continued = only continued l (branch p.ways.continued go)
 
-      abbrev R4 : Pass S
-      R4 = only returned l (branch p.ways.returned go)
+      abbrev from_returned : Pass S
+      from_returned = only returned l (branch p.ways.returned go)
 
-      abbrev J2 : Pass S
-      J2 = either_pass (checking k) R1 R2
+      abbrev first_two : Pass S
+      first_two = either_pass (checking k) from_on from_broken
 
-      abbrev J3 : Pass S
-      J3 = either_pass (checking k) J2 R3
+      abbrev first_three : Pass S
+      first_three = either_pass (checking k) first_two from_continued
 
-      abbrev J4 : Pass S
-      J4 = either_pass (checking k) J3 R4
+      abbrev all_four : Pass S
+      all_four = either_pass (checking k) first_three from_returned
 
       h' : HasFound k p f n n1
       h' = subst (λ (z : S → Pass S). HasFound k (z s) f n n1) (row_alone k here ls n 0 left) h
 
-      whole_goes : (x : Result (Flow S) Stop) (new : ℕ) → Finds k J4 x n1 new
+      whole_goes : (x : Result (Flow S) Stop) (new : ℕ) → Finds k all_four x n1 new
           → Finds k (parted_arms k here l ls rs s) x n new
-      whole_goes x new i = after_found k p.log J4 x n n1 new h'.log i
+      whole_goes x new i = after_found k p.log all_four x n n1 new h'.log i
 
-      whole_stops : (t : Stop) → IsStop k J4.log.faults t → IsStop k (parted_arms k here l ls rs s).log.faults t
+      whole_stops : (t : Stop) → IsStop k all_four.log.faults t → IsStop k (parted_arms k here l ls rs s).log.faults t
       whole_stops t i = whole_goes (Err t) n1 i
 
       module _ (f0 : Flow S) (e0 : f0.on ≡ None) (w0 : ways_view f0.ways ≡ none) where
         first_goes : (x : Result (Flow S) Stop) (new : ℕ)
-            → Finds k (right_from k here rs on l f.on (flow_view f0)) x n1 new → Finds k R1 x n1 new
+            → Finds k (right_from k here rs on l f.on (flow_view f0)) x n1 new → Finds k from_on x n1 new
         first_goes x new i =
             let i1 = subst (λ z. Finds k (either_pass (checking k) (passed z (ways_view f0.ways) (logged [] 0 []))
             (only on l (branch f.on go))) x n1 new) e0 i in
@@ -212,50 +212,55 @@ module _ {S : Type 0} (k : Course S) where
             (only on l (branch z go))) x n1 new) h'.on i2)
           where
             each : (x : Result (Flow S) Stop)
-                → Finds k (either_pass (checking k) (passed None none (logged [] 0 [])) R1) x n1 new
-                → Finds k R1 x n1 new
-            each (Ok g) i = record { on = i.on; ways = i.ways; log = drop_nothing k R1.log n1 new i.log }
+                → Finds k (either_pass (checking k) (passed None none (logged [] 0 [])) from_on) x n1 new
+                → Finds k from_on x n1 new
+            each (Ok g) i = record { on = i.on; ways = i.ways; log = drop_nothing k from_on.log n1 new i.log }
             each (Err t) i = i
 
         pub parted_first : (t : Stop) → IsStop k (right_from k here rs on l f.on (flow_view f0)).log.faults t
             → IsStop k (parted_arms k here l ls rs s).log.faults t
-        parted_first t i = whole_stops t (front k J3.log.faults R4.log.faults t (front k J2.log.faults R3.log.faults t
-            (front k R1.log.faults R2.log.faults t (first_goes (Err t) n1 i))))
+        parted_first t i = whole_stops t
+            (front k first_three.log.faults from_returned.log.faults t
+            (front k first_two.log.faults from_continued.log.faults t
+            (front k from_on.log.faults from_broken.log.faults t (first_goes (Err t) n1 i))))
 
         module _ (f1 : Flow S) (n2 : ℕ) (h1 : HasFound k (right_from k here rs on l f.on (flow_view f0)) f1 n1 n2) where
           second_goes : (x : Result (Flow S) Stop) (new : ℕ)
               → Finds k (right_from k here rs broken l (ways_view f.ways).broken (flow_view f1)) x n2 new
-              → Finds k J2 x n1 new
-          second_goes x new i = then_either k R1 R2 f1 x n1 n2 new (first_goes (Ok f1) n2 h1)
+              → Finds k first_two x n1 new
+          second_goes x new i = then_either k from_on from_broken f1 x n1 n2 new (first_goes (Ok f1) n2 h1)
               (subst (λ (z : Ways S). Finds k
               (right_from k here rs broken l z.broken (flow_view f1)) x n2 new) h'.ways i)
 
           pub parted_second : (t : Stop)
               → IsStop k (right_from k here rs broken l (ways_view f.ways).broken (flow_view f1)).log.faults t
               → IsStop k (parted_arms k here l ls rs s).log.faults t
-          parted_second t i = whole_stops t (front k J3.log.faults R4.log.faults t (front k J2.log.faults R3.log.faults
+          parted_second t i = whole_stops t
+              (front k first_three.log.faults from_returned.log.faults t
+              (front k first_two.log.faults from_continued.log.faults
               t (second_goes (Err t) n2 i)))
 
           module _ (f2 : Flow S) (n3 : ℕ)
               (h2 : HasFound k (right_from k here rs broken l (ways_view f.ways).broken (flow_view f1)) f2 n2 n3) where
             third_goes : (x : Result (Flow S) Stop) (new : ℕ)
                 → Finds k (right_from k here rs continued l (ways_view f.ways).continued (flow_view f2)) x n3 new
-                → Finds k J3 x n1 new
-            third_goes x new i = then_either k J2 R3 f2 x n1 n3 new (second_goes (Ok f2) n3 h2)
+                → Finds k first_three x n1 new
+            third_goes x new i = then_either k first_two from_continued f2 x n1 n3 new (second_goes (Ok f2) n3 h2)
                 (subst (λ (z : Ways S). Finds k (right_from k here rs continued l z.continued (flow_view f2)) x n3 new)
                 h'.ways i)
 
             pub parted_third : (t : Stop)
                 → IsStop k (right_from k here rs continued l (ways_view f.ways).continued (flow_view f2)).log.faults t
                 → IsStop k (parted_arms k here l ls rs s).log.faults t
-            parted_third t i = whole_stops t (front k J3.log.faults R4.log.faults t (third_goes (Err t) n3 i))
+            parted_third t i = whole_stops t
+                (front k first_three.log.faults from_returned.log.faults t (third_goes (Err t) n3 i))
 
             pub parted_goes : (f3 : Flow S) (n4 : ℕ)
                 → HasFound k (right_from k here rs continued l (ways_view f.ways).continued (flow_view f2)) f3 n3 n4
                 → (x : Result (Flow S) Stop) (new : ℕ)
                 → Finds k (right_from k here rs returned l (ways_view f.ways).returned (flow_view f3)) x n4 new
                 → Finds k (parted_arms k here l ls rs s) x n new
-            parted_goes f3 n4 h3 x new i = whole_goes x new (then_either k J3 R4 f3 x n1 n4 new
+            parted_goes f3 n4 h3 x new i = whole_goes x new (then_either k first_three from_returned f3 x n1 n4 new
                 (third_goes (Ok f3) n4 h3)
                 (subst (λ (z : Ways S). Finds k (right_from k here rs returned l z.returned (flow_view f3)) x n4 new)
                 h'.ways i))

@@ -1,12 +1,11 @@
 //! What is done with one statement alone, or with what leaves statements.
 
-ghost use Rattle.std.specs.Prelude.{◌≡◌, ◌++◌, ℕ, true, IfOk, List, map, slice_get};
+ghost use Rattle.std.specs.Prelude.{◌≡◌, ◌++◌, ℕ, true, IfOk, List, map};
 ghost use Rattle.std.specs.Option.{option_map};
-ghost use Rattle.ep_core.specs.Exec.{on, result_in};
+ghost use Rattle.ep_core.specs.Exec.{on};
 ghost use Rattle.ep_core.specs.View.{dest_view, expr_view, function_view, what_view};
-ghost use Rattle.ep_core.specs.WellFormed.{is_return};
 ghost use Rattle.ep_flows.specs.Typed.{AreArguments, IsTypedTest, TakesResult};
-ghost use Rattle.ep_flows.specs.View.{flow_view, is_simple, mode_of, plan_of, simple_of, verdict_of};
+ghost use Rattle.ep_flows.specs.View.{flow_view, is_simple, mode_of, plan_of, verdict_of};
 ghost use Rattle.ep_pass.specs.Pass.{branch, comes_after, differ, found_at, simple_pass};
 ghost use Rattle.ep_walk_parts.specs.Typed.{IsTyped};
 ghost use Rattle.ep_certcheck_walk.specs.Pieces.{one, only, reached};
@@ -17,11 +16,11 @@ use crate::states::CheckedStates;
 use crate::stop::{Stop, look};
 use ep_alarms::{AlarmKind, Alarms};
 use ep_core::program::Function;
-use ep_core::tree::{Dest, Expr, Stmt, What};
+use ep_core::tree::{Dest, Expr, Stmt};
 use ep_flows::flow::{Flow, Ways};
 use ep_flows::setting::{Running, Setting, Truths};
-use ep_int::{Memory, Scalar};
-use ep_walk_parts::follow::function_at;
+use ep_int::Memory;
+use ep_walk_parts::follow::{result_of, returns};
 
 /// How statements are left.
 #[derive(Clone, Copy)]
@@ -30,42 +29,6 @@ pub enum Leaving {
     Broken,
     Continued,
     Returned,
-}
-
-// The result of the function of this number.
-fn result_of(c: &Setting<'_>, here: u32) -> Option<(u32, Scalar)>
-    ensures { result ≡ result_in (slice_get (plan_of c.now).program.functions here) }
-{
-    match c.program.functions.get(here as usize) {
-        None => None,
-        Some(f) => f.result,
-    }
-}
-
-fn returns(w: &What) -> bool
-    ensures { result ≡ is_return (simple_of (what_view w.now)) }
-{
-    match w {
-        What::Return(_) => true,
-        What::Nothing
-        | What::Eval(_)
-        | What::Assign(_, _, _)
-        | What::Clear(_, _)
-        | What::CopyAggregate(_, _, _)
-        | What::CopyBytes(_, _, _)
-        | What::Fill(_, _, _)
-        | What::Input(_, _)
-        | What::Output(_, _)
-        | What::ReadBytes(_, _)
-        | What::WriteBytes(_, _)
-        | What::Call(_, _, _)
-        | What::If(_, _, _)
-        | What::Loop(_, _, _, _)
-        | What::Break
-        | What::Continue
-        | What::ByOrder(_, _, _)
-        | What::Scope(_, _) => false,
-    }
 }
 
 /// A statement without statements in it.

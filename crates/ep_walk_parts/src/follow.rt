@@ -55,8 +55,8 @@ pub fn callee<'p>(c: &Setting<'p>, here: u32, k: u32) -> Option<&'p Function>
     if k < here { function_at(c, k) } else { None }
 }
 
-// The result of the function of this number.
-fn result_of(c: &Setting<'_>, here: u32) -> Option<(u32, Scalar)>
+/// The result of the function of this number; none where there is no such function, or it is void.
+pub fn result_of(c: &Setting<'_>, here: u32) -> Option<(u32, Scalar)>
     ensures { result ≡ result_in (slice_get (plan_of c.now).program.functions here) }
 {
     match c.program.functions.get(here as usize) {
@@ -100,7 +100,8 @@ pub fn arm<'p>(own: Order, named: Order, yes: &'p [Stmt], no: &'p [Stmt]) -> &'p
     if own == named { yes } else { no }
 }
 
-fn returns(w: &What) -> bool
+/// Whether a statement is a `return`.
+pub fn returns(w: &What) -> bool
     ensures { result ≡ is_return (simple_of (what_view w.now)) }
 {
     match w {
