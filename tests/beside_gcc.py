@@ -77,8 +77,8 @@ def deep_globals(n):
 
 
 GROWING = [
-    ("a chain of typedefs, each a pointer to the one before", chain_alone, (2500, 5000, 10000, 20000)),
-    ("globals behind such a chain of 24,000, of its last type", deep_globals, (1000, 2000, 4000, 8000)),
+    ("a chain of typedefs, each a pointer to the one before", chain_alone, (5000, 10000, 20000, 40000)),
+    ("globals behind such a chain of 24,000, of its last type", deep_globals, (2000, 4000, 8000)),
 ]
 
 
