@@ -81,12 +81,6 @@ pub fn wrapped_before<'a>(
     ensures value { (t : Expr) → Shows operand t → IfOk result (λ p. Shows p.value (wrap_all prefixes.items t)) }
     ensures rest { IfOk result (λ p. p.rest.now ≡ rest.now) }
 {
-    if prefixes.is_empty() {
-        return Ok(Part {
-            value: operand,
-            rest,
-        });
-    }
     let value = wrapped(alloc, prefixes, operand)?;
     Ok(Part { value, rest })
 }

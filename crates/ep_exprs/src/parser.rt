@@ -1,6 +1,5 @@
 //! Recursive descent, where brackets alone recurse: prefixes, assignments and conditionals wait in lists. How many
-//! brackets
-//! are open is counted before anything is read, so no limit is passed on here.
+//! brackets are open is counted before anything is read, so no limit is passed on here.
 
 ghost use Rattle.std.specs.Prelude.{◌≡◌, ◌<◌, ◌≤◌, ◌+◌, ◌^◌, length, map, IfOk, IfSome, List, ◌∷◌, ℕ, true};
 ghost use Rattle.ep_ast.specs.Token.{Tok, mark};
@@ -176,7 +175,7 @@ fn operand<'a>(reader: &Reader<'_>, tokens: &'a [Token<'a>]) -> Result<Part<'a, 
     }
 }
 
-/// The same, which gathers prefixes first.
+/// An operand that begins with a prefix: all prefixes are gathered before what they stand before.
 #[cycle(parser)]
 fn prefixed_operand<'a>(
     reader: &Reader<'_>,

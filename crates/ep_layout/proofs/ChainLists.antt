@@ -13,13 +13,10 @@ use Rattle.ep_layout.specs.declared.list.TypeList.TheInside.{Inside}
 use Rattle.ep_layout.specs.declared.types.Ty.{Ty}
 use Rattle.ep_layout.specs.declared.types.Ty.TheVariants.{Ptr}
 use Rattle.ep_layout.specs.SameTypes.{is_same_type}
-use Rattle.ep_layout.specs.Pointers.{pointer_to, row_over, IsNoPointer, lists, put_behind}
-use Rattle.ep_layout.specs.Chains.{AreChains, HasChains}
+use Rattle.ep_layout.specs.Pointers.{next_pointer, row_over, IsNoPointer}
+use Rattle.ep_layout.specs.Chains.{AreChains, HasChains, lists, put_behind}
 use Rattle.ep_layout.proofs.Positions.{none_any}
 use Rattle.ep_layout.proofs.Chains.{chain_row, row_below, get_some, other_indexed, pointer_indexed}
-
-pub items_of : Vec ℕ → List ℕ
-items_of v = v.items
 
 pub place_at : (s : Inside) (now : List Ty) → s.types.keys ≡ now → HasChains s → (n : ℕ) (p : Place) → n < length now
     → p ≡ get_or s.places.items n p → slice_get s.places.items n ≡ Some p
@@ -135,13 +132,13 @@ moved ts us ps qs cs ds a b c x =
 
 -- a pointer more
 pub pointer_more : (s : Inside) (now ts : List Ty) (ps : List Place) (ds : List (List ℕ)) (e : ℕ) (q : Place) → s.types.keys ≡ now → HasChains s
-    → e < length now → q ≡ get_or s.places.items e q → pointer_to now e ≡ None → ts ≡ now ++ Ptr e ∷ []
+    → e < length now → q ≡ get_or s.places.items e q → next_pointer now e ≡ None → ts ≡ now ++ Ptr e ∷ []
     → ps ≡ s.places.items ++ (record { chain = q.chain; depth = q.depth + 1 }) ∷ [] → ds ≡ put_behind (lists s.chains.items) q.chain (length now)
     → AreChains ts ps ds
 pointer_more s now ts ps ds e q view x l g fresh types places chains =
     let at = place_at s now view x e q l g in
     let a = x.placed e q at in
-    let free : pointer_to s.types.keys e ≡ None = ap (λ (us : List Ty). pointer_to us e) view ∙ fresh in
+    let free : next_pointer s.types.keys e ≡ None = ap (λ (us : List Ty). next_pointer us e) view ∙ fresh in
     let put : ds ≡ slice_set (lists s.chains.items) q.chain (a.chain ++ length s.types.keys ∷ []) =
     chains ∙ put_is (lists s.chains.items) q.chain (length now) a.chain a.there
     ∙ ap (λ (k : ℕ). slice_set (lists s.chains.items) q.chain (a.chain ++ k ∷ [])) (sym (ap length view)) in

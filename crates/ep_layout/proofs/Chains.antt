@@ -7,8 +7,8 @@ use Rattle.ep_layout.specs.declared.list.Place.{Place}
 use Rattle.ep_layout.specs.declared.types.Ty.{Ty}
 use Rattle.ep_layout.specs.declared.types.Ty.TheVariants.{Void, Int, Ptr, Array, Aggregate}
 use Rattle.ep_layout.specs.SameTypes.{is_same_type, same_itself}
-use Rattle.ep_layout.specs.Pointers.{pointer_to, row_over, IsNoPointer}
-use Rattle.ep_layout.specs.Chains.{IsInChain, AreChains}
+use Rattle.ep_layout.specs.Pointers.{next_pointer, row_over, IsNoPointer}
+use Rattle.ep_layout.specs.Chains.{StandsInChain, AreChains}
 use Rattle.ep_layout.proofs.Options.{some_or_none, same_some, get_push, get_front, get_last, get_set, get_set_same, get_set_other}
 use Rattle.ep_layout.proofs.Positions.{position_stays, position_fails, position_push}
 use Rattle.ep_layout.proofs.Sizes.{length_set}
@@ -50,7 +50,7 @@ chain_row ts ps cs x zero n p c at here =
 chain_row ts ps cs x (suc k) n p c at here =
     let a = x.placed n p at in
     let same : a.chain ≡ c = same_some a.chain c (slice_get cs p.chain) a.there here in
-    let next : pointer_to ts n ≡ slice_get c (suc p.depth) = a.next ∙ ap (λ (l : List ℕ). slice_get l (suc p.depth)) same in
+    let next : next_pointer ts n ≡ slice_get c (suc p.depth) = a.next ∙ ap (λ (l : List ℕ). slice_get l (suc p.depth)) same in
     let far : suc p.depth + k ≡ p.depth + suc k = omega arith in
     elim (some_or_none (slice_get c (suc p.depth))) [
       | inl m ↦
@@ -106,7 +106,7 @@ other_indexed ts ps cs ty x f =
     let ds : List (List ℕ) = cs ++ (length ts ∷ []) ∷ [] in
     let longer : length us ≡ length ts + 1 = length-append ts (ty ∷ []) in
     let same = λ (n : ℕ). position_other (is_same_type (Ptr n)) ts ty (no_pointer n ty f) in
-    let last : IsInChain us ds (length ps) new = record {
+    let last : StandsInChain us ds (length ps) new = record {
       chain = length ts ∷ [];
       low = omega arith;
       there = get_last cs (length ts ∷ []);
@@ -126,7 +126,7 @@ other_indexed ts ps cs ty x f =
               here = a.here;
               next = same n ∙ a.next;
             }
-        | inr e ↦ subst (λ (j : ℕ). IsInChain us ds j p) (sym e.0) (subst (IsInChain us ds (length ps)) e.1 last)
+        | inr e ↦ subst (λ (j : ℕ). StandsInChain us ds j p) (sym e.0) (subst (StandsInChain us ds (length ps)) e.1 last)
       ];
       rows = λ i d n c h k. elim (get_push cs (length ts ∷ []) c i h) [
         | inl old ↦ get_front ps new (record { chain = i; depth = d }) n (x.rows i d n c old k)
@@ -155,7 +155,7 @@ other_indexed ts ps cs ty x f =
 
 -- a pointer goes to the end of its target's chain
 module _ (ts : List Ty) (ps : List Place) (cs : List (List ℕ)) (e : ℕ) (q : Place) (x : AreChains ts ps cs)
-    (at : slice_get ps e ≡ Some q) (fresh : pointer_to ts e ≡ None) where
+    (at : slice_get ps e ≡ Some q) (fresh : next_pointer ts e ≡ None) where
   abbrev old_chain : List ℕ
   old_chain = (x.placed e q at).chain
 
@@ -187,13 +187,13 @@ module _ (ts : List Ty) (ps : List Place) (cs : List (List ℕ)) (e : ℕ) (q : 
   last_there : slice_get new_chain (q.depth + 1) ≡ Some (length ts)
   last_there = subst (λ (j : ℕ). slice_get new_chain j ≡ Some (length ts)) old_length (get_last old_chain (length ts))
 
-  stays : (n : ℕ) → (n ≡ e → ⊥) → pointer_to new_types n ≡ pointer_to ts n
+  stays : (n : ℕ) → (n ≡ e → ⊥) → next_pointer new_types n ≡ next_pointer ts n
   stays n f = position_other (is_same_type (Ptr n)) ts (Ptr e) (other_pointer n e f)
 
   nothing_behind : slice_get new_chain (suc (q.depth + 1)) ≡ None
   nothing_behind = slice_get_past new_chain (suc (q.depth + 1)) (omega (arith, old_length, length-append old_chain (length ts ∷ [])))
 
-  last_placed : IsInChain new_types new_chains (length ps) new_place
+  last_placed : StandsInChain new_types new_chains (length ps) new_place
   last_placed = record {
     chain = new_chain;
     low = omega (arith, (x.placed e q at).low, slice_get_within ps e q at);
@@ -204,7 +204,7 @@ module _ (ts : List Ty) (ps : List Place) (cs : List (List ℕ)) (e : ℕ) (q : 
   }
 
   -- the target itself, whose pointer is the new row
-  target_placed : IsInChain new_types new_chains e q
+  target_placed : StandsInChain new_types new_chains e q
   target_placed = record {
     chain = new_chain;
     low = (x.placed e q at).low;
@@ -215,7 +215,7 @@ module _ (ts : List Ty) (ps : List Place) (cs : List (List ℕ)) (e : ℕ) (q : 
   }
 
   -- another row of that chain, whose pointer was there before
-  row_placed : (n : ℕ) (p : Place) → slice_get ps n ≡ Some p → (n ≡ e → ⊥) → p.chain ≡ q.chain → IsInChain new_types new_chains n p
+  row_placed : (n : ℕ) (p : Place) → slice_get ps n ≡ Some p → (n ≡ e → ⊥) → p.chain ≡ q.chain → StandsInChain new_types new_chains n p
   row_placed n p h other same =
       let a = x.placed n p h in
       let b = x.placed e q at in
@@ -240,7 +240,7 @@ module _ (ts : List Ty) (ps : List Place) (cs : List (List ℕ)) (e : ℕ) (q : 
           less : (d k l : ℕ) → l ≡ k + 1 → d < l → (d ≡ k → ⊥) → suc d < l
           less d k l e lt f = grind arith
 
-  other_placed : (n : ℕ) (p : Place) → slice_get ps n ≡ Some p → (n ≡ e → ⊥) → (p.chain ≡ q.chain → ⊥) → IsInChain new_types new_chains n p
+  other_placed : (n : ℕ) (p : Place) → slice_get ps n ≡ Some p → (n ≡ e → ⊥) → (p.chain ≡ q.chain → ⊥) → StandsInChain new_types new_chains n p
   other_placed n p h other apart =
       let a = x.placed n p h in
       record {
@@ -251,11 +251,11 @@ module _ (ts : List Ty) (ps : List Place) (cs : List (List ℕ)) (e : ℕ) (q : 
         next = stays n other ∙ a.next;
       }
 
-  old_placed : (n : ℕ) (p : Place) → slice_get ps n ≡ Some p → IsInChain new_types new_chains n p
+  old_placed : (n : ℕ) (p : Place) → slice_get ps n ≡ Some p → StandsInChain new_types new_chains n p
   old_placed n p h = elim (same_or_other n e) [
     | inl s ↦
         let one : q ≡ p = same_some q p (slice_get ps e) at (ap (slice_get ps) (sym s) ∙ h) in
-        subst (λ (j : ℕ). IsInChain new_types new_chains j p) (sym s) (subst (IsInChain new_types new_chains e) one target_placed)
+        subst (λ (j : ℕ). StandsInChain new_types new_chains j p) (sym s) (subst (StandsInChain new_types new_chains e) one target_placed)
     | inr other ↦ elim (same_or_other p.chain q.chain) [
       | inl s ↦ row_placed n p h other s
       | inr apart ↦ other_placed n p h other apart
@@ -289,7 +289,7 @@ module _ (ts : List Ty) (ps : List Place) (cs : List (List ℕ)) (e : ℕ) (q : 
         few = omega (arith, x.few, longer, length_set cs q.chain new_chain);
         placed = λ n p h. elim (get_push ps new_place p n h) [
           | inl old ↦ old_placed n p old
-          | inr g ↦ subst (λ (j : ℕ). IsInChain new_types new_chains j p) (sym g.0) (subst (IsInChain new_types new_chains (length ps)) g.1 last_placed)
+          | inr g ↦ subst (λ (j : ℕ). StandsInChain new_types new_chains j p) (sym g.0) (subst (StandsInChain new_types new_chains (length ps)) g.1 last_placed)
         ];
         rows = λ i d n c h k. elim (get_set cs q.chain i new_chain c h) [
           | inl g ↦ new_row i d n g.0 (subst (λ (l : List ℕ). slice_get l d ≡ Some n) (sym g.1) k)

@@ -5,7 +5,8 @@ ghost use Rattle.std.specs.Prelude.{None, IsSome, slice_get, position, ℕ};
 ghost use Rattle.ep_layout.specs.declared.types.Ty.{Ty};
 ghost use Rattle.ep_layout.specs.declared.types.Ty.TheVariants as rows;
 ghost use Rattle.ep_layout.specs.SameTypes.{is_same_type};
-ghost use Rattle.ep_layout.specs.Pointers.{row_over, IsNoPointer, lists, put_behind};
+ghost use Rattle.ep_layout.specs.Chains.{lists, put_behind};
+ghost use Rattle.ep_layout.specs.Pointers.{row_over, IsNoPointer};
 
 use crate::types::{PointedRow, Ty};
 use ep_int::Memory;

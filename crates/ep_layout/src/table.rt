@@ -230,14 +230,14 @@ impl Types {
     }
 
     /// The row at the root of a row's pointers, and how many there are. In constant time.
-    pub fn root_of(&self, ty: u32) -> PointedRow
-        requires { ty < length self.now.types }
-        ensures chain { pointers.pointer_row self.now result.row result.stars ≡ Some ty }
+    pub fn root_of(&self, row: u32) -> PointedRow
+        requires { row < length self.now.types }
+        ensures chain { pointers.pointer_row self.now result.row result.stars ≡ Some row }
         ensures root { pointers.IsNoPointer self.now.types result.row }
         ensures inside { result.row < length self.now.types }
         ensures few { result.stars < length self.now.types }
     {
-        self.types.root_of(ty)
+        self.types.root_of(row)
     }
 
     /// What the address of an object of a type is a multiple of; none where it is void or incomplete.

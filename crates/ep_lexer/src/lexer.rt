@@ -206,18 +206,21 @@ fn keep<'a>(list: &mut Vec<Token<'a>>, token: Option<Token<'a>>) -> Result<(), A
     }
 }
 
-// As many as the greatest source that the program reads may have.
+// As many as the greatest source that the program reads has bytes.
 const MOST_TOKENS: usize = 1_048_576;
 
-// Room for all tokens of any source, else for those of one of so many bytes. What isn't used of it is never touched.
-fn room_for<'a>(alloc: Global, bytes: usize) -> Result<Vec<Token<'a>>, AllocError>
-    ensures { IfOk result (λ v. v.items ≡ []) }
+// A list with room for the tokens of any source that the program reads, else for those of one of so many bytes, else
+// one that grows as they come. What isn't used of the room is never touched.
+fn room_for<'a>(alloc: Global, bytes: usize) -> Vec<Token<'a>>
+    ensures { result.items ≡ [] }
 {
     if let Ok(list) = Vec::with_capacity(alloc, MOST_TOKENS) {
-        return Ok(list);
+        return list;
     }
-    let list = Vec::with_capacity(alloc, bytes)?;
-    Ok(list)
+    if let Ok(list) = Vec::with_capacity(alloc, bytes) {
+        return list;
+    }
+    Vec::new(alloc)
 }
 
 /// The tokens of a source, or the first of the refusals 1 to 8.
@@ -230,7 +233,7 @@ pub fn lex<'a>(alloc: Global, source: &'a [u8]) -> Result<Tokens<'a>, Halt>
     ensures first { IfErr result (λ e. IfRefused e (λ r. (q : Refusal) → cut.Offends cut.start source.now q → q ≡ r)) }
     ensures spells_nothing { IfErr result (λ e. IfRefused e (λ _. (ts : List Tok) → cut.Spells source.now ts → ⊥)) }
 {
-    let mut list = room_for(alloc, source.len())?;
+    let mut list = room_for(alloc, source.len());
     let mut definitions = Definitions::new(alloc);
     let mut position = Position {
         line: 1,

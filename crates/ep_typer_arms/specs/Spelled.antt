@@ -27,8 +27,9 @@ abbrev pub is_free : List Param → List ℕ → Bool
 is_free [] t = true
 is_free (p ∷ ps) t = not (is_same_text (Some t) p.name) && is_free ps t
 
--- Numbers, sizes, casts, operators, parts of objects, and names that no parameter of the head has (C11 6.5.1 to
--- 6.5.15). It means the same in the scope of the head's parameters as outside, wherever its type names do.
+-- Numbers, sizes, casts, operators, parts of objects, and names that no parameter of the head has (C11 6.5.1 to 6.5.15
+-- without calls and steps). A name inside hides the same name outside (C11 6.2.1p4), so it means the same in the scope
+-- of the head's parameters as outside, wherever its type names do.
 abbrev pub has_fixed_form : List Param → Expr → Bool
 has_fixed_form ps (assign l m a b) = false
 has_fixed_form ps (conditional l e a b) =

@@ -13,7 +13,8 @@ use ep_operands::{Operand, count_of};
 use ep_scopes::Env;
 use ep_typer_exprs::typed;
 
-// Of more parameters no name is looked for, so that no head costs the square of its length.
+// Of more parameters than each translator of C takes (C11 5.2.4.1p1) no name is looked for, so that no head costs the
+// square of its length.
 const MOST_PARAMETERS: usize = 127;
 
 fn is_named(param: &ParamTree, name: &[u8]) -> bool

@@ -13,7 +13,7 @@ ghost use Rattle.ep_typer_statements.specs.View.{closed};
 ghost use Rattle.ep_typer_statements.specs.View.{lines as lines_view};
 
 use crate::headings::first_inside;
-use ep_ast::{BlockItemTree, ExprTree, Halt, HeadingTree, NamedOrder, StmtTree};
+use ep_ast::{BlockItemTree, ExprTree, Halt, HeadingTree, StmtTree};
 use ep_core::tree::{Expr, Stmt, What};
 use ep_scopes::Env;
 use ep_typer_declarations::declaration;

@@ -7,21 +7,21 @@ use Rattle.ep_lexer.proofs.lexer.lex.Goals as goal
 
 pub returns-in_err-step-clause-offends : goal.returns-in_err-step-clause-offends
 returns-in_err-step-clause-offends c =
-    let p = err_from_is_err_and c.from_residual-in_err-step.result c.from_residual-in_err-step.ensures.1 in
+    let p = err_from_is_err_and c.from_residual.result c.from_residual.ensures.1 in
     rw (p.1, p.2) (fails_offend c.args.source.now (map view c.pieces.list.items)
     (position_view c.pieces.position (constants c.pieces.definitions)) c.pieces.rest.now c.in_err-step.field-0.0
     c.in_err-step.ensures.value c.pieces.invariant.read)
 
 pub returns-in_err-step-clause-first : goal.returns-in_err-step-clause-first
 returns-in_err-step-clause-first c =
-    let p = err_from_is_err_and c.from_residual-in_err-step.result c.from_residual-in_err-step.ensures.1 in
+    let p = err_from_is_err_and c.from_residual.result c.from_residual.ensures.1 in
     rw (p.1, p.2) (fails_first c.args.source.now (map view c.pieces.list.items)
     (position_view c.pieces.position (constants c.pieces.definitions)) c.pieces.rest.now c.in_err-step.field-0.0
     c.in_err-step.ensures.value c.pieces.invariant.read)
 
 pub returns-in_err-step-clause-spells_nothing : goal.returns-in_err-step-clause-spells_nothing
 returns-in_err-step-clause-spells_nothing c =
-    let p = err_from_is_err_and c.from_residual-in_err-step.result c.from_residual-in_err-step.ensures.1 in
+    let p = err_from_is_err_and c.from_residual.result c.from_residual.ensures.1 in
     rw (p.1, p.2) (fails_spell_nothing c.args.source.now (map view c.pieces.list.items)
     (position_view c.pieces.position (constants c.pieces.definitions)) c.pieces.rest.now c.in_err-step.field-0.0
     c.in_err-step.ensures.value c.pieces.invariant.read)

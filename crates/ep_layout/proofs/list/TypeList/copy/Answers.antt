@@ -1,5 +1,5 @@
 use Rattle.std.proofs.Common.{◌∙◌}
-use Rattle.ep_layout.specs.Pointers.{lists}
+use Rattle.ep_layout.specs.Chains.{lists}
 use Rattle.ep_layout.proofs.ChainLists.{moved, same_list, same_lists}
 use Rattle.ep_layout.proofs.list.TypeList.copy.Goals as goal
 

@@ -1,5 +1,5 @@
 use Rattle.std.proofs.Common.{◌≡◌, ◌∙◌, arith, sym, ap, length, [], ◌∷◌, ℕ, ◌++◌}
-use Rattle.ep_layout.specs.Pointers.{lists}
+use Rattle.ep_layout.specs.Chains.{lists}
 use Rattle.ep_layout.proofs.Results.{if_ok, chosen, is_ok_there}
 use Rattle.ep_layout.proofs.ChainLists.{other_more, lists_push, keys_pushed}
 use Rattle.ep_layout.proofs.list.TypeList.push_other.Goals as goal

@@ -1,6 +1,6 @@
 use Rattle.std.proofs.Common.{◌∙◌, ◌<◌, ◌^◌, refl, sym, ap, arith, length}
 use Rattle.ep_layout.specs.declared.types.Ty.TheVariants.{Ptr}
-use Rattle.ep_layout.specs.Pointers.{lists, put_behind}
+use Rattle.ep_layout.specs.Chains.{lists, put_behind}
 use Rattle.ep_layout.proofs.Results.{if_ok, on_ok, on_err, chosen, other_chosen, is_ok_there, is_err_there}
 use Rattle.ep_layout.proofs.ChainLists.{place_at, chain_below, pointer_more, keys_pushed, moved, taken_off}
 use Rattle.ep_layout.proofs.list.TypeList.push_pointer.Goals as goal
