@@ -7,13 +7,13 @@ use std::test::Fail;
 use tests_calls::{Case, Status};
 
 #[derive(Clone, Copy)]
-struct Idiom {
-    common: &'static str,
-    refusal: &'static str,
-    instead: &'static str,
+pub(crate) struct Idiom {
+    pub common: &'static str,
+    pub refusal: &'static str,
+    pub instead: &'static str,
 }
 
-fn expect_each(rt: &impl Abort, alloc: Global, idioms: &[Idiom]) -> Result<(), Fail> {
+pub(crate) fn expect_each(rt: &impl Abort, alloc: Global, idioms: &[Idiom]) -> Result<(), Fail> {
     for idiom in idioms {
         expect(
             rt,
@@ -145,7 +145,8 @@ fn calls_and_steps(rt: HostRuntime) -> Result<(), Fail> {
             refusal: "3: refused 19 assignment-in-expression\n",
             instead: "int main(void) {\n\
                 uint8_t n = 3;\n\
-                for (; n != 0; n--) {\n\
+                while (n != 0) {\n\
+                n--;\n\
                 ep_out_u8(7);\n\
                 }\n\
                 }\n",

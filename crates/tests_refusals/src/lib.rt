@@ -6,6 +6,8 @@ mod fields;
 #[cfg(test)]
 mod idioms;
 #[cfg(test)]
+mod leanings;
+#[cfg(test)]
 mod limits;
 #[cfg(test)]
 mod tells;
