@@ -1,10 +1,10 @@
 #!/usr/bin/env python3
 """What `layout` costs beside a compiler, as two tables: tests/beside_gcc.py [PASSES [PROGRAM]]
 
-Builds the program without proofs and optimised, unless a PROGRAM is given, and takes the layouts of generated sources
-and `gcc -fsyntax-only` on the same source in turn. A table entry is the least processor time of PASSES (5, if not
-given). The second table has what `layout` takes of sources of growing size: twice the source is to take about twice
-the time.
+Builds the program without proofs, compiled as the proved one is, unless a PROGRAM is given, and takes the layouts of
+generated sources and `gcc -fsyntax-only` on the same source in turn. A table entry is the least processor time of
+PASSES (5, if not given). The second table has what `layout` takes of sources of growing size: twice the source is to
+take about twice the time.
 """
 import os, resource, subprocess, sys, tempfile
 
@@ -76,9 +76,23 @@ def deep_globals(n):
     return chain(24000) + at_file(n, lambda k: f"t24000 g{k};")
 
 
+def arms(head):
+    """Conditionals of a function each, whose heads are the same but for the name."""
+    order = "#if __BYTE_ORDER__ == __ORDER_LITTLE_ENDIAN__"
+
+    def source(n):
+        one = "{order}\nint f{i}({head}) {{ return 0; }}\n#else\nint f{i}({head}) {{ return 1; }}\n#endif\n"
+        return "int g;\n" + "".join(one.format(order=order, i=i, head=head) for i in range(n)) + "int main(void) {}\n"
+
+    return source
+
+
 GROWING = [
     ("a chain of typedefs, each a pointer to the one before", chain_alone, (5000, 10000, 20000, 40000)),
     ("globals behind such a chain of 24,000, of its last type", deep_globals, (2000, 4000, 8000)),
+    ("conditionals of one function each, `int f(int x)`", arms("int x"), (1000, 2000, 4000, 8000)),
+    ("the same, `int f(int a[][sizeof g])`", arms("int a[][sizeof g]"), (1000, 2000, 4000)),
+    ("the same, `int f(int n, int a[][sizeof n])`", arms("int n, int a[][sizeof n]"), (500, 1000, 2000)),
 ]
 
 

@@ -1,7 +1,7 @@
 #!/usr/bin/env python3
 """Tries `prove` and `verify` on the built program, and measures them: tests/certificates.py [CHANGES [PROGRAM]]
 
-Builds the program without proofs and optimised, unless a PROGRAM is given.
+Builds the program without proofs, compiled as the proved one is, unless a PROGRAM is given.
 - Each source of examples/ and of the tables of tests is given to `prove`, as the tables have it and with no turns of
   loops unrolled: its answer is that of `check`, but a certificate where that is `portable`, and `verify` of this
   certificate answers `verified`.

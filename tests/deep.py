@@ -1,9 +1,9 @@
 #!/usr/bin/env python3
 """Tries sources in which all is as deep, or as many, as it may be: tests/deep.py [PROGRAM]
 
-Builds the program without proofs and optimised, unless a PROGRAM is given. `check`, `run` and `layout` of each source
-have to end as wanted with a stack of 8 MB. Then the least stack with which they do is looked for, by halves, down to
-8 KB; the table has it in KB, with the processor time of `check`.
+Builds the program without proofs, compiled as the proved one is, unless a PROGRAM is given. `check`, `run` and
+`layout` of each source have to end as wanted with a stack of 8 MB. Then the least stack with which they do is looked
+for, by halves, down to 8 KB; the table has it in KB, with the processor time of `check`.
 """
 import os, resource, subprocess, sys, tempfile, time
 

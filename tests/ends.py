@@ -1,8 +1,8 @@
 #!/usr/bin/env python3
 """Tries the program where its file or its output fails, as the system has it: tests/ends.py [PROGRAM]
 
-Builds the program without proofs and optimised, unless a PROGRAM is given. Each case has the status that the README's
-table has, and what is written. The last line is 'N passed, M failed'.
+Builds the program without proofs, compiled as the proved one is, unless a PROGRAM is given. Each case has the status
+that the README's table has, and what is written. The last line is 'N passed, M failed'.
 """
 import os, subprocess, sys, tempfile
 

@@ -1,9 +1,9 @@
 #!/usr/bin/env python3
 """How much memory the program takes for sources of 1 MiB, as a table: tests/memory.py [PROGRAM]
 
-Builds the program without proofs and optimised, unless a PROGRAM is given. For each shape of source an entry is the
-most memory in MB (resident, of the whole process) that `check`, `run` of a step and `layout` take, with the status of
-`check` and its processor time. The last line names the worst.
+Builds the program without proofs, compiled as the proved one is, unless a PROGRAM is given. For each shape of source
+an entry is the most memory in MB (resident, of the whole process) that `check`, `run` of a step and `layout` take,
+with the status of `check` and its processor time. The last line names the worst.
 """
 import itertools, os, resource, subprocess, sys, tempfile
 

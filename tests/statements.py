@@ -1,10 +1,11 @@
 #!/usr/bin/env python3
 """What statements cost the analysis, as a table: tests/statements.py [PASSES [PROGRAM]]
 
-Builds the program without proofs and optimised, unless a PROGRAM is given, and checks generated sources: one with a
-statement so many times, one without it. An entry is the difference of the processor times for each time that the
-statement stands there, the least of PASSES (3, if not given). A branch on a byte that the two machines may have
-otherwise makes both sides run one after the other, so such an entry has the statement on each side alone.
+Builds the program without proofs, compiled as the proved one is, unless a PROGRAM is given, and checks generated
+sources: one with a statement so many times, one without it. An entry is the difference of the processor times for
+each time that the statement stands there, the least of PASSES (3, if not given). A branch on a byte that the two
+machines may have otherwise makes both sides run one after the other, so such an entry has the statement on each side
+alone.
 """
 import os, resource, subprocess, sys, tempfile
 
