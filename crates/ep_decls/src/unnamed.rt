@@ -52,12 +52,11 @@ fn behind_name(open: u32, mark: Mark) -> Option<Seen> {
 }
 
 /// Whether no parameter stands behind the opening parenthesis.
-fn has_none<'a>(inside: &'a [Token<'a>]) -> bool {
-    let behind = match at_word(inside, Word::Void) {
-        Some((_, rest)) => rest,
-        None => inside,
-    };
-    at_mark(behind, Mark::RightParen).is_some()
+fn has_none(inside: &[Token<'_>]) -> bool {
+    match at_word(inside, Word::Void) {
+        Some((_, rest)) => at_mark(rest, Mark::RightParen).is_some(),
+        None => at_mark(inside, Mark::RightParen).is_some(),
+    }
 }
 
 /// The line of the token behind the first parameter without a name, where these tokens begin behind the words of a
