@@ -3,12 +3,10 @@ use Rattle.std.proofs.Common.{◌≡◌, ℕ, suc, ◌+◌, ◌<◌, List, [], �
 use Rattle.std.proofs.Common.{Option, Some, None, IsSome, option_map, refl, sym, ap, ◌∙◌, subst, arith, position, zero, Bool, false, if◌then◌else◌}
 use Rattle.std.proofs.Math.Seq.{take-append_seam}
 use Rattle.std.specs.Global.{Vec}
-use Rattle.std.specs.Prelude.{vec_len}
 use Rattle.std.proofs.lemmas.Option.{slice_get_past, slice_get_read, slice_get-map, slice_get_within}
 use Rattle.std.proofs.lemmas.List.{length-map, map-append}
-use Rattle.std.proofs.lemmas.List.Elements.{same_from_all_zip}
-use Rattle.std.specs.List.{AllZip, list_any}
-use Rattle.ep_layout.specs.declared.list.Place.{Place}
+use Rattle.std.specs.List.{list_any}
+use Rattle.ep_layout.specs.declared.list.ChainPlace.{ChainPlace}
 use Rattle.ep_layout.specs.declared.list.TypeList.TheInside.{Inside}
 use Rattle.ep_layout.specs.declared.types.Ty.{Ty}
 use Rattle.ep_layout.specs.declared.types.Ty.TheVariants.{Ptr}
@@ -18,22 +16,22 @@ use Rattle.ep_layout.specs.Chains.{AreChains, HasChains, lists, put_behind}
 use Rattle.ep_layout.proofs.Positions.{none_any}
 use Rattle.ep_layout.proofs.Chains.{chain_row, row_below, get_some, other_indexed, pointer_indexed}
 
-pub place_at : (s : Inside) (now : List Ty) → s.types.keys ≡ now → HasChains s → (n : ℕ) (p : Place) → n < length now
+pub place_at : (s : Inside) (now : List Ty) → s.types.keys ≡ now → HasChains s → (n : ℕ) (p : ChainPlace) → n < length now
     → p ≡ get_or s.places.items n p → slice_get s.places.items n ≡ Some p
 place_at s now e k n p l g = slice_get_read s.places.items _ n p refl (omega (arith, k.count, ap length e, l)) g
 
-pub chain_below : (s : Inside) → HasChains s → (n : ℕ) (p : Place) → slice_get s.places.items n ≡ Some p → p.chain < length s.chains.items
+pub chain_below : (s : Inside) → HasChains s → (n : ℕ) (p : ChainPlace) → slice_get s.places.items n ≡ Some p → p.chain < length s.chains.items
 chain_below s k n p h =
     let a = k.placed n p h in
     let w = slice_get_within (lists s.chains.items) p.chain a.chain a.there in
     omega (arith, w, length-map s.chains.items (λ (v : Vec ℕ). v.items))
 
-chain_at : (vs : List (Vec ℕ)) (i : ℕ) (v : Vec ℕ) → i < length vs → v ≡ get_or vs i v → slice_get (lists vs) i ≡ Some v.items
+pub chain_at : (vs : List (Vec ℕ)) (i : ℕ) (v : Vec ℕ) → i < length vs → v ≡ get_or vs i v → slice_get (lists vs) i ≡ Some v.items
 chain_at vs i v l g =
     slice_get-map (λ (w : Vec ℕ). w.items) vs i ∙ ap (option_map (λ (w : Vec ℕ). w.items)) (slice_get_read vs _ i v refl l g)
 
 -- what a row's chain answers
-pub row_is : (s : Inside) (now : List Ty) → s.types.keys ≡ now → HasChains s → (n k : ℕ) (p : Place) (v : Vec ℕ) → n < length now
+pub row_is : (s : Inside) (now : List Ty) → s.types.keys ≡ now → HasChains s → (n k : ℕ) (p : ChainPlace) (v : Vec ℕ) → n < length now
     → p ≡ get_or s.places.items n p → v ≡ get_or s.chains.items p.chain v → row_over now n k ≡ slice_get v.items (p.depth + k)
 row_is s now e x n k p v l g h =
     let at = place_at s now e x n p l g in
@@ -52,7 +50,7 @@ unfolding row_over
 row_itself ts n = refl
 
 -- a row stands within its chain
-pub depth_within : (s : Inside) (now : List Ty) → s.types.keys ≡ now → HasChains s → (n : ℕ) (p : Place) (v : Vec ℕ) → n < length now
+pub depth_within : (s : Inside) (now : List Ty) → s.types.keys ≡ now → HasChains s → (n : ℕ) (p : ChainPlace) (v : Vec ℕ) → n < length now
     → p ≡ get_or s.places.items n p → v ≡ get_or s.chains.items p.chain v → p.depth < length v.items
 depth_within s now e x n p v l g h =
     let r : row_over now n 0 ≡ slice_get v.items (p.depth + 0) = row_is s now e x n 0 p v l g h in
@@ -60,7 +58,7 @@ depth_within s now e x n p v l g h =
     omega (arith, w)
 
 -- the row at which a row's chain begins is at the root of its pointers
-pub root_there : (s : Inside) (now : List Ty) → s.types.keys ≡ now → HasChains s → (n m : ℕ) (p : Place) (v : Vec ℕ) → n < length now
+pub root_there : (s : Inside) (now : List Ty) → s.types.keys ≡ now → HasChains s → (n m : ℕ) (p : ChainPlace) (v : Vec ℕ) → n < length now
     → p ≡ get_or s.places.items n p → v ≡ get_or s.chains.items p.chain v → slice_get v.items 0 ≡ Some m
     → (row_over now m p.depth ≡ Some n) × ((IsNoPointer now m) × ((m < length now) × (p.depth < length now)))
 root_there s now e x n m p v l g h root =
@@ -85,7 +83,7 @@ some_there : {A : Type 0} (o : Option A) (x : A) → o ≡ Some x → IsSome o
 some_there {A = A} o x e = subst (λ (p : Option A). IsSome p) (sym e) refl
 
 -- a chain's length tells how many pointers over a row are there
-pub stars_there : (s : Inside) (now : List Ty) → s.types.keys ≡ now → HasChains s → (n k : ℕ) (p : Place) (v : Vec ℕ) → n < length now
+pub stars_there : (s : Inside) (now : List Ty) → s.types.keys ≡ now → HasChains s → (n k : ℕ) (p : ChainPlace) (v : Vec ℕ) → n < length now
     → p ≡ get_or s.places.items n p → v ≡ get_or s.chains.items p.chain v → p.depth + k + 1 ≡ length v.items
     → (IsSome (row_over now n k)) × ((row_over now n (k + 1) ≡ None) × (k < length now))
 stars_there s now e x n k p v l g h last =
@@ -101,7 +99,7 @@ stars_there s now e x n k p v l g h last =
 
 ---- writing
 
-set_lists : (vs : List (Vec ℕ)) (i : ℕ) (v : Vec ℕ) → lists (slice_set vs i v) ≡ slice_set (lists vs) i v.items
+pub set_lists : (vs : List (Vec ℕ)) (i : ℕ) (v : Vec ℕ) → lists (slice_set vs i v) ≡ slice_set (lists vs) i v.items
 set_lists [] i v = refl
 set_lists (w ∷ ws) zero v = refl
 set_lists (w ∷ ws) (suc i) v = ap (λ (l : List (List ℕ)). w.items ∷ l) (set_lists ws i v)
@@ -126,12 +124,12 @@ same_back vs i v w l g e =
     set_lists vs i w ∙ ap (slice_set (lists vs) i) e ∙ set_back (lists vs) i v.items (chain_at vs i v l g)
 
 -- chains are those of equal lists
-pub moved : (ts us : List Ty) (ps qs : List Place) (cs ds : List (List ℕ)) → us ≡ ts → qs ≡ ps → ds ≡ cs → AreChains ts ps cs → AreChains us qs ds
+pub moved : (ts us : List Ty) (ps qs : List ChainPlace) (cs ds : List (List ℕ)) → us ≡ ts → qs ≡ ps → ds ≡ cs → AreChains ts ps cs → AreChains us qs ds
 moved ts us ps qs cs ds a b c x =
-    subst (λ (l : List Ty). AreChains l qs ds) (sym a) (subst (λ (l : List Place). AreChains ts l ds) (sym b) (subst (AreChains ts ps) (sym c) x))
+    subst (λ (l : List Ty). AreChains l qs ds) (sym a) (subst (λ (l : List ChainPlace). AreChains ts l ds) (sym b) (subst (AreChains ts ps) (sym c) x))
 
 -- a pointer more
-pub pointer_more : (s : Inside) (now ts : List Ty) (ps : List Place) (ds : List (List ℕ)) (e : ℕ) (q : Place) → s.types.keys ≡ now → HasChains s
+pub pointer_more : (s : Inside) (now ts : List Ty) (ps : List ChainPlace) (ds : List (List ℕ)) (e : ℕ) (q : ChainPlace) → s.types.keys ≡ now → HasChains s
     → e < length now → q ≡ get_or s.places.items e q → next_pointer now e ≡ None → ts ≡ now ++ Ptr e ∷ []
     → ps ≡ s.places.items ++ (record { chain = q.chain; depth = q.depth + 1 }) ∷ [] → ds ≡ put_behind (lists s.chains.items) q.chain (length now)
     → AreChains ts ps ds
@@ -146,11 +144,11 @@ pointer_more s now ts ps ds e q view x l g fresh types places chains =
     (pointer_indexed s.types.keys s.places.items (lists s.chains.items) e q x at free)
 
 -- a type that is no pointer more
-pub other_more : (s : Inside) (now ts : List Ty) (ps : List Place) (ds : List (List ℕ)) (ty : Ty) → s.types.keys ≡ now → HasChains s
+pub other_more : (s : Inside) (now ts : List Ty) (ps : List ChainPlace) (ds : List (List ℕ)) (ty : Ty) → s.types.keys ≡ now → HasChains s
     → ((e : ℕ) → ty ≡ Ptr e → ⊥) → ts ≡ now ++ ty ∷ [] → ps ≡ s.places.items ++ (record { chain = length s.chains.items; depth = 0 }) ∷ []
     → ds ≡ lists s.chains.items ++ (length now ∷ []) ∷ [] → AreChains ts ps ds
 other_more s now ts ps ds ty view x f types places chains =
-    let one : Place → List Place = λ p. s.places.items ++ p ∷ [] in
+    let one : ChainPlace → List ChainPlace = λ p. s.places.items ++ p ∷ [] in
     let put : ds ≡ lists s.chains.items ++ (length s.types.keys ∷ []) ∷ [] =
     chains ∙ ap (λ (k : ℕ). lists s.chains.items ++ (k ∷ []) ∷ []) (sym (ap length view)) in
     let place : ps ≡ one (record { chain = length (lists s.chains.items); depth = 0 }) =
@@ -172,16 +170,3 @@ keys_pushed ks now new ty view none e =
 pub taken_off : {X : Type 0} (xs ys zs : List X) (x : X) (n : ℕ) → n ≡ length xs → ys ≡ xs ++ x ∷ [] → zs ≡ take n ys → zs ≡ xs
 taken_off {X = X} xs ys zs x n l e h =
     h ∙ ap (take n) e ∙ ap (λ (k : ℕ). take k (xs ++ x ∷ [])) l ∙ take-append_seam xs (x ∷ [])
-
----- a copy
-
-pub same_list : {X : Type 0} (xs ys : List X) → AllZip (λ (x y : X). y ≡ x) xs ys → ys ≡ xs
-same_list {X = X} xs ys h = same_from_all_zip (λ (x y : X). y ≡ x) xs ys h (λ x y e. e)
-
-pub same_lists : (vs ws : List (Vec ℕ)) → AllZip (λ (v w : Vec ℕ). AllZip (λ (x y : ℕ). y ≡ x) v.items w.items × (vec_len w ≡ vec_len v)) vs ws
-    → lists ws ≡ lists vs
-same_lists [] [] h = refl
-same_lists [] (w ∷ ws) h = absurd h
-same_lists (v ∷ vs) [] h = absurd h
-same_lists (v ∷ vs) (w ∷ ws) h =
-    ap (λ (l : List ℕ). l ∷ lists ws) (same_list v.items w.items h.0.0) ∙ ap (λ (l : List (List ℕ)). v.items ∷ l) (same_lists vs ws h.1)

@@ -3,7 +3,7 @@ use Rattle.std.proofs.Common.{◌≡◌, ℕ, zero, suc, ◌+◌, ◌<◌, ◌�
 use Rattle.std.proofs.Common.{slice_get, slice_set, position, Some, None, option_and_then, refl, sym, ap, ◌∙◌, subst}
 use Rattle.std.proofs.Common.{inl, inr, ◌⊎◌, arith, length-append, ne_eqb}
 use Rattle.std.proofs.lemmas.Option.{slice_get_past, slice_get_within}
-use Rattle.ep_layout.specs.declared.list.Place.{Place}
+use Rattle.ep_layout.specs.declared.list.ChainPlace.{ChainPlace}
 use Rattle.ep_layout.specs.declared.types.Ty.{Ty}
 use Rattle.ep_layout.specs.declared.types.Ty.TheVariants.{Void, Int, Ptr, Array, Aggregate}
 use Rattle.ep_layout.specs.SameTypes.{is_same_type, same_itself}
@@ -31,7 +31,7 @@ get_some [] i l = absurd (omega (arith, l))
 get_some (x ∷ xs) zero l = (x, refl)
 get_some (x ∷ xs) (suc i) l = get_some xs i (omega (arith, l))
 
-same_or_other : (m n : ℕ) → (m ≡ n) ⊎ (m ≡ n → ⊥)
+pub same_or_other : (m n : ℕ) → (m ≡ n) ⊎ (m ≡ n → ⊥)
 same_or_other zero zero = inl refl
 same_or_other zero (suc n) = inr (λ e. absurd (omega (arith, e)))
 same_or_other (suc m) zero = inr (λ e. absurd (omega (arith, e)))
@@ -39,7 +39,7 @@ same_or_other (suc m) (suc n) = elim (same_or_other m n) [ inl e ↦ inl (ap suc
 
 ---- what the chains answer
 
-pub chain_row : (ts : List Ty) (ps : List Place) (cs : List (List ℕ)) → AreChains ts ps cs → (k n : ℕ) (p : Place) (c : List ℕ)
+pub chain_row : (ts : List Ty) (ps : List ChainPlace) (cs : List (List ℕ)) → AreChains ts ps cs → (k n : ℕ) (p : ChainPlace) (c : List ℕ)
     → slice_get ps n ≡ Some p → slice_get cs p.chain ≡ Some c → row_over ts n k ≡ slice_get c (p.depth + k)
 unfolding row_over
 chain_row ts ps cs x zero n p c at here =
@@ -88,7 +88,7 @@ last_none ts ty n l f e h = elim (get_push ts ty (Ptr e) n h) [
 ]
 
 -- a row of a chain is one of the types
-pub row_below : (ts : List Ty) (ps : List Place) (cs : List (List ℕ)) → AreChains ts ps cs → (i d n : ℕ) (c : List ℕ)
+pub row_below : (ts : List Ty) (ps : List ChainPlace) (cs : List (List ℕ)) → AreChains ts ps cs → (i d n : ℕ) (c : List ℕ)
     → slice_get cs i ≡ Some c → slice_get c d ≡ Some n → n < length ts
 row_below ts ps cs x i d n c h k =
     let w = slice_get_within ps n (record { chain = i; depth = d }) (x.rows i d n c h k) in
@@ -98,10 +98,10 @@ other_pointer : (n e : ℕ) → (n ≡ e → ⊥) → is_same_type (Ptr n) (Ptr 
 other_pointer n e f = ne_eqb n e f
 
 -- a type that is no pointer begins a chain
-pub other_indexed : (ts : List Ty) (ps : List Place) (cs : List (List ℕ)) (ty : Ty) → AreChains ts ps cs → ((e : ℕ) → ty ≡ Ptr e → ⊥)
+pub other_indexed : (ts : List Ty) (ps : List ChainPlace) (cs : List (List ℕ)) (ty : Ty) → AreChains ts ps cs → ((e : ℕ) → ty ≡ Ptr e → ⊥)
     → AreChains (ts ++ ty ∷ []) (ps ++ (record { chain = length cs; depth = 0 }) ∷ []) (cs ++ (length ts ∷ []) ∷ [])
 other_indexed ts ps cs ty x f =
-    let new : Place = record { chain = length cs; depth = 0 } in
+    let new : ChainPlace = record { chain = length cs; depth = 0 } in
     let us : List Ty = ts ++ ty ∷ [] in
     let ds : List (List ℕ) = cs ++ (length ts ∷ []) ∷ [] in
     let longer : length us ≡ length ts + 1 = length-append ts (ty ∷ []) in
@@ -136,13 +136,27 @@ other_indexed ts ps cs ty x f =
         | inl old ↦ still_none ts ty n (row_below ts ps cs x i 0 n c old k) (x.first i n c old k)
         | inr g ↦ last_none ts ty n (only_row (length ts) n c g.1 k) f
       ];
+      begun = λ i c h. elim (get_push cs (length ts ∷ []) c i h) [
+        | inl old ↦ x.begun i c old
+        | inr g ↦ subst (λ (l : List ℕ). 0 < length l) g.1 (omega arith)
+      ];
+      ordered = λ i j m n c d h g k l less. elim (get_push cs (length ts ∷ []) d j g) [
+        | inl new ↦ elim (get_push cs (length ts ∷ []) c i h) [
+          | inl old ↦ x.ordered i j m n c d old new k l less
+          | inr e ↦ absurd (omega (arith, e.0, less, slice_get_within cs j d new))
+        ]
+        | inr e ↦ elim (get_push cs (length ts ∷ []) c i h) [
+          | inl old ↦ omega (arith, row_below ts ps cs x i 0 m c old k, only_row (length ts) n d e.1 l)
+          | inr b ↦ absurd (omega (arith, e.0, b.0, less))
+        ]
+      ];
       beyond = λ n l. same n ∙ x.beyond n (omega (arith, longer, l));
     }
   where
     only_row : (m n : ℕ) (c : List ℕ) → m ∷ [] ≡ c → slice_get c 0 ≡ Some n → m ≡ n
     only_row m n c g k = let h : slice_get (m ∷ []) 0 ≡ Some n = subst (λ (l : List ℕ). slice_get l 0 ≡ Some n) (sym g) k in cc
 
-    first_row : (ps : List Place) (new : Place) (m i d n : ℕ) (c : List ℕ) → length ps ≡ m → i ≡ new.chain → m ∷ [] ≡ c → new.depth ≡ 0
+    first_row : (ps : List ChainPlace) (new : ChainPlace) (m i d n : ℕ) (c : List ℕ) → length ps ≡ m → i ≡ new.chain → m ∷ [] ≡ c → new.depth ≡ 0
         → slice_get c d ≡ Some n → slice_get (ps ++ new ∷ []) n ≡ Some (record { chain = i; depth = d })
     first_row ps new m i zero n c count e g low k =
         let h : slice_get (m ∷ []) zero ≡ Some n = subst (λ (l : List ℕ). slice_get l zero ≡ Some n) (sym g) k in
@@ -154,7 +168,7 @@ other_indexed ts ps cs ty x f =
         absurd cc
 
 -- a pointer goes to the end of its target's chain
-module _ (ts : List Ty) (ps : List Place) (cs : List (List ℕ)) (e : ℕ) (q : Place) (x : AreChains ts ps cs)
+module _ (ts : List Ty) (ps : List ChainPlace) (cs : List (List ℕ)) (e : ℕ) (q : ChainPlace) (x : AreChains ts ps cs)
     (at : slice_get ps e ≡ Some q) (fresh : next_pointer ts e ≡ None) where
   abbrev old_chain : List ℕ
   old_chain = (x.placed e q at).chain
@@ -162,7 +176,7 @@ module _ (ts : List Ty) (ps : List Place) (cs : List (List ℕ)) (e : ℕ) (q : 
   abbrev new_chain : List ℕ
   new_chain = old_chain ++ length ts ∷ []
 
-  abbrev new_place : Place
+  abbrev new_place : ChainPlace
   new_place = record { chain = q.chain; depth = q.depth + 1 }
 
   abbrev new_types : List Ty
@@ -215,7 +229,7 @@ module _ (ts : List Ty) (ps : List Place) (cs : List (List ℕ)) (e : ℕ) (q : 
   }
 
   -- another row of that chain, whose pointer was there before
-  row_placed : (n : ℕ) (p : Place) → slice_get ps n ≡ Some p → (n ≡ e → ⊥) → p.chain ≡ q.chain → StandsInChain new_types new_chains n p
+  row_placed : (n : ℕ) (p : ChainPlace) → slice_get ps n ≡ Some p → (n ≡ e → ⊥) → p.chain ≡ q.chain → StandsInChain new_types new_chains n p
   row_placed n p h other same =
       let a = x.placed n p h in
       let b = x.placed e q at in
@@ -240,7 +254,7 @@ module _ (ts : List Ty) (ps : List Place) (cs : List (List ℕ)) (e : ℕ) (q : 
           less : (d k l : ℕ) → l ≡ k + 1 → d < l → (d ≡ k → ⊥) → suc d < l
           less d k l e lt f = grind arith
 
-  other_placed : (n : ℕ) (p : Place) → slice_get ps n ≡ Some p → (n ≡ e → ⊥) → (p.chain ≡ q.chain → ⊥) → StandsInChain new_types new_chains n p
+  other_placed : (n : ℕ) (p : ChainPlace) → slice_get ps n ≡ Some p → (n ≡ e → ⊥) → (p.chain ≡ q.chain → ⊥) → StandsInChain new_types new_chains n p
   other_placed n p h other apart =
       let a = x.placed n p h in
       record {
@@ -251,7 +265,7 @@ module _ (ts : List Ty) (ps : List Place) (cs : List (List ℕ)) (e : ℕ) (q : 
         next = stays n other ∙ a.next;
       }
 
-  old_placed : (n : ℕ) (p : Place) → slice_get ps n ≡ Some p → StandsInChain new_types new_chains n p
+  old_placed : (n : ℕ) (p : ChainPlace) → slice_get ps n ≡ Some p → StandsInChain new_types new_chains n p
   old_placed n p h = elim (same_or_other n e) [
     | inl s ↦
         let one : q ≡ p = same_some q p (slice_get ps e) at (ap (slice_get ps) (sym s) ∙ h) in
@@ -281,6 +295,19 @@ module _ (ts : List Ty) (ps : List Place) (cs : List (List ℕ)) (e : ℕ) (q : 
     | inr g ↦ absurd (omega (arith, g.0, old_length))
   ]
 
+  -- each chain begins as it did
+  first_was : (i m : ℕ) (c : List ℕ) → slice_get new_chains i ≡ Some c → slice_get c 0 ≡ Some m
+      → (d : List ℕ) × (slice_get cs i ≡ Some d) × (slice_get d 0 ≡ Some m)
+  first_was i m c h k = elim (get_set cs q.chain i new_chain c h) [
+    | inl g ↦
+        let first : slice_get new_chain 0 ≡ Some m = subst (λ (l : List ℕ). slice_get l 0 ≡ Some m) (sym g.1) k in
+        elim (get_push old_chain (length ts) m 0 first) [
+          | inl old ↦ (old_chain, ap (slice_get cs) g.0 ∙ (x.placed e q at).there, old)
+          | inr o ↦ absurd (omega (arith, o.0, old_length))
+        ]
+    | inr old ↦ (c, old, k)
+  ]
+
   pub pointer_indexed : AreChains new_types (ps ++ new_place ∷ []) new_chains
   pointer_indexed =
       let longer : length new_types ≡ length ts + 1 = length-append ts (Ptr e ∷ []) in
@@ -299,5 +326,13 @@ module _ (ts : List Ty) (ps : List Place) (cs : List (List ℕ)) (e : ℕ) (q : 
           | inl g ↦ new_first n (subst (λ (l : List ℕ). slice_get l 0 ≡ Some n) (sym g.1) k)
           | inr old ↦ still_none ts (Ptr e) n (row_below ts ps cs x i 0 n c old k) (x.first i n c old k)
         ];
+        begun = λ i c h. elim (get_set cs q.chain i new_chain c h) [
+          | inl g ↦ subst (λ (l : List ℕ). 0 < length l) g.1 (omega (arith, length-append old_chain (length ts ∷ [])))
+          | inr old ↦ x.begun i c old
+        ];
+        ordered = λ i j m n c d h g k l less.
+            let b = first_was i m c h k in
+            let a = first_was j n d g l in
+            x.ordered i j m n b.0 a.0 b.1 a.1 b.2 a.2 less;
         beyond = λ n l. stays n (λ s. absurd (omega (arith, s, target_below, longer, l))) ∙ x.beyond n (omega (arith, longer, l));
       }

@@ -41,10 +41,10 @@ kept_same t u grows (Array e c) f =
     ap (λ (o : Option Layout). option_map extent_of (option_map (array_layout c) o)) (l.1 ∙ sym (layout_grows t u grows e l.0 l.1))
 kept_same t u grows (Aggregate a) f = refl
 
-kept_of_old : (t u : Table) → Grows t u → IsBuilt t → (n : ℕ) (ty : Ty) → slice_get t.types n ≡ Some ty → kept_extent t ty ≡ kept_extent u ty
+pub kept_of_old : (t u : Table) → Grows t u → IsBuilt t → (n : ℕ) (ty : Ty) → slice_get t.types n ≡ Some ty → kept_extent t ty ≡ kept_extent u ty
 kept_of_old t u grows b n ty h = kept_same t u grows ty (λ e c same. element_laid t b n e c (h ∙ ap Some same))
 
-row_same : (t u : Table) → Grows t u → IsBuilt t → (a : ℕ) (row : AggregateRow) → slice_get t.aggregates a ≡ Some row → at_aggregate (layout_rules t.model) (layout_of t) row ≡ at_aggregate (layout_rules t.model) (layout_of u) row
+pub row_same : (t u : Table) → Grows t u → IsBuilt t → (a : ℕ) (row : AggregateRow) → slice_get t.aggregates a ≡ Some row → at_aggregate (layout_rules t.model) (layout_of t) row ≡ at_aggregate (layout_rules t.model) (layout_of u) row
 row_same t u grows b a row h = elim (some_or_none row.members) [
   | inl m ↦
       let xs = (laid (layout_rules t.model) t b).members a row m.0 h m.1 in

@@ -12,8 +12,9 @@ pub mod Texts
 pub mod Ordered
 pub mod Rows
 pub mod Steps
-pub mod Copies
 pub mod Chains
 pub mod ChainLists
 pub mod Worked
 pub mod Basics
+pub mod Grown
+pub mod ChainEnds

@@ -132,6 +132,22 @@ known t (members_more s a g members b here none_yet there fits) n ty h =
     let q = known_later s v (grows_with_members s a g (laid_out s g.is_union members) here none_yet) ty (known s b n ty p) (omega arith) (omega (arith, length_set s.aggregates a (record g { members = Some (laid_out s g.is_union members) }))) in
     subst (λ (w : Table). names_known w ty ≡ true) (sym e) q
 
+-- a pointer comes behind what it points to
+pub target_before : (t : Table) → IsBuilt t → (n e : ℕ) → slice_get t.types n ≡ Some (Ptr e) → e < n
+target_before t (start m) n e h = absurd cc
+target_before t (type_more s new b here fresh fits) n e h = elim (get_push s.types new (Ptr e) n h) [
+  | inl old ↦ target_before s b n e old
+  | inr p ↦
+      let k : names_known s (Ptr e) ≡ true = subst (λ (v : Ty). names_known s v ≡ true) p.1 here in
+      subst (λ (j : ℕ). e < j) (sym p.0) (grind (arith, nat_tests))
+]
+target_before t (aggregate_more s tag u b) n e h = target_before s b n e h
+target_before t (members_more s a g members b here none_yet there fits) n e h =
+    let v = with_members s a g (laid_out s g.is_union members) in
+    let p : slice_get v.types n ≡ Some (Ptr e) =
+    subst (λ (w : Table). slice_get w.types n ≡ Some (Ptr e)) (completed_is s a g members here) h in
+    target_before s b n e p
+
 ---- sizes
 
 pub record IsSmall (t : Table) : Type 0 where

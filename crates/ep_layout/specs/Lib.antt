@@ -1,6 +1,7 @@
 pub mod SameTypes
 pub mod Layout
 pub mod Table
+pub mod Grown
 pub mod Pointers
 pub mod Chains
 pub mod Views

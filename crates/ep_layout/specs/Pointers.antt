@@ -1,7 +1,7 @@
 -- Pointers over a row of a table: each type stands once, so they form one chain, each the pointer to the one before
 -- (C11 6.2.5p20: a pointer type is derived from the type that it points to).
-use Rattle.std.specs.Prelude.{◌≢◌, ℕ, zero, suc, List, position, slice_get}
-use Rattle.std.specs.Prelude.{Option, Some, None, option_and_then}
+use Rattle.std.specs.Prelude.{◌≡◌, ◌≢◌, ◌<◌, ℕ, zero, suc, List, position, slice_get}
+use Rattle.std.specs.Prelude.{Option, Some, option_and_then}
 use Rattle.ep_layout.specs.declared.types.Ty.{Ty}
 use Rattle.ep_layout.specs.declared.types.Ty.TheVariants.{Ptr}
 use Rattle.ep_layout.specs.SameTypes.{is_same_type}
@@ -22,3 +22,7 @@ pointer_row t n k = row_over t.types n k
 -- a row that is no pointer, at which such a chain begins
 abbrev pub IsNoPointer : List Ty → ℕ → Type 0
 IsNoPointer ts n = (e : ℕ) → slice_get ts n ≢ Some (Ptr e)
+
+-- each pointer's target stands before it
+abbrev pub ArePointersBack : List Ty → Type 0
+ArePointersBack ts = (n e : ℕ) → slice_get ts n ≡ Some (Ptr e) → e < n

@@ -8,4 +8,4 @@ mod table;
 mod types;
 
 pub use table::Types;
-pub use types::{LayoutStop, Leaf, Member, PointedRow, Ty};
+pub use types::{LayoutStop, Leaf, Member, PointedRow, TableMark, Ty};

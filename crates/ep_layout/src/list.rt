@@ -1,22 +1,22 @@
 //! The types of a table in the order of their coming, each once, and the chains of pointers among them.
 
 ghost use Rattle.std.specs.Prelude.{◌≡◌, List, [], ◌∷◌, ◌++◌, length, ◌<◌, ◌+◌, ◌^◌, IfSome, OnOk, OnErr, IfOk, Some};
-ghost use Rattle.std.specs.Prelude.{None, IsSome, slice_get, position, ℕ};
+ghost use Rattle.std.specs.Prelude.{◌-◌, None, IsSome, slice_get, position, take, ℕ};
 ghost use Rattle.ep_layout.specs.declared.types.Ty.{Ty};
 ghost use Rattle.ep_layout.specs.declared.types.Ty.TheVariants as rows;
 ghost use Rattle.ep_layout.specs.SameTypes.{is_same_type};
 ghost use Rattle.ep_layout.specs.Chains.{lists, put_behind};
-ghost use Rattle.ep_layout.specs.Pointers.{row_over, IsNoPointer};
+ghost use Rattle.ep_layout.specs.Pointers.{row_over, ArePointersBack, IsNoPointer};
 
 use crate::types::{PointedRow, Ty};
 use ep_int::Memory;
 use indexmap::IndexSet;
-use std::alloc::{AllocError, Global};
+use std::alloc::Global;
 use std::marker::Model;
 
 /// A row's chain, which begins with a type that is no pointer, and how many pointers the row is over that type.
 #[derive(Clone, Copy, Debug)]
-pub(crate) struct Place {
+pub(crate) struct ChainPlace {
     pub chain: u32,
     pub depth: u32,
 }
@@ -26,7 +26,7 @@ pub(crate) struct Place {
 pub struct TypeList {
     types: IndexSet<Ty>,
     /// Of each type.
-    places: Vec<Place>,
+    places: Vec<ChainPlace>,
     /// Rows, each the pointer to the one before.
     chains: Vec<Vec<u32>>,
     alloc: Global,
@@ -166,7 +166,7 @@ impl TypeList {
         ensures err { OnErr result (self.new ≡ self.old) }
     {
         let count = self.types.len();
-        let place = Place {
+        let place = ChainPlace {
             chain: self.chains.len() as u32,
             depth: 0,
         };
@@ -196,7 +196,7 @@ impl TypeList {
     {
         let count = self.types.len();
         let target = self.places[to as usize];
-        let place = Place {
+        let place = ChainPlace {
             chain: target.chain,
             depth: target.depth + 1,
         };
@@ -215,15 +215,30 @@ impl TypeList {
         Ok(())
     }
 
-    /// The same types under the same numbers.
-    pub fn copy(&self) -> Result<TypeList, AllocError>
-        ensures { IfOk result (λ s. s ≡ self.now) }
+    // The last type goes, and its chain where it begins one.
+    fn pop(&mut self)
+        requires some { 0 < length self.old }
+        requires before { ArePointersBack self.old }
+        ensures { self.new ≡ take (length self.old - 1) self.old }
     {
-        Ok(TypeList {
-            types: self.types.clone()?,
-            places: Vec::from_slice(self.alloc, &self.places)?,
-            chains: self.chains.clone()?,
-            alloc: self.alloc,
-        })
+        let last = self.types.len() - 1;
+        let place = self.places[last];
+        self.types.truncate(last);
+        self.places.truncate(last);
+        if place.depth == 0 {
+            self.chains.truncate(place.chain as usize);
+        } else {
+            self.chains[place.chain as usize].truncate(place.depth as usize);
+        }
+    }
+
+    /// The first so many types are left.
+    pub fn truncate(&mut self, count: usize)
+        requires { ArePointersBack self.old }
+        ensures { self.new ≡ take count self.old }
+    {
+        for _ in count..self.types.len() {
+            self.pop();
+        }
     }
 }

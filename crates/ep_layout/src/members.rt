@@ -31,27 +31,6 @@ impl Model for MemberList {
     ghost invariant = { λ s. ArePlaces s.members.items s.places.entries };
 }
 
-fn copied_member(alloc: Global, member: &Member) -> Result<Member, AllocError>
-    ensures { IfOk result (λ m. member_view m ≡ member_view member.now) }
-{
-    Ok(Member {
-        name: Vec::from_slice(alloc, &member.name)?,
-        ty: member.ty,
-        offset: member.offset,
-    })
-}
-
-fn copied_members(alloc: Global, members: &[Member]) -> Result<Vec<Member>, AllocError>
-    ensures { IfOk result (λ v. members_view v.items ≡ members_view members.now) }
-{
-    let mut copies = Vec::new(alloc);
-    for member in members {
-        let copy = copied_member(alloc, member)?;
-        copies.push(copy)?;
-    }
-    Ok(copies)
-}
-
 impl MemberList {
     /// Members in this order. Of two with one name the first is found.
     pub fn new(alloc: Global, members: Vec<Member>) -> Result<MemberList, AllocError>
@@ -83,13 +62,5 @@ impl MemberList {
             None => None,
             Some(place) => Some(&self.members[*place]),
         }
-    }
-
-    /// The same members.
-    pub fn copy(&self, alloc: Global) -> Result<MemberList, AllocError>
-        ensures { IfOk result (λ s. s ≡ self.now) }
-    {
-        let members = copied_members(alloc, &self.members)?;
-        MemberList::new(alloc, members)
     }
 }

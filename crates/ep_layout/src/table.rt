@@ -14,9 +14,9 @@ ghost use Rattle.ep_layout.specs.Extents.{IsExtent, extent_of, kept_extent};
 ghost use Rattle.ep_layout.specs.Views.{member_view, members_view, named_view};
 
 mod bodies;
-mod copies;
 mod growth;
 mod leaves;
+mod marks;
 mod text;
 
 use crate::extent::Extent;

@@ -79,6 +79,14 @@ pub struct PointedRow {
     pub stars: u32,
 }
 
+/// How many types, aggregates and completions a table has.
+#[derive(Clone, Copy, Debug)]
+pub struct TableMark {
+    pub types: usize,
+    pub aggregates: usize,
+    pub completed: usize,
+}
+
 /// A member of an aggregate, and where it lies in it, in bytes.
 #[derive(Debug, Drop)]
 pub struct Member {

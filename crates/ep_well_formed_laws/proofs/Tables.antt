@@ -6,11 +6,12 @@ use Rattle.std.proofs.lemmas.Bool.Decides.{nat_tests}
 use Rattle.ep_layout.specs.declared.types.Ty.{Ty}
 use Rattle.ep_layout.specs.declared.types.Ty.TheVariants.{Void, Int, Ptr, Array, Aggregate}
 use Rattle.ep_layout.specs.SameTypes.{is_same_type, same_types, same_itself}
-use Rattle.ep_layout.specs.Table.{Table, IsBuilt, laid_out, names_known, number_of, with_type}
+use Rattle.ep_layout.specs.Table.{Table, IsBuilt, laid_out, number_of, with_type}
 use Rattle.ep_layout.specs.Table.IsBuilt.{start, type_more, aggregate_more, members_more}
 use Rattle.ep_layout.proofs.Options.{and_then_some, get_push}
 use Rattle.ep_layout.proofs.Positions.{position_some, position_push, position_stays}
 use Rattle.ep_layout.proofs.Laid.{completed_is, with_members}
+use Rattle.ep_layout.proofs.Sizes.{target_before}
 use Rattle.ep_typing.specs.declared.types.CType.{CType}
 use Rattle.ep_typing.specs.Types.{of_row, pointer_to, target, type_of, type_within, whole}
 use Rattle.ep_well_formed_laws.specs.Numbers.{array_number, number_behind, number_of_base, type_number}
@@ -38,21 +39,6 @@ number_at t (members_more s a g members b here none_yet slice_get_within fits) n
     let e = completed_is s a g members here in
     let p : slice_get v.types n ≡ Some ty = subst (λ (w : Table). slice_get w.types n ≡ Some ty) e h in
     subst (λ (w : Table). number_of w ty ≡ Some n) (sym e) (number_at s b n ty p)
-
--- a pointer comes behind what it points to
-pub target_before : (t : Table) → IsBuilt t → (n e : ℕ) → slice_get t.types n ≡ Some (Ptr e) → e < n
-target_before t (start m) n e h = absurd cc
-target_before t (type_more s new b here fresh fits) n e h = elim (get_push s.types new (Ptr e) n h) [
-  | inl old ↦ target_before s b n e old
-  | inr p ↦ let k : names_known s (Ptr e) ≡ true = subst (λ (v : Ty). names_known s v ≡ true) p.1 here in
-      subst (λ (j : ℕ). e < j) (sym p.0) (grind (arith, nat_tests))
-]
-target_before t (aggregate_more s tag u b) n e h = target_before s b n e h
-target_before t (members_more s a g members b here none_yet slice_get_within fits) n e h =
-    let v = with_members s a g (laid_out s g.is_union members) in
-    let p : slice_get v.types n ≡ Some (Ptr e) =
-    subst (λ (w : Table). slice_get w.types n ≡ Some (Ptr e)) (completed_is s a g members here) h in
-    target_before s b n e p
 
 -- ---- pointers
 
