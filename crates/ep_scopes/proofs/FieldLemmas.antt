@@ -4,11 +4,8 @@ use Rattle.std.proofs.Common.{eq-eqb, nat_eq}
 use Rattle.std.proofs.lemmas.Bool.{eqb-true}
 use Rattle.std.specs.Prelude.{is_some}
 use Rattle.std.specs.Option.{option_map, option_copied, option_and_then}
-use Rattle.std.specs.Str.{bytes_eq}
-use Rattle.std.specs.Global.{Vec}
 use Rattle.std.specs.Map.{lookup}
 use Rattle.indexmap.specs.IndexMap.{insert_entry}
-use Rattle.ep_typing.specs.declared.types.FieldRow.{FieldRow}
 use Rattle.ep_typing.specs.Env as rule
 use Rattle.ep_typing.specs.Fields.{fields_of, with_fields_of}
 use Rattle.ep_scopes.specs.declared.fields.FieldNames.{FieldNames}

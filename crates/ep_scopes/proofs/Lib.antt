@@ -1,6 +1,7 @@
 pub mod ScopeLemmas
 pub mod KnownLemmas
 pub mod WordLemmas
+pub mod Coming
 mod PointerLemmas
-mod Copies
 mod FieldLemmas
+mod MarkLemmas

@@ -6,7 +6,7 @@ use Rattle.ep_layout.specs.Table.{Table, number_of, type_added}
 use Rattle.ep_layout.specs.Pointers.{row_over}
 use Rattle.ep_layout.proofs.Options.{and_then_some}
 use Rattle.ep_typing.specs.Types.{known_number, with_pointers, pointer_number}
-use Rattle.ep_scopes.proofs.KnownLemmas.{no_pointers, one_pointer, no_stars, one_star}
+use Rattle.ep_scopes.proofs.KnownLemmas.{one_pointer, one_star}
 
 there : (t : Table) (n x : ℕ) → number_of t (rows.Ptr n) ≡ Some x → t ≡ type_added t (rows.Ptr n)
 there t n x q = rw q refl

@@ -1,3 +1,4 @@
 pub mod View
 pub mod Known
+pub mod Comes
 pub mod Words

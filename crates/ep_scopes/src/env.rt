@@ -1,9 +1,8 @@
 //! What stands round an expression.
 
-ghost use Rattle.std.specs.Prelude.{◌≡◌, ◌<◌, IfOk, OnOk, IsTrue, None, Some, bytes_eq, length, map, position};
+ghost use Rattle.std.specs.Prelude.{◌≡◌, ◌<◌, IfOk, OnOk, IsTrue, None, Some, bytes_eq, length, position};
 ghost use Rattle.std.specs.Prelude.{slice_get};
 ghost use Rattle.std.specs.Option.{option_map};
-ghost use Rattle.ep_core.specs.View.{block_view};
 ghost use Rattle.ep_layout.specs.Table as table;
 ghost use Rattle.ep_typing.specs.Env as rule;
 ghost use Rattle.ep_typing.specs.Types as types_of;
@@ -159,67 +158,7 @@ fn add_aggregate(types: &mut Types, tag: Vec<u8>, is_union: bool) -> Result<u32,
     types.declare(tag, is_union)
 }
 
-impl Clone for FunctionType {
-    ghost use Rattle.std.specs.Prelude.{◌≡◌};
-    ghost use Rattle.ep_scopes.specs.View.{function_type};
-
-    ghost is_clone = { λ s t. function_type t ≡ function_type s };
-
-    fn clone(&self) -> Result<FunctionType, AllocError> {
-        Ok(FunctionType {
-            params: self.params.clone()?,
-            result: self.result,
-        })
-    }
-}
-
-fn copied_blocks(alloc: Global, blocks: &[BlockInfo]) -> Result<Vec<BlockInfo>, AllocError>
-    ensures { IfOk result (λ v. map block_view v.items ≡ map block_view blocks.now) }
-{
-    let mut copies = Vec::new(alloc);
-    for block in blocks {
-        copies.push(BlockInfo {
-            size: block.size,
-            ty: block.ty,
-            global: block.global,
-        })?;
-    }
-    Ok(copies)
-}
-
-fn copied_types(types: &Types) -> Result<Types, AllocError>
-    ensures { IfOk result (λ t. t ≡ types.now) }
-{
-    match types.copy() {
-        Ok(copy) => Ok(copy),
-        Err(_) => Err(AllocError),
-    }
-}
-
 impl Env {
-    fn copied(&self) -> Result<Env, AllocError>
-        ensures { IfOk result (λ e. view.env e ≡ view.env self.now) }
-    {
-        Ok(Env {
-            types: copied_types(&self.types)?,
-            fields: self.fields.copy()?,
-            scopes: self.scopes.copy()?,
-            blocks: copied_blocks(self.alloc, &self.blocks)?,
-            functions: self.functions.clone()?,
-            alloc: self.alloc,
-        })
-    }
-
-    /// The same names, blocks, functions and types.
-    pub fn copy(&self) -> Result<Env, Memory>
-        ensures { IfOk result (λ e. view.env e ≡ view.env self.now) }
-    {
-        match self.copied() {
-            Ok(env) => Ok(env),
-            Err(_) => Err(Memory),
-        }
-    }
-
     fn text(&self, name: &[u8]) -> Result<Vec<u8>, Memory>
         ensures { IfOk result (λ v. v.items ≡ name.now) }
     {

@@ -1,6 +1,6 @@
 //! Bit-fields, found by the numbers of their aggregates and by their names.
 
-ghost use Rattle.std.specs.Prelude.{◌≡◌, ◌++◌, ◌∷◌, ◌↔◌, [], IfOk, IsTrue, None, OnOk, is_some};
+ghost use Rattle.std.specs.Prelude.{◌≡◌, ◌++◌, ◌∷◌, ◌↔◌, [], IsTrue, None, OnOk, is_some, length, take};
 ghost use Rattle.ep_typing.specs.Env.{entry};
 ghost use Rattle.ep_typing.specs.Fields as rule;
 ghost use Rattle.ep_scopes.specs.View as view;
@@ -37,19 +37,6 @@ impl FieldNames {
     }
 }
 
-impl Clone for FieldNames {
-    ghost use Rattle.std.specs.Prelude.{◌≡◌};
-    ghost use Rattle.ep_scopes.specs.View.{named_fields};
-
-    ghost is_clone = { λ s t. named_fields t ≡ named_fields s };
-
-    fn clone(&self) -> Result<FieldNames, AllocError> {
-        Ok(FieldNames {
-            rows: self.rows.clone()?,
-        })
-    }
-}
-
 /// Of each aggregate with a bit-field those that have a name.
 #[derive(Drop)]
 pub struct Fields {
@@ -66,13 +53,18 @@ impl Fields {
         }
     }
 
-    /// The same.
-    pub fn copy(&self) -> Result<Fields, AllocError>
-        ensures { IfOk result (λ f. view.fields f ≡ view.fields self.now) }
+    /// How many aggregates have a bit-field.
+    pub fn count(&self) -> usize
+        ensures { result ≡ length (view.fields self.now) }
     {
-        Ok(Fields {
-            all: self.all.clone()?,
-        })
+        self.all.len()
+    }
+
+    /// Those of the first so many aggregates are left.
+    pub fn truncate(&mut self, count: usize)
+        ensures { view.fields self.new ≡ take count (view.fields self.old) }
+    {
+        self.all.truncate(count);
     }
 
     /// Whether no aggregate has a bit-field.

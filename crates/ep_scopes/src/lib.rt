@@ -3,11 +3,13 @@
 
 mod env;
 mod fields;
+mod marks;
 mod names;
 mod scopes;
 mod words;
 
 pub use env::{Env, FunctionType, add_type, type_number};
 pub use fields::{FieldNames, Fields};
+pub use marks::EnvMark;
 pub use names::{mention_name, mention_words, named, named_type, words_type};
 pub use scopes::{Mark, Meaning, Scope, Scopes};

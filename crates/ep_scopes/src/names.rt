@@ -1,7 +1,6 @@
 //! What names stand for, and the types that type names mention.
 
-ghost use Rattle.std.specs.Prelude.{◌≡◌, map, OnOk, IfOk, Option};
-ghost use Rattle.std.specs.Option.{option_map};
+ghost use Rattle.std.specs.Prelude.{◌≡◌, OnOk, map};
 ghost use Rattle.ep_ast.specs.Expression.{type_name, type_word};
 ghost use Rattle.ep_layout.specs.Table.{is_union};
 ghost use Rattle.ep_typing.specs.Env.{entry, look_up, look_up_tag};

@@ -1,8 +1,9 @@
 //! The names and tags in scope.
 
-ghost use Rattle.std.specs.Prelude.{◌≡◌, [], ◌∷◌, ◌++◌, IfOk, OnOk, OnErr, None, drop, is_some, length, ◌+◌, map};
+ghost use Rattle.std.specs.Prelude.{◌≡◌, List, [], ◌∷◌, ◌++◌, IfOk, OnOk, None, drop, is_some, length, ◌+◌};
 ghost use Rattle.std.specs.Option.{option_map, option_to_list};
 ghost use Rattle.ep_typing.specs.Env as rule;
+ghost use Rattle.ep_scopes.specs.Comes.{ScopesCome};
 ghost use Rattle.ep_scopes.specs.View as view;
 
 use ep_typing::CType;
@@ -46,15 +47,6 @@ impl Scope {
             names: IndexMap::new(alloc),
             tags: IndexMap::new(alloc),
         }
-    }
-
-    fn copy(&self) -> Result<Scope, AllocError>
-        ensures { IfOk result (λ s. view.scope s ≡ view.scope self.now) }
-    {
-        Ok(Scope {
-            names: self.names.clone()?,
-            tags: self.tags.clone()?,
-        })
     }
 
     fn name(&self, name: &[u8]) -> Option<Meaning>
@@ -172,17 +164,6 @@ fn look_up_tag(scopes: &[Scope], tag: &[u8]) -> Option<u32>
     None
 }
 
-fn copied_scopes(alloc: Global, scopes: &[Scope]) -> Result<Vec<Scope>, AllocError>
-    ensures { IfOk result (λ v. map view.scope v.items ≡ map view.scope scopes.now) }
-{
-    let mut copies = Vec::new(alloc);
-    for scope in scopes {
-        let copy = scope.copy()?;
-        copies.push(copy)?;
-    }
-    Ok(copies)
-}
-
 impl Scopes {
     /// No scope at all.
     pub fn new(alloc: Global) -> Scopes
@@ -192,16 +173,6 @@ impl Scopes {
             all: Vec::new(alloc),
             alloc,
         }
-    }
-
-    /// The same names and tags.
-    pub fn copy(&self) -> Result<Scopes, AllocError>
-        ensures { IfOk result (λ s. view.scopes s ≡ view.scopes self.now) }
-    {
-        Ok(Scopes {
-            all: copied_scopes(self.alloc, &self.all)?,
-            alloc: self.alloc,
-        })
     }
 
     /// What a name means; an inner scope hides an outer one.
@@ -336,6 +307,25 @@ impl Scopes {
             }
             None => Ok(()),
         }
+    }
+
+    /// How many scopes are open.
+    pub fn count(&self) -> usize
+        ensures { result ≡ length (view.scopes self.now) }
+    {
+        self.all.len()
+    }
+
+    /// The scopes go back to what they were when so many were open, of which the innermost had a mark.
+    pub fn go_back(&mut self, count: usize, mark: Mark) -> Result<(), AllocError>
+        ensures { (ss : List rule.Scope) → ScopesCome ss (view.scopes self.old) → count ≡ length ss
+            → mark.names ≡ length (view.innermost ss).names → mark.tags ≡ length (view.innermost ss).tags
+            → OnOk result (view.scopes self.new ≡ ss) }
+    {
+        for _ in count..self.count() {
+            self.leave();
+        }
+        self.rewind(mark)
     }
 
     /// The blocks of the innermost scope's names behind so many first ones.
