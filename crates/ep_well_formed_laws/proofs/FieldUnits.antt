@@ -1,4 +1,4 @@
--- The bit-fields of a body lie in units that are members of their types.
+-- The bit-fields of a body lie in units that are members of their types, in an aggregate that is then completed.
 use Rattle.std.proofs.Common.{◌≡◌, ℕ, zero, suc, ◌+◌, ◌-◌, ◌≤◌, nat_eq, nat_le, Bool, true, false, ◌&&◌}
 use Rattle.std.proofs.Common.{if◌then◌else◌, List, [], ◌∷◌, ◌++◌, length, length-append, map, slice_get, Option, Some}
 use Rattle.std.proofs.Common.{None, is_some, refl, sym, ap, ◌∙◌, subst, arith}
@@ -10,7 +10,7 @@ use Rattle.ep_int.proofs.Basics.{append-assoc, slice_get-append}
 use Rattle.ep_int.specs.declared.types.IntType.{IntType}
 use Rattle.ep_int.specs.Types.{bits_of}
 use Rattle.ep_layout.specs.declared.types.Ty.TheVariants as rows
-use Rattle.ep_layout.specs.Table.{AggregateRow, MemberRow, Table, completed_with, is_type, laid_out}
+use Rattle.ep_layout.specs.Table.{AggregateRow, MemberRow, Table, completed_with, is_completed, is_type, laid_out}
 use Rattle.ep_layout.specs.Table.{members_of, struct_members, union_members}
 use Rattle.ep_layout.proofs.Laid.{completed_is, with_members}
 use Rattle.ep_layout.proofs.Options.{get_last, get_set_same}
@@ -24,7 +24,7 @@ use Rattle.ep_typing.specs.Env.{NamedFields}
 use Rattle.ep_elaboration.specs.Aggregates.{Entry, Named, a_field, a_member, begins_unit, fields_in, fields_with}
 use Rattle.ep_elaboration.specs.Aggregates.{members_in, members_with, named_field, packed_as, unit_name}
 use Rattle.ep_elaboration.specs.FieldStatements.{part_of_unit}
-use Rattle.ep_well_formed_laws.specs.Environments.{AreFieldsOf, IsFieldOf}
+use Rattle.ep_well_formed_laws.specs.Environments.{AreFieldsOf, IsFieldOf, IsFieldsOf}
 
 -- ---- what a body declares
 
@@ -291,6 +291,10 @@ module _ (t : Table) (a : ℕ) (g : AggregateRow) (ms : Members) (here : slice_g
   completed_members =
       rw (get_set_same t.aggregates a (record g { members = Some (laid_out t g.is_union ms) }) g here) refl
 
+  now_completed : is_completed (with_members t a g (laid_out t g.is_union ms)) a ≡ true
+  now_completed =
+      rw (get_set_same t.aggregates a (record g { members = Some (laid_out t g.is_union ms) }) g here) refl
+
   completed_field : (f : FieldRow) → HasUnit t ms f → IsFieldOf (with_members t a g (laid_out t g.is_union ms)) a f
   completed_field f h =
       let x = laid_get t g.is_union ms f.unit h.member h.here in
@@ -306,9 +310,11 @@ module _ (t : Table) (a : ℕ) (g : AggregateRow) (ms : Members) (here : slice_g
   completed_fields [] h = tt
   completed_fields (x ∷ ns) h = (completed_field x.1 h.0, completed_fields ns h.1)
 
--- where a body is closed, its bit-fields have units
+-- where a body is closed, its aggregate is completed, and its bit-fields have units
 pub closed_fields : (t : Table) (a : ℕ) (g : AggregateRow) (es : Named) → slice_get t.aggregates a ≡ Some g
-    → AreKnown t es → AreFieldsOf (completed_with t a (members_in es)) a (fields_in es)
+    → AreKnown t es → IsFieldsOf (completed_with t a (members_in es)) a (fields_in es)
 closed_fields t a g es here h =
-    subst (λ (u : Table). AreFieldsOf u a (fields_in es)) (sym (completed_is t a g (members_in es) here))
-    (completed_fields t a g (members_in es) here (fields_in es) (have_units t es h))
+    subst (λ (u : Table). IsFieldsOf u a (fields_in es)) (sym (completed_is t a g (members_in es) here)) (record {
+      completed = now_completed t a g (members_in es) here;
+      units = completed_fields t a g (members_in es) here (fields_in es) (have_units t es h);
+    })

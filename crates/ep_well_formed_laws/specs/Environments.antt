@@ -2,7 +2,7 @@
 use Rattle.std.specs.Prelude.{◌≡◌, ◌⊎◌, ℕ, ◌<◌, true, ◌||◌, List, [], ◌∷◌, length, slice_get, Some}
 use Rattle.ep_int.specs.Memory.{contains}
 use Rattle.ep_layout.specs.declared.types.Ty.TheVariants as rows
-use Rattle.ep_layout.specs.Table.{Table, MemberRow, members_of}
+use Rattle.ep_layout.specs.Table.{Table, MemberRow, is_completed, members_of}
 use Rattle.ep_core.specs.Program.{Block}
 use Rattle.ep_core.specs.Runs.{is_global}
 use Rattle.ep_core.specs.WellFormed.{block_fits}
@@ -75,9 +75,14 @@ abbrev pub AreFieldsOf : Table → (aggregate : ℕ) → NamedFields → Type 0
 AreFieldsOf t a [] = Unit {0}
 AreFieldsOf t a (x ∷ xs) = IsFieldOf t a x.1 × AreFieldsOf t a xs
 
+-- an aggregate has its members, among which are the units of its bit-fields (C11 6.7.2.1p9: a bit-field is a member)
+pub record IsFieldsOf (t : Table) (aggregate : ℕ) (fields : NamedFields) : Type 0 where
+  pub completed : is_completed t aggregate ≡ true
+  pub units : AreFieldsOf t aggregate fields
+
 abbrev pub AreFields : Table → List (ℕ × NamedFields) → Type 0
 AreFields t [] = Unit {0}
-AreFields t (x ∷ xs) = AreFieldsOf t x.0 x.1 × AreFields t xs
+AreFields t (x ∷ xs) = IsFieldsOf t x.0 x.1 × AreFields t xs
 
 -- types, bit-fields, tags and functions of an environment
 pub record IsDeclared (G : Env) : Type 0 where
