@@ -1,9 +1,12 @@
+pub mod Answering
+pub mod Coming
 pub mod Growth
 pub mod NameLemmas
 pub mod CountLemmas
 pub mod ArrayLemmas
 pub mod MemberLemmas
 pub mod TagLemmas
+pub mod BodyComing
 pub mod BodyLemmas
 pub mod ObjectLemmas
 pub mod EntryLemmas

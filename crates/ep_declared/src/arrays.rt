@@ -1,12 +1,13 @@
 //! Types of arrays and of pointers.
 
 ghost use Rattle.std.specs.Prelude.{◌≡◌, ◌<◌, length, IsTrue, IfOk, OnOk};
+ghost use Rattle.ep_layout.specs.Grown.{GrownFrom};
 ghost use Rattle.ep_layout.specs.Table as table;
 ghost use Rattle.ep_layout.specs.Table.{Grows};
 ghost use Rattle.ep_typing.specs.Results.{at};
 ghost use Rattle.ep_typing.specs.Types as types_of;
 ghost use Rattle.ep_elaboration.specs.Declarators as rule;
-ghost use Rattle.ep_declared.specs.Refinement.{RefinesIn};
+ghost use Rattle.ep_declared.specs.Refinement.{OnAnswer, RefinesIn};
 ghost use Rattle.ep_declared.specs.Open.{StaysOpen};
 ghost use Rattle.ep_declared.specs.Stopped.{halted};
 ghost use Rattle.ep_scopes.specs.Known.{IsKnown};
@@ -36,6 +37,7 @@ fn add_array(types: &mut Types, line: u32, row: Ty) -> Result<CType, Halt>
     ensures there { IfOk result (λ d. types_of.c_type_number types.new d < length types.new.types) }
     ensures inside { IfOk result (λ d. IsKnown types.new d) }
     ensures grown { OnOk result (types.new ≡ table.type_added types.old row) }
+    ensures comes { OnAnswer result (GrownFrom types.old types.new) }
 {
     has_room(types.type_count())?;
     match types.add(row) {
@@ -52,6 +54,7 @@ fn array_of(types: &mut Types, line: u32, c: CType, count: u32) -> Result<CType,
     ensures inside { IfOk result (λ d. IsKnown types.new d) }
     ensures grown { OnOk result (Grows types.old types.new) }
     ensures stay { OnOk result (StaysOpen types.old types.new) }
+    ensures comes { OnAnswer result (GrownFrom types.old types.new) }
 {
     add_type(types, c)?;
     let element = type_number(types, c);
@@ -67,6 +70,7 @@ pub fn arrays_of(types: &mut Types, c: CType, line: u32, counts: &[u32]) -> Resu
     ensures inside { IfOk result (λ d. IsKnown types.new d) }
     ensures grown { OnOk result (Grows types.old types.new) }
     ensures stay { OnOk result (StaysOpen types.old types.new) }
+    ensures comes { OnAnswer result (GrownFrom types.old types.new) }
 {
     add_type(types, c)?;
     let mut array = c;

@@ -6,8 +6,9 @@ ghost use Rattle.ep_ast.specs.Declaration.{aggregate, aggregate_of, member_of, s
 ghost use Rattle.ep_ast.specs.Mark.{word_number};
 ghost use Rattle.ep_layout.specs.Table.{Grows};
 ghost use Rattle.ep_elaboration.specs.Aggregates as rule;
-ghost use Rattle.ep_declared.specs.Refinement.{RefinesIn};
+ghost use Rattle.ep_declared.specs.Refinement.{OnAnswer, RefinesIn};
 ghost use Rattle.ep_declared.specs.Open.{AreTypes, IsAfter};
+ghost use Rattle.ep_scopes.specs.Comes.{Comes};
 ghost use Rattle.ep_scopes.specs.Known.{IsKnown, IsKnownEnv};
 ghost use Rattle.ep_scopes.specs.View.{env as env_view};
 
@@ -29,6 +30,7 @@ fn specs_inside(env: &mut Env, unclosed: &[u32], specs: &[SpecTree]) -> Result<C
         (to_specs (map spec_of specs.now))) (env_view env.new) result }
     ensures after { OnOk result (IsAfter unclosed.now (env_view env.old) (env_view env.new)) }
     ensures inside { IfOk result (λ c. IsKnown (env_view env.new).types c) }
+    ensures comes { OnAnswer result (Comes (env_view env.old) (env_view env.new)) }
 {
     let mut before = Vec::new(env.alloc);
     for spec in specs {
@@ -62,6 +64,7 @@ fn body_inside(
         (env_view env.new) result }
     ensures after { OnOk result (IsAfter unclosed.now (env_view env.old) (env_view env.new)) }
     ensures inside { IfOk result (λ c. IsKnown (env_view env.new).types c) }
+    ensures comes { OnAnswer result (Comes (env_view env.old) (env_view env.new)) }
 {
     let number = opened(env, line, unclosed, word.is_union(), tag)?;
     let inner = inside(env.alloc, number, unclosed)?;
@@ -78,6 +81,7 @@ fn all_members(env: &mut Env, unclosed: &[u32], members: &[MemberTree]) -> Resul
         (to_members (map member_of members.now))) (env_view env.new) result }
     ensures after { OnOk result (IsAfter unclosed.now (env_view env.old) (env_view env.new)) }
     ensures members { IfOk result (λ n. AreTypes (env_view env.new).types n) }
+    ensures comes { OnAnswer result (Comes (env_view env.old) (env_view env.new)) }
 {
     let mut named = Named::new(env.alloc);
     for member in members {
@@ -95,6 +99,7 @@ pub fn specs_declared(env: &mut Env, specs: &[SpecTree]) -> Result<CType, Halt>
     ensures known { OnOk result (IsKnownEnv (env_view env.new)) }
     ensures inside { IfOk result (λ c. IsKnown (env_view env.new).types c) }
     ensures grown { OnOk result (Grows (env_view env.old).types (env_view env.new).types) }
+    ensures comes { OnAnswer result (Comes (env_view env.old) (env_view env.new)) }
 {
     let c = specs_inside(env, &[], specs)?;
     Ok(c)

@@ -13,8 +13,9 @@ ghost use Rattle.ep_typing.specs.Results.{at};
 ghost use Rattle.ep_elaboration.specs.Aggregates as rule;
 ghost use Rattle.ep_declared.specs.Entries.{are_distinct, entry, field_of, name_of, own_fields, own_members, IsFree};
 ghost use Rattle.ep_declared.specs.Entries.{unit_members, unit_number};
-ghost use Rattle.ep_declared.specs.Refinement.{RefinesIn};
+ghost use Rattle.ep_declared.specs.Refinement.{OnAnswer, RefinesIn};
 ghost use Rattle.ep_declared.specs.Open.{AreTypes, OthersStayOpen};
+ghost use Rattle.ep_scopes.specs.Comes.{Comes};
 ghost use Rattle.ep_scopes.specs.Known.{IsKnown, IsKnownEnv};
 ghost use Rattle.ep_scopes.specs.View.{env as env_view, fields as fields_view, named_fields};
 
@@ -236,6 +237,7 @@ pub(crate) fn closed(env: &mut Env, line: u32, aggregate: u32, named: &Named) ->
     ensures inside { IfOk result (λ c. IsKnown (env_view env.new).types c) }
     ensures grown { OnOk result (Grows (env_view env.old).types (env_view env.new).types) }
     ensures stay { OnOk result (OthersStayOpen aggregate (env_view env.old).types (env_view env.new).types) }
+    ensures comes { OnAnswer result (Comes (env_view env.old) (env_view env.new)) }
 {
     let entries = named.all();
     let parts = parts_of(env.alloc, entries)?;

@@ -12,8 +12,9 @@ ghost use Rattle.ep_elaboration.specs.Declarators as rule;
 ghost use Rattle.ep_operands.specs.Refinement.{Refines};
 ghost use Rattle.ep_operands.specs.View as operands;
 ghost use Rattle.ep_declared.specs.Counts.{behind, lacks_first};
-ghost use Rattle.ep_declared.specs.Refinement.{RefinesIn};
+ghost use Rattle.ep_declared.specs.Refinement.{OnAnswer, RefinesIn};
 ghost use Rattle.ep_declared.specs.Open.{Follows, StaysOpen};
+ghost use Rattle.ep_scopes.specs.Comes.{Comes};
 ghost use Rattle.ep_scopes.specs.Known.{IsKnownEnv};
 ghost use Rattle.ep_scopes.specs.View.{env as env_view};
 
@@ -45,6 +46,7 @@ pub fn bound(env: &mut Env, line: u32, tree: &ExprTree) -> Result<u32, Halt>
     ensures known { OnOk result (IsKnownEnv (env_view env.new)) }
     ensures grown { OnOk result (Grows (env_view env.old).types (env_view env.new).types) }
     ensures stay { OnOk result (StaysOpen (env_view env.old).types (env_view env.new).types) }
+    ensures comes { OnAnswer result (Comes (env_view env.old) (env_view env.new)) }
 {
     mention(env, tree)?;
     let x = typed_alone(env, line, tree)?;
@@ -58,6 +60,7 @@ fn bound_if(env: &mut Env, line: u32, tree: &Option<ExprTree>) -> Result<u32, Ha
     ensures means { RefinesIn (λ n. n) (rule.bound (env_view env.old) line (option_map source.expr tree.now))
         (env_view env.new) result }
     ensures after { OnOk result (Follows (env_view env.old) (env_view env.new)) }
+    ensures comes { OnAnswer result (Comes (env_view env.old) (env_view env.new)) }
 {
     match tree {
         Some(tree) => bound(env, line, tree),
@@ -77,6 +80,7 @@ fn bounds_behind(
         (behind done.items (rule.bounds (env_view env.old) line (map (option_map source.expr) list.now)))
         (env_view env.new) result }
     ensures after { OnOk result (Follows (env_view env.old) (env_view env.new)) }
+    ensures comes { OnAnswer result (Comes (env_view env.old) (env_view env.new)) }
 {
     let mut counts = done;
     for tree in list {
@@ -95,6 +99,7 @@ pub fn bounds(env: &mut Env, line: u32, list: &[Option<ExprTree>]) -> Result<Vec
     ensures known { OnOk result (IsKnownEnv (env_view env.new)) }
     ensures grown { OnOk result (Grows (env_view env.old).types (env_view env.new).types) }
     ensures stay { OnOk result (StaysOpen (env_view env.old).types (env_view env.new).types) }
+    ensures comes { OnAnswer result (Comes (env_view env.old) (env_view env.new)) }
 {
     bounds_behind(env, line, Vec::new(env.alloc), list)
 }

@@ -10,8 +10,9 @@ ghost use Rattle.ep_typing.specs.Results.{at};
 ghost use Rattle.ep_typing.specs.Types as types_of;
 ghost use Rattle.ep_elaboration.specs.Aggregates as rule;
 ghost use Rattle.ep_operands.specs.View as operands;
-ghost use Rattle.ep_declared.specs.Refinement.{Adds};
+ghost use Rattle.ep_declared.specs.Refinement.{Adds, OnAnswer};
 ghost use Rattle.ep_declared.specs.Open.{AreTypes, Follows};
+ghost use Rattle.ep_scopes.specs.Comes.{Comes};
 ghost use Rattle.ep_scopes.specs.Known.{IsKnown, IsKnownEnv};
 ghost use Rattle.ep_scopes.specs.View.{env as env_view};
 
@@ -67,6 +68,7 @@ fn field_added(
         (named.new, env_view env.new) result }
     ensures after { OnOk result (Follows (env_view env.old) (env_view env.new)) }
     ensures members { OnOk result (AreTypes (env_view env.new).types named.new) }
+    ensures comes { OnAnswer result (Comes (env_view env.old) (env_view env.new)) }
 {
     if is_taken_name(named, name) {
         return Err(refused(RefusalKind::Redeclared, line));
@@ -97,6 +99,7 @@ fn with_field(
         (named.new, env_view env.new) result }
     ensures after { OnOk result (Follows (env_view env.old) (env_view env.new)) }
     ensures members { OnOk result (AreTypes (env_view env.new).types named.new) }
+    ensures comes { OnAnswer result (Comes (env_view env.old) (env_view env.new)) }
 {
     if with_union | !is_field_type(c) {
         return Err(refused(RefusalKind::BitField, line));
@@ -125,6 +128,7 @@ pub(crate) fn field_declared(
         (option_map text_of name.now) (source.expr width.now)) (named.new, env_view env.new) result }
     ensures after { OnOk result (Follows (env_view env.old) (env_view env.new)) }
     ensures members { OnOk result (AreTypes (env_view env.new).types named.new) }
+    ensures comes { OnAnswer result (Comes (env_view env.old) (env_view env.new)) }
 {
     let with_union = in_union(env, unclosed);
     mention(env, width)?;

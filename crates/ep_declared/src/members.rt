@@ -5,8 +5,9 @@ ghost use Rattle.ep_ast.specs.Declaration.{declarator, member_field};
 ghost use Rattle.ep_typing.specs.Results.{at};
 ghost use Rattle.ep_typing.specs.Types as types_of;
 ghost use Rattle.ep_elaboration.specs.Aggregates as rule;
-ghost use Rattle.ep_declared.specs.Refinement.{Adds};
+ghost use Rattle.ep_declared.specs.Refinement.{Adds, OnAnswer};
 ghost use Rattle.ep_declared.specs.Open.{AreTypes, Follows};
+ghost use Rattle.ep_scopes.specs.Comes.{Comes};
 ghost use Rattle.ep_scopes.specs.Known.{IsKnown, IsKnownEnv};
 ghost use Rattle.ep_scopes.specs.View.{env as env_view};
 
@@ -53,6 +54,7 @@ fn with_member(
         (named.new, env_view env.new) result }
     ensures after { OnOk result (Follows (env_view env.old) (env_view env.new)) }
     ensures members { OnOk result (AreTypes (env_view env.new).types named.new) }
+    ensures comes { OnAnswer result (Comes (env_view env.old) (env_view env.new)) }
 {
     if named.has(name) {
         return Err(refused(RefusalKind::Redeclared, line));
@@ -76,6 +78,7 @@ fn member_declared(
         (named.new, env_view env.new) result }
     ensures after { OnOk result (Follows (env_view env.old) (env_view env.new)) }
     ensures members { OnOk result (AreTypes (env_view env.new).types named.new) }
+    ensures comes { OnAnswer result (Comes (env_view env.old) (env_view env.new)) }
 {
     let counts = bounds(env, d.line, &d.bounds)?;
     let pointer = with_stars(c, d.stars.len())?;
@@ -98,6 +101,7 @@ fn entry_declared(
         (named.new, env_view env.new) result }
     ensures after { OnOk result (Follows (env_view env.old) (env_view env.new)) }
     ensures members { OnOk result (AreTypes (env_view env.new).types named.new) }
+    ensures comes { OnAnswer result (Comes (env_view env.old) (env_view env.new)) }
 {
     match tree {
         MemberFieldTree::Whole(d) => member_declared(env, named, c, d),
@@ -123,6 +127,7 @@ pub(crate) fn entries_declared(
         (named.new, env_view env.new) result }
     ensures after { OnOk result (Follows (env_view env.old) (env_view env.new)) }
     ensures members { OnOk result (AreTypes (env_view env.new).types named.new) }
+    ensures comes { OnAnswer result (Comes (env_view env.old) (env_view env.new)) }
 {
     for tree in list {
         entry_declared(env, unclosed, named, c, tree)?;

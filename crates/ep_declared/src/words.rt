@@ -4,8 +4,9 @@ ghost use Rattle.std.specs.Prelude.{◌≡◌, map, IfOk, OnOk};
 ghost use Rattle.ep_ast.specs.Expression.{type_word};
 ghost use Rattle.ep_layout.specs.Table.{Grows};
 ghost use Rattle.ep_elaboration.specs.Aggregates as rule;
-ghost use Rattle.ep_declared.specs.Refinement.{RefinesIn};
+ghost use Rattle.ep_declared.specs.Refinement.{OnAnswer, RefinesIn};
 ghost use Rattle.ep_declared.specs.Open.{StaysOpen};
+ghost use Rattle.ep_scopes.specs.Comes.{Comes};
 ghost use Rattle.ep_scopes.specs.Known.{IsKnown, IsKnownEnv};
 ghost use Rattle.ep_scopes.specs.View.{env as env_view};
 
@@ -41,6 +42,7 @@ pub fn words_declared(env: &mut Env, words: &[TypeWordTree]) -> Result<CType, Ha
     ensures inside { IfOk result (λ c. IsKnown (env_view env.new).types c) }
     ensures grown { OnOk result (Grows (env_view env.old).types (env_view env.new).types) }
     ensures stay { OnOk result (StaysOpen (env_view env.old).types (env_view env.new).types) }
+    ensures comes { OnAnswer result (Comes (env_view env.old) (env_view env.new)) }
 {
     mention_words(env, words)?;
     let c = words_type(env, words)?;

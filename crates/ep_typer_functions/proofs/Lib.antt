@@ -5,3 +5,5 @@ pub mod Taken
 pub mod Rows
 pub mod Outside
 pub mod Bodies
+pub mod Coming
+pub mod Declaring

@@ -3,11 +3,14 @@ use Rattle.std.specs.Prelude.{◌≡◌, ℕ, Bool, false, if◌then◌else◌, 
 use Rattle.std.specs.Prelude.{slice_get, unwrap_or}
 use Rattle.std.specs.Global.{Vec}
 use Rattle.ep_ast.specs.Kind as kinds
+use Rattle.ep_ast.specs.declared.refusals.Refusal.{Refusal}
+use Rattle.ep_ast.specs.declared.refusals.Halt.{Halt}
 use Rattle.ep_int.specs.Memory.{contains}
 use Rattle.ep_layout.specs.Table.{Table}
 use Rattle.ep_typing.specs.declared.types.CType.{CType}
 use Rattle.ep_typing.specs.Env.{Signature}
 use Rattle.ep_typing.specs.Types.{element_of, is_aggregate, is_array, is_void, pointer_to}
+use Rattle.ep_operands.specs.Refinement.{Stops}
 use Rattle.ep_elaboration.specs.Functions as rule
 use Rattle.ep_scopes.specs.declared.env.FunctionType.{FunctionType}
 use Rattle.ep_typer_functions.specs.declared.done.Done.{Done}
@@ -41,3 +44,10 @@ headed t = record { result = t.result; params = t.params.items }
 
 abbrev pub signature : List ℕ → FunctionType → Signature
 signature name t = record { name = name; params = t.params.items; result = t.result }
+
+-- ---- functions by their names
+
+-- that something is stated, or for what it stops
+abbrev pub Foretells : {X A : Type 0} → Result X Refusal → Result A Halt → Type 0
+Foretells {X = X} stated (Ok a) = (x : X) × (stated ≡ Ok x)
+Foretells stated (Err e) = Stops stated e

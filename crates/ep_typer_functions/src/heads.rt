@@ -4,12 +4,13 @@ ghost use Rattle.std.specs.Prelude.{◌≡◌, ◌≤◌, ◌^◌, map, IfErr, I
 ghost use Rattle.std.specs.Option.{option_map};
 ghost use Rattle.ep_ast.specs.Declaration as shape;
 ghost use Rattle.ep_typing.specs.Results.{at};
-ghost use Rattle.ep_declared.specs.Refinement.{RefinesIn};
+ghost use Rattle.ep_declared.specs.Refinement.{OnAnswer, RefinesIn};
 ghost use Rattle.ep_elaboration.specs.Functions as rule;
-ghost use Rattle.ep_elaboration.specs.Statements.{entered};
+ghost use Rattle.ep_elaboration.specs.Statements.{entered, left};
 ghost use Rattle.ep_operands.specs.Refinement.{Refines};
 ghost use Rattle.ep_elaboration.specs.Declarators.{with_types};
 ghost use Rattle.ep_typing.specs.Types.{with_c_type};
+ghost use Rattle.ep_scopes.specs.Comes.{Comes};
 ghost use Rattle.ep_scopes.specs.Known.{IsKnown, IsKnownEnv};
 ghost use Rattle.ep_scopes.specs.View.{env as env_view};
 ghost use Rattle.ep_typer_functions.specs.View as view;
@@ -87,6 +88,8 @@ pub fn headed(env: &mut Env, block: u32, head: &HeadTree) -> Result<FunctionType
     ensures means { RefinesIn view.headed (rule.headed (env_view env.old) block (shape.head_of head.now))
         (env_view env.new) result }
     ensures known { OnOk result (IsKnownEnv (env_view env.new)) }
+    ensures comes { OnAnswer result (Comes (env_view env.old) (env_view env.new)) }
+    ensures outside { OnOk result (Comes (env_view env.old) (left (env_view env.new))) }
 {
     let c = specs_declared(env, &head.specs)?;
     let c = starred(c, &head.stars)?;

@@ -10,4 +10,4 @@ mod params;
 pub use done::Done;
 pub use functions::{Body, Typed, function_defined, function_typed, next_block, prototype};
 pub use heads::{behind_result, headed, params_of};
-pub use names::{function_declared, is_same_signature};
+pub use names::{declarable, function_declared, is_same_signature};

@@ -105,6 +105,28 @@ fn numbered(env: &mut Env, name: &[u8], ty: &FunctionType) -> Result<u32, Memory
     }
 }
 
+/// Whether a function may come into the scope of the file; if not, why.
+#[tactic(auto, unfolding(ep_elaboration::specs::Functions::function_declared))]
+pub fn declarable(
+    env: &Env,
+    done: &Done,
+    with_body: bool,
+    line: u32,
+    name: &[u8],
+    ty: &FunctionType,
+) -> Result<(), Halt>
+    ensures { (ds : List ℕ) → AreDone done.now ds → view.Foretells
+        (at line (rule.function_declared (env_view env.now) ds with_body (view.signature name.now ty.now))) result }
+{
+    if stands_against(env, done, with_body, name, ty) {
+        return Err(refused(RefusalKind::Redeclared, line));
+    }
+    if !fits_main(name, ty) {
+        return Err(refused(RefusalKind::TypeMismatch, line));
+    }
+    Ok(())
+}
+
 /// A function comes into the scope of the file, if it isn't there.
 #[tactic(auto, unfolding(ep_elaboration::specs::Functions::function_declared))]
 pub fn function_declared(
@@ -121,12 +143,7 @@ pub fn function_declared(
         (env_view env.new) result }
     ensures known { OnOk result (IsKnownEnv (env_view env.new)) }
 {
-    if stands_against(env, done, with_body, name, ty) {
-        return Err(refused(RefusalKind::Redeclared, line));
-    }
-    if !fits_main(name, ty) {
-        return Err(refused(RefusalKind::TypeMismatch, line));
-    }
+    declarable(env, done, with_body, line, name, ty)?;
     match env.scopes.name_here(name) {
         Some(_) => {
             let n = numbered(env, name, ty)?;

@@ -5,11 +5,13 @@ ghost use Rattle.ep_ast.specs.declared.refusals.Halt.TheVariants as halts;
 ghost use Rattle.std.specs.Option.{option_map};
 ghost use Rattle.ep_ast.specs.Declaration.{param_of, text_of};
 ghost use Rattle.ep_ast.specs.Expression as source;
+ghost use Rattle.ep_layout.specs.Grown.{GrownFrom};
 ghost use Rattle.ep_layout.specs.Table.{Grows};
 ghost use Rattle.ep_typing.specs.Results.{at};
-ghost use Rattle.ep_declared.specs.Refinement.{RefinesIn};
+ghost use Rattle.ep_declared.specs.Refinement.{OnAnswer, RefinesIn};
 ghost use Rattle.ep_elaboration.specs.Functions as rule;
 ghost use Rattle.ep_operands.specs.Refinement.{Refines};
+ghost use Rattle.ep_scopes.specs.Comes.{Comes};
 ghost use Rattle.ep_scopes.specs.Known.{IsKnown, IsKnownEnv};
 ghost use Rattle.ep_scopes.specs.View.{env as env_view};
 ghost use Rattle.ep_typing.specs.Types as types_of;
@@ -39,6 +41,7 @@ fn param_bounds(
         (env_view env.new) result }
     ensures known { OnOk result (IsKnownEnv (env_view env.new)) }
     ensures grown { OnOk result (Grows (env_view env.old).types (env_view env.new).types) }
+    ensures comes { OnAnswer result (Comes (env_view env.old) (env_view env.new)) }
 {
     match list.split_first() {
         None => Ok(None),
@@ -94,6 +97,7 @@ fn param_type(
     ensures means { RefinesIn (λ d. d) (at line (rule.param_type types.old c (counts_of counts.now))) types.new result }
     ensures inside { IfOk result (λ d. IsKnown types.new d) }
     ensures grown { OnOk result (Grows types.old types.new) }
+    ensures comes { OnAnswer result (GrownFrom types.old types.new) }
 {
     match counts {
         Some(counts) => {
@@ -166,6 +170,7 @@ fn with_param(
         (counts_of counts.now)))
         (env_view env.new) result }
     ensures known { OnOk result (IsKnownEnv (env_view env.new)) }
+    ensures comes { OnAnswer result (Comes (env_view env.old) (env_view env.new)) }
 {
     if is_name_taken(env, &tree.name) {
         return Err(refused(RefusalKind::Redeclared, tree.line));
@@ -190,6 +195,7 @@ fn param_declared(env: &mut Env, block: u32, tree: &ParamTree) -> Result<CType, 
     ensures means { RefinesIn (λ d. d) (rule.param_declared (env_view env.old) block (param_of tree.now))
         (env_view env.new) result }
     ensures known { OnOk result (IsKnownEnv (env_view env.new)) }
+    ensures comes { OnAnswer result (Comes (env_view env.old) (env_view env.new)) }
 {
     let c = words_declared(env, &tree.specs)?;
     let counts = param_bounds(env, tree.line, &tree.bounds)?;
@@ -209,6 +215,7 @@ pub(crate) fn params_declared(
     ensures means { RefinesIn (λ v. v.items) (rule.params_declared (env_view env.old) first (map param_of list.now))
         (env_view env.new) result }
     ensures known { OnOk result (IsKnownEnv (env_view env.new)) }
+    ensures comes { OnAnswer result (Comes (env_view env.old) (env_view env.new)) }
 {
     let mut all = Vec::new(env.alloc);
     let mut block = first;

@@ -1,4 +1,7 @@
+use Rattle.std.proofs.Common.{Err}
+use Rattle.ep_typing.specs.declared.types.CType.{CType}
 use Rattle.ep_declared.proofs.ArrayLemmas.{array_inside, array_made, made_stops, some_row}
+use Rattle.ep_declared.proofs.Coming.{added_grown, left_alone}
 use Rattle.ep_declared.proofs.arrays.add_array.Goals as goal
 
 pub returns-in-Ok-clause-means : goal.returns-in-Ok-clause-means
@@ -18,3 +21,10 @@ returns-in-Ok-clause-inside c = rw c.whole.ensures (some_row c.add.new.self c.ar
 pub returns-in-Err-clause-means : goal.returns-in-Err-clause-means
 returns-in-Err-clause-means c =
     rw c.stopped.ensures (made_stops c.args.line c.args.types.now c.args.row _ c.in-Err.stop c.in-Err.ensures.stop)
+
+pub returns-in-Ok-clause-comes : goal.returns-in-Ok-clause-comes
+returns-in-Ok-clause-comes c = added_grown c.args.types.now c.add.new.self c.args.row c.in-Ok.ensures.grown
+
+pub returns-in-Err-clause-comes : goal.returns-in-Err-clause-comes
+returns-in-Err-clause-comes c =
+    left_alone {X = CType} (Err c.stopped.result) c.args.types.now c.add.new.self c.in-Err.ensures.err

@@ -7,6 +7,7 @@ use Rattle.ep_typing.specs.declared.types.CType.{CType}
 use Rattle.ep_declared.specs.Refinement.{RefinesIn}
 use Rattle.ep_declared.proofs.ArrayLemmas.{array_of_is, grown_twice, row_known}
 use Rattle.ep_declared.proofs.Growth.{IsMore}
+use Rattle.ep_declared.proofs.Coming.{grown_behind, grown_by_type}
 use Rattle.ep_declared.proofs.arrays.array_of.Goals as goal
 
 pub add_array-requires : goal.add_array-requires
@@ -35,3 +36,8 @@ returns-clause-stay c =
     (grown_twice c.add_array.result c.args.types.now c.add_type.new.types c.add_array.new.types c.args.c (rows.Array
     c.type_number-element.result c.args.count)
     c.in_ok-add_type.ensures c.add_array.ensures.grown)
+
+pub returns-clause-comes : goal.returns-clause-comes
+returns-clause-comes c =
+    grown_behind c.add_array.result c.args.types.now c.add_type.new.types c.add_array.new.types
+    (grown_by_type c.args.types.now c.add_type.new.types c.args.c c.in_ok-add_type.ensures) c.add_array.ensures.comes

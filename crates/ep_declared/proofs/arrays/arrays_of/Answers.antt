@@ -1,10 +1,12 @@
 use Rattle.std.proofs.Common.{◌<◌, ◌-◌, length, subst, sym, arith}
 use Rattle.ep_layout.proofs.Basics.{grows-trans}
+use Rattle.ep_layout.proofs.Grown.{grown_on}
 use Rattle.std.proofs.lemmas.Result.{err_from_is_err_and}
 use Rattle.ep_layout.specs.Table.{Table}
 use Rattle.ep_typing.specs.Types.{c_type_number}
 use Rattle.ep_declared.proofs.ArrayLemmas.{added_inside, array_more, array_stops, no_arrays}
 use Rattle.ep_declared.proofs.Growth.{IsMore, type_known, type_more}
+use Rattle.ep_declared.proofs.Coming.{grown_by_type, grown_stop}
 use Rattle.ep_declared.proofs.arrays.arrays_of.Goals as goal
 
 pub loop-i-init : goal.loop-i-init
@@ -19,6 +21,7 @@ loop-i-init c =
       inside = type_known c.args.types.now c.add_type.new.types m.grows c.args.c c.requires;
       grown = m.grows;
       stay = m.stay;
+      comes = grown_by_type c.args.types.now c.add_type.new.types c.args.c c.in_ok-add_type.ensures;
     }
 
 pub returns-in_err-array-clause-means : goal.returns-in_err-array-clause-means
@@ -41,4 +44,12 @@ loop-i-preserved c = record {
   grown = grows-trans c.args.types.now c.loop-i.types c.array_of.new.types c.loop-i.invariant.grown
       c.in_ok-array.ensures.grown;
   stay = λ a h. c.in_ok-array.ensures.stay a (c.loop-i.invariant.stay a h);
+  comes = grown_on c.args.types.now c.loop-i.types c.array_of.new.types c.loop-i.invariant.comes
+      c.in_ok-array.ensures.comes;
 }
+
+pub returns-in_err-array-clause-comes : goal.returns-in_err-array-clause-comes
+returns-in_err-array-clause-comes c =
+    let p = err_from_is_err_and c.from_residual-in_err-array.result c.from_residual-in_err-array.ensures.1 in
+    rw (p.1, p.2) (grown_stop _ c.args.types.now c.loop-i.types c.array_of.new.types c.loop-i.invariant.comes
+    c.in_err-array.ensures.comes)

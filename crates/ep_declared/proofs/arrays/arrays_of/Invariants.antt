@@ -1,4 +1,5 @@
 use Rattle.std.proofs.Common.{◌≡◌, ◌<◌, drop, length}
+use Rattle.ep_layout.specs.Grown.{GrownFrom}
 use Rattle.ep_layout.specs.Table.{Grows}
 use Rattle.ep_typing.specs.Types.{c_type_number}
 use Rattle.ep_elaboration.specs.Declarators.{arrays_of}
@@ -14,4 +15,5 @@ invariant-loop-i l = record {
   inside : IsKnown l.types l.array;
   grown : Grows l.fn.types l.types;
   stay : StaysOpen l.fn.types l.types;
+  comes : GrownFrom l.fn.types l.types;
 }

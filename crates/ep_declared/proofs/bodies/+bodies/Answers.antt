@@ -1,4 +1,4 @@
-use Rattle.std.proofs.Common.{◌≡◌, List, Result, ◌∷◌, ◌∙◌, ap, map, refl, sym, subst}
+use Rattle.std.proofs.Common.{◌≡◌, ℕ, List, Result, ◌∷◌, ◌∙◌, ap, map, refl, sym, subst}
 use Rattle.ep_core.proofs.Tables.{more_types}
 use Rattle.std.specs.Prelude.{OnOk}
 use Rattle.std.proofs.lemmas.List.{map_push}
@@ -12,9 +12,13 @@ use Rattle.ep_ast.specs.Expression.{TypeWord, type_word}
 use Rattle.ep_typing.specs.declared.types.CType.{CType}
 use Rattle.ep_typing.specs.Env.{Env}
 use Rattle.ep_elaboration.specs.Aggregates as rule
+use Rattle.ep_scopes.specs.Comes.{Comes}
 use Rattle.ep_scopes.specs.View.{env}
+use Rattle.ep_scopes.proofs.Coming.{comes_itself, comes_on}
 use Rattle.ep_declared.specs.Refinement.{RefinesIn}
 use Rattle.ep_declared.specs.Open.{AreTypes, IsAfter}
+use Rattle.ep_declared.proofs.Answering.{on_stop}
+use Rattle.ep_declared.proofs.BodyComing.{same_before, stop_comes}
 use Rattle.ep_declared.proofs.BodyLemmas.{after_itself, after_ok, after_on, body_after, body_is, closed_stopped}
 use Rattle.ep_declared.proofs.BodyLemmas.{follows_on, members_stop_all, members_stopped, members_went, no_more_members}
 use Rattle.ep_declared.proofs.BodyLemmas.{only_words, same_word, specs_stop, still_open, still_there, then_closed}
@@ -85,6 +89,16 @@ specs_inside-returns-clause-after t c =
     c.words_declared.ensures.known
     c.words_declared.ensures.grown c.words_declared.ensures.stay)
 
+pub specs_inside-returns-in-Body-clause-comes : goal.specs_inside-returns-in-Body-clause-comes
+specs_inside-returns-in-Body-clause-comes t c =
+    same_before c.body_inside.result (env c.args.env.now) (env c.loop-spec.env) (env c.body_inside.new.env)
+    c.loop-spec.invariant.same c.body_inside.ensures.comes
+
+pub specs_inside-returns-clause-comes : goal.specs_inside-returns-clause-comes
+specs_inside-returns-clause-comes t c =
+    same_before c.words_declared.result (env c.args.env.now) (env c.loop-spec.env) (env c.words_declared.new.env)
+    c.loop-spec.invariant.same c.words_declared.ensures.comes
+
 -- ---- members
 
 pub all_members-loop-member-init : goal.all_members-loop-member-init
@@ -93,6 +107,7 @@ all_members-loop-member-init t c = record {
       member_of c.args.members.now))) c.new-named.ensures;
   after = after_itself c.args.unclosed.now (env c.args.env.now) c.requires;
   members = subst (AreTypes c.args.env.now.types) (sym c.new-named.ensures) refl;
+  comes = comes_itself (env c.args.env.now);
 }
 
 pub all_members-entries_declared-requires : goal.all_members-entries_declared-requires
@@ -143,6 +158,10 @@ all_members-loop-member-preserved t c = record {
       c.in_ok-c.ensures.after)
       c.in_ok-entries_declared.ensures.after;
   members = c.in_ok-entries_declared.ensures.members;
+  comes = comes_on (env c.args.env.now) (env c.specs_inside.new.env) (env c.entries_declared.new.env)
+      (comes_on (env c.args.env.now) (env c.loop-member.env) (env c.specs_inside.new.env)
+      c.loop-member.invariant.comes c.in_ok-c.ensures.comes)
+      c.in_ok-entries_declared.ensures.comes;
 }
 
 pub all_members-returns-clause-means : goal.all_members-returns-clause-means
@@ -150,6 +169,22 @@ all_members-returns-clause-means t c =
     no_more_members c.loop-member.member-index c.args.members.now (env c.loop-member.env) c.args.unclosed.now
     c.loop-member.named _
     c.loop-member-test.false c.loop-member.invariant.means
+
+pub all_members-returns-in_err-c-clause-comes : goal.all_members-returns-in_err-c-clause-comes
+all_members-returns-in_err-c-clause-comes t c =
+    let p = err_from_is_err_and c.from_residual.result c.from_residual.ensures.1 in
+    rw (p.1, p.2) (stop_comes CType rule.Named _ (env c.args.env.now) (env c.loop-member.env)
+    (env c.specs_inside.new.env) c.loop-member.invariant.comes c.in_err-c.ensures.comes)
+
+pub all_members-returns-in_err-entries_declared-clause-comes :
+    goal.all_members-returns-in_err-entries_declared-clause-comes
+all_members-returns-in_err-entries_declared-clause-comes t c =
+    let p = err_from_is_err_and c.from_residual-in_err-entries_declared.result
+    c.from_residual-in_err-entries_declared.ensures.1 in
+    rw (p.1, p.2) (stop_comes (Unit {0}) rule.Named _ (env c.args.env.now) (env c.specs_inside.new.env)
+    (env c.entries_declared.new.env)
+    (comes_on (env c.args.env.now) (env c.loop-member.env) (env c.specs_inside.new.env)
+    c.loop-member.invariant.comes c.in_ok-c.ensures.comes) c.in_err-entries_declared.ensures.comes)
 
 -- ---- bodies
 
@@ -219,3 +254,29 @@ body_inside-returns-clause-after t c =
     c.in_ok-number.ensures.after c.in_ok-number.ensures.opened c.deref.result.now vs c.in_ok-named.ensures.after (env
     c.closed.new.env)
     c.in_ok-c.ensures.stay c.in_ok-c.ensures.grown c.in_ok-c.ensures.known
+
+pub body_inside-returns-in_err-number-clause-comes : goal.body_inside-returns-in_err-number-clause-comes
+body_inside-returns-in_err-number-clause-comes t c =
+    let p = err_from_is_err_and c.from_residual.result c.from_residual.ensures.1 in
+    let came = Comes (env c.args.env.now) (env c.opened.new.env) in
+    rw (p.1, p.2) (on_stop ℕ CType _ came came (λ h. h) c.in_err-number.ensures.comes)
+
+pub body_inside-returns-in_err-named-clause-comes : goal.body_inside-returns-in_err-named-clause-comes
+body_inside-returns-in_err-named-clause-comes t c =
+    let p = err_from_is_err_and c.from_residual-in_err-named.result c.from_residual-in_err-named.ensures.1 in
+    rw (p.1, p.2) (stop_comes rule.Named CType _ (env c.args.env.now) (env c.opened.new.env)
+    (env c.all_members.new.env) c.in_ok-number.ensures.comes c.in_err-named.ensures.comes)
+
+pub body_inside-returns-in_err-c-clause-comes : goal.body_inside-returns-in_err-c-clause-comes
+body_inside-returns-in_err-c-clause-comes t c =
+    let p = err_from_is_err_and c.from_residual-in_err-c.result c.from_residual-in_err-c.ensures.1 in
+    rw (p.1, p.2) (stop_comes CType CType _ (env c.args.env.now) (env c.all_members.new.env)
+    (env c.closed.new.env)
+    (comes_on (env c.args.env.now) (env c.opened.new.env) (env c.all_members.new.env)
+    c.in_ok-number.ensures.comes c.in_ok-named.ensures.comes) c.in_err-c.ensures.comes)
+
+pub body_inside-returns-clause-comes : goal.body_inside-returns-clause-comes
+body_inside-returns-clause-comes t c =
+    comes_on (env c.args.env.now) (env c.all_members.new.env) (env c.closed.new.env)
+    (comes_on (env c.args.env.now) (env c.opened.new.env) (env c.all_members.new.env)
+    c.in_ok-number.ensures.comes c.in_ok-named.ensures.comes) c.in_ok-c.ensures.comes

@@ -2,6 +2,7 @@ use Rattle.std.proofs.Common.{◌≡◌, [], drop, map}
 use Rattle.ep_ast.specs.Declaration.{member_of, spec_of, to_members, to_specs}
 use Rattle.ep_ast.specs.Expression.{type_word}
 use Rattle.ep_elaboration.specs.Aggregates.{all_members, specs_declared}
+use Rattle.ep_scopes.specs.Comes.{Comes}
 use Rattle.ep_scopes.specs.Known.{IsKnownEnv}
 use Rattle.ep_scopes.specs.View.{env}
 use Rattle.ep_declared.specs.Open.{AreTypes, IsAfter}
@@ -23,4 +24,5 @@ invariant-all_members-loop-member l = record {
       ≡ all_members (env l.fn.env) l.unclosed [] (to_members (map member_of l.members));
   after : IsAfter l.unclosed (env l.fn.env) (env l.env);
   members : AreTypes (env l.env).types l.named;
+  comes : Comes (env l.fn.env) (env l.env);
 }

@@ -1,8 +1,14 @@
-use Rattle.std.proofs.Common.{◌∙◌, ap, sym}
+use Rattle.std.proofs.Common.{◌∙◌, ap, sym, Err}
 use Rattle.ep_layout.specs.Table.{is_union}
 use Rattle.ep_layout.specs.Views.{named_view}
+use Rattle.ep_typing.specs.declared.types.CType.{CType}
+use Rattle.ep_typing.specs.Env.{Env}
 use Rattle.ep_elaboration.specs.Aggregates as rule
+use Rattle.ep_scopes.specs.Comes.{Comes}
 use Rattle.ep_scopes.specs.View.{env, fields}
+use Rattle.ep_scopes.proofs.Coming.{comes_itself}
+use Rattle.ep_declared.proofs.Answering.{answered}
+use Rattle.ep_declared.proofs.BodyComing.{closed_comes, same_comes}
 use Rattle.ep_declared.proofs.ClosingLemmas.{closed_gives, closed_stops, members_types, no_members, none_there}
 use Rattle.ep_declared.proofs.ClosingLemmas.{some_there}
 use Rattle.ep_declared.proofs.TagLemmas.{IsClosed, completed_first, is_closed, listed_types}
@@ -72,3 +78,27 @@ returns-in-Err-clause-means c =
     (λ e. some_there c.deref.result.now (sym c.lacks_members.ensures ∙ c.if-lacks_members.false)
     (ap named_view c.deref.ensures.value ∙ e))
     c.in-Err.ensures.stop)
+
+pub returns-in_err-parts-clause-comes : goal.returns-in_err-parts-clause-comes
+returns-in_err-parts-clause-comes c =
+    let G : Env = env c.args.env.now in
+    answered c.from_residual.result (Comes G G) (comes_itself G)
+
+pub returns-then-lacks_members-clause-comes : goal.returns-then-lacks_members-clause-comes
+returns-then-lacks_members-clause-comes c = rw c.refused.ensures (comes_itself (env c.args.env.now))
+
+pub returns-in_ok-add_type-in-Ok-clause-comes : goal.returns-in_ok-add_type-in-Ok-clause-comes
+returns-in_ok-add_type-in-Ok-clause-comes c =
+    closed_comes (env c.args.env.now) c.args.aggregate c.args.named.now (named_view c.in_ok-parts.parts.members.items)
+    c.requires.exists c.requires.empty c.whole-c.result c.complete.new.self c.add_type.new.types
+    (fields c.keep.new.fields) c.in-Ok.ensures.grown
+    (c.in_ok-keep-in-Ok.ensures ∙ ap (rule.with_fields (fields c.args.env.now.fields) c.args.aggregate)
+    c.all-entries.ensures.all)
+    c.in_ok-add_type-in-Ok.ensures
+
+pub returns-in-Err-clause-comes : goal.returns-in-Err-clause-comes
+returns-in-Err-clause-comes c =
+    let G : Env = env c.args.env.now in
+    let t = c.complete.new.self in
+    answered {X = CType} (Err c.stopped.result) (Comes G (record G { types = t }))
+    (same_comes G t c.in-Err.ensures.err)
