@@ -1,7 +1,6 @@
 -- Heads where they stand by themselves.
 use Rattle.std.proofs.Common.{◌≡◌, ℕ, true, List, length, Result, Ok, Err}
-use Rattle.ep_typer_functions.proofs.Outside.{declared_types}
-use Rattle.std.proofs.Common.{refl, sym, ap, ◌∙◌, subst}
+use Rattle.std.proofs.Common.{refl, sym, ap, subst, ◌∙◌}
 use Rattle.ep_ast.specs.declared.refusals.Refusal.{Refusal}
 use Rattle.ep_ast.specs.declared.refusals.Halt.{Halt}
 use Rattle.ep_ast.specs.declared.refusals.Halt.TheVariants as halts
@@ -18,9 +17,6 @@ use Rattle.ep_elaboration.specs.FunctionSteps.{is_alike}
 use Rattle.ep_elaboration.specs.Functions.{signature_of}
 use Rattle.ep_elaboration.specs.FunctionSteps.{stands_alone}
 use Rattle.ep_elaboration.specs.Statements.{left}
-use Rattle.ep_typing.proofs.Order.{at_ok}
-
--- ---- a function that is declared brings no types
 
 -- ---- a head from its parts
 
@@ -41,27 +37,23 @@ module _ (G : Env) (ds : List ℕ) (h : Head) (b : ℕ) (first : b ≡ length G.
         at_first ∙ ap (λ (o : Result (Headed × Env) Refusal). o >>= ended) m
         ∙ sym (ap (λ (K : Env). kept (at h.line (function_declared K ds true (signature_of h r)))) out)
 
-    pub alone_is : (n : ℕ) (F : Env) → at h.line (function_declared L ds true (signature_of h r)) ≡ Ok (n, F)
-        → stands_alone G ds h ≡ Ok (r, with_types G F.types)
-    alone_is n F k =
-        let same : F.types ≡ E.types =
-        declared_types L ds true (signature_of h r) (n, F)
-        (at_ok h.line (function_declared L ds true (signature_of h r)) (n, F) k) ∙ ap (λ (K : Env). K.types) out in
-        behind_head ∙ ap kept k ∙ ap (λ (t : Table). Ok (r, with_types G t)) (sym same)
+    pub alone_is : (x : ℕ × Env) → at h.line (function_declared L ds true (signature_of h r)) ≡ Ok x
+        → stands_alone G ds h ≡ Ok (r, with_types G E.types)
+    alone_is x k = behind_head ∙ ap kept k
+
+    pub alone_stops : (e : Halt) → Stops (at h.line (function_declared L ds true (signature_of h r))) e
+        → Stops (stands_alone G ds h) e
+    alone_stops halts.Memory k = tt
+    alone_stops (halts.Refused q) k = behind_head ∙ ap kept k
 
 -- ---- two heads
 
-pub first_refused : (G K : Env) (ds : List ℕ) (h k : Head) (e : Halt) (r : Refusal) → K ≡ G → e ≡ halts.Refused r
-    → Stops (stands_alone K ds h) e → true ≡ are_alike G ds h k
+pub first_refused : (G : Env) (ds : List ℕ) (h k : Head) (e : Halt) (r : Refusal) → e ≡ halts.Refused r
+    → Stops (stands_alone G ds h) e → true ≡ are_alike G ds h k
 unfolding are_alike
-first_refused G K ds h k e r same is stop =
-    let refused : stands_alone K ds h ≡ Err r = subst (Stops (stands_alone K ds h)) is stop in
+first_refused G ds h k e r is stop =
+    let refused : stands_alone G ds h ≡ Err r = subst (Stops (stands_alone G ds h)) is stop in
     sym (ap (λ (o : Result (Headed × Env) Refusal). are_typed_alike G ds h o k) refused)
-    ∙ ap (λ (E : Env). are_typed_alike G ds h (stands_alone E ds h) k) same
-
-pub in_copy : (G K : Env) (ds : List ℕ) (h : Head) (r : Headed) (t : Table) → K ≡ G
-    → stands_alone K ds h ≡ Ok (r, with_types K t) → stands_alone G ds h ≡ Ok (r, with_types G t)
-in_copy G K ds h r t same e = subst (λ (E : Env). stands_alone E ds h ≡ Ok (r, with_types E t)) same e
 
 pub compared : (G T : Env) (ds : List ℕ) (h k : Head) (r : Headed) (u : Table) → stands_alone G ds h ≡ Ok (r, with_types G u)
     → T ≡ with_types G u → is_alike h (r, G) k (stands_alone T ds k) ≡ are_alike G ds h k

@@ -1,10 +1,11 @@
 -- Names go on to have their types while a text's types grow.
-use Rattle.std.proofs.Common.{◌≡◌, ℕ, true, List, [], ◌∷◌, ◌++◌, length, take, Result, Ok, refl, sym, ap, ◌∙◌, subst}
+use Rattle.std.proofs.Common.{◌≡◌, ℕ, true, List, [], ◌∷◌, ◌++◌, length, take, Result, Ok, Err, refl, sym, ap, ◌∙◌, subst}
+use Rattle.std.specs.Prelude.{OnOk}
 use Rattle.ep_layout.proofs.Basics.{grows-trans}
 use Rattle.ep_ast.specs.declared.refusals.Refusal.{Refusal}
 use Rattle.ep_ast.specs.Declaration.{Head}
 use Rattle.ep_ast.specs.Statement.{Function}
-use Rattle.ep_layout.specs.Table.{Grows, Table}
+use Rattle.ep_layout.specs.Table.{Grows, IsBuilt, Table}
 use Rattle.ep_layout.proofs.Recursion.{kept_by_itself}
 use Rattle.ep_typing.specs.Env.{Env, Meaning, Scope}
 use Rattle.ep_typing.specs.Results.{◌>>=◌, at}
@@ -18,12 +19,15 @@ use Rattle.ep_elaboration.specs.FunctionRules.{MeansDefinitions, more_definition
 use Rattle.ep_elaboration.proofs.FunctionOrder.{means_functions_defined, means_headed}
 use Rattle.ep_elaboration.proofs.ProgramOrder.{means_items}
 use Rattle.ep_elaboration.specs.Programs.{begun}
+use Rattle.ep_well_formed_laws.proofs.FieldsFit.{only_completed}
 use Rattle.ep_well_formed_laws.proofs.Heads.{head_comes}
 use Rattle.ep_core.proofs.Tables.{more_aggregates, more_types}
 use Rattle.ep_well_formed_laws.proofs.ProgramDefinitions.{definition_walks}
 use Rattle.ep_well_formed_laws.proofs.FileScopes.{FileComes, file_comes_on, file_itself}
 use Rattle.ep_well_formed_laws.proofs.FunctionParts.{AtFile}
 use Rattle.ep_well_formed_laws.proofs.Items.{text_holds}
+use Rattle.ep_scopes.specs.declared.marks.EnvMark.{EnvMark}
+use Rattle.ep_scopes.specs.Comes.{CameFrom, Comes, IsMarkOf}
 use Rattle.ep_scopes.specs.Known.{IsKnownEnv}
 use Rattle.ep_scopes.proofs.KnownLemmas.{scopes_stay}
 use Rattle.ep_scopes.specs.View as view
@@ -48,6 +52,15 @@ alone_known G ds h r t f k e =
     let same : ◌≡◌ {A = Headed × Env} (x.0.0, with_types G x.0.1.types) (r, with_types G t) = ok_is _ _ y.2 in
     let grows = (head_comes G (length G.blocks) h x.0 (at_file G f).env.declared (means_headed G (length G.blocks) h x.0 x.1)).grows in
     subst (λ (q : Headed × Env). IsKnownEnv q.1) same (known_on G x.0.1.types grows k)
+
+-- an environment of which a mark was taken, and one that came from it
+pub came : (m : EnvMark) (G H : Env) → IsFileEnv G → IsMarkOf m G → IsBuilt G.types → Comes G H → CameFrom m G H
+came m G H f k b c =
+    record { mark = k; built = b; fields = only_completed G (at_file G f).env.declared; comes = c }
+
+pub where_ok : {X E : Type 0} (r : Result X E) (P Q : Type 0) → (P → Q) → OnOk r P → OnOk r Q
+where_ok (Ok x) P Q f h = f h
+where_ok (Err e) P Q f h = tt
 
 -- ---- the first arm
 

@@ -4,11 +4,3 @@ pub mod Alone
 pub mod Grown
 pub mod Gathering
 pub mod WholeArms
-pub mod Spellings
-pub mod PartTypes
-pub mod ParameterTypes
-pub mod OperatorTypes
-pub mod GrownOperands
-pub mod FixedBounds
-pub mod SpelledTypes
-pub mod SpelledHeads

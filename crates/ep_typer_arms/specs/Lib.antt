@@ -1,3 +1,1 @@
 pub mod FileEnvironments
-pub mod Spelled
-pub mod SpelledView

@@ -3,9 +3,7 @@
 
 mod alike;
 mod arms;
-mod bounds;
 mod heads;
 mod joining;
-mod spelled;
 
 pub use arms::arms_defined;
